@@ -1,0 +1,90 @@
+-- What is found of two parts of a queue, one after the other.
+use Rattle.std.proofs.Common.{◌≡◌, ℕ, zero, suc, ◌+◌, ◌<◌, ◌≤◌, Bool, true, false, cond, List, [], ◌∷◌, ◌++◌, length, take, filter, reverse, length-append, append_assoc, refl, ap, sym, ◌∙◌, arith}
+use Rattle.std.proofs.lemmas.List.{length-reverse, reverse-append, map-append, length-take, take-append-le}
+use Rattle.std.proofs.lemmas.List.Elements.{filter-append}
+use Rattle.bq_disc.specs.Tasks.{Task}
+use Rattle.bq_disc.specs.Queues.{can_use}
+use Rattle.bq_disc.specs.Movable.{movable_to, ids, Adds}
+use Rattle.bq_disc.specs.declared.movable.Movable.{Movable}
+
+movable_to-append : (cpu : ℕ) (xs ys : List Task) → movable_to cpu (xs ++ ys) ≡ movable_to cpu ys ++ movable_to cpu xs
+movable_to-append cpu xs ys = ap reverse (filter-append (can_use cpu) xs ys) ∙ reverse-append (filter (can_use cpu) xs) (filter (can_use cpu) ys)
+
+take_again : (n : ℕ) (xs ys : List ℕ) → take n (take n xs ++ ys) ≡ take n (xs ++ ys)
+take_again zero xs ys = refl
+take_again (suc n) [] ys = refl
+take_again (suc n) (x ∷ xs) ys = ap (λ l. x ∷ l) (take_again n xs ys)
+
+take_short : (n : ℕ) (xs : List ℕ) → length xs ≤ n → take n xs ≡ xs
+take_short zero [] h = refl
+take_short zero (x ∷ xs) h = absurd (omega arith)
+take_short (suc n) [] h = refl
+take_short (suc n) (x ∷ xs) h = ap (λ l. x ∷ l) (take_short n xs (omega arith))
+
+short_take : (xs : List ℕ) → length (take 8 xs) ≤ 8
+short_take xs = omega (arith, length-take 8 xs)
+
+append_nothing : (xs : List ℕ) → xs ++ [] ≡ xs
+append_nothing [] = refl
+append_nothing (x ∷ xs) = ap (λ l. x ∷ l) (append_nothing xs)
+
+pub Adds-none : (cpu : ℕ) (a : Movable) → length a.first.items ≤ 8 → Adds cpu [] a a
+Adds-none cpu a h = record {
+  count = omega arith;
+  first = sym (ap (λ l. take 8 l) (append_nothing a.first.items) ∙ take_short 8 a.first.items h);
+  fits = h;
+}
+
+pub Adds-other : (cpu : ℕ) (t : Task) (a : Movable) → can_use cpu t ≡ false → length a.first.items ≤ 8 → Adds cpu (t ∷ []) a a
+Adds-other cpu t a e h =
+    let none : movable_to cpu (t ∷ []) ≡ [] = rw e refl in
+    let s = Adds-none cpu a h in
+    record {
+      count = omega (arith, ap length none);
+      first = rw none s.first;
+      fits = h;
+    }
+
+pub Adds-more : (cpu : ℕ) (t : Task) (a b : Movable) → can_use cpu t ≡ true → b.count ≡ a.count + 1 → b.first.items ≡ a.first.items ++ t.id ∷ [] → length a.first.items < 8 → Adds cpu (t ∷ []) a b
+Adds-more cpu t a b e count first h =
+    let one : movable_to cpu (t ∷ []) ≡ t ∷ [] = rw e refl in
+    let many = length-append a.first.items (t.id ∷ []) in
+    record {
+      count = omega (arith, ap length one);
+      first = rw one (first ∙ sym (take_short 8 (a.first.items ++ t.id ∷ []) (omega arith)));
+      fits = rw first (omega arith);
+    }
+
+pub Adds-full : (cpu : ℕ) (t : Task) (a b : Movable) → can_use cpu t ≡ true → b.count ≡ a.count + 1 → b.first.items ≡ a.first.items → length a.first.items ≡ 8 → Adds cpu (t ∷ []) a b
+Adds-full cpu t a b e count first h =
+    let one : movable_to cpu (t ∷ []) ≡ t ∷ [] = rw e refl in
+    record {
+      count = omega (arith, ap length one);
+      first = rw one (first ∙ sym (take-append-le 8 a.first.items (t.id ∷ []) (omega arith) ∙ take_short 8 a.first.items (omega arith)));
+      fits = rw first (omega arith);
+    }
+
+-- the later part is looked at first
+pub Adds-append : (cpu : ℕ) (xs ys : List Task) (a b c : Movable) → Adds cpu ys a b → Adds cpu xs b c → Adds cpu (xs ++ ys) a c
+Adds-append cpu xs ys a b c h k =
+    let both = movable_to-append cpu xs ys in
+    let many = length-append (movable_to cpu ys) (movable_to cpu xs) in
+    let split = ap ids both ∙ map-append (λ (t : Task). t.id) (movable_to cpu ys) (movable_to cpu xs) in
+    let join = ap (λ l. take 8 (l ++ ids (movable_to cpu xs))) h.first ∙ take_again 8 (a.first.items ++ ids (movable_to cpu ys)) (ids (movable_to cpu xs)) in
+    let regroup = ap (λ l. take 8 l) (append_assoc a.first.items (ids (movable_to cpu ys)) (ids (movable_to cpu xs))) in
+    record {
+      count = omega (arith, h.count, k.count, ap length both);
+      first = k.first ∙ join ∙ regroup ∙ sym (ap (λ l. take 8 (a.first.items ++ l)) split);
+      fits = k.fits;
+    }
+
+kept_by_test : (b : Bool) (x : Task) (xs ys : List Task) → length ys ≤ length xs → length (cond b (x ∷ ys) ys) ≤ length (x ∷ xs)
+kept_by_test true x xs ys h = omega arith
+kept_by_test false x xs ys h = omega arith
+
+fewer : (p : Task → Bool) (xs : List Task) → length (filter p xs) ≤ length xs
+fewer p [] = omega arith
+fewer p (x ∷ xs) = kept_by_test (p x) x xs (filter p xs) (fewer p xs)
+
+pub few_movable : (cpu : ℕ) (xs : List Task) → length (movable_to cpu xs) ≤ length xs
+few_movable cpu xs = omega (arith, length-reverse (filter (can_use cpu) xs), fewer (can_use cpu) xs)

@@ -1,0 +1,125 @@
+-- What a queue keeps when a task comes or goes.
+use Rattle.std.proofs.Common.{◌≡◌, ℕ, suc, ◌+◌, ◌<◌, ◌≤◌, ◌^◌, Bool, true, false, cond, ◌||◌, eqb, List, [], ◌∷◌, length, Option, Some, None, refl, ap, ◌∙◌, arith}
+use Rattle.std.specs.Prelude.{map, IsSome}
+use Rattle.std.specs.List.{list_any, AllByRecursion, IsDistinct}
+use Rattle.std.proofs.lemmas.Bool.Decides.{nat_tests}
+use Rattle.std.proofs.lemmas.Map.Steps.{length-le_from_distinct_below}
+use Rattle.bq_disc.specs.Tasks.{Task, with_id, without, place, runs_before}
+use Rattle.bq_disc.specs.Queues.{HasDistinctIds, HasSmallIds}
+
+abbrev ids : List Task → List ℕ
+ids xs = map (λ (t : Task). t.id) xs
+
+eqb_comm : (a b : ℕ) → eqb a b ≡ false → eqb b a ≡ false
+eqb_comm a b h = grind (arith, nat_tests)
+
+cond_none : (b : Bool) (x : Task) (o : Option Task) → cond b (Some x) o ≡ None → (b ≡ false) × (o ≡ None)
+cond_none true x o h = cc
+cond_none false x o h = (refl, h)
+
+-- no task of that id is in a list: not its first, and not in the rest
+with_id-none : (i : ℕ) (x : Task) (xs : List Task) → with_id i (x ∷ xs) ≡ None → (eqb x.id i ≡ false) × (with_id i xs ≡ None)
+with_id-none i x xs h = cond_none (eqb x.id i) x (with_id i xs) h
+
+apart : (i : ℕ) (xs : List Task) → with_id i xs ≡ None → AllByRecursion (λ y. eqb i y ≡ false) (ids xs)
+apart i [] h = tt
+apart i (x ∷ xs) h =
+    let s = with_id-none i x xs h in
+    (eqb_comm x.id i s.0, apart i xs s.1)
+
+distinct : (xs : List Task) → HasDistinctIds xs → IsDistinct eqb (ids xs)
+unfolding IsDistinct
+distinct [] d = tt
+distinct (x ∷ xs) d = (apart x.id xs d.0, distinct xs d.1)
+
+small_at : (q i : ℕ) (c b : Bool) → eqb q i ≡ b → i < 2 ^ 16 → (b || c) ≡ true → (c ≡ true → q < 2 ^ 16) → q < 2 ^ 16
+small_at q i c true e l k rest = grind (arith, nat_tests)
+small_at q i c false e l k rest = rest k
+
+small : (xs : List Task) (q : ℕ) → HasSmallIds xs → list_any (eqb q) (ids xs) ≡ true → q < 2 ^ 16
+small [] q s h = cc
+small (x ∷ xs) q s h = small_at q x.id (list_any (eqb q) (ids xs)) (eqb q x.id) refl s.0 h (small xs q s.1)
+
+length-ids : (xs : List Task) → length (ids xs) ≡ length xs
+length-ids [] = refl
+length-ids (x ∷ xs) = ap suc (length-ids xs)
+
+-- tasks with distinct ids of 16 bits are few
+pub length-few : (xs : List Task) → HasDistinctIds xs → HasSmallIds xs → length xs ≤ 2 ^ 16
+length-few xs d s = rw length-ids at (length-le_from_distinct_below (ids xs) (2 ^ 16) (distinct xs d) (λ q h. small xs q s h))
+
+pub with_id-place_other : (i : ℕ) (t : Task) (xs : List Task) → eqb t.id i ≡ false → with_id i (place t xs) ≡ with_id i xs
+with_id-place_other i t [] h = rw h refl
+with_id-place_other i t (x ∷ xs) h =
+    elim (runs_before t x) as (λ b. with_id i (cond b (t ∷ x ∷ xs) (x ∷ place t xs)) ≡ with_id i (x ∷ xs)) [
+      | true ↦ rw h refl
+      | false ↦ ap (λ o. cond (eqb x.id i) (Some x) o) (with_id-place_other i t xs h)
+    ]
+
+pub HasDistinctIds-place : (t : Task) (xs : List Task) → with_id t.id xs ≡ None → HasDistinctIds xs → HasDistinctIds (place t xs)
+HasDistinctIds-place t [] n d = (refl, tt)
+HasDistinctIds-place t (x ∷ xs) n d =
+    let s = with_id-none t.id x xs n in
+    elim (runs_before t x) as (λ b. HasDistinctIds (cond b (t ∷ x ∷ xs) (x ∷ place t xs))) [
+      | true ↦ (n, d)
+      | false ↦ (with_id-place_other x.id t xs (eqb_comm x.id t.id s.0) ∙ d.0, HasDistinctIds-place t xs s.1 d.1)
+    ]
+
+pub HasSmallIds-place : (t : Task) (xs : List Task) → t.id < 2 ^ 16 → HasSmallIds xs → HasSmallIds (place t xs)
+HasSmallIds-place t [] l s = (l, tt)
+HasSmallIds-place t (x ∷ xs) l s =
+    elim (runs_before t x) as (λ b. HasSmallIds (cond b (t ∷ x ∷ xs) (x ∷ place t xs))) [
+      | true ↦ (l, s)
+      | false ↦ (s.0, HasSmallIds-place t xs l s.1)
+    ]
+
+pub length-place : (t : Task) (xs : List Task) → length (place t xs) ≡ length xs + 1
+length-place t [] = refl
+length-place t (x ∷ xs) =
+    elim (runs_before t x) as (λ b. length (cond b (t ∷ x ∷ xs) (x ∷ place t xs)) ≡ length (x ∷ xs) + 1) [
+      | true ↦ omega arith
+      | false ↦ omega (arith, length-place t xs)
+    ]
+
+pub with_id-without : (i j : ℕ) (xs : List Task) → with_id i xs ≡ None → with_id i (without j xs) ≡ None
+with_id-without i j [] h = refl
+with_id-without i j (x ∷ xs) h =
+    let s = with_id-none i x xs h in
+    elim (eqb x.id j) as (λ b. with_id i (cond b xs (x ∷ without j xs)) ≡ None) [
+      | true ↦ s.1
+      | false ↦ rw s.0 (with_id-without i j xs s.1)
+    ]
+
+pub HasDistinctIds-without : (j : ℕ) (xs : List Task) → HasDistinctIds xs → HasDistinctIds (without j xs)
+HasDistinctIds-without j [] d = tt
+HasDistinctIds-without j (x ∷ xs) d =
+    elim (eqb x.id j) as (λ b. HasDistinctIds (cond b xs (x ∷ without j xs))) [
+      | true ↦ d.1
+      | false ↦ (with_id-without x.id j xs d.0, HasDistinctIds-without j xs d.1)
+    ]
+
+pub HasSmallIds-without : (j : ℕ) (xs : List Task) → HasSmallIds xs → HasSmallIds (without j xs)
+HasSmallIds-without j [] d = tt
+HasSmallIds-without j (x ∷ xs) d =
+    elim (eqb x.id j) as (λ b. HasSmallIds (cond b xs (x ∷ without j xs))) [
+      | true ↦ d.1
+      | false ↦ (d.0, HasSmallIds-without j xs d.1)
+    ]
+
+length_by_test : (b : Bool) (x : Task) (xs ys : List Task) (o : Option Task) → IsSome (cond b (Some x) o) → (IsSome o → length ys + 1 ≡ length xs) → length (cond b xs (x ∷ ys)) + 1 ≡ length (x ∷ xs)
+length_by_test true x xs ys o k rest = omega arith
+length_by_test false x xs ys o k rest = omega (arith, rest k)
+
+-- a task that is there leaves one task less
+pub length-without : (j : ℕ) (xs : List Task) → IsSome (with_id j xs) → length (without j xs) + 1 ≡ length xs
+length-without j [] h = cc
+length-without j (x ∷ xs) h = length_by_test (eqb x.id j) x xs (without j xs) (with_id j xs) h (length-without j xs)
+
+-- a task that is not there leaves them all
+pub without-absent : (j : ℕ) (xs : List Task) → with_id j xs ≡ None → without j xs ≡ xs
+without-absent j [] h = refl
+without-absent j (x ∷ xs) h =
+    let s = with_id-none j x xs h in
+    rw s.0 (ap (λ ys. x ∷ ys) (without-absent j xs s.1))
+
+pub ruleset queue_facts = (length-few, HasDistinctIds-place, HasSmallIds-place, length-place, HasDistinctIds-without, HasSmallIds-without)

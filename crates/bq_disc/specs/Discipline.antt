@@ -1,0 +1,56 @@
+-- A discipline: how a processor chooses among its tasks, and how virtual time passes.
+use Rattle.std.specs.Prelude.{◌≢◌, ℕ, ℤ, Bool, ◌==◌, if◌then◌else◌, List, [], ◌∷◌, Option, Contains, IsSome, IfSome, unwrap_or}
+use Rattle.bq_disc.specs.Tasks.{Task, id_of}
+use Rattle.bq_weights.specs.VirtualTime.{advance_of, shift_of, distance_of}
+
+pub record Discipline : Type 0 where
+  -- the task that should run, of those that are given
+  pub choice : List Task → Option Task
+  -- whether a queue's tasks should take the place of the current one
+  pub wants_preempt : Task → List Task → Bool
+  -- the new mark, of the old one and of the tasks that are present
+  pub mark : ℕ → List Task → ℕ
+  -- the v at which a woken task enters, of the mark and its rel, slice and weight
+  pub wake : ℕ → ℤ → ℕ → ℕ → ℕ
+  -- the deadline of a task that enters, of its v, slice and weight
+  pub deadline : ℕ → ℕ → ℕ → ℕ
+  -- the deadline of a task that has run, of its v, slice, weight and deadline
+  pub renewed : ℕ → ℕ → ℕ → ℕ → ℕ
+
+-- two lists hold the same tasks
+abbrev pub SameSet : List Task → List Task → Type 0
+SameSet xs ys = ((t : Task) → Contains xs t → Contains ys t) × ((t : Task) → Contains ys t → Contains xs t)
+
+-- the laws of a discipline
+pub record IsLawful (d : Discipline) : Type 0 where
+  -- a choice exists where there is a task, and is one of the tasks
+  pub exists : (xs : List Task) → xs ≢ [] → IsSome (d.choice xs)
+  pub member : (xs : List Task) → IfSome (d.choice xs) (Contains xs)
+
+-- a task that has run for a time
+abbrev pub charged : Discipline → Task → ℕ → Task
+charged d t time =
+    let v = advance_of t.v time t.weight in
+    record t { v = v; deadline = d.renewed v t.slice t.weight t.deadline }
+
+-- a woken task, as it enters at a mark
+abbrev pub woken : Discipline → ℕ → Task → Task
+woken d mark t =
+    let v = d.wake mark t.rel t.slice t.weight in
+    record t { v = v; deadline = d.deadline v t.slice t.weight }
+
+-- a pulled task, as it enters at a mark
+abbrev pub pulled : Discipline → ℕ → Task → Task
+pulled d mark t =
+    let v = shift_of mark t.rel in
+    record t { v = v; deadline = d.deadline v t.slice t.weight }
+
+-- a task, as it leaves at a mark
+abbrev pub left_at : ℕ → Task → Task
+left_at mark t = record t { rel = distance_of t.v mark }
+
+-- whom the current task gives way to: the choice of all, if it is another; else the choice of the queue; else itself
+abbrev pub next_of : Discipline → Task → List Task → ℕ
+next_of d current queue =
+    let chosen = unwrap_or (id_of (d.choice (current ∷ queue))) current.id in
+    if chosen == current.id then unwrap_or (id_of (d.choice queue)) current.id else chosen

@@ -1,0 +1,30 @@
+-- Queues: sets of tasks with distinct ids, as the list of their tasks by rising (v, id), with the mark that is kept.
+use Rattle.std.specs.Prelude.{◌≡◌, ℕ, ◌<◌, ◌^◌, List, [], ◌∷◌, None, refl, Bool, ◌/◌, ◌%◌, ◌==◌, ◌||◌, ◌&&◌, nat_lt}
+use Rattle.std.specs.Coded.{Coded, code_by, coded×, coded_ℕ, coded_list}
+use Rattle.bq_disc.specs.Tasks.{Task, coded_task, with_id}
+
+pub record Queue : Type 0 where
+  pub members : List Task
+  pub kept : ℕ
+
+abbrev pub coded_queue : Coded Queue
+coded_queue =
+    code_by (List Task × ℕ) (coded× (coded_list coded_task) coded_ℕ) (λ q. (q.members, q.kept)) (λ p. record { members = p.0; kept = p.1 }) (λ _. refl)
+
+-- no task has the id of one after it
+abbrev pub HasDistinctIds : List Task → Type 0
+HasDistinctIds [] = Unit {0}
+HasDistinctIds (x ∷ xs) = (with_id x.id xs ≡ None) × HasDistinctIds xs
+
+-- each id fits 16 bits
+abbrev pub HasSmallIds : List Task → Type 0
+HasSmallIds [] = Unit {0}
+HasSmallIds (x ∷ xs) = (x.id < 2 ^ 16) × HasSmallIds xs
+
+-- the first task that comes after some (v, id)
+abbrev pub comes_after : ℕ → ℕ → Task → Bool
+comes_after v id t = nat_lt v t.v || (v == t.v && nat_lt id t.id)
+
+-- whether a task may use a processor
+abbrev pub can_use : ℕ → Task → Bool
+can_use cpu t = t.mask / 2 ^ cpu % 2 == 1

@@ -1,0 +1,87 @@
+-- Tasks as the disciplines see them, and queues as lists of tasks by rising (v, id).
+use Rattle.std.specs.Prelude.{ℕ, ◌<◌, ◌≤◌, ◌^◌, ℤ, Bool, ◌||◌, ◌&&◌, ◌==◌, nat_lt, if◌then◌else◌, List, [], ◌∷◌, Option, Some, None, find, refl}
+use Rattle.std.specs.Option.{option_map}
+use Rattle.std.specs.Coded.{Coded, code_by, coded×, coded_ℕ, coded_ℤ, coded_option}
+use Rattle.bq_weights.specs.VirtualTime.{IsWeight}
+
+-- mask is the set of processors that it may use, by bits; slice the time that it asks for; v its virtual runtime;
+-- rel how far from the mark it was when it last left; prev the processor that it last left
+pub record Task : Type 0 where
+  pub id : ℕ
+  pub weight : ℕ
+  pub mask : ℕ
+  pub slice : ℕ
+  pub v : ℕ
+  pub deadline : ℕ
+  pub rel : ℤ
+  pub prev : Option ℕ
+
+-- a task is stored as the tuple of its fields
+abbrev pub coded_task : Coded Task
+coded_task =
+    code_by (ℕ × (ℕ × (ℕ × (ℕ × (ℕ × (ℕ × (ℤ × Option ℕ)))))))
+    (coded× coded_ℕ (coded× coded_ℕ (coded× coded_ℕ (coded× coded_ℕ (coded× coded_ℕ (coded× coded_ℕ (coded× coded_ℤ (coded_option coded_ℕ))))))))
+    (λ t. (t.id, (t.weight, (t.mask, (t.slice, (t.v, (t.deadline, (t.rel, t.prev))))))))
+    (λ p. record {
+      id = p.0;
+      weight = p.1.0;
+      mask = p.1.1.0;
+      slice = p.1.1.1.0;
+      v = p.1.1.1.1.0;
+      deadline = p.1.1.1.1.1.0;
+      rel = p.1.1.1.1.1.1.0;
+      prev = p.1.1.1.1.1.1.1;
+    })
+    (λ _. refl)
+
+-- what every task keeps
+pub record IsProper (t : Task) : Type 0 where
+  pub id_fits : t.id < 2 ^ 16
+  pub weight_in_range : IsWeight t.weight
+  pub slice_low : 100000 ≤ t.slice
+  pub slice_high : t.slice ≤ 100000000
+  pub v_high : t.v ≤ 2 ^ 62
+  pub deadline_high : t.deadline ≤ 2 ^ 62
+
+-- by least (v, id)
+abbrev pub runs_before : Task → Task → Bool
+runs_before a b = nat_lt a.v b.v || (a.v == b.v && nat_lt a.id b.id)
+
+-- by least (deadline, id)
+abbrev pub due_before : Task → Task → Bool
+due_before a b = nat_lt a.deadline b.deadline || (a.deadline == b.deadline && nat_lt a.id b.id)
+
+-- x, unless one that is given comes before it
+abbrev pub former : (Task → Task → Bool) → Task → Option Task → Task
+former before x None = x
+former before x (Some y) = if before y x then y else x
+
+-- the first of some tasks by an order
+abbrev pub first_by : (Task → Task → Bool) → List Task → Option Task
+first_by before [] = None
+first_by before (x ∷ xs) = Some (former before x (first_by before xs))
+
+abbrev pub has_id : ℕ → Task → Bool
+has_id id t = t.id == id
+
+-- the task of that id
+abbrev pub with_id : ℕ → List Task → Option Task
+with_id id xs = find (has_id id) xs
+
+-- the tasks but the one of that id
+abbrev pub without : ℕ → List Task → List Task
+without id [] = []
+without id (x ∷ xs) = if has_id id x then xs else x ∷ without id xs
+
+-- a queue with one more task, in its place by (v, id)
+abbrev pub place : Task → List Task → List Task
+place t [] = t ∷ []
+place t (x ∷ xs) = if runs_before t x then t ∷ x ∷ xs else x ∷ place t xs
+
+-- what is present at a processor: its current task, if any, and its queue
+abbrev pub present : Option Task → List Task → List Task
+present None queue = queue
+present (Some current) queue = current ∷ queue
+
+abbrev pub id_of : Option Task → Option ℕ
+id_of o = option_map (λ (t : Task). t.id) o

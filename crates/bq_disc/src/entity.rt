@@ -1,0 +1,154 @@
+//! A task as the disciplines see it.
+ghost use Rattle.std.specs.Prelude.{◌≡◌, ℕ, ◌<◌, ◌≤◌, ◌^◌, Option, Some, None, pos};
+ghost use Rattle.bq_weights.specs.VirtualTime.{IsWeight};
+ghost use Rattle.bq_disc.specs.Tasks.{runs_before, due_before};
+ghost use Rattle.bq_disc.specs.Queues.{can_use};
+
+use std::marker::Model;
+
+/// A task's figures.
+#[derive(Clone, Copy)]
+pub struct Entity {
+    id: u16,
+    weight: u32,
+    mask: u64,
+    slice: u64,
+    v: u64,
+    deadline: u64,
+    rel: i64,
+    prev: Option<u8>,
+}
+
+impl Model for Entity {
+    ghost use Rattle.std.specs.Prelude.{◌≤◌, ◌^◌};
+    ghost use Rattle.bq_weights.specs.VirtualTime.{IsWeight};
+    ghost use Rattle.bq_disc.specs.Tasks.{Task, coded_task, IsProper};
+
+    ghost Value = { Task };
+
+    ghost coded = { coded_task };
+
+    ghost view = { λ e. record { id = e.id; weight = e.weight; mask = e.mask; slice = e.slice; v = e.v; deadline = e.deadline; rel = e.rel; prev = e.prev } };
+
+    ghost invariant = { λ e. IsWeight e.weight × (100000 ≤ e.slice) × (e.slice ≤ 100000000) × (e.v ≤ 2 ^ 62) × (e.deadline ≤ 2 ^ 62) };
+
+    ghost inverse = { λ t. record { id = t.id; weight = t.weight; mask = t.mask; slice = t.slice; v = t.v; deadline = t.deadline; rel = t.rel; prev = t.prev } };
+}
+
+impl Entity {
+    /// A new task, which has not run.
+    pub fn new(id: u16, weight: u32, mask: u64, slice: u64) -> Entity
+        requires weight { IsWeight weight }
+        requires slice_low { 100000 ≤ slice }
+        requires slice_high { slice ≤ 100000000 }
+        ensures { result ≡ record { id = id; weight = weight; mask = mask; slice = slice; v = 0; deadline = 0; rel = pos 0; prev = None } }
+    {
+        Entity {
+            id,
+            weight,
+            mask,
+            slice,
+            v: 0,
+            deadline: 0,
+            rel: 0,
+            prev: None,
+        }
+    }
+
+    pub fn id(&self) -> u16
+        ensures { result ≡ self.now.id }
+    {
+        self.id
+    }
+
+    pub fn weight(&self) -> u32
+        ensures value { result ≡ self.now.weight }
+        ensures range { IsWeight result }
+    {
+        self.weight
+    }
+
+    pub fn mask(&self) -> u64
+        ensures { result ≡ self.now.mask }
+    {
+        self.mask
+    }
+
+    pub fn slice(&self) -> u64
+        ensures value { result ≡ self.now.slice }
+        ensures low { 100000 ≤ result }
+        ensures high { result ≤ 100000000 }
+    {
+        self.slice
+    }
+
+    pub fn v(&self) -> u64
+        ensures value { result ≡ self.now.v }
+        ensures high { result ≤ 2 ^ 62 }
+    {
+        self.v
+    }
+
+    pub fn deadline(&self) -> u64
+        ensures value { result ≡ self.now.deadline }
+        ensures high { result ≤ 2 ^ 62 }
+    {
+        self.deadline
+    }
+
+    pub fn rel(&self) -> i64
+        ensures { result ≡ self.now.rel }
+    {
+        self.rel
+    }
+
+    pub fn prev(&self) -> Option<u8>
+        ensures { result ≡ self.now.prev }
+    {
+        self.prev
+    }
+
+    /// Gives it another v and deadline.
+    pub fn set_times(&mut self, v: u64, deadline: u64)
+        requires v { v ≤ 2 ^ 62 }
+        requires deadline { deadline ≤ 2 ^ 62 }
+        ensures { self.new ≡ record self.old { v = v; deadline = deadline } }
+    {
+        self.v = v;
+        self.deadline = deadline;
+    }
+
+    pub fn set_rel(&mut self, rel: i64)
+        ensures { self.new ≡ record self.old { rel = rel } }
+    {
+        self.rel = rel;
+    }
+
+    pub fn set_prev(&mut self, prev: u8)
+        ensures { self.new ≡ record self.old { prev = Some prev } }
+    {
+        self.prev = Some(prev);
+    }
+
+    /// Whether it may use a processor.
+    pub fn can_use(&self, cpu: u8) -> bool
+        requires { cpu < 64 }
+        ensures { result ≡ can_use cpu self.now }
+    {
+        (self.mask >> cpu) % 2 == 1
+    }
+
+    /// Whether it goes before another by (v, id).
+    pub fn runs_before(&self, other: &Entity) -> bool
+        ensures { result ≡ runs_before self.now other.now }
+    {
+        self.v < other.v || (self.v == other.v && self.id < other.id)
+    }
+
+    /// Whether it goes before another by (deadline, id).
+    pub fn due_before(&self, other: &Entity) -> bool
+        ensures { result ≡ due_before self.now other.now }
+    {
+        self.deadline < other.deadline || (self.deadline == other.deadline && self.id < other.id)
+    }
+}

@@ -1,0 +1,43 @@
+//! The tasks of a queue that may go to another processor.
+ghost use Rattle.std.specs.Prelude.{◌≡◌, ◌<◌, ◌≤◌, ◌^◌, ◌+◌, [], ◌∷◌, length};
+ghost use Rattle.bq_disc.specs.Queues.{can_use};
+ghost use Rattle.bq_disc.specs.Movable.{Adds};
+
+use crate::Entity;
+use arrayvec::ArrayVec;
+
+/// How many may go, and the ids of the first of them, the greatest (v, id) first.
+#[derive(Drop)]
+pub struct Movable {
+    pub count: u32,
+    pub first: ArrayVec<u16, 8>,
+}
+
+impl Movable {
+    pub fn new() -> Movable
+        ensures count { result.count ≡ 0 }
+        ensures first { result.first.items ≡ [] }
+    {
+        Movable {
+            count: 0,
+            first: ArrayVec::new(),
+        }
+    }
+
+    /// Looks at one more task.
+    pub fn add(&mut self, entity: &Entity, cpu: u8)
+        requires cpu { cpu < 64 }
+        requires few { self.old.count < 2 ^ 20 }
+        requires fits { length self.old.first.items ≤ 8 }
+        ensures { Adds cpu (entity.now ∷ []) self.old self.new }
+    {
+        if !entity.can_use(cpu) {
+            return;
+        }
+        self.count += 1;
+        if self.first.is_full() {
+            return;
+        }
+        self.first.push(entity.id());
+    }
+}

@@ -1,0 +1,58 @@
+//! Rules: what each discipline chooses, and how virtual time passes under it.
+ghost use Rattle.std.specs.Prelude.{◌≡◌, ◌<◌, ◌≤◌, ◌^◌, length};
+ghost use Rattle.std.specs.Option.{option_map};
+ghost use Rattle.bq_weights.specs.VirtualTime.{IsWeight};
+ghost use Rattle.bq_disc.specs.Tasks.{present, id_of};
+ghost use Rattle.bq_disc.specs.Discipline.{Discipline, IsLawful};
+ghost use Rattle.bq_disc.specs.Chains.{task_of, chain_behind};
+
+use crate::Node;
+use crate::node::Link;
+
+/// A discipline, and its choices over a plain chain of nodes.
+pub trait Rule {
+    /// The discipline's definitions.
+    ghost discipline: { Discipline };
+
+    /// Who should run, of a chain and of one more.
+    fn choice(current: Option<&Node>, chain: &Link) -> Option<u16>
+        requires { length (chain_behind chain.now) ≤ 2 ^ 16 }
+        ensures { result ≡ id_of (discipline.choice (present (option_map (λ n. task_of n.now) current.entry) (chain_behind chain.now))) };
+
+    /// Whether a chain's nodes should take the place of the current one.
+    fn wants_preempt(current: &Node, chain: &Link) -> bool
+        requires { length (chain_behind chain.now) ≤ 2 ^ 16 }
+        ensures { result ≡ discipline.wants_preempt (task_of current.now) (chain_behind chain.now) };
+
+    /// The mark, of the old one and of what is present.
+    fn mark(old: u64, current: Option<&Node>, chain: &Link) -> u64
+        requires old { old ≤ 2 ^ 62 }
+        requires few { length (chain_behind chain.now) ≤ 2 ^ 16 }
+        ensures value { result ≡ discipline.mark old (present (option_map (λ n. task_of n.now) current.entry) (chain_behind chain.now)) }
+        ensures high { result ≤ 2 ^ 62 };
+
+    /// The v at which a woken task enters.
+    fn wake(mark: u64, rel: i64, slice: u64, weight: u32) -> u64
+        requires mark { mark ≤ 2 ^ 62 }
+        requires slice { slice < 2 ^ 48 }
+        requires weight { IsWeight weight }
+        ensures value { result ≡ discipline.wake mark rel slice weight }
+        ensures high { result ≤ 2 ^ 62 };
+
+    /// The deadline of a task that enters.
+    fn deadline(v: u64, slice: u64, weight: u32) -> u64
+        requires slice { slice < 2 ^ 48 }
+        requires weight { IsWeight weight }
+        ensures value { result ≡ discipline.deadline v slice weight }
+        ensures high { result ≤ 2 ^ 62 };
+
+    /// The deadline of a task that has run.
+    fn renewed(v: u64, slice: u64, weight: u32, deadline: u64) -> u64
+        requires slice { slice < 2 ^ 48 }
+        requires weight { IsWeight weight }
+        requires deadline { deadline ≤ 2 ^ 62 }
+        ensures value { result ≡ discipline.renewed v slice weight deadline }
+        ensures high { result ≤ 2 ^ 62 };
+
+    ghost lawful: { IsLawful discipline };
+}

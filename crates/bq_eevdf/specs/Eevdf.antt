@@ -1,0 +1,31 @@
+-- Earliest eligible virtual deadline first: of the tasks whose lag is at least 0 the one of earliest deadline runs.
+use Rattle.std.specs.Prelude.{◌*◌, Bool, false, not, ◌==◌, nat_le, List, ◌∷◌, Option, None, Some, filter, if◌then◌else◌, unwrap_or}
+use Rattle.bq_weights.specs.VirtualTime.{advance_of, shift_of, vdelta_of, held_within}
+use Rattle.bq_disc.specs.Totals.{total_weight, weighted_sum, mean_of}
+use Rattle.bq_disc.specs.Tasks.{Task, first_by, due_before}
+use Rattle.bq_disc.specs.Discipline.{Discipline}
+
+-- a task whose v is at most the weighted average of those that are considered
+abbrev pub is_eligible : List Task → Task → Bool
+is_eligible xs t = nat_le (total_weight xs * t.v) (weighted_sum xs)
+
+abbrev pub eligible : List Task → List Task
+eligible xs = filter (is_eligible xs) xs
+
+-- the eligible task of least (deadline, id)
+abbrev pub earliest : List Task → Option Task
+earliest xs = first_by due_before (eligible xs)
+
+abbrev pub is_other : Option Task → Task → Bool
+is_other None current = false
+is_other (Some t) current = not (t.id == current.id)
+
+abbrev pub eevdf : Discipline
+eevdf = record {
+  choice = λ xs. earliest xs;
+  wants_preempt = λ current queue. is_other (earliest (current ∷ queue)) current;
+  mark = λ old xs. unwrap_or (mean_of xs) old;
+  wake = λ mark rel slice weight. shift_of mark (held_within (vdelta_of slice weight) rel);
+  deadline = λ v slice weight. advance_of v slice weight;
+  renewed = λ v slice weight deadline. if nat_le deadline v then advance_of v slice weight else deadline;
+}

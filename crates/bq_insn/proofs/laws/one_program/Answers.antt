@@ -1,0 +1,5 @@
+use Rattle.bq_insn.proofs.UniqueLemmas as unique
+use Rattle.bq_insn.proofs.laws.one_program.Goals as goal
+
+pub returns : goal.returns
+returns c = unique.one_program

@@ -1,0 +1,136 @@
+-- What is wrong with the instruction that begins at a slot, and which slot of a program is named.
+use Rattle.std.specs.Prelude.{◌≡◌, ℕ, ◌*◌, ◌%◌, ◌^◌, ◌<◌, ◌≤◌, Bool, true, false, not, ◌||◌, ◌&&◌, ◌==◌, nat_lt, nat_le, List, ◌++◌, length, drop, Option, Some, None, if◌then◌else◌}
+use Rattle.std.specs.List.{list_all}
+use Rattle.bq_insn.specs.declared.Insn.{Insn}
+use Rattle.bq_insn.specs.declared.Width.{Width}
+use Rattle.bq_insn.specs.declared.Width.TheVariants.{W32, W64}
+use Rattle.bq_insn.specs.declared.Operation.{Operation}
+use Rattle.bq_insn.specs.declared.Operation.TheVariants as op
+use Rattle.bq_insn.specs.declared.form.Form.{Form}
+use Rattle.bq_insn.specs.declared.form.Form.TheVariants as form
+use Rattle.bq_insn.specs.declared.form.Use.{Use}
+use Rattle.bq_insn.specs.declared.form.Use.TheVariants.{Unused, Register}
+use Rattle.bq_insn.specs.declared.form.Uses.{Uses}
+use Rattle.bq_insn.specs.declared.slot.Slot.{Slot}
+use Rattle.bq_insn.specs.declared.fault.Cause.{Cause}
+use Rattle.bq_insn.specs.declared.fault.Cause.TheVariants as cause
+use Rattle.bq_insn.specs.declared.fault.DecodeFault.{DecodeFault}
+use Rattle.bq_insn.specs.declared.fault.DecodeFault.TheVariants.{At, OutOfMemory}
+use Rattle.bq_insn.specs.Table.{form_of, uses_of}
+use Rattle.bq_insn.specs.Spelling.{slot_bytes, spelling, slot_count, is_insn, insn_bytes}
+use Rattle.bq_insn.specs.Slots.{slots_of}
+use Rattle.bq_insn.specs.Laws.{Fits, AllFit}
+
+-- a field that names a register names none
+abbrev pub is_no_register : Use → ℕ → Bool
+is_no_register Register r = nat_lt 10 r
+is_no_register _ r = false
+
+-- a field that is not used is not zero
+abbrev pub is_stray : Use → ℕ → Bool
+is_stray Unused n = nat_lt 0 n
+is_stray _ n = false
+
+abbrev pub has_bad_register : Uses → Slot → Bool
+has_bad_register u s = is_no_register u.dst s.dst || is_no_register u.src s.src
+
+abbrev pub has_stray_field : Uses → Slot → Bool
+has_stray_field u s = is_stray u.dst s.dst || (is_stray u.src s.src || (is_stray u.offset s.offset || is_stray u.imm s.imm))
+
+-- the second slot of a wide instruction has its immediate alone, and with a map reference not even that
+abbrev pub has_stray_second : Form → Slot → Option Slot → Bool
+has_stray_second form.Wide s (Some t) =
+    nat_lt 0 t.opcode || (nat_lt 0 t.dst || (nat_lt 0 t.src || (nat_lt 0 t.offset || ((s.src == 5) && nat_lt 0 t.imm))))
+has_stray_second f s next = false
+
+-- the offset names a variant of the operation
+abbrev pub is_variant : Width → Operation → Bool → ℕ → Bool
+is_variant w op.Div by_register n = nat_lt n 2
+is_variant w op.Rem by_register n = nat_lt n 2
+is_variant w op.Mov false n = n == 0
+is_variant W32 op.Mov true n = (n == 0) || ((n == 8) || (n == 16))
+is_variant W64 op.Mov true n = (n == 0) || ((n == 8) || ((n == 16) || (n == 32)))
+is_variant w o by_register n = true
+
+abbrev pub has_no_variant : Form → Slot → Bool
+has_no_variant (form.Alu w o by_register) s = not (is_variant w o by_register s.offset)
+has_no_variant form.Wide s = not ((s.src == 0) || (s.src == 5))
+has_no_variant form.Call s = not (s.src == 0)
+has_no_variant f s = false
+
+abbrev pub has_no_width : Form → Slot → Bool
+has_no_width (form.End order) s = not ((s.imm == 16) || ((s.imm == 32) || (s.imm == 64)))
+has_no_width f s = false
+
+abbrev pub is_cut : Form → Option Slot → Bool
+is_cut form.Wide None = true
+is_cut f next = false
+
+-- the least cause at a slot of a form, by the slot after it if there is one
+abbrev pub cause_at : Form → Slot → Option Slot → Option Cause
+cause_at f s next =
+    if has_bad_register (uses_of f) s then Some cause.Register
+    else if has_stray_field (uses_of f) s || has_stray_second f s next then Some cause.Field
+    else if has_no_variant f s then Some cause.Offset
+    else if has_no_width f s then Some cause.Imm
+    else if is_cut f next then Some cause.WideCut
+    else None
+
+abbrev pub cause_of_form : Option Form → Slot → Option Slot → Option Cause
+cause_of_form None s next = Some cause.Opcode
+cause_of_form (Some f) s next = cause_at f s next
+
+abbrev pub cause_of : Slot → Option Slot → Option Cause
+cause_of s next = cause_of_form (form_of s.opcode) s next
+
+-- the numbers of a slot fit its fields
+pub record IsSlot (s : Slot) : Type 0 where
+  pub opcode : s.opcode < 2 ^ 8
+  pub dst : s.dst < 16
+  pub src : s.src < 16
+  pub offset : s.offset < 2 ^ 16
+  pub imm : s.imm < 2 ^ 32
+
+-- the bytes begin with this slot, and after it comes this one, or nothing
+abbrev pub BeginsWith : List ℕ → Slot → Option Slot → Type 0
+BeginsWith bytes s None = bytes ≡ slot_bytes s
+BeginsWith bytes s (Some t) = IsSlot t × (rest : List ℕ) × (bytes ≡ slot_bytes s ++ (slot_bytes t ++ rest))
+
+-- the instruction at the front of these bytes has this least cause
+pub record FrontHasCause (bytes : List ℕ) (cause : Cause) : Type 0 where
+  pub slot : Slot
+  pub next : Option Slot
+  pub is_slot : IsSlot slot
+  pub begins : BeginsWith bytes slot next
+  pub cause_is : cause_of slot next ≡ Some cause
+
+-- before this slot stand instructions without a fault, and the one that begins at it has this least cause
+pub record Faulty (bytes : List ℕ) (slot : ℕ) (cause : Cause) : Type 0 where
+  pub before : List Insn
+  pub rest : List ℕ
+  pub are_insns : list_all is_insn before ≡ true
+  pub numbers : AllFit before
+  pub slot_is : slot ≡ slot_count before
+  pub bytes_are : bytes ≡ spelling before ++ rest
+  pub front : FrontHasCause rest cause
+
+-- from 1 to 4096 whole slots
+abbrev pub is_length : List ℕ → Bool
+is_length bytes = (length bytes % 8 == 0) && (nat_le 1 (length bytes) && nat_le (length bytes) 32768)
+
+-- the fault that bytes have; nothing is said where memory was refused
+abbrev pub IsFault : List ℕ → DecodeFault → Type 0
+IsFault bytes OutOfMemory = Unit {0}
+IsFault bytes (At slot cause.Length) = (slot ≡ 0) × (is_length bytes ≡ false)
+IsFault bytes (At slot c) = (is_length bytes ≡ true) × Faulty bytes slot c
+
+-- an instruction in range stands at the front of the bytes
+pub record HasFront (bytes : List ℕ) (insn : Insn) : Type 0 where
+  pub is_insn : is_insn insn ≡ true
+  pub numbers : Fits insn
+  pub within : 8 * slots_of insn ≤ length bytes
+  pub bytes_are : bytes ≡ insn_bytes insn ++ drop (8 * slots_of insn) bytes
+
+-- a program's bytes have no fault
+abbrev pub NoProgramIsFaulty : Type 0
+NoProgramIsFaulty = (insns : List Insn) (slot : ℕ) (c : Cause) → list_all is_insn insns ≡ true → AllFit insns → Faulty (spelling insns) slot c → ⊥

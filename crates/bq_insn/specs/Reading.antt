@@ -1,0 +1,57 @@
+-- The instruction that slots without a fault spell.
+use Rattle.std.specs.Prelude.{ℕ, ◌+◌, ◌*◌, ◌^◌, ℤ, Bool, true, false, ◌==◌, Option, Some, None, if◌then◌else◌}
+use Rattle.std.specs.Int.{w16, w32, cast_signed}
+use Rattle.bq_insn.specs.declared.Operation.{Operation}
+use Rattle.bq_insn.specs.declared.Operation.TheVariants as op
+use Rattle.bq_insn.specs.declared.Width.{Width}
+use Rattle.bq_insn.specs.declared.Source.TheVariants.{Imm, Reg}
+use Rattle.bq_insn.specs.declared.Bits.{Bits}
+use Rattle.bq_insn.specs.declared.Bits.TheVariants.{B8, B16, B32, B64}
+use Rattle.bq_insn.specs.declared.Insn.{Insn}
+use Rattle.bq_insn.specs.declared.Insn.TheVariants as insn
+use Rattle.bq_insn.specs.declared.form.Form.{Form}
+use Rattle.bq_insn.specs.declared.form.Form.TheVariants as form
+use Rattle.bq_insn.specs.declared.slot.Slot.{Slot}
+
+abbrev pub signed16 : ℕ → ℤ
+signed16 n = cast_signed w16 n
+
+abbrev pub signed32 : ℕ → ℤ
+signed32 n = cast_signed w32 n
+
+abbrev pub bits_of : ℕ → Bits
+bits_of n = if n == 8 then B8 else if n == 16 then B16 else if n == 32 then B32 else B64
+
+-- the operation that a variant stands for
+abbrev pub variant : Operation → ℕ → Operation
+variant op.Div n = if n == 1 then op.Sdiv else op.Div
+variant op.Rem n = if n == 1 then op.Srem else op.Rem
+variant o n = o
+
+abbrev pub second_imm : Option Slot → ℕ
+second_imm None = 0
+second_imm (Some t) = t.imm
+
+-- a move from a register, or one that extends the sign
+abbrev pub move_of : Width → Slot → Insn
+move_of w s = if s.offset == 0 then insn.Alu w op.Mov s.dst (Reg s.src) else insn.MovSx w (bits_of s.offset) s.dst s.src
+
+abbrev pub alu_of : Width → Operation → Bool → Slot → Insn
+alu_of w o false s = insn.Alu w (variant o s.offset) s.dst (Imm (signed32 s.imm))
+alu_of w op.Mov true s = move_of w s
+alu_of w o true s = insn.Alu w (variant o s.offset) s.dst (Reg s.src)
+
+abbrev pub insn_of : Form → Slot → Option Slot → Insn
+insn_of (form.Alu w o by_register) s next = alu_of w o by_register s
+insn_of (form.Neg w) s next = insn.Neg w s.dst
+insn_of (form.End order) s next = insn.End order (bits_of s.imm) s.dst
+insn_of (form.Load size signed) s next = insn.Load size signed s.dst s.src (signed16 s.offset)
+insn_of (form.StoreImm size) s next = insn.StoreImm size s.dst (signed16 s.offset) (signed32 s.imm)
+insn_of (form.StoreReg size) s next = insn.StoreReg size s.dst (signed16 s.offset) s.src
+insn_of form.Wide s next = if s.src == 5 then insn.MapRef s.dst (signed32 s.imm) else insn.Imm64 s.dst (s.imm + 2 ^ 32 * second_imm next)
+insn_of form.Goto s next = insn.Goto (signed16 s.offset)
+insn_of form.Goto32 s next = insn.Goto32 (signed32 s.imm)
+insn_of (form.Branch w c false) s next = insn.Branch w c s.dst (Imm (signed32 s.imm)) (signed16 s.offset)
+insn_of (form.Branch w c true) s next = insn.Branch w c s.dst (Reg s.src) (signed16 s.offset)
+insn_of form.Call s next = insn.Call (signed32 s.imm)
+insn_of form.Exit s next = insn.Exit

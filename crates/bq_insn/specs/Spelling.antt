@@ -1,0 +1,108 @@
+-- How instructions are spelled as bytes.
+use Rattle.std.specs.Prelude.{◌≡◌, ℕ, ◌+◌, ◌*◌, ◌/◌, ◌%◌, ◌^◌, ℤ, Bool, true, false, ◌&&◌, nat_le, List, [], ◌∷◌, ◌++◌, length, Option, option_to_list}
+use Rattle.std.specs.Int.{w16, w32, to_le_bytes, cast_unsigned}
+use Rattle.std.specs.List.{flat_map, list_all}
+use Rattle.bq_insn.specs.declared.Width.TheVariants.{W64}
+use Rattle.bq_insn.specs.declared.Operation.{Operation}
+use Rattle.bq_insn.specs.declared.Operation.TheVariants as op
+use Rattle.bq_insn.specs.declared.Source.{Source}
+use Rattle.bq_insn.specs.declared.Source.TheVariants.{Imm, Reg}
+use Rattle.bq_insn.specs.declared.Bits.{Bits}
+use Rattle.bq_insn.specs.declared.Bits.TheVariants.{B8, B16, B32, B64}
+use Rattle.bq_insn.specs.declared.Size.TheVariants.{Double}
+use Rattle.bq_insn.specs.declared.Insn.{Insn}
+use Rattle.bq_insn.specs.declared.Insn.TheVariants.{Alu, MovSx, Neg, End, Load, StoreImm, StoreReg, Imm64, MapRef, Goto, Goto32, Branch, Call, Exit}
+use Rattle.bq_insn.specs.declared.form.Form.TheVariants as form
+use Rattle.bq_insn.specs.declared.slot.Slot.{Slot}
+use Rattle.bq_insn.specs.Table.{opcode_of}
+
+-- the eight bytes of a slot
+abbrev pub slot_bytes : Slot → List ℕ
+slot_bytes s = s.opcode ∷ (s.dst + 16 * s.src) ∷ (to_le_bytes w16 s.offset ++ to_le_bytes w32 s.imm)
+
+-- a slot by its opcode, registers, offset and immediate
+abbrev pub slot : ℕ → ℕ → ℕ → ℕ → ℕ → Slot
+slot opcode dst src offset imm = record { opcode = opcode; dst = dst; src = src; offset = offset; imm = imm }
+
+-- which variant of an operation an offset stands for
+abbrev pub variant_of : Operation → ℕ
+variant_of op.Sdiv = 1
+variant_of op.Srem = 1
+variant_of o = 0
+
+abbrev pub bits_number : Bits → ℕ
+bits_number B8 = 8
+bits_number B16 = 16
+bits_number B32 = 32
+bits_number B64 = 64
+
+abbrev pub word16 : ℤ → ℕ
+word16 z = cast_unsigned w16 z
+
+abbrev pub word32 : ℤ → ℕ
+word32 z = cast_unsigned w32 z
+
+-- the slots that spell an instruction
+abbrev pub spelled : Insn → List Slot
+spelled (Alu w o d (Imm n)) = slot (opcode_of (form.Alu w o false)) d 0 (variant_of o) (word32 n) ∷ []
+spelled (Alu w o d (Reg s)) = slot (opcode_of (form.Alu w o true)) d s (variant_of o) 0 ∷ []
+spelled (MovSx w b d s) = slot (opcode_of (form.Alu w op.Mov true)) d s (bits_number b) 0 ∷ []
+spelled (Neg w d) = slot (opcode_of (form.Neg w)) d 0 0 0 ∷ []
+spelled (End order b d) = slot (opcode_of (form.End order)) d 0 0 (bits_number b) ∷ []
+spelled (Load size signed d s off) = slot (opcode_of (form.Load size signed)) d s (word16 off) 0 ∷ []
+spelled (StoreImm size d off n) = slot (opcode_of (form.StoreImm size)) d 0 (word16 off) (word32 n) ∷ []
+spelled (StoreReg size d off s) = slot (opcode_of (form.StoreReg size)) d s (word16 off) 0 ∷ []
+spelled (Imm64 d v) = slot (opcode_of form.Wide) d 0 0 (v % 2 ^ 32) ∷ slot 0 0 0 0 (v / 2 ^ 32) ∷ []
+spelled (MapRef d i) = slot (opcode_of form.Wide) d 5 0 (word32 i) ∷ slot 0 0 0 0 0 ∷ []
+spelled (Goto off) = slot (opcode_of form.Goto) 0 0 (word16 off) 0 ∷ []
+spelled (Goto32 n) = slot (opcode_of form.Goto32) 0 0 0 (word32 n) ∷ []
+spelled (Branch w c d (Imm n) off) = slot (opcode_of (form.Branch w c false)) d 0 (word16 off) (word32 n) ∷ []
+spelled (Branch w c d (Reg s) off) = slot (opcode_of (form.Branch w c true)) d s (word16 off) 0 ∷ []
+spelled (Call helper) = slot (opcode_of form.Call) 0 0 0 (word32 helper) ∷ []
+spelled Exit = slot (opcode_of form.Exit) 0 0 0 0 ∷ []
+
+-- the bytes of an instruction
+abbrev pub insn_bytes : Insn → List ℕ
+insn_bytes insn = flat_map slot_bytes (spelled insn)
+
+-- the bytes of a program
+abbrev pub spelling : List Insn → List ℕ
+spelling insns = flat_map insn_bytes insns
+
+-- how many slots a program takes
+abbrev pub slot_count : List Insn → ℕ
+slot_count insns = length (flat_map spelled insns)
+
+abbrev pub is_register : ℕ → Bool
+is_register r = nat_le r 10
+
+abbrev pub is_source : Source → Bool
+is_source (Imm n) = true
+is_source (Reg r) = is_register r
+
+-- registers and widths are in range
+abbrev pub is_insn : Insn → Bool
+is_insn (Alu w o d src) = is_register d && is_source src
+is_insn (MovSx w B8 d s) = is_register d && is_register s
+is_insn (MovSx w B16 d s) = is_register d && is_register s
+is_insn (MovSx W64 B32 d s) = is_register d && is_register s
+is_insn (MovSx w b d s) = false
+is_insn (Neg w d) = is_register d
+is_insn (End order B8 d) = false
+is_insn (End order b d) = is_register d
+is_insn (Load Double true d s off) = false
+is_insn (Load size signed d s off) = is_register d && is_register s
+is_insn (StoreImm size d off n) = is_register d
+is_insn (StoreReg size d off s) = is_register d && is_register s
+is_insn (Imm64 d v) = is_register d
+is_insn (MapRef d i) = is_register d
+is_insn (Branch w c d src off) = is_register d && is_source src
+is_insn insn = true
+
+-- what a program is: instructions in range, of 1 to 4096 slots
+abbrev pub is_well_formed : List Insn → Bool
+is_well_formed insns = list_all is_insn insns && (nat_le 1 (slot_count insns) && nat_le (slot_count insns) 4096)
+
+-- a slot, and one after it if there is one, are these
+abbrev pub AreSlots : (Slot × Option Slot) → List Slot → Type 0
+AreSlots pair slots = slots ≡ pair.0 ∷ option_to_list pair.1

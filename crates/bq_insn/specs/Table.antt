@@ -1,0 +1,170 @@
+-- The table of opcodes. An opcode has its class in the low three bits; in arithmetic and jumps the next bit says that
+-- the second operand is a register, and the high four bits are a code; in loads and stores two bits are the size.
+use Rattle.std.specs.Prelude.{ℕ, ◌+◌, ◌*◌, ◌/◌, ◌%◌, Bool, true, false, ◌==◌, Option, Some, None, option_map, if◌then◌else◌}
+use Rattle.bq_insn.specs.declared.Width.{Width}
+use Rattle.bq_insn.specs.declared.Width.TheVariants.{W32, W64}
+use Rattle.bq_insn.specs.declared.Operation.{Operation}
+use Rattle.bq_insn.specs.declared.Operation.TheVariants as op
+use Rattle.bq_insn.specs.declared.Condition.{Condition}
+use Rattle.bq_insn.specs.declared.Condition.TheVariants as cond
+use Rattle.bq_insn.specs.declared.Order.TheVariants.{Little, Big, Swapped}
+use Rattle.bq_insn.specs.declared.Size.{Size}
+use Rattle.bq_insn.specs.declared.Size.TheVariants.{Byte, Half, Word, Double}
+use Rattle.bq_insn.specs.declared.form.Form.{Form}
+use Rattle.bq_insn.specs.declared.form.Form.TheVariants.{Alu, Neg, End, Load, StoreImm, StoreReg, Wide, Goto, Goto32, Branch, Call, Exit}
+use Rattle.bq_insn.specs.declared.form.Use.{Use}
+use Rattle.bq_insn.specs.declared.form.Use.TheVariants.{Unused, Register, Value}
+use Rattle.bq_insn.specs.declared.form.Uses.{Uses}
+
+abbrev pub alu_class : Width → ℕ
+alu_class W32 = 4
+alu_class W64 = 7
+
+abbrev pub jump_class : Width → ℕ
+jump_class W64 = 5
+jump_class W32 = 6
+
+abbrev pub code_of : Operation → ℕ
+code_of op.Add = 0
+code_of op.Sub = 1
+code_of op.Mul = 2
+code_of op.Div = 3
+code_of op.Sdiv = 3
+code_of op.Or = 4
+code_of op.And = 5
+code_of op.Lsh = 6
+code_of op.Rsh = 7
+code_of op.Rem = 9
+code_of op.Srem = 9
+code_of op.Xor = 10
+code_of op.Mov = 11
+code_of op.Arsh = 12
+
+abbrev pub condition_code : Condition → ℕ
+condition_code cond.Equal = 1
+condition_code cond.Greater = 2
+condition_code cond.GreaterEqual = 3
+condition_code cond.AnyBit = 4
+condition_code cond.NotEqual = 5
+condition_code cond.SignedGreater = 6
+condition_code cond.SignedGreaterEqual = 7
+condition_code cond.Less = 10
+condition_code cond.LessEqual = 11
+condition_code cond.SignedLess = 12
+condition_code cond.SignedLessEqual = 13
+
+abbrev pub size_code : Size → ℕ
+size_code Word = 0
+size_code Half = 1
+size_code Byte = 2
+size_code Double = 3
+
+abbrev pub source_bit : Bool → ℕ
+source_bit by_register = if by_register then 8 else 0
+
+-- the opcode of a form
+abbrev pub opcode_of : Form → ℕ
+opcode_of (Alu w o by_register) = alu_class w + source_bit by_register + 16 * code_of o
+opcode_of (Neg w) = alu_class w + 128
+opcode_of (End Little) = 212
+opcode_of (End Big) = 220
+opcode_of (End Swapped) = 215
+opcode_of (Load size signed) = 1 + 8 * size_code size + (if signed then 128 else 96)
+opcode_of (StoreImm size) = 2 + 8 * size_code size + 96
+opcode_of (StoreReg size) = 3 + 8 * size_code size + 96
+opcode_of Wide = 24
+opcode_of Goto = 5
+opcode_of Goto32 = 6
+opcode_of (Branch w c by_register) = jump_class w + source_bit by_register + 16 * condition_code c
+opcode_of Call = 133
+opcode_of Exit = 149
+
+abbrev pub operation_of : ℕ → Option Operation
+operation_of n =
+    if n == 0 then Some op.Add else if n == 1 then Some op.Sub else if n == 2 then Some op.Mul else if n == 3 then Some op.Div
+    else if n == 4 then Some op.Or else if n == 5 then Some op.And else if n == 6 then Some op.Lsh else if n == 7 then Some op.Rsh
+    else if n == 9 then Some op.Rem else if n == 10 then Some op.Xor else if n == 11 then Some op.Mov else if n == 12 then Some op.Arsh
+    else None
+
+abbrev pub condition_of : ℕ → Option Condition
+condition_of n =
+    if n == 1 then Some cond.Equal else if n == 2 then Some cond.Greater else if n == 3 then Some cond.GreaterEqual else if n == 4 then Some cond.AnyBit
+    else if n == 5 then Some cond.NotEqual else if n == 6 then Some cond.SignedGreater else if n == 7 then Some cond.SignedGreaterEqual
+    else if n == 10 then Some cond.Less else if n == 11 then Some cond.LessEqual else if n == 12 then Some cond.SignedLess else if n == 13 then Some cond.SignedLessEqual
+    else None
+
+abbrev pub size_of : ℕ → Size
+size_of n = if n == 0 then Word else if n == 1 then Half else if n == 2 then Byte else Double
+
+-- byte orders, by class and source bit
+abbrev pub end_form_of : Width → Bool → Option Form
+end_form_of W32 false = Some (End Little)
+end_form_of W32 true = Some (End Big)
+end_form_of W64 false = Some (End Swapped)
+end_form_of W64 true = None
+
+-- arithmetic, by class, code and source bit
+abbrev pub alu_form_of : Width → ℕ → Bool → Option Form
+alu_form_of w code by_register =
+    if code == 13 then end_form_of w by_register
+    else if code == 8 then (if by_register then None else Some (Neg w))
+    else option_map (λ o. Alu w o by_register) (operation_of code)
+
+-- jumps, calls and exit, by class, code and source bit
+abbrev pub jump_form_of : Width → ℕ → Bool → Option Form
+jump_form_of W64 code by_register =
+    if code == 0 then (if by_register then None else Some Goto)
+    else if code == 8 then (if by_register then None else Some Call)
+    else if code == 9 then (if by_register then None else Some Exit)
+    else option_map (λ c. Branch W64 c by_register) (condition_of code)
+jump_form_of W32 code by_register =
+    if code == 0 then (if by_register then None else Some Goto32)
+    else option_map (λ c. Branch W32 c by_register) (condition_of code)
+
+-- loads, by size and mode; a sign-extended load of eight bytes is none
+abbrev pub load_form_of : Size → ℕ → Option Form
+load_form_of size mode =
+    if mode == 3 then Some (Load size false)
+    else if mode == 4 then (if size_code size == 3 then None else Some (Load size true))
+    else None
+
+-- the form of an opcode, where it is in the table
+abbrev pub form_of : ℕ → Option Form
+form_of n =
+    if n % 8 == 0 then (if n == 24 then Some Wide else None)
+    else if n % 8 == 1 then load_form_of (size_of (n / 8 % 4)) (n / 32)
+    else if n % 8 == 2 then (if n / 32 == 3 then Some (StoreImm (size_of (n / 8 % 4))) else None)
+    else if n % 8 == 3 then (if n / 32 == 3 then Some (StoreReg (size_of (n / 8 % 4))) else None)
+    else if n % 8 == 4 then alu_form_of W32 (n / 16) (n / 8 % 2 == 1)
+    else if n % 8 == 5 then jump_form_of W64 (n / 16) (n / 8 % 2 == 1)
+    else if n % 8 == 6 then jump_form_of W32 (n / 16) (n / 8 % 2 == 1)
+    else alu_form_of W64 (n / 16) (n / 8 % 2 == 1)
+
+-- what the second operand's two fields are for
+abbrev pub src_use : Bool → Use
+src_use by_register = if by_register then Register else Unused
+
+abbrev pub imm_use : Bool → Use
+imm_use by_register = if by_register then Unused else Value
+
+-- division, remainder and move have variants
+abbrev pub variant_use : Operation → Use
+variant_use op.Div = Value
+variant_use op.Rem = Value
+variant_use op.Mov = Value
+variant_use _ = Unused
+
+-- what the fields of a form are for
+abbrev pub uses_of : Form → Uses
+uses_of (Alu w o by_register) = record { dst = Register; src = src_use by_register; offset = variant_use o; imm = imm_use by_register }
+uses_of (Neg w) = record { dst = Register; src = Unused; offset = Unused; imm = Unused }
+uses_of (End order) = record { dst = Register; src = Unused; offset = Unused; imm = Value }
+uses_of (Load size signed) = record { dst = Register; src = Register; offset = Value; imm = Unused }
+uses_of (StoreImm size) = record { dst = Register; src = Unused; offset = Value; imm = Value }
+uses_of (StoreReg size) = record { dst = Register; src = Register; offset = Value; imm = Unused }
+uses_of Wide = record { dst = Register; src = Value; offset = Unused; imm = Value }
+uses_of Goto = record { dst = Unused; src = Unused; offset = Value; imm = Unused }
+uses_of Goto32 = record { dst = Unused; src = Unused; offset = Unused; imm = Value }
+uses_of (Branch w c by_register) = record { dst = Register; src = src_use by_register; offset = Value; imm = imm_use by_register }
+uses_of Call = record { dst = Unused; src = Value; offset = Unused; imm = Value }
+uses_of Exit = record { dst = Unused; src = Unused; offset = Unused; imm = Unused }

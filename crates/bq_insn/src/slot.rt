@@ -1,0 +1,47 @@
+//! One slot of a program, by its fields.
+ghost use Rattle.std.specs.Prelude.{◌≡◌, ◌≤◌, ◌<◌, ◌++◌, length, drop, OnOk, OnErr};
+ghost use Rattle.bq_insn.specs.Spelling.{slot_bytes};
+ghost use Rattle.bq_insn.specs.Faults.{IsSlot};
+
+use std::alloc::AllocError;
+
+/// The fields of eight bytes. Offset and immediate are as they stand there, without a sign.
+#[derive(Clone, Copy, Debug, PartialEq, Eq)]
+pub struct Slot {
+    pub opcode: u8,
+    pub dst: u8,
+    pub src: u8,
+    pub offset: u16,
+    pub imm: u32,
+}
+
+impl Slot {
+    /// The slot at the front of the bytes.
+    pub fn read(bytes: &[u8]) -> Slot
+        requires { 8 ≤ length bytes.now }
+        ensures bytes { bytes.now ≡ slot_bytes result ++ drop 8 bytes.now }
+        ensures fits { IsSlot result }
+    {
+        Slot {
+            opcode: bytes[0],
+            dst: bytes[1] % 16,
+            src: bytes[1] / 16,
+            offset: u16::from_le_bytes([bytes[2], bytes[3]]),
+            imm: u32::from_le_bytes([bytes[4], bytes[5], bytes[6], bytes[7]]),
+        }
+    }
+
+    /// Appends the eight bytes of the slot.
+    pub fn append_to(self, out: &mut Vec<u8>) -> Result<(), AllocError>
+        requires dst { self.dst < 16 }
+        requires src { self.src < 16 }
+        ensures ok { OnOk result (out.new.items ≡ out.old.items ++ slot_bytes self) }
+        ensures err { OnErr result (out.new.items ≡ out.old.items) }
+    {
+        let [o0, o1] = self.offset.to_le_bytes();
+        let [i0, i1, i2, i3] = self.imm.to_le_bytes();
+        let registers = self.dst + 16 * self.src;
+        out.extend_from_slice(&[self.opcode, registers, o0, o1, i0, i1, i2, i3])?;
+        Ok(())
+    }
+}

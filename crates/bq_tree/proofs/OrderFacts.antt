@@ -1,0 +1,154 @@
+-- Lists of tasks by rising (v, id), cut at a task.
+use Rattle.std.proofs.Common.{◌≡◌, ℕ, Bool, true, false, cond, List, [], ◌∷◌, ◌++◌, Option, Some, None, refl, ap, sym, ◌∙◌, append_assoc, arith}
+use Rattle.std.specs.List.{AllByRecursion}
+use Rattle.std.proofs.lemmas.Bool.Decides.{nat_tests}
+use Rattle.bq_disc.specs.Tasks.{Task, place, runs_before}
+use Rattle.bq_disc.specs.Queues.{comes_after}
+use Rattle.bq_disc.specs.Trees.{IsRising, NoneRunsBefore}
+use Rattle.bq_tree.specs.Taking.{is_at, IsAbsent, Takes, Finds}
+
+-- a task runs before none of these
+abbrev pub RunsBeforeNone : Task → List Task → Type 0
+RunsBeforeNone x xs = AllByRecursion (λ (y : Task). runs_before x y ≡ false) xs
+
+not_before : (x y z : Task) → runs_before x y ≡ false → runs_before y z ≡ false → runs_before x z ≡ false
+not_before x y z p q = grind (arith, nat_tests)
+
+before_not : (x y : Task) → runs_before x y ≡ true → runs_before y x ≡ false
+before_not x y p = grind (arith, nat_tests)
+
+none_front : (x : Task) (xs ys : List Task) → NoneRunsBefore x (xs ++ ys) → NoneRunsBefore x xs
+none_front x [] ys h = tt
+none_front x (y ∷ xs) ys h = (h.0, none_front x xs ys h.1)
+
+none_back : (x : Task) (xs ys : List Task) → NoneRunsBefore x (xs ++ ys) → NoneRunsBefore x ys
+none_back x [] ys h = h
+none_back x (y ∷ xs) ys h = none_back x xs ys h.1
+
+none_join : (x : Task) (xs ys : List Task) → NoneRunsBefore x xs → NoneRunsBefore x ys → NoneRunsBefore x (xs ++ ys)
+none_join x [] ys h k = k
+none_join x (y ∷ xs) ys h k = (h.0, none_join x xs ys h.1 k)
+
+pub IsRising-left : (xs ys : List Task) → IsRising (xs ++ ys) → IsRising xs
+IsRising-left [] ys h = tt
+IsRising-left (x ∷ xs) ys h = (none_front x xs ys h.0, IsRising-left xs ys h.1)
+
+pub IsRising-right : (xs ys : List Task) → IsRising (xs ++ ys) → IsRising ys
+IsRising-right [] ys h = h
+IsRising-right (x ∷ xs) ys h = IsRising-right xs ys h.1
+
+pub IsRising-after : (xs : List Task) (x : Task) (ys : List Task) → IsRising (xs ++ x ∷ ys) → NoneRunsBefore x ys
+IsRising-after xs x ys h = (IsRising-right xs (x ∷ ys) h).0
+
+pub IsRising-before : (xs : List Task) (x : Task) (ys : List Task) → IsRising (xs ++ x ∷ ys) → RunsBeforeNone x xs
+IsRising-before [] x ys h = tt
+IsRising-before (y ∷ xs) x ys h = ((none_back y xs (x ∷ ys) h.0).0, IsRising-before xs x ys h.1)
+
+-- a list without one of its tasks still rises
+pub IsRising-drop : (xs : List Task) (x : Task) (ys : List Task) → IsRising (xs ++ x ∷ ys) → IsRising (xs ++ ys)
+IsRising-drop [] x ys h = h.1
+IsRising-drop (y ∷ xs) x ys h =
+    (none_join y xs ys (none_front y xs (x ∷ ys) h.0) (none_back y xs (x ∷ ys) h.0).1, IsRising-drop xs x ys h.1)
+
+none_later : (t x : Task) (xs : List Task) → runs_before t x ≡ true → NoneRunsBefore x xs → NoneRunsBefore t xs
+none_later t x [] b h = tt
+none_later t x (y ∷ xs) b h = (not_before y x t h.0 (before_not t x b), none_later t x xs b h.1)
+
+none_place : (x t : Task) (xs : List Task) → runs_before t x ≡ false → NoneRunsBefore x xs → NoneRunsBefore x (place t xs)
+none_place x t [] b h = (b, tt)
+none_place x t (y ∷ xs) b h =
+    elim (runs_before t y) as (λ c. NoneRunsBefore x (cond c (t ∷ y ∷ xs) (y ∷ place t xs))) [
+      | true ↦ (b, h)
+      | false ↦ (h.0, none_place x t xs b h.1)
+    ]
+
+rising_by_test : (b : Bool) (t x : Task) (xs : List Task) → runs_before t x ≡ b → IsRising (x ∷ xs) → IsRising (place t xs) → IsRising (cond b (t ∷ x ∷ xs) (x ∷ place t xs))
+rising_by_test true t x xs e h p = ((before_not t x e, none_later t x xs e h.0), h)
+rising_by_test false t x xs e h p = (none_place x t xs e h.0, p)
+
+pub IsRising-place : (t : Task) (xs : List Task) → IsRising xs → IsRising (place t xs)
+IsRising-place t [] h = (tt, tt)
+IsRising-place t (x ∷ xs) h = rising_by_test (runs_before t x) t x xs refl h (IsRising-place t xs h.1)
+
+-- a task that runs before x has its place before it
+pub place-left : (t : Task) (xs : List Task) (x : Task) (ys : List Task) → runs_before t x ≡ true → place t (xs ++ x ∷ ys) ≡ place t xs ++ x ∷ ys
+place-left t [] x ys e = rw e refl
+place-left t (y ∷ xs) x ys e =
+    elim (runs_before t y) as (λ b. cond b (t ∷ y ∷ (xs ++ x ∷ ys)) (y ∷ place t (xs ++ x ∷ ys)) ≡ cond b (t ∷ y ∷ xs) (y ∷ place t xs) ++ x ∷ ys) [
+      | true ↦ refl
+      | false ↦ ap (λ l. y ∷ l) (place-left t xs x ys e)
+    ]
+
+-- a task that does not run before x has its place after it
+pub place-right : (t : Task) (xs : List Task) (x : Task) (ys : List Task) → runs_before t x ≡ false → RunsBeforeNone x xs → place t (xs ++ x ∷ ys) ≡ xs ++ x ∷ place t ys
+place-right t [] x ys e h = rw e refl
+place-right t (y ∷ xs) x ys e h =
+    let n = not_before t x y e h.0 in
+    rw n (ap (λ l. y ∷ l) (place-right t xs x ys e h.1))
+
+comes_later : (v id : ℕ) (x y : Task) → comes_after v id x ≡ true → runs_before y x ≡ false → comes_after v id y ≡ true
+comes_later v id x y p q = grind (arith, nat_tests)
+
+is_at-after : (v id : ℕ) (x : Task) → comes_after v id x ≡ true → is_at v id x ≡ false
+is_at-after v id x p = grind (arith, nat_tests)
+
+-- (v, id) lies before x, and so it is none of the later ones
+absent_later : (v id : ℕ) (x : Task) (xs : List Task) → comes_after v id x ≡ true → NoneRunsBefore x xs → IsAbsent v id xs
+absent_later v id x [] a h = tt
+absent_later v id x (y ∷ xs) a h = (is_at-after v id y (comes_later v id x y a h.0), absent_later v id x xs a h.1)
+
+not_at-before : (v id : ℕ) (x y : Task) → comes_after v id x ≡ false → is_at v id x ≡ false → runs_before x y ≡ false → is_at v id y ≡ false
+not_at-before v id x y p q r = grind (arith, nat_tests)
+
+-- (v, id) lies after x, and so it is none of the earlier ones
+absent_earlier : (v id : ℕ) (x : Task) (xs : List Task) → comes_after v id x ≡ false → is_at v id x ≡ false → RunsBeforeNone x xs → IsAbsent v id xs
+absent_earlier v id x [] a n h = tt
+absent_earlier v id x (y ∷ xs) a n h = (not_at-before v id x y a n h.0, absent_earlier v id x xs a n h.1)
+
+absent_join : (v id : ℕ) (xs ys : List Task) → IsAbsent v id xs → IsAbsent v id ys → IsAbsent v id (xs ++ ys)
+absent_join v id [] ys h k = k
+absent_join v id (x ∷ xs) ys h k = (h.0, absent_join v id xs ys h.1 k)
+
+-- what is taken from the left side is taken from the whole
+pub Takes-left : (v id : ℕ) (xs : List Task) (x : Task) (ys : List Task) (o : Option Task) (rest : List Task) → IsRising (xs ++ x ∷ ys) → comes_after v id x ≡ true → Takes v id xs o rest → Takes v id (xs ++ x ∷ ys) o (rest ++ x ∷ ys)
+Takes-left v id xs x ys None rest h a t =
+    let later = absent_later v id x ys a (IsRising-after xs x ys h) in
+    (absent_join v id xs (x ∷ ys) t.0 (is_at-after v id x a, later), ap (λ l. l ++ x ∷ ys) t.1)
+Takes-left v id xs x ys (Some y) rest h a t =
+    (t.0, t.1 ++ x ∷ ys, t.2, t.3, ap (λ l. l ++ x ∷ ys) t.4 ∙ append_assoc t.0 (y ∷ t.1) (x ∷ ys), ap (λ l. l ++ x ∷ ys) t.5 ∙ append_assoc t.0 t.1 (x ∷ ys))
+
+-- what is taken from the right side is taken from the whole
+pub Takes-right : (v id : ℕ) (xs : List Task) (x : Task) (ys : List Task) (o : Option Task) (rest : List Task) → IsRising (xs ++ x ∷ ys) → comes_after v id x ≡ false → is_at v id x ≡ false → Takes v id ys o rest → Takes v id (xs ++ x ∷ ys) o (xs ++ x ∷ rest)
+Takes-right v id xs x ys None rest h a n t =
+    let earlier = absent_earlier v id x xs a n (IsRising-before xs x ys h) in
+    (absent_join v id xs (x ∷ ys) earlier (n, t.0), ap (λ l. xs ++ x ∷ l) t.1)
+Takes-right v id xs x ys (Some y) rest h a n t =
+    (xs ++ x ∷ t.0, t.1, t.2, t.3, ap (λ l. xs ++ x ∷ l) t.4 ∙ sym (append_assoc xs (x ∷ t.0) (y ∷ t.1)), ap (λ l. xs ++ x ∷ l) t.5 ∙ sym (append_assoc xs (x ∷ t.0) t.1))
+
+-- the root itself is taken
+pub Takes-here : (v id : ℕ) (xs : List Task) (x : Task) (ys : List Task) → is_at v id x ≡ true → Takes v id (xs ++ x ∷ ys) (Some x) (xs ++ ys)
+Takes-here v id xs x ys e =
+    let same_v : x.v ≡ v = grind (arith, nat_tests) in
+    let same_id : x.id ≡ id = grind (arith, nat_tests) in
+    (xs, ys, same_v, same_id, refl, refl)
+
+-- what is found on the left side is found in the whole
+pub Finds-left : (v id : ℕ) (xs : List Task) (x : Task) (ys : List Task) (o : Option Task) → IsRising (xs ++ x ∷ ys) → comes_after v id x ≡ true → Finds v id xs o → Finds v id (xs ++ x ∷ ys) o
+Finds-left v id xs x ys None h a t =
+    absent_join v id xs (x ∷ ys) t (is_at-after v id x a, absent_later v id x ys a (IsRising-after xs x ys h))
+Finds-left v id xs x ys (Some y) h a t =
+    (t.0, t.1 ++ x ∷ ys, t.2, t.3, ap (λ l. l ++ x ∷ ys) t.4 ∙ append_assoc t.0 (y ∷ t.1) (x ∷ ys))
+
+-- what is found on the right side is found in the whole
+pub Finds-right : (v id : ℕ) (xs : List Task) (x : Task) (ys : List Task) (o : Option Task) → IsRising (xs ++ x ∷ ys) → comes_after v id x ≡ false → is_at v id x ≡ false → Finds v id ys o → Finds v id (xs ++ x ∷ ys) o
+Finds-right v id xs x ys None h a n t =
+    absent_join v id xs (x ∷ ys) (absent_earlier v id x xs a n (IsRising-before xs x ys h)) (n, t)
+Finds-right v id xs x ys (Some y) h a n t =
+    (xs ++ x ∷ t.0, t.1, t.2, t.3, ap (λ l. xs ++ x ∷ l) t.4 ∙ sym (append_assoc xs (x ∷ t.0) (y ∷ t.1)))
+
+-- the root itself is found
+pub Finds-here : (v id : ℕ) (xs : List Task) (x : Task) (ys : List Task) → is_at v id x ≡ true → Finds v id (xs ++ x ∷ ys) (Some x)
+Finds-here v id xs x ys e =
+    let same_v : x.v ≡ v = grind (arith, nat_tests) in
+    let same_id : x.id ≡ id = grind (arith, nat_tests) in
+    (xs, ys, same_v, same_id, refl)

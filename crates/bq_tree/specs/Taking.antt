@@ -1,0 +1,23 @@
+-- Taking the task at some (v, id) out of a list.
+use Rattle.std.specs.Prelude.{◌≡◌, ℕ, Bool, false, ◌&&◌, ◌==◌, List, ◌∷◌, ◌++◌, Option, Some, None}
+use Rattle.std.specs.List.{AllByRecursion}
+use Rattle.bq_disc.specs.Tasks.{Task}
+
+-- whether a task is the one at (v, id)
+abbrev pub is_at : ℕ → ℕ → Task → Bool
+is_at v id t = t.v == v && t.id == id
+
+abbrev pub IsAbsent : ℕ → ℕ → List Task → Type 0
+IsAbsent v id xs = AllByRecursion (λ (t : Task). is_at v id t ≡ false) xs
+
+-- what is taken out of a list, and what is left
+abbrev pub Takes : ℕ → ℕ → List Task → Option Task → List Task → Type 0
+Takes v id all None rest = IsAbsent v id all × (rest ≡ all)
+Takes v id all (Some t) rest =
+    (before : List Task) × (after : List Task) × (t.v ≡ v) × (t.id ≡ id) × (all ≡ before ++ t ∷ after) × (rest ≡ before ++ after)
+
+-- the task at (v, id) is found in a list
+abbrev pub Finds : ℕ → ℕ → List Task → Option Task → Type 0
+Finds v id all None = IsAbsent v id all
+Finds v id all (Some t) =
+    (before : List Task) × (after : List Task) × (t.v ≡ v) × (t.id ≡ id) × (all ≡ before ++ t ∷ after)

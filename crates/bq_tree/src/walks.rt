@@ -1,0 +1,139 @@
+//! Walks down a tree.
+ghost use Rattle.std.specs.Prelude.{◌≡◌, ◌<◌, ◌≤◌, ◌+◌, ◌^◌, ◌++◌, ◌∷◌, find, filter, length, nat_le};
+ghost use Rattle.std.specs.Option.{option_map};
+ghost use Rattle.bq_disc.specs.Tasks.{with_id};
+ghost use Rattle.bq_disc.specs.Queues.{comes_after};
+ghost use Rattle.bq_disc.specs.Chains.{task_of};
+ghost use Rattle.bq_disc.specs.Movable.{Adds};
+ghost use Rattle.bq_disc.specs.Totals.{first_due};
+ghost use Rattle.bq_disc.specs.Trees.{in_order, IsTree, IsTreeBehind, IsRising, in_order_behind};
+ghost use Rattle.bq_tree.specs.Taking.{Finds};
+ghost use Rattle.bq_tree.specs.Within.{within, head};
+
+use crate::balance::{earlier, totals};
+use crate::edits::{is_after, is_at};
+use bq_disc::node::{Due, Link};
+use bq_disc::{Movable, Node};
+
+/// The two sides of a node.
+fn sides(node: &Node) -> (&Link, &Link)
+    requires { IsTree node.now }
+    ensures left { IsTreeBehind result.0.now }
+    ensures right { IsTreeBehind result.1.now }
+    ensures order { in_order node.now ≡ in_order_behind result.0.now ++ task_of node.now ∷ in_order_behind result.1.now }
+{
+    (&node.left, &node.right)
+}
+
+/// The node at (v, id).
+pub(crate) fn get_at(link: &Link, v: u64, id: u16) -> Option<&Node>
+    requires tree { IsTreeBehind link.now }
+    requires rising { IsRising (in_order_behind link.now) }
+    ensures { Finds v id (in_order_behind link.now) (option_map (λ n. task_of n.now) result) }
+{
+    let Some(node) = link else {
+        return None;
+    };
+    let (left, right) = sides(node);
+    if is_at(&node.entity, v, id) {
+        return Some(node);
+    }
+    if is_after(&node.entity, v, id) {
+        return get_at(left, v, id);
+    }
+    get_at(right, v, id)
+}
+
+/// The node of that id, wherever it stands.
+pub(crate) fn find_id(link: &Link, id: u16) -> Option<&Node>
+    requires { IsTreeBehind link.now }
+    ensures { option_map (λ n. task_of n.now) result ≡ with_id id (in_order_behind link.now) }
+{
+    let Some(node) = link else {
+        return None;
+    };
+    let (left, right) = sides(node);
+    match find_id(left, id) {
+        Some(found) => return Some(found),
+        None => {}
+    }
+    if node.entity.id() == id {
+        return Some(node);
+    }
+    find_id(right, id)
+}
+
+/// The first node after (v, id).
+pub(crate) fn after(link: &Link, v: u64, id: u16) -> Option<&Node>
+    requires tree { IsTreeBehind link.now }
+    requires rising { IsRising (in_order_behind link.now) }
+    ensures { option_map (λ n. task_of n.now) result ≡ find (comes_after v id) (in_order_behind link.now) }
+{
+    let Some(node) = link else {
+        return None;
+    };
+    let (left, right) = sides(node);
+    if !is_after(&node.entity, v, id) {
+        return after(right, v, id);
+    }
+    match after(left, v, id) {
+        Some(found) => Some(found),
+        None => Some(node),
+    }
+}
+
+/// The first node.
+pub(crate) fn least(link: &Link) -> Option<&Node>
+    requires { IsTreeBehind link.now }
+    ensures { option_map (λ n. task_of n.now) result ≡ head (in_order_behind link.now) }
+{
+    let Some(node) = link else {
+        return None;
+    };
+    let (left, _) = sides(node);
+    match least(left) {
+        Some(found) => Some(found),
+        None => Some(node),
+    }
+}
+
+/// When the first is due of the tasks whose v is at most a limit.
+pub(crate) fn earliest_within(link: &Link, limit: u64) -> Option<Due>
+    requires tree { IsTreeBehind link.now }
+    requires rising { IsRising (in_order_behind link.now) }
+    ensures { result ≡ first_due (within limit (in_order_behind link.now)) }
+{
+    let Some(node) = link else {
+        return None;
+    };
+    let (left, right) = sides(node);
+    let entity = &node.entity;
+    if entity.v() > limit {
+        return earliest_within(left, limit);
+    }
+    let due = Due {
+        deadline: entity.deadline(),
+        id: entity.id(),
+    };
+    earlier(
+        totals(left).due,
+        earlier(Some(due), earliest_within(right, limit)),
+    )
+}
+
+/// Looks at the tasks of a tree from the last to the first, and adds those that may use a processor.
+pub(crate) fn movable_into(link: &Link, cpu: u8, found: &mut Movable)
+    requires tree { IsTreeBehind link.now }
+    requires cpu { cpu < 64 }
+    requires few { found.old.count + length (in_order_behind link.now) ≤ 2 ^ 20 }
+    requires fits { length found.old.first.items ≤ 8 }
+    ensures { Adds cpu (in_order_behind link.now) found.old found.new }
+{
+    let Some(node) = link else {
+        return;
+    };
+    let (left, right) = sides(node);
+    movable_into(right, cpu, found);
+    found.add(&node.entity, cpu);
+    movable_into(left, cpu, found);
+}

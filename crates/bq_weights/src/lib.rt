@@ -1,0 +1,92 @@
+//! Weights of nice values, and the scaling of time used by weight.
+#![tactic(auto)]
+
+ghost use Rattle.std.specs.Prelude.{◌≡◌, ℕ, ◌+◌, ◌-◌, ◌*◌, ◌/◌, ◌<◌, ◌≤◌, ◌^◌, pos, negsuc, ◌≤ℤ◌, slice_index};
+ghost use Rattle.bq_weights.specs.VirtualTime.{weights, weight_of, IsWeight, vdelta_of, advance_of, shift_of, held_within, distance_of};
+
+/// The greatest virtual time.
+pub const GREATEST: u64 = 1 << 62;
+
+/// How far from the mark a task that leaves is remembered to be.
+pub const FARTHEST: u64 = 1 << 30;
+
+static WEIGHTS: [u32; 40] = [
+    88761, 71755, 56483, 46273, 36291, 29154, 23254, 18705, 14949, 11916, 9548, 7620, 6100, 4904,
+    3906, 3121, 2501, 1991, 1586, 1277, 1024, 820, 655, 526, 423, 335, 272, 215, 172, 137, 110, 87,
+    70, 56, 45, 36, 29, 23, 18, 15,
+];
+
+/// The weight of a nice value.
+pub fn weight(nice: i8) -> u32
+    requires low { negsuc 19 ≤ℤ nice }
+    requires high { nice ≤ℤ pos 19 }
+    ensures value { result ≡ weight_of nice }
+    ensures range { IsWeight result }
+{
+    weight_at((nice + 20) as usize)
+}
+
+/// The weight at a place of the table.
+fn weight_at(place: usize) -> u32
+    requires { place < 40 }
+    ensures value { result ≡ slice_index weights place }
+    ensures range { IsWeight result }
+{
+    WEIGHTS[place]
+}
+
+/// The virtual time that `d` takes at weight `w`.
+pub fn vdelta(d: u64, w: u32) -> u64
+    requires short { d < 2 ^ 48 }
+    requires weight { IsWeight w }
+    ensures value { result ≡ vdelta_of d w }
+    ensures bound { result ≤ d * 1024 }
+{
+    d * 1024 / u64::from(w)
+}
+
+/// `v` after `d` at weight `w`.
+pub fn advance(v: u64, d: u64, w: u32) -> u64
+    requires short { d < 2 ^ 48 }
+    requires weight { IsWeight w }
+    ensures value { result ≡ advance_of v d w }
+    ensures high { result ≤ 2 ^ 62 }
+{
+    v.saturating_add(vdelta(d, w)).min(GREATEST)
+}
+
+/// The mark moved by `rel`, held within 0 and the greatest virtual time.
+pub fn shift(mark: u64, rel: i64) -> u64
+    ensures value { result ≡ shift_of mark rel }
+    ensures high { result ≤ 2 ^ 62 }
+{
+    if rel >= 0 {
+        mark.saturating_add(rel as u64).min(GREATEST)
+    } else {
+        mark.saturating_sub(rel.unsigned_abs()).min(GREATEST)
+    }
+}
+
+/// The mark moved by `rel`, which is first held within `most` on either side.
+pub fn shift_within(mark: u64, rel: i64, most: u64) -> u64
+    ensures value { result ≡ shift_of mark (held_within most rel) }
+    ensures high { result ≤ 2 ^ 62 }
+{
+    if rel >= 0 {
+        mark.saturating_add((rel as u64).min(most)).min(GREATEST)
+    } else {
+        mark.saturating_sub(rel.unsigned_abs().min(most))
+            .min(GREATEST)
+    }
+}
+
+/// How far `v` is from the mark, held within the farthest distance on either side.
+pub fn distance(v: u64, mark: u64) -> i64
+    ensures value { result ≡ distance_of v mark }
+{
+    if mark <= v {
+        (v - mark).min(FARTHEST) as i64
+    } else {
+        -((mark - v).min(FARTHEST) as i64)
+    }
+}
