@@ -1,0 +1,73 @@
+-- One processor by itself: the task that runs, the queue, the mark and the clock; how its time passes, and who runs next.
+-- The choices are those of sched-design-CFS.rst and sched-eevdf.rst; marks, entries and exchanges are this project's own.
+use Rattle.std.specs.Prelude.{ℕ, ◌-◌, ◌^◌, min, max, Bool, false, List, [], ◌∷◌, Option, Some, None, if◌then◌else◌}
+use Rattle.std.specs.Option.{option_map}
+use Rattle.bq_disc.specs.Tasks.{Task, with_id, without, place, present, id_of}
+use Rattle.bq_disc.specs.Discipline.{Discipline, charged, woken, next_of}
+
+-- the queue, the mark that was kept last, the task that runs, and the last reading of the clock
+pub record Running : Type 0 where
+  pub queue : List Task
+  pub kept : ℕ
+  pub current : Option Task
+  pub last : ℕ
+
+-- nothing has come yet: the mark begins at 2^32
+abbrev pub at_rest : Running
+at_rest = record { queue = []; kept = 2 ^ 32; current = None; last = 0 }
+
+-- the tasks that run or wait in the queue
+abbrev pub present_at : Running → List Task
+present_at p = present p.current p.queue
+
+-- a reading counts as at most 2^48 - 1, and as no less than the last
+abbrev pub reading : ℕ → ℕ → ℕ
+reading last now = max last (min now (2 ^ 48 - 1))
+
+-- the mark is computed anew over those present
+abbrev pub marked : Discipline → Running → Running
+marked d p = record p { kept = d.mark p.kept (present_at p) }
+
+-- Charge: the current task has run since the last reading, and the mark is computed anew
+abbrev pub charge : Discipline → Running → ℕ → Running
+charge d p now =
+    let at = reading p.last now in
+    marked d (record p { last = at; current = option_map (λ t. charged d t (at - p.last)) p.current })
+
+-- the task of that id leaves the queue and runs
+abbrev pub run_id : Running → Option ℕ → Running
+run_id p None = p
+run_id p (Some id) = record p { current = with_id id p.queue; queue = without id p.queue }
+
+-- the queue's choice runs
+abbrev pub start : Discipline → Running → Running
+start d p = run_id p (id_of (d.choice p.queue))
+
+-- the current task goes to the queue, and another one runs in its place; v and deadline stay
+abbrev pub exchanged : Running → Task → Option Task → Running
+exchanged p old None = p
+exchanged p old (Some new) = record p { current = Some new; queue = place old (without new.id p.queue) }
+
+-- the current task and the next change places, unless they are the same
+abbrev pub switched : Discipline → Running → Option Task → Running
+switched d p None = p
+switched d p (Some current) = exchanged p current (with_id (next_of d current p.queue) p.queue)
+
+-- Decide: where nothing runs the queue's choice runs; else the answer says whether the current task gives way
+abbrev pub decided : Discipline → Running → Option Task → Bool → Running
+decided d p None gives_way = start d p
+decided d p (Some current) gives_way = if gives_way then switched d p (Some current) else p
+
+-- the discipline's own answer
+abbrev pub own_preempt : Discipline → List Task → Option Task → Bool
+own_preempt d queue None = false
+own_preempt d queue (Some current) = d.wants_preempt current queue
+
+-- a queue that woken tasks have entered one after another, at a mark
+abbrev pub entered : Discipline → ℕ → List Task → List Task → List Task
+entered d kept queue [] = queue
+entered d kept queue (t ∷ tasks) = entered d kept (place (woken d kept t) queue) tasks
+
+-- some tasks enter in their order, at the mark that is kept
+abbrev pub enter_all : Discipline → Running → List Task → Running
+enter_all d p tasks = record p { queue = entered d p.kept p.queue tasks }
