@@ -185,8 +185,14 @@ fn slots_of(insn: Insn) -> (Slot, Option<Slot>)
             one(form, dst, src, bits_number(bits), 0)
         }
         Insn::Neg { width, dst } => one(Form::Neg { width }, dst, 0, 0, 0),
-        Insn::End { order, bits, dst } => {
-            one(Form::End { order }, dst, 0, 0, u32::from(bits_number(bits)))
+        Insn::End { kind, bits, dst } => {
+            one(
+                Form::End { order: kind },
+                dst,
+                0,
+                0,
+                u32::from(bits_number(bits)),
+            )
         }
         Insn::Load {
             size,

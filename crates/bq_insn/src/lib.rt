@@ -111,7 +111,7 @@ pub enum Insn {
         dst: u8,
     },
     End {
-        order: Order,
+        kind: Order,
         bits: Bits,
         dst: u8,
     },

@@ -108,7 +108,7 @@ pub fn insn_of(form: Form, slot: Slot, next: Option<Slot>) -> Insn
         } => alu_of(width, op, by_register, slot),
         Form::Neg { width } => Insn::Neg { width, dst },
         Form::End { order } => Insn::End {
-            order,
+            kind: order,
             bits: bits_of(slot.imm),
             dst,
         },
