@@ -4,7 +4,7 @@ ghost use Rattle.std.specs.Option.{option_map};
 ghost use Rattle.bq_cfs.specs.Cfs.{least};
 
 use crate::{Cfs, GRANULARITY, first};
-use bq_disc::{Entity, Movable, Node, Rule, RunQueue};
+use bq_disc::{Entity, Movable, Node, RunQueue};
 use bq_tree::Tree;
 use std::marker::Model;
 
@@ -68,8 +68,8 @@ impl RunQueue for CfsQueue {
         self.tree.get(id)
     }
 
-    fn after(&self, v: u64, id: u16) -> Option<&Node> {
-        self.tree.after(v, id)
+    fn after(&self, last: Option<(u64, u16)>) -> Option<&Node> {
+        self.tree.after(last)
     }
 
     fn movable(&self, cpu: u8) -> Movable {
@@ -90,16 +90,6 @@ impl RunQueue for CfsQueue {
         }
     }
 
-    fn next(&self, current: &Node) -> Option<u16> {
-        let Some(chosen) = self.choice(Some(current)) else {
-            return self.choice(None);
-        };
-        if chosen == current.entity.id() {
-            return self.choice(None);
-        }
-        Some(chosen)
-    }
-
     fn mark(&mut self, current: Option<&Node>) -> u64 {
         match first(current, least(&self.tree)) {
             None => {}
@@ -110,31 +100,5 @@ impl RunQueue for CfsQueue {
 
     fn kept(&self) -> u64 {
         self.mark
-    }
-
-    fn charge(&self, node: &mut Node, time: u64) {
-        let entity = &mut node.entity;
-        let v = bq_weights::advance(entity.v(), time, entity.weight());
-        let deadline = Cfs::renewed(v, entity.slice(), entity.weight(), entity.deadline());
-        entity.set_times(v, deadline);
-    }
-
-    fn wake(&self, node: &mut Node) {
-        let entity = &mut node.entity;
-        let v = Cfs::wake(self.mark, entity.rel(), entity.slice(), entity.weight());
-        let deadline = Cfs::deadline(v, entity.slice(), entity.weight());
-        entity.set_times(v, deadline);
-    }
-
-    fn pull(&self, node: &mut Node) {
-        let entity = &mut node.entity;
-        let v = bq_weights::shift(self.mark, entity.rel());
-        let deadline = Cfs::deadline(v, entity.slice(), entity.weight());
-        entity.set_times(v, deadline);
-    }
-
-    fn leave(&self, node: &mut Node) {
-        let entity = &mut node.entity;
-        entity.set_rel(bq_weights::distance(entity.v(), self.mark));
     }
 }

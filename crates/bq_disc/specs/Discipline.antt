@@ -1,6 +1,8 @@
 -- A discipline: how a processor chooses among its tasks, and how virtual time passes.
-use Rattle.std.specs.Prelude.{◌≢◌, ℕ, ℤ, Bool, ◌==◌, if◌then◌else◌, List, [], ◌∷◌, Option, Contains, IsSome, IfSome, unwrap_or}
+use Rattle.std.specs.Prelude.{◌≢◌, ℕ, ℤ, Bool, ◌==◌, if◌then◌else◌, List, [], ◌∷◌, Option, Some, None, Contains, IsSome, IfSome, unwrap_or}
 use Rattle.bq_disc.specs.Tasks.{Task, id_of}
+use Rattle.bq_disc.specs.declared.queue.Entry.{Entry}
+use Rattle.bq_disc.specs.declared.queue.Entry.TheVariants.{Wake, Pull}
 use Rattle.bq_weights.specs.VirtualTime.{advance_of, shift_of, distance_of}
 
 pub record Discipline : Type 0 where
@@ -45,6 +47,11 @@ pulled d mark t =
     let v = shift_of mark t.rel in
     record t { v = v; deadline = d.deadline v t.slice t.weight }
 
+-- a task as it enters, woken or pulled
+abbrev pub entered_by : Discipline → ℕ → Entry → Task → Task
+entered_by d mark Wake t = woken d mark t
+entered_by d mark Pull t = pulled d mark t
+
 -- a task, as it leaves at a mark
 abbrev pub left_at : ℕ → Task → Task
 left_at mark t = record t { rel = distance_of t.v mark }
@@ -54,3 +61,7 @@ abbrev pub next_of : Discipline → Task → List Task → ℕ
 next_of d current queue =
     let chosen = unwrap_or (id_of (d.choice (current ∷ queue))) current.id in
     if chosen == current.id then unwrap_or (id_of (d.choice queue)) current.id else chosen
+
+-- whom the current task gives way to, if it is another
+abbrev pub next_other : Discipline → Task → List Task → Option ℕ
+next_other d current queue = let id = next_of d current queue in if id == current.id then None else Some id

@@ -1,5 +1,5 @@
 -- Queues: sets of tasks with distinct ids, as the list of their tasks by rising (v, id), with the mark that is kept.
-use Rattle.std.specs.Prelude.{◌≡◌, ℕ, ◌<◌, ◌^◌, List, [], ◌∷◌, None, refl, Bool, ◌/◌, ◌%◌, ◌==◌, ◌||◌, ◌&&◌, nat_lt}
+use Rattle.std.specs.Prelude.{◌≡◌, ℕ, ◌<◌, ◌^◌, List, [], ◌∷◌, Option, Some, None, refl, Bool, true, ◌/◌, ◌%◌, ◌==◌, ◌||◌, ◌&&◌, nat_lt}
 use Rattle.std.specs.Coded.{Coded, code_by, coded×, coded_ℕ, coded_list}
 use Rattle.bq_disc.specs.Tasks.{Task, coded_task, with_id}
 
@@ -24,6 +24,11 @@ HasSmallIds (x ∷ xs) = (x.id < 2 ^ 16) × HasSmallIds xs
 -- the first task that comes after some (v, id)
 abbrev pub comes_after : ℕ → ℕ → Task → Bool
 comes_after v id t = nat_lt v t.v || (v == t.v && nat_lt id t.id)
+
+-- whether a task comes after the one of this (v, id); after none, each does
+abbrev pub follows : Option (ℕ × ℕ) → Task → Bool
+follows None t = true
+follows (Some last) t = comes_after last.0 last.1 t
 
 -- whether a task may use a processor
 abbrev pub can_use : ℕ → Task → Bool

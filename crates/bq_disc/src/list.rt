@@ -68,8 +68,11 @@ impl<R: Rule> RunQueue for List<R> {
         node::get_behind(&self.head, id)
     }
 
-    fn after(&self, v: u64, id: u16) -> Option<&Node> {
-        node::after_behind(&self.head, v, id)
+    fn after(&self, last: Option<(u64, u16)>) -> Option<&Node> {
+        match last {
+            None => node::front(&self.head),
+            Some((v, id)) => node::after_behind(&self.head, v, id),
+        }
     }
 
     fn movable(&self, cpu: u8) -> Movable {
@@ -86,15 +89,6 @@ impl<R: Rule> RunQueue for List<R> {
         R::wants_preempt(current, &self.head)
     }
 
-    fn next(&self, current: &Node) -> Option<u16> {
-        let chosen = R::choice(Some(current), &self.head)?;
-        if chosen == current.entity.id() {
-            R::choice(None, &self.head)
-        } else {
-            Some(chosen)
-        }
-    }
-
     fn mark(&mut self, current: Option<&Node>) -> u64 {
         self.mark = R::mark(self.mark, current, &self.head);
         self.mark
@@ -102,31 +96,5 @@ impl<R: Rule> RunQueue for List<R> {
 
     fn kept(&self) -> u64 {
         self.mark
-    }
-
-    fn charge(&self, node: &mut Node, time: u64) {
-        let entity = &mut node.entity;
-        let v = bq_weights::advance(entity.v(), time, entity.weight());
-        let deadline = R::renewed(v, entity.slice(), entity.weight(), entity.deadline());
-        entity.set_times(v, deadline);
-    }
-
-    fn wake(&self, node: &mut Node) {
-        let entity = &mut node.entity;
-        let v = R::wake(self.mark, entity.rel(), entity.slice(), entity.weight());
-        let deadline = R::deadline(v, entity.slice(), entity.weight());
-        entity.set_times(v, deadline);
-    }
-
-    fn pull(&self, node: &mut Node) {
-        let entity = &mut node.entity;
-        let v = bq_weights::shift(self.mark, entity.rel());
-        let deadline = R::deadline(v, entity.slice(), entity.weight());
-        entity.set_times(v, deadline);
-    }
-
-    fn leave(&self, node: &mut Node) {
-        let entity = &mut node.entity;
-        entity.set_rel(bq_weights::distance(entity.v(), self.mark));
     }
 }

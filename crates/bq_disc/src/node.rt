@@ -1,6 +1,6 @@
 //! A task that can be linked into a queue.
 ghost use Rattle.std.specs.Prelude.{◌≡◌, ◌<◌, ◌≤◌, ◌^◌, ◌+◌, length, Option, Some, None, pos, IfSome, IfNone, find, [], ◌∷◌, ◌++◌};
-ghost use Rattle.bq_disc.specs.Queues.{comes_after};
+ghost use Rattle.bq_disc.specs.Queues.{comes_after, follows};
 ghost use Rattle.bq_weights.specs.VirtualTime.{IsWeight};
 ghost use Rattle.bq_disc.specs.Tasks.{place, with_id, without};
 ghost use Rattle.bq_disc.specs.Chains.{task_of, IsLone, chain, chain_behind, IsStraightBehind};
@@ -127,6 +127,16 @@ pub(crate) fn after_behind(link: &Link, v: u64, id: u16) -> Option<&Node>
         link = &node.left;
     }
     None
+}
+
+/// The first task of a chain.
+pub(crate) fn front(link: &Link) -> Option<&Node>
+    ensures { option_map (λ n. task_of n.now) result ≡ find (follows None) (chain_behind link.now) }
+{
+    match link {
+        None => None,
+        Some(node) => Some(node),
+    }
 }
 
 /// The chain behind a node.

@@ -1,13 +1,22 @@
 //! What the core asks of a run queue.
-ghost use Rattle.std.specs.Prelude.{◌≡◌, ◌<◌, ◌^◌, ℕ, List, [], length, Option, Some, None, IfSome, is_some, unwrap_or, find, take};
+ghost use Rattle.std.specs.Prelude.{◌≡◌, ◌≤◌, ◌<◌, ◌^◌, ℕ, List, [], length, Option, Some, None, IfSome, find, take};
 ghost use Rattle.std.specs.Option.{option_map};
 ghost use Rattle.bq_disc.specs.Tasks.{Task, present, id_of, place, without, with_id};
-ghost use Rattle.bq_disc.specs.Queues.{comes_after};
+ghost use Rattle.bq_disc.specs.Queues.{follows};
 ghost use Rattle.bq_disc.specs.Movable.{movable_to, is_movable_to, ids};
-ghost use Rattle.bq_disc.specs.Discipline.{Discipline, charged, woken, pulled, left_at, next_of};
+ghost use Rattle.bq_disc.specs.Discipline.{Discipline, charged, entered_by, left_at, next_other};
 ghost use Rattle.bq_disc.specs.Chains.{task_of, IsLone};
 
 use crate::{Movable, Node, Rule};
+
+/// How a task comes into a queue.
+#[derive(Clone, Copy)]
+pub enum Entry {
+    /// It slept, and was woken.
+    Wake,
+    /// It was taken from another processor's queue.
+    Pull,
+}
 
 /// A set of tasks with distinct ids, under a rule. No call takes memory: nodes move.
 pub trait RunQueue {
@@ -41,9 +50,9 @@ pub trait RunQueue {
     fn get(&self, id: u16) -> Option<&Node>
         ensures { option_map (λ n. task_of n.now) result ≡ with_id id (members self.now) };
 
-    /// The next by (v, id); of nothing the first.
-    fn after(&self, v: u64, id: u16) -> Option<&Node>
-        ensures { option_map (λ n. task_of n.now) result ≡ find (comes_after v id) (members self.now) };
+    /// The task of least (v, id) above the one given; of none, the task of least (v, id).
+    fn after(&self, last: Option<(u64, u16)>) -> Option<&Node>
+        ensures { option_map (λ n. task_of n.now) result ≡ find (follows last) (members self.now) };
 
     /// The tasks that may go to a processor, the greatest (v, id) first.
     fn movable(&self, cpu: u8) -> Movable
@@ -62,43 +71,73 @@ pub trait RunQueue {
         }
     }
 
+    /// Who should run, of the queue and of the current task.
     fn choice(&self, current: Option<&Node>) -> Option<u16>
         ensures { result ≡ id_of (Self.R.discipline.choice (present (option_map (λ n. task_of n.now) current.entry) (members self.now))) };
 
+    /// Whether a task of the queue should take the place of the current one.
     fn wants_preempt(&self, current: &Node) -> bool
         ensures { result ≡ Self.R.discipline.wants_preempt (task_of current.now) (members self.now) };
 
-    /// Whom the current task gives way to, if it is another.
+    /// Whom the current task gives way to; None where that is the current task itself.
     fn next(&self, current: &Node) -> Option<u16>
-        ensures { unwrap_or result (task_of current.now).id ≡ next_of Self.R.discipline (task_of current.now) (members self.now) };
+        ensures { result ≡ next_other Self.R.discipline (task_of current.now) (members self.now) }
+    {
+        let id = current.entity.id();
+        match self.choice(Some(current)) {
+            Some(chosen) if chosen != id => Some(chosen),
+            _ => self.choice(None).filter(|chosen| *chosen != id),
+        }
+    }
 
-    /// Computes the mark anew.
+    /// Computes the mark anew, and keeps it.
     fn mark(&mut self, current: Option<&Node>) -> u64
         ensures value { result ≡ Self.R.discipline.mark (kept_mark self.old) (present (option_map (λ n. task_of n.now) current.entry) (members self.old)) }
         ensures kept { kept_mark self.new ≡ result }
         ensures members { members self.new ≡ members self.old };
 
+    /// The mark that was computed last.
     fn kept(&self) -> u64
-        ensures { result ≡ kept_mark self.now };
+        ensures value { result ≡ kept_mark self.now }
+        ensures high { result ≤ 2 ^ 62 };
 
     /// The node has run for a time.
     fn charge(&self, node: &mut Node, time: u64)
         requires { time < 2 ^ 48 }
         ensures task { task_of node.new ≡ charged Self.R.discipline (task_of node.old) time }
-        ensures lone { IsLone node.old → IsLone node.new };
+        ensures lone { IsLone node.old → IsLone node.new }
+    {
+        let entity = &mut node.entity;
+        let v = bq_weights::advance(entity.v(), time, entity.weight());
+        let deadline = Self::R::renewed(v, entity.slice(), entity.weight(), entity.deadline());
+        entity.set_times(v, deadline);
+    }
 
-    /// The node enters after a sleep.
-    fn wake(&self, node: &mut Node)
-        ensures task { task_of node.new ≡ woken Self.R.discipline (kept_mark self.now) (task_of node.old) }
-        ensures lone { IsLone node.old → IsLone node.new };
+    /// The node takes the times at which it enters, by the mark that is kept.
+    fn enter(&self, node: &mut Node, entry: Entry)
+        ensures task { task_of node.new ≡ entered_by Self.R.discipline (kept_mark self.now) entry (task_of node.old) }
+        ensures lone { IsLone node.old → IsLone node.new }
+    {
+        let entity = &mut node.entity;
+        let v = match entry {
+            Entry::Wake => Self::R::wake(
+                self.kept(),
+                entity.rel(),
+                entity.slice(),
+                entity.weight(),
+            ),
+            Entry::Pull => bq_weights::shift(self.kept(), entity.rel()),
+        };
+        let deadline = Self::R::deadline(v, entity.slice(), entity.weight());
+        entity.set_times(v, deadline);
+    }
 
-    /// The node enters from another processor.
-    fn pull(&self, node: &mut Node)
-        ensures task { task_of node.new ≡ pulled Self.R.discipline (kept_mark self.now) (task_of node.old) }
-        ensures lone { IsLone node.old → IsLone node.new };
-
-    /// The node leaves.
+    /// The node takes along how far it is from the mark that is kept.
     fn leave(&self, node: &mut Node)
         ensures task { task_of node.new ≡ left_at (kept_mark self.now) (task_of node.old) }
-        ensures lone { IsLone node.old → IsLone node.new };
+        ensures lone { IsLone node.old → IsLone node.new }
+    {
+        let entity = &mut node.entity;
+        entity.set_rel(bq_weights::distance(entity.v(), self.kept()));
+    }
 }

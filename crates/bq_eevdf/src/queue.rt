@@ -3,7 +3,7 @@ ghost use Rattle.std.specs.Prelude.{◌≡◌, ◌≤◌, ◌<◌, ◌^◌, []};
 
 use crate::Eevdf;
 use crate::chosen::{chosen, considered, is_other, mean};
-use bq_disc::{Movable, Node, Rule, RunQueue};
+use bq_disc::{Movable, Node, RunQueue};
 use bq_tree::Tree;
 use std::marker::Model;
 
@@ -57,8 +57,8 @@ impl RunQueue for EevdfQueue {
         self.tree.get(id)
     }
 
-    fn after(&self, v: u64, id: u16) -> Option<&Node> {
-        self.tree.after(v, id)
+    fn after(&self, last: Option<(u64, u16)>) -> Option<&Node> {
+        self.tree.after(last)
     }
 
     fn movable(&self, cpu: u8) -> Movable {
@@ -74,16 +74,6 @@ impl RunQueue for EevdfQueue {
         is_other(self.choice(Some(current)), current)
     }
 
-    fn next(&self, current: &Node) -> Option<u16> {
-        let Some(chosen) = self.choice(Some(current)) else {
-            return self.choice(None);
-        };
-        if chosen == current.entity.id() {
-            return self.choice(None);
-        }
-        Some(chosen)
-    }
-
     fn mark(&mut self, current: Option<&Node>) -> u64 {
         match mean(&considered(current, &self.tree.totals())) {
             None => {}
@@ -94,31 +84,5 @@ impl RunQueue for EevdfQueue {
 
     fn kept(&self) -> u64 {
         self.mark
-    }
-
-    fn charge(&self, node: &mut Node, time: u64) {
-        let entity = &mut node.entity;
-        let v = bq_weights::advance(entity.v(), time, entity.weight());
-        let deadline = Eevdf::renewed(v, entity.slice(), entity.weight(), entity.deadline());
-        entity.set_times(v, deadline);
-    }
-
-    fn wake(&self, node: &mut Node) {
-        let entity = &mut node.entity;
-        let v = Eevdf::wake(self.mark, entity.rel(), entity.slice(), entity.weight());
-        let deadline = Eevdf::deadline(v, entity.slice(), entity.weight());
-        entity.set_times(v, deadline);
-    }
-
-    fn pull(&self, node: &mut Node) {
-        let entity = &mut node.entity;
-        let v = bq_weights::shift(self.mark, entity.rel());
-        let deadline = Eevdf::deadline(v, entity.slice(), entity.weight());
-        entity.set_times(v, deadline);
-    }
-
-    fn leave(&self, node: &mut Node) {
-        let entity = &mut node.entity;
-        entity.set_rel(bq_weights::distance(entity.v(), self.mark));
     }
 }

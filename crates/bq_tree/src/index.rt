@@ -2,7 +2,7 @@
 ghost use Rattle.std.specs.Prelude.{◌≡◌, ◌<◌, ◌≤◌, ◌^◌, length, List, [], None, IfSome, find, slice_index, take};
 ghost use Rattle.std.specs.Option.{option_map};
 ghost use Rattle.bq_disc.specs.Tasks.{Task, place, with_id, without, first_by, runs_before};
-ghost use Rattle.bq_disc.specs.Queues.{comes_after};
+ghost use Rattle.bq_disc.specs.Queues.{follows};
 ghost use Rattle.bq_disc.specs.Chains.{task_of, IsLone};
 ghost use Rattle.bq_disc.specs.Movable.{movable_to, ids};
 ghost use Rattle.bq_disc.specs.Totals.{AreTotals, first_due};
@@ -132,11 +132,14 @@ impl Tree {
         walks::get_at(&self.root, time_of(&self.times, &self.root, id), id)
     }
 
-    /// The first after (v, id).
-    pub fn after(&self, v: u64, id: u16) -> Option<&Node>
-        ensures { option_map (λ n. task_of n.now) result ≡ find (comes_after v id) self.now }
+    /// The task of least (v, id) above the one given; of none, the task of least (v, id).
+    pub fn after(&self, last: Option<(u64, u16)>) -> Option<&Node>
+        ensures { option_map (λ n. task_of n.now) result ≡ find (follows last) self.now }
     {
-        walks::after(&self.root, v, id)
+        match last {
+            None => walks::least(&self.root),
+            Some((v, id)) => walks::after(&self.root, v, id),
+        }
     }
 
     /// Those that may use a processor, the greatest (v, id) first.
