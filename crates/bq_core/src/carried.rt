@@ -1,0 +1,10 @@
+//! A woken task on its way to a processor.
+
+use crate::{Loads, Unlinked};
+
+/// A woken task, with the loads of the moment when its wake began.
+#[derive(Drop)]
+pub struct Carried {
+    pub task: Unlinked,
+    pub loads: Loads,
+}

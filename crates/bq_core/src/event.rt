@@ -1,0 +1,72 @@
+//! What may happen in the world.
+
+use crate::Policy;
+
+/// The three places where a policy is asked.
+#[derive(Clone, Copy, PartialEq, Eq)]
+pub enum Hook {
+    /// Where a woken task goes.
+    Place,
+    /// Whether the running task gives way.
+    Preempt,
+    /// Which task an emptier processor takes.
+    Pull,
+}
+
+/// One event. Processors are numbered from 0, tasks from 0 to 1023; `now` is a reading of the processor's clock, in
+/// nanoseconds.
+#[derive(Clone, Copy)]
+pub enum Event {
+    /// A new task stands in the lobby. Bits of the mask from the number of processors on are ignored; the slice is in
+    /// nanoseconds.
+    Admit {
+        task: u16,
+        nice: i8,
+        mask: u64,
+        slice: u64,
+    },
+    /// A task leaves the lobby for good.
+    Retire {
+        task: u16,
+    },
+    /// The next generation's number is drawn.
+    Draw,
+    /// A policy, or none, stands at a hook of a processor from now on, as this generation.
+    Install {
+        processor: u8,
+        hook: Hook,
+        generation: u64,
+        policy: Option<Policy>,
+    },
+    /// A sleeping task comes into the hand of a processor, with the loads of that moment.
+    BeginWake {
+        processor: u8,
+        task: u16,
+    },
+    /// The task in the hand is placed on a processor.
+    EndWake {
+        processor: u8,
+        now: u64,
+    },
+    /// All tasks that were placed on a processor enter its queue.
+    Drain {
+        processor: u8,
+        now: u64,
+    },
+    /// The clock ticks.
+    Tick {
+        processor: u8,
+        now: u64,
+    },
+    /// The running task goes to sleep.
+    Block {
+        processor: u8,
+        now: u64,
+    },
+    /// A processor takes a task from the queue of another.
+    Pull {
+        processor: u8,
+        from: u8,
+        now: u64,
+    },
+}
