@@ -25,13 +25,14 @@ impl<R: Rule> Model for List<R> {
     ghost coded = { coded_queue };
 
     ghost use Rattle.bq_disc.specs.Chains.{chain_behind, IsStraightBehind};
+    ghost use Rattle.bq_disc.specs.Trees.{IsRising};
 
     ghost view = { λ q. record { members = chain_behind q.head; kept = q.mark } };
 
-    ghost invariant = { λ q. IsStraightBehind q.head × (q.len ≡ length (chain_behind q.head)) × HasDistinctIds (chain_behind q.head) × HasSmallIds (chain_behind q.head) × (q.mark ≤ 2 ^ 62) };
+    ghost invariant = { λ q. IsStraightBehind q.head × (q.len ≡ length (chain_behind q.head)) × HasDistinctIds (chain_behind q.head) × HasSmallIds (chain_behind q.head) × IsRising (chain_behind q.head) × (q.mark ≤ 2 ^ 62) };
 }
 
-#[tactic(auto, using(crate::proofs::QueueFacts::queue_facts))]
+#[tactic(auto, using(crate::proofs::QueueFacts::queue_facts, crate::proofs::RisingFacts::rising_facts))]
 impl<R: Rule> RunQueue for List<R> {
     type R = R;
 

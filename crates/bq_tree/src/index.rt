@@ -2,11 +2,11 @@
 ghost use Rattle.std.specs.Prelude.{◌≡◌, ◌<◌, ◌≤◌, ◌^◌, length, List, [], None, IfSome, find, slice_index, take};
 ghost use Rattle.std.specs.Option.{option_map};
 ghost use Rattle.bq_disc.specs.Tasks.{Task, place, with_id, without, first_by, runs_before};
-ghost use Rattle.bq_disc.specs.Queues.{follows};
+ghost use Rattle.bq_disc.specs.Queues.{follows, HasDistinctIds};
 ghost use Rattle.bq_disc.specs.Chains.{task_of, IsLone};
 ghost use Rattle.bq_disc.specs.Movable.{movable_to, ids};
 ghost use Rattle.bq_disc.specs.Totals.{AreTotals, first_due};
-ghost use Rattle.bq_disc.specs.Trees.{IsTreeBehind, in_order_behind};
+ghost use Rattle.bq_disc.specs.Trees.{IsTreeBehind, IsRising, in_order_behind};
 ghost use Rattle.bq_tree.specs.Sound.{Knows};
 ghost use Rattle.bq_tree.specs.Within.{within};
 
@@ -134,7 +134,9 @@ impl Tree {
 
     /// The task of least (v, id) above the one given; of none, the task of least (v, id).
     pub fn after(&self, last: Option<(u64, u16)>) -> Option<&Node>
-        ensures { option_map (λ n. task_of n.now) result ≡ find (follows last) self.now }
+        ensures task { option_map (λ n. task_of n.now) result ≡ find (follows last) self.now }
+        ensures rising { IsRising self.now }
+        ensures distinct { HasDistinctIds self.now }
     {
         match last {
             None => walks::least(&self.root),

@@ -3,6 +3,7 @@ use Rattle.bq_disc.specs.Tasks.{with_id}
 use Rattle.bq_disc.specs.Queues.{Queue}
 use Rattle.bq_disc.specs.Chains.{task_of}
 use Rattle.bq_disc.proofs.QueueFacts.{HasDistinctIds-place, HasSmallIds-place, length-place}
+use Rattle.bq_disc.proofs.RisingFacts.{IsRising-place}
 use Rattle.bq_disc.proofs.list.ListRunQueue.insert.Goals as goal
 
 pub invariant_of-self : goal.invariant_of-self
@@ -16,5 +17,6 @@ invariant_of-self g c =
       rw (e, length-place) (omega (arith, c.self.invariant.1)),
       rw e (HasDistinctIds-place t _ fresh c.self.invariant.2),
       rw e (HasSmallIds-place t _ small c.self.invariant.3),
-      c.self.invariant.4,
+      rw e (IsRising-place t _ c.self.invariant.4),
+      c.self.invariant.5,
     )

@@ -2,6 +2,7 @@ use Rattle.std.proofs.Common.{◌≡◌, None, IsSome, refl, sym, arith}
 use Rattle.bq_disc.specs.Tasks.{with_id}
 use Rattle.bq_disc.specs.Chains.{chain_behind}
 use Rattle.bq_disc.proofs.QueueFacts.{HasDistinctIds-without, HasSmallIds-without, length-without, without-absent}
+use Rattle.bq_disc.proofs.RisingFacts.{IsRising-without}
 use Rattle.bq_disc.proofs.list.ListRunQueue.take.Goals as goal
 
 pub invariant_of-self : goal.invariant_of-self
@@ -12,7 +13,8 @@ invariant_of-self g c =
       rw (e, without-absent _ _ absent) c.self.invariant.1,
       rw e (HasDistinctIds-without _ _ c.self.invariant.2),
       rw e (HasSmallIds-without _ _ c.self.invariant.3),
-      c.self.invariant.4,
+      rw e (IsRising-without _ _ c.self.invariant.4),
+      c.self.invariant.5,
     )
 
 pub invariant_of-self-2 : goal.invariant_of-self-2
@@ -23,5 +25,6 @@ invariant_of-self-2 g c =
       rw e (omega (arith, c.self.invariant.1, length-without c.args.id (chain_behind c.self.inside.head) there)),
       rw e (HasDistinctIds-without _ _ c.self.invariant.2),
       rw e (HasSmallIds-without _ _ c.self.invariant.3),
-      c.self.invariant.4,
+      rw e (IsRising-without _ _ c.self.invariant.4),
+      c.self.invariant.5,
     )

@@ -1,0 +1,51 @@
+-- A queue that rises by (v, id) goes on to rise when a task comes or goes.
+use Rattle.std.proofs.Common.{◌≡◌, ℕ, Bool, true, false, cond, eqb, List, [], ◌∷◌, refl, arith}
+use Rattle.std.proofs.lemmas.Bool.Decides.{nat_tests}
+use Rattle.bq_disc.specs.Tasks.{Task, place, without, runs_before}
+use Rattle.bq_disc.specs.Trees.{IsRising, NoneRunsBefore}
+
+not_before : (x y z : Task) → runs_before x y ≡ false → runs_before y z ≡ false → runs_before x z ≡ false
+not_before x y z p q = grind (arith, nat_tests)
+
+before_not : (x y : Task) → runs_before x y ≡ true → runs_before y x ≡ false
+before_not x y p = grind (arith, nat_tests)
+
+none_later : (t x : Task) (xs : List Task) → runs_before t x ≡ true → NoneRunsBefore x xs → NoneRunsBefore t xs
+none_later t x [] b h = tt
+none_later t x (y ∷ xs) b h = (not_before y x t h.0 (before_not t x b), none_later t x xs b h.1)
+
+none_place : (x t : Task) (xs : List Task) → runs_before t x ≡ false → NoneRunsBefore x xs → NoneRunsBefore x (place t xs)
+none_place x t [] b h = (b, tt)
+none_place x t (y ∷ xs) b h =
+    elim (runs_before t y) as (λ c. NoneRunsBefore x (cond c (t ∷ y ∷ xs) (y ∷ place t xs))) [
+      | true ↦ (b, h)
+      | false ↦ (h.0, none_place x t xs b h.1)
+    ]
+
+rising_by_test : (b : Bool) (t x : Task) (xs : List Task) → runs_before t x ≡ b → IsRising (x ∷ xs) → IsRising (place t xs) → IsRising (cond b (t ∷ x ∷ xs) (x ∷ place t xs))
+rising_by_test true t x xs e h p = ((before_not t x e, none_later t x xs e h.0), h)
+rising_by_test false t x xs e h p = (none_place x t xs e h.0, p)
+
+-- a task that comes in its place
+pub IsRising-place : (t : Task) (xs : List Task) → IsRising xs → IsRising (place t xs)
+IsRising-place t [] h = (tt, tt)
+IsRising-place t (x ∷ xs) h = rising_by_test (runs_before t x) t x xs refl h (IsRising-place t xs h.1)
+
+none_without : (x : Task) (j : ℕ) (xs : List Task) → NoneRunsBefore x xs → NoneRunsBefore x (without j xs)
+none_without x j [] h = tt
+none_without x j (y ∷ xs) h =
+    elim (eqb y.id j) as (λ b. NoneRunsBefore x (cond b xs (y ∷ without j xs))) [
+      | true ↦ h.1
+      | false ↦ (h.0, none_without x j xs h.1)
+    ]
+
+-- a task that goes
+pub IsRising-without : (j : ℕ) (xs : List Task) → IsRising xs → IsRising (without j xs)
+IsRising-without j [] h = tt
+IsRising-without j (x ∷ xs) h =
+    elim (eqb x.id j) as (λ b. IsRising (cond b xs (x ∷ without j xs))) [
+      | true ↦ h.1
+      | false ↦ (none_without x j xs h.0, IsRising-without j xs h.1)
+    ]
+
+pub ruleset rising_facts = (IsRising-place, IsRising-without)
