@@ -1,0 +1,4 @@
+pub mod Tallies
+pub mod Counts
+pub mod Once
+pub mod Places
