@@ -2,3 +2,4 @@ pub mod Tallies
 pub mod Counts
 pub mod Once
 pub mod Places
+pub mod Switching

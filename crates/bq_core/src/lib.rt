@@ -4,19 +4,29 @@
 #![tactic(auto)]
 
 pub mod carried;
+pub mod cpu;
 pub mod event;
+pub mod hooks;
+pub mod inbox;
 pub mod loads;
+pub mod lobby;
 pub mod policy;
 pub mod refusal;
 pub mod reply;
+pub mod runner;
 pub mod seat;
 pub mod unlinked;
 
 pub use carried::Carried;
+pub use cpu::Cpu;
 pub use event::{Event, Hook};
+pub use hooks::{Hooks, Installed};
+pub use inbox::Inbox;
 pub use loads::Loads;
+pub use lobby::Lobby;
 pub use policy::Policy;
 pub use refusal::Refusal;
 pub use reply::{By, Reply};
+pub use runner::Runner;
 pub use seat::Seat;
 pub use unlinked::Unlinked;

@@ -1,0 +1,159 @@
+//! One processor: what runs there, the task in its hand, and what stands at its hooks.
+ghost use Rattle.std.specs.Prelude.{◌≡◌, ◌<◌, ◌≤◌, ◌^◌, ◌+◌, ℕ, [], length, Option, Some, None, find, is_some};
+ghost use Rattle.std.specs.Option.{option_map};
+ghost use Rattle.bq_disc.specs.Tasks.{id_of, with_id, without};
+ghost use Rattle.bq_disc.specs.Queues.{follows, HasDistinctIds};
+ghost use Rattle.bq_disc.specs.Trees.{IsRising};
+ghost use Rattle.bq_disc.specs.Discipline.{left_at};
+ghost use Rattle.bq_disc.specs.Chains.{task_of, chain_behind, IsStraightBehind};
+ghost use Rattle.bq_disc.specs.OneProcessor.{charge, marked, start, decided, own_preempt, enter_all, present_at};
+ghost use Rattle.bq_core.specs.Processors.{opening, at_hook, with_program, load_of, count_of, HasEachOnce};
+
+use crate::{Carried, Hook, Hooks, Inbox, Installed, Policy, Runner, Unlinked};
+use bq_disc::node::Link;
+use bq_disc::{Node, RunQueue};
+use std::marker::Model;
+
+/// A processor. Each of its calls is its share of an event's step.
+#[derive(Drop)]
+pub struct Cpu<Q: RunQueue> {
+    runner: Runner<Q>,
+    hand: Option<Carried>,
+    hooks: Hooks,
+}
+
+impl<Q: RunQueue> Model for Cpu<Q> {
+    ghost use Rattle.bq_core.specs.Processors.{Processor};
+
+    ghost Value = { Processor };
+
+    ghost view = { λ c. record { running = c.runner; hand = c.hand; programs = c.hooks } };
+}
+
+impl<Q: RunQueue> Cpu<Q> {
+    pub fn new() -> Cpu<Q>
+        ensures { result ≡ opening }
+    {
+        Cpu {
+            runner: Runner::new(),
+            hand: None,
+            hooks: Hooks::new(),
+        }
+    }
+
+    /// The task that runs.
+    pub fn current(&self) -> Option<&Node>
+        ensures { option_map (λ n. task_of n.now) result ≡ self.now.running.current }
+    {
+        self.runner.current()
+    }
+
+    /// The id of the task that runs.
+    pub fn run(&self) -> Option<u16>
+        ensures { result ≡ id_of self.now.running.current }
+    {
+        self.runner.run()
+    }
+
+    /// The mark that was computed last, in virtual nanoseconds.
+    pub fn kept(&self) -> u64
+        ensures { result ≡ self.now.running.kept }
+    {
+        self.runner.kept()
+    }
+
+    /// The queue's task of least (v, id) above the one given; of none, the task of least (v, id).
+    pub fn after(&self, last: Option<(u64, u16)>) -> Option<&Node>
+        ensures task { option_map (λ n. task_of n.now) result ≡ find (follows last) self.now.running.queue }
+        ensures rising { IsRising self.now.running.queue }
+        ensures distinct { HasDistinctIds self.now.running.queue }
+    {
+        self.runner.after(last)
+    }
+
+    /// The generation that stands at a hook, 0 where nothing was installed.
+    pub fn generation(&self, hook: Hook) -> u64
+        ensures { result ≡ (at_hook hook self.now.programs).generation }
+    {
+        self.hooks.generation(hook)
+    }
+
+    /// How many tasks run or wait here, those of the inbox too.
+    pub fn load(&self, inbox: &Inbox) -> u32
+        requires few { load_of self.now inbox.now < 2 ^ 32 }
+        ensures { result ≡ load_of self.now inbox.now }
+    {
+        self.runner.size() as u32 + inbox.len()
+    }
+
+    /// The current task has run up to now.
+    pub fn charge(&mut self, now: u64)
+        ensures { self.new ≡ record self.old { running = charge Q.R.discipline self.old.running now } }
+    {
+        self.runner.charge(now);
+    }
+
+    /// It is decided who runs, by the discipline.
+    pub fn decide(&mut self)
+        requires once { HasEachOnce (present_at self.old.running) }
+        ensures { self.new ≡ record self.old { running = decided Q.R.discipline self.old.running self.old.running.current (own_preempt Q.R.discipline self.old.running.queue self.old.running.current) } }
+    {
+        let gives_way = self.runner.wants_preempt();
+        self.runner.decide(gives_way);
+    }
+
+    /// The tasks of a chain enter the queue in their order, woken.
+    pub fn enter_all(&mut self, tasks: Link)
+        requires straight { IsStraightBehind tasks }
+        requires apart { (id : ℕ) → count_of id self.old.running.queue + count_of id (chain_behind tasks) ≤ 1 }
+        ensures { self.new ≡ record self.old { running = enter_all Q.R.discipline self.old.running (chain_behind tasks) } }
+    {
+        self.runner.enter_all(tasks);
+    }
+
+    /// The current task leaves the processor, whose number is given, to sleep.
+    pub fn leave(&mut self, processor: u8) -> Option<Unlinked>
+        ensures task { result ≡ option_map (λ t. record (left_at self.old.running.kept t) { prev = Some processor }) self.old.running.current }
+        ensures left { self.new ≡ record self.old { running = record self.old.running { current = None } } }
+    {
+        self.runner.leave(processor)
+    }
+
+    /// The queue's choice runs.
+    pub fn start(&mut self)
+        requires { self.old.running.current ≡ None }
+        ensures { self.new ≡ record self.old { running = start Q.R.discipline self.old.running } }
+    {
+        self.runner.start();
+    }
+
+    /// Whether there is a task in the hand.
+    pub fn has_in_hand(&self) -> bool
+        ensures { result ≡ is_some self.now.hand }
+    {
+        self.hand.is_some()
+    }
+
+    /// A woken task comes into the hand.
+    pub fn begin(&mut self, carried: Carried)
+        requires { self.old.hand ≡ None }
+        ensures { self.new ≡ record self.old { hand = Some carried } }
+    {
+        self.hand = Some(carried);
+    }
+
+    /// The hand gives its task.
+    pub fn release(&mut self) -> Option<Carried>
+        ensures carried { result ≡ self.old.hand }
+        ensures left { self.new ≡ record self.old { hand = None } }
+    {
+        self.hand.take()
+    }
+
+    /// A policy, or none, stands at a hook from now on.
+    pub fn install(&mut self, hook: Hook, generation: u64, policy: Option<Policy>)
+        ensures { self.new ≡ record self.old { programs = with_program hook self.old.programs (record { policy = policy; generation = generation; maps = [] }) } }
+    {
+        self.hooks.install(hook, Installed::new(policy, generation));
+    }
+}
