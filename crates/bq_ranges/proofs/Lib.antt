@@ -1,0 +1,4 @@
+pub mod Outcomes
+pub mod TightLemmas
+pub mod TestLemmas
+pub mod MoveLemmas

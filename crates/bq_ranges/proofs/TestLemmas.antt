@@ -1,0 +1,83 @@
+-- What a test says of its two words, and where low halves are tested as whole words.
+use Rattle.std.proofs.Common.{◌≡◌, ◌≢◌, ℕ, ◌%◌, ◌^◌, ◌<◌, ◌≤◌, Bool, true, false, refl, sym, arith}
+use Rattle.std.proofs.lemmas.Bool.Decides.{nat_tests}
+use Rattle.std.specs.Prelude.{Option, Some, None}
+use Rattle.bq_insn.specs.Meaning.{taken, compares}
+use Rattle.bq_insn.specs.declared.Width.TheVariants.{W32, W64}
+use Rattle.bq_insn.specs.declared.Condition.{Condition}
+use Rattle.bq_insn.specs.declared.Condition.TheVariants as cond
+use Rattle.bq_ranges.specs.declared.range.Range.{Range}
+use Rattle.bq_ranges.specs.Within.{Within, EndsAre}
+use Rattle.bq_ranges.specs.Tight.{EndsGo, Goes, IsByOrder, IsSigned}
+
+-- what a test by order says when it goes that way
+abbrev pub Meets : Condition → Bool → ℕ → ℕ → Type 0
+Meets cond.Equal true a b = a ≡ b
+Meets cond.Equal false a b = a ≢ b
+Meets cond.NotEqual true a b = a ≢ b
+Meets cond.NotEqual false a b = a ≡ b
+Meets cond.Greater true a b = b < a
+Meets cond.Greater false a b = a ≤ b
+Meets cond.GreaterEqual true a b = b ≤ a
+Meets cond.GreaterEqual false a b = a < b
+Meets cond.Less true a b = a < b
+Meets cond.Less false a b = b ≤ a
+Meets cond.LessEqual true a b = a ≤ b
+Meets cond.LessEqual false a b = b < a
+Meets _ goes a b = Unit {0}
+
+-- a test that goes that way says so
+pub meets : (c : Condition) (goes : Bool) (a b : ℕ) → a < 2 ^ 64 → b < 2 ^ 64 → taken W64 c a b ≡ goes → Meets c goes a b
+unfolding compares
+meets cond.Equal true a b p q h = grind (arith, nat_tests)
+meets cond.Equal false a b p q h = grind (arith, nat_tests)
+meets cond.NotEqual true a b p q h = grind (arith, nat_tests)
+meets cond.NotEqual false a b p q h = grind (arith, nat_tests)
+meets cond.Greater true a b p q h = grind (arith, nat_tests)
+meets cond.Greater false a b p q h = grind (arith, nat_tests)
+meets cond.GreaterEqual true a b p q h = grind (arith, nat_tests)
+meets cond.GreaterEqual false a b p q h = grind (arith, nat_tests)
+meets cond.Less true a b p q h = grind (arith, nat_tests)
+meets cond.Less false a b p q h = grind (arith, nat_tests)
+meets cond.LessEqual true a b p q h = grind (arith, nat_tests)
+meets cond.LessEqual false a b p q h = grind (arith, nat_tests)
+meets _ goes a b p q h = tt
+
+-- and what it says makes it go that way
+pub goes_where : (c : Condition) (goes : Bool) (a b : ℕ) → IsByOrder c → a < 2 ^ 64 → b < 2 ^ 64 → Meets c goes a b → taken W64 c a b ≡ goes
+unfolding compares
+goes_where cond.Equal true a b u p q h = grind (arith, nat_tests)
+goes_where cond.Equal false a b u p q h = grind (arith, nat_tests)
+goes_where cond.NotEqual true a b u p q h = grind (arith, nat_tests)
+goes_where cond.NotEqual false a b u p q h = grind (arith, nat_tests)
+goes_where cond.Greater true a b u p q h = grind (arith, nat_tests)
+goes_where cond.Greater false a b u p q h = grind (arith, nat_tests)
+goes_where cond.GreaterEqual true a b u p q h = grind (arith, nat_tests)
+goes_where cond.GreaterEqual false a b u p q h = grind (arith, nat_tests)
+goes_where cond.Less true a b u p q h = grind (arith, nat_tests)
+goes_where cond.Less false a b u p q h = grind (arith, nat_tests)
+goes_where cond.LessEqual true a b u p q h = grind (arith, nat_tests)
+goes_where cond.LessEqual false a b u p q h = grind (arith, nat_tests)
+goes_where _ goes a b u p q h = absurd u
+
+-- ends of which the test holds go that way
+pub ends_go : (c : Condition) (goes : Bool) (a : Range) (b : ℕ) (P : ℕ → Type 0) (r : Option Range) → IsByOrder c → b < 2 ^ 64 → ((x : ℕ) → P x → Within a x × Meets c goes x b) → EndsAre P r → EndsGo c a b goes r
+ends_go c goes a b P None u q says ends = tt
+ends_go c goes a b P (Some r) u q says ends = (at r.lo (omega arith) ends.0, at r.hi (omega arith) ends.1)
+  where
+    at : (x : ℕ) → x < 2 ^ 64 → P x → Goes c a b goes x
+    at x p h = let here = says x h in (here.0, goes_where c goes x b u p q here.1)
+
+-- a test by no sign is the same on low halves and on whole words where the words have no upper half
+pub halves : (c : Condition) (a b : ℕ) → (IsSigned c → ⊥) → a < 2 ^ 32 → b < 2 ^ 32 → taken W32 c a b ≡ taken W64 c a b
+unfolding compares
+halves cond.SignedGreater a b unsigned p q = absurd (unsigned tt)
+halves cond.SignedGreaterEqual a b unsigned p q = absurd (unsigned tt)
+halves cond.SignedLess a b unsigned p q = absurd (unsigned tt)
+halves cond.SignedLessEqual a b unsigned p q = absurd (unsigned tt)
+halves _ a b unsigned p q =
+    let left : a % 2 ^ 32 ≡ a = omega arith in
+    let right : b % 2 ^ 32 ≡ b = omega arith in
+    let left_word : a % 2 ^ 64 ≡ a = omega arith in
+    let right_word : b % 2 ^ 64 ≡ b = omega arith in
+    rw (left, right, left_word, right_word) refl

@@ -1,0 +1,40 @@
+-- The least range on operands of the width is the least range on all words that have these low bits.
+use Rattle.std.proofs.Common.{◌≡◌, ℕ, ◌%◌, ◌≤◌, refl, sym, arith}
+use Rattle.std.specs.Prelude.{bit_and}
+use Rattle.std.proofs.lemmas.Nat.{and_le_l, and_le_r}
+use Rattle.bq_insn.specs.Meaning.{alu_result, modulus, operate}
+use Rattle.bq_insn.specs.declared.Width.{Width}
+use Rattle.bq_insn.specs.declared.Width.TheVariants.{W32, W64}
+use Rattle.bq_insn.specs.declared.Operation.{Operation}
+use Rattle.bq_insn.specs.declared.Operation.TheVariants as op
+use Rattle.bq_ranges.specs.declared.range.Range.{Range}
+use Rattle.bq_ranges.specs.Within.{Within}
+use Rattle.bq_ranges.specs.Tight.{IsTight, IsTightAt, IsTightWithin, Reaches}
+
+-- what is promised on all words is promised on their low bits
+pub tight_within : (w : Width) (o : Operation) (a b low_a low_b : Range) → ((x : ℕ) × Within a x × (x % modulus w ≡ low_a.hi)) → ((y : ℕ) × Within b y × (y % modulus w ≡ low_b.lo)) → ((y : ℕ) × Within b y × (y % modulus w ≡ low_b.hi)) → IsTightAt w o a b → IsTightWithin w o low_a low_b
+tight_within w op.Add a b low_a low_b (x, p, e) (z, s, g) (y, q, f) promised = rw (← e, ← f) (promised x y p q)
+tight_within w op.Mul a b low_a low_b (x, p, e) (z, s, g) (y, q, f) promised = rw (← e, ← f) (promised x y p q)
+tight_within w op.Rsh a b low_a low_b (x, p, e) (z, s, g) (y, q, f) promised =
+    let same : z ≡ y = omega arith in rw (← g, ← f, same) refl
+tight_within w op.Mov a b low_a low_b (x, p, e) (z, s, g) (y, q, f) promised = promised
+tight_within w _ a b low_a low_b (x, p, e) (z, s, g) (y, q, f) promised = promised
+
+-- an outcome of low bits is an outcome of the words that have them
+pub reaches : (w : Width) (o : Operation) (a b : Range) (low_x low_y z : ℕ) → ((x : ℕ) × Within a x × (x % modulus w ≡ low_x)) → ((y : ℕ) × Within b y × (y % modulus w ≡ low_y)) → z ≡ operate w o low_x low_y % modulus w → Reaches w o a b z
+reaches w o a b low_x low_y z (x, p, e) (y, q, f) is = (x, y, p, q, rw (e, f) (sym is))
+
+remainder_below : (w : Width) (x : ℕ) → x % modulus w ≤ x
+remainder_below W32 x = omega arith
+remainder_below W64 x = omega arith
+
+-- the bits in both words make no more than either
+pub common_below : (w : Width) (x y : ℕ) → (alu_result w op.And x y ≤ x) × (alu_result w op.And x y ≤ y)
+unfolding operate
+common_below w x y =
+    let whole = remainder_below w (bit_and (x % modulus w) (y % modulus w)) in
+    let left = and_le_l (x % modulus w) (y % modulus w) in
+    let right = and_le_r (x % modulus w) (y % modulus w) in
+    let low_x = remainder_below w x in
+    let low_y = remainder_below w y in
+    (omega arith, omega arith)

@@ -1,0 +1,233 @@
+// Each arithmetic instruction on ranges.
+
+ghost use Rattle.std.specs.Prelude.{◌≡◌, ◌+◌, ◌-◌, ◌*◌, ◌/◌, ◌%◌, ◌^◌, ◌<◌, ◌≤◌, ℕ, bit_and, bit_or, bit_xor};
+ghost use Rattle.bq_insn.specs.Meaning.{alu_result, modulus, bit_count, operate};
+ghost use Rattle.bq_ranges.specs.Within.{Within};
+ghost use Rattle.bq_ranges.specs.Tight.{IsTight, IsTightAt, IsTightWithin};
+
+use crate::range::{Range, greatest};
+use crate::words;
+use bq_insn::{Operation, Width};
+
+/// The results of an arithmetic instruction (RFC 9669 section 4.1) on members of the two ranges.
+///
+/// Single words give a single word, AND goes no higher than its lesser operand, and the least range
+/// is answered for sums and products that cannot wrap, shifts to the right by one amount, and copies.
+pub fn alu(width: Width, op: Operation, a: Range, b: Range) -> Range
+    ensures holds { (x y : ℕ) → Within a x → Within b y → Within result (alu_result width op x y) }
+    ensures single_low { a.lo ≡ a.hi → b.lo ≡ b.hi → result.lo ≡ alu_result width op a.lo b.lo }
+    ensures single_high { a.lo ≡ a.hi → b.lo ≡ b.hi → result.hi ≡ alu_result width op a.lo b.lo }
+    ensures and_left { op ≡ Operation.And → result.hi ≤ a.hi }
+    ensures and_right { op ≡ Operation.And → result.hi ≤ b.hi }
+    ensures tight { IsTightAt width op a b → IsTight width op a b result }
+{
+    if a.is_single() && b.is_single() {
+        return Range::single(words::alu(width, op, a.lo, b.lo));
+    }
+    outcomes(width, op, a.low(width), b.low(width))
+}
+
+// The results on operands of the width.
+fn outcomes(width: Width, op: Operation, a: Range, b: Range) -> Range
+    requires left { a.hi < modulus width }
+    requires right { b.hi < modulus width }
+    ensures holds { (x y : ℕ) → Within a x → Within b y → Within result (operate width op x y % modulus width) }
+    ensures and_left { op ≡ Operation.And → result.hi ≤ a.hi }
+    ensures and_right { op ≡ Operation.And → result.hi ≤ b.hi }
+    ensures tight_low { IsTightWithin width op a b → result.lo ≡ operate width op a.lo b.lo % modulus width }
+    ensures tight_high { IsTightWithin width op a b → result.hi ≡ operate width op a.hi b.hi % modulus width }
+{
+    match op {
+        Operation::Add => add(width, a, b),
+        Operation::Sub => sub(width, a, b),
+        Operation::Mul => mul(width, a, b),
+        Operation::Div => div(a, b),
+        Operation::Or => or(width, a, b),
+        Operation::And => and(a, b),
+        Operation::Xor => xor(width, a, b),
+        Operation::Lsh => lsh(width, a, b),
+        Operation::Rsh => rsh(width, a, b),
+        Operation::Rem => rem(a, b),
+        Operation::Mov => b,
+        Operation::Sdiv => Range::full(width),
+        Operation::Srem => Range::full(width),
+        Operation::Arsh => Range::full(width),
+    }
+}
+
+/// The wrapping sums.
+pub fn add(width: Width, a: Range, b: Range) -> Range
+    requires left { a.hi < modulus width }
+    requires right { b.hi < modulus width }
+    ensures holds { (x y : ℕ) → Within a x → Within b y → Within result ((x + y) % modulus width) }
+    ensures tight_low { a.hi + b.hi < modulus width → result.lo ≡ a.lo + b.lo }
+    ensures tight_high { a.hi + b.hi < modulus width → result.hi ≡ a.hi + b.hi }
+{
+    let most = greatest(width);
+    if a.hi <= most - b.hi {
+        return Range {
+            lo: a.lo + b.lo,
+            hi: a.hi + b.hi,
+        };
+    }
+    if a.lo <= most - b.lo {
+        return Range::full(width);
+    }
+    Range {
+        lo: a.lo - (most - b.lo) - 1,
+        hi: a.hi - (most - b.hi) - 1,
+    }
+}
+
+/// The wrapping differences.
+pub fn sub(width: Width, a: Range, b: Range) -> Range
+    requires left { a.hi < modulus width }
+    requires right { b.hi < modulus width }
+    ensures { (x y : ℕ) → Within a x → Within b y → Within result ((x + (modulus width - y)) % modulus width) }
+{
+    if b.hi <= a.lo {
+        return Range {
+            lo: a.lo - b.hi,
+            hi: a.hi - b.lo,
+        };
+    }
+    if b.lo <= a.hi {
+        return Range::full(width);
+    }
+    let most = greatest(width);
+    Range {
+        lo: most - (b.hi - a.lo) + 1,
+        hi: most - (b.lo - a.hi) + 1,
+    }
+}
+
+fn mul(width: Width, a: Range, b: Range) -> Range
+    requires left { a.hi < modulus width }
+    requires right { b.hi < modulus width }
+    ensures holds { (x y : ℕ) → Within a x → Within b y → Within result ((x * y) % modulus width) }
+    ensures tight_low { a.hi * b.hi < modulus width → result.lo ≡ a.lo * b.lo }
+    ensures tight_high { a.hi * b.hi < modulus width → result.hi ≡ a.hi * b.hi }
+{
+    if let Some(hi) = a.hi.checked_mul(b.hi) {
+        if hi <= greatest(width) {
+            return Range {
+                lo: a.lo * b.lo,
+                hi,
+            };
+        }
+    }
+    Range::full(width)
+}
+
+// A quotient by zero is 0.
+fn div(a: Range, b: Range) -> Range
+    ensures zero { (x : ℕ) → Within a x → Within b 0 → Within result 0 }
+    ensures holds { (x y : ℕ) → Within a x → Within b y → 0 < y → Within result (x / y) }
+    ensures below { result.hi ≤ a.hi }
+{
+    if b.lo == 0 {
+        return Range { lo: 0, hi: a.hi };
+    }
+    Range {
+        lo: a.lo / b.hi,
+        hi: a.hi / b.lo,
+    }
+}
+
+fn or(width: Width, a: Range, b: Range) -> Range
+    requires left { a.hi < modulus width }
+    requires right { b.hi < modulus width }
+    ensures { (x y : ℕ) → Within a x → Within b y → Within result (bit_or x y) }
+{
+    Range {
+        lo: a.lo.max(b.lo),
+        hi: highest(width, a, b),
+    }
+}
+
+fn xor(width: Width, a: Range, b: Range) -> Range
+    requires left { a.hi < modulus width }
+    requires right { b.hi < modulus width }
+    ensures { (x y : ℕ) → Within a x → Within b y → Within result (bit_xor x y) }
+{
+    Range {
+        lo: 0,
+        hi: highest(width, a, b),
+    }
+}
+
+// No union of bits is above the sum.
+fn highest(width: Width, a: Range, b: Range) -> u64
+    requires left { a.hi < modulus width }
+    requires right { b.hi < modulus width }
+    ensures left { a.hi ≤ result }
+    ensures right { b.hi ≤ result }
+    ensures least { (z : ℕ) → z ≤ a.hi + b.hi → z < modulus width → z ≤ result }
+{
+    a.hi.saturating_add(b.hi).min(greatest(width))
+}
+
+fn and(a: Range, b: Range) -> Range
+    ensures holds { (x y : ℕ) → Within a x → Within b y → Within result (bit_and x y) }
+    ensures left { result.hi ≤ a.hi }
+    ensures right { result.hi ≤ b.hi }
+{
+    Range {
+        lo: 0,
+        hi: a.hi.min(b.hi),
+    }
+}
+
+fn lsh(width: Width, a: Range, b: Range) -> Range
+    requires left { a.hi < modulus width }
+    ensures { (x y : ℕ) → Within a x → Within b y → Within result ((x * 2 ^ (y % bit_count width)) % modulus width) }
+{
+    let amount = b.lo % bits(width);
+    if b.is_single() && a.hi <= greatest(width) >> amount {
+        return Range {
+            lo: a.lo << amount,
+            hi: a.hi << amount,
+        };
+    }
+    Range::full(width)
+}
+
+fn rsh(width: Width, a: Range, b: Range) -> Range
+    ensures holds { (x y : ℕ) → Within a x → Within b y → Within result (x / 2 ^ (y % bit_count width)) }
+    ensures below { result.hi ≤ a.hi }
+    ensures tight_low { b.lo ≡ b.hi → result.lo ≡ a.lo / 2 ^ (b.lo % bit_count width) }
+    ensures tight_high { b.lo ≡ b.hi → result.hi ≡ a.hi / 2 ^ (b.hi % bit_count width) }
+{
+    if b.is_single() {
+        let amount = b.lo % bits(width);
+        return Range {
+            lo: a.lo >> amount,
+            hi: a.hi >> amount,
+        };
+    }
+    Range { lo: 0, hi: a.hi }
+}
+
+fn bits(width: Width) -> u64
+    ensures { result ≡ bit_count width }
+{
+    match width {
+        Width::W32 => 32,
+        Width::W64 => 64,
+    }
+}
+
+// A remainder by zero is the dividend.
+fn rem(a: Range, b: Range) -> Range
+    ensures zero { (x : ℕ) → Within a x → Within b 0 → Within result x }
+    ensures holds { (x y : ℕ) → Within a x → Within b y → 0 < y → Within result (x % y) }
+    ensures below { result.hi ≤ a.hi }
+{
+    if b.lo == 0 {
+        return Range { lo: 0, hi: a.hi };
+    }
+    Range {
+        lo: 0,
+        hi: a.hi.min(b.hi - 1),
+    }
+}

@@ -1,0 +1,15 @@
+//! Intervals of words: one abstract domain, and what each instruction does to it.
+//!
+//! Every answer holds all possible results for possible values of the operands. The layer stands on
+//! the meaning of the instructions in `bq_insn`, and the verifier stands on it.
+#![tactic(auto)]
+
+pub mod arithmetic;
+pub mod moves;
+pub mod narrowing;
+pub mod range;
+#[cfg(test)]
+mod tests;
+pub mod words;
+
+pub use range::Range;

@@ -1,0 +1,147 @@
+// What a branch says of its operand.
+
+ghost use Rattle.std.specs.Prelude.{◌≡◌, ◌≤◌, ◌<◌, ◌≢◌, ◌↔◌, ℕ, IsTrue};
+ghost use Rattle.bq_insn.specs.Meaning.{taken};
+ghost use Rattle.bq_ranges.specs.Within.{Within, NarrowsTo, EndsAre};
+ghost use Rattle.bq_ranges.specs.Tight.{EndsGo, IsByOrder, IsSigned};
+
+use crate::range::Range;
+use bq_insn::{Condition, Width};
+
+/// The members of `x` that go that way with some member of `y`, at least; `None` where no pair does.
+///
+/// For tests by order in 64 bits against a single word it is the least such range.
+pub fn narrow(cond: Condition, width: Width, x: Range, y: Range, goes: bool) -> Option<Range>
+    ensures holds { (a b : ℕ) → Within x a → Within y b → taken width cond a b ≡ goes → NarrowsTo result a }
+    ensures least { width ≡ Width.W64 → IsByOrder cond → y.lo ≡ y.hi → EndsGo cond x y.lo goes result }
+{
+    match width {
+        Width::W64 => narrow_words(cond, x, y, goes),
+        Width::W32 => narrow_halves(cond, x, y, goes),
+    }
+}
+
+// A test of low halves is the test of the words where these have no upper half.
+fn narrow_halves(cond: Condition, x: Range, y: Range, goes: bool) -> Option<Range>
+    ensures { (a b : ℕ) → Within x a → Within y b → taken Width.W32 cond a b ≡ goes → NarrowsTo result a }
+{
+    if is_signed(cond) || x.hi > 0xffff_ffff || y.hi > 0xffff_ffff {
+        return Some(x);
+    }
+    narrow_words(cond, x, y, goes)
+}
+
+fn is_signed(cond: Condition) -> bool
+    ensures { IsTrue result ↔ IsSigned cond }
+{
+    match cond {
+        Condition::SignedGreater => true,
+        Condition::SignedGreaterEqual => true,
+        Condition::SignedLess => true,
+        Condition::SignedLessEqual => true,
+        _ => false,
+    }
+}
+
+fn narrow_words(cond: Condition, x: Range, y: Range, goes: bool) -> Option<Range>
+    ensures holds { (a b : ℕ) → Within x a → Within y b → taken Width.W64 cond a b ≡ goes → NarrowsTo result a }
+    ensures least { IsByOrder cond → y.lo ≡ y.hi → EndsGo cond x y.lo goes result }
+{
+    match (cond, goes) {
+        (Condition::Equal, true) => common(x, y),
+        (Condition::Equal, false) => apart(x, y),
+        (Condition::NotEqual, true) => apart(x, y),
+        (Condition::NotEqual, false) => common(x, y),
+        (Condition::Greater, true) => above(x, y.lo),
+        (Condition::Greater, false) => at_most(x, y.hi),
+        (Condition::GreaterEqual, true) => at_least(x, y.lo),
+        (Condition::GreaterEqual, false) => below(x, y.hi),
+        (Condition::Less, true) => below(x, y.hi),
+        (Condition::Less, false) => at_least(x, y.lo),
+        (Condition::LessEqual, true) => at_most(x, y.hi),
+        (Condition::LessEqual, false) => above(x, y.lo),
+        _ => Some(x),
+    }
+}
+
+fn common(x: Range, y: Range) -> Option<Range>
+    ensures holds { (a : ℕ) → Within x a → Within y a → NarrowsTo result a }
+    ensures ends { EndsAre (λ a. Within x a × Within y a) result }
+{
+    let lo = x.lo.max(y.lo);
+    let hi = x.hi.min(y.hi);
+    if hi < lo {
+        return None;
+    }
+    Some(Range { lo, hi })
+}
+
+// Only an end can be left out.
+fn apart(x: Range, y: Range) -> Option<Range>
+    ensures holds { (a b : ℕ) → Within x a → Within y b → a ≢ b → NarrowsTo result a }
+    ensures ends { y.lo ≡ y.hi → EndsAre (λ a. Within x a × (a ≢ y.lo)) result }
+{
+    if !y.is_single() {
+        return Some(x);
+    }
+    let lo = if x.lo == y.lo {
+        x.lo.saturating_add(1)
+    } else {
+        x.lo
+    };
+    let hi = if x.hi == y.lo {
+        x.hi.saturating_sub(1)
+    } else {
+        x.hi
+    };
+    if x.lo == x.hi && x.lo == y.lo {
+        return None;
+    }
+    Some(Range { lo, hi })
+}
+
+fn at_most(x: Range, bound: u64) -> Option<Range>
+    ensures holds { (a : ℕ) → Within x a → a ≤ bound → NarrowsTo result a }
+    ensures ends { EndsAre (λ a. Within x a × (a ≤ bound)) result }
+{
+    if bound < x.lo {
+        return None;
+    }
+    Some(Range {
+        lo: x.lo,
+        hi: x.hi.min(bound),
+    })
+}
+
+fn below(x: Range, bound: u64) -> Option<Range>
+    ensures holds { (a : ℕ) → Within x a → a < bound → NarrowsTo result a }
+    ensures ends { EndsAre (λ a. Within x a × (a < bound)) result }
+{
+    if bound == 0 {
+        return None;
+    }
+    at_most(x, bound - 1)
+}
+
+fn at_least(x: Range, bound: u64) -> Option<Range>
+    ensures holds { (a : ℕ) → Within x a → bound ≤ a → NarrowsTo result a }
+    ensures ends { EndsAre (λ a. Within x a × (bound ≤ a)) result }
+{
+    if x.hi < bound {
+        return None;
+    }
+    Some(Range {
+        lo: x.lo.max(bound),
+        hi: x.hi,
+    })
+}
+
+fn above(x: Range, bound: u64) -> Option<Range>
+    ensures holds { (a : ℕ) → Within x a → bound < a → NarrowsTo result a }
+    ensures ends { EndsAre (λ a. Within x a × (bound < a)) result }
+{
+    if bound == u64::MAX {
+        return None;
+    }
+    at_least(x, bound + 1)
+}

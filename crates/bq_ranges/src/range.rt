@@ -1,0 +1,118 @@
+// The interval, and the intervals that need no instruction.
+
+ghost use Rattle.std.specs.Prelude.{◌≤◌, ◌<◌, ◌^◌, ◌+◌, ◌≡◌};
+ghost use Rattle.bq_insn.specs.Meaning.{modulus};
+
+use bq_insn::{Bits, Width};
+
+/// The words from `lo` to `hi`, both included.
+#[derive(Clone, Copy, Debug, PartialEq, Eq)]
+pub struct Range {
+    pub lo: u64,
+    pub hi: u64,
+    ghost ordered: { lo ≤ hi },
+    ghost fits: { hi < 2 ^ 64 },
+}
+
+impl Range {
+    ghost use Rattle.std.specs.Prelude.{min, max, ◌%◌, ℕ, ◌↔◌, IsTrue};
+    ghost use Rattle.bq_insn.specs.Meaning.{modulus_of_bits};
+    ghost use Rattle.bq_ranges.specs.Within.{Within};
+
+    /// One word.
+    pub fn single(word: u64) -> Range
+        ensures lo { result.lo ≡ word }
+        ensures hi { result.hi ≡ word }
+    {
+        Range { lo: word, hi: word }
+    }
+
+    /// All words of a width.
+    pub fn full(width: Width) -> Range
+        ensures lo { result.lo ≡ 0 }
+        ensures hi { result.hi + 1 ≡ modulus width }
+    {
+        Range {
+            lo: 0,
+            hi: greatest(width),
+        }
+    }
+
+    /// All words of that many low bits.
+    pub fn of_bits(bits: Bits) -> Range
+        ensures lo { result.lo ≡ 0 }
+        ensures hi { result.hi + 1 ≡ modulus_of_bits bits }
+    {
+        let hi = match bits {
+            Bits::B8 => 0xff,
+            Bits::B16 => 0xffff,
+            Bits::B32 => 0xffff_ffff,
+            Bits::B64 => u64::MAX,
+        };
+        Range { lo: 0, hi }
+    }
+
+    /// Whether it has one word only.
+    pub fn is_single(self) -> bool
+        ensures { IsTrue result ↔ (self.lo ≡ self.hi) }
+    {
+        self.lo == self.hi
+    }
+
+    /// The least range that has all words of both.
+    pub fn hull(self, other: Range) -> Range
+        ensures left { (x : ℕ) → Within self x → Within result x }
+        ensures right { (x : ℕ) → Within other x → Within result x }
+        ensures lo { result.lo ≡ min self.lo other.lo }
+        ensures hi { result.hi ≡ max self.hi other.hi }
+    {
+        Range {
+            lo: self.lo.min(other.lo),
+            hi: self.hi.max(other.hi),
+        }
+    }
+
+    /// The least range of the low bits of all words.
+    pub fn low(self, width: Width) -> Range
+        ensures holds { (x : ℕ) → Within self x → Within result (x % modulus width) }
+        ensures fits { result.hi < modulus width }
+        ensures below { result.hi ≤ self.hi }
+        ensures tight_low { (x : ℕ) × Within self x × (x % modulus width ≡ result.lo) }
+        ensures tight_high { (x : ℕ) × Within self x × (x % modulus width ≡ result.hi) }
+    {
+        match width {
+            Width::W64 => self,
+            Width::W32 => self.low_half(),
+        }
+    }
+
+    // Words on both sides of a multiple of 2^32 have the low halves ffffffff and 0 among them.
+    fn low_half(self) -> Range
+        ensures holds { (x : ℕ) → Within self x → Within result (x % 2 ^ 32) }
+        ensures fits { result.hi < 2 ^ 32 }
+        ensures below { result.hi ≤ self.hi }
+        ensures tight_low { (x : ℕ) × Within self x × (x % 2 ^ 32 ≡ result.lo) }
+        ensures tight_high { (x : ℕ) × Within self x × (x % 2 ^ 32 ≡ result.hi) }
+    {
+        if self.lo / 0x1_0000_0000 == self.hi / 0x1_0000_0000 {
+            return Range {
+                lo: self.lo % 0x1_0000_0000,
+                hi: self.hi % 0x1_0000_0000,
+            };
+        }
+        Range {
+            lo: 0,
+            hi: 0xffff_ffff,
+        }
+    }
+}
+
+/// The greatest word of a width.
+pub fn greatest(width: Width) -> u64
+    ensures { result + 1 ≡ modulus width }
+{
+    match width {
+        Width::W32 => 0xffff_ffff,
+        Width::W64 => u64::MAX,
+    }
+}
