@@ -3,6 +3,7 @@ ghost use Rattle.std.specs.Prelude.{◌≡◌, ◌≤◌, ◌<◌, ◌++◌, len
 ghost use Rattle.bq_insn.specs.Spelling.{slot_bytes};
 ghost use Rattle.bq_insn.specs.Faults.{IsSlot};
 
+use byteorder::{ByteOrder, LittleEndian};
 use std::alloc::AllocError;
 
 /// The fields of eight bytes. Offset and immediate are as they stand there, without a sign.
@@ -26,8 +27,8 @@ impl Slot {
             opcode: bytes[0],
             dst: bytes[1] % 16,
             src: bytes[1] / 16,
-            offset: u16::from_le_bytes([bytes[2], bytes[3]]),
-            imm: u32::from_le_bytes([bytes[4], bytes[5], bytes[6], bytes[7]]),
+            offset: LittleEndian::read_u16(&bytes[2..]),
+            imm: LittleEndian::read_u32(&bytes[4..]),
         }
     }
 
@@ -38,10 +39,10 @@ impl Slot {
         ensures ok { OnOk result (out.new.items ≡ out.old.items ++ slot_bytes self) }
         ensures err { OnErr result (out.new.items ≡ out.old.items) }
     {
-        let [o0, o1] = self.offset.to_le_bytes();
-        let [i0, i1, i2, i3] = self.imm.to_le_bytes();
-        let registers = self.dst + 16 * self.src;
-        out.extend_from_slice(&[self.opcode, registers, o0, o1, i0, i1, i2, i3])?;
+        let mut bytes = [self.opcode, self.dst + 16 * self.src, 0, 0, 0, 0, 0, 0];
+        LittleEndian::write_u16(&mut bytes[2..], self.offset);
+        LittleEndian::write_u32(&mut bytes[4..], self.imm);
+        out.extend_from_slice(&bytes)?;
         Ok(())
     }
 }
