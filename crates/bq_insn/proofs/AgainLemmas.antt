@@ -8,7 +8,6 @@ use Rattle.bq_insn.specs.declared.Width.TheVariants.{W32, W64}
 use Rattle.bq_insn.specs.declared.Operation.{Operation}
 use Rattle.bq_insn.specs.declared.Operation.TheVariants as op
 use Rattle.bq_insn.specs.declared.Condition.{Condition}
-use Rattle.bq_insn.specs.declared.Condition.TheVariants as cond
 use Rattle.bq_insn.specs.declared.Order.TheVariants.{Little, Big, Swapped}
 use Rattle.bq_insn.specs.declared.Bits.TheVariants.{B8, B16, B32, B64}
 use Rattle.bq_insn.specs.declared.Size.TheVariants.{Byte, Half, Word, Double}
@@ -21,28 +20,11 @@ use Rattle.bq_insn.specs.Table.{opcode_of, form_of}
 use Rattle.bq_insn.specs.Spelling.{slot, spelled, is_insn, word16, word32, variant_of}
 use Rattle.bq_insn.specs.Reading.{signed16, signed32, variant, insn_of}
 use Rattle.bq_insn.specs.Laws.{Fits}
+use Rattle.bq_insn.proofs.FormLemmas.{plain, known_alu, known_branch, not_false}
 
 -- the instruction that a slot and the one after it are read as
 abbrev pub read : Slot → Option Slot → Option Insn
 read s next = option_map (λ f. insn_of f s next) (form_of s.opcode)
-
--- the operation that stands in the table
-abbrev pub plain : Operation → Operation
-plain op.Sdiv = op.Div
-plain op.Srem = op.Rem
-plain o = o
-
-pub known_alu : (w : Width) (o : Operation) (r : Bool) → form_of (opcode_of (form.Alu w o r)) ≡ Some (form.Alu w (plain o) r)
-known_alu W32 o true = elim o as (λ x. form_of (opcode_of (form.Alu W32 x true)) ≡ Some (form.Alu W32 (plain x) true)) [ op.Add ↦ refl | _ ↦ refl ]
-known_alu W32 o false = elim o as (λ x. form_of (opcode_of (form.Alu W32 x false)) ≡ Some (form.Alu W32 (plain x) false)) [ op.Add ↦ refl | _ ↦ refl ]
-known_alu W64 o true = elim o as (λ x. form_of (opcode_of (form.Alu W64 x true)) ≡ Some (form.Alu W64 (plain x) true)) [ op.Add ↦ refl | _ ↦ refl ]
-known_alu W64 o false = elim o as (λ x. form_of (opcode_of (form.Alu W64 x false)) ≡ Some (form.Alu W64 (plain x) false)) [ op.Add ↦ refl | _ ↦ refl ]
-
-pub known_branch : (w : Width) (c : Condition) (r : Bool) → form_of (opcode_of (form.Branch w c r)) ≡ Some (form.Branch w c r)
-known_branch W32 c true = elim c as (λ x. form_of (opcode_of (form.Branch W32 x true)) ≡ Some (form.Branch W32 x true)) [ cond.Equal ↦ refl | _ ↦ refl ]
-known_branch W32 c false = elim c as (λ x. form_of (opcode_of (form.Branch W32 x false)) ≡ Some (form.Branch W32 x false)) [ cond.Equal ↦ refl | _ ↦ refl ]
-known_branch W64 c true = elim c as (λ x. form_of (opcode_of (form.Branch W64 x true)) ≡ Some (form.Branch W64 x true)) [ cond.Equal ↦ refl | _ ↦ refl ]
-known_branch W64 c false = elim c as (λ x. form_of (opcode_of (form.Branch W64 x false)) ≡ Some (form.Branch W64 x false)) [ cond.Equal ↦ refl | _ ↦ refl ]
 
 variant-again : (o : Operation) → variant (plain o) (variant_of o) ≡ o
 variant-again o = elim o as (λ x. variant (plain x) (variant_of x) ≡ x) [ op.Add ↦ refl | _ ↦ refl ]
@@ -76,9 +58,6 @@ abbrev pub after : List Slot → Option Slot → Option Slot
 after [] next = next
 after (s ∷ []) next = next
 after (s ∷ t ∷ rest) next = Some t
-
-not_false : {P : Type 0} → false ≡ true → P
-not_false h = absurd (let e : false ≡ true = h in cc)
 
 halves : (v : ℕ) → v % 2 ^ 32 + 2 ^ 32 * (v / 2 ^ 32) ≡ v
 halves v = omega arith

@@ -17,7 +17,7 @@ contradicts : (s t : Slot) (next : Option Slot) (c : Cause) → s ≡ t → caus
 contradicts s t next c e none some = let no : None ≡ Some c = sym (sym (ap (λ (x : Slot). cause_of x next) e) ∙ none) ∙ some in cc
 
 -- slots that have no fault, whatever follows, are not the front of bytes with one
-front_clean : (slots : List Slot) (i : Insn) (x : List ℕ) (s : Slot) (next : Option Slot) (c : Cause) → IsRead slots i
+pub front_clean : (slots : List Slot) (i : Insn) (x : List ℕ) (s : Slot) (next : Option Slot) (c : Cause) → IsRead slots i
     → ((n : Option Slot) → cause_of (head_of slots) (after slots n) ≡ None) → IsSlot s → BeginsWith (flat_map slot_bytes slots ++ x) s next → cause_of s next ≡ Some c → ⊥
 front_clean [] i x s next c read none fits begins some = let one = read.some in omega arith
 front_clean (u ∷ []) i x s None c read none fits begins some =

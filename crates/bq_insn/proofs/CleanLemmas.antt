@@ -19,14 +19,11 @@ use Rattle.bq_insn.specs.declared.slot.Slot.{Slot}
 use Rattle.bq_insn.specs.Table.{opcode_of}
 use Rattle.bq_insn.specs.Spelling.{slot, spelled, is_insn, is_register, word16, word32, variant_of}
 use Rattle.bq_insn.specs.Faults.{cause_at, cause_of_form, cause_of}
-use Rattle.bq_insn.proofs.FormLemmas.{both}
-use Rattle.bq_insn.proofs.AgainLemmas.{plain, known_alu, known_branch, head_of, after}
+use Rattle.bq_insn.proofs.FormLemmas.{both, plain, known_alu, known_branch, not_false}
+use Rattle.bq_insn.proofs.AgainLemmas.{head_of, after}
 
 in_range : (r : ℕ) → is_register r ≡ true → nat_lt 10 r ≡ false
 in_range r h = grind (arith, nat_tests)
-
-not_false : {P : Type 0} → false ≡ true → P
-not_false h = absurd (let e : false ≡ true = h in cc)
 
 clean_alu_imm : (w : Width) (o : Operation) (d n : ℕ) (next : Option Slot) → is_register d ≡ true → cause_of (slot (opcode_of (form.Alu w o false)) d 0 (variant_of o) n) next ≡ None
 clean_alu_imm w o d n next h =

@@ -14,7 +14,7 @@ use Rattle.bq_insn.specs.Slots.{slots_of}
 use Rattle.bq_insn.specs.Appending.{StartsWith}
 use Rattle.bq_insn.specs.Spelling.{spelled, is_insn, is_register, slot_count, is_well_formed}
 use Rattle.bq_insn.proofs.FrontLemmas.{slots_of-spelled}
-use Rattle.bq_insn.proofs.FormLemmas.{both}
+use Rattle.bq_insn.proofs.FormLemmas.{both, not_false}
 
 pub at_drop : (insns : List Insn) (i : ℕ) (d : Insn) → i < length insns → drop i insns ≡ get_or insns i d ∷ drop (i + 1) insns
 at_drop insns i d h = drop-cons insns i d h ∙ ap (λ k. get_or insns i d ∷ drop k insns) (sym (add-one i))
@@ -64,9 +64,6 @@ both_fit d r h =
 
 none_fit : (0 < 16) × (0 < 16) × Unit {0}
 none_fit = (omega arith, omega arith, tt)
-
-not_false : {P : Type 0} → false ≡ true → P
-not_false h = absurd (let e : false ≡ true = h in cc)
 
 pub registers_fit : (i : Insn) → is_insn i ≡ true → FitRegisters (spelled i)
 registers_fit (insn.Alu w o d (Imm n)) h = one_fits d (both (is_register d) true h).0

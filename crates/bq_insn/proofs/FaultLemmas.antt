@@ -1,10 +1,10 @@
 -- What the fields of a slot without a fault are.
-use Rattle.std.proofs.Common.{◌≡◌, ℕ, ◌≤◌, Bool, true, false, refl, ap, ◌∙◌, List, length, ◌%◌, arith}
+use Rattle.std.proofs.Common.{◌≡◌, ℕ, ◌≤◌, Bool, true, false, refl, sym, ap, ◌∙◌, inl, inr, ◌⊎◌, List, length, ◌%◌, arith}
 use Rattle.std.specs.Prelude.{◌&&◌, ◌||◌, ◌==◌, nat_lt, nat_le, Option, Some, None, if◌then◌else◌}
 use Rattle.std.proofs.lemmas.Bool.Decides.{nat_tests}
 use Rattle.bq_insn.specs.declared.form.Form.{Form}
-use Rattle.bq_insn.specs.declared.form.Use.{Use}
-use Rattle.bq_insn.specs.declared.form.Use.TheVariants.{Unused, Register, Value}
+use Rattle.bq_insn.specs.declared.uses.Use.{Use}
+use Rattle.bq_insn.specs.declared.uses.Use.TheVariants.{Unused, Register, Value}
 use Rattle.bq_insn.specs.declared.slot.Slot.{Slot}
 use Rattle.bq_insn.specs.declared.fault.Cause.{Cause}
 use Rattle.bq_insn.specs.declared.fault.Cause.TheVariants as cause
@@ -103,3 +103,16 @@ has_length bytes whole low high =
     let b : nat_le 1 (length bytes) ≡ true = grind (arith, nat_tests) in
     let d : nat_le (length bytes) 32768 ≡ true = grind (arith, nat_tests) in
     ap (λ (x : Bool). x && (nat_le 1 (length bytes) && nat_le (length bytes) 32768)) a ∙ ap (λ (x : Bool). x && nat_le (length bytes) 32768) b ∙ d
+
+-- what a fault is: that of the length, or that of a slot
+pub fault_parts : (bytes : List ℕ) (s : ℕ) (c : Cause) → IsFault bytes (At s c) → ((c ≡ cause.Length) × (s ≡ 0) × (is_length bytes ≡ false)) ⊎ ((is_length bytes ≡ true) × Faulty bytes s c)
+fault_parts bytes s cause.Length f = inl (refl, f.0, f.1)
+fault_parts bytes s cause.Opcode f = inr f
+fault_parts bytes s cause.Register f = inr f
+fault_parts bytes s cause.Field f = inr f
+fault_parts bytes s cause.Offset f = inr f
+fault_parts bytes s cause.Imm f = inr f
+fault_parts bytes s cause.WideCut f = inr f
+
+pub not_both : {P : Type 0} (b : Bool) → b ≡ true → b ≡ false → P
+not_both b h k = absurd (let e : true ≡ false = sym h ∙ k in cc)

@@ -2,8 +2,18 @@
 use Rattle.std.proofs.Common.{◌≡◌, ℕ, zero, suc, ◌^◌, ◌<◌, Bool, true, false, refl, sym, ap, ◌∙◌, inl, inr, ◌⊎◌, arith}
 use Rattle.std.specs.Prelude.{◌&&◌, ◌==◌, Option, Some, None}
 use Rattle.std.proofs.lemmas.Bool.Decides.{nat_tests}
-use Rattle.bq_insn.specs.Table.{opcode_of, form_of}
+use Rattle.bq_insn.specs.declared.Width.{Width}
+use Rattle.bq_insn.specs.declared.Width.TheVariants.{W32, W64}
+use Rattle.bq_insn.specs.declared.Operation.{Operation}
+use Rattle.bq_insn.specs.declared.Operation.TheVariants as op
+use Rattle.bq_insn.specs.declared.Condition.{Condition}
+use Rattle.bq_insn.specs.declared.Condition.TheVariants as cond
+use Rattle.bq_insn.specs.declared.Order.TheVariants.{Little, Big, Swapped}
+use Rattle.bq_insn.specs.declared.Size.TheVariants.{Byte, Half, Word, Double}
 use Rattle.bq_insn.specs.declared.form.Form.{Form}
+use Rattle.bq_insn.specs.declared.form.Form.TheVariants as form
+use Rattle.bq_insn.specs.Table.{opcode_of, form_of, is_form}
+use Rattle.bq_insn.specs.Laws.{OneTable}
 
 -- a test that holds of each number below n
 below : ℕ → (ℕ → Bool) → Bool
@@ -28,17 +38,82 @@ below-at (suc n) p h k lt =
     let parts = both (p n) (below n p) h in
     by_place p k n (place k n lt) parts.0 (below-at n p parts.1 k)
 
+-- a form that stands under an opcode is one of the table, and has that opcode
 agrees_with : ℕ → Option Form → Bool
 agrees_with n None = true
-agrees_with n (Some f) = opcode_of f == n
+agrees_with n (Some f) = (opcode_of f == n) && is_form f
 
 all_agree : below 256 (λ n. agrees_with n (form_of n)) ≡ true
 unfolding below agrees_with
 all_agree = refl
 
--- a form in the table has the opcode under which it stands
-pub opcode_of-form : (n : ℕ) (f : Form) → n < 2 ^ 8 → form_of n ≡ Some f → n ≡ opcode_of f
+pub in_table : (n : ℕ) (f : Form) → n < 2 ^ 8 → form_of n ≡ Some f → (n ≡ opcode_of f) × (is_form f ≡ true)
 unfolding agrees_with
-opcode_of-form n f lt h =
-    let test : (opcode_of f == n) ≡ true = sym (ap (agrees_with n) h) ∙ below-at 256 (λ k. agrees_with k (form_of k)) all_agree n lt in
-    grind (arith, nat_tests)
+in_table n f lt h =
+    let parts = both (opcode_of f == n) (is_form f) (sym (ap (agrees_with n) h) ∙ below-at 256 (λ k. agrees_with k (form_of k)) all_agree n lt) in
+    let test : (opcode_of f == n) ≡ true = parts.0 in
+    (grind (arith, nat_tests), parts.1)
+
+pub not_false : {P : Type 0} → false ≡ true → P
+not_false h = absurd (let e : false ≡ true = h in cc)
+
+-- the operation that stands in the table
+abbrev pub plain : Operation → Operation
+plain op.Sdiv = op.Div
+plain op.Srem = op.Rem
+plain o = o
+
+-- under the opcode of an operation stands the plain one
+pub known_alu : (w : Width) (o : Operation) (r : Bool) → form_of (opcode_of (form.Alu w o r)) ≡ Some (form.Alu w (plain o) r)
+known_alu W32 o true = elim o as (λ x. form_of (opcode_of (form.Alu W32 x true)) ≡ Some (form.Alu W32 (plain x) true)) [ op.Add ↦ refl | _ ↦ refl ]
+known_alu W32 o false = elim o as (λ x. form_of (opcode_of (form.Alu W32 x false)) ≡ Some (form.Alu W32 (plain x) false)) [ op.Add ↦ refl | _ ↦ refl ]
+known_alu W64 o true = elim o as (λ x. form_of (opcode_of (form.Alu W64 x true)) ≡ Some (form.Alu W64 (plain x) true)) [ op.Add ↦ refl | _ ↦ refl ]
+known_alu W64 o false = elim o as (λ x. form_of (opcode_of (form.Alu W64 x false)) ≡ Some (form.Alu W64 (plain x) false)) [ op.Add ↦ refl | _ ↦ refl ]
+
+-- under the opcode of a branch stands that branch
+pub known_branch : (w : Width) (c : Condition) (r : Bool) → form_of (opcode_of (form.Branch w c r)) ≡ Some (form.Branch w c r)
+known_branch W32 c true = elim c as (λ x. form_of (opcode_of (form.Branch W32 x true)) ≡ Some (form.Branch W32 x true)) [ cond.Equal ↦ refl | _ ↦ refl ]
+known_branch W32 c false = elim c as (λ x. form_of (opcode_of (form.Branch W32 x false)) ≡ Some (form.Branch W32 x false)) [ cond.Equal ↦ refl | _ ↦ refl ]
+known_branch W64 c true = elim c as (λ x. form_of (opcode_of (form.Branch W64 x true)) ≡ Some (form.Branch W64 x true)) [ cond.Equal ↦ refl | _ ↦ refl ]
+known_branch W64 c false = elim c as (λ x. form_of (opcode_of (form.Branch W64 x false)) ≡ Some (form.Branch W64 x false)) [ cond.Equal ↦ refl | _ ↦ refl ]
+
+-- a form of the table is plain
+pub is_plain : (w : Width) (o : Operation) (r : Bool) → is_form (form.Alu w o r) ≡ true → plain o ≡ o
+is_plain w op.Sdiv r h = not_false h
+is_plain w op.Srem r h = not_false h
+is_plain w o r h = refl
+
+-- a form of the table stands under its opcode
+pub known : (f : Form) → is_form f ≡ true → form_of (opcode_of f) ≡ Some f
+known (form.Alu w o r) h = known_alu w o r ∙ ap (λ (x : Operation). Some (form.Alu w x r)) (is_plain w o r h)
+known (form.Neg W32) h = refl
+known (form.Neg W64) h = refl
+known (form.End Little) h = refl
+known (form.End Big) h = refl
+known (form.End Swapped) h = refl
+known (form.Load Double true) h = not_false h
+known (form.Load Byte true) h = refl
+known (form.Load Half true) h = refl
+known (form.Load Word true) h = refl
+known (form.Load Byte false) h = refl
+known (form.Load Half false) h = refl
+known (form.Load Word false) h = refl
+known (form.Load Double false) h = refl
+known (form.StoreImm Byte) h = refl
+known (form.StoreImm Half) h = refl
+known (form.StoreImm Word) h = refl
+known (form.StoreImm Double) h = refl
+known (form.StoreReg Byte) h = refl
+known (form.StoreReg Half) h = refl
+known (form.StoreReg Word) h = refl
+known (form.StoreReg Double) h = refl
+known form.Wide h = refl
+known form.Goto h = refl
+known form.Goto32 h = refl
+known (form.Branch w c r) h = known_branch w c r
+known form.Call h = refl
+known form.Exit h = refl
+
+-- the two readings are one table
+pub one_table : OneTable
+one_table n f lt = (in_table n f lt, λ h. ap form_of h.0 ∙ known f h.1)

@@ -11,7 +11,7 @@ use Rattle.bq_insn.specs.Slots.{slots_of}
 use Rattle.bq_insn.specs.Laws.{Fits}
 use Rattle.bq_insn.specs.Spelling.{slot_bytes, spelled, is_insn, insn_bytes}
 use Rattle.bq_insn.specs.Faults.{IsSlot, BeginsWith, HasFront}
-use Rattle.bq_insn.proofs.ReadingLemmas.{Reads}
+use Rattle.bq_insn.proofs.ReadsLemmas.{Reads}
 
 pub slots_of-spelled : (i : Insn) → slots_of i ≡ length (spelled i)
 slots_of-spelled (insn.Alu w o d (Imm n)) = refl

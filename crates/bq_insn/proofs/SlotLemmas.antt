@@ -1,5 +1,5 @@
 -- The bytes of a slot are those that its numbers were read from.
-use Rattle.std.proofs.Common.{◌≡◌, ℕ, ◌+◌, ◌*◌, ◌/◌, ◌%◌, ◌^◌, ◌<◌, ◌≤◌, refl, sym, ap, ◌∙◌, List, [], ◌∷◌, ◌++◌, length, drop, slice_index_or, Fits, arith}
+use Rattle.std.proofs.Common.{◌≡◌, ℕ, ◌+◌, ◌*◌, ◌/◌, ◌%◌, ◌^◌, ◌<◌, ◌≤◌, List, ◌∷◌, ◌++◌, length, drop, slice_index_or, Fits, arith}
 use Rattle.std.specs.Int.{w8}
 use Rattle.std.proofs.Math.Facts.{Fits-lt-pow}
 use Rattle.byteorder.specs.Endian.{little_number}

@@ -1,4 +1,7 @@
--- What is wrong with the instruction that begins at a slot, and which slot of a program is named.
+-- What is wrong with the instruction that begins at a slot, and which slot of a program is named. Of RFC 9669 are the
+-- opcodes (sections 4 and 5), that unused fields are zero (3.1, 3.2) and what offsets and immediates name; of this
+-- project that the least faulty slot is named with the least of its causes, in the order Opcode, Register, Field, Offset,
+-- Imm, WideCut, and that a program has at most 4096 slots.
 use Rattle.std.specs.Prelude.{◌≡◌, ℕ, ◌*◌, ◌%◌, ◌^◌, ◌<◌, ◌≤◌, Bool, true, false, not, ◌||◌, ◌&&◌, ◌==◌, nat_lt, nat_le, List, ◌++◌, length, drop, Option, Some, None, if◌then◌else◌}
 use Rattle.std.specs.List.{list_all}
 use Rattle.bq_insn.specs.declared.Insn.{Insn}
@@ -8,16 +11,16 @@ use Rattle.bq_insn.specs.declared.Operation.{Operation}
 use Rattle.bq_insn.specs.declared.Operation.TheVariants as op
 use Rattle.bq_insn.specs.declared.form.Form.{Form}
 use Rattle.bq_insn.specs.declared.form.Form.TheVariants as form
-use Rattle.bq_insn.specs.declared.form.Use.{Use}
-use Rattle.bq_insn.specs.declared.form.Use.TheVariants.{Unused, Register}
-use Rattle.bq_insn.specs.declared.form.Uses.{Uses}
+use Rattle.bq_insn.specs.declared.uses.Use.{Use}
+use Rattle.bq_insn.specs.declared.uses.Use.TheVariants.{Unused, Register}
+use Rattle.bq_insn.specs.declared.uses.Uses.{Uses}
 use Rattle.bq_insn.specs.declared.slot.Slot.{Slot}
 use Rattle.bq_insn.specs.declared.fault.Cause.{Cause}
 use Rattle.bq_insn.specs.declared.fault.Cause.TheVariants as cause
 use Rattle.bq_insn.specs.declared.fault.DecodeFault.{DecodeFault}
 use Rattle.bq_insn.specs.declared.fault.DecodeFault.TheVariants.{At, OutOfMemory}
 use Rattle.bq_insn.specs.Table.{form_of, uses_of}
-use Rattle.bq_insn.specs.Spelling.{slot_bytes, spelling, slot_count, is_insn, insn_bytes}
+use Rattle.bq_insn.specs.Spelling.{slot_bytes, spelling, slot_count, is_insn, insn_bytes, is_well_formed}
 use Rattle.bq_insn.specs.Slots.{slots_of}
 use Rattle.bq_insn.specs.Laws.{Fits, AllFit}
 
@@ -31,19 +34,22 @@ abbrev pub is_stray : Use → ℕ → Bool
 is_stray Unused n = nat_lt 0 n
 is_stray _ n = false
 
+-- Register: one of the two fields names no register
 abbrev pub has_bad_register : Uses → Slot → Bool
 has_bad_register u s = is_no_register u.dst s.dst || is_no_register u.src s.src
 
+-- Field: one of the four is not used and not zero
 abbrev pub has_stray_field : Uses → Slot → Bool
 has_stray_field u s = is_stray u.dst s.dst || (is_stray u.src s.src || (is_stray u.offset s.offset || is_stray u.imm s.imm))
 
--- the second slot of a wide instruction has its immediate alone, and with a map reference not even that
+-- Field, too: the second slot of a wide instruction has its immediate alone, and with a map reference not even that
 abbrev pub has_stray_second : Form → Slot → Option Slot → Bool
 has_stray_second form.Wide s (Some t) =
     nat_lt 0 t.opcode || (nat_lt 0 t.dst || (nat_lt 0 t.src || (nat_lt 0 t.offset || ((s.src == 5) && nat_lt 0 t.imm))))
 has_stray_second f s next = false
 
--- the offset names a variant of the operation
+-- the offset names a variant of the operation: 1 the signed division or remainder, 8, 16 and 32 the bits of which a move
+-- from a register extends the sign, fewer than its width has
 abbrev pub is_variant : Width → Operation → Bool → ℕ → Bool
 is_variant w op.Div by_register n = nat_lt n 2
 is_variant w op.Rem by_register n = nat_lt n 2
@@ -52,16 +58,19 @@ is_variant W32 op.Mov true n = (n == 0) || ((n == 8) || (n == 16))
 is_variant W64 op.Mov true n = (n == 0) || ((n == 8) || ((n == 16) || (n == 32)))
 is_variant w o by_register n = true
 
+-- Offset: it names no variant; or the source field names no kind, which for a wide instruction is 0 or 5 and for a call 0
 abbrev pub has_no_variant : Form → Slot → Bool
 has_no_variant (form.Alu w o by_register) s = not (is_variant w o by_register s.offset)
 has_no_variant form.Wide s = not ((s.src == 0) || (s.src == 5))
 has_no_variant form.Call s = not (s.src == 0)
 has_no_variant f s = false
 
+-- Imm: that of a byte order is no width
 abbrev pub has_no_width : Form → Slot → Bool
 has_no_width (form.End order) s = not ((s.imm == 16) || ((s.imm == 32) || (s.imm == 64)))
 has_no_width f s = false
 
+-- WideCut: there is no second slot
 abbrev pub is_cut : Form → Option Slot → Bool
 is_cut form.Wide None = true
 is_cut f next = false
@@ -76,10 +85,12 @@ cause_at f s next =
     else if is_cut f next then Some cause.WideCut
     else None
 
+-- Opcode: it has no form
 abbrev pub cause_of_form : Option Form → Slot → Option Slot → Option Cause
 cause_of_form None s next = Some cause.Opcode
 cause_of_form (Some f) s next = cause_at f s next
 
+-- the least cause at a slot
 abbrev pub cause_of : Slot → Option Slot → Option Cause
 cause_of s next = cause_of_form (form_of s.opcode) s next
 
@@ -134,3 +145,11 @@ pub record HasFront (bytes : List ℕ) (insn : Insn) : Type 0 where
 -- a program's bytes have no fault
 abbrev pub NoProgramIsFaulty : Type 0
 NoProgramIsFaulty = (insns : List Insn) (slot : ℕ) (c : Cause) → list_all is_insn insns ≡ true → AllFit insns → Faulty (spelling insns) slot c → ⊥
+
+-- a program's bytes have no fault at all: they are refused for want of memory alone
+abbrev pub NoProgramIsRefused : Type 0
+NoProgramIsRefused = (insns : List Insn) (slot : ℕ) (c : Cause) → is_well_formed insns ≡ true → AllFit insns → IsFault (spelling insns) (At slot c) → ⊥
+
+-- bytes have at most one fault: one slot, and there one cause
+abbrev pub OneFault : Type 0
+OneFault = (bytes : List ℕ) (s t : ℕ) (c d : Cause) → IsFault bytes (At s c) → IsFault bytes (At t d) → (s ≡ t) × (c ≡ d)

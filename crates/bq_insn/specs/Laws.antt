@@ -1,5 +1,5 @@
--- Laws of the spelling.
-use Rattle.std.specs.Prelude.{◌≡◌, ℕ, ◌^◌, ◌<◌, true, List, [], ◌∷◌, ◌++◌}
+-- Laws of the spelling and of the table (RFC 9669, sections 3 to 5): neither says two things.
+use Rattle.std.specs.Prelude.{◌≡◌, ◌↔◌, ℕ, ◌^◌, ◌<◌, true, List, [], ◌∷◌, ◌++◌, Some}
 use Rattle.std.specs.List.{list_all}
 use Rattle.std.specs.Prelude.{FitsSigned}
 use Rattle.std.specs.Int.{w16, w32}
@@ -7,8 +7,11 @@ use Rattle.bq_insn.specs.declared.Source.{Source}
 use Rattle.bq_insn.specs.declared.Source.TheVariants.{Imm, Reg}
 use Rattle.bq_insn.specs.declared.Insn.{Insn}
 use Rattle.bq_insn.specs.declared.Insn.TheVariants.{Alu, Load, StoreImm, StoreReg, Imm64, MapRef, Goto, Goto32, Branch, Call}
+use Rattle.bq_insn.specs.declared.form.Form.{Form}
+use Rattle.bq_insn.specs.Table.{opcode_of, is_form, form_of}
 use Rattle.bq_insn.specs.Spelling.{is_insn, insn_bytes, spelling}
 
+-- the immediate has 32 bits
 abbrev pub SourceFits : Source → Type 0
 SourceFits (Imm n) = FitsSigned w32 n
 SourceFits (Reg r) = Unit {0}
@@ -39,3 +42,7 @@ AllFit (i ∷ insns) = Fits i × AllFit insns
 -- bytes spell at most one program, so what is decoded after it was encoded is what it was
 abbrev pub OneProgram : Type 0
 OneProgram = (a b : List Insn) → list_all is_insn a ≡ true → list_all is_insn b ≡ true → AllFit a → AllFit b → spelling a ≡ spelling b → a ≡ b
+
+-- an opcode has a form exactly where it is the opcode of that form, and that form is one of the table
+abbrev pub OneTable : Type 0
+OneTable = (n : ℕ) (f : Form) → n < 2 ^ 8 → (form_of n ≡ Some f) ↔ ((n ≡ opcode_of f) × (is_form f ≡ true))

@@ -1,4 +1,5 @@
--- The instruction that slots without a fault spell.
+-- The instruction that slots without a fault spell (RFC 9669, sections 3 to 5), field by field; `decode` promises that its
+-- spelling is what was read.
 use Rattle.std.specs.Prelude.{ℕ, ◌+◌, ◌*◌, ◌^◌, ℤ, Bool, true, false, ◌==◌, Option, Some, None, if◌then◌else◌}
 use Rattle.std.specs.Int.{w16, w32, cast_signed}
 use Rattle.bq_insn.specs.declared.Operation.{Operation}
@@ -13,21 +14,24 @@ use Rattle.bq_insn.specs.declared.form.Form.{Form}
 use Rattle.bq_insn.specs.declared.form.Form.TheVariants as form
 use Rattle.bq_insn.specs.declared.slot.Slot.{Slot}
 
+-- the signed number that the bits of a field are
 abbrev pub signed16 : ℕ → ℤ
 signed16 n = cast_signed w16 n
 
 abbrev pub signed32 : ℕ → ℤ
 signed32 n = cast_signed w32 n
 
+-- a number of bits, as it is named
 abbrev pub bits_of : ℕ → Bits
 bits_of n = if n == 8 then B8 else if n == 16 then B16 else if n == 32 then B32 else B64
 
--- the operation that a variant stands for
+-- the operation that an offset names (section 4.1)
 abbrev pub variant : Operation → ℕ → Operation
 variant op.Div n = if n == 1 then op.Sdiv else op.Div
 variant op.Rem n = if n == 1 then op.Srem else op.Rem
 variant o n = o
 
+-- the immediate of the second slot
 abbrev pub second_imm : Option Slot → ℕ
 second_imm None = 0
 second_imm (Some t) = t.imm
@@ -36,11 +40,13 @@ second_imm (Some t) = t.imm
 abbrev pub move_of : Width → Slot → Insn
 move_of w s = if s.offset == 0 then insn.Alu w op.Mov s.dst (Reg s.src) else insn.MovSx w (bits_of s.offset) s.dst s.src
 
+-- an operation on the immediate or on a register
 abbrev pub alu_of : Width → Operation → Bool → Slot → Insn
 alu_of w o false s = insn.Alu w (variant o s.offset) s.dst (Imm (signed32 s.imm))
 alu_of w op.Mov true s = move_of w s
 alu_of w o true s = insn.Alu w (variant o s.offset) s.dst (Reg s.src)
 
+-- by form
 abbrev pub insn_of : Form → Slot → Option Slot → Insn
 insn_of (form.Alu w o by_register) s next = alu_of w o by_register s
 insn_of (form.Neg w) s next = insn.Neg w s.dst

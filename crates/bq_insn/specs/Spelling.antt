@@ -1,4 +1,5 @@
--- How instructions are spelled as bytes.
+-- How instructions are spelled as bytes (RFC 9669, section 3): slots of eight bytes with an opcode, two registers, an
+-- offset and an immediate, numbers little-endian. A wide instruction takes two slots.
 use Rattle.std.specs.Prelude.{◌≡◌, ℕ, ◌+◌, ◌*◌, ◌/◌, ◌%◌, ◌^◌, ℤ, Bool, true, false, ◌&&◌, nat_le, List, [], ◌∷◌, ◌++◌, length, Option, option_to_list}
 use Rattle.std.specs.Int.{w16, w32, to_le_bytes, cast_unsigned}
 use Rattle.std.specs.List.{flat_map, list_all}
@@ -16,7 +17,7 @@ use Rattle.bq_insn.specs.declared.form.Form.TheVariants as form
 use Rattle.bq_insn.specs.declared.slot.Slot.{Slot}
 use Rattle.bq_insn.specs.Table.{opcode_of}
 
--- the eight bytes of a slot
+-- the eight bytes of a slot (section 3.1)
 abbrev pub slot_bytes : Slot → List ℕ
 slot_bytes s = s.opcode ∷ (s.dst + 16 * s.src) ∷ (to_le_bytes w16 s.offset ++ to_le_bytes w32 s.imm)
 
@@ -24,7 +25,7 @@ slot_bytes s = s.opcode ∷ (s.dst + 16 * s.src) ∷ (to_le_bytes w16 s.offset +
 abbrev pub slot : ℕ → ℕ → ℕ → ℕ → ℕ → Slot
 slot opcode dst src offset imm = record { opcode = opcode; dst = dst; src = src; offset = offset; imm = imm }
 
--- which variant of an operation an offset stands for
+-- the offset of a signed division or remainder is 1, and of all other operations 0 (section 4.1)
 abbrev pub variant_of : Operation → ℕ
 variant_of op.Sdiv = 1
 variant_of op.Srem = 1
@@ -36,24 +37,30 @@ bits_number B16 = 16
 bits_number B32 = 32
 bits_number B64 = 64
 
+-- a signed number as the bits of its field
 abbrev pub word16 : ℤ → ℕ
 word16 z = cast_unsigned w16 z
 
 abbrev pub word32 : ℤ → ℕ
 word32 z = cast_unsigned w32 z
 
--- the slots that spell an instruction
+-- the slots that spell an instruction; what a line writes as 0 is not used
 abbrev pub spelled : Insn → List Slot
+-- arithmetic (section 4.1), with its variants told by the offset: signed ones, and moves that extend the sign
 spelled (Alu w o d (Imm n)) = slot (opcode_of (form.Alu w o false)) d 0 (variant_of o) (word32 n) ∷ []
 spelled (Alu w o d (Reg s)) = slot (opcode_of (form.Alu w o true)) d s (variant_of o) 0 ∷ []
 spelled (MovSx w b d s) = slot (opcode_of (form.Alu w op.Mov true)) d s (bits_number b) 0 ∷ []
 spelled (Neg w d) = slot (opcode_of (form.Neg w)) d 0 0 0 ∷ []
+-- byte orders (section 4.2), the width in the immediate
 spelled (End order b d) = slot (opcode_of (form.End order)) d 0 0 (bits_number b) ∷ []
+-- loads and stores (sections 5.1 and 5.2)
 spelled (Load size signed d s off) = slot (opcode_of (form.Load size signed)) d s (word16 off) 0 ∷ []
 spelled (StoreImm size d off n) = slot (opcode_of (form.StoreImm size)) d 0 (word16 off) (word32 n) ∷ []
 spelled (StoreReg size d off s) = slot (opcode_of (form.StoreReg size)) d s (word16 off) 0 ∷ []
+-- wide instructions (sections 3.2 and 5.4): the halves of a number, source 0; or a map by its index, source 5 (5.4.1)
 spelled (Imm64 d v) = slot (opcode_of form.Wide) d 0 0 (v % 2 ^ 32) ∷ slot 0 0 0 0 (v / 2 ^ 32) ∷ []
 spelled (MapRef d i) = slot (opcode_of form.Wide) d 5 0 (word32 i) ∷ slot 0 0 0 0 0 ∷ []
+-- jumps (section 4.3), calls of helpers (4.3.1) and the exit
 spelled (Goto off) = slot (opcode_of form.Goto) 0 0 (word16 off) 0 ∷ []
 spelled (Goto32 n) = slot (opcode_of form.Goto32) 0 0 0 (word32 n) ∷ []
 spelled (Branch w c d (Imm n) off) = slot (opcode_of (form.Branch w c false)) d 0 (word16 off) (word32 n) ∷ []
@@ -73,6 +80,7 @@ spelling insns = flat_map insn_bytes insns
 abbrev pub slot_count : List Insn → ℕ
 slot_count insns = length (flat_map spelled insns)
 
+-- there are the registers R0 to R10
 abbrev pub is_register : ℕ → Bool
 is_register r = nat_le r 10
 
@@ -80,7 +88,8 @@ abbrev pub is_source : Source → Bool
 is_source (Imm n) = true
 is_source (Reg r) = is_register r
 
--- registers and widths are in range
+-- registers and widths are in range: a sign is extended from fewer bits than the width has, a byte order has 16, 32 or 64
+-- bits, and a load with a sign fewer than eight bytes
 abbrev pub is_insn : Insn → Bool
 is_insn (Alu w o d src) = is_register d && is_source src
 is_insn (MovSx w B8 d s) = is_register d && is_register s

@@ -1,5 +1,6 @@
--- The table of opcodes. An opcode has its class in the low three bits; in arithmetic and jumps the next bit says that
--- the second operand is a register, and the high four bits are a code; in loads and stores two bits are the size.
+-- The table of opcodes (RFC 9669, sections 3.3, 4 and 5). An opcode has its class in the low three bits. In arithmetic
+-- and jumps the next bit says that the second operand is a register, and the high four bits are a code; in loads and
+-- stores the next two bits are the size, and the high three the mode. After it: what the fields of each form are for.
 use Rattle.std.specs.Prelude.{ℕ, ◌+◌, ◌*◌, ◌/◌, ◌%◌, Bool, true, false, ◌==◌, Option, Some, None, option_map, if◌then◌else◌}
 use Rattle.bq_insn.specs.declared.Width.{Width}
 use Rattle.bq_insn.specs.declared.Width.TheVariants.{W32, W64}
@@ -12,18 +13,22 @@ use Rattle.bq_insn.specs.declared.Size.{Size}
 use Rattle.bq_insn.specs.declared.Size.TheVariants.{Byte, Half, Word, Double}
 use Rattle.bq_insn.specs.declared.form.Form.{Form}
 use Rattle.bq_insn.specs.declared.form.Form.TheVariants.{Alu, Neg, End, Load, StoreImm, StoreReg, Wide, Goto, Goto32, Branch, Call, Exit}
-use Rattle.bq_insn.specs.declared.form.Use.{Use}
-use Rattle.bq_insn.specs.declared.form.Use.TheVariants.{Unused, Register, Value}
-use Rattle.bq_insn.specs.declared.form.Uses.{Uses}
+use Rattle.bq_insn.specs.declared.uses.Use.{Use}
+use Rattle.bq_insn.specs.declared.uses.Use.TheVariants.{Unused, Register, Value}
+use Rattle.bq_insn.specs.declared.uses.Uses.{Uses}
 
+-- the classes of arithmetic, ALU and ALU64 (section 3.3)
 abbrev pub alu_class : Width → ℕ
 alu_class W32 = 4
 alu_class W64 = 7
 
+-- the classes of jumps, JMP and JMP32 (section 3.3)
 abbrev pub jump_class : Width → ℕ
 jump_class W64 = 5
 jump_class W32 = 6
 
+-- the codes of arithmetic (section 4.1): the signed division and remainder have those of the unsigned, and are told by the
+-- offset
 abbrev pub code_of : Operation → ℕ
 code_of op.Add = 0
 code_of op.Sub = 1
@@ -36,10 +41,11 @@ code_of op.Lsh = 6
 code_of op.Rsh = 7
 code_of op.Rem = 9
 code_of op.Srem = 9
-code_of op.Xor = 10
-code_of op.Mov = 11
-code_of op.Arsh = 12
+code_of op.Xor = 0xa
+code_of op.Mov = 0xb
+code_of op.Arsh = 0xc
 
+-- the codes of branches (section 4.3)
 abbrev pub condition_code : Condition → ℕ
 condition_code cond.Equal = 1
 condition_code cond.Greater = 2
@@ -48,36 +54,49 @@ condition_code cond.AnyBit = 4
 condition_code cond.NotEqual = 5
 condition_code cond.SignedGreater = 6
 condition_code cond.SignedGreaterEqual = 7
-condition_code cond.Less = 10
-condition_code cond.LessEqual = 11
-condition_code cond.SignedLess = 12
-condition_code cond.SignedLessEqual = 13
+condition_code cond.Less = 0xa
+condition_code cond.LessEqual = 0xb
+condition_code cond.SignedLess = 0xc
+condition_code cond.SignedLessEqual = 0xd
 
+-- the sizes W, H, B and DW (section 5)
 abbrev pub size_code : Size → ℕ
 size_code Word = 0
 size_code Half = 1
 size_code Byte = 2
 size_code Double = 3
 
+-- K or X: whether the second operand is the immediate or a register (section 4)
 abbrev pub source_bit : Bool → ℕ
 source_bit by_register = if by_register then 8 else 0
 
--- the opcode of a form
+-- the opcode of a form: arithmetic (section 4.1), byte orders (4.2), loads and stores in the modes MEM, 0x60, and MEMSX,
+-- 0x80 (5.1, 5.2), wide instructions (5.4), jumps, calls and the exit (4.3)
 abbrev pub opcode_of : Form → ℕ
 opcode_of (Alu w o by_register) = alu_class w + source_bit by_register + 16 * code_of o
-opcode_of (Neg w) = alu_class w + 128
-opcode_of (End Little) = 212
-opcode_of (End Big) = 220
-opcode_of (End Swapped) = 215
-opcode_of (Load size signed) = 1 + 8 * size_code size + (if signed then 128 else 96)
-opcode_of (StoreImm size) = 2 + 8 * size_code size + 96
-opcode_of (StoreReg size) = 3 + 8 * size_code size + 96
-opcode_of Wide = 24
-opcode_of Goto = 5
-opcode_of Goto32 = 6
+opcode_of (Neg w) = alu_class w + 0x80
+opcode_of (End Little) = 0xd4
+opcode_of (End Big) = 0xdc
+opcode_of (End Swapped) = 0xd7
+opcode_of (Load size signed) = 1 + 8 * size_code size + (if signed then 0x80 else 0x60)
+opcode_of (StoreImm size) = 2 + 8 * size_code size + 0x60
+opcode_of (StoreReg size) = 3 + 8 * size_code size + 0x60
+opcode_of Wide = 0x18
+opcode_of Goto = 0x05
+opcode_of Goto32 = 0x06
 opcode_of (Branch w c by_register) = jump_class w + source_bit by_register + 16 * condition_code c
-opcode_of Call = 133
-opcode_of Exit = 149
+opcode_of Call = 0x85
+opcode_of Exit = 0x95
+
+-- the forms of the table: division and remainder stand there without their signed variants, and no load extends the sign
+-- of eight bytes
+abbrev pub is_form : Form → Bool
+is_form (Alu w op.Sdiv by_register) = false
+is_form (Alu w op.Srem by_register) = false
+is_form (Load Double true) = false
+is_form f = true
+
+-- The same table read from the opcode, as the decoder reads it: `OneTable` in Laws says that it is the same.
 
 abbrev pub operation_of : ℕ → Option Operation
 operation_of n =
@@ -131,7 +150,7 @@ load_form_of size mode =
 -- the form of an opcode, where it is in the table
 abbrev pub form_of : ℕ → Option Form
 form_of n =
-    if n % 8 == 0 then (if n == 24 then Some Wide else None)
+    if n % 8 == 0 then (if n == 0x18 then Some Wide else None)
     else if n % 8 == 1 then load_form_of (size_of (n / 8 % 4)) (n / 32)
     else if n % 8 == 2 then (if n / 32 == 3 then Some (StoreImm (size_of (n / 8 % 4))) else None)
     else if n % 8 == 3 then (if n / 32 == 3 then Some (StoreReg (size_of (n / 8 % 4))) else None)
@@ -140,21 +159,24 @@ form_of n =
     else if n % 8 == 6 then jump_form_of W32 (n / 16) (n / 8 % 2 == 1)
     else alu_form_of W64 (n / 16) (n / 8 % 2 == 1)
 
--- what the second operand's two fields are for
+-- What the fields are for.
+
+-- the second operand's two fields
 abbrev pub src_use : Bool → Use
 src_use by_register = if by_register then Register else Unused
 
 abbrev pub imm_use : Bool → Use
 imm_use by_register = if by_register then Unused else Value
 
--- division, remainder and move have variants
+-- the offset of division, remainder and move names a variant (section 4.1); no other arithmetic has one
 abbrev pub variant_use : Operation → Use
 variant_use op.Div = Value
 variant_use op.Rem = Value
 variant_use op.Mov = Value
 variant_use _ = Unused
 
--- what the fields of a form are for
+-- by form: what is not used must be zero (section 3.1). The source field of a wide instruction and of a call names a kind
+-- (sections 5.4 and 4.3)
 abbrev pub uses_of : Form → Uses
 uses_of (Alu w o by_register) = record { dst = Register; src = src_use by_register; offset = variant_use o; imm = imm_use by_register }
 uses_of (Neg w) = record { dst = Register; src = Unused; offset = Unused; imm = Unused }

@@ -12,19 +12,34 @@ use crate::reading::insn_of;
 use crate::slot::Slot;
 use std::alloc::Global;
 
-/// The slot at the front, and the one after it if there is one.
-fn front(bytes: &[u8]) -> (Slot, Option<Slot>)
-    requires some { 8 ≤ length bytes.now }
-    requires whole { length bytes.now % 8 ≡ 0 }
-    ensures fits { IsSlot result.0 }
-    ensures begins { BeginsWith bytes.now result.0 result.1 }
+/// The instructions that the bytes spell (RFC 9669, section 3): a program of 1 to 4096 slots whose registers and widths are
+/// in range. Else names the least slot at which a faulty instruction begins, and there the least cause; a wrong length is
+/// named first, at slot 0.
+pub fn decode(alloc: Global, bytes: &[u8]) -> Result<Vec<Insn>, DecodeFault>
+    ensures well_formed { IfOk result (λ insns. is_well_formed insns.items ≡ true) }
+    ensures numbers { IfOk result (λ insns. AllFit insns.items) }
+    ensures spelled { IfOk result (λ insns. bytes.now ≡ spelling insns.items) }
+    ensures fault { IfErr result (IsFault bytes.now) }
 {
-    let slot = Slot::read(bytes);
-    let rest = &bytes[8..];
-    if rest.is_empty() {
-        return (slot, None);
+    if bytes.is_empty() || bytes.len() % 8 != 0 || bytes.len() > 32768 {
+        return Err(DecodeFault::At {
+            slot: 0,
+            cause: Cause::Length,
+        });
     }
-    (slot, Some(Slot::read(rest)))
+    let mut insns = Vec::new(alloc);
+    let mut slot = 0;
+    let mut rest = bytes;
+    while !rest.is_empty() {
+        let insn = match first(rest) {
+            Ok(insn) => insn,
+            Err(cause) => return Err(DecodeFault::At { slot, cause }),
+        };
+        rest = &rest[8 * insn.slots()..];
+        slot += insn.slots();
+        insns.push(insn)?;
+    }
+    Ok(insns)
 }
 
 /// The instruction at the front, or its least cause.
@@ -44,30 +59,17 @@ fn first(bytes: &[u8]) -> Result<Insn, Cause>
     Ok(insn_of(form, slot, next))
 }
 
-/// The instructions that the bytes spell, or the least slot at which one is faulty, with its least cause.
-pub fn decode(alloc: Global, bytes: &[u8]) -> Result<Vec<Insn>, DecodeFault>
-    ensures well_formed { IfOk result (λ insns. is_well_formed insns.items ≡ true) }
-    ensures numbers { IfOk result (λ insns. AllFit insns.items) }
-    ensures spelled { IfOk result (λ insns. bytes.now ≡ spelling insns.items) }
-    ensures fault { IfErr result (IsFault bytes.now) }
+/// The slot at the front, and the one after it if there is one.
+fn front(bytes: &[u8]) -> (Slot, Option<Slot>)
+    requires some { 8 ≤ length bytes.now }
+    requires whole { length bytes.now % 8 ≡ 0 }
+    ensures fits { IsSlot result.0 }
+    ensures begins { BeginsWith bytes.now result.0 result.1 }
 {
-    let mut insns = Vec::new(alloc);
-    let mut slot = 0;
-    let mut rest = bytes;
-    if bytes.is_empty() || bytes.len() % 8 != 0 || bytes.len() > 32768 {
-        return Err(DecodeFault::At {
-            slot: 0,
-            cause: Cause::Length,
-        });
+    let slot = Slot::read(bytes);
+    let rest = &bytes[8..];
+    if rest.is_empty() {
+        return (slot, None);
     }
-    while !rest.is_empty() {
-        let insn = match first(rest) {
-            Ok(insn) => insn,
-            Err(cause) => return Err(DecodeFault::At { slot, cause }),
-        };
-        rest = &rest[8 * insn.slots()..];
-        slot += insn.slots();
-        insns.push(insn)?;
-    }
-    Ok(insns)
+    (slot, Some(Slot::read(rest)))
 }

@@ -4,30 +4,35 @@ ghost use Rattle.std.specs.Prelude.{◌≡◌};
 use std::alloc::AllocFailed;
 use thiserror::Error;
 
-/// What is wrong with an instruction, or with the whole.
+/// What is wrong with an instruction, or with the whole. The order is that in which causes are named: an instruction that
+/// has several is refused for the first.
 #[derive(Clone, Copy, Debug, PartialEq, Eq)]
 pub enum Cause {
-    /// The length is 0, no multiple of 8, or over 4096 slots.
+    /// The length of the whole is 0, no multiple of 8, or over 4096 slots of 8 bytes.
     Length,
-    /// The opcode is not in the table.
+    /// The opcode is not in the table (RFC 9669, sections 4 and 5, without atomic and packet instructions).
     Opcode,
-    /// A register field is over 10.
+    /// A field that names a register is over 10.
     Register,
-    /// An unused field is not zero.
+    /// An unused field is not zero, the second slot of a wide instruction included (sections 3.1 and 3.2).
     Field,
-    /// The offset names no variant, or the source field no kind.
+    /// The offset of a division, remainder or move names no variant (section 4.1), or the source field of a call or a wide
+    /// instruction names no kind that is supported (sections 4.3 and 5.4).
     Offset,
-    /// The immediate is no width.
+    /// The immediate of a byte order is not 16, 32 or 64 (section 4.2).
     Imm,
-    /// A wide instruction stands in the last slot.
+    /// A wide instruction stands in the last slot (section 3.2).
     WideCut,
 }
 
 /// Why bytes are refused.
 #[derive(Clone, Copy, Debug, PartialEq, Eq, Error)]
 pub enum DecodeFault {
+    /// A fault of the bytes. `slot` is the slot of 8 bytes at which the instruction begins, counted from 0; for the length it
+    /// is 0.
     #[error("slot {slot}: {cause:?}")]
     At { slot: usize, cause: Cause },
+    /// A growth was refused.
     #[error("out of memory")]
     OutOfMemory,
 }

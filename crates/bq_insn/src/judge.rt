@@ -3,106 +3,13 @@ ghost use Rattle.std.specs.Prelude.{◌≡◌};
 ghost use Rattle.bq_insn.specs.Faults.{is_no_register, is_stray, has_bad_register, has_stray_field, has_stray_second, is_variant, has_no_variant, has_no_width, is_cut, cause_at};
 
 use crate::fault::Cause;
-use crate::form::{Form, Use, Uses};
+use crate::form::Form;
 use crate::slot::Slot;
+use crate::uses::{Use, Uses};
 use crate::{Operation, Width};
 
-fn is_no_register(used: Use, register: u8) -> bool
-    ensures { result ≡ is_no_register used register }
-{
-    match used {
-        Use::Register => register > 10,
-        _ => false,
-    }
-}
-
-fn is_stray(used: Use, value: u32) -> bool
-    ensures { result ≡ is_stray used value }
-{
-    match used {
-        Use::Unused => value > 0,
-        _ => false,
-    }
-}
-
-fn has_bad_register(uses: Uses, slot: Slot) -> bool
-    ensures { result ≡ has_bad_register uses slot }
-{
-    is_no_register(uses.dst, slot.dst) || is_no_register(uses.src, slot.src)
-}
-
-fn has_stray_field(uses: Uses, slot: Slot) -> bool
-    ensures { result ≡ has_stray_field uses slot }
-{
-    is_stray(uses.dst, u32::from(slot.dst))
-        || is_stray(uses.src, u32::from(slot.src))
-        || is_stray(uses.offset, u32::from(slot.offset))
-        || is_stray(uses.imm, slot.imm)
-}
-
-fn has_stray_second(form: Form, slot: Slot, next: Option<Slot>) -> bool
-    ensures { result ≡ has_stray_second form slot next }
-{
-    match (form, next) {
-        (Form::Wide, Some(second)) => {
-            second.opcode > 0
-                || second.dst > 0
-                || second.src > 0
-                || second.offset > 0
-                || (slot.src == 5 && second.imm > 0)
-        }
-        _ => false,
-    }
-}
-
-fn is_variant(width: Width, op: Operation, by_register: bool, offset: u16) -> bool
-    ensures { result ≡ is_variant width op by_register offset }
-{
-    match (width, op, by_register) {
-        (_, Operation::Div | Operation::Rem, _) => offset < 2,
-        (_, Operation::Mov, false) => offset == 0,
-        (Width::W32, Operation::Mov, true) => offset == 0 || offset == 8 || offset == 16,
-        (Width::W64, Operation::Mov, true) => {
-            offset == 0 || offset == 8 || offset == 16 || offset == 32
-        }
-        _ => true,
-    }
-}
-
-fn has_no_variant(form: Form, slot: Slot) -> bool
-    ensures { result ≡ has_no_variant form slot }
-{
-    match form {
-        Form::Alu {
-            width,
-            op,
-            by_register,
-        } => !is_variant(width, op, by_register, slot.offset),
-        Form::Wide => !(slot.src == 0 || slot.src == 5),
-        Form::Call => slot.src != 0,
-        _ => false,
-    }
-}
-
-fn has_no_width(form: Form, slot: Slot) -> bool
-    ensures { result ≡ has_no_width form slot }
-{
-    match form {
-        Form::End { .. } => !(slot.imm == 16 || slot.imm == 32 || slot.imm == 64),
-        _ => false,
-    }
-}
-
-fn is_cut(form: Form, next: Option<Slot>) -> bool
-    ensures { result ≡ is_cut form next }
-{
-    match (form, next) {
-        (Form::Wide, None) => true,
-        _ => false,
-    }
-}
-
-/// The least cause at a slot of this form, by the slot after it if there is one.
+/// The least cause at a slot of this form, by the slot after it if there is one; None where there is no fault. The
+/// causes of an opcode without a form and of a wrong length are found before.
 pub fn cause_at(form: Form, slot: Slot, next: Option<Slot>) -> Option<Cause>
     ensures { result ≡ cause_at form slot next }
 {
@@ -122,4 +29,109 @@ pub fn cause_at(form: Form, slot: Slot, next: Option<Slot>) -> Option<Cause>
         return Some(Cause::WideCut);
     }
     None
+}
+
+/// A field that names a register is over 10.
+fn has_bad_register(uses: Uses, slot: Slot) -> bool
+    ensures { result ≡ has_bad_register uses slot }
+{
+    is_no_register(uses.dst, slot.dst) || is_no_register(uses.src, slot.src)
+}
+
+/// The field names a register that there is not.
+fn is_no_register(used: Use, register: u8) -> bool
+    ensures { result ≡ is_no_register used register }
+{
+    match used {
+        Use::Register => register > 10,
+        _ => false,
+    }
+}
+
+/// A field that is not used is not zero (RFC 9669, section 3.1).
+fn has_stray_field(uses: Uses, slot: Slot) -> bool
+    ensures { result ≡ has_stray_field uses slot }
+{
+    is_stray(uses.dst, u32::from(slot.dst))
+        || is_stray(uses.src, u32::from(slot.src))
+        || is_stray(uses.offset, u32::from(slot.offset))
+        || is_stray(uses.imm, slot.imm)
+}
+
+/// The field is not used, and not zero.
+fn is_stray(used: Use, value: u32) -> bool
+    ensures { result ≡ is_stray used value }
+{
+    match used {
+        Use::Unused => value > 0,
+        _ => false,
+    }
+}
+
+/// The second slot of a wide instruction has more than its immediate (RFC 9669, section 3.2), or even that where it
+/// belongs to a map reference (section 5.4).
+fn has_stray_second(form: Form, slot: Slot, next: Option<Slot>) -> bool
+    ensures { result ≡ has_stray_second form slot next }
+{
+    match (form, next) {
+        (Form::Wide, Some(second)) => {
+            second.opcode > 0
+                || second.dst > 0
+                || second.src > 0
+                || second.offset > 0
+                || (slot.src == 5 && second.imm > 0)
+        }
+        _ => false,
+    }
+}
+
+/// The offset names no variant of the operation, or the source field no kind of wide instruction or of call.
+fn has_no_variant(form: Form, slot: Slot) -> bool
+    ensures { result ≡ has_no_variant form slot }
+{
+    match form {
+        Form::Alu {
+            width,
+            op,
+            by_register,
+        } => !is_variant(width, op, by_register, slot.offset),
+        Form::Wide => !(slot.src == 0 || slot.src == 5),
+        Form::Call => slot.src != 0,
+        _ => false,
+    }
+}
+
+/// The offset names a variant of the operation (RFC 9669, section 4.1).
+fn is_variant(width: Width, op: Operation, by_register: bool, offset: u16) -> bool
+    ensures { result ≡ is_variant width op by_register offset }
+{
+    match (width, op, by_register) {
+        (_, Operation::Div | Operation::Rem, _) => offset < 2,
+        (_, Operation::Mov, false) => offset == 0,
+        (Width::W32, Operation::Mov, true) => offset == 0 || offset == 8 || offset == 16,
+        (Width::W64, Operation::Mov, true) => {
+            offset == 0 || offset == 8 || offset == 16 || offset == 32
+        }
+        _ => true,
+    }
+}
+
+/// The immediate of a byte order is no width (RFC 9669, section 4.2).
+fn has_no_width(form: Form, slot: Slot) -> bool
+    ensures { result ≡ has_no_width form slot }
+{
+    match form {
+        Form::End { .. } => !(slot.imm == 16 || slot.imm == 32 || slot.imm == 64),
+        _ => false,
+    }
+}
+
+/// A wide instruction has no second slot.
+fn is_cut(form: Form, next: Option<Slot>) -> bool
+    ensures { result ≡ is_cut form next }
+{
+    match (form, next) {
+        (Form::Wide, None) => true,
+        _ => false,
+    }
 }

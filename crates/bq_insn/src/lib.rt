@@ -1,4 +1,7 @@
-//! The instructions of a policy.
+//! Instructions of BPF as values, and their way from bytes and to bytes: RFC 9669, groups base32, base64, divmul32 and
+//! divmul64. `decode` answers with the list of instructions that the bytes spell, or names the first faulty one and its
+//! least cause; `encode` appends the bytes of a list. All layers above speak of instructions by the types of this file,
+//! and of what they do by specs/Meaning.
 #![tactic(auto)]
 
 pub mod decode;
@@ -7,114 +10,164 @@ pub mod fault;
 pub mod form;
 pub mod judge;
 pub mod laws;
+pub mod opcode;
 pub mod reading;
 pub mod slot;
+pub mod spelling;
 #[cfg(test)]
 mod tests;
+pub mod uses;
 
 ghost use Rattle.std.specs.Prelude.{◌≡◌};
 ghost use Rattle.bq_insn.specs.Slots.{slots_of};
 ghost use Rattle.bq_insn.specs.Meaning.{byte_count};
 
-/// How many bits an operation works on.
+/// How many low bits of its operands an instruction works on (RFC 9669, section 3.3).
 #[derive(Clone, Copy, Debug, PartialEq, Eq)]
 pub enum Width {
+    /// The low 32 bits; arithmetic makes the upper 32 bits of its result zero. Classes ALU and JMP32.
     W32,
+    /// All 64 bits. Classes ALU64 and JMP.
     W64,
 }
 
-/// What an arithmetic instruction does with its two operands.
+/// What an arithmetic instruction does with its two operands, the first of which is the destination (RFC 9669,
+/// section 4.1). Sums, differences and products wrap; a shift's amount is masked by the width.
 #[derive(Clone, Copy, Debug, PartialEq, Eq)]
 pub enum Operation {
+    /// The sum.
     Add,
+    /// The difference.
     Sub,
+    /// The product.
     Mul,
+    /// The quotient of unsigned numbers; 0 where the divisor is 0.
     Div,
+    /// The quotient of signed numbers, towards zero; 0 where the divisor is 0.
     Sdiv,
+    /// The bits of either.
     Or,
+    /// The bits of both.
     And,
+    /// A shift to the left.
     Lsh,
+    /// A shift to the right that brings in zeros.
     Rsh,
+    /// The remainder of unsigned numbers; the destination where the divisor is 0.
     Rem,
+    /// The remainder of `Sdiv`, with the destination's sign; the destination where the divisor is 0.
     Srem,
+    /// The bits of one alone.
     Xor,
+    /// The second operand.
     Mov,
+    /// A shift to the right that brings in the sign.
     Arsh,
 }
 
-/// The second operand: a number in the instruction, or a register.
+/// The second operand (RFC 9669, section 4): a number in the instruction, or a register.
 #[derive(Clone, Copy, Debug, PartialEq, Eq)]
 pub enum Source {
+    /// A signed number, whose sign is extended to 64 bits (K in the RFC).
     Imm(i32),
+    /// A register, 0 to 10 (X in the RFC).
     Reg(u8),
 }
 
-/// How many bytes a load or a store moves.
+/// How many bytes a load or a store moves (RFC 9669, section 5).
 #[derive(Clone, Copy, Debug, PartialEq, Eq)]
 pub enum Size {
+    /// One byte.
     Byte,
+    /// Two bytes.
     Half,
+    /// Four bytes.
     Word,
+    /// Eight bytes.
     Double,
 }
 
-/// When a branch is taken.
+/// When a branch is taken: how its first operand stands to its second (RFC 9669, section 4.3).
 #[derive(Clone, Copy, Debug, PartialEq, Eq)]
 pub enum Condition {
+    /// Both are equal.
     Equal,
+    /// It is greater, without signs.
     Greater,
+    /// It is greater or equal, without signs.
     GreaterEqual,
+    /// They have a bit in common.
     AnyBit,
+    /// They differ.
     NotEqual,
+    /// It is greater, with signs.
     SignedGreater,
+    /// It is greater or equal, with signs.
     SignedGreaterEqual,
+    /// It is less, without signs.
     Less,
+    /// It is less or equal, without signs.
     LessEqual,
+    /// It is less, with signs.
     SignedLess,
+    /// It is less or equal, with signs.
     SignedLessEqual,
 }
 
-/// Which byte order an operand is brought to.
+/// Which byte order an operand is brought to, on a host that is little-endian (RFC 9669, section 4.2).
 #[derive(Clone, Copy, Debug, PartialEq, Eq)]
 pub enum Order {
+    /// To little-endian: the low bytes stay as they are.
     Little,
+    /// To big-endian: the low bytes are reversed.
     Big,
+    /// To the other one: the low bytes are reversed.
     Swapped,
 }
 
-/// How many low bits are kept.
+/// How many low bits are kept, by an extension of the sign or a byte order.
 #[derive(Clone, Copy, Debug, PartialEq, Eq)]
 pub enum Bits {
+    /// Eight; no byte order has it.
     B8,
+    /// Sixteen.
     B16,
+    /// Thirty-two; no extension to 32 bits has it.
     B32,
+    /// Sixty-four; no extension has it.
     B64,
 }
 
-/// One instruction.
+/// One instruction. Registers are numbered from 0 to 10; which values the fields may have is `well_formed`'s.
 #[derive(Clone, Copy, Debug, PartialEq, Eq)]
 pub enum Insn {
+    /// `dst` becomes the result of the operation on `dst` and `src` (RFC 9669, section 4.1).
     Alu {
         width: Width,
         op: Operation,
         dst: u8,
         src: Source,
     },
+    /// `dst` becomes the low bits of `src`, their sign extended over the width (section 4.1, MOVSX).
     MovSx {
         width: Width,
         bits: Bits,
         dst: u8,
         src: u8,
     },
+    /// `dst` becomes its negation, which wraps (section 4.1).
     Neg {
         width: Width,
         dst: u8,
     },
+    /// `dst` becomes its low bits in that byte order, and zeros above them (section 4.2).
     End {
         kind: Order,
         bits: Bits,
         dst: u8,
     },
+    /// `dst` becomes the bytes at the address `src` + `off`, with zeros above them or, where it is signed, with their
+    /// sign (sections 5.1 and 5.2).
     Load {
         size: Size,
         signed: bool,
@@ -122,32 +175,39 @@ pub enum Insn {
         src: u8,
         off: i16,
     },
+    /// The bytes at the address `dst` + `off` become the low ones of `imm`, its sign extended (section 5.1).
     StoreImm {
         size: Size,
         dst: u8,
         off: i16,
         imm: i32,
     },
+    /// The bytes at the address `dst` + `off` become the low ones of `src` (section 5.1).
     StoreReg {
         size: Size,
         dst: u8,
         off: i16,
         src: u8,
     },
+    /// `dst` becomes the number; takes two slots (section 5.4).
     Imm64 {
         dst: u8,
         value: u64,
     },
+    /// `dst` becomes the reference of the program's map of that index; takes two slots (section 5.4.1).
     MapRef {
         dst: u8,
         index: i32,
     },
+    /// Goes on so many slots after the next one (section 4.3, JA of class JMP).
     Goto {
         off: i16,
     },
+    /// The same with a wider distance (section 4.3, JA of class JMP32).
     Goto32 {
         imm: i32,
     },
+    /// Goes on so many slots after the next one where the condition holds of `dst` and `src` (section 4.3).
     Branch {
         width: Width,
         cond: Condition,
@@ -155,14 +215,16 @@ pub enum Insn {
         src: Source,
         off: i16,
     },
+    /// Calls the helper of that number (section 4.3.1).
     Call {
         helper: i32,
     },
+    /// Ends the program (section 4.3).
     Exit,
 }
 
 impl Size {
-    /// The number of bytes.
+    /// The number of bytes: 1, 2, 4 or 8.
     pub fn bytes(self) -> usize
         ensures { result ≡ byte_count self }
     {
@@ -176,7 +238,7 @@ impl Size {
 }
 
 impl Insn {
-    /// How many slots of the program the instruction takes.
+    /// How many slots of eight bytes the instruction takes: two where it is wide (RFC 9669, section 3.2), else one.
     pub fn slots(self) -> usize
         ensures { result ≡ slots_of self }
     {

@@ -6,94 +6,7 @@ use crate::form::Form;
 use crate::slot::Slot;
 use crate::{Bits, Insn, Operation, Source, Width};
 
-fn bits_of(number: u32) -> Bits
-    ensures { result ≡ bits_of number }
-{
-    match number {
-        8 => Bits::B8,
-        16 => Bits::B16,
-        32 => Bits::B32,
-        _ => Bits::B64,
-    }
-}
-
-fn variant(op: Operation, offset: u16) -> Operation
-    ensures { result ≡ variant op offset }
-{
-    match (op, offset) {
-        (Operation::Div, 1) => Operation::Sdiv,
-        (Operation::Rem, 1) => Operation::Srem,
-        _ => op,
-    }
-}
-
-fn second_imm(next: Option<Slot>) -> u32
-    ensures { result ≡ second_imm next }
-{
-    match next {
-        None => 0,
-        Some(second) => second.imm,
-    }
-}
-
-fn move_of(width: Width, slot: Slot) -> Insn
-    ensures { result ≡ move_of width slot }
-{
-    if slot.offset == 0 {
-        return Insn::Alu {
-            width,
-            op: Operation::Mov,
-            dst: slot.dst,
-            src: Source::Reg(slot.src),
-        };
-    }
-    Insn::MovSx {
-        width,
-        bits: bits_of(u32::from(slot.offset)),
-        dst: slot.dst,
-        src: slot.src,
-    }
-}
-
-fn alu_of(width: Width, op: Operation, by_register: bool, slot: Slot) -> Insn
-    ensures { result ≡ alu_of width op by_register slot }
-{
-    let dst = slot.dst;
-    if !by_register {
-        return Insn::Alu {
-            width,
-            op: variant(op, slot.offset),
-            dst,
-            src: Source::Imm(slot.imm.cast_signed()),
-        };
-    }
-    match op {
-        Operation::Mov => move_of(width, slot),
-        _ => Insn::Alu {
-            width,
-            op: variant(op, slot.offset),
-            dst,
-            src: Source::Reg(slot.src),
-        },
-    }
-}
-
-fn wide_of(slot: Slot, next: Option<Slot>) -> Insn
-    ensures { result ≡ insn_of Form.Wide slot next }
-{
-    if slot.src == 5 {
-        return Insn::MapRef {
-            dst: slot.dst,
-            index: slot.imm.cast_signed(),
-        };
-    }
-    Insn::Imm64 {
-        dst: slot.dst,
-        value: u64::from(slot.imm) + (u64::from(second_imm(next)) << 32),
-    }
-}
-
-/// The instruction of this form that the slots spell.
+/// The instruction of this form that the slots spell, where they have no fault.
 pub fn insn_of(form: Form, slot: Slot, next: Option<Slot>) -> Insn
     ensures { result ≡ insn_of form slot next }
 {
@@ -151,5 +64,98 @@ pub fn insn_of(form: Form, slot: Slot, next: Option<Slot>) -> Insn
         },
         Form::Call => Insn::Call { helper: imm },
         Form::Exit => Insn::Exit,
+    }
+}
+
+/// An operation, by the variant that its offset names.
+fn alu_of(width: Width, op: Operation, by_register: bool, slot: Slot) -> Insn
+    ensures { result ≡ alu_of width op by_register slot }
+{
+    let dst = slot.dst;
+    if !by_register {
+        return Insn::Alu {
+            width,
+            op: variant(op, slot.offset),
+            dst,
+            src: Source::Imm(slot.imm.cast_signed()),
+        };
+    }
+    match op {
+        Operation::Mov => move_of(width, slot),
+        _ => Insn::Alu {
+            width,
+            op: variant(op, slot.offset),
+            dst,
+            src: Source::Reg(slot.src),
+        },
+    }
+}
+
+/// The operation that an offset names (RFC 9669, section 4.1).
+fn variant(op: Operation, offset: u16) -> Operation
+    ensures { result ≡ variant op offset }
+{
+    match (op, offset) {
+        (Operation::Div, 1) => Operation::Sdiv,
+        (Operation::Rem, 1) => Operation::Srem,
+        _ => op,
+    }
+}
+
+/// A move from a register, or one that extends the sign.
+fn move_of(width: Width, slot: Slot) -> Insn
+    ensures { result ≡ move_of width slot }
+{
+    if slot.offset == 0 {
+        return Insn::Alu {
+            width,
+            op: Operation::Mov,
+            dst: slot.dst,
+            src: Source::Reg(slot.src),
+        };
+    }
+    Insn::MovSx {
+        width,
+        bits: bits_of(u32::from(slot.offset)),
+        dst: slot.dst,
+        src: slot.src,
+    }
+}
+
+/// The number of bits, as it is named.
+fn bits_of(number: u32) -> Bits
+    ensures { result ≡ bits_of number }
+{
+    match number {
+        8 => Bits::B8,
+        16 => Bits::B16,
+        32 => Bits::B32,
+        _ => Bits::B64,
+    }
+}
+
+/// A wide instruction, by the kind that its source field names (RFC 9669, section 5.4).
+fn wide_of(slot: Slot, next: Option<Slot>) -> Insn
+    ensures { result ≡ insn_of Form.Wide slot next }
+{
+    if slot.src == 5 {
+        return Insn::MapRef {
+            dst: slot.dst,
+            index: slot.imm.cast_signed(),
+        };
+    }
+    Insn::Imm64 {
+        dst: slot.dst,
+        value: u64::from(slot.imm) + (u64::from(second_imm(next)) << 32),
+    }
+}
+
+/// The immediate of the second slot.
+fn second_imm(next: Option<Slot>) -> u32
+    ensures { result ≡ second_imm next }
+{
+    match next {
+        None => 0,
+        Some(second) => second.imm,
     }
 }

@@ -1,4 +1,4 @@
-//! One slot of a program, by its fields.
+//! One slot of a program, by its fields (RFC 9669, section 3.1).
 ghost use Rattle.std.specs.Prelude.{◌≡◌, ◌≤◌, ◌<◌, ◌++◌, length, drop, OnOk, OnErr};
 ghost use Rattle.bq_insn.specs.Spelling.{slot_bytes};
 ghost use Rattle.bq_insn.specs.Faults.{IsSlot};
@@ -6,7 +6,7 @@ ghost use Rattle.bq_insn.specs.Faults.{IsSlot};
 use byteorder::{ByteOrder, LittleEndian};
 use std::alloc::AllocError;
 
-/// The fields of eight bytes. Offset and immediate are as they stand there, without a sign.
+/// The fields of eight bytes. Each register has four bits; offset and immediate are as they stand there, without a sign.
 #[derive(Clone, Copy, Debug, PartialEq, Eq)]
 pub struct Slot {
     pub opcode: u8,
@@ -32,7 +32,7 @@ impl Slot {
         }
     }
 
-    /// Appends the eight bytes of the slot.
+    /// Appends the eight bytes of the slot. Where memory is refused, nothing is appended.
     pub fn append_to(self, out: &mut Vec<u8>) -> Result<(), AllocError>
         requires dst { self.dst < 16 }
         requires src { self.src < 16 }

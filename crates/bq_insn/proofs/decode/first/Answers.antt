@@ -2,7 +2,8 @@ use Rattle.std.proofs.Common.{◌∙◌, sym, subst}
 use Rattle.bq_insn.specs.declared.Insn.{Insn}
 use Rattle.bq_insn.specs.Faults.{HasFront}
 use Rattle.bq_insn.proofs.FrontLemmas.{has_front}
-use Rattle.bq_insn.proofs.ReadingLemmas.{reads, numbers_read, second_small}
+use Rattle.bq_insn.proofs.ReadingLemmas.{reads}
+use Rattle.bq_insn.proofs.NumberLemmas.{numbers_read, second_small}
 use Rattle.bq_insn.proofs.decode.first.Goals as goal
 
 pub returns-clause-ok : goal.returns-clause-ok

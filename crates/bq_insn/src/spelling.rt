@@ -1,0 +1,194 @@
+//! The slots that spell an instruction.
+ghost use Rattle.std.specs.Prelude.{◌≡◌, ◌∷◌, []};
+ghost use Rattle.bq_insn.specs.Spelling.{slot, AreSlots, variant_of, bits_number, spelled};
+ghost use Rattle.bq_insn.specs.Table.{opcode_of};
+
+use crate::form::Form;
+use crate::slot::Slot;
+use crate::{Bits, Insn, Operation, Source};
+
+/// The slot that spells an instruction, and the second one where it is wide.
+pub fn slots_of(insn: Insn) -> (Slot, Option<Slot>)
+    ensures { AreSlots result (spelled insn) }
+{
+    match insn {
+        Insn::Alu {
+            width,
+            op,
+            dst,
+            src,
+        } => {
+            let offset = variant_of(op);
+            match src {
+                Source::Imm(imm) => {
+                    let form = Form::Alu {
+                        width,
+                        op,
+                        by_register: false,
+                    };
+                    one(form, dst, 0, offset, imm.cast_unsigned())
+                }
+                Source::Reg(register) => {
+                    let form = Form::Alu {
+                        width,
+                        op,
+                        by_register: true,
+                    };
+                    one(form, dst, register, offset, 0)
+                }
+            }
+        }
+        Insn::MovSx {
+            width,
+            bits,
+            dst,
+            src,
+        } => {
+            let form = Form::Alu {
+                width,
+                op: Operation::Mov,
+                by_register: true,
+            };
+            one(form, dst, src, bits_number(bits), 0)
+        }
+        Insn::Neg { width, dst } => one(Form::Neg { width }, dst, 0, 0, 0),
+        Insn::End { kind, bits, dst } => {
+            one(
+                Form::End { order: kind },
+                dst,
+                0,
+                0,
+                u32::from(bits_number(bits)),
+            )
+        }
+        Insn::Load {
+            size,
+            signed,
+            dst,
+            src,
+            off,
+        } => one(
+            Form::Load { size, signed },
+            dst,
+            src,
+            off.cast_unsigned(),
+            0,
+        ),
+        Insn::StoreImm {
+            size,
+            dst,
+            off,
+            imm,
+        } => one(
+            Form::StoreImm { size },
+            dst,
+            0,
+            off.cast_unsigned(),
+            imm.cast_unsigned(),
+        ),
+        Insn::StoreReg {
+            size,
+            dst,
+            off,
+            src,
+        } => one(Form::StoreReg { size }, dst, src, off.cast_unsigned(), 0),
+        Insn::Imm64 { dst, value } => two(
+            dst,
+            0,
+            (value % 0x1_0000_0000) as u32,
+            (value / 0x1_0000_0000) as u32,
+        ),
+        Insn::MapRef { dst, index } => two(dst, 5, index.cast_unsigned(), 0),
+        Insn::Goto { off } => one(Form::Goto, 0, 0, off.cast_unsigned(), 0),
+        Insn::Goto32 { imm } => one(Form::Goto32, 0, 0, 0, imm.cast_unsigned()),
+        Insn::Branch {
+            width,
+            cond,
+            dst,
+            src,
+            off,
+        } => {
+            let offset = off.cast_unsigned();
+            match src {
+                Source::Imm(imm) => {
+                    let form = Form::Branch {
+                        width,
+                        cond,
+                        by_register: false,
+                    };
+                    one(form, dst, 0, offset, imm.cast_unsigned())
+                }
+                Source::Reg(register) => {
+                    let form = Form::Branch {
+                        width,
+                        cond,
+                        by_register: true,
+                    };
+                    one(form, dst, register, offset, 0)
+                }
+            }
+        }
+        Insn::Call { helper } => one(Form::Call, 0, 0, 0, helper.cast_unsigned()),
+        Insn::Exit => one(Form::Exit, 0, 0, 0, 0),
+    }
+}
+
+/// A slot of that form, alone.
+fn one(form: Form, dst: u8, src: u8, offset: u16, imm: u32) -> (Slot, Option<Slot>)
+    ensures { AreSlots result (slot (opcode_of form) dst src offset imm ∷ []) }
+{
+    let opcode = form.opcode();
+    (
+        Slot {
+            opcode,
+            dst,
+            src,
+            offset,
+            imm,
+        },
+        None,
+    )
+}
+
+/// The two slots of a wide instruction.
+fn two(dst: u8, src: u8, low: u32, high: u32) -> (Slot, Option<Slot>)
+    ensures { AreSlots result (slot 24 dst src 0 low ∷ slot 0 0 0 0 high ∷ []) }
+{
+    let first = Slot {
+        opcode: 0x18,
+        dst,
+        src,
+        offset: 0,
+        imm: low,
+    };
+    let second = Slot {
+        opcode: 0,
+        dst: 0,
+        src: 0,
+        offset: 0,
+        imm: high,
+    };
+    (first, Some(second))
+}
+
+/// The offset that names a variant of an operation.
+fn variant_of(op: Operation) -> u16
+    ensures { result ≡ variant_of op }
+{
+    match op {
+        Operation::Sdiv | Operation::Srem => 1,
+        _ => 0,
+    }
+}
+
+/// The number of bits.
+fn bits_number(bits: Bits) -> u16
+    ensures { result ≡ bits_number bits }
+{
+    match bits {
+        Bits::B8 => 8,
+        Bits::B16 => 16,
+        Bits::B32 => 32,
+        Bits::B64 => 64,
+    }
+}
