@@ -3,3 +3,4 @@ pub mod Counts
 pub mod Once
 pub mod Places
 pub mod Switching
+pub mod Steps

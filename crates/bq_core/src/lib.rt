@@ -3,6 +3,7 @@
 //! Stands on the queues of bq_disc by their contract alone.
 #![tactic(auto)]
 
+pub mod arguments;
 pub mod carried;
 pub mod cpu;
 pub mod event;
@@ -10,13 +11,16 @@ pub mod hooks;
 pub mod inbox;
 pub mod loads;
 pub mod lobby;
+pub mod parts;
 pub mod policy;
 pub mod refusal;
 pub mod reply;
 pub mod runner;
+pub mod running;
 pub mod seat;
 pub mod unlinked;
 
+pub use arguments::argument_refusal;
 pub use carried::Carried;
 pub use cpu::Cpu;
 pub use event::{Event, Hook};

@@ -1,0 +1,70 @@
+//! The parts that the world is made of.
+ghost use Rattle.std.specs.Prelude.{◌≡◌, ◌≤◌, ◌<◌, IfOk, length};
+ghost use Rattle.bq_core.specs.World.{opening_world, processor, count_in};
+
+use crate::{Cpu, Inbox, Lobby};
+use bq_disc::RunQueue;
+use std::alloc::{AllocError, Global};
+use std::marker::Model;
+
+/// Processors, an inbox for each, the lobby, and the number drawn last. Contracts see the world that they make.
+#[derive(Drop)]
+pub struct Parts<Q: RunQueue, const P: usize> {
+    pub(crate) cpus: Vec<Cpu<Q>>,
+    pub(crate) inboxes: Vec<Inbox>,
+    pub(crate) lobby: Lobby,
+    pub(crate) drawn: u64,
+}
+
+impl<Q: RunQueue, const P: usize> Model for Parts<Q, P> {
+    ghost use Rattle.std.specs.Prelude.{◌≡◌, ◌≤◌, length};
+    ghost use Rattle.bq_core.specs.World.{World};
+
+    ghost Value = { World };
+
+    ghost view = { λ w. record { processors = w.cpus.items; inboxes = w.inboxes.items; seats = w.lobby; drawn = w.drawn } };
+
+    ghost invariant = { λ w. (length w.cpus.items ≡ P) × (length w.inboxes.items ≡ P) × (length w.lobby ≡ 1024) × (P ≤ 64) };
+}
+
+impl<Q: RunQueue + Drop, const P: usize> Parts<Q, P> {
+    /// The opening world. It takes all the memory that later events need, but for Admit.
+    pub fn new(alloc: Global) -> Result<Parts<Q, P>, AllocError>
+        requires few { P ≤ 64 }
+        ensures { IfOk result (λ w. w ≡ opening_world P) }
+    {
+        let mut cpus = Vec::with_capacity(alloc, P)?;
+        'processors: for _ in 0..P {
+            cpus.push(Cpu::new())?;
+        }
+        let mut inboxes = Vec::with_capacity(alloc, P)?;
+        'inboxes: for _ in 0..P {
+            inboxes.push(Inbox::new())?;
+        }
+        let lobby = Lobby::new(alloc)?;
+        Ok(Parts {
+            cpus,
+            inboxes,
+            lobby,
+            drawn: 0,
+        })
+    }
+}
+
+impl<Q: RunQueue, const P: usize> Parts<Q, P> {
+    /// A processor.
+    pub fn cpu(&self, number: u8) -> &Cpu<Q>
+        requires { number < count_in self.now }
+        ensures { result.now ≡ processor self.now number }
+    {
+        &self.cpus[usize::from(number)]
+    }
+
+    /// How many processors there are.
+    pub fn processors(&self) -> usize
+        ensures value { result ≡ count_in self.now }
+        ensures few { result ≤ 64 }
+    {
+        self.cpus.len()
+    }
+}
