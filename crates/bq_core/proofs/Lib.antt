@@ -4,3 +4,6 @@ pub mod Once
 pub mod Places
 pub mod Switching
 pub mod Steps
+pub mod Tidy
+pub mod Moves
+pub mod Order

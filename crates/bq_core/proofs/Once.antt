@@ -39,7 +39,7 @@ placed_le id [] cpu = omega arith
 placed_le id (xs ∷ xss) zero = omega arith
 placed_le id (xs ∷ xss) (suc cpu) = omega (arith, placed_le id xss cpu)
 
-as_number_le : (b : Bool) → as_number b ≤ 1
+pub as_number_le : (b : Bool) → as_number b ≤ 1
 as_number_le true = omega arith
 as_number_le false = omega arith
 

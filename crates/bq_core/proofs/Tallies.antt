@@ -55,7 +55,7 @@ pub tally-entered : (g : ℕ → ℕ → ℕ) (d : Discipline) (kept : ℕ) (que
 tally-entered g d kept queue [] = omega arith
 tally-entered g d kept queue (t ∷ tasks) = omega (arith, tally-entered g d kept (place (woken d kept t) queue) tasks, tally-place g (woken d kept t) queue)
 
-tally-present : (g : ℕ → ℕ → ℕ) (o : Option Task) (xs ys : List Task) → tally g (present o ys) + tally g xs ≡ tally g (present o xs) + tally g ys
+pub tally-present : (g : ℕ → ℕ → ℕ) (o : Option Task) (xs ys : List Task) → tally g (present o ys) + tally g xs ≡ tally g (present o xs) + tally g ys
 tally-present g None xs ys = omega arith
 tally-present g (Some t) xs ys = omega arith
 

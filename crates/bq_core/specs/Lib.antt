@@ -7,3 +7,4 @@ pub mod OwnChoices
 pub mod Choices
 pub mod Steps
 pub mod StandsOnce
+pub mod Laws

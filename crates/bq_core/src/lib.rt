@@ -9,6 +9,7 @@ pub mod cpu;
 pub mod event;
 pub mod hooks;
 pub mod inbox;
+pub mod laws;
 pub mod loads;
 pub mod lobby;
 pub mod parts;
