@@ -5,8 +5,10 @@ ghost use Rattle.std.specs.Prelude.{List, ◌≡◌, ◌≤◌, ◌^◌};
 ghost use Rattle.std.specs.Option.{option_map};
 ghost use Rattle.bq_disc.specs.Tasks.{Task, present};
 ghost use Rattle.bq_disc.specs.Chains.{task_of, chain_behind};
-ghost use Rattle.bq_cfs.specs.Cfs.{MarkNeverFalls, least, cfs, cfs_lawful};
+ghost use Rattle.bq_cfs.specs.Cfs.{least, cfs};
+ghost use Rattle.bq_cfs.specs.Lawful.{cfs_lawful};
 
+pub mod laws;
 pub mod queue;
 
 use bq_disc::node::Link;
@@ -48,12 +50,6 @@ pub(crate) fn first<'a>(current: Option<&'a Node>, queue: Option<&'a Entity>) ->
         _ => Some(&node.entity),
     }
 }
-
-/// The mark never falls.
-#[tactic(auto, using(crate::specs::Cfs::mark_never_falls))]
-pub fn mark_never_falls()
-    ensures { MarkNeverFalls }
-{}
 
 impl Rule for Cfs {
     ghost discipline = { cfs };

@@ -18,7 +18,7 @@ cond_none true x o h = cc
 cond_none false x o h = (refl, h)
 
 -- no task of that id is in a list: not its first, and not in the rest
-with_id-none : (i : ℕ) (x : Task) (xs : List Task) → with_id i (x ∷ xs) ≡ None → (eqb x.id i ≡ false) × (with_id i xs ≡ None)
+pub with_id-none : (i : ℕ) (x : Task) (xs : List Task) → with_id i (x ∷ xs) ≡ None → (eqb x.id i ≡ false) × (with_id i xs ≡ None)
 with_id-none i x xs h = cond_none (eqb x.id i) x (with_id i xs) h
 
 apart : (i : ℕ) (xs : List Task) → with_id i xs ≡ None → AllByRecursion (λ y. eqb i y ≡ false) (ids xs)
@@ -122,4 +122,16 @@ without-absent j (x ∷ xs) h =
     let s = with_id-none j x xs h in
     rw s.0 (ap (λ ys. x ∷ ys) (without-absent j xs s.1))
 
-pub ruleset queue_facts = (length-few, HasDistinctIds-place, HasSmallIds-place, length-place, HasDistinctIds-without, HasSmallIds-without)
+same_number : (a b : ℕ) → eqb a b ≡ true → a ≡ b
+same_number a b h = grind (arith, nat_tests)
+
+gone_by_test : (i : ℕ) (b : Bool) (x : Task) (xs ys : List Task) → eqb x.id i ≡ b → with_id x.id xs ≡ None → with_id i ys ≡ None → with_id i (cond b xs (x ∷ ys)) ≡ None
+gone_by_test i true x xs ys e d rest = rw (same_number x.id i e) at d
+gone_by_test i false x xs ys e d rest = rw e rest
+
+-- once taken, no task of that id is there
+pub with_id-without_same : (i : ℕ) (xs : List Task) → HasDistinctIds xs → with_id i (without i xs) ≡ None
+with_id-without_same i [] d = refl
+with_id-without_same i (x ∷ xs) d = gone_by_test i (eqb x.id i) x xs (without i xs) refl d.0 (with_id-without_same i xs d.1)
+
+pub ruleset queue_facts = (length-few, HasDistinctIds-place, HasSmallIds-place, length-place, HasDistinctIds-without, HasSmallIds-without, with_id-without_same)

@@ -1,6 +1,7 @@
 -- A discipline: how a processor chooses among its tasks, and how virtual time passes.
-use Rattle.std.specs.Prelude.{◌≢◌, ℕ, ℤ, Bool, ◌==◌, if◌then◌else◌, List, [], ◌∷◌, Option, Some, None, Contains, IsSome, IfSome, unwrap_or}
+use Rattle.std.specs.Prelude.{◌≡◌, ◌≢◌, ℕ, ℤ, Bool, ◌==◌, if◌then◌else◌, List, [], ◌∷◌, Option, Some, None, Contains, IsSome, IfSome, unwrap_or}
 use Rattle.bq_disc.specs.Tasks.{Task, id_of}
+use Rattle.bq_disc.specs.Queues.{HasDistinctIds}
 use Rattle.bq_disc.specs.declared.queue.Entry.{Entry}
 use Rattle.bq_disc.specs.declared.queue.Entry.TheVariants.{Wake, Pull}
 use Rattle.bq_weights.specs.VirtualTime.{advance_of, shift_of, distance_of}
@@ -23,11 +24,13 @@ pub record Discipline : Type 0 where
 abbrev pub SameSet : List Task → List Task → Type 0
 SameSet xs ys = ((t : Task) → Contains xs t → Contains ys t) × ((t : Task) → Contains ys t → Contains xs t)
 
--- the laws of a discipline
+-- the laws of a discipline: a choice exists exactly where there is a task, it is one of the tasks, and sets of tasks
+-- that are equal, whatever the order in which they are listed, give equal choices
 pub record IsLawful (d : Discipline) : Type 0 where
-  -- a choice exists where there is a task, and is one of the tasks
   pub exists : (xs : List Task) → xs ≢ [] → IsSome (d.choice xs)
+  pub nobody : d.choice [] ≡ None
   pub member : (xs : List Task) → IfSome (d.choice xs) (Contains xs)
+  pub same : (xs ys : List Task) → HasDistinctIds xs → HasDistinctIds ys → SameSet xs ys → d.choice xs ≡ d.choice ys
 
 -- a task that has run for a time
 abbrev pub charged : Discipline → Task → ℕ → Task

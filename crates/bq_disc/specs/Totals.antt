@@ -1,6 +1,7 @@
 -- What some tasks have together.
-use Rattle.std.specs.Prelude.{Bool, ◌≡◌, ℕ, ◌+◌, ◌*◌, ◌/◌, ◌≤◌, ◌^◌, ◌||◌, ◌&&◌, ◌==◌, nat_lt, if◌then◌else◌, List, [], ◌∷◌, length, Option, Some, None}
+use Rattle.std.specs.Prelude.{Bool, ◌≡◌, ℕ, ◌+◌, ◌*◌, ◌/◌, ◌≤◌, ◌^◌, ◌||◌, ◌&&◌, ◌==◌, nat_lt, nat_le, if◌then◌else◌, List, [], ◌∷◌, length, Option, Some, None}
 use Rattle.std.specs.Option.{option_map}
+use Rattle.std.specs.List.{AllByRecursion}
 use Rattle.bq_disc.specs.Tasks.{Task, first_by, due_before}
 use Rattle.bq_disc.specs.declared.node.Due.{Due}
 use Rattle.bq_disc.specs.declared.node.Totals.{Totals}
@@ -14,6 +15,14 @@ total_weight (t ∷ xs) = t.weight + total_weight xs
 abbrev pub weighted_sum : List Task → ℕ
 weighted_sum [] = 0
 weighted_sum (t ∷ xs) = t.weight * t.v + weighted_sum xs
+
+-- whether a task's v is at most the mean of tasks that have this weight and this weighted sum together
+abbrev pub is_at_most_mean : ℕ → ℕ → Task → Bool
+is_at_most_mean weight sum t = nat_le (weight * t.v) sum
+
+-- no task's v is below m
+abbrev pub NoneBelow : ℕ → List Task → Type 0
+NoneBelow m xs = AllByRecursion (λ (t : Task). m ≤ t.v) xs
 
 -- when a task is due
 abbrev pub due_of : Task → Due

@@ -46,6 +46,7 @@ pub trait RunQueue {
         ensures taken { option_map (λ b. task_of b.value) result ≡ with_id id (members self.old) }
         ensures lone { IfSome result (λ b. IsLone b.value) }
         ensures rest { members self.new ≡ without id (members self.old) }
+        ensures gone { with_id id (members self.new) ≡ None }
         ensures mark { kept_mark self.new ≡ kept_mark self.old };
 
     fn get(&self, id: u16) -> Option<&Node>

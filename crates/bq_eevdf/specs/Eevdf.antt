@@ -1,13 +1,13 @@
 -- Earliest eligible virtual deadline first: of the tasks whose lag is at least 0 the one of earliest deadline runs.
-use Rattle.std.specs.Prelude.{◌*◌, Bool, false, not, ◌==◌, nat_le, List, ◌∷◌, Option, None, Some, filter, if◌then◌else◌, unwrap_or}
+use Rattle.std.specs.Prelude.{Bool, false, not, ◌==◌, nat_le, List, ◌∷◌, Option, None, Some, filter, if◌then◌else◌, unwrap_or}
 use Rattle.bq_weights.specs.VirtualTime.{advance_of, shift_of, vdelta_of, held_within}
-use Rattle.bq_disc.specs.Totals.{total_weight, weighted_sum, mean_of}
+use Rattle.bq_disc.specs.Totals.{total_weight, weighted_sum, is_at_most_mean, mean_of}
 use Rattle.bq_disc.specs.Tasks.{Task, first_by, due_before}
 use Rattle.bq_disc.specs.Discipline.{Discipline}
 
--- a task whose v is at most the weighted average of those that are considered
+-- a task whose lag is at least 0 among those that are considered: its v is at most their weighted mean
 abbrev pub is_eligible : List Task → Task → Bool
-is_eligible xs t = nat_le (total_weight xs * t.v) (weighted_sum xs)
+is_eligible xs t = is_at_most_mean (total_weight xs) (weighted_sum xs) t
 
 abbrev pub eligible : List Task → List Task
 eligible xs = filter (is_eligible xs) xs

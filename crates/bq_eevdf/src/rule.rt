@@ -4,7 +4,7 @@ ghost use Rattle.bq_disc.specs.Chains.{chain_behind};
 ghost use Rattle.bq_disc.specs.Totals.{AreTotals, first_due};
 ghost use Rattle.bq_tree.specs.Within.{within};
 ghost use Rattle.bq_eevdf.specs.Eevdf.{eevdf};
-ghost use Rattle.bq_eevdf.specs.Laws.{eevdf_lawful};
+ghost use Rattle.bq_eevdf.specs.Lawful.{eevdf_lawful};
 
 use crate::chosen::{chosen, considered, due, is_other, mean};
 use bq_disc::node::{Due, Link, Totals, behind};

@@ -119,6 +119,7 @@ impl Tree {
         ensures taken { option_map (λ b. task_of b.value) result ≡ with_id id self.old }
         ensures lone { IfSome result (λ b. IsLone b.value) }
         ensures rest { self.new ≡ without id self.old }
+        ensures gone { with_id id self.new ≡ None }
     {
         let v = time_of(&self.times, &self.root, id);
         let (taken, rest) = take_from(self.root.take(), v, id);

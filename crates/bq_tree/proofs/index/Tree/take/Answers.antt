@@ -1,7 +1,7 @@
 use Rattle.std.proofs.Common.{List, ap, ◌∙◌, arith}
 use Rattle.bq_disc.specs.Tasks.{Task, with_id, without}
 use Rattle.bq_disc.specs.Trees.{in_order_behind}
-use Rattle.bq_disc.proofs.QueueFacts.{length-few}
+use Rattle.bq_disc.proofs.QueueFacts.{length-few, with_id-without_same}
 use Rattle.bq_tree.proofs.HeightFacts.{low_of_many}
 use Rattle.bq_tree.proofs.SoundFacts.{Takes-id}
 use Rattle.bq_tree.proofs.IndexFacts.{sound_taken}
@@ -35,3 +35,9 @@ returns-clause-rest c =
     let taken = rw c.take.ensures.value at c.take_from-taken.ensures.taken in
     let both = Takes-id c.time_of-v.result c.args.id (in_order_behind c.self.inside.root) _ _ c.self.invariant.distinct c.time_of-v.ensures taken in
     both.1 ∙ ap (λ (xs : List Task). without c.args.id xs) c.self.view_is
+
+pub returns-clause-gone : goal.returns-clause-gone
+returns-clause-gone c =
+    let taken = rw c.take.ensures.value at c.take_from-taken.ensures.taken in
+    let both = Takes-id c.time_of-v.result c.args.id (in_order_behind c.self.inside.root) _ _ c.self.invariant.distinct c.time_of-v.ensures taken in
+    rw both.1 (with_id-without_same c.args.id (in_order_behind c.self.inside.root) c.self.invariant.distinct)
