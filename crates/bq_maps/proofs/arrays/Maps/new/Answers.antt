@@ -1,0 +1,25 @@
+use Rattle.std.proofs.Common.{◌≡◌, ℕ, ◌+◌, ◌*◌, ◌++◌, ◌∷◌, [], Vec, Global, List, take, map, length, get_or, replicate, ◌∙◌, ap, sym, refl, arith}
+use Rattle.std.proofs.lemmas.List.{map_push, take_more, length-replicate}
+use Rattle.bq_maps.specs.Arrays.{HaveShapes}
+use Rattle.bq_maps.specs.declared.shape.MapShape.{MapShape}
+use Rattle.bq_maps.proofs.ShapeLemmas.{have_none, have_more, zero_more, zeros_are_bytes}
+use Rattle.bq_maps.proofs.arrays.Maps.new.Goals as goal
+
+pub loop-shape-preserved : goal.loop-shape-preserved
+loop-shape-preserved c =
+    let f : Vec ℕ Global → List ℕ = λ v. v.items in
+    let old = c.loop-shape.invariant in
+    let size : ℕ = c.from.result * c.from-in-loop-shape.result in
+    let kept : c.push-in-loop-shape.new.self.items ≡ c.loop-shape.kept.items ++ c.shape-item.result ∷ [] = c.in_ok-push-2.ensures.items in
+    let bytes : c.push.new.self.items ≡ c.loop-shape.bytes.items ++ c.in_ok-zeros.field-0 ∷ [] = c.in_ok-push.ensures.items in
+    let contents : map f c.push.new.self.items ≡ map f c.loop-shape.bytes.items ++ replicate size 0 ∷ [] = ap (map f) bytes ∙ map_push f c.loop-shape.bytes.items c.in_ok-zeros.field-0 ∙ ap (λ (l : List ℕ). map f c.loop-shape.bytes.items ++ l ∷ []) c.in_ok-zeros.ensures in
+    let more = take_more c.args.shapes.now c.loop-shape.shape-index c.shape-item.result (omega arith) in
+    let sized : length (replicate {A = ℕ} size 0) ≡ c.shape-item.result.value_size * c.shape-item.result.entries = length-replicate {A = ℕ} size 0 ∙ rw (c.from.ensures, c.from-in-loop-shape.ensures) refl in
+    record {
+      same = kept ∙ ap (λ (l : List MapShape). l ++ c.shape-item.result ∷ []) old.same ∙ ap (λ (s : MapShape). take c.loop-shape.shape-index c.args.shapes.now ++ s ∷ []) c.shape-item.is ∙ sym more;
+      have = rw (kept, contents) (have_more c.loop-shape.kept.items (map f c.loop-shape.bytes.items) c.shape-item.result (replicate size 0) old.have sized (zeros_are_bytes size));
+      zero = rw contents (zero_more (map f c.loop-shape.bytes.items) size old.zero);
+    }
+
+pub invariant_of-result : goal.invariant_of-result
+invariant_of-result c = c.loop-shape.invariant.have

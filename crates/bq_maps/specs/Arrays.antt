@@ -1,0 +1,47 @@
+-- Array maps: the bytes of all values of a map stand one after another, the first entry first.
+use Rattle.std.specs.Prelude.{◌≡◌, ℕ, ◌+◌, ◌*◌, ◌<◌, ◌≤◌, List, [], length, Option, Some, None, slice_get, slice_index_or, slice_range, slice_set}
+use Rattle.bq_maps.specs.declared.shape.MapShape.{MapShape}
+use Rattle.bq_maps.specs.Memory.{overwrite}
+
+-- the maps of a program: their shapes, and the bytes of each
+pub record Arrays : Type 0 where
+  pub shapes : List MapShape
+  pub bytes : List (List ℕ)
+
+-- maps of these shapes
+pub record HaveShapes (shapes : List MapShape) (maps : List (List ℕ)) : Type 0 where
+  pub as_many : length maps ≡ length shapes
+  pub sizes : (m : ℕ) (shape : MapShape) → slice_get shapes m ≡ Some shape → length (slice_index_or maps m []) ≡ shape.value_size * shape.entries
+  pub bytes : (m i b : ℕ) → slice_get (slice_index_or maps m []) i ≡ Some b → b < 256
+
+abbrev pub value_size_in : Option MapShape → ℕ
+value_size_in None = 0
+value_size_in (Some shape) = shape.value_size
+
+abbrev pub entries_in : Option MapShape → ℕ
+entries_in None = 0
+entries_in (Some shape) = shape.entries
+
+-- how many bytes a value of that map has
+abbrev pub value_size_of : Arrays → ℕ → ℕ
+value_size_of a m = value_size_in (slice_get a.shapes m)
+
+-- the map has an entry of that number
+abbrev pub HasEntry : Arrays → ℕ → ℕ → Type 0
+HasEntry a m k = k < entries_in (slice_get a.shapes m)
+
+-- the bytes of a map
+abbrev pub bytes_of : Arrays → ℕ → List ℕ
+bytes_of a m = slice_index_or a.bytes m []
+
+-- where an entry begins in its map
+abbrev pub first_of : Arrays → ℕ → ℕ → ℕ
+first_of a m k = k * value_size_of a m
+
+-- the bytes of an entry
+abbrev pub entry_of : Arrays → ℕ → ℕ → List ℕ
+entry_of a m k = slice_range (bytes_of a m) (first_of a m k) (first_of a m k + value_size_of a m)
+
+-- the maps with these bytes in one of them, from there on; all else stays
+abbrev pub with_bytes : Arrays → ℕ → ℕ → List ℕ → Arrays
+with_bytes a m at bytes = record a { bytes = slice_set a.bytes m (overwrite (bytes_of a m) at bytes) }

@@ -1,0 +1,40 @@
+// The shape of a map.
+
+ghost use Rattle.std.specs.Prelude.{◌≡◌, ◌≤◌, ◌%◌};
+
+/// How many bytes a value has, and how many entries there are.
+///
+/// A value has 8 to 256 bytes, in eights, and there are 1 to 256 entries.
+#[derive(Clone, Copy, Debug, PartialEq, Eq)]
+pub struct MapShape {
+    pub value_size: u16,
+    pub entries: u16,
+    ghost least_size: { 8 ≤ value_size },
+    ghost greatest_size: { value_size ≤ 256 },
+    ghost eights: { value_size % 8 ≡ 0 },
+    ghost least_entries: { 1 ≤ entries },
+    ghost greatest_entries: { entries ≤ 256 },
+}
+
+impl MapShape {
+    ghost use Rattle.std.specs.Prelude.{IfSome, IfNone};
+    ghost use Rattle.bq_maps.specs.Limits.{IsShape};
+
+    /// The shape of these numbers; `None` where one is not within its limits.
+    pub fn new(value_size: u16, entries: u16) -> Option<MapShape>
+        ensures size { IfSome result (λ s. s.value_size ≡ value_size) }
+        ensures entries { IfSome result (λ s. s.entries ≡ entries) }
+        ensures none { IfNone result (IsShape value_size entries → ⊥) }
+    {
+        if value_size < 8 || value_size > 256 || value_size % 8 != 0 {
+            return None;
+        }
+        if entries < 1 || entries > 256 {
+            return None;
+        }
+        Some(MapShape {
+            value_size,
+            entries,
+        })
+    }
+}
