@@ -26,29 +26,36 @@ use Rattle.bq_insn.proofs.FormLemmas.{plain, known_alu, known_branch, not_false}
 abbrev pub read : Slot → Option Slot → Option Insn
 read s next = option_map (λ f. insn_of f s next) (form_of s.opcode)
 
+-- the offset of an operation names it again
 variant-again : (o : Operation) → variant (plain o) (variant_of o) ≡ o
 variant-again o = elim o as (λ x. variant (plain x) (variant_of x) ≡ x) [ op.Add ↦ refl | _ ↦ refl ]
 
+-- a signed number comes back from the bits of its field
 same16 : (z : ℤ) → FitsSigned w16 z → signed16 (word16 z) ≡ z
 same16 z h = to_z-of_z w16 z h
 
+-- a signed number comes back from the bits of its field
 same32 : (z : ℤ) → FitsSigned w32 z → signed32 (word32 z) ≡ z
 same32 z h = to_z-of_z w32 z h
 
+-- an operation on the immediate is read again
 again_alu_imm : (w : Width) (o : Operation) (d : ℕ) (n : ℤ) (next : Option Slot) → FitsSigned w32 n → read (slot (opcode_of (form.Alu w o false)) d 0 (variant_of o) (word32 n)) next ≡ Some (insn.Alu w o d (Imm n))
 again_alu_imm w o d n next h =
     ap (option_map (λ f. insn_of f (slot (opcode_of (form.Alu w o false)) d 0 (variant_of o) (word32 n)) next)) (known_alu w o false)
     ∙ ap (λ (x : Operation). Some (insn.Alu w x d (Imm (signed32 (word32 n))))) (variant-again o)
     ∙ ap (λ (z : ℤ). Some (insn.Alu w o d (Imm z))) (same32 n h)
 
+-- an operation on a register is read again
 again_alu_reg : (w : Width) (o : Operation) (d s : ℕ) (next : Option Slot) → read (slot (opcode_of (form.Alu w o true)) d s (variant_of o) 0) next ≡ Some (insn.Alu w o d (Reg s))
 again_alu_reg w o d s next =
     ap (option_map (λ f. insn_of f (slot (opcode_of (form.Alu w o true)) d s (variant_of o) 0) next)) (known_alu w o true)
     ∙ elim o as (λ x. Some (insn_of (form.Alu w (plain x) true) (slot (opcode_of (form.Alu w x true)) d s (variant_of x) 0) next) ≡ Some (insn.Alu w x d (Reg s))) [ op.Add ↦ refl | _ ↦ refl ]
 
+-- a branch is read by its form
 again_branch : (w : Width) (c : Condition) (r : Bool) (s : Slot) (next : Option Slot) → s.opcode ≡ opcode_of (form.Branch w c r) → read s next ≡ Some (insn_of (form.Branch w c r) s next)
 again_branch w c r s next h = ap (option_map (λ f. insn_of f s next)) (ap form_of h ∙ known_branch w c r)
 
+-- the first slot
 abbrev pub head_of : List Slot → Slot
 head_of [] = slot 0 0 0 0 0
 head_of (s ∷ rest) = s
@@ -59,6 +66,7 @@ after [] next = next
 after (s ∷ []) next = next
 after (s ∷ t ∷ rest) next = Some t
 
+-- a number is its two halves
 halves : (v : ℕ) → v % 2 ^ 32 + 2 ^ 32 * (v / 2 ^ 32) ≡ v
 halves v = omega arith
 

@@ -13,6 +13,7 @@ use Rattle.bq_insn.proofs.AgainLemmas.{head_of, after}
 use Rattle.bq_insn.proofs.CleanLemmas.{clean}
 use Rattle.bq_insn.proofs.UniqueLemmas.{IsRead, is_read, same_front, some_bytes, cancelled, one_spelling}
 
+-- one slot has not both no cause and a cause
 contradicts : (s t : Slot) (next : Option Slot) (c : Cause) → s ≡ t → cause_of s next ≡ None → cause_of t next ≡ Some c → ⊥
 contradicts s t next c e none some = let no : None ≡ Some c = sym (sym (ap (λ (x : Slot). cause_of x next) e) ∙ none) ∙ some in cc
 
@@ -36,10 +37,12 @@ front_clean (u ∷ v ∷ rest) i x s (Some t) c read none fits begins some =
     let second = same_front v t (flat_map slot_bytes rest ++ x) begins.1 registers.0 begins.0.dst numbers.0 begins.0.offset numbers.1 begins.0.imm same.1 in
     contradicts u s (Some t) c same.0 (ap (λ (y : Slot). cause_of u (Some y)) (sym second.0) ∙ none None) some
 
+-- no slot stands in front of nothing
 no_front : (s : Slot) (next : Option Slot) → BeginsWith [] s next → ⊥
 no_front s None e = cc
 no_front s (Some t) e = let h = e.2 in cc
 
+-- a program does not begin with instructions and then a fault
 apart : (insns before : List Insn) (rest : List ℕ) (c : Cause) → list_all is_insn insns ≡ true → AllFit insns → list_all is_insn before ≡ true → AllFit before
     → spelling insns ≡ spelling before ++ rest → FrontHasCause rest c → ⊥
 apart [] [] rest c h f hb fb e front = no_front front.slot front.next (subst (λ (l : List ℕ). BeginsWith l front.slot front.next) (sym e) front.begins)
@@ -58,5 +61,6 @@ apart (i ∷ insns) (b ∷ before) rest c h f hb fb e front =
     let left = cancelled (insn_bytes b) (spelling insns) (spelling before ++ rest) (ap (λ (x : Insn). insn_bytes x ++ spelling insns) (sym same) ∙ e2) in
     apart insns before rest c p.1 f.1 q.1 fb.1 left front
 
+-- so no slot of it is faulty
 pub no_program_is_faulty : NoProgramIsFaulty
 no_program_is_faulty insns slot c h f fault = apart insns fault.before fault.rest c h f fault.are_insns fault.numbers fault.bytes_are fault.front

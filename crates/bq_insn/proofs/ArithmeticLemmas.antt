@@ -12,7 +12,8 @@ use Rattle.bq_insn.specs.declared.Bits.TheVariants.{B8, B16, B32}
 use Rattle.bq_insn.specs.declared.Insn.TheVariants as insn
 use Rattle.bq_insn.specs.declared.form.Form.TheVariants as form
 use Rattle.bq_insn.specs.declared.slot.Slot.{Slot}
-use Rattle.bq_insn.specs.Table.{opcode_of, is_form, variant_use, code_of, alu_class}
+use Rattle.bq_insn.specs.Table.{opcode_of, is_form, code_of, alu_class}
+use Rattle.bq_insn.specs.Uses.{variant_use}
 use Rattle.bq_insn.specs.Spelling.{is_insn, is_register, variant_of, bits_number}
 use Rattle.bq_insn.specs.Reading.{variant, bits_of, move_of, alu_of}
 use Rattle.bq_insn.specs.Faults.{IsSlot, is_variant}
@@ -20,6 +21,7 @@ use Rattle.bq_insn.proofs.FaultLemmas.{IsClean, kept}
 use Rattle.bq_insn.proofs.ReadsLemmas.{Reads, and_true, back32, reads_by, one_slot, two_registers, one_register}
 use Rattle.bq_insn.proofs.FormLemmas.{not_false}
 
+-- a variant has the code of its operation
 code_of-variant : (o : Operation) (n : ℕ) → code_of (variant o n) ≡ code_of o
 code_of-variant op.Div n = elim (n == 1) as (λ b. code_of (if b then op.Sdiv else op.Div) ≡ 3) [ true ↦ refl | false ↦ refl ]
 code_of-variant op.Rem n = elim (n == 1) as (λ b. code_of (if b then op.Srem else op.Rem) ≡ 9) [ true ↦ refl | false ↦ refl ]
@@ -31,9 +33,11 @@ plain_of w op.Sdiv r h = not_false h
 plain_of w op.Srem r h = not_false h
 plain_of w o r h = refl
 
+-- an offset below 2
 zero_or_one : (n : ℕ) → not (nat_lt n 2) ≡ false → (n ≡ 0) ⊎ (n ≡ 1)
 zero_or_one n h = grind (arith, nat_tests)
 
+-- an offset that is 0
 pub is_zero : (n : ℕ) → not (n == 0) ≡ false → n ≡ 0
 is_zero n h = grind (arith, nat_tests)
 
@@ -60,12 +64,15 @@ record Extends (w : Width) (n : ℕ) : Type 0 where
   number : bits_number bits ≡ n
   ranged : (d r : ℕ) → is_insn (insn.MovSx w bits d r) ≡ (is_register d && is_register r)
 
+-- an offset that extends a sign to 32 bits
 one_of_two : (n a b : ℕ) → (n == 0) ≡ false → not ((n == 0) || ((n == a) || (n == b))) ≡ false → (n ≡ a) ⊎ (n ≡ b)
 one_of_two n a b z h = grind (arith, nat_tests)
 
+-- an offset that extends a sign to 64 bits
 one_of_three : (n a b c : ℕ) → (n == 0) ≡ false → not ((n == 0) || ((n == a) || ((n == b) || (n == c)))) ≡ false → (n ≡ a) ⊎ ((n ≡ b) ⊎ (n ≡ c))
 one_of_three n a b c z h = grind (arith, nat_tests)
 
+-- each offset that is a variant of a move, and not 0, names bits
 extends : (w : Width) (n : ℕ) → (n == 0) ≡ false → not (is_variant w op.Mov true n) ≡ false → Extends w n
 extends W32 n z h = elim (one_of_two n 8 16 z h) as (λ _. Extends W32 n) [
   | inl e ↦ record { bits = B8; is = ap bits_of e; number = sym e; ranged = λ d r. refl }
@@ -79,6 +86,7 @@ extends W64 n z h = elim (one_of_three n 8 16 32 z h) as (λ _. Extends W64 n) [
   ]
 ]
 
+-- a move from a register, with a sign or without
 reads_move : (w : Width) (s : Slot) (next : Option Slot) → IsSlot s → s.opcode ≡ opcode_of (form.Alu w op.Mov true) → IsClean (form.Alu w op.Mov true) s next → Reads s next (move_of w s)
 reads_move w s next fits opcode clean = by_test (s.offset == 0) refl
   where
@@ -95,6 +103,7 @@ reads_move w s next fits opcode clean = by_test (s.offset == 0) refl
         (ap (λ (b : Bits). is_insn (insn.MovSx w b s.dst s.src)) x.is ∙ x.ranged s.dst s.src ∙ ranged)
         (one_slot _ _ _ _ _ _ _ _ _ _ refl refl refl (ap bits_number x.is ∙ x.number) refl)
 
+-- an operation on a register whose offset is that of its variant
 reads_operation : (w : Width) (o : Operation) (s : Slot) (next : Option Slot) → variant_of (variant o s.offset) ≡ kept (variant_use o) s.offset
     → s.opcode ≡ opcode_of (form.Alu w o true) → IsClean (form.Alu w o true) s next → Reads s next (insn.Alu w (variant o s.offset) s.dst (Reg s.src))
 reads_operation w o s next offset opcode clean =

@@ -22,15 +22,18 @@ use Rattle.bq_insn.specs.Faults.{cause_at, cause_of_form, cause_of}
 use Rattle.bq_insn.proofs.FormLemmas.{both, plain, known_alu, known_branch, not_false}
 use Rattle.bq_insn.proofs.AgainLemmas.{head_of, after}
 
+-- a register that there is
 in_range : (r : ℕ) → is_register r ≡ true → nat_lt 10 r ≡ false
 in_range r h = grind (arith, nat_tests)
 
+-- an operation on the immediate has no fault
 clean_alu_imm : (w : Width) (o : Operation) (d n : ℕ) (next : Option Slot) → is_register d ≡ true → cause_of (slot (opcode_of (form.Alu w o false)) d 0 (variant_of o) n) next ≡ None
 clean_alu_imm w o d n next h =
     let e = in_range d h in
     ap (λ f. cause_of_form f (slot (opcode_of (form.Alu w o false)) d 0 (variant_of o) n) next) (known_alu w o false)
     ∙ elim o as (λ x. cause_at (form.Alu w (plain x) false) (slot (opcode_of (form.Alu w x false)) d 0 (variant_of x) n) next ≡ None) [ op.Add ↦ rw e refl | _ ↦ rw e refl ]
 
+-- an operation on a register has no fault
 clean_alu_reg : (w : Width) (o : Operation) (d s : ℕ) (next : Option Slot) → (is_register d && is_register s) ≡ true → cause_of (slot (opcode_of (form.Alu w o true)) d s (variant_of o) 0) next ≡ None
 clean_alu_reg W32 o d s next h =
     let parts = both (is_register d) (is_register s) h in
@@ -45,11 +48,13 @@ clean_alu_reg W64 o d s next h =
     ap (λ f. cause_of_form f (slot (opcode_of (form.Alu W64 o true)) d s (variant_of o) 0) next) (known_alu W64 o true)
     ∙ elim o as (λ x. cause_at (form.Alu W64 (plain x) true) (slot (opcode_of (form.Alu W64 x true)) d s (variant_of x) 0) next ≡ None) [ op.Add ↦ rw (a, b) refl | _ ↦ rw (a, b) refl ]
 
+-- a branch on the immediate has no fault
 clean_branch_imm : (w : Width) (c : Condition) (d off n : ℕ) (next : Option Slot) → is_register d ≡ true → cause_of (slot (opcode_of (form.Branch w c false)) d 0 off n) next ≡ None
 clean_branch_imm w c d off n next h =
     let e = in_range d h in
     ap (λ f. cause_of_form f (slot (opcode_of (form.Branch w c false)) d 0 off n) next) (known_branch w c false) ∙ rw e refl
 
+-- a branch on a register has no fault
 clean_branch_reg : (w : Width) (c : Condition) (d s off : ℕ) (next : Option Slot) → (is_register d && is_register s) ≡ true → cause_of (slot (opcode_of (form.Branch w c true)) d s off 0) next ≡ None
 clean_branch_reg w c d s off next h =
     let parts = both (is_register d) (is_register s) h in
@@ -61,6 +66,7 @@ clean_branch_reg w c d s off next h =
 one : (d : ℕ) → is_register d ≡ true → (if nat_lt 10 d || false then Some cause.Register else None) ≡ None
 one d h = let e = in_range d h in rw e refl
 
+-- a slot with two registers has no fault
 two : (d s : ℕ) → (is_register d && is_register s) ≡ true → (if nat_lt 10 d || nat_lt 10 s then Some cause.Register else None) ≡ None
 two d s h =
     let parts = both (is_register d) (is_register s) h in

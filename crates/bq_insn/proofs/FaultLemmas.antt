@@ -8,15 +8,18 @@ use Rattle.bq_insn.specs.declared.uses.Use.TheVariants.{Unused, Register, Value}
 use Rattle.bq_insn.specs.declared.slot.Slot.{Slot}
 use Rattle.bq_insn.specs.declared.fault.Cause.{Cause}
 use Rattle.bq_insn.specs.declared.fault.Cause.TheVariants as cause
-use Rattle.bq_insn.specs.Table.{uses_of, form_of}
+use Rattle.bq_insn.specs.Table.{form_of}
+use Rattle.bq_insn.specs.Uses.{uses_of}
 use Rattle.bq_insn.specs.declared.fault.DecodeFault.TheVariants.{At}
 use Rattle.bq_insn.specs.Spelling.{slot, is_register}
 use Rattle.bq_insn.specs.Faults.{is_stray, has_bad_register, has_stray_field, has_stray_second, has_no_variant, has_no_width, is_cut, cause_at, cause_of_form, Faulty, IsFault, is_length}
 
+-- where one or the other is false, both are
 pub neither : (a b : Bool) → (a || b) ≡ false → (a ≡ false) × (b ≡ false)
 neither true b h = absurd (let e : true ≡ false = h in cc)
 neither false b h = (refl, h)
 
+-- none of the tests finds a fault
 pub record IsClean (f : Form) (s : Slot) (next : Option Slot) : Type 0 where
   pub registers : has_bad_register (uses_of f) s ≡ false
   pub fields : has_stray_field (uses_of f) s ≡ false
@@ -25,9 +28,11 @@ pub record IsClean (f : Form) (s : Slot) (next : Option Slot) : Type 0 where
   pub width : has_no_width f s ≡ false
   pub whole : is_cut f next ≡ false
 
+-- the least cause of five tests
 chain : Bool → Bool → Bool → Bool → Bool → Option Cause
 chain a b c d e = if a then Some cause.Register else if b then Some cause.Field else if c then Some cause.Offset else if d then Some cause.Imm else if e then Some cause.WideCut else None
 
+-- it names none where no test does
 chain_none : (a b c d e : Bool) → chain a b c d e ≡ None → (a ≡ false) × (b ≡ false) × (c ≡ false) × (d ≡ false) × (e ≡ false)
 unfolding chain
 chain_none true b c d e h = absurd (let e : Some cause.Register ≡ None = h in cc)
@@ -37,6 +42,7 @@ chain_none false false false true e h = absurd (let e : Some cause.Imm ≡ None 
 chain_none false false false false true h = absurd (let e : Some cause.WideCut ≡ None = h in cc)
 chain_none false false false false false h = (refl, refl, refl, refl, refl)
 
+-- a slot without a cause passes each test
 pub is_clean : (f : Form) (s : Slot) (next : Option Slot) → cause_at f s next ≡ None → IsClean f s next
 unfolding chain
 is_clean f s next h =
@@ -50,16 +56,19 @@ kept Unused n = 0
 kept Register n = n
 kept Value n = n
 
+-- a field that is not stray holds what is kept
 kept_same : (u : Use) (n : ℕ) → is_stray u n ≡ false → kept u n ≡ n
 kept_same Unused n h = grind (arith, nat_tests)
 kept_same Register n h = refl
 kept_same Value n h = refl
 
+-- slots are equal by their fields
 pub same_slot : (s : Slot) (o d r f i : ℕ) → o ≡ s.opcode → d ≡ s.dst → r ≡ s.src → f ≡ s.offset → i ≡ s.imm → slot o d r f i ≡ s
 same_slot s o d r f i a b c e g =
     ap (λ (x : ℕ). slot x d r f i) a ∙ ap (λ (x : ℕ). slot s.opcode x r f i) b ∙ ap (λ (x : ℕ). slot s.opcode s.dst x f i) c
     ∙ ap (λ (x : ℕ). slot s.opcode s.dst s.src x i) e ∙ ap (λ (x : ℕ). slot s.opcode s.dst s.src s.offset x) g
 
+-- a slot without stray fields is what its form keeps of it
 pub cleaned : (f : Form) (s : Slot) (o : ℕ) → o ≡ s.opcode → has_stray_field (uses_of f) s ≡ false
     → slot o (kept (uses_of f).dst s.dst) (kept (uses_of f).src s.src) (kept (uses_of f).offset s.offset) (kept (uses_of f).imm s.imm) ≡ s
 cleaned f s o h clean =
@@ -69,9 +78,11 @@ cleaned f s o h clean =
     let c = neither (is_stray u.offset s.offset) (is_stray u.imm s.imm) b.1 in
     same_slot s o _ _ _ _ h (kept_same u.dst s.dst a.0) (kept_same u.src s.src b.0) (kept_same u.offset s.offset c.0) (kept_same u.imm s.imm c.1)
 
+-- a field that is not over 10 is a register
 pub register_of : (r : ℕ) → nat_lt 10 r ≡ false → is_register r ≡ true
 register_of r h = grind (arith, nat_tests)
 
+-- the length is no cause of a slot
 never_length : (a b c d e : Bool) → chain a b c d e ≡ Some cause.Length → ⊥
 unfolding chain
 never_length true b c d e h = let same : Some cause.Register ≡ Some cause.Length = h in cc
@@ -81,6 +92,7 @@ never_length false false false true e h = let same : Some cause.Imm ≡ Some cau
 never_length false false false false true h = let same : Some cause.WideCut ≡ Some cause.Length = h in cc
 never_length false false false false false h = let same : None ≡ Some cause.Length = h in cc
 
+-- nor at one without a form
 cause_is_none_of_length : (o : Option Form) (s : Slot) (next : Option Slot) → cause_of_form o s next ≡ Some cause.Length → ⊥
 unfolding chain
 cause_is_none_of_length None s next h = let same : Some cause.Opcode ≡ Some cause.Length = h in cc
@@ -97,6 +109,7 @@ is_fault bytes slot cause.Offset h f = (h, f)
 is_fault bytes slot cause.Imm h f = (h, f)
 is_fault bytes slot cause.WideCut h f = (h, f)
 
+-- the length of 1 to 4096 slots
 pub has_length : (bytes : List ℕ) → length bytes % 8 ≡ 0 → 1 ≤ length bytes → length bytes ≤ 32768 → is_length bytes ≡ true
 has_length bytes whole low high =
     let a : (length bytes % 8 == 0) ≡ true = grind (arith, nat_tests) in
@@ -114,5 +127,6 @@ fault_parts bytes s cause.Offset f = inr f
 fault_parts bytes s cause.Imm f = inr f
 fault_parts bytes s cause.WideCut f = inr f
 
+-- no test is true and false
 pub not_both : {P : Type 0} (b : Bool) → b ≡ true → b ≡ false → P
 not_both b h k = absurd (let e : true ≡ false = sym h ∙ k in cc)

@@ -20,17 +20,21 @@ below : ℕ → (ℕ → Bool) → Bool
 below zero p = true
 below (suc n) p = p n && below n p
 
+-- where one and the other is true, both are
 pub both : (a b : Bool) → (a && b) ≡ true → (a ≡ true) × (b ≡ true)
 both true b h = (refl, h)
 both false b h = absurd (let e : false ≡ true = h in cc)
 
+-- a number below the next is that one, or below it
 place : (k n : ℕ) → k < suc n → (k ≡ n) ⊎ (k < n)
 place k n lt = grind arith
 
+-- a test at each of them
 by_place : (p : ℕ → Bool) (k n : ℕ) → (k ≡ n) ⊎ (k < n) → p n ≡ true → (k < n → p k ≡ true) → p k ≡ true
 by_place p k n (inl same) here less = ap p same ∙ here
 by_place p k n (inr lt) here less = less lt
 
+-- what holds of each number below n holds of this one
 below-at : (n : ℕ) (p : ℕ → Bool) → below n p ≡ true → (k : ℕ) → k < n → p k ≡ true
 unfolding below
 below-at zero p h k lt = absurd (omega arith)
@@ -43,10 +47,12 @@ agrees_with : ℕ → Option Form → Bool
 agrees_with n None = true
 agrees_with n (Some f) = (opcode_of f == n) && is_form f
 
+-- so it is for each of the 256 opcodes, which is computed
 all_agree : below 256 (λ n. agrees_with n (form_of n)) ≡ true
 unfolding below agrees_with
 all_agree = refl
 
+-- the form of an opcode has that opcode, and is one of the table
 pub in_table : (n : ℕ) (f : Form) → n < 2 ^ 8 → form_of n ≡ Some f → (n ≡ opcode_of f) × (is_form f ≡ true)
 unfolding agrees_with
 in_table n f lt h =
@@ -54,6 +60,7 @@ in_table n f lt h =
     let test : (opcode_of f == n) ≡ true = parts.0 in
     (grind (arith, nat_tests), parts.1)
 
+-- false is not true
 pub not_false : {P : Type 0} → false ≡ true → P
 not_false h = absurd (let e : false ≡ true = h in cc)
 

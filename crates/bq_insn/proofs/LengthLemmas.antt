@@ -12,6 +12,7 @@ use Rattle.bq_insn.proofs.FormLemmas.{both}
 use Rattle.bq_insn.proofs.FaultLemmas.{fault_parts, not_both}
 use Rattle.bq_insn.proofs.ApartLemmas.{no_program_is_faulty}
 
+-- slots have eight bytes each
 length-slots : (slots : List Slot) → length (flat_map slot_bytes slots) ≡ 8 * length slots
 length-slots [] = refl
 length-slots (s ∷ slots) =
@@ -39,6 +40,7 @@ program_length insns h =
     let bytes = length-spelling insns in
     has_length (spelling insns) (omega (arith, bytes)) (omega (arith, bytes)) (omega (arith, bytes))
 
+-- a program has neither fault
 pub no_program_is_refused : NoProgramIsRefused
 no_program_is_refused insns s c h f g = elim (fault_parts (spelling insns) s c g) as (λ _. ⊥) [
   | inl p ↦ not_both (is_length (spelling insns)) (program_length insns h) p.2

@@ -32,6 +32,7 @@ same_next s t (Some u) (Some v) x f g p q =
     let second = same_front u v p.1 q.1 p.0.dst q.0.dst p.0.offset q.0.offset p.0.imm q.0.imm same.1 in
     (same.0, ap (λ (y : Slot). Some y) second.0)
 
+-- one cause is one
 same_some : (c d : Cause) → Some c ≡ Some d → c ≡ d
 same_some c d e = cc
 
@@ -65,6 +66,7 @@ one_way (a ∷ xs) (b ∷ ys) x y c d ha fa hb fb e p q =
     let rest = one_way xs ys x y c d k.1 fa.1 l.1 fb.1 left p q in
     (ap (λ (i : Insn). i ∷ xs) same ∙ ap (λ (is : List Insn). b ∷ is) rest.0, rest.1)
 
+-- two faults of the same bytes are one
 pub one_fault : OneFault
 one_fault bytes s t c d f g = elim (fault_parts bytes s c f) as (λ _. (s ≡ t) × (c ≡ d)) [
   | inl p ↦ elim (fault_parts bytes t d g) as (λ _. (s ≡ t) × (c ≡ d)) [

@@ -28,9 +28,11 @@ record HasBits (n : ℕ) : Type 0 where
   number : bits_number bits ≡ n
   ranged : (order : Order) (d : ℕ) → is_insn (insn.End order bits d) ≡ is_register d
 
+-- an immediate that is a width
 one_width : (n : ℕ) → not ((n == 16) || ((n == 32) || (n == 64))) ≡ false → (n ≡ 16) ⊎ ((n ≡ 32) ⊎ (n ≡ 64))
 one_width n h = grind (arith, nat_tests)
 
+-- each of them names bits
 has_bits : (n : ℕ) → not ((n == 16) || ((n == 32) || (n == 64))) ≡ false → HasBits n
 has_bits n h = elim (one_width n h) as (λ _. HasBits n) [
   | inl e ↦ record { bits = B16; is = ap bits_of e; number = sym e; ranged = λ order d. refl }
@@ -49,24 +51,31 @@ load_ranged Byte signed d r off h = refl
 load_ranged Half signed d r off h = refl
 load_ranged Word signed d r off h = refl
 
+-- a field that is not over 0
 zero_of : (n : ℕ) → nat_lt 0 n ≡ false → 0 ≡ n
 zero_of n h = grind (arith, nat_tests)
 
+-- the source field of a map reference
 is_five : (n : ℕ) → (n == 5) ≡ true → 5 ≡ n
 is_five n h = grind (arith, nat_tests)
 
+-- the source field of a number
 zero_kind : (n : ℕ) → (n == 5) ≡ false → not ((n == 0) || (n == 5)) ≡ false → 0 ≡ n
 zero_kind n h k = grind (arith, nat_tests)
 
+-- the low half of two
 wide_low : (a b : ℕ) → a < 2 ^ 32 → (a + 2 ^ 32 * b) % 2 ^ 32 ≡ a
 wide_low a b h = omega arith
 
+-- the high half of two
 wide_high : (a b : ℕ) → a < 2 ^ 32 → (a + 2 ^ 32 * b) / 2 ^ 32 ≡ b
 wide_high a b h = omega arith
 
+-- two slots are equal one by one
 two_slots : (a b s t : Slot) → a ≡ s → b ≡ t → a ∷ b ∷ [] ≡ s ∷ t ∷ []
 two_slots a b s t h k = ap (λ (x : Slot). x ∷ b ∷ []) h ∙ ap (λ (x : Slot). s ∷ x ∷ []) k
 
+-- a wide instruction
 reads_wide : (s : Slot) (next : Option Slot) → IsSlot s → s.opcode ≡ opcode_of form.Wide → IsClean form.Wide s next → Reads s next (insn_of form.Wide s next)
 reads_wide s None fits opcode clean = absurd (let e : true ≡ false = clean.whole in cc)
 reads_wide s (Some t) fits opcode clean = by_test (s.src == 5) refl second.4

@@ -29,6 +29,7 @@ abbrev pub FitNumbers : List Slot → Type 0
 FitNumbers [] = Unit {0}
 FitNumbers (s ∷ rest) = (s.offset < 2 ^ 16) × (s.imm < 2 ^ 32) × FitNumbers rest
 
+-- slots in front of equal bytes are equal, and so is what follows them
 pub same_front : (s t : Slot) (x y : List ℕ) → s.dst < 16 → t.dst < 16 → s.offset < 2 ^ 16 → t.offset < 2 ^ 16 → s.imm < 2 ^ 32 → t.imm < 2 ^ 32
     → slot_bytes s ++ x ≡ slot_bytes t ++ y → (s ≡ t) × (x ≡ y)
 same_front s t x y sd td so to si ti h =
@@ -43,33 +44,43 @@ same_front s t x y sd td so to si ti h =
     let imm : s.imm ≡ t.imm = sym (from_le_bytes-to_le_bytes_4 s.imm si) ∙ ap (from_le_bytes w32) imms ∙ from_le_bytes-to_le_bytes_4 t.imm ti in
     (same_slot t s.opcode s.dst s.src s.offset s.imm opcode dst src offset imm, rest)
 
+-- one option holds one instruction
 some_same : (a b : Insn) (o : Option Insn) → o ≡ Some a → o ≡ Some b → a ≡ b
 some_same a b o h k = let e : Some a ≡ Some b = sym h ∙ k in cc
 
+-- an offset fits its field
 fit16 : (z : ℤ) → FitsSigned w16 z → word16 z < 2 ^ 16
 fit16 z h = omega (arith, ints)
 
+-- an immediate fits its field
 fit32 : (z : ℤ) → FitsSigned w32 z → word32 z < 2 ^ 32
 fit32 z h = omega (arith, ints)
 
+-- a small number fits both fields
 small : (n : ℕ) → n ≤ 64 → (n < 2 ^ 16) × (n < 2 ^ 32)
 small n h = (omega arith, omega arith)
 
+-- a slot with neither
 zeros : (0 < 2 ^ 16) × (0 < 2 ^ 32) × Unit {0}
 zeros = (omega arith, omega arith, tt)
 
+-- a slot with an offset
 offset_fits : (z : ℤ) → FitsSigned w16 z → (word16 z < 2 ^ 16) × (0 < 2 ^ 32) × Unit {0}
 offset_fits z h = (fit16 z h, omega arith, tt)
 
+-- a slot with an immediate
 imm_fits : (z : ℤ) → FitsSigned w32 z → (0 < 2 ^ 16) × (word32 z < 2 ^ 32) × Unit {0}
 imm_fits z h = (omega arith, fit32 z h, tt)
 
+-- a variant's offset is small
 variant_small : (o : Operation) → variant_of o ≤ 64
 variant_small o = elim o as (λ x. variant_of x ≤ 64) [ op.Add ↦ omega arith | _ ↦ omega arith ]
 
+-- a number of bits is small
 bits_small : (b : Bits) → bits_number b ≤ 64
 bits_small b = elim b as (λ x. bits_number x ≤ 64) [ B8 ↦ omega arith | _ ↦ omega arith ]
 
+-- the numbers of an instruction fit the fields of its slots
 numbers_fit : (i : Insn) → Fits i → FitNumbers (spelled i)
 numbers_fit (insn.Alu w o d (Imm n)) fits = ((small (variant_of o) (variant_small o)).0, fit32 n fits, tt)
 numbers_fit (insn.Alu w o d (Reg s)) fits = ((small (variant_of o) (variant_small o)).0, omega arith, tt)
@@ -95,9 +106,11 @@ pub record IsRead (slots : List Slot) (i : Insn) : Type 0 where
   pub numbers : FitNumbers slots
   pub read_as : (next : Option Slot) → read (head_of slots) (after slots next) ≡ Some i
 
+-- equal slots are read as one instruction
 same_read : (s t : Slot) (next : Option Slot) (a b : Insn) → s ≡ t → read s next ≡ Some a → read t next ≡ Some b → a ≡ b
 same_read s t next a b e h k = some_same a b (read t next) (sym (ap (λ (u : Slot). read u next) e) ∙ h) k
 
+-- lists of slots in front of equal bytes are read as one instruction
 unique : (la lb : List Slot) (a b : Insn) (x y : List ℕ) → IsRead la a → IsRead lb b → flat_map slot_bytes la ++ x ≡ flat_map slot_bytes lb ++ y → a ≡ b
 unique [] lb a b x y h k e = absurd (let none = h.some in omega arith)
 unique (s ∷ la) [] a b x y h k e = absurd (let none = k.some in omega arith)
@@ -119,6 +132,7 @@ unique (s ∷ u ∷ la) (t ∷ v ∷ lb) a b x y h k e =
     let second = same_front u v (flat_map slot_bytes la ++ x) (flat_map slot_bytes lb ++ y) hr.0 kr.0 hn.0 kn.0 hn.1 kn.1 front.1 in
     same_read s t (Some v) a b front.0 (ap (λ (w : Slot). read s (Some w)) (sym second.0) ∙ h.read_as None) (k.read_as None)
 
+-- the slots of an instruction in range are read as that instruction
 pub is_read : (i : Insn) → is_insn i ≡ true → Fits i → IsRead (spelled i) i
 is_read i h fits = record {
   some = some_slot i;
@@ -134,19 +148,24 @@ is_read i h fits = record {
     some_slot (insn.Branch w c d (Reg s) off) = omega arith
     some_slot j = omega arith
 
+-- so no instruction's bytes begin another's
 pub one_spelling : OneSpelling
 one_spelling a b x y ha hb fa fb e = unique (spelled a) (spelled b) a b x y (is_read a ha fa) (is_read b hb fb) e
 
+-- slots have bytes
 not_empty : (slots : List Slot) (rest : List ℕ) → 1 ≤ length slots → [] ≡ flat_map slot_bytes slots ++ rest → ⊥
 not_empty [] rest some e = omega arith
 not_empty (s ∷ slots) rest some e = cc
 
+-- an instruction has bytes
 pub some_bytes : (i : Insn) (rest : List ℕ) → is_insn i ≡ true → Fits i → [] ≡ insn_bytes i ++ rest → ⊥
 some_bytes i rest h fits e = let read = is_read i h fits in not_empty (spelled i) rest read.some e
 
+-- equal beginnings are taken away
 pub cancelled : (front x y : List ℕ) → front ++ x ≡ front ++ y → x ≡ y
 cancelled front x y e = sym (drop_at front x (length front) refl) ∙ ap (drop (length front)) e ∙ drop_at front y (length front) refl
 
+-- instruction by instruction
 pub one_program : OneProgram
 one_program [] [] ha hb fa fb e = refl
 one_program [] (b ∷ bs) ha hb fa fb e = absurd (some_bytes b (spelling bs) (both (is_insn b) (list_all is_insn bs) hb).0 fb.0 e)

@@ -19,7 +19,8 @@ use Rattle.bq_insn.specs.declared.fault.Cause.{Cause}
 use Rattle.bq_insn.specs.declared.fault.Cause.TheVariants as cause
 use Rattle.bq_insn.specs.declared.fault.DecodeFault.{DecodeFault}
 use Rattle.bq_insn.specs.declared.fault.DecodeFault.TheVariants.{At, OutOfMemory}
-use Rattle.bq_insn.specs.Table.{form_of, uses_of}
+use Rattle.bq_insn.specs.Table.{form_of}
+use Rattle.bq_insn.specs.Uses.{uses_of}
 use Rattle.bq_insn.specs.Spelling.{slot_bytes, spelling, slot_count, is_insn, insn_bytes, is_well_formed}
 use Rattle.bq_insn.specs.Slots.{slots_of}
 use Rattle.bq_insn.specs.Laws.{Fits, AllFit}

@@ -1,6 +1,6 @@
 -- The table of opcodes (RFC 9669, sections 3.3, 4 and 5). An opcode has its class in the low three bits. In arithmetic
 -- and jumps the next bit says that the second operand is a register, and the high four bits are a code; in loads and
--- stores the next two bits are the size, and the high three the mode. After it: what the fields of each form are for.
+-- stores the next two bits are the size, and the high three the mode.
 use Rattle.std.specs.Prelude.{ℕ, ◌+◌, ◌*◌, ◌/◌, ◌%◌, Bool, true, false, ◌==◌, Option, Some, None, option_map, if◌then◌else◌}
 use Rattle.bq_insn.specs.declared.Width.{Width}
 use Rattle.bq_insn.specs.declared.Width.TheVariants.{W32, W64}
@@ -13,9 +13,6 @@ use Rattle.bq_insn.specs.declared.Size.{Size}
 use Rattle.bq_insn.specs.declared.Size.TheVariants.{Byte, Half, Word, Double}
 use Rattle.bq_insn.specs.declared.form.Form.{Form}
 use Rattle.bq_insn.specs.declared.form.Form.TheVariants.{Alu, Neg, End, Load, StoreImm, StoreReg, Wide, Goto, Goto32, Branch, Call, Exit}
-use Rattle.bq_insn.specs.declared.uses.Use.{Use}
-use Rattle.bq_insn.specs.declared.uses.Use.TheVariants.{Unused, Register, Value}
-use Rattle.bq_insn.specs.declared.uses.Uses.{Uses}
 
 -- the classes of arithmetic, ALU and ALU64 (section 3.3)
 abbrev pub alu_class : Width → ℕ
@@ -158,35 +155,3 @@ form_of n =
     else if n % 8 == 5 then jump_form_of W64 (n / 16) (n / 8 % 2 == 1)
     else if n % 8 == 6 then jump_form_of W32 (n / 16) (n / 8 % 2 == 1)
     else alu_form_of W64 (n / 16) (n / 8 % 2 == 1)
-
--- What the fields are for.
-
--- the second operand's two fields
-abbrev pub src_use : Bool → Use
-src_use by_register = if by_register then Register else Unused
-
-abbrev pub imm_use : Bool → Use
-imm_use by_register = if by_register then Unused else Value
-
--- the offset of division, remainder and move names a variant (section 4.1); no other arithmetic has one
-abbrev pub variant_use : Operation → Use
-variant_use op.Div = Value
-variant_use op.Rem = Value
-variant_use op.Mov = Value
-variant_use _ = Unused
-
--- by form: what is not used must be zero (section 3.1). The source field of a wide instruction and of a call names a kind
--- (sections 5.4 and 4.3)
-abbrev pub uses_of : Form → Uses
-uses_of (Alu w o by_register) = record { dst = Register; src = src_use by_register; offset = variant_use o; imm = imm_use by_register }
-uses_of (Neg w) = record { dst = Register; src = Unused; offset = Unused; imm = Unused }
-uses_of (End order) = record { dst = Register; src = Unused; offset = Unused; imm = Value }
-uses_of (Load size signed) = record { dst = Register; src = Register; offset = Value; imm = Unused }
-uses_of (StoreImm size) = record { dst = Register; src = Unused; offset = Value; imm = Value }
-uses_of (StoreReg size) = record { dst = Register; src = Register; offset = Value; imm = Unused }
-uses_of Wide = record { dst = Register; src = Value; offset = Unused; imm = Value }
-uses_of Goto = record { dst = Unused; src = Unused; offset = Value; imm = Unused }
-uses_of Goto32 = record { dst = Unused; src = Unused; offset = Unused; imm = Value }
-uses_of (Branch w c by_register) = record { dst = Register; src = src_use by_register; offset = Value; imm = imm_use by_register }
-uses_of Call = record { dst = Unused; src = Value; offset = Unused; imm = Value }
-uses_of Exit = record { dst = Unused; src = Unused; offset = Unused; imm = Unused }

@@ -1,6 +1,6 @@
 //! What the fields of each form are for.
 ghost use Rattle.std.specs.Prelude.{◌≡◌};
-ghost use Rattle.bq_insn.specs.Table.{uses_of, src_use, imm_use, variant_use};
+ghost use Rattle.bq_insn.specs.Uses.{row, uses_of, src_use, imm_use, variant_use};
 
 use crate::Operation;
 use crate::form::Form;
@@ -36,73 +36,41 @@ impl Form {
                 op,
                 by_register,
                 ..
-            } => Uses {
-                dst: Register,
-                src: src_use(by_register),
-                offset: variant_use(op),
-                imm: imm_use(by_register),
-            },
-            Form::Neg { .. } => Uses {
-                dst: Register,
-                src: Unused,
-                offset: Unused,
-                imm: Unused,
-            },
-            Form::End { .. } => Uses {
-                dst: Register,
-                src: Unused,
-                offset: Unused,
-                imm: Value,
-            },
-            Form::Load { .. } | Form::StoreReg { .. } => Uses {
-                dst: Register,
-                src: Register,
-                offset: Value,
-                imm: Unused,
-            },
-            Form::StoreImm { .. } => Uses {
-                dst: Register,
-                src: Unused,
-                offset: Value,
-                imm: Value,
-            },
-            Form::Wide => Uses {
-                dst: Register,
-                src: Value,
-                offset: Unused,
-                imm: Value,
-            },
-            Form::Goto => Uses {
-                dst: Unused,
-                src: Unused,
-                offset: Value,
-                imm: Unused,
-            },
-            Form::Goto32 => Uses {
-                dst: Unused,
-                src: Unused,
-                offset: Unused,
-                imm: Value,
-            },
-            Form::Branch { by_register, .. } => Uses {
-                dst: Register,
-                src: src_use(by_register),
-                offset: Value,
-                imm: imm_use(by_register),
-            },
-            Form::Call => Uses {
-                dst: Unused,
-                src: Value,
-                offset: Unused,
-                imm: Value,
-            },
-            Form::Exit => Uses {
-                dst: Unused,
-                src: Unused,
-                offset: Unused,
-                imm: Unused,
-            },
+            } => row(
+                Register,
+                src_use(by_register),
+                variant_use(op),
+                imm_use(by_register),
+            ),
+            Form::Neg { .. } => row(Register, Unused, Unused, Unused),
+            Form::End { .. } => row(Register, Unused, Unused, Value),
+            Form::Load { .. } => row(Register, Register, Value, Unused),
+            Form::StoreImm { .. } => row(Register, Unused, Value, Value),
+            Form::StoreReg { .. } => row(Register, Register, Value, Unused),
+            Form::Wide => row(Register, Value, Unused, Value),
+            Form::Goto => row(Unused, Unused, Value, Unused),
+            Form::Goto32 => row(Unused, Unused, Unused, Value),
+            Form::Branch { by_register, .. } => row(
+                Register,
+                src_use(by_register),
+                Value,
+                imm_use(by_register),
+            ),
+            Form::Call => row(Unused, Value, Unused, Value),
+            Form::Exit => row(Unused, Unused, Unused, Unused),
         }
+    }
+}
+
+/// What four fields are for.
+fn row(dst: Use, src: Use, offset: Use, imm: Use) -> Uses
+    ensures { result ≡ row dst src offset imm }
+{
+    Uses {
+        dst,
+        src,
+        offset,
+        imm,
     }
 }
 

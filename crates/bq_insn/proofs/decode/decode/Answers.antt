@@ -1,7 +1,7 @@
 use Rattle.std.proofs.Common.{◌≤◌, length, List, sym, subst, arith}
 use Rattle.bq_insn.specs.declared.Insn.{Insn}
 use Rattle.bq_insn.specs.Laws.{AllFit}
-use Rattle.bq_insn.proofs.ProgramLemmas.{numbers_more}
+use Rattle.bq_insn.proofs.NumberLemmas.{numbers_more}
 use Rattle.std.proofs.lemmas.Bool.Decides.{nat_tests}
 use Rattle.std.proofs.lemmas.Grind.{common_steps}
 use Rattle.bq_insn.proofs.FaultLemmas.{is_fault, has_length}
