@@ -1,0 +1,102 @@
+// The checks of the control graph and of single instructions, one after the other.
+
+ghost use Rattle.std.specs.Prelude.{◌≡◌, ◌<◌, ◌≤◌, ℕ, length, IsTrue, ◌↔◌, OnOk, IfErr, Some, None, slice_index_or};
+ghost use Rattle.bq_maps.specs.Machine.{instruction_at};
+ghost use Rattle.bq_graph.specs.Edges.{IsWhole};
+ghost use Rattle.bq_graph.specs.Paths.{IsMost};
+ghost use Rattle.bq_graph.specs.Faults.{HasFault, IsLateCall, IsLeast, IsFirstFault, IsFaultless, IsOnWay, IsUnreached};
+
+use crate::cause::Cause;
+use crate::edges::instruction;
+use crate::passes::{count_at, count_calls};
+use crate::single::{calls_unknown, is_bad_jump, is_counter_call, runs_out, writes_frame};
+use bq_insn::Insn;
+
+/// Where a program is at fault, and why.
+#[derive(Clone, Copy, Debug, PartialEq, Eq)]
+pub struct Fault {
+    pub slot: usize,
+    pub cause: Cause,
+}
+
+fn is_unreached(slots: &[Option<Insn>], most: &[Option<u32>], slot: usize, insn: Insn) -> bool
+    requires here { instruction_at slots.now slot ≡ Some insn }
+    requires inside { slot < length most.now }
+    requires most { IsMost slots.now slot (slice_index_or most.now slot None) }
+    ensures { IsTrue result ↔ IsUnreached slots.now slot }
+{
+    match count_at(most, slot) {
+        Some(_) => false,
+        None => true,
+    }
+}
+
+fn is_late_call(slots: &[Option<Insn>], most: &[Option<u32>], slot: usize, insn: Insn) -> bool
+    requires here { instruction_at slots.now slot ≡ Some insn }
+    requires inside { slot < length most.now }
+    requires most { IsMost slots.now slot (slice_index_or most.now slot None) }
+    ensures { IsTrue result ↔ IsLateCall slots.now slot }
+{
+    let Some(count) = count_at(most, slot) else {
+        return false;
+    };
+    is_counter_call(insn) && count >= 16
+}
+
+/// Whether the fault is at that slot. The list has the counter calls on the way to each slot, where the cause is one of the way.
+fn is_faulty(slots: &[Option<Insn>], most: &[Option<u32>], slot: usize, cause: Cause) -> bool
+    requires inside { slot < length slots.now }
+    requires short { length slots.now ≤ 4096 }
+    requires room { IsOnWay cause → length most.now ≡ length slots.now }
+    requires most { IsOnWay cause → (k : ℕ) → IsMost slots.now k (slice_index_or most.now k None) }
+    ensures { IsTrue result ↔ HasFault slots.now cause slot }
+{
+    let Some(insn) = instruction(slots, slot) else {
+        return false;
+    };
+    match cause {
+        Cause::Jump => is_bad_jump(slots, slot, insn),
+        Cause::NoExit => runs_out(slots, slot, insn),
+        Cause::Unreached => is_unreached(slots, most, slot, insn),
+        Cause::Frame => writes_frame(slots, slot, insn),
+        Cause::Helper => calls_unknown(slots, slot, insn),
+        Cause::Counters => is_late_call(slots, most, slot, insn),
+        _ => false,
+    }
+}
+
+/// One check of the whole program: the least slot with the fault is named.
+fn clear(slots: &[Option<Insn>], most: &[Option<u32>], cause: Cause) -> Result<(), Fault>
+    requires short { length slots.now ≤ 4096 }
+    requires room { IsOnWay cause → length most.now ≡ length slots.now }
+    requires most { IsOnWay cause → (k : ℕ) → IsMost slots.now k (slice_index_or most.now k None) }
+    ensures ok { OnOk result (IsLeast (HasFault slots.now cause) None) }
+    ensures cause { IfErr result (λ fault. fault.cause ≡ cause) }
+    ensures least { IfErr result (λ fault. IsLeast (HasFault slots.now cause) (Some fault.slot)) }
+{
+    for slot in 0..slots.len() {
+        if is_faulty(slots, most, slot, cause) {
+            return Err(Fault { slot, cause });
+        }
+    }
+    Ok(())
+}
+
+/// All checks in their order. The list, blank at first, has a place for each slot.
+pub fn check(slots: &[Option<Insn>], most: &mut [Option<u32>]) -> Result<(), Fault>
+    requires some { 0 < length slots.now }
+    requires short { length slots.now ≤ 4096 }
+    requires whole { IsWhole slots.now }
+    requires room { length most.old ≡ length slots.now }
+    requires blank { (k : ℕ) → slice_index_or most.old k None ≡ None }
+    ensures ok { OnOk result (IsFaultless slots.now) }
+    ensures first { IfErr result (λ fault. IsFirstFault slots.now fault.cause fault.slot) }
+{
+    clear(slots, most, Cause::Jump)?;
+    clear(slots, most, Cause::NoExit)?;
+    count_calls(slots, most);
+    clear(slots, most, Cause::Unreached)?;
+    clear(slots, most, Cause::Frame)?;
+    clear(slots, most, Cause::Helper)?;
+    clear(slots, most, Cause::Counters)
+}

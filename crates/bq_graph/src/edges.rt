@@ -1,0 +1,63 @@
+// Where control may go from a slot.
+
+ghost use Rattle.std.specs.Prelude.{◌≡◌, ◌<◌, ◌≤◌, ◌+◌, ℕ, length, IfSome, IfNone, IsTrue, ◌↔◌, Some};
+ghost use Rattle.bq_insn.specs.Slots.{slots_of};
+ghost use Rattle.bq_maps.specs.Machine.{LeadsTo, instruction_at};
+ghost use Rattle.bq_graph.specs.Edges.{distance_of, goes_on, IsStart};
+
+use bq_insn::Insn;
+
+/// How far a jump goes.
+pub fn distance(insn: Insn) -> Option<i64>
+    ensures { result ≡ distance_of insn }
+{
+    match insn {
+        Insn::Goto { off } => Some(i64::from(off)),
+        Insn::Goto32 { imm } => Some(i64::from(imm)),
+        Insn::Branch { off, .. } => Some(i64::from(off)),
+        _ => None,
+    }
+}
+
+/// Whether control may go on to the next instruction.
+pub fn may_go_on(insn: Insn) -> bool
+    ensures { result ≡ goes_on insn }
+{
+    match insn {
+        Insn::Goto { .. } | Insn::Goto32 { .. } | Insn::Exit => false,
+        _ => true,
+    }
+}
+
+/// The instruction that begins at a slot.
+pub fn instruction(slots: &[Option<Insn>], slot: usize) -> Option<Insn>
+    requires { slot < length slots.now }
+    ensures { result ≡ instruction_at slots.now slot }
+{
+    slots[slot]
+}
+
+/// The slot that a jump leads to, where a later instruction begins there.
+pub fn landing(slots: &[Option<Insn>], slot: usize, distance: i64) -> Option<usize>
+    requires here { slot < length slots.now }
+    requires short { length slots.now ≤ 4096 }
+    ensures some { IfSome result (λ to. LeadsTo slot distance to × (slot < to) × IsStart slots.now to) }
+    ensures none { IfNone result ((to : ℕ) → LeadsTo slot distance to → slot < to → ¬ IsStart slots.now to) }
+{
+    if distance < 0 || distance >= 4096 {
+        return None;
+    }
+    let to = slot + 1 + distance as usize;
+    if to >= slots.len() {
+        return None;
+    }
+    instruction(slots, to)?;
+    Some(to)
+}
+
+/// The slots that control may go to from a slot.
+#[derive(Clone, Copy)]
+pub struct Targets {
+    pub next: Option<usize>,
+    pub jump: Option<usize>,
+}

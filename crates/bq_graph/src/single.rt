@@ -1,0 +1,86 @@
+// Faults that one instruction has by itself.
+
+ghost use Rattle.std.specs.Prelude.{◌≡◌, ◌≢◌, ◌<◌, ◌≤◌, ◌+◌, ℕ, length, IsTrue, ◌↔◌, Some};
+ghost use Rattle.bq_maps.specs.Machine.{instruction_at};
+ghost use Rattle.bq_graph.specs.Paths.{asks_counter};
+ghost use Rattle.bq_graph.specs.Faults.{destination_of, is_helper, IsBadJump, RunsOut, WritesFrame, CallsUnknown, HasFault, IsLeast};
+
+use crate::cause::Cause;
+use crate::edges::{distance, instruction, landing, may_go_on};
+use bq_insn::Insn;
+
+/// The register that an instruction writes, if it names one.
+pub fn destination(insn: Insn) -> Option<u8>
+    ensures { result ≡ destination_of insn }
+{
+    match insn {
+        Insn::Alu { dst, .. }
+        | Insn::MovSx { dst, .. }
+        | Insn::Neg { dst, .. }
+        | Insn::End { dst, .. }
+        | Insn::Load { dst, .. }
+        | Insn::Imm64 { dst, .. }
+        | Insn::MapRef { dst, .. } => Some(dst),
+        _ => None,
+    }
+}
+
+/// Whether there is such a helper.
+pub fn is_known_helper(helper: i32) -> bool
+    ensures { result ≡ is_helper helper }
+{
+    helper == 1 || helper == 2 || helper == 5 || helper == 8 || helper == 100 || helper == 101
+}
+
+/// Whether an instruction asks a counter of the machine.
+pub fn is_counter_call(insn: Insn) -> bool
+    ensures { result ≡ asks_counter insn }
+{
+    match insn {
+        Insn::Call { helper } => helper == 100 || helper == 101,
+        _ => false,
+    }
+}
+
+pub fn is_bad_jump(slots: &[Option<Insn>], slot: usize, insn: Insn) -> bool
+    requires here { instruction_at slots.now slot ≡ Some insn }
+    requires inside { slot < length slots.now }
+    requires short { length slots.now ≤ 4096 }
+    ensures { IsTrue result ↔ IsBadJump slots.now slot }
+{
+    let Some(distance) = distance(insn) else {
+        return false;
+    };
+    match landing(slots, slot, distance) {
+        Some(_) => false,
+        None => true,
+    }
+}
+
+pub fn runs_out(slots: &[Option<Insn>], slot: usize, insn: Insn) -> bool
+    requires here { instruction_at slots.now slot ≡ Some insn }
+    requires short { slot < 4096 }
+    ensures { IsTrue result ↔ RunsOut slots.now slot }
+{
+    may_go_on(insn) && slot + insn.slots() >= slots.len()
+}
+
+pub fn writes_frame(slots: &[Option<Insn>], slot: usize, insn: Insn) -> bool
+    requires here { instruction_at slots.now slot ≡ Some insn }
+    ensures { IsTrue result ↔ WritesFrame slots.now slot }
+{
+    match destination(insn) {
+        Some(register) => register == 10,
+        None => false,
+    }
+}
+
+pub fn calls_unknown(slots: &[Option<Insn>], slot: usize, insn: Insn) -> bool
+    requires here { instruction_at slots.now slot ≡ Some insn }
+    ensures { IsTrue result ↔ CallsUnknown slots.now slot }
+{
+    match insn {
+        Insn::Call { helper } => !is_known_helper(helper),
+        _ => false,
+    }
+}
