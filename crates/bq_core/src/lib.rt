@@ -3,6 +3,7 @@
 //! Stands on the queues of bq_disc by their contract alone.
 #![tactic(auto)]
 
+mod admitting;
 pub mod arguments;
 pub mod carried;
 pub mod cpu;
@@ -17,7 +18,7 @@ pub mod policy;
 pub mod refusal;
 pub mod reply;
 pub mod runner;
-pub mod running;
+mod running;
 pub mod seat;
 pub mod unlinked;
 
