@@ -8,17 +8,20 @@ use Rattle.bq_disc.specs.Tasks.{Task, present, id_of}
 use Rattle.bq_disc.specs.Discipline.{Discipline}
 use Rattle.bq_disc.specs.OneProcessor.{Running, present_at, charge, decided, own_preempt, enter_all}
 use Rattle.bq_core.specs.declared.policy.Policy.{Policy}
-use Rattle.bq_core.specs.declared.event.Event.TheVariants.{Drain, Tick, Block}
+use Rattle.bq_core.specs.declared.carried.Carried.{Carried}
+use Rattle.bq_core.specs.declared.event.Event.TheVariants.{EndWake, Drain, Tick, Block}
 use Rattle.bq_core.specs.declared.reply.By.TheVariants as who
-use Rattle.bq_core.specs.declared.reply.Reply.TheVariants.{Drained, Ticked, Blocked as Went}
+use Rattle.bq_core.specs.declared.reply.Reply.TheVariants.{Placed, Drained, Ticked, Blocked as Went}
 use Rattle.bq_core.specs.declared.refusal.Refusal.TheVariants as no
 use Rattle.bq_core.specs.declared.seat.Seat.{Seat}
 use Rattle.bq_core.specs.declared.seat.Seat.TheVariants.{Blocked}
 use Rattle.bq_core.specs.Processors.{Processor, Program, count_of, HasEachOnce}
 use Rattle.bq_core.specs.World.{World, processor, inbox, count_in, with_processor, with_inbox, with_seat}
 use Rattle.bq_core.specs.Refusals.{argument_refusal, state_refusal, either, first_refusal}
+use Rattle.bq_core.specs.OwnChoices.{own_place}
 use Rattle.bq_core.specs.Choices.{as_number, unasked, SettlesPreempt, decided_by}
-use Rattle.bq_core.specs.StandsOnce.{IsOrderly}
+use Rattle.bq_core.specs.StandsOnce.{IsOrderly, HasPlace}
+use Rattle.bq_core.proofs.Places.{own_place_there}
 use Rattle.bq_core.proofs.Counts.{one, one_self, count_of-append, keeps_charge}
 use Rattle.bq_core.proofs.Once.{none_beyond_at}
 use Rattle.bq_core.specs.Steps.{WorldStep, without_policies, charged_at, after_leaving, as_it_leaves}
@@ -40,6 +43,11 @@ write_back v w i cpu x q e f h = rw (e, f, h) refl
 pub write_back_both : (v w : World) (i j cpu : ℕ) (x q : Processor) (xs ys : List Task) → v ≡ w → i ≡ cpu → j ≡ cpu → x ≡ q → xs ≡ ys →
     with_inbox (with_processor v i x) j xs ≡ with_inbox (with_processor w cpu q) cpu ys
 write_back_both v w i j cpu x q xs ys e f h k l = rw (e, f, h, k, l) refl
+
+-- a processor and another's inbox that were written back
+pub write_back_inbox : (v w : World) (i cpu j to : ℕ) (x q : Processor) (xs ys : List Task) → v ≡ w → i ≡ cpu → j ≡ to → x ≡ q → xs ≡ ys →
+    with_inbox (with_processor v i x) j xs ≡ with_inbox (with_processor w cpu q) to ys
+write_back_inbox v w i cpu j to x q xs ys e f h k l = rw (e, f, h, k, l) refl
 
 -- the processor once the discipline has decided who runs
 abbrev pub after_deciding : Discipline → Processor → Processor
@@ -130,3 +138,30 @@ block_step d w w' cpu now task run t h e i r v =
 pub block_idle : (d : Discipline) (w : World) (cpu now : ℕ) → cpu < count_in w → (processor w cpu).running.current ≡ None →
     WorldStep (without_policies d) w (Block cpu now) [] (Err no.Idle) w
 block_idle d w cpu now h e = (refl, refl, inl (rw (within w cpu h, e) refl))
+
+some_same : (m n : ℕ) → Some m ≡ Some n → m ≡ n
+some_same m n h = cc
+
+-- a task's own place is a processor of the machine
+pub own_place_below : (count : ℕ) (loads : List ℕ) (t : Task) (to : ℕ) → HasPlace count t → Some to ≡ own_place count loads t → to < count
+own_place_below count loads t to h e =
+    let there = own_place_there count loads t h in
+    omega (arith, there.2, some_same to there.0 (e ∙ there.1))
+
+-- what the processor becomes where the task of its hand is placed
+abbrev pub released : Discipline → World → ℕ → ℕ → Processor
+released d w cpu now = record (charged_at d w cpu now) { hand = None }
+
+pub end_step : (d : Discipline) (w w' : World) (cpu now task to : ℕ) (carried : Carried) → cpu < count_in w → (processor w cpu).hand ≡ Some carried →
+    task ≡ carried.task.id → Some to ≡ own_place (count_in w) carried.loads carried.task →
+    w' ≡ with_inbox (with_processor w cpu (released d w cpu now)) to (inbox w to ++ carried.task ∷ []) →
+    WorldStep (without_policies d) w (EndWake cpu now) [] (Ok (Placed task to who.Discipline 0)) w'
+end_step d w w' cpu now task to carried h e i o v =
+    let program = (processor w cpu).programs.place in
+    let own = unwrap_or (own_place (count_in w) carried.loads carried.task) 0 in
+    let choice : to ≡ own = ap (λ x. unwrap_or x 0) o in
+    (rw (within w cpu h, e) refl, (carried, unasked own program, e, i, (rw (no_policy program.policy) refl, choice, refl, refl, refl, v)))
+
+pub end_empty : (d : Discipline) (w : World) (cpu now : ℕ) → cpu < count_in w → (processor w cpu).hand ≡ None →
+    WorldStep (without_policies d) w (EndWake cpu now) [] (Err no.NothingInHand) w
+end_empty d w cpu now h e = (refl, refl, inl (rw (within w cpu h, e) refl))

@@ -14,6 +14,7 @@ pub mod laws;
 pub mod loads;
 pub mod lobby;
 pub mod parts;
+pub mod placing;
 pub mod policy;
 pub mod refusal;
 pub mod reply;
@@ -21,6 +22,7 @@ pub mod runner;
 mod running;
 pub mod seat;
 pub mod unlinked;
+mod waking;
 
 pub use arguments::argument_refusal;
 pub use carried::Carried;

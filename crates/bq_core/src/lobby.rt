@@ -1,5 +1,5 @@
 //! Where tasks stand that sleep.
-ghost use Rattle.std.specs.Prelude.{◌≡◌, ◌<◌, length, IfSome, IfNone, IfOk, replicate, slice_index_or, slice_set};
+ghost use Rattle.std.specs.Prelude.{◌≡◌, ◌<◌, false, length, IfOk, replicate, slice_index_or, slice_set};
 ghost use Rattle.bq_core.specs.Refusals.{is_absent, is_away};
 ghost use Rattle.bq_core.specs.declared.seat.Seat.TheVariants.{Absent, Blocked, Away};
 
@@ -71,19 +71,17 @@ impl Lobby {
         self.seats[usize::from(id)] = Seat::Absent;
     }
 
-    /// The task of a seat goes to a processor; None and nothing changed where there is none.
-    pub fn send(&mut self, id: u16) -> Option<Unlinked>
-        requires { id < 1024 }
-        ensures some { IfSome result (λ t. (slice_index_or self.old id Absent ≡ Blocked t) × (self.new ≡ slice_set self.old id Away)) }
-        ensures none { IfNone result (self.new ≡ self.old) }
+    /// The sleeping task of a seat goes to a processor.
+    pub fn send(&mut self, id: u16) -> Unlinked
+        requires seat { id < 1024 }
+        requires there { is_absent (slice_index_or self.old id Absent) ≡ false }
+        requires here { is_away (slice_index_or self.old id Absent) ≡ false }
+        ensures task { slice_index_or self.old id Absent ≡ Blocked result }
+        ensures seats { self.new ≡ slice_set self.old id Away }
     {
-        let place = &mut self.seats[usize::from(id)];
-        match std::mem::replace(place, Seat::Away) {
-            Seat::Blocked(task) => Some(task),
-            other => {
-                *place = other;
-                None
-            }
+        match std::mem::replace(&mut self.seats[usize::from(id)], Seat::Away) {
+            Seat::Blocked(task) => task,
+            Seat::Absent | Seat::Away => unreachable!(),
         }
     }
 }

@@ -1,0 +1,76 @@
+//! The two halves of a wake: a sleeping task comes into a processor's hand, and is placed.
+ghost use Rattle.std.specs.Prelude.{◌≡◌, ◌<◌, ◌≤◌, ◌^◌, ℕ, [], length, slice_index_or};
+ghost use Rattle.bq_core.specs.Processors.{opening, load_of};
+ghost use Rattle.bq_core.specs.World.{count_in, loads_of};
+ghost use Rattle.bq_core.specs.Steps.{WorldStep, without_policies};
+ghost use Rattle.bq_core.specs.StandsOnce.{IsOrderly};
+
+use crate::parts::Parts;
+use crate::placing::own_place;
+use crate::{By, Carried, Cpu, Event, Inbox, Loads, Refusal, Reply};
+use bq_disc::RunQueue;
+
+impl<Q: RunQueue, const P: usize> Parts<Q, P> {
+    /// A sleeping task comes into the hand of a processor, with the loads of that moment.
+    pub(crate) fn begin_wake(&mut self, processor: u8, task: u16) -> Result<Reply, Refusal>
+        requires orderly { IsOrderly self.old }
+        requires inside { processor < count_in self.old }
+        requires seat { task < 1024 }
+        ensures step { WorldStep (without_policies Q.R.discipline) self.old (Event.BeginWake processor task) [] result self.new }
+    {
+        if self.lobby.is_absent(task) {
+            return Err(Refusal::NoTask);
+        }
+        if self.lobby.is_away(task) {
+            return Err(Refusal::NotBlocked);
+        }
+        if self.cpus[usize::from(processor)].has_in_hand() {
+            return Err(Refusal::InHand);
+        }
+        let loads = loads_of(self.cpus.as_slice(), self.inboxes.as_slice());
+        let carried = Carried {
+            task: self.lobby.send(task),
+            loads: loads.copy(),
+        };
+        self.cpus[usize::from(processor)].begin(carried);
+        Ok(Reply::Begun { task, loads })
+    }
+
+    /// The task in the hand of a processor is placed: it stands at the end of the chosen processor's inbox.
+    pub(crate) fn end_wake(&mut self, processor: u8, now: u64) -> Result<Reply, Refusal>
+        requires orderly { IsOrderly self.old }
+        requires inside { processor < count_in self.old }
+        ensures step { WorldStep (without_policies Q.R.discipline) self.old (Event.EndWake processor now) [] result self.new }
+    {
+        let count = self.cpus.len();
+        let cpu = &mut self.cpus[usize::from(processor)];
+        let Some(carried) = cpu.release() else {
+            return Err(Refusal::NothingInHand);
+        };
+        cpu.charge(now);
+        let to = own_place(count, &carried);
+        let Carried { task, loads: _ } = carried;
+        let id = task.id();
+        self.inboxes[usize::from(to)].push(task);
+        Ok(Reply::Placed {
+            task: id,
+            to,
+            by: By::Discipline,
+            steps: 0,
+        })
+    }
+}
+
+/// The load of each processor.
+fn loads_of<Q: RunQueue>(cpus: &[Cpu<Q>], inboxes: &[Inbox]) -> Loads
+    requires same { length cpus.now ≡ length inboxes.now }
+    requires few { length cpus.now ≤ 64 }
+    requires small { (i : ℕ) → load_of (slice_index_or cpus.now i opening) (slice_index_or inboxes.now i []) < 2 ^ 32 }
+    ensures { result ≡ loads_of cpus.now inboxes.now }
+{
+    let mut loads = Loads::new();
+    for at in 0..cpus.len() {
+        loads.push(cpus[at].load(&inboxes[at]));
+    }
+    loads
+}
