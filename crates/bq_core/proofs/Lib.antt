@@ -7,3 +7,4 @@ pub mod Steps
 pub mod Tidy
 pub mod Moves
 pub mod Order
+pub mod Installs

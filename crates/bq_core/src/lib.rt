@@ -8,6 +8,7 @@ pub mod arguments;
 pub mod carried;
 pub mod cpu;
 pub mod event;
+pub mod generations;
 pub mod hooks;
 pub mod inbox;
 pub mod laws;
