@@ -1,0 +1,26 @@
+-- A wrong count of operands.
+use Rattle.std.proofs.Common.{◌≡◌, ℕ, suc, List, [], ◌∷◌, length, refl, ap, ◌∙◌}
+use Rattle.std.specs.Prelude.{Option, Result, Ok, Err, ℤ}
+use Rattle.bq_asm.specs.declared.fault.Cause.{Cause}
+use Rattle.bq_asm.specs.declared.fault.Cause.TheVariants as cause
+use Rattle.bq_asm.specs.declared.operand.Operand.{Operand}
+use Rattle.bq_asm.specs.declared.place.Kind.{Kind}
+use Rattle.bq_asm.specs.Operands.{operand_of, each_operand, with_next, lesser}
+
+lesser_word : (c : Cause) → lesser c cause.Word ≡ cause.Word
+lesser_word cause.Word = refl
+lesser_word cause.Number = refl
+lesser_word cause.LabelTwice = refl
+lesser_word cause.LabelMissing = refl
+lesser_word cause.Slots = refl
+
+word_wins : (r : Result Operand Cause) → with_next r (Err cause.Word) ≡ Err cause.Word
+word_wins (Ok o) = refl
+word_wins (Err c) = ap (λ (x : Cause). Err x) (lesser_word c)
+
+pub count_wrong : (ks : List Kind) (ws : List (List ℕ)) (d : Option ℤ) → (length ws ≡ length ks → ⊥) → each_operand ks ws d ≡ Err cause.Word
+count_wrong [] [] d h = absurd (h refl)
+count_wrong [] (w ∷ ws) d h = refl
+count_wrong (k ∷ ks) [] d h = refl
+count_wrong (k ∷ ks) (w ∷ ws) d h =
+    ap (with_next (operand_of k w d)) (count_wrong ks ws d (λ e. h (ap suc e))) ∙ word_wins (operand_of k w d)

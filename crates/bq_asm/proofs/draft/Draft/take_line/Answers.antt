@@ -1,0 +1,20 @@
+use Rattle.std.proofs.Common.{◌≡◌, ◌<◌, ◌∙◌, sym, ap, refl, subst, length}
+use Rattle.std.specs.Result.{OnOk, IfErr}
+use Rattle.bq_asm.specs.Lines.{Line, words, line_of, line_said}
+use Rattle.bq_asm.specs.Operands.{texts}
+use Rattle.bq_asm.specs.Draft.{TakesLine, RefusesLine}
+use Rattle.bq_asm.proofs.DraftLemmas.{many_words}
+use Rattle.bq_asm.proofs.draft.Draft.take_line.Goals as goal
+
+pub returns-in_default-clause-fault : goal.returns-in_default-clause-fault
+returns-in_default-clause-fault c = (refl, λ before is. many_words before _ (subst (λ text. 4 < length (words text)) c.without_comment.ensures c.in_default.ensures))
+
+pub returns-clause-ok : goal.returns-clause-ok
+returns-clause-ok c =
+    let same : line_of (texts c.as_slice.result.now) ≡ line_said c.args.line.now = ap (λ ws. line_of (texts ws)) c.as_slice.ensures.value ∙ ap line_of (c.in-Some.ensures ∙ ap words c.without_comment.ensures) in
+    subst (λ line. OnOk c.take_words.result (TakesLine c.args.self.now c.take_words.new.self c.args.number line)) same c.take_words.ensures.ok
+
+pub returns-clause-fault : goal.returns-clause-fault
+returns-clause-fault c =
+    let same : line_of (texts c.as_slice.result.now) ≡ line_said c.args.line.now = ap (λ ws. line_of (texts ws)) c.as_slice.ensures.value ∙ ap line_of (c.in-Some.ensures ∙ ap words c.without_comment.ensures) in
+    subst (λ line. IfErr c.take_words.result (RefusesLine c.args.self.now c.args.number line)) same c.take_words.ensures.fault

@@ -1,0 +1,40 @@
+-- What the first pass keeps of the lines that it has read.
+use Rattle.std.specs.Prelude.{◌≡◌, ℕ, ◌+◌, pos, List, [], ◌∷◌, ◌++◌, length, map, Some, None, Result, Ok, Err}
+use Rattle.std.specs.Borrow.{Bor}
+use Rattle.std.specs.declared.hash.FoldHasher.{FoldHasher}
+use Rattle.std.specs.declared.hash.BuildHasherDefault.{BuildHasherDefault}
+use Rattle.indexmap.specs.IndexMap.{IndexMap}
+use Rattle.bq_insn.specs.declared.Insn.{Insn}
+use Rattle.bq_asm.specs.declared.fault.Cause.{Cause}
+use Rattle.bq_asm.specs.declared.fault.AsmFault.{AsmFault}
+use Rattle.bq_asm.specs.declared.fault.AsmFault.TheVariants.{At, OutOfMemory}
+use Rattle.bq_asm.specs.declared.draft.Draft.{Draft}
+use Rattle.bq_asm.specs.Lines.{Line, Blank, Label, Instruction}
+use Rattle.bq_asm.specs.Operands.{instruction_of}
+use Rattle.bq_asm.specs.Assembly.{places_from}
+use Rattle.bq_asm.specs.Faults.{slots_in, cause_at}
+use Rattle.bq_asm.specs.Jumps.{awaited_by, drafts_of, jumps_from}
+
+abbrev pub Labels : Type 0
+Labels = IndexMap (Bor (List ℕ)) ℕ (BuildHasherDefault FoldHasher)
+
+-- the labels of a map, each with its slot
+abbrev pub places_of : Labels → List (List ℕ × ℕ)
+places_of m = map (λ e. (e.0.now, e.1)) m.entries
+
+-- the draft is that of these lines
+pub record Describes (lines : List Line) (draft : Draft) : Type 0 where
+  pub labels : places_of draft.labels ≡ places_from 0 lines
+  pub slots : draft.slots ≡ slots_in lines
+  pub insns : draft.insns.items ≡ drafts_of lines
+  pub jumps : map awaited_by draft.jumps.items ≡ jumps_from 0 0 1 lines
+
+-- the draft of lines and of one more, which has no fault
+abbrev pub TakesLine : Draft → Draft → ℕ → Line → Type 0
+TakesLine old new number line =
+    (before : List Line) → Describes before old → number ≡ length before + 1 → (cause_at before line ≡ None) × Describes (before ++ line ∷ []) new
+
+-- the fault of a line after others
+abbrev pub RefusesLine : Draft → ℕ → Line → AsmFault → Type 0
+RefusesLine draft number line OutOfMemory = Unit {0}
+RefusesLine draft number line (At k c) = (k ≡ number) × ((before : List Line) → Describes before draft → cause_at before line ≡ Some c)

@@ -1,0 +1,82 @@
+-- The jumps to labels that lines say, and how they are set once all labels are known.
+use Rattle.std.specs.Prelude.{◌≡◌, ℕ, ◌+◌, ℤ, pos, ◌-ℤ◌, Bool, true, false, List, [], ◌∷◌, ◌++◌, Option, Some, None, Result, Ok, Err, slice_index_or, slice_set, length, if◌then◌else◌}
+use Rattle.std.specs.List.{flat_map}
+use Rattle.std.specs.Map.{lookup}
+use Rattle.std.specs.Str.{bytes_eq}
+use Rattle.bq_insn.specs.declared.Insn.{Insn}
+use Rattle.bq_insn.specs.declared.Insn.TheVariants as insn
+use Rattle.bq_insn.specs.Slots.{slots_of}
+use Rattle.bq_asm.specs.declared.fault.Cause.{Cause}
+use Rattle.bq_asm.specs.declared.jump.Jump.{Jump}
+use Rattle.bq_asm.specs.Lines.{Line, Blank, Label, Instruction, last_word}
+use Rattle.bq_asm.specs.Operands.{is_label, instruction_of}
+use Rattle.bq_asm.specs.Assembly.{slots_of_line}
+
+abbrev pub is_jump : Insn → Bool
+is_jump (insn.Goto off) = true
+is_jump (insn.Goto32 n) = true
+is_jump (insn.Branch w c d src off) = true
+is_jump i = false
+
+-- the label that stands in the place of a jump's target
+abbrev pub target_of : Insn → List (List ℕ) → Option (List ℕ)
+target_of i operands = if is_jump i then (if is_label (last_word operands) then Some (last_word operands) else None) else None
+
+-- a jump with this distance
+abbrev pub aimed : Insn → ℤ → Insn
+aimed (insn.Goto off) z = insn.Goto z
+aimed (insn.Goto32 n) z = insn.Goto32 z
+aimed (insn.Branch w c d src off) z = insn.Branch w c d src z
+aimed i z = i
+
+-- a jump whose label is to be found: its place among the instructions, the slot after it, its line and the label
+pub record Awaited : Type 0 where
+  pub index : ℕ
+  pub next : ℕ
+  pub line : ℕ
+  pub label : List ℕ
+
+abbrev pub awaited_by : Jump → Awaited
+awaited_by j = record { index = j.index; next = j.next; line = j.line; label = j.label.now }
+
+abbrev pub awaited_at : ℕ → ℕ → ℕ → Option (List ℕ) → List Awaited
+awaited_at index next line None = []
+awaited_at index next line (Some label) = record { index = index; next = next; line = line; label = label } ∷ []
+
+abbrev pub insn_read : Result Insn Cause → List Insn
+insn_read (Err c) = []
+insn_read (Ok i) = i ∷ []
+
+-- the instruction of a line, where a label stands for the distance 0
+abbrev pub draft_of : Line → List Insn
+draft_of (Instruction first operands) = insn_read (instruction_of first operands (Some (pos 0)))
+draft_of line = []
+
+-- the instructions of lines, where each label stands for the distance 0
+abbrev pub drafts_of : List Line → List Insn
+drafts_of lines = flat_map draft_of lines
+
+abbrev pub jump_read : ℕ → ℕ → ℕ → List (List ℕ) → Result Insn Cause → List Awaited
+jump_read index slot line operands (Err c) = []
+jump_read index slot line operands (Ok i) = awaited_at index (slot + slots_of i) line (target_of i operands)
+
+-- the jump to a label at a line that has these numbers
+abbrev pub jump_at : ℕ → ℕ → ℕ → Line → List Awaited
+jump_at index slot line (Instruction first operands) = jump_read index slot line operands (instruction_of first operands (Some (pos 0)))
+jump_at index slot line other = []
+
+-- the jumps to labels in lines, of which the first has these numbers
+abbrev pub jumps_from : ℕ → ℕ → ℕ → List Line → List Awaited
+jumps_from index slot number [] = []
+jumps_from index slot number (line ∷ lines) =
+    jump_at index slot number line ++ jumps_from (index + length (draft_of line)) (slot + slots_of_line line) (number + 1) lines
+
+-- the instructions with this jump set, and then the others, or the line of a jump whose label has no place
+abbrev pub with_jump : Awaited → List Insn → (List Insn → Result (List Insn) ℕ) → Option ℕ → Result (List Insn) ℕ
+with_jump j insns others None = Err j.line
+with_jump j insns others (Some at) = others (slice_set insns j.index (aimed (slice_index_or insns j.index insn.Exit) (pos at -ℤ pos j.next)))
+
+-- the instructions with each of these jumps set, or the line of the first whose label has no place
+abbrev pub with_jumps : List (List ℕ × ℕ) → List Awaited → List Insn → Result (List Insn) ℕ
+with_jumps places [] insns = Ok insns
+with_jumps places (j ∷ jumps) insns = with_jump j insns (λ changed. with_jumps places jumps changed) (lookup (bytes_eq j.label) places)

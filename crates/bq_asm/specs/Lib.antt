@@ -1,0 +1,12 @@
+pub mod Laws
+pub mod Named
+pub mod Names
+pub mod Numbers
+pub mod Operands
+pub mod Text
+pub mod Lines
+pub mod Words
+pub mod Assembly
+pub mod Faults
+pub mod Jumps
+pub mod Draft

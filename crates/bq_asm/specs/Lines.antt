@@ -1,0 +1,51 @@
+-- What the lines of a program's text say. A line ends at a line feed or at the text's end, and loses one carriage return
+-- before the line feed. A semicolon begins a comment, and spaces, tabs and commas stand between words.
+use Rattle.std.specs.Prelude.{ℕ, ◌-◌, Bool, ◌||◌, ◌&&◌, ◌==◌, nat_lt, nat_le, List, [], ◌∷◌, length, take, drop, slice_get, slice_index, unwrap_or, filter, map, Option, Some, None, if◌then◌else◌, codes}
+use Rattle.std.specs.List.{slice_split, before_first, list_all}
+use Rattle.std.specs.Str.{bytes_eq}
+use Rattle.std.specs.Str.Lines.{lines}
+
+abbrev pub is_comment : ℕ → Bool
+is_comment b = b == 59
+
+-- a space, a tab or a comma
+abbrev pub is_blank : ℕ → Bool
+is_blank b = (b == 32) || ((b == 9) || (b == 44))
+
+-- what stands between blanks
+abbrev pub words : List ℕ → List (List ℕ)
+words text = filter (λ word. nat_lt 0 (length word)) (slice_split is_blank text)
+
+-- what a line says: nothing, a label that it sets, or an instruction by its first word and its operands
+pub data Line : Type 0 where
+  Blank : Line
+  Label : List ℕ → Line
+  Instruction : List ℕ → List (List ℕ) → Line
+
+-- what stands before a colon at the end of a word
+abbrev pub before_colon : List ℕ → Option (List ℕ)
+before_colon word = if bytes_eq (drop (length word - 1) word) (codes ":") then Some (take (length word - 1) word) else None
+
+-- the label that a line sets: its one word up to a colon
+abbrev pub label_set : List ℕ → List (List ℕ) → Option (List ℕ)
+label_set first [] = before_colon first
+label_set first (second ∷ operands) = None
+
+abbrev pub said : List ℕ → List (List ℕ) → Option (List ℕ) → Line
+said first operands None = Instruction first operands
+said first operands (Some name) = Label name
+
+abbrev pub line_of : List (List ℕ) → Line
+line_of [] = Blank
+line_of (first ∷ operands) = said first operands (label_set first operands)
+
+-- what one line of the text says
+abbrev pub line_said : List ℕ → Line
+line_said line = line_of (words (before_first is_comment line))
+
+-- what the lines of a text say
+abbrev pub lines_of : List ℕ → List Line
+lines_of text = map line_said (lines text)
+
+abbrev pub last_word : List (List ℕ) → List ℕ
+last_word operands = unwrap_or (slice_get operands (length operands - 1)) []

@@ -1,0 +1,89 @@
+-- The canonical text of instructions.
+use Rattle.std.specs.Prelude.{ℕ, Bool, true, false, List, [], ◌∷◌, ◌++◌, ℤ, pos, negsuc, codes}
+use Rattle.std.specs.List.{flat_map}
+use Rattle.std.specs.Fmt.{decimal, signed_decimal}
+use Rattle.bq_insn.specs.declared.Source.{Source}
+use Rattle.bq_insn.specs.declared.Source.TheVariants.{Imm, Reg}
+use Rattle.bq_insn.specs.declared.Insn.{Insn}
+use Rattle.bq_insn.specs.declared.Insn.TheVariants.{Alu, MovSx, Neg, End, Load, StoreImm, StoreReg, Imm64, MapRef, Goto, Goto32, Branch, Call, Exit}
+use Rattle.bq_asm.specs.declared.mnemonic.Mnemonic.{Mnemonic}
+use Rattle.bq_asm.specs.declared.mnemonic.Mnemonic.TheVariants as name
+use Rattle.bq_asm.specs.declared.operand.Operand.{Operand}
+use Rattle.bq_asm.specs.declared.operand.Operands.{Operands}
+use Rattle.bq_asm.specs.declared.operand.Operands.TheVariants.{Zero, One, Two, Three}
+use Rattle.bq_asm.specs.declared.operand.Operand.TheVariants.{Register, Number, Wide, Memory, Near, Far}
+use Rattle.bq_asm.specs.Names.{name_of}
+
+-- a number with its sign
+abbrev pub signed_text : ℤ → List ℕ
+signed_text (pos n) = codes "+" ++ decimal n
+signed_text (negsuc n) = signed_decimal (negsuc n)
+
+abbrev pub operand_text : Operand → List ℕ
+operand_text (Register r) = codes "r" ++ decimal r
+operand_text (Number z) = signed_decimal z
+operand_text (Wide n) = decimal n
+operand_text (Memory base offset) = codes "[r" ++ (decimal base ++ (signed_text offset ++ codes "]"))
+operand_text (Near z) = signed_text z
+operand_text (Far z) = signed_text z
+
+abbrev pub source_operand : Source → Operand
+source_operand (Imm n) = Number n
+source_operand (Reg r) = Register r
+
+-- the first word of an instruction, and the words after it
+abbrev pub mnemonic_of : Insn → Mnemonic
+mnemonic_of (Alu w o d src) = name.Alu w o
+mnemonic_of (MovSx w b d s) = name.MovSx w b
+mnemonic_of (Neg w d) = name.Neg w
+mnemonic_of (End order b d) = name.End order b
+mnemonic_of (Load size false d s off) = name.Load size
+mnemonic_of (Load size true d s off) = name.LoadSigned size
+mnemonic_of (StoreImm size d off n) = name.StoreImm size
+mnemonic_of (StoreReg size d off s) = name.StoreReg size
+mnemonic_of (Imm64 d v) = name.Imm64
+mnemonic_of (MapRef d i) = name.MapRef
+mnemonic_of (Goto off) = name.Goto
+mnemonic_of (Goto32 n) = name.Goto32
+mnemonic_of (Branch w c d src off) = name.Branch w c
+mnemonic_of (Call helper) = name.Call
+mnemonic_of Exit = name.Exit
+
+abbrev pub operands_of : Insn → List Operand
+operands_of (Alu w o d src) = Register d ∷ source_operand src ∷ []
+operands_of (MovSx w b d s) = Register d ∷ Register s ∷ []
+operands_of (Neg w d) = Register d ∷ []
+operands_of (End order b d) = Register d ∷ []
+operands_of (Load size signed d s off) = Register d ∷ Memory s off ∷ []
+operands_of (StoreImm size d off n) = Memory d off ∷ Number n ∷ []
+operands_of (StoreReg size d off s) = Memory d off ∷ Register s ∷ []
+operands_of (Imm64 d v) = Register d ∷ Wide v ∷ []
+operands_of (MapRef d i) = Register d ∷ Number i ∷ []
+operands_of (Goto off) = Near off ∷ []
+operands_of (Goto32 n) = Far n ∷ []
+operands_of (Branch w c d src off) = Register d ∷ source_operand src ∷ Near off ∷ []
+operands_of (Call helper) = Number helper ∷ []
+operands_of Exit = []
+
+-- a blank before the first operand, a comma and a blank before each other
+abbrev pub after_first : List Operand → List ℕ
+after_first [] = []
+after_first (o ∷ rest) = codes ", " ++ (operand_text o ++ after_first rest)
+
+abbrev pub operands_text : List Operand → List ℕ
+operands_text [] = []
+operands_text (o ∷ rest) = codes " " ++ (operand_text o ++ after_first rest)
+
+-- the line of an instruction, with its end
+abbrev pub line_text : Insn → List ℕ
+line_text insn = name_of (mnemonic_of insn) ++ (operands_text (operands_of insn) ++ codes "\n")
+
+-- the canonical text of a program
+abbrev pub listing_text : List Insn → List ℕ
+listing_text insns = flat_map line_text insns
+
+abbrev pub list_of : Operands → List Operand
+list_of Zero = []
+list_of (One a) = a ∷ []
+list_of (Two a b) = a ∷ b ∷ []
+list_of (Three a b c) = a ∷ b ∷ c ∷ []

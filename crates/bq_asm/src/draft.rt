@@ -1,0 +1,139 @@
+//! What is known of the lines that have been read: labels, instructions, and the jumps that wait for labels.
+ghost use Rattle.std.specs.Prelude.{◌≡◌, ◌≤◌, ◌<◌, ◌+◌, [], Some, pos, length, map, option_map, IfOk, IfErr, OnOk};
+ghost use Rattle.bq_asm.specs.Lines.{label_set, said, line_of, line_said, Instruction, Label};
+ghost use Rattle.bq_asm.specs.Operands.{texts};
+
+use crate::fault::{AsmFault, Cause};
+use crate::instruction::instruction_of;
+use crate::jump::{Jump, push_jump, target_of};
+use crate::line::{is_label, without_comment, words};
+use bq_insn::Insn;
+use indexmap::IndexMap;
+use std::alloc::Global;
+
+/// The most slots of a program.
+const SLOTS: usize = 4096;
+
+/// What is known of the lines that have been read.
+#[derive(Drop)]
+pub struct Draft<'a> {
+    /// The labels that are set, each with its slot.
+    pub labels: IndexMap<&'a [u8], usize>,
+    /// The instructions. A jump to a label has the distance 0.
+    pub insns: Vec<Insn>,
+    /// The slots that they take.
+    pub slots: usize,
+    /// The jumps to labels.
+    pub jumps: Vec<Jump<'a>>,
+    ghost few: { slots ≤ 4096 },
+}
+
+impl<'a> Draft<'a> {
+    ghost use Rattle.bq_asm.specs.Draft.{Describes, TakesLine, RefusesLine};
+
+    /// The draft of no lines.
+    pub fn new(alloc: Global) -> Self
+        ensures { Describes [] result }
+    {
+        Draft {
+            labels: IndexMap::new(alloc),
+            insns: Vec::new(alloc),
+            slots: 0,
+            jumps: Vec::new(alloc),
+        }
+    }
+
+    /// Takes the line of this number, or answers its least cause.
+    pub fn take_line(&mut self, number: usize, line: &'a [u8]) -> Result<(), AsmFault>
+        ensures ok { OnOk result (TakesLine self.old self.new number (line_said line.entry.now)) }
+        ensures fault { IfErr result (RefusesLine self.old number (line_said line.entry.now)) }
+    {
+        let Some(words) = words(without_comment(line)) else {
+            return Err(AsmFault::At {
+                line: number,
+                cause: Cause::Word,
+            });
+        };
+        self.take_words(number, words.as_slice())
+    }
+
+    fn take_words(&mut self, number: usize, words: &[&'a [u8]]) -> Result<(), AsmFault>
+        ensures ok { OnOk result (TakesLine self.old self.new number (line_of (texts words.entry.now))) }
+        ensures fault { IfErr result (RefusesLine self.old number (line_of (texts words.entry.now))) }
+    {
+        let [first, operands @ ..] = words else {
+            return Ok(());
+        };
+        match label_set(first, operands) {
+            Some(name) => self.set_label(number, name),
+            None => self.take_instruction(number, first, operands),
+        }
+    }
+
+    fn set_label(&mut self, number: usize, name: &'a [u8]) -> Result<(), AsmFault>
+        ensures ok { OnOk result (TakesLine self.old self.new number (Label name.entry.now)) }
+        ensures fault { IfErr result (RefusesLine self.old number (Label name.entry.now)) }
+    {
+        if !is_label(name) {
+            return Err(AsmFault::At {
+                line: number,
+                cause: Cause::Word,
+            });
+        }
+        if self.labels.insert(name, self.slots)?.is_some() {
+            return Err(AsmFault::At {
+                line: number,
+                cause: Cause::LabelTwice,
+            });
+        }
+        Ok(())
+    }
+
+    fn take_instruction(
+        &mut self,
+        number: usize,
+        first: &[u8],
+        operands: &[&'a [u8]],
+    ) -> Result<(), AsmFault>
+        ensures ok { OnOk result (TakesLine self.old self.new number (Instruction first.now (texts operands.entry.now))) }
+        ensures fault { IfErr result (RefusesLine self.old number (Instruction first.now (texts operands.entry.now))) }
+    {
+        let insn = match instruction_of(first, operands) {
+            Ok(insn) => insn,
+            Err(cause) => {
+                return Err(AsmFault::At {
+                    line: number,
+                    cause,
+                });
+            }
+        };
+        let next = self.slots + insn.slots();
+        if next > SLOTS {
+            return Err(AsmFault::At {
+                line: number,
+                cause: Cause::Slots,
+            });
+        }
+        let index = self.insns.len();
+        push_jump(
+            &mut self.jumps,
+            index,
+            next,
+            number,
+            target_of(insn, operands),
+        )?;
+        self.insns.push(insn)?;
+        self.slots = next;
+        Ok(())
+    }
+}
+
+/// The label that a line sets, if it sets one.
+fn label_set<'a>(first: &'a [u8], operands: &[&'a [u8]]) -> Option<&'a [u8]>
+    ensures { option_map (λ name. name.now) result ≡ label_set first.entry.now (texts operands.entry.now) }
+{
+    if operands.is_empty() {
+        return first.strip_suffix(b":");
+    }
+    None
+}

@@ -1,0 +1,54 @@
+//! Why a text is refused.
+use std::alloc::{AllocError, AllocFailed};
+use thiserror::Error;
+
+/// What is wrong with a line. Of several causes at a line the first in this order counts.
+#[derive(Clone, Copy, Debug, PartialEq, Eq)]
+pub enum Cause {
+    /// A1: the first word is unknown, there are too few or too many operands, an operand has another form than
+    /// is wanted in its place, or a label is no name.
+    Word,
+    /// A2: what stands in a number's place begins as a number, and is none of the range.
+    Number,
+    /// A3: the label was set before.
+    LabelTwice,
+    /// A4: the label of a jump is set nowhere.
+    LabelMissing,
+    /// A5: the instruction ends past slot 4096; at line 0, the text has no instruction.
+    Slots,
+}
+
+/// Why a text is refused.
+#[derive(Clone, Copy, Debug, PartialEq, Eq, Error)]
+pub enum AsmFault {
+    /// The first line with a fault, counted from 1, and the least of its causes. Only where no line has one of
+    /// the others, a text with no instruction is `Slots` at line 0, and else the first jump whose label is set
+    /// nowhere is `LabelMissing`.
+    #[error("line {line}: {cause:?}")]
+    At { line: usize, cause: Cause },
+    /// A growth was refused.
+    #[error("out of memory")]
+    OutOfMemory,
+}
+
+impl From<AllocError> for AsmFault {
+    ghost use Rattle.std.specs.Prelude.{◌≡◌};
+    ghost use Rattle.bq_asm.specs.declared.fault.AsmFault.TheVariants.{OutOfMemory};
+
+    ghost from_gives = { λ _ e. e ≡ OutOfMemory };
+
+    fn from(_error: AllocError) -> AsmFault {
+        AsmFault::OutOfMemory
+    }
+}
+
+impl<T: Drop> From<AllocFailed<T>> for AsmFault {
+    ghost use Rattle.std.specs.Prelude.{◌≡◌};
+    ghost use Rattle.bq_asm.specs.declared.fault.AsmFault.TheVariants.{OutOfMemory};
+
+    ghost from_gives = { λ _ e. e ≡ OutOfMemory };
+
+    fn from(_error: AllocFailed<T>) -> AsmFault {
+        AsmFault::OutOfMemory
+    }
+}

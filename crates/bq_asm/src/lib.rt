@@ -1,0 +1,20 @@
+//! Programs as text: the assembler and the listing of the instructions of RFC 9669.
+//! `assemble` gives exactly the instructions that a text stands for, or its first fault, and `listing` gives
+//! the text of instructions that assembles back to them. Stands on `bq_insn`.
+#![tactic(auto)]
+
+mod canonical;
+mod draft;
+mod fault;
+mod instruction;
+mod jump;
+pub mod laws;
+mod line;
+mod mnemonic;
+mod number;
+mod operand;
+mod place;
+mod table;
+
+pub use canonical::listing;
+pub use fault::{AsmFault, Cause};

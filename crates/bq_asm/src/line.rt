@@ -1,0 +1,115 @@
+//! The words of a line, and which words are names of labels.
+ghost use Rattle.std.specs.Prelude.{◌≡◌, ◌<◌, ◌∷◌, [], length, position, MatchOption};
+ghost use Rattle.std.specs.List.{list_all, before_first};
+ghost use Rattle.bq_asm.specs.Lines.{is_comment, is_blank, words};
+ghost use Rattle.bq_asm.specs.Operands.{is_letter, is_label_byte, is_label, texts};
+ghost use Rattle.bq_asm.specs.Words.{StartsWithWord, IsWordLen};
+
+use arrayvec::ArrayVec;
+
+/// The most words of a line that says something: a first word and three operands.
+const WORDS: usize = 4;
+
+/// The line up to its comment.
+pub fn without_comment(line: &[u8]) -> &[u8]
+    ensures { result.now ≡ before_first is_comment line.now }
+{
+    match comment_at(line) {
+        Some(at) => &line[..at],
+        None => line,
+    }
+}
+
+fn comment_at(line: &[u8]) -> Option<usize>
+    ensures { result ≡ position is_comment line.now }
+{
+    line.iter().position(|b| is_comment(*b))
+}
+
+/// The words of a text without comments, or `None` where they are more than a line may have.
+pub fn words(text: &[u8]) -> Option<ArrayVec<&[u8], WORDS>>
+    ensures { MatchOption result (4 < length (words text.now)) (λ found. texts found.items ≡ words text.now) }
+{
+    let mut found = ArrayVec::new();
+    let mut rest = text;
+    while let Some((word, more)) = next_word(rest) {
+        if found.is_full() {
+            return None;
+        }
+        found.push(word);
+        rest = more;
+    }
+    Some(found)
+}
+
+/// The first word, and what follows it.
+fn next_word(text: &[u8]) -> Option<(&[u8], &[u8])>
+    ensures { MatchOption result (words text.now ≡ []) (λ p. words text.now ≡ p.0.now ∷ words p.1.now) }
+{
+    let text = without_blanks(text);
+    let len = word_len(text);
+    if len == 0 {
+        return None;
+    }
+    Some((&text[..len], &text[len..]))
+}
+
+fn without_blanks(text: &[u8]) -> &[u8]
+    ensures same { words result.now ≡ words text.now }
+    ensures word { StartsWithWord result.now }
+{
+    let mut rest = text;
+    while let [first, more @ ..] = rest {
+        if !is_blank(*first) {
+            return rest;
+        }
+        rest = more;
+    }
+    rest
+}
+
+fn word_len(text: &[u8]) -> usize
+    ensures word { IsWordLen text.now result }
+{
+    match text.iter().position(|b| is_blank(*b)) {
+        Some(at) => at,
+        None => text.len(),
+    }
+}
+
+fn is_blank(byte: u8) -> bool
+    ensures { result ≡ is_blank byte }
+{
+    byte == b' ' || byte == b'\t' || byte == b','
+}
+
+fn is_comment(byte: u8) -> bool
+    ensures { result ≡ is_comment byte }
+{
+    byte == b';'
+}
+
+fn is_letter(byte: u8) -> bool
+    ensures { result ≡ is_letter byte }
+{
+    (byte >= b'A' && byte <= b'Z') || (byte >= b'a' && byte <= b'z') || byte == b'_'
+}
+
+fn is_label_byte(byte: u8) -> bool
+    ensures { result ≡ is_label_byte byte }
+{
+    is_letter(byte) || (byte >= b'0' && byte <= b'9')
+}
+
+fn are_label_bytes(word: &[u8]) -> bool
+    ensures { result ≡ list_all is_label_byte word.now }
+{
+    word.iter().all(|b| is_label_byte(*b))
+}
+
+/// A letter or `_`, then up to 31 letters, digits or `_`.
+pub fn is_label(word: &[u8]) -> bool
+    ensures { result ≡ is_label word.now }
+{
+    word.len() >= 1 && word.len() <= 32 && is_letter(word[0]) && are_label_bytes(word)
+}

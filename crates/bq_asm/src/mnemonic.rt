@@ -1,0 +1,136 @@
+//! The first words of instructions.
+ghost use Rattle.std.specs.Prelude.{◌≡◌, Some};
+ghost use Rattle.bq_asm.specs.Names.{op_name, cond_name, width_name, size_name, order_name, bits_name, name_of};
+
+use bq_insn::{Bits, Condition, Operation, Order, Size, Width};
+use std::fmt;
+
+/// What the first word of an instruction says: the instruction without its operands.
+#[derive(Clone, Copy, Debug, PartialEq, Eq)]
+pub enum Mnemonic {
+    Alu(Width, Operation),
+    MovSx(Width, Bits),
+    Neg(Width),
+    End(Order, Bits),
+    Load(Size),
+    LoadSigned(Size),
+    StoreImm(Size),
+    StoreReg(Size),
+    Imm64,
+    MapRef,
+    Goto,
+    Goto32,
+    Branch(Width, Condition),
+    Call,
+    Exit,
+}
+
+fn op_name(op: Operation) -> &'static str
+    ensures { result.now ≡ op_name op }
+{
+    match op {
+        Operation::Add => "add",
+        Operation::Sub => "sub",
+        Operation::Mul => "mul",
+        Operation::Div => "div",
+        Operation::Sdiv => "sdiv",
+        Operation::Or => "or",
+        Operation::And => "and",
+        Operation::Lsh => "lsh",
+        Operation::Rsh => "rsh",
+        Operation::Rem => "mod",
+        Operation::Srem => "smod",
+        Operation::Xor => "xor",
+        Operation::Mov => "mov",
+        Operation::Arsh => "arsh",
+    }
+}
+
+fn cond_name(cond: Condition) -> &'static str
+    ensures { result.now ≡ cond_name cond }
+{
+    match cond {
+        Condition::Equal => "jeq",
+        Condition::Greater => "jgt",
+        Condition::GreaterEqual => "jge",
+        Condition::AnyBit => "jset",
+        Condition::NotEqual => "jne",
+        Condition::SignedGreater => "jsgt",
+        Condition::SignedGreaterEqual => "jsge",
+        Condition::Less => "jlt",
+        Condition::LessEqual => "jle",
+        Condition::SignedLess => "jslt",
+        Condition::SignedLessEqual => "jsle",
+    }
+}
+
+fn width_name(width: Width) -> &'static str
+    ensures { result.now ≡ width_name width }
+{
+    match width {
+        Width::W32 => "32",
+        Width::W64 => "64",
+    }
+}
+
+fn size_name(size: Size) -> &'static str
+    ensures { result.now ≡ size_name size }
+{
+    match size {
+        Size::Byte => "b",
+        Size::Half => "h",
+        Size::Word => "w",
+        Size::Double => "dw",
+    }
+}
+
+fn order_name(order: Order) -> &'static str
+    ensures { result.now ≡ order_name order }
+{
+    match order {
+        Order::Little => "le",
+        Order::Big => "be",
+        Order::Swapped => "swap",
+    }
+}
+
+fn bits_name(bits: Bits) -> &'static str
+    ensures { result.now ≡ bits_name bits }
+{
+    match bits {
+        Bits::B8 => "8",
+        Bits::B16 => "16",
+        Bits::B32 => "32",
+        Bits::B64 => "64",
+    }
+}
+
+impl fmt::Display for Mnemonic {
+    ghost use Rattle.bq_asm.specs.Names.{name_of};
+
+    ghost output = { λ m. Some (name_of m) };
+
+    fn fmt<W: fmt::Write>(&self, f: &mut fmt::Formatter<W>) -> fmt::Result {
+        match *self {
+            Mnemonic::Alu(width, op) => write!(f, "{}{}", op_name(op), width_name(width)),
+            Mnemonic::MovSx(width, bits) => {
+                write!(f, "movsx{}_{}", width_name(width), bits_name(bits))
+            }
+            Mnemonic::Neg(width) => write!(f, "neg{}", width_name(width)),
+            Mnemonic::End(order, bits) => write!(f, "{}{}", order_name(order), bits_name(bits)),
+            Mnemonic::Load(size) => write!(f, "ldx{}", size_name(size)),
+            Mnemonic::LoadSigned(size) => write!(f, "ldxs{}", size_name(size)),
+            Mnemonic::StoreImm(size) => write!(f, "st{}", size_name(size)),
+            Mnemonic::StoreReg(size) => write!(f, "stx{}", size_name(size)),
+            Mnemonic::Imm64 => write!(f, "lddw"),
+            Mnemonic::MapRef => write!(f, "ldmap"),
+            Mnemonic::Goto => write!(f, "ja"),
+            Mnemonic::Goto32 => write!(f, "ja32"),
+            Mnemonic::Branch(width, cond) => {
+                write!(f, "{}{}", cond_name(cond), width_name(width))
+            }
+            Mnemonic::Call => write!(f, "call"),
+            Mnemonic::Exit => write!(f, "exit"),
+        }
+    }
+}

@@ -1,0 +1,124 @@
+//! The numbers and registers that words write.
+ghost use Rattle.std.specs.Prelude.{◌≡◌, ◌≤◌};
+ghost use Rattle.bq_asm.specs.Numbers.{number_of, magnitude_of, imm_of, offset_of, distance_of, wide_of, register_of, begins_number};
+
+/// The number that the word writes in this base.
+fn number(word: &[u8], base: u32) -> Option<u64>
+    requires low { 2 ≤ base }
+    requires high { base ≤ 36 }
+    ensures { result ≡ number_of base word.now }
+{
+    if word.is_empty() {
+        return None;
+    }
+    let mut value: u64 = 0;
+    for byte in word {
+        let digit = char::from(*byte).to_digit(base)?;
+        value = value
+            .checked_mul(u64::from(base))?
+            .checked_add(u64::from(digit))?;
+    }
+    Some(value)
+}
+
+fn magnitude_of(word: &[u8]) -> Option<u64>
+    ensures { result ≡ magnitude_of word.now }
+{
+    match word.strip_prefix(b"0x") {
+        Some(digits) => number(digits, 16),
+        None => number(word, 10),
+    }
+}
+
+/// A number from -2^31 to 2^31 - 1.
+pub fn imm_of(word: &[u8]) -> Option<i32>
+    ensures { result ≡ imm_of word.now }
+{
+    match word.strip_prefix(b"-") {
+        Some(digits) => {
+            let size = magnitude_of(digits)?;
+            if size > 0x8000_0000 {
+                return None;
+            }
+            Some((-(size as i64)) as i32)
+        }
+        None => i32::try_from(magnitude_of(word)?).ok(),
+    }
+}
+
+/// A number with a sign, from -2^15 to 2^15 - 1.
+pub fn offset_of(word: &[u8]) -> Option<i16>
+    ensures { result ≡ offset_of word.now }
+{
+    if let Some(digits) = word.strip_prefix(b"-") {
+        let size = magnitude_of(digits)?;
+        if size > 0x8000 {
+            return None;
+        }
+        return Some((-(size as i64)) as i16);
+    }
+    let digits = word.strip_prefix(b"+")?;
+    i16::try_from(magnitude_of(digits)?).ok()
+}
+
+/// A number with a sign, from -2^31 to 2^31 - 1.
+pub fn distance_of(word: &[u8]) -> Option<i32>
+    ensures { result ≡ distance_of word.now }
+{
+    if let Some(digits) = word.strip_prefix(b"-") {
+        let size = magnitude_of(digits)?;
+        if size > 0x8000_0000 {
+            return None;
+        }
+        return Some((-(size as i64)) as i32);
+    }
+    let digits = word.strip_prefix(b"+")?;
+    i32::try_from(magnitude_of(digits)?).ok()
+}
+
+/// A number from 0 to 2^64 - 1.
+pub fn wide_of(word: &[u8]) -> Option<u64>
+    ensures { result ≡ wide_of word.now }
+{
+    match word.strip_prefix(b"-") {
+        Some(digits) => {
+            let size = magnitude_of(digits)?;
+            if size > 0 {
+                return None;
+            }
+            Some(size)
+        }
+        None => magnitude_of(word),
+    }
+}
+
+/// The register that the word names.
+pub fn register_of(word: &[u8]) -> Option<u8>
+    ensures { result ≡ register_of word.now }
+{
+    match word {
+        [r, d] => {
+            if *r == b'r' && *d >= b'0' && *d <= b'9' {
+                return Some(*d - b'0');
+            }
+            None
+        }
+        [r, d, e] => {
+            if *r == b'r' && *d == b'1' && *e == b'0' {
+                return Some(10);
+            }
+            None
+        }
+        _ => None,
+    }
+}
+
+/// It begins with a digit or a sign.
+pub fn begins_number(word: &[u8]) -> bool
+    ensures { result ≡ begins_number word.now }
+{
+    match word {
+        [] => false,
+        [first, ..] => (*first >= b'0' && *first <= b'9') || *first == b'+' || *first == b'-',
+    }
+}

@@ -1,0 +1,132 @@
+//! The operand that a word writes, by what stands in its place.
+ghost use Rattle.std.specs.Prelude.{◌≡◌, option_map, position, Some, pos};
+ghost use Rattle.bq_asm.specs.Operands.{number_place, is_sign, inside, based, operand_of};
+
+use crate::fault::Cause;
+use crate::line::is_label;
+use crate::number::{begins_number, distance_of, imm_of, offset_of, register_of, wide_of};
+use crate::operand::Operand;
+
+/// What an operand is to be.
+#[derive(Clone, Copy, Debug, PartialEq, Eq)]
+pub enum Kind {
+    /// A register.
+    Register,
+    /// A register, or a number of 32 bits.
+    Source,
+    /// A number of 32 bits.
+    Number,
+    /// A number of 64 bits without a sign.
+    Wide,
+    /// A register in brackets, and an offset of 16 bits.
+    Memory,
+    /// A distance of 16 bits, or a label.
+    Near,
+    /// A distance of 32 bits, or a label.
+    Far,
+}
+
+/// The operand of this kind that a word writes. A label stands for the distance 0 until all labels are known.
+pub fn operand_of(kind: Kind, word: &[u8]) -> Result<Operand, Cause>
+    ensures { result ≡ operand_of kind word.now (Some (pos 0)) }
+{
+    match kind {
+        Kind::Register => register_place(word),
+        Kind::Source => source_place(word),
+        Kind::Number => number_place(imm_of(word).map(Operand::Number), word),
+        Kind::Wide => number_place(wide_of(word).map(Operand::Wide), word),
+        Kind::Memory => memory_place(word),
+        Kind::Near => {
+            if is_label(word) {
+                return Ok(Operand::Near(0));
+            }
+            number_place(offset_of(word).map(Operand::Near), word)
+        }
+        Kind::Far => {
+            if is_label(word) {
+                return Ok(Operand::Far(0));
+            }
+            number_place(distance_of(word).map(Operand::Far), word)
+        }
+    }
+}
+
+fn number_place(value: Option<Operand>, word: &[u8]) -> Result<Operand, Cause>
+    ensures { result ≡ number_place value word.now }
+{
+    match value {
+        Some(operand) => Ok(operand),
+        None => {
+            if begins_number(word) {
+                return Err(Cause::Number);
+            }
+            Err(Cause::Word)
+        }
+    }
+}
+
+fn register_place(word: &[u8]) -> Result<Operand, Cause>
+    ensures { result ≡ operand_of Kind.Register word.now (Some (pos 0)) }
+{
+    match register_of(word) {
+        Some(register) => Ok(Operand::Register(register)),
+        None => Err(Cause::Word),
+    }
+}
+
+fn source_place(word: &[u8]) -> Result<Operand, Cause>
+    ensures { result ≡ operand_of Kind.Source word.now (Some (pos 0)) }
+{
+    match register_of(word) {
+        Some(register) => Ok(Operand::Register(register)),
+        None => number_place(imm_of(word).map(Operand::Number), word),
+    }
+}
+
+fn memory_place(word: &[u8]) -> Result<Operand, Cause>
+    ensures { result ≡ operand_of Kind.Memory word.now (Some (pos 0)) }
+{
+    let Some(inner) = inside(word) else {
+        return Err(Cause::Word);
+    };
+    match first_sign(inner) {
+        None => based(register_of(inner), b"".as_slice()),
+        Some(at) => based(register_of(&inner[..at]), &inner[at..]),
+    }
+}
+
+fn inside(word: &[u8]) -> Option<&[u8]>
+    ensures { option_map (λ w. w.now) result ≡ inside word.now }
+{
+    if word.len() >= 2 && word[0] == b'[' && word[word.len() - 1] == b']' {
+        return Some(&word[1..word.len() - 1]);
+    }
+    None
+}
+
+fn first_sign(inner: &[u8]) -> Option<usize>
+    ensures { result ≡ position is_sign inner.now }
+{
+    inner.iter().position(|b| is_sign(*b))
+}
+
+fn is_sign(byte: u8) -> bool
+    ensures { result ≡ is_sign byte }
+{
+    byte == b'+' || byte == b'-'
+}
+
+fn based(register: Option<u8>, rest: &[u8]) -> Result<Operand, Cause>
+    ensures { result ≡ based register rest.now }
+{
+    let Some(base) = register else {
+        return Err(Cause::Word);
+    };
+    if rest.is_empty() {
+        return Ok(Operand::Memory { base, offset: 0 });
+    }
+    match offset_of(rest) {
+        Some(offset) => Ok(Operand::Memory { base, offset }),
+        None => number_place(None, rest),
+    }
+}
