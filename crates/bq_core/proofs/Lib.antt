@@ -8,3 +8,5 @@ pub mod Tidy
 pub mod Moves
 pub mod Order
 pub mod Installs
+pub mod Permitted
+pub mod Events

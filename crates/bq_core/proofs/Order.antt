@@ -1,10 +1,185 @@
 -- The laws of order.
-use Rattle.std.proofs.Common.{[], subst, sym}
+use Rattle.std.proofs.Common.{◌≡◌, ◌≢◌, ℕ, ◌<◌, ◌%◌, ◌^◌, Bool, true, false, cond, List, [], ◌∷◌, length, Option, Some, None, refl, subst, sym, arith}
+use Rattle.std.specs.Prelude.{ℤ, Result, Ok, Err, ◌==◌, not, nat_le, is_some, unwrap_or}
 use Rattle.std.proofs.lemmas.List.{length-replicate}
-use Rattle.bq_core.specs.Processors.{opening}
-use Rattle.bq_core.specs.World.{opening_world}
-use Rattle.bq_core.specs.Laws.{OpeningIsOrderly}
-use Rattle.bq_core.proofs.Tidy.{IsTidy, orderly_of, opening_tidy}
+use Rattle.std.proofs.lemmas.Nat.{pow_pos, mod_below}
+use Rattle.std.proofs.lemmas.Bool.Decides.{nat_tests}
+use Rattle.bq_disc.specs.OneProcessor.{Running, marked}
+use Rattle.bq_core.specs.declared.carried.Carried.{Carried}
+use Rattle.bq_core.specs.declared.event.Hook.{Hook}
+use Rattle.bq_core.specs.declared.event.Event.{Event}
+use Rattle.bq_core.specs.declared.policy.Policy.{Policy}
+use Rattle.bq_core.specs.declared.reply.By.{By}
+use Rattle.bq_core.specs.declared.event.Event.TheVariants.{Admit, Retire, Draw, Install, BeginWake, EndWake, Drain, Tick, Block, Pull}
+use Rattle.bq_core.specs.declared.reply.Reply.{Reply}
+use Rattle.bq_core.specs.declared.reply.Reply.TheVariants.{Admitted, Retired, Drawn, Installed, Begun, Placed, Drained, Ticked, Blocked as Went, Pulled as Moved}
+use Rattle.bq_core.specs.declared.refusal.Refusal.{Refusal}
+use Rattle.bq_core.specs.declared.refusal.Refusal.TheVariants as no
+use Rattle.bq_core.specs.Calls.{CounterCall}
+use Rattle.bq_core.specs.Processors.{Processor, Program, HasEachOnce, opening, with_program}
+use Rattle.bq_core.specs.World.{World, opening_world, processor, seat, count_in}
+use Rattle.bq_core.specs.Refusals.{refusal, argument_refusal, state_refusal, either, is_absent, is_away}
+use Rattle.bq_core.specs.OwnChoices.{own_place, own_pull}
+use Rattle.bq_core.specs.Choices.{Setting, Settled}
+use Rattle.bq_core.specs.Steps.{WorldStep, Performs, charged_at, admitted, may_go, may_move, nobody}
+use Rattle.bq_core.specs.StandsOnce.{IsOrderly, HasPlace}
+use Rattle.bq_core.specs.Laws.{OpeningIsOrderly, StepKeeps, RunKeeps, StepKeepsOrder, RunKeepsOrder, under_any_answers}
+use Rattle.bq_core.proofs.Counts.{each_once_queue}
+use Rattle.bq_core.proofs.Once.{each_once_running}
+use Rattle.bq_core.proofs.Tidy.{IsTidy, tidy_of, orderly_of, opening_tidy}
+use Rattle.bq_core.proofs.Permitted.{settled_permitted, own_place_permitted, own_pull_permitted, may_go_fits}
+use Rattle.bq_core.proofs.Events
 
 pub opening_is_orderly : OpeningIsOrderly
 opening_is_orderly n = orderly_of (opening_world n) (subst (λ c. IsTidy c [] (opening_world n)) (sym (length-replicate n opening)) (opening_tidy n 1024))
+
+neither : (o p : Option Refusal) → either o p ≡ None → (o ≡ None) × (p ≡ None)
+neither None p h = (refl, h)
+neither (Some r) p h = cc
+
+-- none is refused: neither by its arguments nor by the world
+accepted : (w : World) (e : Event) → refusal w e ≡ None → (argument_refusal (count_in w) e ≡ None) × (state_refusal w e ≡ None)
+accepted w e h = neither (argument_refusal (count_in w) e) (state_refusal w e) h
+
+-- the first of some refusals doesn't hold, and none of the others does
+passed : (b : Bool) (r : Refusal) (rest : Option Refusal) → cond b (Some r) rest ≡ None → (b ≡ false) × (rest ≡ None)
+passed true r rest h = cc
+passed false r rest h = (refl, h)
+
+in_range : (count cpu : ℕ) → nat_le count cpu ≡ false → cpu < count
+in_range count cpu h = grind (arith, nat_tests)
+
+differ : (a b : ℕ) → (a == b) ≡ false → a ≢ b
+differ a b h = grind (arith, nat_tests)
+
+not_false : (b : Bool) → not b ≡ false → b ≡ true
+not_false true h = refl
+not_false false h = cc
+
+-- a processor that is not refused is there
+there : (count cpu : ℕ) (rest : Option Refusal) → cond (nat_le count cpu) (Some no.NoProcessor) rest ≡ None → (cpu < count) × (rest ≡ None)
+there count cpu rest h = let f = passed (nat_le count cpu) no.NoProcessor rest h in (in_range count cpu f.0, f.1)
+
+-- the mask of a task that is admitted has a processor of the machine
+admitted_has_place : (count id : ℕ) (nice : ℤ) (mask slice : ℕ) → argument_refusal count (Admit id nice mask slice) ≡ None → HasPlace count (admitted count id nice mask slice)
+admitted_has_place count id nice mask slice h =
+    let some = (passed (mask % 2 ^ count == 0) no.EmptyMask _ (passed (nat_le 1024 id) no.NoTask _ h).1).0 in
+    (mod_below mask (2 ^ count) (pow_pos count), differ (mask % 2 ^ count) 0 some)
+
+abbrev Keeps : World → World → Type 0
+Keeps w w' = IsTidy (count_in w) [] w'
+
+admit_keeps : (s : Setting) (w : World) (id : ℕ) (nice : ℤ) (mask slice : ℕ) (calls : List CounterCall) (w' : World) → IsTidy (count_in w) [] w → refusal w (Admit id nice mask slice) ≡ None →
+    Performs s w (Admit id nice mask slice) calls Admitted w' → Keeps w w'
+admit_keeps s w id nice mask slice calls w' y h k =
+    let f = accepted w (Admit id nice mask slice) h in
+    let absent = not_false (is_absent (seat w id)) (passed (not (is_absent (seat w id))) no.TaskExists None f.1).0 in
+    subst (Keeps w) (sym k.1) (Events.admit_tidy (count_in w) w id (admitted (count_in w) id nice mask slice) y absent refl (admitted_has_place (count_in w) id nice mask slice f.0))
+
+retire_keeps : (s : Setting) (w : World) (id : ℕ) (calls : List CounterCall) (w' : World) → IsTidy (count_in w) [] w → refusal w (Retire id) ≡ None → Performs s w (Retire id) calls Retired w' → Keeps w w'
+retire_keeps s w id calls w' y h k =
+    let f = accepted w (Retire id) h in
+    let later = (passed (is_absent (seat w id)) no.NoTask _ f.1).1 in
+    subst (Keeps w) (sym k.1) (Events.retire_tidy (count_in w) w id y (passed (is_away (seat w id)) no.NotBlocked None later).0)
+
+install_keeps : (s : Setting) (w : World) (cpu : ℕ) (hook : Hook) (g : ℕ) (policy : Option Policy) (calls : List CounterCall) (w' : World) → IsTidy (count_in w) [] w → refusal w (Install cpu hook g policy) ≡ None →
+    Performs s w (Install cpu hook g policy) calls Installed w' → Keeps w w'
+install_keeps s w cpu hook g policy calls w' y h k =
+    let new : Program = record { policy = policy; generation = g; maps = s.fresh_maps policy } in
+    let l = (there (count_in w) cpu _ (accepted w (Install cpu hook g policy) h).0).0 in
+    subst (Keeps w) (sym k.1) (Events.install_tidy (count_in w) w cpu (with_program hook (processor w cpu).programs new) y l)
+
+begin_wake_keeps : (s : Setting) (w : World) (cpu id : ℕ) (calls : List CounterCall) (task : ℕ) (loads : List ℕ) (w' : World) → IsTidy (count_in w) [] w → refusal w (BeginWake cpu id) ≡ None →
+    Performs s w (BeginWake cpu id) calls (Begun task loads) w' → Keeps w w'
+begin_wake_keeps s w cpu id calls task loads w' y h k =
+    let f = accepted w (BeginWake cpu id) h in
+    let l = (there (count_in w) cpu _ f.0).0 in
+    let later = (passed (is_away (seat w id)) no.NotBlocked _ (passed (is_absent (seat w id)) no.NoTask _ f.1).1).1 in
+    subst (Keeps w) (sym k.5) (Events.begin_wake_tidy (count_in w) w cpu id k.0 loads y l k.2 (passed (is_some (processor w cpu).hand) no.InHand None later).0)
+
+end_wake_keeps : (s : Setting) (w : World) (cpu now : ℕ) (calls : List CounterCall) (task to : ℕ) (by : By) (steps : ℕ) (w' : World) → IsTidy (count_in w) [] w → refusal w (EndWake cpu now) ≡ None →
+    Performs s w (EndWake cpu now) calls (Placed task to by steps) w' → Keeps w w'
+end_wake_keeps s w cpu now calls task to by steps w' y h k =
+    let l = (there (count_in w) cpu None (accepted w (EndWake cpu now) h).0).0 in
+    let p : Processor = charged_at s.discipline w cpu now in
+    let carried : Carried = k.0 in
+    let settled : Settled = k.1 in
+    let own : ℕ = unwrap_or (own_place (count_in w) carried.loads carried.task) 0 in
+    let goes = settled_permitted s (s.place_context w cpu carried own) p.programs.place p.running.last cpu (may_go (count_in w) carried.task) own settled
+    (own_place_permitted (count_in w) carried.loads carried.task (y.hand cpu carried k.2)) k.4.0 in
+    let fits = may_go_fits (count_in w) carried.task to (subst (λ n. may_go (count_in w) carried.task n ≡ true) (sym k.4.1) goes) in
+    subst (Keeps w) (sym k.4.5) (Events.end_wake_tidy s.discipline (count_in w) w cpu now to carried (record p.programs { place = settled.program }) y l k.2 fits.0 fits.1)
+
+drain_keeps : (s : Setting) (w : World) (cpu now : ℕ) (calls : List CounterCall) (count : ℕ) (run : Option ℕ) (by : By) (steps : ℕ) (w' : World) → IsTidy (count_in w) [] w → refusal w (Drain cpu now) ≡ None →
+    Performs s w (Drain cpu now) calls (Drained count run by steps) w' → Keeps w w'
+drain_keeps s w cpu now calls count run by steps w' y h k =
+    let l = (there (count_in w) cpu None (accepted w (Drain cpu now) h).0).0 in
+    subst (Keeps w) (sym k.1.6) (Events.drain_tidy s (count_in w) w cpu now k.0 y l)
+
+tick_keeps : (s : Setting) (w : World) (cpu now : ℕ) (calls : List CounterCall) (run : Option ℕ) (by : By) (steps : ℕ) (w' : World) → IsTidy (count_in w) [] w → refusal w (Tick cpu now) ≡ None →
+    Performs s w (Tick cpu now) calls (Ticked run by steps) w' → Keeps w w'
+tick_keeps s w cpu now calls run by steps w' y h k =
+    let l = (there (count_in w) cpu None (accepted w (Tick cpu now) h).0).0 in
+    subst (Keeps w) (sym k.1.5) (Events.tick_tidy s (count_in w) w cpu now k.0 y l)
+
+block_keeps : (s : Setting) (w : World) (cpu now : ℕ) (calls : List CounterCall) (task : ℕ) (run : Option ℕ) (w' : World) → IsTidy (count_in w) [] w → refusal w (Block cpu now) ≡ None →
+    Performs s w (Block cpu now) calls (Went task run) w' → Keeps w w'
+block_keeps s w cpu now calls task run w' y h k =
+    let l = (there (count_in w) cpu None (accepted w (Block cpu now) h).0).0 in
+    subst (Keeps w) (sym k.1.4) (Events.block_tidy s.discipline (count_in w) w cpu now k.0 y l k.1.1)
+
+pull_keeps : (s : Setting) (w : World) (cpu from now : ℕ) (calls : List CounterCall) (task : Option ℕ) (run : Option ℕ) (by : By) (steps : ℕ) (w' : World) → IsOrderly w → IsTidy (count_in w) [] w →
+    refusal w (Pull cpu from now) ≡ None → Performs s w (Pull cpu from now) calls (Moved task run by steps) w' → Keeps w w'
+pull_keeps s w cpu from now calls task run by steps w' o y h k =
+    let f = there (count_in w) cpu _ (accepted w (Pull cpu from now) h).0 in
+    let g = there (count_in w) from _ f.1 in
+    let apart = differ cpu from (passed (cpu == from) no.SameProcessor None g.1).0 in
+    let p : Processor = charged_at s.discipline w cpu now in
+    let other : Processor = processor w from in
+    let source : Running = marked s.discipline other.running in
+    let settled : Settled = k.0 in
+    let own : Option ℕ = own_pull cpu p (record other { running = source }) in
+    let may = settled_permitted s (s.pull_context w cpu from own) p.programs.pull p.running.last cpu (may_move cpu source.queue) (unwrap_or own nobody) settled
+    (own_pull_permitted cpu p (record other { running = source })) k.1.0 in
+    let once : HasEachOnce other.running.queue = each_once_queue other.running (each_once_running w from o) in
+    subst (Keeps w) (sym k.1.6) (Events.pull_tidy s.discipline (count_in w) w cpu from now settled.choice task (record p.programs { pull = settled.program }) y f.0 g.0 apart once may (sym k.1.1))
+
+-- an event that is not refused keeps a world tidy
+performs_tidy : (s : Setting) (w : World) (e : Event) (calls : List CounterCall) (r : Reply) (w' : World) → IsOrderly w → IsTidy (count_in w) [] w → refusal w e ≡ None → Performs s w e calls r w' → Keeps w w'
+performs_tidy s w (Admit id nice mask slice) calls Admitted w' o y h k = admit_keeps s w id nice mask slice calls w' y h k
+performs_tidy s w (Retire id) calls Retired w' o y h k = retire_keeps s w id calls w' y h k
+performs_tidy s w Draw calls (Drawn n) w' o y h k = subst (Keeps w) (sym k.2) (Events.draw_tidy (count_in w) w n y)
+performs_tidy s w (Install cpu hook g policy) calls Installed w' o y h k = install_keeps s w cpu hook g policy calls w' y h k
+performs_tidy s w (BeginWake cpu id) calls (Begun task loads) w' o y h k = begin_wake_keeps s w cpu id calls task loads w' y h k
+performs_tidy s w (EndWake cpu now) calls (Placed task to by steps) w' o y h k = end_wake_keeps s w cpu now calls task to by steps w' y h k
+performs_tidy s w (Drain cpu now) calls (Drained count run by steps) w' o y h k = drain_keeps s w cpu now calls count run by steps w' y h k
+performs_tidy s w (Tick cpu now) calls (Ticked run by steps) w' o y h k = tick_keeps s w cpu now calls run by steps w' y h k
+performs_tidy s w (Block cpu now) calls (Went task run) w' o y h k = block_keeps s w cpu now calls task run w' y h k
+performs_tidy s w (Pull cpu from now) calls (Moved task run by steps) w' o y h k = pull_keeps s w cpu from now calls task run by steps w' o y h k
+performs_tidy s w e calls r w' o y h k = absurd k
+
+-- in every setting a step leaves the world tidy
+pub step_tidy : (s : Setting) (w : World) (e : Event) (calls : List CounterCall) (r : Result Reply Refusal) (w' : World) → length w.inboxes ≡ length w.processors → WorldStep s w e calls r w' → IsOrderly w → Keeps w w'
+step_tidy s w e calls (Ok r) w' l step o = performs_tidy s w e calls r w' o (tidy_of w l o) step.0 step.1
+step_tidy s w e calls (Err r) w' l step o = subst (Keeps w) (sym step.1) (tidy_of w l o)
+
+tidy_is_orderly : (count : ℕ) (w : World) → IsTidy count [] w → IsOrderly w
+tidy_is_orderly count w y = orderly_of w (subst (λ c. IsTidy c [] w) (sym y.many) y)
+
+-- in every setting a step keeps order
+pub step_keeps : (s : Setting) → StepKeeps s
+step_keeps s w e calls r w' l step o = tidy_is_orderly (count_in w) w' (step_tidy s w e calls r w' l step o)
+
+-- and so does a run
+pub run_keeps : (s : Setting) → RunKeeps s
+run_keeps s w [] [] [] w' l run o = subst IsOrderly (sym run) o
+run_keeps s w (e ∷ es) (calls ∷ more) (a ∷ answers) w' l run o =
+    let y = step_tidy s w e calls a run.0 l run.1 o in
+    run_keeps s run.0 es more answers w' (omega (arith, y.many, y.boxes)) run.2 (tidy_is_orderly (count_in w) run.0 y)
+run_keeps s w es calls answers w' l run o = absurd run
+
+pub step_keeps_order : StepKeepsOrder
+step_keeps_order d fresh = step_keeps (under_any_answers d fresh)
+
+pub run_keeps_order : RunKeepsOrder
+run_keeps_order d fresh = run_keeps (under_any_answers d fresh)

@@ -1,7 +1,17 @@
 //! The laws of the world, each as the contract of a function that does nothing.
-ghost use Rattle.bq_core.specs.Laws.{OpeningIsOrderly};
+ghost use Rattle.bq_core.specs.Laws.{OpeningIsOrderly, RunKeepsOrder, StepKeepsOrder};
 
 /// A world in which nothing has happened is in order: no task stands anywhere.
 pub fn opening_is_orderly()
     ensures { OpeningIsOrderly }
+{}
+
+/// Each event, refused or not, keeps a world in order, under every discipline and whatever the policies answer.
+pub fn step_keeps_order()
+    ensures { StepKeepsOrder }
+{}
+
+/// So do events one after another.
+pub fn run_keeps_order()
+    ensures { RunKeepsOrder }
 {}
