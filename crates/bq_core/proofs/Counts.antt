@@ -21,10 +21,12 @@ pub count_is : (id : ℕ) (xs : List Task) → count_of id xs ≡ Tallies.tally 
 count_is id [] = refl
 count_is id (x ∷ xs) = ap (λ n. one id x + n) (count_is id xs)
 
+-- those of two lists together
 pub count_of-append : (id : ℕ) (xs ys : List Task) → count_of id (xs ++ ys) ≡ count_of id xs + count_of id ys
 count_of-append id [] ys = omega arith
 count_of-append id (x ∷ xs) ys = omega (arith, count_of-append id xs ys)
 
+-- a task that comes is counted once more
 pub count_of-place : (id : ℕ) (t : Task) (xs : List Task) → count_of id (place t xs) ≡ one id t + count_of id xs
 count_of-place id t xs = omega (arith, count_is id (place t xs), count_is id xs, Tallies.tally-place (ones id) t xs)
 
@@ -32,6 +34,7 @@ count_of-place id t xs = omega (arith, count_is id (place t xs), count_is id xs,
 pub count_of-without : (i j : ℕ) (xs : List Task) (t : Task) → with_id j xs ≡ Some t → count_of i xs ≡ one i t + count_of i (without j xs)
 count_of-without i j xs t h = omega (arith, count_is i (without j xs), count_is i xs, Tallies.tally-without (ones i) j xs t h)
 
+-- a task has its own id
 pub one_self : (t : Task) → one t.id t ≡ 1
 one_self t = grind (arith, nat_tests)
 
@@ -49,6 +52,7 @@ pub queue_le_present : (id : ℕ) (o : Option Task) (xs : List Task) → count_o
 queue_le_present id None xs = omega arith
 queue_le_present id (Some t) xs = omega arith
 
+-- what is present once is queued once
 pub each_once_queue : (p : Running) → HasEachOnce (present_at p) → HasEachOnce p.queue
 each_once_queue p h = λ id. omega (arith, h id, queue_le_present id p.current p.queue)
 
@@ -84,6 +88,7 @@ HasDistinctIds-from_counts [] h = tt
 HasDistinctIds-from_counts (x ∷ xs) h =
     (with_id-absent x.id xs (omega (arith, one_self x, h x.id)), HasDistinctIds-from_counts xs (λ id. omega (arith, h id)))
 
+-- woken tasks that enter come to those that were there
 pub count_of-entered : (id : ℕ) (d : Discipline) (kept : ℕ) (queue tasks : List Task) → count_of id (entered d kept queue tasks) ≡ count_of id queue + count_of id tasks
 count_of-entered id d kept queue tasks = omega (arith, count_is id (entered d kept queue tasks), count_is id queue, count_is id tasks, Tallies.tally-entered (ones id) d kept queue tasks)
 
@@ -91,6 +96,7 @@ count_of-entered id d kept queue tasks = omega (arith, count_is id (entered d ke
 same_count : (id : ℕ) (p q : Running) → Tallies.tally (ones id) (present_at q) ≡ Tallies.tally (ones id) (present_at p) → count_of id (present_at q) ≡ count_of id (present_at p)
 same_count id p q h = omega (arith, count_is id (present_at p), count_is id (present_at q), h)
 
+-- to charge, to start, to switch and to decide keep each count
 pub keeps_charge : (id : ℕ) (d : Discipline) (p : Running) (now : ℕ) → count_of id (present_at (charge d p now)) ≡ count_of id (present_at p)
 keeps_charge id d p now = same_count id p (charge d p now) (Tallies.tally-charge (ones id) d p now)
 
@@ -114,6 +120,7 @@ pub count_of-enter_all : (id : ℕ) (d : Discipline) (p : Running) (tasks : List
 count_of-enter_all id d p tasks =
     omega (arith, count_is id (present_at (enter_all d p tasks)), count_is id (present_at p), count_is id tasks, Tallies.tally-enter_all (ones id) d p tasks)
 
+-- and so each task that stood once still does
 pub HasEachOnce-charge : (d : Discipline) (p : Running) (now : ℕ) → HasEachOnce (present_at p) → HasEachOnce (present_at (charge d p now))
 HasEachOnce-charge d p now h = λ id. omega (arith, h id, keeps_charge id d p now)
 
@@ -126,6 +133,7 @@ HasEachOnce-decided d p b h = λ id. omega (arith, h id, keeps_decided id d p p.
 pub HasEachOnce-enter_all : (d : Discipline) (p : Running) (tasks : List Task) → HasEachOnce (present_at p ++ tasks) → HasEachOnce (present_at (enter_all d p tasks))
 HasEachOnce-enter_all d p tasks h = λ id. omega (arith, h id, count_of-append id (present_at p) tasks, count_of-enter_all id d p tasks)
 
+-- of two lists together each has each task once, and small ids
 pub HasEachOnce-left : (xs ys : List Task) → HasEachOnce (xs ++ ys) → HasEachOnce xs
 HasEachOnce-left xs ys h = λ id. omega (arith, h id, count_of-append id xs ys)
 

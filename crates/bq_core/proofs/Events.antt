@@ -21,8 +21,10 @@ use Rattle.bq_core.proofs.Counts.{keeps_charge}
 use Rattle.bq_core.proofs.Once.{count_of-held_by}
 use Rattle.bq_core.proofs.Moves.{tally-after_leaving, tally-without_task, tally-pulled}
 use Rattle.bq_core.proofs.Permitted.{may_move_names, movable_can_use}
-use Rattle.bq_core.proofs.Tidy.{IsTidy, unsuited, suits_of, of_suits, with_processor_tidy, running_tidy, inbox_tidy, seat_tidy, leaves_lobby, enters_lobby}
+use Rattle.bq_core.proofs.Suits.{unsuited, suits_of, of_suits}
+use Rattle.bq_core.proofs.Tidy.{IsTidy, with_processor_tidy, running_tidy, inbox_tidy, seat_tidy, leaves_lobby, enters_lobby}
 
+-- an absent seat is not away
 absent_is_not_away : (s : Seat) → is_absent s ≡ true → as_number (is_away s) ≡ 0
 absent_is_not_away Absent h = refl
 absent_is_not_away (Blocked t) h = cc
@@ -45,13 +47,10 @@ draw_tidy count w n y = record { many = y.many; boxes = y.boxes; away = y.away; 
 pub install_tidy : (count : ℕ) (w : World) (cpu : ℕ) (programs : Programs) → IsTidy count [] w → cpu < count → IsTidy count [] (with_processor w cpu (record (processor w cpu) { programs = programs }))
 install_tidy count w cpu programs y l = running_tidy count [] [] w cpu (record (processor w cpu) { programs = programs }) y l refl (λ g. refl) refl
 
+-- an empty hand has no task
 no_hand : (o : Option Carried) → is_some o ≡ false → o ≡ None
 no_hand None h = refl
 no_hand (Some c) h = cc
-
--- the tasks in a hand, by what stands there
-of_hand : Option Carried → List Task
-of_hand o = option_to_list (option_map (λ (c : Carried). c.task) o)
 
 -- a task goes from the lobby to an empty hand
 pub begin_wake_tidy : (count : ℕ) (w : World) (cpu id : ℕ) (t : Task) (loads : List ℕ) → IsTidy count [] w → cpu < count → seat w id ≡ Blocked t → is_some (processor w cpu).hand ≡ false →

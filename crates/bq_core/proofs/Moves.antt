@@ -29,14 +29,16 @@ pub tally-with_pulled : (g : ℕ → ℕ → ℕ) (d : Discipline) (p : Running)
 tally-with_pulled g d p None = omega arith
 tally-with_pulled g d p (Some t) = omega (arith, tally-place g (pulled d p.kept t) p.queue, tally-present g p.current p.queue (place (pulled d p.kept t) p.queue))
 
+-- a task that enters doesn't run
 current_kept : (d : Discipline) (p : Running) (o : Option Task) → (with_pulled d p o).current ≡ p.current
 current_kept d p None = refl
 current_kept d p (Some t) = refl
 
+-- who begins to run stays
 tally-started : (g : ℕ → ℕ → ℕ) (d : Discipline) (p : Running) (o : Option Task) → p.current ≡ o → tally g (present_at (started_if_idle d p o)) ≡ tally g (present_at p)
 tally-started g d p None e = tally-start g d p e
 tally-started g d p (Some t) e = refl
 
--- the same, where the queue's choice then runs
+-- the task that enters comes to those that were there, where the queue's choice then runs
 pub tally-pulled : (g : ℕ → ℕ → ℕ) (d : Discipline) (p : Running) (o : Option Task) → tally g (present_at (started_if_idle d (with_pulled d p o) p.current)) ≡ tally g (present_at p) + tally g (option_to_list o)
 tally-pulled g d p o = tally-started g d (with_pulled d p o) p.current (current_kept d p o) ∙ tally-with_pulled g d p o

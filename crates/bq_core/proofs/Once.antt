@@ -39,6 +39,7 @@ placed_le id [] cpu = omega arith
 placed_le id (xs ∷ xss) zero = omega arith
 placed_le id (xs ∷ xss) (suc cpu) = omega (arith, placed_le id xss cpu)
 
+-- a truth counts at most 1
 pub as_number_le : (b : Bool) → as_number b ≤ 1
 as_number_le true = omega arith
 as_number_le false = omega arith
@@ -47,6 +48,7 @@ as_number_le false = omega arith
 pub standing_once : (w : World) (id : ℕ) → IsOrderly w → standing_count id w ≤ 1
 standing_once w id o = omega (arith, o.once.away id, as_number_le (is_away (seat w id)))
 
+-- a processor's tasks are those present and the one in its hand
 pub count_of-held_by : (id : ℕ) (p : Processor) → count_of id (held_by p) ≡ count_of id (present_at p.running) + count_of id (in_hand p)
 count_of-held_by id p = count_of-append id (present_at p.running) (in_hand p)
 
@@ -64,9 +66,11 @@ once_at w cpu o = λ id.
       count_of-append id (present_at p.running) (inbox w cpu),
     )
 
+-- without its hand
 pub each_once_runnable : (w : World) (cpu : ℕ) → IsOrderly w → HasEachOnce (present_at (processor w cpu).running ++ inbox w cpu)
 each_once_runnable w cpu o = HasEachOnce-left (present_at (processor w cpu).running ++ inbox w cpu) (in_hand (processor w cpu)) (once_at w cpu o)
 
+-- and without its inbox
 pub each_once_running : (w : World) (cpu : ℕ) → IsOrderly w → HasEachOnce (present_at (processor w cpu).running)
 each_once_running w cpu o = HasEachOnce-left (present_at (processor w cpu).running) (inbox w cpu) (each_once_runnable w cpu o)
 
@@ -82,6 +86,7 @@ none_beyond_at w cpu id l o h =
     let p : Processor = processor w cpu in
     omega (arith, none_beyond w id l o h, held_le id w.processors cpu, placed_le id w.inboxes cpu, count_of-held_by id p, count_of-append id (present_at p.running) (inbox w cpu))
 
+-- the first of some tasks has an id below a bound from which none stands there
 head_below : (x : Task) (m n : ℕ) → (n ≤ x.id → one x.id x + m ≡ 0) → x.id < n
 head_below x m n h = elim (cases_lt x.id n) [ inl l ↦ l | inr g ↦ absurd (omega (arith, one_self x, h g)) ]
 
@@ -90,6 +95,7 @@ pub HasSmallIds-from_counts : (xs : List Task) → ((id : ℕ) → 1024 ≤ id �
 HasSmallIds-from_counts [] h = tt
 HasSmallIds-from_counts (x ∷ xs) h = (omega (arith, head_below x (count_of x.id xs) 1024 (h x.id)), HasSmallIds-from_counts xs (λ id l. omega (arith, h id l)))
 
+-- so the ids of a processor's tasks have 16 bits
 pub small_at : (w : World) (cpu : ℕ) → length w.seats ≡ 1024 → IsOrderly w → HasSmallIds (present_at (processor w cpu).running ++ inbox w cpu)
 small_at w cpu l o = HasSmallIds-from_counts (present_at (processor w cpu).running ++ inbox w cpu) (λ id h. none_beyond_at w cpu id l o h)
 
@@ -149,6 +155,7 @@ length-ids (x ∷ xs) = ap suc (length-ids xs)
 pub few_below : (xs : List Task) (n : ℕ) → HasEachOnce xs → ((id : ℕ) → n ≤ id → count_of id xs ≡ 0) → length xs ≤ n
 few_below xs n h k = rw length-ids at (length-le_from_distinct_below (ids xs) n (distinct xs h) (λ q a. all_below xs n q k a))
 
+-- so a processor has at most 1024 tasks, with those of its inbox
 pub few_at : (w : World) (cpu : ℕ) → length w.seats ≡ 1024 → IsOrderly w → length (present_at (processor w cpu).running) + length (inbox w cpu) ≤ 1024
 few_at w cpu l o =
     let xs : List Task = present_at (processor w cpu).running in

@@ -1,9 +1,8 @@
--- The laws of order.
-use Rattle.std.proofs.Common.{◌≡◌, ◌≢◌, ℕ, ◌<◌, ◌%◌, ◌^◌, Bool, true, false, cond, List, [], ◌∷◌, length, Option, Some, None, refl, subst, sym, arith}
+-- The laws of order: each event keeps it, by what its refusals leave and what it does; and so does each run.
+use Rattle.std.proofs.Common.{◌≡◌, ℕ, ◌<◌, ◌%◌, ◌^◌, Bool, true, false, cond, List, [], ◌∷◌, length, Option, Some, None, refl, subst, sym, ◌∙◌, arith}
 use Rattle.std.specs.Prelude.{ℤ, Result, Ok, Err, ◌==◌, not, nat_le, is_some, unwrap_or}
 use Rattle.std.proofs.lemmas.List.{length-replicate}
 use Rattle.std.proofs.lemmas.Nat.{pow_pos, mod_below}
-use Rattle.std.proofs.lemmas.Bool.Decides.{nat_tests}
 use Rattle.bq_disc.specs.OneProcessor.{Running, marked}
 use Rattle.bq_core.specs.declared.carried.Carried.{Carried}
 use Rattle.bq_core.specs.declared.event.Hook.{Hook}
@@ -23,16 +22,19 @@ use Rattle.bq_core.specs.OwnChoices.{own_place, own_pull}
 use Rattle.bq_core.specs.Choices.{Setting, Settled}
 use Rattle.bq_core.specs.Steps.{WorldStep, Performs, charged_at, admitted, may_go, may_move, nobody}
 use Rattle.bq_core.specs.StandsOnce.{IsOrderly, HasPlace}
-use Rattle.bq_core.specs.Laws.{OpeningIsOrderly, StepKeeps, RunKeeps, StepKeepsOrder, RunKeepsOrder, under_any_answers}
+use Rattle.bq_core.specs.Laws.{OpeningIsOrderly, StepKeeps, RunKeeps, StepKeepsOrder, RunKeepsOrder, HistoryIsOrderly, under_any_answers}
 use Rattle.bq_core.proofs.Counts.{each_once_queue}
+use Rattle.bq_core.proofs.NumberTests.{within_of, differs}
 use Rattle.bq_core.proofs.Once.{each_once_running}
 use Rattle.bq_core.proofs.Tidy.{IsTidy, tidy_of, orderly_of, opening_tidy}
 use Rattle.bq_core.proofs.Permitted.{settled_permitted, own_place_permitted, own_pull_permitted, may_go_fits}
 use Rattle.bq_core.proofs.Events
 
+-- the opening world is in order
 pub opening_is_orderly : OpeningIsOrderly
 opening_is_orderly n = orderly_of (opening_world n) (subst (λ c. IsTidy c [] (opening_world n)) (sym (length-replicate n opening)) (opening_tidy n 1024))
 
+-- of two refusals neither holds
 neither : (o p : Option Refusal) → either o p ≡ None → (o ≡ None) × (p ≡ None)
 neither None p h = (refl, h)
 neither (Some r) p h = cc
@@ -46,29 +48,26 @@ passed : (b : Bool) (r : Refusal) (rest : Option Refusal) → cond b (Some r) re
 passed true r rest h = cc
 passed false r rest h = (refl, h)
 
-in_range : (count cpu : ℕ) → nat_le count cpu ≡ false → cpu < count
-in_range count cpu h = grind (arith, nat_tests)
-
-differ : (a b : ℕ) → (a == b) ≡ false → a ≢ b
-differ a b h = grind (arith, nat_tests)
-
+-- a test whose contrary fails holds
 not_false : (b : Bool) → not b ≡ false → b ≡ true
 not_false true h = refl
 not_false false h = cc
 
 -- a processor that is not refused is there
 there : (count cpu : ℕ) (rest : Option Refusal) → cond (nat_le count cpu) (Some no.NoProcessor) rest ≡ None → (cpu < count) × (rest ≡ None)
-there count cpu rest h = let f = passed (nat_le count cpu) no.NoProcessor rest h in (in_range count cpu f.0, f.1)
+there count cpu rest h = let f = passed (nat_le count cpu) no.NoProcessor rest h in (within_of cpu count f.0, f.1)
 
 -- the mask of a task that is admitted has a processor of the machine
 admitted_has_place : (count id : ℕ) (nice : ℤ) (mask slice : ℕ) → argument_refusal count (Admit id nice mask slice) ≡ None → HasPlace count (admitted count id nice mask slice)
 admitted_has_place count id nice mask slice h =
     let some = (passed (mask % 2 ^ count == 0) no.EmptyMask _ (passed (nat_le 1024 id) no.NoTask _ h).1).0 in
-    (mod_below mask (2 ^ count) (pow_pos count), differ (mask % 2 ^ count) 0 some)
+    (mod_below mask (2 ^ count) (pow_pos count), differs (mask % 2 ^ count) 0 some)
 
+-- the world after an event is tidy, with as many processors
 abbrev Keeps : World → World → Type 0
 Keeps w w' = IsTidy (count_in w) [] w'
 
+-- each event by itself, as it is not refused
 admit_keeps : (s : Setting) (w : World) (id : ℕ) (nice : ℤ) (mask slice : ℕ) (calls : List CounterCall) (w' : World) → IsTidy (count_in w) [] w → refusal w (Admit id nice mask slice) ≡ None →
     Performs s w (Admit id nice mask slice) calls Admitted w' → Keeps w w'
 admit_keeps s w id nice mask slice calls w' y h k =
@@ -133,7 +132,7 @@ pull_keeps : (s : Setting) (w : World) (cpu from now : ℕ) (calls : List Counte
 pull_keeps s w cpu from now calls task run by steps w' o y h k =
     let f = there (count_in w) cpu _ (accepted w (Pull cpu from now) h).0 in
     let g = there (count_in w) from _ f.1 in
-    let apart = differ cpu from (passed (cpu == from) no.SameProcessor None g.1).0 in
+    let apart = differs cpu from (passed (cpu == from) no.SameProcessor None g.1).0 in
     let p : Processor = charged_at s.discipline w cpu now in
     let other : Processor = processor w from in
     let source : Running = marked s.discipline other.running in
@@ -163,6 +162,7 @@ pub step_tidy : (s : Setting) (w : World) (e : Event) (calls : List CounterCall)
 step_tidy s w e calls (Ok r) w' l step o = performs_tidy s w e calls r w' o (tidy_of w l o) step.0 step.1
 step_tidy s w e calls (Err r) w' l step o = subst (Keeps w) (sym step.1) (tidy_of w l o)
 
+-- a tidy world is in order, however many processors it was said to have
 tidy_is_orderly : (count : ℕ) (w : World) → IsTidy count [] w → IsOrderly w
 tidy_is_orderly count w y = orderly_of w (subst (λ c. IsTidy c [] w) (sym y.many) y)
 
@@ -178,8 +178,13 @@ run_keeps s w (e ∷ es) (calls ∷ more) (a ∷ answers) w' l run o =
     run_keeps s run.0 es more answers w' (omega (arith, y.many, y.boxes)) run.2 (tidy_is_orderly (count_in w) run.0 y)
 run_keeps s w es calls answers w' l run o = absurd run
 
+-- the laws as they are promised
 pub step_keeps_order : StepKeepsOrder
 step_keeps_order d fresh = step_keeps (under_any_answers d fresh)
 
 pub run_keeps_order : RunKeepsOrder
 run_keeps_order d fresh = run_keeps (under_any_answers d fresh)
+
+pub history_is_orderly : HistoryIsOrderly
+history_is_orderly d fresh n es calls answers w' run =
+    run_keeps (under_any_answers d fresh) (opening_world n) es calls answers w' (length-replicate n [] ∙ sym (length-replicate n opening)) run (opening_is_orderly n)

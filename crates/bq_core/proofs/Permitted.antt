@@ -12,8 +12,10 @@ use Rattle.bq_core.specs.Choices.{Setting, Settled, SettlesBy, Settles}
 use Rattle.bq_core.specs.Steps.{may_go, may_move, nobody, task_numbered}
 use Rattle.bq_core.specs.StandsOnce.{HasPlace}
 use Rattle.bq_core.proofs.Counts.{one}
+use Rattle.bq_core.proofs.NumberTests.{below_of, below_to}
 use Rattle.bq_core.proofs.Places.{own_place_there}
 
+-- an answer is the choice where it is permitted, and else the own choice is
 answered : (b : Bool) (permitted : ℕ → Bool) (r0 own choice : ℕ) (P Q : Type 0) → permitted r0 ≡ b → permitted own ≡ true → MatchBool b ((choice ≡ r0) × P) ((choice ≡ own) × Q) → permitted choice ≡ true
 answered true permitted r0 own choice P Q e o h = ap permitted h.0 ∙ e
 answered false permitted r0 own choice P Q e o h = ap permitted h.0 ∙ o
@@ -33,12 +35,6 @@ both : (a b : Bool) → (a && b) ≡ true → (a ≡ true) × (b ≡ true)
 both true b h = (refl, h)
 both false b h = cc
 
-below_of : (m n : ℕ) → nat_lt m n ≡ true → m < n
-below_of m n h = grind (arith, nat_tests)
-
-below_to : (m n : ℕ) → m < n → nat_lt m n ≡ true
-below_to m n h = grind (arith, nat_tests)
-
 -- a place that is permitted is a processor of the machine that the mask allows
 pub may_go_fits : (count : ℕ) (t : Task) (p : ℕ) → may_go count t p ≡ true → (p < count) × (allows t.mask p ≡ true)
 may_go_fits count t p h = let b = both (nat_lt p count) (allows t.mask p) h in (below_of p count b.0, b.1)
@@ -53,9 +49,11 @@ or_true : (b : Bool) → (b || true) ≡ true
 or_true true = refl
 or_true false = refl
 
+-- a task is found at the head of a list by its own id
 itself : (t : Task) (o : Option Task) → is_some (cond (has_id t.id t) (Some t) o) ≡ true
 itself t o = let same : has_id t.id t ≡ true = grind (arith, nat_tests) in rw same refl
 
+-- one that is found in the rest of a list is found in the list
 later : (id : ℕ) (x : Task) (xs : List Task) → is_some (with_id id xs) ≡ true → is_some (with_id id (x ∷ xs)) ≡ true
 later id x xs h = elim (has_id id x) as (λ b. is_some (cond b (Some x) (with_id id xs)) ≡ true) [ true ↦ refl | false ↦ h ]
 
@@ -97,10 +95,12 @@ counted_by_test : (b : Bool) (x : Task) (n : ℕ) (o : Option Task) → is_some 
 counted_by_test true x n o h rest = omega arith
 counted_by_test false x n o h rest = omega (arith, rest h)
 
+-- one that is found is counted
 counted : (id : ℕ) (xs : List Task) → is_some (with_id id xs) ≡ true → 1 ≤ count_of id xs
 counted id [] h = cc
 counted id (x ∷ xs) h = counted_by_test (has_id id x) x (count_of id xs) (with_id id xs) h (counted id xs)
 
+-- a filter leaves no more
 count_of-filter : (id : ℕ) (p : Task → Bool) (xs : List Task) → count_of id (filter p xs) ≤ count_of id xs
 count_of-filter id p [] = omega arith
 count_of-filter id p (x ∷ xs) =

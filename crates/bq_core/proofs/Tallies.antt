@@ -7,13 +7,16 @@ use Rattle.bq_disc.specs.Discipline.{Discipline, charged, woken, next_of}
 use Rattle.bq_disc.specs.OneProcessor.{Running, present_at, reading, charge, run_id, start, exchanged, switched, decided, entered, enter_all}
 use Rattle.bq_disc.proofs.QueueFacts.{without-absent}
 
+-- what a task counts
 abbrev pub worth : (ℕ → ℕ → ℕ) → Task → ℕ
 worth g t = g t.id t.mask
 
+-- what some tasks count together
 abbrev pub tally : (ℕ → ℕ → ℕ) → List Task → ℕ
 tally g [] = 0
 tally g (x ∷ xs) = worth g x + tally g xs
 
+-- those of two lists together
 pub tally-append : (g : ℕ → ℕ → ℕ) (xs ys : List Task) → tally g (xs ++ ys) ≡ tally g xs + tally g ys
 tally-append g [] ys = omega arith
 tally-append g (x ∷ xs) ys = omega (arith, tally-append g xs ys)
@@ -55,6 +58,7 @@ pub tally-entered : (g : ℕ → ℕ → ℕ) (d : Discipline) (kept : ℕ) (que
 tally-entered g d kept queue [] = omega arith
 tally-entered g d kept queue (t ∷ tasks) = omega (arith, tally-entered g d kept (place (woken d kept t) queue) tasks, tally-place g (woken d kept t) queue)
 
+-- a queue in place of another changes the sum by their difference
 pub tally-present : (g : ℕ → ℕ → ℕ) (o : Option Task) (xs ys : List Task) → tally g (present o ys) + tally g xs ≡ tally g (present o xs) + tally g ys
 tally-present g None xs ys = omega arith
 tally-present g (Some t) xs ys = omega arith
@@ -66,6 +70,7 @@ tally-charge g d p now =
     let same : (o : Option Task) → tally g (present (option_map f o) p.queue) ≡ tally g (present o p.queue) = elim [ None ↦ refl | Some t ↦ refl ] in
     same p.current
 
+-- those that enter come to those that were there
 pub tally-enter_all : (g : ℕ → ℕ → ℕ) (d : Discipline) (p : Running) (tasks : List Task) → tally g (present_at (enter_all d p tasks)) ≡ tally g (present_at p) + tally g tasks
 tally-enter_all g d p tasks = omega (arith, tally-present g p.current p.queue (entered d p.kept p.queue tasks), tally-entered g d p.kept p.queue tasks)
 
@@ -78,6 +83,7 @@ pub tally-run_id : (g : ℕ → ℕ → ℕ) (p : Running) (o : Option ℕ) → 
 tally-run_id g p None e = refl
 tally-run_id g p (Some i) e = tally_of_taken g i p.queue (with_id i p.queue) refl ∙ sym (ap (λ o. tally g (present o p.queue)) e)
 
+-- the queue's choice that begins to run too
 pub tally-start : (g : ℕ → ℕ → ℕ) (d : Discipline) (p : Running) → p.current ≡ None → tally g (present_at (start d p)) ≡ tally g (present_at p)
 tally-start g d p e = tally-run_id g p (id_of (d.choice p.queue)) e
 
@@ -89,10 +95,12 @@ tally-exchanged g j p old (Some new) e h =
     let was : tally g (present_at p) ≡ worth g old + tally g p.queue = rw e refl in
     omega (arith, placed, was, tally-without g j p.queue new h)
 
+-- whoever is next
 pub tally-switched : (g : ℕ → ℕ → ℕ) (d : Discipline) (p : Running) (o : Option Task) → p.current ≡ o → tally g (present_at (switched d p o)) ≡ tally g (present_at p)
 tally-switched g d p None e = refl
 tally-switched g d p (Some t) e = tally-exchanged g (next_of d t p.queue) p t (with_id (next_of d t p.queue) p.queue) e refl
 
+-- however it is decided
 pub tally-decided : (g : ℕ → ℕ → ℕ) (d : Discipline) (p : Running) (o : Option Task) (gives_way : Bool) → p.current ≡ o → tally g (present_at (decided d p o gives_way)) ≡ tally g (present_at p)
 tally-decided g d p None b e = tally-start g d p e
 tally-decided g d p (Some t) true e = tally-switched g d p (Some t) e

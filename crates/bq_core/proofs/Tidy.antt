@@ -1,14 +1,11 @@
 -- Order while some tasks are on their way: they stand nowhere, and are counted beside those that stand.
-use Rattle.std.proofs.Common.{◌≡◌, ◌≢◌, ℕ, zero, suc, ◌+◌, ◌<◌, ◌^◌, Bool, true, false, cond, List, [], ◌∷◌, length, Some, None, refl, sym, subst, ap, ◌∙◌, arith, inl, inr, get_or, set}
-use Rattle.std.specs.Prelude.{◌&&◌, ◌==◌, not, nat_lt, All, replicate}
-use Rattle.std.specs.List.{AllByRecursion}
+use Rattle.std.proofs.Common.{◌≡◌, ◌≢◌, ℕ, zero, suc, ◌+◌, ◌<◌, List, [], ◌∷◌, length, Some, None, refl, sym, subst, ap, ◌∙◌, arith, inl, inr, get_or, set}
+use Rattle.std.specs.Prelude.{All, replicate}
 use Rattle.std.specs.Option.{option_map, option_to_list}
 use Rattle.std.proofs.lemmas.List.{length-set, length-replicate, get_or_past}
-use Rattle.std.proofs.lemmas.List.Elements.{All-from_recursion, recursion_from_All}
 use Rattle.std.proofs.lemmas.Bool.{cases_lt}
 use Rattle.std.proofs.lemmas.Bool.Decides.{nat_tests}
 use Rattle.bq_disc.specs.Tasks.{Task}
-use Rattle.bq_disc.specs.Queues.{can_use}
 use Rattle.bq_disc.specs.OneProcessor.{present_at}
 use Rattle.bq_core.specs.declared.carried.Carried.{Carried}
 use Rattle.bq_core.specs.declared.seat.Seat.{Seat}
@@ -17,66 +14,11 @@ use Rattle.bq_core.specs.Processors.{Processor, opening, count_of, held_by, in_h
 use Rattle.bq_core.specs.World.{World, processor, inbox, seat, count_in, with_processor, with_inbox, with_seat}
 use Rattle.bq_core.specs.Refusals.{is_away}
 use Rattle.bq_core.specs.Choices.{as_number}
-use Rattle.bq_core.specs.OwnChoices.{allows}
 use Rattle.bq_core.specs.StandsOnce.{held_count, placed_count, standing_count, runnable_at, HasPlace, IsOrderly}
-use Rattle.bq_core.proofs.Tallies.{tally, worth, tally-append}
+use Rattle.bq_core.proofs.Suits.{unsuited, Suits, none_unsuited, all_suit}
+use Rattle.bq_core.proofs.Tallies.{tally, tally-append}
 use Rattle.bq_core.proofs.Counts.{one, ones, one_self, count_is}
 use Rattle.bq_core.proofs.Once.{count_of-held_by, as_number_le}
-
--- a processor that a task may use, and a mask of the machine's processors
-abbrev pub suits : ℕ → ℕ → ℕ → Bool
-suits count cpu mask = allows mask cpu && (nat_lt mask (2 ^ count) && not (mask == 0))
-
--- 1 for a task that a processor doesn't suit
-abbrev pub unsuited : ℕ → ℕ → ℕ → ℕ → ℕ
-unsuited count cpu id mask = cond (suits count cpu mask) 0 1
-
--- what a task is that a processor suits
-pub record Suits (count cpu : ℕ) (t : Task) : Type 0 where
-  pub can : can_use cpu t ≡ true
-  pub place : HasPlace count t
-
-tests_of : (a b c : Bool) → ◌≡◌ {A = ℕ} (cond (a && (b && not c)) 0 1) 0 → (a ≡ true) × (b ≡ true) × (c ≡ false)
-tests_of true true true h = absurd (omega arith)
-tests_of true true false h = (refl, refl, refl)
-tests_of true false c h = absurd (omega arith)
-tests_of false b c h = absurd (omega arith)
-
-below_of : (m n : ℕ) → nat_lt m n ≡ true → m < n
-below_of m n h = grind (arith, nat_tests)
-
-other_of : (m n : ℕ) → (m == n) ≡ false → m ≢ n
-other_of m n h = grind (arith, nat_tests)
-
-below_to : (m n : ℕ) → m < n → nat_lt m n ≡ true
-below_to m n h = grind (arith, nat_tests)
-
-other_to : (m n : ℕ) → m ≢ n → (m == n) ≡ false
-other_to m n h = grind (arith, nat_tests)
-
-pub suits_of : (count cpu : ℕ) (t : Task) → worth (unsuited count cpu) t ≡ 0 → Suits count cpu t
-suits_of count cpu t h =
-    let f = tests_of (allows t.mask cpu) (nat_lt t.mask (2 ^ count)) (t.mask == 0) h in
-    record { can = f.0; place = (below_of t.mask (2 ^ count) f.1, other_of t.mask 0 f.2) }
-
-pub of_suits : (count cpu : ℕ) (t : Task) → can_use cpu t ≡ true → HasPlace count t → worth (unsuited count cpu) t ≡ 0
-of_suits count cpu t e h = rw (e, below_to t.mask (2 ^ count) h.0, other_to t.mask 0 h.1) refl
-
-unsuited_by_recursion : (count cpu : ℕ) (xs : List Task) → AllByRecursion (λ t. can_use cpu t ≡ true) xs → AllByRecursion (HasPlace count) xs → tally (unsuited count cpu) xs ≡ 0
-unsuited_by_recursion count cpu [] h k = refl
-unsuited_by_recursion count cpu (x ∷ xs) h k = omega (arith, of_suits count cpu x h.0 k.0, unsuited_by_recursion count cpu xs h.1 k.1)
-
--- where each task may use the processor and has a place, none is unsuited
-pub none_unsuited : (count cpu : ℕ) (xs : List Task) → All (λ t. can_use cpu t ≡ true) xs → All (HasPlace count) xs → tally (unsuited count cpu) xs ≡ 0
-none_unsuited count cpu xs h k = unsuited_by_recursion count cpu xs (recursion_from_All (λ t. can_use cpu t ≡ true) xs h) (recursion_from_All (HasPlace count) xs k)
-
-suits_by_recursion : (count cpu : ℕ) (xs : List Task) → tally (unsuited count cpu) xs ≡ 0 → AllByRecursion (Suits count cpu) xs
-suits_by_recursion count cpu [] h = tt
-suits_by_recursion count cpu (x ∷ xs) h = (suits_of count cpu x (omega arith), suits_by_recursion count cpu xs (omega arith))
-
--- where none is unsuited the processor suits each
-pub all_suit : (count cpu : ℕ) (xs : List Task) → tally (unsuited count cpu) xs ≡ 0 → All (Suits count cpu) xs
-all_suit count cpu xs h = All-from_recursion (Suits count cpu) xs (suits_by_recursion count cpu xs h)
 
 -- order in a world of so many processors, with some tasks on their way
 pub record IsTidy (count : ℕ) (floating : List Task) (w : World) : Type 0 where
@@ -144,6 +86,7 @@ held_count-set id [] cpu q l = absurd (omega arith)
 held_count-set id (p ∷ ps) zero q l = omega arith
 held_count-set id (p ∷ ps) (suc cpu) q l = omega (arith, held_count-set id ps cpu q (omega arith))
 
+-- and so do those of an inbox
 pub placed_count-set : (id : ℕ) (xss : List (List Task)) (cpu : ℕ) (tasks : List Task) → cpu < length xss → placed_count id (set xss cpu tasks) + count_of id (get_or xss cpu []) ≡ placed_count id xss + count_of id tasks
 placed_count-set id [] cpu tasks l = absurd (omega arith)
 placed_count-set id (xs ∷ xss) zero tasks l = omega arith
@@ -205,9 +148,11 @@ seat_tidy count xs w id s y same blocked = record {
   placed = y.placed;
 }
 
+-- a task has no other id than its own
 other_id : (j : ℕ) (t : Task) → j ≢ t.id → one j t ≡ 0
 other_id j t n = grind (arith, nat_tests)
 
+-- a seat that is not absent is one of the lobby's
 past_seat : (w : World) (id : ℕ) → seat w id ≢ Absent → id < length w.seats
 past_seat w id n = elim (cases_lt id (length w.seats)) [ inl l ↦ l | inr g ↦ absurd (n (get_or_past w.seats id Absent g)) ]
 
@@ -243,6 +188,7 @@ enters_lobby count w t new y same place =
       placed = y.placed;
     }
 
+-- at the opening no task stands anywhere
 standing_nowhere : (id n : ℕ) → held_count id (replicate n opening) ≡ 0
 standing_nowhere id zero = refl
 standing_nowhere id (suc n) = omega (arith, standing_nowhere id n)
@@ -251,6 +197,7 @@ placed_nowhere : (id n : ℕ) → placed_count id (replicate n []) ≡ 0
 placed_nowhere id zero = refl
 placed_nowhere id (suc n) = omega (arith, placed_nowhere id n)
 
+-- of equals each place has the same, and beyond them too
 same_everywhere : {X : Type 0} (x : X) (n i : ℕ) → get_or (replicate n x) i x ≡ x
 same_everywhere x zero i = refl
 same_everywhere x (suc n) zero = refl

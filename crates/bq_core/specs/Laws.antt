@@ -36,10 +36,16 @@ under_any_answers d fresh = record {
   Runs = λ policy context maps now cpu r0 maps' steps calls. Unit {0};
 }
 
--- under every discipline each step keeps order, whatever the policies answer
+-- under every discipline each step keeps order, whatever the policies answer. So it does in every setting (proofs/Order.antt),
+-- which a contract cannot say: a setting is of a higher type
 abbrev pub StepKeepsOrder : Type 0
 StepKeepsOrder = (d : Discipline) (fresh : Option Policy → List (List ℕ)) → StepKeeps (under_any_answers d fresh)
 
 -- and each run does
 abbrev pub RunKeepsOrder : Type 0
 RunKeepsOrder = (d : Discipline) (fresh : Option Policy → List (List ℕ)) → RunKeeps (under_any_answers d fresh)
+
+-- so every world of a history is in order
+abbrev pub HistoryIsOrderly : Type 0
+HistoryIsOrderly = (d : Discipline) (fresh : Option Policy → List (List ℕ)) (n : ℕ) (es : List Event) (calls : List (List CounterCall)) (answers : List (Result Reply Refusal)) (w' : World) →
+    WorldRun (under_any_answers d fresh) (opening_world n) es calls answers w' → IsOrderly w'

@@ -1,5 +1,5 @@
 //! The laws of the world, each as the contract of a function that does nothing.
-ghost use Rattle.bq_core.specs.Laws.{OpeningIsOrderly, RunKeepsOrder, StepKeepsOrder};
+ghost use Rattle.bq_core.specs.Laws.{HistoryIsOrderly, OpeningIsOrderly, RunKeepsOrder, StepKeepsOrder};
 
 /// A world in which nothing has happened is in order: no task stands anywhere.
 pub fn opening_is_orderly()
@@ -14,4 +14,9 @@ pub fn step_keeps_order()
 /// So do events one after another.
 pub fn run_keeps_order()
     ensures { RunKeepsOrder }
+{}
+
+/// So every world that events leave of the opening one is in order.
+pub fn history_is_orderly()
+    ensures { HistoryIsOrderly }
 {}
