@@ -62,7 +62,8 @@ pub trait RunQueue {
     fn movable(&self, cpu: u8) -> Movable
         requires { cpu < 64 }
         ensures count { result.count ≡ length (movable_to cpu (members self.now)) }
-        ensures first { result.first.items ≡ take 8 (ids (movable_to cpu (members self.now))) };
+        ensures first { result.first.items ≡ take 8 (ids (movable_to cpu (members self.now))) }
+        ensures rising { IsRising (members self.now) };
 
     /// Whether the task of that id is there and may go to a processor.
     fn is_movable(&self, id: u16, cpu: u8) -> bool

@@ -150,6 +150,7 @@ impl Tree {
         requires { cpu < 64 }
         ensures count { result.count ≡ length (movable_to cpu self.now) }
         ensures first { result.first.items ≡ take 8 (ids (movable_to cpu self.now)) }
+        ensures rising { IsRising self.now }
     {
         let mut found = Movable::new();
         walks::movable_into(&self.root, cpu, &mut found);
