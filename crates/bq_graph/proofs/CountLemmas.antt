@@ -51,7 +51,7 @@ module _ (slots : List (Option Insn)) where
   calls-push from [] t = omega arith
   calls-push from (n ∷ rest) t = let more = calls-push n rest t in omega arith
 
-  extend : (slot to n : ℕ) → CallsOnWay slots slot n → IsEdge slots slot to → CallsOnWay slots to (n + calls_of (instruction_at slots slot))
+  pub extend : (slot to n : ℕ) → CallsOnWay slots slot n → IsEdge slots slot to → CallsOnWay slots to (n + calls_of (instruction_at slots slot))
   extend slot to n way edge = record {
     rest = way.rest ++ to ∷ [];
     is_path = IsPath-push slots 0 way.rest to way.is_path (subst (λ (s : ℕ). IsEdge slots s to) (sym way.ends) edge);

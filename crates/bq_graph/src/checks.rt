@@ -90,6 +90,7 @@ pub fn check(slots: &[Option<Insn>], most: &mut [Option<u32>]) -> Result<(), Fau
     requires room { length most.old ≡ length slots.now }
     requires blank { (k : ℕ) → slice_index_or most.old k None ≡ None }
     ensures ok { OnOk result (IsFaultless slots.now) }
+    ensures counted { OnOk result ((k : ℕ) → IsMost slots.now k (slice_index_or most.new k None)) }
     ensures first { IfErr result (λ fault. IsFirstFault slots.now fault.cause fault.slot) }
 {
     clear(slots, most, Cause::Jump)?;

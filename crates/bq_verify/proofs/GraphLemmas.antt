@@ -1,0 +1,85 @@
+-- What the checks of the control graph give the pass.
+use Rattle.std.proofs.Common.{◌≡◌, ℕ, ◌+◌, ◌<◌, ◌≤◌, true, List, Option, Some, None, length, refl, sym, ap, subst, zero-le, arith, ◌⊎◌, inl, inr}
+use Rattle.std.specs.Prelude.{slice_index, slice_index_or}
+use Rattle.std.proofs.lemmas.Bool.{cases_lt}
+use Rattle.bq_insn.specs.declared.Insn.TheVariants.{Call}
+use Rattle.bq_maps.specs.Machine.{IsCounterCall, instruction_at}
+use Rattle.bq_graph.proofs.CountLemmas.{extend}
+use Rattle.bq_graph.proofs.SoundLemmas.{late_by}
+use Rattle.bq_insn.specs.declared.Insn.{Insn}
+use Rattle.bq_insn.specs.Slots.{spread}
+use Rattle.bq_graph.specs.Edges.{IsEdge, IsWhole, IsStart}
+use Rattle.bq_graph.specs.Paths.{IsGreatest, IsMost, PathOut, CallsOnWay, asks_counter, calls_of}
+use Rattle.bq_graph.specs.Faults.{IsFaultless}
+use Rattle.bq_graph.specs.Passes.{IsSound, Measured}
+use Rattle.bq_graph.specs.declared.cause.Cause.TheVariants.{Jump, NoExit, Unreached, Counters}
+use Rattle.bq_graph.proofs.SoundLemmas.{sound_graph}
+use Rattle.bq_graph.proofs.SpreadLemmas.{spread_begins}
+use Rattle.bq_graph.proofs.HeightLemmas.{heights_fall, heights_positive}
+use Rattle.bq_verify.specs.Control.{AreHeights, AreMade}
+
+pub whole_at : (insns : List Insn) (slots : List (Option Insn)) → slots ≡ spread insns → IsWhole slots
+whole_at insns slots same = subst (λ (s : List (Option Insn)). IsWhole s) (sym same) (spread_begins insns).whole
+
+pub first_at : (insns : List Insn) (slots : List (Option Insn)) → slots ≡ spread insns → 0 < length slots → IsStart slots 0
+first_at insns slots same = subst (λ (s : List (Option Insn)). 0 < length s → IsStart s 0) (sym same) (spread_begins insns).first
+
+pub sound_at : (insns : List Insn) (slots : List (Option Insn)) → slots ≡ spread insns → IsFaultless slots → IsSound slots
+sound_at insns slots same faultless = sound_graph slots (whole_at insns slots same) (faultless Jump) (faultless NoExit)
+
+pub heights_are : (slots : List (Option Insn)) (heights : List ℕ) → IsSound slots → Measured slots 0 heights → AreHeights slots heights
+heights_are slots heights sound measured = record {
+  fall = heights_fall slots sound heights measured;
+  positive = λ slot insn here. heights_positive slots heights measured slot (record { insn = insn; here = here });
+}
+
+pub budget_at : (insns : List Insn) (slots : List (Option Insn)) (heights : List ℕ) → slots ≡ spread insns → 0 < length slots → Measured slots 0 heights → IsGreatest (PathOut slots 0) (slice_index heights 0)
+budget_at insns slots heights same some measured = measured 0 zero-le (first_at insns slots same some)
+
+-- the number that a pass forwards left, 0 where there is none
+abbrev pub count_in : Option ℕ → ℕ
+count_in None = 0
+count_in (Some n) = n
+
+abbrev pub made_of : List (Option ℕ) → ℕ → ℕ
+made_of most k = count_in (slice_index_or most k None)
+
+asks_of : (insn : Insn) → IsCounterCall insn → asks_counter insn ≡ true
+asks_of (Call h) (inl e) = rw e refl
+asks_of (Call h) (inr e) = rw e refl
+asks_of _ counter = absurd counter
+
+module _ (slots : List (Option Insn)) (most : List (Option ℕ)) (faultless : IsFaultless slots) (counted : (k : ℕ) → IsMost slots k (slice_index_or most k None)) where
+  -- each instruction has the greatest number of calls on the way to it
+  at_start : (k : ℕ) → IsStart slots k → IsGreatest (CallsOnWay slots k) (made_of most k)
+  at_start k begins = by (slice_index_or most k None) refl
+    where
+      by : (v : Option ℕ) → slice_index_or most k None ≡ v → IsGreatest (CallsOnWay slots k) (made_of most k)
+      by None e = absurd (faultless Unreached k (record { start = begins; none = subst (λ (o : Option ℕ). IsMost slots k o) e (counted k) }))
+      by (Some n) e = subst (λ (m : ℕ). IsGreatest (CallsOnWay slots k) m) (sym (ap count_in e)) (subst (λ (o : Option ℕ). IsMost slots k o) e (counted k))
+
+  module _ (sound : IsSound slots) where
+    along : (from to : ℕ) → IsEdge slots from to → made_of most from + calls_of (instruction_at slots from) ≤ made_of most to
+    along from to edge =
+        let before = at_start from (record { insn = edge.insn; here = edge.here }) in
+        (at_start to (sound.forward from to edge).1).bounds (made_of most from + calls_of (instruction_at slots from)) (extend slots from to (made_of most from) before.holds edge)
+
+    not_late : (from : ℕ) (insn : Insn) → instruction_at slots from ≡ Some insn → IsCounterCall insn → (made_of most from < 16) ⊎ (16 ≤ made_of most from) → made_of most from < 16
+    not_late from insn here counter (inl few) = few
+    not_late from insn here counter (inr many) =
+        absurd (faultless Counters from (late_by slots from (made_of most from) insn here (asks_of insn counter) (at_start from (record { insn = insn; here = here })) many))
+
+    one_more : (from : ℕ) (insn : Insn) → instruction_at slots from ≡ Some insn → IsCounterCall insn → calls_of (instruction_at slots from) ≡ 1
+    one_more from insn here counter = rw (here, asks_of insn counter) refl
+
+    pub made_by : AreMade slots (made_of most)
+    made_by = record {
+      kept = λ from to edge. let more = along from to edge in omega arith;
+      risen = λ from to edge.
+          let more = along from to (record { insn = edge.insn; here = edge.here; leaves = edge.leaves }) in
+          let one = one_more from edge.insn edge.here edge.asks in omega arith;
+      few = λ from to edge. not_late from edge.insn edge.here edge.asks (cases_lt (made_of most from) 16);
+    }
+
+pub made_are : (slots : List (Option Insn)) (most : List (Option ℕ)) → IsSound slots → IsFaultless slots → ((k : ℕ) → IsMost slots k (slice_index_or most k None)) → AreMade slots (made_of most)
+made_are slots most sound faultless counted = made_by slots most faultless counted sound

@@ -1,0 +1,10 @@
+pub mod WordLemmas
+pub mod PutLemmas
+pub mod MergeLemmas
+pub mod AccessLemmas
+pub mod CallLemmas
+pub mod StoreLemmas
+pub mod CounterLemmas
+pub mod ChainLemmas
+pub mod GraphLemmas
+pub mod PassLemmas

@@ -1,0 +1,266 @@
+-- One pass over the slots makes the program safe.
+use Rattle.std.proofs.Common.{◌≡◌, ◌≢◌, ℕ, zero, suc, ◌+◌, ◌^◌, ◌<◌, ◌≤◌, Bool, true, false, List, Option, Some, None, Box, Global, length, refl, arith, sym, ap, subst, zero-le, length-set, ◌⊎◌, inl, inr, ℤ}
+use Rattle.std.specs.Prelude.{slice_index, slice_index_or}
+use Rattle.std.proofs.lemmas.Bool.Decides.{eqb_tells}
+use Rattle.std.proofs.lemmas.List.{get_or_past, set-set}
+use Rattle.bq_insn.specs.declared.Insn.{Insn}
+use Rattle.bq_insn.specs.declared.Insn.TheVariants.{Goto, Goto32, Branch, Call, Exit}
+use Rattle.bq_insn.specs.declared.Width.{Width}
+use Rattle.bq_insn.specs.declared.Condition.{Condition}
+use Rattle.bq_insn.specs.declared.Source.{Source}
+use Rattle.bq_insn.specs.Slots.{slots_of}
+use Rattle.bq_insn.specs.Meaning.{taken}
+use Rattle.bq_maps.specs.declared.shape.MapShape.{MapShape}
+use Rattle.bq_maps.specs.declared.board.Call.{Call as Asked}
+use Rattle.bq_maps.specs.Counters.{answer_of}
+use Rattle.bq_maps.specs.Memory.{Setting, State, context_base, stack_base, stack_size}
+use Rattle.bq_maps.specs.Arrays.{HaveShapes}
+use Rattle.bq_maps.specs.Machine.{Step, Ends, IsSetting, IsOperand, IsCounterCall, LeadsTo, Safe, instruction_at, start, called, most_calls}
+use Rattle.bq_ranges.specs.Within.{Within}
+use Rattle.bq_graph.specs.Edges.{IsEdge, IsStart, Leaves}
+use Rattle.bq_graph.specs.Passes.{IsSound}
+use Rattle.bq_verify.specs.declared.view.View.{View}
+use Rattle.bq_verify.specs.declared.view.Known.{Known}
+use Rattle.bq_verify.specs.declared.view.Kind.TheVariants.{Context, Stack}
+use Rattle.bq_verify.specs.Views.{Covers, Suits, Carries, AsksFrom, Describes, Fits, knowing}
+use Rattle.bq_verify.specs.Control.{IsAskingEdge, AreHeights, AreMade, EndsWithin, IsIn, WaitsBoxed, IsKnown, LeadsOn, Goes, PassesOn, RestIsSafe, IsStraight, IsOnSide, IsRelearned, PartsTo}
+use Rattle.bq_verify.proofs.MergeLemmas.{some_none}
+use Rattle.bq_verify.proofs.PutLemmas.{covers_learn, found_at}
+use Rattle.bq_verify.proofs.ChainLemmas.{goes_well}
+
+pub Covers-at : (f : Setting) (v : View) (s : State) (slot : ℕ) → Covers f v s → Covers f v (record s { slot = slot })
+Covers-at f v s slot covers = record { registers = covers.registers; set = covers.set; kept = covers.kept; maps = covers.maps }
+
+pub suits : (slots : List (Option Insn)) (shapes : List MapShape) (context_length : ℕ) (f : Setting) → IsSetting slots shapes context_length f → Suits shapes context_length f
+suits slots shapes context_length f setting = record {
+  shapes_are = setting.shapes_are;
+  context_long = setting.context_long;
+  context_bytes = setting.context_bytes;
+  now_fits = setting.now_fits;
+  processor_fits = setting.processor_fits;
+}
+
+-- after a call of a counter the next instruction runs
+after_call : (insn : Insn) → IsCounterCall insn → (slot : ℕ) → Leaves insn slot (slot + 1)
+after_call (Call helper) counter slot = inl (refl, refl)
+after_call _ counter slot = absurd counter
+
+-- other views of one register
+pub relearned : (v : View) (dst : ℕ) (a : Known) → IsRelearned v (knowing v dst a) dst
+relearned v dst a word = ap (λ (l : List (Option Known)). let w : View = record v { registers = l } in w) (set-set v.registers dst (Some a) (Some word))
+
+-- the other side of a branch, after the register was written for the one
+pub on_side : (f : Setting) (old new : View) (dst : ℕ) (word : Option Known) (s : State) → IsRelearned old new dst → IsOnSide f old dst word s → IsOnSide f new dst word s
+on_side f old new dst None s same side = side
+on_side f old new dst (Some word) s same side = subst (λ (v : View). Covers f v s) (sym (same word)) side
+
+-- the side that the test chooses
+pub chosen : (f : Setting) (view : View) (s : State) (slot dst a : ℕ) (word : Option Known) → dst < length view.registers → s.register dst ≡ Some a → Covers f view s → Fits f.shapes word a → IsOnSide f view dst word (record s { slot = slot })
+chosen f view s slot dst a None there is covers fits = fits
+chosen f view s slot dst a (Some word) there is covers fits = covers_learn f view (record s { slot = slot }) dst a word there is (Covers-at f view s slot covers) fits
+
+module _ (slots : List (Option Insn)) (shapes : List MapShape) (context_length slot : ℕ) (view : View) (K : Setting → State → Type 0) where
+  here_at : (insn : Insn) → instruction_at slots slot ≡ Some insn → (f : Setting) (s : State) → IsSetting slots shapes context_length f → s.slot ≡ slot → instruction_at f.slots s.slot ≡ Some insn
+  here_at insn here f s setting same = rw (setting.slots_are, same) here
+
+  -- the next instruction, at a view of which the state is known
+  pub goes_on : (insn : Insn) (after : View) → instruction_at slots slot ≡ Some insn → IsStraight insn → Carries shapes context_length insn view after → ((f : Setting) (s : State) → s.slot ≡ slot + slots_of insn → Covers f after s → K f s) → Goes slots shapes context_length slot view K
+  goes_on insn after here straight carries added f s setting same covers =
+      let on = carries f s (suits slots shapes context_length f setting) covers in
+      let at = here_at insn here f s setting same in
+      inr (inl (
+        on.0,
+        record { insn = insn; here = at; takes = on.1 },
+        record { insn = insn; here = at; leaves = rw on.3 (straight s.slot) },
+        added f on.0 (rw (← same) on.3) on.2,
+      ))
+
+  pub goes_out : instruction_at slots slot ≡ Some Exit → ((f : Setting) (s : State) → Covers f view s → (answer : ℕ) × (s.register 0 ≡ Some answer)) → Goes slots shapes context_length slot view K
+  goes_out here gives f s setting same covers =
+      let given = gives f s covers in
+      inl (given.0, record { here = here_at Exit here f s setting same; answer_is = given.1; maps_are = refl })
+
+  pub goes_there : (off : ℤ) (to : ℕ) → instruction_at slots slot ≡ Some (Goto off) → LeadsTo slot off to → ((f : Setting) (s : State) → s.slot ≡ to → Covers f view s → K f s) → Goes slots shapes context_length slot view K
+  goes_there off to here leads added f s setting same covers =
+      let at = here_at (Goto off) here f s setting same in
+      let there : LeadsTo s.slot off to = rw same leads in
+      inr (inl (
+        record s { slot = to },
+        record { insn = Goto off; here = at; takes = (to, there, refl) },
+        record { insn = Goto off; here = at; leaves = inr (off, refl, there) },
+        added f (record s { slot = to }) refl (Covers-at f view s to covers),
+      ))
+
+  pub goes_far : (imm : ℤ) (to : ℕ) → instruction_at slots slot ≡ Some (Goto32 imm) → LeadsTo slot imm to → ((f : Setting) (s : State) → s.slot ≡ to → Covers f view s → K f s) → Goes slots shapes context_length slot view K
+  goes_far imm to here leads added f s setting same covers =
+      let at = here_at (Goto32 imm) here f s setting same in
+      let there : LeadsTo s.slot imm to = rw same leads in
+      inr (inl (
+        record s { slot = to },
+        record { insn = Goto32 imm; here = at; takes = (to, there, refl) },
+        record { insn = Goto32 imm; here = at; leaves = inr (imm, refl, there) },
+        added f (record s { slot = to }) refl (Covers-at f view s to covers),
+      ))
+
+  pub goes_asking : (insn : Insn) (after : View) → instruction_at slots slot ≡ Some insn → IsCounterCall insn → AsksFrom insn view after → ((f : Setting) (s : State) → s.slot ≡ slot + 1 → Covers f after s → K f s) → Goes slots shapes context_length slot view K
+  goes_asking insn after here counter asks added f s setting same covers =
+      inr (inr (λ x small.
+      let on = asks f s x covers small in
+      let at = here_at insn here f s setting same in (
+        on.0,
+        called s x,
+        on.1,
+        record { insn = insn; here = at; takes = (on.2, rw on.1 small, rw on.1 refl) },
+        record { insn = insn; here = at; asks = counter; leaves = after_call insn counter s.slot },
+        added f (called s x) (ap (λ (n : ℕ). n + 1) same) on.3,
+      )))
+
+  parted : (w : Width) (c : Condition) (dst : ℕ) (src : Source) (off : ℤ) (to : ℕ) (f : Setting) (s : State) → instruction_at f.slots s.slot ≡ Some (Branch w c dst src off) → LeadsTo s.slot off to → (parts : PartsTo K f s w c dst src to (s.slot + 1)) (v : Bool) → taken w c parts.left parts.right ≡ v → LeadsOn K f s
+  parted w c dst src off to f s at there parts true e =
+      inr (inl (
+        record s { slot = to },
+        record { insn = Branch w c dst src off; here = at; takes = (parts.left, parts.right, parts.left_is, parts.right_is, inl (e, to, there, refl)) },
+        record { insn = Branch w c dst src off; here = at; leaves = inr (off, refl, there) },
+        parts.yes (record s { slot = to }) refl e,
+      ))
+  parted w c dst src off to f s at there parts false e =
+      inr (inl (
+        record s { slot = s.slot + 1 },
+        record { insn = Branch w c dst src off; here = at; takes = (parts.left, parts.right, parts.left_is, parts.right_is, inr (e, refl)) },
+        record { insn = Branch w c dst src off; here = at; leaves = inl (refl, refl) },
+        parts.no (record s { slot = s.slot + 1 }) refl e,
+      ))
+
+  pub goes_apart : (w : Width) (c : Condition) (dst : ℕ) (src : Source) (off : ℤ) (to : ℕ) → instruction_at slots slot ≡ Some (Branch w c dst src off) → LeadsTo slot off to → ((f : Setting) (s : State) → Covers f view s → PartsTo K f s w c dst src to (slot + 1)) → Goes slots shapes context_length slot view K
+  goes_apart w c dst src off to here leads parts f s setting same covers =
+      parted w c dst src off to f s (here_at (Branch w c dst src off) here f s setting same) (rw same leads) (subst (λ (n : ℕ). PartsTo K f s w c dst src to (n + 1)) (sym same) (parts f s covers)) _ refl
+
+-- the two sides of a branch
+pub parts_of : (f : Setting) (s : State) (view : View) (w : Width) (c : Condition) (dst : ℕ) (src : Source) (to next : ℕ) (K : Setting → State → Type 0) (left right : Known) (yes_word no_word : Option Known) → dst < length view.registers → Some left ≡ slice_index_or view.registers dst None → (b : ℕ) → IsOperand s src b → Describes f.shapes right b → ((shapes : List MapShape) (a b : ℕ) → Describes shapes left a → Describes shapes right b → taken w c a b ≡ true → Fits shapes yes_word a) → ((shapes : List MapShape) (a b : ℕ) → Describes shapes left a → Describes shapes right b → taken w c a b ≡ false → Fits shapes no_word a) → ((t : State) → t.slot ≡ to → IsOnSide f view dst yes_word t → K f t) → ((t : State) → t.slot ≡ next → IsOnSide f view dst no_word t → K f t) → Covers f view s → PartsTo K f s w c dst src to next
+parts_of f s view w c dst src to next K left right yes_word no_word there known b operand word yes_is no_is add_yes add_no covers =
+    let found = found_at f view s dst left known covers in
+    record {
+      left = found.0;
+      right = b;
+      left_is = found.1;
+      right_is = operand;
+      yes = λ t e test. rw e (add_yes (record s { slot = to }) refl (chosen f view s to dst found.0 yes_word there found.1 covers (yes_is f.shapes found.0 b found.2 word test)));
+      no = λ t e test. rw e (add_no (record s { slot = next }) refl (chosen f view s next dst found.0 no_word there found.1 covers (no_is f.shapes found.0 b found.2 word test)));
+    }
+
+-- more steps, and fewer calls before
+ends_more : (f : Setting) (s : State) (n m made made' : ℕ) → n ≤ m → made' ≤ made → EndsWithin f s n made → EndsWithin f s m made'
+ends_more f s zero m made made' le le' ends = absurd ends
+ends_more f s (suc n) zero made made' le le' ends = absurd (omega arith)
+ends_more f s (suc n) (suc m) made made' le le' (inl exit) = inl exit
+ends_more f s (suc n) (suc m) made made' le le' (inr (inl (t, step, ends))) = inr (inl (t, step, ends_more f t n m made made' (omega arith) le' ends))
+ends_more f s (suc n) (suc m) made made' le le' (inr (inr (few, each))) =
+    inr (inr (
+      omega arith,
+      λ x small. let e = each x small in (e.0, e.1, e.2, e.3, ends_more f e.1 n m (made + 1) (made' + 1) (omega arith) (omega arith) e.4),
+    ))
+
+ends_now : (f : Setting) (s : State) (n made answer : ℕ) → 1 ≤ n → Ends f s answer s.maps → EndsWithin f s n made
+ends_now f s zero made answer le ends = absurd (omega arith)
+ends_now f s (suc n) made answer le ends = inl (answer, ends)
+
+ends_after : (f : Setting) (s t : State) (n m made made' : ℕ) → n < m → made' ≤ made → Step f s None t → EndsWithin f t n made → EndsWithin f s m made'
+ends_after f s t n zero made made' lt le step ends = absurd (omega arith)
+ends_after f s t n (suc m) made made' lt le step ends = inr (inl (t, step, ends_more f t n m made made' (omega arith) le ends))
+
+-- whatever the answer is, the rest ends
+ends_asking : (f : Setting) (s : State) (m made : ℕ) → 1 ≤ m → made < most_calls → ((x : ℕ) → x < 2 ^ 64 → (c : Asked) × (t : State) × (n : ℕ) × (k : ℕ) × (answer_of c ≡ x) × Step f s (Some c) t × (n < m) × (made < k) × EndsWithin f t n k) → EndsWithin f s m made
+ends_asking f s zero made le few each = absurd (omega arith)
+ends_asking f s (suc m) made le few each =
+    inr (inr (
+      few,
+      λ x small. let e = each x small in (e.0, e.1, e.4, e.5, ends_more f e.1 e.2 m e.3 (made + 1) (let lt = e.6 in omega arith) (let lt = e.7 in omega arith) e.8),
+    ))
+
+module _ (slots : List (Option Insn)) (shapes : List MapShape) (context_length : ℕ) (heights : List ℕ) (made : ℕ → ℕ) (sound : IsSound slots) (fall : AreHeights slots heights) (rise : AreMade slots made) (slot : ℕ) (K L : Setting → State → Type 0) where
+  -- a state from which the program goes on is safe where the rest is
+  ends_from : RestIsSafe slots shapes context_length heights made (slot + 1) L → (f : Setting) (s : State) → IsSetting slots shapes context_length f → s.slot ≡ slot → LeadsOn L f s → EndsWithin f s (slice_index heights s.slot) (made s.slot)
+  ends_from rest f s setting same (inl (answer, ends)) =
+      ends_now f s _ _ answer (fall.positive s.slot _ (rw setting.slots_are at ends.here)) ends
+  ends_from rest f s setting same (inr (inl (t, step, edge, known))) =
+      let edge' : IsEdge slots s.slot t.slot = rw setting.slots_are at edge in
+      let later = sound.forward s.slot t.slot edge' in
+      ends_after f s t _ _ _ _ (fall.fall s.slot t.slot edge') (rise.kept s.slot t.slot edge') step (rest f t setting (omega (arith, later.0)) later.1 known)
+  ends_from rest f s setting same (inr (inr each)) =
+      let first = each 0 (omega arith) in
+      let edge : IsAskingEdge slots s.slot first.1.slot = rw setting.slots_are at first.4 in
+      ends_asking f s _ _ (fall.positive s.slot edge.insn edge.here) (rise.few s.slot first.1.slot edge)
+      (λ x small.
+      let e = each x small in
+      let asking : IsAskingEdge slots s.slot e.1.slot = rw setting.slots_are at e.4 in
+      let edge' : IsEdge slots s.slot e.1.slot = record { insn = asking.insn; here = asking.here; leaves = asking.leaves } in
+      let later = sound.forward s.slot e.1.slot edge' in
+      (e.0, e.1, slice_index heights e.1.slot, made e.1.slot, e.2, e.3, fall.fall s.slot e.1.slot edge', rise.risen s.slot e.1.slot asking, rest f e.1 setting (omega (arith, later.0)) later.1 e.5))
+
+  at_state : PassesOn slots shapes context_length slot K L → RestIsSafe slots shapes context_length heights made (slot + 1) L → (f : Setting) (s : State) (b : Bool) → IsSetting slots shapes context_length f → slot ≤ s.slot → IsStart slots s.slot → K f s → ((b ≡ true) × (s.slot ≡ slot)) ⊎ ((b ≡ false) × (s.slot ≢ slot)) → EndsWithin f s (slice_index heights s.slot) (made s.slot)
+  at_state passes rest f s b setting le begins known (inl (e, same)) = ends_from rest f s setting same ((passes f s setting begins known).1 same)
+  at_state passes rest f s b setting le begins known (inr (e, other)) = rest f s setting (omega arith) begins ((passes f s setting begins known).0 other)
+
+  -- if the rest is safe after the pass of a slot, it is safe before
+  pub rest_before : PassesOn slots shapes context_length slot K L → RestIsSafe slots shapes context_length heights made (slot + 1) L → RestIsSafe slots shapes context_length heights made slot K
+  rest_before passes rest f s setting le begins known = at_state passes rest f s _ setting le begins known (eqb_tells s.slot slot)
+
+no_view : (f : Setting) (s : State) (waiting : Option (Box View Global)) → waiting ≡ None → IsIn f waiting s → ⊥
+no_view f s waiting none here = rw none at here
+
+not_true : (live : Bool) → live ≡ false → live ≡ true → ⊥
+not_true live a b = cc
+
+moved : (f : Setting) (s : State) (pending : List (Option (Box View Global))) (slot : ℕ) → s.slot ≡ slot → WaitsBoxed f pending s → IsIn f (slice_index_or pending slot None) s
+moved f s pending slot same waits = subst (λ (n : ℕ). IsIn f (slice_index_or pending n None) s) same waits
+
+module _ (slots : List (Option Insn)) (shapes : List MapShape) (context_length slot : ℕ) (pending : List (Option (Box View Global))) (view : View) (live : Bool) (K : Setting → State → Type 0) (empty : slice_index_or pending slot None ≡ None) (arrives : (f : Setting) (s : State) → K f s → IsKnown pending view live slot f s) where
+  -- nothing is known at the slot
+  pub passes_over : (after : View) → live ≡ false → PassesOn slots shapes context_length slot K (IsKnown pending after false (slot + 1))
+  passes_over after dead f s setting begins known = (λ other. side (arrives f s known) other, λ same. absurd (here (arrives f s known) same))
+    where
+      side : IsKnown pending view live slot f s → s.slot ≢ slot → IsKnown pending after false (slot + 1) f s
+      side (inl waits) other = inl waits
+      side (inr (e, same, covers)) other = absurd (other same)
+
+      here : IsKnown pending view live slot f s → s.slot ≡ slot → ⊥
+      here (inl waits) same = no_view f s (slice_index_or pending slot None) empty (moved f s pending slot same waits)
+      here (inr (e, same', covers)) same = not_true live dead e
+
+  -- no instruction begins at the slot
+  pub passes_gap : (after : View) → instruction_at slots slot ≡ None → PassesOn slots shapes context_length slot K (IsKnown pending after false (slot + 1))
+  passes_gap after gap f s setting begins known = (λ other. side (arrives f s known) other, λ same. absurd (some_none _ _ (rw same at begins.here) gap))
+    where
+      side : IsKnown pending view live slot f s → s.slot ≢ slot → IsKnown pending after false (slot + 1) f s
+      side (inl waits) other = inl waits
+      side (inr (e, same, covers)) other = absurd (other same)
+
+  pub passes_by : (new : List (Option (Box View Global))) (after : View) (on : Bool) → ((f : Setting) (s : State) → WaitsBoxed f pending s → WaitsBoxed f new s) → Goes slots shapes context_length slot view (IsKnown new after on (slot + 1)) → PassesOn slots shapes context_length slot K (IsKnown new after on (slot + 1))
+  passes_by new after on kept goes f s setting begins known = (λ other. side (arrives f s known) other, λ same. here (arrives f s known) same)
+    where
+      side : IsKnown pending view live slot f s → s.slot ≢ slot → IsKnown new after on (slot + 1) f s
+      side (inl waits) other = inl (kept f s waits)
+      side (inr (e, same, covers)) other = absurd (other same)
+
+      here : IsKnown pending view live slot f s → s.slot ≡ slot → LeadsOn (IsKnown new after on (slot + 1)) f s
+      here (inl waits) same = absurd (no_view f s (slice_index_or pending slot None) empty (moved f s pending slot same waits))
+      here (inr (e, same', covers)) same = goes f s setting same covers
+
+-- no instruction begins past the end
+pub rest_at_end : (slots : List (Option Insn)) (shapes : List MapShape) (context_length : ℕ) (heights : List ℕ) (made : ℕ → ℕ) (slot : ℕ) (K : Setting → State → Type 0) → length slots ≤ slot → RestIsSafe slots shapes context_length heights made slot K
+rest_at_end slots shapes context_length heights made slot K end f s setting le begins known =
+    absurd (some_none _ _ begins.here (get_or_past slots s.slot None (omega arith)))
+
+-- a program whose start is known is safe
+pub safe_from_start : (slots : List (Option Insn)) (shapes : List MapShape) (context_length : ℕ) (heights : List ℕ) (made : ℕ → ℕ) (pending : List (Option (Box View Global))) (view : View) → context_length < 2 ^ 16 → IsStart slots 0 → ((f : Setting) (maps : List (List ℕ)) → HaveShapes f.shapes maps → Covers f view (start maps)) → RestIsSafe slots shapes context_length heights made 0 (IsKnown pending view true 0) → Safe slots shapes context_length (slice_index heights 0)
+safe_from_start slots shapes context_length heights made pending view small first begins rest f maps setting have n calls t chain =
+    goes_well f (rw setting.context_long small) (start maps) (slice_index heights 0)
+    (ends_more f (start maps) _ _ _ 0 (let p : slice_index heights 0 ≤ slice_index heights 0 = omega arith in p) zero-le
+    (rest f (start maps) setting zero-le first (inr (refl, refl, begins f maps (rw setting.shapes_are have))))) n calls t chain
+
+-- a register of a start state
+pub start_is : (f : Setting) (maps : List (List ℕ)) (v : View) (k m : Known) → 10 < length v.registers → k.kind ≡ Context → Within k.offset 0 → m.kind ≡ Stack → Within m.offset 512 → Covers f v (start maps) → Covers f (knowing (knowing v 1 k) 10 m) (start maps)
+start_is f maps v k m long kind within kind' within' covers =
+    covers_learn f (knowing v 1 k) (start maps) 10 (stack_base + stack_size) m (rw length-set long) refl
+    (covers_learn f v (start maps) 1 context_base k (omega arith) refl covers (record { base = context_base; offset = 0; is_base = rw kind refl; within = within; word_is = refl }))
+    (record { base = stack_base; offset = 512; is_base = rw kind' refl; within = within'; word_is = refl })

@@ -1,0 +1,19 @@
+use Rattle.std.proofs.Common.{◌<◌, length, inl, inr, arith}
+use Rattle.bq_verify.specs.Control.{IsKnown}
+use Rattle.bq_verify.proofs.PassLemmas.{parts_of, on_side}
+use Rattle.bq_verify.proofs.flow.branch.Goals as goal
+
+pub returns-clause-parts : goal.returns-clause-parts
+returns-clause-parts c = (
+  c.in_ok-wait_on_side.ensures.kept,
+  λ f s covers.
+      let operand = c.in-Some.ensures.finds f s covers in
+      let there : c.args.dst < length c.args.view.now.registers = omega arith in
+      parts_of f s c.args.view.now c.args.width c.args.cond c.args.dst c.args.src c.args.to c.args.next
+      (IsKnown c.wait_on_side.new.pending c.carry_on.new.view c.carry_on.result c.args.next)
+      c.in-Some-known.left c.in-Some.right c.in_ok-yes.yes c.in_ok-no.no there c.in-Some-known.ensures operand.0 operand.1 operand.2
+      c.in_ok-yes.ensures.fits c.in_ok-no.ensures.fits
+      (λ t at side. inl (c.in_ok-wait_on_side.ensures.added f t at side))
+      (λ t at side. let on = c.carry_on.ensures f t (on_side f c.args.view.now c.wait_on_side.new.view c.args.dst c.in_ok-no.no t c.wait_on_side.ensures.same side) in inr (on.0, at, on.1))
+      covers,
+)

@@ -1,0 +1,76 @@
+use Rattle.std.proofs.Common.{rules, Some, ◌≡◌, ◌+◌, ◌<◌, length, arith, refl, true, false, inl, inr}
+use mir.Syntax.{w16, w32}
+use mir.Val.{SFits}
+use Rattle.std.proofs.lemmas.Int.{ints}
+use Rattle.std.proofs.lemmas.Result.{IfOk-weaker}
+use Rattle.bq_insn.specs.Slots.{slots_of}
+use Rattle.bq_insn.specs.declared.Insn.TheVariants.{Branch, Goto, Goto32}
+use Rattle.bq_maps.specs.Machine.{LeadsTo, instruction_at}
+use Rattle.bq_graph.specs.Edges.{IsEdge}
+use Rattle.bq_graph.proofs.EdgeLemmas.{start_inside}
+use Rattle.bq_verify.specs.Control.{IsKnown}
+use Rattle.bq_verify.proofs.PassLemmas.{goes_apart, goes_asking, goes_on, goes_there, goes_far}
+use Rattle.bq_verify.proofs.flow.visit.Goals as goal
+
+pub returns-then-is_counter_call-clause-goes : goal.returns-then-is_counter_call-clause-goes
+returns-then-is_counter_call-clause-goes c = (
+  λ f s waits. waits,
+  goes_asking c.args.slots.now c.args.shapes.now c.args.context c.args.slot c.args.view.now (IsKnown c.args.pending.now c.ask.new.view true (c.args.slot + 1))
+      c.args.insn c.ask.new.view c.requires.here (c.is_counter_call.ensures.is c.if-is_counter_call.true) c.in_ok-ask.ensures.asks
+      (λ f s at covers. inr (refl, at, covers)),
+)
+
+pub returns-in_ok-wait-in-Goto-clause-goes : goal.returns-in_ok-wait-in-Goto-clause-goes
+returns-in_ok-wait-in-Goto-clause-goes c =
+    let distance : c.from.result ≡ c.in-Goto.off = search rules in
+    let fits : SFits w16 c.in-Goto.off = search rules in
+    let leads : LeadsTo c.args.slot c.in-Goto.off c.target-to.result = omega (arith, ints, c.target-to.ensures.to) in
+    let here : instruction_at c.args.slots.now c.args.slot ≡ Some (Goto c.in-Goto.off) = rw c.in-Goto.is at c.requires.here in (
+      c.in_ok-wait-in-Goto.ensures.kept,
+      goes_there c.args.slots.now c.args.shapes.now c.args.context c.args.slot c.args.view.now (IsKnown c.wait.new.pending c.args.view.now false (c.args.slot + 1))
+          c.in-Goto.off c.target-to.result here leads (λ f s at covers. inl (c.in_ok-wait-in-Goto.ensures.added f s at covers)),
+    )
+
+pub returns-in_ok-wait-in-Goto32-clause-goes : goal.returns-in_ok-wait-in-Goto32-clause-goes
+returns-in_ok-wait-in-Goto32-clause-goes c =
+    let distance : c.from-in-Goto32.result ≡ c.in-Goto32.imm = search rules in
+    let fits : SFits w32 c.in-Goto32.imm = search rules in
+    let leads : LeadsTo c.args.slot c.in-Goto32.imm c.target-to-in-Goto32.result = omega (arith, ints, c.target-to-in-Goto32.ensures.to) in
+    let here : instruction_at c.args.slots.now c.args.slot ≡ Some (Goto32 c.in-Goto32.imm) = rw c.in-Goto32.is at c.requires.here in (
+      c.in_ok-wait-in-Goto32.ensures.kept,
+      goes_far c.args.slots.now c.args.shapes.now c.args.context c.args.slot c.args.view.now (IsKnown c.wait-in-Goto32.new.pending c.args.view.now false (c.args.slot + 1))
+          c.in-Goto32.imm c.target-to-in-Goto32.result here leads (λ f s at covers. inl (c.in_ok-wait-in-Goto32.ensures.added f s at covers)),
+    )
+
+pub wait-requires-in_default : goal.wait-requires-in_default
+wait-requires-in_default c =
+    let edge : IsEdge c.args.slots.now c.args.slot (c.args.slot + slots_of c.args.insn) =
+    record { insn = c.args.insn; here = c.requires.here; leaves = c.in_ok-carry-in_default.ensures.straight c.args.slot } in
+    let inside : c.args.slot + slots_of c.args.insn < length c.args.slots.now = start_inside c.args.slots.now _ (c.requires.sound.forward c.args.slot (c.args.slot + slots_of c.args.insn) edge).1 in
+    record { here = rw (c.slots-count.ensures, c.requires.room) inside }
+
+pub returns-in_ok-wait-in_default : goal.returns-in_ok-wait-in_default
+returns-in_ok-wait-in_default c = record {
+  long = search rules;
+  goes = (
+    c.in_ok-wait-in_default.ensures.kept,
+    goes_on c.args.slots.now c.args.shapes.now c.args.context c.args.slot c.args.view.now (IsKnown c.wait-in_default.new.pending c.carry.new.view false (c.args.slot + 1))
+        c.args.insn c.carry.new.view c.requires.here c.in_ok-carry-in_default.ensures.straight c.in_ok-carry-in_default.ensures.carries
+        (λ f s at covers. inl (c.in_ok-wait-in_default.ensures.added f s (rw c.slots-count.ensures at) covers)),
+  );
+  doubts = tt;
+}
+
+pub returns-in-Branch-clause-goes : goal.returns-in-Branch-clause-goes
+returns-in-Branch-clause-goes c =
+    let distance : c.from-in-Branch.result ≡ c.in-Branch.off = search rules in
+    let fits : SFits w16 c.in-Branch.off = search rules in
+    let leads : LeadsTo c.args.slot c.in-Branch.off c.target-to-in-Branch.result = omega (arith, ints, c.target-to-in-Branch.ensures.to) in
+    let here : instruction_at c.args.slots.now c.args.slot ≡ Some (Branch c.in-Branch.width c.in-Branch.cond c.in-Branch.dst c.in-Branch.src c.in-Branch.off) = rw c.in-Branch.is at c.requires.here in
+    IfOk-weaker c.branch-alloc.result _ _
+    (λ live parts. (
+      parts.0,
+      goes_apart c.args.slots.now c.args.shapes.now c.args.context c.args.slot c.args.view.now (IsKnown c.branch-alloc.new.pending c.branch-alloc.new.view live (c.args.slot + 1))
+          c.in-Branch.width c.in-Branch.cond c.in-Branch.dst c.in-Branch.src c.in-Branch.off c.target-to-in-Branch.result here leads parts.1,
+    ))
+    c.branch-alloc.ensures.parts

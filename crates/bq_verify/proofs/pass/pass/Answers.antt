@@ -1,0 +1,19 @@
+use Rattle.std.proofs.Common.{◌+◌, rules, arith}
+use Rattle.bq_verify.specs.Control.{IsKnown}
+use Rattle.bq_verify.proofs.PassLemmas.{rest_before, rest_at_end}
+use Rattle.bq_verify.proofs.pass.pass.Goals as goal
+
+pub loop-slot-preserved : goal.loop-slot-preserved
+loop-slot-preserved c = record {
+  long = search rules;
+  rest = λ made rise rest.
+      c.loop-slot.invariant.rest made rise
+      (rest_before c.args.slots.now c.args.shapes.now c.args.context c.args.heights.now made c.requires.sound c.requires.heights rise c.loop-slot.slot
+      (IsKnown c.loop-slot.pending c.loop-slot.view c.loop-slot.live c.loop-slot.slot)
+      (IsKnown c.pass_slot.new.pending c.pass_slot.new.view c.in_ok-live.live (c.loop-slot.slot + 1))
+      c.in_ok-live.ensures.passes rest);
+}
+
+pub returns-clause-safe : goal.returns-clause-safe
+returns-clause-safe c = λ made rise.
+    c.loop-slot.invariant.rest made rise (rest_at_end c.args.slots.now c.args.shapes.now c.args.context c.args.heights.now made c.loop-slot.slot _ (omega arith))

@@ -1,0 +1,103 @@
+-- One pass over the slots: what is known along the way, and what that makes safe.
+-- One view is carried from slot to slot; where ways part a view is boxed and waits at its slot.
+use Rattle.std.specs.Prelude.{Bool, true, false, ◌≡◌, ◌≢◌, ℕ, zero, suc, ◌+◌, ◌^◌, ◌<◌, ◌≤◌, List, Option, Some, None, length, slice_index, slice_index_or, ◌⊎◌}
+use Rattle.std.proofs.Common.{Global}
+use Rattle.std.specs.declared.boxed.Box.{Box}
+use Rattle.bq_insn.specs.declared.Insn.{Insn}
+use Rattle.bq_insn.specs.declared.Width.{Width}
+use Rattle.bq_insn.specs.declared.Condition.{Condition}
+use Rattle.bq_insn.specs.declared.Source.{Source}
+use Rattle.bq_insn.specs.Slots.{slots_of}
+use Rattle.bq_insn.specs.Meaning.{taken}
+use Rattle.bq_maps.specs.declared.shape.MapShape.{MapShape}
+use Rattle.bq_maps.specs.declared.board.Call.{Call as Asked}
+use Rattle.bq_maps.specs.Counters.{answer_of}
+use Rattle.bq_maps.specs.Memory.{Setting, State}
+use Rattle.bq_maps.specs.Machine.{IsOperand, instruction_at, Step, Ends, IsSetting, IsCounterCall, most_calls}
+use Rattle.bq_graph.specs.Edges.{Leaves, IsEdge, IsStart}
+use Rattle.bq_verify.specs.declared.view.Known.{Known}
+use Rattle.bq_verify.specs.declared.view.View.{View}
+use Rattle.bq_verify.specs.Views.{Covers, knowing}
+
+-- each number is above those of the slots that its slot leads to, which come later
+pub record AreHeights (slots : List (Option Insn)) (heights : List ℕ) : Type 0 where
+  pub fall : (from to : ℕ) → IsEdge slots from to → slice_index heights to < slice_index heights from
+  pub positive : (slot : ℕ) (insn : Insn) → instruction_at slots slot ≡ Some insn → 1 ≤ slice_index heights slot
+
+-- an edge from a call of a counter
+pub record IsAskingEdge (slots : List (Option Insn)) (from to : ℕ) : Type 0 where
+  pub insn : Insn
+  pub here : instruction_at slots from ≡ Some insn
+  pub asks : IsCounterCall insn
+  pub leaves : Leaves insn from to
+
+-- each number is at least how many calls of counters a path to its slot makes, and none has too many
+pub record AreMade (slots : List (Option Insn)) (made : ℕ → ℕ) : Type 0 where
+  pub kept : (from to : ℕ) → IsEdge slots from to → made from ≤ made to
+  pub risen : (from to : ℕ) → IsAskingEdge slots from to → made from < made to
+  pub few : (from to : ℕ) → IsAskingEdge slots from to → made from < most_calls
+
+-- whatever the counters answer, the program ends within n steps, and makes few calls beside those made before
+abbrev pub EndsWithin : Setting → State → ℕ → ℕ → Type 0
+EndsWithin f s zero made = ⊥
+EndsWithin f s (suc n) made =
+    ((answer : ℕ) × Ends f s answer s.maps)
+    ⊎ ((t : State) × Step f s None t × EndsWithin f t n made)
+    ⊎ ((made < most_calls) × ((x : ℕ) → x < 2 ^ 64 → (c : Asked) × (t : State) × (answer_of c ≡ x) × Step f s (Some c) t × EndsWithin f t n (made + 1)))
+
+-- there is a boxed view, and it is right about the state
+abbrev pub IsIn : Setting → Option (Box View Global) → State → Type 0
+IsIn f None s = ⊥
+IsIn f (Some boxed) s = Covers f boxed.value s
+
+-- a view that waits at the state's slot is right about it
+abbrev pub WaitsBoxed : Setting → List (Option (Box View Global)) → State → Type 0
+WaitsBoxed f pending s = IsIn f (slice_index_or pending s.slot None) s
+
+-- the state is one of a waiting view, or one of the view that is carried to that slot
+abbrev pub IsKnown : List (Option (Box View Global)) → View → Bool → ℕ → Setting → State → Type 0
+IsKnown pending view live slot f s = WaitsBoxed f pending s ⊎ ((live ≡ true) × (s.slot ≡ slot) × Covers f view s)
+
+-- at the state the program ends, or goes on to a state that is known; at a call of a counter it does so for each answer
+abbrev pub LeadsOn : (Setting → State → Type 0) → Setting → State → Type 0
+LeadsOn K f s =
+    ((answer : ℕ) × Ends f s answer s.maps)
+    ⊎ ((t : State) × Step f s None t × IsEdge f.slots s.slot t.slot × K f t)
+    ⊎ ((x : ℕ) → x < 2 ^ 64 → (c : Asked) × (t : State) × (answer_of c ≡ x) × Step f s (Some c) t × IsAskingEdge f.slots s.slot t.slot × K f t)
+
+-- from the states of the view at that slot the program goes on
+abbrev pub Goes : List (Option Insn) → List MapShape → ℕ → ℕ → View → (Setting → State → Type 0) → Type 0
+Goes slots shapes context_length slot view K =
+    (f : Setting) (s : State) → IsSetting slots shapes context_length f → s.slot ≡ slot → Covers f view s → LeadsOn K f s
+
+-- one slot is done
+abbrev pub PassesOn : List (Option Insn) → List MapShape → ℕ → ℕ → (Setting → State → Type 0) → (Setting → State → Type 0) → Type 0
+PassesOn slots shapes context_length slot K L =
+    (f : Setting) (s : State) → IsSetting slots shapes context_length f → IsStart slots s.slot → K f s → (s.slot ≢ slot → L f s) × (s.slot ≡ slot → LeadsOn L f s)
+
+-- from each known state at an instruction, at that slot or later, the program ends within the height of its slot
+abbrev pub RestIsSafe : List (Option Insn) → List MapShape → ℕ → List ℕ → (ℕ → ℕ) → ℕ → (Setting → State → Type 0) → Type 0
+RestIsSafe slots shapes context_length heights made slot K =
+    (f : Setting) (s : State) → IsSetting slots shapes context_length f → slot ≤ s.slot → IsStart slots s.slot → K f s → EndsWithin f s (slice_index heights s.slot) (made s.slot)
+
+-- control only goes on to the next instruction
+abbrev pub IsStraight : Insn → Type 0
+IsStraight insn = (slot : ℕ) → Leaves insn slot (slot + slots_of insn)
+
+-- the state is one of the view with that word in the register; of none where control never goes there
+abbrev pub IsOnSide : Setting → View → ℕ → Option Known → State → Type 0
+IsOnSide f view dst None s = ⊥
+IsOnSide f view dst (Some word) s = Covers f (knowing view dst word) s
+
+-- the views differ in that register alone
+abbrev pub IsRelearned : View → View → ℕ → Type 0
+IsRelearned old new dst = (word : Known) → knowing new dst word ≡ knowing old dst word
+
+-- both operands are set, and on the side that the test chooses the state is known
+pub record PartsTo (K : Setting → State → Type 0) (f : Setting) (s : State) (w : Width) (c : Condition) (dst : ℕ) (src : Source) (to next : ℕ) : Type 0 where
+  pub left : ℕ
+  pub right : ℕ
+  pub left_is : s.register dst ≡ Some left
+  pub right_is : IsOperand s src right
+  pub yes : (t : State) → t ≡ record s { slot = to } → taken w c left right ≡ true → K f t
+  pub no : (t : State) → t ≡ record s { slot = next } → taken w c left right ≡ false → K f t

@@ -1,0 +1,38 @@
+-- What may not be shown of which instruction.
+use Rattle.std.specs.Prelude.{◌≡◌, List, Option, Some}
+use Rattle.bq_insn.specs.declared.Insn.{Insn}
+use Rattle.bq_insn.specs.declared.Insn.TheVariants.{Load, StoreImm, StoreReg, MapRef, Call, Exit}
+use Rattle.bq_maps.specs.Machine.{instruction_at}
+use Rattle.bq_graph.specs.declared.cause.Cause.{Cause}
+use Rattle.bq_graph.specs.declared.cause.Cause.TheVariants as cause
+use Rattle.bq_verify.specs.declared.view.Doubt.{Doubt}
+use Rattle.bq_verify.specs.declared.view.Doubt.TheVariants.{Unset, Access, PointerUse, Argument, Answer}
+use Rattle.bq_verify.specs.declared.view.Stop.{Stop}
+use Rattle.bq_verify.specs.declared.view.Stop.TheVariants.{Doubted}
+use Rattle.bq_verify.specs.declared.view.Stop.TheVariants as stop
+
+-- an access at a load or a store, an argument at a call or a map reference, an answer at an EXIT
+abbrev pub MayDoubt : Doubt → Insn → Type 0
+MayDoubt Unset insn = Unit {0}
+MayDoubt PointerUse insn = Unit {0}
+MayDoubt Access (Load size signed dst src off) = Unit {0}
+MayDoubt Access (StoreImm size dst off imm) = Unit {0}
+MayDoubt Access (StoreReg size dst off src) = Unit {0}
+MayDoubt Argument (MapRef dst index) = Unit {0}
+MayDoubt Argument (Call helper) = Unit {0}
+MayDoubt Answer Exit = Unit {0}
+MayDoubt _ _ = ⊥
+
+-- the pass stops at an instruction for what is not shown of it, or for want of memory
+abbrev pub MayStop : Stop → Insn → Type 0
+MayStop (Doubted doubt) insn = MayDoubt doubt insn
+MayStop stop.OutOfMemory insn = Unit {0}
+
+-- the same of the cause that is named
+abbrev pub MayCause : Cause → Insn → Type 0
+MayCause cause.Unset insn = Unit {0}
+MayCause cause.PointerUse insn = Unit {0}
+MayCause cause.Access insn = MayDoubt Access insn
+MayCause cause.Argument insn = MayDoubt Argument insn
+MayCause cause.Answer insn = MayDoubt Answer insn
+MayCause _ insn = ⊥

@@ -1,0 +1,101 @@
+// Map references and calls of helpers.
+
+ghost use Rattle.std.specs.Prelude.{◌≡◌, ◌<◌, ◌≤◌, ◌^◌, ℕ, pos, IfSome, OnOk, Some, length, IfErr};
+ghost use Rattle.bq_maps.specs.Memory.{Setting, State, reference};
+ghost use Rattle.bq_verify.specs.Doubts.{MayDoubt};
+ghost use Rattle.bq_verify.specs.Views.{Carries, Clears, Covers};
+
+use crate::memory::reads;
+use crate::registers::{known, learn};
+use crate::view::{Doubt, Kind, Known, View};
+use bq_insn::{Insn, Size};
+use bq_maps::shape::MapShape;
+use bq_ranges::Range;
+
+/// The reference of a map.
+pub fn map_ref(view: &mut View, shapes: &[MapShape], dst: u8, index: i32) -> Result<(), Doubt>
+    requires dst { dst < 10 }
+    requires few { length shapes.now ≤ 8 }
+    ensures carries { OnOk result ((context_length : ℕ) → Carries shapes.now context_length (Insn.MapRef dst index) view.old view.new) }
+    ensures doubts { IfErr result (λ doubt. MayDoubt doubt (Insn.MapRef dst index)) }
+{
+    let Some(map) = map_number(shapes, index) else {
+        return Err(Doubt::Argument);
+    };
+    learn(
+        view,
+        dst,
+        Known {
+            kind: Kind::Map(map),
+            offset: Range::single(0),
+        },
+    );
+    Ok(())
+}
+
+/// The number of a map, if there is one of that index.
+fn map_number(shapes: &[MapShape], index: i32) -> Option<u8>
+    requires { length shapes.now ≤ 8 }
+    ensures index { IfSome result (λ m. index ≡ pos m) }
+    ensures there { IfSome result (λ m. m < length shapes.now) }
+{
+    if index < 0 || index >= 8 {
+        return None;
+    }
+    let map = index as u8;
+    if usize::from(map) < shapes.len() {
+        Some(map)
+    } else {
+        None
+    }
+}
+
+/// After a call registers 1 to 5 are unset.
+pub fn clear(registers: &mut [Option<Known>])
+    requires { length registers.old ≡ 11 }
+    ensures { Clears registers.old registers.new }
+{
+    for register in 1..6 {
+        registers[register] = None;
+    }
+}
+
+/// The map that register 1 names.
+fn map_of(view: &View) -> Option<u8>
+    ensures { IfSome result (λ m. (f : Setting) (s : State) → Covers f view.now s → (s.register 1 ≡ Some (reference m)) × (m < length f.shapes)) }
+{
+    let Some(word) = known(view, 1) else {
+        return None;
+    };
+    if word.offset.hi > 0 {
+        return None;
+    }
+    match word.kind {
+        Kind::Map(map) => Some(map),
+        _ => None,
+    }
+}
+
+/// A look-up: register 1 is the reference of a map, and register 2 points to the number of an entry.
+pub fn look_up(view: &mut View, shapes: &[MapShape], context: usize) -> Result<(), Doubt>
+    requires context { context < 2 ^ 16 }
+    ensures carries { OnOk result (Carries shapes.now context (Insn.Call (pos 1)) view.old view.new) }
+    ensures doubts { IfErr result (λ doubt. MayDoubt doubt (Insn.Call (pos 1))) }
+{
+    let Some(map) = map_of(view) else {
+        return Err(Doubt::Argument);
+    };
+    if !reads(view, shapes, context, 2, Size::Word) {
+        return Err(Doubt::Argument);
+    }
+    clear(&mut view.registers);
+    learn(
+        view,
+        0,
+        Known {
+            kind: Kind::EntryOrNull(map),
+            offset: Range::single(0),
+        },
+    );
+    Ok(())
+}

@@ -1,0 +1,98 @@
+// Calls of counters.
+
+ghost use Rattle.std.specs.Prelude.{◌≡◌, ◌<◌, ◌≤◌, ◌^◌, ℕ, pos, true, false, IsTrue, OnOk, IfErr, ℤ, length};
+ghost use Rattle.bq_verify.specs.Doubts.{MayDoubt};
+ghost use Rattle.bq_maps.specs.Memory.{Setting, State};
+ghost use Rattle.bq_maps.specs.Machine.{IsCounterCall, called};
+ghost use Rattle.bq_verify.specs.Views.{AsksFrom, Covers, IsBelow};
+
+use crate::calls::clear;
+use crate::registers::{known, learn};
+use crate::view::{Doubt, Kind, Known, View};
+use bq_insn::{Insn, Width};
+use bq_ranges::Range;
+
+/// Whether a register is a number of at most `most`.
+fn is_at_most(view: &View, register: u8, most: u64) -> bool
+    ensures { IsTrue result → (bound : ℕ) → most < bound → IsBelow view.now register bound }
+{
+    let Some(word) = known(view, register) else {
+        return false;
+    };
+    if word.kind != Kind::Number {
+        return false;
+    }
+    word.offset.hi <= most
+}
+
+/// After a call register 0 has the answer.
+fn answer(view: &mut View)
+    ensures { (f : Setting) (s : State) (x : ℕ) → Covers f view.old s → x < 2 ^ 64 → Covers f view.new (called s x) }
+{
+    clear(&mut view.registers);
+    learn(
+        view,
+        0,
+        Known {
+            kind: Kind::Number,
+            offset: Range::full(Width::W64),
+        },
+    );
+}
+
+/// An add: register 1 is a counter, and register 2 an amount.
+fn add(view: &mut View) -> Result<(), Doubt>
+    ensures asks { OnOk result (AsksFrom (Insn.Call (pos 100)) view.old view.new) }
+    ensures doubts { IfErr result (λ doubt. (helper : ℤ) → MayDoubt doubt (Insn.Call helper)) }
+{
+    if !is_at_most(view, 1, 63) {
+        return Err(Doubt::Argument);
+    }
+    if !is_at_most(view, 2, u64::MAX) {
+        return Err(Doubt::Argument);
+    }
+    answer(view);
+    Ok(())
+}
+
+/// A read: register 1 is a counter.
+fn read(view: &mut View) -> Result<(), Doubt>
+    ensures asks { OnOk result (AsksFrom (Insn.Call (pos 101)) view.old view.new) }
+    ensures doubts { IfErr result (λ doubt. (helper : ℤ) → MayDoubt doubt (Insn.Call helper)) }
+{
+    if !is_at_most(view, 1, 63) {
+        return Err(Doubt::Argument);
+    }
+    answer(view);
+    Ok(())
+}
+
+/// Whether the instruction is a call of a counter.
+pub fn is_counter_call(insn: Insn) -> bool
+    ensures is { IsTrue result → IsCounterCall insn }
+    ensures only { IsCounterCall insn → IsTrue result }
+{
+    match insn {
+        Insn::Call { helper } => helper == 100 || helper == 101,
+        _ => false,
+    }
+}
+
+/// The view after a call of a counter.
+pub fn ask(view: &mut View, insn: Insn) -> Result<(), Doubt>
+    requires { IsCounterCall insn }
+    ensures asks { OnOk result (AsksFrom insn view.old view.new) }
+    ensures doubts { IfErr result (λ doubt. MayDoubt doubt insn) }
+{
+    match insn {
+        Insn::Call { helper } => {
+            if helper == 100 {
+                add(view)?;
+                return Ok(());
+            }
+            read(view)?;
+            Ok(())
+        }
+        _ => unreachable!(),
+    }
+}

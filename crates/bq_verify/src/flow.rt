@@ -1,0 +1,249 @@
+// Where control goes from a slot, and what is known there.
+
+ghost use Rattle.std.specs.Prelude.{◌≡◌, ◌<◌, ◌≤◌, ◌+◌, ◌^◌, ℕ, length, slice_index_or, IfOk, IfSome, IfErr, IsOk, OnOk, List, Some, true};
+ghost use Rattle.bq_insn.specs.declared.Insn.{Insn};
+ghost use Rattle.bq_insn.specs.Meaning.{taken};
+ghost use Rattle.bq_maps.specs.Memory.{Setting, State};
+ghost use Rattle.bq_maps.specs.Machine.{instruction_at};
+ghost use Rattle.bq_maps.specs.declared.shape.MapShape.{MapShape};
+ghost use Rattle.bq_graph.specs.Passes.{IsSound};
+ghost use Rattle.bq_verify.specs.Doubts.{MayDoubt, MayStop};
+ghost use Rattle.bq_verify.specs.Standing.{Scalar, StandsAt, IsSide};
+ghost use Rattle.bq_verify.specs.Views.{Covers, Describes, Fits};
+ghost use Rattle.bq_verify.specs.Control.{Goes, IsKnown, IsOnSide, IsRelearned, PartsTo, WaitsBoxed};
+
+use crate::carry::carry;
+use crate::counters::{ask, is_counter_call};
+use crate::registers::{known, learn, operand};
+use crate::view::{Doubt, Kind, Known, Stop, View};
+use crate::waiting::wait;
+use bq_graph::passes::target;
+use bq_insn::{Condition, Insn, Source, Width};
+use bq_maps::shape::MapShape;
+use bq_ranges::narrowing::narrow;
+use std::alloc::{AllocError, Global};
+
+/// One slot where something is known: whether a view is carried on to the next slot.
+pub fn visit(
+    alloc: Global,
+    slots: &[Option<Insn>],
+    shapes: &[MapShape],
+    context: usize,
+    slot: usize,
+    insn: Insn,
+    view: &mut View,
+    pending: &mut [Option<Box<View>>],
+) -> Result<bool, Stop>
+    requires here { instruction_at slots.now slot ≡ Some insn }
+    requires inside { slot < length slots.now }
+    requires sound { IsSound slots.now }
+    requires room { length pending.old ≡ length slots.now }
+    requires short { length slots.now ≤ 4096 }
+    requires context { context < 2 ^ 16 }
+    requires few { length shapes.now ≤ 8 }
+    ensures long { length pending.new ≡ length pending.old }
+    ensures goes { IfOk result (λ live. ((f : Setting) (s : State) → WaitsBoxed f pending.old s → WaitsBoxed f pending.new s) × Goes slots.now shapes.now context slot view.old (IsKnown pending.new view.new live (slot + 1))) }
+    ensures doubts { IfErr result (λ stop. MayStop stop insn) }
+{
+    if is_counter_call(insn) {
+        ask(view, insn)?;
+        return Ok(true);
+    }
+    match insn {
+        Insn::Exit => {
+            leave(view)?;
+            Ok(false)
+        }
+        Insn::Goto { off } => {
+            let to = target(slots, slot, insn, i64::from(off));
+            wait(alloc, pending, to, view)?;
+            Ok(false)
+        }
+        Insn::Goto32 { imm } => {
+            let to = target(slots, slot, insn, i64::from(imm));
+            wait(alloc, pending, to, view)?;
+            Ok(false)
+        }
+        Insn::Branch {
+            width,
+            cond,
+            dst,
+            src,
+            off,
+        } => {
+            let to = target(slots, slot, insn, i64::from(off));
+            branch(alloc, width, cond, dst, src, to, slot + 1, view, pending)
+        }
+        _ => {
+            carry(view, shapes, context, insn)?;
+            let count = insn.slots();
+            if count == 1 {
+                return Ok(true);
+            }
+            wait(alloc, pending, slot + count, view)?;
+            Ok(false)
+        }
+    }
+}
+
+/// An EXIT, whose answer has to be a number.
+fn leave(view: &View) -> Result<(), Doubt>
+    ensures answers { OnOk result ((f : Setting) (s : State) → Covers f view.now s → (answer : ℕ) × (s.register 0 ≡ Some answer)) }
+    ensures doubts { IfErr result (λ doubt. MayDoubt doubt Insn.Exit) }
+    ensures accepts { StandsAt Scalar view.now 0 → IsOk result }
+{
+    let Some(answer) = known(view, 0) else {
+        return Err(Doubt::Answer);
+    };
+    if answer.kind != Kind::Number {
+        return Err(Doubt::Answer);
+    }
+    Ok(())
+}
+
+/// A branch: what is known where it is taken waits there, and the other side is carried on.
+fn branch(
+    alloc: Global,
+    width: Width,
+    cond: Condition,
+    dst: u8,
+    src: Source,
+    to: usize,
+    next: usize,
+    view: &mut View,
+    pending: &mut [Option<Box<View>>],
+) -> Result<bool, Stop>
+    requires to { to < length pending.old }
+    ensures long { length pending.new ≡ length pending.old }
+    ensures parts { IfOk result (λ live. ((f : Setting) (s : State) → WaitsBoxed f pending.old s → WaitsBoxed f pending.new s)
+        × ((f : Setting) (s : State) → Covers f view.old s → PartsTo (IsKnown pending.new view.new live next) f s width cond dst src to next)) }
+    ensures doubts { IfErr result (λ stop. (insn : Insn) → MayStop stop insn) }
+{
+    let Some(right) = operand(view, src) else {
+        return Err(Stop::Doubted(Doubt::Unset));
+    };
+    let Some(left) = known(view, dst) else {
+        return Err(Stop::Doubted(Doubt::Unset));
+    };
+    if dst >= 10 {
+        return Err(Stop::Doubted(Doubt::PointerUse));
+    }
+    let yes = side(width, cond, left, right, true)?;
+    let no = side(width, cond, left, right, false)?;
+    wait_on_side(alloc, pending, to, view, dst, yes)?;
+    Ok(carry_on(view, dst, no))
+}
+
+/// What the left operand is on one side of a branch; `None` where control never goes there.
+fn side(
+    width: Width,
+    cond: Condition,
+    left: Known,
+    right: Known,
+    goes: bool,
+) -> Result<Option<Known>, Doubt>
+    ensures fits { IfOk result (λ side. (shapes : List MapShape) (a b : ℕ) → Describes shapes left a → Describes shapes right b → taken width cond a b ≡ goes → Fits shapes side a) }
+    ensures doubts { IfErr result (λ doubt. (insn : Insn) → MayDoubt doubt insn) }
+    ensures accepts { left.kind ≡ Kind.Number → right.kind ≡ Kind.Number → IsOk result }
+{
+    match outcome(width, cond, left, right, goes) {
+        Some(side) => Ok(side),
+        None => Err(Doubt::PointerUse),
+    }
+}
+
+/// The view with that word in the register waits for the slot, if there is one.
+fn wait_on_side(
+    alloc: Global,
+    pending: &mut [Option<Box<View>>],
+    slot: usize,
+    view: &mut View,
+    dst: u8,
+    side: Option<Known>,
+) -> Result<(), AllocError>
+    requires here { slot < length pending.old }
+    requires dst { dst < 11 }
+    ensures long { length pending.new ≡ length pending.old }
+    ensures same { IsRelearned view.old view.new dst }
+    ensures kept { OnOk result ((f : Setting) (s : State) → WaitsBoxed f pending.old s → WaitsBoxed f pending.new s) }
+    ensures added { OnOk result ((f : Setting) (s : State) → s.slot ≡ slot → IsOnSide f view.old dst side s → WaitsBoxed f pending.new s) }
+{
+    let Some(word) = side else {
+        return Ok(());
+    };
+    learn(view, dst, word);
+    wait(alloc, pending, slot, view)
+}
+
+/// The view with that word in the register is carried on, if there is one.
+fn carry_on(view: &mut View, dst: u8, side: Option<Known>) -> bool
+    requires { dst < 11 }
+    ensures { (f : Setting) (s : State) → IsOnSide f view.old dst side s → (result ≡ true) × Covers f view.new s }
+{
+    let Some(word) = side else {
+        return false;
+    };
+    learn(view, dst, word);
+    true
+}
+
+/// What the left operand is on one side of a branch, where such words may be compared; the inner `None` where control never goes there.
+fn outcome(
+    width: Width,
+    cond: Condition,
+    left: Known,
+    right: Known,
+    goes: bool,
+) -> Option<Option<Known>>
+    ensures fits { IfSome result (λ side. (shapes : List MapShape) (a b : ℕ) → Describes shapes left a → Describes shapes right b → taken width cond a b ≡ goes → Fits shapes side a) }
+    ensures numbers { left.kind ≡ Kind.Number → right.kind ≡ Kind.Number → IsSide result }
+{
+    match (left.kind, right.kind) {
+        (Kind::Number, Kind::Number) => match narrow(cond, width, left.offset, right.offset, goes) {
+            Some(offset) => Some(Some(Known {
+                kind: Kind::Number,
+                offset,
+            })),
+            None => Some(None),
+        },
+        (Kind::EntryOrNull(map), Kind::Number) => {
+            if left.offset.hi > 0 || right.offset.hi > 0 {
+                return None;
+            }
+            null_check(map, width, cond, left, right, goes)
+        }
+        _ => None,
+    }
+}
+
+/// A look-up's result on one side of its test.
+fn null_check(
+    map: u8,
+    width: Width,
+    cond: Condition,
+    left: Known,
+    right: Known,
+    goes: bool,
+) -> Option<Option<Known>>
+    requires left { left.kind ≡ Kind.EntryOrNull map }
+    requires right { right.kind ≡ Kind.Number }
+    requires whole { left.offset.hi ≡ 0 }
+    requires null { right.offset.hi ≡ 0 }
+    ensures { IfSome result (λ side. (shapes : List MapShape) (a b : ℕ) → Describes shapes left a → Describes shapes right b → taken width cond a b ≡ goes → Fits shapes side a) }
+{
+    let null = Known {
+        kind: Kind::Number,
+        offset: right.offset,
+    };
+    let entry = Known {
+        kind: Kind::Entry(map),
+        offset: left.offset,
+    };
+    match (width, cond, goes) {
+        (Width::W64, Condition::Equal, true) => Some(Some(null)),
+        (Width::W64, Condition::Equal, false) => Some(Some(entry)),
+        (Width::W64, Condition::NotEqual, true) => Some(Some(entry)),
+        (Width::W64, Condition::NotEqual, false) => Some(Some(null)),
+        _ => None,
+    }
+}

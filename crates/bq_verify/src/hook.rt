@@ -1,0 +1,31 @@
+// Where a policy is asked, and how long its context is.
+
+ghost use Rattle.std.specs.Prelude.{◌≡◌};
+ghost use Rattle.bq_verify.specs.Accepted.{context_length_of};
+
+/// The choice that a policy makes.
+#[derive(Clone, Copy, Debug, PartialEq, Eq)]
+pub enum Hook {
+    Place,
+    Preempt,
+    Pull,
+}
+
+/// The version of an image.
+#[derive(Clone, Copy, Debug, PartialEq, Eq)]
+pub enum Version {
+    First,
+    Second,
+}
+
+/// How many bytes the context of a hook has.
+pub fn context_length(hook: Hook, version: Version) -> usize
+    ensures { result ≡ context_length_of hook version }
+{
+    match (hook, version) {
+        (Hook::Place, Version::First) => 104,
+        (Hook::Place, Version::Second) => 296,
+        (Hook::Preempt, _) => 56,
+        (Hook::Pull, _) => 160,
+    }
+}

@@ -1,0 +1,28 @@
+//! The verifier: what it accepts is safe.
+//!
+//! `verify` checks the control graph, then goes over the slots once and keeps what is known of
+//! registers and stack. A `Verified` is safe within its budget; the interpreter rests on that alone.
+#![tactic(auto)]
+
+pub mod alu;
+pub mod calls;
+pub mod carry;
+pub mod counters;
+pub mod flow;
+pub mod hook;
+pub mod memory;
+pub mod merge;
+pub mod pass;
+pub mod program;
+pub mod refused;
+pub mod registers;
+pub mod stores;
+pub mod verified;
+pub mod view;
+pub mod waiting;
+
+pub use bq_graph::cause::Cause;
+pub use hook::{Hook, Version};
+pub use program::{Program, verify};
+pub use refused::Refused;
+pub use verified::Verified;

@@ -1,0 +1,164 @@
+// One pass over the slots, by rising number.
+
+ghost use Rattle.std.specs.Prelude.{◌≡◌, ◌<◌, ◌≤◌, ◌+◌, ◌^◌, ℕ, List, length, IfOk, IfErr, OnOk, None, false, true, slice_index, slice_index_or};
+ghost use Rattle.bq_maps.specs.Memory.{Setting, State};
+ghost use Rattle.bq_maps.specs.Arrays.{HaveShapes};
+ghost use Rattle.bq_maps.specs.Machine.{Safe, start as beginning};
+ghost use Rattle.bq_graph.specs.Edges.{IsStart};
+ghost use Rattle.bq_graph.specs.Passes.{IsSound};
+ghost use Rattle.bq_verify.specs.Refusals.{IsStopped};
+ghost use Rattle.bq_verify.specs.Standing.{ContextStart, StandsAt};
+ghost use Rattle.bq_verify.specs.Views.{Covers};
+ghost use Rattle.bq_verify.specs.Control.{AreHeights, AreMade, IsKnown, PassesOn, RestIsSafe};
+
+use crate::flow::visit;
+use crate::refused::{Refused, refuse};
+use crate::registers::learn;
+use crate::view::{Kind, Known, View};
+use crate::waiting::{arrive, nothing_waits};
+use bq_graph::edges::instruction;
+use bq_insn::Insn;
+use bq_maps::shape::MapShape;
+use bq_ranges::Range;
+use std::alloc::Global;
+
+/// Whether the program is safe within the height of its first slot.
+///
+/// `slots` is a program whose control graph has no fault, and `heights` the longest paths from its slots.
+pub fn judge(
+    alloc: Global,
+    slots: &[Option<Insn>],
+    shapes: &[MapShape],
+    context: usize,
+    heights: &[u32],
+) -> Result<(), Refused>
+    requires sound { IsSound slots.now }
+    requires heights { AreHeights slots.now heights.now }
+    requires made { (made : ℕ → ℕ) × AreMade slots.now made }
+    requires first { IsStart slots.now 0 }
+    requires short { length slots.now ≤ 4096 }
+    requires context { context < 2 ^ 16 }
+    requires few { length shapes.now ≤ 8 }
+    ensures safe { OnOk result (Safe slots.now shapes.now context (slice_index heights.now 0)) }
+    ensures stopped { IfErr result (IsStopped slots.now) }
+{
+    let mut pending = nothing_waits(alloc, slots.len())?;
+    let mut view = start();
+    pass(
+        alloc,
+        slots,
+        shapes,
+        context,
+        heights,
+        &mut view,
+        pending.as_mut_slice(),
+    )?;
+    Ok(())
+}
+
+/// All slots.
+fn pass(
+    alloc: Global,
+    slots: &[Option<Insn>],
+    shapes: &[MapShape],
+    context: usize,
+    heights: &[u32],
+    view: &mut View,
+    pending: &mut [Option<Box<View>>],
+) -> Result<(), Refused>
+    requires sound { IsSound slots.now }
+    requires heights { AreHeights slots.now heights.now }
+    requires room { length pending.old ≡ length slots.now }
+    requires short { length slots.now ≤ 4096 }
+    requires context { context < 2 ^ 16 }
+    requires few { length shapes.now ≤ 8 }
+    ensures safe { OnOk result ((made : ℕ → ℕ) → AreMade slots.now made → RestIsSafe slots.now shapes.now context heights.now made 0 (IsKnown pending.old view.old true 0)) }
+    ensures stopped { IfErr result (IsStopped slots.now) }
+{
+    let mut live = true;
+    for slot in 0..slots.len() {
+        live = pass_slot(alloc, slots, shapes, context, slot, view, live, pending)?;
+    }
+    Ok(())
+}
+
+/// One slot: whether a view is carried on to the next.
+fn pass_slot(
+    alloc: Global,
+    slots: &[Option<Insn>],
+    shapes: &[MapShape],
+    context: usize,
+    slot: usize,
+    view: &mut View,
+    live: bool,
+    pending: &mut [Option<Box<View>>],
+) -> Result<bool, Refused>
+    requires sound { IsSound slots.now }
+    requires here { slot < length slots.now }
+    requires room { length pending.old ≡ length slots.now }
+    requires short { length slots.now ≤ 4096 }
+    requires context { context < 2 ^ 16 }
+    requires few { length shapes.now ≤ 8 }
+    ensures long { length pending.new ≡ length pending.old }
+    ensures passes { IfOk result (λ on. PassesOn slots.now shapes.now context slot (IsKnown pending.old view.old live slot) (IsKnown pending.new view.new on (slot + 1))) }
+    ensures stopped { IfErr result (IsStopped slots.now) }
+{
+    if !arrive(view, live, pending, slot) {
+        return Ok(false);
+    }
+    let Some(insn) = instruction(slots, slot) else {
+        return Ok(false);
+    };
+    match visit(alloc, slots, shapes, context, slot, insn, view, pending) {
+        Ok(on) => Ok(on),
+        Err(stop) => Err(refuse(slot, stop)),
+    }
+}
+
+/// What is known at the start.
+fn start() -> View
+    ensures covers { (f : Setting) (maps : List (List ℕ)) → HaveShapes f.shapes maps → Covers f result (beginning maps) }
+    ensures context { StandsAt ContextStart result 1 }
+{
+    let mut view = blank();
+    learn(
+        &mut view,
+        1,
+        Known {
+            kind: Kind::Context,
+            offset: Range::single(0),
+        },
+    );
+    learn(
+        &mut view,
+        10,
+        Known {
+            kind: Kind::Stack,
+            offset: Range::single(512),
+        },
+    );
+    view
+}
+
+/// Nothing is known of registers and stack.
+fn blank() -> View
+    ensures { (f : Setting) (s : State) → HaveShapes f.shapes s.maps → Covers f result s }
+{
+    View {
+        registers: nothing(),
+        set: unset(),
+        kept: nothing(),
+    }
+}
+
+fn nothing<const N: usize>() -> [Option<Known>; N]
+    ensures { (k : ℕ) → slice_index_or result k None ≡ None }
+{
+    [None; N]
+}
+
+fn unset<const N: usize>() -> [bool; N]
+    ensures { (k : ℕ) → slice_index_or result k false ≡ false }
+{
+    [false; N]
+}

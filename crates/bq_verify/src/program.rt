@@ -1,0 +1,96 @@
+// Whole programs, and the answer to each.
+
+ghost use Rattle.std.specs.Prelude.{◌≡◌, ◌<◌, ◌≤◌, ℕ, length, OnOk, IfOk, IfErr, None, slice_index, slice_index_or};
+ghost use Rattle.bq_insn.specs.Slots.{spread};
+ghost use Rattle.bq_graph.specs.Edges.{IsWhole};
+ghost use Rattle.bq_graph.specs.Passes.{IsSound, Measured};
+ghost use Rattle.bq_graph.specs.Paths.{IsGreatest, PathOut};
+ghost use Rattle.bq_graph.specs.Faults.{IsFaultless};
+ghost use Rattle.bq_verify.specs.Refusals.{IsRefusal, IsOutOfMemory};
+ghost use Rattle.bq_verify.specs.Control.{AreMade};
+
+use crate::hook::{Hook, Version};
+use crate::refused::Refused;
+use crate::verified::Verified;
+use bq_graph::checks::check;
+use bq_graph::layout::lay_out;
+use bq_graph::passes::measure;
+use bq_insn::Insn;
+use bq_maps::shape::MapShape;
+use std::alloc::{AllocError, Global};
+
+/// A program as it is handed in.
+#[derive(Drop)]
+pub struct Program {
+    pub insns: Vec<Insn>,
+    pub shapes: Vec<MapShape>,
+    pub hook: Hook,
+    pub version: Version,
+}
+
+fn blank_counts(alloc: Global, count: usize) -> Result<Vec<Option<u32>>, AllocError>
+    ensures blank { IfOk result (λ list. (k : ℕ) → slice_index_or list.items k None ≡ None) }
+    ensures room { IfOk result (λ list. length list.items ≡ count) }
+{
+    vec![in alloc; None; count]
+}
+
+/// The checks of the control graph.
+fn check_graph(alloc: Global, slots: &[Option<Insn>]) -> Result<(), Refused>
+    requires some { 0 < length slots.now }
+    requires short { length slots.now ≤ 4096 }
+    requires whole { IsWhole slots.now }
+    ensures ok { OnOk result (IsFaultless slots.now) }
+    ensures refused { IfErr result (IsRefusal slots.now) }
+    ensures made { OnOk result ((made : ℕ → ℕ) × AreMade slots.now made) }
+    ensures passes { IsFaultless slots.now → IfErr result IsOutOfMemory }
+{
+    let mut most = blank_counts(alloc, slots.len())?;
+    match check(slots, most.as_mut_slice()) {
+        Ok(()) => Ok(()),
+        Err(fault) => Err(Refused::At {
+            slot: fault.slot,
+            cause: fault.cause,
+        }),
+    }
+}
+
+/// The number of instructions on the longest path from each slot.
+fn heights_of(alloc: Global, slots: &[Option<Insn>]) -> Result<Vec<u32>, AllocError>
+    requires short { length slots.now ≤ 4096 }
+    requires sound { IsSound slots.now }
+    ensures measured { IfOk result (λ heights. Measured slots.now 0 heights.items) }
+    ensures room { IfOk result (λ heights. length heights.items ≡ length slots.now) }
+{
+    let mut heights = vec![in alloc; 0; slots.len()]?;
+    measure(slots, heights.as_mut_slice());
+    Ok(heights)
+}
+
+/// The program, if it is shown to be safe.
+pub fn verify(alloc: Global, program: Program) -> Result<Verified, Refused>
+    requires some { 0 < length (spread program.insns.items) }
+    requires short { length (spread program.insns.items) ≤ 4096 }
+    requires few { length program.shapes.items ≤ 8 }
+    ensures slots { IfOk result (λ v. v.slots ≡ spread program.insns.items) }
+    ensures shapes { IfOk result (λ v. v.shapes ≡ program.shapes.items) }
+    ensures hook { IfOk result (λ v. v.hook ≡ program.hook) }
+    ensures version { IfOk result (λ v. v.version ≡ program.version) }
+    ensures faultless { IfOk result (λ v. IsFaultless v.slots) }
+    ensures budget { IfOk result (λ v. IsGreatest (PathOut v.slots 0) v.budget) }
+    ensures refused { IfErr result (IsRefusal (spread program.insns.items)) }
+{
+    let Program {
+        insns,
+        shapes,
+        hook,
+        version,
+    } = program;
+    let slots = lay_out(alloc, insns.as_slice())?;
+    check_graph(alloc, slots.as_slice())?;
+    let heights = heights_of(alloc, slots.as_slice())?;
+    match Verified::new(alloc, slots, shapes, hook, version, heights.as_slice()) {
+        Ok(verified) => Ok(verified),
+        Err(refused) => Err(refused),
+    }
+}

@@ -1,0 +1,56 @@
+// The answer to a program that is not accepted.
+
+ghost use Rattle.std.specs.Prelude.{◌≡◌, Some, List, Option};
+ghost use Rattle.bq_insn.specs.declared.Insn.{Insn};
+ghost use Rattle.bq_maps.specs.Machine.{instruction_at};
+ghost use Rattle.bq_graph.specs.Faults.{place_of};
+ghost use Rattle.bq_verify.specs.Doubts.{MayCause, MayDoubt, MayStop};
+ghost use Rattle.bq_verify.specs.Refusals.{IsStopped};
+
+use crate::view::{Doubt, Stop};
+use bq_graph::cause::Cause;
+use std::alloc::AllocError;
+
+/// Why a program is not accepted: a cause at a slot, or want of memory.
+#[derive(Clone, Copy, Debug, PartialEq, Eq)]
+pub enum Refused {
+    At { slot: usize, cause: Cause },
+    OutOfMemory,
+}
+
+impl From<AllocError> for Refused {
+    ghost use Rattle.bq_verify.specs.declared.refused.Refused.TheVariants.{OutOfMemory};
+
+    ghost from_gives = { λ _ e. e ≡ OutOfMemory };
+
+    fn from(_e: AllocError) -> Refused {
+        Refused::OutOfMemory
+    }
+}
+
+/// The cause that is named for what is not shown.
+fn cause_of(doubt: Doubt) -> Cause
+    ensures states { place_of result ≡ 7 }
+    ensures may { (insn : Insn) → MayDoubt doubt insn → MayCause result insn }
+{
+    match doubt {
+        Doubt::Unset => Cause::Unset,
+        Doubt::Access => Cause::Access,
+        Doubt::PointerUse => Cause::PointerUse,
+        Doubt::Argument => Cause::Argument,
+        Doubt::Answer => Cause::Answer,
+    }
+}
+
+/// The refusal where the pass stopped at a slot.
+pub fn refuse(slot: usize, stop: Stop) -> Refused
+    ensures { (slots : List (Option Insn)) (insn : Insn) → instruction_at slots slot ≡ Some insn → MayStop stop insn → IsStopped slots result }
+{
+    match stop {
+        Stop::Doubted(doubt) => Refused::At {
+            slot,
+            cause: cause_of(doubt),
+        },
+        Stop::OutOfMemory => Refused::OutOfMemory,
+    }
+}

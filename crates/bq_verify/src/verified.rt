@@ -1,0 +1,124 @@
+// Programs that were accepted.
+
+use crate::hook::{Hook, Version, context_length};
+use crate::pass::judge;
+use crate::refused::Refused;
+use bq_insn::Insn;
+use bq_maps::shape::MapShape;
+use std::alloc::Global;
+use std::marker::Model;
+
+/// A program that is safe within its budget.
+#[derive(Drop)]
+pub struct Verified {
+    slots: Vec<Option<Insn>>,
+    shapes: Vec<MapShape>,
+    hook: Hook,
+    version: Version,
+    budget: u32,
+}
+
+impl Model for Verified {
+    ghost use Rattle.bq_verify.specs.Accepted.{Accepted, context_length_of};
+
+    ghost Value = { Accepted };
+
+    ghost use Rattle.bq_maps.specs.Machine.{Safe};
+
+    ghost view = { λ v. record { slots = v.slots.items; shapes = v.shapes.items; hook = v.hook; version = v.version; budget = v.budget } };
+
+    ghost invariant = { λ v. Safe v.slots.items v.shapes.items (context_length_of v.hook v.version) v.budget };
+}
+
+impl Verified {
+    ghost use Rattle.std.specs.Prelude.{◌≡◌, ◌≤◌, ◌<◌, ◌^◌, ℕ, IfErr, IfOk, length, slice_index};
+    ghost use Rattle.bq_verify.specs.Accepted.{context_length_of};
+    ghost use Rattle.bq_verify.specs.Control.{AreHeights, AreMade};
+    ghost use Rattle.bq_graph.specs.Passes.{IsSound};
+    ghost use Rattle.bq_graph.specs.Edges.{IsStart};
+    ghost use Rattle.bq_verify.specs.Refusals.{IsStopped};
+    ghost use Rattle.bq_maps.specs.Machine.{Safe, instruction_at};
+    ghost use Rattle.std.specs.Option.{option_copied};
+
+    /// The instruction of each slot.
+    pub fn slots(&self) -> &[Option<Insn>]
+        ensures slots { result.now ≡ self.now.slots }
+        ensures safe { Safe self.now.slots self.now.shapes (context_length_of self.now.hook self.now.version) self.now.budget }
+    {
+        &self.slots
+    }
+
+    /// The instruction that begins at a slot, if one does.
+    pub fn at(&self, slot: usize) -> Option<&Insn>
+        ensures { option_copied result ≡ instruction_at self.now.slots slot }
+    {
+        if slot >= self.slots.len() {
+            return None;
+        }
+        self.slots[slot].as_ref()
+    }
+
+    /// The shapes of the program's maps.
+    pub fn shapes(&self) -> &[MapShape]
+        ensures { result.now ≡ self.now.shapes }
+    {
+        &self.shapes
+    }
+
+    /// The choice that the program makes.
+    pub fn hook(&self) -> Hook
+        ensures { result ≡ self.now.hook }
+    {
+        self.hook
+    }
+
+    /// The version of the program's image.
+    pub fn version(&self) -> Version
+        ensures { result ≡ self.now.version }
+    {
+        self.version
+    }
+
+    /// How many instructions a run takes at most.
+    pub fn budget(&self) -> u32
+        ensures { result ≡ self.now.budget }
+    {
+        self.budget
+    }
+
+    /// The program, if it is safe; the numbers are the longest paths from its slots.
+    pub(crate) fn new(
+        alloc: Global,
+        slots: Vec<Option<Insn>>,
+        shapes: Vec<MapShape>,
+        hook: Hook,
+        version: Version,
+        heights: &[u32],
+    ) -> Result<Verified, Refused>
+        requires sound { IsSound slots.items }
+        requires heights { AreHeights slots.items heights.now }
+        requires made { (made : ℕ → ℕ) × AreMade slots.items made }
+        requires first { IsStart slots.items 0 }
+        requires as_many { length heights.now ≡ length slots.items }
+        requires short { length slots.items ≤ 4096 }
+        requires few { length shapes.items ≤ 8 }
+        requires some { 0 < length slots.items }
+        ensures slots { IfOk result (λ v. v.slots ≡ slots.items) }
+        ensures shapes { IfOk result (λ v. v.shapes ≡ shapes.items) }
+        ensures hook { IfOk result (λ v. v.hook ≡ hook) }
+        ensures version { IfOk result (λ v. v.version ≡ version) }
+        ensures budget { IfOk result (λ v. v.budget ≡ slice_index heights.now 0) }
+        ensures stopped { IfErr result (IsStopped slots.items) }
+    {
+        let context = context_length(hook, version);
+        judge(alloc, slots.as_slice(), shapes.as_slice(), context, heights)?;
+        let budget = heights[0];
+        Ok(Verified {
+            slots,
+            shapes,
+            hook,
+            version,
+            budget,
+        })
+    }
+}

@@ -1,0 +1,74 @@
+// Views that wait, each in a box, for the slots that ways lead to.
+
+ghost use Rattle.std.specs.Prelude.{◌≡◌, ◌<◌, ℕ, true, None, length, slice_index_or, IfOk, OnOk};
+ghost use Rattle.bq_maps.specs.Memory.{Setting, State};
+ghost use Rattle.bq_verify.specs.Views.{Covers};
+ghost use Rattle.bq_verify.specs.Control.{IsIn, WaitsBoxed, IsKnown};
+
+use crate::merge::merge;
+use crate::view::View;
+use std::alloc::{AllocError, Global};
+
+/// No slot has a view that waits.
+pub fn nothing_waits(alloc: Global, count: usize) -> Result<Vec<Option<Box<View>>>, AllocError>
+    ensures { IfOk result (λ v. length v.items ≡ count) }
+{
+    let mut pending = Vec::with_capacity(alloc, count)?;
+    for _ in 0..count {
+        pending.push(None)?;
+    }
+    Ok(pending)
+}
+
+/// Joins what waits at the slot into the view that is carried to it; whether anything is known there.
+pub fn arrive(view: &mut View, live: bool, pending: &mut [Option<Box<View>>], slot: usize) -> bool
+    requires here { slot < length pending.old }
+    ensures long { length pending.new ≡ length pending.old }
+    ensures empty { slice_index_or pending.new slot None ≡ None }
+    ensures known { (f : Setting) (s : State) → IsKnown pending.old view.old live slot f s → IsKnown pending.new view.new result slot f s }
+{
+    take_over(view, live, &mut pending[slot])
+}
+
+fn take_over(view: &mut View, live: bool, waiting: &mut Option<Box<View>>) -> bool
+    ensures empty { waiting.new ≡ None }
+    ensures carried { (f : Setting) (s : State) → live ≡ true → Covers f view.old s → (result ≡ true) × Covers f view.new s }
+    ensures waited { (f : Setting) (s : State) → IsIn f waiting.old s → (result ≡ true) × Covers f view.new s }
+{
+    let Some(boxed) = waiting.take() else {
+        return live;
+    };
+    if live {
+        merge(view, &boxed);
+        return true;
+    }
+    *view = *boxed;
+    true
+}
+
+/// One more view that waits for a slot.
+pub fn wait(
+    alloc: Global,
+    pending: &mut [Option<Box<View>>],
+    slot: usize,
+    view: &View,
+) -> Result<(), AllocError>
+    requires here { slot < length pending.old }
+    ensures long { length pending.new ≡ length pending.old }
+    ensures kept { OnOk result ((f : Setting) (s : State) → WaitsBoxed f pending.old s → WaitsBoxed f pending.new s) }
+    ensures added { OnOk result ((f : Setting) (s : State) → s.slot ≡ slot → Covers f view.now s → WaitsBoxed f pending.new s) }
+{
+    join(alloc, &mut pending[slot], view)
+}
+
+fn join(alloc: Global, waiting: &mut Option<Box<View>>, view: &View) -> Result<(), AllocError>
+    ensures kept { OnOk result ((f : Setting) (s : State) → IsIn f waiting.old s → IsIn f waiting.new s) }
+    ensures added { OnOk result ((f : Setting) (s : State) → Covers f view.now s → IsIn f waiting.new s) }
+{
+    if let Some(boxed) = waiting {
+        merge(boxed, view);
+        return Ok(());
+    }
+    *waiting = Some(Box::new(alloc, *view)?);
+    Ok(())
+}
