@@ -1,13 +1,15 @@
 //! One processor: what runs there, the task in its hand, and what stands at its hooks.
-ghost use Rattle.std.specs.Prelude.{◌≡◌, ◌<◌, ◌≤◌, ◌^◌, ◌+◌, ℕ, [], length, Option, Some, None, find, is_some};
+ghost use Rattle.std.specs.Prelude.{◌≡◌, ◌<◌, ◌≤◌, ◌^◌, ◌+◌, ℕ, [], length, Option, Some, None, IfSome, find, is_some, nat_le, if◌then◌else◌};
 ghost use Rattle.std.specs.Option.{option_map};
-ghost use Rattle.bq_disc.specs.Tasks.{id_of, with_id, without};
+ghost use Rattle.bq_disc.specs.Tasks.{id_of, with_id, without, first_by};
 ghost use Rattle.bq_disc.specs.Queues.{follows, HasDistinctIds};
 ghost use Rattle.bq_disc.specs.Trees.{IsRising};
 ghost use Rattle.bq_disc.specs.Discipline.{left_at};
 ghost use Rattle.bq_disc.specs.Chains.{task_of, chain_behind, IsStraightBehind};
 ghost use Rattle.bq_disc.specs.OneProcessor.{charge, marked, start, decided, own_preempt, enter_all, present_at};
-ghost use Rattle.bq_core.specs.Processors.{opening, at_hook, with_program, load_of, count_of, HasEachOnce};
+ghost use Rattle.bq_core.specs.Processors.{opening, at_hook, with_program, load_of, size_of, count_of, HasEachOnce};
+ghost use Rattle.bq_core.specs.OwnChoices.{pulled_before, movable};
+ghost use Rattle.bq_core.specs.Steps.{taken_from, without_task, with_pulled, started_if_idle};
 
 use crate::{Carried, Hook, Hooks, Inbox, Installed, Policy, Runner, Unlinked};
 use bq_disc::node::Link;
@@ -155,5 +157,61 @@ impl<Q: RunQueue> Cpu<Q> {
         ensures { self.new ≡ record self.old { programs = with_program hook self.old.programs (record { policy = policy; generation = generation; maps = [] }) } }
     {
         self.hooks.install(hook, Installed::new(policy, generation));
+    }
+
+    /// How many tasks run or wait here.
+    pub fn size(&self) -> usize
+        requires { size_of self.now < 2 ^ 32 }
+        ensures { result ≡ size_of self.now }
+    {
+        self.runner.size()
+    }
+
+    /// The mark is computed anew.
+    pub fn remark(&mut self)
+        ensures { self.new ≡ record self.old { running = marked Q.R.discipline self.old.running } }
+    {
+        self.runner.remark();
+    }
+
+    /// The task that the discipline would move to a processor of that size. Where that is smaller by two or more, it is
+    /// the queue's movable task of greatest (v, id).
+    pub fn own_pull(&self, processor: u8, size: usize) -> Option<u16>
+        requires inside { processor < 64 }
+        requires few { size_of self.now < 2 ^ 32 }
+        requires few_there { size < 2 ^ 32 }
+        ensures { result ≡ (if nat_le (size + 2) (size_of self.now) then id_of (first_by pulled_before (movable processor self.now.running.queue)) else None) }
+    {
+        if self.runner.size() < size + 2 {
+            return None;
+        }
+        self.runner.greatest_movable(processor)
+    }
+
+    /// The task of that id, if any, leaves the queue for another processor's.
+    pub fn give(&mut self, task: Option<u16>) -> Option<Unlinked>
+        ensures task { result ≡ taken_from self.old.running task }
+        ensures rest { self.new ≡ record self.old { running = without_task self.old.running task } }
+    {
+        self.runner.give(task?)
+    }
+
+    /// A task of another processor's queue, if any, enters.
+    pub fn accept(&mut self, task: Option<Unlinked>)
+        requires fresh { IfSome task (λ t. with_id t.id self.old.running.queue ≡ None) }
+        ensures { self.new ≡ record self.old { running = with_pulled Q.R.discipline self.old.running task } }
+    {
+        if let Some(task) = task {
+            self.runner.accept(task);
+        }
+    }
+
+    /// Where nothing runs the queue's choice runs.
+    pub fn start_if_idle(&mut self)
+        ensures { self.new ≡ record self.old { running = started_if_idle Q.R.discipline self.old.running self.old.running.current } }
+    {
+        if self.runner.current().is_none() {
+            self.runner.start();
+        }
     }
 }

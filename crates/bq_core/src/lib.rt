@@ -17,6 +17,7 @@ pub mod lobby;
 pub mod parts;
 pub mod placing;
 pub mod policy;
+pub mod pulling;
 pub mod refusal;
 pub mod reply;
 pub mod runner;

@@ -1,13 +1,15 @@
 //! A processor's queue, the task that runs there and the clock by which it is charged.
 ghost use Rattle.std.specs.Prelude.{◌≡◌, ◌<◌, ◌≤◌, ◌^◌, ◌+◌, ℕ, length, Option, Some, None, IfSome, find};
 ghost use Rattle.std.specs.Option.{option_map};
-ghost use Rattle.bq_disc.specs.Tasks.{id_of, with_id, without};
+ghost use Rattle.bq_disc.specs.Tasks.{id_of, with_id, without, first_by};
 ghost use Rattle.bq_disc.specs.Queues.{follows, HasDistinctIds};
 ghost use Rattle.bq_disc.specs.Trees.{IsRising};
 ghost use Rattle.bq_disc.specs.Discipline.{left_at};
 ghost use Rattle.bq_disc.specs.Chains.{task_of, chain_behind, IsStraightBehind};
 ghost use Rattle.bq_disc.specs.OneProcessor.{Running, at_rest, charge, marked, start, switched, decided, own_preempt, enter_all, entered, present_at};
 ghost use Rattle.bq_core.specs.Processors.{count_of, HasEachOnce};
+ghost use Rattle.bq_core.specs.OwnChoices.{pulled_before, movable};
+ghost use Rattle.bq_core.specs.Steps.{with_pulled};
 
 use crate::Unlinked;
 use bq_disc::node::{self, Link};
@@ -205,6 +207,25 @@ impl<Q: RunQueue> Runner<Q> {
         let mut node = self.queue.take(id)?;
         self.queue.leave(&mut node);
         Some(Unlinked::new(node))
+    }
+
+    /// The id of the queue's task of greatest (v, id), of those that may go to a processor.
+    pub fn greatest_movable(&self, processor: u8) -> Option<u16>
+        requires { processor < 64 }
+        ensures { result ≡ id_of (first_by pulled_before (movable processor self.now.queue)) }
+    {
+        let found = self.queue.movable(processor);
+        found.first.first().copied()
+    }
+
+    /// A task of another processor's queue enters.
+    pub fn accept(&mut self, task: Unlinked)
+        requires fresh { with_id task.id self.old.queue ≡ None }
+        ensures { self.new ≡ with_pulled Q.R.discipline self.old (Some task) }
+    {
+        let mut node = task.into_node();
+        self.queue.enter(&mut node, Entry::Pull);
+        self.queue.insert(node);
     }
 }
 
