@@ -25,6 +25,7 @@ mod running;
 pub mod seat;
 pub mod unlinked;
 mod waking;
+pub mod world;
 
 pub use arguments::argument_refusal;
 pub use carried::Carried;
@@ -40,3 +41,4 @@ pub use reply::{By, Reply};
 pub use runner::Runner;
 pub use seat::Seat;
 pub use unlinked::Unlinked;
+pub use world::Core;
