@@ -14,3 +14,4 @@ pub mod Events
 pub mod Order
 pub mod Greatest
 pub mod Pulls
+pub mod Runs

@@ -1,5 +1,5 @@
 //! The world and its events: the call by which everything else drives it.
-ghost use Rattle.std.specs.Prelude.{◌≡◌, ◌≤◌, ◌<◌, List, [], ◌∷◌, Err, OnOk, OnErr, IfOk, IfErr, length, replicate, take};
+ghost use Rattle.std.specs.Prelude.{◌≡◌, ◌+◌, ◌≤◌, ◌<◌, List, [], ◌∷◌, Err, OnOk, OnErr, IfOk, IfErr, length, replicate, vec_len, vec_capacity};
 ghost use Rattle.bq_core.specs.World.{opening_world, processor, count_in};
 ghost use Rattle.bq_core.specs.Calls.{CounterCall};
 ghost use Rattle.bq_core.specs.Steps.{WorldStep, WorldRun, without_policies};
@@ -52,6 +52,47 @@ impl<Q: RunQueue, const P: usize> Core<Q, P> {
         self.parts.step(alloc, event)
     }
 
+    /// Some events in order, and the answer to each. The list of answers is made before the first event: where that growth
+    /// is refused the answer is OutOfMemory, and nothing has happened.
+    pub fn run(
+        &mut self,
+        alloc: Global,
+        events: Vec<Event>,
+    ) -> Result<Vec<Result<Reply, Refusal>>, Refusal>
+        ensures ok { IfOk result (λ answers. WorldRun (without_policies Q.R.discipline) self.old events.items (replicate (length events.items) []) answers.items self.new) }
+        ensures err { OnErr result (self.new ≡ self.old) }
+        ensures memory { IfErr result (λ refusal. refusal ≡ no.OutOfMemory) }
+        ensures once { StandsOnce self.new }
+    {
+        let Ok(mut answers) = Vec::with_capacity(alloc, events.len()) else {
+            let _ = &self.parts;
+            return Err(Refusal::OutOfMemory);
+        };
+        self.run_all(alloc, events.as_slice(), &mut answers);
+        Ok(answers)
+    }
+
+    /// Some events in order, whose answers are added to a list that has room for them.
+    fn run_all(
+        &mut self,
+        alloc: Global,
+        events: &[Event],
+        answers: &mut Vec<Result<Reply, Refusal>>,
+    )
+        requires room { vec_len answers.old + length events.now ≤ vec_capacity answers.old }
+        requires empty { answers.old.items ≡ [] }
+        ensures run { WorldRun (without_policies Q.R.discipline) self.old events.now (replicate (length events.now) []) answers.new.items self.new }
+        ensures once { StandsOnce self.new }
+    {
+        let _ = &self.parts;
+        for &event in events {
+            let answer = self.step(alloc, event);
+            if answers.push(answer).is_err() {
+                unreachable!();
+            }
+        }
+    }
+
     /// A processor, whose number is below that of the processors.
     pub fn cpu(&self, number: u8) -> &Cpu<Q>
         requires { number < count_in self.now }
@@ -74,7 +115,9 @@ impl<Q: RunQueue, const P: usize> Parts<Q, P> {
     pub(crate) fn step(&mut self, alloc: Global, event: Event) -> Result<Reply, Refusal>
         requires orderly { IsOrderly self.old }
         ensures step { WorldStep (without_policies Q.R.discipline) self.old event [] result self.new }
+        ensures even { length self.old.inboxes ≡ length self.old.processors }
     {
+        let _ = &self.cpus;
         if let Some(refusal) = argument_refusal(self.processors(), &event) {
             return Err(refusal);
         }

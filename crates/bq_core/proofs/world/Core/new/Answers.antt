@@ -1,0 +1,8 @@
+use Rattle.std.proofs.Common.{sym, subst}
+use Rattle.bq_core.specs.World.{World}
+use Rattle.bq_core.specs.StandsOnce.{IsOrderly}
+use Rattle.bq_core.proofs.Order.{opening_is_orderly}
+use Rattle.bq_core.proofs.world.Core.new.Goals as goal
+
+pub invariant_of-result : goal.invariant_of-result
+invariant_of-result g c = subst (λ (w : World). IsOrderly w) (sym c.in_ok-parts.ensures) (opening_is_orderly g.row.P)
