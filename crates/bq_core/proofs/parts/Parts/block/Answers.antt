@@ -16,7 +16,7 @@ seat-requires g c =
     let cpu = c.args.processor in
     let now = c.args.now in
     let items = ap (λ (v : World). v.processors) c.self.view_is in
-    let seats = ap (λ (v : World). length v.seats) c.self.view_is in
+    let seats : length w.seats ≡ 1024 = ap (λ (v : World). length v.seats) (sym c.self.view_is) ∙ c.self.invariant.2 in
     let inside : cpu < length c.self.inside.cpus.items = rw items c.requires.inside in
     let at = rw c.from.ensures at c.index_mut-cpu.ensures.value in
     let place : c.index_mut-cpu.result.now ≡ processor w cpu = rw items at (get_or_read c.self.inside.cpus.items cpu c.index_mut-cpu.result.now inside at opening) in
@@ -25,7 +25,7 @@ seat-requires g c =
     let left : Some c.in-Some.task ≡ option_map (λ t. as_it_leaves p cpu t) p.current = c.in-Some.ensures.task ∙ ap (λ (x : Processor). option_map (λ t. as_it_leaves x.running cpu t) x.running.current) charged in
     let t = leaves (λ t. as_it_leaves p cpu t) p.current c.in-Some.task left in
     let id : c.id-id.result ≡ t.0.id = c.id-id.ensures ∙ ap (λ (x : Task). x.id) t.2 in
-    let below = current_below d w cpu now t.0 (sym seats ∙ c.self.invariant.2) c.requires.orderly t.1 in
+    let below = current_below d w cpu now t.0 seats c.requires.orderly t.1 in
     omega (arith, id, below)
 
 pub returns : goal.returns
