@@ -145,7 +145,7 @@ impl<Q: RunQueue, const P: usize> Parts<Q, P> {
                 processor,
                 from,
                 now,
-            } => Err(Refusal::OutOfMemory),
+            } => self.pull(processor, from, now),
         }
     }
 }

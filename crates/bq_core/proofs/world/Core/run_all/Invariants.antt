@@ -14,6 +14,6 @@ invariant-loop-event g l =
     record {
       room : vec_len l.answers + length rest ≤ vec_capacity l.answers;
       goes_on : (more : List (Result Reply Refusal)) (w : World) → WorldRun (without_policies g.Q.R.Rule.discipline) l.self rest (replicate (length rest) []) more w →
-      WorldRun (without_policies g.Q.R.Rule.discipline) l.fn.self all (replicate (length all) []) (l.answers.items ++ more) w;
+          WorldRun (without_policies g.Q.R.Rule.discipline) l.fn.self all (replicate (length all) []) (l.answers.items ++ more) w;
       once : StandsOnce l.self;
     }
