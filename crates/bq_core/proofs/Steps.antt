@@ -1,12 +1,12 @@
 -- Steps of the world in which no policy is installed, from what the code computes.
-use Rattle.std.proofs.Common.{◌≡◌, ℕ, ◌+◌, ◌<◌, ◌≤◌, Bool, true, false, cond, leb, List, [], ◌∷◌, ◌++◌, length, Option, Some, None, refl, sym, ap, ◌∙◌, arith, inl, inr}
-use Rattle.std.specs.Prelude.{Ok, Err, ℤ, not, ◌==◌, ◌||◌, ◌&&◌, nat_le, nat_lt, is_none, is_some, unwrap_or, min, ◌^◌, slice_set}
+use Rattle.std.proofs.Common.{◌≡◌, ℕ, ◌+◌, ◌<◌, ◌≤◌, Bool, true, false, List, [], ◌∷◌, ◌++◌, length, Option, Some, None, refl, sym, ap, ◌∙◌, arith, inl, inr}
+use Rattle.std.specs.Prelude.{Ok, Err, nat_le, is_none, unwrap_or, slice_set}
 use Rattle.std.specs.Option.{option_map}
 use Rattle.std.proofs.lemmas.Bool.{cases_lt}
 use Rattle.std.proofs.lemmas.Bool.Decides.{nat_tests}
 use Rattle.bq_disc.specs.Tasks.{Task, present, id_of}
 use Rattle.bq_disc.specs.Discipline.{Discipline}
-use Rattle.bq_disc.specs.OneProcessor.{Running, present_at, charge, decided, own_preempt, enter_all}
+use Rattle.bq_disc.specs.OneProcessor.{present_at, charge, decided, own_preempt, enter_all}
 use Rattle.bq_core.specs.declared.policy.Policy.{Policy}
 use Rattle.bq_core.specs.declared.carried.Carried.{Carried}
 use Rattle.bq_core.specs.declared.event.Event.TheVariants.{EndWake, Drain, Tick, Block}
@@ -15,9 +15,8 @@ use Rattle.bq_core.specs.declared.reply.Reply.TheVariants.{Placed, Drained, Tick
 use Rattle.bq_core.specs.declared.refusal.Refusal.TheVariants as no
 use Rattle.bq_core.specs.declared.seat.Seat.{Seat}
 use Rattle.bq_core.specs.declared.seat.Seat.TheVariants.{Blocked}
-use Rattle.bq_core.specs.Processors.{Processor, Program, count_of, HasEachOnce}
+use Rattle.bq_core.specs.Processors.{Processor, count_of}
 use Rattle.bq_core.specs.World.{World, processor, inbox, count_in, with_processor, with_inbox, with_seat}
-use Rattle.bq_core.specs.Refusals.{argument_refusal, state_refusal, either, first_refusal}
 use Rattle.bq_core.specs.OwnChoices.{own_place}
 use Rattle.bq_core.specs.Choices.{as_number, unasked, SettlesPreempt, decided_by}
 use Rattle.bq_core.specs.StandsOnce.{IsOrderly, HasPlace}

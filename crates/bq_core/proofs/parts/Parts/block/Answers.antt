@@ -1,8 +1,8 @@
-use Rattle.std.proofs.Common.{◌≡◌, ◌<◌, ℕ, Option, Some, None, ap, sym, ◌∙◌, length, arith}
+use Rattle.std.proofs.Common.{◌≡◌, ◌<◌, Some, None, ap, sym, ◌∙◌, length, arith}
 use Rattle.std.specs.Option.{option_map}
 use Rattle.std.proofs.lemmas.List.{get_or_read}
 use Rattle.bq_disc.specs.Tasks.{Task, id_of}
-use Rattle.bq_disc.specs.OneProcessor.{Running, charge, start}
+use Rattle.bq_disc.specs.OneProcessor.{charge, start}
 use Rattle.bq_core.specs.Processors.{Processor, opening}
 use Rattle.bq_core.specs.World.{World, processor}
 use Rattle.bq_core.specs.Steps.{charged_at, as_it_leaves}

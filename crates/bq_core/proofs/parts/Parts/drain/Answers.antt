@@ -1,9 +1,9 @@
-use Rattle.std.proofs.Common.{◌≡◌, ◌<◌, ◌+◌, ◌≤◌, ℕ, List, [], ap, sym, ◌∙◌, length, arith}
+use Rattle.std.proofs.Common.{◌≡◌, ◌<◌, List, [], ap, ◌∙◌, length, arith}
 use Rattle.std.proofs.lemmas.List.{get_or_read}
 use Rattle.bq_disc.specs.Tasks.{Task, id_of}
 use Rattle.bq_disc.specs.Chains.{chain_behind}
-use Rattle.bq_disc.specs.OneProcessor.{Running, charge, enter_all, present_at}
-use Rattle.bq_core.specs.Processors.{Processor, opening, count_of}
+use Rattle.bq_disc.specs.OneProcessor.{charge, enter_all, present_at}
+use Rattle.bq_core.specs.Processors.{Processor, opening}
 use Rattle.bq_core.specs.World.{World, processor, inbox}
 use Rattle.bq_core.specs.Steps.{charged_at}
 use Rattle.bq_core.proofs.Counts.{keeps_charge, count_of-append, queue_le_present, count_of-enter_all}

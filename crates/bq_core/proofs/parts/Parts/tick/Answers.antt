@@ -1,4 +1,4 @@
-use Rattle.std.proofs.Common.{◌≡◌, ◌<◌, ap, sym, ◌∙◌, length, arith}
+use Rattle.std.proofs.Common.{◌≡◌, ◌<◌, ap, ◌∙◌, length}
 use Rattle.std.proofs.lemmas.List.{get_or_read}
 use Rattle.bq_disc.specs.Tasks.{id_of}
 use Rattle.bq_core.specs.Processors.{Processor, opening}

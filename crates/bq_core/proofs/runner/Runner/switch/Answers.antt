@@ -2,7 +2,6 @@ use Rattle.std.proofs.Common.{◌≡◌, Some, ap, sym, ◌∙◌}
 use Rattle.bq_disc.specs.Tasks.{without, place}
 use Rattle.bq_disc.specs.Chains.{task_of}
 use Rattle.bq_disc.specs.OneProcessor.{Running}
-use Rattle.bq_disc.specs.Discipline.{next_of, next_other}
 use Rattle.bq_disc.proofs.QueueFacts.{without-absent}
 use Rattle.bq_core.proofs.Counts.{switched_same, switched_absent, switched_to, current_apart_without}
 use Rattle.bq_core.proofs.Switching.{next_is_current, next_is_other}

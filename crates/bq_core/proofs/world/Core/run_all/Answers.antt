@@ -1,4 +1,4 @@
-use Rattle.std.proofs.Common.{◌≡◌, ◌+◌, ◌≤◌, ◌<◌, ◌++◌, ◌∷◌, ℕ, true, false, length, drop, get_or, [], refl, sym, ap, ◌∙◌, pos, arith}
+use Rattle.std.proofs.Common.{◌≡◌, ◌+◌, ◌≤◌, ◌<◌, ◌++◌, ◌∷◌, true, length, drop, [], ap, ◌∙◌, pos, arith}
 use Rattle.std.specs.Prelude.{is_ok, not}
 use Rattle.std.proofs.lemmas.List.{drop_more, drop_all}
 use Rattle.bq_core.specs.declared.event.Event.TheVariants.{Admit}

@@ -1,4 +1,4 @@
-use Rattle.std.proofs.Common.{◌≡◌, ◌+◌, ◌≤◌, ◌++◌, List, [], length, drop, replicate}
+use Rattle.std.proofs.Common.{◌+◌, ◌≤◌, ◌++◌, List, [], length, drop, replicate}
 use Rattle.std.specs.Prelude.{Result, vec_len, vec_capacity}
 use Rattle.bq_core.specs.declared.reply.Reply.{Reply}
 use Rattle.bq_core.specs.declared.refusal.Refusal.{Refusal}
