@@ -4,6 +4,7 @@ pub mod MergeLemmas
 pub mod AccessLemmas
 pub mod CallLemmas
 pub mod StoreLemmas
+pub mod WriteLemmas
 pub mod CounterLemmas
 pub mod ChainLemmas
 pub mod GraphLemmas

@@ -49,7 +49,7 @@ covers_written f v w s at bytes small same marks forgets covers = record {
   maps = covers.maps;
 }
 
-low_at : (a n v i : ℕ) → i < n → slice_index (bytes_low_first a n v) i ≡ byte_of (a + i) v
+pub low_at : (a n v i : ℕ) → i < n → slice_index (bytes_low_first a n v) i ≡ byte_of (a + i) v
 low_at a zero v i lt = absurd (omega arith)
 low_at a (suc n) v zero lt = ap (λ (x : ℕ). byte_of x v) (omega arith)
 low_at a (suc n) v (suc i) lt = low_at (suc a) n v i (omega arith) ∙ ap (λ (x : ℕ). byte_of x v) (omega arith)

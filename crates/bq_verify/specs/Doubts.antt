@@ -11,17 +11,28 @@ use Rattle.bq_verify.specs.declared.view.Stop.{Stop}
 use Rattle.bq_verify.specs.declared.view.Stop.TheVariants.{Doubted}
 use Rattle.bq_verify.specs.declared.view.Stop.TheVariants as stop
 
+abbrev pub IsAccess : Insn → Type 0
+IsAccess (Load size signed dst src off) = Unit {0}
+IsAccess (StoreImm size dst off imm) = Unit {0}
+IsAccess (StoreReg size dst off src) = Unit {0}
+IsAccess _ = ⊥
+
+abbrev pub TakesArgument : Insn → Type 0
+TakesArgument (MapRef dst index) = Unit {0}
+TakesArgument (Call helper) = Unit {0}
+TakesArgument _ = ⊥
+
+abbrev pub IsExit : Insn → Type 0
+IsExit Exit = Unit {0}
+IsExit _ = ⊥
+
 -- an access at a load or a store, an argument at a call or a map reference, an answer at an EXIT
 abbrev pub MayDoubt : Doubt → Insn → Type 0
 MayDoubt Unset insn = Unit {0}
 MayDoubt PointerUse insn = Unit {0}
-MayDoubt Access (Load size signed dst src off) = Unit {0}
-MayDoubt Access (StoreImm size dst off imm) = Unit {0}
-MayDoubt Access (StoreReg size dst off src) = Unit {0}
-MayDoubt Argument (MapRef dst index) = Unit {0}
-MayDoubt Argument (Call helper) = Unit {0}
-MayDoubt Answer Exit = Unit {0}
-MayDoubt _ _ = ⊥
+MayDoubt Access insn = IsAccess insn
+MayDoubt Argument insn = TakesArgument insn
+MayDoubt Answer insn = IsExit insn
 
 -- the pass stops at an instruction for what is not shown of it, or for want of memory
 abbrev pub MayStop : Stop → Insn → Type 0

@@ -1,16 +1,19 @@
 -- The states that a view speaks of.
-use Rattle.std.specs.Prelude.{Bool, ◌≡◌, ℕ, ◌+◌, ◌*◌, ◌%◌, ◌^◌, ◌<◌, ◌≤◌, true, false, List, Option, Some, None, length, slice_get, slice_set, slice_index_or, ◌⊎◌}
+use Rattle.std.specs.Prelude.{Bool, ◌≡◌, ℕ, ℤ, ◌+◌, ◌*◌, ◌%◌, ◌^◌, ◌<◌, ◌≤◌, true, false, List, Option, Some, None, length, slice_get, slice_set, slice_index_or, ◌⊎◌}
 use Rattle.std.specs.Int.{byte_at}
 use Rattle.bq_insn.specs.declared.Insn.{Insn}
 use Rattle.bq_insn.specs.Slots.{slots_of}
+use Rattle.bq_insn.specs.declared.Size.{Size}
+use Rattle.bq_insn.specs.Meaning.{byte_count}
 use Rattle.bq_maps.specs.declared.shape.MapShape.{MapShape}
-use Rattle.bq_maps.specs.Memory.{Setting, State, Region, Reads, InContext, InStack, InEntry, Spans, IsEntry, reference, values_base, context_base, stack_base}
+use Rattle.bq_maps.specs.Memory.{Setting, State, Region, Reads, InContext, InStack, InEntry, Spans, IsEntry, IsGood, Writes, reference, values_base, context_base, stack_base}
 use Rattle.bq_maps.specs.declared.board.Call.{Call as Asked}
 use Rattle.bq_maps.specs.Counters.{answer_of}
 use Rattle.bq_maps.specs.Arrays.{HaveShapes}
-use Rattle.bq_maps.specs.Machine.{Does, IsOperand, Asks, called}
+use Rattle.bq_maps.specs.Machine.{Does, IsOperand, Asks, called, address_of, low_bytes, next}
 use Rattle.bq_insn.specs.declared.Source.{Source}
 use Rattle.bq_ranges.specs.Within.{Within}
+use Rattle.bq_ranges.specs.declared.range.Range.{Range}
 use Rattle.bq_verify.specs.declared.view.Kind.{Kind}
 use Rattle.bq_verify.specs.declared.view.Kind.TheVariants.{Number, Context, Stack, Entry, EntryOrNull, Map}
 use Rattle.bq_verify.specs.declared.view.Known.{Known}
@@ -79,6 +82,10 @@ AsksFrom insn old new =
 abbrev pub IsBelow : View → ℕ → ℕ → Type 0
 IsBelow view r bound = (f : Setting) (s : State) → Covers f view s → (n : ℕ) × (s.register r ≡ Some n) × (n < bound)
 
+-- in every state of the view the register is set, to a number of the range
+abbrev pub HoldsNumber : View → ℕ → Range → Type 0
+HoldsNumber view r range = (f : Setting) (s : State) → Covers f view s → (n : ℕ) × (s.register r ≡ Some n) × Within range n
+
 -- in every state of the view the operand is set, and is such a word
 abbrev pub Finds : View → Source → Known → Type 0
 Finds v src k = (f : Setting) (s : State) → Covers f v s → (b : ℕ) × IsOperand s src b × Describes f.shapes k b
@@ -128,3 +135,18 @@ Marks old new from to = (i : ℕ) → slice_index_or new i false ≡ true → ((
 -- each slot is forgotten, or is as it was and lies apart
 abbrev pub Forgets : List (Option Known) → List (Option Known) → ℕ → ℕ → Type 0
 Forgets old new from to = (j : ℕ) → (slice_index_or new j None ≡ None) ⊎ ((slice_index_or new j None ≡ slice_index_or old j None) × ((8 * j + 8 ≤ from) ⊎ (to ≤ 8 * j)))
+
+-- in every state of the view the access is good: the region is of that kind, and the offset in the range
+abbrev pub FindsPlace : List MapShape → ℕ → View → ℕ → ℤ → Size → Kind → Range → Type 0
+FindsPlace shapes context_length view r off size kind at =
+    (f : Setting) (s : State) → Suits shapes context_length f → Covers f view s → (word : ℕ) × (region : Region) × (o : ℕ) × (s.register r ≡ Some word) × IsGood f (address_of word off) (byte_count size) region o × IsOfKind kind region × Within at o
+
+-- the known word in a slot of eight bytes
+abbrev pub keeping : View → ℕ → Known → View
+keeping v slot k = record v { kept = slice_set v.kept slot (Some k) }
+
+-- from every state of the old view the low bytes of such a word can be written there, which leads to a state of the new one
+abbrev pub Stores : List MapShape → ℕ → ℕ → ℤ → Size → Known → View → View → Type 0
+Stores shapes context_length dst off size k old new =
+    (f : Setting) (s : State) (v : ℕ) → Suits shapes context_length f → Covers f old s → Describes f.shapes k v
+    → (a : ℕ) × (u : State) × (s.register dst ≡ Some a) × Writes f s (address_of a off) (low_bytes size v) u × Covers f new (next u) × (u.slot ≡ s.slot)

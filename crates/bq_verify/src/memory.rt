@@ -1,17 +1,18 @@
 // Loads.
 
-ghost use Rattle.std.specs.Prelude.{pos, Some, IsOk, ◌↔◌, ◌≡◌, ◌+◌, ◌^◌, ◌<◌, ◌≤◌, ℕ, List, IsTrue, length, IfSome, OnOk, false, true, slice_get, slice_index_or, IfErr};
+ghost use Rattle.std.specs.Prelude.{Some, ◌↔◌, ◌≡◌, ◌+◌, ◌^◌, ◌<◌, ◌≤◌, ℕ, List, IsTrue, length, IfSome, OnOk, false, true, slice_get, slice_index_or, IfErr, IfOk, ◌*◌, None};
 ghost use Rattle.bq_insn.specs.Meaning.{byte_count, word_of};
+ghost use Rattle.bq_maps.specs.Machine.{loaded, bits_of as bits_in};
 ghost use Rattle.bq_ranges.specs.Within.{Within};
-ghost use Rattle.bq_verify.specs.Doubts.{MayDoubt};
-ghost use Rattle.bq_verify.specs.Standing.{ContextStart, StandsAt, IsGiven};
-ghost use Rattle.bq_verify.specs.Views.{Bounds, Carries, FindsBytes};
+ghost use Rattle.bq_insn.specs.declared.Insn.{Insn};
+ghost use Rattle.bq_verify.specs.Doubts.{IsAccess, MayDoubt};
+ghost use Rattle.bq_verify.specs.Views.{Bounds, Carries, FindsBytes, FindsPlace};
 
 use crate::registers::{known, learn};
 use crate::view::{Doubt, Kind, Known, View};
-use bq_insn::{Insn, Size, Width};
+use bq_insn::{Bits, Insn, Size, Width};
 use bq_maps::shape::MapShape;
-use bq_ranges::{Range, arithmetic};
+use bq_ranges::{Range, arithmetic, moves};
 
 /// The shape of a map, if there is one of that number.
 fn shape_of(shapes: &[MapShape], map: u8) -> Option<MapShape>
@@ -44,7 +45,7 @@ fn bound(kind: Kind, shapes: &[MapShape], context: usize) -> Option<usize>
 }
 
 /// Whether an access at each offset of the range stays below the bound.
-fn stays(at: Range, size: Size, bound: usize) -> bool
+pub fn stays(at: Range, size: Size, bound: usize) -> bool
     requires { bound < 2 ^ 32 }
     ensures { IsTrue result ↔ (at.hi + byte_count size ≤ bound) }
 {
@@ -86,23 +87,49 @@ fn numbers(size: Size) -> Range
     }
 }
 
-/// A load that isn't sign-extended.
-pub fn load(
-    view: &mut View,
+/// The numbers that a load of so many bytes gives.
+fn loads(size: Size, signed: bool) -> Range
+    ensures { (x : ℕ) → x < 256 ^ byte_count size → Within result (loaded size signed x) }
+{
+    if signed {
+        return moves::extend(Width::W64, bits_of(size), numbers(size));
+    }
+    numbers(size)
+}
+
+/// How many bits so many bytes have.
+fn bits_of(size: Size) -> Bits
+    ensures { result ≡ bits_in size }
+{
+    match size {
+        Size::Byte => Bits::B8,
+        Size::Half => Bits::B16,
+        Size::Word => Bits::B32,
+        Size::Double => Bits::B64,
+    }
+}
+
+/// Where an access goes: what the pointer counts from, and the offsets from there.
+#[derive(Clone, Copy, Debug)]
+pub struct Location {
+    pub kind: Kind,
+    pub at: Range,
+}
+
+/// Where an access by a register goes, if it stays inside.
+pub fn locate(
+    view: &View,
     shapes: &[MapShape],
     context: usize,
     size: Size,
-    dst: u8,
-    src: u8,
+    register: u8,
     off: i16,
-) -> Result<(), Doubt>
-    requires dst { dst < 10 }
+) -> Result<Location, Doubt>
     requires context { context < 2 ^ 16 }
-    ensures carries { OnOk result (Carries shapes.now context (Insn.Load size false dst src off) view.old view.new) }
-    ensures doubts { IfErr result (λ doubt. MayDoubt doubt (Insn.Load size false dst src off)) }
-    ensures accepts { StandsAt ContextStart view.old src → (place : ℕ) → off ≡ pos place → place + byte_count size ≤ context → IsOk result × IsGiven view.old view.new dst }
+    ensures finds { IfOk result (λ p. FindsPlace shapes.now context view.now register off size p.kind p.at) }
+    ensures doubts { IfErr result (λ doubt. (insn : Insn) → IsAccess insn → MayDoubt doubt insn) }
 {
-    let Some(base) = known(view, src) else {
+    let Some(base) = known(view, register) else {
         return Err(Doubt::Unset);
     };
     let Some(bound) = bound(base.kind, shapes, context) else {
@@ -116,7 +143,55 @@ pub fn load(
     if bound > 0x1_0000 || !stays(at, size, bound) {
         return Err(Doubt::Access);
     }
-    if !is_readable(view, base.kind, at, size) {
+    Ok(Location {
+        kind: base.kind,
+        at,
+    })
+}
+
+/// The word that is kept where a load of eight bytes reads, if one is.
+fn kept_at(view: &View, place: Location, size: Size, signed: bool) -> Option<Known>
+    ensures { IfSome result (λ word. (place.kind ≡ Kind.Stack) × (size ≡ Size.Double) × (signed ≡ false) × (place.at.lo ≡ place.at.hi) × (slot : ℕ) × (place.at.lo ≡ 8 * slot) × (slice_index_or view.now.kept slot None ≡ Some word)) }
+{
+    if place.kind != Kind::Stack || size != Size::Double || signed {
+        return None;
+    }
+    if !place.at.is_single() || place.at.lo % 8 != 0 || place.at.lo >= 512 {
+        return None;
+    }
+    kept_in(view, place.at.lo as usize / 8)
+}
+
+/// The word that is kept in a slot of eight bytes, if one is.
+fn kept_in(view: &View, slot: usize) -> Option<Known>
+    requires { slot < 64 }
+    ensures { result ≡ slice_index_or view.now.kept slot None }
+{
+    view.kept[slot]
+}
+
+/// A load.
+pub fn load(
+    view: &mut View,
+    shapes: &[MapShape],
+    context: usize,
+    size: Size,
+    signed: bool,
+    dst: u8,
+    src: u8,
+    off: i16,
+) -> Result<(), Doubt>
+    requires dst { dst < 10 }
+    requires context { context < 2 ^ 16 }
+    ensures carries { OnOk result (Carries shapes.now context (Insn.Load size signed dst src off) view.old view.new) }
+    ensures doubts { IfErr result (λ doubt. MayDoubt doubt (Insn.Load size signed dst src off)) }
+{
+    let found = locate(view, shapes, context, size, src, off)?;
+    if let Some(word) = kept_at(view, found, size, signed) {
+        learn(view, dst, word);
+        return Ok(());
+    }
+    if !is_readable(view, found.kind, found.at, size) {
         return Err(Doubt::Access);
     }
     learn(
@@ -124,7 +199,7 @@ pub fn load(
         dst,
         Known {
             kind: Kind::Number,
-            offset: numbers(size),
+            offset: loads(size, signed),
         },
     );
     Ok(())

@@ -1,9 +1,143 @@
-// What a write on the stack leaves known.
+// Stores, and what they leave known.
 
-ghost use Rattle.std.specs.Prelude.{◌≤◌, length};
-ghost use Rattle.bq_verify.specs.Views.{Forgets, Marks};
+ghost use Rattle.std.specs.Prelude.{◌≡◌, ◌+◌, ◌<◌, ◌≤◌, ◌^◌, ℕ, List, length, slice_index, OnOk, IfErr};
+ghost use Rattle.bq_insn.specs.declared.Insn.{Insn};
+ghost use Rattle.bq_insn.specs.Meaning.{byte_count, word_of};
+ghost use Rattle.bq_maps.specs.Memory.{Setting, State, InStack, written};
+ghost use Rattle.bq_maps.specs.Machine.{low_bytes, next};
+ghost use Rattle.bq_ranges.specs.Within.{Within};
+ghost use Rattle.bq_verify.specs.Doubts.{IsAccess, MayDoubt};
+ghost use Rattle.bq_verify.specs.Views.{Carries, Covers, Describes, Forgets, Marks, Stores, keeping};
 
-use crate::view::Known;
+use crate::memory::{locate, stays};
+use crate::registers::known;
+use crate::view::{Doubt, Kind, Known, View};
+use bq_insn::{Insn, Size};
+use bq_maps::shape::MapShape;
+use bq_ranges::Range;
+
+/// A store of a number from the instruction.
+pub fn store_imm(
+    view: &mut View,
+    shapes: &[MapShape],
+    context: usize,
+    size: Size,
+    dst: u8,
+    off: i16,
+    imm: i32,
+) -> Result<(), Doubt>
+    requires context { context < 2 ^ 16 }
+    ensures carries { OnOk result (Carries shapes.now context (Insn.StoreImm size dst off imm) view.old view.new) }
+    ensures doubts { IfErr result (λ doubt. MayDoubt doubt (Insn.StoreImm size dst off imm)) }
+{
+    let word = Known {
+        kind: Kind::Number,
+        offset: Range::single(word_of_imm(imm)),
+    };
+    store(view, shapes, context, size, dst, off, word)?;
+    Ok(())
+}
+
+/// The word of a number in the instruction.
+fn word_of_imm(imm: i32) -> u64
+    ensures { result ≡ word_of imm }
+{
+    i64::from(imm).cast_unsigned()
+}
+
+/// A store of a register.
+pub fn store_reg(
+    view: &mut View,
+    shapes: &[MapShape],
+    context: usize,
+    size: Size,
+    dst: u8,
+    off: i16,
+    src: u8,
+) -> Result<(), Doubt>
+    requires context { context < 2 ^ 16 }
+    ensures carries { OnOk result (Carries shapes.now context (Insn.StoreReg size dst off src) view.old view.new) }
+    ensures doubts { IfErr result (λ doubt. MayDoubt doubt (Insn.StoreReg size dst off src)) }
+{
+    let Some(word) = known(view, src) else {
+        return Err(Doubt::Unset);
+    };
+    store(view, shapes, context, size, dst, off, word)?;
+    Ok(())
+}
+
+/// A store of a word: on the stack, or into an entry.
+fn store(
+    view: &mut View,
+    shapes: &[MapShape],
+    context: usize,
+    size: Size,
+    dst: u8,
+    off: i16,
+    word: Known,
+) -> Result<(), Doubt>
+    requires context { context < 2 ^ 16 }
+    ensures stores { OnOk result (Stores shapes.now context dst off size word view.old view.new) }
+    ensures doubts { IfErr result (λ doubt. (insn : Insn) → IsAccess insn → MayDoubt doubt insn) }
+{
+    let found = locate(view, shapes, context, size, dst, off)?;
+    match found.kind {
+        Kind::Stack => {
+            store_on_stack(view, found.at, size, word)?;
+            Ok(())
+        }
+        Kind::Entry(_) => {
+            if word.kind != Kind::Number {
+                return Err(Doubt::PointerUse);
+            }
+            Ok(())
+        }
+        _ => Err(Doubt::Access),
+    }
+}
+
+/// A store on the stack; a word of eight bytes at a multiple of eight is kept whole.
+fn store_on_stack(view: &mut View, at: Range, size: Size, word: Known) -> Result<(), Doubt>
+    ensures covers { OnOk result ((f : Setting) (s : State) (o v : ℕ) → Covers f view.old s → Within at o → Describes f.shapes word v → Covers f view.new (next (written s InStack o (low_bytes size v)))) }
+    ensures doubts { IfErr result (λ doubt. (insn : Insn) → IsAccess insn → MayDoubt doubt insn) }
+{
+    if !stays(at, size, 512) {
+        return Err(Doubt::Access);
+    }
+    if size == Size::Double && at.is_single() && at.lo % 8 == 0 {
+        overwrite(view, at, size);
+        keep(view, at.lo as usize / 8, word);
+        return Ok(());
+    }
+    if word.kind != Kind::Number {
+        return Err(Doubt::PointerUse);
+    }
+    overwrite(view, at, size);
+    Ok(())
+}
+
+/// Bytes are written somewhere in the range: what was kept there is forgotten, and they are set if it is one place.
+fn overwrite(view: &mut View, at: Range, size: Size)
+    requires { at.hi + byte_count size ≤ 512 }
+    ensures long { length view.new.kept ≡ 64 }
+    ensures covers { (f : Setting) (s : State) (o : ℕ) (bytes : List ℕ) → Covers f view.old s → Within at o → length bytes ≡ byte_count size → ((k : ℕ) → k < length bytes → slice_index bytes k < 256) → Covers f view.new (next (written s InStack o bytes)) }
+{
+    let from = at.lo as usize;
+    let to = at.hi as usize + size.bytes();
+    forget(&mut view.kept, from, to);
+    if !at.is_single() {
+        return;
+    }
+    mark(&mut view.set, from, to);
+}
+
+/// A word is kept in a slot of eight bytes.
+fn keep(view: &mut View, slot: usize, word: Known)
+    requires { slot < 64 }
+    ensures { view.new ≡ keeping view.old slot word }
+{
+    view.kept[slot] = Some(word);
+}
 
 /// These bytes are set.
 pub fn mark(set: &mut [bool], from: usize, to: usize)

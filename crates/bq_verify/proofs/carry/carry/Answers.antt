@@ -1,6 +1,6 @@
 use Rattle.std.proofs.Common.{false, pos, subst, ℤ, arith, ◌≡◌, rules}
 use Rattle.bq_insn.specs.declared.Operation.TheVariants.{Mov}
-use Rattle.bq_insn.specs.declared.Insn.TheVariants.{Load, MapRef}
+use Rattle.bq_insn.specs.declared.Insn.TheVariants.{Load, MapRef, StoreImm, StoreReg}
 use mir.Syntax.{w16, w32}
 use mir.Val.{SFits, to_z, of_z}
 use Rattle.std.proofs.lemmas.Int.{ints}
@@ -17,11 +17,10 @@ returns-in_ok-alu-in-Alu-clause-carries c = rw c.in-Alu.is (c.in_ok-alu-in-Alu.e
 
 pub returns-in_ok-load-in-Load-clause-carries : goal.returns-in_ok-load-in-Load-clause-carries
 returns-in_ok-load-in-Load-clause-carries c =
-    let plain : c.in-Load.signed ≡ false = search rules in
     let fits : SFits w16 c.in-Load.off = search rules in
     let same : to_z w16 (of_z w16 c.in-Load.off) ≡ c.in-Load.off = omega (arith, ints) in
-    rw (c.in-Load.is, plain)
-    (subst (λ (off : ℤ). Carries c.args.shapes.now c.args.context (Load c.in-Load.size false c.in-Load.dst c.in-Load.src off) c.args.view.now c.load.new.view) same c.in_ok-load-in-Load.ensures.carries)
+    rw c.in-Load.is
+    (subst (λ (off : ℤ). Carries c.args.shapes.now c.args.context (Load c.in-Load.size c.in-Load.signed c.in-Load.dst c.in-Load.src off) c.args.view.now c.load.new.view) same c.in_ok-load-in-Load.ensures.carries)
 
 pub returns-in_ok-map_ref-in-MapRef-clause-carries : goal.returns-in_ok-map_ref-in-MapRef-clause-carries
 returns-in_ok-map_ref-in-MapRef-clause-carries c =
@@ -30,8 +29,49 @@ returns-in_ok-map_ref-in-MapRef-clause-carries c =
     rw c.in-MapRef.is
     (subst (λ (index : ℤ). Carries c.args.shapes.now c.args.context (MapRef c.in-MapRef.dst index) c.args.view.now c.map_ref.new.view) same (c.in_ok-map_ref-in-MapRef.ensures.carries c.args.context))
 
-pub returns-in_ok-look_up-in-Call-clause-carries : goal.returns-in_ok-look_up-in-Call-clause-carries
-returns-in_ok-look_up-in-Call-clause-carries c =
+pub returns-then-helper-eq1-clause-carries : goal.returns-then-helper-eq1-clause-carries
+returns-then-helper-eq1-clause-carries c =
     let fits : SFits w32 c.in-Call.helper = search rules in
-    let one : c.in-Call.helper ≡ pos 1 = omega (arith, ints) in
-    rw (c.in-Call.is, one) c.in_ok-look_up-in-Call.ensures.carries
+    let is : c.in-Call.helper ≡ pos 1 = omega (arith, ints) in
+    rw (c.in-Call.is, is) c.in_ok-look_up-in-Call.ensures.carries
+
+pub returns-then-helper-eq5-clause-carries : goal.returns-then-helper-eq5-clause-carries
+returns-then-helper-eq5-clause-carries c =
+    let fits : SFits w32 c.in-Call.helper = search rules in
+    let is : c.in-Call.helper ≡ pos 5 = omega (arith, ints) in
+    rw (c.in-Call.is, is) (c.now.ensures c.args.shapes.now c.args.context)
+
+pub returns-then-helper-eq8-clause-carries : goal.returns-then-helper-eq8-clause-carries
+returns-then-helper-eq8-clause-carries c =
+    let fits : SFits w32 c.in-Call.helper = search rules in
+    let is : c.in-Call.helper ≡ pos 8 = omega (arith, ints) in
+    rw (c.in-Call.is, is) (c.processor.ensures c.args.shapes.now c.args.context)
+
+pub returns-in_ok-extend-in-MovSx-clause-carries : goal.returns-in_ok-extend-in-MovSx-clause-carries
+returns-in_ok-extend-in-MovSx-clause-carries c = rw c.in-MovSx.is (c.in_ok-extend-in-MovSx.ensures.carries c.args.shapes.now c.args.context)
+
+pub returns-in_ok-negate-in-Neg-clause-carries : goal.returns-in_ok-negate-in-Neg-clause-carries
+returns-in_ok-negate-in-Neg-clause-carries c = rw c.in-Neg.is (c.in_ok-negate-in-Neg.ensures.carries c.args.shapes.now c.args.context)
+
+pub returns-in_ok-reorder-in-End-clause-carries : goal.returns-in_ok-reorder-in-End-clause-carries
+returns-in_ok-reorder-in-End-clause-carries c = rw c.in-End.is (c.in_ok-reorder-in-End.ensures.carries c.args.shapes.now c.args.context)
+
+pub returns-else-dst-ge10-7-clause-carries : goal.returns-else-dst-ge10-7-clause-carries
+returns-else-dst-ge10-7-clause-carries c = rw c.in-Imm64.is (c.immediate.ensures c.args.shapes.now c.args.context)
+
+pub returns-in_ok-store_imm-in-StoreImm-clause-carries : goal.returns-in_ok-store_imm-in-StoreImm-clause-carries
+returns-in_ok-store_imm-in-StoreImm-clause-carries c =
+    let fits : SFits w16 c.in-StoreImm.off = search rules in
+    let same : to_z w16 (of_z w16 c.in-StoreImm.off) ≡ c.in-StoreImm.off = omega (arith, ints) in
+    let fits' : SFits w32 c.in-StoreImm.imm = search rules in
+    let same' : to_z w32 (of_z w32 c.in-StoreImm.imm) ≡ c.in-StoreImm.imm = omega (arith, ints) in
+    rw c.in-StoreImm.is
+    (subst (λ (off : ℤ). Carries c.args.shapes.now c.args.context (StoreImm c.in-StoreImm.size c.in-StoreImm.dst off c.in-StoreImm.imm) c.args.view.now c.store_imm.new.view) same
+    (subst (λ (imm : ℤ). Carries c.args.shapes.now c.args.context (StoreImm c.in-StoreImm.size c.in-StoreImm.dst (to_z w16 (of_z w16 c.in-StoreImm.off)) imm) c.args.view.now c.store_imm.new.view) same' c.in_ok-store_imm-in-StoreImm.ensures.carries))
+
+pub returns-in_ok-store_reg-in-StoreReg-clause-carries : goal.returns-in_ok-store_reg-in-StoreReg-clause-carries
+returns-in_ok-store_reg-in-StoreReg-clause-carries c =
+    let fits : SFits w16 c.in-StoreReg.off = search rules in
+    let same : to_z w16 (of_z w16 c.in-StoreReg.off) ≡ c.in-StoreReg.off = omega (arith, ints) in
+    rw c.in-StoreReg.is
+    (subst (λ (off : ℤ). Carries c.args.shapes.now c.args.context (StoreReg c.in-StoreReg.size c.in-StoreReg.dst off c.in-StoreReg.src) c.args.view.now c.store_reg.new.view) same c.in_ok-store_reg-in-StoreReg.ensures.carries)

@@ -1,0 +1,20 @@
+use Rattle.std.proofs.Common.{◌≡◌, ◌<◌, ◌≤◌, ◌*◌, ◌/◌, ℕ, ℤ, length, refl, inl, inr, subst, sym, arith, rules}
+use mir.Syntax.{w16, w32}
+use mir.Val.{SFits, to_z, of_z}
+use Rattle.std.proofs.lemmas.Int.{ints}
+use Rattle.bq_insn.specs.Meaning.{word_of}
+use Rattle.bq_verify.specs.declared.view.Known.{Known}
+use Rattle.bq_verify.specs.declared.view.Kind.TheVariants.{Number}
+use Rattle.bq_verify.specs.Views.{Stores}
+use Rattle.bq_verify.proofs.WordLemmas.{number_is}
+use Rattle.bq_verify.proofs.WriteLemmas.{carries_imm}
+use Rattle.bq_verify.proofs.stores.store_imm.Goals as goal
+
+pub returns-clause-carries : goal.returns-clause-carries
+returns-clause-carries c =
+    let fits : SFits w16 c.args.off = search rules in
+    let same : to_z w16 (of_z w16 c.args.off) ≡ c.args.off = omega (arith, ints) in
+    let word : Known = record { kind = Number; offset = c.single.result } in
+    let is : c.word_of_imm.result ≡ word_of c.args.imm = search rules in
+    let stores = subst (λ (off : ℤ). Stores c.args.shapes.now c.args.context c.args.dst off c.args.size word c.args.view.now c.store.new.view) same c.in_ok-store.ensures.stores in
+    carries_imm c.args.shapes.now c.args.context c.args.dst c.args.off c.args.imm c.args.size word c.args.view.now c.store.new.view (λ f. number_is f.shapes c.single.result (word_of c.args.imm) (omega (arith, is, c.single.ensures.lo), omega (arith, is, c.single.ensures.hi))) stores
