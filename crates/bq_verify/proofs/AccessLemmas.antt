@@ -25,15 +25,19 @@ use Rattle.bq_verify.proofs.WordLemmas.{number_is}
 use Rattle.bq_verify.proofs.PutLemmas.{found_at}
 
 -- bytes that are set make a list, and a number
-pub read_bytes : (at : ℕ → Option ℕ) (n : ℕ) → ((i : ℕ) → i < n → (b : ℕ) × (at i ≡ Some b) × (b < 256)) → (bytes : List ℕ) × (length bytes ≡ n) × ((i : ℕ) → i < n → at i ≡ Some (slice_index bytes i)) × (number_of bytes < 256 ^ n)
-read_bytes at zero each = ([], refl, λ i h. absurd (omega arith), omega arith)
+pub read_bytes : (at : ℕ → Option ℕ) (n : ℕ) → ((i : ℕ) → i < n → (b : ℕ) × (at i ≡ Some b) × (b < 256)) → (bytes : List ℕ) × (length bytes ≡ n) × ((i : ℕ) → i < n → at i ≡ Some (slice_index bytes i)) × (number_of bytes < 256 ^ n) × ((i : ℕ) → slice_index bytes i < 256)
+read_bytes at zero each = ([], refl, λ i h. absurd (omega arith), omega arith, λ i. omega arith)
 read_bytes at (suc n) each =
     let first = each 0 (omega arith) in
     let rest = read_bytes (λ i. at (suc i)) n (λ i h. each (suc i) (omega arith)) in
-    (first.0 ∷ rest.0, ap suc rest.1, byte_in at first.0 rest.0 n first.1 rest.2, whole first.0 (number_of rest.0) n first.2 rest.3)
+    (first.0 ∷ rest.0, ap suc rest.1, byte_in at first.0 rest.0 n first.1 rest.2, whole first.0 (number_of rest.0) n first.2 rest.3, λ i. small_in first.0 rest.0 first.2 rest.4 i)
   where
     whole : (b m k : ℕ) → b < 256 → m < 256 ^ k → b + 256 * m < 256 ^ suc k
     whole b m k p q = rw pow-suc (omega arith)
+
+    small_in : (b : ℕ) (bs : List ℕ) → b < 256 → ((i : ℕ) → slice_index bs i < 256) → (i : ℕ) → slice_index (b ∷ bs) i < 256
+    small_in b bs p q zero = p
+    small_in b bs p q (suc i) = q i
 
     byte_in : (at : ℕ → Option ℕ) (b : ℕ) (bs : List ℕ) (n : ℕ) → at 0 ≡ Some b → ((i : ℕ) → i < n → at (suc i) ≡ Some (slice_index bs i)) → (i : ℕ) → i < suc n → at i ≡ Some (slice_index (b ∷ bs) i)
     byte_in at b bs n p q zero h = p
@@ -120,16 +124,16 @@ reads_place shapes context_length view size src off kind at finds set f s suits 
     )
 
 -- a read by a pointer that stays inside its region
-pub reads_gives : (shapes : List MapShape) (context_length : ℕ) (view : View) (size : Size) (src : ℕ) (off : ℤ) (base : Known) (bound : ℕ) (at : Range) → Some base ≡ slice_index_or view.registers src None → Bounds shapes context_length base.kind bound → bound ≤ 65536 → ((u : ℕ) → Within base.offset u → Within at ((u + word_of off) % 2 ^ 64)) → at.hi + byte_count size ≤ bound → (base.kind ≡ Stack → (o i : ℕ) → Within at o → i < byte_count size → slice_index_or view.set (o + i) false ≡ true) → (f : Setting) (s : State) → Suits shapes context_length f → Covers f view s → (word : ℕ) × (bytes : List ℕ) × (s.register src ≡ Some word) × (length bytes ≡ byte_count size) × Reads f s (address_of word off) bytes × (number_of bytes < 256 ^ byte_count size) × (word < 2 ^ 64)
-reads_gives shapes context_length view size src off base bound at known bounds small moved inside set f s suits covers =
+pub reads_gives : (shapes : List MapShape) (context_length : ℕ) (view : View) (count : ℕ) (src : ℕ) (off : ℤ) (base : Known) (bound : ℕ) (at : Range) → Some base ≡ slice_index_or view.registers src None → Bounds shapes context_length base.kind bound → bound ≤ 65536 → ((u : ℕ) → Within base.offset u → Within at ((u + word_of off) % 2 ^ 64)) → at.hi + count ≤ bound → (base.kind ≡ Stack → (o i : ℕ) → Within at o → i < count → slice_index_or view.set (o + i) false ≡ true) → (f : Setting) (s : State) → Suits shapes context_length f → Covers f view s → (word : ℕ) × (bytes : List ℕ) × (s.register src ≡ Some word) × (length bytes ≡ count) × Reads f s (address_of word off) bytes × (number_of bytes < 256 ^ count) × (word < 2 ^ 64) × ((i : ℕ) → slice_index bytes i < 256)
+reads_gives shapes context_length view count src off base bound at known bounds small moved inside set f s suits covers =
     let found = found_at f view s src base known covers in
     let d = found.2 in
     let region = bounds f d.base suits d.is_base in
     let o : ℕ = (d.offset + word_of off) % 2 ^ 64 in
     let within = moved d.offset d.within in
-    let stays : o + byte_count size ≤ bound = omega (arith, within, inside) in
-    let good = good_at f region.0 d.base bound found.0 d.offset (byte_count size) o off region.1 region.3 d.word_is refl small stays in
-    let bytes = read_bytes (λ i. byte_at f s region.0 (o + i)) (byte_count size)
+    let stays : o + count ≤ bound = omega (arith, within, inside) in
+    let good = good_at f region.0 d.base bound found.0 d.offset (count) o off region.1 region.3 d.word_is refl small stays in
+    let bytes = read_bytes (λ i. byte_at f s region.0 (o + i)) (count)
     (λ i h. region_byte shapes context_length f view s base.kind region.0 d.base bound (o + i) suits covers region.2 region.1 (omega arith) (λ stack. set stack o i within h)) in (
       found.0,
       bytes.0,
@@ -138,6 +142,7 @@ reads_gives shapes context_length view size src off base bound at known bounds s
       record { region = region.0; offset = o; good = rw bytes.1 good; set = λ i h. bytes.2 i (rw bytes.1 at h) },
       bytes.3,
       omega (arith, d.word_is),
+      bytes.4,
     )
 
 -- a load of a place whose bytes are set

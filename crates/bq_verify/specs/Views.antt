@@ -1,5 +1,5 @@
 -- The states that a view speaks of.
-use Rattle.std.specs.Prelude.{Bool, ◌≡◌, ℕ, ℤ, ◌+◌, ◌*◌, ◌%◌, ◌^◌, ◌<◌, ◌≤◌, true, false, List, Option, Some, None, length, slice_get, slice_set, slice_index_or, ◌⊎◌}
+use Rattle.std.specs.Prelude.{Bool, ◌≡◌, ℕ, ℤ, ◌+◌, ◌*◌, ◌%◌, ◌^◌, ◌<◌, ◌≤◌, true, false, List, Option, Some, None, length, slice_get, slice_set, slice_index, slice_index_or, ◌⊎◌}
 use Rattle.std.specs.Int.{byte_at}
 use Rattle.bq_insn.specs.declared.Insn.{Insn}
 use Rattle.bq_insn.specs.Slots.{slots_of}
@@ -126,7 +126,7 @@ pub record Clears (old new : List (Option Known)) : Type 0 where
 -- in every state of the view the register points to so many bytes that may be read
 abbrev pub FindsBytes : List MapShape → ℕ → View → ℕ → ℕ → Type 0
 FindsBytes shapes context_length view r count =
-    (f : Setting) (s : State) → Suits shapes context_length f → Covers f view s → (word : ℕ) × (bytes : List ℕ) × (s.register r ≡ Some word) × (length bytes ≡ count) × Reads f s word bytes
+    (f : Setting) (s : State) → Suits shapes context_length f → Covers f view s → (word : ℕ) × (bytes : List ℕ) × (s.register r ≡ Some word) × (length bytes ≡ count) × Reads f s word bytes × ((i : ℕ) → slice_index bytes i < 256)
 
 -- only bytes from there to there were set anew
 abbrev pub Marks : List Bool → List Bool → ℕ → ℕ → Type 0

@@ -1,14 +1,14 @@
 // Map references and calls of helpers.
 
-ghost use Rattle.std.specs.Prelude.{◌≡◌, ◌<◌, ◌≤◌, ◌^◌, ℕ, pos, List, IfSome, OnOk, Some, length, IfErr};
+ghost use Rattle.std.specs.Prelude.{◌≡◌, ◌<◌, ◌≤◌, ◌^◌, ℕ, pos, List, IfSome, OnOk, Some, length, IfErr, IsTrue};
 ghost use Rattle.bq_maps.specs.Memory.{Setting, State, reference};
 ghost use Rattle.bq_maps.specs.Machine.{called};
 ghost use Rattle.bq_maps.specs.declared.shape.MapShape.{MapShape};
 ghost use Rattle.bq_ranges.specs.Within.{Within};
 ghost use Rattle.bq_verify.specs.Doubts.{MayDoubt};
-ghost use Rattle.bq_verify.specs.Views.{Carries, Clears, Covers};
+ghost use Rattle.bq_verify.specs.Views.{Carries, Clears, Covers, IsBelow};
 
-use crate::memory::reads;
+use crate::memory::{reads, reads_value, shape_of};
 use crate::registers::{known, learn};
 use crate::view::{Doubt, Kind, Known, View};
 use bq_insn::{Insn, Size, Width};
@@ -101,6 +101,44 @@ pub fn look_up(view: &mut View, shapes: &[MapShape], context: usize) -> Result<(
         },
     );
     Ok(())
+}
+
+/// An update: as a look-up, and register 3 points to a value, and register 4 is 0.
+pub fn update(view: &mut View, shapes: &[MapShape], context: usize) -> Result<(), Doubt>
+    requires context { context < 2 ^ 16 }
+    ensures carries { OnOk result (Carries shapes.now context (Insn.Call (pos 2)) view.old view.new) }
+    ensures doubts { IfErr result (λ doubt. MayDoubt doubt (Insn.Call (pos 2))) }
+{
+    let Some(map) = map_of(view) else {
+        return Err(Doubt::Argument);
+    };
+    if !reads(view, shapes, context, 2, Size::Word) {
+        return Err(Doubt::Argument);
+    }
+    let Some(shape) = shape_of(shapes, map) else {
+        return Err(Doubt::Argument);
+    };
+    if !reads_value(view, shapes, context, 3, usize::from(shape.value_size)) {
+        return Err(Doubt::Argument);
+    }
+    if !is_at_most(view, 4, 0) {
+        return Err(Doubt::Argument);
+    }
+    answer(view, Range::full(Width::W64));
+    Ok(())
+}
+
+/// Whether a register is a number of at most `most`.
+pub fn is_at_most(view: &View, register: u8, most: u64) -> bool
+    ensures { IsTrue result → (bound : ℕ) → most < bound → IsBelow view.now register bound }
+{
+    let Some(word) = known(view, register) else {
+        return false;
+    };
+    if word.kind != Kind::Number {
+        return false;
+    }
+    word.offset.hi <= most
 }
 
 /// After a call registers 1 to 5 are unset, and register 0 is a number of that range.

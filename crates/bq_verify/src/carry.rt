@@ -6,7 +6,7 @@ ghost use Rattle.bq_verify.specs.Views.{Carries};
 ghost use Rattle.bq_verify.specs.Control.{IsStraight};
 
 use crate::alu::{alu, copy};
-use crate::calls::{look_up, map_ref, now, processor};
+use crate::calls::{look_up, map_ref, now, processor, update};
 use crate::memory::load;
 use crate::moves::{extend, immediate, negate, reorder};
 use crate::stores::{store_imm, store_reg};
@@ -80,6 +80,10 @@ pub fn carry(view: &mut View, shapes: &[MapShape], context: usize, insn: Insn) -
         Insn::Call { helper } => {
             if helper == 1 {
                 look_up(view, shapes, context)?;
+                return Ok(());
+            }
+            if helper == 2 {
+                update(view, shapes, context)?;
                 return Ok(());
             }
             if helper == 5 {

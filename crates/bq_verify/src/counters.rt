@@ -6,24 +6,10 @@ ghost use Rattle.bq_maps.specs.Memory.{Setting, State};
 ghost use Rattle.bq_maps.specs.Machine.{IsCounterCall, called};
 ghost use Rattle.bq_verify.specs.Views.{AsksFrom, Covers, IsBelow};
 
-use crate::calls::answer;
-use crate::registers::known;
-use crate::view::{Doubt, Kind, View};
+use crate::calls::{answer, is_at_most};
+use crate::view::{Doubt, View};
 use bq_insn::{Insn, Width};
 use bq_ranges::Range;
-
-/// Whether a register is a number of at most `most`.
-fn is_at_most(view: &View, register: u8, most: u64) -> bool
-    ensures { IsTrue result → (bound : ℕ) → most < bound → IsBelow view.now register bound }
-{
-    let Some(word) = known(view, register) else {
-        return false;
-    };
-    if word.kind != Kind::Number {
-        return false;
-    }
-    word.offset.hi <= most
-}
 
 /// An add: register 1 is a counter, and register 2 an amount.
 fn add(view: &mut View) -> Result<(), Doubt>

@@ -15,7 +15,7 @@ use bq_maps::shape::MapShape;
 use bq_ranges::{Range, arithmetic, moves};
 
 /// The shape of a map, if there is one of that number.
-fn shape_of(shapes: &[MapShape], map: u8) -> Option<MapShape>
+pub fn shape_of(shapes: &[MapShape], map: u8) -> Option<MapShape>
     ensures { result ≡ slice_get shapes.now map }
 {
     let map = usize::from(map);
@@ -251,4 +251,42 @@ pub fn reads(view: &View, shapes: &[MapShape], context: usize, register: u8, siz
         return false;
     }
     is_readable(view, base.kind, base.offset, size)
+}
+
+/// Whether a register points to so many bytes that may be read.
+pub fn reads_value(
+    view: &View,
+    shapes: &[MapShape],
+    context: usize,
+    register: u8,
+    count: usize,
+) -> bool
+    requires context { context < 2 ^ 16 }
+    requires count { count ≤ 256 }
+    ensures { IsTrue result → FindsBytes shapes.now context view.now register count }
+{
+    let Some(base) = known(view, register) else {
+        return false;
+    };
+    let Some(bound) = bound(base.kind, shapes, context) else {
+        return false;
+    };
+    if bound > 0x1_0000 || bound < count || base.offset.hi > (bound - count) as u64 {
+        return false;
+    }
+    match base.kind {
+        Kind::Stack => stack_is_set(view, base.offset, count),
+        _ => true,
+    }
+}
+
+/// Whether so many stack bytes from each offset of the range on are set.
+fn stack_is_set(view: &View, at: Range, count: usize) -> bool
+    requires { count ≤ 256 }
+    ensures { IsTrue result → (o i : ℕ) → Within at o → i < count → slice_index_or view.now.set (o + i) false ≡ true }
+{
+    if at.hi > (512 - count) as u64 {
+        return false;
+    }
+    all_set(&view.set, at.lo as usize, at.hi as usize + count)
 }

@@ -75,3 +75,9 @@ returns-in_ok-store_reg-in-StoreReg-clause-carries c =
     let same : to_z w16 (of_z w16 c.in-StoreReg.off) ≡ c.in-StoreReg.off = omega (arith, ints) in
     rw c.in-StoreReg.is
     (subst (λ (off : ℤ). Carries c.args.shapes.now c.args.context (StoreReg c.in-StoreReg.size c.in-StoreReg.dst off c.in-StoreReg.src) c.args.view.now c.store_reg.new.view) same c.in_ok-store_reg-in-StoreReg.ensures.carries)
+
+pub returns-then-helper-eq2-clause-carries : goal.returns-then-helper-eq2-clause-carries
+returns-then-helper-eq2-clause-carries c =
+    let fits : SFits w32 c.in-Call.helper = search rules in
+    let is : c.in-Call.helper ≡ pos 2 = omega (arith, ints) in
+    rw (c.in-Call.is, is) c.in_ok-update-in-Call.ensures.carries
