@@ -21,10 +21,11 @@ use Rattle.bq_asm.specs.Assembly.{slots_of_line, place_at, places_from}
 use Rattle.bq_asm.specs.declared.fault.Cause.TheVariants.{Word, LabelTwice, Slots}
 use Rattle.bq_asm.specs.Operands.{is_label, texts, kind_list, kinds_of, made, instruction_from}
 use Rattle.bq_asm.specs.Faults.{slots_in, cause_at, cause_of_label, cause_of_insn}
+use Rattle.bq_asm.proofs.JumpLemmas.{lookup_places}
 use Rattle.bq_asm.proofs.CountLemmas.{count_wrong}
 use Rattle.bq_asm.specs.declared.draft.Draft.{Draft}
-use Rattle.bq_asm.specs.Draft.{places_of, TakesLine, Describes}
-use Rattle.bq_asm.specs.Jumps.{Awaited, awaited_by, draft_of, drafts_of, jump_at, jumps_from}
+use Rattle.bq_asm.specs.Draft.{TakesLine, Describes}
+use Rattle.bq_asm.specs.Jumps.{Awaited, awaited_by, places_of, draft_of, drafts_of, jump_at, jumps_from}
 
 pub slots_in-append : (xs ys : List Line) → slots_in (xs ++ ys) ≡ slots_in xs + slots_in ys
 slots_in-append [] ys = sym (zero-add (slots_in ys))
@@ -52,11 +53,6 @@ jumps_from-append index slot number (x ∷ xs) ys =
     let first = jumps_from (index + length (draft_of x)) (slot + slots_of_line x) (number + 1) xs in
     ap (λ js. jump_at index slot number x ++ js) (more ∙ (λ i. first ++ jumps_from (a i) (b i) (c i) ys))
     ∙ sym (append_assoc (jump_at index slot number x) first (jumps_from (index + length (drafts_of (x ∷ xs))) (slot + (slots_of_line x + slots_in xs)) (number + length (x ∷ xs)) ys))
-
--- a map's entries by their bytes find the same
-lookup_places : (name : List ℕ) (es : List (Bor (List ℕ) × ℕ)) → lookup (bytes_eq name) (map (λ e. (e.0.now, e.1)) es) ≡ lookup (λ k. bytes_eq name k.now) es
-lookup_places name [] = refl
-lookup_places name (e ∷ es) = ap (λ o. if bytes_eq name e.0.now then Some e.1 else o) (lookup_places name es)
 
 -- a label is in a map exactly where it is among the labels that were set
 pub label_known : (name : List ℕ) (es : List (Bor (List ℕ) × ℕ)) (places : List (List ℕ × ℕ)) → map (λ e. (e.0.now, e.1)) es ≡ places

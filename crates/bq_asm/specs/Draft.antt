@@ -1,9 +1,5 @@
 -- What the first pass keeps of the lines that it has read.
 use Rattle.std.specs.Prelude.{◌≡◌, ℕ, ◌+◌, pos, List, [], ◌∷◌, ◌++◌, length, map, Some, None, Result, Ok, Err}
-use Rattle.std.specs.Borrow.{Bor}
-use Rattle.std.specs.declared.hash.FoldHasher.{FoldHasher}
-use Rattle.std.specs.declared.hash.BuildHasherDefault.{BuildHasherDefault}
-use Rattle.indexmap.specs.IndexMap.{IndexMap}
 use Rattle.bq_insn.specs.declared.Insn.{Insn}
 use Rattle.bq_asm.specs.declared.fault.Cause.{Cause}
 use Rattle.bq_asm.specs.declared.fault.AsmFault.{AsmFault}
@@ -13,14 +9,7 @@ use Rattle.bq_asm.specs.Lines.{Line, Blank, Label, Instruction}
 use Rattle.bq_asm.specs.Operands.{instruction_of}
 use Rattle.bq_asm.specs.Assembly.{places_from}
 use Rattle.bq_asm.specs.Faults.{slots_in, cause_at}
-use Rattle.bq_asm.specs.Jumps.{awaited_by, drafts_of, jumps_from}
-
-abbrev pub Labels : Type 0
-Labels = IndexMap (Bor (List ℕ)) ℕ (BuildHasherDefault FoldHasher)
-
--- the labels of a map, each with its slot
-abbrev pub places_of : Labels → List (List ℕ × ℕ)
-places_of m = map (λ e. (e.0.now, e.1)) m.entries
+use Rattle.bq_asm.specs.Jumps.{places_of, awaited_by, drafts_of, jumps_from}
 
 -- the draft is that of these lines
 pub record Describes (lines : List Line) (draft : Draft) : Type 0 where

@@ -1,8 +1,12 @@
 -- The jumps to labels that lines say, and how they are set once all labels are known.
-use Rattle.std.specs.Prelude.{◌≡◌, ℕ, ◌+◌, ℤ, pos, ◌-ℤ◌, Bool, true, false, List, [], ◌∷◌, ◌++◌, Option, Some, None, Result, Ok, Err, slice_index_or, slice_set, length, if◌then◌else◌}
+use Rattle.std.specs.Prelude.{◌≡◌, ℕ, ◌+◌, ℤ, pos, ◌-ℤ◌, Bool, true, false, List, [], ◌∷◌, ◌++◌, Option, Some, None, Result, Ok, Err, slice_index_or, slice_set, length, map, if◌then◌else◌}
+use Rattle.std.specs.Borrow.{Bor}
+use Rattle.std.specs.declared.hash.FoldHasher.{FoldHasher}
+use Rattle.std.specs.declared.hash.BuildHasherDefault.{BuildHasherDefault}
 use Rattle.std.specs.List.{flat_map}
 use Rattle.std.specs.Map.{lookup}
 use Rattle.std.specs.Str.{bytes_eq}
+use Rattle.indexmap.specs.IndexMap.{IndexMap}
 use Rattle.bq_insn.specs.declared.Insn.{Insn}
 use Rattle.bq_insn.specs.declared.Insn.TheVariants as insn
 use Rattle.bq_insn.specs.Slots.{slots_of}
@@ -70,6 +74,13 @@ abbrev pub jumps_from : ℕ → ℕ → ℕ → List Line → List Awaited
 jumps_from index slot number [] = []
 jumps_from index slot number (line ∷ lines) =
     jump_at index slot number line ++ jumps_from (index + length (draft_of line)) (slot + slots_of_line line) (number + 1) lines
+
+abbrev pub Labels : Type 0
+Labels = IndexMap (Bor (List ℕ)) ℕ (BuildHasherDefault FoldHasher)
+
+-- the labels of a map, each with its slot
+abbrev pub places_of : Labels → List (List ℕ × ℕ)
+places_of m = map (λ e. (e.0.now, e.1)) m.entries
 
 -- the instructions with this jump set, and then the others, or the line of a jump whose label has no place
 abbrev pub with_jump : Awaited → List Insn → (List Insn → Result (List Insn) ℕ) → Option ℕ → Result (List Insn) ℕ

@@ -1,11 +1,14 @@
 //! Jumps to labels: which they are, and how they are set once all labels are known.
-ghost use Rattle.std.specs.Prelude.{◌≡◌, ◌≤◌, ◌<◌, ◌+◌, pos, length, map, option_map, OnOk, IfErr, ◌++◌};
+ghost use Rattle.std.specs.Prelude.{◌≡◌, ◌≤◌, ◌<◌, ◌+◌, pos, length, map, option_map, OnOk, IfErr, ◌++◌, Ok, Err, All, IfSome, ◌-ℤ◌};
+ghost use Rattle.std.specs.Map.{lookup};
+ghost use Rattle.std.specs.Str.{bytes_eq};
 ghost use Rattle.bq_asm.specs.Operands.{texts};
-ghost use Rattle.bq_asm.specs.Jumps.{is_jump, target_of, aimed, awaited_by, awaited_at};
+ghost use Rattle.bq_asm.specs.Jumps.{is_jump, target_of, aimed, awaited_by, awaited_at, with_jumps, places_of};
 
 use crate::fault::AsmFault;
 use crate::line::is_label;
 use bq_insn::Insn;
+use indexmap::IndexMap;
 
 /// A jump whose label may be set by a later line.
 #[derive(Clone, Copy)]
@@ -51,6 +54,45 @@ pub fn push_jump<'a>(
         })?;
     }
     Ok(())
+}
+
+/// Sets each of the jumps, or answers the line of the first whose label is set nowhere.
+pub fn set_jumps<'a>(
+    labels: &IndexMap<&'a [u8], usize>,
+    jumps: &[Jump<'a>],
+    insns: &mut [Insn],
+) -> Result<(), usize>
+    requires labels { All (λ e. e.1 ≤ 4096) labels.now.entries }
+    requires jumps { All (λ j. (j.next ≤ 4096) × (j.index < length insns.old)) jumps.now }
+    ensures ok { OnOk result (with_jumps (places_of labels.now) (map awaited_by jumps.now) insns.old ≡ Ok insns.new) }
+    ensures missing { IfErr result (λ line. with_jumps (places_of labels.now) (map awaited_by jumps.now) insns.old ≡ Err line) }
+{
+    for jump in jumps {
+        let Some(slot) = slot_of(labels, jump.label) else {
+            return Err(jump.line);
+        };
+        let distance = distance_between(jump.next, slot);
+        insns[jump.index] = aimed(insns[jump.index], distance);
+    }
+    Ok(())
+}
+
+/// The slot at which a label is set.
+fn slot_of<'a>(labels: &IndexMap<&'a [u8], usize>, label: &'a [u8]) -> Option<usize>
+    requires { All (λ e. e.1 ≤ 4096) labels.now.entries }
+    ensures found { result ≡ lookup (bytes_eq label.entry.now) (places_of labels.now) }
+    ensures near { IfSome result (λ slot. slot ≤ 4096) }
+{
+    labels.get(&label).copied()
+}
+
+/// How far it is from one slot to another.
+fn distance_between(from: usize, to: usize) -> i16
+    requires from { from ≤ 4096 }
+    requires to { to ≤ 4096 }
+    ensures { result ≡ pos to -ℤ pos from }
+{
+    (to as i16) - (from as i16)
 }
 
 fn is_jump(insn: Insn) -> bool

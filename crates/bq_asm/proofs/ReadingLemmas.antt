@@ -1,0 +1,248 @@
+-- How what an instruction's words say depends on the distance to its label.
+use Rattle.std.proofs.Common.{◌≡◌, ℕ, List, [], ◌∷◌, length, refl, sym, ap, ◌∙◌, Bool, true, false, Some, None, arith, inl, inr, subst}
+use Rattle.std.specs.Prelude.{Option, Result, Ok, Err, ℤ, pos, ◌⊎◌, if◌then◌else◌, option_map}
+use Rattle.std.specs.List.{list_all}
+use Rattle.std.specs.Option.{ok_or}
+use Rattle.bq_insn.specs.declared.Width.{Width}
+use Rattle.bq_insn.specs.declared.Condition.{Condition}
+use Rattle.bq_insn.specs.declared.Source.TheVariants.{Imm, Reg}
+use Rattle.bq_insn.specs.declared.Insn.{Insn}
+use Rattle.bq_insn.specs.declared.Insn.TheVariants as insn
+use Rattle.bq_insn.specs.Slots.{slots_of}
+use Rattle.bq_asm.specs.declared.fault.Cause.{Cause}
+use Rattle.bq_asm.specs.declared.fault.Cause.TheVariants as cause
+use Rattle.bq_asm.specs.declared.mnemonic.Mnemonic.{Mnemonic}
+use Rattle.bq_asm.specs.declared.mnemonic.Mnemonic.TheVariants as name
+use Rattle.bq_asm.specs.declared.operand.Operand.{Operand}
+use Rattle.bq_asm.specs.declared.operand.Operand.TheVariants as operand
+use Rattle.bq_asm.specs.declared.place.Kind.{Kind}
+use Rattle.bq_asm.specs.declared.place.Kind.TheVariants as kind
+use Rattle.bq_asm.specs.Named.{named}
+use Rattle.bq_asm.specs.Lines.{last_word}
+use Rattle.bq_asm.specs.Operands.{is_label, operand_of, number_place, label_place, each_operand, with_next, kind_list, kinds_of, insn_from, made, lesser, register_place, source_place, instruction_of, instruction_from}
+use Rattle.bq_asm.specs.Numbers.{register_of, offset_of, distance_of}
+use Rattle.bq_asm.specs.Jumps.{is_jump, target_of, aimed}
+use Rattle.bq_asm.proofs.CountLemmas.{count_wrong}
+
+abbrev pub jumps : Mnemonic → Bool
+jumps name.Goto = true
+jumps name.Goto32 = true
+jumps (name.Branch w c) = true
+jumps m = false
+
+-- how many slots an instruction takes is known by its first word
+abbrev pub size_of : Mnemonic → ℕ
+size_of name.Imm64 = 2
+size_of name.MapRef = 2
+size_of m = 1
+
+-- an instruction is a jump and has its size by its first word
+pub record HasShape (m : Mnemonic) (i : Insn) : Type 0 where
+  pub jump : is_jump i ≡ jumps m
+  pub size : slots_of i ≡ size_of m
+
+IfShape : Mnemonic → Option Insn → Type 0
+IfShape m None = Unit {0}
+IfShape m (Some i) = HasShape m i
+
+shaped : (m : Mnemonic) (os : List Operand) → IfShape m (insn_from m os)
+unfolding IfShape
+shaped (name.Alu w o) (operand.Register d ∷ operand.Number n ∷ []) = record { jump = refl; size = refl }
+shaped (name.Alu w o) (operand.Register d ∷ operand.Register s ∷ []) = record { jump = refl; size = refl }
+shaped (name.MovSx w b) (operand.Register d ∷ operand.Register s ∷ []) = record { jump = refl; size = refl }
+shaped (name.Neg w) (operand.Register d ∷ []) = record { jump = refl; size = refl }
+shaped (name.End order b) (operand.Register d ∷ []) = record { jump = refl; size = refl }
+shaped (name.Load size) (operand.Register d ∷ operand.Memory s off ∷ []) = record { jump = refl; size = refl }
+shaped (name.LoadSigned size) (operand.Register d ∷ operand.Memory s off ∷ []) = record { jump = refl; size = refl }
+shaped (name.StoreImm size) (operand.Memory d off ∷ operand.Number n ∷ []) = record { jump = refl; size = refl }
+shaped (name.StoreReg size) (operand.Memory d off ∷ operand.Register s ∷ []) = record { jump = refl; size = refl }
+shaped name.Imm64 (operand.Register d ∷ operand.Wide v ∷ []) = record { jump = refl; size = refl }
+shaped name.MapRef (operand.Register d ∷ operand.Number n ∷ []) = record { jump = refl; size = refl }
+shaped name.Goto (operand.Near z ∷ []) = record { jump = refl; size = refl }
+shaped name.Goto32 (operand.Far z ∷ []) = record { jump = refl; size = refl }
+shaped (name.Branch w c) (operand.Register d ∷ operand.Number n ∷ operand.Near z ∷ []) = record { jump = refl; size = refl }
+shaped (name.Branch w c) (operand.Register d ∷ operand.Register s ∷ operand.Near z ∷ []) = record { jump = refl; size = refl }
+shaped name.Call (operand.Number n ∷ []) = record { jump = refl; size = refl }
+shaped name.Exit [] = record { jump = refl; size = refl }
+shaped m os = tt
+
+shaped_by : (m : Mnemonic) (os : List Operand) (i : Insn) → insn_from m os ≡ Some i → HasShape m i
+unfolding IfShape
+shaped_by m os i h = subst (IfShape m) h (shaped m os)
+
+some_from_ok : (o : Option Insn) (i : Insn) → ok_or o cause.Word ≡ Ok i → o ≡ Some i
+some_from_ok None i h = absurd (let e : Err cause.Word ≡ Ok i = h in cc)
+some_from_ok (Some j) i h = let e : Ok j ≡ Ok i = h in cc
+
+-- an instruction is made of operands
+pub made_from : (m : Mnemonic) (r : Result (List Operand) Cause) (i : Insn) → made m r ≡ Ok i → (os : List Operand) × (r ≡ Ok os) × (insn_from m os ≡ Some i)
+made_from m (Err c) i h = absurd (let e : Err c ≡ Ok i = h in cc)
+made_from m (Ok os) i h = (os, refl, some_from_ok (insn_from m os) i h)
+
+pub made_shape : (m : Mnemonic) (r : Result (List Operand) Cause) (i : Insn) → made m r ≡ Ok i → HasShape m i
+made_shape m r i h = let from = made_from m r i h in shaped_by m from.0 i from.2
+
+-- what the words after this first word say
+abbrev pub read : Mnemonic → List (List ℕ) → Option ℤ → Result Insn Cause
+read m operands d = made m (each_operand (kind_list (kinds_of m)) operands d)
+
+is_steady : Kind → Bool
+is_steady kind.Near = false
+is_steady kind.Far = false
+is_steady k = true
+
+not_false : {P : Type 0} → false ≡ true → P
+not_false h = absurd (let e : false ≡ true = h in cc)
+
+steady_operands : (ks : List Kind) (ws : List (List ℕ)) (d e : Option ℤ) → list_all is_steady ks ≡ true → each_operand ks ws d ≡ each_operand ks ws e
+unfolding is_steady
+steady_operands [] [] d e h = refl
+steady_operands [] (w ∷ ws) d e h = refl
+steady_operands (k ∷ ks) [] d e h = refl
+steady_operands (kind.Register ∷ ks) (w ∷ ws) d e h = ap (with_next (operand_of kind.Register w d)) (steady_operands ks ws d e h)
+steady_operands (kind.Source ∷ ks) (w ∷ ws) d e h = ap (with_next (operand_of kind.Source w d)) (steady_operands ks ws d e h)
+steady_operands (kind.Number ∷ ks) (w ∷ ws) d e h = ap (with_next (operand_of kind.Number w d)) (steady_operands ks ws d e h)
+steady_operands (kind.Wide ∷ ks) (w ∷ ws) d e h = ap (with_next (operand_of kind.Wide w d)) (steady_operands ks ws d e h)
+steady_operands (kind.Memory ∷ ks) (w ∷ ws) d e h = ap (with_next (operand_of kind.Memory w d)) (steady_operands ks ws d e h)
+steady_operands (kind.Near ∷ ks) (w ∷ ws) d e h = not_false h
+steady_operands (kind.Far ∷ ks) (w ∷ ws) d e h = not_false h
+
+-- the distance does not matter, and no label waits for it
+pub record IsSteady (m : Mnemonic) (operands : List (List ℕ)) : Type 0 where
+  pub same : (d e : Option ℤ) → read m operands d ≡ read m operands e
+  pub none : (i : Insn) → read m operands (Some (pos 0)) ≡ Ok i → target_of i operands ≡ None
+
+abbrev pub aimed_by : ℤ → Result Insn Cause → Result Insn Cause
+aimed_by z (Ok i) = Ok (aimed i z)
+aimed_by z (Err c) = Err c
+
+-- a label stands in the target's place
+pub record IsAimed (m : Mnemonic) (operands : List (List ℕ)) : Type 0 where
+  pub label : is_label (last_word operands) ≡ true
+  pub jump : jumps m ≡ true
+  pub set : (z : ℤ) → read m operands (Some z) ≡ aimed_by z (read m operands (Some (pos 0)))
+  pub unset : (i : Insn) → read m operands (Some (pos 0)) ≡ Ok i → read m operands None ≡ Err cause.LabelMissing
+  pub never : (i : Insn) → read m operands None ≡ Ok i → ⊥
+
+both_same : (o : Option (List ℕ)) (b : Bool) → (if b then o else o) ≡ o
+both_same o true = refl
+both_same o false = refl
+
+no_label : (i : Insn) (operands : List (List ℕ)) → is_label (last_word operands) ≡ false → target_of i operands ≡ None
+no_label i operands h = ap (λ b. if is_jump i then (if b then Some (last_word operands) else None) else None) h ∙ both_same None (is_jump i)
+
+no_jump : (i : Insn) (operands : List (List ℕ)) → is_jump i ≡ false → target_of i operands ≡ None
+no_jump i operands h = ap (λ b. if b then (if is_label (last_word operands) then Some (last_word operands) else None) else None) h
+
+steady_name : (m : Mnemonic) (operands : List (List ℕ)) → jumps m ≡ false → list_all is_steady (kind_list (kinds_of m)) ≡ true → IsSteady m operands
+steady_name m operands plain ks = record {
+  same = λ d e. ap (made m) (steady_operands (kind_list (kinds_of m)) operands d e ks);
+  none = λ i h. no_jump i operands ((made_shape m (each_operand (kind_list (kinds_of m)) operands (Some (pos 0))) i h).jump ∙ plain);
+}
+
+miscounted : (m : Mnemonic) (operands : List (List ℕ)) → (length operands ≡ length (kind_list (kinds_of m)) → ⊥) → IsSteady m operands
+miscounted m operands wrong =
+    let word = λ (d : Option ℤ). ap (made m) (count_wrong (kind_list (kinds_of m)) operands d wrong) in
+    record {
+      same = λ d e. word d ∙ sym (word e);
+      none = λ i h. absurd (let e : Err cause.Word ≡ Ok i = sym (word (Some (pos 0))) ∙ h in cc);
+    }
+
+-- a word in a near or far target's place
+near : (w : List ℕ) (d : Option ℤ) (b : Bool) → is_label w ≡ b → operand_of kind.Near w d
+    ≡ (if b then label_place (option_map (λ z. operand.Near z) d) else number_place (option_map (λ z. operand.Near z) (offset_of w)) w)
+near w d b e = ap (λ b. if b then label_place (option_map (λ z. operand.Near z) d) else number_place (option_map (λ z. operand.Near z) (offset_of w)) w) e
+
+far : (w : List ℕ) (d : Option ℤ) (b : Bool) → is_label w ≡ b → operand_of kind.Far w d
+    ≡ (if b then label_place (option_map (λ z. operand.Far z) d) else number_place (option_map (λ z. operand.Far z) (distance_of w)) w)
+far w d b e = ap (λ b. if b then label_place (option_map (λ z. operand.Far z) d) else number_place (option_map (λ z. operand.Far z) (distance_of w)) w) e
+
+goto : (w : List ℕ) (b : Bool) → is_label w ≡ b → IsSteady name.Goto (w ∷ []) ⊎ IsAimed name.Goto (w ∷ [])
+goto w false e =
+    let at = λ (d : Option ℤ). ap (λ t. made name.Goto (with_next t (Ok []))) (near w d false e) in
+    inl (record { same = λ d f. at d ∙ sym (at f); none = λ i h. no_label i (w ∷ []) e })
+goto w true e =
+    let at = λ (d : Option ℤ). ap (λ t. made name.Goto (with_next t (Ok []))) (near w d true e) in
+    inr (record {
+      label = e;
+      jump = refl;
+      set = λ z. at (Some z) ∙ sym (ap (aimed_by z) (at (Some (pos 0))));
+      unset = λ i h. at None;
+      never = λ i h. let no : Err cause.LabelMissing ≡ Ok i = sym (at None) ∙ h in cc;
+    })
+
+goto32 : (w : List ℕ) (b : Bool) → is_label w ≡ b → IsSteady name.Goto32 (w ∷ []) ⊎ IsAimed name.Goto32 (w ∷ [])
+goto32 w false e =
+    let at = λ (d : Option ℤ). ap (λ t. made name.Goto32 (with_next t (Ok []))) (far w d false e) in
+    inl (record { same = λ d f. at d ∙ sym (at f); none = λ i h. no_label i (w ∷ []) e })
+goto32 w true e =
+    let at = λ (d : Option ℤ). ap (λ t. made name.Goto32 (with_next t (Ok []))) (far w d true e) in
+    inr (record {
+      label = e;
+      jump = refl;
+      set = λ z. at (Some z) ∙ sym (ap (aimed_by z) (at (Some (pos 0))));
+      unset = λ i h. at None;
+      never = λ i h. let no : Err cause.LabelMissing ≡ Ok i = sym (at None) ∙ h in cc;
+    })
+
+-- a branch, by what stands in the places before its target
+module _ (width : Width) (cond : Condition) where
+  branch : Result Operand Cause → Result Operand Cause → Result Operand Cause → Result Insn Cause
+  branch a b t = made (name.Branch width cond) (with_next a (with_next b (with_next t (Ok []))))
+
+  branch_set : (a b : Result Operand Cause) (y z : ℤ) → branch a b (Ok (operand.Near z)) ≡ aimed_by z (branch a b (Ok (operand.Near y)))
+  unfolding branch
+  branch_set (Ok (operand.Register d)) (Ok (operand.Number n)) y z = refl
+  branch_set (Ok (operand.Register d)) (Ok (operand.Register s)) y z = refl
+  branch_set (Ok o) (Ok p) y z = refl
+  branch_set (Ok o) (Err c) y z = refl
+  branch_set (Err c) (Ok p) y z = refl
+  branch_set (Err c) (Err d) y z = refl
+
+  branch_unset : (a b : Result Operand Cause) (y : ℤ) (i : Insn) → branch a b (Ok (operand.Near y)) ≡ Ok i → branch a b (Err cause.LabelMissing) ≡ Err cause.LabelMissing
+  unfolding branch
+  branch_unset (Ok o) (Ok p) y i h = refl
+  branch_unset (Ok o) (Err c) y i h = absurd (let no : Err c ≡ Ok i = h in cc)
+  branch_unset (Err c) (Ok p) y i h = absurd (let no : Err c ≡ Ok i = h in cc)
+  branch_unset (Err c) (Err d) y i h = absurd (let no : Err (lesser c d) ≡ Ok i = h in cc)
+
+  branch_never : (a b : Result Operand Cause) (c : Cause) (i : Insn) → branch a b (Err c) ≡ Ok i → ⊥
+  unfolding branch
+  branch_never (Ok o) (Ok p) c i h = let no : Err c ≡ Ok i = h in cc
+  branch_never (Ok o) (Err d) c i h = let no : Err (lesser d c) ≡ Ok i = h in cc
+  branch_never (Err d) (Ok p) c i h = let no : Err (lesser d c) ≡ Ok i = h in cc
+  branch_never (Err d) (Err e) c i h = let no : Err (lesser d (lesser e c)) ≡ Ok i = h in cc
+
+  branch_depends : (a b w : List ℕ) (label : Bool) → is_label w ≡ label → IsSteady (name.Branch width cond) (a ∷ b ∷ w ∷ []) ⊎ IsAimed (name.Branch width cond) (a ∷ b ∷ w ∷ [])
+  unfolding branch
+  branch_depends a b w false e =
+      let first = register_place (register_of a) in
+      let second = source_place (register_of b) b in
+      let at = λ (d : Option ℤ). ap (branch first second) (near w d false e) in
+      inl (record { same = λ d f. at d ∙ sym (at f); none = λ i h. no_label i (a ∷ b ∷ w ∷ []) e })
+  branch_depends a b w true e =
+      let first = register_place (register_of a) in
+      let second = source_place (register_of b) b in
+      let at = λ (d : Option ℤ). ap (branch first second) (near w d true e) in
+      inr (record {
+        label = e;
+        jump = refl;
+        set = λ z. at (Some z) ∙ branch_set first second (pos 0) z ∙ sym (ap (aimed_by z) (at (Some (pos 0))));
+        unset = λ i h. at None ∙ branch_unset first second (pos 0) i (sym (at (Some (pos 0))) ∙ h);
+        never = λ i h. branch_never first second cause.LabelMissing i (sym (at None) ∙ h);
+      })
+
+pub depends : (m : Mnemonic) (operands : List (List ℕ)) → IsSteady m operands ⊎ IsAimed m operands
+unfolding is_steady
+depends name.Goto [] = inl (miscounted name.Goto [] (λ e. omega arith))
+depends name.Goto (w ∷ []) = goto w (is_label w) refl
+depends name.Goto (w ∷ v ∷ ws) = inl (miscounted name.Goto (w ∷ v ∷ ws) (λ e. omega arith))
+depends name.Goto32 [] = inl (miscounted name.Goto32 [] (λ e. omega arith))
+depends name.Goto32 (w ∷ []) = goto32 w (is_label w) refl
+depends name.Goto32 (w ∷ v ∷ ws) = inl (miscounted name.Goto32 (w ∷ v ∷ ws) (λ e. omega arith))
+depends (name.Branch x c) [] = inl (miscounted (name.Branch x c) [] (λ e. omega arith))
+depends (name.Branch x c) (a ∷ []) = inl (miscounted (name.Branch x c) (a ∷ []) (λ e. omega arith))
+depends (name.Branch x c) (a ∷ b ∷ []) = inl (miscounted (name.Branch x c) (a ∷ b ∷ []) (λ e. omega arith))
+depends (name.Branch x c) (a ∷ b ∷ w ∷ []) = branch_depends x c a b w (is_label w) refl
+depends (name.Branch x c) (a ∷ b ∷ w ∷ v ∷ ws) = inl (miscounted (name.Branch x c) (a ∷ b ∷ w ∷ v ∷ ws) (λ e. omega arith))
+depends m operands = inl (steady_name m operands refl refl)
