@@ -6,3 +6,9 @@ pub mod JumpLemmas
 pub mod DraftLemmas
 pub mod ReadingLemmas
 pub mod RangeLemmas
+pub mod WellFormedLemmas
+pub mod PassLemmas
+pub mod NearLemmas
+pub mod CleanLemmas
+pub mod AssembledLemmas
+pub mod LoopLemmas

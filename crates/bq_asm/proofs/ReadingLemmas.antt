@@ -1,5 +1,5 @@
 -- How what an instruction's words say depends on the distance to its label.
-use Rattle.std.proofs.Common.{◌≡◌, ℕ, List, [], ◌∷◌, length, refl, sym, ap, ◌∙◌, Bool, true, false, Some, None, arith, inl, inr, subst}
+use Rattle.std.proofs.Common.{◌≡◌, ℕ, List, [], ◌∷◌, length, refl, sym, ap, ◌∙◌, Bool, true, false, Some, None, arith, inl, inr, subst, ⊎_elim}
 use Rattle.std.specs.Prelude.{Option, Result, Ok, Err, ℤ, pos, ◌⊎◌, if◌then◌else◌, option_map}
 use Rattle.std.specs.List.{list_all}
 use Rattle.std.specs.Option.{ok_or}
@@ -246,3 +246,79 @@ depends (name.Branch x c) (a ∷ b ∷ []) = inl (miscounted (name.Branch x c) (
 depends (name.Branch x c) (a ∷ b ∷ w ∷ []) = branch_depends x c a b w (is_label w) refl
 depends (name.Branch x c) (a ∷ b ∷ w ∷ v ∷ ws) = inl (miscounted (name.Branch x c) (a ∷ b ∷ w ∷ v ∷ ws) (λ e. omega arith))
 depends m operands = inl (steady_name m operands refl refl)
+
+-- no label stands in the target's place, and the distance does not matter
+pub record IsPlain (first : List ℕ) (operands : List (List ℕ)) (i : Insn) : Type 0 where
+  pub target : target_of i operands ≡ None
+  pub same : (d : Option ℤ) → instruction_of first operands d ≡ Ok i
+
+-- a label stands in the target's place
+pub record IsAwaiting (first : List ℕ) (operands : List (List ℕ)) (i : Insn) : Type 0 where
+  pub jump : is_jump i ≡ true
+  pub target : target_of i operands ≡ Some (last_word operands)
+  pub unset : instruction_of first operands None ≡ Err cause.LabelMissing
+  pub set : (z : ℤ) → instruction_of first operands (Some z) ≡ Ok (aimed i z)
+
+-- an instruction that is read is one or the other
+pub targets : (first : List ℕ) (operands : List (List ℕ)) (i : Insn) → instruction_of first operands (Some (pos 0)) ≡ Ok i → IsPlain first operands i ⊎ IsAwaiting first operands i
+targets first operands i h = by (named first) refl h
+  where
+    by : (m : Option Mnemonic) → named first ≡ m → instruction_from m operands (Some (pos 0)) ≡ Ok i → IsPlain first operands i ⊎ IsAwaiting first operands i
+    by None n k = absurd (let bad : Err cause.Word ≡ Ok i = k in cc)
+    by (Some m) n k = ⊎_elim
+        (λ s. inl (record { target = s.none i k; same = λ d. ap (λ x. instruction_from x operands d) n ∙ s.same d (Some (pos 0)) ∙ k }))
+        (λ a.
+        let jump = (made_shape m (each_operand (kind_list (kinds_of m)) operands (Some (pos 0))) i k).jump ∙ a.jump in
+        inr (record {
+          jump = jump;
+          target = ap (λ b. if b then (if is_label (last_word operands) then Some (last_word operands) else None) else None) jump ∙ ap (λ b. if b then Some (last_word operands) else None) a.label;
+          unset = ap (λ x. instruction_from x operands None) n ∙ a.unset i k;
+          set = λ z. ap (λ x. instruction_from x operands (Some z)) n ∙ a.set z ∙ ap (aimed_by z) k;
+        }))
+        (depends m operands)
+
+abbrev what_is_read : Mnemonic → List (List ℕ) → Option ℤ → Result Insn Cause
+what_is_read m operands d = read m operands d
+
+pub record IsRead (first : List ℕ) (operands : List (List ℕ)) (size : ℕ) : Type 0 where
+  pub insn : Insn
+  pub read : instruction_of first operands (Some (pos 0)) ≡ Ok insn
+  pub slots : slots_of insn ≡ size
+
+aimed_from : (z : ℤ) (r : Result Insn Cause) (i : Insn) → aimed_by z r ≡ Ok i → (j : Insn) × (r ≡ Ok j)
+aimed_from z (Ok j) i h = (j, refl)
+aimed_from z (Err c) i h = absurd (let bad : Err c ≡ Ok i = h in cc)
+
+-- what is read with some distance is read with the distance 0 too, and has that size
+pub read_again : (first : List ℕ) (operands : List (List ℕ)) (d : Option ℤ) (i : Insn) → instruction_of first operands d ≡ Ok i → IsRead first operands (slots_of i)
+read_again first operands d i h = by (named first) refl h
+  where
+    sized : (m : Mnemonic) (j : Insn) → named first ≡ Some m → what_is_read m operands d ≡ Ok i → what_is_read m operands (Some (pos 0)) ≡ Ok j → IsRead first operands (slots_of i)
+    sized m j n k l = record {
+      insn = j;
+      read = ap (λ x. instruction_from x operands (Some (pos 0))) n ∙ l;
+      slots = (made_shape m (each_operand (kind_list (kinds_of m)) operands (Some (pos 0))) j l).size ∙ sym (made_shape m (each_operand (kind_list (kinds_of m)) operands d) i k).size;
+    }
+
+    awaited : (m : Mnemonic) (a : IsAimed m operands) (e : Option ℤ) → what_is_read m operands e ≡ Ok i → (j : Insn) × (what_is_read m operands (Some (pos 0)) ≡ Ok j)
+    awaited m a None k = absurd (a.never i k)
+    awaited m a (Some z) k = aimed_from z (what_is_read m operands (Some (pos 0))) i (sym (a.set z) ∙ k)
+
+    by : (m : Option Mnemonic) → named first ≡ m → instruction_from m operands d ≡ Ok i → IsRead first operands (slots_of i)
+    by None n k = absurd (let bad : Err cause.Word ≡ Ok i = k in cc)
+    by (Some m) n k = ⊎_elim
+        (λ s. sized m i n k (s.same (Some (pos 0)) d ∙ k))
+        (λ a. let j = awaited m a d k in sized m j.0 n k j.1)
+        (depends m operands)
+
+pub jump_slots : (i : Insn) → is_jump i ≡ true → slots_of i ≡ 1
+jump_slots (insn.Goto off) h = refl
+jump_slots (insn.Goto32 n) h = refl
+jump_slots (insn.Branch w c d src off) h = refl
+jump_slots i h = not_false h
+
+pub aimed_slots : (i : Insn) (z : ℤ) → slots_of (aimed i z) ≡ slots_of i
+aimed_slots (insn.Goto off) z = refl
+aimed_slots (insn.Goto32 n) z = refl
+aimed_slots (insn.Branch w c d src off) z = refl
+aimed_slots i z = refl

@@ -1,11 +1,11 @@
 //! What is known of the lines that have been read: labels, instructions, and the jumps that wait for labels.
-ghost use Rattle.std.specs.Prelude.{◌≡◌, ◌≤◌, ◌<◌, ◌+◌, [], Some, pos, length, map, option_map, IfOk, IfErr, OnOk};
-ghost use Rattle.bq_asm.specs.Lines.{label_set, said, line_of, line_said, Instruction, Label};
+ghost use Rattle.std.specs.Prelude.{◌≡◌, ◌≤◌, ◌<◌, ◌+◌, [], Some, pos, length, map, option_map, IfOk, IfErr, OnOk, List};
+ghost use Rattle.bq_asm.specs.Lines.{Line, label_set, said, line_of, line_said, Instruction, Label};
 ghost use Rattle.bq_asm.specs.Operands.{texts};
 
 use crate::fault::{AsmFault, Cause};
 use crate::instruction::instruction_of;
-use crate::jump::{Jump, push_jump, target_of};
+use crate::jump::{Jump, push_jump, set_jumps, target_of};
 use crate::line::{is_label, without_comment, words};
 use bq_insn::Insn;
 use indexmap::IndexMap;
@@ -29,7 +29,7 @@ pub struct Draft<'a> {
 }
 
 impl<'a> Draft<'a> {
-    ghost use Rattle.bq_asm.specs.Draft.{Describes, TakesLine, RefusesLine};
+    ghost use Rattle.bq_asm.specs.Draft.{Describes, TakesLine, RefusesLine, Finishes, Fails};
 
     /// The draft of no lines.
     pub fn new(alloc: Global) -> Self
@@ -55,6 +55,34 @@ impl<'a> Draft<'a> {
             });
         };
         self.take_words(number, words.as_slice())
+    }
+
+    /// The instructions, each jump to a label with its distance, or what is wrong with lines that have no fault by
+    /// themselves.
+    pub fn finish(self) -> Result<Vec<Insn>, AsmFault>
+        requires { (lines : List Line) × Describes lines self }
+        ensures ok { IfOk result (λ insns. Finishes self.entry insns.items) }
+        ensures fault { IfErr result (Fails self.entry) }
+    {
+        if self.slots == 0 {
+            return Err(AsmFault::At {
+                line: 0,
+                cause: Cause::Slots,
+            });
+        }
+        let Draft {
+            labels,
+            mut insns,
+            slots: _,
+            jumps,
+        } = self;
+        match set_jumps(&labels, jumps.as_slice(), insns.as_mut_slice()) {
+            Ok(()) => Ok(insns),
+            Err(line) => Err(AsmFault::At {
+                line,
+                cause: Cause::LabelMissing,
+            }),
+        }
     }
 
     fn take_words(&mut self, number: usize, words: &[&'a [u8]]) -> Result<(), AsmFault>

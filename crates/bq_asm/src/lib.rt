@@ -3,6 +3,7 @@
 //! the text of instructions that assembles back to them. Stands on `bq_insn`.
 #![tactic(auto)]
 
+mod assembler;
 mod canonical;
 mod draft;
 mod fault;
@@ -15,6 +16,9 @@ mod number;
 mod operand;
 mod place;
 mod table;
+#[cfg(test)]
+mod tests;
 
+pub use assembler::assemble;
 pub use canonical::listing;
 pub use fault::{AsmFault, Cause};

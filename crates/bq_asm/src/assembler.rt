@@ -1,0 +1,31 @@
+//! From a text to the instructions that it stands for.
+ghost use Rattle.std.specs.Prelude.{◌≡◌, true, IfOk, IfErr};
+ghost use Rattle.bq_insn.specs.Spelling.{is_well_formed};
+ghost use Rattle.bq_insn.specs.Laws.{AllFit};
+ghost use Rattle.bq_asm.specs.Assembly.{Assembles};
+ghost use Rattle.bq_asm.specs.Faults.{IsFault};
+
+use crate::draft::Draft;
+use crate::fault::AsmFault;
+use bq_insn::Insn;
+use std::alloc::Global;
+
+/// The instructions that a text stands for, or its first fault. They are well formed: registers and widths are in
+/// range, and they take 1 to 4096 slots.
+///
+/// An instruction stands on a line of its own: a first word, and operands between spaces, tabs or commas. A `;`
+/// begins a comment. One word that ends with `:` sets a label, which a jump's target may name before or after it.
+pub fn assemble(alloc: Global, text: &str) -> Result<Vec<Insn>, AsmFault>
+    ensures assembles { IfOk result (λ insns. Assembles text.now insns.items) }
+    ensures well_formed { IfOk result (λ insns. is_well_formed insns.items ≡ true) }
+    ensures numbers { IfOk result (λ insns. AllFit insns.items) }
+    ensures fault { IfErr result (IsFault text.now) }
+{
+    let mut draft = Draft::new(alloc);
+    let mut number: usize = 0;
+    for line in text.lines() {
+        number += 1;
+        draft.take_line(number, line.as_bytes())?;
+    }
+    draft.finish()
+}
