@@ -1,0 +1,11 @@
+pub mod ChainLemmas
+pub mod KeptLemmas
+pub mod NumberLemmas
+pub mod QueueWalks
+pub mod ReplayLemmas
+pub mod SessionLemmas
+pub mod ShowLemmas
+pub mod StandingLemmas
+pub mod WakeLemmas
+pub mod WordLemmas
+pub mod WritingLemmas

@@ -1,0 +1,21 @@
+-- The world of a core, whichever size and rule it has.
+use Rattle.bq_core.specs.World.{World}
+use Rattle.bq_trace.specs.Machines.{Machine}
+use Rattle.bq_trace.specs.declared.command.Rule.TheVariants as rules
+use Rattle.bq_trace.specs.declared.machine.Cores.{Cores}
+use Rattle.bq_trace.specs.declared.machine.Cores.TheVariants.{One, Two, Four, Eight, Sixteen, ThirtyTwo, SixtyFour}
+use Rattle.bq_trace.specs.declared.machine.Ruled.{Ruled}
+use Rattle.bq_trace.specs.declared.machine.Ruled.TheVariants as ruled
+
+abbrev pub world_of : {Q R : Type 0} → Cores Q R → World
+world_of (One w) = w
+world_of (Two w) = w
+world_of (Four w) = w
+world_of (Eight w) = w
+world_of (Sixteen w) = w
+world_of (ThirtyTwo w) = w
+world_of (SixtyFour w) = w
+
+abbrev pub machine_of : Ruled → Machine
+machine_of (ruled.Cfs w) = record { rule = rules.Cfs; world = w }
+machine_of (ruled.Eevdf w) = record { rule = rules.Eevdf; world = w }

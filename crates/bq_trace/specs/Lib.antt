@@ -1,0 +1,14 @@
+pub mod Cores
+pub mod Counts
+pub mod Faults
+pub mod Feeding
+pub mod Kept
+pub mod Laws
+pub mod Lines
+pub mod Machines
+pub mod Numbers
+pub mod Replaying
+pub mod Texts
+pub mod Trace
+pub mod Words
+pub mod Writing

@@ -1,0 +1,46 @@
+-- The machine that a trace drives: the discipline of its queues, and its world.
+use Rattle.std.specs.Prelude.{◌≡◌, ℕ, [], Result}
+use Rattle.bq_disc.specs.Discipline.{Discipline}
+use Rattle.bq_cfs.specs.Cfs.{cfs}
+use Rattle.bq_eevdf.specs.Eevdf.{eevdf}
+use Rattle.bq_core.specs.World.{World, opening_world}
+use Rattle.bq_core.specs.Choices.{Setting}
+use Rattle.bq_core.specs.Steps.{WorldStep, without_policies}
+use Rattle.bq_core.specs.declared.event.Event.{Event}
+use Rattle.bq_core.specs.declared.reply.Reply.{Reply}
+use Rattle.bq_core.specs.declared.refusal.Refusal.{Refusal}
+use Rattle.bq_trace.specs.declared.command.Rule.{Rule}
+use Rattle.bq_trace.specs.declared.command.Rule.TheVariants.{Cfs, Eevdf}
+use Rattle.bq_trace.specs.declared.command.Size.{Size}
+use Rattle.bq_trace.specs.declared.command.Size.TheVariants.{One, Two, Four, Eight, Sixteen, ThirtyTwo, SixtyFour}
+
+pub record Machine : Type 0 where
+  pub rule : Rule
+  pub world : World
+
+abbrev pub discipline_of : Rule → Discipline
+discipline_of Cfs = cfs
+discipline_of Eevdf = eevdf
+
+-- what the machine's world runs under
+abbrev pub setting_of : Rule → Setting
+setting_of rule = without_policies (discipline_of rule)
+
+-- how many processors a size has
+abbrev pub processors_in : Size → ℕ
+processors_in One = 1
+processors_in Two = 2
+processors_in Four = 4
+processors_in Eight = 8
+processors_in Sixteen = 16
+processors_in ThirtyTwo = 32
+processors_in SixtyFour = 64
+
+-- a machine to which nothing has happened
+abbrev pub opening_machine : Rule → Size → Machine
+opening_machine rule size = record { rule = rule; world = opening_world (processors_in size) }
+
+-- one event is a step of the machine's world, under its rule
+pub record Steps (m : Machine) (event : Event) (answer : Result Reply Refusal) (n : Machine) : Type 0 where
+  pub same_rule : n.rule ≡ m.rule
+  pub step : WorldStep (setting_of m.rule) m.world event [] answer n.world

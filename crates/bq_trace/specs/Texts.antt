@@ -1,0 +1,91 @@
+-- The lines that a trace is answered by (this project's own trace format).
+use Rattle.std.specs.Prelude.{ℕ, List, [], ◌∷◌, ◌++◌, nat_lt, Option, Some, None, Result, Ok, Err, if◌then◌else◌, codes}
+use Rattle.std.specs.List.{flat_map}
+use Rattle.std.specs.Fmt.{decimal}
+use Rattle.bq_disc.specs.Tasks.{Task}
+use Rattle.bq_disc.specs.OneProcessor.{Running}
+use Rattle.bq_core.specs.World.{World, processor, count_in}
+use Rattle.bq_core.specs.declared.reply.By.{By}
+use Rattle.bq_core.specs.declared.reply.By.TheVariants.{Policy, Discipline}
+use Rattle.bq_core.specs.declared.reply.Reply.{Reply}
+use Rattle.bq_core.specs.declared.reply.Reply.TheVariants.{Admitted, Retired, Drawn, Installed, Begun, Placed, Drained, Ticked, Blocked, Pulled}
+use Rattle.bq_core.specs.declared.refusal.Refusal.{Refusal}
+use Rattle.bq_core.specs.declared.refusal.Refusal.TheVariants.{NoProcessor, NoTask, NotBlocked, TaskExists, EmptyMask, Nice, Slice, Idle, SameProcessor, InHand, NothingInHand, Older, NotDrawn, WrongHook, OutOfMemory}
+
+-- a task or `none`
+abbrev pub task_text : Option ℕ → List ℕ
+task_text None = codes "none"
+task_text (Some t) = decimal t
+
+-- whose choice it was
+abbrev pub who_text : By → List ℕ
+who_text Policy = codes "policy"
+who_text Discipline = codes "rule"
+
+-- who runs, by whose choice, and after how many steps of a policy
+abbrev pub run_text : Option ℕ → By → ℕ → List ℕ
+run_text run by steps = codes " run " ++ (task_text run ++ (codes " by " ++ (who_text by ++ (codes " steps " ++ decimal steps))))
+
+-- numbers, a space before each
+abbrev pub spaced : List ℕ → List ℕ
+spaced numbers = flat_map (λ n. 32 ∷ decimal n) numbers
+
+abbrev pub reply_text : Reply → List ℕ
+reply_text Admitted = codes "admit ok"
+reply_text Retired = codes "retire ok"
+reply_text (Drawn g) = codes "draw " ++ decimal g
+reply_text Installed = codes "install ok"
+reply_text (Begun task loads) = codes "begin " ++ (decimal task ++ (codes " loads" ++ spaced loads))
+reply_text (Placed task to by steps) =
+    codes "end " ++ (decimal task ++ (codes " to " ++ (decimal to ++ (codes " by " ++ (who_text by ++ (codes " steps " ++ decimal steps))))))
+reply_text (Drained count run by steps) = codes "drain " ++ (decimal count ++ run_text run by steps)
+reply_text (Ticked run by steps) = codes "tick" ++ run_text run by steps
+reply_text (Blocked task run) = codes "block " ++ (decimal task ++ (codes " run " ++ task_text run))
+reply_text (Pulled task run by steps) = codes "pull " ++ (task_text task ++ run_text run by steps)
+
+abbrev pub refusal_text : Refusal → List ℕ
+refusal_text NoProcessor = codes "C1 NoProcessor"
+refusal_text NoTask = codes "C2 NoTask"
+refusal_text NotBlocked = codes "C3 NotBlocked"
+refusal_text TaskExists = codes "C4 TaskExists"
+refusal_text EmptyMask = codes "C5 EmptyMask"
+refusal_text Nice = codes "C6 Nice"
+refusal_text Slice = codes "C7 Slice"
+refusal_text Idle = codes "C8 Idle"
+refusal_text SameProcessor = codes "C9 SameProcessor"
+refusal_text InHand = codes "C10 InHand"
+refusal_text NothingInHand = codes "C11 NothingInHand"
+refusal_text (Older newest) = codes "C12 Older " ++ decimal newest
+refusal_text NotDrawn = codes "C13 NotDrawn"
+refusal_text WrongHook = codes "C14 WrongHook"
+refusal_text OutOfMemory = codes "C15 OutOfMemory"
+
+-- the line that answers an event
+abbrev pub event_line : Result Reply Refusal → List ℕ
+event_line (Ok reply) = reply_text reply ++ codes "\n"
+event_line (Err refusal) = codes "refused " ++ (refusal_text refusal ++ codes "\n")
+
+-- the line for a line that says nothing known
+abbrev pub bad_line : ℕ → List ℕ
+bad_line n = codes "bad " ++ (decimal n ++ codes "\n")
+
+abbrev pub entity_text : Task → List ℕ
+entity_text t = decimal t.id ++ (codes ":" ++ (decimal t.v ++ (codes ":" ++ decimal t.deadline)))
+
+-- the task that runs, or `none`
+abbrev pub current_text : Option Task → List ℕ
+current_text None = codes "none"
+current_text (Some t) = entity_text t
+
+-- tasks, a space before each
+abbrev pub spaced_entities : List Task → List ℕ
+spaced_entities tasks = flat_map (λ t. 32 ∷ entity_text t) tasks
+
+-- the line that shows a processor: its mark, its current task, and its queue by rising (v, id)
+abbrev pub processor_line : ℕ → Running → List ℕ
+processor_line c p =
+    codes "show " ++ (decimal c ++ (codes " mark " ++ (decimal p.kept ++ (codes " run " ++ (current_text p.current ++ (codes " queue" ++ (spaced_entities p.queue ++ codes "\n")))))))
+
+-- the same, or the refusal of a processor that the machine doesn't have
+abbrev pub show_line : World → ℕ → List ℕ
+show_line w c = if nat_lt c (count_in w) then processor_line c (processor w c).running else event_line (Err NoProcessor)

@@ -1,0 +1,43 @@
+//! What the lines of a trace may ask.
+
+use bq_core::Event;
+
+/// How a machine's processors choose among their tasks.
+#[derive(Clone, Copy, Debug, PartialEq, Eq)]
+pub enum Rule {
+    Cfs,
+    Eevdf,
+}
+
+/// How many processors a machine has.
+#[derive(Clone, Copy, Debug, PartialEq, Eq)]
+pub enum Size {
+    One,
+    Two,
+    Four,
+    Eight,
+    Sixteen,
+    ThirtyTwo,
+    SixtyFour,
+}
+
+/// What a line may ask.
+#[derive(Clone, Copy)]
+pub enum Command {
+    /// A machine is made.
+    Machine { rule: Rule, size: Size },
+    /// An event happens in it.
+    Does(Event),
+    /// A wake begins, and ends at once.
+    Wake { processor: u8, task: u16, now: u64 },
+    /// A processor is shown.
+    Show { processor: u8 },
+}
+
+/// What a line is.
+#[derive(Clone, Copy)]
+pub enum Reading {
+    Skipped,
+    Bad,
+    Says(Command),
+}

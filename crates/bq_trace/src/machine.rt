@@ -1,0 +1,172 @@
+//! The machine that a trace drives: a core of one of the sizes, under one of the rules, that a trace may ask for.
+ghost use Rattle.std.specs.Prelude.{◌≡◌, ◌++◌, [], IfOk, OnOk, string_bytes};
+ghost use Rattle.bq_core.specs.World.{opening_world};
+ghost use Rattle.bq_core.specs.Steps.{WorldStep, without_policies};
+ghost use Rattle.bq_trace.specs.Machines.{processors_in, opening_machine, Steps};
+ghost use Rattle.bq_trace.specs.Texts.{show_line};
+
+use crate::command::{Rule, Size};
+use crate::shows::write_processor;
+use crate::texts::write_refusal;
+use bq_cfs::CfsQueue;
+use bq_core::{Core, Event, Refusal, Reply};
+use bq_disc::RunQueue;
+use bq_eevdf::EevdfQueue;
+use std::alloc::{AllocError, Global};
+use std::marker::Model;
+
+/// A core of each size.
+#[derive(Drop)]
+enum Cores<Q: RunQueue> {
+    One(Core<Q, 1>),
+    Two(Core<Q, 2>),
+    Four(Core<Q, 4>),
+    Eight(Core<Q, 8>),
+    Sixteen(Core<Q, 16>),
+    ThirtyTwo(Core<Q, 32>),
+    SixtyFour(Core<Q, 64>),
+}
+
+/// A core of one of the sizes. Contracts see its world.
+pub struct Sized<Q: RunQueue> {
+    core: Cores<Q>,
+}
+
+// Written out, so that letting a core go is one call, whatever its size.
+impl<Q: RunQueue + Drop> Drop for Sized<Q> {
+    fn drop(self) {
+        let Sized { core: _core } = self;
+    }
+}
+
+impl<Q: RunQueue> Model for Sized<Q> {
+    ghost use Rattle.bq_core.specs.World.{World};
+
+    ghost Value = { World };
+
+    ghost use Rattle.bq_trace.specs.Cores.{world_of};
+
+    ghost view = { λ s. world_of s.core };
+}
+
+impl<Q: RunQueue + Drop> Sized<Q> {
+    fn new(alloc: Global, size: Size) -> Result<Sized<Q>, AllocError>
+        ensures { IfOk result (λ s. s ≡ opening_world (processors_in size)) }
+    {
+        let core = match size {
+            Size::One => Cores::One(Core::new(alloc)?),
+            Size::Two => Cores::Two(Core::new(alloc)?),
+            Size::Four => Cores::Four(Core::new(alloc)?),
+            Size::Eight => Cores::Eight(Core::new(alloc)?),
+            Size::Sixteen => Cores::Sixteen(Core::new(alloc)?),
+            Size::ThirtyTwo => Cores::ThirtyTwo(Core::new(alloc)?),
+            Size::SixtyFour => Cores::SixtyFour(Core::new(alloc)?),
+        };
+        Ok(Sized { core })
+    }
+}
+
+impl<Q: RunQueue> Sized<Q> {
+    fn step(&mut self, alloc: Global, event: Event) -> Result<Reply, Refusal>
+        ensures { WorldStep (without_policies Q.R.discipline) self.old event [] result self.new }
+    {
+        match &mut self.core {
+            Cores::One(core) => core.step(alloc, event),
+            Cores::Two(core) => core.step(alloc, event),
+            Cores::Four(core) => core.step(alloc, event),
+            Cores::Eight(core) => core.step(alloc, event),
+            Cores::Sixteen(core) => core.step(alloc, event),
+            Cores::ThirtyTwo(core) => core.step(alloc, event),
+            Cores::SixtyFour(core) => core.step(alloc, event),
+        }
+    }
+
+    fn show(&self, text: &mut String, processor: u8) -> Result<(), AllocError>
+        ensures { OnOk result (string_bytes text.new ≡ string_bytes text.old ++ show_line self.now processor) }
+    {
+        match &self.core {
+            Cores::One(core) => show(core, text, processor),
+            Cores::Two(core) => show(core, text, processor),
+            Cores::Four(core) => show(core, text, processor),
+            Cores::Eight(core) => show(core, text, processor),
+            Cores::Sixteen(core) => show(core, text, processor),
+            Cores::ThirtyTwo(core) => show(core, text, processor),
+            Cores::SixtyFour(core) => show(core, text, processor),
+        }
+    }
+}
+
+/// Adds the line that shows a processor, or refuses it.
+fn show<Q: RunQueue, const P: usize>(
+    core: &Core<Q, P>,
+    text: &mut String,
+    processor: u8,
+) -> Result<(), AllocError>
+    ensures { OnOk result (string_bytes text.new ≡ string_bytes text.old ++ show_line core.now processor) }
+{
+    if usize::from(processor) >= core.processors() {
+        return write_refusal(text, Refusal::NoProcessor);
+    }
+    write_processor(text, processor, core.cpu(processor))
+}
+
+/// A core under each rule.
+#[derive(Drop)]
+enum Ruled {
+    Cfs(Sized<CfsQueue>),
+    Eevdf(Sized<EevdfQueue>),
+}
+
+/// A machine. Contracts see its rule and its world.
+pub struct Machine {
+    core: Ruled,
+}
+
+impl Drop for Machine {
+    fn drop(self) {
+        let Machine { core: _core } = self;
+    }
+}
+
+impl Model for Machine {
+    ghost use Rattle.bq_trace.specs.Machines.{Machine};
+
+    ghost Value = { Machine };
+
+    ghost use Rattle.bq_trace.specs.Cores.{machine_of};
+
+    ghost view = { λ m. machine_of m.core };
+}
+
+impl Machine {
+    /// A machine to which nothing has happened.
+    pub fn new(alloc: Global, rule: Rule, size: Size) -> Result<Machine, AllocError>
+        ensures { IfOk result (λ m. m ≡ opening_machine rule size) }
+    {
+        let core = match rule {
+            Rule::Cfs => Ruled::Cfs(Sized::new(alloc, size)?),
+            Rule::Eevdf => Ruled::Eevdf(Sized::new(alloc, size)?),
+        };
+        Ok(Machine { core })
+    }
+
+    /// Does an event.
+    pub fn step(&mut self, alloc: Global, event: Event) -> Result<Reply, Refusal>
+        ensures { Steps self.old event result self.new }
+    {
+        match &mut self.core {
+            Ruled::Cfs(core) => core.step(alloc, event),
+            Ruled::Eevdf(core) => core.step(alloc, event),
+        }
+    }
+
+    /// Adds the line that shows a processor, or refuses it.
+    pub fn show(&self, text: &mut String, processor: u8) -> Result<(), AllocError>
+        ensures { OnOk result (string_bytes text.new ≡ string_bytes text.old ++ show_line self.now.world processor) }
+    {
+        match &self.core {
+            Ruled::Cfs(core) => core.show(text, processor),
+            Ruled::Eevdf(core) => core.show(text, processor),
+        }
+    }
+}

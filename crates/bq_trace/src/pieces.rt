@@ -1,0 +1,47 @@
+//! A replay of a whole trace, from any reader to any writer.
+ghost use Rattle.std.specs.Prelude.{IfOk, IfErr, OnErr};
+ghost use Rattle.bq_trace.specs.Counts.{inner_of, calls_of, failures_of};
+ghost use Rattle.bq_trace.specs.Replaying.{Replays, ReplaysInPart};
+ghost use Rattle.bq_trace.specs.Faults.{IsFault};
+
+use crate::counted::Counted;
+use crate::fault::ReplayFault;
+use crate::session::Session;
+use std::alloc::Global;
+use std::io::{Read, Write};
+
+/// The most that one read takes.
+const PIECE: usize = 4096;
+
+/// The most reads of one replay.
+const READS: u64 = 1 << 32;
+
+/// Reads a trace to its end and writes what answers it. True where no line was bad.
+pub fn replay<R: Read, W: Write>(
+    alloc: Global,
+    input: &mut Counted<R>,
+    output: &mut Counted<W>,
+) -> Result<bool, ReplayFault>
+    // What was read and what was written are a trace and its answers, and nothing is left.
+    ensures ok { IfOk result (λ clean. Replays (R.remaining (inner_of input.old)) (R.remaining (inner_of input.new))
+        (W.contents (inner_of output.old)) (W.contents (inner_of output.new)) clean) }
+
+    // After a fault a beginning of the answers to what was read is written.
+    ensures part { OnErr result (ReplaysInPart (R.remaining (inner_of input.old)) (R.remaining (inner_of input.new))
+        (W.contents (inner_of output.old)) (W.contents (inner_of output.new))) }
+
+    // Each fault has its cause.
+    ensures fault { IfErr result (λ e. IsFault e (failures_of input.old) (failures_of input.new)
+        (failures_of output.old) (failures_of output.new) (calls_of input.old) (calls_of input.new)) }
+{
+    let mut session = Session::new(alloc);
+    let mut piece = [0u8; PIECE];
+    for _ in 0..READS {
+        let count = input.read(&mut piece)?;
+        if count == 0 {
+            return session.finish(output);
+        }
+        session = session.feed(&piece[..count], output)?;
+    }
+    Err(ReplayFault::TooLong)
+}

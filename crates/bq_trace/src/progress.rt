@@ -1,0 +1,147 @@
+//! What each line of a trace does, and what answers it.
+ghost use Rattle.std.specs.Prelude.{◌≡◌, Result, IfOk, OnOk, is_ok, string_bytes};
+ghost use Rattle.bq_trace.specs.Writing.{Adds};
+
+use crate::command::{Command, Reading};
+use crate::machine::Machine;
+use crate::texts::{write_answer, write_bad};
+use bq_core::{Event, Refusal};
+use std::alloc::{AllocError, Global};
+
+impl Machine {
+    ghost use Rattle.bq_core.specs.declared.reply.Reply.{Reply};
+    ghost use Rattle.bq_core.specs.declared.refusal.Refusal.{Refusal};
+    ghost use Rattle.bq_trace.specs.Trace.{DoesAndAnswers, Wakes};
+
+    /// Does an event and adds the line that answers it. True where it was not refused.
+    fn answer(&mut self, alloc: Global, event: Event, text: &mut String) -> Result<bool, AllocError>
+        ensures { IfOk result (λ done. (answer : Result Reply Refusal) × (is_ok answer ≡ done)
+            × Adds (string_bytes text.old) (string_bytes text.new) (λ line. DoesAndAnswers self.old event answer line self.new)) }
+    {
+        let answer = self.step(alloc, event);
+        if let Err(Refusal::OutOfMemory) = answer {
+            return Err(AllocError);
+        }
+        write_answer(text, &answer)?;
+        Ok(answer.is_ok())
+    }
+
+    /// Begins a wake, and ends it unless that was refused.
+    fn wake(
+        &mut self,
+        alloc: Global,
+        processor: u8,
+        task: u16,
+        now: u64,
+        text: &mut String,
+    ) -> Result<(), AllocError>
+        ensures { OnOk result (Adds (string_bytes text.old) (string_bytes text.new) (λ lines. Wakes self.old processor task now lines self.new)) }
+    {
+        let begun = self.answer(alloc, Event::BeginWake { processor, task }, text)?;
+        if begun {
+            self.answer(alloc, Event::EndWake { processor, now }, text)?;
+        }
+        Ok(())
+    }
+}
+
+/// Where a trace stands: before its machine line, past one that failed, or with its machine.
+#[derive(Drop)]
+pub enum Phase {
+    Waiting,
+    Over,
+    Running(Machine),
+}
+
+impl Phase {
+    ghost use Rattle.bq_trace.specs.Trace.{Answers};
+
+    /// Does what the line of this number says and adds what answers it. True where the line is bad.
+    fn answer(
+        &mut self,
+        alloc: Global,
+        reading: Reading,
+        number: u64,
+        text: &mut String,
+    ) -> Result<bool, AllocError>
+        ensures { IfOk result (λ bad. Adds (string_bytes text.old) (string_bytes text.new) (λ line. Answers self.old reading number line self.new bad)) }
+    {
+        match self {
+            Phase::Over => Ok(false),
+            Phase::Waiting => match reading {
+                Reading::Skipped => Ok(false),
+                Reading::Says(Command::Machine { rule, size }) => {
+                    *self = Phase::Running(Machine::new(alloc, rule, size)?);
+                    Ok(false)
+                }
+                _ => {
+                    *self = Phase::Over;
+                    write_bad(text, number)?;
+                    Ok(true)
+                }
+            },
+            Phase::Running(machine) => match reading {
+                Reading::Skipped => Ok(false),
+                Reading::Says(Command::Does(event)) => {
+                    machine.answer(alloc, event, text)?;
+                    Ok(false)
+                }
+                Reading::Says(
+                    Command::Wake {
+                        processor,
+                        task,
+                        now,
+                    },
+                ) => {
+                    machine.wake(alloc, processor, task, now, text)?;
+                    Ok(false)
+                }
+                Reading::Says(Command::Show { processor }) => {
+                    machine.show(text, processor)?;
+                    Ok(false)
+                }
+                Reading::Bad | Reading::Says(Command::Machine { .. }) => {
+                    write_bad(text, number)?;
+                    Ok(true)
+                }
+            },
+        }
+    }
+}
+
+/// The state after some lines: where the trace stands, how many lines there were, and whether none was bad.
+#[derive(Drop)]
+pub struct Progress {
+    pub phase: Phase,
+    pub line: u64,
+    pub clean: bool,
+}
+
+impl Progress {
+    ghost use Rattle.bq_trace.specs.Trace.{AnswersReading, start};
+
+    pub fn start() -> Progress
+        ensures { result ≡ start }
+    {
+        Progress {
+            phase: Phase::Waiting,
+            line: 0,
+            clean: true,
+        }
+    }
+
+    /// Does what the next line says and adds what answers it. After an `Err` the state is of no use.
+    pub fn answer(
+        &mut self,
+        alloc: Global,
+        reading: Reading,
+        text: &mut String,
+    ) -> Result<(), AllocError>
+        ensures { OnOk result (Adds (string_bytes text.old) (string_bytes text.new) (λ line. AnswersReading self.old reading line self.new)) }
+    {
+        self.line = self.line.saturating_add(1);
+        let bad = self.phase.answer(alloc, reading, self.line, text)?;
+        self.clean = self.clean && !bad;
+        Ok(())
+    }
+}

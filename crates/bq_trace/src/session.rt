@@ -1,0 +1,102 @@
+//! A replay of a trace that comes in pieces.
+ghost use Rattle.std.specs.Prelude.{◌≡◌, ℕ, List, [], IfOk, IfErr, OnOk, OnErr, Some};
+ghost use Rattle.bq_trace.specs.Counts.{inner_of, failures_of};
+ghost use Rattle.bq_trace.specs.Faults.{IsWriteFault};
+ghost use Rattle.bq_trace.specs.Kept.{StandsFor};
+
+use crate::counted::Counted;
+use crate::fault::ReplayFault;
+use crate::standing::Standing;
+use std::alloc::Global;
+use std::io::Write;
+use std::marker::Model;
+
+/// A replay of the pieces so far. Contracts see where it stands.
+#[derive(Drop)]
+pub struct Session {
+    alloc: Global,
+    standing: Standing,
+    /// The answers to one piece, kept for its memory alone.
+    answers: String,
+}
+
+impl Model for Session {
+    ghost use Rattle.bq_trace.specs.declared.standing.Standing.{Standing};
+
+    ghost Value = { Standing };
+
+    ghost view = { λ s. s.standing };
+}
+
+impl Session {
+    ghost use Rattle.bq_trace.specs.Trace.{start};
+    ghost use Rattle.bq_trace.specs.Feeding.{Feeds, BreaksOff, Finishes};
+
+    /// A replay of which nothing has come yet. It takes its memory from `alloc`.
+    pub fn new(alloc: Global) -> Session
+        ensures progress { result.progress ≡ start }
+        ensures begun { result.begun ≡ Some [] }
+    {
+        Session {
+            alloc,
+            standing: Standing::new(alloc),
+            answers: String::new(alloc),
+        }
+    }
+
+    fn go_on<W: Write>(&mut self, piece: &[u8], out: &mut Counted<W>) -> Result<(), ReplayFault>
+        ensures ok { OnOk result ((begun : List ℕ) → StandsFor self.old.begun begun
+            → Feeds self.old begun piece.now self.new (W.contents (inner_of out.old)) (W.contents (inner_of out.new))) }
+        ensures kept { OnOk result (failures_of out.new ≡ failures_of out.old) }
+        ensures part { OnErr result ((begun : List ℕ) → StandsFor self.old.begun begun
+            → BreaksOff self.old begun piece.now (W.contents (inner_of out.old)) (W.contents (inner_of out.new))) }
+        ensures fault { IfErr result (λ e. IsWriteFault e (failures_of out.old) (failures_of out.new)) }
+    {
+        self.answers.clear();
+        self.standing.go_on(self.alloc, piece, &mut self.answers)?;
+        out.write_text(self.answers.as_bytes())?;
+        Ok(())
+    }
+
+    /// Runs the lines that this piece ends, and writes what answers them. After a fault there is no session: a
+    /// beginning of it is written, and the writer's fault comes only where it failed.
+    pub fn feed<W: Write>(
+        mut self,
+        piece: &[u8],
+        out: &mut Counted<W>,
+    ) -> Result<Session, ReplayFault>
+        ensures ok { IfOk result (λ next. (begun : List ℕ) → StandsFor self.begun begun
+            → Feeds self begun piece.now next (W.contents (inner_of out.old)) (W.contents (inner_of out.new))) }
+        ensures kept { OnOk result (failures_of out.new ≡ failures_of out.old) }
+        ensures part { OnErr result ((begun : List ℕ) → StandsFor self.begun begun
+            → BreaksOff self begun piece.now (W.contents (inner_of out.old)) (W.contents (inner_of out.new))) }
+        ensures fault { IfErr result (λ e. IsWriteFault e (failures_of out.old) (failures_of out.new)) }
+    {
+        self.go_on(piece, out)?;
+        Ok(self)
+    }
+
+    fn end<W: Write>(&mut self, out: &mut Counted<W>) -> Result<bool, ReplayFault>
+        ensures ok { IfOk result (λ clean. (begun : List ℕ) → StandsFor self.old.begun begun
+            → Finishes self.old begun (W.contents (inner_of out.old)) (W.contents (inner_of out.new)) clean) }
+        ensures part { OnErr result ((begun : List ℕ) → StandsFor self.old.begun begun
+            → BreaksOff self.old begun [] (W.contents (inner_of out.old)) (W.contents (inner_of out.new))) }
+        ensures fault { IfErr result (λ e. IsWriteFault e (failures_of out.old) (failures_of out.new)) }
+    {
+        self.answers.clear();
+        self.standing.end(self.alloc, &mut self.answers)?;
+        out.write_text(self.answers.as_bytes())?;
+        Ok(self.standing.progress.clean)
+    }
+
+    /// Runs the last line, where no line feed ended it. True where no line of the trace was bad.
+    pub fn finish<W: Write>(mut self, out: &mut Counted<W>) -> Result<bool, ReplayFault>
+        ensures ok { IfOk result (λ clean. (begun : List ℕ) → StandsFor self.begun begun
+            → Finishes self begun (W.contents (inner_of out.old)) (W.contents (inner_of out.new)) clean) }
+        ensures part { OnErr result ((begun : List ℕ) → StandsFor self.begun begun
+            → BreaksOff self begun [] (W.contents (inner_of out.old)) (W.contents (inner_of out.new))) }
+        ensures fault { IfErr result (λ e. IsWriteFault e (failures_of out.old) (failures_of out.new)) }
+    {
+        self.end(out)
+    }
+}

@@ -1,0 +1,66 @@
+//! The line that shows a processor.
+ghost use Rattle.std.specs.Prelude.{◌≡◌, ◌++◌, Some, OnOk, string_bytes};
+ghost use Rattle.std.specs.Option.{option_map};
+ghost use Rattle.bq_trace.specs.Texts.{entity_text, current_text, spaced_entities, processor_line};
+
+use bq_core::Cpu;
+use bq_disc::{Entity, RunQueue};
+use std::alloc::AllocError;
+use std::fmt;
+
+/// A task by its id, v and deadline.
+#[derive(Clone, Copy)]
+struct Figures<'a>(&'a Entity);
+
+impl fmt::Display for Figures<'_> {
+    ghost output = { λ t. Some (entity_text t.0.now) };
+
+    fn fmt<W: fmt::Write>(&self, f: &mut fmt::Formatter<W>) -> fmt::Result {
+        let id = self.0.id();
+        let v = self.0.v();
+        let deadline = self.0.deadline();
+        write!(f, "{id}:{v}:{deadline}")
+    }
+}
+
+/// Adds the task that runs, or `none`.
+fn write_current<Q: RunQueue>(text: &mut String, cpu: &Cpu<Q>) -> Result<(), AllocError>
+    ensures { OnOk result (string_bytes text.new ≡ string_bytes text.old ++ current_text cpu.now.running.current) }
+{
+    match cpu.current() {
+        None => text.push_str("none"),
+        Some(node) => {
+            let current = Figures(&node.entity);
+            write!(text, "{current}")
+        }
+    }
+}
+
+/// Adds the tasks of the queue by rising (v, id), a space before each.
+fn write_queue<Q: RunQueue>(text: &mut String, cpu: &Cpu<Q>) -> Result<(), AllocError>
+    ensures { OnOk result (string_bytes text.new ≡ string_bytes text.old ++ spaced_entities cpu.now.running.queue) }
+{
+    let mut last: Option<(u64, u16)> = None;
+    while let Some(node) = cpu.after(last) {
+        let task = Figures(&node.entity);
+        write!(text, " {task}")?;
+        last = Some((node.entity.v(), node.entity.id()));
+    }
+    Ok(())
+}
+
+/// Adds the line that shows a processor.
+pub fn write_processor<Q: RunQueue>(
+    text: &mut String,
+    processor: u8,
+    cpu: &Cpu<Q>,
+) -> Result<(), AllocError>
+    ensures { OnOk result (string_bytes text.new ≡ string_bytes text.old ++ processor_line processor cpu.now.running) }
+{
+    let mark = cpu.kept();
+    write!(text, "show {processor} mark {mark} run ")?;
+    write_current(text, cpu)?;
+    text.push_str(" queue")?;
+    write_queue(text, cpu)?;
+    text.push_str("\n")
+}
