@@ -1,0 +1,39 @@
+//! From an assembler text to the hex of its program.
+
+use crate::Answer;
+use bq_asm::{AsmFault, Cause, assemble};
+use bq_insn::encode::encode;
+use std::alloc::{AllocError, Global};
+
+/// The lower-case hex of the program that an assembler text stands for, and LF; else why it is refused.
+pub fn assembled(alloc: Global, text: &[u8]) -> Result<Answer, AllocError> {
+    let Ok(text) = std::str::from_utf8(text) else {
+        return Answer::refused(alloc, "text");
+    };
+    match assemble(alloc, text) {
+        Ok(insns) => {
+            let mut bytes = Vec::new(alloc);
+            encode(insns.as_slice(), &mut bytes)?;
+            let hex = hex::encode(alloc, bytes.as_slice())?;
+            let text = format!(in alloc; "{hex}\n")?;
+            Ok(Answer::accepted(text))
+        }
+        Err(AsmFault::OutOfMemory) => Err(AllocError),
+        Err(AsmFault::At { line, cause }) => {
+            let number = number_of(cause);
+            let reason = format!(in alloc; "A{number} {line}")?;
+            Answer::refused(alloc, reason.as_str())
+        }
+    }
+}
+
+/// The number by which a cause is named.
+fn number_of(cause: Cause) -> u8 {
+    match cause {
+        Cause::Word => 1,
+        Cause::Number => 2,
+        Cause::LabelTwice => 3,
+        Cause::LabelMissing => 4,
+        Cause::Slots => 5,
+    }
+}
