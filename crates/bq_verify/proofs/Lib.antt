@@ -8,4 +8,5 @@ pub mod WriteLemmas
 pub mod CounterLemmas
 pub mod ChainLemmas
 pub mod GraphLemmas
+pub mod SlotLemmas
 pub mod PassLemmas

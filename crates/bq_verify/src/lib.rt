@@ -18,6 +18,8 @@ pub mod program;
 pub mod refused;
 pub mod registers;
 pub mod stores;
+#[cfg(test)]
+mod tests;
 pub mod verified;
 pub mod view;
 pub mod waiting;

@@ -1,7 +1,8 @@
 // Whole programs, and the answer to each.
 
-ghost use Rattle.std.specs.Prelude.{◌≡◌, ◌<◌, ◌≤◌, ℕ, length, OnOk, IfOk, IfErr, None, slice_index, slice_index_or};
+ghost use Rattle.std.specs.Prelude.{◌≡◌, ◌<◌, ◌≤◌, ℕ, length, OnOk, IfOk, IfErr, None, true, slice_index, slice_index_or};
 ghost use Rattle.bq_insn.specs.Slots.{spread};
+ghost use Rattle.bq_insn.specs.Spelling.{is_well_formed};
 ghost use Rattle.bq_graph.specs.Edges.{IsWhole};
 ghost use Rattle.bq_graph.specs.Passes.{IsSound, Measured};
 ghost use Rattle.bq_graph.specs.Paths.{IsGreatest, PathOut};
@@ -68,7 +69,28 @@ fn heights_of(alloc: Global, slots: &[Option<Insn>]) -> Result<Vec<u32>, AllocEr
 }
 
 /// The program, if it is shown to be safe.
+///
+/// The checks of the control graph run one after the other over the whole program, each naming its least slot:
+/// `Jump`, `NoExit`, `Unreached`, `Frame`, `Helper`, `Counters`. One pass by rising slot follows, which stops at the
+/// first slot of which something is not shown. What is accepted is safe within its budget (see `Verified`), and the
+/// budget is the number of instructions on the longest path to an EXIT. `OutOfMemory` is answered where a growth
+/// was refused.
 pub fn verify(alloc: Global, program: Program) -> Result<Verified, Refused>
+    requires whole { is_well_formed program.insns.items ≡ true }
+    requires few { length program.shapes.items ≤ 8 }
+    ensures slots { IfOk result (λ v. v.slots ≡ spread program.insns.items) }
+    ensures shapes { IfOk result (λ v. v.shapes ≡ program.shapes.items) }
+    ensures hook { IfOk result (λ v. v.hook ≡ program.hook) }
+    ensures version { IfOk result (λ v. v.version ≡ program.version) }
+    ensures faultless { IfOk result (λ v. IsFaultless v.slots) }
+    ensures budget { IfOk result (λ v. IsGreatest (PathOut v.slots 0) v.budget) }
+    ensures refused { IfErr result (IsRefusal (spread program.insns.items)) }
+{
+    verify_slots(alloc, program)
+}
+
+/// The same, of a program of some slots, but not too many.
+fn verify_slots(alloc: Global, program: Program) -> Result<Verified, Refused>
     requires some { 0 < length (spread program.insns.items) }
     requires short { length (spread program.insns.items) ≤ 4096 }
     requires few { length program.shapes.items ≤ 8 }

@@ -1,0 +1,377 @@
+// Programs that are accepted, with their budgets, and programs that are refused, with slot and cause.
+
+use crate::hook::{Hook, Version};
+use crate::program::{Program, verify};
+use crate::refused::Refused;
+use bq_graph::cause::Cause;
+use bq_insn::encode::well_formed;
+use bq_insn::{Condition, Insn, Operation, Size, Source, Width};
+use bq_maps::MapShape;
+use std::alloc::{AllocError, Global};
+use std::process::Abort;
+use std::test::Fail;
+
+fn alu(op: Operation, dst: u8, src: Source) -> Insn {
+    Insn::Alu {
+        width: Width::W64,
+        op,
+        dst,
+        src,
+    }
+}
+
+fn mov(dst: u8, imm: i32) -> Insn {
+    alu(Operation::Mov, dst, Source::Imm(imm))
+}
+
+fn copy(dst: u8, src: u8) -> Insn {
+    alu(Operation::Mov, dst, Source::Reg(src))
+}
+
+fn add(dst: u8, imm: i32) -> Insn {
+    alu(Operation::Add, dst, Source::Imm(imm))
+}
+
+fn load(size: Size, dst: u8, src: u8, off: i16) -> Insn {
+    Insn::Load {
+        size,
+        signed: false,
+        dst,
+        src,
+        off,
+    }
+}
+
+fn store(size: Size, dst: u8, off: i16, src: u8) -> Insn {
+    Insn::StoreReg {
+        size,
+        dst,
+        off,
+        src,
+    }
+}
+
+fn set(size: Size, dst: u8, off: i16, imm: i32) -> Insn {
+    Insn::StoreImm {
+        size,
+        dst,
+        off,
+        imm,
+    }
+}
+
+fn branch(cond: Condition, dst: u8, imm: i32, off: i16) -> Insn {
+    Insn::Branch {
+        width: Width::W64,
+        cond,
+        dst,
+        src: Source::Imm(imm),
+        off,
+    }
+}
+
+fn call(helper: i32) -> Insn {
+    Insn::Call { helper }
+}
+
+/// The budget of an accepted program of the hook preempt.
+fn judge(
+    alloc: Global,
+    insns: &[Insn],
+    shapes: &[MapShape],
+) -> Result<Result<u32, Refused>, AllocError> {
+    let insns = insns.to_vec(alloc)?;
+    let shapes = shapes.to_vec(alloc)?;
+    if !well_formed(insns.as_slice()) || shapes.len() > 8 {
+        return Ok(Err(Refused::OutOfMemory));
+    }
+    let program = Program {
+        insns,
+        shapes,
+        hook: Hook::Preempt,
+        version: Version::First,
+    };
+    match verify(alloc, program) {
+        Ok(verified) => Ok(Ok(verified.budget())),
+        Err(refused) => Ok(Err(refused)),
+    }
+}
+
+/// The program has that answer.
+fn expect(
+    rt: &impl Abort,
+    alloc: Global,
+    insns: &[Insn],
+    shapes: &[MapShape],
+    answer: Result<u32, Refused>,
+) -> Result<(), Fail> {
+    assert_eq!(rt; judge(alloc, insns, shapes)?, answer);
+    Ok(())
+}
+
+fn at(slot: usize, cause: Cause) -> Result<u32, Refused> {
+    Err(Refused::At { slot, cause })
+}
+
+#[test]
+fn refusals(rt: HostRuntime) -> Result<(), Fail> {
+    let exit = Insn::Exit;
+    let own = [
+        store(Size::Double, 10, -8, 1),
+        load(Size::Double, 2, 10, -8),
+        load(Size::Word, 0, 2, 0),
+        exit,
+    ];
+    expect(&rt, rt.alloc(), &[exit], &[], at(0, Cause::Answer))?;
+    expect(
+        &rt,
+        rt.alloc(),
+        &[copy(0, 1), exit],
+        &[],
+        at(1, Cause::Answer),
+    )?;
+    expect(
+        &rt,
+        rt.alloc(),
+        &[copy(0, 3), exit],
+        &[],
+        at(0, Cause::Unset),
+    )?;
+    expect(
+        &rt,
+        rt.alloc(),
+        &[call(5), copy(0, 1), exit],
+        &[],
+        at(1, Cause::Unset),
+    )?;
+    expect(
+        &rt,
+        rt.alloc(),
+        &[load(Size::Double, 0, 10, -8), exit],
+        &[],
+        at(0, Cause::Access),
+    )?;
+    expect(
+        &rt,
+        rt.alloc(),
+        &[set(Size::Word, 1, 0, 0), mov(0, 0), exit],
+        &[],
+        at(0, Cause::Access),
+    )?;
+    expect(
+        &rt,
+        rt.alloc(),
+        &[alu(Operation::Mul, 1, Source::Imm(2)), mov(0, 0), exit],
+        &[],
+        at(0, Cause::PointerUse),
+    )?;
+    expect(
+        &rt,
+        rt.alloc(),
+        &[mov(0, 0), store(Size::Word, 10, -4, 1), exit],
+        &[],
+        at(1, Cause::PointerUse),
+    )?;
+    expect(
+        &rt,
+        rt.alloc(),
+        &[Insn::MapRef { dst: 1, index: 0 }, mov(0, 0), exit],
+        &[],
+        at(0, Cause::Argument),
+    )?;
+    expect(&rt, rt.alloc(), &[call(3), exit], &[], at(0, Cause::Helper))?;
+    expect(
+        &rt,
+        rt.alloc(),
+        &[Insn::Goto { off: 1 }, mov(0, 0), mov(0, 1), exit],
+        &[],
+        at(1, Cause::Unreached),
+    )?;
+    expect(&rt, rt.alloc(), &own, &[], Ok(4))?;
+    expect(
+        &rt,
+        rt.alloc(),
+        &[
+            mov(0, 0),
+            branch(Condition::Equal, 0, 0, 1),
+            mov(0, 1),
+            exit,
+        ],
+        &[],
+        Ok(4),
+    )?;
+    expect(
+        &rt,
+        rt.alloc(),
+        &[mov(10, 0), mov(0, 0), exit],
+        &[],
+        at(0, Cause::Frame),
+    )?;
+    Ok(())
+}
+
+/// A load of the context at a number of it, where a branch says what the number may be.
+fn bounded(cond: Condition, bound: i32) -> [Insn; 7] {
+    [
+        load(Size::Word, 2, 1, 0),
+        branch(cond, 2, bound, 3),
+        alu(Operation::Add, 1, Source::Reg(2)),
+        load(Size::Byte, 0, 1, 0),
+        Insn::Exit,
+        mov(0, 0),
+        Insn::Exit,
+    ]
+}
+
+#[test]
+fn context(rt: HostRuntime) -> Result<(), Fail> {
+    expect(
+        &rt,
+        rt.alloc(),
+        &bounded(Condition::Greater, 55),
+        &[],
+        Ok(5),
+    )?;
+    expect(
+        &rt,
+        rt.alloc(),
+        &bounded(Condition::Greater, 56),
+        &[],
+        at(3, Cause::Access),
+    )?;
+    expect(
+        &rt,
+        rt.alloc(),
+        &bounded(Condition::LessEqual, 55),
+        &[],
+        at(3, Cause::Access),
+    )?;
+    Ok(())
+}
+
+/// A look-up of entry 0 of map 0.
+fn look_up() -> [Insn; 5] {
+    [
+        set(Size::Word, 10, -4, 0),
+        Insn::MapRef { dst: 1, index: 0 },
+        copy(2, 10),
+        add(2, -4),
+        call(1),
+    ]
+}
+
+#[test]
+fn maps(rt: HostRuntime) -> Result<(), Fail> {
+    let exit = Insn::Exit;
+    let [a, b, c, d, e] = look_up();
+    let one = [MapShape::new(8, 1).ok_or("no shape")?];
+    let two = [MapShape::new(8, 2).ok_or("no shape")?];
+    let wide = [MapShape::new(16, 1).ok_or("no shape")?];
+    assert_eq!(rt;
+        judge(
+            rt.alloc(),
+            &[a, b, c, d, e, load(Size::Double, 0, 0, 0), exit],
+            &one
+        )?,
+        at(6, Cause::Access)
+    );
+    let past = [
+        a,
+        b,
+        c,
+        d,
+        e,
+        branch(Condition::NotEqual, 0, 0, 2),
+        mov(0, 0),
+        exit,
+        load(Size::Double, 0, 0, 4),
+        exit,
+    ];
+    assert_eq!(rt; judge(rt.alloc(), &past, &two)?, at(9, Cause::Access));
+    for (mask, answer) in [(8, Ok(11)), (15, at(12, Cause::Access))] {
+        let masked = [
+            load(Size::Word, 6, 1, 4),
+            a,
+            b,
+            c,
+            d,
+            e,
+            branch(Condition::NotEqual, 0, 0, 2),
+            mov(0, 0),
+            exit,
+            alu(Operation::And, 6, Source::Imm(mask)),
+            alu(Operation::Add, 0, Source::Reg(6)),
+            load(Size::Double, 0, 0, 0),
+            exit,
+        ];
+        assert_eq!(rt; judge(rt.alloc(), &masked, &wide)?, answer);
+    }
+    Ok(())
+}
+
+#[test]
+fn joins(rt: HostRuntime) -> Result<(), Fail> {
+    let exit = Insn::Exit;
+    let ways = [
+        load(Size::Word, 3, 1, 0),
+        branch(Condition::Equal, 3, 0, 2),
+        copy(2, 10),
+        Insn::Goto { off: 1 },
+        mov(2, 0),
+        load(Size::Double, 0, 2, -8),
+        exit,
+    ];
+    assert_eq!(rt; judge(rt.alloc(), &ways, &[])?, at(5, Cause::Unset));
+    let [a, b, c, d, e, _, g] = ways;
+    assert_eq!(rt;
+        judge(rt.alloc(), &[a, b, c, d, e, mov(0, 0), g], &[])?,
+        Ok(6)
+    );
+    assert_eq!(rt;
+        judge(
+            rt.alloc(),
+            &[
+                Insn::Goto { off: 1 },
+                Insn::Imm64 { dst: 1, value: 0 },
+                mov(0, 0),
+                exit
+            ],
+            &[]
+        )?,
+        at(0, Cause::Jump)
+    );
+    assert_eq!(rt;
+        judge(rt.alloc(), &[Insn::Goto { off: -1 }, exit], &[])?,
+        at(0, Cause::Jump)
+    );
+    assert_eq!(rt; judge(rt.alloc(), &[mov(0, 0)], &[])?, at(0, Cause::NoExit));
+    Ok(())
+}
+
+/// mov64 r0, 0, then so many calls of three instructions each, and exit.
+fn calling(alloc: Global, calls: u32) -> Result<Vec<Insn>, AllocError> {
+    let mut insns = Vec::new(alloc);
+    insns.push(mov(0, 0))?;
+    for _ in 0..calls {
+        insns.push(mov(1, 5))?;
+        insns.push(mov(2, 1))?;
+        insns.push(call(100))?;
+    }
+    insns.push(Insn::Exit)?;
+    Ok(insns)
+}
+
+#[test]
+fn counters(rt: HostRuntime) -> Result<(), Fail> {
+    let sixteen = calling(rt.alloc(), 16)?;
+    expect(&rt, rt.alloc(), sixteen.as_slice(), &[], Ok(50))?;
+    let seventeen = calling(rt.alloc(), 17)?;
+    expect(
+        &rt,
+        rt.alloc(),
+        seventeen.as_slice(),
+        &[],
+        at(51, Cause::Counters),
+    )?;
+    Ok(())
+}
