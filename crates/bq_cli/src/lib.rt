@@ -1,0 +1,16 @@
+//! The program's commands: the words that ask for one, what it does, and the exit status of what came of it.
+//! Promises that words ask for what clap finds in them, and that a replay keeps the promise of bq_trace.
+#![tactic(auto)]
+
+pub mod asked;
+pub mod commands;
+pub mod program;
+pub mod status;
+#[cfg(test)]
+mod tests;
+pub mod words;
+
+pub use bq_trace::{Counted, ReplayFault, Session, replay};
+pub use commands::perform;
+pub use status::exit_status;
+pub use words::job;

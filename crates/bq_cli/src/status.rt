@@ -1,0 +1,24 @@
+//! How the program ends.
+ghost use Rattle.std.specs.Prelude.{◌≡◌};
+ghost use Rattle.bq_cli.specs.Status.{status_of};
+
+use bq_trace::ReplayFault;
+
+/// The exit status of words that ask for nothing.
+pub const REFUSED: u8 = 2;
+
+/// The exit status where memory was wanted.
+pub const OUT_OF_MEMORY: u8 = 3;
+
+/// The exit status of an outcome: 0 where all is well, 1 where something was refused or bad, 3 where memory was wanted,
+/// 4 where a read or a write failed or the input was too long.
+pub fn exit_status(outcome: &Result<bool, ReplayFault>) -> u8
+    ensures { result ≡ status_of outcome.now }
+{
+    match outcome {
+        Ok(true) => 0,
+        Ok(false) => 1,
+        Err(ReplayFault::OutOfMemory) => OUT_OF_MEMORY,
+        Err(ReplayFault::Read | ReplayFault::Write | ReplayFault::TooLong) => 4,
+    }
+}

@@ -1,0 +1,57 @@
+//! Words that the program takes and words that it refuses, and a job that is done.
+
+use crate::asked::{Job, JobFault};
+use crate::{Counted, exit_status, job, perform};
+use std::str::from_utf8;
+use std::test::Fail;
+
+#[test]
+fn takes_the_words_of_a_replay(rt: HostRuntime) -> Result<(), Fail> {
+    let Ok(job) = job(rt.alloc(), &["replay"]) else {
+        return Err(Fail::from("the words were refused"));
+    };
+    let mut input = Counted::new(b"machine cfs 1\ndraw\nretire 7\n".as_slice());
+    let mut output = Counted::new(Vec::new(rt.alloc()));
+    let outcome = perform(rt.alloc(), &job, &mut input, &mut output);
+    assert_eq!(rt; exit_status(&outcome), 0);
+    let output = output.into_inner();
+    assert_eq!(rt;
+        from_utf8(output.as_slice())?,
+        "draw 1\nrefused C2 NoTask\n"
+    );
+    Ok(())
+}
+
+#[test]
+fn ends_by_one_where_a_line_is_bad(rt: HostRuntime) {
+    let mut input = Counted::new(b"draw\n".as_slice());
+    let mut output = Counted::new(Vec::new(rt.alloc()));
+    let outcome = perform(rt.alloc(), &Job::Replay, &mut input, &mut output);
+    assert_eq!(rt; exit_status(&outcome), 1);
+}
+
+/// What some words are told, and where in the text.
+const TOLD: [(&[&str], &str); 8] = [
+    (&[], "Usage: bqsim"),
+    (&["--help"], "Usage: bqsim"),
+    (&["help"], "Usage: bqsim"),
+    (&["replay", "--help"], "Usage: bqsim replay"),
+    (&["--version"], "bqsim 0.1.0\n"),
+    (&["play"], "error: "),
+    (&["replay", "again"], "error: "),
+    (&["--replay"], "error: "),
+];
+
+#[test]
+fn tells_other_words(rt: HostRuntime) -> Result<(), Fail> {
+    for (words, told) in TOLD {
+        match job(rt.alloc(), words) {
+            Err(JobFault::Words(text)) => {
+                assert!(rt; text.as_str().contains(told), "{words:?}: {text}");
+                assert!(rt; text.as_str().ends_with("\n"), "{words:?}: {text}");
+            }
+            _ => return Err(Fail::from("the words were taken")),
+        }
+    }
+    Ok(())
+}
