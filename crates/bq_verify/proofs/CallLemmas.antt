@@ -4,8 +4,7 @@ use Rattle.std.specs.Prelude.{slice_get, slice_set, slice_index, slice_index_or}
 use Rattle.std.proofs.lemmas.Bool.Decides.{eqb_tells, leb_tells, nat_tests}
 use Rattle.std.proofs.lemmas.Bool.{cases_lt}
 use Rattle.bq_insn.specs.declared.Insn.TheVariants.{Call}
-use Rattle.bq_insn.specs.declared.Size.{Size}
-use Rattle.bq_insn.specs.Meaning.{byte_count, word_of}
+use Rattle.bq_insn.specs.Meaning.{word_of}
 use Rattle.bq_maps.specs.declared.shape.MapShape.{MapShape}
 use Rattle.bq_maps.specs.Memory.{Setting, State, Reads, Writes, IsGood, InEntry, written, IsEntry, reference, values_base, number_of}
 use Rattle.bq_maps.specs.Machine.{Does, address_of, called, entry_address, NamesEntry}

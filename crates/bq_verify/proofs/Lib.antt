@@ -10,3 +10,4 @@ pub mod ChainLemmas
 pub mod GraphLemmas
 pub mod SlotLemmas
 pub mod PassLemmas
+pub mod LongerLemmas

@@ -1,6 +1,6 @@
 -- Views that allow more.
-use Rattle.std.proofs.Common.{◌≡◌, ◌≢◌, ℕ, ◌<◌, Bool, true, false, List, Option, Some, None, length, get_or, set, refl, ◌+◌, ◌≤◌, sym, subst, arith, ◌∙◌, get_or-set_same, get_or-set_other, ◌⊎◌, inl, inr}
-use Rattle.std.specs.Prelude.{slice_set, slice_index_or}
+use Rattle.std.proofs.Common.{◌≡◌, ◌≢◌, ℕ, ◌<◌, Bool, true, false, List, Option, Some, None, length, get_or, set, ◌+◌, ◌≤◌, sym, subst, arith, ◌∙◌, get_or-set_same, get_or-set_other, ◌⊎◌, inl, inr}
+use Rattle.std.specs.Prelude.{slice_index_or}
 use Rattle.std.proofs.lemmas.Bool.Decides.{eqb_tells}
 use Rattle.bq_maps.specs.declared.shape.MapShape.{MapShape}
 use Rattle.bq_maps.specs.Memory.{Setting, State}
@@ -9,7 +9,7 @@ use Rattle.bq_verify.specs.declared.view.View.{View}
 use Rattle.std.proofs.lemmas.Bool.{cases_lt}
 use Rattle.std.proofs.lemmas.List.{get_or_past}
 use Rattle.std.proofs.lemmas.List.{get_or_read}
-use Rattle.bq_verify.specs.Standing.{Standing, Stands, StandsAt}
+use Rattle.bq_verify.specs.Standing.{Standing, Stands}
 use Rattle.bq_verify.specs.Views.{Holds, Keeps, Covers, Allows}
 
 pub Allows-same : (k : Option Known) → Allows k k

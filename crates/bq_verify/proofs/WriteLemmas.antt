@@ -1,7 +1,7 @@
 -- What a store leaves known: on the stack, and in an entry.
-use Rattle.std.proofs.Common.{◌≡◌, ◌≢◌, ℕ, zero, suc, ◌+◌, ◌*◌, ◌%◌, ◌/◌, ◌^◌, ◌<◌, ◌≤◌, Bool, true, false, List, Option, Some, None, length, get_or, set, refl, sym, ap, subst, arith, ◌∙◌, ◌⊎◌, inl, inr, ℤ, get_or-set_same, get_or-set_other}
+use Rattle.std.proofs.Common.{◌≡◌, ◌≢◌, ℕ, zero, suc, ◌+◌, ◌*◌, ◌<◌, ◌≤◌, Bool, true, false, List, Option, Some, None, length, get_or, set, refl, sym, ap, subst, arith, ◌⊎◌, inl, inr, ℤ, get_or-set_same, get_or-set_other}
 use Rattle.std.specs.Prelude.{slice_index, slice_index_or}
-use Rattle.std.specs.Int.{byte_at as byte_of, bytes_low_first}
+use Rattle.std.specs.Int.{byte_at as byte_of}
 use Rattle.std.proofs.lemmas.Bool.{cases_lt}
 use Rattle.std.proofs.lemmas.Bool.Decides.{eqb_tells}
 use Rattle.std.proofs.lemmas.List.{get_or_past}
@@ -11,16 +11,16 @@ use Rattle.bq_insn.specs.declared.Size.TheVariants.{Byte, Half, Word, Double}
 use Rattle.bq_insn.specs.declared.Insn.TheVariants.{StoreImm, StoreReg}
 use Rattle.bq_insn.specs.Meaning.{byte_count, word_of}
 use Rattle.bq_maps.specs.declared.shape.MapShape.{MapShape}
-use Rattle.bq_maps.specs.Memory.{Setting, State, Region, InStack, InEntry, IsGood, Writes, written, stack_with}
+use Rattle.bq_maps.specs.Memory.{Setting, State, Region, InStack, InEntry, IsGood, written}
 use Rattle.bq_maps.specs.Machine.{address_of, low_bytes, next}
 use Rattle.bq_maps.proofs.ShapeLemmas.{have_overwritten}
 use Rattle.bq_ranges.specs.declared.range.Range.{Range}
 use Rattle.bq_ranges.specs.Within.{Within}
 use Rattle.bq_verify.specs.declared.view.Kind.{Kind}
-use Rattle.bq_verify.specs.declared.view.Kind.TheVariants.{Number, Stack, Entry}
+use Rattle.bq_verify.specs.declared.view.Kind.TheVariants.{Stack, Entry}
 use Rattle.bq_verify.specs.declared.view.View.{View}
 use Rattle.bq_verify.specs.declared.view.Known.{Known}
-use Rattle.bq_verify.specs.Views.{Covers, Describes, Keeps, Forgets, Marks, IsOfKind, FindsPlace, Stores, Carries, Suits, keeping}
+use Rattle.bq_verify.specs.Views.{Covers, Describes, Keeps, Forgets, Marks, IsOfKind, FindsPlace, Stores, Carries, keeping}
 use Rattle.bq_verify.proofs.StoreLemmas.{covers_written, low_at}
 use Rattle.bq_verify.proofs.AccessLemmas.{entry_inside}
 

@@ -1,11 +1,7 @@
 -- What callers see of an accepted program, and what they are told of another.
-use Rattle.std.specs.Prelude.{◌≡◌, ℕ, List, Option, Some, ◌⊎◌}
+use Rattle.std.specs.Prelude.{ℕ, List, Option}
 use Rattle.bq_insn.specs.declared.Insn.{Insn}
 use Rattle.bq_maps.specs.declared.shape.MapShape.{MapShape}
-use Rattle.bq_graph.specs.declared.cause.Cause.{Cause}
-use Rattle.bq_graph.specs.Faults.{IsFirstFault, IsFaultless, place_of}
-use Rattle.bq_maps.specs.Machine.{instruction_at}
-use Rattle.bq_verify.specs.Doubts.{MayCause}
 use Rattle.bq_verify.specs.declared.hook.Hook.{Hook}
 use Rattle.bq_verify.specs.declared.hook.Hook.TheVariants.{Place, Preempt, Pull}
 use Rattle.bq_verify.specs.declared.hook.Version.{Version}

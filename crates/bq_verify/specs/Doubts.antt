@@ -1,8 +1,6 @@
 -- What may not be shown of which instruction.
-use Rattle.std.specs.Prelude.{◌≡◌, List, Option, Some}
 use Rattle.bq_insn.specs.declared.Insn.{Insn}
 use Rattle.bq_insn.specs.declared.Insn.TheVariants.{Load, StoreImm, StoreReg, MapRef, Call, Exit}
-use Rattle.bq_maps.specs.Machine.{instruction_at}
 use Rattle.bq_graph.specs.declared.cause.Cause.{Cause}
 use Rattle.bq_graph.specs.declared.cause.Cause.TheVariants as cause
 use Rattle.bq_verify.specs.declared.view.Doubt.{Doubt}

@@ -4,3 +4,4 @@ pub mod Standing
 pub mod Doubts
 pub mod Accepted
 pub mod Refusals
+pub mod Laws

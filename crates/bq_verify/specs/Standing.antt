@@ -1,5 +1,5 @@
 -- What a view is sure to know of a register: the ground on which straight programs are accepted.
-use Rattle.std.specs.Prelude.{◌≡◌, ◌≢◌, ℕ, ◌+◌, ◌<◌, ◌≤◌, pos, false, Option, Some, None, List, slice_index_or, ◌⊎◌}
+use Rattle.std.specs.Prelude.{◌≡◌, ◌≢◌, ℕ, ◌+◌, ◌<◌, ◌≤◌, pos, false, Option, Some, None, slice_index_or}
 use Rattle.bq_insn.specs.declared.Insn.{Insn}
 use Rattle.bq_insn.specs.declared.Insn.TheVariants.{Alu, Load, Goto, Branch, Exit}
 use Rattle.bq_insn.specs.declared.Operation.{Operation}
@@ -7,9 +7,6 @@ use Rattle.bq_insn.specs.declared.Operation.TheVariants.{Mov}
 use Rattle.bq_insn.specs.declared.Source.{Source}
 use Rattle.bq_insn.specs.declared.Source.TheVariants.{Imm, Reg}
 use Rattle.bq_insn.specs.Meaning.{byte_count}
-use Rattle.bq_maps.specs.Machine.{instruction_at}
-use Rattle.bq_graph.specs.Edges.{IsEdge}
-use Rattle.bq_graph.specs.Faults.{destination_of}
 use Rattle.bq_verify.specs.declared.view.Kind.TheVariants.{Number, Context}
 use Rattle.bq_verify.specs.declared.view.Known.{Known}
 use Rattle.bq_verify.specs.declared.view.View.{View}

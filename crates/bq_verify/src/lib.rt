@@ -10,6 +10,7 @@ pub mod carry;
 pub mod counters;
 pub mod flow;
 pub mod hook;
+pub mod laws;
 pub mod memory;
 pub mod merge;
 pub mod moves;

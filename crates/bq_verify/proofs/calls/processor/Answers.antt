@@ -1,4 +1,4 @@
-use Rattle.std.proofs.Common.{refl, inl, inr, arith}
+use Rattle.std.proofs.Common.{refl, inr, arith}
 use Rattle.bq_maps.specs.Machine.{called}
 use Rattle.bq_verify.proofs.calls.processor.Goals as goal
 

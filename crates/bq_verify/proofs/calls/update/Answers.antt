@@ -1,5 +1,4 @@
 use Rattle.std.proofs.Common.{◌≡◌, sym, arith, rules}
-use Rattle.bq_verify.specs.Views.{FindsBytes}
 use Rattle.bq_verify.proofs.CallLemmas.{carries_update}
 use Rattle.bq_verify.proofs.calls.update.Goals as goal
 

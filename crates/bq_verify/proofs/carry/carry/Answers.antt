@@ -1,4 +1,4 @@
-use Rattle.std.proofs.Common.{false, pos, subst, ℤ, arith, ◌≡◌, rules}
+use Rattle.std.proofs.Common.{pos, subst, ℤ, arith, ◌≡◌, rules}
 use Rattle.bq_insn.specs.declared.Operation.TheVariants.{Mov}
 use Rattle.bq_insn.specs.declared.Insn.TheVariants.{Load, MapRef, StoreImm, StoreReg}
 use mir.Syntax.{w16, w32}

@@ -5,7 +5,7 @@ use Rattle.std.proofs.lemmas.Int.{ints}
 use Rattle.bq_verify.specs.Views.{FindsPlace}
 use Rattle.bq_insn.specs.declared.Insn.TheVariants.{Load}
 use Rattle.bq_verify.proofs.PutLemmas.{carries_put}
-use Rattle.bq_verify.proofs.AccessLemmas.{load_gives, kept_gives, kept_load}
+use Rattle.bq_verify.proofs.AccessLemmas.{load_gives, kept_load}
 use Rattle.bq_verify.proofs.memory.load.Goals as goal
 
 pub returns-in-Some-clause-carries : goal.returns-in-Some-clause-carries

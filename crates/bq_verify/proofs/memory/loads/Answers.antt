@@ -1,4 +1,3 @@
-use Rattle.std.proofs.Common.{◌≡◌, true, false, rules}
 use Rattle.bq_verify.proofs.memory.loads.Goals as goal
 
 pub returns-then-signed : goal.returns-then-signed

@@ -1,4 +1,4 @@
-use Rattle.std.proofs.Common.{arith, rules}
+use Rattle.std.proofs.Common.{arith}
 use Rattle.bq_verify.proofs.CallLemmas.{finds_bytes}
 use Rattle.bq_verify.proofs.memory.reads_value.Goals as goal
 

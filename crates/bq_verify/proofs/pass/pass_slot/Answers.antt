@@ -1,6 +1,5 @@
-use Rattle.std.proofs.Common.{◌≡◌, ◌+◌, sym}
 use Rattle.bq_verify.specs.Control.{IsKnown}
-use Rattle.bq_verify.proofs.PassLemmas.{passes_over, passes_gap, passes_by}
+use Rattle.bq_verify.proofs.PassLemmas.{passes_by}
 use Rattle.bq_verify.proofs.pass.pass_slot.Goals as goal
 
 pub returns-in-Ok-clause-passes : goal.returns-in-Ok-clause-passes

@@ -1,7 +1,4 @@
-use Rattle.std.proofs.Common.{◌≡◌, ◌<◌, ◌≤◌, ◌+◌, ℕ, ℤ, length, refl, inl, inr, subst, sym, arith, rules}
-use mir.Syntax.{w16, w32}
-use mir.Val.{SFits, to_z, of_z}
-use Rattle.std.proofs.lemmas.Int.{ints}
+use Rattle.std.proofs.Common.{◌+◌, refl, inr, arith}
 use Rattle.bq_insn.specs.Meaning.{byte_count}
 use Rattle.bq_verify.proofs.WriteLemmas.{covers_over, marks_wider}
 use Rattle.bq_verify.proofs.stores.overwrite.Goals as goal

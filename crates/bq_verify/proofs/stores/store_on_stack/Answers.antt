@@ -1,7 +1,4 @@
-use Rattle.std.proofs.Common.{◌≡◌, ◌<◌, ◌≤◌, ◌*◌, ◌/◌, ℕ, ℤ, length, refl, inl, inr, subst, sym, arith, rules}
-use mir.Syntax.{w16, w32}
-use mir.Val.{SFits, to_z, of_z}
-use Rattle.std.proofs.lemmas.Int.{ints}
+use Rattle.std.proofs.Common.{◌≡◌, ◌<◌, ◌*◌, ◌/◌, ℕ, length, subst, arith, rules}
 use Rattle.bq_verify.proofs.WriteLemmas.{low_long, low_small, covers_keeping}
 use Rattle.bq_verify.proofs.StoreLemmas.{Keeps-stored}
 use Rattle.std.proofs.Common.{Some, ap}

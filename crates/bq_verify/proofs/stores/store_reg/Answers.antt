@@ -1,5 +1,5 @@
-use Rattle.std.proofs.Common.{◌≡◌, ◌<◌, ◌≤◌, ◌*◌, ◌/◌, ℕ, ℤ, length, refl, inl, inr, subst, sym, arith, rules}
-use mir.Syntax.{w16, w32}
+use Rattle.std.proofs.Common.{◌≡◌, ℤ, subst, arith, rules}
+use mir.Syntax.{w16}
 use mir.Val.{SFits, to_z, of_z}
 use Rattle.std.proofs.lemmas.Int.{ints}
 use Rattle.bq_verify.specs.Views.{Stores}

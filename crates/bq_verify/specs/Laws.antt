@@ -1,0 +1,21 @@
+-- Laws of safe programs: a longer context changes nothing for a program that is safe on a shorter one.
+use Rattle.std.specs.Prelude.{ℕ, ◌^◌, ◌<◌, ◌≤◌, List, Option, take}
+use Rattle.bq_insn.specs.declared.Insn.{Insn}
+use Rattle.bq_maps.specs.declared.shape.MapShape.{MapShape}
+use Rattle.bq_maps.specs.declared.board.Call.{Call as Asked}
+use Rattle.bq_maps.specs.Memory.{Setting}
+use Rattle.bq_maps.specs.Machine.{RunFrom, Safe, start}
+
+-- the setting with the first bytes of its context alone
+abbrev pub shortened : Setting → ℕ → Setting
+shortened f n = record f { context = take n f.context }
+
+-- a program that is safe on a context of so many bytes is safe on a longer one
+abbrev pub SafeOnLonger : Type 0
+SafeOnLonger =
+    (slots : List (Option Insn)) (shapes : List MapShape) (n m budget : ℕ) → n ≤ m → m < 2 ^ 16 → Safe slots shapes n budget → Safe slots shapes m budget
+
+-- what a run on the first bytes of a context gives, a run on the whole context gives
+abbrev pub RunsOnLonger : Type 0
+RunsOnLonger =
+    (f : Setting) (n steps : ℕ) (calls : List Asked) (answer : ℕ) (maps after : List (List ℕ)) → RunFrom (shortened f n) (start maps) steps calls answer after → RunFrom f (start maps) steps calls answer after

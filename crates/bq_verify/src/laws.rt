@@ -1,0 +1,14 @@
+//! Laws of safe programs.
+
+ghost use Rattle.bq_verify.specs.Laws.{RunsOnLonger, SafeOnLonger};
+
+/// A program that is safe on a context is safe on a longer one, within the same budget: so one that is safe on the
+/// first version of a context is safe on the second, which begins with it.
+pub fn safe_on_longer()
+    ensures { SafeOnLonger }
+{}
+
+/// What a run on the first bytes of a context gives, a run on the whole context gives.
+pub fn runs_on_longer()
+    ensures { RunsOnLonger }
+{}
