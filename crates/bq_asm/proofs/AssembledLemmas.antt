@@ -1,5 +1,5 @@
 -- What lines without a fault stand for: new labels, and instructions that are well formed and take the lines' slots.
-use Rattle.std.proofs.Common.{◌≡◌, ℕ, zero, suc, ◌+◌, ◌<◌, ◌≤◌, List, [], ◌∷◌, ◌++◌, length, take, drop, get_or, refl, sym, ap, ◌∙◌, Bool, true, false, Some, None, arith, subst, length-append, append_assoc, append-nil}
+use Rattle.std.proofs.Common.{◌≡◌, ℕ, suc, ◌+◌, ◌<◌, ◌≤◌, List, [], ◌∷◌, ◌++◌, length, take, get_or, refl, sym, ap, ◌∙◌, Bool, true, false, Some, None, arith, subst, length-append, append_assoc, append-nil}
 use Rattle.std.specs.Prelude.{Option, Result, Ok, Err, ℤ, pos, ◌-ℤ◌, FitsSigned, option_map, if◌then◌else◌, nat_le, ◌&&◌, IfSome}
 use Rattle.std.specs.Int.{w16}
 use Rattle.std.specs.List.{list_any, list_all, flat_map, AllByRecursion}
@@ -13,14 +13,14 @@ use Rattle.bq_insn.specs.declared.Insn.{Insn}
 use Rattle.bq_insn.specs.declared.Insn.TheVariants as insn
 use Rattle.bq_insn.specs.Slots.{slots_of}
 use Rattle.bq_insn.specs.Spelling.{spelled, slot_count, is_insn, is_well_formed}
-use Rattle.bq_insn.specs.Laws.{Fits, AllFit}
+use Rattle.bq_insn.specs.Laws.{AllFit}
 use Rattle.bq_asm.specs.declared.fault.Cause.{Cause}
-use Rattle.bq_asm.specs.declared.fault.Cause.TheVariants.{Word, LabelTwice}
+use Rattle.bq_asm.specs.declared.fault.Cause.TheVariants.{Word, LabelTwice, Slots}
 use Rattle.bq_asm.specs.Lines.{Line, Blank, Label, Instruction, lines_of, last_word}
 use Rattle.bq_asm.specs.Operands.{is_label, instruction_of}
 use Rattle.bq_asm.specs.Assembly.{slots_read, slots_of_line, place_at, places_from, distance_to, Says, AreNewLabels, Assembles}
-use Rattle.bq_asm.specs.Faults.{slots_in, labels_in, cause_of_label, cause_at, fault_at, IsClean}
-use Rattle.bq_asm.proofs.DraftLemmas.{slots_in-append, places_from-append}
+use Rattle.bq_asm.specs.Faults.{slots_in, labels_in, cause_of_label, cause_of_insn, cause_at, IsClean}
+use Rattle.bq_asm.proofs.DraftLemmas.{places_from-append}
 use Rattle.bq_asm.proofs.CleanLemmas.{fault_at-is}
 use Rattle.bq_asm.proofs.NearLemmas.{places_near}
 use Rattle.bq_asm.proofs.ReadingLemmas.{read_again}
@@ -55,7 +55,7 @@ label_is before name h = by (is_label name) (list_any (bytes_eq name) before) h
     by false b k = absurd (let no : Some Word ≡ None = k in cc)
 
 -- the labels of one line more
-labels_more : (before : List Line) (line : Line) → labels_in (before ++ line ∷ []) ≡ labels_in before ++ keys_of (place_at (slots_in before) line)
+pub labels_more : (before : List Line) (line : Line) → labels_in (before ++ line ∷ []) ≡ labels_in before ++ keys_of (place_at (slots_in before) line)
 labels_more before line =
     ap keys_of (places_from-append 0 before (line ∷ []) ∙ ap (λ ps. places_from 0 before ++ ps) (append-nil (place_at (0 + slots_in before) line) ∙ ap (λ n. place_at n line) (omega arith)))
     ∙ map-append (λ e. e.0) (places_from 0 before) (place_at (slots_in before) line)
@@ -161,3 +161,17 @@ pub assembles_from : (text : List ℕ) (insns : List Insn) → IsClean (lines_of
 assembles_from text insns clean some few says =
     let count = says_count (places_from 0 (lines_of text)) 0 (lines_of text) insns says in
     record { labels = clean_labels (lines_of text) clean; says = says; some = omega (arith, count, some); few = omega (arith, count, few) }
+
+insn_within : (slots : ℕ) (read : Result Insn Cause) → cause_of_insn slots read ≡ None → slots + slots_read read ≤ 4096
+insn_within slots (Err c) h = absurd (let no : Some c ≡ None = h in cc)
+insn_within slots (Ok i) h = by (nat_le (slots + slots_of i) 4096) refl h
+  where
+    by : (b : Bool) → nat_le (slots + slots_of i) 4096 ≡ b → (if b then None else Some Slots) ≡ None → slots + slots_of i ≤ 4096
+    by true e k = grind (arith, nat_tests, e)
+    by false e k = absurd (let no : Some Slots ≡ None = k in cc)
+
+-- a line without a fault ends within the slots
+pub fits_from_cause : (before : List Line) (line : Line) → slots_in before ≤ 4096 → cause_at before line ≡ None → slots_in before + slots_of_line line ≤ 4096
+fits_from_cause before Blank few h = omega arith
+fits_from_cause before (Label name) few h = omega arith
+fits_from_cause before (Instruction first operands) few h = insn_within (slots_in before) (instruction_of first operands (Some (pos 0))) h

@@ -1,17 +1,15 @@
 -- Lines without a fault are read, and what the second pass finds is what they say.
-use Rattle.std.proofs.Common.{◌≡◌, ℕ, zero, suc, ◌+◌, ◌<◌, ◌≤◌, List, [], ◌∷◌, ◌++◌, length, take, get_or, refl, sym, ap, ◌∙◌, Bool, true, false, Some, None, arith, subst}
-use Rattle.std.specs.Prelude.{Option, Result, Ok, Err, pos, slice_get, option_and_then, if◌then◌else◌, nat_le}
-use Rattle.std.specs.List.{All, AllByRecursion}
-use Rattle.std.specs.Map.{keys_of}
+use Rattle.std.proofs.Common.{◌≡◌, ℕ, zero, suc, ◌<◌, List, [], length, take, get_or, refl, sym, ap, ◌∙◌, Some, None, arith, subst}
+use Rattle.std.specs.Prelude.{Result, Ok, Err, pos, slice_get, option_and_then}
+use Rattle.std.specs.List.{AllByRecursion}
 use Rattle.std.proofs.lemmas.Option.{gets}
 use Rattle.std.proofs.lemmas.List.Elements.{recursion_from_All}
 use Rattle.bq_insn.specs.declared.Insn.{Insn}
-use Rattle.bq_insn.specs.Slots.{slots_of}
 use Rattle.bq_asm.specs.declared.fault.Cause.{Cause}
-use Rattle.bq_asm.specs.declared.fault.Cause.TheVariants.{LabelMissing, Slots}
+use Rattle.bq_asm.specs.declared.fault.Cause.TheVariants.{LabelMissing}
 use Rattle.bq_asm.specs.Lines.{Line, Blank, Label, Instruction}
 use Rattle.bq_asm.specs.Operands.{instruction_of}
-use Rattle.bq_asm.specs.Assembly.{places_from, Says}
+use Rattle.bq_asm.specs.Assembly.{places_from}
 use Rattle.bq_asm.specs.Faults.{slots_in, labels_in, cause_of_insn, cause_at, fault_at, missing_at, IsFirst, IsClean}
 use Rattle.bq_asm.specs.Jumps.{Awaited, drafts_of, jumps_from, with_jumps}
 use Rattle.bq_asm.proofs.PassLemmas.{IsReadable, IsFirstMissing, Passes, passes}

@@ -6,7 +6,7 @@ use Rattle.std.proofs.lemmas.Bool.Decides.{nat_tests}
 use Rattle.bq_insn.specs.Slots.{slots_of}
 use Rattle.bq_asm.specs.declared.fault.Cause.{Cause}
 use Rattle.std.specs.Borrow.{Bor}
-use Rattle.std.specs.List.{flat_map, list_any}
+use Rattle.std.specs.List.{list_any}
 use Rattle.std.specs.Map.{lookup, keys_of}
 use Rattle.std.specs.Str.{bytes_eq}
 use Rattle.std.proofs.lemmas.Map.Made.{is_some-lookup}
@@ -24,7 +24,7 @@ use Rattle.bq_asm.specs.Faults.{slots_in, cause_at, cause_of_label, cause_of_ins
 use Rattle.bq_asm.proofs.JumpLemmas.{lookup_places}
 use Rattle.bq_asm.proofs.CountLemmas.{count_wrong}
 use Rattle.bq_asm.specs.declared.draft.Draft.{Draft}
-use Rattle.bq_asm.specs.Draft.{TakesLine, Describes}
+use Rattle.bq_asm.specs.Draft.{TakesLine}
 use Rattle.bq_asm.specs.Jumps.{Awaited, awaited_by, places_of, draft_of, drafts_of, jump_at, jumps_from}
 
 pub slots_in-append : (xs ys : List Line) → slots_in (xs ++ ys) ≡ slots_in xs + slots_in ys

@@ -1,5 +1,5 @@
 -- Labels that are looked up, and jumps that are set.
-use Rattle.std.proofs.Common.{◌≡◌, ℕ, ◌≤◌, List, [], ◌∷◌, map, refl, sym, ap, ◌∙◌, Bool, true, false, Some, None, subst}
+use Rattle.std.proofs.Common.{◌≡◌, ℕ, ◌≤◌, List, [], ◌∷◌, map, refl, sym, ap, Bool, true, false, Some, subst}
 use Rattle.std.specs.Prelude.{Option, if◌then◌else◌, IfSome}
 use Rattle.std.specs.Borrow.{Bor}
 use Rattle.std.specs.List.{All, AllByRecursion}

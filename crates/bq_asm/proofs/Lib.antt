@@ -12,3 +12,8 @@ pub mod NearLemmas
 pub mod CleanLemmas
 pub mod AssembledLemmas
 pub mod LoopLemmas
+pub mod LawLemmas
+pub mod DigitLemmas
+pub mod OperandLemmas
+pub mod AgainLemmas
+pub mod ListingLemmas

@@ -1,6 +1,6 @@
 -- One line of a text after others, and the first fault.
-use Rattle.std.proofs.Common.{◌≡◌, ℕ, zero, suc, ◌+◌, ◌<◌, ◌≤◌, List, [], ◌∷◌, ◌++◌, length, take, get_or, map, refl, sym, ap, ◌∙◌, Some, None, arith, subst, inl, inr, ⊎_elim}
-use Rattle.std.specs.Prelude.{Option, ◌⊎◌, slice_get, option_and_then, Result, Ok, Err, IfOk, IfErr}
+use Rattle.std.proofs.Common.{◌≡◌, ℕ, zero, suc, ◌+◌, ◌<◌, ◌≤◌, List, [], ◌∷◌, length, take, get_or, map, refl, sym, ap, ◌∙◌, None, arith, subst, inl, inr, ⊎_elim}
+use Rattle.std.specs.Prelude.{slice_get, option_and_then, Result, Ok, Err, IfOk, IfErr}
 use Rattle.std.specs.Global.{Vec}
 use Rattle.std.proofs.lemmas.Result.{IfOk-weaker}
 use Rattle.bq_insn.specs.declared.Insn.{Insn}
@@ -8,12 +8,11 @@ use Rattle.std.specs.Borrow.{Bor}
 use Rattle.std.specs.Str.Lines.{lines}
 use Rattle.std.proofs.lemmas.List.{length-map, take-map, get_or-map}
 use Rattle.std.proofs.lemmas.Bool.{cases_lt}
-use Rattle.bq_asm.specs.declared.fault.Cause.{Cause}
 use Rattle.bq_asm.specs.declared.fault.AsmFault.{AsmFault}
 use Rattle.bq_asm.specs.declared.fault.AsmFault.TheVariants.{At, OutOfMemory}
 use Rattle.bq_asm.specs.declared.draft.Draft.{Draft}
 use Rattle.bq_asm.specs.Lines.{Line, Blank, line_said, lines_of}
-use Rattle.bq_asm.specs.Faults.{slots_in, cause_at, fault_at, IsFirst, IsClean, IsFault, Faulty}
+use Rattle.bq_asm.specs.Faults.{slots_in, cause_at, fault_at, IsClean, IsFault}
 use Rattle.bq_asm.specs.Draft.{Describes, RefusesLine, Finishes, Fails}
 use Rattle.bq_asm.specs.Assembly.{Assembles}
 use Rattle.bq_asm.proofs.AssembledLemmas.{assembles_from}

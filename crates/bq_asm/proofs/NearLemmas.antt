@@ -1,5 +1,5 @@
 -- The labels and the jumps of lines lie within the slots and the instructions of the lines.
-use Rattle.std.proofs.Common.{◌≡◌, ℕ, ◌+◌, ◌<◌, ◌≤◌, List, [], ◌∷◌, ◌++◌, length, map, refl, sym, ap, ◌∙◌, Some, None, arith, subst, length-append}
+use Rattle.std.proofs.Common.{◌≡◌, ℕ, ◌+◌, ◌<◌, ◌≤◌, List, [], ◌∷◌, ◌++◌, length, map, sym, Some, None, arith, subst, length-append}
 use Rattle.std.specs.Prelude.{Option, Result, Ok, Err, pos}
 use Rattle.std.specs.List.{All, AllByRecursion}
 use Rattle.std.proofs.lemmas.List.Elements.{All-from_recursion}
@@ -8,9 +8,9 @@ use Rattle.bq_insn.specs.Slots.{slots_of}
 use Rattle.bq_asm.specs.declared.fault.Cause.{Cause}
 use Rattle.bq_asm.specs.Lines.{Line, Blank, Label, Instruction}
 use Rattle.bq_asm.specs.Operands.{instruction_of}
-use Rattle.bq_asm.specs.Assembly.{slots_read, slots_of_line, place_at, places_from}
+use Rattle.bq_asm.specs.Assembly.{slots_read, slots_of_line, places_from}
 use Rattle.bq_asm.specs.Faults.{slots_in}
-use Rattle.bq_asm.specs.Jumps.{Awaited, target_of, awaited_at, insn_read, draft_of, drafts_of, jump_read, jump_at, jumps_from}
+use Rattle.bq_asm.specs.Jumps.{Awaited, target_of, awaited_at, insn_read, draft_of, drafts_of, jump_read, jumps_from}
 
 -- what holds of each seen element holds of each
 pub All-seen : {A B : Type 0} (P : B → Type 0) (f : A → B) (xs : List A) (ys : List B) → map f xs ≡ ys → AllByRecursion P ys → All (λ x. P (f x)) xs

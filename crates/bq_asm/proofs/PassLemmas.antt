@@ -1,6 +1,6 @@
 -- The second pass: the jumps of the lines, set one after another, give what the lines say.
-use Rattle.std.proofs.Common.{◌≡◌, ℕ, zero, suc, ◌+◌, ◌<◌, List, [], ◌∷◌, ◌++◌, length, refl, sym, ap, ◌∙◌, Bool, true, false, Some, None, is_some, arith, subst, append_assoc, append-nil, length-append, ⊎_elim, add-one}
-use Rattle.std.specs.Prelude.{Option, Result, Ok, Err, ℤ, pos, ◌-ℤ◌, slice_get, slice_set, slice_index_or, option_and_then, not, ◌&&◌, if◌then◌else◌, option_map}
+use Rattle.std.proofs.Common.{◌≡◌, ℕ, zero, suc, ◌+◌, ◌<◌, List, [], ◌∷◌, ◌++◌, length, refl, sym, ap, ◌∙◌, Bool, true, false, Some, None, is_some, arith, subst, append_assoc, length-append, ⊎_elim}
+use Rattle.std.specs.Prelude.{Option, Result, Ok, Err, pos, ◌-ℤ◌, slice_get, slice_set, slice_index_or, option_and_then, not, ◌&&◌, if◌then◌else◌, option_map}
 use Rattle.std.specs.List.{list_any, AllByRecursion}
 use Rattle.std.specs.Map.{lookup, keys_of}
 use Rattle.std.specs.Str.{bytes_eq}
@@ -13,9 +13,9 @@ use Rattle.bq_asm.specs.declared.fault.Cause.{Cause}
 use Rattle.bq_asm.specs.declared.fault.Cause.TheVariants.{LabelMissing}
 use Rattle.bq_asm.specs.Lines.{Line, Blank, Label, Instruction, last_word}
 use Rattle.bq_asm.specs.Operands.{instruction_of}
-use Rattle.bq_asm.specs.Assembly.{slots_read, slots_of_line, distance_to, Says}
+use Rattle.bq_asm.specs.Assembly.{slots_read, distance_to, Says}
 use Rattle.bq_asm.specs.Faults.{awaits_label, cause_of_jump}
-use Rattle.bq_asm.specs.Jumps.{Awaited, target_of, aimed, awaited_at, insn_read, draft_of, drafts_of, jump_read, jump_at, jumps_from, with_jump, with_jumps}
+use Rattle.bq_asm.specs.Jumps.{Awaited, aimed, awaited_at, insn_read, drafts_of, jump_read, jumps_from, with_jump, with_jumps}
 use Rattle.bq_asm.proofs.ReadingLemmas.{IsPlain, IsAwaiting, targets, jump_slots, aimed_slots}
 
 -- the line says no instruction, or one that is read

@@ -1,13 +1,13 @@
 -- What is read from words is in range.
-use Rattle.std.proofs.Common.{◌≡◌, ℕ, ◌+◌, ◌-◌, ◌^◌, ◌<◌, ◌≤◌, List, [], ◌∷◌, length, take, drop, refl, sym, ap, ◌∙◌, Bool, true, false, cond, Some, None, arith, subst}
-use Rattle.std.specs.Prelude.{Option, Result, Ok, Err, ℤ, pos, neg_ℤ, FitsSigned, if◌then◌else◌, option_map, nat_lt, nat_le, nat_eq, position, ◌&&◌, ◌==◌, codes, IfSome}
+use Rattle.std.proofs.Common.{◌≡◌, ℕ, ◌+◌, ◌-◌, ◌^◌, ◌<◌, ◌≤◌, List, [], ◌∷◌, length, drop, refl, Bool, true, false, Some, None, arith}
+use Rattle.std.specs.Prelude.{Option, ℤ, pos, FitsSigned, if◌then◌else◌, option_map, nat_lt, nat_le, nat_eq, ◌&&◌, ◌==◌, codes, IfSome}
 use Rattle.std.specs.Int.{w16, w32}
 use Rattle.std.specs.List.{list_all, starts_with}
 use Rattle.std.specs.Str.Parse.{digits_value}
 use Rattle.std.specs.Char.{digit_value}
 use Rattle.std.proofs.lemmas.Bool.Decides.{nat_tests}
 use Rattle.std.proofs.lemmas.Int.{ints}
-use Rattle.bq_asm.specs.Numbers.{number_of, below, magnitude_of, negative, imm_of, offset_of, distance_of, wide_of, register_of, begins_number}
+use Rattle.bq_asm.specs.Numbers.{number_of, below, magnitude_of, negative, imm_of, offset_of, distance_of, wide_of, register_of}
 
 below_limit : (limit : ℕ) (o : Option ℕ) → IfSome (below limit o) (λ n. n < limit)
 below_limit limit None = tt

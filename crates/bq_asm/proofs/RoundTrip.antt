@@ -1,6 +1,6 @@
 -- The words of an instruction say that instruction.
-use Rattle.std.proofs.Common.{◌≡◌, ℕ, List, [], ◌∷◌, refl, ap, ◌∙◌, true, false, Bool}
-use Rattle.std.specs.Prelude.{Option, Some, None}
+use Rattle.std.proofs.Common.{◌≡◌, refl, true, false}
+use Rattle.std.specs.Prelude.{Some}
 use Rattle.bq_insn.specs.declared.Width.{Width}
 use Rattle.bq_insn.specs.declared.Width.TheVariants.{W32, W64}
 use Rattle.bq_insn.specs.declared.Operation.{Operation}
@@ -14,9 +14,7 @@ use Rattle.bq_insn.specs.declared.Source.TheVariants.{Imm, Reg}
 use Rattle.bq_insn.specs.declared.Insn.{Insn}
 use Rattle.bq_insn.specs.declared.Insn.TheVariants as insn
 use Rattle.bq_insn.specs.Spelling.{is_insn}
-use Rattle.bq_asm.specs.declared.mnemonic.Mnemonic.{Mnemonic}
 use Rattle.bq_asm.specs.declared.mnemonic.Mnemonic.TheVariants as name
-use Rattle.bq_asm.specs.Laws.{TableAgrees}
 use Rattle.bq_asm.specs.Names.{name_of}
 use Rattle.bq_asm.specs.Named.{named}
 use Rattle.bq_asm.specs.Text.{mnemonic_of, operands_of}
@@ -91,6 +89,3 @@ named-again (insn.Goto off) h = refl
 named-again (insn.Goto32 n) h = refl
 named-again (insn.Call n) h = refl
 named-again insn.Exit h = refl
-
-pub table_agrees : TableAgrees
-table_agrees = refl

@@ -1,6 +1,6 @@
 -- What words say is an instruction in range, with numbers of its fields' types.
-use Rattle.std.proofs.Common.{◌≡◌, ℕ, ◌^◌, ◌<◌, ◌≤◌, List, [], ◌∷◌, take, drop, length, refl, ap, ◌∙◌, Bool, true, false, Some, None, arith, subst}
-use Rattle.std.specs.Prelude.{Option, Result, Ok, Err, ℤ, pos, FitsSigned, if◌then◌else◌, option_map, nat_le, position, ◌&&◌, ◌==◌, IfSome, IfOk}
+use Rattle.std.proofs.Common.{◌≡◌, ℕ, ◌^◌, ◌<◌, ◌≤◌, List, [], ◌∷◌, take, drop, length, refl, Bool, true, false, Some, None, arith, subst}
+use Rattle.std.specs.Prelude.{Option, Result, Ok, Err, ℤ, pos, FitsSigned, if◌then◌else◌, option_map, position, ◌&&◌, ◌==◌, IfSome, IfOk}
 use Rattle.std.specs.Int.{w16, w32}
 use Rattle.std.specs.List.{list_all, AllByRecursion}
 use Rattle.std.specs.Str.{bytes_eq}
@@ -9,9 +9,7 @@ use Rattle.std.proofs.lemmas.Int.{ints}
 use Rattle.bq_insn.specs.declared.Width.TheVariants.{W32, W64}
 use Rattle.bq_insn.specs.declared.Bits.TheVariants.{B8, B16, B32, B64}
 use Rattle.bq_insn.specs.declared.Size.TheVariants.{Byte, Half, Word, Double}
-use Rattle.bq_insn.specs.declared.Source.TheVariants.{Imm, Reg}
 use Rattle.bq_insn.specs.declared.Insn.{Insn}
-use Rattle.bq_insn.specs.declared.Insn.TheVariants as insn
 use Rattle.bq_insn.specs.Spelling.{is_insn, is_register}
 use Rattle.bq_insn.specs.Laws.{Fits}
 use Rattle.bq_asm.specs.declared.fault.Cause.{Cause}
@@ -32,7 +30,7 @@ use Rattle.bq_asm.proofs.ReadingLemmas.{made_from}
 abbrev pub DistanceFits : Option ℤ → Type 0
 DistanceFits d = IfSome d (FitsSigned w16)
 
-abbrev Good : Operand → Type 0
+abbrev pub Good : Operand → Type 0
 Good (operand.Register r) = r ≤ 10
 Good (operand.Number z) = FitsSigned w32 z
 Good (operand.Wide n) = n < 2 ^ 64

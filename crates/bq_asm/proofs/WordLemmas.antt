@@ -1,6 +1,6 @@
 -- The words of a line, one after another.
 use Rattle.std.proofs.Common.{◌≡◌, ℕ, ◌<◌, suc, zero, List, [], ◌∷◌, ◌++◌, length, take, drop, get_or, refl, sym, ap, ◌∙◌, true, false, cond, ltb, arith, take-append-drop, append-nil, take_all}
-use Rattle.std.specs.Prelude.{filter, position, nat_lt, Bool, Option, Some, None, ◌≤◌}
+use Rattle.std.specs.Prelude.{filter, position, nat_lt, Bool, Some, None, ◌≤◌}
 use Rattle.std.specs.List.{All, position_or_len, before_first}
 use Rattle.std.proofs.lemmas.List.Splits.{slice_split_at, slice_split_none}
 use Rattle.std.proofs.lemmas.Bool.Decides.{nat_tests}
@@ -9,14 +9,14 @@ use Rattle.bq_asm.specs.Lines.{words, is_blank}
 use Rattle.bq_asm.specs.Words.{IsWordLen}
 
 -- the end, or a blank
-abbrev EndsWord : List ℕ → Type 0
+abbrev pub EndsWord : List ℕ → Type 0
 EndsWord [] = Unit {0}
 EndsWord (b ∷ bs) = is_blank b ≡ true
 
-words-blank : (b : ℕ) (bs : List ℕ) → is_blank b ≡ true → words (b ∷ bs) ≡ words bs
+pub words-blank : (b : ℕ) (bs : List ℕ) → is_blank b ≡ true → words (b ∷ bs) ≡ words bs
 words-blank b bs h = rw h refl
 
-words-word : (w rest : List ℕ) → 0 < length w → All (λ b. is_blank b ≡ false) w → EndsWord rest → words (w ++ rest) ≡ w ∷ words rest
+pub words-word : (w rest : List ℕ) → 0 < length w → All (λ b. is_blank b ≡ false) w → EndsWord rest → words (w ++ rest) ≡ w ∷ words rest
 words-word w [] some h end =
     let e : ltb 0 (length w) ≡ true = grind (arith, nat_tests) in
     ap words (append-nil w) ∙ ap (filter (λ x. ltb 0 (length x))) (slice_split_none is_blank w h) ∙ ap (λ t. cond t (w ∷ []) []) e

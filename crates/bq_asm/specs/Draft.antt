@@ -1,13 +1,11 @@
 -- What the first pass keeps of the lines that it has read.
-use Rattle.std.specs.Prelude.{◌≡◌, ℕ, ◌+◌, ◌<◌, ◌⊎◌, List, [], ◌∷◌, ◌++◌, length, map, Some, None, Result, Ok, Err}
+use Rattle.std.specs.Prelude.{◌≡◌, ℕ, ◌+◌, ◌<◌, ◌⊎◌, List, [], ◌∷◌, ◌++◌, length, map, Some, None}
 use Rattle.bq_insn.specs.declared.Insn.{Insn}
-use Rattle.bq_asm.specs.declared.fault.Cause.{Cause}
 use Rattle.bq_asm.specs.declared.fault.Cause.TheVariants.{Slots}
 use Rattle.bq_asm.specs.declared.fault.AsmFault.{AsmFault}
 use Rattle.bq_asm.specs.declared.fault.AsmFault.TheVariants.{At, OutOfMemory}
 use Rattle.bq_asm.specs.declared.draft.Draft.{Draft}
-use Rattle.bq_asm.specs.Lines.{Line, Blank, Label, Instruction}
-use Rattle.bq_asm.specs.Operands.{instruction_of}
+use Rattle.bq_asm.specs.Lines.{Line}
 use Rattle.bq_asm.specs.Assembly.{places_from, Says}
 use Rattle.bq_asm.specs.Faults.{slots_in, cause_at, missing_at, IsFirst, IsClean}
 use Rattle.bq_asm.specs.Jumps.{places_of, awaited_by, drafts_of, jumps_from}

@@ -1,5 +1,5 @@
 -- The jumps to labels that lines say, and how they are set once all labels are known.
-use Rattle.std.specs.Prelude.{◌≡◌, ℕ, ◌+◌, ℤ, pos, ◌-ℤ◌, Bool, true, false, List, [], ◌∷◌, ◌++◌, Option, Some, None, Result, Ok, Err, slice_index_or, slice_set, length, map, if◌then◌else◌}
+use Rattle.std.specs.Prelude.{ℕ, ◌+◌, ℤ, pos, ◌-ℤ◌, Bool, true, false, List, [], ◌∷◌, ◌++◌, Option, Some, None, Result, Ok, Err, slice_index_or, slice_set, length, map, if◌then◌else◌}
 use Rattle.std.specs.Borrow.{Bor}
 use Rattle.std.specs.declared.hash.FoldHasher.{FoldHasher}
 use Rattle.std.specs.declared.hash.BuildHasherDefault.{BuildHasherDefault}
@@ -12,7 +12,7 @@ use Rattle.bq_insn.specs.declared.Insn.TheVariants as insn
 use Rattle.bq_insn.specs.Slots.{slots_of}
 use Rattle.bq_asm.specs.declared.fault.Cause.{Cause}
 use Rattle.bq_asm.specs.declared.jump.Jump.{Jump}
-use Rattle.bq_asm.specs.Lines.{Line, Blank, Label, Instruction, last_word}
+use Rattle.bq_asm.specs.Lines.{Line, Instruction, last_word}
 use Rattle.bq_asm.specs.Operands.{is_label, instruction_of}
 use Rattle.bq_asm.specs.Assembly.{slots_of_line}
 

@@ -1,22 +1,41 @@
--- Laws of words and instructions.
-use Rattle.std.specs.Prelude.{◌≡◌, true, Some}
-use Rattle.std.specs.List.{list_all}
-use Rattle.std.specs.Str.{bytes_eq}
+-- Laws of assembly: what is listed assembles again, a text stands for one program or has one fault, and first words have one name.
+use Rattle.std.specs.Prelude.{◌≡◌, ℕ, true, List, ◌⊎◌, Some}
 use Rattle.bq_insn.specs.declared.Insn.{Insn}
-use Rattle.bq_insn.specs.Spelling.{is_insn}
+use Rattle.bq_insn.specs.Spelling.{is_well_formed}
+use Rattle.bq_insn.specs.Laws.{AllFit}
+use Rattle.bq_asm.specs.declared.fault.Cause.{Cause}
+use Rattle.bq_asm.specs.declared.mnemonic.Mnemonic.{Mnemonic}
 use Rattle.bq_asm.specs.Names.{name_of}
-use Rattle.bq_asm.specs.Named.{named, table}
-use Rattle.bq_asm.specs.Text.{mnemonic_of, operands_of}
-use Rattle.bq_asm.specs.Operands.{insn_from}
+use Rattle.bq_asm.specs.Named.{named}
+use Rattle.bq_asm.specs.Text.{listing_text}
+use Rattle.bq_asm.specs.Lines.{lines_of}
+use Rattle.bq_asm.specs.Assembly.{Assembles}
+use Rattle.bq_asm.specs.Faults.{Faulty}
 
--- the first word and the operands of an instruction make that instruction
-abbrev pub PartsComeBack : Type 0
-PartsComeBack = (i : Insn) → insn_from (mnemonic_of i) (operands_of i) ≡ Some i
+-- the listing of a program assembles to that program
+abbrev pub ListingAssembles : Type 0
+ListingAssembles = (insns : List Insn) → is_well_formed insns ≡ true → AllFit insns → Assembles (listing_text insns) insns
 
--- the first word of an instruction in range is read as that
-abbrev pub NamesComeBack : Type 0
-NamesComeBack = (i : Insn) → is_insn i ≡ true → named (name_of (mnemonic_of i)) ≡ Some (mnemonic_of i)
+-- a text stands for at most one list of instructions
+abbrev pub OneProgram : Type 0
+OneProgram = (text : List ℕ) (a b : List Insn) → Assembles text a → Assembles text b → a ≡ b
 
--- each word of the table is the name of what it says
-abbrev pub TableAgrees : Type 0
-TableAgrees = list_all (λ e. bytes_eq e.0 (name_of e.1)) table ≡ true
+-- a text has at most one fault: one line, and there one cause
+abbrev pub OneFault : Type 0
+OneFault = (text : List ℕ) (m n : ℕ) (c d : Cause) → Faulty (lines_of text) m c → Faulty (lines_of text) n d → (m ≡ n) × (c ≡ d)
+
+-- a text that stands for instructions has no fault
+abbrev pub NoProgramIsFaulty : Type 0
+NoProgramIsFaulty = (text : List ℕ) (insns : List Insn) (line : ℕ) (c : Cause) → Assembles text insns → Faulty (lines_of text) line c → ⊥
+
+-- each text stands for instructions or has a fault
+abbrev pub EachTextIsJudged : Type 0
+EachTextIsJudged = (text : List ℕ) → ((insns : List Insn) × Assembles text insns) ⊎ ((line : ℕ) × (c : Cause) × Faulty (lines_of text) line c)
+
+-- what a text stands for is well formed, with numbers of its fields' types
+abbrev pub ProgramsAreWellFormed : Type 0
+ProgramsAreWellFormed = (text : List ℕ) (insns : List Insn) → Assembles text insns → (is_well_formed insns ≡ true) × AllFit insns
+
+-- a first word that says something is its name
+abbrev pub OneName : Type 0
+OneName = (word : List ℕ) (m : Mnemonic) → named word ≡ Some m → word ≡ name_of m

@@ -1,7 +1,7 @@
 -- What the lines of a program's text say. A line ends at a line feed or at the text's end, and loses one carriage return
 -- before the line feed. A semicolon begins a comment, and spaces, tabs and commas stand between words.
-use Rattle.std.specs.Prelude.{ℕ, ◌-◌, Bool, ◌||◌, ◌&&◌, ◌==◌, nat_lt, nat_le, List, [], ◌∷◌, length, take, drop, slice_get, slice_index, unwrap_or, filter, map, Option, Some, None, if◌then◌else◌, codes}
-use Rattle.std.specs.List.{slice_split, before_first, list_all}
+use Rattle.std.specs.Prelude.{ℕ, ◌-◌, Bool, ◌||◌, ◌==◌, nat_lt, List, [], ◌∷◌, length, take, drop, slice_get, unwrap_or, filter, map, Option, Some, None, if◌then◌else◌, codes}
+use Rattle.std.specs.List.{slice_split, before_first}
 use Rattle.std.specs.Str.{bytes_eq}
 use Rattle.std.specs.Str.Lines.{lines}
 

@@ -1,17 +1,37 @@
-//! Laws of words and instructions.
-ghost use Rattle.bq_asm.specs.Laws.{PartsComeBack, NamesComeBack, TableAgrees};
+//! Laws of assembly. Each is a theorem over its definitions, and its function does nothing.
+ghost use Rattle.bq_asm.specs.Laws.{ListingAssembles, OneProgram, OneFault, NoProgramIsFaulty, EachTextIsJudged, ProgramsAreWellFormed, OneName};
 
-/// The first word and the operands of an instruction make that instruction.
-pub fn parts_come_back()
-    ensures { PartsComeBack }
+/// The listing of a program assembles to that program.
+pub fn listing_assembles()
+    ensures { ListingAssembles }
 {}
 
-/// The first word of an instruction in range is read as that.
-pub fn names_come_back()
-    ensures { NamesComeBack }
+/// A text stands for at most one list of instructions.
+pub fn one_program()
+    ensures { OneProgram }
 {}
 
-/// Each word of the table is the name of what it says.
-pub fn table_agrees()
-    ensures { TableAgrees }
+/// A text has at most one fault: one line, and there one cause.
+pub fn one_fault()
+    ensures { OneFault }
+{}
+
+/// A text that stands for instructions has no fault.
+pub fn no_program_is_faulty()
+    ensures { NoProgramIsFaulty }
+{}
+
+/// Each text stands for instructions or has a fault.
+pub fn each_text_is_judged()
+    ensures { EachTextIsJudged }
+{}
+
+/// What a text stands for is well formed, with numbers of its fields' types.
+pub fn programs_are_well_formed()
+    ensures { ProgramsAreWellFormed }
+{}
+
+/// A first word that says something is its name, so no two words say the same.
+pub fn one_name()
+    ensures { OneName }
 {}

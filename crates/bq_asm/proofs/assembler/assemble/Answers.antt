@@ -1,16 +1,15 @@
-use Rattle.std.proofs.Common.{◌≡◌, ℕ, suc, ◌+◌, ◌≤◌, ◌∙◌, sym, ap, refl, arith, subst, length, map, take, length-append, true, ◌++◌, ◌∷◌, []}
-use Rattle.std.specs.Prelude.{IfOk, IfErr}
-use Rattle.std.specs.Str.Lines.{lines}
+use Rattle.std.proofs.Common.{◌≡◌, suc, ◌+◌, ◌∙◌, sym, ap, subst, length-append, true, ◌++◌, ◌∷◌, []}
+use Rattle.std.specs.Prelude.{IfErr}
 use Rattle.std.proofs.lemmas.List.{map-append, length-map}
-use Rattle.std.proofs.lemmas.Result.{IfOk-weaker, err_from_is_err_and, MatchResult-weaker}
+use Rattle.std.proofs.lemmas.Result.{IfOk-weaker, err_from_is_err_and}
 use Rattle.std.proofs.lemmas.Iterator.Splits.{YieldsList-from_lines}
 use Rattle.std.proofs.lemmas.Iterator.Consumers.{YieldsList-so_far, YieldsList-turn, YieldsList-end}
 use Rattle.bq_insn.specs.Spelling.{is_well_formed}
 use Rattle.bq_insn.specs.Laws.{AllFit}
 use Rattle.bq_asm.specs.Lines.{line_said, lines_of}
-use Rattle.bq_asm.specs.Faults.{fault_at, cause_at, slots_in, IsClean, IsFault}
+use Rattle.bq_asm.specs.Faults.{fault_at, cause_at, IsFault}
 use Rattle.bq_asm.specs.Assembly.{Assembles}
-use Rattle.bq_asm.specs.Draft.{Describes, Finishes, Fails}
+use Rattle.bq_asm.specs.Draft.{Describes}
 use Rattle.bq_asm.proofs.LoopLemmas.{said_so_far, next_fault, more_clean, first_fault, assembled, unassembled}
 use Rattle.bq_asm.proofs.AssembledLemmas.{assembles_well_formed}
 use Rattle.bq_asm.proofs.assembler.assemble.Goals as goal

@@ -1,4 +1,4 @@
-use Rattle.std.proofs.Common.{◌≡◌, ◌∙◌, sym, length, Some}
+use Rattle.std.proofs.Common.{◌∙◌, sym, Some}
 use Rattle.std.specs.Prelude.{pos}
 use Rattle.std.proofs.lemmas.List.{length-map}
 use Rattle.bq_asm.proofs.CountLemmas.{count_wrong}

@@ -1,4 +1,4 @@
-use Rattle.std.proofs.Common.{◌≡◌, ◌∙◌, sym}
+use Rattle.std.proofs.Common.{◌∙◌, sym}
 use Rattle.bq_asm.proofs.JumpLemmas.{lookup_places, found_near}
 use Rattle.bq_asm.proofs.jump.slot_of.Goals as goal
 

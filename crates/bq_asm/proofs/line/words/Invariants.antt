@@ -1,5 +1,4 @@
-use Rattle.std.proofs.Common.{◌≡◌, ◌++◌, ◌≤◌, length}
-use Rattle.arrayvec.specs.ArrayVec.{array_vec_len}
+use Rattle.std.proofs.Common.{◌≡◌, ◌++◌, length}
 use Rattle.bq_asm.specs.Lines.{words}
 use Rattle.bq_asm.specs.Operands.{texts}
 use Rattle.bq_asm.proofs.line.words.Given as goal

@@ -1,4 +1,4 @@
-use Rattle.std.proofs.Common.{◌≡◌, ◌+◌, ◌<◌, ◌≤◌, ◌∙◌, sym, ap, refl, arith, subst, length, map, inr, take, drop, ◌++◌, [], Ok, Err}
+use Rattle.std.proofs.Common.{◌+◌, ◌<◌, ◌≤◌, ◌∙◌, sym, ap, arith, subst, length, map, inr, drop, Ok, Err}
 use Rattle.std.proofs.lemmas.List.{take_at}
 use Rattle.bq_asm.specs.Assembly.{places_from, Says}
 use Rattle.bq_asm.specs.Faults.{slots_in}

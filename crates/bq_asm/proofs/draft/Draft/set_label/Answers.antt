@@ -1,6 +1,4 @@
-use Rattle.std.proofs.Common.{◌≡◌, ◌∙◌, sym, ap, refl, true, false, is_some, map}
-use Rattle.std.specs.List.{list_any}
-use Rattle.std.specs.Str.{bytes_eq}
+use Rattle.std.proofs.Common.{◌∙◌, sym, ap, refl, true, false, is_some, map}
 use Rattle.indexmap.proofs.CallerLemmas.{insert_entry-new}
 use Rattle.bq_asm.specs.Lines.{Label}
 use Rattle.bq_asm.specs.Faults.{labels_in}

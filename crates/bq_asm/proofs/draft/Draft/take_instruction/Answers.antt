@@ -1,11 +1,11 @@
-use Rattle.std.proofs.Common.{◌≡◌, ◌≤◌, ◌+◌, ◌∙◌, sym, ap, refl, arith, length, map, Some, [], ◌++◌}
+use Rattle.std.proofs.Common.{◌≡◌, ◌≤◌, ◌+◌, ◌∙◌, sym, ap, refl, arith, length, map, Some, ◌++◌}
 use Rattle.std.specs.Prelude.{pos, Ok}
 use Rattle.bq_insn.specs.Slots.{slots_of}
 use Rattle.bq_asm.specs.Lines.{Instruction}
 use Rattle.bq_asm.specs.Operands.{texts, instruction_of}
 use Rattle.bq_asm.specs.Faults.{slots_in}
 use Rattle.bq_asm.specs.Assembly.{slots_read}
-use Rattle.bq_asm.specs.Jumps.{awaited_by, awaited_at, insn_read, jump_read, drafts_of}
+use Rattle.bq_asm.specs.Jumps.{awaited_by, awaited_at, insn_read, jump_read}
 use Rattle.bq_asm.specs.Jumps.{places_of}
 use Rattle.bq_asm.proofs.DraftLemmas.{places_kept, slots_more, drafts_more, jumps_more, insn_fits}
 use Rattle.bq_asm.proofs.draft.Draft.take_instruction.Goals as goal

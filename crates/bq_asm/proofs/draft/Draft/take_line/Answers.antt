@@ -1,6 +1,6 @@
-use Rattle.std.proofs.Common.{◌≡◌, ◌<◌, ◌∙◌, sym, ap, refl, subst, length}
+use Rattle.std.proofs.Common.{◌≡◌, ◌<◌, ◌∙◌, ap, refl, subst, length}
 use Rattle.std.specs.Result.{OnOk, IfErr}
-use Rattle.bq_asm.specs.Lines.{Line, words, line_of, line_said}
+use Rattle.bq_asm.specs.Lines.{words, line_of, line_said}
 use Rattle.bq_asm.specs.Operands.{texts}
 use Rattle.bq_asm.specs.Draft.{TakesLine, RefusesLine}
 use Rattle.bq_asm.proofs.DraftLemmas.{many_words}

@@ -1,7 +1,6 @@
-use Rattle.std.proofs.Common.{◌≡◌, ◌∙◌, sym, ap, refl, subst, get_or, take, drop, length, ◌-◌, [], Some, None}
+use Rattle.std.proofs.Common.{◌∙◌, sym, ap, subst, get_or, take, drop, length, ◌-◌, []}
 use Rattle.std.specs.Result.{OnOk}
-use Rattle.std.specs.Borrow.{Bor}
-use Rattle.bq_asm.specs.Lines.{line_of, said, label_set}
+use Rattle.bq_asm.specs.Lines.{said}
 use Rattle.bq_asm.specs.Operands.{texts}
 use Rattle.bq_asm.specs.Draft.{TakesLine}
 use Rattle.bq_asm.proofs.DraftLemmas.{line_of-first, line_of-none, blank_line}
