@@ -1,11 +1,10 @@
 -- What sign extension and byte order give on words that fit.
-use Rattle.std.proofs.Common.{◌≡◌, ℕ, ◌*◌, ◌/◌, ◌%◌, ◌<◌, ◌≤◌, arith}
+use Rattle.std.proofs.Common.{◌≡◌, ℕ, ◌*◌, ◌%◌, ◌<◌, ◌≤◌, arith}
 use Rattle.std.proofs.lemmas.Int.{ints}
 use Rattle.std.specs.Int.{w64, cast_signed, cast_unsigned, swap_bytes}
 use Rattle.bq_ranges.proofs.Outcomes.{kept, remains}
 use Rattle.bq_insn.specs.Meaning.{modulus, modulus_of_bits, bytes_of_bits, extended, reordered}
 use Rattle.bq_insn.specs.declared.Width.{Width}
-use Rattle.bq_insn.specs.declared.Width.TheVariants.{W32, W64}
 use Rattle.bq_insn.specs.declared.Bits.{Bits}
 use Rattle.bq_insn.specs.declared.Bits.TheVariants.{B8, B16, B32, B64}
 use Rattle.bq_insn.specs.declared.Order.{Order}

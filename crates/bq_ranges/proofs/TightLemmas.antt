@@ -9,7 +9,7 @@ use Rattle.bq_insn.specs.declared.Operation.{Operation}
 use Rattle.bq_insn.specs.declared.Operation.TheVariants as op
 use Rattle.bq_ranges.specs.declared.range.Range.{Range}
 use Rattle.bq_ranges.specs.Within.{Within}
-use Rattle.bq_ranges.specs.Tight.{IsTight, IsTightAt, IsTightWithin, Reaches}
+use Rattle.bq_ranges.specs.Tight.{IsTightAt, IsTightWithin, Reaches}
 
 -- what is promised on all words is promised on their low bits
 pub tight_within : (w : Width) (o : Operation) (a b low_a low_b : Range) → ((x : ℕ) × Within a x × (x % modulus w ≡ low_a.hi)) → ((y : ℕ) × Within b y × (y % modulus w ≡ low_b.lo)) → ((y : ℕ) × Within b y × (y % modulus w ≡ low_b.hi)) → IsTightAt w o a b → IsTightWithin w o low_a low_b

@@ -1,5 +1,5 @@
 use Rattle.std.proofs.Common.{arith}
-use Rattle.bq_ranges.proofs.MoveLemmas.{extended_fits, extended_plain}
+use Rattle.bq_ranges.proofs.MoveLemmas.{extended_fits}
 use Rattle.bq_ranges.proofs.moves.extend.Goals as goal
 
 pub returns-clause-holds : goal.returns-clause-holds

@@ -1,4 +1,4 @@
-use Rattle.std.proofs.Common.{◌≡◌, ◌+◌, ◌-◌, ◌%◌, sym, ap, zero-add, arith}
+use Rattle.std.proofs.Common.{◌-◌, ◌%◌, sym, zero-add, arith}
 use Rattle.bq_insn.specs.Meaning.{modulus}
 use Rattle.bq_ranges.proofs.moves.neg.Goals as goal
 

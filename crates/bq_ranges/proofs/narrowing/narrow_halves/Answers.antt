@@ -1,4 +1,4 @@
-use Rattle.std.proofs.Common.{sym, ◌∙◌, true, IsTrue, arith}
+use Rattle.std.proofs.Common.{sym, ◌∙◌, arith}
 use Rattle.bq_ranges.specs.Tight.{IsSigned}
 use Rattle.bq_ranges.proofs.TestLemmas.{halves}
 use Rattle.bq_ranges.proofs.narrowing.narrow_halves.Goals as goal

@@ -1,4 +1,4 @@
-use Rattle.std.proofs.Common.{◌≡◌, ℕ, true, false, arith}
+use Rattle.std.proofs.Common.{true, false, arith}
 use Rattle.bq_insn.specs.declared.Condition.TheVariants as cond
 use Rattle.bq_ranges.proofs.TestLemmas.{meets, ends_go}
 use Rattle.bq_ranges.proofs.narrowing.narrow_words.Goals as goal

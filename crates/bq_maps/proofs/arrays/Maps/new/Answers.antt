@@ -1,8 +1,7 @@
-use Rattle.std.proofs.Common.{◌≡◌, ℕ, ◌+◌, ◌*◌, ◌++◌, ◌∷◌, [], Vec, Global, List, take, map, length, get_or, replicate, ◌∙◌, ap, sym, refl, arith}
+use Rattle.std.proofs.Common.{◌≡◌, ℕ, ◌*◌, ◌++◌, ◌∷◌, [], Vec, Global, List, take, map, length, replicate, ◌∙◌, ap, sym, refl, arith}
 use Rattle.std.proofs.lemmas.List.{map_push, take_more, length-replicate}
-use Rattle.bq_maps.specs.Arrays.{HaveShapes}
 use Rattle.bq_maps.specs.declared.shape.MapShape.{MapShape}
-use Rattle.bq_maps.proofs.ShapeLemmas.{have_none, have_more, zero_more, zeros_are_bytes}
+use Rattle.bq_maps.proofs.ShapeLemmas.{have_more, zero_more, zeros_are_bytes}
 use Rattle.bq_maps.proofs.arrays.Maps.new.Goals as goal
 
 pub loop-shape-preserved : goal.loop-shape-preserved

@@ -1,4 +1,4 @@
-use Rattle.std.proofs.Common.{◌≡◌, ℕ, [], map, take, get_or, slice_index_or}
+use Rattle.std.proofs.Common.{◌≡◌, ℕ, [], map, take, get_or}
 use Rattle.bq_maps.specs.Arrays.{HaveShapes}
 use Rattle.bq_maps.proofs.arrays.Maps.new.Given as goal
 
