@@ -7,16 +7,16 @@
 pub mod decode;
 pub mod encode;
 pub mod fault;
-pub mod form;
-pub mod judge;
+mod form;
+mod judge;
 pub mod laws;
-pub mod opcode;
-pub mod reading;
-pub mod slot;
-pub mod spelling;
+mod opcode;
+mod reading;
+mod slot;
+mod spelling;
 #[cfg(test)]
 mod tests;
-pub mod uses;
+mod uses;
 
 ghost use Rattle.std.specs.Prelude.{◌≡◌};
 ghost use Rattle.bq_insn.specs.Slots.{slots_of};

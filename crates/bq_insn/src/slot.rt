@@ -9,10 +9,15 @@ use std::alloc::AllocError;
 /// The fields of eight bytes. Each register has four bits; offset and immediate are as they stand there, without a sign.
 #[derive(Clone, Copy, Debug, PartialEq, Eq)]
 pub struct Slot {
+    /// What kind of instruction it is.
     pub opcode: u8,
+    /// The low four bits of the second byte.
     pub dst: u8,
+    /// The high four bits of the second byte.
     pub src: u8,
+    /// The next two bytes, little-endian.
     pub offset: u16,
+    /// The last four bytes, little-endian.
     pub imm: u32,
 }
 

@@ -20,9 +20,13 @@ pub enum Use {
 /// What the fields of a form are for. An unused field must be zero (RFC 9669, section 3.1).
 #[derive(Clone, Copy, Debug, PartialEq, Eq)]
 pub struct Uses {
+    /// The destination register's field.
     pub dst: Use,
+    /// The source register's field.
     pub src: Use,
+    /// The offset.
     pub offset: Use,
+    /// The immediate.
     pub imm: Use,
 }
 
