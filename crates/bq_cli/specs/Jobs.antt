@@ -3,10 +3,12 @@ use Rattle.std.specs.Prelude.{◌≡◌, List, Some, codes}
 use Rattle.clap.specs.Words.{Row, Text, subcommand_of}
 use Rattle.bq_cli.specs.Program.{program}
 use Rattle.bq_cli.specs.declared.asked.Job.{Job}
-use Rattle.bq_cli.specs.declared.asked.Job.TheVariants.{Replay}
+use Rattle.bq_cli.specs.declared.asked.Job.TheVariants.{Asm, Dis, Replay}
 
 -- a command by its name and what was found for its options
 abbrev pub IsJobOf : Text → List Row → Job → Type 0
+IsJobOf name rows Asm = name ≡ codes "asm"
+IsJobOf name rows Dis = name ≡ codes "dis"
 IsJobOf name rows Replay = name ≡ codes "replay"
 
 -- the command and its options are those that clap finds in the words

@@ -3,6 +3,12 @@ use Rattle.std.specs.Prelude.{true, codes}
 use Rattle.clap.specs.Simple.{on_top}
 use Rattle.clap.specs.Words.{App, new_app, with_subcommand}
 
+abbrev pub asm_app : App
+asm_app = new_app (codes "asm")
+
+abbrev pub dis_app : App
+dis_app = new_app (codes "dis")
+
 abbrev pub replay_app : App
 replay_app = new_app (codes "replay")
 
@@ -10,4 +16,4 @@ replay_app = new_app (codes "replay")
 abbrev pub program : App
 program =
     on_top (λ s. record s { no_binary_name = true; has_version = true; subcommand_required = true; arg_required_else_help = true })
-    (with_subcommand (new_app (codes "bqsim")) replay_app.top)
+    (with_subcommand (with_subcommand (with_subcommand (new_app (codes "bqsim")) asm_app.top) dis_app.top) replay_app.top)

@@ -7,6 +7,10 @@ use thiserror::Error;
 /// What the program is asked to do.
 #[derive(Clone, Copy, Debug, PartialEq, Eq)]
 pub enum Job {
+    /// Reads an assembler text and writes the hex of its program.
+    Asm,
+    /// Reads the hex of a program and writes its listing.
+    Dis,
     /// Reads a trace and writes what answers it.
     Replay,
 }

@@ -8,6 +8,7 @@ pub mod program;
 pub mod status;
 #[cfg(test)]
 mod tests;
+pub mod whole;
 pub mod words;
 
 pub use bq_trace::{Counted, ReplayFault, Session, replay};

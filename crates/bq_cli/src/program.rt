@@ -1,11 +1,29 @@
 //! The program and its commands, as clap takes them.
 ghost use Rattle.std.specs.Prelude.{◌≡◌, IfOk, false};
-ghost use Rattle.clap.specs.Words.{app_of};
+ghost use Rattle.clap.specs.Words.{app_of, with_subcommand};
 ghost use Rattle.clap.specs.declared.builder.command.Command.TheViews.{out-Command as fields_of};
-ghost use Rattle.bq_cli.specs.Program.{program, replay_app};
+ghost use Rattle.bq_cli.specs.Program.{program, asm_app, dis_app, replay_app};
 
 use clap::Command;
 use std::alloc::{AllocError, Global};
+
+fn asm_command<'a>(alloc: Global) -> Command<'a>
+    ensures app { app_of result ≡ asm_app }
+    ensures local { (fields_of result).has_globals ≡ false }
+{
+    Command::new(alloc, "asm").about(
+        "Reads an assembler text from standard input and writes the hex of its program",
+    )
+}
+
+fn dis_command<'a>(alloc: Global) -> Command<'a>
+    ensures app { app_of result ≡ dis_app }
+    ensures local { (fields_of result).has_globals ≡ false }
+{
+    Command::new(alloc, "dis").about(
+        "Reads the hex of a program from standard input and writes its listing",
+    )
+}
 
 fn replay_command<'a>(alloc: Global) -> Command<'a>
     ensures app { app_of result ≡ replay_app }
@@ -16,6 +34,14 @@ fn replay_command<'a>(alloc: Global) -> Command<'a>
     )
 }
 
+/// A program with one command more.
+fn with_command<'a>(program: Command<'a>, command: Command<'a>) -> Result<Command<'a>, AllocError>
+    requires local { (fields_of command).has_globals ≡ false }
+    ensures { IfOk result (λ p. app_of p ≡ with_subcommand (app_of program.entry) (app_of command.entry).top) }
+{
+    program.subcommand(command)
+}
+
 /// The program with its commands. The words come without its name.
 pub fn program<'a>(alloc: Global) -> Result<Command<'a>, AllocError>
     ensures { IfOk result (λ c. app_of c ≡ program) }
@@ -23,7 +49,9 @@ pub fn program<'a>(alloc: Global) -> Result<Command<'a>, AllocError>
     let command = Command::new(alloc, "bqsim")
         .about("Simulates processors that choose among their tasks as CFS and EEVDF do")
         .version("0.1.0");
-    let command = command.subcommand(replay_command(alloc))?;
+    let command = with_command(command, asm_command(alloc))?;
+    let command = with_command(command, dis_command(alloc))?;
+    let command = with_command(command, replay_command(alloc))?;
     let command = command.bin_name("bqsim")?;
     Ok(
         command

@@ -55,3 +55,33 @@ fn tells_other_words(rt: HostRuntime) -> Result<(), Fail> {
     }
     Ok(())
 }
+
+/// Words, what is read, the exit status, and what is written.
+const DONE: [(&str, &str, u8, &str); 5] = [
+    (
+        "asm",
+        "mov64 r0, 1\nja end\nend:\nexit\n",
+        0,
+        "b70000000100000005000000000000009500000000000000\n",
+    ),
+    ("asm", "mov64 r11, 1", 1, "refused A1 1\n"),
+    ("dis", "37010100fdffffff", 0, "sdiv64 r1, -3\n"),
+    ("dis", "b7b1000000000000", 1, "refused I4 0\n"),
+    ("dis", "zz", 1, "refused hex\n"),
+];
+
+#[test]
+fn assembles_and_lists(rt: HostRuntime) -> Result<(), Fail> {
+    for (word, read, status, written) in DONE {
+        let Ok(job) = job(rt.alloc(), &[word]) else {
+            return Err(Fail::from("the word was refused"));
+        };
+        let mut input = Counted::new(read.as_bytes());
+        let mut output = Counted::new(Vec::new(rt.alloc()));
+        let outcome = perform(rt.alloc(), &job, &mut input, &mut output);
+        assert_eq!(rt; exit_status(&outcome), status);
+        let output = output.into_inner();
+        assert_eq!(rt; from_utf8(output.as_slice())?, written);
+    }
+    Ok(())
+}

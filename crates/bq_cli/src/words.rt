@@ -20,6 +20,12 @@ pub fn job<'a>(alloc: Global, words: &'a [&'a str]) -> Result<Job, JobFault>
         → (job : Job) → IsJob (map (λ w. w.now) words.entry.now) job → e ≡ JobFault.OutOfMemory) }
 {
     let matches = found(alloc, words)?;
+    if let Some(_) = matches.subcommand_matches("asm") {
+        return Ok(Job::Asm);
+    }
+    if let Some(_) = matches.subcommand_matches("dis") {
+        return Ok(Job::Dis);
+    }
     if let Some(_) = matches.subcommand_matches("replay") {
         return Ok(Job::Replay);
     }
@@ -53,7 +59,7 @@ fn refusal(alloc: Global, error: &clap::Error) -> JobFault
 
 /// The fault of words with no command.
 fn no_command(alloc: Global) -> JobFault {
-    match format!(in alloc; "error: a command is needed: replay\n") {
+    match format!(in alloc; "error: a command is needed: asm, dis or replay\n") {
         Ok(text) => JobFault::Words(text),
         Err(_) => JobFault::OutOfMemory,
     }
