@@ -3,7 +3,7 @@ ghost use Rattle.std.specs.Prelude.{◌≡◌, ◌≤◌, ◌<◌, ◌+◌, [], 
 ghost use Rattle.bq_asm.specs.Lines.{Line, label_set, said, line_of, line_said, Instruction, Label};
 ghost use Rattle.bq_asm.specs.Operands.{texts};
 
-use crate::fault::{AsmFault, Cause};
+use crate::fault::{AsmFault, Cause, refusal};
 use crate::instruction::instruction_of;
 use crate::jump::{Jump, push_jump, set_jumps, target_of};
 use crate::line::{is_label, without_comment, words};
@@ -49,10 +49,7 @@ impl<'a> Draft<'a> {
         ensures fault { IfErr result (RefusesLine self.old number (line_said line.entry.now)) }
     {
         let Some(words) = words(without_comment(line)) else {
-            return Err(AsmFault::At {
-                line: number,
-                cause: Cause::Word,
-            });
+            return Err(refusal(number, Cause::Word));
         };
         self.take_words(number, words.as_slice())
     }
@@ -65,10 +62,7 @@ impl<'a> Draft<'a> {
         ensures fault { IfErr result (Fails self.entry) }
     {
         if self.slots == 0 {
-            return Err(AsmFault::At {
-                line: 0,
-                cause: Cause::Slots,
-            });
+            return Err(refusal(0, Cause::Slots));
         }
         let Draft {
             labels,
@@ -78,10 +72,7 @@ impl<'a> Draft<'a> {
         } = self;
         match set_jumps(&labels, jumps.as_slice(), insns.as_mut_slice()) {
             Ok(()) => Ok(insns),
-            Err(line) => Err(AsmFault::At {
-                line,
-                cause: Cause::LabelMissing,
-            }),
+            Err(line) => Err(refusal(line, Cause::LabelMissing)),
         }
     }
 
@@ -103,16 +94,10 @@ impl<'a> Draft<'a> {
         ensures fault { IfErr result (RefusesLine self.old number (Label name.entry.now)) }
     {
         if !is_label(name) {
-            return Err(AsmFault::At {
-                line: number,
-                cause: Cause::Word,
-            });
+            return Err(refusal(number, Cause::Word));
         }
         if self.labels.insert(name, self.slots)?.is_some() {
-            return Err(AsmFault::At {
-                line: number,
-                cause: Cause::LabelTwice,
-            });
+            return Err(refusal(number, Cause::LabelTwice));
         }
         Ok(())
     }
@@ -128,19 +113,11 @@ impl<'a> Draft<'a> {
     {
         let insn = match instruction_of(first, operands) {
             Ok(insn) => insn,
-            Err(cause) => {
-                return Err(AsmFault::At {
-                    line: number,
-                    cause,
-                });
-            }
+            Err(cause) => return Err(refusal(number, cause)),
         };
         let next = self.slots + insn.slots();
         if next > SLOTS {
-            return Err(AsmFault::At {
-                line: number,
-                cause: Cause::Slots,
-            });
+            return Err(refusal(number, Cause::Slots));
         }
         let index = self.insns.len();
         push_jump(

@@ -1,4 +1,6 @@
 //! Why a text is refused.
+ghost use Rattle.std.specs.Prelude.{◌≡◌};
+
 use std::alloc::{AllocError, AllocFailed};
 use thiserror::Error;
 
@@ -29,6 +31,13 @@ pub enum AsmFault {
     /// A growth was refused.
     #[error("out of memory")]
     OutOfMemory,
+}
+
+/// The refusal of a line.
+pub fn refusal(line: usize, cause: Cause) -> AsmFault
+    ensures { result ≡ AsmFault.At line cause }
+{
+    AsmFault::At { line, cause }
 }
 
 impl From<AllocError> for AsmFault {

@@ -1,5 +1,8 @@
 use Rattle.std.proofs.Common.{◌+◌, ◌<◌, ◌≤◌, ◌∙◌, sym, ap, arith, subst, length, map, inr, drop, Ok, Err}
 use Rattle.std.proofs.lemmas.List.{take_at}
+use Rattle.bq_asm.specs.declared.fault.Cause.TheVariants.{LabelMissing}
+use Rattle.bq_asm.specs.declared.fault.AsmFault.TheVariants.{At}
+use Rattle.bq_asm.specs.Draft.{Fails}
 use Rattle.bq_asm.specs.Assembly.{places_from, Says}
 use Rattle.bq_asm.specs.Faults.{slots_in}
 use Rattle.bq_asm.specs.Jumps.{awaited_by, places_of, jumps_from, drafts_of, with_jumps}
@@ -33,9 +36,11 @@ returns-in-Ok-clause-ok c = λ lines is clean.
     (some, subst (Says (places_from 0 lines) 0 lines) (sym p.1 ∙ sym all) p.2)
 
 pub returns-clause-fault : goal.returns-clause-fault
-returns-clause-fault c = λ lines is clean.
+returns-clause-fault c =
     let places = places_of c.args.self.labels in
+    let missing : Fails c.args.self (At c.in-Err.line LabelMissing) = λ lines is clean.
     let set = (λ i. with_jumps places (map awaited_by (sym c.as_slice.ensures.value i)) (sym c.as_mut_slice.ensures.value i)) ∙ c.in-Err.ensures.missing in
     let p = passes_all lines places (map awaited_by c.args.self.jumps.items) c.args.self.insns.items (Err c.in-Err.line) clean is.labels is.jumps is.insns set in
     let some : 0 < slots_in lines = let same = is.slots in let more = c.if-self-eq0.false in omega (arith, same, more) in
-    inr (some, first_from_missing lines c.in-Err.line p)
+    inr (some, first_from_missing lines c.in-Err.line p) in
+    subst (Fails c.args.self) (sym c.refusal-in-Err.ensures) missing

@@ -1,21 +1,22 @@
-use Rattle.std.proofs.Common.{◌∙◌, sym, ap, refl, true, false, is_some, map}
+use Rattle.std.proofs.Common.{◌∙◌, sym, ap, refl, true, false, is_some, map, subst, List, Some, ◌≡◌}
 use Rattle.indexmap.proofs.CallerLemmas.{insert_entry-new}
-use Rattle.bq_asm.specs.Lines.{Label}
-use Rattle.bq_asm.specs.Faults.{labels_in}
+use Rattle.bq_asm.specs.declared.fault.Cause.TheVariants.{LabelTwice}
+use Rattle.bq_asm.specs.Draft.{Describes, RefusesLine}
+use Rattle.bq_asm.specs.Lines.{Line, Label}
+use Rattle.bq_asm.specs.Faults.{labels_in, cause_at}
 use Rattle.bq_asm.specs.Assembly.{places_from}
 use Rattle.bq_asm.specs.Jumps.{awaited_by}
 use Rattle.bq_asm.proofs.DraftLemmas.{label_known, labels_more, slots_kept, drafts_kept, jumps_kept, cause_of_label-is, none_from_is_some}
 use Rattle.bq_asm.proofs.draft.Draft.set_label.Goals as goal
 
 pub returns-then-is_some-clause-fault : goal.returns-then-is_some-clause-fault
-returns-then-is_some-clause-fault c = (
-  refl,
-  λ before is.
-      let name = c.args.name.now in
-      let known = label_known name c.args.self.now.labels.entries (places_from 0 before) is.labels in
-      let found = sym (ap is_some c.in_ok-insert.ensures.old) ∙ sym c.is_some.ensures ∙ c.if-is_some.true in
-      cause_of_label-is (labels_in before) name true (sym c.is_label.ensures ∙ c.if-not-is_label.false) (sym known ∙ found),
-)
+returns-then-is_some-clause-fault c =
+    let name = c.args.name.now in
+    let twice : (before : List Line) → Describes before c.args.self.now → cause_at before (Label name) ≡ Some LabelTwice = λ before is.
+    let known = label_known name c.args.self.now.labels.entries (places_from 0 before) is.labels in
+    let found = sym (ap is_some c.in_ok-insert.ensures.old) ∙ sym c.is_some.ensures ∙ c.if-is_some.true in
+    cause_of_label-is (labels_in before) name true (sym c.is_label.ensures ∙ c.if-not-is_label.false) (sym known ∙ found) in
+    subst (RefusesLine c.args.self.now c.args.number (Label name)) (sym c.refusal-then-is_some.ensures) (refl, twice)
 
 pub returns-clause-ok : goal.returns-clause-ok
 returns-clause-ok c = λ before is count.

@@ -1,13 +1,18 @@
-use Rattle.std.proofs.Common.{◌≡◌, ◌<◌, ◌∙◌, ap, refl, subst, length}
+use Rattle.std.proofs.Common.{sym, ◌≡◌, ◌<◌, ◌∙◌, ap, refl, subst, length, List, Some}
 use Rattle.std.specs.Result.{OnOk, IfErr}
-use Rattle.bq_asm.specs.Lines.{words, line_of, line_said}
+use Rattle.bq_asm.specs.Lines.{words, line_of, line_said, Line}
 use Rattle.bq_asm.specs.Operands.{texts}
-use Rattle.bq_asm.specs.Draft.{TakesLine, RefusesLine}
+use Rattle.bq_asm.specs.Draft.{Describes, TakesLine, RefusesLine}
+use Rattle.bq_asm.specs.Faults.{cause_at}
+use Rattle.bq_asm.specs.declared.fault.Cause.TheVariants.{Word}
 use Rattle.bq_asm.proofs.DraftLemmas.{many_words}
 use Rattle.bq_asm.proofs.draft.Draft.take_line.Goals as goal
 
 pub returns-in_default-clause-fault : goal.returns-in_default-clause-fault
-returns-in_default-clause-fault c = (refl, λ before is. many_words before _ (subst (λ text. 4 < length (words text)) c.without_comment.ensures c.in_default.ensures))
+returns-in_default-clause-fault c =
+    let many : (before : List Line) → Describes before c.args.self.now → cause_at before (line_said c.args.line.now) ≡ Some Word = λ before is.
+    many_words before _ (subst (λ text. 4 < length (words text)) c.without_comment.ensures c.in_default.ensures) in
+    subst (RefusesLine c.args.self.now c.args.number (line_said c.args.line.now)) (sym c.refusal.ensures) (refl, many)
 
 pub returns-clause-ok : goal.returns-clause-ok
 returns-clause-ok c =
