@@ -1,5 +1,5 @@
 -- The mark never falls.
-use Rattle.std.proofs.Common.{ℕ, ◌≤◌, max, List, Option, Some, None, arith}
+use Rattle.std.proofs.Common.{ℕ, ◌≤◌, max, Option, Some, None, arith}
 use Rattle.std.specs.Option.{option_map_or}
 use Rattle.bq_disc.specs.Tasks.{Task}
 use Rattle.bq_cfs.specs.Cfs.{MarkNeverFalls, least}

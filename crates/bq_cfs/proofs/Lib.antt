@@ -1,1 +1,3 @@
 pub mod CfsLaws
+pub mod BoundFacts
+pub mod SpreadBegins
