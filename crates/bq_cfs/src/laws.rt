@@ -1,7 +1,7 @@
 //! Laws of CFS: each is the contract of a function that does nothing.
 ghost use Rattle.bq_disc.specs.Discipline.{IsLawful};
 ghost use Rattle.bq_cfs.specs.Cfs.{MarkNeverFalls, cfs};
-ghost use Rattle.bq_cfs.specs.Spread.{BeginsWithin};
+ghost use Rattle.bq_cfs.specs.Spread.{BeginsWithin, HistoryStaysWithin, StaysWithin};
 
 /// A choice exists exactly where there is a task, it is one of the tasks, and equal sets give equal choices.
 #[tactic(auto, using(crate::specs::Lawful::cfs_lawful))]
@@ -15,8 +15,22 @@ pub fn mark_never_falls()
     ensures { MarkNeverFalls }
 {}
 
-/// Where no virtual time present is beyond V, the processor is within V and any rise of its clock.
+/// Where no virtual time present is beyond V, the processor is within V and d, for any d: the current task's virtual time
+/// is at most the bound, which is the greater of V and 1,000,000 ns beyond the least virtual time present, and no virtual
+/// time present is beyond the bound by more than d ns take at weight 15.
 #[tactic(auto, using(crate::proofs::SpreadBegins::begins_within))]
 pub fn begins_within()
     ensures { BeginsWithin }
+{}
+
+/// A Tick or a Block at which the clock rises by at most d ns keeps a processor within V and d, where the rule alone
+/// decides whether the current task gives way, each weight present is from 15 to 88761 and no virtual time present is
+/// beyond 2^62. These premises are kept too.
+pub fn stays_within()
+    ensures { StaysWithin }
+{}
+
+/// So does every list of such events, one after another.
+pub fn history_stays_within()
+    ensures { HistoryStaysWithin }
 {}
