@@ -33,6 +33,7 @@ IsLevel-charged V d n time t h under le =
     let ends = h.ends in
     record { near = omega arith; reach = omega arith; weight = h.weight; ends = omega arith }
 
+-- what is known of each of some tasks, joined
 level_of : (V d n : ℕ) (xs : List Task) → AllByRecursion (IsNear V n) xs → AllByRecursion (λ t. t.v ≤ n + vdelta_of d 15) xs → AllByRecursion (λ t. IsWeight t.weight) xs → AllByRecursion (λ t. t.v ≤ 2 ^ 62) xs → AllByRecursion (IsLevel V d n) xs
 level_of V d n [] near reach weight ends = tt
 level_of V d n (x ∷ xs) near reach weight ends = (

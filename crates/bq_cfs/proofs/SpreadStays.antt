@@ -25,11 +25,13 @@ use Rattle.bq_cfs.proofs.LevelFacts.{IsLevel, IsLevel-charged, level}
 abbrev RunsNear : Option Task → List Task → Type 0
 RunsNear o q = IfSome o (λ m. AllByRecursion (λ t. m.v ≤ t.v + 1000000) (present o q))
 
+-- so it is within the bound
 current_within : (V : ℕ) (o : Option Task) (q : List Task) → RunsNear o q → IfSome o (λ t. t.v ≤ bound V (present o q))
 current_within V None q h = tt
 current_within V (Some m) q h =
     at_most_bound V m.v m q (All-from_recursion (IsNear V m.v) (m ∷ q) (weaker (λ (t : Task). m.v ≤ t.v + 1000000) (IsNear V m.v) (λ t k. omega arith) (m ∷ q) h))
 
+-- and each task is within it and the time that d takes
 each_within : (V d n : ℕ) (xs : List Task) → AllByRecursion (IsLevel V d n) xs → All (λ t. t.v ≤ bound V xs + vdelta_of d 15) xs
 each_within V d n [] h = All-from_recursion (λ (t : Task). t.v ≤ bound V [] + vdelta_of d 15) [] tt
 each_within V d n (x ∷ xs) h =
@@ -38,9 +40,11 @@ each_within V d n (x ∷ xs) h =
     let reaches : Task → Type 0 = λ t. t.v ≤ bound V (x ∷ xs) + vdelta_of d 15 in
     All-from_recursion reaches (x ∷ xs) (weaker (IsLevel V d n) reaches (λ t l. let reach = l.reach in omega arith) (x ∷ xs) h)
 
+-- the processor keeps what the law promises
 abbrev Stays : ℕ → ℕ → Running → Type 0
 Stays V d p = IsSound p × IsWithin V d p
 
+-- it does so where what was known of each task holds of those that are left, and the task that runs is near them
 stays : (V d n : ℕ) (p : Running) → HasDistinctIds (present_at p) → AllByRecursion (IsLevel V d n) (present_at p) → RunsNear p.current p.queue → Stays V d p
 stays V d n p distinct h runs =
     let xs = present_at p in (
@@ -54,12 +58,14 @@ stays V d n p distinct h runs =
 
 -- Nothing runs, and the queue's choice starts
 
+-- with distinct ids, the least task is the one of its id
 least_is_found : (x : Task) (xs : List Task) → HasDistinctIds (x ∷ xs) → (let m = former runs_before x (least xs) in with_id m.id (x ∷ xs) ≡ Some m)
 least_is_found x xs d =
     let m = former runs_before x (least xs) in
     let c = first_by-member runs_before (x ∷ xs) in
     with_id-Contains (x ∷ xs) m c.0 d c.1 c.2
 
+-- a processor where nothing runs
 abbrev idle : List Task → ℕ → ℕ → Running
 idle q kept last = record { queue = q; kept = kept; current = None; last = last }
 
@@ -76,6 +82,7 @@ start_stays V d n kept last (x ∷ xs) distinct h =
 
 -- The current task keeps running, or gives way
 
+-- a processor where u runs
 abbrev busy : List Task → ℕ → Task → ℕ → Running
 busy q kept u last = record { queue = q; kept = kept; current = Some u; last = last }
 
@@ -123,6 +130,7 @@ decided_stays V d n kept last q u false e distinct h = kept_stays V d n kept las
 
 -- Events
 
+-- the same of a processor by its parts
 event_stays : (V d : ℕ) (q : List Task) (kept : ℕ) (o : Option Task) (last : ℕ) (e : Event) → (let p : Running = record { queue = q; kept = kept; current = o; last = last } in IsSound p → IsWithin V d p → rise p e ≤ d → Stays V d (passed p e))
 event_stays V d q kept None last (Tick now) s w le =
     let p = idle q kept last in
@@ -142,9 +150,11 @@ event_stays V d q kept (Some t) last (Block now) s w le =
     let c = charge cfs p now in
     start_stays V d (bound V (t ∷ q)) c.kept c.last q s.distinct.1 (level V d p s w).1
 
+-- an event keeps a processor within its bound
 pub stays_within : StaysWithin
 stays_within V d p e = event_stays V d p.queue p.kept p.current p.last e
 
+-- and so does any number of them
 pub history_stays_within : HistoryStaysWithin
 history_stays_within V d p [] s w rises = (s, w)
 history_stays_within V d p (e ∷ es) s w rises =
