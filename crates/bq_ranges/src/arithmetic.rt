@@ -1,5 +1,4 @@
-// Each arithmetic instruction on ranges.
-
+//! Each arithmetic instruction on ranges.
 ghost use Rattle.std.specs.Prelude.{◌≡◌, ◌+◌, ◌-◌, ◌*◌, ◌/◌, ◌%◌, ◌^◌, ◌<◌, ◌≤◌, ℕ, bit_and, bit_or, bit_xor};
 ghost use Rattle.bq_insn.specs.Meaning.{alu_result, modulus, bit_count, operate};
 ghost use Rattle.bq_ranges.specs.Within.{Within};
@@ -55,7 +54,7 @@ fn outcomes(width: Width, op: Operation, a: Range, b: Range) -> Range
     }
 }
 
-/// The wrapping sums.
+/// The wrapping sums; the least range where none wraps.
 pub fn add(width: Width, a: Range, b: Range) -> Range
     requires left { a.hi < modulus width }
     requires right { b.hi < modulus width }

@@ -1,5 +1,4 @@
-// NEG, sign extension and byte order on ranges.
-
+//! NEG, sign extension and byte order on ranges.
 ghost use Rattle.std.specs.Prelude.{◌≡◌, ◌+◌, ℕ};
 ghost use Rattle.bq_insn.specs.Meaning.{negated, extended, reordered, modulus_of_bits};
 ghost use Rattle.bq_ranges.specs.Within.{Within};

@@ -1,5 +1,4 @@
-// What a branch says of its operand.
-
+//! What a branch says of its operand.
 ghost use Rattle.std.specs.Prelude.{◌≡◌, ◌≤◌, ◌<◌, ◌≢◌, ◌↔◌, ℕ, IsTrue};
 ghost use Rattle.bq_insn.specs.Meaning.{taken};
 ghost use Rattle.bq_ranges.specs.Within.{Within, NarrowsTo, EndsAre};

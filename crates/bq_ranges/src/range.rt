@@ -1,11 +1,10 @@
-// The interval, and the intervals that need no instruction.
-
+//! The interval, and the intervals that need no instruction.
 ghost use Rattle.std.specs.Prelude.{◌≤◌, ◌<◌, ◌^◌, ◌+◌, ◌≡◌};
 ghost use Rattle.bq_insn.specs.Meaning.{modulus};
 
 use bq_insn::{Bits, Width};
 
-/// The words from `lo` to `hi`, both included.
+/// The words from `lo` to `hi`, both included; there is always at least one.
 #[derive(Clone, Copy, Debug, PartialEq, Eq)]
 pub struct Range {
     pub lo: u64,

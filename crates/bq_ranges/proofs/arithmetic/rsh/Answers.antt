@@ -3,4 +3,4 @@ use Rattle.bq_ranges.proofs.Outcomes.{shifts_down}
 use Rattle.bq_ranges.proofs.arithmetic.rsh.Goals as goal
 
 pub returns-then-is_single-clause-holds : goal.returns-then-is_single-clause-holds
-returns-then-is_single-clause-holds c = λ x y p q. rw c.bits.ensures (shifts_down c.args.width c.args.a c.args.b.lo x y (omega (arith, c.if-is_single.ensures)) p)
+returns-then-is_single-clause-holds c = λ x y p q. rw c.bits.ensures (shifts_down c.args.width c.args.a c.args.b.lo x y (omega arith) p)
