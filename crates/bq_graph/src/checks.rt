@@ -1,5 +1,4 @@
-// The checks of the control graph and of single instructions, one after the other.
-
+//! The checks of the control graph and of single instructions, one after the other.
 ghost use Rattle.std.specs.Prelude.{◌≡◌, ◌<◌, ◌≤◌, ℕ, length, IsTrue, ◌↔◌, OnOk, IfErr, Some, None, slice_index_or};
 ghost use Rattle.bq_maps.specs.Machine.{instruction_at};
 ghost use Rattle.bq_graph.specs.Edges.{IsWhole};
@@ -15,7 +14,9 @@ use bq_insn::Insn;
 /// Where a program is at fault, and why.
 #[derive(Clone, Copy, Debug, PartialEq, Eq)]
 pub struct Fault {
+    /// The slot at which the faulty instruction begins.
     pub slot: usize,
+    /// What is wrong there.
     pub cause: Cause,
 }
 
@@ -82,7 +83,10 @@ fn clear(slots: &[Option<Insn>], most: &[Option<u32>], cause: Cause) -> Result<(
     Ok(())
 }
 
-/// All checks in their order. The list, blank at first, has a place for each slot.
+/// All checks in their order: jumps, the end, unreached instructions, register 10, helpers, counter calls.
+///
+/// `most`, blank at first, has a place for each slot. Where no fault is found, it has the greatest number of counter
+/// calls before each slot; else the answer is the first check that finds a fault, and the least slot with it.
 pub fn check(slots: &[Option<Insn>], most: &mut [Option<u32>]) -> Result<(), Fault>
     requires some { 0 < length slots.now }
     requires short { length slots.now ≤ 4096 }

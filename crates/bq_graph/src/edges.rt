@@ -1,5 +1,4 @@
-// Where control may go from a slot.
-
+//! Where control may go from a slot.
 ghost use Rattle.std.specs.Prelude.{◌≡◌, ◌<◌, ◌≤◌, ◌+◌, ℕ, length, IfSome, IfNone, IsTrue, ◌↔◌, Some};
 ghost use Rattle.bq_insn.specs.Slots.{slots_of};
 ghost use Rattle.bq_maps.specs.Machine.{LeadsTo, instruction_at};
@@ -7,7 +6,7 @@ ghost use Rattle.bq_graph.specs.Edges.{distance_of, goes_on, IsStart};
 
 use bq_insn::Insn;
 
-/// How far a jump goes.
+/// How far a jump goes, in slots from the one after it (RFC 9669 section 4.3); `None` where the instruction is no jump.
 pub fn distance(insn: Insn) -> Option<i64>
     ensures { result ≡ distance_of insn }
 {
@@ -19,7 +18,7 @@ pub fn distance(insn: Insn) -> Option<i64>
     }
 }
 
-/// Whether control may go on to the next instruction.
+/// Whether control may go on to the next instruction: not from an EXIT or a jump without a condition.
 pub fn may_go_on(insn: Insn) -> bool
     ensures { result ≡ goes_on insn }
 {
@@ -29,7 +28,7 @@ pub fn may_go_on(insn: Insn) -> bool
     }
 }
 
-/// The instruction that begins at a slot.
+/// The instruction that begins at a slot; `None` at the second slot of a wide one.
 pub fn instruction(slots: &[Option<Insn>], slot: usize) -> Option<Insn>
     requires { slot < length slots.now }
     ensures { result ≡ instruction_at slots.now slot }
@@ -58,6 +57,8 @@ pub fn landing(slots: &[Option<Insn>], slot: usize, distance: i64) -> Option<usi
 /// The slots that control may go to from a slot.
 #[derive(Clone, Copy)]
 pub struct Targets {
+    /// The next instruction, where control may go on to it.
     pub next: Option<usize>,
+    /// Where the instruction jumps to, if it is a jump.
     pub jump: Option<usize>,
 }

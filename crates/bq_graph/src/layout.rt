@@ -1,5 +1,4 @@
-// Instructions over the slots of a program.
-
+//! Instructions over the slots of a program.
 ghost use Rattle.std.specs.Prelude.{◌≡◌, ◌-◌, ◌∷◌, ◌++◌, OnOk, IfOk, Some, None, replicate};
 ghost use Rattle.bq_insn.specs.Slots.{slots_of, spread};
 

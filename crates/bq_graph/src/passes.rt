@@ -1,5 +1,4 @@
-// One pass forwards for the calls on the way to each slot, and one backwards for the heights.
-
+//! One pass forwards for the calls on the way to each slot, and one backwards for the heights.
 ghost use Rattle.std.specs.Prelude.{◌≡◌, ◌<◌, ◌≤◌, ◌+◌, ◌⊎◌, ℕ, ℤ, length, IfSome, IfNone, Some, None, slice_index, slice_index_or, if◌then◌else◌};
 ghost use Rattle.bq_insn.specs.Slots.{slots_of};
 ghost use Rattle.bq_maps.specs.Machine.{LeadsTo, instruction_at};
@@ -75,6 +74,7 @@ fn calls(insn: Insn) -> u32
     if is_counter_call(insn) { 1 } else { 0 }
 }
 
+/// The number that the list has at a slot.
 pub fn count_at(most: &[Option<u32>], slot: usize) -> Option<u32>
     requires { slot < length most.now }
     ensures { result ≡ slice_index_or most.now slot None }
@@ -125,7 +125,7 @@ fn pass_on(slots: &[Option<Insn>], slot: usize, most: &mut [Option<u32>])
     raise(most, targets.jump, count);
 }
 
-/// The greatest number of counter calls on the way to each slot.
+/// The greatest number of counter calls before each slot on a path from slot 0; `None` where no path leads there.
 pub fn count_calls(slots: &[Option<Insn>], most: &mut [Option<u32>])
     requires some { 0 < length slots.now }
     requires short { length slots.now ≤ 4096 }
@@ -167,7 +167,9 @@ fn height(slots: &[Option<Insn>], slot: usize, heights: &[u32]) -> u32
     1 + next.max(jump)
 }
 
-/// The number of instructions on the longest path from each slot to an EXIT.
+/// The number of instructions on the longest path from each slot to an EXIT, both included; a wide one counts once.
+///
+/// At slot 0 it is the budget of the program.
 pub fn measure(slots: &[Option<Insn>], heights: &mut [u32])
     requires short { length slots.now ≤ 4096 }
     requires sound { IsSound slots.now }

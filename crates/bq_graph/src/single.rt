@@ -1,5 +1,4 @@
-// Faults that one instruction has by itself.
-
+//! Faults that one instruction has by itself.
 ghost use Rattle.std.specs.Prelude.{◌≡◌, ◌≢◌, ◌<◌, ◌≤◌, ◌+◌, ℕ, length, IsTrue, ◌↔◌, Some};
 ghost use Rattle.bq_maps.specs.Machine.{instruction_at};
 ghost use Rattle.bq_graph.specs.Paths.{asks_counter};
@@ -32,7 +31,7 @@ pub fn is_known_helper(helper: i32) -> bool
     helper == 1 || helper == 2 || helper == 5 || helper == 8 || helper == 100 || helper == 101
 }
 
-/// Whether an instruction asks a counter of the machine.
+/// Whether an instruction asks a counter of the machine: helper 100 adds to one, and helper 101 reads one.
 pub fn is_counter_call(insn: Insn) -> bool
     ensures { result ≡ asks_counter insn }
 {
@@ -42,6 +41,7 @@ pub fn is_counter_call(insn: Insn) -> bool
     }
 }
 
+/// Whether the instruction is a jump that leads to no later instruction.
 pub fn is_bad_jump(slots: &[Option<Insn>], slot: usize, insn: Insn) -> bool
     requires here { instruction_at slots.now slot ≡ Some insn }
     requires inside { slot < length slots.now }
@@ -57,6 +57,7 @@ pub fn is_bad_jump(slots: &[Option<Insn>], slot: usize, insn: Insn) -> bool
     }
 }
 
+/// Whether control goes on past the end from the instruction.
 pub fn runs_out(slots: &[Option<Insn>], slot: usize, insn: Insn) -> bool
     requires here { instruction_at slots.now slot ≡ Some insn }
     requires short { slot < 4096 }
@@ -65,6 +66,7 @@ pub fn runs_out(slots: &[Option<Insn>], slot: usize, insn: Insn) -> bool
     may_go_on(insn) && slot + insn.slots() >= slots.len()
 }
 
+/// Whether the instruction writes register 10, the address of the stack's end.
 pub fn writes_frame(slots: &[Option<Insn>], slot: usize, insn: Insn) -> bool
     requires here { instruction_at slots.now slot ≡ Some insn }
     ensures { IsTrue result ↔ WritesFrame slots.now slot }
@@ -75,6 +77,7 @@ pub fn writes_frame(slots: &[Option<Insn>], slot: usize, insn: Insn) -> bool
     }
 }
 
+/// Whether the instruction calls a helper that there is not.
 pub fn calls_unknown(slots: &[Option<Insn>], slot: usize, insn: Insn) -> bool
     requires here { instruction_at slots.now slot ≡ Some insn }
     ensures { IsTrue result ↔ CallsUnknown slots.now slot }

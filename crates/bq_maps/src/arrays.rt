@@ -1,5 +1,4 @@
-// The maps of a program.
-
+//! The maps of a program.
 ghost use Rattle.std.specs.Prelude.{◌≡◌, ◌≤◌, ◌+◌, length, slice_range, replicate, IfOk};
 ghost use Rattle.bq_maps.specs.Memory.{overwrite};
 
@@ -30,7 +29,7 @@ impl Maps {
     ghost use Rattle.std.specs.Bool.{OnTrue, OnFalse};
     ghost use Rattle.bq_maps.specs.Arrays.{HasEntry, value_size_of, first_of, bytes_of, entry_of, with_bytes, HaveShapes};
 
-    /// Maps of these shapes, all bytes 0.
+    /// Maps of these shapes, all bytes 0. Want of memory is the only error.
     pub fn new(alloc: Global, shapes: &[MapShape]) -> Result<Maps, AllocError>
         ensures shapes { IfOk result (λ m. m.shapes ≡ shapes.now) }
         ensures zero { IfOk result (λ m. (n i : ℕ) → slice_index (bytes_of m n) i ≡ 0) }
@@ -55,7 +54,7 @@ impl Maps {
         self.shapes.as_slice()
     }
 
-    /// Whether map `m` has an entry `k`.
+    /// Whether there is a map `m`, and it has an entry `k`.
     pub fn lookup(&self, m: usize, k: u32) -> bool
         ensures { IsTrue result ↔ HasEntry self.now m k }
     {
@@ -111,7 +110,7 @@ impl Maps {
         self.write(m, k as usize * size + at, bytes);
     }
 
-    /// Writes a value into an entry, if it is there; else nothing changes, and the answer is false.
+    /// Writes a value into an entry, if it is there, and answers whether it is; else nothing changes.
     pub fn update(&mut self, m: usize, k: u32, bytes: &[u8]) -> bool
         requires { HasEntry self.old m k → length bytes.now ≡ value_size_of self.old m }
         ensures answer { IsTrue result ↔ HasEntry self.old m k }

@@ -1,18 +1,19 @@
-// Counters that several machines share.
-
+//! Counters that several machines share.
 ghost use Rattle.std.specs.Prelude.{◌<◌};
 ghost use Rattle.bq_maps.specs.declared.board.Call.{Call as Asked};
 
 use std::marker::Model;
 
-/// A call of a counter, with its answer.
+/// A call of a counter, below 64, with its answer: what the counter was before the call.
 #[derive(Clone, Copy, Debug, PartialEq, Eq)]
 pub enum Call {
+    /// Adds the amount, modulo 2^64 (helper 100).
     Add {
         counter: u8,
         amount: u64,
         answer: u64,
     },
+    /// Changes nothing (helper 101).
     Read {
         counter: u8,
         answer: u64,
@@ -47,12 +48,15 @@ impl Default for Call {
     }
 }
 
-/// Sixty-four counters.
+/// Sixty-four counters of 64 bits, which a run asks through this trait alone.
+///
+/// Each implementation says by its relation which call, with which answer, leads from which board to which. Where
+/// others share the counters, an answer may be any word.
 pub trait Board {
     // The call leads from the one board to the other.
     ghost leads: { Self → Asked → Self → Type 0 };
 
-    /// Adds to a counter, and answers what it was.
+    /// Adds an amount to a counter, and answers what it was before.
     fn add(&mut self, counter: u8, amount: u64) -> u64
         requires { counter < 64 }
         ensures { Self.leads self.old (Call.Add counter amount result) self.new };
@@ -63,7 +67,7 @@ pub trait Board {
         ensures { Self.leads self.old (Call.Read counter result) self.new };
 }
 
-/// A board in plain words.
+/// A board in plain words, which nobody shares; sums are taken modulo 2^64.
 #[derive(Drop)]
 pub struct Plain {
     words: [u64; 64],
@@ -89,7 +93,7 @@ impl Plain {
         Plain { words: [0; 64] }
     }
 
-    /// What a counter is.
+    /// What a counter is, without a call.
     pub fn value(&self, counter: u8) -> u64
         requires { counter < 64 }
         ensures { result ≡ slice_index self.now counter }

@@ -1,11 +1,12 @@
-// The helpers that a policy may call.
+//! The helpers that a policy may call.
 
-/// What a call asks of the machine.
+/// What a call asks of the machine (RFC 9669 section 4.3.1): the arguments are in registers 1 to 5, the answer comes in
+/// register 0.
 #[derive(Clone, Copy, Debug, PartialEq, Eq)]
 pub enum Helper {
     /// The address of an entry of a map, or 0.
     Lookup,
-    /// Writes a value into an entry.
+    /// Writes a value into an entry; the answer is 0, or 2^64 - 1 where there is no such entry.
     Update,
     /// The time, in nanoseconds.
     Now,

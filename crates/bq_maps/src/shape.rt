@@ -1,5 +1,4 @@
-// The shape of a map.
-
+//! The shape of a map.
 ghost use Rattle.std.specs.Prelude.{◌≡◌, ◌≤◌, ◌%◌};
 
 /// How many bytes a value has, and how many entries there are.
@@ -7,7 +6,9 @@ ghost use Rattle.std.specs.Prelude.{◌≡◌, ◌≤◌, ◌%◌};
 /// A value has 8 to 256 bytes, in eights, and there are 1 to 256 entries.
 #[derive(Clone, Copy, Debug, PartialEq, Eq)]
 pub struct MapShape {
+    /// The bytes of one value.
     pub value_size: u16,
+    /// The number of entries; their numbers begin at 0.
     pub entries: u16,
     ghost least_size: { 8 ≤ value_size },
     ghost greatest_size: { value_size ≤ 256 },

@@ -30,18 +30,17 @@ fn entries(rt: HostRuntime) -> Result<(), Fail> {
     assert!(rt; maps.lookup(0, 1));
     assert!(rt; !maps.lookup(0, 2));
     assert!(rt; !maps.lookup(1, 0));
-    let value = [1, 2, 3, 4, 5, 6, 7, 8];
+    assert!(rt; maps.update(0, 1, &[1, 2, 3, 4, 5, 6, 7, 8]));
     if maps.lookup(0, 1) {
-        maps.put(0, 1, 0, &value);
-        assert_eq!(rt; maps.entry(0, 1), value.as_slice());
+        maps.put(0, 1, 6, &[9, 10]);
+        assert_eq!(rt; maps.entry(0, 1), [1, 2, 3, 4, 5, 6, 9, 10].as_slice());
     }
     // an update past the entries answers false and changes nothing
-    if !maps.lookup(0, 2) {
-        assert!(rt; !maps.update(0, 2, &value));
-    }
-    if maps.lookup(0, 0) {
-        assert_eq!(rt; maps.entry(0, 0), [0, 0, 0, 0, 0, 0, 0, 0].as_slice());
-    }
+    assert!(rt; !maps.update(0, 2, &[11; 8]));
+    assert_eq!(rt;
+        maps.contents(0),
+        [0, 0, 0, 0, 0, 0, 0, 0, 1, 2, 3, 4, 5, 6, 9, 10].as_slice()
+    );
     Ok(())
 }
 
