@@ -1,7 +1,9 @@
 -- A queue that rises by (v, id) goes on to rise when a task comes or goes.
-use Rattle.std.proofs.Common.{◌≡◌, ℕ, Bool, true, false, cond, eqb, List, [], ◌∷◌, refl, arith}
+use Rattle.std.proofs.Common.{◌≡◌, ℕ, Bool, true, false, cond, eqb, List, [], ◌∷◌, Option, Some, None, refl, ap, sym, arith}
+use Rattle.std.specs.Prelude.{IfSome, find}
 use Rattle.std.proofs.lemmas.Bool.Decides.{nat_tests}
-use Rattle.bq_disc.specs.Tasks.{Task, place, without, runs_before}
+use Rattle.bq_disc.specs.Tasks.{Task, place, without, runs_before, first_by, former}
+use Rattle.bq_disc.specs.Queues.{follows}
 use Rattle.bq_disc.specs.Trees.{IsRising, NoneRunsBefore}
 
 not_before : (x y z : Task) → runs_before x y ≡ false → runs_before y z ≡ false → runs_before x z ≡ false
@@ -47,5 +49,26 @@ IsRising-without j (x ∷ xs) h =
       | true ↦ h.1
       | false ↦ (none_without x j xs h.0, IsRising-without j xs h.1)
     ]
+
+least_by_rest : (x : Task) (o : Option Task) → IfSome o (λ y. runs_before y x ≡ false) → former runs_before x o ≡ x
+least_by_rest x None h = refl
+least_by_rest x (Some y) h = rw h refl
+
+none_of_former : (x y : Task) (o : Option Task) → runs_before y x ≡ false → IfSome o (λ z. runs_before z x ≡ false) → runs_before (former runs_before y o) x ≡ false
+none_of_former x y None h k = h
+none_of_former x y (Some z) h k =
+    elim (runs_before z y) as (λ b. runs_before (cond b z y) x ≡ false) [
+      | true ↦ k
+      | false ↦ h
+    ]
+
+none_first : (x : Task) (xs : List Task) → NoneRunsBefore x xs → IfSome (first_by runs_before xs) (λ y. runs_before y x ≡ false)
+none_first x [] h = tt
+none_first x (y ∷ xs) h = none_of_former x y (first_by runs_before xs) h.0 (none_first x xs h.1)
+
+-- the head of a list that rises is its first task by (v, id)
+pub head-first_by : (xs : List Task) → IsRising xs → find (follows None) xs ≡ first_by runs_before xs
+head-first_by [] h = refl
+head-first_by (x ∷ xs) h = ap (λ y. Some y) (sym (least_by_rest x (first_by runs_before xs) (none_first x xs h.0)))
 
 pub ruleset rising_facts = (IsRising-place, IsRising-without)

@@ -5,9 +5,9 @@ use Rattle.bq_disc.specs.Tasks.{Task, with_id, without}
 use Rattle.bq_disc.specs.Queues.{HasDistinctIds}
 use Rattle.bq_disc.specs.Discipline.{SameSet}
 use Rattle.bq_disc.specs.Totals.{total_weight, weighted_sum}
-use Rattle.bq_disc.specs.Orders.{Contains-first, Contains-later}
+use Rattle.bq_disc.specs.Orders.{Contains-later}
 use Rattle.bq_disc.proofs.QueueFacts.{with_id-none, HasDistinctIds-without, with_id-without_same}
-use Rattle.bq_disc.proofs.SetFacts.{SameById, SameById-SameSet, is_same, same_is, with_id-id, with_id-Contains, Contains-with_id}
+use Rattle.bq_disc.proofs.SetFacts.{SameById, SameById-SameSet, is_same, same_is}
 
 abbrev sum_of : (Task → ℕ) → List Task → ℕ
 sum_of f [] = 0

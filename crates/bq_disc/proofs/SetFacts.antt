@@ -1,12 +1,11 @@
 -- Lists with distinct ids that hold the same tasks have the same first task and the same sums.
-use Rattle.std.proofs.Common.{◌≡◌, ℕ, zero, suc, ◌+◌, ◌<◌, Bool, true, false, cond, eqb, List, [], ◌∷◌, length, Option, Some, None, filter, refl, ap, sym, ◌∙◌, ◌⊎◌, inl, inr, arith}
+use Rattle.std.proofs.Common.{◌≡◌, ℕ, zero, suc, ◌<◌, Bool, true, false, cond, eqb, List, [], ◌∷◌, length, Option, Some, None, refl, ap, sym, ◌∙◌, ◌⊎◌, inl, inr, arith}
 use Rattle.std.specs.Prelude.{Contains, slice_index_or, IfSome}
 use Rattle.std.proofs.lemmas.Bool.Decides.{nat_tests}
-use Rattle.bq_disc.specs.Tasks.{Task, with_id, without, has_id, first_by, former, runs_before, due_before}
+use Rattle.bq_disc.specs.Tasks.{Task, with_id, first_by, former, runs_before, due_before}
 use Rattle.bq_disc.specs.Queues.{HasDistinctIds}
 use Rattle.bq_disc.specs.Discipline.{SameSet}
 use Rattle.bq_disc.specs.Orders.{Contains-first, Contains-later}
-use Rattle.bq_disc.proofs.QueueFacts.{with_id-none, HasDistinctIds-without, with_id-without}
 
 -- each id stands for the same task, or for none, in both
 abbrev pub SameById : List Task → List Task → Type 0

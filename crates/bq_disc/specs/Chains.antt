@@ -11,12 +11,12 @@ task_of n = (out-Node n).entity
 
 -- a node that is linked to none
 abbrev pub IsLone : Node → Type 0
-IsLone (Node' entity left right height totals) = (left ≡ None') × (right ≡ None')
+IsLone (Node' entity left right due totals height) = (left ≡ None') × (right ≡ None')
 
 abbrev mutual
   -- the tasks of a node and of those behind its left links
   pub chain : Node → List Task
-  chain (Node' entity left right height totals) = entity ∷ chain_held left
+  chain (Node' entity left right due totals height) = entity ∷ chain_held left
 
   pub chain_held : Held-Node-left → List Task
   chain_held None' = []
@@ -25,7 +25,7 @@ abbrev mutual
 abbrev mutual
   -- no node of a chain has a right link
   pub IsStraight : Node → Type 0
-  IsStraight (Node' entity left right height totals) = (right ≡ None') × IsStraightHeld left
+  IsStraight (Node' entity left right due totals height) = (right ≡ None') × IsStraightHeld left
 
   pub IsStraightHeld : Held-Node-left → Type 0
   IsStraightHeld None' = Unit {0}

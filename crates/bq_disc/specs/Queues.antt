@@ -21,6 +21,10 @@ abbrev pub HasSmallIds : List Task → Type 0
 HasSmallIds [] = Unit {0}
 HasSmallIds (x ∷ xs) = (x.id < 2 ^ 16) × HasSmallIds xs
 
+-- where a task stands in the order
+abbrev pub key_of : Task → ℕ × ℕ
+key_of t = (t.v, t.id)
+
 -- the first task that comes after some (v, id)
 abbrev pub comes_after : ℕ → ℕ → Task → Bool
 comes_after v id t = nat_lt v t.v || (v == t.v && nat_lt id t.id)

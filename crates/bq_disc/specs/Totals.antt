@@ -1,10 +1,9 @@
--- What some tasks have together.
-use Rattle.std.specs.Prelude.{Bool, ◌≡◌, ℕ, ◌+◌, ◌*◌, ◌/◌, ◌≤◌, ◌^◌, ◌||◌, ◌&&◌, ◌==◌, nat_lt, nat_le, if◌then◌else◌, List, [], ◌∷◌, length, Option, Some, None}
-use Rattle.std.specs.Option.{option_map}
+-- What some tasks have together, and their mean v.
+use Rattle.std.specs.Prelude.{Bool, ℕ, suc, ◌+◌, ◌*◌, ◌/◌, ◌≤◌, ◌^◌, nat_le, List, [], ◌∷◌, length, Option, Some, None}
 use Rattle.std.specs.List.{AllByRecursion}
-use Rattle.bq_disc.specs.Tasks.{Task, first_by, due_before}
-use Rattle.bq_disc.specs.declared.node.Due.{Due}
-use Rattle.bq_disc.specs.declared.node.Totals.{Totals}
+use Rattle.bq_weights.specs.VirtualTime.{IsWeight}
+use Rattle.bq_disc.specs.Tasks.{Task}
+use Rattle.bq_disc.specs.declared.totals.Totals.{Totals}
 
 -- the weights of some tasks together
 abbrev pub total_weight : List Task → ℕ
@@ -16,6 +15,11 @@ abbrev pub weighted_sum : List Task → ℕ
 weighted_sum [] = 0
 weighted_sum (t ∷ xs) = t.weight * t.v + weighted_sum xs
 
+-- the weighted mean of the v of some tasks
+abbrev pub mean_of : List Task → Option ℕ
+mean_of [] = None
+mean_of (x ∷ xs) = Some (weighted_sum (x ∷ xs) / total_weight (x ∷ xs))
+
 -- whether a task's v is at most the mean of tasks that have this weight and this weighted sum together
 abbrev pub is_at_most_mean : ℕ → ℕ → Task → Bool
 is_at_most_mean weight sum t = nat_le (weight * t.v) sum
@@ -24,38 +28,23 @@ is_at_most_mean weight sum t = nat_le (weight * t.v) sum
 abbrev pub NoneBelow : ℕ → List Task → Type 0
 NoneBelow m xs = AllByRecursion (λ (t : Task). m ≤ t.v) xs
 
--- when a task is due
-abbrev pub due_of : Task → Due
-due_of t = record { deadline = t.deadline; id = t.id }
+abbrev pub sums_of : List Task → Totals
+sums_of xs = record { moment = weighted_sum xs; weight = total_weight xs; count = length xs }
 
--- when the first of some tasks is due
-abbrev pub first_due : List Task → Option Due
-first_due xs = option_map due_of (first_by due_before xs)
+-- one task more
+abbrev pub added : Totals → Task → Totals
+added s t = record { moment = t.weight * t.v + s.moment; weight = t.weight + s.weight; count = suc s.count }
 
--- the earlier of two times at which tasks are due
-abbrev pub is_earlier : Due → Due → Bool
-is_earlier a b = nat_lt a.deadline b.deadline || (a.deadline == b.deadline && nat_lt a.id b.id)
+-- other tasks more
+abbrev pub joined : Totals → Totals → Totals
+joined s r = record { moment = s.moment + r.moment; weight = s.weight + r.weight; count = s.count + r.count }
 
-abbrev pub earlier_of : Option Due → Option Due → Option Due
-earlier_of None b = b
-earlier_of (Some x) None = Some x
-earlier_of (Some x) (Some y) = Some (if is_earlier y x then y else x)
+-- a task whose weight and v are in their ranges
+abbrev pub IsBounded : Task → Type 0
+IsBounded t = IsWeight t.weight × (t.v ≤ 2 ^ 62)
 
 -- how large totals are, by how many tasks there are
 pub record HasBounds (s : Totals) : Type 0 where
   pub weight_low : 15 * s.count ≤ s.weight
   pub weight_high : s.weight ≤ 88761 * s.count
   pub moment_high : s.moment ≤ 2 ^ 62 * s.weight
-
--- the totals of some tasks
-pub record AreTotals (s : Totals) (xs : List Task) : Type 0 where
-  pub count : s.count ≡ length xs
-  pub weight : s.weight ≡ total_weight xs
-  pub moment : s.moment ≡ weighted_sum xs
-  pub due : s.due ≡ first_due xs
-  pub bounds : HasBounds s
-
--- the weighted average of the v of some tasks
-abbrev pub mean_of : List Task → Option ℕ
-mean_of [] = None
-mean_of (x ∷ xs) = Some (weighted_sum (x ∷ xs) / total_weight (x ∷ xs))

@@ -1,21 +1,24 @@
 //! A task as the disciplines see it.
 ghost use Rattle.std.specs.Prelude.{◌≡◌, ℕ, ◌<◌, ◌≤◌, ◌^◌, Option, Some, None, pos};
 ghost use Rattle.bq_weights.specs.VirtualTime.{IsWeight};
-ghost use Rattle.bq_disc.specs.Tasks.{runs_before, due_before};
-ghost use Rattle.bq_disc.specs.Queues.{can_use};
+ghost use Rattle.bq_disc.specs.Tasks.{runs_before};
+ghost use Rattle.bq_disc.specs.Dues.{due_of};
+ghost use Rattle.bq_disc.specs.Totals.{is_at_most_mean};
+ghost use Rattle.bq_disc.specs.Queues.{can_use, key_of};
 
+use crate::Due;
 use std::marker::Model;
 
 /// A task's figures.
 #[derive(Clone, Copy)]
 pub struct Entity {
-    id: u16,
-    weight: u32,
-    mask: u64,
-    slice: u64,
     v: u64,
     deadline: u64,
+    mask: u64,
+    slice: u64,
     rel: i64,
+    weight: u32,
+    id: u16,
     prev: Option<u8>,
 }
 
@@ -44,13 +47,13 @@ impl Entity {
         ensures { result ≡ record { id = id; weight = weight; mask = mask; slice = slice; v = 0; deadline = 0; rel = pos 0; prev = None } }
     {
         Entity {
-            id,
-            weight,
-            mask,
-            slice,
             v: 0,
             deadline: 0,
+            mask,
+            slice,
             rel: 0,
+            weight,
+            id,
             prev: None,
         }
     }
@@ -138,6 +141,15 @@ impl Entity {
         (self.mask >> cpu) % 2 == 1
     }
 
+    /// Where it stands in the order: its (v, id).
+    pub fn key(&self) -> (u64, u16)
+        ensures value { result ≡ key_of self.now }
+        ensures high { result.0 ≤ 2 ^ 62 }
+        ensures small { result.1 < 2 ^ 16 }
+    {
+        (self.v(), self.id())
+    }
+
     /// Whether it goes before another by (v, id).
     pub fn runs_before(&self, other: &Entity) -> bool
         ensures { result ≡ runs_before self.now other.now }
@@ -145,10 +157,20 @@ impl Entity {
         self.v < other.v || (self.v == other.v && self.id < other.id)
     }
 
-    /// Whether it goes before another by (deadline, id).
-    pub fn due_before(&self, other: &Entity) -> bool
-        ensures { result ≡ due_before self.now other.now }
+    /// Whether its v is at most the mean of tasks with this weight and this sum of weight times v: `weight * v <= moment`.
+    pub fn is_at_most_mean(&self, weight: u64, moment: u128) -> bool
+        ensures { result ≡ is_at_most_mean weight moment self.now }
     {
-        self.deadline < other.deadline || (self.deadline == other.deadline && self.id < other.id)
+        u128::from(weight) * u128::from(self.v) <= moment
+    }
+
+    /// When it is due.
+    pub fn due(&self) -> Due
+        ensures { result ≡ due_of self.now }
+    {
+        Due {
+            deadline: self.deadline,
+            id: self.id,
+        }
     }
 }

@@ -1,34 +1,30 @@
 //! Rules: what each discipline chooses, and how virtual time passes under it.
-ghost use Rattle.std.specs.Prelude.{◌≡◌, ◌<◌, ◌≤◌, ◌^◌, length};
+ghost use Rattle.std.specs.Prelude.{◌≡◌, ◌<◌, ◌≤◌, ◌^◌};
 ghost use Rattle.std.specs.Option.{option_map};
 ghost use Rattle.bq_weights.specs.VirtualTime.{IsWeight};
 ghost use Rattle.bq_disc.specs.Tasks.{present, id_of};
 ghost use Rattle.bq_disc.specs.Discipline.{Discipline, IsLawful};
-ghost use Rattle.bq_disc.specs.Chains.{task_of, chain_behind};
+ghost use Rattle.bq_disc.specs.Chains.{task_of};
 
-use crate::Node;
-use crate::node::Link;
+use crate::{Node, Timeline};
 
-/// A discipline, and its choices over a plain chain of nodes.
+/// A discipline, with its choices over any timeline.
 pub trait Rule {
     /// The discipline's definitions.
     ghost discipline: { Discipline };
 
-    /// Who should run, of a chain and of one more.
-    fn choice(current: Option<&Node>, chain: &Link) -> Option<u16>
-        requires { length (chain_behind chain.now) ≤ 2 ^ 16 }
-        ensures { result ≡ id_of (discipline.choice (present (option_map (λ n. task_of n.now) current.entry) (chain_behind chain.now))) };
+    /// Who should run, of a timeline's tasks and of one more.
+    fn choice<T: Timeline>(current: Option<&Node>, queue: &T) -> Option<u16>
+        ensures { result ≡ id_of (discipline.choice (present (option_map (λ n. task_of n.now) current.entry) (T.tasks queue.now))) };
 
-    /// Whether a chain's nodes should take the place of the current one.
-    fn wants_preempt(current: &Node, chain: &Link) -> bool
-        requires { length (chain_behind chain.now) ≤ 2 ^ 16 }
-        ensures { result ≡ discipline.wants_preempt (task_of current.now) (chain_behind chain.now) };
+    /// Whether a timeline's tasks should take the place of the current one.
+    fn wants_preempt<T: Timeline>(current: &Node, queue: &T) -> bool
+        ensures { result ≡ discipline.wants_preempt (task_of current.now) (T.tasks queue.now) };
 
     /// The mark, of the old one and of what is present.
-    fn mark(old: u64, current: Option<&Node>, chain: &Link) -> u64
-        requires old { old ≤ 2 ^ 62 }
-        requires few { length (chain_behind chain.now) ≤ 2 ^ 16 }
-        ensures value { result ≡ discipline.mark old (present (option_map (λ n. task_of n.now) current.entry) (chain_behind chain.now)) }
+    fn mark<T: Timeline>(old: u64, current: Option<&Node>, queue: &T) -> u64
+        requires { old ≤ 2 ^ 62 }
+        ensures value { result ≡ discipline.mark old (present (option_map (λ n. task_of n.now) current.entry) (T.tasks queue.now)) }
         ensures high { result ≤ 2 ^ 62 };
 
     /// The v at which a woken task enters.

@@ -1,10 +1,7 @@
-//! The rule of earliest eligible virtual deadline first.
+//! The rule of earliest eligible virtual deadline first: of the tasks that are owed time, the one due first runs.
 #![tactic(auto)]
 
-pub mod chosen;
 pub mod laws;
-pub mod queue;
 pub mod rule;
 
-pub use queue::EevdfQueue;
-pub use rule::Eevdf;
+pub use rule::{Eevdf, EevdfQueue};

@@ -1,60 +1,83 @@
-//! The rule over a plain chain.
-ghost use Rattle.std.specs.Prelude.{◌≡◌, ◌≤◌, ◌<◌, ◌^◌, length};
-ghost use Rattle.bq_disc.specs.Chains.{chain_behind};
-ghost use Rattle.bq_disc.specs.Totals.{AreTotals, first_due};
-ghost use Rattle.bq_tree.specs.Within.{within};
-ghost use Rattle.bq_eevdf.specs.Eevdf.{eevdf};
+//! EEVDF as a rule over any timeline.
+ghost use Rattle.std.specs.Prelude.{◌≡◌, ◌≤◌, ◌^◌, List, Option};
+ghost use Rattle.std.specs.Option.{option_map};
+ghost use Rattle.bq_disc.specs.Tasks.{Task, present};
+ghost use Rattle.bq_disc.specs.Chains.{task_of};
+ghost use Rattle.bq_disc.specs.Totals.{sums_of, HasBounds};
+ghost use Rattle.bq_disc.specs.Dues.{first_due};
+ghost use Rattle.bq_eevdf.specs.Eevdf.{eevdf, eligible, is_other};
 ghost use Rattle.bq_eevdf.specs.Lawful.{eevdf_lawful};
 
-use crate::chosen::{chosen, considered, due, is_other, mean};
-use bq_disc::node::{Due, Link, Totals, behind};
-use bq_disc::{Node, Rule};
-use bq_tree::balance::{earlier, forked, none};
+use bq_disc::{Due, Node, Rule, RuledQueue, Timeline, Totals};
+use bq_tree::Tree;
 
-/// The rule of earliest eligible virtual deadline first.
+/// The rule of earliest eligible virtual deadline first (sched-eevdf.rst; Stoica and Abdel-Wahab 1995, section 3).
+///
+/// With the weights w_i and virtual runtimes v_i of the tasks considered, their mean is V = sum(w_i v_i) / sum(w_i), and
+/// the lag of a task is w_i (V - v_i): the time that it is owed. It is eligible where that is at least 0, so where
+/// v_i <= V, which is sum(w_j) v_i <= sum(w_j v_j): no division, and nothing is rounded. Of the eligible tasks the one of
+/// least (deadline, id) runs. The mark is V rounded down. A woken task enters with its lag, held within the virtual time
+/// of one slice; a deadline lies one slice's virtual time after v at entry, and again once v has reached it.
 #[derive(Clone, Copy)]
 pub struct Eevdf;
 
-/// What the tasks of a chain have together.
-fn totals_behind(chain: &Link) -> Totals
-    requires { length (chain_behind chain.now) ≤ 2 ^ 16 }
-    ensures { AreTotals result (chain_behind chain.now) }
+/// The run queue under EEVDF, on a balanced tree.
+pub type EevdfQueue = RuledQueue<Tree, Eevdf>;
+
+/// What a queue's tasks and one more have together.
+fn considered(current: Option<&Node>, mut queue: Totals) -> Totals
+    requires few { queue.count ≤ 2 ^ 16 }
+    requires bounds { HasBounds queue }
+    ensures sums { (xs : List Task) → queue ≡ sums_of xs → result ≡ sums_of (present (option_map (λ n. task_of n.now) current.entry) xs) }
+    ensures bounds { HasBounds result }
 {
-    let Some(node) = chain else {
-        return none();
-    };
-    let rest = totals_behind(behind(node));
-    forked(&node.entity, &none(), &rest)
+    if let Some(node) = current {
+        queue.add(&node.entity);
+    }
+    queue
 }
 
-/// When the first is due of a chain's tasks whose v is at most a limit.
-fn earliest_behind(chain: &Link, limit: u64) -> Option<Due>
-    ensures { result ≡ first_due (within limit (chain_behind chain.now)) }
+/// When the first of the eligible tasks is due, of a queue's and of one more.
+fn earliest<T: Timeline>(current: Option<&Node>, queue: &T) -> Option<Due>
+    ensures { result ≡ first_due (eligible (present (option_map (λ n. task_of n.now) current.entry) (T.tasks queue.now))) }
 {
-    let Some(node) = chain else {
-        return None;
+    let all = considered(current, queue.totals());
+    let queued = queue.earliest_at_most_mean(all.weight, all.moment);
+    let Some(node) = current else {
+        return queued;
     };
-    let rest = earliest_behind(&node.left, limit);
-    if node.entity.v() > limit {
-        return rest;
+    if !node.entity.is_at_most_mean(all.weight, all.moment) {
+        return queued;
     }
-    earlier(Some(due(&node.entity)), rest)
+    Some(node.entity.due().earliest(queued))
+}
+
+/// Whether a task was chosen, and not the current one.
+fn is_other(chosen: Option<u16>, current: &Node) -> bool
+    ensures { (o : Option Task) → chosen ≡ option_map (λ (t : Task). t.id) o → result ≡ is_other o (task_of current.now) }
+{
+    match chosen {
+        None => false,
+        Some(id) => id != current.entity.id(),
+    }
 }
 
 impl Rule for Eevdf {
     ghost discipline = { eevdf };
 
-    fn choice(current: Option<&Node>, chain: &Link) -> Option<u16> {
-        let limit = mean(&considered(current, &totals_behind(chain)))?;
-        chosen(current, limit, earliest_behind(chain, limit))
+    fn choice<T: Timeline>(current: Option<&Node>, queue: &T) -> Option<u16> {
+        match earliest(current, queue) {
+            None => None,
+            Some(due) => Some(due.id),
+        }
     }
 
-    fn wants_preempt(current: &Node, chain: &Link) -> bool {
-        is_other(Self::choice(Some(current), chain), current)
+    fn wants_preempt<T: Timeline>(current: &Node, queue: &T) -> bool {
+        is_other(Self::choice(Some(current), queue), current)
     }
 
-    fn mark(old: u64, current: Option<&Node>, chain: &Link) -> u64 {
-        match mean(&considered(current, &totals_behind(chain))) {
+    fn mark<T: Timeline>(old: u64, current: Option<&Node>, queue: &T) -> u64 {
+        match considered(current, queue.totals()).mean() {
             None => old,
             Some(mean) => mean,
         }

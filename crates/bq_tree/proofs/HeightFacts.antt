@@ -44,7 +44,7 @@ fork_by_tests a b k l false false e f d h i =
 
 mutual
   fewest_node : (n : Node) → IsTree n → fewest (height_of n) ≤ length (in_order n)
-  fewest_node (Node' entity left right height totals) h =
+  fewest_node (Node' entity left right due totals height) h =
       let a = fewest_held left h.0 in
       let b = fewest_held right h.1 in
       let both = fork_by_tests (height_held left) (height_held right) (length (in_order_held left)) (length (in_order_held right)) (nat_lt (height_held left) (height_held right)) (nat_lt (height_held right) (height_held left)) refl refl h.2 a b in
@@ -87,7 +87,7 @@ full_by a b m k l p q h i =
 
 mutual
   full_node : (n : Node) → IsTree n → length (in_order n) < 2 ^ height_of n
-  full_node (Node' entity left right height totals) h =
+  full_node (Node' entity left right due totals height) h =
       let a = full_held left h.0 in
       let b = full_held right h.1 in
       let both = full_by (height_held left) (height_held right) (max (height_held left) (height_held right)) (length (in_order_held left)) (length (in_order_held right)) (omega arith) (omega arith) a b in

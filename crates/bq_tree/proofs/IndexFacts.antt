@@ -1,13 +1,14 @@
 -- The tree and its table stay sound when a task comes or goes.
-use Rattle.std.proofs.Common.{◌≡◌, ◌≢◌, ℕ, ◌<◌, ◌^◌, false, eqb, List, ◌∷◌, ◌++◌, length, Option, Some, None, Box, Global, refl, slice_index, slice_set, get_or-set_other, arith}
+use Rattle.std.proofs.Common.{◌≡◌, ◌≢◌, ℕ, ◌<◌, ◌≤◌, ◌^◌, true, false, cond, eqb, List, [], ◌∷◌, ◌++◌, length, IfSome, ap, sym, ◌∙◌, Option, Some, None, Box, Global, refl, slice_index, slice_set, get_or-set_other, arith}
+use Rattle.std.specs.Option.{option_map_or}
 use Rattle.std.proofs.lemmas.Bool.Decides.{nat_tests}
-use Rattle.bq_disc.specs.Tasks.{Task, with_id, place}
-use Rattle.bq_disc.specs.Queues.{HasDistinctIds, HasSmallIds}
+use Rattle.bq_disc.specs.Tasks.{Task, with_id, place, runs_before}
+use Rattle.bq_disc.specs.Queues.{HasDistinctIds, HasSmallIds, key_of}
 use Rattle.bq_disc.specs.Trees.{IsTreeBehind, in_order_behind}
 use Rattle.bq_disc.specs.declared.node.Node.{Node}
 use Rattle.bq_disc.proofs.QueueFacts.{length-few, length-place, HasDistinctIds-place, HasSmallIds-place, HasDistinctIds-without, HasSmallIds-without}
 use Rattle.bq_tree.specs.Taking.{Takes}
-use Rattle.bq_tree.specs.Sound.{Knows, IsSound}
+use Rattle.bq_tree.specs.Sound.{Knows, IsSound, first_key, lesser_of}
 use Rattle.bq_tree.proofs.OrderFacts.{IsRising-place, IsRising-drop}
 use Rattle.bq_tree.proofs.SoundFacts.{Knows-place, Knows-drop, without-split}
 
@@ -23,26 +24,37 @@ room t xs d s n l =
     let few = length-few (place t xs) (HasDistinctIds-place t xs n d) (HasSmallIds-place t xs l s) in
     omega (arith, length-place t xs, few)
 
-pub sound_inserted : (old new : Option (Box Node Global)) (times later : List ℕ) (t : Task) → IsSound old times → IsTreeBehind new → in_order_behind new ≡ place t (in_order_behind old) → with_id t.id (in_order_behind old) ≡ None → t.id < 2 ^ 16 → ((xs : List Task) → with_id t.id xs ≡ None → Knows times xs → Knows later xs) → (t.id < 1024 → slice_index later t.id ≡ t.v) → IsSound new later
-sound_inserted old new times later t s tree e n l others here =
+first_placed : (t : Task) (xs : List Task) → Some (lesser_of (key_of t) (first_key xs)) ≡ first_key (place t xs)
+first_placed t [] = refl
+first_placed t (x ∷ xs) =
+    elim (runs_before t x) as (λ b. Some (cond b (key_of t) (key_of x)) ≡ first_key (cond b (t ∷ x ∷ xs) (x ∷ place t xs))) [
+      | true ↦ refl
+      | false ↦ refl
+    ]
+
+pub sound_inserted : (old new : Option (Box Node Global)) (least : Option (ℕ × ℕ)) (key : ℕ × ℕ) (times later : List ℕ) (t : Task) → IsSound old least times → key ≡ lesser_of (key_of t) least → key.0 ≤ 2 ^ 62 → IsTreeBehind new → in_order_behind new ≡ place t (in_order_behind old) → with_id t.id (in_order_behind old) ≡ None → t.id < 2 ^ 16 → ((xs : List Task) → with_id t.id xs ≡ None → Knows times xs → Knows later xs) → (t.id < 1024 → slice_index later t.id ≡ t.v) → IsSound new (Some key) later
+sound_inserted old new least key times later t s lesser high tree e n l others here =
     let xs = in_order_behind old in
     record {
       tree = tree;
       rising = rw e (IsRising-place t xs s.rising);
       distinct = rw e (HasDistinctIds-place t xs n s.distinct);
       small = rw e (HasSmallIds-place t xs l s.small);
+      leads = ap (λ k. Some k) (lesser ∙ ap (λ o. lesser_of (key_of t) o) s.leads) ∙ first_placed t xs ∙ ap first_key (sym e);
+      high = high;
       knows = rw e (Knows-place later t xs here (others xs n s.knows));
     }
 
-pub sound_taken : (old new : Option (Box Node Global)) (times : List ℕ) (v id : ℕ) (o : Option Task) → IsSound old times → IsTreeBehind new → Takes v id (in_order_behind old) o (in_order_behind new) → IsSound new times
-sound_taken old new times v id None s tree t = record {
-  tree = tree;
-  rising = rw t.1 s.rising;
-  distinct = rw t.1 s.distinct;
-  small = rw t.1 s.small;
-  knows = rw t.1 s.knows;
-}
-sound_taken old new times v id (Some x) s tree t =
+first_by_test : (xs : List Task) (t : Task) (ys : List Task) (least : Option (ℕ × ℕ)) → least ≡ first_key (xs ++ t ∷ ys) → option_map_or (λ (k : ℕ × ℕ). eqb k.1 t.id) least false ≡ false → least ≡ first_key (xs ++ ys)
+first_by_test [] t ys least e n =
+    let here = ap (λ o. option_map_or (λ (k : ℕ × ℕ). eqb k.1 t.id) o false) e in
+    let same : eqb t.id t.id ≡ true = grind (arith, nat_tests) in
+    cc
+first_by_test (x ∷ xs) t ys least e n = e
+
+-- the tree stays sound when a task goes, with the key of the task that is now the first
+pub sound_taken : (old new : Option (Box Node Global)) (was least : Option (ℕ × ℕ)) (times : List ℕ) (v id : ℕ) (t : Task) → IsSound old was times → IsTreeBehind new → Takes v id (in_order_behind old) (Some t) (in_order_behind new) → least ≡ first_key (in_order_behind new) → IfSome least (λ key. key.0 ≤ 2 ^ 62) → IsSound new least times
+sound_taken old new was least times v id x s tree t leads high =
     let distinct = rw t.4 at s.distinct in
     let out = without-split t.0 x t.1 distinct in
     record {
@@ -50,5 +62,12 @@ sound_taken old new times v id (Some x) s tree t =
       rising = rw t.5 (IsRising-drop t.0 x t.1 (rw t.4 at s.rising));
       distinct = rw (t.5, ← out) (HasDistinctIds-without x.id (t.0 ++ x ∷ t.1) distinct);
       small = rw (t.5, ← out) (HasSmallIds-without x.id (t.0 ++ x ∷ t.1) (rw t.4 at s.small));
+      leads = leads;
+      high = high;
       knows = rw t.5 (Knows-drop times t.0 x t.1 (rw t.4 at s.knows));
     }
+
+-- the first task stays the first when another goes
+pub leads_on : (all : List Task) (rest : List Task) (least : Option (ℕ × ℕ)) (v id : ℕ) (t : Task) → least ≡ first_key all → Takes v id all (Some t) rest → option_map_or (λ (k : ℕ × ℕ). eqb k.1 id) least false ≡ false → least ≡ first_key rest
+leads_on all rest least v id x e t n =
+    first_by_test t.0 x t.1 least (e ∙ ap first_key t.4) (rw t.3 n) ∙ ap first_key (sym t.5)

@@ -1,12 +1,11 @@
 -- Searches in a list that is cut at a task.
-use Rattle.std.proofs.Common.{◌≡◌, ℕ, ◌<◌, ◌≤◌, Bool, true, false, cond, List, [], ◌∷◌, ◌++◌, Option, Some, None, IfSome, refl, ap, sym, ◌∙◌, find, arith}
+use Rattle.std.proofs.Common.{◌≡◌, ℕ, ◌*◌, ◌<◌, ◌≤◌, Bool, true, false, cond, List, [], ◌∷◌, ◌++◌, Option, Some, None, filter, refl, ap, ◌∙◌, find, arith}
 use Rattle.std.proofs.lemmas.Bool.Decides.{nat_tests}
-use Rattle.bq_disc.specs.Tasks.{Task, runs_before, first_by, former, due_before}
+use Rattle.bq_disc.specs.Tasks.{Task, runs_before}
 use Rattle.bq_disc.specs.Queues.{comes_after}
-use Rattle.bq_disc.specs.Totals.{due_of, first_due, earlier_of}
+use Rattle.std.proofs.Math.Nat.{mul-le-mul_left}
+use Rattle.bq_disc.specs.Totals.{is_at_most_mean}
 use Rattle.bq_disc.specs.Trees.{IsRising, NoneRunsBefore}
-use Rattle.bq_tree.specs.Within.{is_within, within, head}
-use Rattle.bq_tree.proofs.TotalsFacts.{first_due-append, first_due-cons}
 use Rattle.bq_tree.proofs.OrderFacts.{RunsBeforeNone, IsRising-before, IsRising-after}
 
 front_by_test : (b : Bool) (x y : Task) (o p : Option Task) → cond b (Some x) o ≡ Some y → (o ≡ Some y → p ≡ Some y) → cond b (Some x) p ≡ Some y
@@ -41,80 +40,57 @@ pub none_after : (v id : ℕ) (x : Task) (xs : List Task) → comes_after v id x
 none_after v id x [] a h = refl
 none_after v id x (y ∷ xs) a h = let e = earlier_too v id x y a h.0 in rw e (none_after v id x xs a h.1)
 
-pub head-front : (xs ys : List Task) (y : Task) → head xs ≡ Some y → head (xs ++ ys) ≡ Some y
-head-front [] ys y h = cc
-head-front (x ∷ xs) ys y h = h
+-- Tasks at most a mean
 
-pub head-here : (xs : List Task) (x : Task) (ys : List Task) → head xs ≡ None → head (xs ++ x ∷ ys) ≡ Some x
-head-here [] x ys h = refl
-head-here (y ∷ xs) x ys h = cc
+-- those of some tasks that are at most a mean
+abbrev pub passing : ℕ → ℕ → List Task → List Task
+passing w m xs = filter (is_at_most_mean w m) xs
 
-within-append : (limit : ℕ) (xs ys : List Task) → within limit (xs ++ ys) ≡ within limit xs ++ within limit ys
-within-append limit [] ys = refl
-within-append limit (x ∷ xs) ys =
-    elim (is_within limit x) as (λ b. cond b (x ∷ within limit (xs ++ ys)) (within limit (xs ++ ys)) ≡ cond b (x ∷ within limit xs) (within limit xs) ++ within limit ys) [
-      | true ↦ ap (λ l. x ∷ l) (within-append limit xs ys)
-      | false ↦ within-append limit xs ys
+passing-append : (w m : ℕ) (xs ys : List Task) → passing w m (xs ++ ys) ≡ passing w m xs ++ passing w m ys
+passing-append w m [] ys = refl
+passing-append w m (x ∷ xs) ys =
+    elim (is_at_most_mean w m x) as (λ b. cond b (x ∷ passing w m (xs ++ ys)) (passing w m (xs ++ ys)) ≡ cond b (x ∷ passing w m xs) (passing w m xs) ++ passing w m ys) [
+      | true ↦ ap (λ l. x ∷ l) (passing-append w m xs ys)
+      | false ↦ passing-append w m xs ys
     ]
 
-within_too : (limit : ℕ) (x y : Task) → x.v ≤ limit → runs_before x y ≡ false → is_within limit y ≡ true
-within_too limit x y l h = grind (arith, nat_tests)
+not_above : (x y : Task) → runs_before x y ≡ false → y.v ≤ x.v
+not_above x y h = grind (arith, nat_tests)
 
-beyond_too : (limit : ℕ) (x y : Task) → limit < x.v → runs_before y x ≡ false → is_within limit y ≡ false
-beyond_too limit x y l h = grind (arith, nat_tests)
+passes_too : (w m : ℕ) (x y : Task) → is_at_most_mean w m x ≡ true → runs_before x y ≡ false → is_at_most_mean w m y ≡ true
+passes_too w m x y p h =
+    let le : w * x.v ≤ m = grind (arith, nat_tests) in
+    let more = mul-le-mul_left w (not_above x y h) in
+    let both : w * y.v ≤ m = omega arith in
+    grind (arith, nat_tests)
 
-all_within : (limit : ℕ) (x : Task) (xs : List Task) → x.v ≤ limit → RunsBeforeNone x xs → within limit xs ≡ xs
-all_within limit x [] l h = refl
-all_within limit x (y ∷ xs) l h = let e = within_too limit x y l h.0 in rw e (ap (λ zs. y ∷ zs) (all_within limit x xs l h.1))
+fails_too : (w m : ℕ) (x y : Task) → is_at_most_mean w m x ≡ false → runs_before y x ≡ false → is_at_most_mean w m y ≡ false
+fails_too w m x y p h =
+    let lt : m < w * x.v = grind (arith, nat_tests) in
+    let more = mul-le-mul_left w (not_above y x h) in
+    let both : m < w * y.v = omega arith in
+    grind (arith, nat_tests)
 
-none_within : (limit : ℕ) (x : Task) (xs : List Task) → limit < x.v → NoneRunsBefore x xs → within limit xs ≡ []
-none_within limit x [] l h = refl
-none_within limit x (y ∷ xs) l h = let e = beyond_too limit x y l h.0 in rw e (none_within limit x xs l h.1)
+all_pass : (w m : ℕ) (x : Task) (xs : List Task) → is_at_most_mean w m x ≡ true → RunsBeforeNone x xs → passing w m xs ≡ xs
+all_pass w m x [] p h = refl
+all_pass w m x (y ∷ xs) p h = let e = passes_too w m x y p h.0 in rw e (ap (λ zs. y ∷ zs) (all_pass w m x xs p h.1))
 
-beyond_itself : (limit : ℕ) (x : Task) → limit < x.v → is_within limit x ≡ false
-beyond_itself limit x l = grind (arith, nat_tests)
-
-within_itself : (limit : ℕ) (x : Task) → x.v ≤ limit → is_within limit x ≡ true
-within_itself limit x l = grind (arith, nat_tests)
+none_passes : (w m : ℕ) (x : Task) (xs : List Task) → is_at_most_mean w m x ≡ false → NoneRunsBefore x xs → passing w m xs ≡ []
+none_passes w m x [] p h = refl
+none_passes w m x (y ∷ xs) p h = let e = fails_too w m x y p h.0 in rw e (none_passes w m x xs p h.1)
 
 append_nothing : (xs : List Task) → xs ++ [] ≡ xs
 append_nothing [] = refl
 append_nothing (x ∷ xs) = ap (λ l. x ∷ l) (append_nothing xs)
 
--- where a task is beyond the limit, those within it stand before it
-pub within-left : (limit : ℕ) (xs : List Task) (x : Task) (ys : List Task) → IsRising (xs ++ x ∷ ys) → limit < x.v → within limit (xs ++ x ∷ ys) ≡ within limit xs
-within-left limit xs x ys h l =
-    let e = beyond_itself limit x l in
-    let rest : within limit (x ∷ ys) ≡ [] = rw e (none_within limit x ys l (IsRising-after xs x ys h)) in
-    within-append limit xs (x ∷ ys) ∙ ap (λ zs. within limit xs ++ zs) rest ∙ append_nothing (within limit xs)
+-- where a task is above the mean, those that are not stand before it
+pub passing-left : (w m : ℕ) (xs : List Task) (x : Task) (ys : List Task) → IsRising (xs ++ x ∷ ys) → is_at_most_mean w m x ≡ false → passing w m (xs ++ x ∷ ys) ≡ passing w m xs
+passing-left w m xs x ys h e =
+    let rest : passing w m (x ∷ ys) ≡ [] = rw e (none_passes w m x ys e (IsRising-after xs x ys h)) in
+    passing-append w m xs (x ∷ ys) ∙ ap (λ zs. passing w m xs ++ zs) rest ∙ append_nothing (passing w m xs)
 
--- where a task is within the limit, so are those before it
-pub within-right : (limit : ℕ) (xs : List Task) (x : Task) (ys : List Task) → IsRising (xs ++ x ∷ ys) → x.v ≤ limit → within limit (xs ++ x ∷ ys) ≡ xs ++ x ∷ within limit ys
-within-right limit xs x ys h l =
-    let e = within_itself limit x l in
-    let rest : within limit (x ∷ ys) ≡ x ∷ within limit ys = rw e refl in
-    within-append limit xs (x ∷ ys) ∙ ap (λ zs. zs ++ within limit (x ∷ ys)) (all_within limit x xs l (IsRising-before xs x ys h)) ∙ ap (λ zs. xs ++ zs) rest
-
-pub first_due-cut : (xs : List Task) (x : Task) (ys : List Task) → first_due (xs ++ x ∷ ys) ≡ earlier_of (first_due xs) (earlier_of (Some (due_of x)) (first_due ys))
-first_due-cut xs x ys = first_due-append xs (x ∷ ys) ∙ ap (λ o. earlier_of (first_due xs) o) (first_due-cons x (first_by due_before ys))
-
-least_by_rest : (x : Task) (o : Option Task) → IfSome o (λ y. runs_before y x ≡ false) → former runs_before x o ≡ x
-least_by_rest x None h = refl
-least_by_rest x (Some y) h = rw h refl
-
-none_of_former : (x y : Task) (o : Option Task) → runs_before y x ≡ false → IfSome o (λ z. runs_before z x ≡ false) → runs_before (former runs_before y o) x ≡ false
-none_of_former x y None h k = h
-none_of_former x y (Some z) h k =
-    elim (runs_before z y) as (λ b. runs_before (cond b z y) x ≡ false) [
-      | true ↦ k
-      | false ↦ h
-    ]
-
-none_first : (x : Task) (xs : List Task) → NoneRunsBefore x xs → IfSome (first_by runs_before xs) (λ y. runs_before y x ≡ false)
-none_first x [] h = tt
-none_first x (y ∷ xs) h = none_of_former x y (first_by runs_before xs) h.0 (none_first x xs h.1)
-
--- the head of a list that rises is its first task by (v, id)
-pub head-first_by : (xs : List Task) → IsRising xs → head xs ≡ first_by runs_before xs
-head-first_by [] h = refl
-head-first_by (x ∷ xs) h = ap (λ y. Some y) (sym (least_by_rest x (first_by runs_before xs) (none_first x xs h.0)))
+-- where a task is at most the mean, so are those before it
+pub passing-right : (w m : ℕ) (xs : List Task) (x : Task) (ys : List Task) → IsRising (xs ++ x ∷ ys) → is_at_most_mean w m x ≡ true → passing w m (xs ++ x ∷ ys) ≡ xs ++ x ∷ passing w m ys
+passing-right w m xs x ys h e =
+    let rest : passing w m (x ∷ ys) ≡ x ∷ passing w m ys = rw e refl in
+    passing-append w m xs (x ∷ ys) ∙ ap (λ zs. zs ++ passing w m (x ∷ ys)) (all_pass w m x xs e (IsRising-before xs x ys h)) ∙ ap (λ zs. xs ++ zs) rest

@@ -1,10 +1,11 @@
--- What a tree of tasks and its table of times keep.
-use Rattle.std.specs.Prelude.{◌≡◌, ℕ, ◌<◌, List, Option, slice_index}
+-- What a tree of tasks keeps, with the key of its first task and its table of times.
+use Rattle.std.specs.Prelude.{◌≡◌, ℕ, ◌<◌, ◌≤◌, ◌^◌, List, Option, None, Some, IfSome, find, slice_index, nat_lt, ◌==◌, ◌||◌, ◌&&◌, if◌then◌else◌}
+use Rattle.std.specs.Option.{option_map}
 use Rattle.std.specs.List.{AllByRecursion}
 use Rattle.std.specs.declared.boxed.Box.{Box}
 use Rattle.std.specs.declared.alloc.Global.{Global}
 use Rattle.bq_disc.specs.Tasks.{Task}
-use Rattle.bq_disc.specs.Queues.{HasDistinctIds, HasSmallIds}
+use Rattle.bq_disc.specs.Queues.{HasDistinctIds, HasSmallIds, follows, key_of}
 use Rattle.bq_disc.specs.Trees.{IsTreeBehind, IsRising, in_order_behind}
 use Rattle.bq_disc.specs.declared.node.Node.{Node}
 
@@ -12,9 +13,20 @@ use Rattle.bq_disc.specs.declared.node.Node.{Node}
 abbrev pub Knows : List ℕ → List Task → Type 0
 Knows times xs = AllByRecursion (λ (t : Task). t.id < 1024 → slice_index times t.id ≡ t.v) xs
 
-pub record IsSound (root : Option (Box Node Global)) (times : List ℕ) : Type 0 where
+-- the key of the first task
+abbrev pub first_key : List Task → Option (ℕ × ℕ)
+first_key xs = option_map key_of (find (follows None) xs)
+
+-- the lesser of a key and of one that may be there
+abbrev pub lesser_of : ℕ × ℕ → Option (ℕ × ℕ) → ℕ × ℕ
+lesser_of a None = a
+lesser_of a (Some b) = if nat_lt a.0 b.0 || (a.0 == b.0 && nat_lt a.1 b.1) then a else b
+
+pub record IsSound (root : Option (Box Node Global)) (least : Option (ℕ × ℕ)) (times : List ℕ) : Type 0 where
   pub tree : IsTreeBehind root
   pub rising : IsRising (in_order_behind root)
   pub distinct : HasDistinctIds (in_order_behind root)
   pub small : HasSmallIds (in_order_behind root)
+  pub leads : least ≡ first_key (in_order_behind root)
+  pub high : IfSome least (λ key. key.0 ≤ 2 ^ 62)
   pub knows : Knows times (in_order_behind root)

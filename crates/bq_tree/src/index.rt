@@ -1,28 +1,25 @@
-//! The tree with its table of times, by which a task is found by its id alone.
-ghost use Rattle.std.specs.Prelude.{◌≡◌, ◌<◌, ◌≤◌, ◌^◌, length, List, [], None, IfSome, find, slice_index, take};
-ghost use Rattle.std.specs.Option.{option_map};
-ghost use Rattle.bq_disc.specs.Tasks.{Task, place, with_id, without, first_by, runs_before};
-ghost use Rattle.bq_disc.specs.Queues.{follows, HasDistinctIds};
-ghost use Rattle.bq_disc.specs.Chains.{task_of, IsLone};
-ghost use Rattle.bq_disc.specs.Movable.{movable_to, ids};
-ghost use Rattle.bq_disc.specs.Totals.{AreTotals, first_due};
-ghost use Rattle.bq_disc.specs.Trees.{IsTreeBehind, IsRising, in_order_behind};
-ghost use Rattle.bq_tree.specs.Sound.{Knows};
-ghost use Rattle.bq_tree.specs.Within.{within};
+//! The tree with what finds a task at once: the key of its first task, and a table from ids to times.
+ghost use Rattle.std.specs.Prelude.{◌≡◌, ◌<◌, ◌≤◌, ◌^◌, ℕ, ◌==◌, false, List, length, Some, None, IfSome, slice_index};
+ghost use Rattle.std.specs.Option.{option_map_or};
+ghost use Rattle.bq_disc.specs.Tasks.{Task, with_id};
+ghost use Rattle.bq_disc.specs.Trees.{IsTreeBehind, in_order_behind};
+ghost use Rattle.bq_tree.specs.Taking.{Takes};
+ghost use Rattle.bq_tree.specs.Sound.{Knows, first_key, lesser_of};
 
 use crate::edits::{insert_into, take_from};
 use crate::{balance, walks};
-use bq_disc::node::{Due, Link, Totals};
-use bq_disc::{Movable, Node};
+use bq_disc::node::Link;
+use bq_disc::{Due, Movable, Node, Timeline, Totals};
 use std::marker::Model;
 
 /// The ids whose times stand in the table.
 const IDS: usize = 1024;
 
-/// Tasks with distinct ids, by rising (v, id).
+/// Tasks with distinct ids, by rising (v, id), as a balanced tree of their own nodes.
 #[derive(Drop)]
 pub struct Tree {
     root: Link,
+    least: Option<(u64, u16)>,
     times: [u64; 1024],
 }
 
@@ -36,15 +33,133 @@ impl Model for Tree {
     ghost coded = { coded_list coded_task };
 
     ghost use Rattle.bq_disc.specs.Trees.{in_order_behind};
+    ghost use Rattle.bq_tree.specs.Taking.{Takes};
     ghost use Rattle.bq_tree.specs.Sound.{IsSound};
 
     ghost view = { λ t. in_order_behind t.root };
 
-    ghost invariant = { λ t. IsSound t.root t.times };
+    ghost invariant = { λ t. IsSound t.root t.least t.times };
+}
+
+impl Tree {
+    /// How many levels the tree has.
+    pub fn height(&self) -> u8
+        ensures low { length self.now ≤ 1024 → result ≤ 14 }
+        ensures high { length self.now < 2 ^ result }
+    {
+        balance::height(&self.root)
+    }
+}
+
+impl Timeline for Tree {
+    ghost tasks = { λ t. t };
+
+    fn empty() -> Tree {
+        Tree {
+            root: None,
+            least: None,
+            times: zeros(),
+        }
+    }
+
+    fn len(&self) -> usize {
+        balance::totals(&self.root).count as usize
+    }
+
+    fn insert(&mut self, node: Box<Node>) {
+        let key = node.entity.key();
+        self.least = Some(lesser(key, self.least));
+        remember(&mut self.times, key.1, key.0);
+        insert_into(&mut self.root, node);
+    }
+
+    fn take(&mut self, id: u16) -> Option<Box<Node>> {
+        let v = time_of(&self.times, &self.root, id);
+        let Some(taken) = take_from(&mut self.root, v, id) else {
+            return None;
+        };
+        self.least = least_without(self.least, id, &self.root);
+        Some(taken)
+    }
+
+    fn get(&self, id: u16) -> Option<&Node> {
+        walks::get_at(&self.root, time_of(&self.times, &self.root, id), id)
+    }
+
+    fn after(&self, last: Option<(u64, u16)>) -> Option<&Node> {
+        match last {
+            None => walks::least(&self.root),
+            Some((v, id)) => walks::after(&self.root, v, id),
+        }
+    }
+
+    fn movable(&self, cpu: u8) -> Movable {
+        let mut found = Movable::new();
+        walks::movable_into(&self.root, cpu, &mut found);
+        found
+    }
+
+    fn least(&self) -> Option<(u64, u16)> {
+        self.least
+    }
+
+    fn totals(&self) -> Totals {
+        balance::totals(&self.root)
+    }
+
+    fn earliest_at_most_mean(&self, weight: u64, moment: u128) -> Option<Due> {
+        walks::earliest_from(&self.root, weight, moment, None)
+    }
 }
 
 fn zeros<const N: usize>() -> [u64; N] {
     [0; N]
+}
+
+/// The lesser of a key and of one that may be there.
+fn lesser(key: (u64, u16), least: Option<(u64, u16)>) -> (u64, u16)
+    ensures value { result ≡ lesser_of key least }
+    ensures high { key.0 ≤ 2 ^ 62 → IfSome least (λ k. k.0 ≤ 2 ^ 62) → result.0 ≤ 2 ^ 62 }
+{
+    let Some(least) = least else { return key };
+    if key.0 < least.0 || (key.0 == least.0 && key.1 < least.1) {
+        return key;
+    }
+    least
+}
+
+/// Whether a key is that of an id.
+fn has_id(key: Option<(u64, u16)>, id: u16) -> bool
+    ensures { result ≡ option_map_or (λ (k : ℕ × ℕ). k.1 == id) key false }
+{
+    match key {
+        None => false,
+        Some(key) => key.1 == id,
+    }
+}
+
+/// The key of a tree's first task.
+fn first_key(root: &Link) -> Option<(u64, u16)>
+    requires { IsTreeBehind root.now }
+    ensures key { result ≡ first_key (in_order_behind root.now) }
+    ensures high { IfSome result (λ key. key.0 ≤ 2 ^ 62) }
+{
+    match walks::least(root) {
+        None => None,
+        Some(node) => Some(node.entity.key()),
+    }
+}
+
+/// The key of the first task after the task of an id was taken, where `least` was that of the first before.
+fn least_without(least: Option<(u64, u16)>, id: u16, root: &Link) -> Option<(u64, u16)>
+    requires { IsTreeBehind root.now }
+    ensures key { (all : List Task) (v : ℕ) (t : Task) → least ≡ first_key all → Takes v id all (Some t) (in_order_behind root.now) → result ≡ first_key (in_order_behind root.now) }
+    ensures high { IfSome least (λ key. key.0 ≤ 2 ^ 62) → IfSome result (λ key. key.0 ≤ 2 ^ 62) }
+{
+    if has_id(least, id) {
+        return first_key(root);
+    }
+    least
 }
 
 /// Writes down when a task stands.
@@ -71,102 +186,5 @@ fn time_of(times: &[u64; 1024], root: &Link, id: u16) -> u64
     match walks::find_id(root, id) {
         Some(node) => node.entity.v(),
         None => 0,
-    }
-}
-
-impl Tree {
-    pub fn new() -> Tree
-        ensures { result ≡ [] }
-    {
-        Tree {
-            root: None,
-            times: zeros(),
-        }
-    }
-
-    pub fn len(&self) -> usize
-        ensures { result ≡ length self.now }
-    {
-        balance::totals(&self.root).count as usize
-    }
-
-    pub fn height(&self) -> u8
-        ensures low { length self.now ≤ 1024 → result ≤ 14 }
-        ensures high { length self.now < 2 ^ result }
-    {
-        balance::height(&self.root)
-    }
-
-    /// What the tasks have together.
-    pub fn totals(&self) -> Totals
-        ensures totals { AreTotals result self.now }
-        ensures few { result.count ≤ 2 ^ 16 }
-    {
-        balance::totals(&self.root)
-    }
-
-    pub fn insert(&mut self, node: Box<Node>)
-        requires lone { IsLone node.value }
-        requires fresh { with_id (task_of node.value).id self.old ≡ None }
-        ensures { self.new ≡ place (task_of node.value) self.old }
-    {
-        remember(&mut self.times, node.entity.id(), node.entity.v());
-        let root = self.root.take();
-        self.root = Some(insert_into(root, node));
-    }
-
-    pub fn take(&mut self, id: u16) -> Option<Box<Node>>
-        ensures taken { option_map (λ b. task_of b.value) result ≡ with_id id self.old }
-        ensures lone { IfSome result (λ b. IsLone b.value) }
-        ensures rest { self.new ≡ without id self.old }
-        ensures gone { with_id id self.new ≡ None }
-    {
-        let v = time_of(&self.times, &self.root, id);
-        let (taken, rest) = take_from(self.root.take(), v, id);
-        self.root = rest;
-        taken
-    }
-
-    pub fn get(&self, id: u16) -> Option<&Node>
-        ensures { option_map (λ n. task_of n.now) result ≡ with_id id self.now }
-    {
-        walks::get_at(&self.root, time_of(&self.times, &self.root, id), id)
-    }
-
-    /// The task of least (v, id) above the one given; of none, the task of least (v, id).
-    pub fn after(&self, last: Option<(u64, u16)>) -> Option<&Node>
-        ensures task { option_map (λ n. task_of n.now) result ≡ find (follows last) self.now }
-        ensures rising { IsRising self.now }
-        ensures distinct { HasDistinctIds self.now }
-    {
-        match last {
-            None => walks::least(&self.root),
-            Some((v, id)) => walks::after(&self.root, v, id),
-        }
-    }
-
-    /// Those that may use a processor, the greatest (v, id) first.
-    pub fn movable(&self, cpu: u8) -> Movable
-        requires { cpu < 64 }
-        ensures count { result.count ≡ length (movable_to cpu self.now) }
-        ensures first { result.first.items ≡ take 8 (ids (movable_to cpu self.now)) }
-        ensures rising { IsRising self.now }
-    {
-        let mut found = Movable::new();
-        walks::movable_into(&self.root, cpu, &mut found);
-        found
-    }
-
-    pub fn least(&self) -> Option<&Node>
-        ensures { option_map (λ n. task_of n.now) result ≡ first_by runs_before self.now }
-    {
-        walks::least(&self.root)
-    }
-
-    /// When the first is due of those whose v is at most a limit.
-    pub fn earliest_within(&self, limit: u64) -> Option<Due>
-        ensures { result ≡ first_due (within limit self.now) }
-    {
-        walks::earliest_within(&self.root, limit)
     }
 }

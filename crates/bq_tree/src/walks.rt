@@ -1,19 +1,19 @@
 //! Walks down a tree.
-ghost use Rattle.std.specs.Prelude.{◌≡◌, ◌<◌, ◌≤◌, ◌+◌, ◌^◌, ◌++◌, ◌∷◌, find, filter, length, nat_le};
+ghost use Rattle.std.specs.Prelude.{◌≡◌, ◌<◌, ◌≤◌, ◌+◌, ◌^◌, ◌++◌, ◌∷◌, None, find, filter, length};
 ghost use Rattle.std.specs.Option.{option_map};
 ghost use Rattle.bq_disc.specs.Tasks.{with_id};
-ghost use Rattle.bq_disc.specs.Queues.{comes_after};
+ghost use Rattle.bq_disc.specs.Queues.{comes_after, follows};
 ghost use Rattle.bq_disc.specs.Chains.{task_of};
 ghost use Rattle.bq_disc.specs.Movable.{Adds};
-ghost use Rattle.bq_disc.specs.Totals.{first_due};
+ghost use Rattle.bq_disc.specs.Totals.{is_at_most_mean};
 ghost use Rattle.bq_disc.specs.Trees.{in_order, IsTree, IsTreeBehind, IsRising, in_order_behind};
 ghost use Rattle.bq_tree.specs.Taking.{Finds};
-ghost use Rattle.bq_tree.specs.Within.{within, head};
+ghost use Rattle.bq_disc.specs.Dues.{first_due, sooner_of};
 
-use crate::balance::{earlier, totals};
+use crate::balance::due;
 use crate::edits::{is_after, is_at};
-use bq_disc::node::{Due, Link};
-use bq_disc::{Movable, Node};
+use bq_disc::node::Link;
+use bq_disc::{Due, Movable, Node};
 
 /// The two sides of a node.
 fn sides(node: &Node) -> (&Link, &Link)
@@ -85,7 +85,7 @@ pub(crate) fn after(link: &Link, v: u64, id: u16) -> Option<&Node>
 /// The first node.
 pub(crate) fn least(link: &Link) -> Option<&Node>
     requires { IsTreeBehind link.now }
-    ensures { option_map (λ n. task_of n.now) result ≡ head (in_order_behind link.now) }
+    ensures { option_map (λ n. task_of n.now) result ≡ find (follows None) (in_order_behind link.now) }
 {
     let Some(node) = link else {
         return None;
@@ -97,28 +97,27 @@ pub(crate) fn least(link: &Link) -> Option<&Node>
     }
 }
 
-/// When the first is due of the tasks whose v is at most a limit.
-pub(crate) fn earliest_within(link: &Link, limit: u64) -> Option<Due>
+/// When the first is due of those found before and of a tree's tasks that are at most a mean.
+pub(crate) fn earliest_from(
+    link: &Link,
+    weight: u64,
+    moment: u128,
+    found: Option<Due>,
+) -> Option<Due>
     requires tree { IsTreeBehind link.now }
     requires rising { IsRising (in_order_behind link.now) }
-    ensures { result ≡ first_due (within limit (in_order_behind link.now)) }
+    ensures { result ≡ sooner_of found (first_due (filter (is_at_most_mean weight moment) (in_order_behind link.now))) }
 {
     let Some(node) = link else {
-        return None;
+        return found;
     };
     let (left, right) = sides(node);
     let entity = &node.entity;
-    if entity.v() > limit {
-        return earliest_within(left, limit);
+    if !entity.is_at_most_mean(weight, moment) {
+        return earliest_from(left, weight, moment, found);
     }
-    let due = Due {
-        deadline: entity.deadline(),
-        id: entity.id(),
-    };
-    earlier(
-        totals(left).due,
-        earlier(Some(due), earliest_within(right, limit)),
-    )
+    let here = entity.due().earliest(due(left)).earliest(found);
+    earliest_from(right, weight, moment, Some(here))
 }
 
 /// Looks at the tasks of a tree from the last to the first, and adds those that may use a processor.

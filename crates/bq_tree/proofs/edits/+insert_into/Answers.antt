@@ -1,76 +1,138 @@
-use Rattle.std.proofs.Common.{◌≡◌, true, false, List, ◌∷◌, ◌++◌, length, length-append, ap, subst, sym, ◌∙◌, arith}
+use Rattle.std.proofs.Common.{◌≡◌, true, false, ap, subst, sym, ◌∙◌, arith}
 use Rattle.bq_disc.specs.Tasks.{runs_before}
 use Rattle.bq_disc.specs.Chains.{task_of}
-use Rattle.bq_disc.specs.Trees.{IsRising, in_order_behind, height_behind}
-use Rattle.bq_disc.proofs.QueueFacts.{length-place}
-use Rattle.bq_tree.proofs.OrderFacts.{IsRising-left, IsRising-right, IsRising-before, place-left, place-right}
+use Rattle.bq_disc.specs.Trees.{CountsIn, height_behind}
+use Rattle.bq_disc.specs.declared.node.Node.{Node, out-Node}
+use Rattle.bq_tree.proofs.NodeFacts.{IsSide, root_behind, left_side_of, right_side_of, left-made, right-made, height-made}
+use Rattle.bq_tree.proofs.InsertFacts.{grows_left, grows_right, tree_left, tree_right}
 use Rattle.bq_tree.proofs.edits.+insert_into.Goals as goal
 
-pub insert_into-side-requires : goal.insert_into-side-requires
-insert_into-side-requires t c =
-    let o = c.opened-left in
-    let l = in_order_behind o.result.0 in
-    let r = in_order_behind o.result.2 in
-    let x = task_of o.result.1.value in
-    let whole : in_order_behind c.args.link ≡ l ++ x ∷ r = ap in_order_behind c.in-Some.is ∙ o.ensures.order in
-    let rising = subst IsRising whole c.requires.rising in
-    let height = ap height_behind c.in-Some.is in
-    let count = length-append l (x ∷ r) in
-    (omega arith, (c.requires.lone, (o.ensures.left, (IsRising-left l (x ∷ r) rising, (omega arith, omega (arith, ap length whole))))))
+pub insert_into-requires : goal.insert_into-requires
+insert_into-requires t c =
+    let n = c.deref_mut-root.result.now in
+    let k = c.count_in.new.root in
+    let x = task_of c.args.node.value in
+    let root = root_behind c.args.link.now c.in-Some.root n c.in-Some.is c.deref_mut-root.ensures.value c.requires.tree in
+    let counts : CountsIn n k x = subst (λ (m : Node). CountsIn n k (out-Node m).entity) c.deref.ensures c.count_in.ensures.counts in
+    let side = subst (λ o. IsSide o c.args.link.now) (sym counts.left) (left_side_of c.args.link.now n root c.requires.rising) in
+    (omega (arith, side.lower), (c.requires.lone, (side.tree, (side.rising, (omega (arith, side.lower), omega (arith, side.fewer))))))
 
-pub balanced-requires-clause-few : goal.balanced-requires-clause-few
-balanced-requires-clause-few t c =
-    let o = c.opened-left in
-    let l = in_order_behind o.result.0 in
-    let r = in_order_behind o.result.2 in
-    let x = task_of o.result.1.value in
-    let whole : in_order_behind c.args.link ≡ l ++ x ∷ r = ap in_order_behind c.in-Some.is ∙ o.ensures.order in
-    let count = length-append l (x ∷ r) in
-    let more = length-place (task_of c.args.node.value) l in
-    omega (arith, ap length whole, ap length c.insert_into-side.ensures.order)
+pub settle-requires-clause-fork : goal.settle-requires-clause-fork
+settle-requires-clause-fork t c =
+    let n = c.deref_mut-root.result.now in
+    let k = c.count_in.new.root in
+    let x = task_of c.args.node.value in
+    let root = root_behind c.args.link.now c.in-Some.root n c.in-Some.is c.deref_mut-root.ensures.value c.requires.tree in
+    let counts : CountsIn n k x = subst (λ (m : Node). CountsIn n k (out-Node m).entity) c.deref.ensures c.count_in.ensures.counts in
+    let test : runs_before x (out-Node k).entity ≡ true = ap (λ (m : Node). runs_before (out-Node m).entity (out-Node k).entity) (sym c.deref-2.ensures) ∙ sym c.if-runs_before.ensures in
+    let grows = grows_left c.args.link.now n k x c.insert_into.new.link root counts c.insert_into.ensures.tree c.insert_into.ensures.order test in
+    grows.fork
 
-pub returns-then-runs_before-clause-order : goal.returns-then-runs_before-clause-order
-returns-then-runs_before-clause-order t c =
-    let o = c.opened-left in
-    let l = in_order_behind o.result.0 in
-    let r = in_order_behind o.result.2 in
-    let x = task_of o.result.1.value in
-    let n = task_of c.args.node.value in
-    let whole : in_order_behind c.args.link ≡ l ++ x ∷ r = ap in_order_behind c.in-Some.is ∙ o.ensures.order in
-    let test : runs_before n x ≡ true = cc in
-    rw whole (c.balanced.ensures.order ∙ ap (λ (xs : List _). xs ++ x ∷ r) c.insert_into-side.ensures.order ∙ sym (place-left n l x r test))
+pub settle-requires-clause-few : goal.settle-requires-clause-few
+settle-requires-clause-few t c =
+    let n = c.deref_mut-root.result.now in
+    let k = c.count_in.new.root in
+    let x = task_of c.args.node.value in
+    let root = root_behind c.args.link.now c.in-Some.root n c.in-Some.is c.deref_mut-root.ensures.value c.requires.tree in
+    let counts : CountsIn n k x = subst (λ (m : Node). CountsIn n k (out-Node m).entity) c.deref.ensures c.count_in.ensures.counts in
+    let test : runs_before x (out-Node k).entity ≡ true = ap (λ (m : Node). runs_before (out-Node m).entity (out-Node k).entity) (sym c.deref-2.ensures) ∙ sym c.if-runs_before.ensures in
+    let grows = grows_left c.args.link.now n k x c.insert_into.new.link root counts c.insert_into.ensures.tree c.insert_into.ensures.order test in
+    omega (arith, grows.few)
 
-pub insert_into-side-requires-2 : goal.insert_into-side-requires-2
-insert_into-side-requires-2 t c =
-    let o = c.opened-left in
-    let l = in_order_behind o.result.0 in
-    let r = in_order_behind o.result.2 in
-    let x = task_of o.result.1.value in
-    let whole : in_order_behind c.args.link ≡ l ++ x ∷ r = ap in_order_behind c.in-Some.is ∙ o.ensures.order in
-    let rising = subst IsRising whole c.requires.rising in
-    let height = ap height_behind c.in-Some.is in
-    let count = length-append l (x ∷ r) in
-    (omega arith, (c.requires.lone, (o.ensures.right, ((IsRising-right l (x ∷ r) rising).1, (omega arith, omega (arith, ap length whole))))))
+pub returns-then-height-root-clause-order : goal.returns-then-height-root-clause-order
+returns-then-height-root-clause-order t c =
+    let n = c.deref_mut-root.result.now in
+    let k = c.count_in.new.root in
+    let x = task_of c.args.node.value in
+    let root = root_behind c.args.link.now c.in-Some.root n c.in-Some.is c.deref_mut-root.ensures.value c.requires.tree in
+    let counts : CountsIn n k x = subst (λ (m : Node). CountsIn n k (out-Node m).entity) c.deref.ensures c.count_in.ensures.counts in
+    let test : runs_before x (out-Node k).entity ≡ true = ap (λ (m : Node). runs_before (out-Node m).entity (out-Node k).entity) (sym c.deref-2.ensures) ∙ sym c.if-runs_before.ensures in
+    let grows = grows_left c.args.link.now n k x c.insert_into.new.link root counts c.insert_into.ensures.tree c.insert_into.ensures.order test in
+    c.settle.ensures.order ∙ grows.order
 
-pub balanced-requires-2-clause-few : goal.balanced-requires-2-clause-few
-balanced-requires-2-clause-few t c =
-    let o = c.opened-left in
-    let l = in_order_behind o.result.0 in
-    let r = in_order_behind o.result.2 in
-    let x = task_of o.result.1.value in
-    let whole : in_order_behind c.args.link ≡ l ++ x ∷ r = ap in_order_behind c.in-Some.is ∙ o.ensures.order in
-    let count = length-append l (x ∷ r) in
-    let more = length-place (task_of c.args.node.value) r in
-    omega (arith, ap length whole, ap length c.insert_into-side-2.ensures.order)
+pub returns-else-height-root-clause-tree : goal.returns-else-height-root-clause-tree
+returns-else-height-root-clause-tree t c =
+    let n = c.deref_mut-root.result.now in
+    let k = c.count_in.new.root in
+    let x = task_of c.args.node.value in
+    let root = root_behind c.args.link.now c.in-Some.root n c.in-Some.is c.deref_mut-root.ensures.value c.requires.tree in
+    let counts : CountsIn n k x = subst (λ (m : Node). CountsIn n k (out-Node m).entity) c.deref.ensures c.count_in.ensures.counts in
+    let test : runs_before x (out-Node k).entity ≡ true = ap (λ (m : Node). runs_before (out-Node m).entity (out-Node k).entity) (sym c.deref-2.ensures) ∙ sym c.if-runs_before.ensures in
+    let grows = grows_left c.args.link.now n k x c.insert_into.new.link root counts c.insert_into.ensures.tree c.insert_into.ensures.order test in
+    tree_left n k x c.insert_into.new.link root.tree counts grows.fork c.insert_into.ensures.tree c.insert_into.ensures.not_lower (omega (arith, c.if-height-root.false, c.height.ensures, ap height_behind (left-made (out-Node k).entity c.insert_into.new.link (out-Node k).right (out-Node k).due (out-Node k).totals (out-Node k).height), height-made (out-Node k).entity c.insert_into.new.link (out-Node k).right (out-Node k).due (out-Node k).totals (out-Node k).height))
 
-pub returns-clause-order : goal.returns-clause-order
-returns-clause-order t c =
-    let o = c.opened-left in
-    let l = in_order_behind o.result.0 in
-    let r = in_order_behind o.result.2 in
-    let x = task_of o.result.1.value in
-    let n = task_of c.args.node.value in
-    let whole : in_order_behind c.args.link ≡ l ++ x ∷ r = ap in_order_behind c.in-Some.is ∙ o.ensures.order in
-    let rising = subst IsRising whole c.requires.rising in
-    let test : runs_before n x ≡ false = cc in
-    rw whole (c.balanced-2.ensures.order ∙ ap (λ (xs : List _). l ++ x ∷ xs) c.insert_into-side-2.ensures.order ∙ sym (place-right n l x r test (IsRising-before l x r rising)))
+pub returns-else-height-root-clause-order : goal.returns-else-height-root-clause-order
+returns-else-height-root-clause-order t c =
+    let n = c.deref_mut-root.result.now in
+    let k = c.count_in.new.root in
+    let x = task_of c.args.node.value in
+    let root = root_behind c.args.link.now c.in-Some.root n c.in-Some.is c.deref_mut-root.ensures.value c.requires.tree in
+    let counts : CountsIn n k x = subst (λ (m : Node). CountsIn n k (out-Node m).entity) c.deref.ensures c.count_in.ensures.counts in
+    let test : runs_before x (out-Node k).entity ≡ true = ap (λ (m : Node). runs_before (out-Node m).entity (out-Node k).entity) (sym c.deref-2.ensures) ∙ sym c.if-runs_before.ensures in
+    let grows = grows_left c.args.link.now n k x c.insert_into.new.link root counts c.insert_into.ensures.tree c.insert_into.ensures.order test in
+    grows.order
+
+pub insert_into-requires-2 : goal.insert_into-requires-2
+insert_into-requires-2 t c =
+    let n = c.deref_mut-root.result.now in
+    let k = c.count_in.new.root in
+    let x = task_of c.args.node.value in
+    let root = root_behind c.args.link.now c.in-Some.root n c.in-Some.is c.deref_mut-root.ensures.value c.requires.tree in
+    let counts : CountsIn n k x = subst (λ (m : Node). CountsIn n k (out-Node m).entity) c.deref.ensures c.count_in.ensures.counts in
+    let side = subst (λ o. IsSide o c.args.link.now) (sym counts.right) (right_side_of c.args.link.now n root c.requires.rising) in
+    (omega (arith, side.lower), (c.requires.lone, (side.tree, (side.rising, (omega (arith, side.lower), omega (arith, side.fewer))))))
+
+pub settle-requires-then-height-root-2-clause-fork : goal.settle-requires-then-height-root-2-clause-fork
+settle-requires-then-height-root-2-clause-fork t c =
+    let n = c.deref_mut-root.result.now in
+    let k = c.count_in.new.root in
+    let x = task_of c.args.node.value in
+    let root = root_behind c.args.link.now c.in-Some.root n c.in-Some.is c.deref_mut-root.ensures.value c.requires.tree in
+    let counts : CountsIn n k x = subst (λ (m : Node). CountsIn n k (out-Node m).entity) c.deref.ensures c.count_in.ensures.counts in
+    let test : runs_before x (out-Node k).entity ≡ false = ap (λ (m : Node). runs_before (out-Node m).entity (out-Node k).entity) (sym c.deref-2.ensures) ∙ sym c.if-runs_before.ensures in
+    let grows = grows_right c.args.link.now n k x c.insert_into-2.new.link root c.requires.rising counts c.insert_into-2.ensures.tree c.insert_into-2.ensures.order test in
+    grows.fork
+
+pub settle-requires-then-height-root-2-clause-few : goal.settle-requires-then-height-root-2-clause-few
+settle-requires-then-height-root-2-clause-few t c =
+    let n = c.deref_mut-root.result.now in
+    let k = c.count_in.new.root in
+    let x = task_of c.args.node.value in
+    let root = root_behind c.args.link.now c.in-Some.root n c.in-Some.is c.deref_mut-root.ensures.value c.requires.tree in
+    let counts : CountsIn n k x = subst (λ (m : Node). CountsIn n k (out-Node m).entity) c.deref.ensures c.count_in.ensures.counts in
+    let test : runs_before x (out-Node k).entity ≡ false = ap (λ (m : Node). runs_before (out-Node m).entity (out-Node k).entity) (sym c.deref-2.ensures) ∙ sym c.if-runs_before.ensures in
+    let grows = grows_right c.args.link.now n k x c.insert_into-2.new.link root c.requires.rising counts c.insert_into-2.ensures.tree c.insert_into-2.ensures.order test in
+    omega (arith, grows.few)
+
+pub returns-then-height-root-2-clause-order : goal.returns-then-height-root-2-clause-order
+returns-then-height-root-2-clause-order t c =
+    let n = c.deref_mut-root.result.now in
+    let k = c.count_in.new.root in
+    let x = task_of c.args.node.value in
+    let root = root_behind c.args.link.now c.in-Some.root n c.in-Some.is c.deref_mut-root.ensures.value c.requires.tree in
+    let counts : CountsIn n k x = subst (λ (m : Node). CountsIn n k (out-Node m).entity) c.deref.ensures c.count_in.ensures.counts in
+    let test : runs_before x (out-Node k).entity ≡ false = ap (λ (m : Node). runs_before (out-Node m).entity (out-Node k).entity) (sym c.deref-2.ensures) ∙ sym c.if-runs_before.ensures in
+    let grows = grows_right c.args.link.now n k x c.insert_into-2.new.link root c.requires.rising counts c.insert_into-2.ensures.tree c.insert_into-2.ensures.order test in
+    c.settle-then-height-root-2.ensures.order ∙ grows.order
+
+pub returns-else-height-root-2-clause-tree : goal.returns-else-height-root-2-clause-tree
+returns-else-height-root-2-clause-tree t c =
+    let n = c.deref_mut-root.result.now in
+    let k = c.count_in.new.root in
+    let x = task_of c.args.node.value in
+    let root = root_behind c.args.link.now c.in-Some.root n c.in-Some.is c.deref_mut-root.ensures.value c.requires.tree in
+    let counts : CountsIn n k x = subst (λ (m : Node). CountsIn n k (out-Node m).entity) c.deref.ensures c.count_in.ensures.counts in
+    let test : runs_before x (out-Node k).entity ≡ false = ap (λ (m : Node). runs_before (out-Node m).entity (out-Node k).entity) (sym c.deref-2.ensures) ∙ sym c.if-runs_before.ensures in
+    let grows = grows_right c.args.link.now n k x c.insert_into-2.new.link root c.requires.rising counts c.insert_into-2.ensures.tree c.insert_into-2.ensures.order test in
+    tree_right n k x c.insert_into-2.new.link root.tree counts grows.fork c.insert_into-2.ensures.tree c.insert_into-2.ensures.not_lower (omega (arith, c.if-height-root-2.false, c.height-2.ensures, ap height_behind (right-made (out-Node k).entity (out-Node k).left c.insert_into-2.new.link (out-Node k).due (out-Node k).totals (out-Node k).height), height-made (out-Node k).entity (out-Node k).left c.insert_into-2.new.link (out-Node k).due (out-Node k).totals (out-Node k).height))
+
+pub returns-else-height-root-2-clause-order : goal.returns-else-height-root-2-clause-order
+returns-else-height-root-2-clause-order t c =
+    let n = c.deref_mut-root.result.now in
+    let k = c.count_in.new.root in
+    let x = task_of c.args.node.value in
+    let root = root_behind c.args.link.now c.in-Some.root n c.in-Some.is c.deref_mut-root.ensures.value c.requires.tree in
+    let counts : CountsIn n k x = subst (λ (m : Node). CountsIn n k (out-Node m).entity) c.deref.ensures c.count_in.ensures.counts in
+    let test : runs_before x (out-Node k).entity ≡ false = ap (λ (m : Node). runs_before (out-Node m).entity (out-Node k).entity) (sym c.deref-2.ensures) ∙ sym c.if-runs_before.ensures in
+    let grows = grows_right c.args.link.now n k x c.insert_into-2.new.link root c.requires.rising counts c.insert_into-2.ensures.tree c.insert_into-2.ensures.order test in
+    grows.order

@@ -1,15 +1,15 @@
-use Rattle.std.proofs.Common.{ap, subst, length, length-append, ◌∷◌, arith}
+use Rattle.std.proofs.Common.{[], refl, sym, subst}
 use Rattle.bq_disc.specs.Chains.{task_of}
-use Rattle.bq_disc.specs.Trees.{IsTree, IsTreeBehind, in_order_behind, height_behind}
+use Rattle.bq_disc.specs.Trees.{StillCounts}
+use Rattle.bq_disc.specs.declared.node.Node.{Node, out-Node}
+use Rattle.bq_tree.proofs.NodeFacts.{root_behind, on_left}
+use Rattle.bq_tree.proofs.RemoveFacts.{still_left}
 use Rattle.bq_tree.proofs.edits.+pop_least.Goals as goal
 
-pub pop_least-least-requires : goal.pop_least-least-requires
-pop_least-least-requires t c =
-    let o = c.opened-left in
-    let l = o.result.0 in
-    let r = o.result.2 in
-    let tree : IsTree c.in-Some.next.value = subst IsTreeBehind c.in-Some.is o.ensures.left in
-    let height = ap height_behind c.in-Some.is in
-    let order = ap in_order_behind c.in-Some.is in
-    let count = length-append (in_order_behind l) (task_of o.result.1.value ∷ in_order_behind r) in
-    (omega arith, (tree, (omega arith, omega (arith, ap length order, ap length o.ensures.order))))
+pub count_out-requires-clause-counts : goal.count_out-requires-clause-counts
+count_out-requires-clause-counts t c =
+    let n = c.deref_mut-root.result.now in
+    let new = c.pop_least.new.link in
+    let root = root_behind c.args.link.now c.in-Some.root n c.in-Some.is c.deref_mut-root.ensures.value c.requires.tree in
+    let still = still_left n (task_of c.in-Some-pop_least.least.value) new [] _ root.tree c.in-Some-pop_least.ensures.order refl in
+    subst (λ (m : Node). StillCounts (on_left n new) (out-Node m).entity) (sym c.deref-2.ensures) still

@@ -1,5 +1,5 @@
-use Rattle.bq_disc.specs.Trees.{height_of}
+use Rattle.bq_disc.specs.Trees.{height_behind}
 use Rattle.bq_tree.proofs.edits.+pop_least.Given as goal
 
 abbrev pub decreases-pop_least : goal.decreases-pop_least
-decreases-pop_least l = height_of l.root.value
+decreases-pop_least l = height_behind l.link.now

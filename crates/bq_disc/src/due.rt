@@ -1,0 +1,36 @@
+//! When a task is due.
+ghost use Rattle.std.specs.Prelude.{◌≡◌, IfSome, Option, Some, None};
+ghost use Rattle.bq_disc.specs.Dues.{is_earlier, earlier_of, earliest_of};
+
+/// A virtual deadline, and the id of the task that it is set for. Of equal deadlines that of the lesser id comes first.
+#[derive(Clone, Copy)]
+pub struct Due {
+    pub deadline: u64,
+    pub id: u16,
+}
+
+impl Due {
+    /// Whether it comes before another.
+    pub fn is_before(&self, other: &Due) -> bool
+        ensures { result ≡ is_earlier self.now other.now }
+    {
+        self.deadline < other.deadline || (self.deadline == other.deadline && self.id < other.id)
+    }
+
+    /// The earlier of two.
+    pub fn earlier(self, other: Due) -> Due
+        ensures { result ≡ earlier_of self other }
+    {
+        if other.is_before(&self) { other } else { self }
+    }
+
+    /// The earlier of this one and of another that may be there.
+    pub fn earliest(self, other: Option<Due>) -> Due
+        ensures { result ≡ earliest_of self other }
+    {
+        match other {
+            None => self,
+            Some(other) => self.earlier(other),
+        }
+    }
+}

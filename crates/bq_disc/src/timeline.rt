@@ -1,0 +1,71 @@
+//! How tasks are held in the order of their virtual time.
+ghost use Rattle.std.specs.Prelude.{◌≡◌, ◌≤◌, ◌<◌, ◌^◌, List, [], length, None, IfSome, find, filter, take};
+ghost use Rattle.std.specs.Option.{option_map};
+ghost use Rattle.bq_disc.specs.Tasks.{Task, place, without, with_id, first_by, runs_before};
+ghost use Rattle.bq_disc.specs.Queues.{follows, key_of, HasDistinctIds};
+ghost use Rattle.bq_disc.specs.Trees.{IsRising};
+ghost use Rattle.bq_disc.specs.Movable.{movable_to, ids};
+ghost use Rattle.bq_disc.specs.Totals.{sums_of, is_at_most_mean, HasBounds};
+ghost use Rattle.bq_disc.specs.Dues.{first_due};
+ghost use Rattle.bq_disc.specs.Chains.{task_of, IsLone};
+
+use crate::{Due, Movable, Node, Totals};
+
+/// Tasks with distinct ids, by rising (v, id). No call takes memory: nodes move.
+///
+/// The plain one is `Chain`; a balanced tree answers the same, faster.
+pub trait Timeline {
+    /// The tasks in their order.
+    ghost tasks: { Self → List Task };
+
+    fn empty() -> Self
+        ensures { tasks result ≡ [] };
+
+    fn len(&self) -> usize
+        ensures { result ≡ length (tasks self.now) };
+
+    /// Puts a task in its place. Of tasks with equal (v, id) there is none.
+    fn insert(&mut self, node: Box<Node>)
+        requires lone { IsLone node.value }
+        requires fresh { with_id (task_of node.value).id (tasks self.old) ≡ None }
+        ensures { tasks self.new ≡ place (task_of node.value) (tasks self.old) };
+
+    /// Takes out the task of an id, if it is there.
+    fn take(&mut self, id: u16) -> Option<Box<Node>>
+        ensures taken { option_map (λ b. task_of b.value) result ≡ with_id id (tasks self.old) }
+        ensures lone { IfSome result (λ b. IsLone b.value) }
+        ensures rest { tasks self.new ≡ without id (tasks self.old) }
+        ensures gone { with_id id (tasks self.new) ≡ None };
+
+    /// The task of an id, if it is there.
+    fn get(&self, id: u16) -> Option<&Node>
+        ensures { option_map (λ n. task_of n.now) result ≡ with_id id (tasks self.now) };
+
+    /// The task of least (v, id) above the one given; of none, the task of least (v, id).
+    fn after(&self, last: Option<(u64, u16)>) -> Option<&Node>
+        ensures task { option_map (λ n. task_of n.now) result ≡ find (follows last) (tasks self.now) }
+        ensures rising { IsRising (tasks self.now) }
+        ensures distinct { HasDistinctIds (tasks self.now) };
+
+    /// The tasks that may go to a processor, the greatest (v, id) first.
+    fn movable(&self, cpu: u8) -> Movable
+        requires { cpu < 64 }
+        ensures count { result.count ≡ length (movable_to cpu (tasks self.now)) }
+        ensures first { result.first.items ≡ take 8 (ids (movable_to cpu (tasks self.now))) }
+        ensures rising { IsRising (tasks self.now) };
+
+    /// The (v, id) of the task of least (v, id).
+    fn least(&self) -> Option<(u64, u16)>
+        ensures key { result ≡ option_map key_of (first_by runs_before (tasks self.now)) }
+        ensures high { IfSome result (λ key. key.0 ≤ 2 ^ 62) };
+
+    /// What the tasks have together.
+    fn totals(&self) -> Totals
+        ensures sums { result ≡ sums_of (tasks self.now) }
+        ensures bounds { HasBounds result }
+        ensures few { result.count ≤ 2 ^ 16 };
+
+    /// When the first is due of the tasks whose v is at most a mean: of those with `weight * v <= moment`.
+    fn earliest_at_most_mean(&self, weight: u64, moment: u128) -> Option<Due>
+        ensures { result ≡ first_due (filter (is_at_most_mean weight moment) (tasks self.now)) };
+}

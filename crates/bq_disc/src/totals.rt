@@ -1,0 +1,86 @@
+//! What some tasks have together.
+ghost use Rattle.std.specs.Prelude.{◌≡◌, ◌≤◌, ◌<◌, ◌*◌, ◌^◌, List, [], IfSome};
+ghost use Rattle.bq_disc.specs.Tasks.{Task};
+ghost use Rattle.bq_disc.specs.Totals.{HasBounds, sums_of, added, joined, mean_of, IsBounded};
+
+use crate::Entity;
+
+/// How many tasks there are, their weights together, and each weight times its v together.
+///
+/// A queue adds up as it changes, so that their mean v, `moment / weight`, is at hand at any time.
+#[derive(Clone, Copy)]
+pub struct Totals {
+    pub moment: u128,
+    pub weight: u64,
+    pub count: u32,
+}
+
+impl Totals {
+    /// Those of no task.
+    pub fn none() -> Totals
+        ensures sums { result ≡ sums_of [] }
+        ensures bounds { HasBounds result }
+    {
+        Totals {
+            moment: 0,
+            weight: 0,
+            count: 0,
+        }
+    }
+
+    /// Counts one more task.
+    pub fn add(&mut self, entity: &Entity)
+        requires few { self.old.count ≤ 2 ^ 18 }
+        requires bounds { HasBounds self.old }
+        ensures sums { self.new ≡ added self.old entity.now }
+        ensures bounds { HasBounds self.new }
+        ensures task { IsBounded entity.now }
+    {
+        let weight = entity.weight();
+        self.moment += u128::from(weight) * u128::from(entity.v());
+        self.weight += u64::from(weight);
+        self.count += 1;
+    }
+
+    /// No longer counts a task that it counted.
+    pub fn remove(&mut self, entity: &Entity)
+        requires count { 1 ≤ self.old.count }
+        requires weight { entity.now.weight ≤ self.old.weight }
+        requires moment { entity.now.weight * entity.now.v ≤ self.old.moment }
+        ensures { added self.new entity.now ≡ self.old }
+    {
+        let weight = entity.weight();
+        self.moment -= u128::from(weight) * u128::from(entity.v());
+        self.weight -= u64::from(weight);
+        self.count -= 1;
+    }
+
+    /// Those of these tasks and of others.
+    pub fn join(&self, other: &Totals) -> Totals
+        requires few { self.now.count ≤ 2 ^ 17 }
+        requires others { other.now.count ≤ 2 ^ 17 }
+        requires bounds { HasBounds self.now }
+        requires bounded { HasBounds other.now }
+        ensures sums { result ≡ joined self.now other.now }
+        ensures bounds { HasBounds result }
+    {
+        Totals {
+            moment: self.moment + other.moment,
+            weight: self.weight + other.weight,
+            count: self.count + other.count,
+        }
+    }
+
+    /// Their mean v, each weighted by its weight, rounded down; none of no task.
+    pub fn mean(&self) -> Option<u64>
+        requires { HasBounds self.now }
+        ensures value { (xs : List Task) → self.now ≡ sums_of xs → result ≡ mean_of xs }
+        ensures high { IfSome result (λ mean. mean ≤ 2 ^ 62) }
+    {
+        if self.count == 0 {
+            return None;
+        }
+        let mean = self.moment / u128::from(self.weight);
+        Some(mean as u64)
+    }
+}

@@ -1,9 +1,0 @@
-use Rattle.std.proofs.Common.{arith}
-use Rattle.bq_disc.specs.Trees.{in_order_behind}
-use Rattle.bq_disc.proofs.QueueFacts.{length-few}
-use Rattle.bq_tree.proofs.index.Tree.totals.Goals as goal
-
-pub returns-clause-few : goal.returns-clause-few
-returns-clause-few c =
-    let few = length-few (in_order_behind c.self.inside.root) c.self.invariant.distinct c.self.invariant.small in
-    omega (arith, few, c.totals.ensures.count)

@@ -1,0 +1,48 @@
+use Rattle.std.proofs.Common.{◌≡◌, ◌<◌, ◌^◌, None, ℕ, List, slice_index, ap, subst, ◌∙◌, arith}
+use Rattle.bq_disc.specs.Tasks.{Task, with_id}
+use Rattle.bq_disc.specs.Queues.{key_of}
+use Rattle.bq_disc.specs.Chains.{task_of}
+use Rattle.bq_disc.specs.Trees.{in_order_behind}
+use Rattle.bq_disc.specs.declared.node.Node.{Node, out-Node}
+use Rattle.bq_tree.specs.Sound.{Knows, lesser_of}
+use Rattle.bq_tree.proofs.HeightFacts.{low_of_many}
+use Rattle.bq_tree.proofs.IndexFacts.{room, sound_inserted}
+use Rattle.bq_tree.proofs.index.TreeTimeline.insert.Goals as goal
+
+pub insert_into-requires-clause-low : goal.insert_into-requires-clause-low
+insert_into-requires-clause-low c =
+    let s = c.self.invariant in
+    let t = task_of c.args.node.value in
+    let xs = in_order_behind c.self.inside.root in
+    let key : c.key-key.result ≡ key_of t = c.key-key.ensures.value ∙ ap (λ (m : Node). key_of (out-Node m).entity) c.deref.ensures in
+    let small : t.id < 2 ^ 16 = subst (λ (k : ℕ × ℕ). k.1 < 2 ^ 16) key c.key-key.ensures.small in
+    let fresh : with_id t.id xs ≡ None = rw c.self.view_is c.requires.fresh in
+    let few = room t xs s.distinct s.small fresh small in
+    let low = low_of_many c.self.inside.root s.tree (omega (arith, few)) in
+    omega (arith, low)
+
+pub insert_into-requires-clause-few : goal.insert_into-requires-clause-few
+insert_into-requires-clause-few c =
+    let s = c.self.invariant in
+    let t = task_of c.args.node.value in
+    let xs = in_order_behind c.self.inside.root in
+    let key : c.key-key.result ≡ key_of t = c.key-key.ensures.value ∙ ap (λ (m : Node). key_of (out-Node m).entity) c.deref.ensures in
+    let small : t.id < 2 ^ 16 = subst (λ (k : ℕ × ℕ). k.1 < 2 ^ 16) key c.key-key.ensures.small in
+    let fresh : with_id t.id xs ≡ None = rw c.self.view_is c.requires.fresh in
+    let few = room t xs s.distinct s.small fresh small in
+    few
+
+pub invariant_of-self : goal.invariant_of-self
+invariant_of-self c =
+    let s = c.self.invariant in
+    let t = task_of c.args.node.value in
+    let xs = in_order_behind c.self.inside.root in
+    let key : c.key-key.result ≡ key_of t = c.key-key.ensures.value ∙ ap (λ (m : Node). key_of (out-Node m).entity) c.deref.ensures in
+    let small : t.id < 2 ^ 16 = subst (λ (k : ℕ × ℕ). k.1 < 2 ^ 16) key c.key-key.ensures.small in
+    let fresh : with_id t.id xs ≡ None = rw c.self.view_is c.requires.fresh in
+    let few = room t xs s.distinct s.small fresh small in
+    let others = subst (λ (k : ℕ × ℕ). (ys : List Task) → with_id k.1 ys ≡ None → Knows c.self.inside.times ys → Knows c.remember.new.times ys) key c.remember.ensures.others in
+    let here = subst (λ (k : ℕ × ℕ). k.1 < 1024 → slice_index c.remember.new.times k.1 ≡ k.0) key c.remember.ensures.here in
+    let lesser = c.lesser.ensures.value ∙ ap (λ (k : ℕ × ℕ). lesser_of k c.self.inside.least) key in
+    let high = c.lesser.ensures.high c.key-key.ensures.high s.high in
+    sound_inserted c.self.inside.root c.insert_into.new.link c.self.inside.least c.lesser.result c.self.inside.times c.remember.new.times t s lesser high c.insert_into.ensures.tree c.insert_into.ensures.order fresh small others here

@@ -1,0 +1,10 @@
+use Rattle.std.proofs.Common.{ap, arith}
+use Rattle.bq_disc.specs.Trees.{in_order_behind}
+use Rattle.bq_disc.specs.declared.totals.Totals.{Totals}
+use Rattle.bq_disc.proofs.QueueFacts.{length-few}
+use Rattle.bq_tree.proofs.index.TreeTimeline.totals.Goals as goal
+
+pub returns-clause-few : goal.returns-clause-few
+returns-clause-few c =
+    let few = length-few (in_order_behind c.self.inside.root) c.self.invariant.distinct c.self.invariant.small in
+    omega (arith, few, ap (λ (s : Totals). s.count) c.totals.ensures.sums)
