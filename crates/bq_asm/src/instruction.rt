@@ -1,5 +1,5 @@
 //! The instruction that a first word and its operands say.
-ghost use Rattle.std.specs.Prelude.{◌≡◌, List, [], length, Some, pos};
+ghost use Rattle.std.specs.Prelude.{◌≡◌, List, [], ◌∷◌, length, Some, pos};
 ghost use Rattle.bq_asm.specs.Operands.{kinds_of, lesser, with_next, listed, each_operand, kind_list, texts, insn_from, instruction_of};
 ghost use Rattle.bq_asm.specs.Text.{list_of};
 
@@ -141,109 +141,148 @@ fn lesser(a: Cause, b: Cause) -> Cause
 fn insn_from(mnemonic: Mnemonic, operands: Operands) -> Option<Insn>
     ensures { result ≡ insn_from mnemonic (list_of operands) }
 {
-    let insn = match (mnemonic, operands) {
-        (Mnemonic::Alu(width, op), Operands::Two(Operand::Register(dst), Operand::Number(imm))) =>
-            Insn::Alu {
-                width,
-                op,
-                dst,
-                src: Source::Imm(imm),
-            },
-        (Mnemonic::Alu(width, op), Operands::Two(Operand::Register(dst), Operand::Register(src))) =>
-            Insn::Alu {
-                width,
-                op,
-                dst,
-                src: Source::Reg(src),
-            },
-        (
-            Mnemonic::MovSx(width, bits),
-            Operands::Two(Operand::Register(dst), Operand::Register(src)),
-        ) => Insn::MovSx {
+    match operands {
+        Operands::Zero => insn_alone(mnemonic),
+        Operands::One(a) => insn_of_one(mnemonic, a),
+        Operands::Two(a, b) => insn_of_two(mnemonic, a, b),
+        Operands::Three(a, b, c) => insn_of_three(mnemonic, a, b, c),
+    }
+}
+
+fn insn_alone(mnemonic: Mnemonic) -> Option<Insn>
+    ensures { result ≡ insn_from mnemonic [] }
+{
+    match mnemonic {
+        Mnemonic::Exit => Some(Insn::Exit),
+        _ => None,
+    }
+}
+
+fn insn_of_one(mnemonic: Mnemonic, operand: Operand) -> Option<Insn>
+    ensures { result ≡ insn_from mnemonic (operand ∷ []) }
+{
+    match (mnemonic, operand) {
+        (Mnemonic::Neg(width), Operand::Register(dst)) => Some(Insn::Neg { width, dst }),
+        (Mnemonic::End(kind, bits), Operand::Register(dst)) => Some(Insn::End { kind, bits, dst }),
+        (Mnemonic::Goto, Operand::Near(off)) => Some(Insn::Goto { off }),
+        (Mnemonic::Goto32, Operand::Far(imm)) => Some(Insn::Goto32 { imm }),
+        (Mnemonic::Call, Operand::Number(helper)) => Some(Insn::Call { helper }),
+        _ => None,
+    }
+}
+
+fn insn_of_two(mnemonic: Mnemonic, first: Operand, second: Operand) -> Option<Insn>
+    ensures { result ≡ insn_from mnemonic (first ∷ second ∷ []) }
+{
+    match (first, second) {
+        (Operand::Register(dst), Operand::Number(number)) => insn_of_number(mnemonic, dst, number),
+        (Operand::Register(dst), Operand::Register(src)) => insn_of_register(mnemonic, dst, src),
+        (Operand::Register(dst), Operand::Memory { base, offset }) => {
+            insn_of_load(mnemonic, dst, base, offset)
+        }
+        (Operand::Register(dst), Operand::Wide(value)) => match mnemonic {
+            Mnemonic::Imm64 => Some(Insn::Imm64 { dst, value }),
+            _ => None,
+        },
+        (Operand::Memory { base, offset }, stored) => insn_of_store(mnemonic, base, offset, stored),
+        _ => None,
+    }
+}
+
+/// A register, and a number after it.
+fn insn_of_number(mnemonic: Mnemonic, dst: u8, number: i32) -> Option<Insn>
+    ensures { result ≡ insn_from mnemonic (Operand.Register dst ∷ Operand.Number number ∷ []) }
+{
+    match mnemonic {
+        Mnemonic::Alu(width, op) => Some(Insn::Alu {
+            width,
+            op,
+            dst,
+            src: Source::Imm(number),
+        }),
+        Mnemonic::MapRef => Some(Insn::MapRef { dst, index: number }),
+        _ => None,
+    }
+}
+
+/// A register, and another after it.
+fn insn_of_register(mnemonic: Mnemonic, dst: u8, src: u8) -> Option<Insn>
+    ensures { result ≡ insn_from mnemonic (Operand.Register dst ∷ Operand.Register src ∷ []) }
+{
+    match mnemonic {
+        Mnemonic::Alu(width, op) => Some(Insn::Alu {
+            width,
+            op,
+            dst,
+            src: Source::Reg(src),
+        }),
+        Mnemonic::MovSx(width, bits) => Some(Insn::MovSx {
             width,
             bits,
             dst,
             src,
-        },
-        (Mnemonic::Neg(width), Operands::One(Operand::Register(dst))) => {
-            Insn::Neg { width, dst }
-        }
-        (Mnemonic::End(order, bits), Operands::One(Operand::Register(dst))) => {
-            Insn::End {
-                kind: order,
-                bits,
-                dst,
-            }
-        }
-        (
-            Mnemonic::Load(size),
-            Operands::Two(Operand::Register(dst), Operand::Memory { base, offset }),
-        ) => Insn::Load {
-            size,
-            signed: false,
-            dst,
-            src: base,
-            off: offset,
-        },
-        (
-            Mnemonic::LoadSigned(size),
-            Operands::Two(Operand::Register(dst), Operand::Memory { base, offset }),
-        ) => Insn::Load {
-            size,
-            signed: true,
-            dst,
-            src: base,
-            off: offset,
-        },
-        (
-            Mnemonic::StoreImm(size),
-            Operands::Two(Operand::Memory { base, offset }, Operand::Number(imm)),
-        ) => Insn::StoreImm {
-            size,
-            dst: base,
-            off: offset,
-            imm,
-        },
-        (
-            Mnemonic::StoreReg(size),
-            Operands::Two(Operand::Memory { base, offset }, Operand::Register(src)),
-        ) => Insn::StoreReg {
-            size,
-            dst: base,
-            off: offset,
-            src,
-        },
-        (Mnemonic::Imm64, Operands::Two(Operand::Register(dst), Operand::Wide(value))) => {
-            Insn::Imm64 { dst, value }
-        }
-        (Mnemonic::MapRef, Operands::Two(Operand::Register(dst), Operand::Number(index))) => {
-            Insn::MapRef { dst, index }
-        }
-        (Mnemonic::Goto, Operands::One(Operand::Near(off))) => Insn::Goto { off },
-        (Mnemonic::Goto32, Operands::One(Operand::Far(imm))) => Insn::Goto32 { imm },
-        (
-            Mnemonic::Branch(width, cond),
-            Operands::Three(Operand::Register(dst), Operand::Number(imm), Operand::Near(off)),
-        ) => Insn::Branch {
-            width,
-            cond,
-            dst,
-            src: Source::Imm(imm),
-            off,
-        },
-        (
-            Mnemonic::Branch(width, cond),
-            Operands::Three(Operand::Register(dst), Operand::Register(src), Operand::Near(off)),
-        ) => Insn::Branch {
-            width,
-            cond,
-            dst,
-            src: Source::Reg(src),
-            off,
-        },
-        (Mnemonic::Call, Operands::One(Operand::Number(helper))) => Insn::Call { helper },
-        (Mnemonic::Exit, Operands::Zero) => Insn::Exit,
+        }),
+        _ => None,
+    }
+}
+
+/// A register, and a place in memory after it.
+fn insn_of_load(mnemonic: Mnemonic, dst: u8, src: u8, off: i16) -> Option<Insn>
+    ensures { result ≡ insn_from mnemonic (Operand.Register dst ∷ Operand.Memory src off ∷ []) }
+{
+    let (size, signed) = match mnemonic {
+        Mnemonic::Load(size) => (size, false),
+        Mnemonic::LoadSigned(size) => (size, true),
         _ => return None,
     };
-    Some(insn)
+    Some(Insn::Load {
+        size,
+        signed,
+        dst,
+        src,
+        off,
+    })
+}
+
+/// A place in memory, and what is stored there after it.
+fn insn_of_store(mnemonic: Mnemonic, dst: u8, off: i16, stored: Operand) -> Option<Insn>
+    ensures { result ≡ insn_from mnemonic (Operand.Memory dst off ∷ stored ∷ []) }
+{
+    match (mnemonic, stored) {
+        (Mnemonic::StoreImm(size), Operand::Number(imm)) => Some(Insn::StoreImm {
+            size,
+            dst,
+            off,
+            imm,
+        }),
+        (Mnemonic::StoreReg(size), Operand::Register(src)) => Some(Insn::StoreReg {
+            size,
+            dst,
+            off,
+            src,
+        }),
+        _ => None,
+    }
+}
+
+fn insn_of_three(mnemonic: Mnemonic, a: Operand, b: Operand, c: Operand) -> Option<Insn>
+    ensures { result ≡ insn_from mnemonic (a ∷ b ∷ c ∷ []) }
+{
+    let (Mnemonic::Branch(width, cond), Operand::Register(dst), Operand::Near(off)) = (
+        mnemonic, a, c,
+    ) else {
+        return None;
+    };
+    let src = match b {
+        Operand::Number(imm) => Source::Imm(imm),
+        Operand::Register(register) => Source::Reg(register),
+        _ => return None,
+    };
+    Some(Insn::Branch {
+        width,
+        cond,
+        dst,
+        src,
+        off,
+    })
 }

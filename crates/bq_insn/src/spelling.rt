@@ -5,7 +5,7 @@ ghost use Rattle.bq_insn.specs.Table.{opcode_of};
 
 use crate::form::Form;
 use crate::slot::Slot;
-use crate::{Bits, Insn, Operation, Source};
+use crate::{Bits, Condition, Insn, Operation, Source, Width};
 
 /// The slot that spells an instruction, and the second one where it is wide.
 pub fn slots_of(insn: Insn) -> (Slot, Option<Slot>)
@@ -17,27 +17,7 @@ pub fn slots_of(insn: Insn) -> (Slot, Option<Slot>)
             op,
             dst,
             src,
-        } => {
-            let offset = variant_of(op);
-            match src {
-                Source::Imm(imm) => {
-                    let form = Form::Alu {
-                        width,
-                        op,
-                        by_register: false,
-                    };
-                    one(form, dst, 0, offset, imm.cast_unsigned())
-                }
-                Source::Reg(register) => {
-                    let form = Form::Alu {
-                        width,
-                        op,
-                        by_register: true,
-                    };
-                    one(form, dst, register, offset, 0)
-                }
-            }
-        }
+        } => operation_slots(width, op, dst, src),
         Insn::MovSx {
             width,
             bits,
@@ -53,13 +33,8 @@ pub fn slots_of(insn: Insn) -> (Slot, Option<Slot>)
         }
         Insn::Neg { width, dst } => one(Form::Neg { width }, dst, 0, 0, 0),
         Insn::End { kind, bits, dst } => {
-            one(
-                Form::End { order: kind },
-                dst,
-                0,
-                0,
-                u32::from(bits_number(bits)),
-            )
+            let form = Form::End { order: kind };
+            one(form, dst, 0, 0, u32::from(bits_number(bits)))
         }
         Insn::Load {
             size,
@@ -67,37 +42,29 @@ pub fn slots_of(insn: Insn) -> (Slot, Option<Slot>)
             dst,
             src,
             off,
-        } => one(
-            Form::Load { size, signed },
-            dst,
-            src,
-            off.cast_unsigned(),
-            0,
-        ),
+        } => {
+            let form = Form::Load { size, signed };
+            one(form, dst, src, off.cast_unsigned(), 0)
+        }
         Insn::StoreImm {
             size,
             dst,
             off,
             imm,
-        } => one(
-            Form::StoreImm { size },
-            dst,
-            0,
-            off.cast_unsigned(),
-            imm.cast_unsigned(),
-        ),
+        } => {
+            let form = Form::StoreImm { size };
+            one(form, dst, 0, off.cast_unsigned(), imm.cast_unsigned())
+        }
         Insn::StoreReg {
             size,
             dst,
             off,
             src,
-        } => one(Form::StoreReg { size }, dst, src, off.cast_unsigned(), 0),
-        Insn::Imm64 { dst, value } => two(
-            dst,
-            0,
-            (value % 0x1_0000_0000) as u32,
-            (value / 0x1_0000_0000) as u32,
-        ),
+        } => {
+            let form = Form::StoreReg { size };
+            one(form, dst, src, off.cast_unsigned(), 0)
+        }
+        Insn::Imm64 { dst, value } => number_slots(dst, value),
         Insn::MapRef { dst, index } => two(dst, 5, index.cast_unsigned(), 0),
         Insn::Goto { off } => one(Form::Goto, 0, 0, off.cast_unsigned(), 0),
         Insn::Goto32 { imm } => one(Form::Goto32, 0, 0, 0, imm.cast_unsigned()),
@@ -107,30 +74,75 @@ pub fn slots_of(insn: Insn) -> (Slot, Option<Slot>)
             dst,
             src,
             off,
-        } => {
-            let offset = off.cast_unsigned();
-            match src {
-                Source::Imm(imm) => {
-                    let form = Form::Branch {
-                        width,
-                        cond,
-                        by_register: false,
-                    };
-                    one(form, dst, 0, offset, imm.cast_unsigned())
-                }
-                Source::Reg(register) => {
-                    let form = Form::Branch {
-                        width,
-                        cond,
-                        by_register: true,
-                    };
-                    one(form, dst, register, offset, 0)
-                }
-            }
-        }
+        } => branch_slots(width, cond, dst, src, off),
         Insn::Call { helper } => one(Form::Call, 0, 0, 0, helper.cast_unsigned()),
         Insn::Exit => one(Form::Exit, 0, 0, 0, 0),
     }
+}
+
+/// The slot of an operation, by where its second operand stands.
+fn operation_slots(width: Width, op: Operation, dst: u8, src: Source) -> (Slot, Option<Slot>)
+    ensures { AreSlots result (spelled (Insn.Alu width op dst src)) }
+{
+    let offset = variant_of(op);
+    match src {
+        Source::Imm(imm) => {
+            let form = Form::Alu {
+                width,
+                op,
+                by_register: false,
+            };
+            one(form, dst, 0, offset, imm.cast_unsigned())
+        }
+        Source::Reg(register) => {
+            let form = Form::Alu {
+                width,
+                op,
+                by_register: true,
+            };
+            one(form, dst, register, offset, 0)
+        }
+    }
+}
+
+/// The slot of a branch, by where its second operand stands.
+fn branch_slots(
+    width: Width,
+    cond: Condition,
+    dst: u8,
+    src: Source,
+    off: i16,
+) -> (Slot, Option<Slot>)
+    ensures { AreSlots result (spelled (Insn.Branch width cond dst src off)) }
+{
+    let offset = off.cast_unsigned();
+    match src {
+        Source::Imm(imm) => {
+            let form = Form::Branch {
+                width,
+                cond,
+                by_register: false,
+            };
+            one(form, dst, 0, offset, imm.cast_unsigned())
+        }
+        Source::Reg(register) => {
+            let form = Form::Branch {
+                width,
+                cond,
+                by_register: true,
+            };
+            one(form, dst, register, offset, 0)
+        }
+    }
+}
+
+/// The two slots of a number, its low half in the first.
+fn number_slots(dst: u8, value: u64) -> (Slot, Option<Slot>)
+    ensures { AreSlots result (spelled (Insn.Imm64 dst value)) }
+{
+    let low = (value % 0x1_0000_0000) as u32;
+    let high = (value / 0x1_0000_0000) as u32;
+    two(dst, 0, low, high)
 }
 
 /// A slot of that form, alone.
