@@ -1,7 +1,7 @@
 #!/bin/sh
 # Times the crates of this repository beside plain Rust that does the same.
 #
-#     bench/run.sh FOLDER      one of the folders beside this file, as insn
+#     bench/run.sh FOLDER      one of the folders beside this file, as programs
 #
 # A FOLDER has
 #   plain.rs       the plain Rust, built by `rustc -O`. `plain WORD TURNS` does that so often with its standard input, and
