@@ -1,12 +1,15 @@
 //! What a command writes for its input.
-ghost use Rattle.std.specs.Prelude.{◌≡◌, IfOk, true, false, string_bytes, codes, ◌++◌};
+ghost use Rattle.std.specs.Prelude.{◌≡◌, IfOk, true, false, string_bytes};
+ghost use Rattle.bq_program.specs.Refusals.{refusal};
 
 use std::alloc::{AllocError, Global};
 
-/// A text for standard output, and whether the input was accepted.
+/// What a command answers for its input.
 #[derive(Debug, Drop)]
 pub struct Answer {
+    /// The text for standard output, with its line ends.
     pub text: String,
+    /// Whether the input was accepted. Where it was not, the text is the line that refuses it.
     pub accepted: bool,
 }
 
@@ -24,7 +27,7 @@ impl Answer {
 
     /// The line that refuses an input.
     pub fn refused(alloc: Global, reason: &str) -> Result<Answer, AllocError>
-        ensures text { IfOk result (λ a. string_bytes a.text ≡ codes "refused " ++ (reason.now ++ codes "\n")) }
+        ensures text { IfOk result (λ a. string_bytes a.text ≡ refusal reason.now) }
         ensures refused { IfOk result (λ a. a.accepted ≡ false) }
     {
         let text = format!(in alloc; "refused {reason}\n")?;

@@ -1,4 +1,7 @@
 //! From an assembler text to the hex of its program.
+ghost use Rattle.std.specs.Prelude.{◌≡◌, IfOk};
+ghost use Rattle.std.specs.String.{string_bytes};
+ghost use Rattle.bq_program.specs.Asm.{AsmWrites, asm_number};
 
 use crate::Answer;
 use bq_asm::{AsmFault, Cause, assemble};
@@ -6,7 +9,9 @@ use bq_insn::encode::encode;
 use std::alloc::{AllocError, Global};
 
 /// The lower-case hex of the program that an assembler text stands for, and LF; else why it is refused.
-pub fn assembled(alloc: Global, text: &[u8]) -> Result<Answer, AllocError> {
+pub fn assembled(alloc: Global, text: &[u8]) -> Result<Answer, AllocError>
+    ensures { IfOk result (λ a. AsmWrites text.now a.accepted (string_bytes a.text)) }
+{
     let Ok(text) = std::str::from_utf8(text) else {
         return Answer::refused(alloc, "text");
     };
@@ -28,7 +33,9 @@ pub fn assembled(alloc: Global, text: &[u8]) -> Result<Answer, AllocError> {
 }
 
 /// The number by which a cause is named.
-fn number_of(cause: Cause) -> u8 {
+fn number_of(cause: Cause) -> u8
+    ensures { result ≡ asm_number cause }
+{
     match cause {
         Cause::Word => 1,
         Cause::Number => 2,

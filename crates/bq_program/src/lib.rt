@@ -1,9 +1,10 @@
 //! What `asm` and `dis` answer: programs from text to hex and back.
 #![tactic(auto)]
 
-pub mod answer;
-pub mod assembling;
-pub mod listing;
+mod answer;
+mod assembling;
+pub mod laws;
+mod listing;
 #[cfg(test)]
 mod tests;
 

@@ -1,4 +1,7 @@
 //! From hex to the listing of a program.
+ghost use Rattle.std.specs.Prelude.{◌≡◌, IfOk, MatchOption};
+ghost use Rattle.std.specs.String.{string_bytes};
+ghost use Rattle.bq_program.specs.Dis.{DisWrites, IsNoHex, SpellsBytes, digits_in, is_blank, dis_number};
 
 use crate::Answer;
 use bq_asm::listing;
@@ -8,7 +11,9 @@ use std::alloc::{AllocError, Global};
 
 /// The listing of the program whose bytes the hex text spells; else why it is refused. Blanks and line ends in the text
 /// are dropped.
-pub fn disassembled(alloc: Global, hex: &[u8]) -> Result<Answer, AllocError> {
+pub fn disassembled(alloc: Global, hex: &[u8]) -> Result<Answer, AllocError>
+    ensures { IfOk result (λ a. DisWrites hex.now a.accepted (string_bytes a.text)) }
+{
     let Some(bytes) = bytes_of(alloc, hex)? else {
         return Answer::refused(alloc, "hex");
     };
@@ -24,13 +29,10 @@ pub fn disassembled(alloc: Global, hex: &[u8]) -> Result<Answer, AllocError> {
 }
 
 /// The bytes that a hex text spells, None where it is no hex.
-pub fn bytes_of(alloc: Global, text: &[u8]) -> Result<Option<Vec<u8>>, AllocError> {
-    let mut digits = Vec::new(alloc);
-    for &byte in text {
-        if !matches!(byte, b' ' | b'\t' | b'\r' | b'\n') {
-            digits.push(byte)?;
-        }
-    }
+fn bytes_of(alloc: Global, text: &[u8]) -> Result<Option<Vec<u8>>, AllocError>
+    ensures { IfOk result (λ read. MatchOption read (IsNoHex text.now) (λ bytes. SpellsBytes text.now bytes.items)) }
+{
+    let digits = digits_in(alloc, text)?;
     match hex::decode(alloc, digits.as_slice()) {
         Ok(bytes) => Ok(Some(bytes)),
         Err(hex::FromHexError::OutOfMemory) => Err(AllocError),
@@ -38,8 +40,27 @@ pub fn bytes_of(alloc: Global, text: &[u8]) -> Result<Option<Vec<u8>>, AllocErro
     }
 }
 
+/// The text without its blanks.
+fn digits_in(alloc: Global, text: &[u8]) -> Result<Vec<u8>, AllocError>
+    ensures { IfOk result (λ digits. digits.items ≡ digits_in text.now) }
+{
+    text.iter()
+        .copied()
+        .filter(|byte| !is_blank(*byte))
+        .collect(alloc)
+}
+
+/// A space, a tab, or a part of a line's end.
+fn is_blank(byte: u8) -> bool
+    ensures { result ≡ is_blank byte }
+{
+    byte == b' ' || byte == b'\t' || byte == b'\r' || byte == b'\n'
+}
+
 /// The number by which a cause is named.
-fn number_of(cause: Cause) -> u8 {
+fn number_of(cause: Cause) -> u8
+    ensures { result ≡ dis_number cause }
+{
     match cause {
         Cause::Length => 1,
         Cause::Opcode => 2,

@@ -11,7 +11,7 @@ fn shows(rt: &impl Abort, answer: &Answer, accepted: bool, text: &str) {
 
 #[test]
 fn hex_is_listed_or_refused(rt: HostRuntime) -> Result<(), Fail> {
-    let cases: [(&str, bool, &str); 17] = [
+    let cases: [(&str, bool, &str); 18] = [
         ("d401000010000000", true, "le16 r1\n"),
         ("37010100fdffffff", true, "sdiv64 r1, -3\n"),
         ("bf32200000000000", true, "movsx64_32 r2, r3\n"),
@@ -29,6 +29,7 @@ fn hex_is_listed_or_refused(rt: HostRuntime) -> Result<(), Fail> {
         ("bc21200000000000", false, "refused I5 0\n"),
         ("d402000011000000", false, "refused I6 0\n"),
         ("", false, "refused I1 0\n"),
+        ("95000000000000", false, "refused I1 0\n"),
         ("1800000000000000", false, "refused I7 0\n"),
         ("b700000000000000 9500000001000000", false, "refused I4 1\n"),
         // blanks and line ends are dropped, in the middle of a byte too; either case is hex

@@ -1,0 +1,67 @@
+-- An input has one answer.
+use Rattle.std.proofs.Common.{◌≡◌, ℕ, true, false, List, ◌++◌, ◌⊎◌, inl, inr, refl, sym, ap, subst, ◌∙◌}
+use Rattle.std.specs.Prelude.{◌&&◌, nat_le, codes}
+use Rattle.std.specs.List.{list_all}
+use Rattle.hex.specs.Hex.{encode_lower}
+use Rattle.bq_insn.specs.declared.Insn.{Insn}
+use Rattle.bq_insn.specs.Spelling.{spelling, slot_count, is_insn, is_well_formed}
+use Rattle.bq_insn.specs.declared.fault.DecodeFault.TheVariants.{At}
+use Rattle.bq_insn.specs.Faults.{IsFault}
+use Rattle.bq_insn.proofs.FormLemmas.{both}
+use Rattle.bq_insn.proofs.UniqueLemmas as insn
+use Rattle.bq_insn.proofs.OneFaultLemmas as fault
+use Rattle.bq_insn.proofs.LengthLemmas as lengths
+use Rattle.bq_asm.specs.Text.{listing_text}
+use Rattle.bq_asm.proofs.LawLemmas as asm
+use Rattle.bq_program.specs.Refusals.{refusal, cause_and_place}
+use Rattle.bq_program.specs.Asm.{asm_number, IsAssembled, IsNoText, IsFaultyText}
+use Rattle.bq_program.specs.Dis.{dis_number, IsNoHex, IsListed, IsFaultyProgram}
+use Rattle.bq_program.specs.Laws.{OneAssembly, OneListing}
+
+assembled_or_refused : (text x y : List ℕ) → IsAssembled text x → IsNoText text y ⊎ IsFaultyText text y → ⊥
+assembled_or_refused text x y p (inl q) = q.0 p.0
+assembled_or_refused text x y p (inr q) = asm.no_program_is_faulty text p.1 q.1 q.2 p.2 q.3
+
+one_text_refusal : (text x y : List ℕ) → IsNoText text x ⊎ IsFaultyText text x → IsNoText text y ⊎ IsFaultyText text y → x ≡ y
+one_text_refusal text x y (inl p) (inl q) = p.1 ∙ sym q.1
+one_text_refusal text x y (inl p) (inr q) = absurd (p.0 q.0)
+one_text_refusal text x y (inr p) (inl q) = absurd (q.0 p.0)
+one_text_refusal text x y (inr p) (inr q) =
+    let same = asm.one_fault text p.1 q.1 p.2 q.2 p.3 q.3 in
+    p.4 ∙ ap (λ n. refusal (cause_and_place (codes "A") (asm_number p.2) n)) same.0
+    ∙ ap (λ c. refusal (cause_and_place (codes "A") (asm_number c) q.1)) same.1 ∙ sym q.4
+
+pub one_assembly : OneAssembly
+one_assembly text true true x y p q =
+    (refl, p.3 ∙ ap (λ insns. encode_lower (spelling insns) ++ codes "\n") (asm.one_program text p.1 q.1 p.2 q.2) ∙ sym q.3)
+one_assembly text true false x y p q = absurd (assembled_or_refused text x y p q)
+one_assembly text false true x y p q = absurd (assembled_or_refused text y x q p)
+one_assembly text false false x y p q = (refl, one_text_refusal text x y p q)
+
+all_insns : (insns : List Insn) → is_well_formed insns ≡ true → list_all is_insn insns ≡ true
+all_insns insns h = (both (list_all is_insn insns) (nat_le 1 (slot_count insns) && nat_le (slot_count insns) 4096) h).0
+
+listed_or_refused : (text x y : List ℕ) → IsListed text x → (IsNoHex text × (y ≡ refusal (codes "hex"))) ⊎ IsFaultyProgram text y → ⊥
+listed_or_refused text x y p (inl q) = cc (p.1, q.0.1)
+listed_or_refused text x y p (inr q) =
+    let same : q.0 ≡ spelling p.0 = cc (p.1, q.1) in
+    lengths.no_program_is_refused p.0 q.2 q.3 p.2 p.3 (subst (λ b. IsFault b (At q.2 q.3)) same q.4)
+
+one_hex_refusal : (text x y : List ℕ) → (IsNoHex text × (x ≡ refusal (codes "hex"))) ⊎ IsFaultyProgram text x
+    → (IsNoHex text × (y ≡ refusal (codes "hex"))) ⊎ IsFaultyProgram text y → x ≡ y
+one_hex_refusal text x y (inl p) (inl q) = p.1 ∙ sym q.1
+one_hex_refusal text x y (inl p) (inr q) = cc (p.0.1, q.1)
+one_hex_refusal text x y (inr p) (inl q) = cc (p.1, q.0.1)
+one_hex_refusal text x y (inr p) (inr q) =
+    let bytes : p.0 ≡ q.0 = cc (p.1, q.1) in
+    let same = fault.one_fault q.0 p.2 q.2 p.3 q.3 (subst (λ b. IsFault b (At p.2 p.3)) bytes p.4) q.4 in
+    p.5 ∙ ap (λ n. refusal (cause_and_place (codes "I") (dis_number p.3) n)) same.0
+    ∙ ap (λ c. refusal (cause_and_place (codes "I") (dis_number c) q.2)) same.1 ∙ sym q.5
+
+pub one_listing : OneListing
+one_listing text true true x y p q =
+    let bytes : spelling p.0 ≡ spelling q.0 = cc (p.1, q.1) in
+    (refl, p.4 ∙ ap listing_text (insn.one_program p.0 q.0 (all_insns p.0 p.2) (all_insns q.0 q.2) p.3 q.3 bytes) ∙ sym q.4)
+one_listing text true false x y p q = absurd (listed_or_refused text x y p q)
+one_listing text false true x y p q = absurd (listed_or_refused text y x q p)
+one_listing text false false x y p q = (refl, one_hex_refusal text x y p q)

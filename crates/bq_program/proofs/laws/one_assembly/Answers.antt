@@ -1,0 +1,5 @@
+use Rattle.bq_program.proofs.OneAnswer as answer
+use Rattle.bq_program.proofs.laws.one_assembly.Goals as goal
+
+pub returns : goal.returns
+returns c = answer.one_assembly

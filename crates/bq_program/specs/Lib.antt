@@ -1,0 +1,4 @@
+pub mod Asm
+pub mod Dis
+pub mod Laws
+pub mod Refusals
