@@ -1,6 +1,9 @@
 pub mod WordLemmas
 pub mod PutLemmas
 pub mod MergeLemmas
+pub mod StandingLemmas
+pub mod PlaceLemmas
+pub mod SureLemmas
 pub mod AccessLemmas
 pub mod CallLemmas
 pub mod StoreLemmas

@@ -7,9 +7,8 @@ use Rattle.bq_maps.specs.Memory.{Setting, State}
 use Rattle.bq_verify.specs.declared.view.Known.{Known}
 use Rattle.bq_verify.specs.declared.view.View.{View}
 use Rattle.std.proofs.lemmas.Bool.{cases_lt}
-use Rattle.std.proofs.lemmas.List.{get_or_past}
 use Rattle.std.proofs.lemmas.List.{get_or_read}
-use Rattle.bq_verify.specs.Standing.{Standing, Stands}
+use Rattle.bq_verify.specs.Standing.{Standing, NoPointer, Stands, Fact, Never, AtRegister, IsSetAt, IsPlainAt, Has}
 use Rattle.bq_verify.specs.Views.{Holds, Keeps, Covers, Allows}
 
 pub Allows-same : (k : Option Known) → Allows k k
@@ -60,11 +59,17 @@ pub stands_more : (s : Standing) (old now other : List (Option Known)) (i : ℕ)
 stands_more s old now other i x a b lt lt' is_a is_b same both before k le p q =
     stands_by s old now other i x a b lt lt' is_a is_b same both before k _ le (eqb_tells k i) p q
 
-stands_all_by : (s : Standing) (old now other : List (Option Known)) (i : ℕ) → length old ≤ i → ((k : ℕ) → k < i → Stands s (get_or old k None) → Stands s (get_or other k None) → Stands s (get_or now k None)) → (k : ℕ) → (k < i) ⊎ (i ≤ k) → Stands s (get_or old k None) → Stands s (get_or other k None) → Stands s (get_or now k None)
-stands_all_by s old now other i end before k (inl lt) p q = before k lt p q
-stands_all_by s old now other i end before k (inr le) p q =
-    absurd (subst (λ (v : Option Known). Stands s v) (get_or_past old k None (omega arith)) p)
+stands_all_by : (s : Standing) (old now other : List (Option Known)) (i : ℕ) → ((k : ℕ) → i ≤ k → get_or now k None ≡ get_or old k None) → ((k : ℕ) → k < i → Stands s (get_or old k None) → Stands s (get_or other k None) → Stands s (get_or now k None)) → (k : ℕ) → (k < i) ⊎ (i ≤ k) → Stands s (get_or old k None) → Stands s (get_or other k None) → Stands s (get_or now k None)
+stands_all_by s old now other i rest before k (inl lt) p q = before k lt p q
+stands_all_by s old now other i rest before k (inr le) p q = subst (λ (v : Option Known). Stands s v) (sym (rest k le)) p
 
 -- all places of a join
-pub stands_all : (s : Standing) (old now other : List (Option Known)) (i : ℕ) → length old ≤ i → ((k : ℕ) → k < i → Stands s (get_or old k None) → Stands s (get_or other k None) → Stands s (get_or now k None)) → (k : ℕ) → Stands s (get_or old k None) → Stands s (get_or other k None) → Stands s (get_or now k None)
-stands_all s old now other i end before k p q = stands_all_by s old now other i end before k (cases_lt k i) p q
+pub stands_all : (s : Standing) (old now other : List (Option Known)) (i : ℕ) → ((k : ℕ) → i ≤ k → get_or now k None ≡ get_or old k None) → ((k : ℕ) → k < i → Stands s (get_or old k None) → Stands s (get_or other k None) → Stands s (get_or now k None)) → (k : ℕ) → Stands s (get_or old k None) → Stands s (get_or other k None) → Stands s (get_or now k None)
+stands_all s old now other i rest before k p q = stands_all_by s old now other i rest before k (cases_lt k i) p q
+
+-- what is sure of both views is sure of one that has what both have
+pub Has-both : (x : Fact) (a b v : View) → ((s : Standing) (k : ℕ) → Stands s (slice_index_or a.registers k None) → Stands s (slice_index_or b.registers k None) → Stands s (slice_index_or v.registers k None)) → ((k : ℕ) → slice_index_or a.set k false ≡ true → slice_index_or b.set k false ≡ true → slice_index_or v.set k false ≡ true) → ((s : Standing) (k : ℕ) → Stands s (slice_index_or a.kept k None) → Stands s (slice_index_or b.kept k None) → Stands s (slice_index_or v.kept k None)) → Has x a → Has x b → Has x v
+Has-both Never a b v registers set kept p q = p
+Has-both (AtRegister s r) a b v registers set kept p q = registers s r p q
+Has-both (IsSetAt i) a b v registers set kept p q = set i p q
+Has-both (IsPlainAt j) a b v registers set kept p q = kept NoPointer j p q

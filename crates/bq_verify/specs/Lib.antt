@@ -1,6 +1,8 @@
 pub mod Views
 pub mod Control
 pub mod Standing
+pub mod Straight
+pub mod Sure
 pub mod Doubts
 pub mod Accepted
 pub mod Refusals

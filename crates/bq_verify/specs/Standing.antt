@@ -1,57 +1,202 @@
--- What a view is sure to know of a register: the ground on which straight programs are accepted.
-use Rattle.std.specs.Prelude.{◌≡◌, ◌≢◌, ℕ, ◌+◌, ◌<◌, ◌≤◌, pos, false, Option, Some, None, slice_index_or}
+-- What a view is sure to know: the ground on which straight programs are accepted.
+use Rattle.std.specs.Prelude.{Bool, true, false, ◌≡◌, ◌≢◌, ℕ, ◌+◌, ◌<◌, ◌≤◌, ℤ, pos, ◌+ℤ◌, List, Option, Some, None, slice_get, slice_set, slice_index_or, ◌⊎◌}
+use Rattle.std.proofs.Common.{Global}
+use Rattle.std.specs.declared.boxed.Box.{Box}
 use Rattle.bq_insn.specs.declared.Insn.{Insn}
-use Rattle.bq_insn.specs.declared.Insn.TheVariants.{Alu, Load, Goto, Branch, Exit}
+use Rattle.bq_insn.specs.declared.Insn.TheVariants.{Alu, MovSx, Neg, End, Load, StoreImm, StoreReg, Imm64, MapRef, Goto, Goto32, Branch, Call, Exit}
 use Rattle.bq_insn.specs.declared.Operation.{Operation}
 use Rattle.bq_insn.specs.declared.Operation.TheVariants.{Mov}
+use Rattle.bq_insn.specs.declared.Size.{Size}
 use Rattle.bq_insn.specs.declared.Source.{Source}
 use Rattle.bq_insn.specs.declared.Source.TheVariants.{Imm, Reg}
 use Rattle.bq_insn.specs.Meaning.{byte_count}
-use Rattle.bq_verify.specs.declared.view.Kind.TheVariants.{Number, Context}
+use Rattle.bq_maps.specs.declared.shape.MapShape.{MapShape}
+use Rattle.bq_graph.specs.Edges.{IsEdge}
+use Rattle.bq_graph.specs.Faults.{destination_of}
+use Rattle.bq_verify.specs.declared.view.Kind.{Kind}
+use Rattle.bq_verify.specs.declared.view.Kind.TheVariants.{Number, Context, Stack, Entry}
 use Rattle.bq_verify.specs.declared.view.Known.{Known}
 use Rattle.bq_verify.specs.declared.view.View.{View}
+use Rattle.bq_verify.specs.declared.view.Stop.{Stop}
+use Rattle.bq_verify.specs.declared.view.Stop.TheVariants as stop
 
--- a number, or the address of the context; what stands nowhere stands only where no view waits
+-- a number; a pointer that is so far above what it counts from; no pointer, but perhaps nothing
 pub data Standing : Type 0 where
-  Nowhere : Standing
   Scalar : Standing
-  ContextStart : Standing
+  Pointer : Kind → ℕ → Standing
+  NoPointer : Standing
 
 abbrev pub Stands : Standing → Option Known → Type 0
-Stands s None = ⊥
-Stands Nowhere (Some k) = ⊥
+Stands Scalar None = ⊥
+Stands (Pointer kind o) None = ⊥
+Stands NoPointer None = Unit {0}
 Stands Scalar (Some k) = k.kind ≡ Number
-Stands ContextStart (Some k) = (k.kind ≡ Context) × (k.offset.hi ≡ 0)
+Stands (Pointer kind o) (Some k) = (k.kind ≡ kind) × (kind ≢ Number) × (k.offset.lo ≡ o) × (k.offset.hi ≡ o)
+Stands NoPointer (Some k) = k.kind ≡ Number
 
 abbrev pub StandsAt : Standing → View → ℕ → Type 0
 StandsAt s view r = Stands s (slice_index_or view.registers r None)
+
+-- of a register, of a byte of the stack that it is set, of a slot of eight bytes that no pointer is kept there; and what is true of no view
+pub data Fact : Type 0 where
+  Never : Fact
+  AtRegister : Standing → ℕ → Fact
+  IsSetAt : ℕ → Fact
+  IsPlainAt : ℕ → Fact
+
+abbrev pub Has : Fact → View → Type 0
+Has Never view = ⊥
+Has (AtRegister s r) view = Stands s (slice_index_or view.registers r None)
+Has (IsSetAt i) view = slice_index_or view.set i false ≡ true
+Has (IsPlainAt j) view = Stands NoPointer (slice_index_or view.kept j None)
 
 abbrev pub IsScalarOperand : View → Source → Type 0
 IsScalarOperand view (Imm i) = Unit {0}
 IsScalarOperand view (Reg r) = StandsAt Scalar view r
 
--- the register is a number now, and no other register has changed
+-- the register is a number now, and nothing else has changed
 pub record IsGiven (old new : View) (dst : ℕ) : Type 0 where
   pub given : StandsAt Scalar new dst
   pub kept : (r : ℕ) → r ≢ dst → slice_index_or new.registers r None ≡ slice_index_or old.registers r None
+  pub set_same : new.set ≡ old.set
+  pub kept_same : new.kept ≡ old.kept
+
+-- register 0 is a number now, and registers from 6 on and the stack have not changed
+pub record IsAnswered (old new : View) : Type 0 where
+  pub given : StandsAt Scalar new 0
+  pub kept : (r : ℕ) → 6 ≤ r → slice_index_or new.registers r None ≡ slice_index_or old.registers r None
+  pub set_same : new.set ≡ old.set
+  pub kept_same : new.kept ≡ old.kept
+
+-- these bytes of the stack are set now, no other was lost, no pointer is kept anew, and no register has changed
+pub record IsStoredAt (old new : View) (from to : ℕ) : Type 0 where
+  pub registers_same : new.registers ≡ old.registers
+  pub stored : (i : ℕ) → from ≤ i → i < to → Has (IsSetAt i) new
+  pub set : (i : ℕ) → Has (IsSetAt i) old → Has (IsSetAt i) new
+  pub plain : (j : ℕ) → Has (IsPlainAt j) old → Has (IsPlainAt j) new
 
 -- the first operand of an arithmetic instruction, which a MOV has not
 abbrev pub IsLeftReady : Operation → View → ℕ → Type 0
 IsLeftReady Mov view dst = Unit {0}
 IsLeftReady _ view dst = StandsAt Scalar view dst
 
+-- how many bytes there are where a pointer of the kind points to
+abbrev pub size_of_shape : Option MapShape → Option ℕ
+size_of_shape None = None
+size_of_shape (Some shape) = Some shape.value_size
+
+abbrev pub bound_of : List MapShape → ℕ → Kind → Option ℕ
+bound_of shapes context Context = Some context
+bound_of shapes context Stack = Some 512
+bound_of shapes context (Entry m) = size_of_shape (slice_get shapes m)
+bound_of shapes context _ = None
+
+-- an access by the register lies there, inside what the register points to
+pub record IsPlaced (shapes : List MapShape) (context : ℕ) (view : View) (size : Size) (r : ℕ) (off : ℤ) (kind : Kind) (at : ℕ) : Type 0 where
+  pub base : ℕ
+  pub stands : StandsAt (Pointer kind base) view r
+  pub at_is : pos at ≡ (pos base +ℤ off)
+  pub bound : ℕ
+  pub bound_is : bound_of shapes context kind ≡ Some bound
+  pub inside : at + byte_count size ≤ bound
+
+-- a load of what may be read: on the stack, of bytes that are set, and no pointer is kept there
+pub record IsReadable (shapes : List MapShape) (context : ℕ) (view : View) (size : Size) (r : ℕ) (off : ℤ) : Type 0 where
+  pub kind : Kind
+  pub at : ℕ
+  pub placed : IsPlaced shapes context view size r off kind at
+  pub set : kind ≡ Stack → (i : ℕ) → at ≤ i → i < at + byte_count size → Has (IsSetAt i) view
+  pub plain : (j : ℕ) → Has (IsPlainAt j) view
+
+-- a store on the stack
+pub record IsOnFrame (shapes : List MapShape) (context : ℕ) (view : View) (size : Size) (r : ℕ) (off : ℤ) : Type 0 where
+  pub at : ℕ
+  pub at_is : pos at ≡ (pos 512 +ℤ off)
+  pub placed : IsPlaced shapes context view size r off Stack at
+
 -- what an instruction needs, by the view before it
-abbrev pub IsReady : ℕ → View → Insn → Type 0
-IsReady context view (Alu w op dst src) = (dst < 10) × IsLeftReady op view dst × IsScalarOperand view src
-IsReady context view (Load size signed dst src off) =
-    (signed ≡ false) × (dst < 10) × StandsAt ContextStart view src × (at : ℕ) × (off ≡ pos at) × (at + byte_count size ≤ context)
-IsReady context view (Goto off) = Unit {0}
-IsReady context view (Branch w c dst src off) = (dst < 10) × StandsAt Scalar view dst × IsScalarOperand view src
-IsReady context view Exit = StandsAt Scalar view 0
-IsReady context view _ = ⊥
+abbrev pub IsReady : List MapShape → ℕ → View → Insn → Type 0
+IsReady shapes context view (Alu w op dst src) = (dst < 10) × IsLeftReady op view dst × IsScalarOperand view src
+IsReady shapes context view (MovSx w bits dst src) = (dst < 10) × StandsAt Scalar view src
+IsReady shapes context view (Neg w dst) = (dst < 10) × StandsAt Scalar view dst
+IsReady shapes context view (End order bits dst) = (dst < 10) × StandsAt Scalar view dst
+IsReady shapes context view (Load size signed dst src off) = (dst < 10) × IsReadable shapes context view size src off
+IsReady shapes context view (StoreImm size dst off imm) = IsOnFrame shapes context view size dst off
+IsReady shapes context view (StoreReg size dst off src) = StandsAt Scalar view src × IsOnFrame shapes context view size dst off
+IsReady shapes context view (Imm64 dst value) = dst < 10
+IsReady shapes context view (MapRef dst index) = ⊥
+IsReady shapes context view (Goto off) = Unit {0}
+IsReady shapes context view (Goto32 imm) = Unit {0}
+IsReady shapes context view (Branch w c dst src off) = (dst < 10) × StandsAt Scalar view dst × IsScalarOperand view src
+IsReady shapes context view (Call helper) = (helper ≡ pos 5) ⊎ (helper ≡ pos 8)
+IsReady shapes context view Exit = StandsAt Scalar view 0
+
+-- neither a jump nor an EXIT
+abbrev pub IsCarried : Insn → Type 0
+IsCarried (Goto off) = ⊥
+IsCarried (Goto32 imm) = ⊥
+IsCarried (Branch w c dst src off) = ⊥
+IsCarried Exit = ⊥
+IsCarried insn = Unit {0}
+
+-- the instruction gives the register a number
+abbrev pub GivesNumber : Insn → ℕ → Type 0
+GivesNumber (Call helper) r = r ≡ 0
+GivesNumber insn r = destination_of insn ≡ Some r
+
+-- the instruction leaves the register as it is
+abbrev pub Spares : Insn → ℕ → Type 0
+Spares (Call helper) r = 6 ≤ r
+Spares insn r = destination_of insn ≡ Some r → ⊥
+
+-- the byte of the stack is one of those that the instruction stores by register 10
+abbrev pub IsStackByte : Size → ℤ → ℕ → Type 0
+IsStackByte size off i = (at : ℕ) × (pos at ≡ (pos 512 +ℤ off)) × (at ≤ i) × (i < at + byte_count size)
+
+abbrev pub StoresByte : Insn → ℕ → Type 0
+StoresByte (StoreImm size dst off imm) i = (dst ≡ 10) × IsStackByte size off i
+StoresByte (StoreReg size dst off src) i = (dst ≡ 10) × IsStackByte size off i
+StoresByte insn i = ⊥
+
+-- what is sure after an instruction: what it made so, or what was so and it left so
+abbrev pub After : Fact → Insn → View → Type 0
+After Never insn view = ⊥
+After (AtRegister s r) insn view = ((s ≡ Scalar) × GivesNumber insn r) ⊎ (Spares insn r × Has (AtRegister s r) view)
+After (IsSetAt i) insn view = StoresByte insn i ⊎ Has (IsSetAt i) view
+After (IsPlainAt j) insn view = Has (IsPlainAt j) view
 
 -- one side of a branch on numbers: control never goes there, or the left operand is a number there too
 abbrev pub IsSide : Option (Option Known) → Type 0
 IsSide None = ⊥
 IsSide (Some None) = Unit {0}
 IsSide (Some (Some k)) = k.kind ≡ Number
+
+abbrev pub IsNumberIfAny : Option Known → Type 0
+IsNumberIfAny None = Unit {0}
+IsNumberIfAny (Some k) = k.kind ≡ Number
+
+-- the fact is true of a view that waits, if one does
+abbrev pub HasIn : Fact → Option (Box View Global) → Type 0
+HasIn x None = Unit {0}
+HasIn x (Some boxed) = Has x boxed.value
+
+abbrev pub HasWaiting : Fact → List (Option (Box View Global)) → ℕ → Type 0
+HasWaiting x pending k = HasIn x (slice_index_or pending k None)
+
+-- the fact is true of each view with which control comes to the slot: one that waits there, and the one that is carried to it
+pub record IsSureOf (x : Fact) (pending : List (Option (Box View Global))) (view : View) (live : Bool) (slot k : ℕ) : Type 0 where
+  pub waiting : HasWaiting x pending k
+  pub carried : live ≡ true → k ≡ slot → Has x view
+
+-- what was sure at a slot stays so over one more instruction, if it is so after the instruction where control goes from there to the slot
+abbrev pub GoesOnSure : List (Option Insn) → ℕ → Insn → View → List (Option (Box View Global)) → List (Option (Box View Global)) → View → Bool → Type 0
+GoesOnSure slots slot insn view old new after live =
+    (x : Fact) (k : ℕ) → HasWaiting x old k → (IsEdge slots slot k → After x insn view) → IsSureOf x new after live (slot + 1) k
+
+-- the fact is true of the view with that word in the register, if control goes there
+abbrev pub HasOnSide : Fact → View → ℕ → Option Known → Type 0
+HasOnSide x view dst None = Unit {0}
+HasOnSide x view dst (Some word) = Has x (record view { registers = slice_set view.registers dst (Some word) })
+
+abbrev pub IsWantOfMemory : Stop → Type 0
+IsWantOfMemory reason = reason ≡ stop.OutOfMemory

@@ -6,6 +6,7 @@ ghost use Rattle.bq_maps.specs.Machine.{called};
 ghost use Rattle.bq_maps.specs.declared.shape.MapShape.{MapShape};
 ghost use Rattle.bq_ranges.specs.Within.{Within};
 ghost use Rattle.bq_verify.specs.Doubts.{MayDoubt};
+ghost use Rattle.bq_verify.specs.Standing.{IsAnswered};
 ghost use Rattle.bq_verify.specs.Views.{Carries, Clears, Covers, IsBelow};
 
 use crate::memory::{reads, reads_value, shape_of};
@@ -143,7 +144,8 @@ pub fn is_at_most(view: &View, register: u8, most: u64) -> bool
 
 /// After a call registers 1 to 5 are unset, and register 0 is a number of that range.
 pub fn answer(view: &mut View, offset: Range)
-    ensures { (f : Setting) (s : State) (x : ℕ) → Covers f view.old s → Within offset x → Covers f view.new (called s x) }
+    ensures covers { (f : Setting) (s : State) (x : ℕ) → Covers f view.old s → Within offset x → Covers f view.new (called s x) }
+    ensures answered { IsAnswered view.old view.new }
 {
     clear(&mut view.registers);
     learn(
@@ -158,14 +160,16 @@ pub fn answer(view: &mut View, offset: Range)
 
 /// The time.
 pub fn now(view: &mut View)
-    ensures { (shapes : List MapShape) (context_length : ℕ) → Carries shapes context_length (Insn.Call (pos 5)) view.old view.new }
+    ensures carries { (shapes : List MapShape) (context_length : ℕ) → Carries shapes context_length (Insn.Call (pos 5)) view.old view.new }
+    ensures answered { IsAnswered view.old view.new }
 {
     answer(view, Range::full(Width::W64));
 }
 
 /// The number of the processor.
 pub fn processor(view: &mut View)
-    ensures { (shapes : List MapShape) (context_length : ℕ) → Carries shapes context_length (Insn.Call (pos 8)) view.old view.new }
+    ensures carries { (shapes : List MapShape) (context_length : ℕ) → Carries shapes context_length (Insn.Call (pos 8)) view.old view.new }
+    ensures answered { IsAnswered view.old view.new }
 {
     answer(view, Range::full(Width::W32));
 }

@@ -3,6 +3,7 @@
 ghost use Rattle.std.specs.Prelude.{ℕ, ◌≡◌, Some, IsOk, ◌<◌, ◌≤◌, ◌^◌, OnOk, length, IfErr};
 ghost use Rattle.bq_verify.specs.Doubts.{MayDoubt};
 ghost use Rattle.bq_verify.specs.Views.{Carries};
+ghost use Rattle.bq_verify.specs.Standing.{After, Fact, Has, IsCarried, IsReady};
 ghost use Rattle.bq_verify.specs.Control.{IsStraight};
 
 use crate::alu::{alu, copy};
@@ -21,6 +22,7 @@ pub fn carry(view: &mut View, shapes: &[MapShape], context: usize, insn: Insn) -
     ensures straight { OnOk result (IsStraight insn) }
     ensures carries { OnOk result (Carries shapes.now context insn view.old view.new) }
     ensures doubts { IfErr result (λ doubt. MayDoubt doubt insn) }
+    ensures accepts { IsReady shapes.now context view.old insn → IsCarried insn → IsOk result × ((x : Fact) → After x insn view.old → Has x view.new) }
 {
     match insn {
         Insn::Alu {
@@ -129,6 +131,8 @@ pub fn carry(view: &mut View, shapes: &[MapShape], context: usize, insn: Insn) -
             immediate(view, dst, value);
             Ok(())
         }
-        _ => Err(Doubt::Unset),
+        Insn::Goto { .. } | Insn::Goto32 { .. } | Insn::Branch { .. } | Insn::Exit => {
+            Err(Doubt::Unset)
+        }
     }
 }

@@ -1,6 +1,6 @@
 // Where control goes from a slot, and what is known there.
 
-ghost use Rattle.std.specs.Prelude.{◌≡◌, ◌<◌, ◌≤◌, ◌+◌, ◌^◌, ℕ, length, slice_index_or, IfOk, IfSome, IfErr, IsOk, OnOk, List, Some, true};
+ghost use Rattle.std.specs.Prelude.{◌≡◌, ◌<◌, ◌≤◌, ◌+◌, ◌^◌, ℕ, length, slice_index_or, IfOk, IfSome, IfErr, IsOk, OnOk, List, Some, true, ◌⊎◌};
 ghost use Rattle.bq_insn.specs.declared.Insn.{Insn};
 ghost use Rattle.bq_insn.specs.Meaning.{taken};
 ghost use Rattle.bq_maps.specs.Memory.{Setting, State};
@@ -8,7 +8,7 @@ ghost use Rattle.bq_maps.specs.Machine.{instruction_at};
 ghost use Rattle.bq_maps.specs.declared.shape.MapShape.{MapShape};
 ghost use Rattle.bq_graph.specs.Passes.{IsSound};
 ghost use Rattle.bq_verify.specs.Doubts.{MayDoubt, MayStop};
-ghost use Rattle.bq_verify.specs.Standing.{Scalar, StandsAt, IsSide};
+ghost use Rattle.bq_verify.specs.Standing.{Fact, GoesOnSure, Has, HasOnSide, HasWaiting, IsNumberIfAny, IsReady, IsScalarOperand, IsSureOf, IsWantOfMemory, Scalar, StandsAt, IsSide};
 ghost use Rattle.bq_verify.specs.Views.{Covers, Describes, Fits};
 ghost use Rattle.bq_verify.specs.Control.{Goes, IsKnown, IsOnSide, IsRelearned, PartsTo, WaitsBoxed};
 
@@ -44,6 +44,8 @@ pub fn visit(
     ensures long { length pending.new ≡ length pending.old }
     ensures goes { IfOk result (λ live. ((f : Setting) (s : State) → WaitsBoxed f pending.old s → WaitsBoxed f pending.new s) × Goes slots.now shapes.now context slot view.old (IsKnown pending.new view.new live (slot + 1))) }
     ensures doubts { IfErr result (λ stop. MayStop stop insn) }
+    ensures accepts { IsReady shapes.now context view.old insn → IfErr result IsWantOfMemory }
+    ensures sure { IsReady shapes.now context view.old insn → IfOk result (GoesOnSure slots.now slot insn view.old pending.old pending.new view.new) }
 {
     if is_counter_call(insn) {
         ask(view, insn)?;
@@ -118,6 +120,8 @@ fn branch(
     ensures parts { IfOk result (λ live. ((f : Setting) (s : State) → WaitsBoxed f pending.old s → WaitsBoxed f pending.new s)
         × ((f : Setting) (s : State) → Covers f view.old s → PartsTo (IsKnown pending.new view.new live next) f s width cond dst src to next)) }
     ensures doubts { IfErr result (λ stop. (insn : Insn) → MayStop stop insn) }
+    ensures accepts { dst < 10 → StandsAt Scalar view.old dst → IsScalarOperand view.old src → IfErr result IsWantOfMemory }
+    ensures sure { StandsAt Scalar view.old dst → IsScalarOperand view.old src → IfOk result (λ live. (x : Fact) (k : ℕ) → HasWaiting x pending.old k → ((k ≡ to) ⊎ (k ≡ next) → Has x view.old) → IsSureOf x pending.new view.new live next k) }
 {
     let Some(right) = operand(view, src) else {
         return Err(Stop::Doubted(Doubt::Unset));
@@ -145,6 +149,7 @@ fn side(
     ensures fits { IfOk result (λ side. (shapes : List MapShape) (a b : ℕ) → Describes shapes left a → Describes shapes right b → taken width cond a b ≡ goes → Fits shapes side a) }
     ensures doubts { IfErr result (λ doubt. (insn : Insn) → MayDoubt doubt insn) }
     ensures accepts { left.kind ≡ Kind.Number → right.kind ≡ Kind.Number → IsOk result }
+    ensures number { left.kind ≡ Kind.Number → right.kind ≡ Kind.Number → IfOk result IsNumberIfAny }
 {
     match outcome(width, cond, left, right, goes) {
         Some(side) => Ok(side),
@@ -167,6 +172,7 @@ fn wait_on_side(
     ensures same { IsRelearned view.old view.new dst }
     ensures kept { OnOk result ((f : Setting) (s : State) → WaitsBoxed f pending.old s → WaitsBoxed f pending.new s) }
     ensures added { OnOk result ((f : Setting) (s : State) → s.slot ≡ slot → IsOnSide f view.old dst side s → WaitsBoxed f pending.new s) }
+    ensures has { OnOk result ((x : Fact) (k : ℕ) → HasWaiting x pending.old k → (k ≡ slot → HasOnSide x view.old dst side) → HasWaiting x pending.new k) }
 {
     let Some(word) = side else {
         return Ok(());
@@ -178,7 +184,8 @@ fn wait_on_side(
 /// The view with that word in the register is carried on, if there is one.
 fn carry_on(view: &mut View, dst: u8, side: Option<Known>) -> bool
     requires { dst < 11 }
-    ensures { (f : Setting) (s : State) → IsOnSide f view.old dst side s → (result ≡ true) × Covers f view.new s }
+    ensures covers { (f : Setting) (s : State) → IsOnSide f view.old dst side s → (result ≡ true) × Covers f view.new s }
+    ensures has { (x : Fact) → HasOnSide x view.old dst side → result ≡ true → Has x view.new }
 {
     let Some(word) = side else {
         return false;

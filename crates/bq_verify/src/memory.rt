@@ -1,16 +1,18 @@
 // Loads.
 
-ghost use Rattle.std.specs.Prelude.{Some, ◌↔◌, ◌≡◌, ◌+◌, ◌^◌, ◌<◌, ◌≤◌, ℕ, List, IsTrue, length, IfSome, OnOk, false, true, slice_get, slice_index_or, IfErr, IfOk, ◌*◌, None};
+ghost use Rattle.std.specs.Prelude.{Some, ◌↔◌, ◌≡◌, ◌+◌, ◌^◌, ◌<◌, ◌≤◌, ℕ, List, IsTrue, IsOk, length, IfSome, OnOk, false, true, slice_get, slice_index_or, IfErr, IfOk, ◌*◌, None};
 ghost use Rattle.bq_insn.specs.Meaning.{byte_count, word_of};
 ghost use Rattle.bq_maps.specs.Machine.{loaded, bits_of as bits_in};
 ghost use Rattle.bq_ranges.specs.Within.{Within};
 ghost use Rattle.bq_insn.specs.declared.Insn.{Insn};
 ghost use Rattle.bq_verify.specs.Doubts.{IsAccess, MayDoubt};
+ghost use Rattle.bq_verify.specs.Standing.{IsGiven, IsPlaced, IsReadable, IsPlainAt, Has, bound_of, Stands, NoPointer};
+ghost use Rattle.bq_verify.specs.declared.view.Kind.{Kind as Base};
 ghost use Rattle.bq_verify.specs.Views.{Bounds, Carries, FindsBytes, FindsPlace};
 
 use crate::registers::{known, learn};
 use crate::view::{Doubt, Kind, Known, View};
-use bq_insn::{Bits, Insn, Size, Width};
+use bq_insn::{Bits, Insn, Operation, Size, Width};
 use bq_maps::shape::MapShape;
 use bq_ranges::{Range, arithmetic, moves};
 
@@ -29,7 +31,8 @@ pub fn shape_of(shapes: &[MapShape], map: u8) -> Option<MapShape>
 /// How many bytes there are where a pointer of the kind points to, if it may be followed.
 fn bound(kind: Kind, shapes: &[MapShape], context: usize) -> Option<usize>
     ensures bounds { IfSome result (Bounds shapes.now context kind) }
-    ensures context { kind ≡ Kind.Context → result ≡ Some context }
+    ensures is { result ≡ bound_of shapes.now context kind }
+    ensures small { context < 2 ^ 16 → IfSome result (λ bytes. bytes ≤ 65536) }
 {
     match kind {
         Kind::Context => Some(context),
@@ -59,7 +62,8 @@ pub fn stays(at: Range, size: Size, bound: usize) -> bool
 /// Whether all of these bytes are set.
 fn all_set(set: &[bool], from: usize, to: usize) -> bool
     requires { to ≤ length set.now }
-    ensures { IsTrue result → (k : ℕ) → from ≤ k → k < to → slice_index_or set.now k false ≡ true }
+    ensures all { IsTrue result → (k : ℕ) → from ≤ k → k < to → slice_index_or set.now k false ≡ true }
+    ensures found { ((k : ℕ) → from ≤ k → k < to → slice_index_or set.now k false ≡ true) → IsTrue result }
 {
     for k in from..to {
         if !set[k] {
@@ -128,6 +132,8 @@ pub fn locate(
     requires context { context < 2 ^ 16 }
     ensures finds { IfOk result (λ p. FindsPlace shapes.now context view.now register off size p.kind p.at) }
     ensures doubts { IfErr result (λ doubt. (insn : Insn) → IsAccess insn → MayDoubt doubt insn) }
+    ensures accepts { (kind : Base) (place : ℕ) → IsPlaced shapes.now context view.now size register off kind place → IsOk result }
+    ensures there { IfOk result (λ p. (kind : Base) (place : ℕ) → IsPlaced shapes.now context view.now size register off kind place → (p.kind ≡ kind) × (p.at.lo ≡ place) × (p.at.hi ≡ place)) }
 {
     let Some(base) = known(view, register) else {
         return Err(Doubt::Unset);
@@ -135,12 +141,16 @@ pub fn locate(
     let Some(bound) = bound(base.kind, shapes, context) else {
         return Err(Doubt::Access);
     };
-    let at = arithmetic::add(
+    let at = arithmetic::alu(
         Width::W64,
+        Operation::Add,
         base.offset,
         Range::single(word_of_distance(off)),
     );
-    if bound > 0x1_0000 || !stays(at, size, bound) {
+    if bound > 0x1_0000 {
+        return Err(Doubt::Access);
+    }
+    if !stays(at, size, bound) {
         return Err(Doubt::Access);
     }
     Ok(Location {
@@ -185,6 +195,7 @@ pub fn load(
     requires context { context < 2 ^ 16 }
     ensures carries { OnOk result (Carries shapes.now context (Insn.Load size signed dst src off) view.old view.new) }
     ensures doubts { IfErr result (λ doubt. MayDoubt doubt (Insn.Load size signed dst src off)) }
+    ensures accepts { IsReadable shapes.now context view.old size src off → IsOk result × IsGiven view.old view.new dst }
 {
     let found = locate(view, shapes, context, size, src, off)?;
     if let Some(word) = kept_at(view, found, size, signed) {
@@ -208,7 +219,8 @@ pub fn load(
 /// Whether all stack bytes of an access at each offset of the range are set.
 fn is_set(view: &View, at: Range, size: Size) -> bool
     requires { at.hi + byte_count size ≤ 512 }
-    ensures { IsTrue result → (o i : ℕ) → Within at o → i < byte_count size → slice_index_or view.now.set (o + i) false ≡ true }
+    ensures all { IsTrue result → (o i : ℕ) → Within at o → i < byte_count size → slice_index_or view.now.set (o + i) false ≡ true }
+    ensures found { ((i : ℕ) → at.lo ≤ i → i < at.hi + byte_count size → slice_index_or view.now.set i false ≡ true) → IsTrue result }
 {
     all_set(&view.set, at.lo as usize, at.hi as usize + size.bytes())
 }
@@ -216,7 +228,7 @@ fn is_set(view: &View, at: Range, size: Size) -> bool
 /// Whether the bytes of an access at each offset of the range are set, where they are on the stack.
 fn is_readable(view: &View, kind: Kind, at: Range, size: Size) -> bool
     ensures stack { IsTrue result → kind ≡ Kind.Stack → (o i : ℕ) → Within at o → i < byte_count size → slice_index_or view.now.set (o + i) false ≡ true }
-    ensures context { kind ≡ Kind.Context → IsTrue result }
+    ensures found { (kind ≡ Kind.Stack → at.hi + byte_count size ≤ 512) → (kind ≡ Kind.Stack → (i : ℕ) → at.lo ≤ i → i < at.hi + byte_count size → slice_index_or view.now.set i false ≡ true) → IsTrue result }
 {
     match kind {
         Kind::Stack => {

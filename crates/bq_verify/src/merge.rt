@@ -2,7 +2,7 @@
 
 ghost use Rattle.std.specs.Prelude.{◌≡◌, ℕ, true, None, length, slice_index_or, false};
 ghost use Rattle.bq_maps.specs.Memory.{Setting, State};
-ghost use Rattle.bq_verify.specs.Standing.{Standing, Stands, StandsAt};
+ghost use Rattle.bq_verify.specs.Standing.{Fact, Has, Standing, Stands};
 ghost use Rattle.bq_verify.specs.Views.{Allows, Covers};
 
 use crate::view::{Known, View};
@@ -40,6 +40,7 @@ fn keep_common(into: &mut [bool], other: &[bool])
     requires { length into.old ≡ length other.now }
     ensures left { (k : ℕ) → slice_index_or into.new k false ≡ true → slice_index_or into.old k false ≡ true }
     ensures right { (k : ℕ) → slice_index_or into.new k false ≡ true → slice_index_or other.now k false ≡ true }
+    ensures both { (k : ℕ) → slice_index_or into.old k false ≡ true → slice_index_or other.now k false ≡ true → slice_index_or into.new k false ≡ true }
 {
     for i in 0..into.len() {
         into[i] = into[i] & other[i];
@@ -50,7 +51,7 @@ fn keep_common(into: &mut [bool], other: &[bool])
 pub fn merge(into: &mut View, other: &View)
     ensures left { (f : Setting) (s : State) → Covers f into.old s → Covers f into.new s }
     ensures right { (f : Setting) (s : State) → Covers f other.now s → Covers f into.new s }
-    ensures stands { (s : Standing) (r : ℕ) → StandsAt s into.old r → StandsAt s other.now r → StandsAt s into.new r }
+    ensures stands { (x : Fact) → Has x into.old → Has x other.now → Has x into.new }
 {
     join_all(&mut into.registers, &other.registers);
     keep_common(&mut into.set, &other.set);

@@ -6,8 +6,10 @@ ghost use Rattle.bq_maps.specs.Arrays.{HaveShapes};
 ghost use Rattle.bq_maps.specs.Machine.{Safe, start as beginning};
 ghost use Rattle.bq_graph.specs.Edges.{IsStart};
 ghost use Rattle.bq_graph.specs.Passes.{IsSound};
-ghost use Rattle.bq_verify.specs.Refusals.{IsStopped};
-ghost use Rattle.bq_verify.specs.Standing.{ContextStart, StandsAt};
+ghost use Rattle.bq_verify.specs.Refusals.{IsOutOfMemory, IsStopped};
+ghost use Rattle.bq_verify.specs.Standing.{Pointer, Has, IsPlainAt, StandsAt};
+ghost use Rattle.bq_verify.specs.Straight.{IsStraightProgram};
+ghost use Rattle.bq_verify.specs.Sure.{IsSure};
 ghost use Rattle.bq_verify.specs.Views.{Covers};
 ghost use Rattle.bq_verify.specs.Control.{AreHeights, AreMade, IsKnown, PassesOn, RestIsSafe};
 
@@ -41,6 +43,7 @@ pub fn judge(
     requires few { length shapes.now ≤ 8 }
     ensures safe { OnOk result (Safe slots.now shapes.now context (slice_index heights.now 0)) }
     ensures stopped { IfErr result (IsStopped slots.now) }
+    ensures accepts { IsStraightProgram slots.now context → IfErr result IsOutOfMemory }
 {
     let mut pending = nothing_waits(alloc, slots.len())?;
     let mut view = start();
@@ -74,6 +77,7 @@ fn pass(
     requires few { length shapes.now ≤ 8 }
     ensures safe { OnOk result ((made : ℕ → ℕ) → AreMade slots.now made → RestIsSafe slots.now shapes.now context heights.now made 0 (IsKnown pending.old view.old true 0)) }
     ensures stopped { IfErr result (IsStopped slots.now) }
+    ensures accepts { IsStraightProgram slots.now context → IsSure slots.now pending.old view.old true 0 → IfErr result IsOutOfMemory }
 {
     let mut live = true;
     for slot in 0..slots.len() {
@@ -102,6 +106,8 @@ fn pass_slot(
     ensures long { length pending.new ≡ length pending.old }
     ensures passes { IfOk result (λ on. PassesOn slots.now shapes.now context slot (IsKnown pending.old view.old live slot) (IsKnown pending.new view.new on (slot + 1))) }
     ensures stopped { IfErr result (IsStopped slots.now) }
+    ensures accepts { IsStraightProgram slots.now context → IsSure slots.now pending.old view.old live slot → IfErr result IsOutOfMemory }
+    ensures sure { IsStraightProgram slots.now context → IsSure slots.now pending.old view.old live slot → IfOk result (λ on. IsSure slots.now pending.new view.new on (slot + 1)) }
 {
     if !arrive(view, live, pending, slot) {
         return Ok(false);
@@ -118,7 +124,9 @@ fn pass_slot(
 /// What is known at the start.
 fn start() -> View
     ensures covers { (f : Setting) (maps : List (List ℕ)) → HaveShapes f.shapes maps → Covers f result (beginning maps) }
-    ensures context { StandsAt ContextStart result 1 }
+    ensures context { StandsAt (Pointer Kind.Context 0) result 1 }
+    ensures frame { StandsAt (Pointer Kind.Stack 512) result 10 }
+    ensures plain { (j : ℕ) → Has (IsPlainAt j) result }
 {
     let mut view = blank();
     learn(
@@ -142,7 +150,8 @@ fn start() -> View
 
 /// Nothing is known of registers and stack.
 fn blank() -> View
-    ensures { (f : Setting) (s : State) → HaveShapes f.shapes s.maps → Covers f result s }
+    ensures covers { (f : Setting) (s : State) → HaveShapes f.shapes s.maps → Covers f result s }
+    ensures plain { (j : ℕ) → Has (IsPlainAt j) result }
 {
     View {
         registers: nothing(),

@@ -9,6 +9,8 @@ ghost use Rattle.bq_graph.specs.Paths.{IsGreatest, PathOut};
 ghost use Rattle.bq_graph.specs.Faults.{IsFaultless};
 ghost use Rattle.bq_verify.specs.Refusals.{IsRefusal, IsOutOfMemory};
 ghost use Rattle.bq_verify.specs.Control.{AreMade};
+ghost use Rattle.bq_verify.specs.Accepted.{context_length_of};
+ghost use Rattle.bq_verify.specs.Straight.{IsStraightProgram};
 
 use crate::hook::{Hook, Version};
 use crate::refused::Refused;
@@ -74,7 +76,8 @@ fn heights_of(alloc: Global, slots: &[Option<Insn>]) -> Result<Vec<u32>, AllocEr
 /// `Jump`, `NoExit`, `Unreached`, `Frame`, `Helper`, `Counters`. One pass by rising slot follows, which stops at the
 /// first slot of which something is not shown. What is accepted is safe within its budget (see `Verified`), and the
 /// budget is the number of instructions on the longest path to an EXIT. `OutOfMemory` is answered where a growth
-/// was refused.
+/// was refused; no other refusal is answered to a straight program, in which each instruction finds what it needs
+/// on every path (`IsStraightProgram`).
 pub fn verify(alloc: Global, program: Program) -> Result<Verified, Refused>
     requires whole { is_well_formed program.insns.items ≡ true }
     requires few { length program.shapes.items ≤ 8 }
@@ -85,6 +88,7 @@ pub fn verify(alloc: Global, program: Program) -> Result<Verified, Refused>
     ensures faultless { IfOk result (λ v. IsFaultless v.slots) }
     ensures budget { IfOk result (λ v. IsGreatest (PathOut v.slots 0) v.budget) }
     ensures refused { IfErr result (IsRefusal (spread program.insns.items)) }
+    ensures accepts { IsStraightProgram (spread program.insns.items) (context_length_of program.hook program.version) → IfErr result IsOutOfMemory }
 {
     verify_slots(alloc, program)
 }
@@ -101,6 +105,7 @@ fn verify_slots(alloc: Global, program: Program) -> Result<Verified, Refused>
     ensures faultless { IfOk result (λ v. IsFaultless v.slots) }
     ensures budget { IfOk result (λ v. IsGreatest (PathOut v.slots 0) v.budget) }
     ensures refused { IfErr result (IsRefusal (spread program.insns.items)) }
+    ensures accepts { IsStraightProgram (spread program.insns.items) (context_length_of program.hook program.version) → IfErr result IsOutOfMemory }
 {
     let Program {
         insns,

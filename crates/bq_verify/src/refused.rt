@@ -5,7 +5,8 @@ ghost use Rattle.bq_insn.specs.declared.Insn.{Insn};
 ghost use Rattle.bq_maps.specs.Machine.{instruction_at};
 ghost use Rattle.bq_graph.specs.Faults.{place_of};
 ghost use Rattle.bq_verify.specs.Doubts.{MayCause, MayDoubt, MayStop};
-ghost use Rattle.bq_verify.specs.Refusals.{IsStopped};
+ghost use Rattle.bq_verify.specs.Refusals.{IsOutOfMemory, IsStopped};
+ghost use Rattle.bq_verify.specs.Standing.{IsWantOfMemory};
 
 use crate::view::{Doubt, Stop};
 use bq_graph::cause::Cause;
@@ -44,7 +45,8 @@ fn cause_of(doubt: Doubt) -> Cause
 
 /// The refusal where the pass stopped at a slot.
 pub fn refuse(slot: usize, stop: Stop) -> Refused
-    ensures { (slots : List (Option Insn)) (insn : Insn) → instruction_at slots slot ≡ Some insn → MayStop stop insn → IsStopped slots result }
+    ensures stopped { (slots : List (Option Insn)) (insn : Insn) → instruction_at slots slot ≡ Some insn → MayStop stop insn → IsStopped slots result }
+    ensures memory { IsWantOfMemory stop → IsOutOfMemory result }
 {
     match stop {
         Stop::Doubted(doubt) => Refused::At {

@@ -1,12 +1,13 @@
 // Stores, and what they leave known.
 
-ghost use Rattle.std.specs.Prelude.{◌≡◌, ◌+◌, ◌<◌, ◌≤◌, ◌^◌, ℕ, List, length, slice_index, OnOk, IfErr};
+ghost use Rattle.std.specs.Prelude.{◌≡◌, ◌+◌, ◌<◌, ◌≤◌, ◌^◌, ℕ, true, false, List, length, slice_index, slice_index_or, IsOk, OnOk, IfErr};
 ghost use Rattle.bq_insn.specs.declared.Insn.{Insn};
 ghost use Rattle.bq_insn.specs.Meaning.{byte_count, word_of};
 ghost use Rattle.bq_maps.specs.Memory.{Setting, State, InStack, written};
 ghost use Rattle.bq_maps.specs.Machine.{low_bytes, next};
 ghost use Rattle.bq_ranges.specs.Within.{Within};
 ghost use Rattle.bq_verify.specs.Doubts.{IsAccess, MayDoubt};
+ghost use Rattle.bq_verify.specs.Standing.{IsOnFrame, IsPlaced, IsStoredAt, Scalar, StandsAt};
 ghost use Rattle.bq_verify.specs.Views.{Carries, Covers, Describes, Forgets, Marks, Stores, keeping};
 
 use crate::memory::{locate, stays};
@@ -29,6 +30,7 @@ pub fn store_imm(
     requires context { context < 2 ^ 16 }
     ensures carries { OnOk result (Carries shapes.now context (Insn.StoreImm size dst off imm) view.old view.new) }
     ensures doubts { IfErr result (λ doubt. MayDoubt doubt (Insn.StoreImm size dst off imm)) }
+    ensures accepts { (place : ℕ) → IsPlaced shapes.now context view.old size dst off Kind.Stack place → IsOk result × IsStoredAt view.old view.new place (place + byte_count size) }
 {
     let word = Known {
         kind: Kind::Number,
@@ -58,6 +60,7 @@ pub fn store_reg(
     requires context { context < 2 ^ 16 }
     ensures carries { OnOk result (Carries shapes.now context (Insn.StoreReg size dst off src) view.old view.new) }
     ensures doubts { IfErr result (λ doubt. MayDoubt doubt (Insn.StoreReg size dst off src)) }
+    ensures accepts { StandsAt Scalar view.old src → (place : ℕ) → IsPlaced shapes.now context view.old size dst off Kind.Stack place → IsOk result × IsStoredAt view.old view.new place (place + byte_count size) }
 {
     let Some(word) = known(view, src) else {
         return Err(Doubt::Unset);
@@ -79,6 +82,7 @@ fn store(
     requires context { context < 2 ^ 16 }
     ensures stores { OnOk result (Stores shapes.now context dst off size word view.old view.new) }
     ensures doubts { IfErr result (λ doubt. (insn : Insn) → IsAccess insn → MayDoubt doubt insn) }
+    ensures accepts { word.kind ≡ Kind.Number → (place : ℕ) → IsPlaced shapes.now context view.old size dst off Kind.Stack place → IsOk result × IsStoredAt view.old view.new place (place + byte_count size) }
 {
     let found = locate(view, shapes, context, size, dst, off)?;
     match found.kind {
@@ -100,6 +104,7 @@ fn store(
 fn store_on_stack(view: &mut View, at: Range, size: Size, word: Known) -> Result<(), Doubt>
     ensures covers { OnOk result ((f : Setting) (s : State) (o v : ℕ) → Covers f view.old s → Within at o → Describes f.shapes word v → Covers f view.new (next (written s InStack o (low_bytes size v)))) }
     ensures doubts { IfErr result (λ doubt. (insn : Insn) → IsAccess insn → MayDoubt doubt insn) }
+    ensures accepts { word.kind ≡ Kind.Number → (place : ℕ) → at.lo ≡ place → at.hi ≡ place → place + byte_count size ≤ 512 → IsOk result × IsStoredAt view.old view.new place (place + byte_count size) }
 {
     if !stays(at, size, 512) {
         return Err(Doubt::Access);
@@ -120,6 +125,7 @@ fn store_on_stack(view: &mut View, at: Range, size: Size, word: Known) -> Result
 fn overwrite(view: &mut View, at: Range, size: Size)
     requires { at.hi + byte_count size ≤ 512 }
     ensures long { length view.new.kept ≡ 64 }
+    ensures stored { at.lo ≡ at.hi → IsStoredAt view.old view.new at.lo (at.hi + byte_count size) }
     ensures covers { (f : Setting) (s : State) (o : ℕ) (bytes : List ℕ) → Covers f view.old s → Within at o → length bytes ≡ byte_count size → ((k : ℕ) → k < length bytes → slice_index bytes k < 256) → Covers f view.new (next (written s InStack o bytes)) }
 {
     let from = at.lo as usize;
@@ -142,7 +148,9 @@ fn keep(view: &mut View, slot: usize, word: Known)
 /// These bytes are set.
 pub fn mark(set: &mut [bool], from: usize, to: usize)
     requires { to ≤ length set.old }
-    ensures { Marks set.old set.new from to }
+    ensures only { Marks set.old set.new from to }
+    ensures marked { (i : ℕ) → from ≤ i → i < to → slice_index_or set.new i false ≡ true }
+    ensures kept { (i : ℕ) → slice_index_or set.old i false ≡ true → slice_index_or set.new i false ≡ true }
 {
     for k in from..to {
         set[k] = true;

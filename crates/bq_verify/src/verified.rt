@@ -36,7 +36,8 @@ impl Verified {
     ghost use Rattle.bq_verify.specs.Control.{AreHeights, AreMade};
     ghost use Rattle.bq_graph.specs.Passes.{IsSound};
     ghost use Rattle.bq_graph.specs.Edges.{IsStart};
-    ghost use Rattle.bq_verify.specs.Refusals.{IsStopped};
+    ghost use Rattle.bq_verify.specs.Refusals.{IsOutOfMemory, IsStopped};
+    ghost use Rattle.bq_verify.specs.Straight.{IsStraightProgram};
     ghost use Rattle.bq_maps.specs.Machine.{Safe, instruction_at};
     ghost use Rattle.std.specs.Option.{option_copied};
 
@@ -109,6 +110,7 @@ impl Verified {
         ensures version { IfOk result (λ v. v.version ≡ version) }
         ensures budget { IfOk result (λ v. v.budget ≡ slice_index heights.now 0) }
         ensures stopped { IfErr result (IsStopped slots.items) }
+        ensures accepts { IsStraightProgram slots.items (context_length_of hook version) → IfErr result IsOutOfMemory }
     {
         let context = context_length(hook, version);
         judge(alloc, slots.as_slice(), shapes.as_slice(), context, heights)?;

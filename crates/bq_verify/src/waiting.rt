@@ -2,6 +2,7 @@
 
 ghost use Rattle.std.specs.Prelude.{◌≡◌, ◌<◌, ℕ, true, None, length, slice_index_or, IfOk, OnOk};
 ghost use Rattle.bq_maps.specs.Memory.{Setting, State};
+ghost use Rattle.bq_verify.specs.Standing.{Fact, Has, HasIn, HasWaiting, IsSureOf};
 ghost use Rattle.bq_verify.specs.Views.{Covers};
 ghost use Rattle.bq_verify.specs.Control.{IsIn, WaitsBoxed, IsKnown};
 
@@ -11,7 +12,8 @@ use std::alloc::{AllocError, Global};
 
 /// No slot has a view that waits.
 pub fn nothing_waits(alloc: Global, count: usize) -> Result<Vec<Option<Box<View>>>, AllocError>
-    ensures { IfOk result (λ v. length v.items ≡ count) }
+    ensures room { IfOk result (λ v. length v.items ≡ count) }
+    ensures blank { IfOk result (λ v. (k : ℕ) → slice_index_or v.items k None ≡ None) }
 {
     let mut pending = Vec::with_capacity(alloc, count)?;
     for _ in 0..count {
@@ -26,6 +28,8 @@ pub fn arrive(view: &mut View, live: bool, pending: &mut [Option<Box<View>>], sl
     ensures long { length pending.new ≡ length pending.old }
     ensures empty { slice_index_or pending.new slot None ≡ None }
     ensures known { (f : Setting) (s : State) → IsKnown pending.old view.old live slot f s → IsKnown pending.new view.new result slot f s }
+    ensures waits { (x : Fact) (k : ℕ) → HasWaiting x pending.old k → HasWaiting x pending.new k }
+    ensures has { (x : Fact) → IsSureOf x pending.old view.old live slot slot → result ≡ true → Has x view.new }
 {
     take_over(view, live, &mut pending[slot])
 }
@@ -34,6 +38,7 @@ fn take_over(view: &mut View, live: bool, waiting: &mut Option<Box<View>>) -> bo
     ensures empty { waiting.new ≡ None }
     ensures carried { (f : Setting) (s : State) → live ≡ true → Covers f view.old s → (result ≡ true) × Covers f view.new s }
     ensures waited { (f : Setting) (s : State) → IsIn f waiting.old s → (result ≡ true) × Covers f view.new s }
+    ensures has { (x : Fact) → (live ≡ true → Has x view.old) → HasIn x waiting.old → result ≡ true → Has x view.new }
 {
     let Some(boxed) = waiting.take() else {
         return live;
@@ -57,6 +62,7 @@ pub fn wait(
     ensures long { length pending.new ≡ length pending.old }
     ensures kept { OnOk result ((f : Setting) (s : State) → WaitsBoxed f pending.old s → WaitsBoxed f pending.new s) }
     ensures added { OnOk result ((f : Setting) (s : State) → s.slot ≡ slot → Covers f view.now s → WaitsBoxed f pending.new s) }
+    ensures has { OnOk result ((x : Fact) (k : ℕ) → HasWaiting x pending.old k → (k ≡ slot → Has x view.now) → HasWaiting x pending.new k) }
 {
     join(alloc, &mut pending[slot], view)
 }
@@ -64,6 +70,7 @@ pub fn wait(
 fn join(alloc: Global, waiting: &mut Option<Box<View>>, view: &View) -> Result<(), AllocError>
     ensures kept { OnOk result ((f : Setting) (s : State) → IsIn f waiting.old s → IsIn f waiting.new s) }
     ensures added { OnOk result ((f : Setting) (s : State) → Covers f view.now s → IsIn f waiting.new s) }
+    ensures has { OnOk result ((x : Fact) → HasIn x waiting.old → Has x view.now → HasIn x waiting.new) }
 {
     if let Some(boxed) = waiting {
         merge(boxed, view);

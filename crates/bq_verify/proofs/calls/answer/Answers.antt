@@ -3,8 +3,8 @@ use Rattle.bq_verify.proofs.WordLemmas.{number_is}
 use Rattle.bq_verify.proofs.CallLemmas.{covers_called}
 use Rattle.bq_verify.proofs.calls.answer.Goals as goal
 
-pub returns : goal.returns
-returns c = λ f s x covers within.
+pub returns-clause-covers : goal.returns-clause-covers
+returns-clause-covers c = λ f s x covers within.
     let there : 0 < length c.clear.new.registers = omega arith in
     rw c.learn.ensures
     (covers_called f c.args.view.now s c.clear.new.registers x _ there c.clear.ensures covers (number_is f.shapes c.args.offset x within))

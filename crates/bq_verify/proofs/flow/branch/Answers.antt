@@ -1,4 +1,8 @@
-use Rattle.std.proofs.Common.{◌<◌, length, inl, inr, arith}
+use Rattle.std.proofs.Common.{◌≡◌, ◌<◌, Option, length, inl, inr, arith, subst, sym}
+use Rattle.bq_verify.specs.declared.view.Kind.TheVariants.{Number}
+use Rattle.bq_verify.specs.declared.view.Known.{Known}
+use Rattle.bq_verify.specs.Standing.{Scalar, Stands}
+use Rattle.bq_verify.proofs.StandingLemmas.{has_on_side, has_relearned}
 use Rattle.bq_verify.specs.Control.{IsKnown}
 use Rattle.bq_verify.proofs.PassLemmas.{parts_of, on_side}
 use Rattle.bq_verify.proofs.flow.branch.Goals as goal
@@ -14,6 +18,20 @@ returns-clause-parts c = (
       c.in-Some-known.left c.in-Some.right c.in_ok-yes.yes c.in_ok-no.no there c.in-Some-known.ensures operand.0 operand.1 operand.2
       c.in_ok-yes.ensures.fits c.in_ok-no.ensures.fits
       (λ t at side. inl (c.in_ok-wait_on_side.ensures.added f t at side))
-      (λ t at side. let on = c.carry_on.ensures f t (on_side f c.args.view.now c.wait_on_side.new.view c.args.dst c.in_ok-no.no t c.wait_on_side.ensures.same side) in inr (on.0, at, on.1))
+      (λ t at side. let on = c.carry_on.ensures.covers f t (on_side f c.args.view.now c.wait_on_side.new.view c.args.dst c.in_ok-no.no t c.wait_on_side.ensures.same side) in inr (on.0, at, on.1))
       covers,
 )
+
+pub returns-clause-sure : goal.returns-clause-sure
+returns-clause-sure c = λ scalar operand x k waits both.
+    let there : c.args.dst < length c.args.view.now.registers = omega arith in
+    let left : c.in-Some-known.left.kind ≡ Number = subst (λ (v : Option Known). Stands Scalar v) (sym c.in-Some-known.ensures) scalar in
+    let right : c.in-Some.right.kind ≡ Number = c.in-Some.ensures.scalar operand in
+    record {
+      waiting = c.in_ok-wait_on_side.ensures.has x k waits (λ same. has_on_side x c.args.view.now c.args.dst c.in_ok-yes.yes there scalar (c.in_ok-yes.ensures.number left right) (both (inl same)));
+      carried = λ live same.
+          c.carry_on.ensures.has x
+          (has_relearned x c.args.view.now c.wait_on_side.new.view c.args.dst c.in_ok-no.no c.wait_on_side.ensures.same
+          (has_on_side x c.args.view.now c.args.dst c.in_ok-no.no there scalar (c.in_ok-no.ensures.number left right) (both (inr same))))
+          live;
+    }

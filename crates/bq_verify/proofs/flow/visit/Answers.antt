@@ -1,4 +1,8 @@
-use Rattle.std.proofs.Common.{rules, Some, ◌≡◌, ◌+◌, ◌<◌, length, arith, refl, true, false, inl, inr}
+use Rattle.std.proofs.Common.{rules, ℕ, Some, ◌≡◌, ◌+◌, ◌<◌, length, arith, refl, sym, ap, subst, ◌∙◌, true, false, inl, inr}
+use Rattle.bq_insn.specs.declared.Insn.{Insn}
+use Rattle.bq_verify.specs.Standing.{After, IsReady}
+use Rattle.bq_verify.proofs.MergeLemmas.{some_none}
+use Rattle.bq_verify.proofs.StandingLemmas.{has_left, carried_of}
 use mir.Syntax.{w16, w32}
 use mir.Val.{SFits}
 use Rattle.std.proofs.lemmas.Int.{ints}
@@ -6,7 +10,7 @@ use Rattle.std.proofs.lemmas.Result.{IfOk-weaker}
 use Rattle.bq_insn.specs.Slots.{slots_of}
 use Rattle.bq_insn.specs.declared.Insn.TheVariants.{Branch, Goto, Goto32}
 use Rattle.bq_maps.specs.Machine.{LeadsTo, instruction_at}
-use Rattle.bq_graph.specs.Edges.{IsEdge}
+use Rattle.bq_graph.specs.Edges.{IsEdge, Leaves}
 use Rattle.bq_graph.proofs.EdgeLemmas.{start_inside}
 use Rattle.bq_verify.specs.Control.{IsKnown}
 use Rattle.bq_verify.proofs.PassLemmas.{goes_apart, goes_asking, goes_on, goes_there, goes_far}
@@ -59,6 +63,17 @@ returns-in_ok-wait-in_default c = record {
         (λ f s at covers. inl (c.in_ok-wait-in_default.ensures.added f s (rw c.slots-count.ensures at) covers)),
   );
   doubts = tt;
+  accepts = λ ready. tt;
+  sure = λ ready x k waits after.
+      let carried = carried_of c.args.insn c.in_default.not-Exit c.in_default.not-Goto c.in_default.not-Goto32 c.in_default.not-Branch in
+      record {
+        waiting = c.in_ok-wait-in_default.ensures.has x k waits
+            (λ same.
+            (c.in_ok-carry-in_default.ensures.accepts ready carried).1 x
+            (after
+            (record { insn = c.args.insn; here = c.requires.here; leaves = subst (λ (n : ℕ). Leaves c.args.insn c.args.slot n) (sym (same ∙ ap (λ (n : ℕ). c.args.slot + n) c.slots-count.ensures)) (c.in_ok-carry-in_default.ensures.straight c.args.slot) })));
+        carried = λ live. absurd (let no : ⊥ = cc in no);
+      };
 }
 
 pub returns-in-Branch-clause-goes : goal.returns-in-Branch-clause-goes
@@ -74,3 +89,78 @@ returns-in-Branch-clause-goes c =
           c.in-Branch.width c.in-Branch.cond c.in-Branch.dst c.in-Branch.src c.in-Branch.off c.target-to-in-Branch.result here leads parts.1,
     ))
     c.branch-alloc.ensures.parts
+
+pub returns-then-count-eq1 : goal.returns-then-count-eq1
+returns-then-count-eq1 c = record {
+  long = search rules;
+  goes = (
+    λ f s waits. waits,
+    goes_on c.args.slots.now c.args.shapes.now c.args.context c.args.slot c.args.view.now (IsKnown c.args.pending.now c.carry.new.view true (c.args.slot + 1))
+        c.args.insn c.carry.new.view c.requires.here c.in_ok-carry-in_default.ensures.straight c.in_ok-carry-in_default.ensures.carries
+        (λ f s at covers. inr (refl, at ∙ ap (λ (n : ℕ). c.args.slot + n) one, covers)),
+  );
+  doubts = tt;
+  accepts = λ ready. tt;
+  sure = λ ready x k waits after.
+      let carried = carried_of c.args.insn c.in_default.not-Exit c.in_default.not-Goto c.in_default.not-Goto32 c.in_default.not-Branch in
+      record {
+        waiting = waits;
+        carried = λ live same.
+            (c.in_ok-carry-in_default.ensures.accepts ready carried).1 x
+            (after
+            (record { insn = c.args.insn; here = c.requires.here; leaves = subst (λ (n : ℕ). Leaves c.args.insn c.args.slot n) (sym (same ∙ ap (λ (n : ℕ). c.args.slot + n) (sym one))) (c.in_ok-carry-in_default.ensures.straight c.args.slot) }));
+      };
+}
+  where
+    one : slots_of c.args.insn ≡ 1
+    one = omega (arith, c.slots-count.ensures)
+
+pub returns-in_ok-wait-in-Goto-clause-sure : goal.returns-in_ok-wait-in-Goto-clause-sure
+returns-in_ok-wait-in-Goto-clause-sure c = λ ready x k waits after.
+    let distance : c.from.result ≡ c.in-Goto.off = search rules in
+    let fits : SFits w16 c.in-Goto.off = search rules in
+    let leads : LeadsTo c.args.slot c.in-Goto.off c.target-to.result = omega (arith, ints, c.target-to.ensures.to) in
+    let here : instruction_at c.args.slots.now c.args.slot ≡ Some (Goto c.in-Goto.off) = rw c.in-Goto.is at c.requires.here in
+    let edge : IsEdge c.args.slots.now c.args.slot c.target-to.result = record { insn = Goto c.in-Goto.off; here = here; leaves = inr (c.in-Goto.off, refl, leads) } in
+    record {
+      waiting = c.in_ok-wait-in-Goto.ensures.has x k waits
+          (λ same.
+          has_left x (Goto c.in-Goto.off) c.args.view.now (λ r gives. some_none _ _ gives refl) (λ i stores. stores)
+          (subst (λ (i : Insn). After x i c.args.view.now) c.in-Goto.is (after (subst (λ (n : ℕ). IsEdge c.args.slots.now c.args.slot n) (sym same) edge))));
+      carried = λ live. absurd (let no : ⊥ = cc in no);
+    }
+
+pub returns-in_ok-wait-in-Goto32-clause-sure : goal.returns-in_ok-wait-in-Goto32-clause-sure
+returns-in_ok-wait-in-Goto32-clause-sure c = λ ready x k waits after.
+    let distance : c.from-in-Goto32.result ≡ c.in-Goto32.imm = search rules in
+    let fits : SFits w32 c.in-Goto32.imm = search rules in
+    let leads : LeadsTo c.args.slot c.in-Goto32.imm c.target-to-in-Goto32.result = omega (arith, ints, c.target-to-in-Goto32.ensures.to) in
+    let here : instruction_at c.args.slots.now c.args.slot ≡ Some (Goto32 c.in-Goto32.imm) = rw c.in-Goto32.is at c.requires.here in
+    let edge : IsEdge c.args.slots.now c.args.slot c.target-to-in-Goto32.result = record { insn = Goto32 c.in-Goto32.imm; here = here; leaves = inr (c.in-Goto32.imm, refl, leads) } in
+    record {
+      waiting = c.in_ok-wait-in-Goto32.ensures.has x k waits
+          (λ same.
+          has_left x (Goto32 c.in-Goto32.imm) c.args.view.now (λ r gives. some_none _ _ gives refl) (λ i stores. stores)
+          (subst (λ (i : Insn). After x i c.args.view.now) c.in-Goto32.is (after (subst (λ (n : ℕ). IsEdge c.args.slots.now c.args.slot n) (sym same) edge))));
+      carried = λ live. absurd (let no : ⊥ = cc in no);
+    }
+
+pub returns-in-Branch-clause-sure : goal.returns-in-Branch-clause-sure
+returns-in-Branch-clause-sure c = λ ready.
+    let distance : c.from-in-Branch.result ≡ c.in-Branch.off = search rules in
+    let fits : SFits w16 c.in-Branch.off = search rules in
+    let leads : LeadsTo c.args.slot c.in-Branch.off c.target-to-in-Branch.result = omega (arith, ints, c.target-to-in-Branch.ensures.to) in
+    let insn : Insn = Branch c.in-Branch.width c.in-Branch.cond c.in-Branch.dst c.in-Branch.src c.in-Branch.off in
+    let here : instruction_at c.args.slots.now c.args.slot ≡ Some insn = rw c.in-Branch.is at c.requires.here in
+    let there : IsEdge c.args.slots.now c.args.slot c.target-to-in-Branch.result = record { insn = insn; here = here; leaves = inr (c.in-Branch.off, refl, leads) } in
+    let next : IsEdge c.args.slots.now c.args.slot (c.args.slot + 1) = record { insn = insn; here = here; leaves = inl (refl, refl) } in
+    let needs = subst (λ (i : Insn). IsReady c.args.shapes.now c.args.context c.args.view.now i) c.in-Branch.is ready in
+    IfOk-weaker c.branch-alloc.result _ _
+    (λ live sure x k waits after.
+    let left = λ (edge : IsEdge c.args.slots.now c.args.slot k). has_left x insn c.args.view.now (λ r gives. some_none _ _ gives refl) (λ i stores. stores) (subst (λ (i : Insn). After x i c.args.view.now) c.in-Branch.is (after edge)) in
+    sure x k waits
+    (λ either. elim either [
+      | inl same ↦ left (subst (λ (n : ℕ). IsEdge c.args.slots.now c.args.slot n) (sym same) there)
+      | inr same ↦ left (subst (λ (n : ℕ). IsEdge c.args.slots.now c.args.slot n) (sym same) next)
+    ]))
+    (c.branch-alloc.ensures.sure needs.1 needs.2)

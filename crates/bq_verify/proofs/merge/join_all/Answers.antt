@@ -1,4 +1,4 @@
-use Rattle.std.proofs.Common.{◌<◌, ◌≤◌, length, arith}
+use Rattle.std.proofs.Common.{◌<◌, length, arith}
 use Rattle.std.proofs.lemmas.Grind.{common_steps}
 use Rattle.bq_verify.proofs.MergeLemmas.{stands_more, stands_all}
 use Rattle.bq_verify.proofs.merge.join_all.Goals as goal
@@ -17,5 +17,4 @@ loop-i-preserved c =
 
 pub returns-clause-stands : goal.returns-clause-stands
 returns-clause-stands c = λ s.
-    let end : length c.args.into.now ≤ c.loop-i.i = omega arith in
-    stands_all s c.args.into.now c.loop-i.into c.args.other.now c.loop-i.i end (c.loop-i.invariant.stands s)
+    stands_all s c.args.into.now c.loop-i.into c.args.other.now c.loop-i.i c.loop-i.invariant.rest (c.loop-i.invariant.stands s)

@@ -1,4 +1,4 @@
-use Rattle.bq_verify.proofs.MergeLemmas.{Covers-more}
+use Rattle.bq_verify.proofs.MergeLemmas.{Covers-more, Has-both}
 use Rattle.bq_verify.proofs.merge.merge.Goals as goal
 
 pub returns-clause-left : goal.returns-clause-left
@@ -6,3 +6,6 @@ returns-clause-left c = λ f s covers. Covers-more f s c.args.into.now _ c.join_
 
 pub returns-clause-right : goal.returns-clause-right
 returns-clause-right c = λ f s covers. Covers-more f s c.args.other.now _ c.join_all.ensures.right c.keep_common.ensures.right c.join_all-2.ensures.right covers
+
+pub returns-clause-stands : goal.returns-clause-stands
+returns-clause-stands c = λ x. Has-both x c.args.into.now c.args.other.now _ c.join_all.ensures.stands c.keep_common.ensures.both c.join_all-2.ensures.stands

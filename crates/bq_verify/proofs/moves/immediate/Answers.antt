@@ -4,9 +4,9 @@ use Rattle.bq_verify.proofs.PutLemmas.{carries_put}
 use Rattle.bq_verify.proofs.WordLemmas.{number_is}
 use Rattle.bq_verify.proofs.moves.immediate.Goals as goal
 
-pub returns : goal.returns
-returns c = λ shapes context_length.
+pub returns-clause-carries : goal.returns-clause-carries
+returns-clause-carries c = λ shapes context_length.
     let there : c.args.dst < length c.args.view.now.registers = omega arith in
-    rw c.learn_number.ensures
+    rw c.learn_number.ensures.is
     (carries_put shapes context_length (Imm64 c.args.dst c.args.value) c.args.view.now c.args.dst _ there
     (λ f s suits covers. (c.args.value, (c.requires, refl), number_is f.shapes c.single.result c.args.value (omega (arith, c.single.ensures.lo), omega (arith, c.single.ensures.hi)))))

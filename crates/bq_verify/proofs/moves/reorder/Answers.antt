@@ -8,7 +8,7 @@ use Rattle.bq_verify.proofs.moves.reorder.Goals as goal
 pub returns-clause-carries : goal.returns-clause-carries
 returns-clause-carries c = λ shapes context_length.
     let there : c.args.dst < length c.args.view.now.registers = omega arith in
-    rw c.learn_number.ensures
+    rw c.learn_number.ensures.is
     (carries_put shapes context_length (End c.args.kind c.args.bits c.args.dst) c.args.view.now c.args.dst _ there
     (λ f s suits covers.
     let word = c.in_ok-word.ensures.holds f s covers in

@@ -11,5 +11,5 @@ pub returns-clause-covers : goal.returns-clause-covers
 returns-clause-covers c = λ f s o bytes covers within long small.
     let single = c.is_single.ensures.0 c.if-not-is_single.false in
     covers_over f c.args.view.now _ s c.args.at (byte_count c.args.size) o bytes refl
-    (marks_wider c.args.view.now.set c.mark.new.set c.args.at.lo (c.args.at.hi + byte_count c.args.size) o (o + byte_count c.args.size) (omega arith) (omega arith) (rw c.bytes.ensures at c.mark.ensures))
+    (marks_wider c.args.view.now.set c.mark.new.set c.args.at.lo (c.args.at.hi + byte_count c.args.size) o (o + byte_count c.args.size) (omega arith) (omega arith) (rw c.bytes.ensures at c.mark.ensures.only))
     (rw c.bytes.ensures at c.forget.ensures) covers within long small
