@@ -49,7 +49,8 @@ impl Maps {
 
     /// The shapes, in order.
     pub fn shapes(&self) -> &[MapShape]
-        ensures { result.now ≡ self.now.shapes }
+        ensures shapes { result.now ≡ self.now.shapes }
+        ensures sizes { HaveShapes self.now.shapes self.now.bytes }
     {
         self.shapes.as_slice()
     }

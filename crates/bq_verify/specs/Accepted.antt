@@ -1,5 +1,6 @@
 -- What callers see of an accepted program, and what they are told of another.
-use Rattle.std.specs.Prelude.{ℕ, List, Option}
+use Rattle.std.specs.Prelude.{ℕ, ◌≤◌, List, Option, length}
+use Rattle.bq_maps.specs.Machine.{Safe}
 use Rattle.bq_insn.specs.declared.Insn.{Insn}
 use Rattle.bq_maps.specs.declared.shape.MapShape.{MapShape}
 use Rattle.bq_verify.specs.declared.hook.Hook.{Hook}
@@ -20,3 +21,9 @@ pub record Accepted : Type 0 where
   pub hook : Hook
   pub version : Version
   pub budget : ℕ
+
+-- what is known of each accepted program: it is within the limits of images, and safe within its budget
+pub record IsAccepted (slots : List (Option Insn)) (shapes : List MapShape) (context_length budget : ℕ) : Type 0 where
+  pub short : length slots ≤ 4096
+  pub few : length shapes ≤ 8
+  pub safe : Safe slots shapes context_length budget

@@ -19,32 +19,30 @@ pub struct Verified {
 }
 
 impl Model for Verified {
-    ghost use Rattle.bq_verify.specs.Accepted.{Accepted, context_length_of};
+    ghost use Rattle.bq_verify.specs.Accepted.{Accepted, IsAccepted, context_length_of};
 
     ghost Value = { Accepted };
 
-    ghost use Rattle.bq_maps.specs.Machine.{Safe};
-
     ghost view = { λ v. record { slots = v.slots.items; shapes = v.shapes.items; hook = v.hook; version = v.version; budget = v.budget } };
 
-    ghost invariant = { λ v. Safe v.slots.items v.shapes.items (context_length_of v.hook v.version) v.budget };
+    ghost invariant = { λ v. IsAccepted v.slots.items v.shapes.items (context_length_of v.hook v.version) v.budget };
 }
 
 impl Verified {
     ghost use Rattle.std.specs.Prelude.{◌≡◌, ◌≤◌, ◌<◌, ◌^◌, ℕ, IfErr, IfOk, length, slice_index};
-    ghost use Rattle.bq_verify.specs.Accepted.{context_length_of};
+    ghost use Rattle.bq_verify.specs.Accepted.{IsAccepted, context_length_of};
     ghost use Rattle.bq_verify.specs.Control.{AreHeights, AreMade};
     ghost use Rattle.bq_graph.specs.Passes.{IsSound};
     ghost use Rattle.bq_graph.specs.Edges.{IsStart};
     ghost use Rattle.bq_verify.specs.Refusals.{IsOutOfMemory, IsStopped};
     ghost use Rattle.bq_verify.specs.Straight.{IsStraightProgram};
-    ghost use Rattle.bq_maps.specs.Machine.{Safe, instruction_at};
+    ghost use Rattle.bq_maps.specs.Machine.{instruction_at};
     ghost use Rattle.std.specs.Option.{option_copied};
 
     /// The instruction of each slot.
     pub fn slots(&self) -> &[Option<Insn>]
         ensures slots { result.now ≡ self.now.slots }
-        ensures safe { Safe self.now.slots self.now.shapes (context_length_of self.now.hook self.now.version) self.now.budget }
+        ensures accepted { IsAccepted self.now.slots self.now.shapes (context_length_of self.now.hook self.now.version) self.now.budget }
     {
         &self.slots
     }
