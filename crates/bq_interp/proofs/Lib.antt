@@ -1,0 +1,6 @@
+pub mod RegisterLemmas
+pub mod ComputeLemmas
+pub mod MemoryLemmas
+pub mod AccessLemmas
+pub mod HelpLemmas
+pub mod RunLemmas

@@ -1,0 +1,3 @@
+pub mod Agrees
+pub mod Steps
+pub mod Chains
