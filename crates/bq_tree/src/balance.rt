@@ -126,6 +126,7 @@ pub(crate) fn fork(node: Box<Node>, left: Link, right: Link) -> Box<Node>
 }
 
 /// A node with two trees at its sides, which may differ in height.
+#[inline(always)]
 pub(crate) fn gathered(mut node: Box<Node>, left: Link, right: Link) -> Box<Node>
     requires lone { IsLone node.value }
     requires left { IsTreeBehind left }
@@ -148,6 +149,7 @@ pub(crate) fn gathered(mut node: Box<Node>, left: Link, right: Link) -> Box<Node
 }
 
 /// A node that takes the place of another root: all that hangs from it is the same, so what the other knew is true of it.
+#[inline(always)]
 fn crown(mut node: Box<Node>, left: Link, right: Link, due: Due, totals: Totals) -> Box<Node>
     requires lone { IsLone node.value }
     requires left { IsTreeBehind left }
@@ -264,6 +266,14 @@ pub(crate) fn settle(link: &mut Link)
     ensures at_most_one_higher { height_behind link.new ≤ max (left_height_behind link.old) (right_height_behind link.old) + 1 }
     ensures same { IsSome link.old → DifferByAtMost 1 (left_height_behind link.old) (right_height_behind link.old) → height_behind link.new ≡ max (left_height_behind link.old) (right_height_behind link.old) + 1 }
 {
+    let Some(root) = link else {
+        return;
+    };
+    let (left, right) = heights(root);
+    if left <= right + 1 && right <= left + 1 {
+        root.height = left.max(right) + 1;
+        return;
+    }
     if let Some(root) = link.take() {
         *link = Some(settled(root));
     }

@@ -22,7 +22,10 @@ fn count_in(root: &mut Node, entity: &Entity)
     ensures task { IsBounded entity.now }
 {
     root.totals.add(entity);
-    root.due = entity.due().earlier(root.due);
+    let due = entity.due();
+    if due.is_before(&root.due) {
+        root.due = due;
+    }
 }
 
 /// Puts a node into a tree.

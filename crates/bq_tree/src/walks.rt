@@ -1,5 +1,5 @@
 //! Walks down a tree.
-ghost use Rattle.std.specs.Prelude.{◌≡◌, ◌<◌, ◌≤◌, ◌+◌, ◌^◌, ◌++◌, ◌∷◌, None, find, filter, length};
+ghost use Rattle.std.specs.Prelude.{◌≡◌, ◌<◌, ◌≤◌, ◌+◌, ◌^◌, ◌++◌, ◌∷◌, Some, None, find, filter, length};
 ghost use Rattle.std.specs.Option.{option_map};
 ghost use Rattle.bq_disc.specs.Tasks.{with_id};
 ghost use Rattle.bq_disc.specs.Queues.{comes_after, follows};
@@ -87,13 +87,21 @@ pub(crate) fn least(link: &Link) -> Option<&Node>
     requires { IsTreeBehind link.now }
     ensures { option_map (λ n. task_of n.now) result ≡ find (follows None) (in_order_behind link.now) }
 {
-    let Some(node) = link else {
-        return None;
-    };
+    match link {
+        None => None,
+        Some(node) => Some(least_of(node)),
+    }
+}
+
+/// The first of a node and of those below it.
+fn least_of(node: &Node) -> &Node
+    requires { IsTree node.now }
+    ensures { find (follows None) (in_order node.now) ≡ Some (task_of result.now) }
+{
     let (left, _) = sides(node);
-    match least(left) {
-        Some(found) => Some(found),
-        None => Some(node),
+    match left {
+        None => node,
+        Some(next) => least_of(next),
     }
 }
 
