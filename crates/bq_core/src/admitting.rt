@@ -12,6 +12,7 @@ use std::alloc::Global;
 
 impl<Q: RunQueue, const P: usize> Parts<Q, P> {
     /// A new task stands in the lobby. It takes memory for the task.
+    #[inline(never)]
     pub(crate) fn admit(
         &mut self,
         alloc: Global,
@@ -36,6 +37,7 @@ impl<Q: RunQueue, const P: usize> Parts<Q, P> {
     }
 
     /// A task leaves the lobby for good.
+    #[inline(never)]
     pub(crate) fn retire(&mut self, task: u16) -> Result<Reply, Refusal>
         requires seat { task < 1024 }
         ensures step { WorldStep (without_policies Q.R.discipline) self.old (Event.Retire task) [] result self.new }

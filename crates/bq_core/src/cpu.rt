@@ -33,6 +33,7 @@ impl<Q: RunQueue> Model for Cpu<Q> {
 }
 
 impl<Q: RunQueue> Cpu<Q> {
+    /// A processor to which nothing has come, and at whose hooks nothing stands.
     pub fn new() -> Cpu<Q>
         ensures { result ≡ opening }
     {

@@ -22,12 +22,14 @@ impl Model for Installed {
 }
 
 impl Installed {
+    /// A policy or none, as this generation.
     pub fn new(policy: Option<Policy>, generation: u64) -> Installed
         ensures { result ≡ record { policy = policy; generation = generation; maps = [] } }
     {
         Installed { policy, generation }
     }
 
+    /// Its generation.
     pub fn generation(&self) -> u64
         ensures { result ≡ self.now.generation }
     {
@@ -52,6 +54,7 @@ impl Model for Hooks {
 }
 
 impl Hooks {
+    /// Hooks at which nothing was installed yet.
     pub fn new() -> Hooks
         ensures { result ≡ no_programs }
     {

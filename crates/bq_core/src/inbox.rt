@@ -31,6 +31,7 @@ impl Model for Inbox {
 }
 
 impl Inbox {
+    /// No task.
     pub fn new() -> Inbox
         ensures { result ≡ [] }
     {

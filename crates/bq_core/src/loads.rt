@@ -7,7 +7,7 @@ use std::marker::Model;
 /// The loads of up to 64 processors, by their numbers.
 #[derive(Drop)]
 pub struct Loads {
-    counts: ArrayVec<u32, 64>,
+    counts: ArrayVec<u16, 64>,
 }
 
 impl Model for Loads {
@@ -21,6 +21,7 @@ impl Model for Loads {
 }
 
 impl Loads {
+    /// The loads of no processor.
     pub fn new() -> Loads
         ensures { result ≡ [] }
     {
@@ -30,7 +31,7 @@ impl Loads {
     }
 
     /// Adds the load of the next processor.
-    pub fn push(&mut self, count: u32)
+    pub fn push(&mut self, count: u16)
         requires { length self.old < 64 }
         ensures { self.new ≡ self.old ++ count ∷ [] }
     {
@@ -38,7 +39,7 @@ impl Loads {
     }
 
     /// The load of a processor, 0 where it has none.
-    pub fn get(&self, processor: usize) -> u32
+    pub fn get(&self, processor: usize) -> u16
         ensures { result ≡ slice_index self.now processor }
     {
         match self.counts.get(processor) {
@@ -48,7 +49,7 @@ impl Loads {
     }
 
     /// The loads, in order.
-    pub fn as_slice(&self) -> &[u32]
+    pub fn as_slice(&self) -> &[u16]
         ensures { result.now ≡ self.now }
     {
         self.counts.as_slice()

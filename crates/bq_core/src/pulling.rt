@@ -10,6 +10,7 @@ use bq_disc::RunQueue;
 
 impl<Q: RunQueue, const P: usize> Parts<Q, P> {
     /// A processor takes a task from the queue of another that has more of them.
+    #[inline(never)]
     pub(crate) fn pull(&mut self, processor: u8, from: u8, now: u64) -> Result<Reply, Refusal>
         requires orderly { IsOrderly self.old }
         requires inside { processor < count_in self.old }

@@ -49,6 +49,7 @@ fn node_of(current: &Option<Unlinked>) -> Option<&Node>
 }
 
 impl<Q: RunQueue> Runner<Q> {
+    /// Nothing runs or waits, and the clock was never read.
     pub fn new() -> Runner<Q>
         ensures { result ≡ at_rest }
     {

@@ -26,6 +26,7 @@ impl Model for Unlinked {
 }
 
 impl Unlinked {
+    /// The task of a node that is linked to none.
     pub fn new(node: Box<Node>) -> Unlinked
         requires { IsLone node.value }
         ensures { result ≡ task_of node.value }
@@ -33,6 +34,7 @@ impl Unlinked {
         Unlinked { node }
     }
 
+    /// Its node, to be linked.
     pub fn into_node(self) -> Box<Node>
         ensures task { task_of result.value ≡ self }
         ensures lone { IsLone result.value }
@@ -40,12 +42,14 @@ impl Unlinked {
         self.node
     }
 
+    /// Its node.
     pub fn node(&self) -> &Node
         ensures { task_of result.now ≡ self.now }
     {
         &self.node
     }
 
+    /// Its id.
     pub fn id(&self) -> u16
         ensures { result ≡ self.now.id }
     {

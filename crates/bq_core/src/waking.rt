@@ -12,6 +12,7 @@ use bq_disc::RunQueue;
 
 impl<Q: RunQueue, const P: usize> Parts<Q, P> {
     /// A sleeping task comes into the hand of a processor, with the loads of that moment.
+    #[inline(never)]
     pub(crate) fn begin_wake(&mut self, processor: u8, task: u16) -> Result<Reply, Refusal>
         requires orderly { IsOrderly self.old }
         requires inside { processor < count_in self.old }
@@ -37,6 +38,7 @@ impl<Q: RunQueue, const P: usize> Parts<Q, P> {
     }
 
     /// The task in the hand of a processor is placed: it stands at the end of the chosen processor's inbox.
+    #[inline(never)]
     pub(crate) fn end_wake(&mut self, processor: u8, now: u64) -> Result<Reply, Refusal>
         requires orderly { IsOrderly self.old }
         requires inside { processor < count_in self.old }
@@ -65,12 +67,12 @@ impl<Q: RunQueue, const P: usize> Parts<Q, P> {
 fn loads_of<Q: RunQueue>(cpus: &[Cpu<Q>], inboxes: &[Inbox]) -> Loads
     requires same { length cpus.now ≡ length inboxes.now }
     requires few { length cpus.now ≤ 64 }
-    requires small { (i : ℕ) → load_of (slice_index_or cpus.now i opening) (slice_index_or inboxes.now i []) < 2 ^ 32 }
+    requires small { (i : ℕ) → load_of (slice_index_or cpus.now i opening) (slice_index_or inboxes.now i []) < 2 ^ 16 }
     ensures { result ≡ loads_of cpus.now inboxes.now }
 {
     let mut loads = Loads::new();
     for at in 0..cpus.len() {
-        loads.push(cpus[at].load(&inboxes[at]));
+        loads.push(cpus[at].load(&inboxes[at]) as u16);
     }
     loads
 }

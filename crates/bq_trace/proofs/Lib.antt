@@ -1,3 +1,4 @@
+pub mod AllowedLemmas
 pub mod ChainLemmas
 pub mod KeptLemmas
 pub mod NumberLemmas

@@ -1,5 +1,5 @@
 -- The machine that a trace drives: the discipline of its queues, and its world.
-use Rattle.std.specs.Prelude.{◌≡◌, ℕ, [], Result}
+use Rattle.std.specs.Prelude.{◌≢◌, ℕ, [], Result, Err}
 use Rattle.bq_disc.specs.Discipline.{Discipline}
 use Rattle.bq_cfs.specs.Cfs.{cfs}
 use Rattle.bq_eevdf.specs.Eevdf.{eevdf}
@@ -9,6 +9,7 @@ use Rattle.bq_core.specs.Steps.{WorldStep, without_policies}
 use Rattle.bq_core.specs.declared.event.Event.{Event}
 use Rattle.bq_core.specs.declared.reply.Reply.{Reply}
 use Rattle.bq_core.specs.declared.refusal.Refusal.{Refusal}
+use Rattle.bq_core.specs.declared.refusal.Refusal.TheVariants.{OutOfMemory}
 use Rattle.bq_trace.specs.declared.command.Rule.{Rule}
 use Rattle.bq_trace.specs.declared.command.Rule.TheVariants.{Cfs, Eevdf}
 use Rattle.bq_trace.specs.declared.command.Size.{Size}
@@ -40,7 +41,7 @@ processors_in SixtyFour = 64
 abbrev pub opening_machine : Rule → Size → Machine
 opening_machine rule size = record { rule = rule; world = opening_world (processors_in size) }
 
--- one event is a step of the machine's world, under its rule
-pub record Steps (m : Machine) (event : Event) (answer : Result Reply Refusal) (n : Machine) : Type 0 where
-  pub same_rule : n.rule ≡ m.rule
-  pub step : WorldStep (setting_of m.rule) m.world event [] answer n.world
+-- One event is a step of a world, and it has an answer that is not want of memory.
+pub record Steps (s : Setting) (w : World) (event : Event) (answer : Result Reply Refusal) (v : World) : Type 0 where
+  pub step : WorldStep s w event [] answer v
+  pub answered : answer ≢ Err OutOfMemory

@@ -1,13 +1,12 @@
 -- What a trace's lines are answered (this project's own trace format).
-use Rattle.std.specs.Prelude.{◌≡◌, ◌≢◌, ℕ, Bool, true, false, ◌&&◌, not, List, [], ◌∷◌, ◌++◌, Option, Result, Ok, Err}
+use Rattle.std.specs.Prelude.{◌≡◌, ℕ, Bool, true, false, ◌&&◌, not, List, [], ◌∷◌, ◌++◌, Option, Result, Ok, Err}
 use Rattle.std.specs.Str.Lines.{lines}
 use Rattle.bq_core.specs.declared.event.Event.{Event}
 use Rattle.bq_core.specs.declared.event.Event.TheVariants.{BeginWake, EndWake}
 use Rattle.bq_core.specs.declared.reply.Reply.{Reply}
 use Rattle.bq_core.specs.declared.refusal.Refusal.{Refusal}
-use Rattle.bq_core.specs.declared.refusal.Refusal.TheVariants.{OutOfMemory}
 use Rattle.bq_trace.specs.Counts.{one_more}
-use Rattle.bq_trace.specs.Machines.{Machine as Driven, opening_machine, Steps}
+use Rattle.bq_trace.specs.Machines.{Machine as Driven, opening_machine, setting_of, Steps}
 use Rattle.bq_trace.specs.Writing.{AppendsPart}
 use Rattle.bq_trace.specs.Lines.{reading_of}
 use Rattle.bq_trace.specs.Texts.{event_line, bad_line, show_line}
@@ -18,10 +17,10 @@ use Rattle.bq_trace.specs.declared.progress.Phase.{Phase}
 use Rattle.bq_trace.specs.declared.progress.Phase.TheVariants.{Waiting, Over, Running}
 use Rattle.bq_trace.specs.declared.progress.Progress.{Progress}
 
--- An event is done, and the text is the line that answers it. Want of memory has no line.
+-- An event is done in the machine's world, under its rule, and the text is the line that answers it.
 pub record DoesAndAnswers (m : Driven) (event : Event) (answer : Result Reply Refusal) (text : List ℕ) (n : Driven) : Type 0 where
-  pub step : Steps m event answer n
-  pub answered : answer ≢ Err OutOfMemory
+  pub same_rule : n.rule ≡ m.rule
+  pub step : Steps (setting_of m.rule) m.world event answer n.world
   pub line : text ≡ event_line answer
 
 -- What follows the begin of a wake: the end, unless the begin was refused.

@@ -1,5 +1,5 @@
 //! The lines of a text that comes in pieces.
-ghost use Rattle.std.specs.Prelude.{◌≡◌, ◌+◌, ◌<◌, ◌==◌, ◌++◌, ◌∷◌, ℕ, List, [], length, take, drop, IfOk, OnOk, OnErr, IfSome, IfNone, Some, None};
+ghost use Rattle.std.specs.Prelude.{◌≡◌, ◌↔◌, IsTrue, ◌+◌, ◌<◌, ◌==◌, ◌++◌, ◌∷◌, ℕ, List, [], length, take, drop, IfOk, OnOk, OnErr, IfSome, IfNone, Some, None};
 ghost use Rattle.std.specs.Str.Lines.{strip_carriage_return};
 ghost use Rattle.bq_trace.specs.Lines.{reading_of};
 ghost use Rattle.bq_trace.specs.Kept.{IsOneLine, StandsFor};
@@ -42,7 +42,8 @@ impl Begun {
 
     /// Whether nothing has begun.
     pub fn is_empty(&self) -> bool
-        ensures { (line : List ℕ) → StandsFor self.now line → result ≡ (length line == 0) }
+        ensures kept { IsTrue result ↔ (self.now ≡ Some []) }
+        ensures line { (line : List ℕ) → StandsFor self.now line → result ≡ (length line == 0) }
     {
         !self.is_too_long && self.bytes.is_empty()
     }
@@ -99,6 +100,9 @@ impl Begun {
         ensures says { IfOk result (λ reading. (line : List ℕ) → StandsFor self.old line → reading ≡ reading_of (strip_carriage_return (line ++ tail.now))) }
         ensures cleared { OnOk result (self.new ≡ Some []) }
     {
+        if self.is_empty() {
+            return Ok(read_line(without_cr(tail)));
+        }
         self.extend(tail)?;
         let reading = self.ended();
         self.clear();

@@ -16,6 +16,7 @@ pub struct Counted<T> {
 }
 
 impl<T> Counted<T> {
+    /// Counts the calls of a reader or a writer, of which there was none yet.
     pub fn new(inner: T) -> Counted<T>
         ensures wraps { inner_of result ≡ inner }
         ensures calls { calls_of result ≡ 0 }
@@ -28,6 +29,7 @@ impl<T> Counted<T> {
         }
     }
 
+    /// The reader or the writer.
     pub fn into_inner(self) -> T
         ensures { result ≡ inner_of self }
     {

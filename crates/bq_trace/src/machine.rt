@@ -1,15 +1,18 @@
 //! The machine that a trace drives: a core of one of the sizes, under one of the rules, that a trace may ask for.
-ghost use Rattle.std.specs.Prelude.{◌≡◌, ◌++◌, [], IfOk, OnOk, string_bytes};
+ghost use Rattle.std.specs.Prelude.{◌≡◌, ◌++◌, Result, is_ok, IfOk, OnOk, string_bytes};
 ghost use Rattle.bq_core.specs.World.{opening_world};
-ghost use Rattle.bq_core.specs.Steps.{WorldStep, without_policies};
+ghost use Rattle.bq_core.specs.Steps.{without_policies};
+ghost use Rattle.bq_core.specs.declared.reply.Reply.{Reply};
+ghost use Rattle.bq_core.specs.declared.refusal.Refusal.{Refusal};
 ghost use Rattle.bq_trace.specs.Machines.{processors_in, opening_machine, Steps};
-ghost use Rattle.bq_trace.specs.Texts.{show_line};
+ghost use Rattle.bq_trace.specs.Texts.{event_line, show_line};
+ghost use Rattle.bq_trace.specs.Writing.{Adds};
 
 use crate::command::{Rule, Size};
 use crate::shows::write_processor;
-use crate::texts::write_refusal;
+use crate::texts::{write_answer, write_refusal};
 use bq_cfs::CfsQueue;
-use bq_core::{Core, Event, Refusal, Reply};
+use bq_core::{Core, Event, Refusal};
 use bq_disc::RunQueue;
 use bq_eevdf::EevdfQueue;
 use std::alloc::{AllocError, Global};
@@ -67,17 +70,18 @@ impl<Q: RunQueue + Drop> Sized<Q> {
 }
 
 impl<Q: RunQueue> Sized<Q> {
-    fn step(&mut self, alloc: Global, event: Event) -> Result<Reply, Refusal>
-        ensures { WorldStep (without_policies Q.R.discipline) self.old event [] result self.new }
+    fn answer(&mut self, alloc: Global, event: Event, text: &mut String) -> Result<bool, AllocError>
+        ensures { IfOk result (λ done. (answer : Result Reply Refusal) × (is_ok answer ≡ done)
+            × Steps (without_policies Q.R.discipline) self.old event answer self.new × (string_bytes text.new ≡ string_bytes text.old ++ event_line answer)) }
     {
         match &mut self.core {
-            Cores::One(core) => core.step(alloc, event),
-            Cores::Two(core) => core.step(alloc, event),
-            Cores::Four(core) => core.step(alloc, event),
-            Cores::Eight(core) => core.step(alloc, event),
-            Cores::Sixteen(core) => core.step(alloc, event),
-            Cores::ThirtyTwo(core) => core.step(alloc, event),
-            Cores::SixtyFour(core) => core.step(alloc, event),
+            Cores::One(core) => answer(core, alloc, event, text),
+            Cores::Two(core) => answer(core, alloc, event, text),
+            Cores::Four(core) => answer(core, alloc, event, text),
+            Cores::Eight(core) => answer(core, alloc, event, text),
+            Cores::Sixteen(core) => answer(core, alloc, event, text),
+            Cores::ThirtyTwo(core) => answer(core, alloc, event, text),
+            Cores::SixtyFour(core) => answer(core, alloc, event, text),
         }
     }
 
@@ -94,6 +98,24 @@ impl<Q: RunQueue> Sized<Q> {
             Cores::SixtyFour(core) => show(core, text, processor),
         }
     }
+}
+
+/// Does an event and adds the line that answers it. True where it was not refused.
+fn answer<Q: RunQueue, const P: usize>(
+    core: &mut Core<Q, P>,
+    alloc: Global,
+    event: Event,
+    text: &mut String,
+) -> Result<bool, AllocError>
+    ensures { IfOk result (λ done. (answer : Result Reply Refusal) × (is_ok answer ≡ done)
+        × Steps (without_policies Q.R.discipline) core.old event answer core.new × (string_bytes text.new ≡ string_bytes text.old ++ event_line answer)) }
+{
+    let answer = core.step(alloc, event);
+    if let Err(Refusal::OutOfMemory) = answer {
+        return Err(AllocError);
+    }
+    write_answer(text, &answer)?;
+    Ok(answer.is_ok())
 }
 
 /// Adds the line that shows a processor, or refuses it.
@@ -139,6 +161,8 @@ impl Model for Machine {
 }
 
 impl Machine {
+    ghost use Rattle.bq_trace.specs.Trace.{DoesAndAnswers};
+
     /// A machine to which nothing has happened.
     pub fn new(alloc: Global, rule: Rule, size: Size) -> Result<Machine, AllocError>
         ensures { IfOk result (λ m. m ≡ opening_machine rule size) }
@@ -150,13 +174,19 @@ impl Machine {
         Ok(Machine { core })
     }
 
-    /// Does an event.
-    pub fn step(&mut self, alloc: Global, event: Event) -> Result<Reply, Refusal>
-        ensures { Steps self.old event result self.new }
+    /// Does an event and adds the line that answers it. True where it was not refused.
+    pub fn answer(
+        &mut self,
+        alloc: Global,
+        event: Event,
+        text: &mut String,
+    ) -> Result<bool, AllocError>
+        ensures { IfOk result (λ done. (answer : Result Reply Refusal) × (is_ok answer ≡ done)
+            × Adds (string_bytes text.old) (string_bytes text.new) (λ line. DoesAndAnswers self.old event answer line self.new)) }
     {
         match &mut self.core {
-            Ruled::Cfs(core) => core.step(alloc, event),
-            Ruled::Eevdf(core) => core.step(alloc, event),
+            Ruled::Cfs(core) => core.answer(alloc, event, text),
+            Ruled::Eevdf(core) => core.answer(alloc, event, text),
         }
     }
 

@@ -1,30 +1,15 @@
 //! What each line of a trace does, and what answers it.
-ghost use Rattle.std.specs.Prelude.{◌≡◌, Result, IfOk, OnOk, is_ok, string_bytes};
+ghost use Rattle.std.specs.Prelude.{◌≡◌, IfOk, OnOk, string_bytes};
 ghost use Rattle.bq_trace.specs.Writing.{Adds};
 
 use crate::command::{Command, Reading};
 use crate::machine::Machine;
-use crate::texts::{write_answer, write_bad};
-use bq_core::{Event, Refusal};
+use crate::texts::write_bad;
+use bq_core::Event;
 use std::alloc::{AllocError, Global};
 
 impl Machine {
-    ghost use Rattle.bq_core.specs.declared.reply.Reply.{Reply};
-    ghost use Rattle.bq_core.specs.declared.refusal.Refusal.{Refusal};
-    ghost use Rattle.bq_trace.specs.Trace.{DoesAndAnswers, Wakes};
-
-    /// Does an event and adds the line that answers it. True where it was not refused.
-    fn answer(&mut self, alloc: Global, event: Event, text: &mut String) -> Result<bool, AllocError>
-        ensures { IfOk result (λ done. (answer : Result Reply Refusal) × (is_ok answer ≡ done)
-            × Adds (string_bytes text.old) (string_bytes text.new) (λ line. DoesAndAnswers self.old event answer line self.new)) }
-    {
-        let answer = self.step(alloc, event);
-        if let Err(Refusal::OutOfMemory) = answer {
-            return Err(AllocError);
-        }
-        write_answer(text, &answer)?;
-        Ok(answer.is_ok())
-    }
+    ghost use Rattle.bq_trace.specs.Trace.{Wakes};
 
     /// Begins a wake, and ends it unless that was refused.
     fn wake(
@@ -120,6 +105,7 @@ pub struct Progress {
 impl Progress {
     ghost use Rattle.bq_trace.specs.Trace.{AnswersReading, start};
 
+    /// Before the first line.
     pub fn start() -> Progress
         ensures { result ≡ start }
     {

@@ -19,6 +19,7 @@ impl Standing {
     ghost use Rattle.bq_trace.specs.Trace.{start, AnswersLine, Chain};
     ghost use Rattle.bq_trace.specs.Feeding.{Continues};
 
+    /// Before the first byte. The line that has begun is kept in memory from `alloc`.
     pub fn new(alloc: Global) -> Standing
         ensures progress { result.progress ≡ start }
         ensures begun { result.begun ≡ Some [] }

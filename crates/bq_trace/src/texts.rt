@@ -38,7 +38,7 @@ impl fmt::Display for Whose {
 
 /// Numbers, a space before each.
 #[derive(Clone, Copy)]
-struct Spaced<'a>(&'a [u32]);
+struct Spaced<'a>(&'a [u16]);
 
 impl fmt::Display for Spaced<'_> {
     ghost output = { λ s. Some (spaced s.0.now) };
@@ -115,6 +115,7 @@ fn write_reply(text: &mut String, reply: &Reply) -> Result<(), AllocError>
     }
 }
 
+/// Adds the line that answers a refused event.
 pub fn write_refusal(text: &mut String, refusal: Refusal) -> Result<(), AllocError>
     ensures { OnOk result (string_bytes text.new ≡ string_bytes text.old ++ event_line (Err refusal)) }
 {

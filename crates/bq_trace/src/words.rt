@@ -19,7 +19,11 @@ fn is_allowed(byte: u8) -> bool
 pub fn is_allowed_line(line: &[u8]) -> bool
     ensures { result ≡ list_all is_allowed line.now }
 {
-    line.iter().all(|b| is_allowed(*b))
+    let mut allowed = true;
+    for byte in line {
+        allowed = allowed & is_allowed(*byte);
+    }
+    allowed
 }
 
 /// The first word, and what follows it.

@@ -11,5 +11,5 @@ returns c = λ begun h.
     let q = c.answer.new.self in
     let old = string_bytes c.args.text.now in
     let new = string_bytes c.answer.new.text in
-    ends_with p q begun old new h.one_line (sym (c.is_empty.ensures begun h) ∙ c.if-is_empty.false)
+    ends_with p q begun old new h.one_line (sym (c.is_empty.ensures.line begun h) ∙ c.if-is_empty.false)
     (subst (λ r. Adds old new (λ piece. AnswersReading p r piece q)) (c.last-reading.ensures begun h) c.in_ok-answer.ensures)
