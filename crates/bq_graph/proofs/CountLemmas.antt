@@ -29,6 +29,7 @@ only_at old t g count k v b lt one e (inl (_, same)) =
     chosen (inl e') is = inr (ap (λ (n : ℕ). Some n) (sym same), is ∙ e')
     chosen (inr e') is = inl (subst (λ (i : ℕ). get_or old i None ≡ Some v) (sym same) (e' ∙ ap (λ (n : ℕ). Some n) (sym is)))
 
+-- a number set to the greater of itself and the count is raised to it
 pub raises_set : (old : List (Option ℕ)) (t g count : ℕ) → t < length old → count ≤ g → IfSome (slice_index_or old t None) (λ n. n ≤ g) → (g ≡ count) ⊎ (slice_index_or old t None ≡ Some g) → Raises old (Some t) count (slice_set old t (Some g))
 raises_set old t g count lt le bound one = record {
   kept = λ k a e. raised_at old t g k a _ lt bound e (eqb_tells k t);
@@ -42,15 +43,18 @@ if_one : (b : Bool) → (if b then 1 else 0) ≤ 1
 if_one true = omega arith
 if_one false = omega arith
 
+-- an instruction is at most one counter call
 one_call : (v : Option Insn) → calls_of v ≤ 1
 one_call None = omega arith
 one_call (Some insn) = if_one (asks_counter insn)
 
 module _ (slots : List (Option Insn)) where
+  -- a path that goes on has the calls of its end too
   calls-push : (from : ℕ) (rest : List ℕ) (t : ℕ) → calls_before_end slots from (rest ++ t ∷ []) ≡ calls_before_end slots from rest + calls_of (instruction_at slots (end_of from rest))
   calls-push from [] t = omega arith
   calls-push from (n ∷ rest) t = let more = calls-push n rest t in omega arith
 
+  -- a way that goes on by an edge, with its calls
   pub extend : (slot to n : ℕ) → CallsOnWay slots slot n → IsEdge slots slot to → CallsOnWay slots to (n + calls_of (instruction_at slots slot))
   extend slot to n way edge = record {
     rest = way.rest ++ to ∷ [];
@@ -119,6 +123,7 @@ module _ (slots : List (Option Insn)) where
         let two = second.kept to one.0 one.1 in
         (two.0, two.1, omega (arith, one.2, two.2))
 
+    -- both edges from one more slot have been followed
     pub counted_on : Counted slots slot old → slice_index_or old slot None ≡ Some n → Counted slots (slot + 1) new
     counted_on before here =
         counted_same slot new
@@ -149,6 +154,7 @@ module _ (slots : List (Option Insn)) where
             omega arith
 
   module _ (most : List (Option ℕ)) (counted : Counted slots (length slots) most) where
+    -- the number at the end of a path is no less than the calls on it
     along : (from : ℕ) (rest : List ℕ) (n : ℕ) → IsPath slots from rest → slice_index_or most from None ≡ Some n → (m : ℕ) × (slice_index_or most (end_of from rest) None ≡ Some m) × (n + calls_before_end slots from rest ≤ m)
     along from [] n p e = (n, e, omega arith)
     along from (next ∷ rest) n p e =
@@ -168,5 +174,6 @@ module _ (slots : List (Option Insn)) where
           omega (arith, far.2, way.count_is);
     }
 
+    -- the numbers are the greatest, once all edges have been followed
     pub most_is : (k : ℕ) → IsMost slots k (slice_index_or most k None)
     most_is k = most_by k _ refl

@@ -13,29 +13,37 @@ use Rattle.bq_graph.specs.Faults.{IsBadJump}
 use Rattle.bq_graph.specs.Passes.{IsSound, IsOf, LeadsOut}
 use Rattle.bq_graph.specs.declared.edges.Targets.{Targets}
 
+-- an option has one value
 pub some_same : {A : Type 0} (v : Option A) (x y : A) → v ≡ Some x → v ≡ Some y → x ≡ y
 some_same v x y e f = cc
 
+-- an option with a value has one
 pub some_none : {A : Type 0} (v : Option A) (x : A) → v ≡ Some x → v ≡ None → ⊥
 some_none v x e f = cc
 
+-- an instruction stands inside the program
 inside_by : (slots : List (Option Insn)) (k : ℕ) (insn : Insn) → instruction_at slots k ≡ Some insn → (k < length slots) ⊎ (length slots ≤ k) → k < length slots
 inside_by slots k insn here (inl lt) = lt
 inside_by slots k insn here (inr le) = absurd (some_none _ insn here (get_or_past slots k None le))
 
+-- an instruction begins inside the program
 pub start_inside : (slots : List (Option Insn)) (k : ℕ) → IsStart slots k → k < length slots
 start_inside slots k start = inside_by slots k start.insn start.here (cases_lt k (length slots))
 
+-- an edge leaves a slot of the program
 pub edge_inside : (slots : List (Option Insn)) (from to : ℕ) → IsEdge slots from to → from < length slots
 edge_inside slots from to edge = inside_by slots from edge.insn edge.here (cases_lt from (length slots))
 
+-- a jump that leads to no later instruction is bad
 pub bad_jump : (slots : List (Option Insn)) (slot : ℕ) (insn : Insn) (distance : ℤ) → instruction_at slots slot ≡ Some insn → Some distance ≡ distance_of insn → ((to : ℕ) → LeadsTo slot distance to → slot < to → IsStart slots to → ⊥) → IsBadJump slots slot
 bad_jump slots slot insn distance here jumps nowhere = record { insn = insn; here = here; distance = distance; jumps = sym jumps; nowhere = nowhere }
 
+-- a path that goes on to a slot ends there
 pub end_of-push : (from : ℕ) (rest : List ℕ) (t : ℕ) → end_of from (rest ++ t ∷ []) ≡ t
 end_of-push from [] t = refl
 end_of-push from (n ∷ rest) t = end_of-push n rest t
 
+-- a path goes on by an edge from its end
 pub IsPath-push : (slots : List (Option Insn)) (from : ℕ) (rest : List ℕ) (t : ℕ) → IsPath slots from rest → IsEdge slots (end_of from rest) t → IsPath slots from (rest ++ t ∷ [])
 IsPath-push slots from [] t p e = (e, tt)
 IsPath-push slots from (n ∷ rest) t p e = (p.0, IsPath-push slots n rest t p.1 e)
@@ -48,9 +56,11 @@ path_rises slots forward from (next ∷ rest) p start =
     let more = path_rises slots forward next rest p.1 start in
     omega arith
 
+-- a jump leads to one slot
 pub leads_same : (slot a b : ℕ) (distance : ℤ) → LeadsTo slot distance a → LeadsTo slot distance b → a ≡ b
 leads_same slot a b distance p q = let e : pos a ≡ pos b = p ∙ sym q in cc
 
+-- an instruction that neither goes on nor jumps is an EXIT
 only_exit : (insn : Insn) → goes_on insn ≡ false → distance_of insn ≡ None → insn ≡ Exit
 only_exit (Goto off) e f = cc
 only_exit (Goto32 imm) e f = cc
@@ -58,10 +68,12 @@ only_exit (Branch w c d s off) e f = cc
 only_exit Exit e f = refl
 only_exit _ e f = cc
 
+-- control goes nowhere from an EXIT
 exit_leaves : (slot to : ℕ) → Leaves Exit slot to → ⊥
 exit_leaves slot to (inl l) = let e = l.0 in cc
 exit_leaves slot to (inr l) = let e = l.1 in cc
 
+-- no edge leaves an EXIT
 pub exit_is_last : (slots : List (Option Insn)) (slot to : ℕ) → instruction_at slots slot ≡ Some Exit → IsEdge slots slot to → ⊥
 exit_is_last slots slot to exits edge =
     let same : edge.insn ≡ Exit = some_same _ _ _ edge.here exits in
@@ -107,6 +119,7 @@ module _ (slots : List (Option Insn)) (slot : ℕ) (insn : Insn) (here : instruc
   none_by false g None j next none e f = only_exit insn g none
   none_by false g (Some t) j next none e f = absurd (some_none _ t refl f)
 
+  -- the next slot and the target of the jump are the targets of the edges
   pub leads_out : targets.next ≡ (if goes_on insn then Some (slot + slots_of insn) else None) → IfSome targets.jump (λ to. (distance : ℤ) × (distance_of insn ≡ Some distance) × LeadsTo slot distance to) → IfNone targets.jump (distance_of insn ≡ None) → LeadsOut slots slot targets
   leads_out next some none = record {
     each = λ to edge.
@@ -122,5 +135,6 @@ module _ (slots : List (Option Insn)) (slot : ℕ) (insn : Insn) (here : instruc
 pub target_later : (slots : List (Option Insn)) (slot : ℕ) (targets : Targets) → IsSound slots → LeadsOut slots slot targets → (to : ℕ) → IsOf targets to → (slot < to) × IsStart slots to
 target_later slots slot targets sound out to of = sound.forward slot to (out.only to of)
 
+-- a target is a slot of the program
 pub target_inside : (slots : List (Option Insn)) (slot : ℕ) (targets : Targets) → IsSound slots → LeadsOut slots slot targets → (to : ℕ) → IsOf targets to → to < length slots
 target_inside slots slot targets sound out to of = start_inside slots to (target_later slots slot targets sound out to of).1

@@ -37,6 +37,7 @@ module _ (slots : List (Option Insn)) (sound : IsSound slots) where
     small None of = omega arith
     small (Some to) of = let short = out_short to _ (best to (of to refl)).holds in omega arith
 
+    -- no height is above the number of slots
     pub heights_small : (height_to heights targets.next ≤ length slots) × (height_to heights targets.jump ≤ length slots)
     heights_small = (small targets.next (λ to e. inl e), small targets.jump (λ to e. inr e))
 
@@ -64,6 +65,7 @@ module _ (slots : List (Option Insn)) (sound : IsSound slots) where
         let le = bound_by next (suc (length rest)) ((best next of).bounds _ (record { rest = rest; is_path = p.1; exits = exits; count_is = refl })) of in
         omega arith
 
+    -- the longest path out is one longer than the longer of those from the targets
     pub greatest_out : IsGreatest (PathOut slots slot) (1 + max (height_to heights targets.next) (height_to heights targets.jump))
     greatest_out = record {
       holds = holds_by targets.next targets.jump refl refl;
@@ -77,6 +79,7 @@ measured_at slots slot h k heights b lt measured here le start (inl (_, same)) =
 measured_at slots slot h k heights b lt measured here le start (inr (_, other)) =
     subst (λ (n : ℕ). IsGreatest (PathOut slots k) n) (sym (get_or-set_other heights slot k h 0 other)) (measured k (omega arith) start)
 
+-- a height that is right may be kept, and the slots from there on are measured
 pub measured_set : (slots : List (Option Insn)) (slot h : ℕ) (heights : List ℕ) → slot < length heights → Measured slots (slot + 1) heights → (IsStart slots slot → IsGreatest (PathOut slots slot) h) → Measured slots slot (slice_set heights slot h)
 measured_set slots slot h heights lt measured here k le start = measured_at slots slot h k heights _ lt measured here le start (eqb_tells k slot)
 
@@ -88,6 +91,7 @@ heights_fall slots sound heights measured from to edge =
     let le = greatest.bounds (suc (slice_index heights to)) (record { rest = to ∷ after.rest; is_path = (edge, after.is_path); exits = after.exits; count_is = ap suc after.count_is }) in
     omega arith
 
+-- each path out has an instruction
 pub heights_positive : (slots : List (Option Insn)) (heights : List ℕ) → Measured slots 0 heights → (slot : ℕ) → IsStart slots slot → 1 ≤ slice_index heights slot
 heights_positive slots heights measured slot start =
     let out = (measured slot zero-le start).holds in

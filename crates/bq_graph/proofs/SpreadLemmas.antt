@@ -8,12 +8,14 @@ use Rattle.bq_maps.specs.Machine.{instruction_at}
 use Rattle.bq_graph.specs.Edges.{IsStart, IsWhole}
 use Rattle.bq_graph.proofs.EdgeLemmas.{some_same, some_none}
 
+-- one more instruction adds its slots at the end
 pub spread-push : (xs : List Insn) (x : Insn) → spread (xs ++ x ∷ []) ≡ spread xs ++ (Some x ∷ replicate (slots_of x - 1) None)
 spread-push [] x = append-nil _
 spread-push (y ∷ ys) x =
     ap (λ (rest : List (Option Insn)). (Some y ∷ replicate (slots_of y - 1) None) ++ rest) (spread-push ys x)
     ∙ sym (append_assoc (Some y ∷ replicate (slots_of y - 1) None) (spread ys) _)
 
+-- an instruction has one slot or two
 one_or_two : (insn : Insn) → (slots_of insn ≡ 1) ⊎ (slots_of insn ≡ 2)
 one_or_two (Imm64 d v) = inr refl
 one_or_two (MapRef d i) = inr refl
@@ -65,6 +67,7 @@ begins_some first slots rest (inr two) =
     one_is : 1 ≡ slots_of first - 1
     one_is = omega (arith, two)
 
+-- instructions over their slots are a whole program
 pub spread_begins : (insns : List Insn) → Begins (spread insns)
 spread_begins [] = record { whole = λ k insn here lt. absurd (omega arith); first = λ lt. absurd (omega arith) }
 spread_begins (first ∷ rest) = begins_some first (spread rest) (spread_begins rest) (one_or_two first)

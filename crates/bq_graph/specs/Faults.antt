@@ -36,6 +36,7 @@ destination_of (Imm64 dst value) = Some dst
 destination_of (MapRef dst index) = Some dst
 destination_of _ = None
 
+-- an instruction that writes register 10, the address of the stack's end
 pub record WritesFrame (slots : List (Option Insn)) (slot : ℕ) : Type 0 where
   pub insn : Insn
   pub here : instruction_at slots slot ≡ Some insn
@@ -98,6 +99,7 @@ EarlierPass slots cause = (other : Cause) → place_of other < place_of cause �
 abbrev pub IsFirstFault : List (Option Insn) → Cause → ℕ → Type 0
 IsFirstFault slots cause slot = EarlierPass slots cause × IsLeast (HasFault slots cause) (Some slot)
 
+-- no check finds a fault
 abbrev pub IsFaultless : List (Option Insn) → Type 0
 IsFaultless slots = (cause : Cause) → IsLeast (HasFault slots cause) None
 

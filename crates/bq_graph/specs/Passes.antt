@@ -13,6 +13,7 @@ pub record IsSound (slots : List (Option Insn)) : Type 0 where
   pub forward : IsForward slots
   pub lands : (slot : ℕ) → IsBadJump slots slot → ⊥
 
+-- the slot is one of the targets
 abbrev pub IsOf : Targets → ℕ → Type 0
 IsOf targets to = (targets.next ≡ Some to) ⊎ (targets.jump ≡ Some to)
 
@@ -39,6 +40,7 @@ pub record Counted (slots : List (Option Insn)) (below : ℕ) (most : List (Opti
 abbrev pub Measured : List (Option Insn) → ℕ → List ℕ → Type 0
 Measured slots from heights = (k : ℕ) → from ≤ k → IsStart slots k → IsGreatest (PathOut slots k) (slice_index heights k)
 
+-- the height at a target, or 0 where there is none
 abbrev pub height_to : List ℕ → Option ℕ → ℕ
 height_to heights None = 0
 height_to heights (Some to) = slice_index heights to

@@ -39,6 +39,7 @@ abbrev pub asks_counter : Insn → Bool
 asks_counter (Call helper) = int_eq helper (pos 100) || int_eq helper (pos 101)
 asks_counter _ = false
 
+-- how many counter calls an instruction is
 abbrev pub calls_of : Option Insn → ℕ
 calls_of None = 0
 calls_of (Some insn) = if asks_counter insn then 1 else 0

@@ -88,6 +88,7 @@ length-overwrite old at bytes inside =
 abbrev pub ReadBytes : List ℕ → Type 0
 ReadBytes bytes = (i : ℕ) → get_or bytes i 0 < 256
 
+-- bytes that stand in the list are bytes as read
 pub read_bytes : (xs : List ℕ) → AreBytes xs → ReadBytes xs
 read_bytes xs bytes i = at i (cases_lt i (length xs))
   where
@@ -95,6 +96,7 @@ read_bytes xs bytes i = at i (cases_lt i (length xs))
     at i (inl lt) = bytes i (get_or xs i 0) (slice_get-get_or xs i 0 lt)
     at i (inr past) = rw (get_or_past xs i 0 past) (omega arith)
 
+-- and the other way
 pub are_bytes : (xs : List ℕ) → ReadBytes xs → AreBytes xs
 are_bytes xs bytes i b found = let small = bytes i in omega (arith, get_or_from_slice_get xs i b 0 found)
 

@@ -39,6 +39,7 @@ reordered_fits Little B64 x = omega arith
 reordered_fits Big b x = swapped_fits b (x % modulus_of_bits b)
 reordered_fits Swapped b x = swapped_fits b (x % modulus_of_bits b)
 
+-- the little-endian order leaves a word of so many bits
 pub little_plain : (b : Bits) (x : ℕ) → x < modulus_of_bits b → reordered Little b x ≡ x
 little_plain B8 x p = omega arith
 little_plain B16 x p = omega arith
