@@ -1,22 +1,41 @@
 -- What is sure of a view goes on.
 use Rattle.std.proofs.Common.{◌≡◌, ◌≢◌, ℕ, ◌+◌, ◌<◌, ◌≤◌, Bool, true, false, List, Option, Some, None, length, refl, sym, subst, ap, ◌⊎◌, inl, inr, ◌∙◌, ℤ, pos, arith, get_or-set_same, get_or-set_other}
-use Rattle.std.specs.Prelude.{slice_index_or, ◌+ℤ◌}
+use Rattle.std.specs.Prelude.{slice_index_or, slice_set, ◌+ℤ◌}
 use Rattle.std.proofs.lemmas.Bool.Decides.{eqb_tells}
 use Rattle.bq_insn.specs.declared.Insn.{Insn}
 use Rattle.bq_insn.specs.declared.Insn.TheVariants.{Alu, MovSx, Neg, End, Load, StoreImm, StoreReg, Imm64, MapRef, Goto, Goto32, Branch, Call, Exit}
+use Rattle.bq_insn.specs.declared.Operation.{Operation}
+use Rattle.bq_insn.specs.declared.Operation.TheVariants.{Add, Mov}
 use Rattle.bq_insn.specs.declared.Width.{Width}
 use Rattle.bq_insn.specs.declared.Condition.{Condition}
+use Rattle.bq_insn.specs.declared.Condition.TheVariants.{Equal, NotEqual}
+use Rattle.bq_maps.specs.Machine.{LeadsTo}
 use Rattle.bq_insn.specs.declared.Source.{Source}
+use Rattle.bq_insn.specs.declared.Source.TheVariants.{Imm, Reg}
 use Rattle.bq_graph.specs.Faults.{destination_of}
-use Rattle.bq_verify.specs.declared.view.Kind.TheVariants.{Number}
+use Rattle.bq_verify.specs.declared.view.Kind.{Kind}
+use Rattle.bq_verify.specs.declared.view.Kind.TheVariants.{Number, Stack, Entry, EntryOrNull, Map}
 use Rattle.bq_verify.specs.declared.view.Known.{Known}
 use Rattle.bq_verify.specs.declared.view.View.{View}
-use Rattle.bq_verify.specs.Views.{knowing}
-use Rattle.bq_verify.specs.Standing.{Standing, Scalar, Pointer, NoPointer, Stands, StandsAt, Fact, Never, AtRegister, IsSetAt, IsPlainAt, Has, HasOnSide, IsNumberIfAny, IsGiven, IsAnswered, IsStoredAt, GivesNumber, Spares, StoresByte, After, IsCarried}
+use Rattle.bq_ranges.specs.declared.range.Range.{Range}
+use Rattle.bq_verify.specs.Views.{Clears, knowing}
 use Rattle.bq_verify.specs.Control.{IsRelearned}
+use Rattle.bq_verify.specs.Standing.{Standing, Scalar, Pointer, NoPointer, Stands, StandsAt, Fact, Never, AtRegister, IsSetAt, IsPlainAt, Has, HasOnSide, IsNumberIfAny, IsMade, IsGiven, IsCalled, IsAnswered, IsStoredAt, IsLeftReady, IsScalarOperand, GivesNumber, LeavesNumber, GivesPointer, LeavesPointer, IsCertain, IsFoundSide, Spares, StoresByte, After, AfterTest, IsApartFrom, IsTested, IsCarried, is_found}
 use Rattle.bq_verify.proofs.MergeLemmas.{some_none}
 
 -- no word is a number and a pointer
+pub not_both : (k : Option Known) (kind : Kind) (o : ℕ) → Stands Scalar k → Stands (Pointer kind o) k → ⊥
+not_both None kind o p q = p
+not_both (Some k) kind o p q = q.1 (sym q.0 ∙ p)
+
+-- a word is one pointer
+pub pointer_is : (k : Option Known) (kind : Kind) (o : ℕ) (kind' : Kind) (o' : ℕ) → Stands (Pointer kind o) k → Stands (Pointer kind' o') k → (kind ≡ kind') × (o ≡ o')
+pointer_is None kind o kind' o' p q = absurd p
+pointer_is (Some k) kind o kind' o' p q = (sym p.0 ∙ q.0, sym p.2 ∙ q.2)
+
+same_pointer : (k : Option Known) (kind : Kind) (o : ℕ) (kind' : Kind) (o' : ℕ) (v : Option Known) → Stands (Pointer kind o) k → Stands (Pointer kind' o') k → Stands (Pointer kind' o') v → Stands (Pointer kind o) v
+same_pointer k kind o kind' o' v p q stands = let e = pointer_is k kind o kind' o' p q in rw (e.0, e.1) stands
+
 apart : (k : Option Known) (s : Standing) → Stands Scalar k → Stands s k → (s ≡ Scalar) ⊎ (s ≡ NoPointer)
 apart None s p q = absurd p
 apart (Some k) Scalar p q = inl refl
@@ -45,13 +64,15 @@ given_has (IsPlainAt j) old new dst scalar given has = subst (λ (l : List (Opti
 
 writes_one : (insn : Insn) (dst r : ℕ) → destination_of insn ≡ Some dst → GivesNumber insn r → r ≡ dst
 writes_one (Call helper) dst r writes gives = absurd (some_none _ _ writes refl)
-writes_one (Alu w op d src) dst r writes gives = let e : Some r ≡ Some dst = sym gives ∙ writes in cc
+writes_one (Alu w Mov d (Imm i)) dst r writes gives = let e : Some r ≡ Some dst = ap (λ (n : ℕ). Some n) (sym gives) ∙ writes in cc
+writes_one (Alu w Mov d (Reg src)) dst r writes gives = let e : Some r ≡ Some dst = ap (λ (n : ℕ). Some n) (sym gives.0) ∙ writes in cc
+writes_one (Alu w op d src) dst r writes gives = absurd gives
 writes_one (MovSx w bits d src) dst r writes gives = let e : Some r ≡ Some dst = sym gives ∙ writes in cc
 writes_one (Neg w d) dst r writes gives = let e : Some r ≡ Some dst = sym gives ∙ writes in cc
 writes_one (End order bits d) dst r writes gives = let e : Some r ≡ Some dst = sym gives ∙ writes in cc
 writes_one (Load size signed d src off) dst r writes gives = let e : Some r ≡ Some dst = sym gives ∙ writes in cc
 writes_one (Imm64 d value) dst r writes gives = let e : Some r ≡ Some dst = sym gives ∙ writes in cc
-writes_one (MapRef d index) dst r writes gives = let e : Some r ≡ Some dst = sym gives ∙ writes in cc
+writes_one (MapRef d index) dst r writes gives = absurd gives
 writes_one _ dst r writes gives = absurd (some_none _ _ writes refl)
 
 spares_other : (insn : Insn) (dst r : ℕ) → destination_of insn ≡ Some dst → Spares insn r → r ≢ dst
@@ -63,60 +84,221 @@ stores_none (StoreImm size d off imm) dst i writes stores = absurd (some_none _ 
 stores_none (StoreReg size d off src) dst i writes stores = absurd (some_none _ _ writes refl)
 stores_none _ dst i writes stores = stores
 
+-- what is not of registers goes on, where the stack does not change
+stack_same : (x : Fact) (slot k : ℕ) (insn : Insn) (old new : View) → ((i : ℕ) → StoresByte insn i → ⊥) → new.set ≡ old.set → new.kept ≡ old.kept → ((r : ℕ) → After (AtRegister Scalar r) slot k insn old → StandsAt Scalar new r) → ((kind : Kind) (o r : ℕ) → After (AtRegister (Pointer kind o) r) slot k insn old → StandsAt (Pointer kind o) new r) → After x slot k insn old → Has x new
+stack_same Never slot k insn old new none set kept scalars pointers after = absurd after
+stack_same (AtRegister Scalar r) slot k insn old new none set kept scalars pointers after = scalars r after
+stack_same (AtRegister (Pointer kind o) r) slot k insn old new none set kept scalars pointers after = pointers kind o r after
+stack_same (AtRegister NoPointer r) slot k insn old new none set kept scalars pointers after = absurd after
+stack_same (IsSetAt i) slot k insn old new none set kept scalars pointers (inl stores) = absurd (none i stores)
+stack_same (IsSetAt i) slot k insn old new none set kept scalars pointers (inr has) = subst (λ (l : List Bool). slice_index_or l i false ≡ true) (sym set) has
+stack_same (IsPlainAt j) slot k insn old new none set kept scalars pointers after = subst (λ (l : List (Option Known)). Stands NoPointer (slice_index_or l j None)) (sym kept) after
+
+kept_at : (s t : Standing) (old new : View) (dst r : ℕ) → IsMade t old new dst → r ≢ dst → StandsAt s old r → StandsAt s new r
+kept_at s t old new dst r made other stands = subst (λ (v : Option Known). Stands s v) (sym (made.kept r other)) stands
+
+here_at : (s : Standing) (new : View) (dst r : ℕ) → r ≡ dst → StandsAt s new dst → StandsAt s new r
+here_at s new dst r same stands = subst (λ (n : ℕ). StandsAt s new n) (sym same) stands
+
 -- after an instruction that gives a register a number
-pub has_given : (x : Fact) (insn : Insn) (old new : View) (dst : ℕ) → destination_of insn ≡ Some dst → IsGiven old new dst → After x insn old → Has x new
-has_given Never insn old new dst writes given after = absurd after
-has_given (AtRegister s r) insn old new dst writes given (inl (scalar, gives)) =
-    let here : StandsAt Scalar new r = subst (λ (n : ℕ). StandsAt Scalar new n) (sym (writes_one insn dst r writes gives)) given.given in
-    subst (λ (t : Standing). StandsAt t new r) (sym scalar) here
-has_given (AtRegister s r) insn old new dst writes given (inr (spares, stands)) =
-    subst (λ (v : Option Known). Stands s v) (sym (given.kept r (spares_other insn dst r writes spares))) stands
-has_given (IsSetAt i) insn old new dst writes given (inl stores) = absurd (stores_none insn dst i writes stores)
-has_given (IsSetAt i) insn old new dst writes given (inr has) = subst (λ (l : List Bool). slice_index_or l i false ≡ true) (sym given.set_same) has
-has_given (IsPlainAt j) insn old new dst writes given after = subst (λ (l : List (Option Known)). Stands NoPointer (slice_index_or l j None)) (sym given.kept_same) after
+pub has_given : (x : Fact) (slot k : ℕ) (insn : Insn) (old new : View) (dst : ℕ) → destination_of insn ≡ Some dst → ((kind : Kind) (o r : ℕ) → GivesPointer kind o slot k insn r old → ⊥) → IsGiven old new dst → After x slot k insn old → Has x new
+has_given x slot k insn old new dst writes none given after = stack_same x slot k insn old new (λ i stores. stores_none insn dst i writes stores) given.set_same given.kept_same scalars pointers after
+  where
+    scalar_at : (r : ℕ) (t : Bool) → ((t ≡ true) × (r ≡ dst)) ⊎ ((t ≡ false) × (r ≢ dst)) → GivesNumber insn r ⊎ (LeavesNumber insn r × StandsAt Scalar old r) → StandsAt Scalar new r
+    scalar_at r t (inl (_, same)) either = here_at Scalar new dst r same given.given
+    scalar_at r t (inr (_, other)) (inl gives) = absurd (other (writes_one insn dst r writes gives))
+    scalar_at r t (inr (_, other)) (inr (_, stands)) = kept_at Scalar Scalar old new dst r given other stands
 
--- after a call
-pub has_answered : (x : Fact) (helper : ℤ) (old new : View) → IsAnswered old new → After x (Call helper) old → Has x new
-has_answered Never helper old new answered after = absurd after
-has_answered (AtRegister s r) helper old new answered (inl (scalar, zeroth)) =
-    let here : StandsAt Scalar new r = subst (λ (n : ℕ). StandsAt Scalar new n) (sym zeroth) answered.given in
-    subst (λ (t : Standing). StandsAt t new r) (sym scalar) here
-has_answered (AtRegister s r) helper old new answered (inr (above, stands)) = subst (λ (v : Option Known). Stands s v) (sym (answered.kept r above)) stands
-has_answered (IsSetAt i) helper old new answered (inl stores) = absurd stores
-has_answered (IsSetAt i) helper old new answered (inr has) = subst (λ (l : List Bool). slice_index_or l i false ≡ true) (sym answered.set_same) has
-has_answered (IsPlainAt j) helper old new answered after = subst (λ (l : List (Option Known)). Stands NoPointer (slice_index_or l j None)) (sym answered.kept_same) after
+    scalars : (r : ℕ) → GivesNumber insn r ⊎ (LeavesNumber insn r × StandsAt Scalar old r) → StandsAt Scalar new r
+    scalars r either = scalar_at r _ (eqb_tells r dst) either
 
--- after a store
-pub has_stored : (x : Fact) (insn : Insn) (old new : View) (from to : ℕ) → ((r : ℕ) → GivesNumber insn r → ⊥) → ((i : ℕ) → StoresByte insn i → (from ≤ i) × (i < to)) → IsStoredAt old new from to → After x insn old → Has x new
-has_stored Never insn old new from to none bytes stored after = absurd after
-has_stored (AtRegister s r) insn old new from to none bytes stored (inl (scalar, gives)) = absurd (none r gives)
-has_stored (AtRegister s r) insn old new from to none bytes stored (inr (spares, stands)) =
-    subst (λ (l : List (Option Known)). Stands s (slice_index_or l r None)) (sym stored.registers_same) stands
-has_stored (IsSetAt i) insn old new from to none bytes stored (inl stores) = stored.stored i (bytes i stores).0 (bytes i stores).1
-has_stored (IsSetAt i) insn old new from to none bytes stored (inr has) = stored.set i has
-has_stored (IsPlainAt j) insn old new from to none bytes stored after = stored.plain j after
+    pointers : (kind : Kind) (o r : ℕ) → GivesPointer kind o slot k insn r old ⊎ (Spares insn r × LeavesPointer kind insn × StandsAt (Pointer kind o) old r) → StandsAt (Pointer kind o) new r
+    pointers kind o r (inl gives) = absurd (none kind o r gives)
+    pointers kind o r (inr (spares, _, stands)) = kept_at (Pointer kind o) Scalar old new dst r given (spares_other insn dst r writes spares) stands
 
--- after an instruction that writes nothing
-pub has_left : (x : Fact) (insn : Insn) (view : View) → ((r : ℕ) → GivesNumber insn r → ⊥) → ((i : ℕ) → StoresByte insn i → ⊥) → After x insn view → Has x view
-has_left Never insn view none bytes after = after
-has_left (AtRegister s r) insn view none bytes (inl (scalar, gives)) = absurd (none r gives)
-has_left (AtRegister s r) insn view none bytes (inr (spares, stands)) = stands
-has_left (IsSetAt i) insn view none bytes (inl stores) = absurd (bytes i stores)
-has_left (IsSetAt i) insn view none bytes (inr has) = has
-has_left (IsPlainAt j) insn view none bytes after = after
+-- numbers are no pointers
+pub no_pointer : (kind : Kind) (o slot k : ℕ) (w : Width) (op : Operation) (dst : ℕ) (src : Source) (r : ℕ) (view : View) → IsLeftReady op view dst → IsScalarOperand view src → GivesPointer kind o slot k (Alu w op dst src) r view → ⊥
+no_pointer kind o slot k w Mov dst (Reg src) r view left right (same, ten, stands) = not_both _ kind o (subst (λ (n : ℕ). StandsAt Scalar view n) ten right) stands
+no_pointer kind o slot k w Add dst (Imm i) r view left right (same, base, stands, at) = not_both _ kind base left stands
+no_pointer kind o slot k w op dst src r view left right gives = gives
+
+-- after a copy of register 10
+pub has_copied : (x : Fact) (slot k : ℕ) (w : Width) (dst base : ℕ) (old new : View) → StandsAt (Pointer Stack base) old 10 → IsMade (Pointer Stack base) old new dst → After x slot k (Alu w Mov dst (Reg 10)) old → Has x new
+has_copied x slot k w dst base old new frame made after =
+    stack_same x slot k (Alu w Mov dst (Reg 10)) old new (λ i stores. stores) made.set_same made.kept_same
+    (λ r either. elim either [
+      | inl gives ↦ absurd (gives.1 refl)
+      | inr kept ↦ kept_at Scalar (Pointer Stack base) old new dst r made (λ e. kept.0 (sym e)) kept.1
+    ])
+    (λ kind o r either. elim either [
+      | inl gives ↦ here_at (Pointer kind o) new dst r (sym gives.0) (same_pointer _ kind o Stack base _ gives.2 frame made.given)
+      | inr kept ↦ kept_at (Pointer kind o) (Pointer Stack base) old new dst r made (λ e. kept.0 (ap (λ (n : ℕ). Some n) (sym e))) kept.2
+    ])
+    after
+
+-- after a sum of a pointer and a number
+pub has_moved : (x : Fact) (slot k : ℕ) (w : Width) (dst base at : ℕ) (i : ℤ) (old new : View) → StandsAt (Pointer Stack base) old dst → pos at ≡ (pos base +ℤ i) → IsMade (Pointer Stack at) old new dst → After x slot k (Alu w Add dst (Imm i)) old → Has x new
+has_moved x slot k w dst base at i old new stands at_is made after = stack_same x slot k (Alu w Add dst (Imm i)) old new (λ n stores. stores) made.set_same made.kept_same scalars pointers after
+  where
+    scalar_at : (r : ℕ) (t : Bool) → ((t ≡ true) × (r ≡ dst)) ⊎ ((t ≡ false) × (r ≢ dst)) → StandsAt Scalar old r → StandsAt Scalar new r
+    scalar_at r t (inl (_, same)) scalar = absurd (not_both _ Stack base (subst (λ (n : ℕ). StandsAt Scalar old n) same scalar) stands)
+    scalar_at r t (inr (_, other)) scalar = kept_at Scalar (Pointer Stack at) old new dst r made other scalar
+
+    scalars : (r : ℕ) → ⊥ ⊎ (Unit {0} × StandsAt Scalar old r) → StandsAt Scalar new r
+    scalars r (inl gives) = absurd gives
+    scalars r (inr (_, scalar)) = scalar_at r _ (eqb_tells r dst) scalar
+
+    pointers : (kind : Kind) (o r : ℕ) → GivesPointer kind o slot k (Alu w Add dst (Imm i)) r old ⊎ (Spares (Alu w Add dst (Imm i)) r × LeavesPointer kind (Alu w Add dst (Imm i)) × StandsAt (Pointer kind o) old r) → StandsAt (Pointer kind o) new r
+    pointers kind o r (inl (same, from, before, o_is)) =
+        let kinds = pointer_is _ kind from Stack base before stands in
+        let sum : pos o ≡ pos at = o_is ∙ ap (λ (n : ℕ). pos n +ℤ i) kinds.1 ∙ sym at_is in
+        let one : o ≡ at = cc in
+        here_at (Pointer kind o) new dst r (sym same) (rw (kinds.0, one) made.given)
+    pointers kind o r (inr (spares, _, before)) = kept_at (Pointer kind o) (Pointer Stack at) old new dst r made (λ e. spares (ap (λ (n : ℕ). Some n) (sym e))) before
+
+-- after a map reference
+pub has_named : (x : Fact) (slot k dst : ℕ) (index : ℤ) (m : ℕ) (old new : View) → index ≡ pos m → IsMade (Pointer (Map m) 0) old new dst → After x slot k (MapRef dst index) old → Has x new
+has_named x slot k dst index m old new is made after =
+    stack_same x slot k (MapRef dst index) old new (λ i stores. stores) made.set_same made.kept_same
+    (λ r either. elim either [
+      | inl gives ↦ absurd gives
+      | inr kept ↦ kept_at Scalar (Pointer (Map m) 0) old new dst r made (λ e. kept.0 (ap (λ (n : ℕ). Some n) (sym e))) kept.1
+    ])
+    (λ kind o r either. elim either [
+      | inl gives ↦
+          let same : pos gives.1 ≡ pos m = sym gives.2 ∙ is in
+          let one : gives.1 ≡ m = cc in
+          here_at (Pointer kind o) new dst r (sym gives.0) (rw (gives.3, gives.4, one) made.given)
+      | inr kept ↦ kept_at (Pointer kind o) (Pointer (Map m) 0) old new dst r made (λ e. kept.0 (ap (λ (n : ℕ). Some n) (sym e))) kept.2
+    ])
+    after
+
+called_at : (s t : Standing) (old new : View) (r : ℕ) → IsCalled t old new → 6 ≤ r → StandsAt s old r → StandsAt s new r
+called_at s t old new r called above stands = subst (λ (v : Option Known). Stands s v) (sym (called.kept r above)) stands
+
+-- after a call that answers a number
+pub has_answered : (x : Fact) (slot k : ℕ) (helper : ℤ) (old new : View) → helper ≢ pos 1 → IsAnswered old new → After x slot k (Call helper) old → Has x new
+has_answered x slot k helper old new other answered after =
+    stack_same x slot k (Call helper) old new (λ i stores. stores) answered.set_same answered.kept_same
+    (λ r either. elim either [
+      | inl gives ↦ here_at Scalar new 0 r gives.0 answered.given
+      | inr kept ↦ called_at Scalar Scalar old new r answered kept.0 kept.1
+    ])
+    (λ kind o r either. elim either [
+      | inl gives ↦ absurd (other gives.1)
+      | inr kept ↦ called_at (Pointer kind o) Scalar old new r answered kept.0 kept.2
+    ])
+    after
+
+-- after a look-up
+pub has_looked_up : (x : Fact) (slot k m : ℕ) (old new : View) → StandsAt (Pointer (Map m) 0) old 1 → IsCalled (Pointer (EntryOrNull m) 0) old new → After x slot k (Call (pos 1)) old → Has x new
+has_looked_up x slot k m old new names called after =
+    stack_same x slot k (Call (pos 1)) old new (λ i stores. stores) called.set_same called.kept_same
+    (λ r either. elim either [
+      | inl gives ↦ absurd (gives.1 refl)
+      | inr kept ↦ called_at Scalar (Pointer (EntryOrNull m) 0) old new r called kept.0 kept.1
+    ])
+    (λ kind o r either. elim either [
+      | inl gives ↦
+          let kinds = pointer_is _ (Map gives.2) 0 (Map m) 0 gives.5 names in
+          let one : gives.2 ≡ m = let e : Map gives.2 ≡ Map m = kinds.0 in cc in
+          here_at (Pointer kind o) new 0 r gives.0 (rw (gives.3, gives.4, one) called.given)
+      | inr kept ↦ called_at (Pointer kind o) (Pointer (EntryOrNull m) 0) old new r called kept.0 kept.2
+    ])
+    after
+
+-- after a store on the stack
+pub has_stored : (x : Fact) (slot k : ℕ) (insn : Insn) (old new : View) (from to : ℕ) → ((r : ℕ) → GivesNumber insn r → ⊥) → ((kind : Kind) (o r : ℕ) → GivesPointer kind o slot k insn r old → ⊥) → ((i : ℕ) → StoresByte insn i → (from ≤ i) × (i < to)) → IsStoredAt old new from to → After x slot k insn old → Has x new
+has_stored Never slot k insn old new from to none nowhere bytes stored after = absurd after
+has_stored (AtRegister Scalar r) slot k insn old new from to none nowhere bytes stored (inl gives) = absurd (none r gives)
+has_stored (AtRegister Scalar r) slot k insn old new from to none nowhere bytes stored (inr (_, stands)) = subst (λ (l : List (Option Known)). Stands Scalar (slice_index_or l r None)) (sym stored.registers_same) stands
+has_stored (AtRegister (Pointer kind o) r) slot k insn old new from to none nowhere bytes stored (inl gives) = absurd (nowhere kind o r gives)
+has_stored (AtRegister (Pointer kind o) r) slot k insn old new from to none nowhere bytes stored (inr (_, _, stands)) =
+    subst (λ (l : List (Option Known)). Stands (Pointer kind o) (slice_index_or l r None)) (sym stored.registers_same) stands
+has_stored (AtRegister NoPointer r) slot k insn old new from to none nowhere bytes stored after = absurd after
+has_stored (IsSetAt i) slot k insn old new from to none nowhere bytes stored (inl stores) = stored.stored i (bytes i stores).0 (bytes i stores).1
+has_stored (IsSetAt i) slot k insn old new from to none nowhere bytes stored (inr has) = stored.set i has
+has_stored (IsPlainAt j) slot k insn old new from to none nowhere bytes stored after = stored.plain j after
+
+-- after an instruction that writes nothing that is known
+pub has_left : (x : Fact) (slot k : ℕ) (insn : Insn) (view : View) → ((r : ℕ) → GivesNumber insn r → ⊥) → ((kind : Kind) (o r : ℕ) → GivesPointer kind o slot k insn r view → ⊥) → ((i : ℕ) → StoresByte insn i → ⊥) → After x slot k insn view → Has x view
+has_left Never slot k insn view none nowhere bytes after = after
+has_left (AtRegister Scalar r) slot k insn view none nowhere bytes (inl gives) = absurd (none r gives)
+has_left (AtRegister Scalar r) slot k insn view none nowhere bytes (inr (_, stands)) = stands
+has_left (AtRegister (Pointer kind o) r) slot k insn view none nowhere bytes (inl gives) = absurd (nowhere kind o r gives)
+has_left (AtRegister (Pointer kind o) r) slot k insn view none nowhere bytes (inr (_, _, stands)) = stands
+has_left (AtRegister NoPointer r) slot k insn view none nowhere bytes after = absurd after
+has_left (IsSetAt i) slot k insn view none nowhere bytes (inl stores) = absurd (bytes i stores)
+has_left (IsSetAt i) slot k insn view none nowhere bytes (inr has) = has
+has_left (IsPlainAt j) slot k insn view none nowhere bytes after = after
+
+-- what is sure after a test of a look-up's answer, on a side of it
+pub has_tested : (x : Fact) (slot k : ℕ) (w : Width) (c : Condition) (dst : ℕ) (src : Source) (off : ℤ) (m : ℕ) (found : Bool) (view : View) → StandsAt (Pointer (EntryOrNull m) 0) view dst → (IsFoundSide c off slot k → found ≡ true) → After x slot k (Branch w c dst src off) view → AfterTest x view dst m found
+has_tested Never slot k w c dst src off m found view stands side after = absurd after
+has_tested (AtRegister Scalar r) slot k w c dst src off m found view stands side (inl gives) = absurd (some_none _ _ gives refl)
+has_tested (AtRegister Scalar r) slot k w c dst src off m found view stands side (inr (_, scalar)) = inr (λ same. not_both _ (EntryOrNull m) 0 (subst (λ (n : ℕ). StandsAt Scalar view n) same scalar) stands, scalar)
+has_tested (AtRegister (Pointer kind o) r) slot k w c dst src off m found view stands side (inl (same, m', kind_is, o_is, answer, on_side)) =
+    let kinds = pointer_is _ (EntryOrNull m') 0 (EntryOrNull m) 0 answer stands in
+    let one : m' ≡ m = let e : EntryOrNull m' ≡ EntryOrNull m = kinds.0 in cc in
+    let is : AtRegister (Pointer kind o) r ≡ AtRegister (Pointer (Entry m) 0) dst = rw (kind_is, o_is, one, ← same) refl in
+    inl (side on_side, is)
+has_tested (AtRegister (Pointer kind o) r) slot k w c dst src off m found view stands side (inr (_, certain, before)) =
+    inr (
+      λ same.
+          let kinds = pointer_is _ kind o (EntryOrNull m) 0 (subst (λ (n : ℕ). StandsAt (Pointer kind o) view n) same before) stands in
+          (let refuted : IsCertain (EntryOrNull m) = subst (λ (b : Kind). IsCertain b) kinds.0 certain in refuted),
+      before,
+    )
+has_tested (AtRegister NoPointer r) slot k w c dst src off m found view stands side after = absurd after
+has_tested (IsSetAt i) slot k w c dst src off m found view stands side (inl stores) = absurd stores
+has_tested (IsSetAt i) slot k w c dst src off m found view stands side (inr has) = inr (tt, has)
+has_tested (IsPlainAt j) slot k w c dst src off m found view stands side after = inr (tt, after)
+
+knowing_apart : (x : Fact) (view : View) (dst : ℕ) (word : Known) → IsApartFrom x dst → Has x view → Has x (knowing view dst word)
+knowing_apart Never view dst word other has = has
+knowing_apart (AtRegister s r) view dst word other has = subst (λ (v : Option Known). Stands s v) (sym (get_or-set_other view.registers dst r (Some word) None other)) has
+knowing_apart (IsSetAt i) view dst word other has = has
+knowing_apart (IsPlainAt j) view dst word other has = has
+
+-- the word that is learnt on that side
+pub has_on_tested : (x : Fact) (view : View) (dst m : ℕ) (found : Bool) (side : Option Known) → dst < length view.registers → IsTested m found side → AfterTest x view dst m found → HasOnSide x view dst side
+has_on_tested x view dst m found side there tested (inl (yes', is)) =
+    let word : Stands (Pointer (Entry m) 0) (slice_index_or (slice_set view.registers dst (Some tested.word)) dst None) = subst (λ (v : Option Known). Stands (Pointer (Entry m) 0) v) (sym (get_or-set_same view.registers dst (Some tested.word) None there)) (tested.entry yes') in
+    let at : HasOnSide (AtRegister (Pointer (Entry m) 0) dst) view dst (Some tested.word) = word in
+    subst (λ (v : Option Known). HasOnSide x view dst v) (sym tested.is) (subst (λ (y : Fact). HasOnSide y view dst (Some tested.word)) (sym is) at)
+has_on_tested x view dst m found side there tested (inr (other, has)) = subst (λ (v : Option Known). HasOnSide x view dst v) (sym tested.is) (knowing_apart x view dst tested.word other has)
 
 -- bytes of a store lie where it is placed
 pub bytes_at : (a b count i : ℕ) (off : ℤ) → pos a ≡ (pos 512 +ℤ off) → pos b ≡ (pos 512 +ℤ off) → a ≤ i → i < a + count → (b ≤ i) × (i < b + count)
 bytes_at a b count i off p q le lt = let same : pos a ≡ pos b = p ∙ sym q in let e : a ≡ b = cc in (omega arith, omega arith)
 
 -- one register is learnt anew
-pub knowing_given : (view : View) (dst : ℕ) (k : Known) → dst < length view.registers → k.kind ≡ Number → IsGiven view (knowing view dst k) dst
-knowing_given view dst k there number = record {
-  given = subst (λ (v : Option Known). Stands Scalar v) (sym (get_or-set_same view.registers dst (Some k) None there)) number;
+pub knowing_made : (s : Standing) (view : View) (dst : ℕ) (k : Known) → dst < length view.registers → Stands s (Some k) → IsMade s view (knowing view dst k) dst
+knowing_made s view dst k there stands = record {
+  given = subst (λ (v : Option Known). Stands s v) (sym (get_or-set_same view.registers dst (Some k) None there)) stands;
   kept = λ r other. get_or-set_other view.registers dst r (Some k) None other;
   set_same = refl;
   kept_same = refl;
 }
+
+pub knowing_given : (view : View) (dst : ℕ) (k : Known) → dst < length view.registers → k.kind ≡ Number → IsGiven view (knowing view dst k) dst
+knowing_given view dst k there number = knowing_made Scalar view dst k there number
+
+-- registers 1 to 5 are forgotten, and register 0 is learnt anew
+pub called_by : (s : Standing) (view : View) (registers : List (Option Known)) (k : Known) → 0 < length registers → Clears view.registers registers → Stands s (Some k) → IsCalled s view (knowing (record view { registers = registers }) 0 k)
+called_by s view registers k there clears stands = record {
+  given = subst (λ (v : Option Known). Stands s v) (sym (get_or-set_same registers 0 (Some k) None there)) stands;
+  kept = λ r above. get_or-set_other registers 0 r (Some k) None (λ e. absurd (omega arith)) ∙ clears.others r above;
+  set_same = refl;
+  kept_same = refl;
+}
+
+-- the address of an entry, and a look-up's answer
+pub entry_stands : (map : ℕ) (range : Range) → range.lo ≡ 0 → range.hi ≡ 0 → Stands (Pointer (Entry map) 0) (Some (record { kind = Entry map; offset = range }))
+entry_stands map range lo hi = (refl, λ e. let refuted : ⊥ = cc in refuted, lo, hi)
+
+pub answer_stands : (map m : ℕ) (range : Range) → map ≡ m → range.lo ≡ 0 → range.hi ≡ 0 → Stands (Pointer (EntryOrNull m) 0) (Some (record { kind = EntryOrNull map; offset = range }))
+answer_stands map m range same lo hi = (ap (λ (n : ℕ). EntryOrNull n) same, λ e. let refuted : ⊥ = cc in refuted, lo, hi)
 
 -- what is sure of a view is sure on a side of a test of numbers
 pub has_on_side : (x : Fact) (view : View) (dst : ℕ) (side : Option Known) → dst < length view.registers → StandsAt Scalar view dst → IsNumberIfAny side → Has x view → HasOnSide x view dst side
@@ -134,3 +316,18 @@ carried_of (Goto32 imm) e g h b = h imm refl
 carried_of (Branch w c d s off) e g h b = b w c d s off refl
 carried_of Exit e g h b = e refl
 carried_of _ e g h b = tt
+
+-- where the operands differ
+pub found_there : (c : Condition) (off : ℤ) (slot k : ℕ) → LeadsTo slot off k → IsFoundSide c off slot k → is_found c true ≡ true
+found_there Equal off slot k leads side = absurd (side.1 leads)
+found_there NotEqual off slot k leads side = refl
+found_there _ off slot k leads side = absurd side
+
+pub found_next : (c : Condition) (off : ℤ) (slot k : ℕ) → k ≡ slot + 1 → IsFoundSide c off slot k → is_found c false ≡ true
+found_next Equal off slot k next side = refl
+found_next NotEqual off slot k next side = absurd (side.1 next)
+found_next _ off slot k next side = absurd side
+
+pub left_scalar : (op : Operation) (view : View) (dst : ℕ) → (op ≡ Mov → ⊥) → IsLeftReady op view dst → StandsAt Scalar view dst
+left_scalar Mov view dst other ready = absurd (other refl)
+left_scalar _ view dst other ready = ready

@@ -2,10 +2,10 @@
 
 ghost use Rattle.std.specs.Prelude.{◌≡◌, ◌<◌, IfSome, OnOk, IsOk, IfErr};
 ghost use Rattle.bq_maps.specs.declared.shape.MapShape.{MapShape};
-ghost use Rattle.std.specs.Prelude.{List, ℕ};
+ghost use Rattle.std.specs.Prelude.{List, ℕ, Some};
 ghost use Rattle.bq_insn.specs.Meaning.{alu_result};
 ghost use Rattle.bq_verify.specs.Doubts.{MayDoubt};
-ghost use Rattle.bq_verify.specs.Standing.{Scalar, Stands, StandsAt, IsScalarOperand, IsGiven};
+ghost use Rattle.bq_verify.specs.Standing.{Scalar, Pointer, Stands, StandsAt, IsScalarOperand, IsGiven, IsMade, IsWord, IsCopyOfFrame, IsMoveOfPointer};
 ghost use Rattle.bq_verify.specs.Views.{Describes, Carries};
 
 use crate::registers::{known, learn, operand};
@@ -17,6 +17,7 @@ use bq_ranges::arithmetic;
 pub fn combine(width: Width, op: Operation, a: Known, b: Known) -> Option<Known>
     ensures describes { IfSome result (λ k. (shapes : List MapShape) (x y : ℕ) → Describes shapes a x → Describes shapes b y → Describes shapes k (alu_result width op x y)) }
     ensures scalar { a.kind ≡ Kind.Number → b.kind ≡ Kind.Number → Stands Scalar result }
+    ensures moves { (base word : ℕ) → width ≡ Width.W64 → op ≡ Operation.Add → Stands (Pointer Kind.Stack base) (Some a) → IsWord word (Some b) → Stands (Pointer Kind.Stack (alu_result Width.W64 Operation.Add base word)) result }
 {
     match (a.kind, b.kind) {
         (Kind::Number, Kind::Number) => Some(Known {
@@ -32,12 +33,13 @@ pub fn combine(width: Width, op: Operation, a: Known, b: Known) -> Option<Known>
 /// A pointer and a number.
 fn moved(width: Width, op: Operation, a: Known, b: Known) -> Option<Known>
     requires { b.kind ≡ Kind.Number }
-    ensures { IfSome result (λ k. (shapes : List MapShape) (x y : ℕ) → Describes shapes a x → Describes shapes b y → Describes shapes k (alu_result width op x y)) }
+    ensures moves { (base word : ℕ) → width ≡ Width.W64 → op ≡ Operation.Add → Stands (Pointer Kind.Stack base) (Some a) → IsWord word (Some b) → Stands (Pointer Kind.Stack (alu_result Width.W64 Operation.Add base word)) result }
+    ensures describes { IfSome result (λ k. (shapes : List MapShape) (x y : ℕ) → Describes shapes a x → Describes shapes b y → Describes shapes k (alu_result width op x y)) }
 {
     match (width, op) {
         (Width::W64, Operation::Add) => Some(Known {
             kind: a.kind,
-            offset: arithmetic::add(Width::W64, a.offset, b.offset),
+            offset: arithmetic::alu(Width::W64, Operation::Add, a.offset, b.offset),
         }),
         (Width::W64, Operation::Sub) => Some(Known {
             kind: a.kind,
@@ -53,6 +55,7 @@ pub fn alu(view: &mut View, width: Width, op: Operation, dst: u8, src: Source) -
     ensures carries { OnOk result ((shapes : List MapShape) (context_length : ℕ) → Carries shapes context_length (Insn.Alu width op dst src) view.old view.new) }
     ensures doubts { IfErr result (λ doubt. MayDoubt doubt (Insn.Alu width op dst src)) }
     ensures accepts { StandsAt Scalar view.old dst → IsScalarOperand view.old src → IsOk result × IsGiven view.old view.new dst }
+    ensures moves { (m : IsMoveOfPointer view.old width op dst src) → IsOk result × IsMade (Pointer Kind.Stack m.at) view.old view.new dst }
 {
     let Some(right) = operand(view, src) else {
         return Err(Doubt::Unset);
@@ -73,6 +76,7 @@ pub fn copy(view: &mut View, width: Width, dst: u8, src: Source) -> Result<(), D
     ensures carries { OnOk result ((shapes : List MapShape) (context_length : ℕ) → Carries shapes context_length (Insn.Alu width Operation.Mov dst src) view.old view.new) }
     ensures doubts { IfErr result (λ doubt. MayDoubt doubt (Insn.Alu width Operation.Mov dst src)) }
     ensures accepts { IsScalarOperand view.old src → IsOk result × IsGiven view.old view.new dst }
+    ensures copies { (m : IsCopyOfFrame view.old width Operation.Mov src) → IsOk result × IsMade (Pointer Kind.Stack m.base) view.old view.new dst }
 {
     let Some(right) = operand(view, src) else {
         return Err(Doubt::Unset);
@@ -88,6 +92,7 @@ pub fn copy(view: &mut View, width: Width, dst: u8, src: Source) -> Result<(), D
 fn copied(width: Width, word: Known) -> Option<Known>
     ensures describes { IfSome result (λ k. (shapes : List MapShape) (x y : ℕ) → Describes shapes word y → Describes shapes k (alu_result width Operation.Mov x y)) }
     ensures scalar { word.kind ≡ Kind.Number → Stands Scalar result }
+    ensures same { width ≡ Width.W64 → result ≡ Some word }
 {
     match (width, word.kind) {
         (Width::W64, _) => Some(word),

@@ -1,12 +1,12 @@
 // Map references and calls of helpers.
 
-ghost use Rattle.std.specs.Prelude.{◌≡◌, ◌<◌, ◌≤◌, ◌^◌, ℕ, pos, List, IfSome, OnOk, Some, length, IfErr, IsTrue};
+ghost use Rattle.std.specs.Prelude.{◌≡◌, ◌<◌, ◌≤◌, ◌^◌, ℕ, pos, List, IfSome, IsOk, OnOk, Some, length, IfErr, IsTrue};
 ghost use Rattle.bq_maps.specs.Memory.{Setting, State, reference};
 ghost use Rattle.bq_maps.specs.Machine.{called};
 ghost use Rattle.bq_maps.specs.declared.shape.MapShape.{MapShape};
 ghost use Rattle.bq_ranges.specs.Within.{Within};
 ghost use Rattle.bq_verify.specs.Doubts.{MayDoubt};
-ghost use Rattle.bq_verify.specs.Standing.{IsAnswered};
+ghost use Rattle.bq_verify.specs.Standing.{IsAnswered, IsCalled, IsMade, IsNamingEntry, Pointer, StandsAt};
 ghost use Rattle.bq_verify.specs.Views.{Carries, Clears, Covers, IsBelow};
 
 use crate::memory::{reads, reads_value, shape_of};
@@ -22,6 +22,7 @@ pub fn map_ref(view: &mut View, shapes: &[MapShape], dst: u8, index: i32) -> Res
     requires few { length shapes.now ≤ 8 }
     ensures carries { OnOk result ((context_length : ℕ) → Carries shapes.now context_length (Insn.MapRef dst index) view.old view.new) }
     ensures doubts { IfErr result (λ doubt. MayDoubt doubt (Insn.MapRef dst index)) }
+    ensures accepts { (m : ℕ) → index ≡ pos m → m < length shapes.now → IsOk result × IsMade (Pointer (Kind.Map m) 0) view.old view.new dst }
 {
     let Some(map) = map_number(shapes, index) else {
         return Err(Doubt::Argument);
@@ -42,6 +43,7 @@ fn map_number(shapes: &[MapShape], index: i32) -> Option<u8>
     requires { length shapes.now ≤ 8 }
     ensures index { IfSome result (λ m. index ≡ pos m) }
     ensures there { IfSome result (λ m. m < length shapes.now) }
+    ensures found { (m : ℕ) → index ≡ pos m → m < length shapes.now → result ≡ Some m }
 {
     if index < 0 || index >= 8 {
         return None;
@@ -66,7 +68,8 @@ fn clear(registers: &mut [Option<Known>])
 
 /// The map that register 1 names.
 fn map_of(view: &View) -> Option<u8>
-    ensures { IfSome result (λ m. (f : Setting) (s : State) → Covers f view.now s → (s.register 1 ≡ Some (reference m)) × (m < length f.shapes)) }
+    ensures found { (m : ℕ) → StandsAt (Pointer (Kind.Map m) 0) view.now 1 → result ≡ Some m }
+    ensures names { IfSome result (λ m. (f : Setting) (s : State) → Covers f view.now s → (s.register 1 ≡ Some (reference m)) × (m < length f.shapes)) }
 {
     let Some(word) = known(view, 1) else {
         return None;
@@ -85,6 +88,7 @@ pub fn look_up(view: &mut View, shapes: &[MapShape], context: usize) -> Result<(
     requires context { context < 2 ^ 16 }
     ensures carries { OnOk result (Carries shapes.now context (Insn.Call (pos 1)) view.old view.new) }
     ensures doubts { IfErr result (λ doubt. MayDoubt doubt (Insn.Call (pos 1))) }
+    ensures accepts { (m : ℕ) → IsNamingEntry view.old m → IsOk result × IsCalled (Pointer (Kind.EntryOrNull m) 0) view.old view.new }
 {
     let Some(map) = map_of(view) else {
         return Err(Doubt::Argument);

@@ -22,7 +22,7 @@ pub fn carry(view: &mut View, shapes: &[MapShape], context: usize, insn: Insn) -
     ensures straight { OnOk result (IsStraight insn) }
     ensures carries { OnOk result (Carries shapes.now context insn view.old view.new) }
     ensures doubts { IfErr result (λ doubt. MayDoubt doubt insn) }
-    ensures accepts { IsReady shapes.now context view.old insn → IsCarried insn → IsOk result × ((x : Fact) → After x insn view.old → Has x view.new) }
+    ensures accepts { IsReady shapes.now context view.old insn → IsCarried insn → IsOk result × ((x : Fact) (slot k : ℕ) → After x slot k insn view.old → Has x view.new) }
 {
     match insn {
         Insn::Alu {

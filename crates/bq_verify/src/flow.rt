@@ -1,6 +1,6 @@
 // Where control goes from a slot, and what is known there.
 
-ghost use Rattle.std.specs.Prelude.{◌≡◌, ◌<◌, ◌≤◌, ◌+◌, ◌^◌, ℕ, length, slice_index_or, IfOk, IfSome, IfErr, IsOk, OnOk, List, Some, true, ◌⊎◌};
+ghost use Rattle.std.specs.Prelude.{◌≡◌, ◌<◌, ◌≤◌, ◌+◌, ◌^◌, ℕ, length, slice_index_or, IfOk, IfSome, IfErr, IsOk, OnOk, List, Some, true, false, ◌⊎◌};
 ghost use Rattle.bq_insn.specs.declared.Insn.{Insn};
 ghost use Rattle.bq_insn.specs.Meaning.{taken};
 ghost use Rattle.bq_maps.specs.Memory.{Setting, State};
@@ -8,7 +8,7 @@ ghost use Rattle.bq_maps.specs.Machine.{instruction_at};
 ghost use Rattle.bq_maps.specs.declared.shape.MapShape.{MapShape};
 ghost use Rattle.bq_graph.specs.Passes.{IsSound};
 ghost use Rattle.bq_verify.specs.Doubts.{MayDoubt, MayStop};
-ghost use Rattle.bq_verify.specs.Standing.{Fact, GoesOnSure, Has, HasOnSide, HasWaiting, IsNumberIfAny, IsReady, IsScalarOperand, IsSureOf, IsWantOfMemory, Scalar, StandsAt, IsSide};
+ghost use Rattle.bq_verify.specs.Standing.{AfterTest, Fact, GoesOnSure, Has, HasOnSide, HasWaiting, IsNullCheck, IsNullTest, IsNumberIfAny, IsReady, IsScalarOperand, IsSide, IsSureOf, IsTested, IsTestedIfAny, IsWantOfMemory, IsWord, Pointer, Scalar, Stands, StandsAt, is_found};
 ghost use Rattle.bq_verify.specs.Views.{Covers, Describes, Fits};
 ghost use Rattle.bq_verify.specs.Control.{Goes, IsKnown, IsOnSide, IsRelearned, PartsTo, WaitsBoxed};
 
@@ -121,6 +121,8 @@ fn branch(
         × ((f : Setting) (s : State) → Covers f view.old s → PartsTo (IsKnown pending.new view.new live next) f s width cond dst src to next)) }
     ensures doubts { IfErr result (λ stop. (insn : Insn) → MayStop stop insn) }
     ensures accepts { dst < 10 → StandsAt Scalar view.old dst → IsScalarOperand view.old src → IfErr result IsWantOfMemory }
+    ensures checks { (map : ℕ) → dst < 10 → IsNullCheck width cond src → StandsAt (Pointer (Kind.EntryOrNull map) 0) view.old dst → IfErr result IsWantOfMemory }
+    ensures checked { (map : ℕ) → IsNullCheck width cond src → StandsAt (Pointer (Kind.EntryOrNull map) 0) view.old dst → IfOk result (λ live. (x : Fact) (k : ℕ) → HasWaiting x pending.old k → (k ≡ to → AfterTest x view.old dst map (is_found cond true)) → (k ≡ next → AfterTest x view.old dst map (is_found cond false)) → IsSureOf x pending.new view.new live next k) }
     ensures sure { StandsAt Scalar view.old dst → IsScalarOperand view.old src → IfOk result (λ live. (x : Fact) (k : ℕ) → HasWaiting x pending.old k → ((k ≡ to) ⊎ (k ≡ next) → Has x view.old) → IsSureOf x pending.new view.new live next k) }
 {
     let Some(right) = operand(view, src) else {
@@ -150,6 +152,8 @@ fn side(
     ensures doubts { IfErr result (λ doubt. (insn : Insn) → MayDoubt doubt insn) }
     ensures accepts { left.kind ≡ Kind.Number → right.kind ≡ Kind.Number → IsOk result }
     ensures number { left.kind ≡ Kind.Number → right.kind ≡ Kind.Number → IfOk result IsNumberIfAny }
+    ensures checks { (map : ℕ) → width ≡ Width.W64 → IsNullTest cond → Stands (Pointer (Kind.EntryOrNull map) 0) (Some left) → IsWord 0 (Some right) → IsOk result }
+    ensures tested { (map : ℕ) → width ≡ Width.W64 → IsNullTest cond → Stands (Pointer (Kind.EntryOrNull map) 0) (Some left) → IsWord 0 (Some right) → IfOk result (IsTested map (is_found cond goes)) }
 {
     match outcome(width, cond, left, right, goes) {
         Some(side) => Ok(side),
@@ -204,6 +208,7 @@ fn outcome(
 ) -> Option<Option<Known>>
     ensures fits { IfSome result (λ side. (shapes : List MapShape) (a b : ℕ) → Describes shapes left a → Describes shapes right b → taken width cond a b ≡ goes → Fits shapes side a) }
     ensures numbers { left.kind ≡ Kind.Number → right.kind ≡ Kind.Number → IsSide result }
+    ensures tested { (map : ℕ) → width ≡ Width.W64 → IsNullTest cond → Stands (Pointer (Kind.EntryOrNull map) 0) (Some left) → IsWord 0 (Some right) → IsTestedIfAny map (is_found cond goes) result }
 {
     match (left.kind, right.kind) {
         (Kind::Number, Kind::Number) => match narrow(cond, width, left.offset, right.offset, goes) {
@@ -236,7 +241,8 @@ fn null_check(
     requires right { right.kind ≡ Kind.Number }
     requires whole { left.offset.hi ≡ 0 }
     requires null { right.offset.hi ≡ 0 }
-    ensures { IfSome result (λ side. (shapes : List MapShape) (a b : ℕ) → Describes shapes left a → Describes shapes right b → taken width cond a b ≡ goes → Fits shapes side a) }
+    ensures tested { width ≡ Width.W64 → IsNullTest cond → left.offset.lo ≡ 0 → IsTestedIfAny map (is_found cond goes) result }
+    ensures fits { IfSome result (λ side. (shapes : List MapShape) (a b : ℕ) → Describes shapes left a → Describes shapes right b → taken width cond a b ≡ goes → Fits shapes side a) }
 {
     let null = Known {
         kind: Kind::Number,

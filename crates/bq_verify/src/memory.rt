@@ -6,7 +6,7 @@ ghost use Rattle.bq_maps.specs.Machine.{loaded, bits_of as bits_in};
 ghost use Rattle.bq_ranges.specs.Within.{Within};
 ghost use Rattle.bq_insn.specs.declared.Insn.{Insn};
 ghost use Rattle.bq_verify.specs.Doubts.{IsAccess, MayDoubt};
-ghost use Rattle.bq_verify.specs.Standing.{IsGiven, IsPlaced, IsReadable, IsPlainAt, Has, bound_of, Stands, NoPointer};
+ghost use Rattle.bq_verify.specs.Standing.{IsGiven, IsPlaced, IsReadable, Pointer, StandsAt, bound_of};
 ghost use Rattle.bq_verify.specs.declared.view.Kind.{Kind as Base};
 ghost use Rattle.bq_verify.specs.Views.{Bounds, Carries, FindsBytes, FindsPlace};
 
@@ -251,7 +251,8 @@ fn word_of_distance(off: i16) -> u64
 /// Whether a register points to so many bytes that may be read.
 pub fn reads(view: &View, shapes: &[MapShape], context: usize, register: u8, size: Size) -> bool
     requires { context < 2 ^ 16 }
-    ensures { IsTrue result → FindsBytes shapes.now context view.now register (byte_count size) }
+    ensures finds { IsTrue result → FindsBytes shapes.now context view.now register (byte_count size) }
+    ensures accepts { (place : ℕ) → StandsAt (Pointer Kind.Stack place) view.now register → place + byte_count size ≤ 512 → ((i : ℕ) → place ≤ i → i < place + byte_count size → slice_index_or view.now.set i false ≡ true) → IsTrue result }
 {
     let Some(base) = known(view, register) else {
         return false;
@@ -259,7 +260,10 @@ pub fn reads(view: &View, shapes: &[MapShape], context: usize, register: u8, siz
     let Some(bound) = bound(base.kind, shapes, context) else {
         return false;
     };
-    if bound > 0x1_0000 || !stays(base.offset, size, bound) {
+    if bound > 0x1_0000 {
+        return false;
+    }
+    if !stays(base.offset, size, bound) {
         return false;
     }
     is_readable(view, base.kind, base.offset, size)

@@ -43,7 +43,7 @@ pub fn judge(
     requires few { length shapes.now ≤ 8 }
     ensures safe { OnOk result (Safe slots.now shapes.now context (slice_index heights.now 0)) }
     ensures stopped { IfErr result (IsStopped slots.now) }
-    ensures accepts { IsStraightProgram slots.now context → IfErr result IsOutOfMemory }
+    ensures accepts { IsStraightProgram slots.now shapes.now context → IfErr result IsOutOfMemory }
 {
     let mut pending = nothing_waits(alloc, slots.len())?;
     let mut view = start();
@@ -77,7 +77,7 @@ fn pass(
     requires few { length shapes.now ≤ 8 }
     ensures safe { OnOk result ((made : ℕ → ℕ) → AreMade slots.now made → RestIsSafe slots.now shapes.now context heights.now made 0 (IsKnown pending.old view.old true 0)) }
     ensures stopped { IfErr result (IsStopped slots.now) }
-    ensures accepts { IsStraightProgram slots.now context → IsSure slots.now pending.old view.old true 0 → IfErr result IsOutOfMemory }
+    ensures accepts { IsStraightProgram slots.now shapes.now context → IsSure slots.now shapes.now pending.old view.old true 0 → IfErr result IsOutOfMemory }
 {
     let mut live = true;
     for slot in 0..slots.len() {
@@ -106,8 +106,8 @@ fn pass_slot(
     ensures long { length pending.new ≡ length pending.old }
     ensures passes { IfOk result (λ on. PassesOn slots.now shapes.now context slot (IsKnown pending.old view.old live slot) (IsKnown pending.new view.new on (slot + 1))) }
     ensures stopped { IfErr result (IsStopped slots.now) }
-    ensures accepts { IsStraightProgram slots.now context → IsSure slots.now pending.old view.old live slot → IfErr result IsOutOfMemory }
-    ensures sure { IsStraightProgram slots.now context → IsSure slots.now pending.old view.old live slot → IfOk result (λ on. IsSure slots.now pending.new view.new on (slot + 1)) }
+    ensures accepts { IsStraightProgram slots.now shapes.now context → IsSure slots.now shapes.now pending.old view.old live slot → IfErr result IsOutOfMemory }
+    ensures sure { IsStraightProgram slots.now shapes.now context → IsSure slots.now shapes.now pending.old view.old live slot → IfOk result (λ on. IsSure slots.now shapes.now pending.new view.new on (slot + 1)) }
 {
     if !arrive(view, live, pending, slot) {
         return Ok(false);

@@ -88,7 +88,7 @@ pub fn verify(alloc: Global, program: Program) -> Result<Verified, Refused>
     ensures faultless { IfOk result (λ v. IsFaultless v.slots) }
     ensures budget { IfOk result (λ v. IsGreatest (PathOut v.slots 0) v.budget) }
     ensures refused { IfErr result (IsRefusal (spread program.insns.items)) }
-    ensures accepts { IsStraightProgram (spread program.insns.items) (context_length_of program.hook program.version) → IfErr result IsOutOfMemory }
+    ensures accepts { IsStraightProgram (spread program.insns.items) program.shapes.items (context_length_of program.hook program.version) → IfErr result IsOutOfMemory }
 {
     verify_slots(alloc, program)
 }
@@ -105,7 +105,7 @@ fn verify_slots(alloc: Global, program: Program) -> Result<Verified, Refused>
     ensures faultless { IfOk result (λ v. IsFaultless v.slots) }
     ensures budget { IfOk result (λ v. IsGreatest (PathOut v.slots 0) v.budget) }
     ensures refused { IfErr result (IsRefusal (spread program.insns.items)) }
-    ensures accepts { IsStraightProgram (spread program.insns.items) (context_length_of program.hook program.version) → IfErr result IsOutOfMemory }
+    ensures accepts { IsStraightProgram (spread program.insns.items) program.shapes.items (context_length_of program.hook program.version) → IfErr result IsOutOfMemory }
 {
     let Program {
         insns,

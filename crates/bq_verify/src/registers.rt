@@ -1,7 +1,8 @@
 // Registers of a view.
 
-ghost use Rattle.std.specs.Prelude.{◌≡◌, ◌<◌, IfSome, slice_set, slice_index_or};
-ghost use Rattle.bq_verify.specs.Standing.{IsScalarOperand, Scalar, Stands};
+ghost use Rattle.std.specs.Prelude.{◌≡◌, ◌<◌, ℕ, ℤ, None, IfSome, slice_set, slice_index_or};
+ghost use Rattle.bq_insn.specs.Meaning.{word_of};
+ghost use Rattle.bq_verify.specs.Standing.{IsScalarOperand, IsWord, Scalar, Stands};
 ghost use Rattle.bq_verify.specs.Views.{Finds, knowing};
 
 use crate::view::{Kind, Known, View};
@@ -12,6 +13,8 @@ use bq_ranges::Range;
 pub fn operand(view: &View, src: Source) -> Option<Known>
     ensures finds { IfSome result (Finds view.now src) }
     ensures scalar { IsScalarOperand view.now src → Stands Scalar result }
+    ensures immediate { (i : ℤ) → src ≡ Source.Imm i → IsWord (word_of i) result }
+    ensures register { (r : ℕ) → src ≡ Source.Reg r → result ≡ slice_index_or view.now.registers r None }
 {
     match src {
         Source::Imm(imm) => {

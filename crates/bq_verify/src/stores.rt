@@ -7,7 +7,7 @@ ghost use Rattle.bq_maps.specs.Memory.{Setting, State, InStack, written};
 ghost use Rattle.bq_maps.specs.Machine.{low_bytes, next};
 ghost use Rattle.bq_ranges.specs.Within.{Within};
 ghost use Rattle.bq_verify.specs.Doubts.{IsAccess, MayDoubt};
-ghost use Rattle.bq_verify.specs.Standing.{IsOnFrame, IsPlaced, IsStoredAt, Scalar, StandsAt};
+ghost use Rattle.bq_verify.specs.Standing.{IsPlaced, IsStoredAt, Scalar, StandsAt};
 ghost use Rattle.bq_verify.specs.Views.{Carries, Covers, Describes, Forgets, Marks, Stores, keeping};
 
 use crate::memory::{locate, stays};
@@ -31,6 +31,7 @@ pub fn store_imm(
     ensures carries { OnOk result (Carries shapes.now context (Insn.StoreImm size dst off imm) view.old view.new) }
     ensures doubts { IfErr result (λ doubt. MayDoubt doubt (Insn.StoreImm size dst off imm)) }
     ensures accepts { (place : ℕ) → IsPlaced shapes.now context view.old size dst off Kind.Stack place → IsOk result × IsStoredAt view.old view.new place (place + byte_count size) }
+    ensures entry { (map place : ℕ) → IsPlaced shapes.now context view.old size dst off (Kind.Entry map) place → IsOk result × (view.new ≡ view.old) }
 {
     let word = Known {
         kind: Kind::Number,
@@ -61,6 +62,7 @@ pub fn store_reg(
     ensures carries { OnOk result (Carries shapes.now context (Insn.StoreReg size dst off src) view.old view.new) }
     ensures doubts { IfErr result (λ doubt. MayDoubt doubt (Insn.StoreReg size dst off src)) }
     ensures accepts { StandsAt Scalar view.old src → (place : ℕ) → IsPlaced shapes.now context view.old size dst off Kind.Stack place → IsOk result × IsStoredAt view.old view.new place (place + byte_count size) }
+    ensures entry { StandsAt Scalar view.old src → (map place : ℕ) → IsPlaced shapes.now context view.old size dst off (Kind.Entry map) place → IsOk result × (view.new ≡ view.old) }
 {
     let Some(word) = known(view, src) else {
         return Err(Doubt::Unset);
@@ -83,6 +85,7 @@ fn store(
     ensures stores { OnOk result (Stores shapes.now context dst off size word view.old view.new) }
     ensures doubts { IfErr result (λ doubt. (insn : Insn) → IsAccess insn → MayDoubt doubt insn) }
     ensures accepts { word.kind ≡ Kind.Number → (place : ℕ) → IsPlaced shapes.now context view.old size dst off Kind.Stack place → IsOk result × IsStoredAt view.old view.new place (place + byte_count size) }
+    ensures entry { word.kind ≡ Kind.Number → (map place : ℕ) → IsPlaced shapes.now context view.old size dst off (Kind.Entry map) place → IsOk result × (view.new ≡ view.old) }
 {
     let found = locate(view, shapes, context, size, dst, off)?;
     match found.kind {

@@ -108,7 +108,7 @@ impl Verified {
         ensures version { IfOk result (λ v. v.version ≡ version) }
         ensures budget { IfOk result (λ v. v.budget ≡ slice_index heights.now 0) }
         ensures stopped { IfErr result (IsStopped slots.items) }
-        ensures accepts { IsStraightProgram slots.items (context_length_of hook version) → IfErr result IsOutOfMemory }
+        ensures accepts { IsStraightProgram slots.items shapes.items (context_length_of hook version) → IfErr result IsOutOfMemory }
     {
         let context = context_length(hook, version);
         judge(alloc, slots.as_slice(), shapes.as_slice(), context, heights)?;

@@ -1,6 +1,12 @@
-use Rattle.std.proofs.Common.{refl, arith, length, ◌<◌}
+use Rattle.std.proofs.Common.{ℕ, Option, Some, refl, sym, subst, arith, length, ◌<◌}
 use Rattle.bq_insn.specs.declared.Insn.TheVariants.{Alu}
-use Rattle.bq_insn.specs.Meaning.{alu_result}
+use Rattle.bq_insn.specs.Meaning.{alu_result, word_of}
+use Rattle.bq_verify.specs.declared.view.Kind.TheVariants.{Stack}
+use Rattle.bq_verify.specs.declared.view.Known.{Known}
+use Rattle.bq_verify.specs.declared.view.View.{View}
+use Rattle.bq_verify.specs.Standing.{IsMade, IsWord, Pointer, Stands}
+use Rattle.bq_verify.proofs.PlaceLemmas.{moved_is}
+use Rattle.bq_verify.proofs.StandingLemmas.{knowing_made}
 use Rattle.bq_verify.proofs.PutLemmas.{carries_put, found_at, left_from_set}
 use Rattle.bq_verify.proofs.alu.alu.Goals as goal
 
@@ -16,3 +22,12 @@ returns-clause-carries c = λ shapes context_length.
       (left.0, right.0, left_from_set c.args.op (s.register c.args.dst) left.0 left.1, right.1, c.requires, refl),
       c.in-Some-combine.ensures.describes f.shapes left.0 right.0 left.2 right.2,
     )))
+
+pub returns-clause-moves : goal.returns-clause-moves
+returns-clause-moves c = λ m.
+    let there : c.args.dst < length c.args.view.now.registers = omega arith in
+    let left : Stands (Pointer Stack m.base) (Some c.in-Some-known.left) = subst (λ (v : Option Known). Stands (Pointer Stack m.base) v) (sym c.in-Some-known.ensures) m.stands in
+    let right : IsWord (word_of m.distance) (Some c.in-Some.right) = c.in-Some.ensures.immediate m.distance m.by_distance in
+    let moved = c.in-Some-combine.ensures.moves m.base (word_of m.distance) m.whole m.is_sum left right in
+    let stands : Stands (Pointer Stack m.at) (Some c.in-Some-combine.word) = subst (λ (n : ℕ). Stands (Pointer Stack n) (Some c.in-Some-combine.word)) (moved_is m.base m.at m.distance m.below m.small m.at_is) moved in
+    (refl, subst (λ (v : View). IsMade (Pointer Stack m.at) c.args.view.now v c.args.dst) (sym c.learn.ensures) (knowing_made (Pointer Stack m.at) c.args.view.now c.args.dst c.in-Some-combine.word there stands))

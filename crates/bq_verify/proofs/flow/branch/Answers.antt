@@ -1,8 +1,8 @@
-use Rattle.std.proofs.Common.{◌≡◌, ◌<◌, Option, length, inl, inr, arith, subst, sym}
-use Rattle.bq_verify.specs.declared.view.Kind.TheVariants.{Number}
+use Rattle.std.proofs.Common.{◌≡◌, ◌<◌, Option, Some, pos, true, false, length, inl, inr, arith, subst, sym}
+use Rattle.bq_verify.specs.declared.view.Kind.TheVariants.{EntryOrNull, Number}
 use Rattle.bq_verify.specs.declared.view.Known.{Known}
-use Rattle.bq_verify.specs.Standing.{Scalar, Stands}
-use Rattle.bq_verify.proofs.StandingLemmas.{has_on_side, has_relearned}
+use Rattle.bq_verify.specs.Standing.{IsWord, Pointer, Scalar, Stands, is_found}
+use Rattle.bq_verify.proofs.StandingLemmas.{has_on_side, has_on_tested, has_relearned}
 use Rattle.bq_verify.specs.Control.{IsKnown}
 use Rattle.bq_verify.proofs.PassLemmas.{parts_of, on_side}
 use Rattle.bq_verify.proofs.flow.branch.Goals as goal
@@ -33,5 +33,20 @@ returns-clause-sure c = λ scalar operand x k waits both.
           c.carry_on.ensures.has x
           (has_relearned x c.args.view.now c.wait_on_side.new.view c.args.dst c.in_ok-no.no c.wait_on_side.ensures.same
           (has_on_side x c.args.view.now c.args.dst c.in_ok-no.no there scalar (c.in_ok-no.ensures.number left right) (both (inr same))))
+          live;
+    }
+
+pub returns-clause-checked : goal.returns-clause-checked
+returns-clause-checked c = λ map check answer x k waits yes_side no_side.
+    let there : c.args.dst < length c.args.view.now.registers = omega arith in
+    let left : Stands (Pointer (EntryOrNull map) 0) (Some c.in-Some-known.left) = subst (λ (v : Option Known). Stands (Pointer (EntryOrNull map) 0) v) (sym c.in-Some-known.ensures) answer in
+    let right : IsWord 0 (Some c.in-Some.right) = c.in-Some.ensures.immediate (pos 0) check.with_zero in
+    record {
+      waiting = c.in_ok-wait_on_side.ensures.has x k waits
+          (λ same. has_on_tested x c.args.view.now c.args.dst map (is_found c.args.cond true) c.in_ok-yes.yes there (c.in_ok-yes.ensures.tested map check.whole check.of_null left right) (yes_side same));
+      carried = λ live same.
+          c.carry_on.ensures.has x
+          (has_relearned x c.args.view.now c.wait_on_side.new.view c.args.dst c.in_ok-no.no c.wait_on_side.ensures.same
+          (has_on_tested x c.args.view.now c.args.dst map (is_found c.args.cond false) c.in_ok-no.no there (c.in_ok-no.ensures.tested map check.whole check.of_null left right) (no_side same)))
           live;
     }

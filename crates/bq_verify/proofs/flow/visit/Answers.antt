@@ -1,8 +1,9 @@
-use Rattle.std.proofs.Common.{rules, ℕ, Some, ◌≡◌, ◌+◌, ◌<◌, length, arith, refl, sym, ap, subst, ◌∙◌, true, false, inl, inr}
+use Rattle.std.proofs.Common.{rules, ℕ, Bool, Some, ◌≡◌, ◌+◌, ◌<◌, length, arith, refl, sym, ap, subst, ◌∙◌, true, false, inl, inr}
 use Rattle.bq_insn.specs.declared.Insn.{Insn}
-use Rattle.bq_verify.specs.Standing.{After, IsReady}
+use Rattle.bq_verify.specs.declared.view.Kind.TheVariants.{EntryOrNull}
+use Rattle.bq_verify.specs.Standing.{After, IsFoundSide, IsReady, is_found}
 use Rattle.bq_verify.proofs.MergeLemmas.{some_none}
-use Rattle.bq_verify.proofs.StandingLemmas.{has_left, carried_of}
+use Rattle.bq_verify.proofs.StandingLemmas.{carried_of, found_next, found_there, has_left, has_tested, not_both}
 use mir.Syntax.{w16, w32}
 use mir.Val.{SFits}
 use Rattle.std.proofs.lemmas.Int.{ints}
@@ -69,7 +70,7 @@ returns-in_ok-wait-in_default c = record {
       record {
         waiting = c.in_ok-wait-in_default.ensures.has x k waits
             (λ same.
-            (c.in_ok-carry-in_default.ensures.accepts ready carried).1 x
+            (c.in_ok-carry-in_default.ensures.accepts ready carried).1 x c.args.slot k
             (after
             (record { insn = c.args.insn; here = c.requires.here; leaves = subst (λ (n : ℕ). Leaves c.args.insn c.args.slot n) (sym (same ∙ ap (λ (n : ℕ). c.args.slot + n) c.slots-count.ensures)) (c.in_ok-carry-in_default.ensures.straight c.args.slot) })));
         carried = λ live. absurd (let no : ⊥ = cc in no);
@@ -106,7 +107,7 @@ returns-then-count-eq1 c = record {
       record {
         waiting = waits;
         carried = λ live same.
-            (c.in_ok-carry-in_default.ensures.accepts ready carried).1 x
+            (c.in_ok-carry-in_default.ensures.accepts ready carried).1 x c.args.slot k
             (after
             (record { insn = c.args.insn; here = c.requires.here; leaves = subst (λ (n : ℕ). Leaves c.args.insn c.args.slot n) (sym (same ∙ ap (λ (n : ℕ). c.args.slot + n) (sym one))) (c.in_ok-carry-in_default.ensures.straight c.args.slot) }));
       };
@@ -125,8 +126,8 @@ returns-in_ok-wait-in-Goto-clause-sure c = λ ready x k waits after.
     record {
       waiting = c.in_ok-wait-in-Goto.ensures.has x k waits
           (λ same.
-          has_left x (Goto c.in-Goto.off) c.args.view.now (λ r gives. some_none _ _ gives refl) (λ i stores. stores)
-          (subst (λ (i : Insn). After x i c.args.view.now) c.in-Goto.is (after (subst (λ (n : ℕ). IsEdge c.args.slots.now c.args.slot n) (sym same) edge))));
+          has_left x c.args.slot k (Goto c.in-Goto.off) c.args.view.now (λ r gives. some_none _ _ gives refl) (λ kind o r gives. gives) (λ i stores. stores)
+          (subst (λ (i : Insn). After x c.args.slot k i c.args.view.now) c.in-Goto.is (after (subst (λ (n : ℕ). IsEdge c.args.slots.now c.args.slot n) (sym same) edge))));
       carried = λ live. absurd (let no : ⊥ = cc in no);
     }
 
@@ -140,8 +141,8 @@ returns-in_ok-wait-in-Goto32-clause-sure c = λ ready x k waits after.
     record {
       waiting = c.in_ok-wait-in-Goto32.ensures.has x k waits
           (λ same.
-          has_left x (Goto32 c.in-Goto32.imm) c.args.view.now (λ r gives. some_none _ _ gives refl) (λ i stores. stores)
-          (subst (λ (i : Insn). After x i c.args.view.now) c.in-Goto32.is (after (subst (λ (n : ℕ). IsEdge c.args.slots.now c.args.slot n) (sym same) edge))));
+          has_left x c.args.slot k (Goto32 c.in-Goto32.imm) c.args.view.now (λ r gives. some_none _ _ gives refl) (λ kind o r gives. gives) (λ i stores. stores)
+          (subst (λ (i : Insn). After x c.args.slot k i c.args.view.now) c.in-Goto32.is (after (subst (λ (n : ℕ). IsEdge c.args.slots.now c.args.slot n) (sym same) edge))));
       carried = λ live. absurd (let no : ⊥ = cc in no);
     }
 
@@ -155,12 +156,37 @@ returns-in-Branch-clause-sure c = λ ready.
     let there : IsEdge c.args.slots.now c.args.slot c.target-to-in-Branch.result = record { insn = insn; here = here; leaves = inr (c.in-Branch.off, refl, leads) } in
     let next : IsEdge c.args.slots.now c.args.slot (c.args.slot + 1) = record { insn = insn; here = here; leaves = inl (refl, refl) } in
     let needs = subst (λ (i : Insn). IsReady c.args.shapes.now c.args.context c.args.view.now i) c.in-Branch.is ready in
-    IfOk-weaker c.branch-alloc.result _ _
-    (λ live sure x k waits after.
-    let left = λ (edge : IsEdge c.args.slots.now c.args.slot k). has_left x insn c.args.view.now (λ r gives. some_none _ _ gives refl) (λ i stores. stores) (subst (λ (i : Insn). After x i c.args.view.now) c.in-Branch.is (after edge)) in
-    sure x k waits
-    (λ either. elim either [
-      | inl same ↦ left (subst (λ (n : ℕ). IsEdge c.args.slots.now c.args.slot n) (sym same) there)
-      | inr same ↦ left (subst (λ (n : ℕ). IsEdge c.args.slots.now c.args.slot n) (sym same) next)
-    ]))
-    (c.branch-alloc.ensures.sure needs.1 needs.2)
+    elim needs.1 [
+      | inl numbers ↦
+          IfOk-weaker c.branch-alloc.result _ _
+          (λ live sure x k waits after.
+          let left = λ (edge : IsEdge c.args.slots.now c.args.slot k).
+          has_left x c.args.slot k insn c.args.view.now (λ r gives. some_none _ _ gives refl) (λ kind o r gives. not_both _ (EntryOrNull gives.1) 0 numbers.0 gives.4) (λ i stores. stores)
+          (subst (λ (i : Insn). After x c.args.slot k i c.args.view.now) c.in-Branch.is (after edge)) in
+          sure x k waits
+          (λ either. elim either [
+            | inl same ↦ left (subst (λ (n : ℕ). IsEdge c.args.slots.now c.args.slot n) (sym same) there)
+            | inr same ↦ left (subst (λ (n : ℕ). IsEdge c.args.slots.now c.args.slot n) (sym same) next)
+          ]))
+          (c.branch-alloc.ensures.sure numbers.0 numbers.1)
+      | inr check ↦
+          IfOk-weaker c.branch-alloc.result _ _
+          (λ live sure x k waits after.
+          let tested = λ (found : Bool) (edge : IsEdge c.args.slots.now c.args.slot k) (side : IsFoundSide c.in-Branch.cond c.in-Branch.off c.args.slot k → found ≡ true).
+          has_tested x c.args.slot k c.in-Branch.width c.in-Branch.cond c.in-Branch.dst c.in-Branch.src c.in-Branch.off check.1 found c.args.view.now check.2 side
+          (subst (λ (i : Insn). After x c.args.slot k i c.args.view.now) c.in-Branch.is (after edge)) in
+          sure x k waits
+          (λ same.
+          let at = subst (λ (n : ℕ). LeadsTo c.args.slot c.in-Branch.off n) (sym same) leads in
+          tested (is_found c.in-Branch.cond true) (subst (λ (n : ℕ). IsEdge c.args.slots.now c.args.slot n) (sym same) there) (found_there c.in-Branch.cond c.in-Branch.off c.args.slot k at))
+          (λ same. tested (is_found c.in-Branch.cond false) (subst (λ (n : ℕ). IsEdge c.args.slots.now c.args.slot n) (sym same) next) (found_next c.in-Branch.cond c.in-Branch.off c.args.slot k same)))
+          (c.branch-alloc.ensures.checked check.1 check.0 check.2)
+    ]
+
+pub returns-in-Branch-clause-accepts : goal.returns-in-Branch-clause-accepts
+returns-in-Branch-clause-accepts c = λ ready.
+    let needs = subst (λ (i : Insn). IsReady c.args.shapes.now c.args.context c.args.view.now i) c.in-Branch.is ready in
+    elim needs.1 [
+      | inl numbers ↦ c.branch-alloc.ensures.accepts needs.0 numbers.0 numbers.1
+      | inr check ↦ c.branch-alloc.ensures.checks check.1 needs.0 check.0 check.2
+    ]

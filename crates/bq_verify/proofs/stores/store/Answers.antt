@@ -3,7 +3,7 @@ use mir.Syntax.{w16}
 use mir.Val.{SFits, to_z, of_z}
 use Rattle.std.proofs.lemmas.Int.{ints}
 use Rattle.bq_verify.specs.Views.{FindsPlace}
-use Rattle.bq_verify.specs.declared.view.Kind.TheVariants.{Stack}
+use Rattle.bq_verify.specs.declared.view.Kind.TheVariants.{Entry, Stack}
 use Rattle.bq_verify.specs.Standing.{IsPlaced}
 use Rattle.bq_verify.proofs.PlaceLemmas.{stack_inside}
 use Rattle.bq_verify.proofs.WriteLemmas.{stores_on_stack, stores_in_entry}
@@ -66,4 +66,33 @@ returns-in_default c = record {
       let at_off = subst (λ (off : ℤ). IsPlaced c.args.shapes.now c.args.context c.args.view.now c.args.size c.args.dst off Stack place) (sym same) placed in
       let there = c.in_ok-found.ensures.there Stack place at_off in
       absurd (c.in_default.not-Stack there.0);
+  entry = λ number map place placed.
+      let fits : SFits w16 c.args.off = search rules in
+      let same : to_z w16 (of_z w16 c.args.off) ≡ c.args.off = omega (arith, ints) in
+      let at_off = subst (λ (off : ℤ). IsPlaced c.args.shapes.now c.args.context c.args.view.now c.args.size c.args.dst off (Entry map) place) (sym same) placed in
+      let there = c.in_ok-found.ensures.there (Entry map) place at_off in
+      absurd (c.in_default.not-Entry map there.0);
 }
+
+pub returns-in_err-found-clause-entry : goal.returns-in_err-found-clause-entry
+returns-in_err-found-clause-entry c = λ number map place placed.
+    let fits : SFits w16 c.args.off = search rules in
+    let same : to_z w16 (of_z w16 c.args.off) ≡ c.args.off = omega (arith, ints) in
+    let at_off = subst (λ (off : ℤ). IsPlaced c.args.shapes.now c.args.context c.args.view.now c.args.size c.args.dst off (Entry map) place) (sym same) placed in
+    absurd (let ok : false ≡ true = c.in_err-found.ensures.accepts (Entry map) place at_off in let no : ⊥ = cc in no)
+
+pub returns-in_err-store_on_stack-in-Stack-clause-entry : goal.returns-in_err-store_on_stack-in-Stack-clause-entry
+returns-in_err-store_on_stack-in-Stack-clause-entry c = λ number map place placed.
+    let fits : SFits w16 c.args.off = search rules in
+    let same : to_z w16 (of_z w16 c.args.off) ≡ c.args.off = omega (arith, ints) in
+    let at_off = subst (λ (off : ℤ). IsPlaced c.args.shapes.now c.args.context c.args.view.now c.args.size c.args.dst off (Entry map) place) (sym same) placed in
+    let there = c.in_ok-found.ensures.there (Entry map) place at_off in
+    absurd (let kind : c.in_ok-found.found.kind ≡ Entry map = there.0 in let no : ⊥ = cc in no)
+
+pub returns-in_ok-store_on_stack-in-Stack-clause-entry : goal.returns-in_ok-store_on_stack-in-Stack-clause-entry
+returns-in_ok-store_on_stack-in-Stack-clause-entry c = λ number map place placed.
+    let fits : SFits w16 c.args.off = search rules in
+    let same : to_z w16 (of_z w16 c.args.off) ≡ c.args.off = omega (arith, ints) in
+    let at_off = subst (λ (off : ℤ). IsPlaced c.args.shapes.now c.args.context c.args.view.now c.args.size c.args.dst off (Entry map) place) (sym same) placed in
+    let there = c.in_ok-found.ensures.there (Entry map) place at_off in
+    absurd (let kind : c.in_ok-found.found.kind ≡ Entry map = there.0 in let no : ⊥ = cc in no)

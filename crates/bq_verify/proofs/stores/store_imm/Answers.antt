@@ -4,7 +4,7 @@ use mir.Val.{SFits, to_z, of_z}
 use Rattle.std.proofs.lemmas.Int.{ints}
 use Rattle.bq_insn.specs.Meaning.{word_of}
 use Rattle.bq_verify.specs.declared.view.Known.{Known}
-use Rattle.bq_verify.specs.declared.view.Kind.TheVariants.{Number, Stack}
+use Rattle.bq_verify.specs.declared.view.Kind.TheVariants.{Entry, Number, Stack}
 use Rattle.bq_verify.specs.Standing.{IsPlaced}
 use Rattle.bq_verify.specs.Views.{Stores}
 use Rattle.bq_verify.proofs.WordLemmas.{number_is}
@@ -33,3 +33,17 @@ returns-clause-accepts c = λ place placed.
     let same : to_z w16 (of_z w16 c.args.off) ≡ c.args.off = omega (arith, ints) in
     let at_off = subst (λ (off : ℤ). IsPlaced c.args.shapes.now c.args.context c.args.view.now c.args.size c.args.dst off Stack place) (sym same) placed in
     (refl, (c.in_ok-store.ensures.accepts refl place at_off).1)
+
+pub returns-in_err-store-clause-entry : goal.returns-in_err-store-clause-entry
+returns-in_err-store-clause-entry c = λ map place placed.
+    let fits : SFits w16 c.args.off = search rules in
+    let same : to_z w16 (of_z w16 c.args.off) ≡ c.args.off = omega (arith, ints) in
+    let at_off = subst (λ (off : ℤ). IsPlaced c.args.shapes.now c.args.context c.args.view.now c.args.size c.args.dst off (Entry map) place) (sym same) placed in
+    absurd (let ok : false ≡ true = (c.in_err-store.ensures.entry refl map place at_off).0 in let no : ⊥ = cc in no)
+
+pub returns-clause-entry : goal.returns-clause-entry
+returns-clause-entry c = λ map place placed.
+    let fits : SFits w16 c.args.off = search rules in
+    let same : to_z w16 (of_z w16 c.args.off) ≡ c.args.off = omega (arith, ints) in
+    let at_off = subst (λ (off : ℤ). IsPlaced c.args.shapes.now c.args.context c.args.view.now c.args.size c.args.dst off (Entry map) place) (sym same) placed in
+    (refl, (c.in_ok-store.ensures.entry refl map place at_off).1)

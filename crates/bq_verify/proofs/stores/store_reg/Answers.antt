@@ -2,7 +2,7 @@ use Rattle.std.proofs.Common.{◌≡◌, ℤ, Option, false, true, refl, sym, su
 use mir.Syntax.{w16}
 use mir.Val.{SFits, to_z, of_z}
 use Rattle.std.proofs.lemmas.Int.{ints}
-use Rattle.bq_verify.specs.declared.view.Kind.TheVariants.{Number, Stack}
+use Rattle.bq_verify.specs.declared.view.Kind.TheVariants.{Entry, Number, Stack}
 use Rattle.bq_verify.specs.declared.view.Known.{Known}
 use Rattle.bq_verify.specs.Standing.{IsPlaced, Scalar, Stands}
 use Rattle.bq_verify.specs.Views.{Stores}
@@ -33,3 +33,19 @@ returns-clause-accepts c = λ scalar place placed.
     let at_off = subst (λ (off : ℤ). IsPlaced c.args.shapes.now c.args.context c.args.view.now c.args.size c.args.dst off Stack place) (sym same) placed in
     let number : c.in-Some.word.kind ≡ Number = subst (λ (v : Option Known). Stands Scalar v) (sym c.in-Some.ensures) scalar in
     (refl, (c.in_ok-store.ensures.accepts number place at_off).1)
+
+pub returns-in_err-store-clause-entry : goal.returns-in_err-store-clause-entry
+returns-in_err-store-clause-entry c = λ scalar map place placed.
+    let fits : SFits w16 c.args.off = search rules in
+    let same : to_z w16 (of_z w16 c.args.off) ≡ c.args.off = omega (arith, ints) in
+    let at_off = subst (λ (off : ℤ). IsPlaced c.args.shapes.now c.args.context c.args.view.now c.args.size c.args.dst off (Entry map) place) (sym same) placed in
+    let number : c.in-Some.word.kind ≡ Number = subst (λ (v : Option Known). Stands Scalar v) (sym c.in-Some.ensures) scalar in
+    absurd (let ok : false ≡ true = (c.in_err-store.ensures.entry number map place at_off).0 in let no : ⊥ = cc in no)
+
+pub returns-clause-entry : goal.returns-clause-entry
+returns-clause-entry c = λ scalar map place placed.
+    let fits : SFits w16 c.args.off = search rules in
+    let same : to_z w16 (of_z w16 c.args.off) ≡ c.args.off = omega (arith, ints) in
+    let at_off = subst (λ (off : ℤ). IsPlaced c.args.shapes.now c.args.context c.args.view.now c.args.size c.args.dst off (Entry map) place) (sym same) placed in
+    let number : c.in-Some.word.kind ≡ Number = subst (λ (v : Option Known). Stands Scalar v) (sym c.in-Some.ensures) scalar in
+    (refl, (c.in_ok-store.ensures.entry number map place at_off).1)
