@@ -1,8 +1,13 @@
 //! What the program does for a job.
 ghost use Rattle.std.specs.Prelude.{◌≡◌, ℕ, IfOk, IfErr, OnErr};
+ghost use Rattle.std.specs.String.{string_bytes};
+ghost use Rattle.std.specs.Io.KnownBytes.{Appends};
 ghost use Rattle.bq_trace.specs.Counts.{inner_of, calls_of, failures_of};
-ghost use Rattle.bq_trace.specs.Replaying.{Replays, ReplaysInPart};
+ghost use Rattle.bq_trace.specs.Writing.{AppendsPart};
 ghost use Rattle.bq_trace.specs.Faults.{IsFault};
+ghost use Rattle.bq_program.specs.Asm.{AsmWrites};
+ghost use Rattle.bq_program.specs.Dis.{DisWrites};
+ghost use Rattle.bq_cli.specs.Performing.{AnswersAll, BreaksOff, Performs, PerformsInPart};
 
 use crate::asked::Job;
 use crate::whole::read_whole;
@@ -18,31 +23,61 @@ pub fn perform<R: Read, W: Write>(
     input: &mut Counted<R>,
     output: &mut Counted<W>,
 ) -> Result<bool, ReplayFault>
-    ensures ok { IfOk result (λ clean. job.now ≡ Job.Replay → Replays (R.remaining (inner_of input.old)) (R.remaining (inner_of input.new))
-        (W.contents (inner_of output.old)) (W.contents (inner_of output.new)) clean) }
-    ensures part { OnErr result (job.now ≡ Job.Replay → ReplaysInPart (R.remaining (inner_of input.old)) (R.remaining (inner_of input.new))
+    ensures ok { IfOk result (Performs job.now (R.remaining (inner_of input.old)) (R.remaining (inner_of input.new))
+        (W.contents (inner_of output.old)) (W.contents (inner_of output.new))) }
+    ensures part { OnErr result (PerformsInPart job.now (R.remaining (inner_of input.old)) (R.remaining (inner_of input.new))
         (W.contents (inner_of output.old)) (W.contents (inner_of output.new))) }
     ensures fault { IfErr result (λ e. IsFault e (failures_of input.old) (failures_of input.new)
         (failures_of output.old) (failures_of output.new) (calls_of input.old) (calls_of input.new)) }
 {
     match job {
-        Job::Asm => {
-            let text = read_whole(alloc, input)?;
-            let answer = assembled(alloc, text.as_slice())?;
-            write_answer(&answer, output)
-        }
-        Job::Dis => {
-            let text = read_whole(alloc, input)?;
-            let answer = disassembled(alloc, text.as_slice())?;
-            write_answer(&answer, output)
-        }
+        Job::Asm => perform_asm(alloc, input, output),
+        Job::Dis => perform_dis(alloc, input, output),
         Job::Replay => replay(alloc, input, output),
     }
 }
 
+/// Reads an assembler text and writes what answers it.
+fn perform_asm<R: Read, W: Write>(
+    alloc: Global,
+    input: &mut Counted<R>,
+    output: &mut Counted<W>,
+) -> Result<bool, ReplayFault>
+    ensures ok { IfOk result (AnswersAll AsmWrites (R.remaining (inner_of input.old)) (R.remaining (inner_of input.new))
+        (W.contents (inner_of output.old)) (W.contents (inner_of output.new))) }
+    ensures part { OnErr result (BreaksOff AsmWrites (R.remaining (inner_of input.old)) (R.remaining (inner_of input.new))
+        (W.contents (inner_of output.old)) (W.contents (inner_of output.new))) }
+    ensures fault { IfErr result (λ e. IsFault e (failures_of input.old) (failures_of input.new)
+        (failures_of output.old) (failures_of output.new) (calls_of input.old) (calls_of input.new)) }
+{
+    let text = read_whole(alloc, input)?;
+    let answer = assembled(alloc, text.as_slice())?;
+    write_answer(&answer, output)
+}
+
+/// Reads the hex of a program and writes what answers it.
+fn perform_dis<R: Read, W: Write>(
+    alloc: Global,
+    input: &mut Counted<R>,
+    output: &mut Counted<W>,
+) -> Result<bool, ReplayFault>
+    ensures ok { IfOk result (AnswersAll DisWrites (R.remaining (inner_of input.old)) (R.remaining (inner_of input.new))
+        (W.contents (inner_of output.old)) (W.contents (inner_of output.new))) }
+    ensures part { OnErr result (BreaksOff DisWrites (R.remaining (inner_of input.old)) (R.remaining (inner_of input.new))
+        (W.contents (inner_of output.old)) (W.contents (inner_of output.new))) }
+    ensures fault { IfErr result (λ e. IsFault e (failures_of input.old) (failures_of input.new)
+        (failures_of output.old) (failures_of output.new) (calls_of input.old) (calls_of input.new)) }
+{
+    let hex = read_whole(alloc, input)?;
+    let answer = disassembled(alloc, hex.as_slice())?;
+    write_answer(&answer, output)
+}
+
 /// Writes what a command answers. True where it accepted its input.
 fn write_answer<W: Write>(answer: &Answer, output: &mut Counted<W>) -> Result<bool, ReplayFault>
-    ensures ok { IfOk result (λ accepted. accepted ≡ answer.now.accepted) }
+    ensures ok { IfOk result (λ accepted. (accepted ≡ answer.now.accepted)
+        × Appends (W.contents (inner_of output.old)) (W.contents (inner_of output.new)) (string_bytes answer.now.text)) }
+    ensures part { OnErr result (AppendsPart (W.contents (inner_of output.old)) (W.contents (inner_of output.new)) (string_bytes answer.now.text)) }
     ensures fault { IfErr result (λ e. (reads read calls after : ℕ) → IsFault e reads read (failures_of output.old) (failures_of output.new) calls after) }
 {
     output.write_text(answer.text.as_bytes())?;

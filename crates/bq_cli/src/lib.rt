@@ -1,5 +1,6 @@
 //! The program's commands: the words that ask for one, what it does, and the exit status of what came of it.
-//! Promises that words ask for what clap finds in them, and that a replay keeps the promise of bq_trace.
+//! Promises that words ask for what clap finds in them, that `asm` and `dis` write exactly what bq_program answers for
+//! the whole of their input, and that a replay keeps the promise of bq_trace.
 #![tactic(auto)]
 
 pub mod asked;

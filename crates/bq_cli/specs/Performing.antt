@@ -1,0 +1,50 @@
+-- What a command reads and writes.
+use Rattle.std.specs.Prelude.{ℕ, Bool, List, Option, ◌⊎◌}
+use Rattle.std.specs.Io.KnownBytes.{Appends, Consumes, IsAtEnd, Keeps}
+use Rattle.bq_trace.specs.Writing.{AppendsPart}
+use Rattle.bq_trace.specs.Replaying.{Replays, ReplaysInPart}
+use Rattle.bq_program.specs.Asm.{AsmWrites}
+use Rattle.bq_program.specs.Dis.{DisWrites}
+use Rattle.bq_cli.specs.declared.asked.Job.{Job}
+use Rattle.bq_cli.specs.declared.asked.Job.TheVariants.{Asm, Dis, Replay}
+
+-- The reader gave these bytes and has no more.
+abbrev pub GivesAll : Option (List ℕ) → Option (List ℕ) → List ℕ → Type 0
+GivesAll from to bytes = Consumes from to bytes × IsAtEnd to
+
+-- The reader gave some bytes.
+abbrev pub GivesSome : Option (List ℕ) → Option (List ℕ) → Type 0
+GivesSome from to = (bytes : List ℕ) × Consumes from to bytes
+
+-- The reader gave these bytes and has no more, and the writer got their answer.
+pub record AnswersAll (Writes : List ℕ → Bool → List ℕ → Type 0) (from to old new : Option (List ℕ)) (accepted : Bool) : Type 0 where
+  pub input : List ℕ
+  pub output : List ℕ
+  pub gave : GivesAll from to input
+  pub added : Appends old new output
+  pub answers : Writes input accepted output
+
+-- The reader gave these bytes and has no more, and the writer got a beginning of their answer.
+pub record AnswersPart (Writes : List ℕ → Bool → List ℕ → Type 0) (from to old new : Option (List ℕ)) : Type 0 where
+  pub input : List ℕ
+  pub output : List ℕ
+  pub accepted : Bool
+  pub gave : GivesAll from to input
+  pub added : AppendsPart old new output
+  pub answers : Writes input accepted output
+
+-- The writer got nothing so far, or a beginning of the answer to all that the reader had.
+abbrev pub BreaksOff : (List ℕ → Bool → List ℕ → Type 0) → Option (List ℕ) → Option (List ℕ) → Option (List ℕ) → Option (List ℕ) → Type 0
+BreaksOff Writes from to old new = (GivesSome from to × Keeps old new) ⊎ AnswersPart Writes from to old new
+
+-- What was read and written where a command has ended, with whether its input was accepted, or no line of it bad.
+abbrev pub Performs : Job → Option (List ℕ) → Option (List ℕ) → Option (List ℕ) → Option (List ℕ) → Bool → Type 0
+Performs Asm from to old new accepted = AnswersAll AsmWrites from to old new accepted
+Performs Dis from to old new accepted = AnswersAll DisWrites from to old new accepted
+Performs Replay from to old new clean = Replays from to old new clean
+
+-- What was read and written where it ended by a fault.
+abbrev pub PerformsInPart : Job → Option (List ℕ) → Option (List ℕ) → Option (List ℕ) → Option (List ℕ) → Type 0
+PerformsInPart Asm from to old new = BreaksOff AsmWrites from to old new
+PerformsInPart Dis from to old new = BreaksOff DisWrites from to old new
+PerformsInPart Replay from to old new = ReplaysInPart from to old new
