@@ -80,6 +80,17 @@ fn judge(
     insns: &[Insn],
     shapes: &[MapShape],
 ) -> Result<Result<u32, Refused>, AllocError> {
+    judge_for(alloc, insns, shapes, Hook::Preempt, Version::First)
+}
+
+/// The budget of an accepted program.
+fn judge_for(
+    alloc: Global,
+    insns: &[Insn],
+    shapes: &[MapShape],
+    hook: Hook,
+    version: Version,
+) -> Result<Result<u32, Refused>, AllocError> {
     let insns = insns.to_vec(alloc)?;
     let shapes = shapes.to_vec(alloc)?;
     if !well_formed(insns.as_slice()) || shapes.len() > 8 {
@@ -88,8 +99,8 @@ fn judge(
     let program = Program {
         insns,
         shapes,
-        hook: Hook::Preempt,
-        version: Version::First,
+        hook,
+        version,
     };
     match verify(alloc, program) {
         Ok(verified) => Ok(Ok(verified.budget())),
@@ -207,16 +218,23 @@ fn refusals(rt: HostRuntime) -> Result<(), Fail> {
         &[],
         at(0, Cause::Frame),
     )?;
+    expect(
+        &rt,
+        rt.alloc(),
+        &[mov(0, 1), alu(Operation::Lsh, 0, Source::Imm(64)), exit],
+        &[],
+        Ok(3),
+    )?;
     Ok(())
 }
 
 /// A load of the context at a number of it, where a branch says what the number may be.
-fn bounded(cond: Condition, bound: i32) -> [Insn; 7] {
+fn bounded(cond: Condition, bound: i32, size: Size) -> [Insn; 7] {
     [
         load(Size::Word, 2, 1, 0),
         branch(cond, 2, bound, 3),
         alu(Operation::Add, 1, Source::Reg(2)),
-        load(Size::Byte, 0, 1, 0),
+        load(size, 0, 1, 0),
         Insn::Exit,
         mov(0, 0),
         Insn::Exit,
@@ -228,21 +246,21 @@ fn context(rt: HostRuntime) -> Result<(), Fail> {
     expect(
         &rt,
         rt.alloc(),
-        &bounded(Condition::Greater, 55),
+        &bounded(Condition::Greater, 55, Size::Byte),
         &[],
         Ok(5),
     )?;
     expect(
         &rt,
         rt.alloc(),
-        &bounded(Condition::Greater, 56),
+        &bounded(Condition::Greater, 56, Size::Byte),
         &[],
         at(3, Cause::Access),
     )?;
     expect(
         &rt,
         rt.alloc(),
-        &bounded(Condition::LessEqual, 55),
+        &bounded(Condition::LessEqual, 55, Size::Byte),
         &[],
         at(3, Cause::Access),
     )?;
@@ -258,6 +276,119 @@ fn look_up() -> [Insn; 5] {
         add(2, -4),
         call(1),
     ]
+}
+
+/// A load of an entry at a number of the context, which one operation makes small.
+fn narrowed(op: Operation, imm: i32, size: Size) -> [Insn; 13] {
+    let [a, b, c, d, e] = look_up();
+    [
+        load(Size::Word, 6, 1, 4),
+        a,
+        b,
+        c,
+        d,
+        e,
+        branch(Condition::NotEqual, 0, 0, 2),
+        mov(0, 0),
+        Insn::Exit,
+        alu(op, 6, Source::Imm(imm)),
+        alu(Operation::Add, 0, Source::Reg(6)),
+        load(size, 0, 0, 0),
+        Insn::Exit,
+    ]
+}
+
+const SIZES: [Size; 4] = [Size::Byte, Size::Half, Size::Word, Size::Double];
+
+/// A load of 56 bytes of context at up to each bound is accepted exactly where it stays inside.
+#[test]
+fn sweep_of_bounds(rt: HostRuntime) -> Result<(), Fail> {
+    let none: [MapShape; 0] = [];
+    for bound in 0..256 {
+        for size in SIZES {
+            let answer = if bound + size.bytes() <= 56 {
+                Ok(5)
+            } else {
+                at(3, Cause::Access)
+            };
+            let program = bounded(Condition::Greater, bound as i32, size);
+            assert_eq!(rt; judge(rt.alloc(), &program, &none)?, answer);
+        }
+    }
+    Ok(())
+}
+
+/// A load of an entry of 16 bytes at up to each mask is accepted exactly where it stays inside.
+#[test]
+fn sweep_of_masks(rt: HostRuntime) -> Result<(), Fail> {
+    let wide = [MapShape::new(16, 1).ok_or("no shape")?];
+    for mask in 0..16 {
+        for size in SIZES {
+            let answer = if mask + size.bytes() <= 16 {
+                Ok(11)
+            } else {
+                at(12, Cause::Access)
+            };
+            let program = narrowed(Operation::And, mask as i32, size);
+            assert_eq!(rt; judge(rt.alloc(), &program, &wide)?, answer);
+        }
+    }
+    Ok(())
+}
+
+/// 32 bits shifted right leave a number of at most 7 exactly from 29 on.
+#[test]
+fn sweep_of_shifts(rt: HostRuntime) -> Result<(), Fail> {
+    let wide = [MapShape::new(16, 1).ok_or("no shape")?];
+    for shift in 0..64 {
+        let answer = if shift >= 29 {
+            Ok(11)
+        } else {
+            at(12, Cause::Access)
+        };
+        let program = narrowed(Operation::Rsh, shift, Size::Double);
+        assert_eq!(rt; judge(rt.alloc(), &program, &wide)?, answer);
+    }
+    Ok(())
+}
+
+/// The last bytes of the context of the hook place, in each version.
+#[test]
+fn versions(rt: HostRuntime) -> Result<(), Fail> {
+    let none: [MapShape; 0] = [];
+    for (off, version, answer) in [
+        (100, Version::First, Ok(2)),
+        (104, Version::First, at(0, Cause::Access)),
+        (104, Version::Second, Ok(2)),
+        (292, Version::Second, Ok(2)),
+        (293, Version::Second, at(0, Cause::Access)),
+    ] {
+        let program = [load(Size::Word, 0, 1, off), Insn::Exit];
+        assert_eq!(rt;
+            judge_for(rt.alloc(), &program, &none, Hook::Place, version)?,
+            answer
+        );
+    }
+    Ok(())
+}
+
+/// Programs of 4,096 slots: straight, and with a branch at every second slot.
+#[test]
+fn longest(rt: HostRuntime) -> Result<(), Fail> {
+    let mut straight = Vec::new(rt.alloc());
+    for _ in 0..4095 {
+        straight.push(mov(0, 0))?;
+    }
+    straight.push(Insn::Exit)?;
+    expect(&rt, rt.alloc(), straight.as_slice(), &[], Ok(4096))?;
+    let mut pairs = Vec::new(rt.alloc());
+    pairs.push(mov(0, 0))?;
+    for _ in 0..2047 {
+        pairs.push(branch(Condition::Equal, 0, 0, 1))?;
+        pairs.push(add(0, 1))?;
+    }
+    pairs.push(Insn::Exit)?;
+    expect(&rt, rt.alloc(), pairs.as_slice(), &[], Ok(4096))
 }
 
 #[test]
@@ -289,23 +420,26 @@ fn maps(rt: HostRuntime) -> Result<(), Fail> {
     ];
     assert_eq!(rt; judge(rt.alloc(), &past, &two)?, at(9, Cause::Access));
     for (mask, answer) in [(8, Ok(11)), (15, at(12, Cause::Access))] {
-        let masked = [
-            load(Size::Word, 6, 1, 4),
-            a,
-            b,
-            c,
-            d,
-            e,
-            branch(Condition::NotEqual, 0, 0, 2),
-            mov(0, 0),
-            exit,
-            alu(Operation::And, 6, Source::Imm(mask)),
-            alu(Operation::Add, 0, Source::Reg(6)),
-            load(Size::Double, 0, 0, 0),
-            exit,
-        ];
+        let masked = narrowed(Operation::And, mask, Size::Double);
         assert_eq!(rt; judge(rt.alloc(), &masked, &wide)?, answer);
     }
+    let counted = [
+        a,
+        b,
+        c,
+        d,
+        e,
+        branch(Condition::NotEqual, 0, 0, 2),
+        mov(0, 2),
+        exit,
+        load(Size::Double, 3, 0, 0),
+        copy(4, 3),
+        add(4, 1),
+        store(Size::Double, 0, 0, 4),
+        copy(0, 3),
+        exit,
+    ];
+    assert_eq!(rt; judge(rt.alloc(), &counted, &one)?, Ok(12));
     Ok(())
 }
 
@@ -348,30 +482,32 @@ fn joins(rt: HostRuntime) -> Result<(), Fail> {
     Ok(())
 }
 
-/// mov64 r0, 0, then so many calls of three instructions each, and exit.
-fn calling(alloc: Global, calls: u32) -> Result<Vec<Insn>, AllocError> {
+/// So many adds of 5 to a counter, and the answer 0.
+fn calling(alloc: Global, counter: i32, calls: u32) -> Result<Vec<Insn>, AllocError> {
     let mut insns = Vec::new(alloc);
-    insns.push(mov(0, 0))?;
     for _ in 0..calls {
-        insns.push(mov(1, 5))?;
-        insns.push(mov(2, 1))?;
+        insns.push(mov(1, counter))?;
+        insns.push(mov(2, 5))?;
         insns.push(call(100))?;
     }
+    insns.push(mov(0, 0))?;
     insns.push(Insn::Exit)?;
     Ok(insns)
 }
 
+/// Calls of counters: one, one of a counter that is not there, and the most and one more on a path.
 #[test]
 fn counters(rt: HostRuntime) -> Result<(), Fail> {
-    let sixteen = calling(rt.alloc(), 16)?;
-    expect(&rt, rt.alloc(), sixteen.as_slice(), &[], Ok(50))?;
-    let seventeen = calling(rt.alloc(), 17)?;
-    expect(
-        &rt,
-        rt.alloc(),
-        seventeen.as_slice(),
-        &[],
-        at(51, Cause::Counters),
-    )?;
+    let none: [MapShape; 0] = [];
+    for (counter, calls, answer) in [
+        (3, 1, Ok(5)),
+        (63, 1, Ok(5)),
+        (64, 1, at(2, Cause::Argument)),
+        (3, 16, Ok(50)),
+        (3, 17, at(50, Cause::Counters)),
+    ] {
+        let program = calling(rt.alloc(), counter, calls)?;
+        expect(&rt, rt.alloc(), program.as_slice(), &none, answer)?;
+    }
     Ok(())
 }
