@@ -5,6 +5,7 @@ use crate::pass::judge;
 use crate::refused::Refused;
 use bq_insn::Insn;
 use bq_maps::shape::MapShape;
+use bq_packed::{Packed, pack_all};
 use std::alloc::Global;
 use std::marker::Model;
 
@@ -12,6 +13,7 @@ use std::marker::Model;
 #[derive(Drop)]
 pub struct Verified {
     slots: Vec<Option<Insn>>,
+    code: Vec<Packed>,
     shapes: Vec<MapShape>,
     hook: Hook,
     version: Version,
@@ -19,17 +21,19 @@ pub struct Verified {
 }
 
 impl Model for Verified {
+    ghost use Rattle.bq_packed.specs.Packing.{Stands};
     ghost use Rattle.bq_verify.specs.Accepted.{Accepted, IsAccepted, context_length_of};
 
     ghost Value = { Accepted };
 
     ghost view = { λ v. record { slots = v.slots.items; shapes = v.shapes.items; hook = v.hook; version = v.version; budget = v.budget } };
 
-    ghost invariant = { λ v. IsAccepted v.slots.items v.shapes.items (context_length_of v.hook v.version) v.budget };
+    ghost invariant = { λ v. Stands v.code.items v.slots.items × IsAccepted v.slots.items v.shapes.items (context_length_of v.hook v.version) v.budget };
 }
 
 impl Verified {
     ghost use Rattle.std.specs.Prelude.{◌≡◌, ◌≤◌, ◌<◌, ◌^◌, ℕ, IfErr, IfOk, length, slice_index};
+    ghost use Rattle.bq_packed.specs.Packing.{Stands};
     ghost use Rattle.bq_verify.specs.Accepted.{IsAccepted, context_length_of};
     ghost use Rattle.bq_verify.specs.Control.{AreHeights, AreMade};
     ghost use Rattle.bq_graph.specs.Passes.{IsSound};
@@ -45,6 +49,13 @@ impl Verified {
         ensures accepted { IsAccepted self.now.slots self.now.shapes (context_length_of self.now.hook self.now.version) self.now.budget }
     {
         &self.slots
+    }
+
+    /// The same instructions in their flat form.
+    pub fn code(&self) -> &[Packed]
+        ensures { Stands result.now self.now.slots }
+    {
+        &self.code
     }
 
     /// The instruction that begins at a slot, if one does.
@@ -112,9 +123,11 @@ impl Verified {
     {
         let context = context_length(hook, version);
         judge(alloc, slots.as_slice(), shapes.as_slice(), context, heights)?;
+        let code = pack_all(alloc, slots.as_slice())?;
         let budget = heights[0];
         Ok(Verified {
             slots,
+            code,
             shapes,
             hook,
             version,
