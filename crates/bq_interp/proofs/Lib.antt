@@ -4,3 +4,5 @@ pub mod MemoryLemmas
 pub mod AccessLemmas
 pub mod HelpLemmas
 pub mod RunLemmas
+pub mod PackedLemmas
+pub mod OneRunLemmas

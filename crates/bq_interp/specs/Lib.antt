@@ -1,3 +1,4 @@
 pub mod Agrees
 pub mod Steps
 pub mod Chains
+pub mod Laws
