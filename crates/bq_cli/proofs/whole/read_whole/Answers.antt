@@ -1,6 +1,6 @@
 use Rattle.std.proofs.Common.{◌≡◌, [], subst, refl, rules, arith, take, append-nil, sym}
 use Rattle.std.specs.Io.KnownBytes.{Consumes, IsAtEnd}
-use Rattle.std.proofs.KnownBytes.{Consumes-trans, Consumes-kept}
+use Rattle.std.proofs.KnownBytes.{Consumes-trans}
 use Rattle.bq_trace.specs.Counts.{inner_of}
 use Rattle.bq_trace.proofs.SessionLemmas.{on_err}
 use Rattle.bq_cli.specs.Performing.{GivesSome}
