@@ -58,12 +58,14 @@ impl Entity {
         }
     }
 
+    /// The number by which it is known.
     pub fn id(&self) -> u16
         ensures { result ≡ self.now.id }
     {
         self.id
     }
 
+    /// Its weight, from 15 to 88,761: its share of a processor beside the others'.
     pub fn weight(&self) -> u32
         ensures value { result ≡ self.now.weight }
         ensures range { IsWeight result }
@@ -71,12 +73,14 @@ impl Entity {
         self.weight
     }
 
+    /// The processors that it may use, by bits.
     pub fn mask(&self) -> u64
         ensures { result ≡ self.now.mask }
     {
         self.mask
     }
 
+    /// The time that it asks for at once, from 100,000 to 100,000,000 nanoseconds.
     pub fn slice(&self) -> u64
         ensures value { result ≡ self.now.slice }
         ensures low { 100000 ≤ result }
@@ -85,6 +89,7 @@ impl Entity {
         self.slice
     }
 
+    /// Its virtual runtime in virtual nanoseconds, at most 2^62.
     pub fn v(&self) -> u64
         ensures value { result ≡ self.now.v }
         ensures high { result ≤ 2 ^ 62 }
@@ -92,6 +97,7 @@ impl Entity {
         self.v
     }
 
+    /// Its virtual deadline in virtual nanoseconds, at most 2^62; 0 under CFS.
     pub fn deadline(&self) -> u64
         ensures value { result ≡ self.now.deadline }
         ensures high { result ≤ 2 ^ 62 }
@@ -99,12 +105,14 @@ impl Entity {
         self.deadline
     }
 
+    /// How far its v was above the mark when it last left; below 0 where it was behind.
     pub fn rel(&self) -> i64
         ensures { result ≡ self.now.rel }
     {
         self.rel
     }
 
+    /// The processor that it last left; None where it has left none.
     pub fn prev(&self) -> Option<u8>
         ensures { result ≡ self.now.prev }
     {
@@ -121,12 +129,14 @@ impl Entity {
         self.deadline = deadline;
     }
 
+    /// Gives it another distance from the mark.
     pub fn set_rel(&mut self, rel: i64)
         ensures { self.new ≡ record self.old { rel = rel } }
     {
         self.rel = rel;
     }
 
+    /// Writes down the processor that it leaves.
     pub fn set_prev(&mut self, prev: u8)
         ensures { self.new ≡ record self.old { prev = Some prev } }
     {

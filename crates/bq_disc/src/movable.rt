@@ -14,6 +14,7 @@ pub struct Movable {
 }
 
 impl Movable {
+    /// Nothing was looked at yet.
     pub fn new() -> Movable
         ensures count { result.count ≡ 0 }
         ensures first { result.first.items ≡ [] }

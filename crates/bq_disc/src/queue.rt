@@ -29,19 +29,23 @@ pub trait RunQueue {
     /// The mark that was computed last.
     ghost kept_mark: { Self → ℕ };
 
+    /// A queue without tasks, its mark at 2^32.
     fn empty() -> Self
         ensures members { members result ≡ [] }
         ensures mark { kept_mark result ≡ 2 ^ 32 };
 
+    /// How many tasks are there.
     fn len(&self) -> usize
         ensures { result ≡ length (members self.now) };
 
+    /// Puts a task in, as it is. Its id is not there.
     fn insert(&mut self, node: Box<Node>)
         requires lone { IsLone node.value }
         requires fresh { with_id (task_of node.value).id (members self.old) ≡ None }
         ensures members { members self.new ≡ place (task_of node.value) (members self.old) }
         ensures mark { kept_mark self.new ≡ kept_mark self.old };
 
+    /// Takes out the task of an id, if it is there.
     fn take(&mut self, id: u16) -> Option<Box<Node>>
         ensures taken { option_map (λ b. task_of b.value) result ≡ with_id id (members self.old) }
         ensures lone { IfSome result (λ b. IsLone b.value) }
@@ -49,6 +53,7 @@ pub trait RunQueue {
         ensures gone { with_id id (members self.new) ≡ None }
         ensures mark { kept_mark self.new ≡ kept_mark self.old };
 
+    /// The task of an id, if it is there.
     fn get(&self, id: u16) -> Option<&Node>
         ensures { option_map (λ n. task_of n.now) result ≡ with_id id (members self.now) };
 

@@ -18,9 +18,11 @@ pub trait Timeline {
     /// The tasks in their order.
     ghost tasks: { Self → List Task };
 
+    /// One without tasks.
     fn empty() -> Self
         ensures { tasks result ≡ [] };
 
+    /// How many tasks are there.
     fn len(&self) -> usize
         ensures { result ≡ length (tasks self.now) };
 

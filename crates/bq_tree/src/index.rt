@@ -112,6 +112,7 @@ impl Timeline for Tree {
     }
 }
 
+/// A table in which nothing is written yet.
 fn zeros<const N: usize>() -> [u64; N] {
     [0; N]
 }
