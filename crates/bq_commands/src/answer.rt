@@ -2,13 +2,13 @@
 ghost use Rattle.std.specs.Prelude.{◌≡◌, ◌<◌, ◌^◌};
 ghost use Rattle.bq_disc.specs.Chains.{task_of, IsLone};
 
-use crate::Command;
+use crate::command::Command;
 use bq_disc::{Entity, Entry, Node, RunQueue};
 use std::alloc::{AllocError, Global};
 
 /// What tells one task from another, and where it stands.
 #[derive(Clone, Copy, Debug, PartialEq, Eq)]
-pub struct Figures {
+pub(crate) struct Figures {
     pub id: u16,
     pub v: u64,
     pub deadline: u64,
@@ -17,7 +17,7 @@ pub struct Figures {
 
 /// A queue's answer to a command.
 #[derive(Clone, Copy, Debug, PartialEq, Eq)]
-pub enum Answer {
+pub(crate) enum Answer {
     /// The task that was moved, charged or found.
     Task(Option<Figures>),
     /// The choice over queue and current, that of the queue alone, whom the current gives way to, and whether it wants to.
@@ -80,7 +80,11 @@ fn node_of(entity: &Entity) -> Node
 }
 
 /// Puts a task into a queue, unless its id is there. It answers whether it was not.
-pub fn put<Q: RunQueue>(alloc: Global, queue: &mut Q, entity: Entity) -> Result<bool, AllocError> {
+pub(crate) fn put<Q: RunQueue>(
+    alloc: Global,
+    queue: &mut Q,
+    entity: Entity,
+) -> Result<bool, AllocError> {
     if queue.get(entity.id()).is_some() {
         return Ok(false);
     }
@@ -196,7 +200,7 @@ fn enter<Q: RunQueue>(
 }
 
 /// What a queue answers a command, which may change it and the current task.
-pub fn perform<Q: RunQueue>(
+pub(crate) fn perform<Q: RunQueue>(
     alloc: Global,
     queue: &mut Q,
     current: &mut Option<Entity>,

@@ -4,7 +4,7 @@ ghost use Rattle.bq_weights.specs.VirtualTime.{IsWeight};
 
 /// What a queue is told, or asked. A task is named by its id.
 #[derive(Clone, Copy)]
-pub enum Command {
+pub(crate) enum Command {
     /// A task that is not there enters, woken or pulled, by how far it was from the mark when it left.
     Insert {
         id: u16,
@@ -44,12 +44,13 @@ pub enum Command {
 
 /// A list of commands without end, the same each time: D. H. Lehmer's method, by the constants of Knuth's MMIX.
 #[derive(Clone, Copy)]
-pub struct Draws {
+pub(crate) struct Draws {
     state: u64,
 }
 
 impl Draws {
-    pub fn new(seed: u64) -> Draws {
+    /// The list that a seed begins.
+    pub(crate) fn new(seed: u64) -> Draws {
         Draws { state: seed }
     }
 
@@ -91,7 +92,7 @@ impl Draws {
     }
 
     /// The next command.
-    pub fn command(&mut self) -> Command {
+    pub(crate) fn command(&mut self) -> Command {
         match self.below(16) {
             0 => Command::Take { id: self.id() },
             1 | 2 => Command::Choose,

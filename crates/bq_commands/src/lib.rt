@@ -1,12 +1,10 @@
-//! Commands to a run queue, drawn one after another, and what a queue answers: for the tests that show a queue beside
-//! another one.
+//! Run queues under drawn commands: the queue on the tree is given the same commands as the plain list, and must answer
+//! alike. All of it is for the tests; the library itself is empty.
 #![tactic(auto)]
 
-pub mod answer;
-pub mod command;
-
-pub use answer::{Answer, Figures, perform};
-pub use command::{Command, Draws};
-
+#[cfg(test)]
+mod answer;
+#[cfg(test)]
+mod command;
 #[cfg(test)]
 mod tests;

@@ -2,8 +2,8 @@
 
 ghost use Rattle.bq_weights.specs.VirtualTime.{IsWeight};
 
-use crate::Draws;
 use crate::answer::{perform, put};
+use crate::command::Draws;
 use bq_cfs::{Cfs, CfsQueue};
 use bq_disc::{Entity, Entry, List, Node, RunQueue};
 use bq_eevdf::{Eevdf, EevdfQueue};
