@@ -1,68 +1,44 @@
 //! The instruction that slots without a fault spell.
-ghost use Rattle.std.specs.Prelude.{◌≡◌};
+ghost use Rattle.std.specs.Prelude.{◌≡◌, None};
 ghost use Rattle.bq_insn.specs.Reading.{bits_of, variant, second_imm, move_of, alu_of, insn_of};
 
 use crate::form::Form;
 use crate::slot::Slot;
-use crate::{Bits, Insn, Operation, Source, Width};
+use crate::{Bits, Condition, Insn, Operation, Order, Size, Source, Width};
 
 /// The instruction of this form that the slots spell, where they have no fault.
 pub fn insn_of(form: Form, slot: Slot, next: Option<Slot>) -> Insn
     ensures { result ≡ insn_of form slot next }
 {
-    let Slot { dst, src, .. } = slot;
-    let off = slot.offset.cast_signed();
-    let imm = slot.imm.cast_signed();
     match form {
         Form::Alu {
             width,
             op,
             by_register,
         } => alu_of(width, op, by_register, slot),
-        Form::Neg { width } => Insn::Neg { width, dst },
-        Form::End { order } => Insn::End {
-            kind: order,
-            bits: bits_of(slot.imm),
-            dst,
+        Form::Neg { width } => Insn::Neg {
+            width,
+            dst: slot.dst,
         },
-        Form::Load { size, signed } => Insn::Load {
-            size,
-            signed,
-            dst,
-            src,
-            off,
-        },
-        Form::StoreImm { size } => Insn::StoreImm {
-            size,
-            dst,
-            off,
-            imm,
-        },
-        Form::StoreReg { size } => Insn::StoreReg {
-            size,
-            dst,
-            off,
-            src,
-        },
+        Form::End { order } => end_of(order, slot),
+        Form::Load { size, signed } => load_of(size, signed, slot),
+        Form::StoreImm { size } => store_imm_of(size, slot),
+        Form::StoreReg { size } => store_reg_of(size, slot),
         Form::Wide => wide_of(slot, next),
-        Form::Goto => Insn::Goto { off },
-        Form::Goto32 => Insn::Goto32 { imm },
+        Form::Goto => Insn::Goto {
+            off: slot.signed_offset(),
+        },
+        Form::Goto32 => Insn::Goto32 {
+            imm: slot.signed_imm(),
+        },
         Form::Branch {
             width,
             cond,
             by_register,
-        } => Insn::Branch {
-            width,
-            cond,
-            dst,
-            src: if by_register {
-                Source::Reg(src)
-            } else {
-                Source::Imm(imm)
-            },
-            off,
+        } => branch_of(width, cond, by_register, slot),
+        Form::Call => Insn::Call {
+            helper: slot.signed_imm(),
         },
-        Form::Call => Insn::Call { helper: imm },
         Form::Exit => Insn::Exit,
     }
 }
@@ -77,7 +53,7 @@ fn alu_of(width: Width, op: Operation, by_register: bool, slot: Slot) -> Insn
             width,
             op: variant(op, slot.offset),
             dst,
-            src: Source::Imm(slot.imm.cast_signed()),
+            src: Source::Imm(slot.signed_imm()),
         };
     }
     match op {
@@ -134,6 +110,71 @@ fn bits_of(number: u32) -> Bits
     }
 }
 
+/// A byte order, of the bits that its immediate names (RFC 9669, section 4.2).
+fn end_of(order: Order, slot: Slot) -> Insn
+    ensures { result ≡ insn_of (Form.End order) slot None }
+{
+    Insn::End {
+        kind: order,
+        bits: bits_of(slot.imm),
+        dst: slot.dst,
+    }
+}
+
+/// A load from where the source register and the offset say (RFC 9669, section 5).
+fn load_of(size: Size, signed: bool, slot: Slot) -> Insn
+    ensures { result ≡ insn_of (Form.Load size signed) slot None }
+{
+    Insn::Load {
+        size,
+        signed,
+        dst: slot.dst,
+        src: slot.src,
+        off: slot.signed_offset(),
+    }
+}
+
+/// A store of the immediate (RFC 9669, section 5.1).
+fn store_imm_of(size: Size, slot: Slot) -> Insn
+    ensures { result ≡ insn_of (Form.StoreImm size) slot None }
+{
+    Insn::StoreImm {
+        size,
+        dst: slot.dst,
+        off: slot.signed_offset(),
+        imm: slot.signed_imm(),
+    }
+}
+
+/// A store of the source register (RFC 9669, section 5.1).
+fn store_reg_of(size: Size, slot: Slot) -> Insn
+    ensures { result ≡ insn_of (Form.StoreReg size) slot None }
+{
+    Insn::StoreReg {
+        size,
+        dst: slot.dst,
+        off: slot.signed_offset(),
+        src: slot.src,
+    }
+}
+
+/// A branch that compares with the immediate or with the source register (RFC 9669, section 4.3).
+fn branch_of(width: Width, cond: Condition, by_register: bool, slot: Slot) -> Insn
+    ensures { result ≡ insn_of (Form.Branch width cond by_register) slot None }
+{
+    Insn::Branch {
+        width,
+        cond,
+        dst: slot.dst,
+        src: if by_register {
+            Source::Reg(slot.src)
+        } else {
+            Source::Imm(slot.signed_imm())
+        },
+        off: slot.signed_offset(),
+    }
+}
+
 /// A wide instruction, by the kind that its source field names (RFC 9669, section 5.4).
 fn wide_of(slot: Slot, next: Option<Slot>) -> Insn
     ensures { result ≡ insn_of Form.Wide slot next }
@@ -141,7 +182,7 @@ fn wide_of(slot: Slot, next: Option<Slot>) -> Insn
     if slot.src == 5 {
         return Insn::MapRef {
             dst: slot.dst,
-            index: slot.imm.cast_signed(),
+            index: slot.signed_imm(),
         };
     }
     Insn::Imm64 {

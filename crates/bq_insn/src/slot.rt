@@ -2,6 +2,7 @@
 ghost use Rattle.std.specs.Prelude.{◌≡◌, ◌≤◌, ◌<◌, ◌++◌, length, drop, OnOk, OnErr};
 ghost use Rattle.bq_insn.specs.Spelling.{slot_bytes};
 ghost use Rattle.bq_insn.specs.Faults.{IsSlot};
+ghost use Rattle.bq_insn.specs.Reading.{signed16, signed32};
 
 use byteorder::{ByteOrder, LittleEndian};
 use std::alloc::AllocError;
@@ -35,6 +36,20 @@ impl Slot {
             offset: LittleEndian::read_u16(&bytes[2..]),
             imm: LittleEndian::read_u32(&bytes[4..]),
         }
+    }
+
+    /// The offset, with its sign.
+    pub fn signed_offset(self) -> i16
+        ensures { result ≡ signed16 self.offset }
+    {
+        self.offset.cast_signed()
+    }
+
+    /// The immediate, with its sign.
+    pub fn signed_imm(self) -> i32
+        ensures { result ≡ signed32 self.imm }
+    {
+        self.imm.cast_signed()
     }
 
     /// Appends the eight bytes of the slot. Where memory is refused, nothing is appended.

@@ -5,7 +5,7 @@ ghost use Rattle.bq_insn.specs.Table.{opcode_of};
 
 use crate::form::Form;
 use crate::slot::Slot;
-use crate::{Bits, Condition, Insn, Operation, Source, Width};
+use crate::{Bits, Condition, Insn, Operation, Order, Size, Source, Width};
 
 /// The slot that spells an instruction, and the second one where it is wide.
 pub fn slots_of(insn: Insn) -> (Slot, Option<Slot>)
@@ -23,47 +23,28 @@ pub fn slots_of(insn: Insn) -> (Slot, Option<Slot>)
             bits,
             dst,
             src,
-        } => {
-            let form = Form::Alu {
-                width,
-                op: Operation::Mov,
-                by_register: true,
-            };
-            one(form, dst, src, bits_number(bits), 0)
-        }
+        } => extension_slots(width, bits, dst, src),
         Insn::Neg { width, dst } => one(Form::Neg { width }, dst, 0, 0, 0),
-        Insn::End { kind, bits, dst } => {
-            let form = Form::End { order: kind };
-            one(form, dst, 0, 0, u32::from(bits_number(bits)))
-        }
+        Insn::End { kind, bits, dst } => end_slots(kind, bits, dst),
         Insn::Load {
             size,
             signed,
             dst,
             src,
             off,
-        } => {
-            let form = Form::Load { size, signed };
-            one(form, dst, src, off.cast_unsigned(), 0)
-        }
+        } => load_slots(size, signed, dst, src, off),
         Insn::StoreImm {
             size,
             dst,
             off,
             imm,
-        } => {
-            let form = Form::StoreImm { size };
-            one(form, dst, 0, off.cast_unsigned(), imm.cast_unsigned())
-        }
+        } => store_imm_slots(size, dst, off, imm),
         Insn::StoreReg {
             size,
             dst,
             off,
             src,
-        } => {
-            let form = Form::StoreReg { size };
-            one(form, dst, src, off.cast_unsigned(), 0)
-        }
+        } => one(Form::StoreReg { size }, dst, src, off.cast_unsigned(), 0),
         Insn::Imm64 { dst, value } => number_slots(dst, value),
         Insn::MapRef { dst, index } => two(dst, 5, index.cast_unsigned(), 0),
         Insn::Goto { off } => one(Form::Goto, 0, 0, off.cast_unsigned(), 0),
@@ -103,6 +84,46 @@ fn operation_slots(width: Width, op: Operation, dst: u8, src: Source) -> (Slot, 
             one(form, dst, register, offset, 0)
         }
     }
+}
+
+/// The slot of a move that extends the sign, the number of bits in its offset.
+fn extension_slots(width: Width, bits: Bits, dst: u8, src: u8) -> (Slot, Option<Slot>)
+    ensures { AreSlots result (spelled (Insn.MovSx width bits dst src)) }
+{
+    let form = Form::Alu {
+        width,
+        op: Operation::Mov,
+        by_register: true,
+    };
+    one(form, dst, src, bits_number(bits), 0)
+}
+
+/// The slot of a byte order, the number of bits in its immediate.
+fn end_slots(order: Order, bits: Bits, dst: u8) -> (Slot, Option<Slot>)
+    ensures { AreSlots result (spelled (Insn.End order bits dst)) }
+{
+    one(Form::End { order }, dst, 0, 0, u32::from(bits_number(bits)))
+}
+
+/// The slot of a load.
+fn load_slots(size: Size, signed: bool, dst: u8, src: u8, off: i16) -> (Slot, Option<Slot>)
+    ensures { AreSlots result (spelled (Insn.Load size signed dst src off)) }
+{
+    let form = Form::Load { size, signed };
+    one(form, dst, src, off.cast_unsigned(), 0)
+}
+
+/// The slot of a store of an immediate.
+fn store_imm_slots(size: Size, dst: u8, off: i16, imm: i32) -> (Slot, Option<Slot>)
+    ensures { AreSlots result (spelled (Insn.StoreImm size dst off imm)) }
+{
+    one(
+        Form::StoreImm { size },
+        dst,
+        0,
+        off.cast_unsigned(),
+        imm.cast_unsigned(),
+    )
 }
 
 /// The slot of a branch, by where its second operand stands.
