@@ -12,7 +12,8 @@ use Rattle.bq_core.specs.declared.seat.Seat.TheVariants.{Absent, Blocked, Away}
 use Rattle.bq_core.specs.Processors.{Processor, Programs, opening, count_of, in_hand, HasEachOnce}
 use Rattle.bq_core.specs.World.{World, processor, inbox, seat, with_processor, with_inbox, with_seat}
 use Rattle.bq_core.specs.Refusals.{is_absent, is_away}
-use Rattle.bq_core.specs.OwnChoices.{allows, movable}
+use Rattle.bq_disc.specs.Pulls.{movable}
+use Rattle.bq_core.specs.OwnChoices.{allows}
 use Rattle.bq_core.specs.Choices.{Setting, Settled, decided_by, as_number}
 use Rattle.bq_core.specs.Steps.{charged_at, after_leaving, as_it_leaves, taken_from, without_task, with_pulled, started_if_idle, task_numbered, may_move}
 use Rattle.bq_core.specs.StandsOnce.{HasPlace}

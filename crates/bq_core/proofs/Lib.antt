@@ -12,6 +12,5 @@ pub mod Moves
 pub mod Permitted
 pub mod Events
 pub mod Order
-pub mod Greatest
 pub mod Pulls
 pub mod Runs

@@ -7,7 +7,8 @@ use Rattle.bq_disc.specs.Queues.{can_use}
 use Rattle.bq_core.specs.declared.policy.Policy.{Policy}
 use Rattle.bq_core.specs.declared.reply.By.TheVariants as who
 use Rattle.bq_core.specs.Processors.{Processor, Program, count_of, size_of, HasEachOnce}
-use Rattle.bq_core.specs.OwnChoices.{own_place, own_pull, allows, movable, pulled_before}
+use Rattle.bq_disc.specs.Pulls.{movable, pulled_before}
+use Rattle.bq_core.specs.OwnChoices.{own_place, own_pull, allows}
 use Rattle.bq_core.specs.Choices.{Setting, Settled, SettlesBy, Settles}
 use Rattle.bq_core.specs.Steps.{may_go, may_move, nobody, task_numbered}
 use Rattle.bq_core.specs.StandsOnce.{HasPlace}
@@ -73,7 +74,7 @@ own_pull_by_case : (cpu : ℕ) (queue : List Task) (o : Option Task) → first_b
 own_pull_by_case cpu queue None e = refl
 own_pull_by_case cpu queue (Some m) e = ap (λ b. m.id == nobody || b) (first_there pulled_before (movable cpu queue) m e) ∙ or_true (m.id == nobody)
 
-own_pull_by_test : (b : Bool) (cpu : ℕ) (queue : List Task) → may_move cpu queue (unwrap_or (cond b (id_of (first_by pulled_before (movable cpu queue))) None) nobody) ≡ true
+own_pull_by_test : (b : Bool) (cpu : ℕ) (queue : List Task) → may_move cpu queue (unwrap_or (id_of (cond b (first_by pulled_before (movable cpu queue)) None)) nobody) ≡ true
 own_pull_by_test true cpu queue = own_pull_by_case cpu queue (first_by pulled_before (movable cpu queue)) refl
 own_pull_by_test false cpu queue = refl
 

@@ -1,6 +1,6 @@
 -- The step of a Pull, from what the code computes.
-use Rattle.std.proofs.Common.{◌≡◌, ◌≢◌, ℕ, ◌+◌, ◌<◌, ◌≤◌, ◌^◌, Bool, true, false, cond, eqb, List, [], ◌∷◌, length, filter, Option, Some, None, refl, sym, ap, ◌∙◌, arith, get_or, set}
-use Rattle.std.specs.Prelude.{Ok, IfSome, unwrap_or, nat_le, if◌then◌else◌}
+use Rattle.std.proofs.Common.{◌≡◌, ◌≢◌, ℕ, ◌<◌, ◌≤◌, ◌^◌, Bool, true, false, cond, eqb, List, [], ◌∷◌, length, filter, Option, Some, None, refl, sym, ap, ◌∙◌, arith, get_or, set}
+use Rattle.std.specs.Prelude.{Ok, IfSome, unwrap_or, if◌then◌else◌}
 use Rattle.std.specs.Option.{option_map}
 use Rattle.std.proofs.lemmas.List.{get_or_read, get_or-set_same, get_or-set_other, set-set, set_comm}
 use Rattle.std.proofs.lemmas.Bool.Decides.{nat_tests}
@@ -13,7 +13,8 @@ use Rattle.bq_core.specs.declared.reply.By.TheVariants as who
 use Rattle.bq_core.specs.declared.reply.Reply.TheVariants.{Pulled as Moved}
 use Rattle.bq_core.specs.Processors.{Processor, Program, size_of}
 use Rattle.bq_core.specs.World.{World, processor, inbox, count_in, with_processor}
-use Rattle.bq_core.specs.OwnChoices.{own_pull, pulled_before, movable}
+use Rattle.bq_disc.specs.Pulls.{pulled_before, movable, pull_of}
+use Rattle.bq_core.specs.OwnChoices.{own_pull}
 use Rattle.bq_core.specs.Choices.{Settles, unasked}
 use Rattle.bq_core.specs.StandsOnce.{IsOrderly}
 use Rattle.bq_core.specs.Steps.{WorldStep, without_policies, charged_at, nobody, task_numbered, taken_from, without_task, with_pulled, started_if_idle}
@@ -31,7 +32,7 @@ pulled_by d w cpu from now = own_pull cpu (charged_at d w cpu now) (source_of d 
 
 -- the task that a processor of some size pulls
 abbrev pub pull_for : ℕ → ℕ → Processor → Option ℕ
-pull_for cpu size from = if nat_le (size + 2) (size_of from) then id_of (first_by pulled_before (movable cpu from.running.queue)) else None
+pull_for cpu size from = id_of (pull_of cpu size (size_of from) from.running.queue)
 
 -- what the source becomes
 abbrev pub after_giving : Discipline → World → ℕ → Option ℕ → Processor
@@ -79,7 +80,7 @@ queue_small : (o : Option Task) (xs : List Task) → HasSmallIds (present o xs) 
 queue_small None xs h = h
 queue_small (Some t) xs h = h.1
 
-small_if : (b : Bool) (o : Option ℕ) → IfSome o (λ id. id < 2 ^ 16) → IfSome (if b then o else None) (λ id. id < 2 ^ 16)
+small_if : (b : Bool) (o : Option Task) → IfSome (id_of o) (λ id. id < 2 ^ 16) → IfSome (id_of (if b then o else None)) (λ id. id < 2 ^ 16)
 small_if true o h = h
 small_if false o h = tt
 

@@ -1,8 +1,8 @@
 -- The disciplines' own choices of a place and of a task to pull (this project's own rules).
-use Rattle.std.specs.Prelude.{ℕ, ◌+◌, ◌/◌, ◌%◌, ◌^◌, Bool, false, ◌==◌, ◌||◌, ◌&&◌, not, nat_lt, nat_le, List, [], ◌∷◌, Option, Some, None, slice_index, filter, if◌then◌else◌}
+use Rattle.std.specs.Prelude.{ℕ, ◌/◌, ◌%◌, ◌^◌, Bool, false, ◌==◌, ◌||◌, ◌&&◌, not, nat_lt, List, [], ◌∷◌, Option, Some, None, slice_index, filter, if◌then◌else◌}
 use Rattle.std.specs.List.{range_with_len}
-use Rattle.bq_disc.specs.Tasks.{Task, first_by, runs_before, id_of}
-use Rattle.bq_disc.specs.Queues.{can_use}
+use Rattle.bq_disc.specs.Tasks.{Task, id_of}
+use Rattle.bq_disc.specs.Pulls.{pull_of}
 use Rattle.bq_core.specs.Processors.{Processor, size_of}
 
 abbrev pub is_previous : Option ℕ → ℕ → Bool
@@ -32,15 +32,6 @@ first_place loads previous (p ∷ ps) = Some (former_place loads previous p (fir
 abbrev pub own_place : ℕ → List ℕ → Task → Option ℕ
 own_place count loads t = first_place loads t.prev (filter (allows t.mask) (range_with_len 0 count))
 
--- of two tasks the one of greater (v, id) is pulled first
-abbrev pub pulled_before : Task → Task → Bool
-pulled_before a b = runs_before b a
-
--- the tasks of a queue that may go to a processor
-abbrev pub movable : ℕ → List Task → List Task
-movable cpu queue = filter (can_use cpu) queue
-
 -- where the other processor has at least two tasks more, its movable one of greatest (v, id)
 abbrev pub own_pull : ℕ → Processor → Processor → Option ℕ
-own_pull cpu p from =
-    if nat_le (size_of p + 2) (size_of from) then id_of (first_by pulled_before (movable cpu from.running.queue)) else None
+own_pull cpu p from = id_of (pull_of cpu (size_of p) (size_of from) from.running.queue)

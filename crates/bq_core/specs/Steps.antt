@@ -17,7 +17,8 @@ use Rattle.bq_core.specs.Calls.{CounterCall}
 use Rattle.bq_core.specs.Processors.{Processor, Program, with_program}
 use Rattle.bq_core.specs.World.{World, processor, inbox, seat, count_in, with_processor, with_inbox, with_seat, loads_of}
 use Rattle.bq_core.specs.Refusals.{refusal, argument_refusal}
-use Rattle.bq_core.specs.OwnChoices.{own_place, own_pull, allows, movable}
+use Rattle.bq_disc.specs.Pulls.{movable}
+use Rattle.bq_core.specs.OwnChoices.{own_place, own_pull, allows}
 use Rattle.bq_core.specs.Choices.{Setting, Settled, Settles, SettlesPreempt, decided_by}
 
 -- the processor after its time has passed

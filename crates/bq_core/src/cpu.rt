@@ -1,14 +1,14 @@
 //! One processor: what runs there, the task in its hand, and what stands at its hooks.
 ghost use Rattle.std.specs.Prelude.{◌≡◌, ◌<◌, ◌≤◌, ◌^◌, ◌+◌, ℕ, [], length, Option, Some, None, IfSome, find, is_some, nat_le, if◌then◌else◌};
 ghost use Rattle.std.specs.Option.{option_map};
-ghost use Rattle.bq_disc.specs.Tasks.{id_of, with_id, without, first_by};
+ghost use Rattle.bq_disc.specs.Tasks.{id_of, with_id, without};
 ghost use Rattle.bq_disc.specs.Queues.{follows, HasDistinctIds};
 ghost use Rattle.bq_disc.specs.Trees.{IsRising};
 ghost use Rattle.bq_disc.specs.Discipline.{left_at};
 ghost use Rattle.bq_disc.specs.Chains.{task_of, chain_behind, IsStraightBehind};
 ghost use Rattle.bq_disc.specs.OneProcessor.{charge, marked, start, decided, own_preempt, enter_all, present_at};
 ghost use Rattle.bq_core.specs.Processors.{opening, at_hook, with_program, load_of, size_of, count_of, HasEachOnce};
-ghost use Rattle.bq_core.specs.OwnChoices.{pulled_before, movable};
+ghost use Rattle.bq_disc.specs.Pulls.{pull_of};
 ghost use Rattle.bq_core.specs.Steps.{taken_from, without_task, with_pulled, started_if_idle};
 
 use crate::{Carried, Hook, Hooks, Inbox, Installed, Policy, Runner, Unlinked};
@@ -175,18 +175,13 @@ impl<Q: RunQueue> Cpu<Q> {
         self.runner.remark();
     }
 
-    /// The task that the discipline would move to a processor of that size. Where that is smaller by two or more, it is
-    /// the queue's movable task of greatest (v, id).
+    /// The task that the discipline would move to a processor of that size.
     pub fn own_pull(&self, processor: u8, size: usize) -> Option<u16>
         requires inside { processor < 64 }
         requires few { size_of self.now < 2 ^ 32 }
-        requires few_there { size < 2 ^ 32 }
-        ensures { result ≡ (if nat_le (size + 2) (size_of self.now) then id_of (first_by pulled_before (movable processor self.now.running.queue)) else None) }
+        ensures { result ≡ id_of (pull_of processor size (size_of self.now) self.now.running.queue) }
     {
-        if self.runner.size() < size + 2 {
-            return None;
-        }
-        self.runner.greatest_movable(processor)
+        self.runner.own_pull(processor, size)
     }
 
     /// The task of that id, if any, leaves the queue for another processor's.

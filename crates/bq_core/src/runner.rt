@@ -1,14 +1,14 @@
 //! A processor's queue, the task that runs there and the clock by which it is charged.
 ghost use Rattle.std.specs.Prelude.{◌≡◌, ◌<◌, ◌≤◌, ◌^◌, ◌+◌, ℕ, length, Option, Some, None, IfSome, find};
 ghost use Rattle.std.specs.Option.{option_map};
-ghost use Rattle.bq_disc.specs.Tasks.{id_of, with_id, without, first_by};
+ghost use Rattle.bq_disc.specs.Tasks.{id_of, with_id, without};
 ghost use Rattle.bq_disc.specs.Queues.{follows, HasDistinctIds};
 ghost use Rattle.bq_disc.specs.Trees.{IsRising};
 ghost use Rattle.bq_disc.specs.Discipline.{left_at};
 ghost use Rattle.bq_disc.specs.Chains.{task_of, chain_behind, IsStraightBehind};
 ghost use Rattle.bq_disc.specs.OneProcessor.{Running, at_rest, charge, marked, start, switched, decided, own_preempt, enter_all, entered, present_at};
 ghost use Rattle.bq_core.specs.Processors.{count_of, HasEachOnce};
-ghost use Rattle.bq_core.specs.OwnChoices.{pulled_before, movable};
+ghost use Rattle.bq_disc.specs.Pulls.{pull_of};
 ghost use Rattle.bq_core.specs.Steps.{with_pulled};
 
 use crate::Unlinked;
@@ -210,13 +210,13 @@ impl<Q: RunQueue> Runner<Q> {
         Some(Unlinked::new(node))
     }
 
-    /// The id of the queue's task of greatest (v, id), of those that may go to a processor.
-    pub fn greatest_movable(&self, processor: u8) -> Option<u16>
-        requires { processor < 64 }
-        ensures { result ≡ id_of (first_by pulled_before (movable processor self.now.queue)) }
+    /// The task that a processor of that size takes from the queue, where no policy chooses it.
+    pub fn own_pull(&self, processor: u8, size: usize) -> Option<u16>
+        requires inside { processor < 64 }
+        requires few { length (present_at self.now) < 2 ^ 32 }
+        ensures { result ≡ id_of (pull_of processor size (length (present_at self.now)) self.now.queue) }
     {
-        let found = self.queue.movable(processor);
-        found.first.first().copied()
+        self.queue.own_pull(processor, size, self.size())
     }
 
     /// A task of another processor's queue enters.

@@ -146,6 +146,14 @@ same_firsts before o xs ys dx dy s (Some m) (Some n) h k =
 pub first_by-same : (before : Task → Task → Bool) → IsOrder before → (xs ys : List Task) → HasDistinctIds xs → HasDistinctIds ys → SameSet xs ys → first_by before xs ≡ first_by before ys
 first_by-same before o xs ys dx dy s = same_firsts before o xs ys dx dy s (first_by before xs) (first_by before ys) (is_first before o xs) (is_first before o ys)
 
+no_other_before : (before : Task → Task → Bool) (xs : List Task) (o : Option Task) → IsFirst before xs o → IfSome o (λ m. (t : Task) → Contains xs t → before t m ≡ false)
+no_other_before before xs None h = tt
+no_other_before before xs (Some m) h = λ t c. not_before_at before m t xs c.0 h.1 c.1 c.2
+
+-- none comes before the first
+pub first_by-least : (before : Task → Task → Bool) → IsOrder before → (xs : List Task) → IfSome (first_by before xs) (λ m. (t : Task) → Contains xs t → before t m ≡ false)
+first_by-least before o xs = no_other_before before xs (first_by before xs) (is_first before o xs)
+
 -- what holds of a value holds of it in other words
 pub IfSome-weaker : (o : Option Task) (P Q : Task → Type 0) → ((t : Task) → P t → Q t) → IfSome o P → IfSome o Q
 IfSome-weaker None P Q f h = tt

@@ -7,6 +7,7 @@ ghost use Rattle.bq_disc.specs.Trees.{IsRising};
 ghost use Rattle.bq_disc.specs.Movable.{movable_to, is_movable_to, ids};
 ghost use Rattle.bq_disc.specs.Discipline.{Discipline, charged, entered_by, left_at, next_other};
 ghost use Rattle.bq_disc.specs.Chains.{task_of, IsLone};
+ghost use Rattle.bq_disc.specs.Pulls.{pull_of};
 
 use crate::{Movable, Node, Rule};
 
@@ -80,6 +81,12 @@ pub trait RunQueue {
             Some(node) => node.entity.can_use(cpu),
         }
     }
+
+    /// The task that an emptier processor takes from this queue, where no policy chooses it. `size` tasks run or wait
+    /// there, and `from` here, with the one that runs.
+    fn own_pull(&self, cpu: u8, size: usize, from: usize) -> Option<u16>
+        requires cpu { cpu < 64 }
+        ensures { result ≡ id_of (pull_of cpu size from (members self.now)) };
 
     /// Who should run, of the queue and of the current task.
     fn choice(&self, current: Option<&Node>) -> Option<u16>

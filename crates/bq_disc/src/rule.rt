@@ -5,8 +5,12 @@ ghost use Rattle.bq_weights.specs.VirtualTime.{IsWeight};
 ghost use Rattle.bq_disc.specs.Tasks.{present, id_of};
 ghost use Rattle.bq_disc.specs.Discipline.{Discipline, IsLawful};
 ghost use Rattle.bq_disc.specs.Chains.{task_of};
+ghost use Rattle.bq_disc.specs.Pulls.{pull_of};
 
 use crate::{Node, Timeline};
+
+/// A task is pulled where the other processor has this many more at least.
+const WORTH_A_PULL: usize = 2;
 
 /// A discipline, with its choices over any timeline.
 pub trait Rule {
@@ -26,6 +30,19 @@ pub trait Rule {
         requires { old ≤ 2 ^ 62 }
         ensures value { result ≡ discipline.mark old (present (option_map (λ n. task_of n.now) current.entry) (T.tasks queue.now)) }
         ensures high { result ≤ 2 ^ 62 };
+
+    /// The task that an emptier processor takes from a timeline, the queue of another. `size` tasks run or wait there, and
+    /// `from` here: where these are two more at least, it is the movable task of greatest (v, id).
+    fn pull<T: Timeline>(cpu: u8, size: usize, from: usize, queue: &T) -> Option<u16>
+        requires cpu { cpu < 64 }
+        ensures { result ≡ id_of (pull_of cpu size from (T.tasks queue.now)) }
+    {
+        if from.saturating_sub(size) < WORTH_A_PULL {
+            return None;
+        }
+        let found = queue.movable(cpu);
+        found.first.first().copied()
+    }
 
     /// The v at which a woken task enters.
     fn wake(mark: u64, rel: i64, slice: u64, weight: u32) -> u64

@@ -68,6 +68,10 @@ impl<T: Timeline, R: Rule> RunQueue for RuledQueue<T, R> {
         self.tasks.movable(cpu)
     }
 
+    fn own_pull(&self, cpu: u8, size: usize, from: usize) -> Option<u16> {
+        R::pull(cpu, size, from, &self.tasks)
+    }
+
     fn choice(&self, current: Option<&Node>) -> Option<u16> {
         R::choice(current, &self.tasks)
     }

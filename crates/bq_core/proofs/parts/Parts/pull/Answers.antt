@@ -39,22 +39,6 @@ own_pull-own-requires-clause-few g c =
     let few = few_given d w from (sym seats ∙ c.self.invariant.2) c.requires.orderly in
     rw source (omega (arith, few))
 
-pub own_pull-own-requires-clause-few_there : goal.own_pull-own-requires-clause-few_there
-own_pull-own-requires-clause-few_there g c =
-    let w = c.args.self.now in
-    let d = g.Q.R.Rule.discipline in
-    let cpu = c.args.processor in
-    let from = c.args.from in
-    let now = c.args.now in
-    let items = ap (λ (v : World). v.processors) c.self.view_is in
-    let seats = ap (λ (v : World). length v.seats) c.self.view_is in
-    let inside : cpu < length c.self.inside.cpus.items = rw items c.requires.inside in
-    let at = rw c.from.ensures at c.index_mut-puller.ensures.value in
-    let place : c.index_mut-puller.result.now ≡ processor w cpu = rw items at (get_or_read c.self.inside.cpus.items cpu c.index_mut-puller.result.now inside at opening) in
-    let charged : c.charge.new.self ≡ charged_at d w cpu now = c.charge.ensures ∙ ap (λ (x : Processor). record x { running = charge d x.running now }) place in
-    let few = few_charged d w cpu now (sym seats ∙ c.self.invariant.2) c.requires.orderly in
-    omega (arith, few, c.size-size.ensures, ap size_of charged)
-
 pub accept-requires : goal.accept-requires
 accept-requires g c =
     let w = c.args.self.now in

@@ -8,7 +8,7 @@ use Rattle.bq_disc.specs.Tasks.{Task, id_of, first_by, former, runs_before}
 use Rattle.bq_disc.specs.Queues.{can_use}
 use Rattle.bq_disc.specs.Trees.{IsRising, NoneRunsBefore}
 use Rattle.bq_disc.specs.Movable.{movable_to, ids}
-use Rattle.bq_core.specs.OwnChoices.{pulled_before, movable}
+use Rattle.bq_disc.specs.Pulls.{pulled_before, movable}
 
 -- the last of some ids
 abbrev last_id : List Task → Option ℕ
