@@ -1,7 +1,7 @@
 use Rattle.std.proofs.Common.{◌∙◌, arith}
 use Rattle.bq_disc.specs.Chains.{task_of}
 use Rattle.bq_core.proofs.Counts.{with_id-absent, one_self, count_of-place}
-use Rattle.bq_core.proofs.runner.enter_chain.Goals as goal
+use Rattle.bq_core.proofs.cpu.enter_chain.Goals as goal
 
 pub insert-requires-clause-fresh : goal.insert-requires-clause-fresh
 insert-requires-clause-fresh g c =

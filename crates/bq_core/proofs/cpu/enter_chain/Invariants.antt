@@ -2,7 +2,7 @@ use Rattle.std.proofs.Common.{◌≡◌, ℕ, ◌+◌, ◌≤◌, length}
 use Rattle.bq_disc.specs.Chains.{chain_behind, IsStraightBehind}
 use Rattle.bq_disc.specs.OneProcessor.{entered}
 use Rattle.bq_core.specs.Processors.{count_of}
-use Rattle.bq_core.proofs.runner.enter_chain.Given as goal
+use Rattle.bq_core.proofs.cpu.enter_chain.Given as goal
 
 abbrev pub invariant-loop-node : goal.invariant-loop-node
 invariant-loop-node g l =
