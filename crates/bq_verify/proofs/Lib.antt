@@ -1,14 +1,5 @@
-pub mod WordLemmas
-pub mod PutLemmas
-pub mod MergeLemmas
-pub mod StandingLemmas
-pub mod PlaceLemmas
+pub mod SideLemmas
 pub mod SureLemmas
-pub mod AccessLemmas
-pub mod CallLemmas
-pub mod StoreLemmas
-pub mod WriteLemmas
-pub mod CounterLemmas
 pub mod ChainLemmas
 pub mod GraphLemmas
 pub mod SlotLemmas

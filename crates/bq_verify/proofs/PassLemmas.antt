@@ -19,13 +19,14 @@ use Rattle.bq_maps.specs.Machine.{Step, Ends, IsSetting, IsOperand, IsCounterCal
 use Rattle.bq_ranges.specs.Within.{Within}
 use Rattle.bq_graph.specs.Edges.{IsEdge, IsStart, Leaves}
 use Rattle.bq_graph.specs.Passes.{IsSound}
-use Rattle.bq_verify.specs.declared.view.View.{View}
-use Rattle.bq_verify.specs.declared.view.Known.{Known}
-use Rattle.bq_verify.specs.declared.view.Kind.TheVariants.{Context, Stack}
-use Rattle.bq_verify.specs.Views.{Covers, Suits, Carries, AsksFrom, Describes, Fits, knowing}
-use Rattle.bq_verify.specs.Control.{IsAskingEdge, AreHeights, AreMade, EndsWithin, IsIn, WaitsBoxed, IsKnown, LeadsOn, Goes, PassesOn, RestIsSafe, IsStraight, IsOnSide, IsRelearned, PartsTo}
-use Rattle.bq_verify.proofs.MergeLemmas.{some_none}
-use Rattle.bq_verify.proofs.PutLemmas.{covers_learn, found_at}
+use Rattle.bq_views.specs.declared.view.View.{View}
+use Rattle.bq_views.specs.declared.view.Known.{Known}
+use Rattle.bq_views.specs.declared.view.Kind.TheVariants.{Context, Stack}
+use Rattle.bq_views.specs.Views.{Covers, Suits, Carries, AsksFrom, Describes, Fits, knowing}
+use Rattle.bq_verify.specs.Control.{IsAskingEdge, AreHeights, AreMade, EndsWithin, IsIn, WaitsBoxed, IsKnown, LeadsOn, Goes, PassesOn, RestIsSafe, IsOnSide, IsRelearned, PartsTo}
+use Rattle.bq_views.specs.Views.{IsStraight}
+use Rattle.bq_views.proofs.MergeLemmas.{some_none}
+use Rattle.bq_views.proofs.PutLemmas.{covers_learn, found_at}
 use Rattle.bq_verify.proofs.ChainLemmas.{goes_well}
 
 pub Covers-at : (f : Setting) (v : View) (s : State) (slot : ℕ) → Covers f v s → Covers f v (record s { slot = slot })

@@ -25,10 +25,13 @@ use Rattle.bq_graph.specs.Passes.{IsSound}
 use Rattle.bq_graph.specs.Faults.{destination_of}
 use Rattle.bq_graph.specs.declared.cause.Cause.TheVariants.{Frame}
 use Rattle.bq_graph.proofs.EdgeLemmas.{end_of-push, IsPath-push}
-use Rattle.bq_verify.specs.declared.view.Kind.{Kind}
-use Rattle.bq_verify.specs.declared.view.Kind.TheVariants.{Context, Stack, Entry, EntryOrNull, Map}
-use Rattle.bq_verify.specs.declared.view.View.{View}
-use Rattle.bq_verify.specs.Standing.{Scalar, Pointer, NoPointer, StandsAt, Fact, Never, AtRegister, IsSetAt, IsPlainAt, Has, HasWaiting, IsLeftReady, IsScalarOperand, IsPlaced, IsReadable, IsOnFrame, IsIntoEntry, IsReady, GivesNumber, LeavesNumber, IsCertain, LeavesPointer, IsFoundSide, Spares, IsStackByte, StoresByte, After, GoesOnSure, size_of_shape}
+use Rattle.bq_views.specs.declared.view.Kind.{Kind}
+use Rattle.bq_views.specs.declared.view.Kind.TheVariants.{Context, Stack, Entry, EntryOrNull, Map}
+use Rattle.bq_views.specs.declared.view.View.{View}
+use Rattle.bq_views.specs.Standing.{Scalar, Pointer, NoPointer, StandsAt, Fact, Never, AtRegister, IsSetAt, IsPlainAt, Has, IsScalarOperand}
+use Rattle.bq_verify.specs.Ways.{HasWaiting, GoesOnSure}
+use Rattle.bq_views.specs.Ready.{IsLeftReady, IsPlaced, IsReadable, IsOnFrame, IsIntoEntry, IsReady, size_of_shape}
+use Rattle.bq_views.specs.After.{GivesNumber, LeavesNumber, IsCertain, LeavesPointer, IsFoundSide, Spares, IsStackByte, StoresByte, After}
 use Rattle.bq_verify.specs.Straight.{held_along, OnEachPath, is_register, writes, leaves, spares, stores, always, never, IsWritten, IsStored, IsContextLeft, IsWrittenOperand, IsWrittenLeft, IsOnStack, IsLookUp, IsInLookUp, IsEntryFrom, IsInEntry, IsGoodLoad, IsGoodStore, Needs, IsStraightProgram}
 use Rattle.bq_verify.specs.Sure.{IsDueInLookUp, IsDue, IsSure}
 

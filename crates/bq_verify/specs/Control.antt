@@ -7,7 +7,6 @@ use Rattle.bq_insn.specs.declared.Insn.{Insn}
 use Rattle.bq_insn.specs.declared.Width.{Width}
 use Rattle.bq_insn.specs.declared.Condition.{Condition}
 use Rattle.bq_insn.specs.declared.Source.{Source}
-use Rattle.bq_insn.specs.Slots.{slots_of}
 use Rattle.bq_insn.specs.Meaning.{taken}
 use Rattle.bq_maps.specs.declared.shape.MapShape.{MapShape}
 use Rattle.bq_maps.specs.declared.board.Call.{Call as Asked}
@@ -15,9 +14,9 @@ use Rattle.bq_maps.specs.Counters.{answer_of}
 use Rattle.bq_maps.specs.Memory.{Setting, State}
 use Rattle.bq_maps.specs.Machine.{IsOperand, instruction_at, Step, Ends, IsSetting, IsCounterCall, most_calls}
 use Rattle.bq_graph.specs.Edges.{Leaves, IsEdge, IsStart}
-use Rattle.bq_verify.specs.declared.view.Known.{Known}
-use Rattle.bq_verify.specs.declared.view.View.{View}
-use Rattle.bq_verify.specs.Views.{Covers, knowing}
+use Rattle.bq_views.specs.declared.view.Known.{Known}
+use Rattle.bq_views.specs.declared.view.View.{View}
+use Rattle.bq_views.specs.Views.{Covers, knowing}
 
 -- each number is above those of the slots that its slot leads to, which come later
 pub record AreHeights (slots : List (Option Insn)) (heights : List ℕ) : Type 0 where
@@ -79,10 +78,6 @@ PassesOn slots shapes context_length slot K L =
 abbrev pub RestIsSafe : List (Option Insn) → List MapShape → ℕ → List ℕ → (ℕ → ℕ) → ℕ → (Setting → State → Type 0) → Type 0
 RestIsSafe slots shapes context_length heights made slot K =
     (f : Setting) (s : State) → IsSetting slots shapes context_length f → slot ≤ s.slot → IsStart slots s.slot → K f s → EndsWithin f s (slice_index heights s.slot) (made s.slot)
-
--- control only goes on to the next instruction
-abbrev pub IsStraight : Insn → Type 0
-IsStraight insn = (slot : ℕ) → Leaves insn slot (slot + slots_of insn)
 
 -- the state is one of the view with that word in the register; of none where control never goes there
 abbrev pub IsOnSide : Setting → View → ℕ → Option Known → State → Type 0

@@ -1,9 +1,8 @@
-pub mod Views
 pub mod Control
-pub mod Standing
+pub mod Ways
 pub mod Straight
 pub mod Sure
-pub mod Doubts
+pub mod Stops
 pub mod Accepted
 pub mod Refusals
 pub mod Laws

@@ -4,7 +4,7 @@ use Rattle.bq_insn.specs.declared.Insn.{Insn}
 use Rattle.bq_maps.specs.Machine.{instruction_at}
 use Rattle.bq_graph.specs.declared.cause.Cause.{Cause}
 use Rattle.bq_graph.specs.Faults.{IsFirstFault, IsFaultless, place_of}
-use Rattle.bq_verify.specs.Doubts.{MayCause}
+use Rattle.bq_verify.specs.Stops.{MayCause}
 use Rattle.bq_verify.specs.declared.refused.Refused.{Refused}
 use Rattle.bq_verify.specs.declared.refused.Refused.TheVariants.{At, OutOfMemory}
 

@@ -17,7 +17,8 @@ use Rattle.bq_maps.specs.Machine.{instruction_at}
 use Rattle.bq_graph.specs.Edges.{IsEdge}
 use Rattle.bq_graph.specs.Paths.{IsPath, end_of}
 use Rattle.bq_graph.specs.Faults.{IsFaultless, destination_of}
-use Rattle.bq_verify.specs.Standing.{IsNullTest, IsFoundSide}
+use Rattle.bq_views.specs.Ready.{IsNullTest}
+use Rattle.bq_views.specs.After.{IsFoundSide}
 
 -- whether something holds at the end of a path: the last instruction before the end made it so, or it was so and that one left it so
 abbrev pub held_along : List (Option Insn) → (Option Insn → Bool) → (Option Insn → Bool) → Bool → ℕ → List ℕ → Bool

@@ -6,10 +6,12 @@ use Rattle.bq_insn.specs.declared.Insn.{Insn}
 use Rattle.bq_insn.specs.declared.Size.{Size}
 use Rattle.bq_maps.specs.declared.shape.MapShape.{MapShape}
 use Rattle.bq_graph.specs.Paths.{Path}
-use Rattle.bq_verify.specs.declared.view.Kind.{Kind}
-use Rattle.bq_verify.specs.declared.view.Kind.TheVariants.{Context, Stack, Entry, EntryOrNull, Map}
-use Rattle.bq_verify.specs.declared.view.View.{View}
-use Rattle.bq_verify.specs.Standing.{Scalar, Pointer, NoPointer, Fact, Never, AtRegister, IsSetAt, IsPlainAt, IsStackByte, IsSureOf}
+use Rattle.bq_views.specs.declared.view.Kind.{Kind}
+use Rattle.bq_views.specs.declared.view.Kind.TheVariants.{Context, Stack, Entry, EntryOrNull, Map}
+use Rattle.bq_views.specs.declared.view.View.{View}
+use Rattle.bq_views.specs.Standing.{Scalar, Pointer, NoPointer, Fact, Never, AtRegister, IsSetAt, IsPlainAt}
+use Rattle.bq_views.specs.After.{IsStackByte}
+use Rattle.bq_verify.specs.Ways.{IsSureOf}
 use Rattle.bq_verify.specs.Straight.{IsWritten, IsStored, IsContextLeft, IsLookUp, IsEntryAt}
 
 -- on all paths to the slot bytes were stored, and that byte is one of them

@@ -1,26 +1,30 @@
 // Where control goes from a slot, and what is known there.
 
-ghost use Rattle.std.specs.Prelude.{◌≡◌, ◌<◌, ◌≤◌, ◌+◌, ◌^◌, ℕ, length, slice_index_or, IfOk, IfSome, IfErr, IsOk, OnOk, List, Some, true, false, ◌⊎◌};
+ghost use Rattle.std.specs.Prelude.{◌≡◌, ◌<◌, ◌≤◌, ◌+◌, ◌^◌, ℕ, length, IfOk, IfErr, IsOk, OnOk, Some, true, false, ◌⊎◌};
 ghost use Rattle.bq_insn.specs.declared.Insn.{Insn};
-ghost use Rattle.bq_insn.specs.Meaning.{taken};
 ghost use Rattle.bq_maps.specs.Memory.{Setting, State};
 ghost use Rattle.bq_maps.specs.Machine.{instruction_at};
 ghost use Rattle.bq_maps.specs.declared.shape.MapShape.{MapShape};
 ghost use Rattle.bq_graph.specs.Passes.{IsSound};
-ghost use Rattle.bq_verify.specs.Doubts.{MayDoubt, MayStop};
-ghost use Rattle.bq_verify.specs.Standing.{AfterTest, Fact, GoesOnSure, Has, HasOnSide, HasWaiting, IsNullCheck, IsNullTest, IsNumberIfAny, IsReady, IsScalarOperand, IsSide, IsSureOf, IsTested, IsTestedIfAny, IsWantOfMemory, IsWord, Pointer, Scalar, Stands, StandsAt, is_found};
-ghost use Rattle.bq_verify.specs.Views.{Covers, Describes, Fits};
+ghost use Rattle.bq_views.specs.Doubts.{MayDoubt};
+ghost use Rattle.bq_verify.specs.Stops.{IsWantOfMemory, MayStop};
+ghost use Rattle.bq_verify.specs.Ways.{AfterTest, GoesOnSure, HasOnSide, HasWaiting, IsSureOf};
+ghost use Rattle.bq_views.specs.Standing.{Fact, Has, IsScalarOperand, Pointer, Scalar, StandsAt};
+ghost use Rattle.bq_views.specs.Ready.{IsNullCheck, IsReady};
+ghost use Rattle.bq_views.specs.Sides.{is_found};
+ghost use Rattle.bq_views.specs.Views.{Covers};
 ghost use Rattle.bq_verify.specs.Control.{Goes, IsKnown, IsOnSide, IsRelearned, PartsTo, WaitsBoxed};
 
-use crate::carry::carry;
-use crate::counters::{ask, is_counter_call};
-use crate::registers::{known, learn, operand};
-use crate::view::{Doubt, Kind, Known, Stop, View};
+use crate::stop::Stop;
 use crate::waiting::wait;
 use bq_graph::passes::target;
 use bq_insn::{Condition, Insn, Source, Width};
 use bq_maps::shape::MapShape;
-use bq_ranges::narrowing::narrow;
+use bq_views::carry::carry;
+use bq_views::counters::{ask, is_counter_call};
+use bq_views::registers::{known, learn, operand};
+use bq_views::sides::side;
+use bq_views::view::{Doubt, Kind, Known, View};
 use std::alloc::{AllocError, Global};
 
 /// One slot where something is known: whether a view is carried on to the next slot.
@@ -140,27 +144,6 @@ fn branch(
     Ok(carry_on(view, dst, no))
 }
 
-/// What the left operand is on one side of a branch; `None` where control never goes there.
-fn side(
-    width: Width,
-    cond: Condition,
-    left: Known,
-    right: Known,
-    goes: bool,
-) -> Result<Option<Known>, Doubt>
-    ensures fits { IfOk result (λ side. (shapes : List MapShape) (a b : ℕ) → Describes shapes left a → Describes shapes right b → taken width cond a b ≡ goes → Fits shapes side a) }
-    ensures doubts { IfErr result (λ doubt. (insn : Insn) → MayDoubt doubt insn) }
-    ensures accepts { left.kind ≡ Kind.Number → right.kind ≡ Kind.Number → IsOk result }
-    ensures number { left.kind ≡ Kind.Number → right.kind ≡ Kind.Number → IfOk result IsNumberIfAny }
-    ensures checks { (map : ℕ) → width ≡ Width.W64 → IsNullTest cond → Stands (Pointer (Kind.EntryOrNull map) 0) (Some left) → IsWord 0 (Some right) → IsOk result }
-    ensures tested { (map : ℕ) → width ≡ Width.W64 → IsNullTest cond → Stands (Pointer (Kind.EntryOrNull map) 0) (Some left) → IsWord 0 (Some right) → IfOk result (IsTested map (is_found cond goes)) }
-{
-    match outcome(width, cond, left, right, goes) {
-        Some(side) => Ok(side),
-        None => Err(Doubt::PointerUse),
-    }
-}
-
 /// The view with that word in the register waits for the slot, if there is one.
 fn wait_on_side(
     alloc: Global,
@@ -196,67 +179,4 @@ fn carry_on(view: &mut View, dst: u8, side: Option<Known>) -> bool
     };
     learn(view, dst, word);
     true
-}
-
-/// What the left operand is on one side of a branch, where such words may be compared; the inner `None` where control never goes there.
-fn outcome(
-    width: Width,
-    cond: Condition,
-    left: Known,
-    right: Known,
-    goes: bool,
-) -> Option<Option<Known>>
-    ensures fits { IfSome result (λ side. (shapes : List MapShape) (a b : ℕ) → Describes shapes left a → Describes shapes right b → taken width cond a b ≡ goes → Fits shapes side a) }
-    ensures numbers { left.kind ≡ Kind.Number → right.kind ≡ Kind.Number → IsSide result }
-    ensures tested { (map : ℕ) → width ≡ Width.W64 → IsNullTest cond → Stands (Pointer (Kind.EntryOrNull map) 0) (Some left) → IsWord 0 (Some right) → IsTestedIfAny map (is_found cond goes) result }
-{
-    match (left.kind, right.kind) {
-        (Kind::Number, Kind::Number) => match narrow(cond, width, left.offset, right.offset, goes) {
-            Some(offset) => Some(Some(Known {
-                kind: Kind::Number,
-                offset,
-            })),
-            None => Some(None),
-        },
-        (Kind::EntryOrNull(map), Kind::Number) => {
-            if left.offset.hi > 0 || right.offset.hi > 0 {
-                return None;
-            }
-            null_check(map, width, cond, left, right, goes)
-        }
-        _ => None,
-    }
-}
-
-/// A look-up's result on one side of its test.
-fn null_check(
-    map: u8,
-    width: Width,
-    cond: Condition,
-    left: Known,
-    right: Known,
-    goes: bool,
-) -> Option<Option<Known>>
-    requires left { left.kind ≡ Kind.EntryOrNull map }
-    requires right { right.kind ≡ Kind.Number }
-    requires whole { left.offset.hi ≡ 0 }
-    requires null { right.offset.hi ≡ 0 }
-    ensures tested { width ≡ Width.W64 → IsNullTest cond → left.offset.lo ≡ 0 → IsTestedIfAny map (is_found cond goes) result }
-    ensures fits { IfSome result (λ side. (shapes : List MapShape) (a b : ℕ) → Describes shapes left a → Describes shapes right b → taken width cond a b ≡ goes → Fits shapes side a) }
-{
-    let null = Known {
-        kind: Kind::Number,
-        offset: right.offset,
-    };
-    let entry = Known {
-        kind: Kind::Entry(map),
-        offset: left.offset,
-    };
-    match (width, cond, goes) {
-        (Width::W64, Condition::Equal, true) => Some(Some(null)),
-        (Width::W64, Condition::Equal, false) => Some(Some(entry)),
-        (Width::W64, Condition::NotEqual, true) => Some(Some(entry)),
-        (Width::W64, Condition::NotEqual, false) => Some(Some(null)),
-        _ => None,
-    }
 }

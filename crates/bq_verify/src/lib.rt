@@ -4,25 +4,16 @@
 //! registers and stack. A `Verified` is safe within its budget; the interpreter rests on that alone.
 #![tactic(auto)]
 
-pub mod alu;
-pub mod calls;
-pub mod carry;
-pub mod counters;
 pub mod flow;
 pub mod hook;
 pub mod laws;
-pub mod memory;
-pub mod merge;
-pub mod moves;
 pub mod pass;
 pub mod program;
 pub mod refused;
-pub mod registers;
-pub mod stores;
+pub mod stop;
 #[cfg(test)]
 mod tests;
 pub mod verified;
-pub mod view;
 pub mod waiting;
 
 pub use bq_graph::cause::Cause;

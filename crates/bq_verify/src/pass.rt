@@ -7,21 +7,21 @@ ghost use Rattle.bq_maps.specs.Machine.{Safe, start as beginning};
 ghost use Rattle.bq_graph.specs.Edges.{IsStart};
 ghost use Rattle.bq_graph.specs.Passes.{IsSound};
 ghost use Rattle.bq_verify.specs.Refusals.{IsOutOfMemory, IsStopped};
-ghost use Rattle.bq_verify.specs.Standing.{Pointer, Has, IsPlainAt, StandsAt};
+ghost use Rattle.bq_views.specs.Standing.{Pointer, Has, IsPlainAt, StandsAt};
 ghost use Rattle.bq_verify.specs.Straight.{IsStraightProgram};
 ghost use Rattle.bq_verify.specs.Sure.{IsSure};
-ghost use Rattle.bq_verify.specs.Views.{Covers};
+ghost use Rattle.bq_views.specs.Views.{Covers};
 ghost use Rattle.bq_verify.specs.Control.{AreHeights, AreMade, IsKnown, PassesOn, RestIsSafe};
 
 use crate::flow::visit;
 use crate::refused::{Refused, refuse};
-use crate::registers::learn;
-use crate::view::{Kind, Known, View};
 use crate::waiting::{arrive, nothing_waits};
 use bq_graph::edges::instruction;
 use bq_insn::Insn;
 use bq_maps::shape::MapShape;
 use bq_ranges::Range;
+use bq_views::registers::learn;
+use bq_views::view::{Kind, Known, View};
 use std::alloc::Global;
 
 /// Whether the program is safe within the height of its first slot.

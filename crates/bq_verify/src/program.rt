@@ -1,6 +1,6 @@
 // Whole programs, and the answer to each.
 
-ghost use Rattle.std.specs.Prelude.{◌≡◌, ◌<◌, ◌≤◌, ℕ, length, OnOk, IfOk, IfErr, None, true, slice_index, slice_index_or};
+ghost use Rattle.std.specs.Prelude.{◌≡◌, ◌<◌, ◌≤◌, ℕ, length, OnOk, IfOk, IfErr, None, true, slice_index_or};
 ghost use Rattle.bq_insn.specs.Slots.{spread};
 ghost use Rattle.bq_insn.specs.Spelling.{is_well_formed};
 ghost use Rattle.bq_graph.specs.Edges.{IsWhole};

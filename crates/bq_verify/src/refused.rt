@@ -4,12 +4,13 @@ ghost use Rattle.std.specs.Prelude.{◌≡◌, Some, List, Option};
 ghost use Rattle.bq_insn.specs.declared.Insn.{Insn};
 ghost use Rattle.bq_maps.specs.Machine.{instruction_at};
 ghost use Rattle.bq_graph.specs.Faults.{place_of};
-ghost use Rattle.bq_verify.specs.Doubts.{MayCause, MayDoubt, MayStop};
+ghost use Rattle.bq_verify.specs.Stops.{IsWantOfMemory, MayCause, MayStop};
+ghost use Rattle.bq_views.specs.Doubts.{MayDoubt};
 ghost use Rattle.bq_verify.specs.Refusals.{IsOutOfMemory, IsStopped};
-ghost use Rattle.bq_verify.specs.Standing.{IsWantOfMemory};
 
-use crate::view::{Doubt, Stop};
+use crate::stop::Stop;
 use bq_graph::cause::Cause;
+use bq_views::view::Doubt;
 use std::alloc::AllocError;
 
 /// Why a program is not accepted: a cause at a slot, or want of memory.

@@ -32,7 +32,7 @@ impl Model for Verified {
 }
 
 impl Verified {
-    ghost use Rattle.std.specs.Prelude.{◌≡◌, ◌≤◌, ◌<◌, ◌^◌, ℕ, IfErr, IfOk, length, slice_index};
+    ghost use Rattle.std.specs.Prelude.{◌≡◌, ◌≤◌, ◌<◌, ℕ, IfErr, IfOk, length, slice_index};
     ghost use Rattle.bq_packed.specs.Packing.{Stands};
     ghost use Rattle.bq_verify.specs.Accepted.{IsAccepted, context_length_of};
     ghost use Rattle.bq_verify.specs.Control.{AreHeights, AreMade};

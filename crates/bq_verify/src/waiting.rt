@@ -2,12 +2,13 @@
 
 ghost use Rattle.std.specs.Prelude.{◌≡◌, ◌<◌, ℕ, true, None, length, slice_index_or, IfOk, OnOk};
 ghost use Rattle.bq_maps.specs.Memory.{Setting, State};
-ghost use Rattle.bq_verify.specs.Standing.{Fact, Has, HasIn, HasWaiting, IsSureOf};
-ghost use Rattle.bq_verify.specs.Views.{Covers};
+ghost use Rattle.bq_views.specs.Standing.{Fact, Has};
+ghost use Rattle.bq_verify.specs.Ways.{HasIn, HasWaiting, IsSureOf};
+ghost use Rattle.bq_views.specs.Views.{Covers};
 ghost use Rattle.bq_verify.specs.Control.{IsIn, WaitsBoxed, IsKnown};
 
-use crate::merge::merge;
-use crate::view::View;
+use bq_views::merge::merge;
+use bq_views::view::View;
 use std::alloc::{AllocError, Global};
 
 /// No slot has a view that waits.

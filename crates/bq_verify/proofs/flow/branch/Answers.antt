@@ -1,8 +1,9 @@
-use Rattle.std.proofs.Common.{◌≡◌, ◌<◌, Option, Some, pos, true, false, length, inl, inr, arith, subst, sym}
-use Rattle.bq_verify.specs.declared.view.Kind.TheVariants.{EntryOrNull, Number}
-use Rattle.bq_verify.specs.declared.view.Known.{Known}
-use Rattle.bq_verify.specs.Standing.{IsWord, Pointer, Scalar, Stands, is_found}
-use Rattle.bq_verify.proofs.StandingLemmas.{has_on_side, has_on_tested, has_relearned}
+use Rattle.std.proofs.Common.{◌≡◌, Option, Some, pos, true, false, inl, inr, subst, sym}
+use Rattle.bq_views.specs.declared.view.Kind.TheVariants.{EntryOrNull, Number}
+use Rattle.bq_views.specs.declared.view.Known.{Known}
+use Rattle.bq_views.specs.Standing.{IsWord, Pointer, Scalar, Stands}
+use Rattle.bq_views.specs.Sides.{is_found}
+use Rattle.bq_verify.proofs.SideLemmas.{known_inside, has_on_side, has_on_tested, has_relearned}
 use Rattle.bq_verify.specs.Control.{IsKnown}
 use Rattle.bq_verify.proofs.PassLemmas.{parts_of, on_side}
 use Rattle.bq_verify.proofs.flow.branch.Goals as goal
@@ -12,7 +13,7 @@ returns-clause-parts c = (
   c.in_ok-wait_on_side.ensures.kept,
   λ f s covers.
       let operand = c.in-Some.ensures.finds f s covers in
-      let there : c.args.dst < length c.args.view.now.registers = omega arith in
+      let there = known_inside c.args.view.now.registers c.args.dst c.in-Some-known.left c.in-Some-known.ensures in
       parts_of f s c.args.view.now c.args.width c.args.cond c.args.dst c.args.src c.args.to c.args.next
       (IsKnown c.wait_on_side.new.pending c.carry_on.new.view c.carry_on.result c.args.next)
       c.in-Some-known.left c.in-Some.right c.in_ok-yes.yes c.in_ok-no.no there c.in-Some-known.ensures operand.0 operand.1 operand.2
@@ -24,7 +25,7 @@ returns-clause-parts c = (
 
 pub returns-clause-sure : goal.returns-clause-sure
 returns-clause-sure c = λ scalar operand x k waits both.
-    let there : c.args.dst < length c.args.view.now.registers = omega arith in
+    let there = known_inside c.args.view.now.registers c.args.dst c.in-Some-known.left c.in-Some-known.ensures in
     let left : c.in-Some-known.left.kind ≡ Number = subst (λ (v : Option Known). Stands Scalar v) (sym c.in-Some-known.ensures) scalar in
     let right : c.in-Some.right.kind ≡ Number = c.in-Some.ensures.scalar operand in
     record {
@@ -38,7 +39,7 @@ returns-clause-sure c = λ scalar operand x k waits both.
 
 pub returns-clause-checked : goal.returns-clause-checked
 returns-clause-checked c = λ map check answer x k waits yes_side no_side.
-    let there : c.args.dst < length c.args.view.now.registers = omega arith in
+    let there = known_inside c.args.view.now.registers c.args.dst c.in-Some-known.left c.in-Some-known.ensures in
     let left : Stands (Pointer (EntryOrNull map) 0) (Some c.in-Some-known.left) = subst (λ (v : Option Known). Stands (Pointer (EntryOrNull map) 0) v) (sym c.in-Some-known.ensures) answer in
     let right : IsWord 0 (Some c.in-Some.right) = c.in-Some.ensures.immediate (pos 0) check.with_zero in
     record {

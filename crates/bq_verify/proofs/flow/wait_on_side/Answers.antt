@@ -1,8 +1,9 @@
 use Rattle.std.proofs.Common.{Option, subst, sym}
 use Rattle.std.proofs.lemmas.Result.{on_ok_weaker}
-use Rattle.bq_verify.specs.declared.view.Known.{Known}
-use Rattle.bq_verify.specs.declared.view.View.{View}
-use Rattle.bq_verify.specs.Standing.{Has, HasOnSide}
+use Rattle.bq_views.specs.declared.view.Known.{Known}
+use Rattle.bq_views.specs.declared.view.View.{View}
+use Rattle.bq_views.specs.Standing.{Has}
+use Rattle.bq_verify.specs.Ways.{HasOnSide}
 use Rattle.bq_verify.proofs.PassLemmas.{relearned}
 use Rattle.bq_verify.proofs.flow.wait_on_side.Goals as goal
 

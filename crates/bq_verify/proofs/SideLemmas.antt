@@ -1,0 +1,97 @@
+-- What is sure goes on to both sides of a branch.
+use Rattle.std.proofs.Common.{◌≡◌, ℕ, ◌+◌, ◌<◌, ◌≤◌, ◌⊎◌, List, Bool, true, false, Option, Some, None, length, refl, sym, subst, inl, inr, ℤ, get_or-set_same, get_or-set_other}
+use Rattle.std.specs.Prelude.{slice_index_or, slice_set}
+use Rattle.std.proofs.lemmas.Bool.{cases_lt}
+use Rattle.std.proofs.lemmas.List.{get_or_past}
+use Rattle.bq_insn.specs.declared.Insn.{Insn}
+use Rattle.bq_insn.specs.declared.Insn.TheVariants.{Goto, Goto32, Branch, Exit}
+use Rattle.bq_insn.specs.declared.Width.{Width}
+use Rattle.bq_insn.specs.declared.Condition.{Condition}
+use Rattle.bq_insn.specs.declared.Condition.TheVariants.{Equal, NotEqual}
+use Rattle.bq_maps.specs.Machine.{LeadsTo}
+use Rattle.bq_insn.specs.declared.Source.{Source}
+use Rattle.bq_views.specs.declared.view.Kind.{Kind}
+use Rattle.bq_views.specs.declared.view.Kind.TheVariants.{Entry, EntryOrNull}
+use Rattle.bq_views.specs.declared.view.Known.{Known}
+use Rattle.bq_views.specs.declared.view.View.{View}
+use Rattle.bq_views.specs.Views.{knowing}
+use Rattle.bq_verify.specs.Control.{IsRelearned}
+use Rattle.bq_views.specs.Standing.{Scalar, Pointer, NoPointer, Stands, StandsAt, Fact, Never, AtRegister, IsSetAt, IsPlainAt, Has}
+use Rattle.bq_verify.specs.Ways.{HasOnSide, AfterTest, IsApartFrom}
+use Rattle.bq_views.specs.Sides.{IsNumberIfAny, IsTested, is_found}
+use Rattle.bq_views.specs.Ready.{IsCarried}
+use Rattle.bq_views.specs.After.{IsCertain, IsFoundSide, After}
+use Rattle.bq_views.proofs.MergeLemmas.{some_none}
+use Rattle.bq_views.proofs.StandingLemmas.{not_both, pointer_is, given_has, knowing_given}
+
+known_within : (xs : List (Option Known)) (r : ℕ) (k : Known) → Some k ≡ slice_index_or xs r None → (r < length xs) ⊎ (length xs ≤ r) → r < length xs
+known_within xs r k known (inl within) = within
+known_within xs r k known (inr beyond) = absurd (some_none _ _ (sym known) (get_or_past xs r None beyond))
+
+-- a register that is known is one of the registers
+pub known_inside : (xs : List (Option Known)) (r : ℕ) (k : Known) → Some k ≡ slice_index_or xs r None → r < length xs
+known_inside xs r k known = known_within xs r k known (cases_lt r (length xs))
+
+-- what is sure after a test of a look-up's answer, on a side of it
+pub has_tested : (x : Fact) (slot k : ℕ) (w : Width) (c : Condition) (dst : ℕ) (src : Source) (off : ℤ) (m : ℕ) (found : Bool) (view : View) → StandsAt (Pointer (EntryOrNull m) 0) view dst → (IsFoundSide c off slot k → found ≡ true) → After x slot k (Branch w c dst src off) view → AfterTest x view dst m found
+has_tested Never slot k w c dst src off m found view stands side after = absurd after
+has_tested (AtRegister Scalar r) slot k w c dst src off m found view stands side (inl gives) = absurd (some_none _ _ gives refl)
+has_tested (AtRegister Scalar r) slot k w c dst src off m found view stands side (inr (_, scalar)) = inr (λ same. not_both _ (EntryOrNull m) 0 (subst (λ (n : ℕ). StandsAt Scalar view n) same scalar) stands, scalar)
+has_tested (AtRegister (Pointer kind o) r) slot k w c dst src off m found view stands side (inl (same, m', kind_is, o_is, answer, on_side)) =
+    let kinds = pointer_is _ (EntryOrNull m') 0 (EntryOrNull m) 0 answer stands in
+    let one : m' ≡ m = let e : EntryOrNull m' ≡ EntryOrNull m = kinds.0 in cc in
+    let is : AtRegister (Pointer kind o) r ≡ AtRegister (Pointer (Entry m) 0) dst = rw (kind_is, o_is, one, ← same) refl in
+    inl (side on_side, is)
+has_tested (AtRegister (Pointer kind o) r) slot k w c dst src off m found view stands side (inr (_, certain, before)) =
+    inr (
+      λ same.
+          let kinds = pointer_is _ kind o (EntryOrNull m) 0 (subst (λ (n : ℕ). StandsAt (Pointer kind o) view n) same before) stands in
+          (let refuted : IsCertain (EntryOrNull m) = subst (λ (b : Kind). IsCertain b) kinds.0 certain in refuted),
+      before,
+    )
+has_tested (AtRegister NoPointer r) slot k w c dst src off m found view stands side after = absurd after
+has_tested (IsSetAt i) slot k w c dst src off m found view stands side (inl stores) = absurd stores
+has_tested (IsSetAt i) slot k w c dst src off m found view stands side (inr has) = inr (tt, has)
+has_tested (IsPlainAt j) slot k w c dst src off m found view stands side after = inr (tt, after)
+
+knowing_apart : (x : Fact) (view : View) (dst : ℕ) (word : Known) → IsApartFrom x dst → Has x view → Has x (knowing view dst word)
+knowing_apart Never view dst word other has = has
+knowing_apart (AtRegister s r) view dst word other has = subst (λ (v : Option Known). Stands s v) (sym (get_or-set_other view.registers dst r (Some word) None other)) has
+knowing_apart (IsSetAt i) view dst word other has = has
+knowing_apart (IsPlainAt j) view dst word other has = has
+
+-- the word that is learnt on that side
+pub has_on_tested : (x : Fact) (view : View) (dst m : ℕ) (found : Bool) (side : Option Known) → dst < length view.registers → IsTested m found side → AfterTest x view dst m found → HasOnSide x view dst side
+has_on_tested x view dst m found side there tested (inl (yes', is)) =
+    let word : Stands (Pointer (Entry m) 0) (slice_index_or (slice_set view.registers dst (Some tested.word)) dst None) = subst (λ (v : Option Known). Stands (Pointer (Entry m) 0) v) (sym (get_or-set_same view.registers dst (Some tested.word) None there)) (tested.entry yes') in
+    let at : HasOnSide (AtRegister (Pointer (Entry m) 0) dst) view dst (Some tested.word) = word in
+    subst (λ (v : Option Known). HasOnSide x view dst v) (sym tested.is) (subst (λ (y : Fact). HasOnSide y view dst (Some tested.word)) (sym is) at)
+has_on_tested x view dst m found side there tested (inr (other, has)) = subst (λ (v : Option Known). HasOnSide x view dst v) (sym tested.is) (knowing_apart x view dst tested.word other has)
+
+-- what is sure of a view is sure on a side of a test of numbers
+pub has_on_side : (x : Fact) (view : View) (dst : ℕ) (side : Option Known) → dst < length view.registers → StandsAt Scalar view dst → IsNumberIfAny side → Has x view → HasOnSide x view dst side
+has_on_side x view dst None there scalar number has = tt
+has_on_side x view dst (Some k) there scalar number has = given_has x view (knowing view dst k) dst scalar (knowing_given view dst k there number) has
+
+-- the other side, after the register was written for the one
+pub has_relearned : (x : Fact) (old new : View) (dst : ℕ) (side : Option Known) → IsRelearned old new dst → HasOnSide x old dst side → HasOnSide x new dst side
+has_relearned x old new dst None same side = tt
+has_relearned x old new dst (Some word) same side = subst (λ (v : View). Has x v) (sym (same word)) side
+
+pub carried_of : (insn : Insn) → (insn ≡ Exit → ⊥) → ((off : ℤ) → insn ≡ Goto off → ⊥) → ((imm : ℤ) → insn ≡ Goto32 imm → ⊥) → ((w : Width) (c : Condition) (d : ℕ) (s : Source) (off : ℤ) → insn ≡ Branch w c d s off → ⊥) → IsCarried insn
+carried_of (Goto off) e g h b = g off refl
+carried_of (Goto32 imm) e g h b = h imm refl
+carried_of (Branch w c d s off) e g h b = b w c d s off refl
+carried_of Exit e g h b = e refl
+carried_of _ e g h b = tt
+
+-- where the operands differ
+pub found_there : (c : Condition) (off : ℤ) (slot k : ℕ) → LeadsTo slot off k → IsFoundSide c off slot k → is_found c true ≡ true
+found_there Equal off slot k leads side = absurd (side.1 leads)
+found_there NotEqual off slot k leads side = refl
+found_there _ off slot k leads side = absurd side
+
+pub found_next : (c : Condition) (off : ℤ) (slot k : ℕ) → k ≡ slot + 1 → IsFoundSide c off slot k → is_found c false ≡ true
+found_next Equal off slot k next side = refl
+found_next NotEqual off slot k next side = absurd (side.1 next)
+found_next _ off slot k next side = absurd side

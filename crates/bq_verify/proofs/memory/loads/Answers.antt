@@ -1,8 +1,0 @@
-use Rattle.bq_verify.proofs.memory.loads.Goals as goal
-
-pub returns-then-signed : goal.returns-then-signed
-returns-then-signed c = λ x small.
-    rw (c.if-signed.true, ← c.bits_of.ensures) (c.extend.ensures.holds x (c.numbers.ensures x small))
-
-pub returns : goal.returns
-returns c = λ x small. rw c.if-signed.false (c.numbers-2.ensures x small)

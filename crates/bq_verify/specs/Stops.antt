@@ -1,0 +1,27 @@
+-- Where the pass stops, and for what.
+use Rattle.std.specs.Prelude.{◌≡◌}
+use Rattle.bq_insn.specs.declared.Insn.{Insn}
+use Rattle.bq_graph.specs.declared.cause.Cause.TheVariants as cause
+use Rattle.bq_graph.specs.declared.cause.Cause.{Cause}
+use Rattle.bq_views.specs.Doubts.{MayDoubt}
+use Rattle.bq_views.specs.declared.view.Doubt.TheVariants.{Access, Argument, Answer}
+use Rattle.bq_verify.specs.declared.stop.Stop.TheVariants as stop
+use Rattle.bq_verify.specs.declared.stop.Stop.TheVariants.{Doubted}
+use Rattle.bq_verify.specs.declared.stop.Stop.{Stop}
+
+abbrev pub IsWantOfMemory : Stop → Type 0
+IsWantOfMemory reason = reason ≡ stop.OutOfMemory
+
+-- the pass stops at an instruction for what is not shown of it, or for want of memory
+abbrev pub MayStop : Stop → Insn → Type 0
+MayStop (Doubted doubt) insn = MayDoubt doubt insn
+MayStop stop.OutOfMemory insn = Unit {0}
+
+-- the same of the cause that is named
+abbrev pub MayCause : Cause → Insn → Type 0
+MayCause cause.Unset insn = Unit {0}
+MayCause cause.PointerUse insn = Unit {0}
+MayCause cause.Access insn = MayDoubt Access insn
+MayCause cause.Argument insn = MayDoubt Argument insn
+MayCause cause.Answer insn = MayDoubt Answer insn
+MayCause _ insn = ⊥

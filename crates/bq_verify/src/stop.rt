@@ -1,0 +1,33 @@
+// Why the pass stops.
+
+use bq_views::view::Doubt;
+use std::alloc::AllocError;
+
+/// Why the pass stops at an instruction.
+#[derive(Clone, Copy, Debug, PartialEq, Eq)]
+pub enum Stop {
+    Doubted(Doubt),
+    OutOfMemory,
+}
+
+impl From<Doubt> for Stop {
+    ghost use Rattle.std.specs.Prelude.{◌≡◌};
+    ghost use Rattle.bq_verify.specs.declared.stop.Stop.TheVariants.{Doubted};
+
+    ghost from_gives = { λ d e. e ≡ Doubted d };
+
+    fn from(doubt: Doubt) -> Stop {
+        Stop::Doubted(doubt)
+    }
+}
+
+impl From<AllocError> for Stop {
+    ghost use Rattle.std.specs.Prelude.{◌≡◌};
+    ghost use Rattle.bq_verify.specs.declared.stop.Stop.TheVariants.{OutOfMemory};
+
+    ghost from_gives = { λ _ e. e ≡ OutOfMemory };
+
+    fn from(_e: AllocError) -> Stop {
+        Stop::OutOfMemory
+    }
+}

@@ -1,0 +1,10 @@
+pub mod WordLemmas
+pub mod PutLemmas
+pub mod MergeLemmas
+pub mod StandingLemmas
+pub mod PlaceLemmas
+pub mod AccessLemmas
+pub mod CallLemmas
+pub mod StoreLemmas
+pub mod WriteLemmas
+pub mod CounterLemmas

@@ -1,0 +1,59 @@
+-- Instructions that give a register a value.
+use Rattle.bq_ranges.specs.declared.range.Range.{Range}
+use Rattle.bq_views.specs.declared.view.Kind.TheVariants.{Map}
+use Rattle.std.proofs.Common.{sym, zero-le, ◌≡◌, ◌≢◌, ℕ, ◌<◌, Bool, true, false, List, Option, Some, None, length, get_or, set, refl, arith, get_or-set_same, get_or-set_other, ◌⊎◌, inl, inr, cond}
+use Rattle.std.specs.Prelude.{slice_index_or}
+use Rattle.std.proofs.lemmas.Bool.Decides.{eqb_tells}
+use Rattle.bq_insn.specs.declared.Insn.{Insn}
+use Rattle.bq_insn.specs.Slots.{slots_of}
+use Rattle.bq_insn.specs.declared.Operation.{Operation}
+use Rattle.bq_insn.specs.declared.Operation.TheVariants as op
+use Rattle.bq_maps.specs.declared.shape.MapShape.{MapShape}
+use Rattle.bq_maps.specs.Memory.{Setting, State, reference}
+use Rattle.bq_maps.specs.Machine.{Does, put, IsLeft}
+use Rattle.bq_views.specs.declared.view.Known.{Known}
+use Rattle.bq_views.specs.declared.view.View.{View}
+use Rattle.bq_views.specs.Views.{Describes, Holds, Covers, Suits, Carries, knowing}
+
+pub left_from_set : (o : Operation) (v : Option ℕ) (a : ℕ) → v ≡ Some a → IsLeft o v a
+left_from_set op.Mov v a e = tt
+left_from_set _ v a e = e
+
+put_at : (shapes : List MapShape) (regs : List (Option Known)) (register : ℕ → Option ℕ) (dst n : ℕ) (k : Known) (r : ℕ) (b : Bool) → dst < length regs → Holds shapes (get_or regs r None) (register r) → Describes shapes k n → ((b ≡ true) × (r ≡ dst)) ⊎ ((b ≡ false) × (r ≢ dst)) → Holds shapes (get_or (set regs dst (Some k)) r None) (cond b (Some n) (register r))
+put_at shapes regs register dst n k r b lt h d (inl (e, same)) = rw (e, same, get_or-set_same regs dst (Some k) None lt) (n, refl, d)
+put_at shapes regs register dst n k r b lt h d (inr (e, other)) = rw (e, get_or-set_other regs dst r (Some k) None other) h
+
+pub covers_put : (f : Setting) (v : View) (s : State) (slots dst n : ℕ) (k : Known) → dst < length v.registers → Covers f v s → Describes f.shapes k n → Covers f (knowing v dst k) (put s slots dst n)
+covers_put f v s slots dst n k lt covers d = record {
+  registers = λ r. put_at f.shapes v.registers s.register dst n k r _ lt (covers.registers r) d (eqb_tells r dst);
+  set = covers.set;
+  kept = covers.kept;
+  maps = covers.maps;
+}
+
+-- an instruction that gives a register such a word carries the view on
+pub carries_put : (shapes : List MapShape) (context_length : ℕ) (insn : Insn) (v : View) (dst : ℕ) (k : Known) → dst < length v.registers → ((f : Setting) (s : State) → Suits shapes context_length f → Covers f v s → (n : ℕ) × Does f insn s (put s (slots_of insn) dst n) × Describes f.shapes k n) → Carries shapes context_length insn v (knowing v dst k)
+carries_put shapes context_length insn v dst k lt gives f s suits covers =
+    let given = gives f s suits covers in
+    (put s (slots_of insn) dst given.0, given.1, covers_put f v s (slots_of insn) dst given.0 k lt covers given.2, refl)
+
+-- a register that is known has such a word
+pub found_at : (f : Setting) (v : View) (s : State) (r : ℕ) (k : Known) → Some k ≡ slice_index_or v.registers r None → Covers f v s → (n : ℕ) × (s.register r ≡ Some n) × Describes f.shapes k n
+found_at f v s r k e covers = rw (sym e) at (covers.registers r)
+
+learn_at : (shapes : List MapShape) (regs : List (Option Known)) (register : ℕ → Option ℕ) (dst n : ℕ) (k : Known) (r : ℕ) (b : Bool) → dst < length regs → register dst ≡ Some n → Holds shapes (get_or regs r None) (register r) → Describes shapes k n → ((b ≡ true) × (r ≡ dst)) ⊎ ((b ≡ false) × (r ≢ dst)) → Holds shapes (get_or (set regs dst (Some k)) r None) (register r)
+learn_at shapes regs register dst n k r b lt is h d (inl (e, same)) = rw (same, get_or-set_same regs dst (Some k) None lt) (n, is, d)
+learn_at shapes regs register dst n k r b lt is h d (inr (e, other)) = rw (get_or-set_other regs dst r (Some k) None other) h
+
+-- more is known of a register that stays as it is
+pub covers_learn : (f : Setting) (v : View) (s : State) (dst n : ℕ) (k : Known) → dst < length v.registers → s.register dst ≡ Some n → Covers f v s → Describes f.shapes k n → Covers f (knowing v dst k) s
+covers_learn f v s dst n k lt is covers d = record {
+  registers = λ r. learn_at f.shapes v.registers s.register dst n k r _ lt is (covers.registers r) d (eqb_tells r dst);
+  set = covers.set;
+  kept = covers.kept;
+  maps = covers.maps;
+}
+
+-- the reference of a map
+pub reference_is : (shapes : List MapShape) (m : ℕ) (r : Range) → m < length shapes → m < 256 → r.lo ≡ 0 → Describes shapes (record { kind = Map m; offset = r }) (reference m)
+reference_is shapes m r there few lo = record { base = reference m; offset = 0; is_base = (refl, there); within = (omega arith, zero-le); word_is = omega arith }

@@ -1,0 +1,6 @@
+pub mod Views
+pub mod Standing
+pub mod Ready
+pub mod After
+pub mod Sides
+pub mod Doubts

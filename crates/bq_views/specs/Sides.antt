@@ -1,0 +1,33 @@
+-- The left operand of a branch on one side of its test.
+use Rattle.std.specs.Prelude.{Bool, true, not, ◌≡◌, ℕ, Option, Some, None}
+use Rattle.bq_insn.specs.declared.Condition.TheVariants.{Equal}
+use Rattle.bq_insn.specs.declared.Condition.{Condition}
+use Rattle.bq_views.specs.Standing.{Pointer, Stands}
+use Rattle.bq_views.specs.declared.view.Kind.TheVariants.{Number, Entry}
+use Rattle.bq_views.specs.declared.view.Known.{Known}
+
+-- whether the operands differ on that side of a test
+abbrev pub is_found : Condition → Bool → Bool
+is_found Equal goes = not goes
+is_found c goes = goes
+
+-- the word on a side of such a test
+pub record IsTested (map : ℕ) (found : Bool) (side : Option Known) : Type 0 where
+  pub word : Known
+  pub is : side ≡ Some word
+  pub entry : found ≡ true → Stands (Pointer (Entry map) 0) (Some word)
+
+-- where such words may be compared
+abbrev pub IsTestedIfAny : ℕ → Bool → Option (Option Known) → Type 0
+IsTestedIfAny map found None = ⊥
+IsTestedIfAny map found (Some side) = IsTested map found side
+
+-- one side of a branch on numbers: control never goes there, or the left operand is a number there too
+abbrev pub IsSide : Option (Option Known) → Type 0
+IsSide None = ⊥
+IsSide (Some None) = Unit {0}
+IsSide (Some (Some k)) = k.kind ≡ Number
+
+abbrev pub IsNumberIfAny : Option Known → Type 0
+IsNumberIfAny None = Unit {0}
+IsNumberIfAny (Some k) = k.kind ≡ Number

@@ -1,0 +1,157 @@
+-- The states that a view speaks of.
+use Rattle.std.specs.Prelude.{Bool, ◌≡◌, ℕ, ℤ, ◌+◌, ◌*◌, ◌%◌, ◌^◌, ◌<◌, ◌≤◌, true, false, List, Option, Some, None, length, slice_get, slice_set, slice_index, slice_index_or, ◌⊎◌}
+use Rattle.std.specs.Int.{byte_at}
+use Rattle.bq_insn.specs.declared.Insn.{Insn}
+use Rattle.bq_insn.specs.Slots.{slots_of}
+use Rattle.bq_insn.specs.declared.Size.{Size}
+use Rattle.bq_insn.specs.Meaning.{byte_count}
+use Rattle.bq_graph.specs.Edges.{Leaves}
+use Rattle.bq_maps.specs.declared.shape.MapShape.{MapShape}
+use Rattle.bq_maps.specs.Memory.{Setting, State, Region, Reads, InContext, InStack, InEntry, Spans, IsEntry, IsGood, Writes, reference, values_base, context_base, stack_base}
+use Rattle.bq_maps.specs.declared.board.Call.{Call as Asked}
+use Rattle.bq_maps.specs.Counters.{answer_of}
+use Rattle.bq_maps.specs.Arrays.{HaveShapes}
+use Rattle.bq_maps.specs.Machine.{Does, IsOperand, Asks, called, address_of, low_bytes, next}
+use Rattle.bq_insn.specs.declared.Source.{Source}
+use Rattle.bq_ranges.specs.Within.{Within}
+use Rattle.bq_ranges.specs.declared.range.Range.{Range}
+use Rattle.bq_views.specs.declared.view.Kind.{Kind}
+use Rattle.bq_views.specs.declared.view.Kind.TheVariants.{Number, Context, Stack, Entry, EntryOrNull, Map}
+use Rattle.bq_views.specs.declared.view.Known.{Known}
+use Rattle.bq_views.specs.declared.view.View.{View}
+
+-- the first address of some entry of the map
+pub record IsEntryBase (shapes : List MapShape) (m base : ℕ) : Type 0 where
+  pub first : ℕ
+  pub size : ℕ
+  pub entry : IsEntry shapes m first size
+  pub base_is : base ≡ values_base m + first
+
+-- what a word of the kind may count from
+abbrev pub IsBase : List MapShape → Kind → ℕ → Type 0
+IsBase shapes Number base = base ≡ 0
+IsBase shapes Context base = base ≡ context_base
+IsBase shapes Stack base = base ≡ stack_base
+IsBase shapes (Entry m) base = IsEntryBase shapes m base
+IsBase shapes (EntryOrNull m) base = (base ≡ 0) ⊎ IsEntryBase shapes m base
+IsBase shapes (Map m) base = (base ≡ reference m) × (m < length shapes)
+
+-- the word is one of those
+pub record Describes (shapes : List MapShape) (k : Known) (word : ℕ) : Type 0 where
+  pub base : ℕ
+  pub offset : ℕ
+  pub is_base : IsBase shapes k.kind base
+  pub within : Within k.offset offset
+  pub word_is : word ≡ (base + offset) % 2 ^ 64
+
+-- a register that is known is set
+abbrev pub Holds : List MapShape → Option Known → Option ℕ → Type 0
+Holds shapes None v = Unit {0}
+Holds shapes (Some k) v = (n : ℕ) × (v ≡ Some n) × Describes shapes k n
+
+-- eight bytes of the stack that are known hold a word that was stored whole
+abbrev pub Keeps : List MapShape → Option Known → (ℕ → Option ℕ) → ℕ → Type 0
+Keeps shapes None stack j = Unit {0}
+Keeps shapes (Some k) stack j = (n : ℕ) × Describes shapes k n × ((i : ℕ) → i < 8 → stack (8 * j + i) ≡ Some (byte_at i n))
+
+-- the view is right about the state
+pub record Covers (f : Setting) (v : View) (s : State) : Type 0 where
+  pub registers : (r : ℕ) → Holds f.shapes (slice_index_or v.registers r None) (s.register r)
+  pub set : (i : ℕ) → slice_index_or v.set i false ≡ true → (b : ℕ) × (s.stack i ≡ Some b) × (b < 256)
+  pub kept : (j : ℕ) → Keeps f.shapes (slice_index_or v.kept j None) s.stack j
+  pub maps : HaveShapes f.shapes s.maps
+
+-- the settings of a program with these shapes and this length of context
+pub record Suits (shapes : List MapShape) (context_length : ℕ) (f : Setting) : Type 0 where
+  pub shapes_are : f.shapes ≡ shapes
+  pub context_long : length f.context ≡ context_length
+  pub context_bytes : (i b : ℕ) → slice_get f.context i ≡ Some b → b < 256
+  pub now_fits : f.now < 2 ^ 64
+  pub processor_fits : f.processor < 2 ^ 32
+
+-- from every state of the old view the instruction has a step, to a state of the new one at the next slot
+abbrev pub Carries : List MapShape → ℕ → Insn → View → View → Type 0
+Carries shapes context_length insn old new =
+    (f : Setting) (s : State) → Suits shapes context_length f → Covers f old s → (t : State) × Does f insn s t × Covers f new t × (t.slot ≡ s.slot + slots_of insn)
+
+-- in every state of the old view the instruction calls a counter, and whatever the answer is, the new view is right after it
+abbrev pub AsksFrom : Insn → View → View → Type 0
+AsksFrom insn old new =
+    (f : Setting) (s : State) (x : ℕ) → Covers f old s → x < 2 ^ 64 → (c : Asked) × (answer_of c ≡ x) × Asks insn s c × Covers f new (called s x)
+
+-- in every state of the view the register is set, and is below that number
+abbrev pub IsBelow : View → ℕ → ℕ → Type 0
+IsBelow view r bound = (f : Setting) (s : State) → Covers f view s → (n : ℕ) × (s.register r ≡ Some n) × (n < bound)
+
+-- in every state of the view the register is set, to a number of the range
+abbrev pub HoldsNumber : View → ℕ → Range → Type 0
+HoldsNumber view r range = (f : Setting) (s : State) → Covers f view s → (n : ℕ) × (s.register r ≡ Some n) × Within range n
+
+-- in every state of the view the operand is set, and is such a word
+abbrev pub Finds : View → Source → Known → Type 0
+Finds v src k = (f : Setting) (s : State) → Covers f v s → (b : ℕ) × IsOperand s src b × Describes f.shapes k b
+
+-- the known word in place of what was known of the register
+abbrev pub knowing : View → ℕ → Known → View
+knowing v dst k = record v { registers = slice_set v.registers dst (Some k) }
+
+-- every word of the one is a word of the other
+abbrev pub Allows : Option Known → Option Known → Type 0
+Allows old None = Unit {0}
+Allows None (Some new) = ⊥
+Allows (Some old) (Some new) = (shapes : List MapShape) (word : ℕ) → Describes shapes old word → Describes shapes new word
+
+-- there is such a known word, and it is right
+abbrev pub Fits : List MapShape → Option Known → ℕ → Type 0
+Fits shapes None word = ⊥
+Fits shapes (Some k) word = Describes shapes k word
+
+-- the regions that a pointer of the kind is into
+abbrev pub IsOfKind : Kind → Region → Type 0
+IsOfKind Context region = region ≡ InContext
+IsOfKind Stack region = region ≡ InStack
+IsOfKind (Entry m) region = (first : ℕ) × (region ≡ InEntry m first)
+IsOfKind _ region = ⊥
+
+-- what a pointer of the kind counts from is the start of a region of that size
+abbrev pub Bounds : List MapShape → ℕ → Kind → ℕ → Type 0
+Bounds shapes context_length kind size =
+    (f : Setting) (base : ℕ) → Suits shapes context_length f → IsBase f.shapes kind base → (region : Region) × Spans f region base size × IsOfKind kind region × (base < 2 ^ 63)
+
+-- registers 1 to 5 are forgotten, and no other
+pub record Clears (old new : List (Option Known)) : Type 0 where
+  pub forgotten : (r : ℕ) → 1 ≤ r → r < 6 → slice_index_or new r None ≡ None
+  pub first : slice_index_or new 0 None ≡ slice_index_or old 0 None
+  pub others : (r : ℕ) → 6 ≤ r → slice_index_or new r None ≡ slice_index_or old r None
+
+-- in every state of the view the register points to so many bytes that may be read
+abbrev pub FindsBytes : List MapShape → ℕ → View → ℕ → ℕ → Type 0
+FindsBytes shapes context_length view r count =
+    (f : Setting) (s : State) → Suits shapes context_length f → Covers f view s → (word : ℕ) × (bytes : List ℕ) × (s.register r ≡ Some word) × (length bytes ≡ count) × Reads f s word bytes × ((i : ℕ) → slice_index bytes i < 256)
+
+-- only bytes from there to there were set anew
+abbrev pub Marks : List Bool → List Bool → ℕ → ℕ → Type 0
+Marks old new from to = (i : ℕ) → slice_index_or new i false ≡ true → ((from ≤ i) × (i < to)) ⊎ (slice_index_or old i false ≡ true)
+
+-- each slot is forgotten, or is as it was and lies apart
+abbrev pub Forgets : List (Option Known) → List (Option Known) → ℕ → ℕ → Type 0
+Forgets old new from to = (j : ℕ) → (slice_index_or new j None ≡ None) ⊎ ((slice_index_or new j None ≡ slice_index_or old j None) × ((8 * j + 8 ≤ from) ⊎ (to ≤ 8 * j)))
+
+-- in every state of the view the access is good: the region is of that kind, and the offset in the range
+abbrev pub FindsPlace : List MapShape → ℕ → View → ℕ → ℤ → Size → Kind → Range → Type 0
+FindsPlace shapes context_length view r off size kind at =
+    (f : Setting) (s : State) → Suits shapes context_length f → Covers f view s → (word : ℕ) × (region : Region) × (o : ℕ) × (s.register r ≡ Some word) × IsGood f (address_of word off) (byte_count size) region o × IsOfKind kind region × Within at o
+
+-- the known word in a slot of eight bytes
+abbrev pub keeping : View → ℕ → Known → View
+keeping v slot k = record v { kept = slice_set v.kept slot (Some k) }
+
+-- from every state of the old view the low bytes of such a word can be written there, which leads to a state of the new one
+abbrev pub Stores : List MapShape → ℕ → ℕ → ℤ → Size → Known → View → View → Type 0
+Stores shapes context_length dst off size k old new =
+    (f : Setting) (s : State) (v : ℕ) → Suits shapes context_length f → Covers f old s → Describes f.shapes k v
+    → (a : ℕ) × (u : State) × (s.register dst ≡ Some a) × Writes f s (address_of a off) (low_bytes size v) u × Covers f new (next u) × (u.slot ≡ s.slot)
+
+-- control only goes on to the next instruction
+abbrev pub IsStraight : Insn → Type 0
+IsStraight insn = (slot : ℕ) → Leaves insn slot (slot + slots_of insn)

@@ -1,0 +1,106 @@
+// Arithmetic on what is known.
+
+ghost use Rattle.std.specs.Prelude.{◌≡◌, ◌<◌, IfSome, OnOk, IsOk, IfErr};
+ghost use Rattle.bq_maps.specs.declared.shape.MapShape.{MapShape};
+ghost use Rattle.std.specs.Prelude.{List, ℕ, Some};
+ghost use Rattle.bq_insn.specs.Meaning.{alu_result};
+ghost use Rattle.bq_views.specs.Doubts.{MayDoubt};
+ghost use Rattle.bq_views.specs.Standing.{Scalar, Pointer, Stands, StandsAt, IsScalarOperand, IsGiven, IsMade, IsWord};
+ghost use Rattle.bq_views.specs.Ready.{IsCopyOfFrame, IsMoveOfPointer};
+ghost use Rattle.bq_views.specs.Views.{Describes, Carries};
+
+use crate::registers::{known, learn, operand};
+use crate::view::{Doubt, Kind, Known, View};
+use bq_insn::{Insn, Operation, Source, Width};
+use bq_ranges::arithmetic;
+
+/// What is known of the result, where the instruction may work on such words.
+pub fn combine(width: Width, op: Operation, a: Known, b: Known) -> Option<Known>
+    ensures describes { IfSome result (λ k. (shapes : List MapShape) (x y : ℕ) → Describes shapes a x → Describes shapes b y → Describes shapes k (alu_result width op x y)) }
+    ensures scalar { a.kind ≡ Kind.Number → b.kind ≡ Kind.Number → Stands Scalar result }
+    ensures moves { (base word : ℕ) → width ≡ Width.W64 → op ≡ Operation.Add → Stands (Pointer Kind.Stack base) (Some a) → IsWord word (Some b) → Stands (Pointer Kind.Stack (alu_result Width.W64 Operation.Add base word)) result }
+{
+    match (a.kind, b.kind) {
+        (Kind::Number, Kind::Number) => Some(Known {
+            kind: Kind::Number,
+            offset: arithmetic::alu(width, op, a.offset, b.offset),
+        }),
+        (Kind::EntryOrNull(_), _) | (Kind::Map(_), _) => None,
+        (_, Kind::Number) => moved(width, op, a, b),
+        _ => None,
+    }
+}
+
+/// A pointer and a number.
+fn moved(width: Width, op: Operation, a: Known, b: Known) -> Option<Known>
+    requires { b.kind ≡ Kind.Number }
+    ensures moves { (base word : ℕ) → width ≡ Width.W64 → op ≡ Operation.Add → Stands (Pointer Kind.Stack base) (Some a) → IsWord word (Some b) → Stands (Pointer Kind.Stack (alu_result Width.W64 Operation.Add base word)) result }
+    ensures describes { IfSome result (λ k. (shapes : List MapShape) (x y : ℕ) → Describes shapes a x → Describes shapes b y → Describes shapes k (alu_result width op x y)) }
+{
+    match (width, op) {
+        (Width::W64, Operation::Add) => Some(Known {
+            kind: a.kind,
+            offset: arithmetic::alu(Width::W64, Operation::Add, a.offset, b.offset),
+        }),
+        (Width::W64, Operation::Sub) => Some(Known {
+            kind: a.kind,
+            offset: arithmetic::sub(Width::W64, a.offset, b.offset),
+        }),
+        _ => None,
+    }
+}
+
+/// An arithmetic instruction.
+pub fn alu(view: &mut View, width: Width, op: Operation, dst: u8, src: Source) -> Result<(), Doubt>
+    requires { dst < 10 }
+    ensures carries { OnOk result ((shapes : List MapShape) (context_length : ℕ) → Carries shapes context_length (Insn.Alu width op dst src) view.old view.new) }
+    ensures doubts { IfErr result (λ doubt. MayDoubt doubt (Insn.Alu width op dst src)) }
+    ensures accepts { StandsAt Scalar view.old dst → IsScalarOperand view.old src → IsOk result × IsGiven view.old view.new dst }
+    ensures moves { (m : IsMoveOfPointer view.old width op dst src) → IsOk result × IsMade (Pointer Kind.Stack m.at) view.old view.new dst }
+{
+    let Some(right) = operand(view, src) else {
+        return Err(Doubt::Unset);
+    };
+    let Some(left) = known(view, dst) else {
+        return Err(Doubt::Unset);
+    };
+    let Some(word) = combine(width, op, left, right) else {
+        return Err(Doubt::PointerUse);
+    };
+    learn(view, dst, word);
+    Ok(())
+}
+
+/// A copy.
+pub fn copy(view: &mut View, width: Width, dst: u8, src: Source) -> Result<(), Doubt>
+    requires { dst < 10 }
+    ensures carries { OnOk result ((shapes : List MapShape) (context_length : ℕ) → Carries shapes context_length (Insn.Alu width Operation.Mov dst src) view.old view.new) }
+    ensures doubts { IfErr result (λ doubt. MayDoubt doubt (Insn.Alu width Operation.Mov dst src)) }
+    ensures accepts { IsScalarOperand view.old src → IsOk result × IsGiven view.old view.new dst }
+    ensures copies { (m : IsCopyOfFrame view.old width Operation.Mov src) → IsOk result × IsMade (Pointer Kind.Stack m.base) view.old view.new dst }
+{
+    let Some(right) = operand(view, src) else {
+        return Err(Doubt::Unset);
+    };
+    let Some(word) = copied(width, right) else {
+        return Err(Doubt::PointerUse);
+    };
+    learn(view, dst, word);
+    Ok(())
+}
+
+/// What is known of a copy.
+fn copied(width: Width, word: Known) -> Option<Known>
+    ensures describes { IfSome result (λ k. (shapes : List MapShape) (x y : ℕ) → Describes shapes word y → Describes shapes k (alu_result width Operation.Mov x y)) }
+    ensures scalar { word.kind ≡ Kind.Number → Stands Scalar result }
+    ensures same { width ≡ Width.W64 → result ≡ Some word }
+{
+    match (width, word.kind) {
+        (Width::W64, _) => Some(word),
+        (Width::W32, Kind::Number) => Some(Known {
+            kind: Kind::Number,
+            offset: arithmetic::alu(width, Operation::Mov, word.offset, word.offset),
+        }),
+        _ => None,
+    }
+}

@@ -1,0 +1,59 @@
+// Where two ways meet.
+
+ghost use Rattle.std.specs.Prelude.{◌≡◌, ℕ, true, None, length, slice_index_or, false};
+ghost use Rattle.bq_maps.specs.Memory.{Setting, State};
+ghost use Rattle.bq_views.specs.Standing.{Fact, Has, Standing, Stands};
+ghost use Rattle.bq_views.specs.Views.{Allows, Covers};
+
+use crate::view::{Known, View};
+
+/// What both say.
+pub fn join(a: Option<Known>, b: Option<Known>) -> Option<Known>
+    ensures left { Allows a result }
+    ensures right { Allows b result }
+    ensures stands { (s : Standing) → Stands s a → Stands s b → Stands s result }
+{
+    let (Some(a), Some(b)) = (a, b) else {
+        return None;
+    };
+    if a.kind != b.kind {
+        return None;
+    }
+    Some(Known {
+        kind: a.kind,
+        offset: a.offset.hull(b.offset),
+    })
+}
+
+fn join_all(into: &mut [Option<Known>], other: &[Option<Known>])
+    requires { length into.old ≡ length other.now }
+    ensures left { (k : ℕ) → Allows (slice_index_or into.old k None) (slice_index_or into.new k None) }
+    ensures right { (k : ℕ) → Allows (slice_index_or other.now k None) (slice_index_or into.new k None) }
+    ensures stands { (s : Standing) (k : ℕ) → Stands s (slice_index_or into.old k None) → Stands s (slice_index_or other.now k None) → Stands s (slice_index_or into.new k None) }
+{
+    for i in 0..into.len() {
+        into[i] = join(into[i], other[i]);
+    }
+}
+
+fn keep_common(into: &mut [bool], other: &[bool])
+    requires { length into.old ≡ length other.now }
+    ensures left { (k : ℕ) → slice_index_or into.new k false ≡ true → slice_index_or into.old k false ≡ true }
+    ensures right { (k : ℕ) → slice_index_or into.new k false ≡ true → slice_index_or other.now k false ≡ true }
+    ensures both { (k : ℕ) → slice_index_or into.old k false ≡ true → slice_index_or other.now k false ≡ true → slice_index_or into.new k false ≡ true }
+{
+    for i in 0..into.len() {
+        into[i] = into[i] & other[i];
+    }
+}
+
+/// The view is right wherever it was, and wherever the other is.
+pub fn merge(into: &mut View, other: &View)
+    ensures left { (f : Setting) (s : State) → Covers f into.old s → Covers f into.new s }
+    ensures right { (f : Setting) (s : State) → Covers f other.now s → Covers f into.new s }
+    ensures stands { (x : Fact) → Has x into.old → Has x other.now → Has x into.new }
+{
+    join_all(&mut into.registers, &other.registers);
+    keep_common(&mut into.set, &other.set);
+    join_all(&mut into.kept, &other.kept);
+}

@@ -1,0 +1,48 @@
+// Registers of a view.
+
+ghost use Rattle.std.specs.Prelude.{◌≡◌, ◌<◌, ℕ, ℤ, None, IfSome, slice_index_or};
+ghost use Rattle.bq_insn.specs.Meaning.{word_of};
+ghost use Rattle.bq_views.specs.Standing.{IsScalarOperand, IsWord, Scalar, Stands};
+ghost use Rattle.bq_views.specs.Views.{Finds, knowing};
+
+use crate::view::{Kind, Known, View};
+use bq_insn::Source;
+use bq_ranges::Range;
+
+/// What is known of an operand, if it is set.
+pub fn operand(view: &View, src: Source) -> Option<Known>
+    ensures finds { IfSome result (Finds view.now src) }
+    ensures scalar { IsScalarOperand view.now src → Stands Scalar result }
+    ensures immediate { (i : ℤ) → src ≡ Source.Imm i → IsWord (word_of i) result }
+    ensures register { (r : ℕ) → src ≡ Source.Reg r → result ≡ slice_index_or view.now.registers r None }
+{
+    match src {
+        Source::Imm(imm) => {
+            let word = i64::from(imm).cast_unsigned();
+            Some(Known {
+                kind: Kind::Number,
+                offset: Range::single(word),
+            })
+        }
+        Source::Reg(register) => known(view, register),
+    }
+}
+
+/// What is known of a register, if it is set.
+pub fn known(view: &View, register: u8) -> Option<Known>
+    ensures { result ≡ slice_index_or view.now.registers register None }
+{
+    if register < 11 {
+        view.registers[usize::from(register)]
+    } else {
+        None
+    }
+}
+
+/// Writes what is known of a register.
+pub fn learn(view: &mut View, register: u8, word: Known)
+    requires { register < 11 }
+    ensures { view.new ≡ knowing view.old register word }
+{
+    view.registers[usize::from(register)] = Some(word);
+}

@@ -1,0 +1,99 @@
+// What a branch tells of its left operand, on each side.
+
+ghost use Rattle.std.specs.Prelude.{◌≡◌, ◌<◌, ℕ, IfOk, IfSome, IfErr, IsOk, List, Some, true, false};
+ghost use Rattle.bq_insn.specs.declared.Insn.{Insn};
+ghost use Rattle.bq_insn.specs.Meaning.{taken};
+ghost use Rattle.bq_maps.specs.declared.shape.MapShape.{MapShape};
+ghost use Rattle.bq_views.specs.Doubts.{MayDoubt};
+ghost use Rattle.bq_views.specs.Standing.{IsWord, Pointer, Stands};
+ghost use Rattle.bq_views.specs.Ready.{IsNullTest};
+ghost use Rattle.bq_views.specs.Sides.{IsNumberIfAny, IsSide, IsTested, IsTestedIfAny, is_found};
+ghost use Rattle.bq_views.specs.Views.{Describes, Fits};
+
+use crate::view::{Doubt, Kind, Known};
+use bq_insn::{Condition, Width};
+use bq_ranges::narrowing::narrow;
+
+/// What the left operand is on one side of a branch; `None` where control never goes there.
+pub fn side(
+    width: Width,
+    cond: Condition,
+    left: Known,
+    right: Known,
+    goes: bool,
+) -> Result<Option<Known>, Doubt>
+    ensures fits { IfOk result (λ side. (shapes : List MapShape) (a b : ℕ) → Describes shapes left a → Describes shapes right b → taken width cond a b ≡ goes → Fits shapes side a) }
+    ensures doubts { IfErr result (λ doubt. (insn : Insn) → MayDoubt doubt insn) }
+    ensures accepts { left.kind ≡ Kind.Number → right.kind ≡ Kind.Number → IsOk result }
+    ensures number { left.kind ≡ Kind.Number → right.kind ≡ Kind.Number → IfOk result IsNumberIfAny }
+    ensures checks { (map : ℕ) → width ≡ Width.W64 → IsNullTest cond → Stands (Pointer (Kind.EntryOrNull map) 0) (Some left) → IsWord 0 (Some right) → IsOk result }
+    ensures tested { (map : ℕ) → width ≡ Width.W64 → IsNullTest cond → Stands (Pointer (Kind.EntryOrNull map) 0) (Some left) → IsWord 0 (Some right) → IfOk result (IsTested map (is_found cond goes)) }
+{
+    match outcome(width, cond, left, right, goes) {
+        Some(side) => Ok(side),
+        None => Err(Doubt::PointerUse),
+    }
+}
+
+/// What the left operand is on one side of a branch, where such words may be compared; the inner `None` where control never goes there.
+fn outcome(
+    width: Width,
+    cond: Condition,
+    left: Known,
+    right: Known,
+    goes: bool,
+) -> Option<Option<Known>>
+    ensures fits { IfSome result (λ side. (shapes : List MapShape) (a b : ℕ) → Describes shapes left a → Describes shapes right b → taken width cond a b ≡ goes → Fits shapes side a) }
+    ensures numbers { left.kind ≡ Kind.Number → right.kind ≡ Kind.Number → IsSide result }
+    ensures tested { (map : ℕ) → width ≡ Width.W64 → IsNullTest cond → Stands (Pointer (Kind.EntryOrNull map) 0) (Some left) → IsWord 0 (Some right) → IsTestedIfAny map (is_found cond goes) result }
+{
+    match (left.kind, right.kind) {
+        (Kind::Number, Kind::Number) => match narrow(cond, width, left.offset, right.offset, goes) {
+            Some(offset) => Some(Some(Known {
+                kind: Kind::Number,
+                offset,
+            })),
+            None => Some(None),
+        },
+        (Kind::EntryOrNull(map), Kind::Number) => {
+            if left.offset.hi > 0 || right.offset.hi > 0 {
+                return None;
+            }
+            null_check(map, width, cond, left, right, goes)
+        }
+        _ => None,
+    }
+}
+
+/// A look-up's result on one side of its test.
+fn null_check(
+    map: u8,
+    width: Width,
+    cond: Condition,
+    left: Known,
+    right: Known,
+    goes: bool,
+) -> Option<Option<Known>>
+    requires left { left.kind ≡ Kind.EntryOrNull map }
+    requires right { right.kind ≡ Kind.Number }
+    requires whole { left.offset.hi ≡ 0 }
+    requires null { right.offset.hi ≡ 0 }
+    ensures tested { width ≡ Width.W64 → IsNullTest cond → left.offset.lo ≡ 0 → IsTestedIfAny map (is_found cond goes) result }
+    ensures fits { IfSome result (λ side. (shapes : List MapShape) (a b : ℕ) → Describes shapes left a → Describes shapes right b → taken width cond a b ≡ goes → Fits shapes side a) }
+{
+    let null = Known {
+        kind: Kind::Number,
+        offset: right.offset,
+    };
+    let entry = Known {
+        kind: Kind::Entry(map),
+        offset: left.offset,
+    };
+    match (width, cond, goes) {
+        (Width::W64, Condition::Equal, true) => Some(Some(null)),
+        (Width::W64, Condition::Equal, false) => Some(Some(entry)),
+        (Width::W64, Condition::NotEqual, true) => Some(Some(entry)),
+        (Width::W64, Condition::NotEqual, false) => Some(Some(null)),
+        _ => None,
+    }
+}

@@ -1,0 +1,174 @@
+// Stores, and what they leave known.
+
+ghost use Rattle.std.specs.Prelude.{◌≡◌, ◌+◌, ◌<◌, ◌≤◌, ◌^◌, ℕ, true, false, List, length, slice_index, slice_index_or, IsOk, OnOk, IfErr};
+ghost use Rattle.bq_insn.specs.declared.Insn.{Insn};
+ghost use Rattle.bq_insn.specs.Meaning.{byte_count, word_of};
+ghost use Rattle.bq_maps.specs.Memory.{Setting, State, InStack, written};
+ghost use Rattle.bq_maps.specs.Machine.{low_bytes, next};
+ghost use Rattle.bq_ranges.specs.Within.{Within};
+ghost use Rattle.bq_views.specs.Doubts.{IsAccess, MayDoubt};
+ghost use Rattle.bq_views.specs.Ready.{IsPlaced};
+ghost use Rattle.bq_views.specs.Standing.{IsStoredAt, Scalar, StandsAt};
+ghost use Rattle.bq_views.specs.Views.{Carries, Covers, Describes, Forgets, Marks, Stores, keeping};
+
+use crate::memory::{locate, stays};
+use crate::registers::known;
+use crate::view::{Doubt, Kind, Known, View};
+use bq_insn::{Insn, Size};
+use bq_maps::shape::MapShape;
+use bq_ranges::Range;
+
+/// A store of a number from the instruction.
+pub fn store_imm(
+    view: &mut View,
+    shapes: &[MapShape],
+    context: usize,
+    size: Size,
+    dst: u8,
+    off: i16,
+    imm: i32,
+) -> Result<(), Doubt>
+    requires context { context < 2 ^ 16 }
+    ensures carries { OnOk result (Carries shapes.now context (Insn.StoreImm size dst off imm) view.old view.new) }
+    ensures doubts { IfErr result (λ doubt. MayDoubt doubt (Insn.StoreImm size dst off imm)) }
+    ensures accepts { (place : ℕ) → IsPlaced shapes.now context view.old size dst off Kind.Stack place → IsOk result × IsStoredAt view.old view.new place (place + byte_count size) }
+    ensures entry { (map place : ℕ) → IsPlaced shapes.now context view.old size dst off (Kind.Entry map) place → IsOk result × (view.new ≡ view.old) }
+{
+    let word = Known {
+        kind: Kind::Number,
+        offset: Range::single(word_of_imm(imm)),
+    };
+    store(view, shapes, context, size, dst, off, word)?;
+    Ok(())
+}
+
+/// The word of a number in the instruction.
+fn word_of_imm(imm: i32) -> u64
+    ensures { result ≡ word_of imm }
+{
+    i64::from(imm).cast_unsigned()
+}
+
+/// A store of a register.
+pub fn store_reg(
+    view: &mut View,
+    shapes: &[MapShape],
+    context: usize,
+    size: Size,
+    dst: u8,
+    off: i16,
+    src: u8,
+) -> Result<(), Doubt>
+    requires context { context < 2 ^ 16 }
+    ensures carries { OnOk result (Carries shapes.now context (Insn.StoreReg size dst off src) view.old view.new) }
+    ensures doubts { IfErr result (λ doubt. MayDoubt doubt (Insn.StoreReg size dst off src)) }
+    ensures accepts { StandsAt Scalar view.old src → (place : ℕ) → IsPlaced shapes.now context view.old size dst off Kind.Stack place → IsOk result × IsStoredAt view.old view.new place (place + byte_count size) }
+    ensures entry { StandsAt Scalar view.old src → (map place : ℕ) → IsPlaced shapes.now context view.old size dst off (Kind.Entry map) place → IsOk result × (view.new ≡ view.old) }
+{
+    let Some(word) = known(view, src) else {
+        return Err(Doubt::Unset);
+    };
+    store(view, shapes, context, size, dst, off, word)?;
+    Ok(())
+}
+
+/// A store of a word: on the stack, or into an entry.
+fn store(
+    view: &mut View,
+    shapes: &[MapShape],
+    context: usize,
+    size: Size,
+    dst: u8,
+    off: i16,
+    word: Known,
+) -> Result<(), Doubt>
+    requires context { context < 2 ^ 16 }
+    ensures stores { OnOk result (Stores shapes.now context dst off size word view.old view.new) }
+    ensures doubts { IfErr result (λ doubt. (insn : Insn) → IsAccess insn → MayDoubt doubt insn) }
+    ensures accepts { word.kind ≡ Kind.Number → (place : ℕ) → IsPlaced shapes.now context view.old size dst off Kind.Stack place → IsOk result × IsStoredAt view.old view.new place (place + byte_count size) }
+    ensures entry { word.kind ≡ Kind.Number → (map place : ℕ) → IsPlaced shapes.now context view.old size dst off (Kind.Entry map) place → IsOk result × (view.new ≡ view.old) }
+{
+    let found = locate(view, shapes, context, size, dst, off)?;
+    match found.kind {
+        Kind::Stack => {
+            store_on_stack(view, found.at, size, word)?;
+            Ok(())
+        }
+        Kind::Entry(_) => {
+            if word.kind != Kind::Number {
+                return Err(Doubt::PointerUse);
+            }
+            Ok(())
+        }
+        _ => Err(Doubt::Access),
+    }
+}
+
+/// A store on the stack; a word of eight bytes at a multiple of eight is kept whole.
+fn store_on_stack(view: &mut View, at: Range, size: Size, word: Known) -> Result<(), Doubt>
+    ensures covers { OnOk result ((f : Setting) (s : State) (o v : ℕ) → Covers f view.old s → Within at o → Describes f.shapes word v → Covers f view.new (next (written s InStack o (low_bytes size v)))) }
+    ensures doubts { IfErr result (λ doubt. (insn : Insn) → IsAccess insn → MayDoubt doubt insn) }
+    ensures accepts { word.kind ≡ Kind.Number → (place : ℕ) → at.lo ≡ place → at.hi ≡ place → place + byte_count size ≤ 512 → IsOk result × IsStoredAt view.old view.new place (place + byte_count size) }
+{
+    if !stays(at, size, 512) {
+        return Err(Doubt::Access);
+    }
+    if size == Size::Double && at.is_single() && at.lo % 8 == 0 {
+        overwrite(view, at, size);
+        keep(view, at.lo as usize / 8, word);
+        return Ok(());
+    }
+    if word.kind != Kind::Number {
+        return Err(Doubt::PointerUse);
+    }
+    overwrite(view, at, size);
+    Ok(())
+}
+
+/// Bytes are written somewhere in the range: what was kept there is forgotten, and they are set if it is one place.
+fn overwrite(view: &mut View, at: Range, size: Size)
+    requires { at.hi + byte_count size ≤ 512 }
+    ensures long { length view.new.kept ≡ 64 }
+    ensures stored { at.lo ≡ at.hi → IsStoredAt view.old view.new at.lo (at.hi + byte_count size) }
+    ensures covers { (f : Setting) (s : State) (o : ℕ) (bytes : List ℕ) → Covers f view.old s → Within at o → length bytes ≡ byte_count size → ((k : ℕ) → k < length bytes → slice_index bytes k < 256) → Covers f view.new (next (written s InStack o bytes)) }
+{
+    let from = at.lo as usize;
+    let to = at.hi as usize + size.bytes();
+    forget(&mut view.kept, from, to);
+    if !at.is_single() {
+        return;
+    }
+    mark(&mut view.set, from, to);
+}
+
+/// A word is kept in a slot of eight bytes.
+fn keep(view: &mut View, slot: usize, word: Known)
+    requires { slot < 64 }
+    ensures { view.new ≡ keeping view.old slot word }
+{
+    view.kept[slot] = Some(word);
+}
+
+/// These bytes are set.
+pub fn mark(set: &mut [bool], from: usize, to: usize)
+    requires { to ≤ length set.old }
+    ensures only { Marks set.old set.new from to }
+    ensures marked { (i : ℕ) → from ≤ i → i < to → slice_index_or set.new i false ≡ true }
+    ensures kept { (i : ℕ) → slice_index_or set.old i false ≡ true → slice_index_or set.new i false ≡ true }
+{
+    for k in from..to {
+        set[k] = true;
+    }
+}
+
+/// Words that were kept where these bytes lie are forgotten.
+pub fn forget(kept: &mut [Option<Known>], from: usize, to: usize)
+    requires { length kept.old ≤ 64 }
+    ensures { Forgets kept.old kept.new from to }
+{
+    for j in 0..kept.len() {
+        if j * 8 < to && from < j * 8 + 8 {
+            kept[j] = None;
+        }
+    }
+}
