@@ -3,9 +3,10 @@
 //!
 //! `plain INPUT` writes a program: `alu-N` has N slots of random arithmetic, `memory-N` N slots of loads and stores on the
 //! stack, `diamonds-N` N branches over one instruction each, `bits-N` the same where each sets another bit of register 0.
-//! `plain switch TURNS` runs the program on standard input so often, its addresses being the machine's own; `plain flat
-//! TURNS` has addresses as `bq_maps` defines them, and tries the stack first. Neither counts its instructions or clears
-//! anything while it is timed. `plain budget TURNS` finds the longest path only, and checks nothing.
+//! `plain switch TURNS` runs the program on standard input so often, its addresses being the machine's own, and counts the
+//! instructions, since a run has to tell their number; `plain lean TURNS` does the same and counts nothing; `plain flat
+//! TURNS` counts, has addresses as `bq_maps` defines them, and tries the stack first. None of them clears anything while it
+//! is timed. `plain budget TURNS` finds the longest path only, and checks nothing.
 mod interpreter;
 mod programs;
 
@@ -21,7 +22,7 @@ fn slots() -> io::Result<Vec<Slot>> {
 }
 
 /// So many runs: the nanoseconds, and the sum of what they answered and how many instructions they took.
-fn runs<const FLAT: bool>(turns: u64) -> io::Result<()> {
+fn runs<const FLAT: bool, const COUNT: bool>(turns: u64) -> io::Result<()> {
     let slots = slots()?;
     let mut machine = Machine { context: [0; 56], stack: [0xa5; 512], now: 0 };
     // SAFETY: the programs of `programs` end, and touch only their stack.
@@ -31,8 +32,8 @@ fn runs<const FLAT: bool>(turns: u64) -> io::Result<()> {
     for turn in 0..turns {
         machine.now = turn;
         // SAFETY: as above.
-        let (r0, _) = unsafe { run::<FLAT, false>(black_box(slots.as_ptr()), &mut machine) };
-        sum = sum.wrapping_add(r0).wrapping_add(u64::from(steps));
+        let (r0, counted) = unsafe { run::<FLAT, COUNT>(black_box(slots.as_ptr()), &mut machine) };
+        sum = sum.wrapping_add(r0).wrapping_add(u64::from(if COUNT { counted } else { steps }));
     }
     println!("{} {sum}", start.elapsed().as_nanos());
     Ok(())
@@ -69,8 +70,9 @@ fn main() -> io::Result<()> {
     let words: Vec<String> = std::env::args().skip(1).collect();
     let words: Vec<&str> = words.iter().map(String::as_str).collect();
     match words[..] {
-        ["switch", turns] => runs::<false>(turns.parse().unwrap()),
-        ["flat", turns] => runs::<true>(turns.parse().unwrap()),
+        ["switch", turns] => runs::<false, true>(turns.parse().unwrap()),
+        ["lean", turns] => runs::<false, false>(turns.parse().unwrap()),
+        ["flat", turns] => runs::<true, true>(turns.parse().unwrap()),
         ["budget", turns] => budgets(turns.parse().unwrap()),
         [input] => io::stdout().write_all(&programs::named(input).expect("a program")),
         _ => panic!("no such words"),
