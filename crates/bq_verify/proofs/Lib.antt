@@ -5,3 +5,4 @@ pub mod GraphLemmas
 pub mod SlotLemmas
 pub mod PassLemmas
 pub mod LongerLemmas
+pub mod WorkedLemmas

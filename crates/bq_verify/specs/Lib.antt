@@ -6,3 +6,4 @@ pub mod Stops
 pub mod Accepted
 pub mod Refusals
 pub mod Laws
+pub mod Worked

@@ -1,5 +1,8 @@
 // Programs that are accepted, with their budgets, and programs that are refused, with slot and cause.
 
+ghost use Rattle.std.specs.Prelude.{◌≡◌};
+ghost use Rattle.bq_verify.specs.Worked.{worked};
+
 use crate::hook::{Hook, Version};
 use crate::program::{Program, verify};
 use crate::refused::Refused;
@@ -510,4 +513,63 @@ fn counters(rt: HostRuntime) -> Result<(), Fail> {
         expect(&rt, rt.alloc(), program.as_slice(), &none, answer)?;
     }
     Ok(())
+}
+
+/// The program that the law calls straight.
+fn worked_program() -> [Insn; 10]
+    ensures { result ≡ worked }
+{
+    let wide = Width::W64;
+    let zero = Source::Imm(0);
+    [
+        Insn::StoreImm {
+            size: Size::Word,
+            dst: 10,
+            off: -4,
+            imm: 0,
+        },
+        Insn::MapRef { dst: 1, index: 0 },
+        Insn::Alu {
+            width: wide,
+            op: Operation::Mov,
+            dst: 2,
+            src: Source::Reg(10),
+        },
+        Insn::Alu {
+            width: wide,
+            op: Operation::Add,
+            dst: 2,
+            src: Source::Imm(-4),
+        },
+        Insn::Call { helper: 1 },
+        Insn::Branch {
+            width: wide,
+            cond: Condition::Equal,
+            dst: 0,
+            src: zero,
+            off: 2,
+        },
+        Insn::Load {
+            size: Size::Double,
+            signed: false,
+            dst: 0,
+            src: 0,
+            off: 0,
+        },
+        Insn::Exit,
+        Insn::Alu {
+            width: wide,
+            op: Operation::Mov,
+            dst: 0,
+            src: zero,
+        },
+        Insn::Exit,
+    ]
+}
+
+// either way has eight instructions
+#[test]
+fn worked_is_accepted(rt: HostRuntime) -> Result<(), Fail> {
+    let one = [MapShape::new(8, 1).ok_or("no shape")?];
+    expect(&rt, rt.alloc(), &worked_program(), &one, Ok(8))
 }

@@ -6,12 +6,13 @@ ghost use Rattle.bq_maps.specs.Machine.{called};
 ghost use Rattle.bq_maps.specs.declared.shape.MapShape.{MapShape};
 ghost use Rattle.bq_ranges.specs.Within.{Within};
 ghost use Rattle.bq_views.specs.Doubts.{MayDoubt};
-ghost use Rattle.bq_views.specs.Standing.{IsAnswered, IsCalled, IsMade, Pointer, StandsAt};
-ghost use Rattle.bq_views.specs.Ready.{IsNamingEntry};
+ghost use Rattle.bq_views.specs.After.{After};
+ghost use Rattle.bq_views.specs.Standing.{Fact, Has, IsAnswered, IsCalled, IsMade, Pointer, StandsAt};
+ghost use Rattle.bq_views.specs.Ready.{IsReady, IsNamingEntry};
 ghost use Rattle.bq_views.specs.Views.{Carries, Clears, Covers, IsBelow};
 
 use crate::memory::{reads, reads_value, shape_of};
-use crate::registers::{known, learn};
+use crate::registers::{known, learn, write};
 use crate::view::{Doubt, Kind, Known, View};
 use bq_insn::{Insn, Size, Width};
 use bq_maps::shape::MapShape;
@@ -19,23 +20,22 @@ use bq_ranges::Range;
 
 /// The reference of a map.
 pub fn map_ref(view: &mut View, shapes: &[MapShape], dst: u8, index: i32) -> Result<(), Doubt>
-    requires dst { dst < 10 }
     requires few { length shapes.now ≤ 8 }
     ensures carries { OnOk result ((context_length : ℕ) → Carries shapes.now context_length (Insn.MapRef dst index) view.old view.new) }
     ensures doubts { IfErr result (λ doubt. MayDoubt doubt (Insn.MapRef dst index)) }
-    ensures accepts { (m : ℕ) → index ≡ pos m → m < length shapes.now → IsOk result × IsMade (Pointer (Kind.Map m) 0) view.old view.new dst }
+    ensures accepts { dst < 10 → (m : ℕ) → index ≡ pos m → m < length shapes.now → IsOk result × IsMade (Pointer (Kind.Map m) 0) view.old view.new dst }
 {
     let Some(map) = map_number(shapes, index) else {
         return Err(Doubt::Argument);
     };
-    learn(
+    write(
         view,
         dst,
         Known {
             kind: Kind::Map(map),
             offset: Range::single(0),
         },
-    );
+    )?;
     Ok(())
 }
 
@@ -84,8 +84,34 @@ fn map_of(view: &View) -> Option<u8>
     }
 }
 
+/// A call of a helper that is no counter's: a look-up, an update, the time, or the number of the processor.
+pub fn call(view: &mut View, shapes: &[MapShape], context: usize, helper: i32) -> Result<(), Doubt>
+    requires { context < 2 ^ 16 }
+    ensures carries { OnOk result (Carries shapes.now context (Insn.Call helper) view.old view.new) }
+    ensures doubts { IfErr result (λ doubt. MayDoubt doubt (Insn.Call helper)) }
+    ensures accepts { IsReady shapes.now context view.old (Insn.Call helper) → IsOk result × ((x : Fact) (slot k : ℕ) → After x slot k (Insn.Call helper) view.old → Has x view.new) }
+{
+    if helper == 1 {
+        look_up(view, shapes, context)?;
+        return Ok(());
+    }
+    if helper == 2 {
+        update(view, shapes, context)?;
+        return Ok(());
+    }
+    if helper == 5 {
+        now(view);
+        return Ok(());
+    }
+    if helper == 8 {
+        processor(view);
+        return Ok(());
+    }
+    Err(Doubt::Argument)
+}
+
 /// A look-up: register 1 is the reference of a map, and register 2 points to the number of an entry.
-pub fn look_up(view: &mut View, shapes: &[MapShape], context: usize) -> Result<(), Doubt>
+fn look_up(view: &mut View, shapes: &[MapShape], context: usize) -> Result<(), Doubt>
     requires context { context < 2 ^ 16 }
     ensures carries { OnOk result (Carries shapes.now context (Insn.Call (pos 1)) view.old view.new) }
     ensures doubts { IfErr result (λ doubt. MayDoubt doubt (Insn.Call (pos 1))) }
@@ -110,7 +136,7 @@ pub fn look_up(view: &mut View, shapes: &[MapShape], context: usize) -> Result<(
 }
 
 /// An update: as a look-up, and register 3 points to a value, and register 4 is 0.
-pub fn update(view: &mut View, shapes: &[MapShape], context: usize) -> Result<(), Doubt>
+fn update(view: &mut View, shapes: &[MapShape], context: usize) -> Result<(), Doubt>
     requires context { context < 2 ^ 16 }
     ensures carries { OnOk result (Carries shapes.now context (Insn.Call (pos 2)) view.old view.new) }
     ensures doubts { IfErr result (λ doubt. MayDoubt doubt (Insn.Call (pos 2))) }
@@ -164,7 +190,7 @@ pub fn answer(view: &mut View, offset: Range)
 }
 
 /// The time.
-pub fn now(view: &mut View)
+fn now(view: &mut View)
     ensures carries { (shapes : List MapShape) (context_length : ℕ) → Carries shapes context_length (Insn.Call (pos 5)) view.old view.new }
     ensures answered { IsAnswered view.old view.new }
 {
@@ -172,7 +198,7 @@ pub fn now(view: &mut View)
 }
 
 /// The number of the processor.
-pub fn processor(view: &mut View)
+fn processor(view: &mut View)
     ensures carries { (shapes : List MapShape) (context_length : ℕ) → Carries shapes context_length (Insn.Call (pos 8)) view.old view.new }
     ensures answered { IsAnswered view.old view.new }
 {

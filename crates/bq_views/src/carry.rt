@@ -2,19 +2,18 @@
 
 ghost use Rattle.std.specs.Prelude.{ℕ, IsOk, ◌<◌, ◌≤◌, ◌^◌, OnOk, length, IfErr};
 ghost use Rattle.bq_views.specs.Doubts.{MayDoubt};
-ghost use Rattle.bq_views.specs.Views.{Carries};
+ghost use Rattle.bq_views.specs.Views.{Carries, IsStraight};
 ghost use Rattle.bq_views.specs.After.{After};
 ghost use Rattle.bq_views.specs.Standing.{Fact, Has};
 ghost use Rattle.bq_views.specs.Ready.{IsCarried, IsReady};
-ghost use Rattle.bq_views.specs.Views.{IsStraight};
 
-use crate::alu::{alu, copy};
-use crate::calls::{look_up, map_ref, now, processor, update};
+use crate::alu::alu;
+use crate::calls::{call, map_ref};
 use crate::memory::load;
 use crate::moves::{extend, immediate, negate, reorder};
 use crate::stores::{store_imm, store_reg};
 use crate::view::{Doubt, View};
-use bq_insn::{Insn, Operation};
+use bq_insn::Insn;
 use bq_maps::shape::MapShape;
 
 /// The view after the instruction.
@@ -32,109 +31,40 @@ pub fn carry(view: &mut View, shapes: &[MapShape], context: usize, insn: Insn) -
             op,
             dst,
             src,
-        } => {
-            if dst >= 10 {
-                return Err(Doubt::Unset);
-            }
-            if op == Operation::Mov {
-                copy(view, width, dst, src)?;
-            } else {
-                alu(view, width, op, dst, src)?;
-            }
-            Ok(())
-        }
+        } => alu(view, width, op, dst, src)?,
+        Insn::MovSx {
+            width,
+            bits,
+            dst,
+            src,
+        } => extend(view, width, bits, dst, src)?,
+        Insn::Neg { width, dst } => negate(view, width, dst)?,
+        Insn::End { kind, bits, dst } => reorder(view, kind, bits, dst)?,
+        Insn::Imm64 { dst, value } => immediate(view, dst, value)?,
         Insn::Load {
             size,
             signed,
             dst,
             src,
             off,
-        } => {
-            if dst >= 10 {
-                return Err(Doubt::Unset);
-            }
-            load(view, shapes, context, size, signed, dst, src, off)?;
-            Ok(())
-        }
+        } => load(view, shapes, context, size, signed, dst, src, off)?,
         Insn::StoreImm {
             size,
             dst,
             off,
             imm,
-        } => {
-            store_imm(view, shapes, context, size, dst, off, imm)?;
-            Ok(())
-        }
+        } => store_imm(view, shapes, context, size, dst, off, imm)?,
         Insn::StoreReg {
             size,
             dst,
             off,
             src,
-        } => {
-            store_reg(view, shapes, context, size, dst, off, src)?;
-            Ok(())
-        }
-        Insn::MapRef { dst, index } => {
-            if dst >= 10 {
-                return Err(Doubt::Unset);
-            }
-            map_ref(view, shapes, dst, index)?;
-            Ok(())
-        }
-        Insn::Call { helper } => {
-            if helper == 1 {
-                look_up(view, shapes, context)?;
-                return Ok(());
-            }
-            if helper == 2 {
-                update(view, shapes, context)?;
-                return Ok(());
-            }
-            if helper == 5 {
-                now(view);
-                return Ok(());
-            }
-            if helper == 8 {
-                processor(view);
-                return Ok(());
-            }
-            Err(Doubt::Argument)
-        }
-        Insn::MovSx {
-            width,
-            bits,
-            dst,
-            src,
-        } => {
-            if dst >= 10 {
-                return Err(Doubt::Unset);
-            }
-            extend(view, width, bits, dst, src)?;
-            Ok(())
-        }
-        Insn::Neg { width, dst } => {
-            if dst >= 10 {
-                return Err(Doubt::Unset);
-            }
-            negate(view, width, dst)?;
-            Ok(())
-        }
-        Insn::End { kind, bits, dst } => {
-            if dst >= 10 {
-                return Err(Doubt::Unset);
-            }
-            reorder(view, kind, bits, dst)?;
-            Ok(())
-        }
-        Insn::Imm64 { dst, value } => {
-            if dst >= 10 {
-                return Err(Doubt::Unset);
-            }
-            immediate(view, dst, value);
-            Ok(())
-        }
+        } => store_reg(view, shapes, context, size, dst, off, src)?,
+        Insn::MapRef { dst, index } => map_ref(view, shapes, dst, index)?,
+        Insn::Call { helper } => call(view, shapes, context, helper)?,
         Insn::Goto { .. } | Insn::Goto32 { .. } | Insn::Branch { .. } | Insn::Exit => {
-            Err(Doubt::Unset)
+            return Err(Doubt::Unset);
         }
     }
+    Ok(())
 }

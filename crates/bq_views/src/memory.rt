@@ -11,7 +11,7 @@ ghost use Rattle.bq_views.specs.Ready.{IsPlaced, IsReadable, bound_of};
 ghost use Rattle.bq_views.specs.declared.view.Kind.{Kind as Base};
 ghost use Rattle.bq_views.specs.Views.{Bounds, Carries, FindsBytes, FindsPlace};
 
-use crate::registers::{known, learn};
+use crate::registers::{known, write};
 use crate::view::{Doubt, Kind, Known, View};
 use bq_insn::{Bits, Insn, Operation, Size, Width};
 use bq_maps::shape::MapShape;
@@ -192,28 +192,27 @@ pub fn load(
     src: u8,
     off: i16,
 ) -> Result<(), Doubt>
-    requires dst { dst < 10 }
     requires context { context < 2 ^ 16 }
     ensures carries { OnOk result (Carries shapes.now context (Insn.Load size signed dst src off) view.old view.new) }
     ensures doubts { IfErr result (λ doubt. MayDoubt doubt (Insn.Load size signed dst src off)) }
-    ensures accepts { IsReadable shapes.now context view.old size src off → IsOk result × IsGiven view.old view.new dst }
+    ensures accepts { dst < 10 → IsReadable shapes.now context view.old size src off → IsOk result × IsGiven view.old view.new dst }
 {
     let found = locate(view, shapes, context, size, src, off)?;
     if let Some(word) = kept_at(view, found, size, signed) {
-        learn(view, dst, word);
+        write(view, dst, word)?;
         return Ok(());
     }
     if !is_readable(view, found.kind, found.at, size) {
         return Err(Doubt::Access);
     }
-    learn(
+    write(
         view,
         dst,
         Known {
             kind: Kind::Number,
             offset: loads(size, signed),
         },
-    );
+    )?;
     Ok(())
 }
 

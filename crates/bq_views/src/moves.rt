@@ -8,7 +8,7 @@ ghost use Rattle.bq_views.specs.Doubts.{MayDoubt};
 ghost use Rattle.bq_views.specs.declared.view.Kind.TheVariants.{Number};
 ghost use Rattle.bq_views.specs.Views.{Carries, HoldsNumber, knowing};
 
-use crate::registers::{known, learn};
+use crate::registers::{known, write};
 use crate::view::{Doubt, Kind, Known, View};
 use bq_insn::{Bits, Order, Width};
 use bq_ranges::{Range, moves};
@@ -29,62 +29,63 @@ pub fn number(view: &View, register: u8) -> Result<Range, Doubt>
 }
 
 /// A register becomes a number of that range.
-fn learn_number(view: &mut View, register: u8, offset: Range)
-    requires { register < 11 }
-    ensures is { view.new ≡ knowing view.old register (record { kind = Number; offset = offset }) }
-    ensures given { IsGiven view.old view.new register }
+fn write_number(view: &mut View, register: u8, offset: Range) -> Result<(), Doubt>
+    ensures below { OnOk result (register < 10) }
+    ensures is { OnOk result (view.new ≡ knowing view.old register (record { kind = Number; offset = offset })) }
+    ensures given { OnOk result (IsGiven view.old view.new register) }
+    ensures doubts { IfErr result (λ doubt. (insn : Insn) → MayDoubt doubt insn) }
+    ensures accepts { register < 10 → IsOk result }
 {
-    learn(
+    write(
         view,
         register,
         Known {
             kind: Kind::Number,
             offset,
         },
-    );
+    )?;
+    Ok(())
 }
 
 /// The low bits of a register with their sign extended.
 pub fn extend(view: &mut View, width: Width, bits: Bits, dst: u8, src: u8) -> Result<(), Doubt>
-    requires { dst < 10 }
     ensures carries { OnOk result ((shapes : List MapShape) (context_length : ℕ) → Carries shapes context_length (Insn.MovSx width bits dst src) view.old view.new) }
     ensures doubts { IfErr result (λ doubt. (insn : Insn) → MayDoubt doubt insn) }
-    ensures accepts { StandsAt Scalar view.old src → IsOk result × IsGiven view.old view.new dst }
+    ensures accepts { dst < 10 → StandsAt Scalar view.old src → IsOk result × IsGiven view.old view.new dst }
 {
     let word = number(view, src)?;
-    learn_number(view, dst, moves::extend(width, bits, word));
+    write_number(view, dst, moves::extend(width, bits, word))?;
     Ok(())
 }
 
 /// A negation.
 pub fn negate(view: &mut View, width: Width, dst: u8) -> Result<(), Doubt>
-    requires { dst < 10 }
     ensures carries { OnOk result ((shapes : List MapShape) (context_length : ℕ) → Carries shapes context_length (Insn.Neg width dst) view.old view.new) }
     ensures doubts { IfErr result (λ doubt. (insn : Insn) → MayDoubt doubt insn) }
-    ensures accepts { StandsAt Scalar view.old dst → IsOk result × IsGiven view.old view.new dst }
+    ensures accepts { dst < 10 → StandsAt Scalar view.old dst → IsOk result × IsGiven view.old view.new dst }
 {
     let word = number(view, dst)?;
-    learn_number(view, dst, moves::neg(width, word));
+    write_number(view, dst, moves::neg(width, word))?;
     Ok(())
 }
 
 /// The low bits of a register in a byte order.
 pub fn reorder(view: &mut View, kind: Order, bits: Bits, dst: u8) -> Result<(), Doubt>
-    requires { dst < 10 }
     ensures carries { OnOk result ((shapes : List MapShape) (context_length : ℕ) → Carries shapes context_length (Insn.End kind bits dst) view.old view.new) }
     ensures doubts { IfErr result (λ doubt. (insn : Insn) → MayDoubt doubt insn) }
-    ensures accepts { StandsAt Scalar view.old dst → IsOk result × IsGiven view.old view.new dst }
+    ensures accepts { dst < 10 → StandsAt Scalar view.old dst → IsOk result × IsGiven view.old view.new dst }
 {
     let word = number(view, dst)?;
-    learn_number(view, dst, moves::reorder(kind, bits, word));
+    write_number(view, dst, moves::reorder(kind, bits, word))?;
     Ok(())
 }
 
 /// A number of 64 bits from the instruction.
-pub fn immediate(view: &mut View, dst: u8, value: u64)
-    requires { dst < 10 }
-    ensures carries { (shapes : List MapShape) (context_length : ℕ) → Carries shapes context_length (Insn.Imm64 dst value) view.old view.new }
-    ensures given { IsGiven view.old view.new dst }
+pub fn immediate(view: &mut View, dst: u8, value: u64) -> Result<(), Doubt>
+    ensures carries { OnOk result ((shapes : List MapShape) (context_length : ℕ) → Carries shapes context_length (Insn.Imm64 dst value) view.old view.new) }
+    ensures doubts { IfErr result (λ doubt. (insn : Insn) → MayDoubt doubt insn) }
+    ensures accepts { dst < 10 → IsOk result × IsGiven view.old view.new dst }
 {
-    learn_number(view, dst, Range::single(value));
+    write_number(view, dst, Range::single(value))?;
+    Ok(())
 }

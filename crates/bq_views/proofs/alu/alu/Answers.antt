@@ -1,33 +1,96 @@
-use Rattle.std.proofs.Common.{ℕ, Option, Some, refl, sym, subst, arith, length, ◌<◌}
+use Rattle.std.proofs.Common.{subst, refl, inl, inr, false, true, ◌≡◌, rules}
+use Rattle.bq_views.specs.After.{After}
+use Rattle.bq_views.specs.Ready.{IsCopyOfFrame}
+use Rattle.bq_views.proofs.StandingLemmas.{has_copied, has_given, has_moved, left_scalar, no_pointer}
+use Rattle.bq_insn.specs.declared.Operation.{Operation}
+use Rattle.bq_insn.specs.declared.Operation.TheVariants.{Add, Mov}
+use Rattle.bq_insn.specs.declared.Source.{Source}
+use Rattle.bq_insn.specs.declared.Source.TheVariants.{Imm, Reg}
 use Rattle.bq_insn.specs.declared.Insn.TheVariants.{Alu}
-use Rattle.bq_insn.specs.Meaning.{alu_result, word_of}
-use Rattle.bq_views.specs.declared.view.Kind.TheVariants.{Stack}
-use Rattle.bq_views.specs.declared.view.Known.{Known}
-use Rattle.bq_views.specs.declared.view.View.{View}
-use Rattle.bq_views.specs.Standing.{IsMade, IsWord, Pointer, Stands}
-use Rattle.bq_views.proofs.PlaceLemmas.{moved_is}
-use Rattle.bq_views.proofs.StandingLemmas.{knowing_made}
-use Rattle.bq_views.proofs.PutLemmas.{carries_put, found_at, left_from_set}
 use Rattle.bq_views.proofs.alu.alu.Goals as goal
 
-pub returns-clause-carries : goal.returns-clause-carries
-returns-clause-carries c = λ shapes context_length.
-    let there : c.args.dst < length c.args.view.now.registers = omega arith in
-    rw c.learn.ensures
-    (carries_put shapes context_length (Alu c.args.width c.args.op c.args.dst c.args.src) c.args.view.now c.args.dst c.in-Some-combine.word there
-    (λ f s suits covers.
-    let right = c.in-Some.ensures.finds f s covers in
-    let left = found_at f c.args.view.now s c.args.dst c.in-Some-known.left c.in-Some-known.ensures covers in (
-      alu_result c.args.width c.args.op left.0 right.0,
-      (left.0, right.0, left_from_set c.args.op (s.register c.args.dst) left.0 left.1, right.1, c.requires, refl),
-      c.in-Some-combine.ensures.describes f.shapes left.0 right.0 left.2 right.2,
-    )))
+pub returns-then-eq-clause-carries : goal.returns-then-eq-clause-carries
+returns-then-eq-clause-carries c =
+    let same : c.args.op ≡ Mov = search rules in
+    rw same c.in_ok-copy.ensures.carries
 
-pub returns-clause-moves : goal.returns-clause-moves
-returns-clause-moves c = λ m.
-    let there : c.args.dst < length c.args.view.now.registers = omega arith in
-    let left : Stands (Pointer Stack m.base) (Some c.in-Some-known.left) = subst (λ (v : Option Known). Stands (Pointer Stack m.base) v) (sym c.in-Some-known.ensures) m.stands in
-    let right : IsWord (word_of m.distance) (Some c.in-Some.right) = c.in-Some.ensures.immediate m.distance m.by_distance in
-    let moved = c.in-Some-combine.ensures.moves m.base (word_of m.distance) m.whole m.is_sum left right in
-    let stands : Stands (Pointer Stack m.at) (Some c.in-Some-combine.word) = subst (λ (n : ℕ). Stands (Pointer Stack n) (Some c.in-Some-combine.word)) (moved_is m.base m.at m.distance m.below m.small m.at_is) moved in
-    (refl, subst (λ (v : View). IsMade (Pointer Stack m.at) c.args.view.now v c.args.dst) (sym c.learn.ensures) (knowing_made (Pointer Stack m.at) c.args.view.now c.args.dst c.in-Some-combine.word there stands))
+pub returns-in_err-copy-clause-accepts : goal.returns-in_err-copy-clause-accepts
+returns-in_err-copy-clause-accepts c = λ shapes context ready.
+    let same : c.args.op ≡ Mov = search rules in
+    elim ready.1 [
+      | inl n ↦ absurd (let ok : false ≡ true = (c.in_err-copy.ensures.accepts ready.0 n.1).0 in let no : ⊥ = cc in no)
+      | inr either ↦
+          elim either [
+            | inl f ↦
+                let m : IsCopyOfFrame c.args.view.now c.args.width Mov c.args.src = record { is_copy = refl; whole = f.whole; of_frame = f.of_frame; base = f.base; stands = f.stands } in
+                absurd (let ok : false ≡ true = (c.in_err-copy.ensures.copies ready.0 m).0 in let no : ⊥ = cc in no)
+            | inr f ↦ absurd (let sum : c.args.op ≡ Add = f.is_sum in let no : ⊥ = cc in no)
+          ]
+    ]
+
+pub returns-then-eq-clause-accepts : goal.returns-then-eq-clause-accepts
+returns-then-eq-clause-accepts c = λ shapes context ready.
+    let same : c.args.op ≡ Mov = search rules in
+    elim ready.1 [
+      | inl n ↦ (
+        refl,
+        λ x slot k after.
+            has_given x slot k (Alu c.args.width c.args.op c.args.dst c.args.src) c.args.view.now c.copy.new.view c.args.dst refl
+            (λ kind o r. no_pointer kind o slot k c.args.width c.args.op c.args.dst c.args.src r c.args.view.now n.0 n.1)
+            (c.in_ok-copy.ensures.accepts ready.0 n.1).1
+            after,
+      )
+      | inr either ↦
+          elim either [
+            | inl f ↦
+                let m : IsCopyOfFrame c.args.view.now c.args.width Mov c.args.src = record { is_copy = refl; whole = f.whole; of_frame = f.of_frame; base = f.base; stands = f.stands } in (
+                  refl,
+                  λ x slot k after.
+                      let at : After x slot k (Alu c.args.width c.args.op c.args.dst c.args.src) c.args.view.now = after in
+                      let copied : After x slot k (Alu c.args.width Mov c.args.dst (Reg 10)) c.args.view.now =
+                      subst (λ (src : Source). After x slot k (Alu c.args.width Mov c.args.dst src) c.args.view.now) f.of_frame
+                      (subst (λ (op : Operation). After x slot k (Alu c.args.width op c.args.dst c.args.src) c.args.view.now) same at) in
+                      has_copied x slot k c.args.width c.args.dst f.base c.args.view.now c.copy.new.view f.stands (c.in_ok-copy.ensures.copies ready.0 m).1 copied,
+                )
+            | inr f ↦ absurd (let sum : c.args.op ≡ Add = f.is_sum in let no : ⊥ = cc in no)
+          ]
+    ]
+
+pub returns-in_err-operate-clause-accepts : goal.returns-in_err-operate-clause-accepts
+returns-in_err-operate-clause-accepts c = λ shapes context ready.
+    let other : c.args.op ≡ Mov → ⊥ = search rules in
+    elim ready.1 [
+      | inl n ↦ absurd (let ok : false ≡ true = (c.in_err-operate.ensures.accepts ready.0 (left_scalar c.args.op c.args.view.now c.args.dst other n.0) n.1).0 in let no : ⊥ = cc in no)
+      | inr either ↦
+          elim either [
+            | inl f ↦ absurd (other f.is_copy)
+            | inr f ↦ absurd (let ok : false ≡ true = (c.in_err-operate.ensures.moves ready.0 f).0 in let no : ⊥ = cc in no)
+          ]
+    ]
+
+pub returns-clause-accepts : goal.returns-clause-accepts
+returns-clause-accepts c = λ shapes context ready.
+    let other : c.args.op ≡ Mov → ⊥ = search rules in
+    elim ready.1 [
+      | inl n ↦ (
+        refl,
+        λ x slot k after.
+            has_given x slot k (Alu c.args.width c.args.op c.args.dst c.args.src) c.args.view.now c.operate.new.view c.args.dst refl
+            (λ kind o r. no_pointer kind o slot k c.args.width c.args.op c.args.dst c.args.src r c.args.view.now n.0 n.1)
+            (c.in_ok-operate.ensures.accepts ready.0 (left_scalar c.args.op c.args.view.now c.args.dst other n.0) n.1).1
+            after,
+      )
+      | inr either ↦
+          elim either [
+            | inl f ↦ absurd (other f.is_copy)
+            | inr f ↦ (
+              refl,
+              λ x slot k after.
+                  let at : After x slot k (Alu c.args.width c.args.op c.args.dst c.args.src) c.args.view.now = after in
+                  let moved : After x slot k (Alu c.args.width Add c.args.dst (Imm f.distance)) c.args.view.now =
+                  subst (λ (src : Source). After x slot k (Alu c.args.width Add c.args.dst src) c.args.view.now) f.by_distance
+                  (subst (λ (op : Operation). After x slot k (Alu c.args.width op c.args.dst c.args.src) c.args.view.now) f.is_sum at) in
+                  has_moved x slot k c.args.width c.args.dst f.base f.at f.distance c.args.view.now c.operate.new.view f.stands f.at_is (c.in_ok-operate.ensures.moves ready.0 f).1 moved,
+            )
+          ]
+    ]

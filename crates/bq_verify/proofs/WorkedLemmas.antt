@@ -1,0 +1,259 @@
+-- The worked program is straight.
+use Rattle.std.proofs.Common.{◌≡◌, ◌≢◌, ℕ, zero, suc, ◌+◌, ◌<◌, ◌≤◌, Bool, true, false, List, [], ◌∷◌, ◌++◌, Option, Some, None, refl, sym, subst, ◌∙◌, ◌⊎◌, inl, inr, ℤ, pos, arith}
+use Rattle.std.specs.Prelude.{◌&&◌, ◌||◌, slice_index}
+use Rattle.bq_insn.specs.declared.Insn.{Insn}
+use Rattle.bq_insn.specs.declared.Insn.TheVariants.{Alu, Branch, Call, Exit}
+use Rattle.bq_insn.specs.declared.Operation.TheVariants.{Mov}
+use Rattle.bq_insn.specs.declared.Condition.TheVariants.{Equal}
+use Rattle.bq_insn.specs.declared.Size.TheVariants.{Word, Double}
+use Rattle.bq_insn.specs.declared.Source.TheVariants.{Imm}
+use Rattle.bq_insn.specs.declared.Width.TheVariants.{W64}
+use Rattle.bq_insn.specs.Slots.{slots_of, spread}
+use Rattle.bq_maps.specs.Machine.{LeadsTo, instruction_at}
+use Rattle.bq_maps.specs.declared.shape.MapShape.{MapShape}
+use Rattle.bq_graph.specs.Edges.{IsEdge, IsStart, Leaves, distance_of, goes_on}
+use Rattle.bq_graph.specs.Paths.{IsPath, Path, end_of, asks_counter}
+use Rattle.bq_graph.specs.Faults.{IsFaultless, destination_of, is_helper}
+use Rattle.bq_graph.specs.declared.cause.Cause.TheVariants.{Jump, NoExit, Unreached, Frame, Helper, Counters}
+use Rattle.bq_graph.proofs.EdgeLemmas.{end_of-push, IsPath-push, exit_is_last, leads_same}
+use Rattle.bq_verify.specs.Straight.{held_along, OnEachPath, always, stores, writes, leaves, IsWritten, IsLookUp, IsInLookUp, IsFound, IsInEntry, IsFree, Needs}
+use Rattle.bq_verify.specs.Worked.{worked, WorkedIsStraight}
+
+-- a fact of each instruction and its slot
+abbrev AllAt : (ℕ → Insn → Type 0) → ℕ → List (Option Insn) → Type 0
+AllAt P n [] = Unit {0}
+AllAt P n (None ∷ rest) = AllAt P (n + 1) rest
+AllAt P n (Some insn ∷ rest) = P n insn × AllAt P (n + 1) rest
+
+some_same : (a b : Insn) → Some a ≡ Some b → a ≡ b
+some_same a b e = cc
+
+no_insn : (a : Insn) → None ≡ Some a → ⊥
+no_insn a e = cc
+
+at_slot : (P : ℕ → Insn → Type 0) (n : ℕ) (slots : List (Option Insn)) → AllAt P n slots → (k : ℕ) (insn : Insn) → instruction_at slots k ≡ Some insn → P (n + k) insn
+at_slot P n [] all k insn here = absurd (no_insn insn here)
+at_slot P n (None ∷ rest) all zero insn here = absurd (no_insn insn here)
+at_slot P n (None ∷ rest) all (suc k) insn here =
+    let e : (n + 1) + k ≡ n + suc k = omega arith in
+    subst (λ (m : ℕ). P m insn) e (at_slot P (n + 1) rest all k insn here)
+at_slot P n (Some i ∷ rest) all zero insn here =
+    let e : n ≡ n + zero = omega arith in
+    subst (λ (m : ℕ). P m insn) e (subst (λ (j : Insn). P n j) (some_same i insn here) all.0)
+at_slot P n (Some i ∷ rest) all (suc k) insn here =
+    let e : (n + 1) + k ≡ n + suc k = omega arith in
+    subst (λ (m : ℕ). P m insn) e (at_slot P (n + 1) rest all.1 k insn here)
+
+abbrev program : List (Option Insn)
+program = spread worked
+
+each_slot : (P : ℕ → Insn → Type 0) → AllAt P 0 program → (k : ℕ) (insn : Insn) → instruction_at program k ≡ Some insn → P k insn
+each_slot P all k insn here = let e : 0 + k ≡ k = omega arith in subst (λ (m : ℕ). P m insn) e (at_slot P 0 program all k insn here)
+
+-- what holds at the start of a path, and over each edge, holds at its end
+along : (slots : List (Option Insn)) (makes leaves : Option Insn → Bool) (P : ℕ → Bool → Type 0) → ((from to : ℕ) (held : Bool) → IsEdge slots from to → P from held → P to (makes (instruction_at slots from) || (leaves (instruction_at slots from) && held))) → (rest : List ℕ) (from : ℕ) (held : Bool) → IsPath slots from rest → P from held → P (end_of from rest) (held_along slots makes leaves held from rest)
+along slots makes leaves P step [] from held path p = p
+along slots makes leaves P step (next ∷ rest) from held path p = along slots makes leaves P step rest next _ path.1 (step from next held path.0 p)
+
+-- what each instruction before a slot makes so is so there on each path
+made_before : (slots : List (Option Insn)) (makes leaves : Option Insn → Bool) (first : Bool) (slot : ℕ) → 0 < slot → ((from : ℕ) → IsEdge slots from slot → makes (instruction_at slots from) ≡ true) → OnEachPath slots makes leaves first slot
+made_before slots makes leaves first slot later made rest path ends =
+    along slots makes leaves (λ n held. n ≡ slot → held ≡ true)
+    (λ from to held edge p same. let m : makes (instruction_at slots from) ≡ true = made from (subst (λ (n : ℕ). IsEdge slots from n) same edge) in rw m refl)
+    rest 0 first path (λ same. absurd (omega arith)) ends
+
+or_true : (b : Bool) → (b || true) ≡ true
+or_true true = refl
+or_true false = refl
+
+from_first : (slots : List (Option Insn)) (makes : Option Insn → Bool) → makes (instruction_at slots 0) ≡ true → (from : ℕ) (held : Bool) → (0 < from → held ≡ true) → (makes (instruction_at slots from) || held) ≡ true
+from_first slots makes made zero held p = rw made refl
+from_first slots makes made (suc n) held p = let h : held ≡ true = p (omega arith) in rw h (or_true _)
+
+-- what the first instruction makes so, and each leaves so, is so at each later slot
+made_first : (slots : List (Option Insn)) (makes : Option Insn → Bool) → makes (instruction_at slots 0) ≡ true → (slot : ℕ) → 0 < slot → OnEachPath slots makes always false slot
+made_first slots makes made slot later rest path ends =
+    along slots makes always (λ n held. 0 < n → held ≡ true)
+    (λ from to held edge p le. from_first slots makes made from held p)
+    rest 0 false path (λ le. absurd (omega arith)) (rw ends later)
+
+-- the slot before each slot: no two edges lead to one
+abbrev before : ℕ → ℕ
+before k = slice_index (0 ∷ 0 ∷ 0 ∷ 1 ∷ 3 ∷ 4 ∷ 5 ∷ 6 ∷ 7 ∷ 6 ∷ 9 ∷ []) k
+
+no_distance : (d : ℤ) → None ≡ Some d → ⊥
+no_distance d e = cc
+
+one_distance : (d e : ℤ) → Some d ≡ Some e → d ≡ e
+one_distance d e same = cc
+
+not_false : false ≡ true → ⊥
+not_false e = cc
+
+goes_next : (n : ℕ) (insn : Insn) → instruction_at program n ≡ Some insn → distance_of insn ≡ None → n ≡ before (n + slots_of insn) → (to : ℕ) → Leaves insn n to → n ≡ before to
+goes_next n insn here none is to (inl on) = subst (λ (k : ℕ). n ≡ before k) (sym on.1) is
+goes_next n insn here none is to (inr jump) = absurd (no_distance jump.0 (sym none ∙ jump.1))
+
+goes_nowhere : (n : ℕ) → instruction_at program n ≡ Some Exit → (to : ℕ) → Leaves Exit n to → n ≡ before to
+goes_nowhere n here to leaves = absurd (exit_is_last program n to here (record { insn = Exit; here = here; leaves = leaves }))
+
+goes_apart : (to : ℕ) → Leaves (Branch W64 Equal 0 (Imm (pos 0)) (pos 2)) 6 to → 6 ≡ before to
+goes_apart to (inl on) = subst (λ (k : ℕ). 6 ≡ before k) (sym on.1) refl
+goes_apart to (inr jump) =
+    let two = one_distance (pos 2) jump.0 jump.1 in
+    let nine : to ≡ 9 = leads_same 6 to 9 (pos 2) (subst (λ (d : ℤ). LeadsTo 6 d to) (sym two) jump.2) refl in
+    subst (λ (k : ℕ). 6 ≡ before k) (sym nine) refl
+
+only_before : (from to : ℕ) → IsEdge program from to → from ≡ before to
+only_before from to edge =
+    each_slot (λ from insn. (to : ℕ) → Leaves insn from to → from ≡ before to)
+    (goes_next 0 _ refl refl refl, (goes_next 1 _ refl refl refl, (goes_next 3 _ refl refl refl, (goes_next 4 _ refl refl refl, (goes_next 5 _ refl refl refl, (goes_apart, (goes_next 7 _ refl refl refl, (goes_nowhere 8 refl, (goes_next 9 _ refl refl refl, (goes_nowhere 10 refl, tt))))))))))
+    from edge.insn edge.here to edge.leaves
+
+-- a path to each slot
+on : (n : ℕ) (insn : Insn) → instruction_at program n ≡ Some insn → goes_on insn ≡ true → Path program 0 n → Path program 0 (n + slots_of insn)
+on n insn here goes p = record {
+  rest = p.rest ++ (n + slots_of insn) ∷ [];
+  is_path = IsPath-push program 0 p.rest (n + slots_of insn) p.is_path (subst (λ (k : ℕ). IsEdge program k (n + slots_of insn)) (sym p.ends) (record { insn = insn; here = here; leaves = inl (goes, refl) }));
+  ends = end_of-push 0 p.rest (n + slots_of insn);
+}
+
+to_0 : Path program 0 0
+to_0 = record { rest = []; is_path = tt; ends = refl }
+
+to_1 : Path program 0 1
+to_1 = on 0 _ refl refl to_0
+
+to_3 : Path program 0 3
+to_3 = on 1 _ refl refl to_1
+
+to_4 : Path program 0 4
+to_4 = on 3 _ refl refl to_3
+
+to_5 : Path program 0 5
+to_5 = on 4 _ refl refl to_4
+
+to_6 : Path program 0 6
+to_6 = on 5 _ refl refl to_5
+
+to_7 : Path program 0 7
+to_7 = on 6 _ refl refl to_6
+
+to_8 : Path program 0 8
+to_8 = on 7 _ refl refl to_7
+
+to_9 : Path program 0 9
+to_9 = record {
+  rest = to_6.rest ++ 9 ∷ [];
+  is_path = IsPath-push program 0 to_6.rest 9 to_6.is_path (subst (λ (k : ℕ). IsEdge program k 9) (sym to_6.ends) (record { insn = Branch W64 Equal 0 (Imm (pos 0)) (pos 2); here = refl; leaves = inr (pos 2, refl, refl) }));
+  ends = end_of-push 0 to_6.rest 9;
+}
+
+to_10 : Path program 0 10
+to_10 = on 9 _ refl refl to_9
+
+no_register : (n : ℕ) → None ≡ Some n → ⊥
+no_register n e = cc
+
+not_frame : (r : ℕ) → r < 10 → Some r ≡ Some 10 → ⊥
+not_frame r lt e = let ten : ℕ = 10 in let same : r ≡ 10 = cc in omega arith
+
+a_helper : (h : ℤ) → Call (pos 1) ≡ Call h → is_helper h ≡ false → ⊥
+a_helper h is unknown = let one : pos 1 ≡ h = cc in let no : true ≡ false = subst (λ (n : ℤ). is_helper n ≡ false) (sym one) unknown in cc
+
+no_jump : (slot : ℕ) (d : ℤ) → None ≡ Some d → ((to : ℕ) → LeadsTo slot d to → slot < to → IsStart program to → ⊥) → ⊥
+no_jump slot d jumps nowhere = no_distance d jumps
+
+good_jump : (d : ℤ) → Some (pos 2) ≡ Some d → ((to : ℕ) → LeadsTo 6 d to → 6 < to → IsStart program to → ⊥) → ⊥
+good_jump d jumps nowhere =
+    nowhere 9 (subst (λ (e : ℤ). LeadsTo 6 e 9) (one_distance (pos 2) d jumps) refl) (omega arith) (record { insn = Alu W64 Mov 0 (Imm (pos 0)); here = refl })
+
+inside : (n : ℕ) → n < 11 → 11 ≤ n → ⊥
+inside n lt le = omega arith
+
+faultless : IsFaultless program
+faultless Jump slot fault =
+    each_slot (λ slot insn. (d : ℤ) → distance_of insn ≡ Some d → ((to : ℕ) → LeadsTo slot d to → slot < to → IsStart program to → ⊥) → ⊥)
+    (no_jump 0, (no_jump 1, (no_jump 3, (no_jump 4, (no_jump 5, (good_jump, (no_jump 7, (no_jump 8, (no_jump 9, (no_jump 10, tt))))))))))
+    slot fault.insn fault.here fault.distance fault.jumps fault.nowhere
+faultless NoExit slot fault =
+    each_slot (λ slot insn. goes_on insn ≡ true → 11 ≤ slot + slots_of insn → ⊥)
+    (λ on. inside 1 (omega arith), (λ on. inside 3 (omega arith), (λ on. inside 4 (omega arith), (λ on. inside 5 (omega arith), (λ on. inside 6 (omega arith), (λ on. inside 7 (omega arith), (λ on. inside 8 (omega arith), (λ on past. not_false on, (λ on. inside 10 (omega arith), (λ on past. not_false on, tt))))))))))
+    slot fault.insn fault.here fault.on fault.past
+faultless Unreached slot fault = fault.none (each_slot (λ slot insn. Path program 0 slot) (to_0, (to_1, (to_3, (to_4, (to_5, (to_6, (to_7, (to_8, (to_9, (to_10, tt)))))))))) slot fault.start.insn fault.start.here)
+faultless Frame slot fault =
+    each_slot (λ slot insn. destination_of insn ≡ Some 10 → ⊥)
+    (no_register 10, (not_frame 1 (omega arith), (not_frame 2 (omega arith), (not_frame 2 (omega arith), (no_register 10, (no_register 10, (not_frame 0 (omega arith), (no_register 10, (not_frame 0 (omega arith), (no_register 10, tt))))))))))
+    slot fault.insn fault.here fault.writes
+faultless Helper slot fault =
+    each_slot (λ slot insn. (h : ℤ) → insn ≡ Call h → is_helper h ≡ false → ⊥)
+    (λ h is unknown. cc, (λ h is unknown. cc, (λ h is unknown. cc, (λ h is unknown. cc, (a_helper, (λ h is unknown. cc, (λ h is unknown. cc, (λ h is unknown. cc, (λ h is unknown. cc, (λ h is unknown. cc, tt))))))))))
+    slot (Call fault.helper) fault.here fault.helper refl fault.unknown
+faultless Counters slot fault =
+    each_slot (λ slot insn. asks_counter insn ≡ true → ⊥)
+    (not_false, (not_false, (not_false, (not_false, (not_false, (not_false, (not_false, (not_false, (not_false, (not_false, tt))))))))))
+    slot fault.insn fault.here fault.asks
+faultless _ slot fault = fault
+
+written_8 : IsWritten program 8 0
+written_8 = made_before program (writes 0) (leaves 0) false 8 (omega arith) (λ from edge. rw (only_before from 8 edge) refl)
+
+written_10 : IsWritten program 10 0
+written_10 = made_before program (writes 0) (leaves 0) false 10 (omega arith) (λ from edge. rw (only_before from 10 edge) refl)
+
+apart_slots : (a b : ℕ) → a < b → a ≡ b → ⊥
+apart_slots a b lt same = omega arith
+
+module _ (shape : MapShape) where
+  abbrev look_up : IsLookUp program (shape ∷ []) 1 0
+  look_up = record {
+    there = omega arith;
+    names = refl;
+    copies = refl;
+    offset = _;
+    moves = refl;
+    on_stack = (508, refl, omega arith);
+    stored = made_first program (stores Word _) refl 5 (omega arith);
+    calls = refl;
+    test = Equal;
+    to_side = pos 2;
+    tests = refl;
+    of_null = tt;
+    to_copy = λ from edge. only_before from 3 edge;
+    to_move = λ from edge. only_before from 4 edge;
+    to_call = λ from edge. only_before from 5 edge;
+    to_test = λ from edge. only_before from 6 edge;
+  }
+
+  part_of : (slot : ℕ) → ((slot ≡ 1) ⊎ (slot ≡ 3) ⊎ (slot ≡ 4) ⊎ (slot ≡ 5) ⊎ (slot ≡ 6)) → IsInLookUp program (shape ∷ []) slot
+  part_of slot part = record { begin = 1; map = 0; look_up = look_up; part = part }
+
+  found : IsFound program (shape ∷ []) 0 7
+  found = record { begin = 1; look_up = look_up; side = (refl, λ leads. apart_slots 7 9 (omega arith) (leads_same 6 7 9 (pos 2) leads refl)) }
+
+  in_entry : IsInEntry program (shape ∷ []) 7 Double (pos 0)
+  in_entry = record {
+    map = 0;
+    shape = shape;
+    known = refl;
+    entry = ([], (λ a b p q. only_before a 7 p ∙ sym (only_before b 7 q), found));
+    at = 0;
+    off_is = refl;
+    inside = shape.least_size;
+  }
+
+not_one : (n : ℕ) → n ≡ 0 → n ≢ 1
+not_one n zero_is one_is = omega arith
+
+free : IsFree 0
+free = (omega arith, not_one 0 refl)
+
+pub worked_is_straight : WorkedIsStraight
+worked_is_straight = (
+  refl,
+  λ shape context. record {
+    faultless = faultless;
+    each = each_slot (λ slot insn. IsInLookUp program (shape ∷ []) slot ⊎ Needs program (shape ∷ []) context slot insn)
+        (inr (inl (refl, (508, refl, omega arith))), (inl (part_of shape 1 (inl refl)), (inl (part_of shape 3 (inr (inl refl))), (inl (part_of shape 4 (inr (inr (inl refl)))), (inl (part_of shape 5 (inr (inr (inr (inl refl))))), (inl (part_of shape 6 (inr (inr (inr (inr refl))))), (inr (free, inr (inr (refl, in_entry shape))), (inr written_8, (inr (free, tt, tt), (inr written_10, tt))))))))));
+  },
+)

@@ -1,0 +1,24 @@
+-- A worked straight program: it stores the number of an entry, looks the entry up, tests the answer for 0, and answers with the
+-- first eight bytes of the entry, or with 0.
+use Rattle.std.specs.Prelude.{true, false, ◌≡◌, ℕ, pos, neg_ℤ, List, [], ◌∷◌}
+use Rattle.bq_insn.specs.declared.Insn.{Insn}
+use Rattle.bq_insn.specs.declared.Insn.TheVariants.{Alu, Load, StoreImm, MapRef, Branch, Call, Exit}
+use Rattle.bq_insn.specs.declared.Operation.TheVariants.{Add, Mov}
+use Rattle.bq_insn.specs.declared.Condition.TheVariants.{Equal}
+use Rattle.bq_insn.specs.declared.Size.TheVariants.{Word, Double}
+use Rattle.bq_insn.specs.declared.Source.TheVariants.{Imm, Reg}
+use Rattle.bq_insn.specs.declared.Width.TheVariants.{W64}
+use Rattle.bq_insn.specs.Slots.{spread}
+use Rattle.bq_insn.specs.Spelling.{is_well_formed}
+use Rattle.bq_maps.specs.declared.shape.MapShape.{MapShape}
+use Rattle.bq_verify.specs.Straight.{IsStraightProgram}
+
+-- stw [r10-4], 0; ldmap r1, 0; mov64 r2, r10; add64 r2, -4; call 1; jeq64 r0, 0, +2; ldxdw r0, [r0+0]; exit; mov64 r0, 0; exit
+abbrev pub worked : List Insn
+worked =
+    StoreImm Word 10 (neg_ℤ (pos 4)) (pos 0) ∷ MapRef 1 (pos 0) ∷ Alu W64 Mov 2 (Reg 10) ∷ Alu W64 Add 2 (Imm (neg_ℤ (pos 4))) ∷ Call (pos 1)
+    ∷ Branch W64 Equal 0 (Imm (pos 0)) (pos 2) ∷ Load Double false 0 0 (pos 0) ∷ Exit ∷ Alu W64 Mov 0 (Imm (pos 0)) ∷ Exit ∷ []
+
+-- it is a program, and a straight one, beside any one map and on a context of any length
+abbrev pub WorkedIsStraight : Type 0
+WorkedIsStraight = (is_well_formed worked ≡ true) × ((shape : MapShape) (context : ℕ) → IsStraightProgram (spread worked) (shape ∷ []) context)
