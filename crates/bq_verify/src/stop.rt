@@ -6,7 +6,9 @@ use std::alloc::AllocError;
 /// Why the pass stops at an instruction.
 #[derive(Clone, Copy, Debug, PartialEq, Eq)]
 pub enum Stop {
+    /// Something is not shown of it.
     Doubted(Doubt),
+    /// A growth was refused.
     OutOfMemory,
 }
 

@@ -5,11 +5,17 @@ use bq_ranges::Range;
 /// What a word counts from.
 #[derive(Clone, Copy, Debug, PartialEq, Eq)]
 pub enum Kind {
+    /// Nothing: the word is a number.
     Number,
+    /// The start of the context.
     Context,
+    /// The lowest byte of the stack.
     Stack,
+    /// The start of some entry of the map of that number.
     Entry(u8),
+    /// The answer of a look-up in that map, before its test: the start of some entry, or 0.
     EntryOrNull(u8),
+    /// The reference of that map.
     Map(u8),
 }
 
@@ -17,23 +23,32 @@ pub enum Kind {
 #[derive(Clone, Copy, Debug)]
 pub struct Known {
     pub kind: Kind,
+    /// How far above; of a pointer in bytes.
     pub offset: Range,
 }
 
 /// What is known of registers and stack; of the rest nothing is.
 #[derive(Clone, Copy)]
 pub struct View {
+    /// The word in each register that is known to be set.
     pub registers: [Option<Known>; 11],
+    /// Which bytes of the stack are set.
     pub set: [bool; 512],
+    /// The word that was stored whole in each slot of eight bytes of the stack, where one is known.
     pub kept: [Option<Known>; 64],
 }
 
 /// What is not shown of an instruction.
 #[derive(Clone, Copy, Debug, PartialEq, Eq)]
 pub enum Doubt {
+    /// That an operand is set.
     Unset,
+    /// That an access is good.
     Access,
+    /// That a pointer is used as pointers may be.
     PointerUse,
+    /// That a helper's argument is good, or that there is a map of that number.
     Argument,
+    /// That register 0 is a number at an EXIT.
     Answer,
 }
