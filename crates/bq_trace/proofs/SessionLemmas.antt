@@ -1,5 +1,5 @@
 -- Answers to the lines of a piece, and what a writer got of them.
-use Rattle.std.proofs.Common.{◌≡◌, ℕ, List, [], ◌++◌, map, refl, sym, ap, ◌∙◌, append-nil, subst, Option, Result, Ok, Err}
+use Rattle.std.proofs.Common.{ℕ, List, [], ◌++◌, map, refl, sym, ap, ◌∙◌, append-nil, subst, Option, Result, Ok, Err}
 use Rattle.std.specs.Prelude.{OnErr}
 use Rattle.std.specs.Str.Lines.{lines, strip_carriage_return}
 use Rattle.std.specs.Io.KnownBytes.{Appends}

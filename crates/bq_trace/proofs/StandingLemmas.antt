@@ -4,7 +4,7 @@ use Rattle.std.specs.List.{AllByRecursion}
 use Rattle.std.specs.Str.Lines.{lines, strip_carriage_return}
 use Rattle.std.proofs.lemmas.List.{map-append}
 use Rattle.std.proofs.lemmas.List.Elements.{All-append, All-nil}
-use Rattle.bq_trace.specs.Kept.{IsOneLine, StandsFor, kept_of}
+use Rattle.bq_trace.specs.Kept.{IsOneLine, StandsFor}
 use Rattle.bq_trace.specs.Writing.{Adds}
 use Rattle.bq_trace.specs.Trace.{Chain, AnswersLine}
 use Rattle.bq_trace.specs.Feeding.{with_feeds, Continues}

@@ -1,5 +1,5 @@
 -- A wake that is not refused begins and ends.
-use Rattle.std.proofs.Common.{◌≡◌, ℕ, Bool, true, List, ◌++◌, refl, ap, ◌∙◌, append_assoc, Result, Ok, Err}
+use Rattle.std.proofs.Common.{◌≡◌, ℕ, true, List, ◌++◌, refl, ap, ◌∙◌, append_assoc, Result, Ok, Err}
 use Rattle.std.specs.Prelude.{is_ok}
 use Rattle.bq_core.specs.declared.event.Event.TheVariants.{BeginWake, EndWake}
 use Rattle.bq_core.specs.declared.reply.Reply.{Reply}
