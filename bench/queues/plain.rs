@@ -72,20 +72,50 @@ impl Queue for Cfs {
     }
 }
 
+/// The weights of a queue's tasks together, and each v times its weight together.
+#[derive(Default)]
+struct Sums {
+    weight: u64,
+    moment: u128,
+}
+
+impl Sums {
+    fn add(&mut self, task: &Task) {
+        self.weight += u64::from(task.weight);
+        self.moment += u128::from(task.weight) * u128::from(task.v);
+    }
+
+    fn remove(&mut self, task: &Task) {
+        self.weight -= u64::from(task.weight);
+        self.moment -= u128::from(task.weight) * u128::from(task.v);
+    }
+
+    /// Whether a v is at most the mean.
+    fn allow(&self, v: u64) -> bool {
+        u128::from(self.weight) * u128::from(v) <= self.moment
+    }
+}
+
+/// A task under EEVDF has run for a time, and gets a new deadline once its v has reached the old one.
+fn charge_and_renew(task: &mut Task, time: u64) {
+    task.v = advance(task.v, time, task.weight);
+    if task.deadline <= task.v {
+        task.deadline = advance(task.v, task.slice, task.weight);
+    }
+}
+
 /// By (v, id), by (deadline, id), and the sums.
 struct Eevdf {
     map: BTreeMap<(u64, u16), Task>,
     due: BTreeMap<(u64, u16), u64>,
     times: Box<[u64; 1024]>,
-    weight: u64,
-    moment: u128,
+    sums: Sums,
 }
 
 impl Queue for Eevdf {
     fn insert(&mut self, task: Task) {
         self.times[usize::from(task.id)] = task.v;
-        self.weight += u64::from(task.weight);
-        self.moment += u128::from(task.weight) * u128::from(task.v);
+        self.sums.add(&task);
         self.due.insert((task.deadline, task.id), task.v);
         self.map.insert((task.v, task.id), task);
     }
@@ -93,23 +123,19 @@ impl Queue for Eevdf {
     fn choice(&self) -> Option<u16> {
         self.due
             .iter()
-            .find(|(_, v)| u128::from(self.weight) * u128::from(**v) <= self.moment)
+            .find(|(_, v)| self.sums.allow(**v))
             .map(|(key, _)| key.1)
     }
 
     fn take(&mut self, id: u16) -> Option<Task> {
         let task = self.map.remove(&(self.times[usize::from(id)], id))?;
         self.due.remove(&(task.deadline, id));
-        self.weight -= u64::from(task.weight);
-        self.moment -= u128::from(task.weight) * u128::from(task.v);
+        self.sums.remove(&task);
         Some(task)
     }
 
     fn charge(&self, task: &mut Task, time: u64) {
-        task.v = advance(task.v, time, task.weight);
-        if task.deadline <= task.v {
-            task.deadline = advance(task.v, task.slice, task.weight);
-        }
+        charge_and_renew(task, time);
     }
 }
 
@@ -117,37 +143,31 @@ impl Queue for Eevdf {
 struct Deadlines {
     map: BTreeMap<(u64, u16), Task>,
     times: Box<[u64; 1024]>,
-    weight: u64,
-    moment: u128,
+    sums: Sums,
 }
 
 impl Queue for Deadlines {
     fn insert(&mut self, task: Task) {
         self.times[usize::from(task.id)] = task.deadline;
-        self.weight += u64::from(task.weight);
-        self.moment += u128::from(task.weight) * u128::from(task.v);
+        self.sums.add(&task);
         self.map.insert((task.deadline, task.id), task);
     }
 
     fn choice(&self) -> Option<u16> {
         self.map
             .values()
-            .find(|task| u128::from(self.weight) * u128::from(task.v) <= self.moment)
+            .find(|task| self.sums.allow(task.v))
             .map(|task| task.id)
     }
 
     fn take(&mut self, id: u16) -> Option<Task> {
         let task = self.map.remove(&(self.times[usize::from(id)], id))?;
-        self.weight -= u64::from(task.weight);
-        self.moment -= u128::from(task.weight) * u128::from(task.v);
+        self.sums.remove(&task);
         Some(task)
     }
 
     fn charge(&self, task: &mut Task, time: u64) {
-        task.v = advance(task.v, time, task.weight);
-        if task.deadline <= task.v {
-            task.deadline = advance(task.v, task.slice, task.weight);
-        }
+        charge_and_renew(task, time);
     }
 }
 
@@ -185,14 +205,15 @@ fn main() {
     std::io::stdin().read_to_string(&mut text).unwrap();
     let size = text.split(' ').last().unwrap().parse().unwrap();
     let times = Box::new([0; 1024]);
+    let sums = Sums::default();
     match words[0].as_str() {
         "cfs" => measure(Cfs { map: BTreeMap::new(), times }, tasks(size, false), count),
         "eevdf" => {
             let due = BTreeMap::new();
-            measure(Eevdf { map: BTreeMap::new(), due, times, weight: 0, moment: 0 }, tasks(size, true), count)
+            measure(Eevdf { map: BTreeMap::new(), due, times, sums }, tasks(size, true), count)
         }
         "deadlines" => {
-            measure(Deadlines { map: BTreeMap::new(), times, weight: 0, moment: 0 }, tasks(size, true), count)
+            measure(Deadlines { map: BTreeMap::new(), times, sums }, tasks(size, true), count)
         }
         word => panic!("no such queue: {}", word),
     }

@@ -8,7 +8,7 @@ ghost use Rattle.bq_cfs.specs.Cfs.{cfs, least};
 ghost use Rattle.bq_cfs.specs.Lawful.{cfs_lawful};
 
 use bq_disc::{Node, Rule, RuledQueue, Timeline};
-use bq_tree::Tree;
+use bq_tree::{NoSums, Tree};
 
 /// The current task gives way to one that is more than this behind it.
 const GRANULARITY: u64 = 1_000_000;
@@ -24,7 +24,7 @@ const BONUS: i64 = 3_000_000;
 pub struct Cfs;
 
 /// The run queue under CFS, on a balanced tree.
-pub type CfsQueue = RuledQueue<Tree, Cfs>;
+pub type CfsQueue = RuledQueue<Tree<NoSums>, Cfs>;
 
 /// The (v, id) of the first of a queue and of one more task, by that of the queue's first.
 fn first(current: Option<&Node>, queue: Option<(u64, u16)>) -> Option<(u64, u16)>

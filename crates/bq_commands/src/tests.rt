@@ -5,8 +5,9 @@ ghost use Rattle.bq_weights.specs.VirtualTime.{IsWeight};
 use crate::answer::{perform, put};
 use crate::command::Draws;
 use bq_cfs::{Cfs, CfsQueue};
-use bq_disc::{Entity, Entry, List, Node, RunQueue};
+use bq_disc::{Entity, Entry, List, Node, RuledQueue, RunQueue};
 use bq_eevdf::{Eevdf, EevdfQueue};
+use bq_tree::{NoSums, Tree};
 use std::alloc::{AllocError, Global};
 use std::io;
 use std::process::Abort;
@@ -43,6 +44,13 @@ fn the_tree_answers_as_the_list_under_cfs(rt: HostRuntime) -> io::Result<()> {
 #[test]
 fn the_tree_answers_as_the_list_under_eevdf(rt: HostRuntime) -> io::Result<()> {
     agree::<EevdfQueue, List<Eevdf>>(&rt, rt.alloc(), 20_000)?;
+    Ok(())
+}
+
+/// A tree whose nodes know no sums is walked where EEVDF asks for them.
+#[test]
+fn a_tree_without_sums_answers_as_the_list(rt: HostRuntime) -> io::Result<()> {
+    agree::<RuledQueue<Tree<NoSums>, Eevdf>, List<Eevdf>>(&rt, rt.alloc(), 5_000)?;
     Ok(())
 }
 

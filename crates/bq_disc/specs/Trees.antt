@@ -3,9 +3,10 @@ use Rattle.std.specs.Prelude.{◌≡◌, ℕ, ◌+◌, ◌≤◌, max, List, [],
 use Rattle.std.specs.declared.boxed.Box.{Box}
 use Rattle.std.specs.declared.alloc.Global.{Global}
 use Rattle.std.specs.List.{AllByRecursion}
-use Rattle.bq_disc.specs.Tasks.{Task, runs_before}
-use Rattle.bq_disc.specs.Totals.{sums_of, added, IsBounded}
-use Rattle.bq_disc.specs.Dues.{due_of, first_due, earlier_of}
+use Rattle.bq_disc.specs.Tasks.{Task, place, runs_before}
+use Rattle.bq_disc.specs.Totals.{IsBounded}
+use Rattle.bq_disc.specs.declared.due.Due.{Due}
+use Rattle.bq_disc.specs.declared.totals.Totals.{Totals}
 use Rattle.bq_disc.specs.declared.node.Node.{Node, out-Node, Node', Held-Node-left, None', Some'}
 
 abbrev mutual
@@ -28,20 +29,23 @@ height_held (Some' p n) = height_of n
 abbrev pub DifferByAtMost : ℕ → ℕ → ℕ → Type 0
 DifferByAtMost by l r = (l ≤ r + by) × (r ≤ l + by)
 
+-- what a node is to know of the tasks that hang from it, by the due task and the totals that it keeps
+abbrev pub Knowledge : Type 1
+Knowledge = List Task → Due → Totals → Type 0
+
 abbrev mutual
-  -- every node knows its height, and the due task and the totals of all that hang from it; and its sides differ by at
-  -- most one in height
-  pub IsTree : Node → Type 0
-  IsTree (Node' entity left right due totals height) =
-      IsTreeHeld left × IsTreeHeld right
+  -- every node knows its height, and what it is to know of all that hang from it; and its sides differ by at most one in
+  -- height
+  pub IsTree : Knowledge → Node → Type 0
+  IsTree knows (Node' entity left right due totals height) =
+      IsTreeHeld knows left × IsTreeHeld knows right
       × DifferByAtMost 1 (height_held left) (height_held right) × (height ≡ max (height_held left) (height_held right) + 1)
       × IsBounded entity
-      × (first_due (in_order_held left ++ entity ∷ in_order_held right) ≡ Some due)
-      × (totals ≡ sums_of (in_order_held left ++ entity ∷ in_order_held right))
+      × knows (in_order_held left ++ entity ∷ in_order_held right) due totals
 
-  pub IsTreeHeld : Held-Node-left → Type 0
-  IsTreeHeld None' = Unit {0}
-  IsTreeHeld (Some' p n) = IsTree n
+  pub IsTreeHeld : Knowledge → Held-Node-left → Type 0
+  IsTreeHeld knows None' = Unit {0}
+  IsTreeHeld knows (Some' p n) = IsTree knows n
 
 -- the same of a link
 abbrev pub in_order_behind : Option (Box Node Global) → List Task
@@ -52,18 +56,17 @@ abbrev pub height_behind : Option (Box Node Global) → ℕ
 height_behind None = 0
 height_behind (Some b) = height_of b.value
 
-abbrev pub IsTreeBehind : Option (Box Node Global) → Type 0
-IsTreeBehind None = Unit {0}
-IsTreeBehind (Some b) = IsTree b.value
+abbrev pub IsTreeBehind : Knowledge → Option (Box Node Global) → Type 0
+IsTreeBehind knows None = Unit {0}
+IsTreeBehind knows (Some b) = IsTree knows b.value
 
--- a node whose sides are trees and that knows the due task and the totals; its height may be out of date, and its sides
--- may differ by more than one
-abbrev pub IsFork : Node → Type 0
-IsFork (Node' entity left right due totals height) =
-    IsTreeHeld left × IsTreeHeld right
+-- a node whose sides are trees and that knows what it is to know; its height may be out of date, and its sides may differ
+-- by more than one
+abbrev pub IsFork : Knowledge → Node → Type 0
+IsFork knows (Node' entity left right due totals height) =
+    IsTreeHeld knows left × IsTreeHeld knows right
     × IsBounded entity
-    × (first_due (in_order_held left ++ entity ∷ in_order_held right) ≡ Some due)
-    × (totals ≡ sums_of (in_order_held left ++ entity ∷ in_order_held right))
+    × knows (in_order_held left ++ entity ∷ in_order_held right) due totals
 
 -- the heights of the two sides
 abbrev pub left_height : Node → ℕ
@@ -73,9 +76,9 @@ abbrev pub right_height : Node → ℕ
 right_height (Node' entity left right due totals height) = height_held right
 
 -- the same of a link
-abbrev pub IsForkBehind : Option (Box Node Global) → Type 0
-IsForkBehind None = Unit {0}
-IsForkBehind (Some b) = IsFork b.value
+abbrev pub IsForkBehind : Knowledge → Option (Box Node Global) → Type 0
+IsForkBehind knows None = Unit {0}
+IsForkBehind knows (Some b) = IsFork knows b.value
 
 abbrev pub left_height_behind : Option (Box Node Global) → ℕ
 left_height_behind None = 0
@@ -86,13 +89,12 @@ right_height_behind None = 0
 right_height_behind (Some b) = right_height b.value
 
 -- a root that counts one more task in what it knows, and is else as it was
-pub record CountsIn (old new : Node) (t : Task) : Type 0 where
+pub record CountsIn (knows : Knowledge) (old new : Node) (t : Task) : Type 0 where
   pub task : (out-Node new).entity ≡ (out-Node old).entity
   pub left : (out-Node new).left ≡ (out-Node old).left
   pub right : (out-Node new).right ≡ (out-Node old).right
   pub height : (out-Node new).height ≡ (out-Node old).height
-  pub due : (out-Node new).due ≡ earlier_of (due_of t) (out-Node old).due
-  pub totals : (out-Node new).totals ≡ added (out-Node old).totals t
+  pub counts : knows (place t (in_order old)) (out-Node new).due (out-Node new).totals
 
 -- the sides of the root behind a link
 abbrev pub left_behind : Option (Box Node Global) → Option (Box Node Global)
@@ -120,10 +122,10 @@ abbrev pub hanging : Node → List Task
 hanging n = in_order_behind (out-Node n).left ++ (out-Node n).entity ∷ in_order_behind (out-Node n).right
 
 -- a root that still counts a task that has left one of its sides
-abbrev pub StillCounts : Node → Task → Type 0
-StillCounts n t =
+abbrev pub StillCounts : Knowledge → Node → Task → Type 0
+StillCounts knows n t =
     (before : List Task) × (after : List Task) × (hanging n ≡ before ++ after)
-    × (first_due (before ++ t ∷ after) ≡ Some (out-Node n).due) × ((out-Node n).totals ≡ sums_of (before ++ t ∷ after))
+    × knows (before ++ t ∷ after) (out-Node n).due (out-Node n).totals
 
 -- no task runs before an earlier one
 abbrev pub NoneRunsBefore : Task → List Task → Type 0

@@ -11,8 +11,8 @@ pub type Link = Option<Box<Node>>;
 
 /// A task with the links by which a queue holds it, at most one queue at a time.
 ///
-/// A tree also keeps in it when the first task is due of all that hang from it, what they have together, and the height;
-/// elsewhere these three say nothing.
+/// A tree also keeps the height in it and, if it keeps sums, when the first task is due of all that hang from it and what
+/// they have together; elsewhere these three say nothing.
 #[derive(Drop)]
 pub struct Node {
     pub entity: Entity,

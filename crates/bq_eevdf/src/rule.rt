@@ -9,7 +9,7 @@ ghost use Rattle.bq_eevdf.specs.Eevdf.{eevdf, eligible, is_other};
 ghost use Rattle.bq_eevdf.specs.Lawful.{eevdf_lawful};
 
 use bq_disc::{Due, Node, Rule, RuledQueue, Timeline, Totals};
-use bq_tree::Tree;
+use bq_tree::{Sums, Tree};
 
 /// The rule of earliest eligible virtual deadline first (sched-eevdf.rst; Stoica and Abdel-Wahab 1995, section 3).
 ///
@@ -22,7 +22,7 @@ use bq_tree::Tree;
 pub struct Eevdf;
 
 /// The run queue under EEVDF, on a balanced tree.
-pub type EevdfQueue = RuledQueue<Tree, Eevdf>;
+pub type EevdfQueue = RuledQueue<Tree<Sums>, Eevdf>;
 
 /// What a queue's tasks and one more have together.
 fn considered(current: Option<&Node>, mut queue: Totals) -> Totals

@@ -5,6 +5,7 @@ use Rattle.std.proofs.Math.Nat.{mul-le-mul_left}
 use Rattle.bq_disc.specs.Tasks.{Task}
 use Rattle.bq_disc.specs.Totals.{total_weight, weighted_sum, sums_of, IsBounded, HasBounds}
 use Rattle.bq_disc.specs.Trees.{IsTree, IsTreeHeld, IsTreeBehind, in_order, in_order_held, in_order_behind}
+use Rattle.bq_tree.specs.Knowing.{knows_sums}
 use Rattle.bq_disc.specs.declared.node.Node.{Node, out-Node, Node', Held-Node-left, None', Some'}
 
 abbrev AllBounded : List Task → Type 0
@@ -15,11 +16,11 @@ bounded-append [] ys h k = k
 bounded-append (x ∷ xs) ys h k = (h.0, bounded-append xs ys h.1 k)
 
 mutual
-  all_node : (n : Node) → IsTree n → AllBounded (in_order n)
+  all_node : (n : Node) → IsTree knows_sums n → AllBounded (in_order n)
   all_node (Node' entity left right due totals height) h =
       bounded-append (in_order_held left) (entity ∷ in_order_held right) (all_held left h.0) (h.4, all_held right h.1)
 
-  all_held : (n : Held-Node-left) → IsTreeHeld n → AllBounded (in_order_held n)
+  all_held : (n : Held-Node-left) → IsTreeHeld knows_sums n → AllBounded (in_order_held n)
   all_held None' h = tt
   all_held (Some' p n) h = all_node n h
 
@@ -39,16 +40,16 @@ bounds_of : (xs : List Task) → AllBounded xs → HasBounds (sums_of xs)
 bounds_of xs h = record { weight_low = weight_low xs h; weight_high = weight_high xs h; moment_high = moment_high xs h }
 
 -- the totals of a tree keep their bounds
-pub bounded_behind : (o : Option (Box Node Global)) → IsTreeBehind o → HasBounds (sums_of (in_order_behind o))
+pub bounded_behind : (o : Option (Box Node Global)) → IsTreeBehind knows_sums o → HasBounds (sums_of (in_order_behind o))
 bounded_behind None h = bounds_of [] tt
 bounded_behind (Some b) h = bounds_of (in_order b.value) (all_node b.value h)
 
 -- the totals that a root knows keep their bounds
-pub bounded_node : (n : Node) → IsTree n → HasBounds (out-Node n).totals
+pub bounded_node : (n : Node) → IsTree knows_sums n → HasBounds (out-Node n).totals
 unfolding out-Node denote.Hole.Carrier.out
 bounded_node (Node' entity left right due totals height) h =
-    subst HasBounds (sym h.6) (bounds_of (in_order_held left ++ entity ∷ in_order_held right) (all_node (Node' entity left right due totals height) h))
+    subst HasBounds (sym h.5.1) (bounds_of (in_order_held left ++ entity ∷ in_order_held right) (all_node (Node' entity left right due totals height) h))
 
 -- the totals that a root knows keep their bounds
-pub bounded_root : (o : Option (Box Node Global)) (b : Box Node Global) → o ≡ Some b → IsTreeBehind o → HasBounds (out-Node b.value).totals
-bounded_root o b e h = bounded_node b.value (subst IsTreeBehind e h)
+pub bounded_root : (o : Option (Box Node Global)) (b : Box Node Global) → o ≡ Some b → IsTreeBehind knows_sums o → HasBounds (out-Node b.value).totals
+bounded_root o b e h = bounded_node b.value (subst (IsTreeBehind knows_sums) e h)

@@ -3,7 +3,7 @@ use Rattle.std.proofs.Common.{◌≡◌, ℕ, zero, suc, ◌+◌, ◌-◌, ◌*�
 use Rattle.std.proofs.Math.Pow.{pow_mono}
 use Rattle.std.proofs.Math.Nat.{pow-suc}
 use Rattle.std.proofs.lemmas.Bool.Decides.{nat_tests}
-use Rattle.bq_disc.specs.Trees.{IsTree, IsTreeHeld, IsTreeBehind, in_order, in_order_held, in_order_behind, height_of, height_held, height_behind, DifferByAtMost}
+use Rattle.bq_disc.specs.Trees.{Knowledge, IsTree, IsTreeHeld, IsTreeBehind, in_order, in_order_held, in_order_behind, height_of, height_held, height_behind, DifferByAtMost}
 use Rattle.bq_disc.specs.declared.node.Node.{Node, Node', Held-Node-left, None', Some'}
 
 -- the fewest nodes of a balanced tree of some height, and of the next height
@@ -43,21 +43,21 @@ fork_by_tests a b k l false false e f d h i =
     rw top (omega arith)
 
 mutual
-  fewest_node : (n : Node) → IsTree n → fewest (height_of n) ≤ length (in_order n)
-  fewest_node (Node' entity left right due totals height) h =
-      let a = fewest_held left h.0 in
-      let b = fewest_held right h.1 in
+  fewest_node : (knows : Knowledge) (n : Node) → IsTree knows n → fewest (height_of n) ≤ length (in_order n)
+  fewest_node knows (Node' entity left right due totals height) h =
+      let a = fewest_held knows left h.0 in
+      let b = fewest_held knows right h.1 in
       let both = fork_by_tests (height_held left) (height_held right) (length (in_order_held left)) (length (in_order_held right)) (nat_lt (height_held left) (height_held right)) (nat_lt (height_held right) (height_held left)) refl refl h.2 a b in
       let count = length-append (in_order_held left) (entity ∷ in_order_held right) in
       rw h.3 (omega (arith, both, count))
 
-  fewest_held : (n : Held-Node-left) → IsTreeHeld n → fewest (height_held n) ≤ length (in_order_held n)
-  fewest_held None' h = omega arith
-  fewest_held (Some' p n) h = fewest_node n h
+  fewest_held : (knows : Knowledge) (n : Held-Node-left) → IsTreeHeld knows n → fewest (height_held n) ≤ length (in_order_held n)
+  fewest_held knows None' h = omega arith
+  fewest_held knows (Some' p n) h = fewest_node knows n h
 
-pub fewest_behind : (o : Option (Box Node Global)) → IsTreeBehind o → fewest (height_behind o) ≤ length (in_order_behind o)
-fewest_behind None h = omega arith
-fewest_behind (Some b) h = fewest_node b.value h
+pub fewest_behind : (knows : Knowledge) (o : Option (Box Node Global)) → IsTreeBehind knows o → fewest (height_behind o) ≤ length (in_order_behind o)
+fewest_behind knows None h = omega arith
+fewest_behind knows (Some b) h = fewest_node knows b.value h
 
 low_by_test : (m h n : ℕ) (b : Bool) → nat_le h m ≡ b → fewest h ≤ n → n < fewest (m + 1) → h ≤ m
 low_by_test m h n true e f l = grind (arith, nat_tests)
@@ -66,16 +66,16 @@ low_by_test m h n false e f l =
     absurd (omega (arith, mono (h - (m + 1)) (m + 1) h (omega arith)))
 
 -- at most 1,024 nodes have height at most 14
-pub low_of_few : (o : Option (Box Node Global)) → IsTreeBehind o → length (in_order_behind o) ≤ 1024 → height_behind o ≤ 14
-low_of_few o h l =
+pub low_of_few : (knows : Knowledge) (o : Option (Box Node Global)) → IsTreeBehind knows o → length (in_order_behind o) ≤ 1024 → height_behind o ≤ 14
+low_of_few knows o h l =
     let top : fewest 15 ≡ 1596 = refl in
-    low_by_test 14 (height_behind o) (length (in_order_behind o)) (nat_le (height_behind o) 14) refl (fewest_behind o h) (omega (arith, top))
+    low_by_test 14 (height_behind o) (length (in_order_behind o)) (nat_le (height_behind o) 14) refl (fewest_behind knows o h) (omega (arith, top))
 
 -- at most 65,536 nodes have height at most 22
-pub low_of_many : (o : Option (Box Node Global)) → IsTreeBehind o → length (in_order_behind o) ≤ 2 ^ 16 → height_behind o ≤ 22
-low_of_many o h l =
+pub low_of_many : (knows : Knowledge) (o : Option (Box Node Global)) → IsTreeBehind knows o → length (in_order_behind o) ≤ 2 ^ 16 → height_behind o ≤ 22
+low_of_many knows o h l =
     let top : fewest 23 ≡ 75024 = refl in
-    low_by_test 22 (height_behind o) (length (in_order_behind o)) (nat_le (height_behind o) 22) refl (fewest_behind o h) (omega (arith, top))
+    low_by_test 22 (height_behind o) (length (in_order_behind o)) (nat_le (height_behind o) 22) refl (fewest_behind knows o h) (omega (arith, top))
 
 full_by : (a b m k l : ℕ) → a ≤ m → b ≤ m → k < 2 ^ a → l < 2 ^ b → k + l + 1 < 2 ^ (m + 1)
 full_by a b m k l p q h i =
@@ -86,19 +86,19 @@ full_by a b m k l p q h i =
     rw (e, z) (omega arith)
 
 mutual
-  full_node : (n : Node) → IsTree n → length (in_order n) < 2 ^ height_of n
-  full_node (Node' entity left right due totals height) h =
-      let a = full_held left h.0 in
-      let b = full_held right h.1 in
+  full_node : (knows : Knowledge) (n : Node) → IsTree knows n → length (in_order n) < 2 ^ height_of n
+  full_node knows (Node' entity left right due totals height) h =
+      let a = full_held knows left h.0 in
+      let b = full_held knows right h.1 in
       let both = full_by (height_held left) (height_held right) (max (height_held left) (height_held right)) (length (in_order_held left)) (length (in_order_held right)) (omega arith) (omega arith) a b in
       let count = length-append (in_order_held left) (entity ∷ in_order_held right) in
       rw h.3 (omega (arith, both, count))
 
-  full_held : (n : Held-Node-left) → IsTreeHeld n → length (in_order_held n) < 2 ^ height_held n
-  full_held None' h = omega arith
-  full_held (Some' p n) h = full_node n h
+  full_held : (knows : Knowledge) (n : Held-Node-left) → IsTreeHeld knows n → length (in_order_held n) < 2 ^ height_held n
+  full_held knows None' h = omega arith
+  full_held knows (Some' p n) h = full_node knows n h
 
 -- a tree of some height has no more nodes than levels allow
-pub full_behind : (o : Option (Box Node Global)) → IsTreeBehind o → length (in_order_behind o) < 2 ^ height_behind o
-full_behind None h = omega arith
-full_behind (Some b) h = full_node b.value h
+pub full_behind : (knows : Knowledge) (o : Option (Box Node Global)) → IsTreeBehind knows o → length (in_order_behind o) < 2 ^ height_behind o
+full_behind knows None h = omega arith
+full_behind knows (Some b) h = full_node knows b.value h

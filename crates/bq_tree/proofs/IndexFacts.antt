@@ -1,10 +1,10 @@
 -- The tree and its table stay sound when a task comes or goes.
-use Rattle.std.proofs.Common.{◌≡◌, ◌≢◌, ℕ, ◌<◌, ◌≤◌, ◌^◌, true, false, cond, eqb, List, [], ◌∷◌, ◌++◌, length, IfSome, ap, sym, ◌∙◌, Option, Some, None, Box, Global, refl, slice_index, slice_set, get_or-set_other, arith}
+use Rattle.std.proofs.Common.{◌≡◌, ◌≢◌, ℕ, ◌+◌, ◌<◌, ◌≤◌, ◌^◌, true, false, cond, eqb, List, [], ◌∷◌, ◌++◌, length, length-append, IfSome, ap, sym, ◌∙◌, Option, Some, None, Box, Global, refl, slice_index, slice_set, get_or-set_other, arith}
 use Rattle.std.specs.Option.{option_map_or}
 use Rattle.std.proofs.lemmas.Bool.Decides.{nat_tests}
 use Rattle.bq_disc.specs.Tasks.{Task, with_id, place, runs_before}
 use Rattle.bq_disc.specs.Queues.{HasDistinctIds, HasSmallIds, key_of}
-use Rattle.bq_disc.specs.Trees.{IsTreeBehind, in_order_behind}
+use Rattle.bq_disc.specs.Trees.{Knowledge, IsTreeBehind, in_order_behind}
 use Rattle.bq_disc.specs.declared.node.Node.{Node}
 use Rattle.bq_disc.proofs.QueueFacts.{length-few, length-place, HasDistinctIds-place, HasSmallIds-place, HasDistinctIds-without, HasSmallIds-without}
 use Rattle.bq_tree.specs.Taking.{Takes}
@@ -32,11 +32,12 @@ first_placed t (x ∷ xs) =
       | false ↦ refl
     ]
 
-pub sound_inserted : (old new : Option (Box Node Global)) (least : Option (ℕ × ℕ)) (key : ℕ × ℕ) (times later : List ℕ) (t : Task) → IsSound old least times → key ≡ lesser_of (key_of t) least → key.0 ≤ 2 ^ 62 → IsTreeBehind new → in_order_behind new ≡ place t (in_order_behind old) → with_id t.id (in_order_behind old) ≡ None → t.id < 2 ^ 16 → ((xs : List Task) → with_id t.id xs ≡ None → Knows times xs → Knows later xs) → (t.id < 1024 → slice_index later t.id ≡ t.v) → IsSound new (Some key) later
-sound_inserted old new least key times later t s lesser high tree e n l others here =
+pub sound_inserted : (knows : Knowledge) (len : ℕ) (old new : Option (Box Node Global)) (least : Option (ℕ × ℕ)) (key : ℕ × ℕ) (times later : List ℕ) (t : Task) → IsSound knows old len least times → key ≡ lesser_of (key_of t) least → key.0 ≤ 2 ^ 62 → IsTreeBehind knows new → in_order_behind new ≡ place t (in_order_behind old) → with_id t.id (in_order_behind old) ≡ None → t.id < 2 ^ 16 → ((xs : List Task) → with_id t.id xs ≡ None → Knows times xs → Knows later xs) → (t.id < 1024 → slice_index later t.id ≡ t.v) → IsSound knows new (len + 1) (Some key) later
+sound_inserted knows len old new least key times later t s lesser high tree e n l others here =
     let xs = in_order_behind old in
     record {
       tree = tree;
+      len_is = omega (arith, s.len_is, ap length e, length-place t xs);
       rising = rw e (IsRising-place t xs s.rising);
       distinct = rw e (HasDistinctIds-place t xs n s.distinct);
       small = rw e (HasSmallIds-place t xs l s.small);
@@ -53,12 +54,13 @@ first_by_test [] t ys least e n =
 first_by_test (x ∷ xs) t ys least e n = e
 
 -- the tree stays sound when a task goes, with the key of the task that is now the first
-pub sound_taken : (old new : Option (Box Node Global)) (was least : Option (ℕ × ℕ)) (times : List ℕ) (v id : ℕ) (t : Task) → IsSound old was times → IsTreeBehind new → Takes v id (in_order_behind old) (Some t) (in_order_behind new) → least ≡ first_key (in_order_behind new) → IfSome least (λ key. key.0 ≤ 2 ^ 62) → IsSound new least times
-sound_taken old new was least times v id x s tree t leads high =
+pub sound_taken : (knows : Knowledge) (len left : ℕ) (old new : Option (Box Node Global)) (was least : Option (ℕ × ℕ)) (times : List ℕ) (v id : ℕ) (t : Task) → IsSound knows old len was times → len ≡ left + 1 → IsTreeBehind knows new → Takes v id (in_order_behind old) (Some t) (in_order_behind new) → least ≡ first_key (in_order_behind new) → IfSome least (λ key. key.0 ≤ 2 ^ 62) → IsSound knows new left least times
+sound_taken knows len left old new was least times v id x s one tree t leads high =
     let distinct = rw t.4 at s.distinct in
     let out = without-split t.0 x t.1 distinct in
     record {
       tree = tree;
+      len_is = omega (arith, s.len_is, one, ap length t.4, ap length t.5, length-append t.0 (x ∷ t.1), length-append t.0 t.1);
       rising = rw t.5 (IsRising-drop t.0 x t.1 (rw t.4 at s.rising));
       distinct = rw (t.5, ← out) (HasDistinctIds-without x.id (t.0 ++ x ∷ t.1) distinct);
       small = rw (t.5, ← out) (HasSmallIds-without x.id (t.0 ++ x ∷ t.1) (rw t.4 at s.small));

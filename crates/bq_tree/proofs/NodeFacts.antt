@@ -1,9 +1,8 @@
 -- A root, by its fields.
 use Rattle.std.proofs.Common.{◌≡◌, ℕ, ◌+◌, max, ◌≤◌, ◌∷◌, ◌++◌, length, length-append, Option, Some, None, Box, Global, refl, ap, sym, ◌∙◌, subst, arith}
 use Rattle.bq_disc.specs.Tasks.{Task}
-use Rattle.bq_disc.specs.Totals.{sums_of, IsBounded}
-use Rattle.bq_disc.specs.Dues.{first_due}
-use Rattle.bq_disc.specs.Trees.{IsTree, IsFork, in_order, in_order_behind, IsTreeBehind, IsRising, height_of, height_behind, DifferByAtMost, hanging}
+use Rattle.bq_disc.specs.Totals.{IsBounded}
+use Rattle.bq_disc.specs.Trees.{Knowledge, left_height, right_height, IsTree, IsFork, in_order, in_order_behind, IsTreeBehind, IsRising, height_of, height_behind, DifferByAtMost, hanging}
 use Rattle.bq_tree.proofs.OrderFacts.{IsRising-left, IsRising-right}
 use Rattle.bq_disc.specs.declared.due.Due.{Due}
 use Rattle.bq_disc.specs.declared.totals.Totals.{Totals}
@@ -49,6 +48,20 @@ height-made e None (Some r) d s h = refl
 height-made e (Some l) None d s h = refl
 height-made e (Some l) (Some r) d s h = refl
 
+pub left_height-made : (e : Task) (l r : Option (Box Node Global)) (d : Due) (s : Totals) (h : ℕ) → left_height (made e l r d s h) ≡ height_behind l
+unfolding roll-Node denote.Hole.Carrier.roll
+left_height-made e None None d s h = refl
+left_height-made e None (Some r) d s h = refl
+left_height-made e (Some l) None d s h = refl
+left_height-made e (Some l) (Some r) d s h = refl
+
+pub right_height-made : (e : Task) (l r : Option (Box Node Global)) (d : Due) (s : Totals) (h : ℕ) → right_height (made e l r d s h) ≡ height_behind r
+unfolding roll-Node denote.Hole.Carrier.roll
+right_height-made e None None d s h = refl
+right_height-made e None (Some r) d s h = refl
+right_height-made e (Some l) None d s h = refl
+right_height-made e (Some l) (Some r) d s h = refl
+
 pub hanging-made : (e : Task) (l r : Option (Box Node Global)) (d : Due) (s : Totals) (h : ℕ) → hanging (made e l r d s h) ≡ in_order_behind l ++ e ∷ in_order_behind r
 unfolding out-Node roll-Node denote.Hole.Carrier.out denote.Hole.Carrier.roll
 hanging-made e None None d s h = refl
@@ -57,66 +70,65 @@ hanging-made e (Some l) None d s h = refl
 hanging-made e (Some l) (Some r) d s h = refl
 
 -- a node is a fork where its sides are trees and it knows what hangs from it
-pub IsFork-made : (e : Task) (l r : Option (Box Node Global)) (d : Due) (s : Totals) (h : ℕ) → IsTreeBehind l → IsTreeBehind r → IsBounded e → first_due (in_order_behind l ++ e ∷ in_order_behind r) ≡ Some d → s ≡ sums_of (in_order_behind l ++ e ∷ in_order_behind r) → IsFork (made e l r d s h)
+pub IsFork-made : (knows : Knowledge) (e : Task) (l r : Option (Box Node Global)) (d : Due) (s : Totals) (h : ℕ) → IsTreeBehind knows l → IsTreeBehind knows r → IsBounded e → knows (in_order_behind l ++ e ∷ in_order_behind r) d s → IsFork knows (made e l r d s h)
 unfolding roll-Node denote.Hole.Carrier.roll
-IsFork-made e None None d s h a b c due sums = (a, b, c, due, sums)
-IsFork-made e None (Some r) d s h a b c due sums = (a, b, c, due, sums)
-IsFork-made e (Some l) None d s h a b c due sums = (a, b, c, due, sums)
-IsFork-made e (Some l) (Some r) d s h a b c due sums = (a, b, c, due, sums)
+IsFork-made knows e None None d s h a b c k = (a, b, c, k)
+IsFork-made knows e None (Some r) d s h a b c k = (a, b, c, k)
+IsFork-made knows e (Some l) None d s h a b c k = (a, b, c, k)
+IsFork-made knows e (Some l) (Some r) d s h a b c k = (a, b, c, k)
 
 -- and a tree where its height is right and its sides are balanced, too
-pub IsTree-fork : (e : Task) (l r : Option (Box Node Global)) (d : Due) (s : Totals) (h : ℕ) → IsFork (made e l r d s h) → DifferByAtMost 1 (height_behind l) (height_behind r) → h ≡ max (height_behind l) (height_behind r) + 1 → IsTree (made e l r d s h)
+pub IsTree-fork : (knows : Knowledge) (e : Task) (l r : Option (Box Node Global)) (d : Due) (s : Totals) (h : ℕ) → IsFork knows (made e l r d s h) → DifferByAtMost 1 (height_behind l) (height_behind r) → h ≡ max (height_behind l) (height_behind r) + 1 → IsTree knows (made e l r d s h)
 unfolding roll-Node denote.Hole.Carrier.roll
-IsTree-fork e None None d s h f balanced high = (f.0, f.1, balanced, high, f.2, f.3, f.4)
-IsTree-fork e None (Some r) d s h f balanced high = (f.0, f.1, balanced, high, f.2, f.3, f.4)
-IsTree-fork e (Some l) None d s h f balanced high = (f.0, f.1, balanced, high, f.2, f.3, f.4)
-IsTree-fork e (Some l) (Some r) d s h f balanced high = (f.0, f.1, balanced, high, f.2, f.3, f.4)
+IsTree-fork knows e None None d s h f balanced high = (f.0, f.1, balanced, high, f.2, f.3)
+IsTree-fork knows e None (Some r) d s h f balanced high = (f.0, f.1, balanced, high, f.2, f.3)
+IsTree-fork knows e (Some l) None d s h f balanced high = (f.0, f.1, balanced, high, f.2, f.3)
+IsTree-fork knows e (Some l) (Some r) d s h f balanced high = (f.0, f.1, balanced, high, f.2, f.3)
 
 -- what the fields of the root of a tree say
-pub record IsRoot (n : Node) : Type 0 where
-  pub left : IsTreeBehind (out-Node n).left
-  pub right : IsTreeBehind (out-Node n).right
+pub record IsRoot (knows : Knowledge) (n : Node) : Type 0 where
+  pub left : IsTreeBehind knows (out-Node n).left
+  pub right : IsTreeBehind knows (out-Node n).right
   pub balanced : DifferByAtMost 1 (height_behind (out-Node n).left) (height_behind (out-Node n).right)
   pub height : (out-Node n).height ≡ max (height_behind (out-Node n).left) (height_behind (out-Node n).right) + 1
   pub bounded : IsBounded (out-Node n).entity
-  pub due : first_due (in_order_behind (out-Node n).left ++ (out-Node n).entity ∷ in_order_behind (out-Node n).right) ≡ Some (out-Node n).due
-  pub totals : (out-Node n).totals ≡ sums_of (in_order_behind (out-Node n).left ++ (out-Node n).entity ∷ in_order_behind (out-Node n).right)
+  pub known : knows (in_order_behind (out-Node n).left ++ (out-Node n).entity ∷ in_order_behind (out-Node n).right) (out-Node n).due (out-Node n).totals
   pub order : in_order n ≡ in_order_behind (out-Node n).left ++ (out-Node n).entity ∷ in_order_behind (out-Node n).right
 
-pub root_of : (n : Node) → IsTree n → IsRoot n
+pub root_of : (knows : Knowledge) (n : Node) → IsTree knows n → IsRoot knows n
 unfolding out-Node denote.Hole.Carrier.out
-root_of (Node' entity None' None' due totals height) h = record { left = h.0; right = h.1; balanced = h.2; height = h.3; bounded = h.4; due = h.5; totals = h.6; order = refl }
-root_of (Node' entity None' (Some' q r) due totals height) h = record { left = h.0; right = h.1; balanced = h.2; height = h.3; bounded = h.4; due = h.5; totals = h.6; order = refl }
-root_of (Node' entity (Some' p l) None' due totals height) h = record { left = h.0; right = h.1; balanced = h.2; height = h.3; bounded = h.4; due = h.5; totals = h.6; order = refl }
-root_of (Node' entity (Some' p l) (Some' q r) due totals height) h = record { left = h.0; right = h.1; balanced = h.2; height = h.3; bounded = h.4; due = h.5; totals = h.6; order = refl }
+root_of knows (Node' entity None' None' due totals height) h = record { left = h.0; right = h.1; balanced = h.2; height = h.3; bounded = h.4; known = h.5; order = refl }
+root_of knows (Node' entity None' (Some' q r) due totals height) h = record { left = h.0; right = h.1; balanced = h.2; height = h.3; bounded = h.4; known = h.5; order = refl }
+root_of knows (Node' entity (Some' p l) None' due totals height) h = record { left = h.0; right = h.1; balanced = h.2; height = h.3; bounded = h.4; known = h.5; order = refl }
+root_of knows (Node' entity (Some' p l) (Some' q r) due totals height) h = record { left = h.0; right = h.1; balanced = h.2; height = h.3; bounded = h.4; known = h.5; order = refl }
 
 -- the root behind a link
-pub record IsRootBehind (link : Option (Box Node Global)) (n : Node) : Type 0 where
-  pub tree : IsTree n
+pub record IsRootBehind (knows : Knowledge) (link : Option (Box Node Global)) (n : Node) : Type 0 where
+  pub tree : IsTree knows n
   pub order : in_order_behind link ≡ in_order n
   pub height : height_behind link ≡ (out-Node n).height
 
-height_is : (n : Node) → height_of n ≡ (out-Node n).height
+pub height_is : (n : Node) → height_of n ≡ (out-Node n).height
 unfolding out-Node denote.Hole.Carrier.out
 height_is (Node' entity left right due totals height) = refl
 
-pub root_behind : (link : Option (Box Node Global)) (b : Box Node Global) (n : Node) → link ≡ Some b → n ≡ b.value → IsTreeBehind link → IsRootBehind link n
-root_behind link b n e f h = record {
-  tree = subst IsTree (sym f) (subst IsTreeBehind e h);
+pub root_behind : (knows : Knowledge) (link : Option (Box Node Global)) (b : Box Node Global) (n : Node) → link ≡ Some b → n ≡ b.value → IsTreeBehind knows link → IsRootBehind knows link n
+root_behind knows link b n e f h = record {
+  tree = subst (IsTree knows) (sym f) (subst (IsTreeBehind knows) e h);
   order = ap in_order_behind e ∙ ap in_order (sym f);
   height = ap height_behind e ∙ ap height_of (sym f) ∙ height_is n;
 }
 
 -- a side of what is behind a link
-pub record IsSide (side link : Option (Box Node Global)) : Type 0 where
-  pub tree : IsTreeBehind side
+pub record IsSide (knows : Knowledge) (side link : Option (Box Node Global)) : Type 0 where
+  pub tree : IsTreeBehind knows side
   pub rising : IsRising (in_order_behind side)
   pub lower : height_behind side + 1 ≤ height_behind link
   pub fewer : length (in_order_behind side) + 1 ≤ length (in_order_behind link)
 
-pub left_side_of : (link : Option (Box Node Global)) (n : Node) → IsRootBehind link n → IsRising (in_order_behind link) → IsSide (out-Node n).left link
-left_side_of link n r rising =
-    let f = root_of n r.tree in
+pub left_side_of : (knows : Knowledge) (link : Option (Box Node Global)) (n : Node) → IsRootBehind knows link n → IsRising (in_order_behind link) → IsSide knows (out-Node n).left link
+left_side_of knows link n r rising =
+    let f = root_of knows n r.tree in
     let all = r.order ∙ f.order in
     let count = length-append (in_order_behind (out-Node n).left) ((out-Node n).entity ∷ in_order_behind (out-Node n).right) in
     record {
@@ -126,9 +138,9 @@ left_side_of link n r rising =
       fewer = omega (arith, ap length all);
     }
 
-pub right_side_of : (link : Option (Box Node Global)) (n : Node) → IsRootBehind link n → IsRising (in_order_behind link) → IsSide (out-Node n).right link
-right_side_of link n r rising =
-    let f = root_of n r.tree in
+pub right_side_of : (knows : Knowledge) (link : Option (Box Node Global)) (n : Node) → IsRootBehind knows link n → IsRising (in_order_behind link) → IsSide knows (out-Node n).right link
+right_side_of knows link n r rising =
+    let f = root_of knows n r.tree in
     let all = r.order ∙ f.order in
     let count = length-append (in_order_behind (out-Node n).left) ((out-Node n).entity ∷ in_order_behind (out-Node n).right) in
     record {

@@ -75,6 +75,10 @@ all_pass : (w m : ℕ) (x : Task) (xs : List Task) → is_at_most_mean w m x ≡
 all_pass w m x [] p h = refl
 all_pass w m x (y ∷ xs) p h = let e = passes_too w m x y p h.0 in rw e (ap (λ zs. y ∷ zs) (all_pass w m x xs p h.1))
 
+-- so all those pass that stand before one that does
+pub all_pass-before : (w m : ℕ) (xs : List Task) (x : Task) (ys : List Task) → IsRising (xs ++ x ∷ ys) → is_at_most_mean w m x ≡ true → passing w m xs ≡ xs
+all_pass-before w m xs x ys h e = all_pass w m x xs e (IsRising-before xs x ys h)
+
 none_passes : (w m : ℕ) (x : Task) (xs : List Task) → is_at_most_mean w m x ≡ false → NoneRunsBefore x xs → passing w m xs ≡ []
 none_passes w m x [] p h = refl
 none_passes w m x (y ∷ xs) p h = let e = fails_too w m x y p h.0 in rw e (none_passes w m x xs p h.1)

@@ -1,12 +1,12 @@
 -- What a tree of tasks keeps, with the key of its first task and its table of times.
-use Rattle.std.specs.Prelude.{◌≡◌, ℕ, ◌<◌, ◌≤◌, ◌^◌, List, Option, None, Some, IfSome, find, slice_index, nat_lt, ◌==◌, ◌||◌, ◌&&◌, if◌then◌else◌}
+use Rattle.std.specs.Prelude.{◌≡◌, ℕ, ◌<◌, ◌≤◌, ◌^◌, List, Option, None, Some, IfSome, find, length, slice_index, nat_lt, ◌==◌, ◌||◌, ◌&&◌, if◌then◌else◌}
 use Rattle.std.specs.Option.{option_map}
 use Rattle.std.specs.List.{AllByRecursion}
 use Rattle.std.specs.declared.boxed.Box.{Box}
 use Rattle.std.specs.declared.alloc.Global.{Global}
 use Rattle.bq_disc.specs.Tasks.{Task}
 use Rattle.bq_disc.specs.Queues.{HasDistinctIds, HasSmallIds, follows, key_of}
-use Rattle.bq_disc.specs.Trees.{IsTreeBehind, IsRising, in_order_behind}
+use Rattle.bq_disc.specs.Trees.{Knowledge, IsTreeBehind, IsRising, in_order_behind}
 use Rattle.bq_disc.specs.declared.node.Node.{Node}
 
 -- a table has each task's v at its id, as far as the table goes
@@ -22,8 +22,9 @@ abbrev pub lesser_of : ℕ × ℕ → Option (ℕ × ℕ) → ℕ × ℕ
 lesser_of a None = a
 lesser_of a (Some b) = if nat_lt a.0 b.0 || (a.0 == b.0 && nat_lt a.1 b.1) then a else b
 
-pub record IsSound (root : Option (Box Node Global)) (least : Option (ℕ × ℕ)) (times : List ℕ) : Type 0 where
-  pub tree : IsTreeBehind root
+pub record IsSound (knowledge : Knowledge) (root : Option (Box Node Global)) (len : ℕ) (least : Option (ℕ × ℕ)) (times : List ℕ) : Type 0 where
+  pub tree : IsTreeBehind knowledge root
+  pub len_is : len ≡ length (in_order_behind root)
   pub rising : IsRising (in_order_behind root)
   pub distinct : HasDistinctIds (in_order_behind root)
   pub small : HasSmallIds (in_order_behind root)

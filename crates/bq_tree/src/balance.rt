@@ -1,13 +1,13 @@
 //! How a node takes two trees as its sides, and how a tree comes apart.
-ghost use Rattle.std.specs.Prelude.{◌≡◌, ◌<◌, ◌≤◌, ◌+◌, ◌^◌, max, length, ◌++◌, ◌∷◌, Some, IsSome};
+ghost use Rattle.std.specs.Prelude.{◌≡◌, ◌<◌, ◌≤◌, ◌+◌, ◌^◌, max, length, ◌++◌, ◌∷◌, [], IsSome};
 ghost use Rattle.bq_disc.specs.Chains.{task_of, IsLone};
-ghost use Rattle.bq_disc.specs.Totals.{sums_of, HasBounds, IsBounded};
-ghost use Rattle.bq_disc.specs.Dues.{first_due};
+ghost use Rattle.bq_disc.specs.Totals.{IsBounded};
 ghost use Rattle.bq_disc.specs.declared.node.Node.{out-Node};
 ghost use Rattle.bq_disc.specs.Trees.{in_order, height_of, left_height, right_height, left_height_behind, right_height_behind, IsTree, IsFork, IsForkBehind, in_order_behind, height_behind, IsTreeBehind, DifferByAtMost};
 
+use crate::summary::Summary;
 use bq_disc::node::Link;
-use bq_disc::{Due, Node, Totals};
+use bq_disc::{Entity, Node};
 
 /// The height of a tree.
 pub(crate) fn height(link: &Link) -> u8
@@ -19,55 +19,12 @@ pub(crate) fn height(link: &Link) -> u8
     }
 }
 
-/// When the first task of a tree is due.
-pub(crate) fn due(link: &Link) -> Option<Due>
-    requires { IsTreeBehind link.now }
-    ensures { result ≡ first_due (in_order_behind link.now) }
-{
-    match link {
-        None => None,
-        Some(node) => Some(node.due),
-    }
-}
-
-/// What the tasks of a tree have together.
-#[tactic(auto, using(crate::proofs::BoundFacts::bounded_behind))]
-pub(crate) fn totals(link: &Link) -> Totals
-    requires { IsTreeBehind link.now }
-    ensures sums { result ≡ sums_of (in_order_behind link.now) }
-    ensures bounds { HasBounds result }
-{
-    match link {
-        None => Totals::none(),
-        Some(node) => node.totals,
-    }
-}
-
-/// When the first is due of a node's task and of two trees.
-#[tactic(auto, using(crate::proofs::TotalsFacts::totals_facts))]
-pub(crate) fn first_of(node: &Node, left: &Link, right: &Link) -> Due
-    requires left { IsTreeBehind left.now }
-    requires right { IsTreeBehind right.now }
-    ensures { first_due (in_order_behind left.now ++ task_of node.now ∷ in_order_behind right.now) ≡ Some result }
-{
-    node.entity.due().earliest(due(left)).earliest(due(right))
-}
-
-/// When the first is due of all that hangs from a root, and what they have together, as the root knows it.
-fn known(root: &Node) -> (Due, Totals)
-    requires { IsFork root.now }
-    ensures due { first_due (in_order root.now) ≡ Some result.0 }
-    ensures totals { result.1 ≡ sums_of (in_order root.now) }
-{
-    (root.due, root.totals)
-}
-
 /// The root of a tree and its two sides.
-pub(crate) fn opened(mut node: Box<Node>) -> (Link, Box<Node>, Link)
-    requires { IsTree node.value }
+pub(crate) fn opened<S: Summary>(mut node: Box<Node>) -> (Link, Box<Node>, Link)
+    requires { IsTree S.knows node.value }
     ensures lone { IsLone result.1.value }
-    ensures left { IsTreeBehind result.0 }
-    ensures right { IsTreeBehind result.2 }
+    ensures left { IsTreeBehind S.knows result.0 }
+    ensures right { IsTreeBehind S.knows result.2 }
     ensures balanced { DifferByAtMost 1 (height_behind result.0) (height_behind result.2) }
     ensures height { height_of node.value ≡ max (height_behind result.0) (height_behind result.2) + 1 }
     ensures bounded { IsBounded (task_of result.1.value) }
@@ -81,90 +38,97 @@ pub(crate) fn opened(mut node: Box<Node>) -> (Link, Box<Node>, Link)
 }
 
 /// A root and its two sides, which may differ in height.
-fn parted(mut node: Box<Node>) -> (Link, Box<Node>, Link)
-    requires { IsFork node.value }
+fn parted<S: Summary>(mut node: Box<Node>) -> (Link, Box<Node>, Link)
+    requires { IsFork S.knows node.value }
     ensures lone { IsLone result.1.value }
-    ensures left { IsTreeBehind result.0 }
-    ensures right { IsTreeBehind result.2 }
+    ensures left { IsTreeBehind S.knows result.0 }
+    ensures right { IsTreeBehind S.knows result.2 }
     ensures left_height { height_behind result.0 ≡ left_height node.value }
     ensures right_height { height_behind result.2 ≡ right_height node.value }
     ensures bounded { IsBounded (task_of result.1.value) }
     ensures order { in_order node.value ≡ in_order_behind result.0 ++ task_of result.1.value ∷ in_order_behind result.2 }
+    ensures knows { S.knows (in_order node.value) (out-Node result.1.value).due (out-Node result.1.value).totals }
 {
     let left = node.left.take();
     let right = node.right.take();
     (left, node, right)
 }
 
-/// What a node's task and two trees have together.
-#[tactic(auto, using(crate::proofs::TotalsFacts::totals_facts))]
-fn totals_of(node: &Node, left: &Link, right: &Link) -> Totals
-    requires left { IsTreeBehind left.now }
-    requires right { IsTreeBehind right.now }
-    requires few { length (in_order_behind left.now) + length (in_order_behind right.now) < 2 ^ 16 }
-    ensures sums { result ≡ sums_of (in_order_behind left.now ++ task_of node.now ∷ in_order_behind right.now) }
-    ensures task { IsBounded (task_of node.now) }
+/// Each task's weight and v are in their ranges.
+fn ranges(entity: &Entity)
+    ensures { IsBounded entity.now }
 {
-    let mut rest = totals(right);
-    rest.add(&node.entity);
-    totals(left).join(&rest)
+    let _weight = entity.weight();
+    let _v = entity.v();
+}
+
+/// A node without sides.
+pub(crate) fn leaf<S: Summary>(mut node: Box<Node>) -> Box<Node>
+    requires lone { IsLone node.value }
+    ensures tree { IsTree S.knows result.value }
+    ensures order { in_order result.value ≡ task_of node.value ∷ [] }
+    ensures height { height_of result.value ≡ 1 }
+{
+    ranges(&node.entity);
+    let none = None;
+    S::gather(&mut node, &none, &none);
+    node.height = 1;
+    node
 }
 
 /// A node with two trees at its sides.
-pub(crate) fn fork(node: Box<Node>, left: Link, right: Link) -> Box<Node>
+#[inline(always)]
+fn fork<S: Summary>(node: Box<Node>, left: Link, right: Link) -> Box<Node>
     requires lone { IsLone node.value }
-    requires left { IsTreeBehind left }
-    requires right { IsTreeBehind right }
+    requires left { IsTreeBehind S.knows left }
+    requires right { IsTreeBehind S.knows right }
     requires balanced { DifferByAtMost 1 (height_behind left) (height_behind right) }
     requires low { max (height_behind left) (height_behind right) ≤ 100 }
     requires few { length (in_order_behind left) + length (in_order_behind right) < 2 ^ 16 }
-    ensures tree { IsTree result.value }
+    ensures tree { IsTree S.knows result.value }
     ensures order { in_order result.value ≡ in_order_behind left ++ task_of node.value ∷ in_order_behind right }
     ensures height { height_of result.value ≡ max (height_behind left) (height_behind right) + 1 }
 {
-    gathered(node, left, right)
+    gathered::<S>(node, left, right)
 }
 
 /// A node with two trees at its sides, which may differ in height.
 #[inline(always)]
-pub(crate) fn gathered(mut node: Box<Node>, left: Link, right: Link) -> Box<Node>
+pub(crate) fn gathered<S: Summary>(mut node: Box<Node>, left: Link, right: Link) -> Box<Node>
     requires lone { IsLone node.value }
-    requires left { IsTreeBehind left }
-    requires right { IsTreeBehind right }
+    requires left { IsTreeBehind S.knows left }
+    requires right { IsTreeBehind S.knows right }
     requires low { max (height_behind left) (height_behind right) ≤ 100 }
     requires few { length (in_order_behind left) + length (in_order_behind right) < 2 ^ 16 }
-    ensures fork { IsFork result.value }
-    ensures tree { DifferByAtMost 1 (height_behind left) (height_behind right) → IsTree result.value }
+    ensures fork { IsFork S.knows result.value }
+    ensures tree { DifferByAtMost 1 (height_behind left) (height_behind right) → IsTree S.knows result.value }
     ensures order { in_order result.value ≡ in_order_behind left ++ task_of node.value ∷ in_order_behind right }
     ensures height { height_of result.value ≡ max (height_behind left) (height_behind right) + 1 }
     ensures left_height { left_height result.value ≡ height_behind left }
     ensures right_height { right_height result.value ≡ height_behind right }
 {
-    node.due = first_of(&node, &left, &right);
-    node.totals = totals_of(&node, &left, &right);
+    ranges(&node.entity);
+    S::gather(&mut node, &left, &right);
     node.height = height(&left).max(height(&right)) + 1;
     node.left = left;
     node.right = right;
     node
 }
 
-/// A node that takes the place of another root: all that hangs from it is the same, so what the other knew is true of it.
+/// A node that has taken the place of another root: it knows all that is to hang from it.
 #[inline(always)]
-fn crown(mut node: Box<Node>, left: Link, right: Link, due: Due, totals: Totals) -> Box<Node>
+fn crown<S: Summary>(mut node: Box<Node>, left: Link, right: Link) -> Box<Node>
     requires lone { IsLone node.value }
-    requires left { IsTreeBehind left }
-    requires right { IsTreeBehind right }
+    requires left { IsTreeBehind S.knows left }
+    requires right { IsTreeBehind S.knows right }
     requires balanced { DifferByAtMost 1 (height_behind left) (height_behind right) }
     requires low { max (height_behind left) (height_behind right) ≤ 100 }
-    requires due { first_due (in_order_behind left ++ task_of node.value ∷ in_order_behind right) ≡ Some due }
-    requires totals { totals ≡ sums_of (in_order_behind left ++ task_of node.value ∷ in_order_behind right) }
+    requires knows { S.knows (in_order_behind left ++ task_of node.value ∷ in_order_behind right) (out-Node node.value).due (out-Node node.value).totals }
     requires bounded { IsBounded (task_of node.value) }
-    ensures tree { IsTree result.value }
+    ensures tree { IsTree S.knows result.value }
     ensures order { in_order result.value ≡ in_order_behind left ++ task_of node.value ∷ in_order_behind right }
     ensures height { height_of result.value ≡ max (height_behind left) (height_behind right) + 1 }
 {
-    node.due = due;
-    node.totals = totals;
     node.height = height(&left).max(height(&right)) + 1;
     node.left = left;
     node.right = right;
@@ -172,64 +136,66 @@ fn crown(mut node: Box<Node>, left: Link, right: Link, due: Due, totals: Totals)
 }
 
 /// A root whose left side is two levels higher than its right one makes way for a node of that side.
-fn turned_right(root: Box<Node>) -> Box<Node>
-    requires fork { IsFork root.value }
+fn turned_right<S: Summary>(root: Box<Node>) -> Box<Node>
+    requires fork { IsFork S.knows root.value }
     requires higher { left_height root.value ≡ right_height root.value + 2 }
     requires low { left_height root.value ≤ 100 }
     requires few { length (in_order root.value) ≤ 2 ^ 16 }
-    ensures tree { IsTree result.value }
+    ensures tree { IsTree S.knows result.value }
     ensures order { in_order result.value ≡ in_order root.value }
     ensures not_lower { left_height root.value ≤ height_of result.value }
     ensures at_most_one_higher { height_of result.value ≤ left_height root.value + 1 }
 {
-    let (due, totals) = known(&root);
-    let (left, root, right) = parted(root);
+    let (left, root, right) = parted::<S>(root);
     let Some(top) = left else { unreachable!() };
-    let (outer, top, inner) = opened(top);
+    let (outer, mut top, inner) = opened::<S>(top);
     if height(&outer) >= height(&inner) {
-        let low = fork(root, inner, right);
-        return crown(top, outer, Some(low), due, totals);
+        S::take_over(&mut top, &root);
+        let low = fork::<S>(root, inner, right);
+        return crown::<S>(top, outer, Some(low));
     }
     let Some(middle) = inner else { unreachable!() };
-    let (near, middle, far) = opened(middle);
-    let before = fork(top, outer, near);
-    let after = fork(root, far, right);
-    crown(middle, Some(before), Some(after), due, totals)
+    let (near, mut middle, far) = opened::<S>(middle);
+    S::take_over(&mut middle, &root);
+    let before = fork::<S>(top, outer, near);
+    let after = fork::<S>(root, far, right);
+    crown::<S>(middle, Some(before), Some(after))
 }
 
 /// A root whose right side is two levels higher than its left one makes way for a node of that side.
-fn turned_left(root: Box<Node>) -> Box<Node>
-    requires fork { IsFork root.value }
+fn turned_left<S: Summary>(root: Box<Node>) -> Box<Node>
+    requires fork { IsFork S.knows root.value }
     requires higher { right_height root.value ≡ left_height root.value + 2 }
     requires low { right_height root.value ≤ 100 }
     requires few { length (in_order root.value) ≤ 2 ^ 16 }
-    ensures tree { IsTree result.value }
+    ensures tree { IsTree S.knows result.value }
     ensures order { in_order result.value ≡ in_order root.value }
     ensures not_lower { right_height root.value ≤ height_of result.value }
     ensures at_most_one_higher { height_of result.value ≤ right_height root.value + 1 }
 {
-    let (due, totals) = known(&root);
-    let (left, root, right) = parted(root);
+    let (left, root, right) = parted::<S>(root);
     let Some(top) = right else { unreachable!() };
-    let (inner, top, outer) = opened(top);
+    let (inner, mut top, outer) = opened::<S>(top);
     if height(&outer) >= height(&inner) {
-        let low = fork(root, left, inner);
-        return crown(top, Some(low), outer, due, totals);
+        S::take_over(&mut top, &root);
+        let low = fork::<S>(root, left, inner);
+        return crown::<S>(top, Some(low), outer);
     }
     let Some(middle) = inner else { unreachable!() };
-    let (far, middle, near) = opened(middle);
-    let before = fork(root, left, far);
-    let after = fork(top, near, outer);
-    crown(middle, Some(before), Some(after), due, totals)
+    let (far, mut middle, near) = opened::<S>(middle);
+    S::take_over(&mut middle, &root);
+    let before = fork::<S>(root, left, far);
+    let after = fork::<S>(top, near, outer);
+    crown::<S>(middle, Some(before), Some(after))
 }
 
 /// A root whose sides differ in height by at most two, made a tree.
-pub(crate) fn settled(mut root: Box<Node>) -> Box<Node>
-    requires fork { IsFork root.value }
+pub(crate) fn settled<S: Summary>(mut root: Box<Node>) -> Box<Node>
+    requires fork { IsFork S.knows root.value }
     requires near { DifferByAtMost 2 (left_height root.value) (right_height root.value) }
     requires low { max (left_height root.value) (right_height root.value) ≤ 100 }
     requires few { length (in_order root.value) ≤ 2 ^ 16 }
-    ensures tree { IsTree result.value }
+    ensures tree { IsTree S.knows result.value }
     ensures order { in_order result.value ≡ in_order root.value }
     ensures not_lower { max (left_height root.value) (right_height root.value) ≤ height_of result.value }
     ensures at_most_one_higher { height_of result.value ≤ max (left_height root.value) (right_height root.value) + 1 }
@@ -237,10 +203,10 @@ pub(crate) fn settled(mut root: Box<Node>) -> Box<Node>
 {
     let (left, right) = heights(&root);
     if left > right + 1 {
-        return turned_right(root);
+        return turned_right::<S>(root);
     }
     if right > left + 1 {
-        return turned_left(root);
+        return turned_left::<S>(root);
     }
     root.height = left.max(right) + 1;
     root
@@ -255,12 +221,12 @@ fn heights(root: &Node) -> (u8, u8)
 }
 
 /// Makes a tree of what is behind a link.
-pub(crate) fn settle(link: &mut Link)
-    requires fork { IsForkBehind link.old }
+pub(crate) fn settle<S: Summary>(link: &mut Link)
+    requires fork { IsForkBehind S.knows link.old }
     requires near { DifferByAtMost 2 (left_height_behind link.old) (right_height_behind link.old) }
     requires low { max (left_height_behind link.old) (right_height_behind link.old) ≤ 100 }
     requires few { length (in_order_behind link.old) ≤ 2 ^ 16 }
-    ensures tree { IsTreeBehind link.new }
+    ensures tree { IsTreeBehind S.knows link.new }
     ensures order { in_order_behind link.new ≡ in_order_behind link.old }
     ensures not_lower { max (left_height_behind link.old) (right_height_behind link.old) ≤ height_behind link.new }
     ensures at_most_one_higher { height_behind link.new ≤ max (left_height_behind link.old) (right_height_behind link.old) + 1 }
@@ -275,6 +241,6 @@ pub(crate) fn settle(link: &mut Link)
         return;
     }
     if let Some(root) = link.take() {
-        *link = Some(settled(root));
+        *link = Some(settled::<S>(root));
     }
 }

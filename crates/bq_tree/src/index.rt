@@ -1,29 +1,32 @@
 //! The tree with what finds a task at once: the key of its first task, and a table from ids to times.
-ghost use Rattle.std.specs.Prelude.{◌≡◌, ◌<◌, ◌≤◌, ◌^◌, ℕ, ◌==◌, false, List, length, Some, None, IfSome, slice_index};
-ghost use Rattle.std.specs.Option.{option_map_or};
+ghost use Rattle.std.specs.Prelude.{◌≡◌, ◌<◌, ◌≤◌, ◌^◌, ◌++◌, ℕ, ◌==◌, false, List, [], length, None, IfSome, IfNone, slice_index};
+ghost use Rattle.std.specs.Option.{option_map, option_map_or, option_to_list};
 ghost use Rattle.bq_disc.specs.Tasks.{Task, with_id};
-ghost use Rattle.bq_disc.specs.Trees.{IsTreeBehind, in_order_behind};
-ghost use Rattle.bq_tree.specs.Taking.{Takes};
+ghost use Rattle.bq_disc.specs.Chains.{task_of, IsLone};
+ghost use Rattle.bq_disc.specs.Trees.{in_order_behind};
 ghost use Rattle.bq_tree.specs.Sound.{Knows, first_key, lesser_of};
 
-use crate::edits::{insert_into, take_from};
+use crate::edits::{insert_into, pop_least, take_from};
+use crate::summary::Summary;
 use crate::{balance, walks};
 use bq_disc::node::Link;
 use bq_disc::{Due, Movable, Node, Timeline, Totals};
-use std::marker::Model;
+use std::marker::{Model, PhantomData};
 
 /// The ids whose times stand in the table.
 const IDS: usize = 1024;
 
-/// Tasks with distinct ids, by rising (v, id), as a balanced tree of their own nodes.
+/// Tasks with distinct ids, by rising (v, id), as a balanced tree of their own nodes, each of which knows what `S` says.
 #[derive(Drop)]
-pub struct Tree {
+pub struct Tree<S: Summary> {
     root: Link,
+    len: usize,
     least: Option<(u64, u16)>,
     times: [u64; 1024],
+    summary: PhantomData<S>,
 }
 
-impl Model for Tree {
+impl<S: Summary> Model for Tree<S> {
     ghost use Rattle.std.specs.Prelude.{List};
     ghost use Rattle.std.specs.Coded.{coded_list};
     ghost use Rattle.bq_disc.specs.Tasks.{Task, coded_task};
@@ -38,10 +41,10 @@ impl Model for Tree {
 
     ghost view = { λ t. in_order_behind t.root };
 
-    ghost invariant = { λ t. IsSound t.root t.least t.times };
+    ghost invariant = { λ t. IsSound S.knows t.root t.len t.least t.times };
 }
 
-impl Tree {
+impl<S: Summary> Tree<S> {
     /// How many levels the tree has.
     pub fn height(&self) -> u8
         ensures low { length self.now ≤ 1024 → result ≤ 14 }
@@ -49,36 +52,54 @@ impl Tree {
     {
         balance::height(&self.root)
     }
+
+    /// Takes out the first task.
+    fn take_least(&mut self) -> Option<Box<Node>>
+        ensures order { self.old ≡ option_to_list (option_map (λ b. task_of b.value) result) ++ self.new }
+        ensures none { IfNone result (self.new ≡ []) }
+        ensures lone { IfSome result (λ b. IsLone b.value) }
+    {
+        let least = pop_least::<S>(&mut self.root)?;
+        self.len -= 1;
+        self.least = first_key(&self.root);
+        Some(least)
+    }
 }
 
-impl Timeline for Tree {
+impl<S: Summary> Timeline for Tree<S> {
     ghost tasks = { λ t. t };
 
-    fn empty() -> Tree {
+    fn empty() -> Tree<S> {
         Tree {
             root: None,
+            len: 0,
             least: None,
             times: zeros(),
+            summary: PhantomData,
         }
     }
 
     fn len(&self) -> usize {
-        balance::totals(&self.root).count as usize
+        self.len
     }
 
     fn insert(&mut self, node: Box<Node>) {
         let key = node.entity.key();
         self.least = Some(lesser(key, self.least));
         remember(&mut self.times, key.1, key.0);
-        insert_into(&mut self.root, node);
+        insert_into::<S>(&mut self.root, node);
+        self.len += 1;
     }
 
     fn take(&mut self, id: u16) -> Option<Box<Node>> {
+        if has_id(self.least, id) {
+            return self.take_least();
+        }
         let v = time_of(&self.times, &self.root, id);
-        let Some(taken) = take_from(&mut self.root, v, id) else {
+        let Some(taken) = take_from::<S>(&mut self.root, v, id) else {
             return None;
         };
-        self.least = least_without(self.least, id, &self.root);
+        self.len -= 1;
         Some(taken)
     }
 
@@ -104,11 +125,11 @@ impl Timeline for Tree {
     }
 
     fn totals(&self) -> Totals {
-        balance::totals(&self.root)
+        S::totals(&self.root)
     }
 
     fn earliest_at_most_mean(&self, weight: u64, moment: u128) -> Option<Due> {
-        walks::earliest_from(&self.root, weight, moment, None)
+        S::earliest_at_most_mean(&self.root, weight, moment)
     }
 }
 
@@ -141,7 +162,6 @@ fn has_id(key: Option<(u64, u16)>, id: u16) -> bool
 
 /// The key of a tree's first task.
 fn first_key(root: &Link) -> Option<(u64, u16)>
-    requires { IsTreeBehind root.now }
     ensures key { result ≡ first_key (in_order_behind root.now) }
     ensures high { IfSome result (λ key. key.0 ≤ 2 ^ 62) }
 {
@@ -149,18 +169,6 @@ fn first_key(root: &Link) -> Option<(u64, u16)>
         None => None,
         Some(node) => Some(node.entity.key()),
     }
-}
-
-/// The key of the first task after the task of an id was taken, where `least` was that of the first before.
-fn least_without(least: Option<(u64, u16)>, id: u16, root: &Link) -> Option<(u64, u16)>
-    requires { IsTreeBehind root.now }
-    ensures key { (all : List Task) (v : ℕ) (t : Task) → least ≡ first_key all → Takes v id all (Some t) (in_order_behind root.now) → result ≡ first_key (in_order_behind root.now) }
-    ensures high { IfSome least (λ key. key.0 ≤ 2 ^ 62) → IfSome result (λ key. key.0 ≤ 2 ^ 62) }
-{
-    if has_id(least, id) {
-        return first_key(root);
-    }
-    least
 }
 
 /// Writes down when a task stands.
@@ -176,7 +184,6 @@ fn remember(times: &mut [u64; 1024], id: u16, v: u64)
 
 /// The v of the task of that id, if there is one.
 fn time_of(times: &[u64; 1024], root: &Link, id: u16) -> u64
-    requires tree { IsTreeBehind root.now }
     requires knows { Knows times.now (in_order_behind root.now) }
     ensures { IfSome (with_id id (in_order_behind root.now)) (λ t. t.v ≡ result) }
 {

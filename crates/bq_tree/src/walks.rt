@@ -5,29 +5,27 @@ ghost use Rattle.bq_disc.specs.Tasks.{with_id};
 ghost use Rattle.bq_disc.specs.Queues.{comes_after, follows};
 ghost use Rattle.bq_disc.specs.Chains.{task_of};
 ghost use Rattle.bq_disc.specs.Movable.{Adds};
-ghost use Rattle.bq_disc.specs.Totals.{is_at_most_mean};
+ghost use Rattle.bq_disc.specs.Totals.{sums_of, HasBounds, is_at_most_mean};
 ghost use Rattle.bq_disc.specs.Trees.{in_order, IsTree, IsTreeBehind, IsRising, in_order_behind};
 ghost use Rattle.bq_tree.specs.Taking.{Finds};
+ghost use Rattle.bq_tree.specs.Knowing.{knows_sums};
 ghost use Rattle.bq_disc.specs.Dues.{first_due, sooner_of};
 
-use crate::balance::due;
 use crate::edits::{is_after, is_at};
+use crate::summary::due;
 use bq_disc::node::Link;
-use bq_disc::{Due, Movable, Node};
+use bq_disc::{Due, Movable, Node, Totals};
 
 /// The two sides of a node.
 fn sides(node: &Node) -> (&Link, &Link)
-    requires { IsTree node.now }
-    ensures left { IsTreeBehind result.0.now }
-    ensures right { IsTreeBehind result.1.now }
     ensures order { in_order node.now ≡ in_order_behind result.0.now ++ task_of node.now ∷ in_order_behind result.1.now }
+    ensures sums { IsTree knows_sums node.now → IsTreeBehind knows_sums result.0.now × IsTreeBehind knows_sums result.1.now }
 {
     (&node.left, &node.right)
 }
 
 /// The node at (v, id).
 pub(crate) fn get_at(link: &Link, v: u64, id: u16) -> Option<&Node>
-    requires tree { IsTreeBehind link.now }
     requires rising { IsRising (in_order_behind link.now) }
     ensures { Finds v id (in_order_behind link.now) (option_map (λ n. task_of n.now) result) }
 {
@@ -46,7 +44,6 @@ pub(crate) fn get_at(link: &Link, v: u64, id: u16) -> Option<&Node>
 
 /// The node of that id, wherever it stands.
 pub(crate) fn find_id(link: &Link, id: u16) -> Option<&Node>
-    requires { IsTreeBehind link.now }
     ensures { option_map (λ n. task_of n.now) result ≡ with_id id (in_order_behind link.now) }
 {
     let Some(node) = link else {
@@ -65,7 +62,6 @@ pub(crate) fn find_id(link: &Link, id: u16) -> Option<&Node>
 
 /// The first node after (v, id).
 pub(crate) fn after(link: &Link, v: u64, id: u16) -> Option<&Node>
-    requires tree { IsTreeBehind link.now }
     requires rising { IsRising (in_order_behind link.now) }
     ensures { option_map (λ n. task_of n.now) result ≡ find (comes_after v id) (in_order_behind link.now) }
 {
@@ -84,7 +80,6 @@ pub(crate) fn after(link: &Link, v: u64, id: u16) -> Option<&Node>
 
 /// The first node.
 pub(crate) fn least(link: &Link) -> Option<&Node>
-    requires { IsTreeBehind link.now }
     ensures { option_map (λ n. task_of n.now) result ≡ find (follows None) (in_order_behind link.now) }
 {
     match link {
@@ -95,7 +90,6 @@ pub(crate) fn least(link: &Link) -> Option<&Node>
 
 /// The first of a node and of those below it.
 fn least_of(node: &Node) -> &Node
-    requires { IsTree node.now }
     ensures { find (follows None) (in_order node.now) ≡ Some (task_of result.now) }
 {
     let (left, _) = sides(node);
@@ -112,7 +106,7 @@ pub(crate) fn earliest_from(
     moment: u128,
     found: Option<Due>,
 ) -> Option<Due>
-    requires tree { IsTreeBehind link.now }
+    requires tree { IsTreeBehind knows_sums link.now }
     requires rising { IsRising (in_order_behind link.now) }
     ensures { result ≡ sooner_of found (first_due (filter (is_at_most_mean weight moment) (in_order_behind link.now))) }
 {
@@ -130,7 +124,6 @@ pub(crate) fn earliest_from(
 
 /// Looks at the tasks of a tree from the last to the first, and adds those that may use a processor.
 pub(crate) fn movable_into(link: &Link, cpu: u8, found: &mut Movable)
-    requires tree { IsTreeBehind link.now }
     requires cpu { cpu < 64 }
     requires few { found.old.count + length (in_order_behind link.now) ≤ 2 ^ 20 }
     requires fits { length found.old.first.items ≤ 8 }
@@ -143,4 +136,37 @@ pub(crate) fn movable_into(link: &Link, cpu: u8, found: &mut Movable)
     movable_into(right, cpu, found);
     found.add(&node.entity, cpu);
     movable_into(left, cpu, found);
+}
+
+/// What the tasks of a tree have together, where no node knows.
+pub(crate) fn totals_of_all(link: &Link) -> Totals
+    requires { length (in_order_behind link.now) ≤ 2 ^ 16 }
+    ensures sums { result ≡ sums_of (in_order_behind link.now) }
+    ensures bounds { HasBounds result }
+{
+    let Some(node) = link else {
+        return Totals::none();
+    };
+    let (left, right) = sides(node);
+    let mut rest = totals_of_all(right);
+    rest.add(&node.entity);
+    totals_of_all(left).join(&rest)
+}
+
+/// When the first is due of a tree's tasks that are at most a mean, where no node knows.
+pub(crate) fn earliest_of_all(link: &Link, weight: u64, moment: u128) -> Option<Due>
+    requires { IsRising (in_order_behind link.now) }
+    ensures { result ≡ first_due (filter (is_at_most_mean weight moment) (in_order_behind link.now)) }
+{
+    let Some(node) = link else {
+        return None;
+    };
+    let (left, right) = sides(node);
+    let found = earliest_of_all(left, weight, moment);
+    let entity = &node.entity;
+    if !entity.is_at_most_mean(weight, moment) {
+        return found;
+    }
+    let here = entity.due().earliest(found);
+    Some(here.earliest(earliest_of_all(right, weight, moment)))
 }

@@ -2,4 +2,4 @@ use Rattle.bq_disc.specs.Trees.{height_behind}
 use Rattle.bq_tree.proofs.edits.+take_from.Given as goal
 
 abbrev pub decreases-take_from : goal.decreases-take_from
-decreases-take_from l = height_behind l.link.now
+decreases-take_from g l = height_behind l.link.now

@@ -15,7 +15,7 @@ after-requires t c =
     let whole : in_order_behind c.args.link.now ≡ l ++ x ∷ r = rw (c.in-Some.is, ← c.deref.ensures) s.ensures.order in
     let rising = subst IsRising whole c.requires.rising in
     let count = length-append l (x ∷ r) in
-    (omega (arith, ap length whole), (s.ensures.right, (IsRising-right l (x ∷ r) rising).1))
+    (omega (arith, ap length whole), (IsRising-right l (x ∷ r) rising).1)
 
 pub returns-then-not-is_after : goal.returns-then-not-is_after
 returns-then-not-is_after t c =
@@ -38,7 +38,7 @@ after-requires-2 t c =
     let whole : in_order_behind c.args.link.now ≡ l ++ x ∷ r = rw (c.in-Some.is, ← c.deref.ensures) s.ensures.order in
     let rising = subst IsRising whole c.requires.rising in
     let count = length-append l (x ∷ r) in
-    (omega (arith, ap length whole), (s.ensures.left, IsRising-left l (x ∷ r) rising))
+    (omega (arith, ap length whole), IsRising-left l (x ∷ r) rising)
 
 pub returns-in-Some-after : goal.returns-in-Some-after
 returns-in-Some-after t c =

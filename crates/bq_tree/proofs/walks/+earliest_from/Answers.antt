@@ -2,7 +2,8 @@ use Rattle.std.proofs.Common.{◌≡◌, true, false, Some, ◌∷◌, ◌++◌,
 use Rattle.bq_disc.specs.Chains.{task_of}
 use Rattle.bq_disc.specs.Totals.{is_at_most_mean}
 use Rattle.bq_disc.specs.Dues.{due_of, first_due, earliest_of, sooner_of}
-use Rattle.bq_disc.specs.Trees.{IsRising, in_order_behind}
+use Rattle.bq_disc.specs.Trees.{IsTree, IsTreeBehind, IsRising, in_order_behind}
+use Rattle.bq_tree.specs.Knowing.{knows_sums}
 use Rattle.bq_tree.proofs.OrderFacts.{IsRising-left, IsRising-right}
 use Rattle.bq_tree.proofs.TotalsFacts.{first_due-fork, fork_of}
 use Rattle.bq_tree.proofs.WalkFacts.{passing, passing-left, passing-right}
@@ -17,7 +18,8 @@ earliest_from-requires t c =
     let whole : in_order_behind c.args.link.now ≡ l ++ x ∷ r = rw (c.in-Some.is, ← c.deref.ensures) s.ensures.order in
     let rising = subst IsRising whole c.requires.rising in
     let count = length-append l (x ∷ r) in
-    (omega (arith, ap length whole), (s.ensures.left, IsRising-left l (x ∷ r) rising))
+    let trees = s.ensures.sums (subst (IsTree knows_sums) (sym c.deref.ensures) (subst (IsTreeBehind knows_sums) c.in-Some.is c.requires.tree)) in
+    (omega (arith, ap length whole), (trees.0, IsRising-left l (x ∷ r) rising))
 
 pub earliest_from-requires-2 : goal.earliest_from-requires-2
 earliest_from-requires-2 t c =
@@ -28,7 +30,8 @@ earliest_from-requires-2 t c =
     let whole : in_order_behind c.args.link.now ≡ l ++ x ∷ r = rw (c.in-Some.is, ← c.deref.ensures) s.ensures.order in
     let rising = subst IsRising whole c.requires.rising in
     let count = length-append l (x ∷ r) in
-    (omega (arith, ap length whole), (s.ensures.right, (IsRising-right l (x ∷ r) rising).1))
+    let trees = s.ensures.sums (subst (IsTree knows_sums) (sym c.deref.ensures) (subst (IsTreeBehind knows_sums) c.in-Some.is c.requires.tree)) in
+    (omega (arith, ap length whole), (trees.1, (IsRising-right l (x ∷ r) rising).1))
 
 pub returns-then-not-is_at_most_mean : goal.returns-then-not-is_at_most_mean
 returns-then-not-is_at_most_mean t c =

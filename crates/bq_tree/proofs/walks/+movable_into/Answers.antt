@@ -12,7 +12,7 @@ movable_into-requires t c =
     let x = task_of c.in-Some.node.value in
     let whole : in_order_behind c.args.link.now ≡ l ++ x ∷ r = rw (c.in-Some.is, ← c.deref.ensures) s.ensures.order in
     let count = length-append l (x ∷ r) in
-    (omega (arith, ap length whole), (s.ensures.right, (c.requires.cpu, (omega (arith, ap length whole), c.requires.fits))))
+    (omega (arith, ap length whole), (c.requires.cpu, (omega (arith, ap length whole), c.requires.fits)))
 
 pub add-requires-clause-few : goal.add-requires-clause-few
 add-requires-clause-few t c =
@@ -33,7 +33,7 @@ movable_into-requires-2 t c =
     let y = task_of c.deref-2.result.now in
     let whole : in_order_behind c.args.link.now ≡ l ++ x ∷ r = rw (c.in-Some.is, ← c.deref.ensures) s.ensures.order in
     let count = length-append l (x ∷ r) in
-    (omega (arith, ap length whole), (s.ensures.left, (c.requires.cpu, (omega (arith, ap length whole, few_movable c.args.cpu r, few_movable c.args.cpu (y ∷ []), c.movable_into.ensures.count, c.add.ensures.count), c.add.ensures.fits))))
+    (omega (arith, ap length whole), (c.requires.cpu, (omega (arith, ap length whole, few_movable c.args.cpu r, few_movable c.args.cpu (y ∷ []), c.movable_into.ensures.count, c.add.ensures.count), c.add.ensures.fits)))
 
 pub returns : goal.returns
 returns t c =

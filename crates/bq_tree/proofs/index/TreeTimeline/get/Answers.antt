@@ -5,5 +5,5 @@ use Rattle.bq_tree.proofs.SoundFacts.{Finds-id}
 use Rattle.bq_tree.proofs.index.TreeTimeline.get.Goals as goal
 
 pub returns : goal.returns
-returns c =
+returns g c =
     Finds-id c.time_of.result c.args.id (in_order_behind c.self.inside.root) _ c.self.invariant.distinct c.time_of.ensures c.get_at.ensures ∙ ap (λ (xs : List Task). with_id c.args.id xs) c.self.view_is

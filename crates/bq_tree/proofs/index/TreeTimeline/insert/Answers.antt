@@ -4,13 +4,14 @@ use Rattle.bq_disc.specs.Queues.{key_of}
 use Rattle.bq_disc.specs.Chains.{task_of}
 use Rattle.bq_disc.specs.Trees.{in_order_behind}
 use Rattle.bq_disc.specs.declared.node.Node.{Node, out-Node}
+use Rattle.bq_disc.proofs.QueueFacts.{length-few}
 use Rattle.bq_tree.specs.Sound.{Knows, lesser_of}
 use Rattle.bq_tree.proofs.HeightFacts.{low_of_many}
 use Rattle.bq_tree.proofs.IndexFacts.{room, sound_inserted}
 use Rattle.bq_tree.proofs.index.TreeTimeline.insert.Goals as goal
 
 pub insert_into-requires-clause-low : goal.insert_into-requires-clause-low
-insert_into-requires-clause-low c =
+insert_into-requires-clause-low g c =
     let s = c.self.invariant in
     let t = task_of c.args.node.value in
     let xs = in_order_behind c.self.inside.root in
@@ -18,11 +19,11 @@ insert_into-requires-clause-low c =
     let small : t.id < 2 ^ 16 = subst (λ (k : ℕ × ℕ). k.1 < 2 ^ 16) key c.key-key.ensures.small in
     let fresh : with_id t.id xs ≡ None = rw c.self.view_is c.requires.fresh in
     let few = room t xs s.distinct s.small fresh small in
-    let low = low_of_many c.self.inside.root s.tree (omega (arith, few)) in
+    let low = low_of_many g.S.Summary.knows c.self.inside.root s.tree (omega (arith, few)) in
     omega (arith, low)
 
 pub insert_into-requires-clause-few : goal.insert_into-requires-clause-few
-insert_into-requires-clause-few c =
+insert_into-requires-clause-few g c =
     let s = c.self.invariant in
     let t = task_of c.args.node.value in
     let xs = in_order_behind c.self.inside.root in
@@ -33,7 +34,7 @@ insert_into-requires-clause-few c =
     few
 
 pub invariant_of-self : goal.invariant_of-self
-invariant_of-self c =
+invariant_of-self g c =
     let s = c.self.invariant in
     let t = task_of c.args.node.value in
     let xs = in_order_behind c.self.inside.root in
@@ -45,4 +46,10 @@ invariant_of-self c =
     let here = subst (λ (k : ℕ × ℕ). k.1 < 1024 → slice_index c.remember.new.times k.1 ≡ k.0) key c.remember.ensures.here in
     let lesser = c.lesser.ensures.value ∙ ap (λ (k : ℕ × ℕ). lesser_of k c.self.inside.least) key in
     let high = c.lesser.ensures.high c.key-key.ensures.high s.high in
-    sound_inserted c.self.inside.root c.insert_into.new.link c.self.inside.least c.lesser.result c.self.inside.times c.remember.new.times t s lesser high c.insert_into.ensures.tree c.insert_into.ensures.order fresh small others here
+    sound_inserted g.S.Summary.knows c.self.inside.len c.self.inside.root c.insert_into.new.link c.self.inside.least c.lesser.result c.self.inside.times c.remember.new.times t s lesser high c.insert_into.ensures.tree c.insert_into.ensures.order fresh small others here
+
+pub overflow_add-self : goal.overflow_add-self
+overflow_add-self g c =
+    let s = c.self.invariant in
+    let few = length-few (in_order_behind c.self.inside.root) s.distinct s.small in
+    omega (arith, s.len_is, few)

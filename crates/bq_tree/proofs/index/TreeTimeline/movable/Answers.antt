@@ -4,5 +4,5 @@ use Rattle.bq_disc.proofs.QueueFacts.{length-few}
 use Rattle.bq_tree.proofs.index.TreeTimeline.movable.Goals as goal
 
 pub movable_into-requires-clause-few : goal.movable_into-requires-clause-few
-movable_into-requires-clause-few c =
+movable_into-requires-clause-few g c =
     omega (arith, length-few (in_order_behind c.self.inside.root) c.self.invariant.distinct c.self.invariant.small)

@@ -1,5 +1,5 @@
 use Rattle.bq_tree.proofs.BoundFacts.{bounded_root}
-use Rattle.bq_tree.proofs.balance.totals.Goals as goal
+use Rattle.bq_tree.proofs.summary.totals.Goals as goal
 
 pub returns-in-Some-clause-bounds : goal.returns-in-Some-clause-bounds
 returns-in-Some-clause-bounds c = rw c.deref.ensures (bounded_root _ _ c.in-Some.is c.requires)

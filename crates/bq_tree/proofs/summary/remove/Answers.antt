@@ -1,7 +1,7 @@
 use Rattle.std.proofs.Common.{sym, ◌∙◌}
 use Rattle.bq_disc.specs.declared.node.Node.{out-Node, roll-Node}
 use Rattle.bq_tree.proofs.RemoveFacts.{can_remove, totals_without, due_without}
-use Rattle.bq_tree.proofs.edits.count_out.Goals as goal
+use Rattle.bq_tree.proofs.summary.remove.Goals as goal
 
 pub remove-requires-clause-weight : goal.remove-requires-clause-weight
 remove-requires-clause-weight c = (can_remove c.args.root.now c.args.gone.now c.requires.counts).weight

@@ -1,0 +1,209 @@
+//! What the nodes of a tree know of all the tasks that hang from them.
+ghost use Rattle.std.specs.Prelude.{◌≡◌, ◌<◌, ◌≤◌, ◌+◌, ◌^◌, ◌++◌, ◌∷◌, List, Some, filter, length, ◌==◌, ◌&&◌};
+ghost use Rattle.bq_disc.specs.Tasks.{Task};
+ghost use Rattle.bq_disc.specs.Chains.{task_of, IsLone};
+ghost use Rattle.bq_disc.specs.Totals.{sums_of, added, HasBounds, IsBounded, is_at_most_mean};
+ghost use Rattle.bq_disc.specs.Dues.{due_of, first_due, earlier_of};
+ghost use Rattle.bq_disc.specs.declared.node.Node.{out-Node};
+ghost use Rattle.bq_disc.specs.declared.due.Due.{Due};
+ghost use Rattle.bq_disc.specs.declared.totals.Totals.{Totals};
+ghost use Rattle.bq_disc.specs.Trees.{in_order, IsTree, IsTreeBehind, IsRising, in_order_behind, CountsIn, StillCounts, KeepsSides, hanging};
+ghost use Rattle.bq_tree.specs.Knowing.{knows_sums, knows_nothing};
+
+use crate::walks;
+use bq_disc::node::Link;
+use bq_disc::{Due, Entity, Node, Totals};
+
+/// What each node of a tree is to know of all the tasks that hang from it, and how that changes with them.
+pub trait Summary {
+    /// What a node knows of some tasks by the due task and the totals that it keeps.
+    ghost knows: { List Task → Due → Totals → Type 0 };
+
+    /// A lone node learns of its own task and of two trees that are to be its sides.
+    fn gather(node: &mut Node, left: &Link, right: &Link)
+        requires lone { IsLone node.old }
+        requires left { IsTreeBehind knows left.now }
+        requires right { IsTreeBehind knows right.now }
+        requires few { length (in_order_behind left.now) + length (in_order_behind right.now) < 2 ^ 16 }
+        ensures task { task_of node.new ≡ task_of node.old }
+        ensures lone { IsLone node.new }
+        ensures knows { knows (in_order_behind left.now ++ task_of node.old ∷ in_order_behind right.now) (out-Node node.new).due (out-Node node.new).totals };
+
+    /// A lone node that is to take the place of another root learns what that one knows.
+    fn take_over(node: &mut Node, root: &Node)
+        requires lone { IsLone node.old }
+        ensures task { task_of node.new ≡ task_of node.old }
+        ensures lone { IsLone node.new }
+        ensures knows { (xs : List Task) → knows xs (out-Node root.now).due (out-Node root.now).totals → knows xs (out-Node node.new).due (out-Node node.new).totals };
+
+    /// A root counts one more task in what it knows.
+    fn count_in(root: &mut Node, entity: &Entity)
+        requires tree { IsTree knows root.old }
+        requires few { length (in_order root.old) < 2 ^ 16 }
+        ensures { CountsIn knows root.old root.new entity.now };
+
+    /// A root no longer counts a task that has left one of its sides.
+    fn count_out(root: &mut Node, gone: &Entity)
+        requires left { IsTreeBehind knows (out-Node root.old).left }
+        requires right { IsTreeBehind knows (out-Node root.old).right }
+        requires bounded { IsBounded (out-Node root.old).entity }
+        requires counts { StillCounts knows root.old gone.now }
+        ensures sides { KeepsSides root.old root.new }
+        ensures knows { knows (hanging root.old) (out-Node root.new).due (out-Node root.new).totals };
+
+    /// What the tasks of a tree have together.
+    fn totals(link: &Link) -> Totals
+        requires tree { IsTreeBehind knows link.now }
+        requires few { length (in_order_behind link.now) ≤ 2 ^ 16 }
+        ensures sums { result ≡ sums_of (in_order_behind link.now) }
+        ensures bounds { HasBounds result };
+
+    /// When the first is due of a tree's tasks that are at most a mean.
+    fn earliest_at_most_mean(link: &Link, weight: u64, moment: u128) -> Option<Due>
+        requires tree { IsTreeBehind knows link.now }
+        requires rising { IsRising (in_order_behind link.now) }
+        ensures { result ≡ first_due (filter (is_at_most_mean weight moment) (in_order_behind link.now)) };
+}
+
+/// Each node knows when the first is due of the tasks that hang from it, and what they have together.
+#[derive(Clone, Copy)]
+pub struct Sums;
+
+/// No node knows anything of the others: what is asked of all tasks is answered by a walk over them.
+#[derive(Clone, Copy)]
+pub struct NoSums;
+
+impl Summary for Sums {
+    ghost knows = { knows_sums };
+
+    fn gather(node: &mut Node, left: &Link, right: &Link) {
+        node.due = first_of(node, left, right);
+        node.totals = totals_of(node, left, right);
+    }
+
+    fn take_over(node: &mut Node, root: &Node) {
+        node.due = root.due;
+        node.totals = root.totals;
+    }
+
+    fn count_in(root: &mut Node, entity: &Entity) {
+        add(root, entity);
+    }
+
+    fn count_out(root: &mut Node, gone: &Entity) {
+        remove(root, gone);
+    }
+
+    fn totals(link: &Link) -> Totals {
+        totals(link)
+    }
+
+    fn earliest_at_most_mean(link: &Link, weight: u64, moment: u128) -> Option<Due> {
+        walks::earliest_from(link, weight, moment, None)
+    }
+}
+
+impl Summary for NoSums {
+    ghost knows = { knows_nothing };
+
+    fn gather(node: &mut Node, left: &Link, right: &Link) {}
+
+    fn take_over(node: &mut Node, root: &Node) {}
+
+    fn count_in(root: &mut Node, entity: &Entity) {}
+
+    fn count_out(root: &mut Node, gone: &Entity) {}
+
+    fn totals(link: &Link) -> Totals {
+        walks::totals_of_all(link)
+    }
+
+    fn earliest_at_most_mean(link: &Link, weight: u64, moment: u128) -> Option<Due> {
+        walks::earliest_of_all(link, weight, moment)
+    }
+}
+
+/// When the first task of a tree is due.
+pub(crate) fn due(link: &Link) -> Option<Due>
+    requires { IsTreeBehind knows_sums link.now }
+    ensures { result ≡ first_due (in_order_behind link.now) }
+{
+    match link {
+        None => None,
+        Some(node) => Some(node.due),
+    }
+}
+
+/// What the tasks of a tree have together.
+#[tactic(auto, using(crate::proofs::BoundFacts::bounded_behind))]
+fn totals(link: &Link) -> Totals
+    requires { IsTreeBehind knows_sums link.now }
+    ensures sums { result ≡ sums_of (in_order_behind link.now) }
+    ensures bounds { HasBounds result }
+{
+    match link {
+        None => Totals::none(),
+        Some(node) => node.totals,
+    }
+}
+
+/// When the first is due of a node's task and of two trees.
+#[tactic(auto, using(crate::proofs::TotalsFacts::totals_facts))]
+fn first_of(node: &Node, left: &Link, right: &Link) -> Due
+    requires left { IsTreeBehind knows_sums left.now }
+    requires right { IsTreeBehind knows_sums right.now }
+    ensures { first_due (in_order_behind left.now ++ task_of node.now ∷ in_order_behind right.now) ≡ Some result }
+{
+    node.entity.due().earliest(due(left)).earliest(due(right))
+}
+
+/// What a node's task and two trees have together.
+#[tactic(auto, using(crate::proofs::TotalsFacts::totals_facts))]
+fn totals_of(node: &Node, left: &Link, right: &Link) -> Totals
+    requires left { IsTreeBehind knows_sums left.now }
+    requires right { IsTreeBehind knows_sums right.now }
+    requires few { length (in_order_behind left.now) + length (in_order_behind right.now) < 2 ^ 16 }
+    ensures { result ≡ sums_of (in_order_behind left.now ++ task_of node.now ∷ in_order_behind right.now) }
+{
+    let mut rest = totals(right);
+    rest.add(&node.entity);
+    totals(left).join(&rest)
+}
+
+/// Whether it is the entity that is due then.
+fn is_due(due: &Due, entity: &Entity) -> bool
+    ensures { result ≡ (due.now.deadline == entity.now.deadline && due.now.id == entity.now.id) }
+{
+    due.deadline == entity.deadline() && due.id == entity.id()
+}
+
+/// Adds a task to what a root knows.
+fn add(root: &mut Node, entity: &Entity)
+    requires tree { IsTree knows_sums root.old }
+    requires few { length (in_order root.old) < 2 ^ 16 }
+    ensures sides { KeepsSides root.old root.new }
+    ensures due { (out-Node root.new).due ≡ earlier_of (due_of entity.now) (out-Node root.old).due }
+    ensures totals { (out-Node root.new).totals ≡ added (out-Node root.old).totals entity.now }
+{
+    root.totals.add(entity);
+    let due = entity.due();
+    if due.is_before(&root.due) {
+        root.due = due;
+    }
+}
+
+/// Takes a task that has left one of a root's sides away from what the root knows.
+fn remove(root: &mut Node, gone: &Entity)
+    requires left { IsTreeBehind knows_sums (out-Node root.old).left }
+    requires right { IsTreeBehind knows_sums (out-Node root.old).right }
+    requires bounded { IsBounded (out-Node root.old).entity }
+    requires counts { StillCounts knows_sums root.old gone.now }
+    ensures sides { KeepsSides root.old root.new }
+    ensures due { first_due (hanging root.old) ≡ Some (out-Node root.new).due }
+    ensures totals { (out-Node root.new).totals ≡ sums_of (hanging root.old) }
+{
+    root.totals.remove(gone);
+    if is_due(&root.due, gone) {
+        root.due = first_of(root, &root.left, &root.right);
+    }
+}
