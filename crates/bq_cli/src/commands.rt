@@ -1,5 +1,5 @@
 //! What the program does for a job.
-ghost use Rattle.std.specs.Prelude.{◌≡◌, ℕ, IfOk, IfErr, OnErr};
+ghost use Rattle.std.specs.Prelude.{◌≡◌, ℕ, IfOk, IfErr, OnOk, OnErr};
 ghost use Rattle.std.specs.String.{string_bytes};
 ghost use Rattle.std.specs.Io.KnownBytes.{Appends};
 ghost use Rattle.bq_trace.specs.Counts.{inner_of, calls_of, failures_of};
@@ -25,6 +25,8 @@ pub fn perform<R: Read, W: Write>(
 ) -> Result<bool, ReplayFault>
     ensures ok { IfOk result (Performs job.now (R.remaining (inner_of input.old)) (R.remaining (inner_of input.new))
         (W.contents (inner_of output.old)) (W.contents (inner_of output.new))) }
+    ensures reads { OnOk result (failures_of input.new ≡ failures_of input.old) }
+    ensures writes { OnOk result (failures_of output.new ≡ failures_of output.old) }
     ensures part { OnErr result (PerformsInPart job.now (R.remaining (inner_of input.old)) (R.remaining (inner_of input.new))
         (W.contents (inner_of output.old)) (W.contents (inner_of output.new))) }
     ensures fault { IfErr result (λ e. IsFault e (failures_of input.old) (failures_of input.new)
@@ -45,6 +47,8 @@ fn perform_asm<R: Read, W: Write>(
 ) -> Result<bool, ReplayFault>
     ensures ok { IfOk result (AnswersAll AsmWrites (R.remaining (inner_of input.old)) (R.remaining (inner_of input.new))
         (W.contents (inner_of output.old)) (W.contents (inner_of output.new))) }
+    ensures reads { OnOk result (failures_of input.new ≡ failures_of input.old) }
+    ensures writes { OnOk result (failures_of output.new ≡ failures_of output.old) }
     ensures part { OnErr result (BreaksOff AsmWrites (R.remaining (inner_of input.old)) (R.remaining (inner_of input.new))
         (W.contents (inner_of output.old)) (W.contents (inner_of output.new))) }
     ensures fault { IfErr result (λ e. IsFault e (failures_of input.old) (failures_of input.new)
@@ -63,6 +67,8 @@ fn perform_dis<R: Read, W: Write>(
 ) -> Result<bool, ReplayFault>
     ensures ok { IfOk result (AnswersAll DisWrites (R.remaining (inner_of input.old)) (R.remaining (inner_of input.new))
         (W.contents (inner_of output.old)) (W.contents (inner_of output.new))) }
+    ensures reads { OnOk result (failures_of input.new ≡ failures_of input.old) }
+    ensures writes { OnOk result (failures_of output.new ≡ failures_of output.old) }
     ensures part { OnErr result (BreaksOff DisWrites (R.remaining (inner_of input.old)) (R.remaining (inner_of input.new))
         (W.contents (inner_of output.old)) (W.contents (inner_of output.new))) }
     ensures fault { IfErr result (λ e. IsFault e (failures_of input.old) (failures_of input.new)
@@ -77,6 +83,7 @@ fn perform_dis<R: Read, W: Write>(
 fn write_answer<W: Write>(answer: &Answer, output: &mut Counted<W>) -> Result<bool, ReplayFault>
     ensures ok { IfOk result (λ accepted. (accepted ≡ answer.now.accepted)
         × Appends (W.contents (inner_of output.old)) (W.contents (inner_of output.new)) (string_bytes answer.now.text)) }
+    ensures kept { OnOk result (failures_of output.new ≡ failures_of output.old) }
     ensures part { OnErr result (AppendsPart (W.contents (inner_of output.old)) (W.contents (inner_of output.new)) (string_bytes answer.now.text)) }
     ensures fault { IfErr result (λ e. (reads read calls after : ℕ) → IsFault e reads read (failures_of output.old) (failures_of output.new) calls after) }
 {

@@ -1,5 +1,5 @@
 //! The whole of an input that is read before it is answered.
-ghost use Rattle.std.specs.Prelude.{◌≡◌, ℕ, IfOk, IfErr, OnErr};
+ghost use Rattle.std.specs.Prelude.{◌≡◌, ℕ, IfOk, IfErr, OnOk, OnErr};
 ghost use Rattle.bq_trace.specs.Counts.{inner_of, calls_of, failures_of};
 ghost use Rattle.bq_trace.specs.Faults.{IsFault};
 ghost use Rattle.bq_cli.specs.Performing.{GivesAll, GivesSome};
@@ -17,6 +17,7 @@ const READS: u64 = 1 << 32;
 /// Reads to the end of the input. Its errors are a failed read, an input that does not end, and want of memory.
 pub fn read_whole<R: Read>(alloc: Global, input: &mut Counted<R>) -> Result<Vec<u8>, ReplayFault>
     ensures all { IfOk result (λ whole. GivesAll (R.remaining (inner_of input.old)) (R.remaining (inner_of input.new)) whole.items) }
+    ensures kept { OnOk result (failures_of input.new ≡ failures_of input.old) }
     ensures part { OnErr result (GivesSome (R.remaining (inner_of input.old)) (R.remaining (inner_of input.new))) }
     ensures fault { IfErr result (λ e. (writes written : ℕ) → IsFault e (failures_of input.old) (failures_of input.new) writes written (calls_of input.old) (calls_of input.new)) }
 {

@@ -69,6 +69,7 @@ impl<W: Write> Counted<W> {
         ensures taken { IfOk result (λ n. (0 < n) × (n ≤ length piece.now)
             × Appends (W.contents (inner_of self.old)) (W.contents (inner_of self.new)) (take n piece.now)) }
         ensures kept { OnErr result (Keeps (W.contents (inner_of self.old)) (W.contents (inner_of self.new))) }
+        ensures calls { calls_of self.new ≡ one_more (calls_of self.old) }
         ensures failures { failures_of self.new ≡ (if is_ok result then failures_of self.old else one_more (failures_of self.old)) }
         ensures fault { IfErr result (λ e. e ≡ ReplayFault.Write) }
     {

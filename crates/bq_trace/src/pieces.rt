@@ -1,5 +1,5 @@
 //! A replay of a whole trace, from any reader to any writer.
-ghost use Rattle.std.specs.Prelude.{IfOk, IfErr, OnErr};
+ghost use Rattle.std.specs.Prelude.{◌≡◌, IfOk, IfErr, OnOk, OnErr};
 ghost use Rattle.bq_trace.specs.Counts.{inner_of, calls_of, failures_of};
 ghost use Rattle.bq_trace.specs.Replaying.{Replays, ReplaysInPart};
 ghost use Rattle.bq_trace.specs.Faults.{IsFault};
@@ -25,6 +25,10 @@ pub fn replay<R: Read, W: Write>(
     // What was read and what was written are a trace and its answers, and nothing is left.
     ensures ok { IfOk result (λ clean. Replays (R.remaining (inner_of input.old)) (R.remaining (inner_of input.new))
         (W.contents (inner_of output.old)) (W.contents (inner_of output.new)) clean) }
+
+    // No read and no write has failed then: the first failure ends it.
+    ensures reads { OnOk result (failures_of input.new ≡ failures_of input.old) }
+    ensures writes { OnOk result (failures_of output.new ≡ failures_of output.old) }
 
     // After a fault a beginning of the answers to what was read is written.
     ensures part { OnErr result (ReplaysInPart (R.remaining (inner_of input.old)) (R.remaining (inner_of input.new))

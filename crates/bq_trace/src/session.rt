@@ -79,6 +79,7 @@ impl Session {
     fn end<W: Write>(&mut self, out: &mut Counted<W>) -> Result<bool, ReplayFault>
         ensures ok { IfOk result (λ clean. (begun : List ℕ) → StandsFor self.old.begun begun
             → Finishes self.old begun (W.contents (inner_of out.old)) (W.contents (inner_of out.new)) clean) }
+        ensures kept { OnOk result (failures_of out.new ≡ failures_of out.old) }
         ensures part { OnErr result ((begun : List ℕ) → StandsFor self.old.begun begun
             → BreaksOff self.old begun [] (W.contents (inner_of out.old)) (W.contents (inner_of out.new))) }
         ensures fault { IfErr result (λ e. IsWriteFault e (failures_of out.old) (failures_of out.new)) }
@@ -93,6 +94,7 @@ impl Session {
     pub fn finish<W: Write>(mut self, out: &mut Counted<W>) -> Result<bool, ReplayFault>
         ensures ok { IfOk result (λ clean. (begun : List ℕ) → StandsFor self.begun begun
             → Finishes self begun (W.contents (inner_of out.old)) (W.contents (inner_of out.new)) clean) }
+        ensures kept { OnOk result (failures_of out.new ≡ failures_of out.old) }
         ensures part { OnErr result ((begun : List ℕ) → StandsFor self.begun begun
             → BreaksOff self begun [] (W.contents (inner_of out.old)) (W.contents (inner_of out.new))) }
         ensures fault { IfErr result (λ e. IsWriteFault e (failures_of out.old) (failures_of out.new)) }
