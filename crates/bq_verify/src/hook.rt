@@ -6,15 +6,20 @@ ghost use Rattle.bq_verify.specs.Accepted.{context_length_of};
 /// The choice that a policy makes.
 #[derive(Clone, Copy, Debug, PartialEq, Eq)]
 pub enum Hook {
+    /// Where a woken task goes.
     Place,
+    /// Whether the running task gives way.
     Preempt,
+    /// Which task an emptier processor takes.
     Pull,
 }
 
 /// The version of an image.
 #[derive(Clone, Copy, Debug, PartialEq, Eq)]
 pub enum Version {
+    /// The context of a placement has 104 bytes.
     First,
+    /// The context of a placement has 296 bytes.
     Second,
 }
 

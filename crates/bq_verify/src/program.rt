@@ -25,9 +25,13 @@ use std::alloc::{AllocError, Global};
 /// A program as it is handed in.
 #[derive(Drop)]
 pub struct Program {
+    /// Its instructions, one after another.
     pub insns: Vec<Insn>,
+    /// The shapes of its maps, by their numbers.
     pub shapes: Vec<MapShape>,
+    /// The choice that it is to make.
     pub hook: Hook,
+    /// The version of its image, on which the length of its context rests.
     pub version: Version,
 }
 

@@ -16,7 +16,9 @@ use std::alloc::AllocError;
 /// Why a program is not accepted: a cause at a slot, or want of memory.
 #[derive(Clone, Copy, Debug, PartialEq, Eq)]
 pub enum Refused {
+    /// The cause, and the slot of the instruction that has it.
     At { slot: usize, cause: Cause },
+    /// A growth was refused, which says nothing of the program.
     OutOfMemory,
 }
 
