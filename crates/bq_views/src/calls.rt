@@ -11,7 +11,7 @@ ghost use Rattle.bq_views.specs.Standing.{Fact, Has, IsAnswered, IsCalled, IsMad
 ghost use Rattle.bq_views.specs.Ready.{IsReady, IsNamingEntry};
 ghost use Rattle.bq_views.specs.Views.{Carries, Clears, Covers, IsBelow};
 
-use crate::memory::{reads, reads_value, shape_of};
+use crate::places::{reads, reads_value, shape_of};
 use crate::registers::{known, learn, write};
 use crate::view::{Doubt, Kind, Known, View};
 use bq_insn::{Insn, Size, Width};

@@ -9,7 +9,7 @@ ghost use Rattle.bq_views.specs.Ready.{IsCarried, IsReady};
 
 use crate::alu::alu;
 use crate::calls::{call, map_ref};
-use crate::memory::load;
+use crate::loads::load;
 use crate::moves::{extend, immediate, negate, reorder};
 use crate::stores::{store_imm, store_reg};
 use crate::view::{Doubt, View};

@@ -11,7 +11,7 @@ ghost use Rattle.bq_views.specs.Ready.{IsPlaced};
 ghost use Rattle.bq_views.specs.Standing.{IsStoredAt, Scalar, StandsAt};
 ghost use Rattle.bq_views.specs.Views.{Carries, Covers, Describes, Forgets, Marks, Stores, keeping};
 
-use crate::memory::{locate, stays};
+use crate::places::{locate, stays};
 use crate::registers::known;
 use crate::view::{Doubt, Kind, Known, View};
 use bq_insn::{Insn, Size};

@@ -1,4 +1,4 @@
-use Rattle.bq_views.proofs.memory.loads.Goals as goal
+use Rattle.bq_views.proofs.loads.loads.Goals as goal
 
 pub returns-then-signed : goal.returns-then-signed
 returns-then-signed c = λ x small.

@@ -4,7 +4,7 @@ use mir.Val.{SFits}
 use Rattle.bq_insn.specs.Meaning.{byte_count, word_of}
 use Rattle.bq_views.proofs.AccessLemmas.{place_gives}
 use Rattle.bq_views.proofs.PlaceLemmas.{sum_is, placed_in}
-use Rattle.bq_views.proofs.memory.locate.Goals as goal
+use Rattle.bq_views.proofs.places.locate.Goals as goal
 
 pub returns-clause-finds : goal.returns-clause-finds
 returns-clause-finds c =

@@ -1,6 +1,6 @@
 use Rattle.std.proofs.Common.{◌≡◌, rules, arith}
 use Rattle.bq_views.proofs.AccessLemmas.{entry_bounds}
-use Rattle.bq_views.proofs.memory.bound.Goals as goal
+use Rattle.bq_views.proofs.places.bound.Goals as goal
 
 pub returns-in-Some-clause-bounds : goal.returns-in-Some-clause-bounds
 returns-in-Some-clause-bounds c =

@@ -8,7 +8,7 @@ use Rattle.bq_views.specs.Ready.{IsPlaced}
 use Rattle.bq_views.proofs.PlaceLemmas.{stack_inside}
 use Rattle.bq_views.proofs.PutLemmas.{carries_put}
 use Rattle.bq_views.proofs.AccessLemmas.{load_gives, kept_load}
-use Rattle.bq_views.proofs.memory.load.Goals as goal
+use Rattle.bq_views.proofs.loads.load.Goals as goal
 
 pub returns-in-Some-clause-carries : goal.returns-in-Some-clause-carries
 returns-in-Some-clause-carries c =

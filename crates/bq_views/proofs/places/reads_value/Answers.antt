@@ -1,6 +1,6 @@
 use Rattle.std.proofs.Common.{arith}
 use Rattle.bq_views.proofs.CallLemmas.{finds_bytes}
-use Rattle.bq_views.proofs.memory.reads_value.Goals as goal
+use Rattle.bq_views.proofs.places.reads_value.Goals as goal
 
 pub returns-in-Stack : goal.returns-in-Stack
 returns-in-Stack c = λ yes'.

@@ -1,0 +1,114 @@
+// Loads.
+
+ghost use Rattle.std.specs.Prelude.{Some, ◌≡◌, ◌^◌, ◌<◌, ℕ, IsOk, IfSome, OnOk, false, slice_index_or, IfErr, ◌*◌, None};
+ghost use Rattle.bq_insn.specs.Meaning.{byte_count};
+ghost use Rattle.bq_maps.specs.Machine.{loaded, bits_of as bits_in};
+ghost use Rattle.bq_ranges.specs.Within.{Within};
+ghost use Rattle.bq_insn.specs.declared.Insn.{Insn};
+ghost use Rattle.bq_views.specs.Doubts.{MayDoubt};
+ghost use Rattle.bq_views.specs.Standing.{IsGiven};
+ghost use Rattle.bq_views.specs.Ready.{IsReadable};
+ghost use Rattle.bq_views.specs.Views.{Carries};
+
+use crate::places::{Location, is_readable, locate};
+use crate::registers::write;
+use crate::view::{Doubt, Kind, Known, View};
+use bq_insn::{Bits, Insn, Size, Width};
+use bq_maps::shape::MapShape;
+use bq_ranges::{Range, moves};
+
+/// A load.
+pub fn load(
+    view: &mut View,
+    shapes: &[MapShape],
+    context: usize,
+    size: Size,
+    signed: bool,
+    dst: u8,
+    src: u8,
+    off: i16,
+) -> Result<(), Doubt>
+    requires context { context < 2 ^ 16 }
+    ensures carries { OnOk result (Carries shapes.now context (Insn.Load size signed dst src off) view.old view.new) }
+    ensures doubts { IfErr result (λ doubt. MayDoubt doubt (Insn.Load size signed dst src off)) }
+    ensures accepts { dst < 10 → IsReadable shapes.now context view.old size src off → IsOk result × IsGiven view.old view.new dst }
+{
+    let found = locate(view, shapes, context, size, src, off)?;
+    if let Some(word) = kept_at(view, found, size, signed) {
+        write(view, dst, word)?;
+        return Ok(());
+    }
+    if !is_readable(view, found.kind, found.at, size) {
+        return Err(Doubt::Access);
+    }
+    write(
+        view,
+        dst,
+        Known {
+            kind: Kind::Number,
+            offset: loads(size, signed),
+        },
+    )?;
+    Ok(())
+}
+
+/// The word that is kept where a load of eight bytes reads, if one is.
+fn kept_at(view: &View, place: Location, size: Size, signed: bool) -> Option<Known>
+    ensures { IfSome result (λ word. (place.kind ≡ Kind.Stack) × (size ≡ Size.Double) × (signed ≡ false) × (place.at.lo ≡ place.at.hi) × (slot : ℕ) × (place.at.lo ≡ 8 * slot) × (slice_index_or view.now.kept slot None ≡ Some word)) }
+{
+    if place.kind != Kind::Stack || size != Size::Double || signed {
+        return None;
+    }
+    if !place.at.is_single() || place.at.lo % 8 != 0 || place.at.lo >= 512 {
+        return None;
+    }
+    kept_in(view, place.at.lo as usize / 8)
+}
+
+/// The word that is kept in a slot of eight bytes, if one is.
+fn kept_in(view: &View, slot: usize) -> Option<Known>
+    requires { slot < 64 }
+    ensures { result ≡ slice_index_or view.now.kept slot None }
+{
+    view.kept[slot]
+}
+
+/// The numbers that a load of so many bytes gives.
+fn loads(size: Size, signed: bool) -> Range
+    ensures { (x : ℕ) → x < 256 ^ byte_count size → Within result (loaded size signed x) }
+{
+    if signed {
+        return moves::extend(Width::W64, bits_of(size), numbers(size));
+    }
+    numbers(size)
+}
+
+/// The numbers of so many bytes.
+fn numbers(size: Size) -> Range
+    ensures { (x : ℕ) → x < 256 ^ byte_count size → Within result x }
+{
+    match size {
+        Size::Byte => Range { lo: 0, hi: 0xff },
+        Size::Half => Range { lo: 0, hi: 0xffff },
+        Size::Word => Range {
+            lo: 0,
+            hi: 0xffff_ffff,
+        },
+        Size::Double => Range {
+            lo: 0,
+            hi: u64::MAX,
+        },
+    }
+}
+
+/// How many bits so many bytes have.
+fn bits_of(size: Size) -> Bits
+    ensures { result ≡ bits_in size }
+{
+    match size {
+        Size::Byte => Bits::B8,
+        Size::Half => Bits::B16,
+        Size::Word => Bits::B32,
+        Size::Double => Bits::B64,
+    }
+}
