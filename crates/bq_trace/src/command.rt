@@ -5,7 +5,9 @@ use bq_core::Event;
 /// How a machine's processors choose among their tasks.
 #[derive(Clone, Copy, Debug, PartialEq, Eq)]
 pub enum Rule {
+    /// The task of least virtual time runs.
     Cfs,
+    /// Of the tasks that have had no more than their share, that of the earliest deadline runs.
     Eevdf,
 }
 
@@ -37,7 +39,10 @@ pub enum Command {
 /// What a line is.
 #[derive(Clone, Copy)]
 pub enum Reading {
+    /// It has no words, or is a comment.
     Skipped,
+    /// It says nothing known.
     Bad,
+    /// It asks for this.
     Says(Command),
 }

@@ -1,17 +1,22 @@
+//! Why a replay ends early.
 ghost use Rattle.std.specs.Prelude.{◌≡◌};
 
 use std::alloc::AllocError;
 use thiserror::Error;
 
-/// Why a replay ended early.
+/// Why a replay ended before its trace did. The first three are answered only for their causes, as specs/Faults says.
 #[derive(Clone, Copy, Debug, PartialEq, Eq, Error)]
 pub enum ReplayFault {
+    /// The reader failed.
     #[error("a read failed")]
     Read,
+    /// The writer failed, or took nothing.
     #[error("a write failed")]
     Write,
+    /// The reader went on after 2^32 reads.
     #[error("the input had not ended after 2^32 reads")]
     TooLong,
+    /// A growth was refused.
     #[error("out of memory")]
     OutOfMemory,
 }

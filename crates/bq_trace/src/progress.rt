@@ -33,8 +33,11 @@ impl Machine {
 /// Where a trace stands: before its machine line, past one that failed, or with its machine.
 #[derive(Drop)]
 pub enum Phase {
+    /// No machine line has come yet.
     Waiting,
+    /// The first line was no machine line, so nothing is done any more.
     Over,
+    /// The machine, after the events so far.
     Running(Machine),
 }
 
@@ -94,11 +97,14 @@ impl Phase {
     }
 }
 
-/// The state after some lines: where the trace stands, how many lines there were, and whether none was bad.
+/// The state after some lines.
 #[derive(Drop)]
 pub struct Progress {
+    /// Where the trace stands.
     pub phase: Phase,
+    /// How many lines there were. The count stops at its greatest value.
     pub line: u64,
+    /// Whether no line was bad.
     pub clean: bool,
 }
 

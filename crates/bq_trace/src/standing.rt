@@ -11,7 +11,9 @@ use std::alloc::{AllocError, Global};
 /// Where a replay stands: after some lines, and in a line that has begun.
 #[derive(Drop)]
 pub struct Standing {
+    /// After the lines that have ended.
     pub progress: Progress,
+    /// The line that has begun.
     pub begun: Begun,
 }
 
