@@ -1,5 +1,5 @@
 -- What each instruction needs of the view before it, so that nothing is left to be shown.
-use Rattle.std.specs.Prelude.{length, ◌≡◌, ◌≢◌, ℕ, ◌+◌, ◌<◌, ◌≤◌, ℤ, pos, ◌+ℤ◌, List, Option, Some, None, slice_get, ◌⊎◌}
+use Rattle.std.specs.Prelude.{length, ◌≡◌, ◌≢◌, ℕ, ◌+◌, ◌-◌, ◌^◌, ◌<◌, ◌≤◌, ℤ, pos, ◌+ℤ◌, List, Option, Some, None, slice_get, slice_index_or, ◌⊎◌}
 use Rattle.bq_insn.specs.Meaning.{byte_count}
 use Rattle.bq_insn.specs.declared.Condition.TheVariants.{Equal, NotEqual}
 use Rattle.bq_insn.specs.declared.Condition.{Condition}
@@ -14,8 +14,9 @@ use Rattle.bq_insn.specs.declared.Width.TheVariants.{W64}
 use Rattle.bq_insn.specs.declared.Width.{Width}
 use Rattle.bq_maps.specs.declared.shape.MapShape.{MapShape}
 use Rattle.bq_views.specs.Standing.{Scalar, Pointer, StandsAt, IsSetAt, IsPlainAt, Has, IsScalarOperand}
-use Rattle.bq_views.specs.declared.view.Kind.TheVariants.{Context, Stack, Entry, EntryOrNull, Map}
+use Rattle.bq_views.specs.declared.view.Kind.TheVariants.{Number, Context, Stack, Entry, EntryOrNull, Map}
 use Rattle.bq_views.specs.declared.view.Kind.{Kind}
+use Rattle.bq_views.specs.declared.view.Known.{Known}
 use Rattle.bq_views.specs.declared.view.View.{View}
 
 -- the first operand of an arithmetic instruction, which a MOV has not
@@ -130,3 +131,12 @@ IsCarried (Goto32 imm) = ⊥
 IsCarried (Branch w c dst src off) = ⊥
 IsCarried Exit = ⊥
 IsCarried insn = Unit {0}
+
+-- a number of at most so much
+abbrev pub IsAtMost : ℕ → Option Known → Type 0
+IsAtMost most None = ⊥
+IsAtMost most (Some k) = (k.kind ≡ Number) × (k.offset.hi ≤ most)
+
+-- a call of a counter: register 1 is one of 64, and of an add register 2 is the amount
+abbrev pub IsAsking : View → ℤ → Type 0
+IsAsking view helper = IsAtMost 63 (slice_index_or view.registers 1 None) × (helper ≡ pos 100 → IsAtMost (2 ^ 64 - 1) (slice_index_or view.registers 2 None))

@@ -1,8 +1,10 @@
 // Calls of counters.
 
-ghost use Rattle.std.specs.Prelude.{◌<◌, pos, false, IsTrue, OnOk, IfErr, ℤ};
+ghost use Rattle.std.specs.Prelude.{◌<◌, pos, false, IsTrue, ◌≡◌, OnOk, IsOk, IfErr, ℤ};
 ghost use Rattle.bq_views.specs.Doubts.{MayDoubt};
 ghost use Rattle.bq_maps.specs.Machine.{IsCounterCall};
+ghost use Rattle.bq_views.specs.Ready.{IsAsking};
+ghost use Rattle.bq_views.specs.Standing.{IsAnswered};
 ghost use Rattle.bq_views.specs.Views.{AsksFrom};
 
 use crate::calls::{answer, is_at_most};
@@ -13,6 +15,7 @@ use bq_ranges::Range;
 /// An add: register 1 is a counter, and register 2 an amount.
 fn add(view: &mut View) -> Result<(), Doubt>
     ensures asks { OnOk result (AsksFrom (Insn.Call (pos 100)) view.old view.new) }
+    ensures accepts { IsAsking view.old (pos 100) → IsOk result × IsAnswered view.old view.new }
     ensures doubts { IfErr result (λ doubt. (helper : ℤ) → MayDoubt doubt (Insn.Call helper)) }
 {
     if !is_at_most(view, 1, 63) {
@@ -28,6 +31,7 @@ fn add(view: &mut View) -> Result<(), Doubt>
 /// A read: register 1 is a counter.
 fn read(view: &mut View) -> Result<(), Doubt>
     ensures asks { OnOk result (AsksFrom (Insn.Call (pos 101)) view.old view.new) }
+    ensures accepts { IsAsking view.old (pos 101) → IsOk result × IsAnswered view.old view.new }
     ensures doubts { IfErr result (λ doubt. (helper : ℤ) → MayDoubt doubt (Insn.Call helper)) }
 {
     if !is_at_most(view, 1, 63) {
@@ -52,6 +56,7 @@ pub fn is_counter_call(insn: Insn) -> bool
 pub fn ask(view: &mut View, insn: Insn) -> Result<(), Doubt>
     requires { IsCounterCall insn }
     ensures asks { OnOk result (AsksFrom insn view.old view.new) }
+    ensures accepts { (helper : ℤ) → insn ≡ Insn.Call helper → IsAsking view.old helper → IsOk result × IsAnswered view.old view.new }
     ensures doubts { IfErr result (λ doubt. MayDoubt doubt insn) }
 {
     match insn {
