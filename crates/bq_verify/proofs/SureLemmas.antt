@@ -326,7 +326,7 @@ module _ (slots : List (Option Insn)) (shapes : List MapShape) (context slot : �
       )
   ready_in begin m look (inr (inr (inr (inl at)))) =
       subst (λ (i : Insn). IsReady shapes context view i) (sym (named (begin + 4) _ at look.calls))
-      (inr (
+      (inr (inl (
         refl,
         m,
         record {
@@ -336,7 +336,7 @@ module _ (slots : List (Option Insn)) (shapes : List MapShape) (context slot : �
           inside = look.on_stack.2;
           set = λ i le lt. has (IsSetAt i) (Word, look.offset, subst (λ (n : ℕ). IsStored slots n Word look.offset) (sym at) look.stored, (look.on_stack.0, look.on_stack.1, le, lt));
         },
-      ))
+      )))
   ready_in begin m look (inr (inr (inr (inr at)))) =
       let small : 0 < 10 = omega arith in
       subst (λ (i : Insn). IsReady shapes context view i) (sym (named (begin + 5) _ at look.tests))

@@ -94,6 +94,22 @@ pub record IsNamingEntry (view : View) (map : ℕ) : Type 0 where
   pub inside : at + 4 ≤ 512
   pub set : (i : ℕ) → at ≤ i → i < at + 4 → Has (IsSetAt i) view
 
+-- a number of at most so much
+abbrev pub IsAtMost : ℕ → Option Known → Type 0
+IsAtMost most None = ⊥
+IsAtMost most (Some k) = (k.kind ≡ Number) × (k.offset.hi ≤ most)
+
+-- an update: as a look-up, and register 3 points to bytes of the stack that are set, as many as a value has, and register 4 is 0
+pub record IsUpdating (shapes : List MapShape) (view : View) (map : ℕ) : Type 0 where
+  pub names : IsNamingEntry view map
+  pub size : ℕ
+  pub size_is : size_of_shape (slice_get shapes map) ≡ Some size
+  pub at : ℕ
+  pub points : StandsAt (Pointer Stack at) view 3
+  pub inside : at + size ≤ 512
+  pub set : (i : ℕ) → at ≤ i → i < at + size → Has (IsSetAt i) view
+  pub flags : IsAtMost 0 (slice_index_or view.registers 4 None)
+
 -- a test with 0 for equality
 abbrev pub IsNullTest : Condition → Type 0
 IsNullTest Equal = Unit {0}
@@ -121,7 +137,8 @@ IsReady shapes context view (Goto off) = Unit {0}
 IsReady shapes context view (Goto32 imm) = Unit {0}
 IsReady shapes context view (Branch w c dst src off) =
     (dst < 10) × ((StandsAt Scalar view dst × IsScalarOperand view src) ⊎ (IsNullCheck w c src × (m : ℕ) × StandsAt (Pointer (EntryOrNull m) 0) view dst))
-IsReady shapes context view (Call helper) = ((helper ≡ pos 5) ⊎ (helper ≡ pos 8)) ⊎ ((helper ≡ pos 1) × (m : ℕ) × IsNamingEntry view m)
+IsReady shapes context view (Call helper) =
+    ((helper ≡ pos 5) ⊎ (helper ≡ pos 8)) ⊎ ((helper ≡ pos 1) × (m : ℕ) × IsNamingEntry view m) ⊎ ((helper ≡ pos 2) × (m : ℕ) × IsUpdating shapes view m)
 IsReady shapes context view Exit = StandsAt Scalar view 0
 
 -- neither a jump nor an EXIT
@@ -131,11 +148,6 @@ IsCarried (Goto32 imm) = ⊥
 IsCarried (Branch w c dst src off) = ⊥
 IsCarried Exit = ⊥
 IsCarried insn = Unit {0}
-
--- a number of at most so much
-abbrev pub IsAtMost : ℕ → Option Known → Type 0
-IsAtMost most None = ⊥
-IsAtMost most (Some k) = (k.kind ≡ Number) × (k.offset.hi ≤ most)
 
 -- a call of a counter: register 1 is one of 64, and of an add register 2 is the amount
 abbrev pub IsAsking : View → ℤ → Type 0

@@ -8,7 +8,7 @@ ghost use Rattle.bq_ranges.specs.Within.{Within};
 ghost use Rattle.bq_views.specs.Doubts.{MayDoubt};
 ghost use Rattle.bq_views.specs.After.{After};
 ghost use Rattle.bq_views.specs.Standing.{Fact, Has, IsAnswered, IsCalled, IsMade, Pointer, StandsAt};
-ghost use Rattle.bq_views.specs.Ready.{IsAtMost, IsReady, IsNamingEntry};
+ghost use Rattle.bq_views.specs.Ready.{IsAtMost, IsReady, IsUpdating, IsNamingEntry};
 ghost use Rattle.bq_views.specs.Views.{Carries, Clears, Covers, IsBelow};
 
 use crate::places::{reads, reads_value, shape_of};
@@ -140,6 +140,7 @@ fn update(view: &mut View, shapes: &[MapShape], context: usize) -> Result<(), Do
     requires context { context < 2 ^ 16 }
     ensures carries { OnOk result (Carries shapes.now context (Insn.Call (pos 2)) view.old view.new) }
     ensures doubts { IfErr result (λ doubt. MayDoubt doubt (Insn.Call (pos 2))) }
+    ensures accepts { (m : ℕ) → IsUpdating shapes.now view.old m → IsOk result × IsAnswered view.old view.new }
 {
     let Some(map) = map_of(view) else {
         return Err(Doubt::Argument);

@@ -182,7 +182,8 @@ pub fn reads_value(
 ) -> bool
     requires context { context < 2 ^ 16 }
     requires count { count ≤ 256 }
-    ensures { IsTrue result → FindsBytes shapes.now context view.now register count }
+    ensures finds { IsTrue result → FindsBytes shapes.now context view.now register count }
+    ensures accepts { (place : ℕ) → StandsAt (Pointer Kind.Stack place) view.now register → place + count ≤ 512 → ((i : ℕ) → place ≤ i → i < place + count → slice_index_or view.now.set i false ≡ true) → IsTrue result }
 {
     let Some(base) = known(view, register) else {
         return false;
@@ -202,7 +203,8 @@ pub fn reads_value(
 /// Whether so many stack bytes from each offset of the range on are set.
 fn stack_is_set(view: &View, at: Range, count: usize) -> bool
     requires { count ≤ 256 }
-    ensures { IsTrue result → (o i : ℕ) → Within at o → i < count → slice_index_or view.now.set (o + i) false ≡ true }
+    ensures all { IsTrue result → (o i : ℕ) → Within at o → i < count → slice_index_or view.now.set (o + i) false ≡ true }
+    ensures found { at.hi + count ≤ 512 → ((i : ℕ) → at.lo ≤ i → i < at.hi + count → slice_index_or view.now.set i false ≡ true) → IsTrue result }
 {
     if at.hi > (512 - count) as u64 {
         return false;
