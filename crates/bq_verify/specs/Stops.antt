@@ -4,7 +4,8 @@ use Rattle.bq_insn.specs.declared.Insn.{Insn}
 use Rattle.bq_graph.specs.declared.cause.Cause.TheVariants as cause
 use Rattle.bq_graph.specs.declared.cause.Cause.{Cause}
 use Rattle.bq_views.specs.Doubts.{MayDoubt}
-use Rattle.bq_views.specs.declared.view.Doubt.TheVariants.{Access, Argument, Answer}
+use Rattle.bq_views.specs.declared.view.Doubt.{Doubt}
+use Rattle.bq_views.specs.declared.view.Doubt.TheVariants.{Unset, Access, PointerUse, Argument, Answer}
 use Rattle.bq_verify.specs.declared.stop.Stop.TheVariants as stop
 use Rattle.bq_verify.specs.declared.stop.Stop.TheVariants.{Doubted}
 use Rattle.bq_verify.specs.declared.stop.Stop.{Stop}
@@ -16,6 +17,14 @@ IsWantOfMemory reason = reason ≡ stop.OutOfMemory
 abbrev pub MayStop : Stop → Insn → Type 0
 MayStop (Doubted doubt) insn = MayDoubt doubt insn
 MayStop stop.OutOfMemory insn = Unit {0}
+
+-- the cause that is named for what is not shown
+abbrev pub cause_for : Doubt → Cause
+cause_for Unset = cause.Unset
+cause_for Access = cause.Access
+cause_for PointerUse = cause.PointerUse
+cause_for Argument = cause.Argument
+cause_for Answer = cause.Answer
 
 -- the same of the cause that is named
 abbrev pub MayCause : Cause → Insn → Type 0

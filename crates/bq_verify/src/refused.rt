@@ -4,8 +4,10 @@ ghost use Rattle.std.specs.Prelude.{◌≡◌, Some, List, Option};
 ghost use Rattle.bq_insn.specs.declared.Insn.{Insn};
 ghost use Rattle.bq_maps.specs.Machine.{instruction_at};
 ghost use Rattle.bq_graph.specs.Faults.{place_of};
-ghost use Rattle.bq_verify.specs.Stops.{IsWantOfMemory, MayCause, MayStop};
+ghost use Rattle.bq_verify.specs.Stops.{cause_for, IsWantOfMemory, MayCause, MayStop};
 ghost use Rattle.bq_views.specs.Doubts.{MayDoubt};
+ghost use Rattle.bq_views.specs.declared.view.Doubt.{Doubt as Missing};
+ghost use Rattle.bq_verify.specs.declared.refused.Refused.TheVariants.{At};
 ghost use Rattle.bq_verify.specs.Refusals.{IsOutOfMemory, IsStopped};
 
 use crate::stop::Stop;
@@ -34,6 +36,7 @@ impl From<AllocError> for Refused {
 
 /// The cause that is named for what is not shown.
 fn cause_of(doubt: Doubt) -> Cause
+    ensures is { result ≡ cause_for doubt }
     ensures states { place_of result ≡ 7 }
     ensures may { (insn : Insn) → MayDoubt doubt insn → MayCause result insn }
 {
@@ -49,6 +52,7 @@ fn cause_of(doubt: Doubt) -> Cause
 /// The refusal where the pass stopped at a slot.
 pub fn refuse(slot: usize, stop: Stop) -> Refused
     ensures stopped { (slots : List (Option Insn)) (insn : Insn) → instruction_at slots slot ≡ Some insn → MayStop stop insn → IsStopped slots result }
+    ensures named { (doubt : Missing) → stop ≡ Stop.Doubted doubt → result ≡ At slot (cause_for doubt) }
     ensures memory { IsWantOfMemory stop → IsOutOfMemory result }
 {
     match stop {
