@@ -6,3 +6,7 @@ pub mod HelpLemmas
 pub mod RunLemmas
 pub mod PackedLemmas
 pub mod OneRunLemmas
+pub mod PlaceLemmas
+pub mod PerformLemmas
+pub mod StepLemmas
+pub mod FlowLemmas
