@@ -1,4 +1,5 @@
 pub mod RegisterLemmas
+pub mod SourceLemmas
 pub mod ComputeLemmas
 pub mod MemoryLemmas
 pub mod AccessLemmas
