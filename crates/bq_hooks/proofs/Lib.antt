@@ -1,0 +1,4 @@
+pub mod Places
+pub mod Lengths
+pub mod Members
+pub mod Worked

@@ -1,0 +1,109 @@
+-- Contexts: the bytes that a hook shows to its policy, numbers little-endian. The fields and their places are this project's own.
+use Rattle.std.specs.Prelude.{ℕ, ◌%◌, ◌^◌, min, Bool, nat_lt, if◌then◌else◌, List, ◌++◌, length, slice_get, slice_index, Option, Some, None}
+use Rattle.std.specs.Int.{bytes_low_first}
+use Rattle.std.specs.List.{flat_map, range_with_len}
+use Rattle.bq_disc.specs.Tasks.{Task}
+
+abbrev pub u32_bytes : ℕ → List ℕ
+u32_bytes n = bytes_low_first 0 4 n
+
+abbrev pub u64_bytes : ℕ → List ℕ
+u64_bytes n = bytes_low_first 0 8 n
+
+-- the number that stands for no task and for no processor: all 32 bits
+abbrev pub nobody : ℕ
+nobody = 4294967295
+
+abbrev pub or_nobody : Option ℕ → ℕ
+or_nobody None = nobody
+or_nobody (Some n) = n
+
+abbrev pub as_number : Bool → ℕ
+as_number b = if b then 1 else 0
+
+-- where a woken task is placed: the task, the processor that wakes it, how many processors there are, the discipline's own
+-- choice, and the load of each processor
+pub record PlaceFacts : Type 0 where
+  pub task : Task
+  pub waking : ℕ
+  pub processors : ℕ
+  pub own : ℕ
+  pub loads : List ℕ
+
+-- where a processor asks whether the current task gives way: the processor, its queue, the current task, the rule's choice
+-- of the queue alone, and the discipline's own answer
+pub record PreemptFacts : Type 0 where
+  pub processor : ℕ
+  pub queue : List Task
+  pub current : Task
+  pub choice : Option Task
+  pub own : Bool
+
+-- where a processor asks which task to take from another: the two processors, how many tasks run or wait at each, all tasks
+-- of the other's queue that may go, the greatest (v, id) first, and the discipline's own choice
+pub record PullFacts : Type 0 where
+  pub puller : ℕ
+  pub source : ℕ
+  pub puller_size : ℕ
+  pub source_size : ℕ
+  pub movable : List Task
+  pub own : Option ℕ
+
+-- a processor, where only those below a limit are shown
+abbrev pub if_shown : ℕ → ℕ → ℕ
+if_shown limit p = if nat_lt p limit then p else nobody
+
+abbrev pub if_any_shown : ℕ → Option ℕ → ℕ
+if_any_shown limit None = nobody
+if_any_shown limit (Some p) = if_shown limit p
+
+-- the place context that shows the processors below a limit
+unfoldable pub place_bytes_below : ℕ → PlaceFacts → List ℕ
+place_bytes_below limit f =
+    u32_bytes f.task.id
+    ++ u32_bytes f.task.weight
+    ++ u64_bytes (f.task.mask % 2 ^ min f.processors limit)
+    ++ u64_bytes f.task.slice
+    ++ u32_bytes (if_shown limit f.waking)
+    ++ u32_bytes (if_any_shown limit f.task.prev)
+    ++ u32_bytes (min f.processors limit)
+    ++ u32_bytes (if_shown limit f.own)
+    ++ flat_map (λ p. u32_bytes (slice_index f.loads p)) (range_with_len 0 limit)
+
+-- images of version 1 are shown 16 processors at most, 104 bytes; those of version 2 all, up to 64, in 296 bytes
+abbrev pub place_bytes_first : PlaceFacts → List ℕ
+place_bytes_first f = place_bytes_below 16 f
+
+abbrev pub place_bytes_second : PlaceFacts → List ℕ
+place_bytes_second f = place_bytes_below 64 f
+
+-- a task's id, weight and v; where there is none, the number given and zeros
+abbrev pub task_bytes : ℕ → Option Task → List ℕ
+task_bytes absent None = u32_bytes absent ++ u32_bytes 0 ++ u64_bytes 0
+task_bytes absent (Some t) = u32_bytes t.id ++ u32_bytes t.weight ++ u64_bytes t.v
+
+-- 56 bytes
+unfoldable pub preempt_bytes : PreemptFacts → List ℕ
+preempt_bytes f =
+    u32_bytes f.processor
+    ++ u32_bytes (length f.queue)
+    ++ u32_bytes f.current.id
+    ++ u32_bytes f.current.weight
+    ++ u64_bytes f.current.v
+    ++ u64_bytes f.current.deadline
+    ++ task_bytes nobody f.choice
+    ++ u32_bytes (as_number f.own)
+    ++ u32_bytes 0
+
+-- 160 bytes; of the movable tasks the first eight are shown
+unfoldable pub pull_bytes : PullFacts → List ℕ
+pull_bytes f =
+    u32_bytes f.puller
+    ++ u32_bytes f.source
+    ++ u32_bytes f.puller_size
+    ++ u32_bytes f.source_size
+    ++ u32_bytes (length f.movable)
+    ++ u32_bytes (min (length f.movable) 8)
+    ++ u32_bytes (or_nobody f.own)
+    ++ u32_bytes 0
+    ++ flat_map (λ k. task_bytes 0 (slice_get f.movable k)) (range_with_len 0 8)

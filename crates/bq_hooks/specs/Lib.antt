@@ -1,0 +1,4 @@
+pub mod Contexts
+pub mod OwnPlace
+pub mod Permitted
+pub mod Settled

@@ -1,0 +1,12 @@
+//! What a policy is shown, which of its answers are permitted, and what is chosen where none is.
+//! Promises the exact bytes of each hook's context, and that each choice is the policy's where permitted, else the
+//! discipline's own. Stands on the tasks and queues of bq_disc.
+#![tactic(auto)]
+
+pub mod loads;
+pub mod placing;
+pub mod settled;
+
+pub use loads::Loads;
+pub use placing::own_place;
+pub use settled::By;

@@ -1,0 +1,68 @@
+//! How many tasks each processor has.
+ghost use Rattle.std.specs.Prelude.{◌≡◌, ◌<◌, ◌≤◌, [], ◌∷◌, ◌++◌, length, slice_index};
+
+use arrayvec::ArrayVec;
+use std::marker::Model;
+
+/// The loads of up to 64 processors, by their numbers.
+#[derive(Drop)]
+pub struct Loads {
+    counts: ArrayVec<u16, 64>,
+}
+
+impl Model for Loads {
+    ghost use Rattle.std.specs.Prelude.{List, ℕ, ◌≤◌, length};
+
+    ghost Value = { List ℕ };
+
+    ghost view = { λ l. l.counts.items };
+
+    ghost invariant = { λ l. length l.counts.items ≤ 64 };
+}
+
+impl Loads {
+    /// The loads of no processor.
+    pub fn new() -> Loads
+        ensures { result ≡ [] }
+    {
+        Loads {
+            counts: ArrayVec::new(),
+        }
+    }
+
+    /// Adds the load of the next processor.
+    pub fn push(&mut self, count: u16)
+        requires { length self.old < 64 }
+        ensures { self.new ≡ self.old ++ count ∷ [] }
+    {
+        self.counts.push(count);
+    }
+
+    /// The load of a processor, 0 where it has none.
+    pub fn get(&self, processor: usize) -> u16
+        ensures { result ≡ slice_index self.now processor }
+    {
+        match self.counts.get(processor) {
+            Some(count) => *count,
+            None => 0,
+        }
+    }
+
+    /// The loads, in order.
+    pub fn as_slice(&self) -> &[u16]
+        ensures { result.now ≡ self.now }
+    {
+        self.counts.as_slice()
+    }
+
+    /// The same loads once more.
+    pub fn copy(&self) -> Loads
+        ensures { result ≡ self.now }
+    {
+        let mut loads = Loads::new();
+        for &count in self.counts.as_slice() {
+            loads.push(count);
+        }
+        loads
+    }
+}

@@ -1,0 +1,62 @@
+//! The discipline's own choice of a place for a woken task.
+ghost use Rattle.std.specs.Prelude.{◌≡◌, ◌<◌, ◌≤◌, ◌+◌, ◌-◌, Some, filter, unwrap_or};
+ghost use Rattle.std.specs.List.{range_with_len};
+ghost use Rattle.std.specs.Option.{option_map};
+ghost use Rattle.bq_hooks.specs.OwnPlace.{own_place, first_place, place_before, allows, HasPlace};
+
+use crate::Loads;
+use bq_disc::Entity;
+
+/// The processor of least load in the task's mask, of the first `count`; of equal loads the task's previous processor, and
+/// else the least number.
+pub fn own_place(count: usize, loads: &Loads, task: &Entity) -> u8
+    requires few { count ≤ 64 }
+    requires usable { HasPlace count task.now }
+    ensures own { Some result ≡ own_place count loads.now task.now }
+    ensures below { result < count }
+{
+    match first_place(loads, task.mask(), task.prev(), count) {
+        Some(place) => place,
+        None => unreachable!(),
+    }
+}
+
+/// The first of the processors of a mask that are below `count`, from the last to the first.
+fn first_place(loads: &Loads, mask: u64, previous: Option<u8>, count: usize) -> Option<u8>
+    requires few { count ≤ 64 }
+    ensures { result ≡ first_place loads.now previous (filter (allows mask) (range_with_len 0 count)) }
+{
+    let mut first = None;
+    for done in 0..count {
+        let place = (count - 1 - done) as u8;
+        if (mask >> place) % 2 == 1 {
+            first = Some(former(loads, previous, place, first));
+        }
+    }
+    first
+}
+
+/// A processor, unless one that is given goes before it.
+fn former(loads: &Loads, previous: Option<u8>, place: u8, other: Option<u8>) -> u8
+    ensures { result ≡ Rattle.bq_hooks.specs.OwnPlace.former_place loads.now previous place other }
+{
+    match other {
+        Some(other) if goes_before(loads, previous, other, place) => other,
+        _ => place,
+    }
+}
+
+/// Whether one processor goes before another.
+fn goes_before(loads: &Loads, previous: Option<u8>, one: u8, other: u8) -> bool
+    ensures { result ≡ place_before loads.now previous one other }
+{
+    let load = loads.get(usize::from(one));
+    let other_load = loads.get(usize::from(other));
+    if load != other_load {
+        return load < other_load;
+    }
+    if previous == Some(one) {
+        return true;
+    }
+    previous != Some(other) && one < other
+}
