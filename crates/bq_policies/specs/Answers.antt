@@ -1,0 +1,21 @@
+-- What a policy answers when it is asked.
+use Rattle.std.specs.Prelude.{ℕ, ◌*◌, List, [], map, replicate, Option, Some, None}
+use Rattle.bq_maps.specs.declared.shape.MapShape.{MapShape}
+use Rattle.bq_maps.specs.declared.board.Call.{Call as Asked}
+use Rattle.bq_maps.specs.Machine.{RunFrom, start}
+use Rattle.bq_interp.specs.Chains.{setting_of}
+use Rattle.bq_verify.specs.Accepted.{Accepted}
+
+-- a map of zeros
+abbrev pub zeros_of : MapShape → List ℕ
+zeros_of shape = replicate (shape.value_size * shape.entries) 0
+
+-- the maps that a policy begins with
+abbrev pub fresh_maps : Option Accepted → List (List ℕ)
+fresh_maps None = []
+fresh_maps (Some policy) = map zeros_of policy.shapes
+
+-- On a context, on maps, at a clock reading and at a processor of that number the policy answers r0, leaves these maps,
+-- takes so many steps, and makes these calls of counters: so a run of its program goes.
+abbrev pub Answers : Accepted → List ℕ → List (List ℕ) → ℕ → ℕ → ℕ → List (List ℕ) → ℕ → List Asked → Type 0
+Answers policy context maps now processor r0 maps' steps calls = RunFrom (setting_of policy context now processor) (start maps) steps calls r0 maps'

@@ -1,0 +1,103 @@
+//! What stands at the hooks of a processor.
+ghost use Rattle.std.specs.Prelude.{◌≡◌, ◌≤◌, true, length, IfSome, is_some};
+ghost use Rattle.std.specs.Option.{option_map};
+ghost use Rattle.bq_maps.specs.Counters.{Through};
+ghost use Rattle.bq_verify.specs.Accepted.{context_length_of};
+ghost use Rattle.bq_policies.specs.Answers.{Answers};
+ghost use Rattle.bq_policies.specs.Programs.{no_programs, at_hook, with_program, IsFor};
+
+use crate::{Hook, Installed, Scratch, Version};
+use bq_interp::{Done, Env};
+use bq_maps::Board;
+use std::marker::Model;
+
+/// What stands at each hook of a processor: nothing that was verified for another hook.
+#[derive(Drop)]
+pub struct Hooks {
+    place: Installed,
+    preempt: Installed,
+    pull: Installed,
+}
+
+impl Model for Hooks {
+    ghost use Rattle.bq_policies.specs.Programs.{Programs, IsFor};
+    ghost use Rattle.bq_verify.specs.declared.hook.Hook.TheVariants.{Place, Preempt, Pull};
+
+    ghost Value = { Programs };
+
+    ghost view = { λ h. record { place = h.place; preempt = h.preempt; pull = h.pull } };
+
+    ghost invariant = { λ h. IsFor Place h.place.policy × IsFor Preempt h.preempt.policy × IsFor Pull h.pull.policy };
+}
+
+impl Hooks {
+    /// Hooks at which nothing was installed yet.
+    pub fn new() -> Hooks
+        ensures { result ≡ no_programs }
+    {
+        Hooks {
+            place: Installed::nothing(),
+            preempt: Installed::nothing(),
+            pull: Installed::nothing(),
+        }
+    }
+
+    /// The generation that stands at a hook.
+    pub fn generation(&self, hook: Hook) -> u64
+        ensures { result ≡ (at_hook hook self.now).generation }
+    {
+        match hook {
+            Hook::Place => self.place.generation(),
+            Hook::Preempt => self.preempt.generation(),
+            Hook::Pull => self.pull.generation(),
+        }
+    }
+
+    /// Something else stands at a hook from now on.
+    pub fn install(&mut self, hook: Hook, installed: Installed)
+        requires { IsFor hook installed.policy }
+        ensures { self.new ≡ with_program hook self.old installed }
+    {
+        match hook {
+            Hook::Place => self.place = installed,
+            Hook::Preempt => self.preempt = installed,
+            Hook::Pull => self.pull = installed,
+        }
+    }
+
+    /// The version of the image of the policy that stands at a hook; `None` where none stands there.
+    #[inline(always)]
+    pub fn version(&self, hook: Hook) -> Option<Version>
+        ensures { result ≡ option_map (λ p. p.version) (at_hook hook self.now).policy }
+    {
+        match hook {
+            Hook::Place => self.place.version(),
+            Hook::Preempt => self.preempt.version(),
+            Hook::Pull => self.pull.version(),
+        }
+    }
+
+    /// What the policy at a hook answers on a context, and in how many steps. Its maps are then as it left them, and the
+    /// list of the scratch space holds its calls of counters.
+    pub fn ask<B: Board>(
+        &mut self,
+        hook: Hook,
+        context: &[u8],
+        env: Env,
+        scratch: &mut Scratch,
+        board: &mut B,
+    ) -> Done
+        requires there { is_some (at_hook hook self.old).policy ≡ true }
+        requires context { IfSome (at_hook hook self.old).policy (λ p. length context.now ≡ context_length_of hook p.version) }
+        ensures answers { IfSome (at_hook hook self.old).policy (λ p. Answers p context.now (at_hook hook self.old).maps env.now env.processor result.r0 (at_hook hook self.new).maps result.steps scratch.new) }
+        ensures within { IfSome (at_hook hook self.old).policy (λ p. result.steps ≤ p.budget) }
+        ensures stays { self.new ≡ with_program hook self.old (record (at_hook hook self.old) { maps = (at_hook hook self.new).maps }) }
+        ensures board { Through B.leads board.old scratch.new board.new }
+    {
+        match hook {
+            Hook::Place => self.place.ask(context, env, scratch, board),
+            Hook::Preempt => self.preempt.ask(context, env, scratch, board),
+            Hook::Pull => self.pull.ask(context, env, scratch, board),
+        }
+    }
+}

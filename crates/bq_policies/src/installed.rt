@@ -1,0 +1,176 @@
+//! What stands at one hook.
+ghost use Rattle.std.specs.Prelude.{◌≡◌, ◌≤◌, [], true, length, None, IfOk, IfSome, is_some};
+ghost use Rattle.std.specs.Option.{option_map};
+ghost use Rattle.bq_maps.specs.Counters.{Through};
+ghost use Rattle.bq_verify.specs.Accepted.{context_length_of};
+ghost use Rattle.bq_policies.specs.Answers.{Answers, fresh_maps};
+ghost use Rattle.bq_policies.specs.Programs.{no_program};
+
+use crate::{Policy, Scratch};
+use bq_interp::{Done, Env, run_into};
+use bq_maps::{Board, Maps};
+use bq_verify::Version;
+use std::alloc::{AllocError, Global};
+use std::marker::Model;
+
+/// A policy or none, its generation, and the policy's own maps. The generation is 0 where nothing was installed yet.
+#[derive(Drop)]
+pub struct Installed {
+    equipped: Option<Equipped>,
+    generation: u64,
+}
+
+impl Model for Installed {
+    ghost use Rattle.bq_policies.specs.Programs.{Program, policy_in, maps_in};
+
+    ghost Value = { Program };
+
+    ghost view = { λ i. record { policy = policy_in i.equipped; generation = i.generation; maps = maps_in i.equipped } };
+}
+
+impl Installed {
+    /// Nothing.
+    pub fn nothing() -> Installed
+        ensures { result ≡ no_program }
+    {
+        Installed {
+            equipped: None,
+            generation: 0,
+        }
+    }
+
+    /// A policy or none, as this generation, with maps of zeros. Want of memory for the maps is the only error.
+    pub fn new(
+        alloc: Global,
+        policy: Option<Policy>,
+        generation: u64,
+    ) -> Result<Installed, AllocError>
+        ensures { IfOk result (λ i. i ≡ record { policy = policy; generation = generation; maps = fresh_maps policy }) }
+    {
+        let equipped = match policy {
+            None => None,
+            Some(policy) => Some(Equipped::new(alloc, policy)?),
+        };
+        Ok(Installed {
+            equipped,
+            generation,
+        })
+    }
+
+    /// Its generation.
+    pub fn generation(&self) -> u64
+        ensures { result ≡ self.now.generation }
+    {
+        self.generation
+    }
+
+    /// The policy, if one stands here.
+    pub fn policy(&self) -> Option<&Policy>
+        ensures { option_map (λ p. p.now) result ≡ self.now.policy }
+    {
+        match &self.equipped {
+            None => None,
+            Some(equipped) => Some(equipped.policy()),
+        }
+    }
+
+    /// The version of the policy's image; `None` where no policy stands.
+    #[inline(always)]
+    pub fn version(&self) -> Option<Version>
+        ensures { result ≡ option_map (λ p. p.version) self.now.policy }
+    {
+        match &self.equipped {
+            None => None,
+            Some(equipped) => Some(equipped.version()),
+        }
+    }
+
+    /// What the policy answers on a context, and in how many steps. Its maps are then as it left them, and the list of
+    /// the scratch space holds its calls of counters. It takes no memory, and ends within the policy's budget.
+    pub fn ask<B: Board>(
+        &mut self,
+        context: &[u8],
+        env: Env,
+        scratch: &mut Scratch,
+        board: &mut B,
+    ) -> Done
+        requires there { is_some self.old.policy ≡ true }
+        requires context { IfSome self.old.policy (λ p. length context.now ≡ context_length_of p.hook p.version) }
+        ensures answers { IfSome self.old.policy (λ p. Answers p context.now self.old.maps env.now env.processor result.r0 self.new.maps result.steps scratch.new) }
+        ensures within { IfSome self.old.policy (λ p. result.steps ≤ p.budget) }
+        ensures stays { self.new ≡ record self.old { maps = self.new.maps } }
+        ensures board { Through B.leads board.old scratch.new board.new }
+    {
+        let Some(equipped) = &mut self.equipped else {
+            unreachable!()
+        };
+        equipped.ask(context, env, scratch, board)
+    }
+}
+
+/// A policy with maps of its own.
+#[derive(Drop)]
+pub struct Equipped {
+    policy: Policy,
+    maps: Maps,
+}
+
+impl Model for Equipped {
+    ghost use Rattle.std.specs.Prelude.{◌≡◌, List, ℕ};
+    ghost use Rattle.bq_verify.specs.Accepted.{Accepted};
+
+    ghost Value = { Accepted × List (List ℕ) };
+
+    ghost view = { λ e. (e.policy, e.maps.bytes) };
+
+    ghost invariant = { λ e. e.maps.shapes ≡ e.policy.shapes };
+}
+
+impl Equipped {
+    /// The policy, with maps of zeros.
+    fn new(alloc: Global, policy: Policy) -> Result<Equipped, AllocError>
+        ensures policy { IfOk result (λ e. e.0 ≡ policy) }
+        ensures maps { IfOk result (λ e. e.1 ≡ fresh_maps (Some policy)) }
+    {
+        let maps = Maps::new(alloc, policy.program().shapes())?;
+        let _sizes = maps.shapes();
+        Ok(Equipped { policy, maps })
+    }
+
+    fn policy(&self) -> &Policy
+        ensures { result.now ≡ self.now.0 }
+    {
+        &self.policy
+    }
+
+    fn version(&self) -> Version
+        ensures { result ≡ self.now.0.version }
+    {
+        self.policy.version()
+    }
+
+    /// What the policy answers.
+    fn ask<B: Board>(
+        &mut self,
+        context: &[u8],
+        env: Env,
+        scratch: &mut Scratch,
+        board: &mut B,
+    ) -> Done
+        requires context { length context.now ≡ context_length_of self.old.0.hook self.old.0.version }
+        ensures answers { Answers self.old.0 context.now self.old.1 env.now env.processor result.r0 self.new.1 result.steps scratch.new }
+        ensures within { result.steps ≤ self.old.0.budget }
+        ensures policy { self.new.0 ≡ self.old.0 }
+        ensures board { Through B.leads board.old scratch.new board.new }
+    {
+        run_into(
+            self.policy.program(),
+            context,
+            &mut self.maps,
+            &mut scratch.stack,
+            env,
+            board,
+            &mut scratch.calls,
+        )
+    }
+}

@@ -1,0 +1,18 @@
+//! What stands at the hooks of a processor, and what it answers.
+//! Promises that a policy's answer, its steps, its calls of counters and what its maps are afterwards are those of one
+//! run of the accepted program. Stands on the interpreter by its contract alone.
+#![tactic(auto)]
+
+pub mod hooks;
+pub mod installed;
+pub mod policy;
+pub mod scratch;
+#[cfg(test)]
+mod tests;
+
+pub use bq_interp::{Done, Env};
+pub use bq_verify::{Hook, Verified, Version};
+pub use hooks::Hooks;
+pub use installed::Installed;
+pub use policy::Policy;
+pub use scratch::Scratch;

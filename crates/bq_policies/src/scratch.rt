@@ -1,0 +1,50 @@
+//! What runs of policies work on.
+ghost use Rattle.std.specs.Prelude.{◌≡◌, []};
+
+use arrayvec::ArrayVec;
+use bq_interp::Stack;
+use bq_maps::Call;
+use std::marker::Model;
+
+/// A stack for policies to run on, and the calls of counters of the run that was the last. One serves any number of runs
+/// one after another: what an earlier run left on the stack no policy can read. Contracts see the calls alone.
+#[derive(Drop)]
+pub struct Scratch {
+    pub(crate) stack: Stack,
+    pub(crate) calls: ArrayVec<Call, 16>,
+}
+
+impl Model for Scratch {
+    ghost use Rattle.std.specs.Prelude.{List};
+    ghost use Rattle.bq_maps.specs.declared.board.Call.{Call as Asked};
+
+    ghost Value = { List Asked };
+
+    ghost view = { λ s. s.calls.items };
+}
+
+impl Scratch {
+    /// A clean stack, and no call.
+    pub fn new() -> Scratch
+        ensures { result ≡ [] }
+    {
+        Scratch {
+            stack: Stack::new(),
+            calls: ArrayVec::new(),
+        }
+    }
+
+    /// The calls are forgotten.
+    pub fn clear(&mut self)
+        ensures { self.new ≡ [] }
+    {
+        self.calls.clear();
+    }
+
+    /// The calls of counters of the last run, in their order.
+    pub fn calls(&self) -> &[Call]
+        ensures { result.now ≡ self.now }
+    {
+        self.calls.as_slice()
+    }
+}
