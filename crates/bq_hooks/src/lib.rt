@@ -9,4 +9,4 @@ pub mod settled;
 
 pub use loads::Loads;
 pub use placing::own_place;
-pub use settled::By;
+pub use settled::{By, Choice, settle_place, settle_preempt, settle_pull};
