@@ -3,7 +3,7 @@ use Rattle.std.proofs.Common.{◌≡◌, ℕ, zero, suc, ◌+◌, ◌*◌, List,
 use Rattle.std.specs.Prelude.{slice_get, slice_index}
 use Rattle.std.specs.List.{flat_map, range_with_len}
 use Rattle.bq_disc.specs.Tasks.{Task}
-use Rattle.bq_hooks.specs.Contexts.{PlaceFacts, PreemptFacts, PullFacts, place_bytes_below, place_bytes_first, place_bytes_second, preempt_bytes, pull_bytes, task_bytes, u32_bytes, nobody, as_number}
+use Rattle.bq_hooks.specs.Contexts.{PlaceFacts, PreemptFacts, PullFacts, place_header, place_bytes_below, place_bytes_first, place_bytes_second, preempt_bytes, pull_bytes, task_bytes, u32_bytes, nobody, as_number}
 
 pub length-task_bytes : (absent : ℕ) (o : Option Task) → length (task_bytes absent o) ≡ 16
 length-task_bytes absent None = refl
@@ -15,7 +15,7 @@ length-pieces n a zero f h = omega arith
 length-pieces n a (suc k) f h = omega (arith, length-append (f a) (flat_map f (range_with_len (a + 1) k)), h a, length-pieces n (a + 1) k f h)
 
 pub length-place_bytes_below : (limit : ℕ) (f : PlaceFacts) → length (place_bytes_below limit f) ≡ 40 + 4 * limit
-unfolding place_bytes_below
+unfolding place_bytes_below place_header
 length-place_bytes_below limit f = omega (arith, length-pieces 4 0 limit (λ p. u32_bytes (slice_index f.loads p)) (λ i. refl))
 
 pub length-place_bytes_first : (f : PlaceFacts) → length (place_bytes_first f) ≡ 104

@@ -1,5 +1,10 @@
 pub mod Ids
+pub mod Chosen
+pub mod Few
+pub mod Filling
 pub mod Places
 pub mod Lengths
 pub mod Members
+pub mod PreemptBytes
+pub mod PlaceBytes
 pub mod Worked

@@ -5,7 +5,7 @@ use Rattle.std.specs.Prelude.{◌%◌, min, length, slice_get, slice_index}
 use Rattle.std.specs.Int.{byte_at, bytes_low_first}
 use Rattle.std.specs.List.{flat_map, range_with_len, AllByRecursion}
 use Rattle.bq_disc.specs.Tasks.{Task}
-use Rattle.bq_hooks.specs.Contexts.{PlaceFacts, PreemptFacts, PullFacts, place_bytes_below, preempt_bytes, pull_bytes, task_bytes, u32_bytes, u64_bytes, nobody, or_nobody, as_number, if_shown, if_any_shown}
+use Rattle.bq_hooks.specs.Contexts.{PlaceFacts, PreemptFacts, PullFacts, place_header, place_bytes_below, preempt_bytes, pull_bytes, task_bytes, u32_bytes, u64_bytes, nobody, or_nobody, as_number, if_shown, if_any_shown}
 
 record AreBytes (xs : List ℕ) : Type 0 where
   all : AllByRecursion (λ b. b < 256) xs
@@ -41,7 +41,7 @@ task_is absent None = u32_is absent then u32_is 0 then u64_is 0
 task_is absent (Some t) = u32_is t.id then u32_is t.weight then u64_is t.v
 
 place_is : (limit : ℕ) (f : PlaceFacts) → AreBytes (place_bytes_below limit f)
-unfolding place_bytes_below
+unfolding place_bytes_below place_header
 place_is limit f =
     u32_is f.task.id
     then u32_is f.task.weight

@@ -1,7 +1,7 @@
 -- Contexts worked out by hand, which the definitions give.
 use Rattle.std.proofs.Common.{◌≡◌, ℕ, [], ◌∷◌, Some, None, false, replicate, pos, refl}
 use Rattle.bq_disc.specs.Tasks.{Task}
-use Rattle.bq_hooks.specs.Contexts.{place_bytes_below, place_bytes_first, preempt_bytes, pull_bytes}
+use Rattle.bq_hooks.specs.Contexts.{place_header, place_bytes_below, place_bytes_first, preempt_bytes, pull_bytes}
 
 abbrev task : ℕ → ℕ → ℕ → Task
 task id mask v = record { id = id; weight = 1024; mask = mask; slice = 3000000; v = v; deadline = 0; rel = pos 0; prev = None }
@@ -11,7 +11,7 @@ place : place_bytes_first (record { task = task 3 2 0; waking = 0; processors = 
     3 ∷ 0 ∷ 0 ∷ 0 ∷ 0 ∷ 4 ∷ 0 ∷ 0 ∷ 2 ∷ 0 ∷ 0 ∷ 0 ∷ 0 ∷ 0 ∷ 0 ∷ 0
     ∷ 192 ∷ 198 ∷ 45 ∷ 0 ∷ 0 ∷ 0 ∷ 0 ∷ 0 ∷ 0 ∷ 0 ∷ 0 ∷ 0 ∷ 255 ∷ 255 ∷ 255 ∷ 255
     ∷ 2 ∷ 0 ∷ 0 ∷ 0 ∷ 1 ∷ 0 ∷ 0 ∷ 0 ∷ replicate 64 0
-unfolding place_bytes_below
+unfolding place_bytes_below place_header
 place = refl
 
 -- task 1 has run for a millisecond beside task 2

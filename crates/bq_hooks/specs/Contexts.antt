@@ -57,9 +57,9 @@ abbrev pub if_any_shown : ℕ → Option ℕ → ℕ
 if_any_shown limit None = nobody
 if_any_shown limit (Some p) = if_shown limit p
 
--- the place context that shows the processors below a limit
-unfoldable pub place_bytes_below : ℕ → PlaceFacts → List ℕ
-place_bytes_below limit f =
+-- the first 40 bytes of a place context that shows the processors below a limit
+unfoldable pub place_header : ℕ → PlaceFacts → List ℕ
+place_header limit f =
     u32_bytes f.task.id
     ++ u32_bytes f.task.weight
     ++ u64_bytes (f.task.mask % 2 ^ min f.processors limit)
@@ -68,7 +68,10 @@ place_bytes_below limit f =
     ++ u32_bytes (if_any_shown limit f.task.prev)
     ++ u32_bytes (min f.processors limit)
     ++ u32_bytes (if_shown limit f.own)
-    ++ flat_map (λ p. u32_bytes (slice_index f.loads p)) (range_with_len 0 limit)
+
+-- a place context: the loads come behind, 0 where there is no processor
+unfoldable pub place_bytes_below : ℕ → PlaceFacts → List ℕ
+place_bytes_below limit f = place_header limit f ++ flat_map (λ p. u32_bytes (slice_index f.loads p)) (range_with_len 0 limit)
 
 -- images of version 1 are shown 16 processors at most, 104 bytes; those of version 2 all, up to 64, in 296 bytes
 abbrev pub place_bytes_first : PlaceFacts → List ℕ

@@ -3,8 +3,11 @@
 //! discipline's own. Stands on the tasks and queues of bq_disc.
 #![tactic(auto)]
 
+mod fields;
 pub mod loads;
+pub mod place;
 pub mod placing;
+pub mod preempt;
 pub mod settled;
 
 pub use loads::Loads;

@@ -1,0 +1,103 @@
+//! What a place policy is shown.
+ghost use Rattle.std.specs.Prelude.{◌≡◌, ◌≤◌, ◌<◌, ◌^◌, ◌%◌, ◌+◌, ◌*◌, ◌++◌, min, length, take, slice_index, Option};
+ghost use Rattle.std.specs.List.{flat_map, range_with_len};
+ghost use Rattle.bq_hooks.specs.Contexts.{place_header, place_bytes_below, place_bytes_first, place_bytes_second, if_shown, if_any_shown, u32_bytes};
+
+use crate::fields::{put_u32, put_u64};
+use crate::Loads;
+use bq_disc::Entity;
+use std::marker::Model;
+
+/// What stands where there is no processor, or none that is shown.
+const NOBODY: u32 = 0xffff_ffff;
+
+/// A woken task, the processor that wakes it, how many processors there are, the discipline's own choice, and their loads.
+#[derive(Drop)]
+pub struct Place<'a> {
+    pub task: &'a Entity,
+    pub waking: u8,
+    pub processors: usize,
+    pub own: u8,
+    pub loads: &'a Loads,
+}
+
+impl<'a> Model for Place<'a> {
+    ghost use Rattle.bq_hooks.specs.Contexts.{PlaceFacts};
+
+    ghost Value = { PlaceFacts };
+
+    ghost view = { λ p. record { task = p.task.now; waking = p.waking; processors = p.processors; own = p.own; loads = p.loads.now } };
+}
+
+/// Fills the place context of an image of version 1, which shows the first 16 processors. It takes no memory.
+pub fn place_ctx(facts: &Place, context: &mut [u8; 104])
+    ensures bytes { context.new ≡ place_bytes_first facts.now }
+{
+    fill(facts, 16, context);
+}
+
+/// Fills the place context of an image of version 2, which shows 64 processors. It takes no memory.
+pub fn wide_place_ctx(facts: &Place, context: &mut [u8; 296])
+    ensures bytes { context.new ≡ place_bytes_second facts.now }
+{
+    fill(facts, 64, context);
+}
+
+/// Fills a context that shows the processors below a limit.
+fn fill(facts: &Place, limit: usize, context: &mut [u8])
+    requires high { limit ≤ 64 }
+    requires room { length context.old ≡ 40 + 4 * limit }
+    ensures bytes { context.new ≡ place_bytes_below limit facts.now }
+{
+    put_header(facts, limit, context);
+    for processor in 0..limit {
+        put_u32(context, 40 + 4 * processor, u32::from(facts.loads.get(processor)));
+    }
+}
+
+/// Fills the first 40 bytes.
+fn put_header(facts: &Place, limit: usize, context: &mut [u8])
+    requires high { limit ≤ 64 }
+    requires room { 40 ≤ length context.old }
+    ensures filled { take 40 context.new ≡ place_header limit facts.now }
+{
+    let task = facts.task;
+    let shown = facts.processors.min(limit);
+    put_u32(context, 0, u32::from(task.id()));
+    put_u32(context, 4, task.weight());
+    put_u64(context, 8, low_bits(task.mask(), shown));
+    put_u64(context, 16, task.slice());
+    put_u32(context, 24, if_shown(limit, facts.waking));
+    put_u32(context, 28, if_any_shown(limit, task.prev()));
+    put_u32(context, 32, shown as u32);
+    put_u32(context, 36, if_shown(limit, facts.own));
+}
+
+/// The bits below a number of them.
+fn low_bits(mask: u64, count: usize) -> u64
+    requires { count ≤ 64 }
+    ensures { result ≡ mask % 2 ^ count }
+{
+    if count == 64 { mask } else { mask % (1 << count) }
+}
+
+/// A processor, if it is shown.
+fn if_shown(limit: usize, processor: u8) -> u32
+    ensures { result ≡ if_shown limit processor }
+{
+    if usize::from(processor) < limit {
+        u32::from(processor)
+    } else {
+        NOBODY
+    }
+}
+
+/// A processor, if there is one and it is shown.
+fn if_any_shown(limit: usize, processor: Option<u8>) -> u32
+    ensures { result ≡ if_any_shown limit processor }
+{
+    match processor {
+        None => NOBODY,
+        Some(processor) => if_shown(limit, processor),
+    }
+}
