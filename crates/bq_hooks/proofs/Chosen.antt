@@ -1,5 +1,5 @@
 -- A discipline's choice is found again by its id.
-use Rattle.std.proofs.Common.{◌≡◌, ℕ, List, Option, Some, None, subst, ◌∙◌}
+use Rattle.std.proofs.Common.{◌≡◌, ℕ, List, Option, Some, None, subst}
 use Rattle.std.specs.Prelude.{Contains, IfSome}
 use Rattle.bq_disc.specs.Tasks.{Task, id_of, with_id}
 use Rattle.bq_disc.specs.Queues.{HasDistinctIds}

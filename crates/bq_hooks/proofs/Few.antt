@@ -1,5 +1,5 @@
 -- A queue's tasks are few.
-use Rattle.std.proofs.Common.{ℕ, ◌<◌, ◌^◌, List, length, arith}
+use Rattle.std.proofs.Common.{◌<◌, ◌^◌, List, length, arith}
 use Rattle.bq_disc.specs.Tasks.{Task}
 use Rattle.bq_disc.specs.Queues.{HasDistinctIds, HasSmallIds}
 use Rattle.bq_disc.proofs.QueueFacts.{length-few}

@@ -10,7 +10,7 @@ filled at n k xs ys bytes rest e l h =
     let whole : List ℕ = take at xs ++ bytes in
     let after : List ℕ = drop k (drop at xs) in
     let same : put_mid at k xs ys ≡ whole ++ (rest ++ after) =
-        ap (λ z. take at xs ++ (z ++ after)) e ∙ ap (λ z. take at xs ++ z) (append_assoc bytes rest after) ∙ sym (append_assoc (take at xs) bytes (rest ++ after)) in
+    ap (λ z. take at xs ++ (z ++ after)) e ∙ ap (λ z. take at xs ++ z) (append_assoc bytes rest after) ∙ sym (append_assoc (take at xs) bytes (rest ++ after)) in
     let long : length whole ≡ at + n = omega (arith, length-append (take at xs) bytes, length-take-le at xs h, l) in
     ap (take (at + n)) same ∙ ap (λ m. take m (whole ++ (rest ++ after))) (sym long) ∙ take-append_seam whole (rest ++ after)
 

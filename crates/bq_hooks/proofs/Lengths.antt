@@ -3,7 +3,7 @@ use Rattle.std.proofs.Common.{◌≡◌, ℕ, zero, suc, ◌+◌, ◌*◌, List,
 use Rattle.std.specs.Prelude.{slice_get, slice_index}
 use Rattle.std.specs.List.{flat_map, range_with_len}
 use Rattle.bq_disc.specs.Tasks.{Task}
-use Rattle.bq_hooks.specs.Contexts.{PlaceFacts, PreemptFacts, PullFacts, place_header, place_bytes_below, place_bytes_first, place_bytes_second, preempt_bytes, pull_bytes, task_bytes, u32_bytes, nobody, as_number}
+use Rattle.bq_hooks.specs.Contexts.{pull_header, PlaceFacts, PreemptFacts, PullFacts, place_header, place_bytes_below, place_bytes_first, place_bytes_second, preempt_bytes, pull_bytes, task_bytes, u32_bytes, nobody, as_number}
 
 pub length-task_bytes : (absent : ℕ) (o : Option Task) → length (task_bytes absent o) ≡ 16
 length-task_bytes absent None = refl
@@ -32,6 +32,6 @@ length-preempt_bytes f =
     omega (arith, length-append (task ++ own) (u32_bytes 0), length-append task own, length-task_bytes nobody f.choice)
 
 pub length-pull_bytes : (f : PullFacts) → length (pull_bytes f) ≡ 160
-unfolding pull_bytes
+unfolding pull_bytes pull_header
 length-pull_bytes f =
     omega (arith, length-pieces 16 0 8 (λ k. task_bytes 0 (slice_get f.movable k)) (λ k. length-task_bytes 0 (slice_get f.movable k)))

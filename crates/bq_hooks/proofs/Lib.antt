@@ -7,4 +7,6 @@ pub mod Lengths
 pub mod Members
 pub mod PreemptBytes
 pub mod PlaceBytes
+pub mod PullBytes
+pub mod Shown
 pub mod Worked

@@ -5,7 +5,7 @@ use Rattle.std.specs.Prelude.{◌%◌, min, length, slice_get, slice_index}
 use Rattle.std.specs.Int.{byte_at, bytes_low_first}
 use Rattle.std.specs.List.{flat_map, range_with_len, AllByRecursion}
 use Rattle.bq_disc.specs.Tasks.{Task}
-use Rattle.bq_hooks.specs.Contexts.{PlaceFacts, PreemptFacts, PullFacts, place_header, place_bytes_below, preempt_bytes, pull_bytes, task_bytes, u32_bytes, u64_bytes, nobody, or_nobody, as_number, if_shown, if_any_shown}
+use Rattle.bq_hooks.specs.Contexts.{pull_header, PlaceFacts, PreemptFacts, PullFacts, place_header, place_bytes_below, preempt_bytes, pull_bytes, task_bytes, u32_bytes, u64_bytes, nobody, or_nobody, as_number, if_shown, if_any_shown}
 
 record AreBytes (xs : List ℕ) : Type 0 where
   all : AllByRecursion (λ b. b < 256) xs
@@ -67,7 +67,7 @@ preempt_is f =
     then u32_is 0
 
 pull_is : (f : PullFacts) → AreBytes (pull_bytes f)
-unfolding pull_bytes
+unfolding pull_bytes pull_header
 pull_is f =
     u32_is f.puller
     then u32_is f.source

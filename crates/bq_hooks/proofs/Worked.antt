@@ -1,7 +1,7 @@
 -- Contexts worked out by hand, which the definitions give.
 use Rattle.std.proofs.Common.{◌≡◌, ℕ, [], ◌∷◌, Some, None, false, replicate, pos, refl}
 use Rattle.bq_disc.specs.Tasks.{Task}
-use Rattle.bq_hooks.specs.Contexts.{place_header, place_bytes_below, place_bytes_first, preempt_bytes, pull_bytes}
+use Rattle.bq_hooks.specs.Contexts.{pull_header, place_header, place_bytes_below, place_bytes_first, preempt_bytes, pull_bytes}
 
 abbrev task : ℕ → ℕ → ℕ → Task
 task id mask v = record { id = id; weight = 1024; mask = mask; slice = 3000000; v = v; deadline = 0; rel = pos 0; prev = None }
@@ -29,5 +29,5 @@ pull : pull_bytes (record { puller = 1; source = 0; puller_size = 0; source_size
     ∷ 2 ∷ 0 ∷ 0 ∷ 0 ∷ 2 ∷ 0 ∷ 0 ∷ 0 ∷ 3 ∷ 0 ∷ 0 ∷ 0 ∷ 0 ∷ 0 ∷ 0 ∷ 0
     ∷ 3 ∷ 0 ∷ 0 ∷ 0 ∷ 0 ∷ 4 ∷ 0 ∷ 0 ∷ 0 ∷ 0 ∷ 0 ∷ 0 ∷ 1 ∷ 0 ∷ 0 ∷ 0
     ∷ 2 ∷ 0 ∷ 0 ∷ 0 ∷ 0 ∷ 4 ∷ 0 ∷ 0 ∷ 0 ∷ 0 ∷ 0 ∷ 0 ∷ 1 ∷ 0 ∷ 0 ∷ 0 ∷ replicate 96 0
-unfolding pull_bytes
+unfolding pull_bytes pull_header
 pull = refl

@@ -85,7 +85,7 @@ abbrev pub task_bytes : ℕ → Option Task → List ℕ
 task_bytes absent None = u32_bytes absent ++ u32_bytes 0 ++ u64_bytes 0
 task_bytes absent (Some t) = u32_bytes t.id ++ u32_bytes t.weight ++ u64_bytes t.v
 
--- 56 bytes
+-- a preempt context, of 56 bytes
 unfoldable pub preempt_bytes : PreemptFacts → List ℕ
 preempt_bytes f =
     u32_bytes f.processor
@@ -98,9 +98,9 @@ preempt_bytes f =
     ++ u32_bytes (as_number f.own)
     ++ u32_bytes 0
 
--- 160 bytes; of the movable tasks the first eight are shown
-unfoldable pub pull_bytes : PullFacts → List ℕ
-pull_bytes f =
+-- the first 32 bytes of a pull context; it tells how many tasks are movable and how many of them are shown
+unfoldable pub pull_header : PullFacts → List ℕ
+pull_header f =
     u32_bytes f.puller
     ++ u32_bytes f.source
     ++ u32_bytes f.puller_size
@@ -109,4 +109,7 @@ pull_bytes f =
     ++ u32_bytes (min (length f.movable) 8)
     ++ u32_bytes (or_nobody f.own)
     ++ u32_bytes 0
-    ++ flat_map (λ k. task_bytes 0 (slice_get f.movable k)) (range_with_len 0 8)
+
+-- a pull context, of 160 bytes: the first eight movable tasks come behind, zeros where there are fewer
+unfoldable pub pull_bytes : PullFacts → List ℕ
+pull_bytes f = pull_header f ++ flat_map (λ k. task_bytes 0 (slice_get f.movable k)) (range_with_len 0 8)

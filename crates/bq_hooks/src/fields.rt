@@ -7,6 +7,9 @@ ghost use Rattle.bq_hooks.specs.Contexts.{u32_bytes, u64_bytes, task_bytes};
 use bq_disc::Node;
 use byteorder::{ByteOrder, LittleEndian};
 
+/// What stands where there is no task or processor: all 32 bits.
+pub const NOBODY: u32 = 0xffff_ffff;
+
 /// Writes a number of 32 bits; what stands before it stays.
 #[inline(always)]
 pub fn put_u32(context: &mut [u8], at: usize, number: u32)

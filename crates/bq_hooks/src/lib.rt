@@ -8,6 +8,7 @@ pub mod loads;
 pub mod place;
 pub mod placing;
 pub mod preempt;
+pub mod pull;
 pub mod settled;
 
 pub use loads::Loads;

@@ -3,13 +3,10 @@ ghost use Rattle.std.specs.Prelude.{◌≡◌, ◌≤◌, ◌<◌, ◌^◌, ◌%
 ghost use Rattle.std.specs.List.{flat_map, range_with_len};
 ghost use Rattle.bq_hooks.specs.Contexts.{place_header, place_bytes_below, place_bytes_first, place_bytes_second, if_shown, if_any_shown, u32_bytes};
 
-use crate::fields::{put_u32, put_u64};
 use crate::Loads;
+use crate::fields::{NOBODY, put_u32, put_u64};
 use bq_disc::Entity;
 use std::marker::Model;
-
-/// What stands where there is no processor, or none that is shown.
-const NOBODY: u32 = 0xffff_ffff;
 
 /// A woken task, the processor that wakes it, how many processors there are, the discipline's own choice, and their loads.
 #[derive(Drop)]
@@ -51,7 +48,11 @@ fn fill(facts: &Place, limit: usize, context: &mut [u8])
 {
     put_header(facts, limit, context);
     for processor in 0..limit {
-        put_u32(context, 40 + 4 * processor, u32::from(facts.loads.get(processor)));
+        put_u32(
+            context,
+            40 + 4 * processor,
+            u32::from(facts.loads.get(processor)),
+        );
     }
 }
 
@@ -78,7 +79,11 @@ fn low_bits(mask: u64, count: usize) -> u64
     requires { count ≤ 64 }
     ensures { result ≡ mask % 2 ^ count }
 {
-    if count == 64 { mask } else { mask % (1 << count) }
+    if count == 64 {
+        mask
+    } else {
+        mask % (1 << count)
+    }
 }
 
 /// A processor, if it is shown.

@@ -5,12 +5,9 @@ ghost use Rattle.bq_disc.specs.Chains.{task_of};
 ghost use Rattle.bq_disc.specs.Queues.{HasDistinctIds, HasSmallIds};
 ghost use Rattle.bq_hooks.specs.Contexts.{as_number, preempt_bytes};
 
-use crate::fields::{put_task, put_u32, put_u64};
+use crate::fields::{NOBODY, put_task, put_u32, put_u64};
 use bq_disc::{Entity, Node, RunQueue};
 use std::marker::Model;
-
-/// What stands where there is no task.
-const NOBODY: u32 = 0xffff_ffff;
 
 /// A processor's queue and its current task, and whether that gives way by the discipline's own choice.
 #[derive(Drop)]

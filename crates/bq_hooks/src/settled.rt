@@ -6,10 +6,11 @@ ghost use Rattle.bq_hooks.specs.Contexts.{as_number, or_nobody};
 ghost use Rattle.bq_hooks.specs.Permitted.{may_place, may_preempt, may_pull, task_numbered};
 ghost use Rattle.bq_hooks.specs.Settled.{settled};
 
+use crate::fields;
 use bq_disc::{Entity, RunQueue};
 
 /// A pull policy's answer that no task is to be taken.
-const NOBODY: u64 = 0xffff_ffff;
+const NOBODY: u64 = fields::NOBODY as u64;
 
 /// Who made a choice.
 #[derive(Clone, Copy, Debug, PartialEq, Eq)]

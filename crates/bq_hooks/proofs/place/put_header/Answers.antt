@@ -7,7 +7,7 @@ pub returns : goal.returns
 returns c =
     let shown : c.min-shown.result ≡ min c.facts.inside.processors c.args.limit = c.min-shown.ensures in
     let mask = c.low_bits.ensures ∙ ap (λ m. m % 2 ^ c.min-shown.result) c.mask.ensures ∙ ap (λ n. c.facts.inside.task.now.mask % 2 ^ n) shown
-        ∙ ap (λ (x : PlaceFacts). x.task.mask % 2 ^ min x.processors c.args.limit) c.facts.view_is in
+    ∙ ap (λ (x : PlaceFacts). x.task.mask % 2 ^ min x.processors c.args.limit) c.facts.view_is in
     let prev = c.if_any_shown.ensures ∙ ap (if_any_shown c.args.limit) c.prev.ensures ∙ ap (λ (x : PlaceFacts). if_any_shown c.args.limit x.task.prev) c.facts.view_is in
     record {
       filled = header_filled c.args.limit c.args.facts.now c.args.context.now c.put_u32.new.context c.put_u32-2.new.context c.put_u64.new.context c.put_u64-2.new.context c.put_u32-3.new.context

@@ -1,0 +1,74 @@
+use Rattle.std.proofs.Common.{◌≡◌, List, length, refl, ap, sym, ◌∙◌, slice_get, arith}
+use Rattle.std.proofs.lemmas.List.{append-nil}
+use Rattle.std.specs.Prelude.{option_and_then}
+use Rattle.bq_disc.specs.Tasks.{Task, with_id}
+use Rattle.bq_disc.specs.Movable.{movable_to}
+use Rattle.bq_hooks.specs.Contexts.{PullFacts, pull_header}
+use Rattle.bq_hooks.proofs.PullBytes.{header_filled, task_filled, pull_filled}
+use Rattle.bq_hooks.proofs.Shown.{movable_found, shown_at, length-shown}
+use Rattle.bq_hooks.proofs.pull.pull_ctx.Goals as goal
+
+pub loop-at-init : goal.loop-at-init
+loop-at-init g c =
+    let queue : List Task = g.Q.RunQueue.members c.args.facts.now.queue.now in
+    let movable : List Task = movable_to c.args.facts.now.puller queue in
+    let f : PullFacts = record {
+      puller = c.args.facts.now.puller;
+      source = c.args.facts.now.source;
+      puller_size = c.args.facts.now.puller_size;
+      source_size = c.args.facts.now.source_size;
+      movable = movable;
+      own = c.args.facts.now.own;
+    } in
+    let shown = c.len.ensures.value ∙ ap length c.movable-movable.ensures.first ∙ length-shown movable in
+    let filled = header_filled f c.args.context.now c.put_u32.new.context c.put_u32-2.new.context c.put_u32-3.new.context c.put_u32-4.new.context c.put_u32-5.new.context
+    c.put_u32-6.new.context c.put_u32-7.new.context c.put_u32-8.new.context
+    c.from.result c.from-2.result c.args.facts.now.puller_size c.args.facts.now.source_size c.movable-movable.result.count c.len.result c.or_nobody.result
+    c.from.ensures c.put_u32.ensures.filled
+    c.from-2.ensures c.put_u32-2.ensures.filled
+    refl c.put_u32-3.ensures.filled
+    refl c.put_u32-4.ensures.filled
+    c.movable-movable.ensures.count c.put_u32-5.ensures.filled
+    shown c.put_u32-6.ensures.filled
+    c.or_nobody.ensures c.put_u32-7.ensures.filled
+    c.put_u32-8.ensures.filled in
+    record {
+      filled = filled ∙ sym (append-nil (pull_header f));
+      long = omega (
+        arith,
+        c.put_u32.auto.context,
+        c.put_u32-2.auto.context,
+        c.put_u32-3.auto.context,
+        c.put_u32-4.auto.context,
+        c.put_u32-5.auto.context,
+        c.put_u32-6.auto.context,
+        c.put_u32-7.auto.context,
+        c.put_u32-8.auto.context,
+        c.fits-context,
+      );
+    }
+
+pub loop-at-preserved : goal.loop-at-preserved
+loop-at-preserved g c =
+    let queue : List Task = g.Q.RunQueue.members c.args.facts.now.queue.now in
+    let movable : List Task = movable_to c.args.facts.now.puller queue in
+    let f : PullFacts = record {
+      puller = c.args.facts.now.puller;
+      source = c.args.facts.now.source;
+      puller_size = c.args.facts.now.puller_size;
+      source_size = c.args.facts.now.source_size;
+      movable = movable;
+      own = c.args.facts.now.own;
+    } in
+    let shown = shown_at queue movable 8 c.loop-at.at (movable_found c.args.facts.now.puller queue c.requires.distinct) c.loop-at-test.true in
+    let first = c.as_slice.ensures.value ∙ c.movable-movable.ensures.first in
+    let task = c.shown-task.ensures ∙ ap (λ xs. option_and_then (λ id. with_id id queue) (slice_get xs c.loop-at.at)) first ∙ shown in
+    record {
+      filled = task_filled f c.loop-at.at _ c.loop-at.context c.put_task.new.context c.loop-at.invariant.filled task c.put_task.ensures.filled;
+      long = c.put_task.auto.context ∙ c.loop-at.invariant.long;
+    }
+
+pub returns : goal.returns
+returns g c =
+    let end : c.loop-at.at ≡ 8 = omega (arith, c.loop-at-test.false, c.loop-at.auto.at-end) in
+    record { bytes = pull_filled c.loop-at.at _ c.loop-at.context end c.loop-at.invariant.filled c.loop-at.invariant.long }

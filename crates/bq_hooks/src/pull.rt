@@ -1,0 +1,71 @@
+//! What a pull policy is shown.
+ghost use Rattle.std.specs.Prelude.{◌≡◌, ◌≤◌, ◌<◌, ◌+◌, ◌*◌, ◌++◌, slice_get, Option, option_and_then};
+ghost use Rattle.std.specs.Option.{option_map};
+ghost use Rattle.bq_disc.specs.Chains.{task_of};
+ghost use Rattle.bq_disc.specs.Tasks.{with_id};
+ghost use Rattle.bq_disc.specs.Queues.{HasDistinctIds};
+ghost use Rattle.bq_disc.specs.Movable.{movable_to};
+ghost use Rattle.bq_hooks.specs.Contexts.{pull_bytes, or_nobody};
+
+use crate::fields::{NOBODY, put_task, put_u32};
+use bq_disc::{Node, RunQueue};
+
+/// How many movable tasks are shown.
+const SHOWN: usize = 8;
+
+/// A processor that may take a task, the other from whose queue it would be taken, how many tasks run or wait at each, and
+/// the discipline's own choice.
+#[derive(Drop)]
+pub struct Pull<'a, Q: RunQueue> {
+    pub puller: u8,
+    pub source: u8,
+    pub puller_size: u32,
+    pub source_size: u32,
+    pub queue: &'a Q,
+    pub own: Option<u16>,
+}
+
+/// Fills the context of a pull policy. It takes no memory.
+pub fn pull_ctx<Q: RunQueue>(facts: &Pull<Q>, context: &mut [u8; 160])
+    requires inside { facts.now.puller < 64 }
+    requires distinct { HasDistinctIds (Q.members facts.now.queue.now) }
+    ensures bytes { context.new ≡ pull_bytes (record {
+      puller = facts.now.puller;
+      source = facts.now.source;
+      puller_size = facts.now.puller_size;
+      source_size = facts.now.source_size;
+      movable = movable_to facts.now.puller (Q.members facts.now.queue.now);
+      own = facts.now.own;
+    }) }
+{
+    let movable = facts.queue.movable(facts.puller);
+    put_u32(context, 0, u32::from(facts.puller));
+    put_u32(context, 4, u32::from(facts.source));
+    put_u32(context, 8, facts.puller_size);
+    put_u32(context, 12, facts.source_size);
+    put_u32(context, 16, movable.count);
+    put_u32(context, 20, movable.first.len() as u32);
+    put_u32(context, 24, or_nobody(facts.own));
+    put_u32(context, 28, 0);
+    for at in 0..SHOWN {
+        let task = shown(facts.queue, movable.first.as_slice(), at);
+        put_task(context, 32 + 16 * at, 0, task);
+    }
+}
+
+/// The task of an id that is shown.
+fn shown<'a, Q: RunQueue>(queue: &'a Q, first: &[u16], at: usize) -> Option<&'a Node>
+    ensures { option_map (λ n. task_of n.now) result ≡ option_and_then (λ id. with_id id (Q.members queue.now)) (slice_get first.now at) }
+{
+    queue.get(*first.get(at)?)
+}
+
+/// A task's number, if there is one.
+fn or_nobody(task: Option<u16>) -> u32
+    ensures { result ≡ or_nobody task }
+{
+    match task {
+        None => NOBODY,
+        Some(id) => u32::from(id),
+    }
+}
