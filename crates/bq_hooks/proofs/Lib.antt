@@ -1,6 +1,6 @@
 pub mod Ids
 pub mod Chosen
-pub mod Few
+pub mod Contexts
 pub mod Filling
 pub mod Places
 pub mod Lengths
@@ -9,4 +9,5 @@ pub mod PreemptBytes
 pub mod PlaceBytes
 pub mod PullBytes
 pub mod Shown
+pub mod Permitted
 pub mod Worked

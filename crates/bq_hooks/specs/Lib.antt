@@ -2,3 +2,4 @@ pub mod Contexts
 pub mod OwnPlace
 pub mod Permitted
 pub mod Settled
+pub mod Laws

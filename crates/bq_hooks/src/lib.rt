@@ -4,13 +4,19 @@
 #![tactic(auto)]
 
 mod fields;
+pub mod laws;
 pub mod loads;
 pub mod place;
 pub mod placing;
 pub mod preempt;
 pub mod pull;
 pub mod settled;
+#[cfg(test)]
+mod tests;
 
 pub use loads::Loads;
+pub use place::{Place, place_ctx, wide_place_ctx};
 pub use placing::own_place;
+pub use preempt::{Preempt, preempt_ctx};
+pub use pull::{Pull, pull_ctx};
 pub use settled::{By, Choice, settle_place, settle_preempt, settle_pull};

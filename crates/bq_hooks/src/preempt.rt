@@ -1,8 +1,8 @@
 //! What a preempt policy is shown.
-ghost use Rattle.std.specs.Prelude.{◌≡◌, ◌≤◌, ◌<◌, ◌^◌, length};
+ghost use Rattle.std.specs.Prelude.{◌≡◌, ◌<◌, ◌^◌, length};
 ghost use Rattle.std.specs.Option.{option_map};
 ghost use Rattle.bq_disc.specs.Chains.{task_of};
-ghost use Rattle.bq_disc.specs.Queues.{HasDistinctIds, HasSmallIds};
+ghost use Rattle.bq_disc.specs.Queues.{HasDistinctIds};
 ghost use Rattle.bq_hooks.specs.Contexts.{as_number, preempt_bytes};
 
 use crate::fields::{NOBODY, put_task, put_u32, put_u64};
@@ -27,10 +27,9 @@ impl<'a, Q: RunQueue> Model for Preempt<'a, Q> {
 }
 
 /// Fills the context of a preempt policy. It takes no memory.
-#[tactic(auto, using(crate::proofs::Few::few))]
 pub fn preempt_ctx<Q: RunQueue>(facts: &Preempt<Q>, context: &mut [u8; 56])
     requires distinct { HasDistinctIds facts.now.queue }
-    requires small { HasSmallIds facts.now.queue }
+    requires few { length facts.now.queue < 2 ^ 32 }
     ensures bytes { context.new ≡ preempt_bytes facts.now }
 {
     let current = facts.current;

@@ -1,4 +1,4 @@
-use Rattle.std.proofs.Common.{◌≡◌, List, length, refl, ap, sym, ◌∙◌, slice_get, arith}
+use Rattle.std.proofs.Common.{◌≡◌, ℕ, List, Option, length, refl, ap, sym, ◌∙◌, slice_get, arith}
 use Rattle.std.proofs.lemmas.List.{append-nil}
 use Rattle.std.specs.Prelude.{option_and_then}
 use Rattle.bq_disc.specs.Tasks.{Task, with_id}
@@ -61,8 +61,9 @@ loop-at-preserved g c =
       own = c.args.facts.now.own;
     } in
     let shown = shown_at queue movable 8 c.loop-at.at (movable_found c.args.facts.now.puller queue c.requires.distinct) c.loop-at-test.true in
-    let first = c.as_slice.ensures.value ∙ c.movable-movable.ensures.first in
-    let task = c.shown-task.ensures ∙ ap (λ xs. option_and_then (λ id. with_id id queue) (slice_get xs c.loop-at.at)) first ∙ shown in
+    let at_id : List ℕ → Option Task = λ xs. option_and_then (λ id. with_id id queue) (slice_get xs c.loop-at.at) in
+    let named : at_id c.as_slice.result.now ≡ slice_get movable c.loop-at.at = ap at_id (c.as_slice.ensures.value ∙ c.movable-movable.ensures.first) ∙ shown in
+    let task = ◌∙◌ {b = at_id c.as_slice.result.now} c.shown-task.ensures named in
     record {
       filled = task_filled f c.loop-at.at _ c.loop-at.context c.put_task.new.context c.loop-at.invariant.filled task c.put_task.ensures.filled;
       long = c.put_task.auto.context ∙ c.loop-at.invariant.long;

@@ -1,0 +1,5 @@
+use Rattle.bq_hooks.proofs.Permitted as Permitted
+use Rattle.bq_hooks.proofs.laws.settled_is_permitted.Goals as goal
+
+pub returns : goal.returns
+returns c = Permitted.settled_is_permitted
