@@ -1,0 +1,139 @@
+-- Header and program: what was read stands there, what was refused has that fault.
+use Rattle.std.proofs.Common.{◌≡◌, ℕ, ◌*◌, ◌%◌, ◌<◌, ◌≤◌, false, cond, ltb, List, ◌++◌, length, Ok, Err, refl, sym, ap, subst, ◌∙◌, inl, inr, ◌⊎◌, arith}
+use Rattle.std.specs.Prelude.{◌&&◌, ◌==◌, nat_le}
+use Rattle.std.specs.Int.{w32, to_le_bytes}
+use Rattle.std.proofs.lemmas.Bool.{ltb-false, ltb-true}
+use Rattle.std.proofs.lemmas.Bool.Decides.{nat_tests}
+use Rattle.bq_insn.specs.declared.fault.Cause.TheVariants.{Length}
+use Rattle.bq_maps.specs.declared.shape.MapShape.{MapShape}
+use Rattle.bq_load.specs.declared.fault.LoadFault.{LoadFault}
+use Rattle.bq_load.specs.declared.fault.LoadFault.TheVariants as fault
+use Rattle.bq_load.specs.Layout.{shapes_bytes, opening, header_bytes, IsImage}
+use Rattle.bq_load.specs.Fields.{Front, Nothing, Marked, Versioned, Hooked, Mapped, Headed, IsBadNext}
+use Rattle.bq_load.specs.Faults.{HasFaultyProgram, IsFault}
+use Rattle.bq_load.specs.Headers.{with_shapes, HasHeader, Frames, HasParts}
+use Rattle.bq_load.specs.Answers.{HasImage, IsUnread}
+use Rattle.bq_load.specs.Reading.{Spelled, header_at, ended, frame_at}
+use Rattle.bq_load.proofs.ReadingLemmas.{bind_ok, ok_is}
+use Rattle.bq_load.proofs.FieldLemmas.{AreBytes, bind_err, err_is, chosen}
+use Rattle.bq_load.proofs.HeaderLemmas.{length-shapes_bytes, header_ok, header_err, refused_is}
+
+-- where the program ends
+ended_ok : (x y : Spelled × List ℕ) → ended x ≡ Ok y → (x ≡ y) × (length x.1 ≡ 8 * x.0.slots)
+ended_ok x y e =
+    elim (chosen (ltb (length x.1) (8 * x.0.slots)) (Err fault.Cut) (cond (ltb (8 * x.0.slots) (length x.1)) (Err fault.Rest) (Ok x)) (Ok y) e) [
+      | inl p ↦ absurd (let q = p.1 in cc)
+      | inr p ↦ elim (chosen (ltb (8 * x.0.slots) (length x.1)) (Err fault.Rest) (Ok x) (Ok y) p.1) [
+        | inl q ↦ absurd (let r = q.1 in cc)
+        | inr q ↦
+            let low : 8 * x.0.slots ≤ length x.1 = ltb-false _ _ p.0 in
+            let high : length x.1 ≤ 8 * x.0.slots = ltb-false _ _ q.0 in
+            (ok_is x y q.1, omega arith)
+      ]
+    ]
+
+pub frame_ok : (bytes : List ℕ) (x : Spelled × List ℕ) → AreBytes bytes → frame_at bytes ≡ Ok x → Frames bytes x.0 x.1
+unfolding frame_at
+frame_ok bytes x fits e =
+    let a = bind_ok (header_at bytes) ended x e in
+    let there = header_ok bytes a.0 fits a.1 in
+    let end = ended_ok a.0 x a.2 in
+    subst (λ (y : Spelled × List ℕ). Frames bytes y.0 y.1) end.0
+    (record {
+      shapes = there.shapes;
+      shapes_are = there.shapes_are;
+      framed = record { header = there.good; whole = end.1; bytes_are = there.bytes_are };
+    })
+
+-- a program that does not end as the header says
+ended_err : (bytes : List ℕ) (x : Spelled × List ℕ) (f : LoadFault) → HasHeader bytes x.0 x.1 → ended x ≡ Err f → IsFault bytes f
+ended_err bytes x f there e =
+    let h = with_shapes x.0 there.shapes in
+    elim (chosen (ltb (length x.1) (8 * x.0.slots)) (Err fault.Cut) (cond (ltb (8 * x.0.slots) (length x.1)) (Err fault.Rest) (Ok x)) (Err f) e) [
+      | inl p ↦
+          subst (IsFault bytes) (err_is {A = Spelled × List ℕ} fault.Cut f p.1)
+          (record { front = Headed h; part = x.1; good = there.good; bytes_are = there.bytes_are; short = ltb-true _ _ p.0 })
+      | inr p ↦ elim (chosen (ltb (8 * x.0.slots) (length x.1)) (Err fault.Rest) (Ok x) (Err f) p.1) [
+        | inl q ↦
+            subst (IsFault bytes) (err_is {A = Spelled × List ℕ} fault.Rest f q.1)
+            (record { header = h; rest = x.1; good = there.good; bytes_are = there.bytes_are; more = ltb-true _ _ q.0 })
+        | inr q ↦ absurd (let r = q.1 in cc)
+      ]
+    ]
+
+pub frame_err : (bytes : List ℕ) (f : LoadFault) → AreBytes bytes → frame_at bytes ≡ Err f → IsFault bytes f
+unfolding frame_at
+frame_err bytes f fits e =
+    elim (bind_err (header_at bytes) ended f e) [
+      | inl p ↦ refused_is bytes f (header_err bytes f fits p)
+      | inr p ↦ ended_err bytes p.0 f (header_ok bytes p.0 fits p.1) p.2
+    ]
+
+-- ---- faults that are answered
+
+no_memory : (front : Front) (field : List ℕ) → IsBadNext front field fault.OutOfMemory → ⊥
+no_memory Nothing field h = h
+no_memory Marked field h = h
+no_memory (Versioned v) field h = h
+no_memory (Hooked v k) field h = h
+no_memory (Mapped v k n s) field h = h
+no_memory (Headed k) field h = h
+
+pub unread : (bytes : List ℕ) (f : LoadFault) → IsFault bytes f → IsUnread bytes f
+unread bytes fault.OutOfMemory b = absurd (no_memory b.front b.field b.bad)
+unread bytes fault.Magic b = b
+unread bytes fault.Version b = b
+unread bytes fault.Hook b = b
+unread bytes fault.Shape b = b
+unread bytes fault.Cut b = b
+unread bytes fault.Rest b = b
+unread bytes (fault.Decode slot cause) b = b
+unread bytes (fault.Refused slot cause) b = b
+
+-- ---- programs that are too short or too long
+
+no_length : (n : ℕ) → (n ≡ 0) ⊎ (4096 < n) → ((8 * n % 8 == 0) && (nat_le 1 (8 * n) && nat_le (8 * n) 32768)) ≡ false
+no_length n h = grind (arith, nat_tests)
+
+pub bad_length : (bytes : List ℕ) (s : Spelled) (program : List ℕ) → Frames bytes s program → (s.slots ≡ 0) ⊎ (4096 < s.slots) → HasFaultyProgram bytes 0 Length
+bad_length bytes s program frames out = record {
+  header = with_shapes s frames.shapes;
+  program = program;
+  framed = frames.framed;
+  faulty = (refl, subst (λ (n : ℕ). ((n % 8 == 0) && (nat_le 1 n && nat_le n 32768)) ≡ false) (sym frames.framed.whole) (no_length s.slots out));
+}
+
+-- ---- images
+
+same_header : (s : Spelled) (shapes others : List MapShape) → shapes_bytes shapes ≡ shapes_bytes others → header_bytes (with_shapes s shapes) ≡ header_bytes (with_shapes s others)
+same_header s shapes others same =
+    let count : length shapes ≡ length others = omega (arith, length-shapes_bytes shapes, length-shapes_bytes others, ap length same) in
+    ap (λ (n : ℕ). opening s.version s.hook n ++ (shapes_bytes shapes ++ to_le_bytes w32 s.slots)) count
+    ∙ ap (λ (x : List ℕ). opening s.version s.hook (length others) ++ (x ++ to_le_bytes w32 s.slots)) same
+
+pub is_image : (bytes : List ℕ) (s : Spelled) (program : List ℕ) (shapes : List MapShape) → HasParts bytes s program → s.shapes ≡ shapes_bytes shapes → IsImage bytes s.version s.hook shapes program
+is_image bytes s program shapes parts is =
+    let frames = parts.frames in
+    let same : shapes_bytes frames.shapes ≡ shapes_bytes shapes = sym frames.shapes_are ∙ is in
+    record {
+      slots = s.slots;
+      some = parts.some;
+      most = parts.most;
+      framed = record {
+        header = record {
+          few = omega (arith, frames.framed.header.few, length-shapes_bytes frames.shapes, length-shapes_bytes shapes, ap length same);
+          slots = frames.framed.header.slots;
+        };
+        whole = frames.framed.whole;
+        bytes_are = frames.framed.bytes_are ∙ ap (λ (x : List ℕ). x ++ program) (same_header s frames.shapes shapes same);
+      };
+    }
+
+pub has_image : (bytes : List ℕ) (s : Spelled) (program : List ℕ) → HasParts bytes s program → HasImage bytes
+has_image bytes s program parts = record {
+  version = s.version;
+  hook = s.hook;
+  shapes = parts.frames.shapes;
+  program = program;
+  image = is_image bytes s program parts.frames.shapes parts parts.frames.shapes_are;
+}

@@ -1,0 +1,9 @@
+pub mod ReadingLemmas
+pub mod FieldLemmas
+pub mod HeaderLemmas
+pub mod AgainLemmas
+pub mod ShapesLemmas
+pub mod FramingLemmas
+pub mod UniqueLemmas
+pub mod FaultLemmas
+pub mod LawLemmas

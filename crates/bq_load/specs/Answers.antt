@@ -1,0 +1,66 @@
+-- What bytes are answered by: an image, a program that is accepted, or why not.
+use Rattle.std.specs.Prelude.{◌≡◌, ℕ, List, true}
+use Rattle.bq_insn.specs.declared.Insn.{Insn}
+use Rattle.bq_insn.specs.Spelling.{spelling, is_well_formed}
+use Rattle.bq_insn.specs.Slots.{spread}
+use Rattle.bq_insn.specs.Laws.{AllFit}
+use Rattle.bq_maps.specs.declared.shape.MapShape.{MapShape}
+use Rattle.bq_verify.specs.Accepted.{Accepted}
+use Rattle.bq_verify.specs.Refusals.{IsRefusal}
+use Rattle.bq_verify.specs.declared.hook.Hook.{Hook}
+use Rattle.bq_verify.specs.declared.hook.Version.{Version}
+use Rattle.bq_verify.specs.declared.refused.Refused.{Refused}
+use Rattle.bq_verify.specs.declared.refused.Refused.TheVariants as refused
+use Rattle.bq_load.specs.declared.fault.LoadFault.{LoadFault}
+use Rattle.bq_load.specs.declared.fault.LoadFault.TheVariants as fault
+use Rattle.bq_load.specs.declared.image.Image.{Image}
+use Rattle.bq_load.specs.Layout.{IsImage}
+use Rattle.bq_load.specs.Faults.{IsFault, HasFaultyProgram}
+
+-- the bytes are this image
+abbrev pub Spells : List ℕ → Image → Type 0
+Spells bytes image = IsImage bytes image.version image.hook image.shapes.items image.program.items
+
+-- the bytes are some image
+pub record HasImage (bytes : List ℕ) : Type 0 where
+  pub version : Version
+  pub hook : Hook
+  pub shapes : List MapShape
+  pub program : List ℕ
+  pub image : IsImage bytes version hook shapes program
+
+-- no image is read of the bytes: they have that fault, or are an image and memory was refused
+abbrev pub IsUnread : List ℕ → LoadFault → Type 0
+IsUnread bytes fault.OutOfMemory = HasImage bytes
+IsUnread bytes named = IsFault bytes named
+
+-- the bytes are an image of those instructions
+pub record HasProgram (bytes : List ℕ) (insns : List Insn) : Type 0 where
+  pub version : Version
+  pub hook : Hook
+  pub shapes : List MapShape
+  pub image : IsImage bytes version hook shapes (spelling insns)
+  pub well_formed : is_well_formed insns ≡ true
+  pub numbers : AllFit insns
+
+-- the bytes are an image of the program that was accepted
+pub record Loads (bytes : List ℕ) (v : Accepted) : Type 0 where
+  pub insns : List Insn
+  pub image : IsImage bytes v.version v.hook v.shapes (spelling insns)
+  pub well_formed : is_well_formed insns ≡ true
+  pub numbers : AllFit insns
+  pub slots : v.slots ≡ spread insns
+
+-- the bytes are an image of a program that the verifier refuses so
+pub record HasRefusedProgram (bytes : List ℕ) (answer : Refused) : Type 0 where
+  pub insns : List Insn
+  pub program : HasProgram bytes insns
+  pub refused : IsRefusal (spread insns) answer
+
+-- no program is loaded from the bytes: they or their program have that fault, or the verifier refuses it; or they are an
+-- image and memory was refused
+abbrev pub IsUnloaded : List ℕ → LoadFault → Type 0
+IsUnloaded bytes fault.OutOfMemory = HasImage bytes
+IsUnloaded bytes (fault.Decode slot cause) = HasFaultyProgram bytes slot cause
+IsUnloaded bytes (fault.Refused slot cause) = HasRefusedProgram bytes (refused.At slot cause)
+IsUnloaded bytes named = IsFault bytes named

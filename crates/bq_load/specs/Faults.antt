@@ -1,0 +1,50 @@
+-- The first fault of bytes that are no image, from left to right.
+use Rattle.std.specs.Prelude.{◌≡◌, ℕ, ◌*◌, ◌<◌, List, ◌++◌, length}
+use Rattle.bq_insn.specs.declared.fault.Cause.{Cause}
+use Rattle.bq_insn.specs.declared.fault.Cause.TheVariants.{Length}
+use Rattle.bq_insn.specs.declared.fault.DecodeFault.TheVariants.{At}
+use Rattle.bq_insn.specs.Faults.{IsFault as IsProgramFault}
+use Rattle.bq_load.specs.declared.fault.LoadFault.{LoadFault}
+use Rattle.bq_load.specs.declared.fault.LoadFault.TheVariants as fault
+use Rattle.bq_load.specs.Layout.{Header, IsHeader, IsFramed, header_bytes}
+use Rattle.bq_load.specs.Fields.{Front, IsGood, front_bytes, next_width, IsBadNext}
+
+-- good fields, and then a bad one
+pub record HasBadField (bytes : List ℕ) (named : LoadFault) : Type 0 where
+  pub front : Front
+  pub field : List ℕ
+  pub rest : List ℕ
+  pub good : IsGood front
+  pub bytes_are : bytes ≡ front_bytes front ++ (field ++ rest)
+  pub whole : length field ≡ next_width front
+  pub bad : IsBadNext front field named
+
+-- good fields, and then less than the next
+pub record IsCut (bytes : List ℕ) : Type 0 where
+  pub front : Front
+  pub part : List ℕ
+  pub good : IsGood front
+  pub bytes_are : bytes ≡ front_bytes front ++ part
+  pub short : length part < next_width front
+
+-- all fields, the program too, and then more
+pub record HasMore (bytes : List ℕ) : Type 0 where
+  pub header : Header
+  pub rest : List ℕ
+  pub good : IsHeader header
+  pub bytes_are : bytes ≡ header_bytes header ++ rest
+  pub more : 8 * header.slots < length rest
+
+-- header and program are there, but the program is none: at that slot it has that fault
+pub record HasFaultyProgram (bytes : List ℕ) (slot : ℕ) (cause : Cause) : Type 0 where
+  pub header : Header
+  pub program : List ℕ
+  pub framed : IsFramed bytes header program
+  pub faulty : IsProgramFault program (At slot cause)
+
+-- the first fault; of the program its length alone
+abbrev pub IsFault : List ℕ → LoadFault → Type 0
+IsFault bytes fault.Cut = IsCut bytes
+IsFault bytes fault.Rest = HasMore bytes
+IsFault bytes (fault.Decode slot Length) = HasFaultyProgram bytes slot Length
+IsFault bytes named = HasBadField bytes named

@@ -1,0 +1,50 @@
+-- The fields of an image from left to right: what stands so far, and which field is next.
+use Rattle.std.specs.Prelude.{◌≢◌, ℕ, ◌*◌, ◌<◌, ◌≤◌, List, [], ◌∷◌, ◌++◌, length}
+use Rattle.std.specs.Int.{w16, to_le_bytes}
+use Rattle.bq_maps.specs.declared.shape.MapShape.{MapShape}
+use Rattle.bq_verify.specs.declared.hook.Hook.{Hook}
+use Rattle.bq_verify.specs.declared.hook.Version.{Version}
+use Rattle.bq_load.specs.declared.fault.LoadFault.{LoadFault}
+use Rattle.bq_load.specs.declared.fault.LoadFault.TheVariants as fault
+use Rattle.bq_load.specs.Layout.{magic, version_byte, hook_byte, shape_bytes, shapes_bytes, opening, Header, header_bytes, IsHeader}
+
+-- fields that stand so far: none, the letters, the version too, the hook too, the number of maps and some shapes too, all of the header
+pub data Front : Type 0 where
+  Nothing : Front
+  Marked : Front
+  Versioned : Version → Front
+  Hooked : Version → Hook → Front
+  Mapped : Version → Hook → (count : ℕ) → (shapes : List MapShape) → Front
+  Headed : Header → Front
+
+-- all of them are good
+abbrev pub IsGood : Front → Type 0
+IsGood (Mapped version hook count shapes) = (count ≤ 8) × (length shapes ≤ count)
+IsGood (Headed h) = IsHeader h
+IsGood _ = Unit {0}
+
+abbrev pub front_bytes : Front → List ℕ
+front_bytes Nothing = []
+front_bytes Marked = magic
+front_bytes (Versioned version) = magic ++ (version_byte version ∷ [])
+front_bytes (Hooked version hook) = magic ++ (version_byte version ∷ hook_byte hook ∷ [])
+front_bytes (Mapped version hook count shapes) = opening version hook count ++ shapes_bytes shapes
+front_bytes (Headed h) = header_bytes h
+
+-- how many bytes the next field has; after the last shape it is the number of slots, and at the end the program
+abbrev pub next_width : Front → ℕ
+next_width Nothing = 4
+next_width Marked = 1
+next_width (Versioned version) = 1
+next_width (Hooked version hook) = 2
+next_width (Mapped version hook count shapes) = 4
+next_width (Headed h) = 8 * h.slots
+
+-- the next field is whole and spells nothing that may stand there
+abbrev pub IsBadNext : Front → List ℕ → LoadFault → Type 0
+IsBadNext Nothing field fault.Magic = field ≢ magic
+IsBadNext Marked field fault.Version = (version : Version) → field ≢ version_byte version ∷ []
+IsBadNext (Versioned _) field fault.Hook = (hook : Hook) → field ≢ hook_byte hook ∷ []
+IsBadNext (Hooked _ _) field fault.Shape = (count : ℕ) → count ≤ 8 → field ≢ to_le_bytes w16 count
+IsBadNext (Mapped _ _ count shapes) field fault.Shape = (length shapes < count) × ((shape : MapShape) → field ≢ shape_bytes shape)
+IsBadNext _ field _ = ⊥

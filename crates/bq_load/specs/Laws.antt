@@ -1,0 +1,27 @@
+-- Laws of the format: bytes say one thing.
+use Rattle.std.specs.Prelude.{◌≡◌, ℕ, ◌<◌, List, slice_index}
+use Rattle.bq_maps.specs.declared.shape.MapShape.{MapShape}
+use Rattle.bq_verify.specs.declared.hook.Hook.{Hook}
+use Rattle.bq_verify.specs.declared.hook.Version.{Version}
+use Rattle.bq_load.specs.declared.fault.LoadFault.{LoadFault}
+use Rattle.bq_load.specs.Layout.{IsImage}
+use Rattle.bq_load.specs.Faults.{IsFault}
+
+-- numbers that bytes can be
+abbrev pub AreBytes : List ℕ → Type 0
+AreBytes bytes = (i : ℕ) → slice_index bytes i < 256
+
+-- bytes are at most one image
+abbrev pub OneImage : Type 0
+OneImage =
+    (bytes : List ℕ) (v w : Version) (h k : Hook) (a b : List MapShape) (p q : List ℕ) → IsImage bytes v h a p → IsImage bytes w k b q
+    → (v ≡ w) × (h ≡ k) × (a ≡ b) × (p ≡ q)
+
+-- an image has no fault
+abbrev pub NoImageIsFaulty : Type 0
+NoImageIsFaulty =
+    (bytes : List ℕ) (v : Version) (h : Hook) (shapes : List MapShape) (program : List ℕ) (f : LoadFault) → AreBytes bytes → IsImage bytes v h shapes program → IsFault bytes f → ⊥
+
+-- bytes have at most one first fault
+abbrev pub OneFault : Type 0
+OneFault = (bytes : List ℕ) (f g : LoadFault) → AreBytes bytes → IsFault bytes f → IsFault bytes g → f ≡ g

@@ -1,0 +1,9 @@
+pub mod Layout
+pub mod Fields
+pub mod Faults
+pub mod Reading
+pub mod Headers
+pub mod Answers
+pub mod Naming
+pub mod Straight
+pub mod Laws

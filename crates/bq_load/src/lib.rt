@@ -1,0 +1,15 @@
+//! Images: a program with the choice that it makes and the shapes of its maps, as bytes.
+//!
+//! `read_image` and `write_image` are the format both ways; `load` decodes and verifies the program, too. `ImageReader`
+//! does the same for an image that comes in pieces. Each fault is the first one from left to right.
+#![tactic(auto)]
+
+pub mod fault;
+mod framing;
+mod header;
+pub mod image;
+pub mod laws;
+
+pub use bq_verify::{Hook, Version};
+pub use fault::LoadFault;
+pub use image::{Image, read_image};
