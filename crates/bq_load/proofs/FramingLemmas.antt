@@ -71,7 +71,7 @@ frame_err bytes f fits e =
 
 -- ---- faults that are answered
 
-no_memory : (front : Front) (field : List ℕ) → IsBadNext front field fault.OutOfMemory → ⊥
+pub no_memory : (front : Front) (field : List ℕ) → IsBadNext front field fault.OutOfMemory → ⊥
 no_memory Nothing field h = h
 no_memory Marked field h = h
 no_memory (Versioned v) field h = h

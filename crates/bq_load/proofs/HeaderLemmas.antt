@@ -206,7 +206,7 @@ no_rest (Hooked v k) field h = h
 no_rest (Mapped v k n s) field h = h
 no_rest (Headed k) field h = h
 
-no_decode : (slot : ℕ) (cause : Cause) (front : Front) (field : List ℕ) → IsBadNext front field (fault.Decode slot cause) → ⊥
+pub no_decode : (slot : ℕ) (cause : Cause) (front : Front) (field : List ℕ) → IsBadNext front field (fault.Decode slot cause) → ⊥
 no_decode slot cause Nothing field h = h
 no_decode slot cause Marked field h = h
 no_decode slot cause (Versioned v) field h = h

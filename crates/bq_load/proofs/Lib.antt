@@ -7,3 +7,5 @@ pub mod FramingLemmas
 pub mod UniqueLemmas
 pub mod FaultLemmas
 pub mod LawLemmas
+pub mod LoadLemmas
+pub mod WritingLemmas

@@ -1,5 +1,5 @@
 -- What bytes are answered by: an image, a program that is accepted, or why not.
-use Rattle.std.specs.Prelude.{◌≡◌, ℕ, List, true}
+use Rattle.std.specs.Prelude.{◌≡◌, ℕ, List, ◌++◌, true}
 use Rattle.bq_insn.specs.declared.Insn.{Insn}
 use Rattle.bq_insn.specs.Spelling.{spelling, is_well_formed}
 use Rattle.bq_insn.specs.Slots.{spread}
@@ -64,3 +64,7 @@ IsUnloaded bytes fault.OutOfMemory = HasImage bytes
 IsUnloaded bytes (fault.Decode slot cause) = HasFaultyProgram bytes slot cause
 IsUnloaded bytes (fault.Refused slot cause) = HasRefusedProgram bytes (refused.At slot cause)
 IsUnloaded bytes named = IsFault bytes named
+
+-- the new bytes are the old ones and then that image
+abbrev pub AppendsImage : List ℕ → List ℕ → Image → Type 0
+AppendsImage old new image = (bytes : List ℕ) × Spells bytes image × (new ≡ old ++ bytes)

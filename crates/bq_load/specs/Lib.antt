@@ -7,3 +7,4 @@ pub mod Answers
 pub mod Naming
 pub mod Straight
 pub mod Laws
+pub mod Writing

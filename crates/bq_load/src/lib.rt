@@ -9,7 +9,11 @@ mod framing;
 mod header;
 pub mod image;
 pub mod laws;
+pub mod loading;
+pub mod writing;
 
 pub use bq_verify::{Hook, Version};
 pub use fault::LoadFault;
 pub use image::{Image, read_image};
+pub use loading::load;
+pub use writing::write_image;

@@ -1,0 +1,141 @@
+-- What `load` answers, by its parts.
+use Rattle.std.proofs.Common.{◌≡◌, ℕ, true, List, refl, sym, ap, subst, ◌∙◌}
+use Rattle.bq_graph.specs.declared.cause.Cause.{Cause as Reason}
+use Rattle.bq_insn.specs.declared.Insn.{Insn}
+use Rattle.bq_insn.specs.declared.fault.Cause.TheVariants.{Length, Opcode, Register, Field, Offset, Imm, WideCut}
+use Rattle.bq_insn.specs.declared.fault.DecodeFault.{DecodeFault}
+use Rattle.bq_insn.specs.declared.fault.DecodeFault.TheVariants as program
+use Rattle.bq_insn.specs.Spelling.{spelling, is_well_formed, slot_count, is_insn}
+use Rattle.bq_insn.specs.Slots.{spread}
+use Rattle.bq_insn.specs.Laws.{AllFit}
+use Rattle.bq_insn.specs.Faults.{IsFault as IsProgramFault}
+use Rattle.bq_insn.proofs.FormLemmas.{both}
+use Rattle.bq_insn.proofs.UniqueLemmas as insn
+use Rattle.bq_insn.proofs.LengthLemmas as lengths
+use Rattle.bq_maps.specs.declared.shape.MapShape.{MapShape}
+use Rattle.bq_verify.specs.Accepted.{Accepted, context_length_of}
+use Rattle.bq_verify.specs.Refusals.{IsRefusal}
+use Rattle.bq_verify.specs.Straight.{IsStraightProgram}
+use Rattle.bq_verify.specs.declared.refused.Refused.{Refused}
+use Rattle.bq_verify.specs.declared.refused.Refused.TheVariants as refused
+use Rattle.std.specs.Prelude.{◌&&◌, nat_le}
+use Rattle.std.specs.List.{list_all}
+use Rattle.bq_load.specs.declared.fault.LoadFault.{LoadFault}
+use Rattle.bq_load.specs.declared.fault.LoadFault.TheVariants as fault
+use Rattle.bq_load.specs.Layout.{shapes_bytes, Header, IsImage}
+use Rattle.bq_load.specs.Fields.{Front, Nothing, Marked, Versioned, Hooked, Mapped, Headed, IsBadNext}
+use Rattle.bq_load.specs.Faults.{IsFault}
+use Rattle.bq_load.specs.Headers.{with_shapes, HasParts}
+use Rattle.bq_load.specs.Answers.{HasProgram, Loads, IsUnloaded}
+use Rattle.bq_load.specs.Laws.{AreBytes}
+use Rattle.bq_load.specs.Naming.{of_program, of_refusal}
+use Rattle.bq_load.specs.Reading.{Spelled}
+use Rattle.bq_load.specs.Straight.{HasStraightProgram}
+use Rattle.bq_load.proofs.FramingLemmas.{no_memory, is_image, has_image}
+use Rattle.bq_load.proofs.HeaderLemmas.{no_decode}
+use Rattle.bq_load.proofs.LawLemmas.{no_image_is_faulty}
+use Rattle.bq_load.proofs.UniqueLemmas.{one_shapes, one_frame}
+
+no_refusal : (slot : ℕ) (cause : Reason) (front : Front) (field : List ℕ) → IsBadNext front field (fault.Refused slot cause) → ⊥
+no_refusal slot cause Nothing field h = h
+no_refusal slot cause Marked field h = h
+no_refusal slot cause (Versioned v) field h = h
+no_refusal slot cause (Hooked v k) field h = h
+no_refusal slot cause (Mapped v k n s) field h = h
+no_refusal slot cause (Headed k) field h = h
+
+-- a fault of the bytes is answered
+pub unloaded : (bytes : List ℕ) (f : LoadFault) → IsFault bytes f → IsUnloaded bytes f
+unloaded bytes fault.Magic b = b
+unloaded bytes fault.Version b = b
+unloaded bytes fault.Hook b = b
+unloaded bytes fault.Shape b = b
+unloaded bytes fault.Cut b = b
+unloaded bytes fault.Rest b = b
+unloaded bytes fault.OutOfMemory b = absurd (no_memory b.front b.field b.bad)
+unloaded bytes (fault.Refused slot cause) b = absurd (no_refusal slot cause b.front b.field b.bad)
+unloaded bytes (fault.Decode slot Length) b = b
+unloaded bytes (fault.Decode slot Opcode) b = absurd (no_decode slot Opcode b.front b.field b.bad)
+unloaded bytes (fault.Decode slot Register) b = absurd (no_decode slot Register b.front b.field b.bad)
+unloaded bytes (fault.Decode slot Field) b = absurd (no_decode slot Field b.front b.field b.bad)
+unloaded bytes (fault.Decode slot Offset) b = absurd (no_decode slot Offset b.front b.field b.bad)
+unloaded bytes (fault.Decode slot Imm) b = absurd (no_decode slot Imm b.front b.field b.bad)
+unloaded bytes (fault.Decode slot WideCut) b = absurd (no_decode slot WideCut b.front b.field b.bad)
+
+-- so is one of the program
+pub unloaded_program : (bytes : List ℕ) (s : Spelled) (code : List ℕ) (f : DecodeFault) → HasParts bytes s code → IsProgramFault code f → IsUnloaded bytes (of_program f)
+unloaded_program bytes s code program.OutOfMemory parts b = has_image bytes s code parts
+unloaded_program bytes s code (program.At slot cause) parts b = record {
+  header = with_shapes s parts.frames.shapes;
+  program = code;
+  framed = parts.frames.framed;
+  faulty = b;
+}
+
+-- the instructions that were decoded are those of the image
+pub has_program : (bytes : List ℕ) (s : Spelled) (code : List ℕ) (insns : List Insn) → HasParts bytes s code → code ≡ spelling insns → is_well_formed insns ≡ true → AllFit insns → HasProgram bytes insns
+has_program bytes s code insns parts is well_formed numbers = record {
+  version = s.version;
+  hook = s.hook;
+  shapes = parts.frames.shapes;
+  image = subst (λ (p : List ℕ). IsImage bytes s.version s.hook parts.frames.shapes p) is (is_image bytes s code parts.frames.shapes parts parts.frames.shapes_are);
+  well_formed = well_formed;
+  numbers = numbers;
+}
+
+-- and a refusal of the verifier
+pub unloaded_refusal : (bytes : List ℕ) (s : Spelled) (code : List ℕ) (insns : List Insn) (r : Refused) → HasParts bytes s code → HasProgram bytes insns → IsRefusal (spread insns) r → IsUnloaded bytes (of_refusal r)
+unloaded_refusal bytes s code insns refused.OutOfMemory parts p b = has_image bytes s code parts
+unloaded_refusal bytes s code insns (refused.At slot cause) parts p b = record { insns = insns; program = p; refused = b }
+
+-- what was accepted is loaded
+pub loaded : (bytes : List ℕ) (s : Spelled) (code : List ℕ) (insns : List Insn) (shapes : List MapShape) (v : Accepted) → HasParts bytes s code → code ≡ spelling insns → is_well_formed insns ≡ true → AllFit insns
+    → s.shapes ≡ shapes_bytes shapes → v.slots ≡ spread insns → v.shapes ≡ shapes → v.hook ≡ s.hook → v.version ≡ s.version → Loads bytes v
+loaded bytes s code insns shapes v parts is well_formed numbers shapes-are slots same_shapes same_hook same_version = record {
+  insns = insns;
+  image = rw (same_shapes, same_hook, same_version) (subst (λ (p : List ℕ). IsImage bytes s.version s.hook shapes p) is (is_image bytes s code shapes parts shapes-are));
+  well_formed = well_formed;
+  numbers = numbers;
+  slots = slots;
+}
+
+-- ---- straight programs
+
+pub straight_bytes : (bytes : List ℕ) (f : LoadFault) → AreBytes bytes → HasStraightProgram bytes → IsFault bytes f → ⊥
+straight_bytes bytes f fits st b = no_image_is_faulty bytes st.version st.hook st.shapes (spelling st.insns) f fits st.image b
+
+-- the parts are those of the straight image
+record IsOf (bytes : List ℕ) (s : Spelled) (code : List ℕ) (st : HasStraightProgram bytes) : Type 0 where
+  code_is : code ≡ spelling st.insns
+  version : s.version ≡ st.version
+  hook : s.hook ≡ st.hook
+  shapes : s.shapes ≡ shapes_bytes st.shapes
+
+is_of : (bytes : List ℕ) (s : Spelled) (code : List ℕ) (st : HasStraightProgram bytes) → HasParts bytes s code → IsOf bytes s code st
+is_of bytes s code st parts =
+    let header : Header = record { version = st.version; hook = st.hook; shapes = st.shapes; slots = st.image.slots } in
+    let same = one_frame bytes (with_shapes s parts.frames.shapes) header code (spelling st.insns) parts.frames.framed st.image.framed in
+    record {
+      code_is = same.1;
+      version = ap (λ (h : Header). h.version) same.0;
+      hook = ap (λ (h : Header). h.hook) same.0;
+      shapes = parts.frames.shapes_are ∙ ap (λ (h : Header). shapes_bytes h.shapes) same.0;
+    }
+
+pub straight_code : (bytes : List ℕ) (s : Spelled) (code : List ℕ) (f : DecodeFault) → HasParts bytes s code → HasStraightProgram bytes → IsProgramFault code f → of_program f ≡ fault.OutOfMemory
+straight_code bytes s code program.OutOfMemory parts st b = refl
+straight_code bytes s code (program.At slot cause) parts st b =
+    let of = is_of bytes s code st parts in
+    absurd (lengths.no_program_is_refused st.insns slot cause st.well_formed st.numbers (subst (λ (x : List ℕ). IsProgramFault x (program.At slot cause)) of.code_is b))
+
+all_insns : (insns : List Insn) → is_well_formed insns ≡ true → list_all is_insn insns ≡ true
+all_insns insns h = (both (list_all is_insn insns) (nat_le 1 (slot_count insns) && nat_le (slot_count insns) 4096) h).0
+
+pub straight_program : (bytes : List ℕ) (s : Spelled) (code : List ℕ) (insns : List Insn) (shapes : List MapShape) → HasParts bytes s code → HasStraightProgram bytes
+    → code ≡ spelling insns → is_well_formed insns ≡ true → AllFit insns → s.shapes ≡ shapes_bytes shapes → IsStraightProgram (spread insns) shapes (context_length_of s.hook s.version)
+straight_program bytes s code insns shapes parts st is well_formed numbers shapes-are =
+    let of = is_of bytes s code st parts in
+    let same_insns : insns ≡ st.insns =
+    insn.one_program insns st.insns (all_insns insns well_formed) (all_insns st.insns st.well_formed) numbers st.numbers (sym is ∙ of.code_is) in
+    let same_shapes : shapes ≡ st.shapes = one_shapes shapes st.shapes (sym shapes-are ∙ of.shapes) in
+    rw (same_insns, same_shapes, of.hook, of.version) st.straight

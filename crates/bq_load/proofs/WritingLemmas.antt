@@ -1,0 +1,35 @@
+-- What is written for an image is that image.
+use Rattle.std.proofs.Common.{◌≡◌, ℕ, ◌*◌, ◌/◌, ◌%◌, ◌≤◌, true, length, arith}
+use Rattle.std.specs.Prelude.{◌==◌, ◌&&◌, nat_le}
+use Rattle.std.proofs.lemmas.Bool.Decides.{nat_tests}
+use Rattle.bq_insn.specs.Faults.{is_length}
+use Rattle.bq_load.specs.declared.image.Image.{Image}
+use Rattle.bq_load.specs.Answers.{Spells}
+use Rattle.bq_load.specs.Layout.{Header}
+use Rattle.bq_load.specs.Writing.{written}
+use Rattle.bq_load.proofs.HeaderLemmas.{regroup_header}
+
+eights : (n : ℕ) → ((n % 8 == 0) && (nat_le 1 n && nat_le n 32768)) ≡ true → n ≡ 8 * (n / 8)
+eights n h = grind (arith, nat_tests)
+
+at_least_one : (n : ℕ) → ((n % 8 == 0) && (nat_le 1 n && nat_le n 32768)) ≡ true → 1 ≤ n / 8
+at_least_one n h = grind (arith, nat_tests)
+
+at_most : (n : ℕ) → ((n % 8 == 0) && (nat_le 1 n && nat_le n 32768)) ≡ true → n / 8 ≤ 4096
+at_most n h = grind (arith, nat_tests)
+
+pub is_written : (image : Image) → length image.shapes.items ≤ 8 → is_length image.program.items ≡ true → Spells (written image) image
+is_written image few whole =
+    let slots = length image.program.items / 8 in
+    let header : Header = record { version = image.version; hook = image.hook; shapes = image.shapes.items; slots = slots } in
+    let most : slots ≤ 4096 = at_most (length image.program.items) whole in
+    record {
+      slots = slots;
+      some = at_least_one (length image.program.items) whole;
+      most = most;
+      framed = record {
+        header = record { few = few; slots = omega arith };
+        whole = eights (length image.program.items) whole;
+        bytes_are = regroup_header header image.program.items;
+      };
+    }

@@ -1,0 +1,11 @@
+-- The bytes that are written for an image.
+use Rattle.std.specs.Prelude.{ℕ, ◌/◌, List, ◌++◌, length}
+use Rattle.std.specs.Int.{w32, to_le_bytes}
+use Rattle.bq_load.specs.declared.image.Image.{Image}
+use Rattle.bq_load.specs.Layout.{opening, shapes_bytes}
+
+-- part after part
+abbrev pub written : Image → List ℕ
+written image =
+    opening image.version image.hook (length image.shapes.items)
+    ++ (shapes_bytes image.shapes.items ++ (to_le_bytes w32 (length image.program.items / 8) ++ image.program.items))

@@ -1,0 +1,40 @@
+//! From an image to a program that may run.
+ghost use Rattle.std.specs.Prelude.{◌≡◌, IfOk, IfErr};
+ghost use Rattle.bq_graph.specs.Faults.{IsFaultless};
+ghost use Rattle.bq_graph.specs.Paths.{IsGreatest, PathOut};
+ghost use Rattle.bq_load.specs.Answers.{Loads, IsUnloaded};
+ghost use Rattle.bq_load.specs.Straight.{HasStraightProgram};
+ghost use Rattle.bq_load.specs.declared.fault.LoadFault.TheVariants.{OutOfMemory};
+
+use crate::fault::LoadFault;
+use crate::framing::{parts, shapes_in};
+use bq_insn::decode::decode;
+use bq_verify::{Program, Verified, verify};
+use std::alloc::Global;
+
+/// The program of an image, if it is shown to be safe.
+///
+/// Else, in this order: the first fault of the bytes from left to right, the first fault of the program (its length, or
+/// the least slot and there the least cause), or what the verifier refuses. Faults of the bytes are decided before any
+/// memory is asked for; after that `OutOfMemory` may be answered in place of any other fault.
+pub fn load(alloc: Global, bytes: &[u8]) -> Result<Verified, LoadFault>
+    ensures loaded { IfOk result (Loads bytes.now) }
+    ensures faultless { IfOk result (λ v. IsFaultless v.slots) }
+    ensures budget { IfOk result (λ v. IsGreatest (PathOut v.slots 0) v.budget) }
+    ensures unloaded { IfErr result (IsUnloaded bytes.now) }
+    ensures accepts { HasStraightProgram bytes.now → IfErr result (λ e. e ≡ OutOfMemory) }
+{
+    let (header, program) = parts(bytes)?;
+    let insns = decode(alloc, program)?;
+    let shapes = shapes_in(alloc, header.shapes)?;
+    let verified = verify(
+        alloc,
+        Program {
+            insns,
+            shapes,
+            hook: header.hook,
+            version: header.version,
+        },
+    )?;
+    Ok(verified)
+}

@@ -1,0 +1,104 @@
+//! From images to bytes.
+ghost use Rattle.std.specs.Prelude.{◌≡◌, ◌≤◌, ◌<◌, ◌^◌, ◌*◌, ◌++◌, length, true, OnOk, OnErr};
+ghost use Rattle.std.specs.Int.{w32, to_le_bytes};
+ghost use Rattle.bq_insn.specs.Appending.{StartsWith};
+ghost use Rattle.bq_insn.specs.Faults.{is_length};
+ghost use Rattle.bq_load.specs.Answers.{AppendsImage};
+ghost use Rattle.bq_load.specs.Layout.{version_byte, hook_byte, shape_bytes, shapes_bytes, opening};
+ghost use Rattle.bq_load.specs.Writing.{written};
+
+use crate::image::Image;
+use bq_maps::shape::MapShape;
+use bq_verify::{Hook, Version};
+use byteorder::{ByteOrder, LittleEndian};
+use std::alloc::AllocError;
+
+/// Appends the bytes of an image of at most 8 maps and 1 to 4096 whole slots. Where memory is refused, nothing is
+/// appended.
+pub fn write_image(image: &Image, out: &mut Vec<u8>) -> Result<(), AllocError>
+    requires few { length image.now.shapes.items ≤ 8 }
+    requires whole { is_length image.now.program.items ≡ true }
+    ensures ok { OnOk result (AppendsImage out.old.items out.new.items image.now) }
+    ensures err { OnErr result (out.new.items ≡ out.old.items) }
+{
+    let start = out.len();
+    if let Err(error) = append(image, out) {
+        out.truncate(start);
+        return Err(error);
+    }
+    Ok(())
+}
+
+/// The same. Where memory is refused, a part of the bytes may stand there.
+fn append(image: &Image, out: &mut Vec<u8>) -> Result<(), AllocError>
+    requires few { length image.now.shapes.items ≤ 8 }
+    requires whole { is_length image.now.program.items ≡ true }
+    ensures ok { OnOk result (out.new.items ≡ out.old.items ++ written image.now) }
+    ensures err { OnErr result (StartsWith out.old.items out.new.items) }
+{
+    let count = image.shapes.len() as u16;
+    out.extend_from_slice(&opening(image.version, image.hook, count))?;
+    append_shapes(image.shapes.as_slice(), out)?;
+    let slots = (image.program.len() / 8) as u32;
+    out.extend_from_slice(&slots.to_le_bytes())?;
+    out.extend_from_slice(image.program.as_slice())?;
+    Ok(())
+}
+
+/// Appends the bytes of the shapes. Where memory is refused, a part of them may stand there.
+fn append_shapes(shapes: &[MapShape], out: &mut Vec<u8>) -> Result<(), AllocError>
+    ensures ok { OnOk result (out.new.items ≡ out.old.items ++ shapes_bytes shapes.now) }
+    ensures err { OnErr result (StartsWith out.old.items out.new.items) }
+{
+    for shape in shapes {
+        out.extend_from_slice(&bytes_of(*shape))?;
+    }
+    Ok(())
+}
+
+/// What stands before the shapes.
+fn opening(version: Version, hook: Hook, count: u16) -> [u8; 8]
+    ensures { result ≡ opening version hook count }
+{
+    let mut bytes = [
+        b'B',
+        b'Q',
+        b'P',
+        b'I',
+        version_byte(version),
+        hook_byte(hook),
+        0,
+        0,
+    ];
+    LittleEndian::write_u16(&mut bytes[6..], count);
+    bytes
+}
+
+fn version_byte(version: Version) -> u8
+    ensures { result ≡ version_byte version }
+{
+    match version {
+        Version::First => 1,
+        Version::Second => 2,
+    }
+}
+
+fn hook_byte(hook: Hook) -> u8
+    ensures { result ≡ hook_byte hook }
+{
+    match hook {
+        Hook::Place => 0,
+        Hook::Preempt => 1,
+        Hook::Pull => 2,
+    }
+}
+
+/// The bytes of a shape.
+fn bytes_of(shape: MapShape) -> [u8; 4]
+    ensures { result ≡ shape_bytes shape }
+{
+    let mut bytes = [0, 0, 0, 0];
+    LittleEndian::write_u16(&mut bytes[0..], shape.value_size);
+    LittleEndian::write_u16(&mut bytes[2..], shape.entries);
+    bytes
+}
