@@ -1,10 +1,12 @@
 //! Run queues under drawn commands: the queue on the tree is given the same commands as the plain list, and must answer
-//! alike. All of it is for the tests; the library itself is empty.
+//! alike. And what policies are shown of such queues. All of it is for the tests; the library itself is empty.
 #![tactic(auto)]
 
 #[cfg(test)]
 mod answer;
 #[cfg(test)]
 mod command;
+#[cfg(test)]
+mod contexts;
 #[cfg(test)]
 mod tests;
