@@ -6,8 +6,8 @@
 mod fields;
 pub mod laws;
 pub mod loads;
+pub mod own_choice;
 pub mod place;
-pub mod placing;
 pub mod preempt;
 pub mod pull;
 pub mod settled;
@@ -15,8 +15,8 @@ pub mod settled;
 mod tests;
 
 pub use loads::Loads;
+pub use own_choice::own_place;
 pub use place::{Place, place_ctx, wide_place_ctx};
-pub use placing::own_place;
 pub use preempt::{Preempt, preempt_ctx};
 pub use pull::{Pull, pull_ctx};
 pub use settled::{By, Choice, settle_place, settle_preempt, settle_pull};

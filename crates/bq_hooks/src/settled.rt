@@ -24,7 +24,9 @@ pub enum By {
 /// A choice, and who made it.
 #[derive(Clone, Copy, Debug, PartialEq, Eq)]
 pub struct Choice<T> {
+    /// What was chosen.
     pub value: T,
+    /// Who chose it.
     pub by: By,
 }
 

@@ -1,7 +1,7 @@
 use Rattle.std.proofs.Common.{◌≡◌, Some, None, sym, ◌∙◌}
 use Rattle.bq_hooks.specs.OwnPlace.{own_place}
 use Rattle.bq_hooks.proofs.Places.{own_place_there, own_place_below}
-use Rattle.bq_hooks.proofs.placing.own_place.Goals as goal
+use Rattle.bq_hooks.proofs.own_choice.own_place.Goals as goal
 
 pub unreachable-requires : goal.unreachable-requires
 unreachable-requires c =
