@@ -184,7 +184,7 @@ cut_at (Headed h) part good short = header_again h part good
 
 -- ---- the first fault of bytes is what reading them gives
 
-frame_short : (h : Header) (rest : List ℕ) → IsHeader h → length rest < 8 * h.slots → frame_at (header_bytes h ++ rest) ≡ Err fault.Cut
+pub frame_short : (h : Header) (rest : List ℕ) → IsHeader h → length rest < 8 * h.slots → frame_at (header_bytes h ++ rest) ≡ Err fault.Cut
 unfolding frame_at
 frame_short h rest good short =
     ap (λ (r : Result (Spelled × List ℕ) LoadFault). r >>= ended) (header_again h rest good) ∙ rw (lt-ltb _ _ short) refl

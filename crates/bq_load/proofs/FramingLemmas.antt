@@ -95,6 +95,9 @@ unread bytes (fault.Refused slot cause) b = b
 no_length : (n : ℕ) → (n ≡ 0) ⊎ (4096 < n) → ((8 * n % 8 == 0) && (nat_le 1 (8 * n) && nat_le (8 * n) 32768)) ≡ false
 no_length n h = grind (arith, nat_tests)
 
+pub bad_length_of : (n slots : ℕ) → n ≡ 8 * slots → 4096 < slots → ((n % 8 == 0) && (nat_le 1 n && nat_le n 32768)) ≡ false
+bad_length_of n slots whole over = subst (λ (m : ℕ). ((m % 8 == 0) && (nat_le 1 m && nat_le m 32768)) ≡ false) (sym whole) (no_length slots (inr over))
+
 pub bad_length : (bytes : List ℕ) (s : Spelled) (program : List ℕ) → Frames bytes s program → (s.slots ≡ 0) ⊎ (4096 < s.slots) → HasFaultyProgram bytes 0 Length
 bad_length bytes s program frames out = record {
   header = with_shapes s frames.shapes;

@@ -190,7 +190,7 @@ header_ok bytes x fits e =
 
 -- ---- which fault that is
 
-no_cut : (front : Front) (field : List ℕ) → IsBadNext front field fault.Cut → ⊥
+pub no_cut : (front : Front) (field : List ℕ) → IsBadNext front field fault.Cut → ⊥
 no_cut Nothing field h = h
 no_cut Marked field h = h
 no_cut (Versioned v) field h = h
@@ -198,7 +198,7 @@ no_cut (Hooked v k) field h = h
 no_cut (Mapped v k n s) field h = h
 no_cut (Headed k) field h = h
 
-no_rest : (front : Front) (field : List ℕ) → IsBadNext front field fault.Rest → ⊥
+pub no_rest : (front : Front) (field : List ℕ) → IsBadNext front field fault.Rest → ⊥
 no_rest Nothing field h = h
 no_rest Marked field h = h
 no_rest (Versioned v) field h = h

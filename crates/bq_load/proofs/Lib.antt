@@ -9,3 +9,5 @@ pub mod FaultLemmas
 pub mod LawLemmas
 pub mod LoadLemmas
 pub mod WritingLemmas
+pub mod JudgingLemmas
+pub mod ReaderLemmas

@@ -36,7 +36,7 @@ use Rattle.bq_load.proofs.HeaderLemmas.{no_decode}
 use Rattle.bq_load.proofs.LawLemmas.{no_image_is_faulty}
 use Rattle.bq_load.proofs.UniqueLemmas.{one_shapes, one_frame}
 
-no_refusal : (slot : ℕ) (cause : Reason) (front : Front) (field : List ℕ) → IsBadNext front field (fault.Refused slot cause) → ⊥
+pub no_refusal : (slot : ℕ) (cause : Reason) (front : Front) (field : List ℕ) → IsBadNext front field (fault.Refused slot cause) → ⊥
 no_refusal slot cause Nothing field h = h
 no_refusal slot cause Marked field h = h
 no_refusal slot cause (Versioned v) field h = h

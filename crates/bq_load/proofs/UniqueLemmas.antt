@@ -49,7 +49,7 @@ one_shapes (s ∷ ss) (t ∷ ts) e =
     ap (λ (x : MapShape). x ∷ ss) first ∙ ap (λ (x : List MapShape). t ∷ x) (one_shapes ss ts rest)
 
 -- a header is told by what is spelled
-one_spelled : (h k : Header) → spelled h ≡ spelled k → h ≡ k
+pub one_spelled : (h k : Header) → spelled h ≡ spelled k → h ≡ k
 one_spelled h k e =
     let version : h.version ≡ k.version = ap (λ (s : Spelled). s.version) e in
     let hook : h.hook ≡ k.hook = ap (λ (s : Spelled). s.hook) e in

@@ -8,3 +8,4 @@ pub mod Naming
 pub mod Straight
 pub mod Laws
 pub mod Writing
+pub mod Feeding

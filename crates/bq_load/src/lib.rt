@@ -8,12 +8,15 @@ pub mod fault;
 mod framing;
 mod header;
 pub mod image;
+mod judging;
 pub mod laws;
 pub mod loading;
+pub mod reader;
 pub mod writing;
 
 pub use bq_verify::{Hook, Version};
 pub use fault::LoadFault;
 pub use image::{Image, read_image};
 pub use loading::load;
+pub use reader::ImageReader;
 pub use writing::write_image;

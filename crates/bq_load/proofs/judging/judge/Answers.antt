@@ -1,0 +1,159 @@
+use Rattle.std.proofs.Common.{◌≡◌, ◌∙◌, ◌*◌, ◌<◌, ◌≤◌, ◌++◌, length, take, ap, sym, Ok, Err, arith, length-append}
+use Rattle.std.proofs.lemmas.List.{length-take}
+use Rattle.bq_load.specs.declared.fault.LoadFault.TheVariants as fault
+use Rattle.bq_load.specs.Headers.{spelled_of}
+use Rattle.bq_load.specs.Laws.{AreBytes}
+use Rattle.bq_load.specs.Reading.{header_at}
+use Rattle.bq_load.proofs.FieldLemmas.{AreBytes-fit}
+use Rattle.bq_load.proofs.JudgingLemmas.{first_bytes, refused_final, refused_stays, cut_stands, cut_bounded, cut_going, begins, joined_to, length-front, length-tail, past_fails, within_going, counted_stands, kept_stands, not_over}
+use Rattle.bq_load.proofs.judging.judge.Goals as goal
+
+pub returns-in-Cut-clause-bounded : goal.returns-in-Cut-clause-bounded
+returns-in-Cut-clause-bounded c = λ few.
+    let held = c.args.held.now in
+    let piece = c.args.piece.now in
+    let fits : AreBytes (take 44 (held ++ piece)) = first_bytes held piece (AreBytes-fit held c.type_inv.held) (AreBytes-fit piece c.type_inv.piece) in
+    let read : header_at (take 44 (held ++ piece)) ≡ Err fault.Cut = ap header_at (sym (c.as_slice.ensures.value ∙ c.front_of-front.ensures)) ∙ c.in-Err.ensures ∙ ap (λ f. Err f) c.in-Cut.is in
+    omega (arith, cut_bounded held piece fits read)
+
+pub returns-in-Cut-clause-stands : goal.returns-in-Cut-clause-stands
+returns-in-Cut-clause-stands c = λ bytes h.
+    let held = c.args.held.now in
+    let piece = c.args.piece.now in
+    let read : header_at (take 44 (held ++ piece)) ≡ Err fault.Cut = ap header_at (sym (c.as_slice.ensures.value ∙ c.front_of-front.ensures)) ∙ c.in-Err.ensures ∙ ap (λ f. Err f) c.in-Cut.is in
+    cut_stands held piece bytes c.args.past read h
+
+pub returns-in-Cut-clause-going : goal.returns-in-Cut-clause-going
+returns-in-Cut-clause-going c = λ bytes f h whole failed.
+    let held = c.args.held.now in
+    let piece = c.args.piece.now in
+    let fits : AreBytes (take 44 (held ++ piece)) = first_bytes held piece (AreBytes-fit held c.type_inv.held) (AreBytes-fit piece c.type_inv.piece) in
+    let read : header_at (take 44 (held ++ piece)) ≡ Err fault.Cut = ap header_at (sym (c.as_slice.ensures.value ∙ c.front_of-front.ensures)) ∙ c.in-Err.ensures ∙ ap (λ f. Err f) c.in-Cut.is in
+    cut_going held piece bytes c.args.past f fits read h whole failed
+
+pub returns-in_default : goal.returns-in_default
+returns-in_default c =
+    let held = c.args.held.now in
+    let piece = c.args.piece.now in
+    let fits : AreBytes (take 44 (held ++ piece)) = first_bytes held piece (AreBytes-fit held c.type_inv.held) (AreBytes-fit piece c.type_inv.piece) in
+    let read : header_at (take 44 (held ++ piece)) ≡ Err c.in-Err.fault = ap header_at (sym (c.as_slice.ensures.value ∙ c.front_of-front.ensures)) ∙ c.in-Err.ensures in
+    record {
+      within = tt;
+      counts = tt;
+      bounded = tt;
+      stands = tt;
+      going = tt;
+      stays = refused_final held piece c.in-Err.fault fits c.in_default.not-Cut read;
+      failed = λ bytes h. refused_stays held piece bytes c.args.past c.in-Err.fault fits c.in_default.not-Cut read h;
+    }
+
+pub overflow_sub-begin : goal.overflow_sub-begin
+overflow_sub-begin c =
+    let held = c.args.held.now in
+    let piece = c.args.piece.now in
+    let fits : AreBytes (take 44 (held ++ piece)) = first_bytes held piece (AreBytes-fit held c.type_inv.held) (AreBytes-fit piece c.type_inv.piece) in
+    let read : header_at (take 44 (held ++ piece)) ≡ Ok (spelled_of c.in-Ok.read.0, c.in-Ok.read.1.now) = ap header_at (sym (c.as_slice.ensures.value ∙ c.front_of-front.ensures)) ∙ c.in-Ok.ensures in
+    let long = begins held piece (spelled_of c.in-Ok.read.0) c.in-Ok.read.1.now fits read in
+    omega (arith, long.rest, c.len.ensures.value, ap length c.front_of-front.ensures)
+
+pub returns-then-length-begin-clause-failed : goal.returns-then-length-begin-clause-failed
+returns-then-length-begin-clause-failed c = λ bytes h.
+    let held = c.args.held.now in
+    let piece = c.args.piece.now in
+    let s = spelled_of c.in-Ok.read.0 in
+    let fits : AreBytes (take 44 (held ++ piece)) = first_bytes held piece (AreBytes-fit held c.type_inv.held) (AreBytes-fit piece c.type_inv.piece) in
+    let read : header_at (take 44 (held ++ piece)) ≡ Ok (s, c.in-Ok.read.1.now) = ap header_at (sym (c.as_slice.ensures.value ∙ c.front_of-front.ensures)) ∙ c.in-Ok.ensures in
+    let j = joined_to held piece bytes c.args.past s c.in-Ok.read.1.now fits read h in
+    let more : 8 * j.header.slots < length j.tail =
+    omega (
+      arith,
+      c.if-length-begin.true,
+      c.saturating_add.ensures,
+      c.saturating_add-length.ensures,
+      c.len.ensures.value,
+      ap length c.front_of-front.ensures,
+      length-front (take 44 (held ++ piece)) held piece bytes c.args.past s c.in-Ok.read.1.now j,
+      length-tail (take 44 (held ++ piece)) held piece bytes c.args.past s c.in-Ok.read.1.now j h,
+      j.slots_are,
+    ) in
+    past_fails (bytes ++ piece) j.header j.tail j.good j.bytes_are more
+
+pub returns-then-header-gt4096-clause-within : goal.returns-then-header-gt4096-clause-within
+returns-then-header-gt4096-clause-within c =
+    let held = c.args.held.now in
+    let piece = c.args.piece.now in
+    omega (arith, c.saturating_sub.ensures, c.len.ensures.value, ap length c.front_of-front.ensures, length-take 44 (held ++ piece), length-append held piece)
+
+pub returns-then-header-gt4096-clause-stands : goal.returns-then-header-gt4096-clause-stands
+returns-then-header-gt4096-clause-stands c = λ bytes h.
+    let held = c.args.held.now in
+    let piece = c.args.piece.now in
+    let s = spelled_of c.in-Ok.read.0 in
+    let fits : AreBytes (take 44 (held ++ piece)) = first_bytes held piece (AreBytes-fit held c.type_inv.held) (AreBytes-fit piece c.type_inv.piece) in
+    let read : header_at (take 44 (held ++ piece)) ≡ Ok (s, c.in-Ok.read.1.now) = ap header_at (sym (c.as_slice.ensures.value ∙ c.front_of-front.ensures)) ∙ c.in-Ok.ensures in
+    let j = joined_to held piece bytes c.args.past s c.in-Ok.read.1.now fits read h in
+    counted_stands (take 44 (held ++ piece)) held piece bytes c.args.past s c.in-Ok.read.1.now c.saturating_sub.result j c.if-header-gt4096.true
+    (omega (
+      arith,
+      c.saturating_sub.ensures,
+      c.len.ensures.value,
+      ap length c.front_of-front.ensures,
+      length-front (take 44 (held ++ piece)) held piece bytes c.args.past s c.in-Ok.read.1.now j,
+    ))
+    h
+
+pub returns-then-header-gt4096-clause-going : goal.returns-then-header-gt4096-clause-going
+returns-then-header-gt4096-clause-going c = λ bytes f h whole failed.
+    let held = c.args.held.now in
+    let piece = c.args.piece.now in
+    let s = spelled_of c.in-Ok.read.0 in
+    let fits : AreBytes (take 44 (held ++ piece)) = first_bytes held piece (AreBytes-fit held c.type_inv.held) (AreBytes-fit piece c.type_inv.piece) in
+    let read : header_at (take 44 (held ++ piece)) ≡ Ok (s, c.in-Ok.read.1.now) = ap header_at (sym (c.as_slice.ensures.value ∙ c.front_of-front.ensures)) ∙ c.in-Ok.ensures in
+    let j = joined_to held piece bytes c.args.past s c.in-Ok.read.1.now fits read h in
+    let within : length j.tail ≤ 8 * j.header.slots =
+    omega (
+      arith,
+      c.if-length-begin.false,
+      c.saturating_add.ensures,
+      c.saturating_add-length.ensures,
+      c.len.ensures.value,
+      ap length c.front_of-front.ensures,
+      length-front (take 44 (held ++ piece)) held piece bytes c.args.past s c.in-Ok.read.1.now j,
+      length-tail (take 44 (held ++ piece)) held piece bytes c.args.past s c.in-Ok.read.1.now j h,
+      j.slots_are,
+      j.good.slots,
+    ) in
+    within_going (bytes ++ piece) j.header j.tail f j.good j.bytes_are within whole failed
+
+pub returns-clause-stands : goal.returns-clause-stands
+returns-clause-stands c = λ bytes h.
+    let held = c.args.held.now in
+    let piece = c.args.piece.now in
+    let s = spelled_of c.in-Ok.read.0 in
+    let fits : AreBytes (take 44 (held ++ piece)) = first_bytes held piece (AreBytes-fit held c.type_inv.held) (AreBytes-fit piece c.type_inv.piece) in
+    let read : header_at (take 44 (held ++ piece)) ≡ Ok (s, c.in-Ok.read.1.now) = ap header_at (sym (c.as_slice.ensures.value ∙ c.front_of-front.ensures)) ∙ c.in-Ok.ensures in
+    let j = joined_to held piece bytes c.args.past s c.in-Ok.read.1.now fits read h in
+    kept_stands held piece bytes c.args.past (not_over (take 44 (held ++ piece)) held piece bytes c.args.past s c.in-Ok.read.1.now j c.if-header-gt4096.false) h
+
+pub returns-clause-going : goal.returns-clause-going
+returns-clause-going c = λ bytes f h whole failed.
+    let held = c.args.held.now in
+    let piece = c.args.piece.now in
+    let s = spelled_of c.in-Ok.read.0 in
+    let fits : AreBytes (take 44 (held ++ piece)) = first_bytes held piece (AreBytes-fit held c.type_inv.held) (AreBytes-fit piece c.type_inv.piece) in
+    let read : header_at (take 44 (held ++ piece)) ≡ Ok (s, c.in-Ok.read.1.now) = ap header_at (sym (c.as_slice.ensures.value ∙ c.front_of-front.ensures)) ∙ c.in-Ok.ensures in
+    let j = joined_to held piece bytes c.args.past s c.in-Ok.read.1.now fits read h in
+    let within : length j.tail ≤ 8 * j.header.slots =
+    omega (
+      arith,
+      c.if-length-begin.false,
+      c.saturating_add.ensures,
+      c.saturating_add-length.ensures,
+      c.len.ensures.value,
+      ap length c.front_of-front.ensures,
+      length-front (take 44 (held ++ piece)) held piece bytes c.args.past s c.in-Ok.read.1.now j,
+      length-tail (take 44 (held ++ piece)) held piece bytes c.args.past s c.in-Ok.read.1.now j h,
+      j.slots_are,
+      j.good.slots,
+    ) in
+    within_going (bytes ++ piece) j.header j.tail f j.good j.bytes_are within whole failed

@@ -1,0 +1,147 @@
+//! Images that come in pieces.
+ghost use Rattle.std.specs.Prelude.{◌≡◌, ◌≢◌, ◌<◌, ◌≤◌, ◌++◌, ℕ, List, length, OnOk, IfOk, IfErr, IfSome, IfNone, Some, None, Err};
+ghost use Rattle.bq_graph.specs.Faults.{IsFaultless};
+ghost use Rattle.bq_graph.specs.Paths.{IsGreatest, PathOut};
+ghost use Rattle.bq_load.specs.Answers.{Spells, IsUnread, Loads, IsUnloaded};
+ghost use Rattle.bq_load.specs.Faults.{IsFault};
+ghost use Rattle.bq_load.specs.Feeding.{Holds, HasFailed, StandsFor, GoesOn, unfed};
+ghost use Rattle.bq_load.specs.Laws.{AreBytes};
+ghost use Rattle.bq_load.specs.Straight.{HasStraightProgram};
+ghost use Rattle.bq_load.specs.declared.fault.LoadFault.{LoadFault as Fault};
+ghost use Rattle.bq_load.specs.declared.fault.LoadFault.TheVariants.{OutOfMemory};
+
+use crate::fault::LoadFault;
+use crate::header::read_header;
+use crate::image::{Image, read_image};
+use crate::judging::judge;
+use crate::loading::load;
+use bq_insn::fault::Cause;
+use bq_verify::Verified;
+use std::alloc::Global;
+use std::marker::Model;
+
+/// An image of which pieces have come. Contracts see the bytes that it holds, how many came after those, and the fault
+/// that it has answered; it stands for the bytes fed. It never holds more than 32,812 bytes: of a program of more than
+/// 4096 slots the bytes are counted and not kept.
+#[derive(Drop)]
+pub struct ImageReader {
+    alloc: Global,
+    bytes: Vec<u8>,
+    past: usize,
+    failed: Option<LoadFault>,
+}
+
+impl Model for ImageReader {
+    ghost use Rattle.std.specs.Prelude.{◌≤◌, length};
+    ghost use Rattle.bq_load.specs.Feeding.{Fed};
+
+    ghost Value = { Fed };
+
+    ghost view = { λ r. record { held = r.bytes.items; past = r.past; failed = r.failed } };
+
+    ghost invariant = { λ r. length r.bytes.items ≤ 32812 };
+}
+
+impl ImageReader {
+    /// A reader to which nothing has come. It takes its memory from `alloc`.
+    pub fn new(alloc: Global) -> ImageReader
+        ensures { result ≡ unfed }
+    {
+        ImageReader {
+            alloc,
+            bytes: Vec::new(alloc),
+            past: 0,
+            failed: None,
+        }
+    }
+
+    /// Takes the next piece. A bad field is answered in the call that makes it whole, and a byte past the end in the
+    /// call that brings it; every later call answers the same. These faults are decided before any memory is asked
+    /// for. After `OutOfMemory` the reader is as before the piece, which may be fed again.
+    pub fn feed(&mut self, piece: &[u8]) -> Result<(), LoadFault>
+        ensures ok { OnOk result ((self.new.failed ≡ None) × GoesOn self.old piece.now self.new) }
+        ensures failed { IfErr result (λ fault. fault ≢ OutOfMemory → (self.new.failed ≡ Some fault) × GoesOn self.old piece.now self.new) }
+        ensures exact { (bytes : List ℕ) (fault : Fault) → StandsFor self.old bytes → AreBytes (bytes ++ piece.now)
+            → HasFailed (bytes ++ piece.now) fault → result ≡ Err fault }
+        ensures sticky { (fault : Fault) → self.old.failed ≡ Some fault → (result ≡ Err fault) × (self.new ≡ self.old) }
+        ensures memory { result ≡ Err OutOfMemory → self.new ≡ self.old }
+        ensures bounded { length self.new.held ≤ 32812 }
+    {
+        if let Some(fault) = self.failed {
+            return Err(fault);
+        }
+        match judge(self.bytes.as_slice(), self.past, piece) {
+            Ok(kept) => {
+                self.bytes.extend_from_slice(&piece[..kept])?;
+                self.past += piece.len() - kept;
+                Ok(())
+            }
+            Err(fault) => {
+                self.failed = Some(fault);
+                Err(fault)
+            }
+        }
+    }
+
+    /// What `read_image` answers for the bytes fed, however they were cut.
+    pub fn finish(self) -> Result<Image, LoadFault>
+        ensures image { IfOk result (λ image. (bytes : List ℕ) → StandsFor self bytes → Spells bytes image) }
+        ensures unread { IfErr result (λ fault. (bytes : List ℕ) → StandsFor self bytes → IsUnread bytes fault) }
+    {
+        if let Some(fault) = self.known() {
+            return Err(fault);
+        }
+        read_image(self.alloc, self.bytes.as_slice())
+    }
+
+    /// What `load` answers for the bytes fed, however they were cut.
+    pub fn finish_load(self) -> Result<Verified, LoadFault>
+        ensures loaded { IfOk result (λ v. (bytes : List ℕ) → StandsFor self bytes → Loads bytes v) }
+        ensures faultless { IfOk result (λ v. IsFaultless v.slots) }
+        ensures budget { IfOk result (λ v. IsGreatest (PathOut v.slots 0) v.budget) }
+        ensures unloaded { IfErr result (λ fault. (bytes : List ℕ) → StandsFor self bytes → IsUnloaded bytes fault) }
+        ensures accepts { (bytes : List ℕ) → StandsFor self bytes → AreBytes bytes → HasStraightProgram bytes → IfErr result (λ e. e ≡ OutOfMemory) }
+    {
+        if let Some(fault) = self.known() {
+            return Err(fault);
+        }
+        load(self.alloc, self.bytes.as_slice())
+    }
+
+    /// The fault that is known of the bytes fed, where not all of them are held or one was answered.
+    fn known(&self) -> Option<LoadFault>
+        ensures fault { IfSome result (λ fault. (bytes : List ℕ) → StandsFor self.now bytes → IsFault bytes fault) }
+        ensures none { IfNone result ((bytes : List ℕ) → StandsFor self.now bytes → bytes ≡ self.now.held) }
+    {
+        if let Some(fault) = self.failed {
+            return Some(fault);
+        }
+        if self.past == 0 {
+            return None;
+        }
+        Some(fault_past(self.bytes.as_slice(), self.past))
+    }
+}
+
+/// The fault of a program that is too long, of which so many bytes were counted.
+fn fault_past(held: &[u8], past: usize) -> LoadFault
+    requires { 0 < past }
+    ensures { (bytes : List ℕ) → Holds held.now past bytes → IsFault bytes result }
+{
+    let (header, part) = match read_header(held) {
+        Ok(read) => read,
+        Err(fault) => return fault,
+    };
+    let length = part.len().saturating_add(past);
+    let wanted = 8 * header.slots as usize;
+    if length < wanted {
+        return LoadFault::Cut;
+    }
+    if length > wanted {
+        return LoadFault::Rest;
+    }
+    LoadFault::Decode {
+        slot: 0,
+        cause: Cause::Length,
+    }
+}
