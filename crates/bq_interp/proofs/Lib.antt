@@ -9,5 +9,4 @@ pub mod PackedLemmas
 pub mod OneRunLemmas
 pub mod PlaceLemmas
 pub mod PerformLemmas
-pub mod StepLemmas
-pub mod FlowLemmas
+pub mod RunningLemmas
