@@ -24,7 +24,7 @@ fn slots() -> io::Result<Vec<Slot>> {
 /// So many runs: the nanoseconds, and the sum of what they answered and how many instructions they took.
 fn runs<const FLAT: bool, const COUNT: bool>(turns: u64) -> io::Result<()> {
     let slots = slots()?;
-    let mut machine = Machine { context: [0; 56], stack: [0xa5; 512], now: 0 };
+    let mut machine = Machine::new();
     // SAFETY: the programs of `programs` end, and touch only their stack.
     let (_, steps) = unsafe { run::<FLAT, true>(slots.as_ptr(), &mut machine) };
     let mut sum = 0u64;
