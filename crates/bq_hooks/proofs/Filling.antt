@@ -1,6 +1,8 @@
 -- A list that is filled from its beginning on.
-use Rattle.std.proofs.Common.{◌≡◌, ℕ, ◌+◌, ◌≤◌, List, ◌++◌, length, take, drop, ap, sym, ◌∙◌, arith, append_assoc, length-append}
-use Rattle.std.proofs.lemmas.List.{length-take-le, take_all}
+use Rattle.std.proofs.Common.{◌≡◌, ℕ, zero, suc, ◌+◌, ◌*◌, ◌≤◌, List, ◌++◌, length, take, drop, ap, sym, subst, ◌∙◌, arith, append_assoc, length-append}
+use Rattle.std.proofs.lemmas.List.{length-take-le, take_all, append-nil}
+use Rattle.std.proofs.Math.Nat.{mul-add}
+use Rattle.std.specs.List.{flat_map, range_with_len}
 use Rattle.std.proofs.Math.Seq.{take-append_seam}
 use borrow.Rule.Slice.PartMut.{put_mid}
 
@@ -29,3 +31,30 @@ filled_whole n c bytes e l = sym (take_all n c (omega arith)) ∙ e
 -- more behind what was filled so far
 pub more : (n m : ℕ) (c c' done a b : List ℕ) → take m c' ≡ take n c ++ a → a ≡ b → take n c ≡ done → take m c' ≡ done ++ b
 more n m c c' done a b e same h = e ∙ ap (λ l. l ++ a) h ∙ ap (λ l. done ++ l) same
+
+-- one more piece at the end
+pieces-more : (f : ℕ → List ℕ) (a k : ℕ) → flat_map f (range_with_len a (k + 1)) ≡ flat_map f (range_with_len a k) ++ f (a + k)
+pieces-more f a zero = let here : a ≡ a + 0 = omega arith in append-nil (f a) ∙ ap f here
+pieces-more f a (suc k) =
+    let rest : List ℕ = flat_map f (range_with_len (a + 1) k) in
+    let there : a + 1 + k ≡ a + suc k = omega arith in
+    let longer : suc k + 1 ≡ suc (k + 1) = omega arith in
+    ap (λ n. flat_map f (range_with_len a n)) longer ∙ ap (λ l. f a ++ l) (pieces-more f (a + 1) k) ∙ sym (append_assoc (f a) rest (f (a + 1 + k)))
+    ∙ ap (λ i. f a ++ rest ++ f i) there
+
+-- one more of the equally long pieces behind a header
+pub piece_filled : (start size k : ℕ) (header : List ℕ) (piece : ℕ → List ℕ) (c c' : List ℕ) →
+    take (start + size * k) c ≡ header ++ flat_map piece (range_with_len 0 k) → take (start + size * k + size) c' ≡ take (start + size * k) c ++ piece k →
+    take (start + size * (k + 1)) c' ≡ header ++ flat_map piece (range_with_len 0 (k + 1))
+piece_filled start size k header piece c c' done e =
+    let further : start + size * (k + 1) ≡ start + size * k + size = omega (arith, mul-add size k 1) in
+    let here : k ≡ 0 + k = omega arith in
+    let pieces : List ℕ = flat_map piece (range_with_len 0 k) in
+    ap (λ n. take n c') further ∙ e ∙ ap (λ l. l ++ piece k) done ∙ append_assoc header pieces (piece k) ∙ ap (λ i. header ++ (pieces ++ piece i)) here
+    ∙ ap (λ l. header ++ l) (sym (pieces-more piece 0 k))
+
+-- once all are there
+pub pieces_filled : (start size n k : ℕ) (header : List ℕ) (piece : ℕ → List ℕ) (c : List ℕ) → k ≡ n →
+    take (start + size * k) c ≡ header ++ flat_map piece (range_with_len 0 k) → length c ≡ start + size * n → c ≡ header ++ flat_map piece (range_with_len 0 n)
+pieces_filled start size n k header piece c end done l =
+    filled_whole (start + size * n) c (header ++ flat_map piece (range_with_len 0 n)) (subst (λ m. take (start + size * m) c ≡ header ++ flat_map piece (range_with_len 0 m)) end done) l

@@ -1,10 +1,9 @@
 -- The place context, filled field by field and load by load.
-use Rattle.std.proofs.Common.{◌≡◌, ℕ, zero, suc, ◌+◌, ◌*◌, ◌^◌, List, [], ◌++◌, length, take, refl, ap, sym, subst, ◌∙◌, append_assoc, arith}
-use Rattle.std.proofs.lemmas.List.{append-nil}
+use Rattle.std.proofs.Common.{◌≡◌, ℕ, ◌+◌, ◌*◌, ◌^◌, List, [], ◌++◌, length, take, refl, ap, ◌∙◌}
 use Rattle.std.specs.Prelude.{◌%◌, min, slice_index}
 use Rattle.std.specs.List.{flat_map, range_with_len}
 use Rattle.bq_hooks.specs.Contexts.{PlaceFacts, place_header, place_bytes_below, if_shown, if_any_shown, u32_bytes, u64_bytes}
-use Rattle.bq_hooks.proofs.Filling.{more, filled_whole}
+use Rattle.bq_hooks.proofs.Filling.{more, piece_filled, pieces_filled}
 
 pub header_filled : (limit : ℕ) (f : PlaceFacts) (c0 c1 c2 c3 c4 c5 c6 c7 c8 : List ℕ) (id weight mask slice waking prev shown own : ℕ) →
     id ≡ f.task.id → take 4 c1 ≡ take 0 c0 ++ u32_bytes id →
@@ -27,35 +26,17 @@ header_filled limit f c0 c1 c2 c3 c4 c5 c6 c7 c8 id weight mask slice waking pre
     let s7 = more 32 36 c6 c7 _ _ _ h7 (ap u32_bytes e7) s6 in
     more 36 40 c7 c8 _ _ _ h8 (ap u32_bytes e8) s7
 
--- one more piece at the end
-pub pieces-more : (f : ℕ → List ℕ) (a k : ℕ) → flat_map f (range_with_len a (k + 1)) ≡ flat_map f (range_with_len a k) ++ f (a + k)
-pieces-more f a zero = let here : a ≡ a + 0 = omega arith in append-nil (f a) ∙ ap f here
-pieces-more f a (suc k) =
-    let rest : List ℕ = flat_map f (range_with_len (a + 1) k) in
-    let there : a + 1 + k ≡ a + suc k = omega arith in
-    let longer : suc k + 1 ≡ suc (k + 1) = omega arith in
-    ap (λ n. flat_map f (range_with_len a n)) longer ∙ ap (λ l. f a ++ l) (pieces-more f (a + 1) k) ∙ sym (append_assoc (f a) rest (f (a + 1 + k)))
-    ∙ ap (λ i. f a ++ rest ++ f i) there
-
 -- one more load
 pub load_filled : (limit : ℕ) (f : PlaceFacts) (p load : ℕ) (c c' : List ℕ) →
     take (40 + 4 * p) c ≡ place_header limit f ++ flat_map (λ p. u32_bytes (slice_index f.loads p)) (range_with_len 0 p) →
     load ≡ slice_index f.loads p → take (40 + 4 * p + 4) c' ≡ take (40 + 4 * p) c ++ u32_bytes load →
     take (40 + 4 * (p + 1)) c' ≡ place_header limit f ++ flat_map (λ p. u32_bytes (slice_index f.loads p)) (range_with_len 0 (p + 1))
 load_filled limit f p load c c' done e h =
-    let piece : ℕ → List ℕ = λ p. u32_bytes (slice_index f.loads p) in
-    let header : List ℕ = place_header limit f in
-    let loads : List ℕ = flat_map piece (range_with_len 0 p) in
-    let further : 40 + 4 * (p + 1) ≡ 40 + 4 * p + 4 = omega arith in
-    let here : p ≡ 0 + p = omega arith in
-    ap (λ n. take n c') further ∙ h ∙ ap (λ l. l ++ u32_bytes load) done ∙ ap (λ n. header ++ loads ++ u32_bytes n) e ∙ append_assoc header loads (piece p)
-    ∙ ap (λ i. header ++ (loads ++ piece i)) here ∙ ap (λ l. header ++ l) (sym (pieces-more piece 0 p))
+    piece_filled 40 4 p (place_header limit f) (λ p. u32_bytes (slice_index f.loads p)) c c' done (h ∙ ap (λ n. take (40 + 4 * p) c ++ u32_bytes n) e)
 
 -- once all are there
 pub place_filled : (limit p : ℕ) (f : PlaceFacts) (c : List ℕ) → p ≡ limit →
     take (40 + 4 * p) c ≡ place_header limit f ++ flat_map (λ p. u32_bytes (slice_index f.loads p)) (range_with_len 0 p) →
     length c ≡ 40 + 4 * limit → c ≡ place_bytes_below limit f
 unfolding place_bytes_below
-place_filled limit p f c end done l =
-    filled_whole (40 + 4 * limit) c (place_bytes_below limit f)
-    (subst (λ n. take (40 + 4 * n) c ≡ place_header limit f ++ flat_map (λ p. u32_bytes (slice_index f.loads p)) (range_with_len 0 n)) end done) l
+place_filled limit p f c = pieces_filled 40 4 limit p (place_header limit f) (λ p. u32_bytes (slice_index f.loads p)) c

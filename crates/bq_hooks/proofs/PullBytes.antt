@@ -1,11 +1,10 @@
 -- The pull context, filled field by field and task by task.
-use Rattle.std.proofs.Common.{◌≡◌, ℕ, ◌+◌, ◌*◌, List, [], ◌++◌, length, take, min, Option, refl, ap, sym, subst, ◌∙◌, append_assoc, arith}
+use Rattle.std.proofs.Common.{◌≡◌, ℕ, ◌+◌, ◌*◌, List, [], ◌++◌, length, take, min, Option, refl, ap, ◌∙◌}
 use Rattle.std.specs.Prelude.{slice_get}
 use Rattle.std.specs.List.{flat_map, range_with_len}
 use Rattle.bq_disc.specs.Tasks.{Task}
 use Rattle.bq_hooks.specs.Contexts.{PullFacts, pull_header, pull_bytes, task_bytes, u32_bytes, or_nobody}
-use Rattle.bq_hooks.proofs.Filling.{more, filled_whole}
-use Rattle.bq_hooks.proofs.PlaceBytes.{pieces-more}
+use Rattle.bq_hooks.proofs.Filling.{more, piece_filled, pieces_filled}
 
 pub header_filled : (f : PullFacts) (c0 c1 c2 c3 c4 c5 c6 c7 c8 : List ℕ) (puller source puller_size source_size count shown own : ℕ) →
     puller ≡ f.puller → take 4 c1 ≡ take 0 c0 ++ u32_bytes puller →
@@ -33,19 +32,11 @@ pub task_filled : (f : PullFacts) (k : ℕ) (o : Option Task) (c c' : List ℕ) 
     o ≡ slice_get f.movable k → take (32 + 16 * k + 16) c' ≡ take (32 + 16 * k) c ++ task_bytes 0 o →
     take (32 + 16 * (k + 1)) c' ≡ pull_header f ++ flat_map (λ k. task_bytes 0 (slice_get f.movable k)) (range_with_len 0 (k + 1))
 task_filled f k o c c' done e h =
-    let piece : ℕ → List ℕ = λ k. task_bytes 0 (slice_get f.movable k) in
-    let header : List ℕ = pull_header f in
-    let tasks : List ℕ = flat_map piece (range_with_len 0 k) in
-    let further : 32 + 16 * (k + 1) ≡ 32 + 16 * k + 16 = omega arith in
-    let here : k ≡ 0 + k = omega arith in
-    ap (λ n. take n c') further ∙ h ∙ ap (λ l. l ++ task_bytes 0 o) done ∙ ap (λ o. header ++ tasks ++ task_bytes 0 o) e ∙ append_assoc header tasks (piece k)
-    ∙ ap (λ i. header ++ (tasks ++ piece i)) here ∙ ap (λ l. header ++ l) (sym (pieces-more piece 0 k))
+    piece_filled 32 16 k (pull_header f) (λ k. task_bytes 0 (slice_get f.movable k)) c c' done (h ∙ ap (λ o. take (32 + 16 * k) c ++ task_bytes 0 o) e)
 
 -- once eight are there
 pub pull_filled : (k : ℕ) (f : PullFacts) (c : List ℕ) → k ≡ 8 →
     take (32 + 16 * k) c ≡ pull_header f ++ flat_map (λ k. task_bytes 0 (slice_get f.movable k)) (range_with_len 0 k) →
     length c ≡ 160 → c ≡ pull_bytes f
 unfolding pull_bytes
-pull_filled k f c end done l =
-    filled_whole 160 c (pull_bytes f)
-    (subst (λ n. take (32 + 16 * n) c ≡ pull_header f ++ flat_map (λ k. task_bytes 0 (slice_get f.movable k)) (range_with_len 0 n)) end done) l
+pull_filled k f c = pieces_filled 32 16 8 k (pull_header f) (λ k. task_bytes 0 (slice_get f.movable k)) c

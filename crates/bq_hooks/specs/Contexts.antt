@@ -1,4 +1,5 @@
--- Contexts: the bytes that a hook shows to its policy, numbers little-endian. The fields and their places are this project's own.
+-- Contexts: the bytes that a hook shows to its policy, numbers little-endian. The fields and their places are this project's
+-- own; beside each stands the number of its first byte.
 use Rattle.std.specs.Prelude.{ℕ, ◌%◌, ◌^◌, min, Bool, nat_lt, if◌then◌else◌, List, ◌++◌, length, slice_get, slice_index, Option, Some, None}
 use Rattle.std.specs.Int.{bytes_low_first}
 use Rattle.std.specs.List.{flat_map, range_with_len}
@@ -60,14 +61,14 @@ if_any_shown limit (Some p) = if_shown limit p
 -- the first 40 bytes of a place context that shows the processors below a limit
 unfoldable pub place_header : ℕ → PlaceFacts → List ℕ
 place_header limit f =
-    u32_bytes f.task.id
-    ++ u32_bytes f.task.weight
-    ++ u64_bytes (f.task.mask % 2 ^ min f.processors limit)
-    ++ u64_bytes f.task.slice
-    ++ u32_bytes (if_shown limit f.waking)
-    ++ u32_bytes (if_any_shown limit f.task.prev)
-    ++ u32_bytes (min f.processors limit)
-    ++ u32_bytes (if_shown limit f.own)
+    u32_bytes f.task.id  -- 0
+    ++ u32_bytes f.task.weight  -- 4
+    ++ u64_bytes (f.task.mask % 2 ^ min f.processors limit)  -- 8
+    ++ u64_bytes f.task.slice  -- 16
+    ++ u32_bytes (if_shown limit f.waking)  -- 24
+    ++ u32_bytes (if_any_shown limit f.task.prev)  -- 28
+    ++ u32_bytes (min f.processors limit)  -- 32
+    ++ u32_bytes (if_shown limit f.own)  -- 36
 
 -- a place context: the loads come behind, 0 where there is no processor
 unfoldable pub place_bytes_below : ℕ → PlaceFacts → List ℕ
@@ -88,27 +89,27 @@ task_bytes absent (Some t) = u32_bytes t.id ++ u32_bytes t.weight ++ u64_bytes t
 -- a preempt context, of 56 bytes
 unfoldable pub preempt_bytes : PreemptFacts → List ℕ
 preempt_bytes f =
-    u32_bytes f.processor
-    ++ u32_bytes (length f.queue)
-    ++ u32_bytes f.current.id
-    ++ u32_bytes f.current.weight
-    ++ u64_bytes f.current.v
-    ++ u64_bytes f.current.deadline
-    ++ task_bytes nobody f.choice
-    ++ u32_bytes (as_number f.own)
-    ++ u32_bytes 0
+    u32_bytes f.processor  -- 0
+    ++ u32_bytes (length f.queue)  -- 4
+    ++ u32_bytes f.current.id  -- 8
+    ++ u32_bytes f.current.weight  -- 12
+    ++ u64_bytes f.current.v  -- 16
+    ++ u64_bytes f.current.deadline  -- 24
+    ++ task_bytes nobody f.choice  -- 32
+    ++ u32_bytes (as_number f.own)  -- 48
+    ++ u32_bytes 0  -- 52
 
 -- the first 32 bytes of a pull context; it tells how many tasks are movable and how many of them are shown
 unfoldable pub pull_header : PullFacts → List ℕ
 pull_header f =
-    u32_bytes f.puller
-    ++ u32_bytes f.source
-    ++ u32_bytes f.puller_size
-    ++ u32_bytes f.source_size
-    ++ u32_bytes (length f.movable)
-    ++ u32_bytes (min (length f.movable) 8)
-    ++ u32_bytes (or_nobody f.own)
-    ++ u32_bytes 0
+    u32_bytes f.puller  -- 0
+    ++ u32_bytes f.source  -- 4
+    ++ u32_bytes f.puller_size  -- 8
+    ++ u32_bytes f.source_size  -- 12
+    ++ u32_bytes (length f.movable)  -- 16
+    ++ u32_bytes (min (length f.movable) 8)  -- 20
+    ++ u32_bytes (or_nobody f.own)  -- 24
+    ++ u32_bytes 0  -- 28
 
 -- a pull context, of 160 bytes: the first eight movable tasks come behind, zeros where there are fewer
 unfoldable pub pull_bytes : PullFacts → List ℕ
