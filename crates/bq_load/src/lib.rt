@@ -12,6 +12,8 @@ mod judging;
 pub mod laws;
 pub mod loading;
 pub mod reader;
+#[cfg(test)]
+mod tests;
 pub mod writing;
 
 pub use bq_verify::{Hook, Version};
