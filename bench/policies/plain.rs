@@ -1,5 +1,5 @@
-//! The plain Rust beside which `bq_interp` is timed: a `match` on the opcode of 8-byte slots, without a check, and the
-//! programs that both run.
+//! The plain Rust beside which `bq_interp` is timed: a `match` on the opcode of 8-byte slots, with the same helpers and
+//! without a check, and the programs that both run.
 //!
 //! `plain INPUT` writes a program: `alu-N` has N slots of random arithmetic, `memory-N` N slots of loads and stores on the
 //! stack, `diamonds-N` N branches over one instruction each, `bits-N` the same where each sets another bit of register 0.
