@@ -11,3 +11,4 @@ pub mod LoadLemmas
 pub mod WritingLemmas
 pub mod JudgingLemmas
 pub mod ReaderLemmas
+pub mod PieceLemmas

@@ -1,11 +1,14 @@
--- Laws of the format: bytes say one thing.
-use Rattle.std.specs.Prelude.{◌≡◌, ℕ, ◌<◌, List, slice_index}
+-- Laws of the format: bytes say one thing, and in pieces they say the same.
+use Rattle.std.specs.Prelude.{◌≡◌, ℕ, ◌<◌, List, [], ◌∷◌, slice_index, ◌⊎◌}
+use Rattle.std.specs.List.{flat_map}
 use Rattle.bq_maps.specs.declared.shape.MapShape.{MapShape}
 use Rattle.bq_verify.specs.declared.hook.Hook.{Hook}
 use Rattle.bq_verify.specs.declared.hook.Version.{Version}
 use Rattle.bq_load.specs.declared.fault.LoadFault.{LoadFault}
 use Rattle.bq_load.specs.Layout.{IsImage}
 use Rattle.bq_load.specs.Faults.{IsFault}
+use Rattle.bq_load.specs.Answers.{HasImage}
+use Rattle.bq_load.specs.Feeding.{Fed, unfed, StandsFor, GoesOn}
 
 -- numbers that bytes can be
 abbrev pub AreBytes : List ℕ → Type 0
@@ -25,3 +28,16 @@ NoImageIsFaulty =
 -- bytes have at most one first fault
 abbrev pub OneFault : Type 0
 OneFault = (bytes : List ℕ) (f g : LoadFault) → AreBytes bytes → IsFault bytes f → IsFault bytes g → f ≡ g
+
+-- bytes are an image or have a first fault
+abbrev pub EachIsAnswered : Type 0
+EachIsAnswered = (bytes : List ℕ) → AreBytes bytes → HasImage bytes ⊎ ((f : LoadFault) × IsFault bytes f)
+
+-- a reader took these pieces, one after another
+abbrev pub TakesAll : Fed → List (List ℕ) → Fed → Type 0
+TakesAll old [] new = old ≡ new
+TakesAll old (piece ∷ pieces) new = (fed : Fed) × GoesOn old piece fed × TakesAll fed pieces new
+
+-- it stands for all of them together
+abbrev pub PiecesJoin : Type 0
+PiecesJoin = (pieces : List (List ℕ)) (fed : Fed) → TakesAll unfed pieces fed → StandsFor fed (flat_map (λ piece. piece) pieces)

@@ -1,5 +1,5 @@
 //! Laws of the format. Each is a theorem over its definitions, and its function does nothing.
-ghost use Rattle.bq_load.specs.Laws.{OneImage, NoImageIsFaulty, OneFault};
+ghost use Rattle.bq_load.specs.Laws.{OneImage, NoImageIsFaulty, OneFault, EachIsAnswered, PiecesJoin};
 
 /// Bytes are at most one image, so what is read after it was written is what it was.
 pub fn one_image()
@@ -14,4 +14,14 @@ pub fn no_image_is_faulty()
 /// Bytes have at most one first fault.
 pub fn one_fault()
     ensures { OneFault }
+{}
+
+/// Bytes are an image or have a first fault.
+pub fn each_is_answered()
+    ensures { EachIsAnswered }
+{}
+
+/// A reader to which pieces were fed stands for all of them together, however they were cut.
+pub fn pieces_join()
+    ensures { PiecesJoin }
 {}
