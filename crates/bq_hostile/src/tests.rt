@@ -1,0 +1,63 @@
+// What is accepted of changed images takes at most its budget, on contexts of zeros and of ff. That it does so on every
+// context is proved; the test is of the code as it is built.
+
+use crate::images::COUNTING;
+use bq_interp::{Env, Stack, run};
+use bq_load::load;
+use bq_maps::{Maps, Plain};
+use bq_verify::Verified;
+use bq_verify::hook::context_length;
+use std::alloc::{AllocError, Global};
+use std::test::Fail;
+
+/// How many instructions the program takes on a context of that byte, and fresh maps.
+fn steps(alloc: Global, verified: &Verified, byte: u8) -> Result<u32, AllocError> {
+    let length = context_length(verified.hook(), verified.version());
+    let context = vec![in alloc; byte; length]?;
+    let mut maps = Maps::new(alloc, verified.shapes())?;
+    let mut stack = Stack::from_bytes([byte; 512]);
+    let env = Env {
+        now: u64::from(byte),
+        processor: u32::from(byte),
+    };
+    let mut board = Plain::new();
+    let ran = run(
+        verified,
+        context.as_slice(),
+        &mut maps,
+        &mut stack,
+        env,
+        &mut board,
+    );
+    Ok(ran.steps)
+}
+
+#[test]
+fn each_byte_of_an_image_may_be_any(rt: HostRuntime) -> Result<(), Fail> {
+    let alloc = rt.alloc();
+    let mut image = Vec::from_slice(alloc, &COUNTING)?;
+    let mut accepted = 0u32;
+    for at in 0..136 {
+        for byte in 0..=255 {
+            if let Some(place) = image.get_mut(at) {
+                *place = byte;
+            }
+            let Ok(verified) = load(alloc, image.as_slice()) else {
+                continue;
+            };
+            accepted = accepted.saturating_add(1);
+            let budget = verified.budget();
+            for byte in [0x00, 0xff] {
+                let steps = steps(alloc, &verified, byte)?;
+                assert!(rt; steps >= 1);
+                assert!(rt; steps <= budget, "byte {at}");
+            }
+        }
+        if let Some(place) = image.get_mut(at) {
+            *place = COUNTING[at];
+        }
+    }
+    // each byte as it was is accepted, at least
+    assert!(rt; accepted >= 136);
+    Ok(())
+}
