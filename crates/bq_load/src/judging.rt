@@ -25,6 +25,7 @@ pub fn judge(held: &[u8], past: usize, piece: &[u8]) -> Result<usize, LoadFault>
     let (header, rest) = match read_header(front.as_slice()) {
         Ok(read) => read,
         Err(fault) => match fault {
+            // the header is not whole yet
             LoadFault::Cut => return Ok(piece.len()),
             _ => return Err(fault),
         },

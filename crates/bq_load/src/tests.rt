@@ -315,3 +315,35 @@ fn a_program_that_is_too_long_is_counted(rt: HostRuntime) -> Result<(), Fail> {
     assert_eq!(rt; reader.feed(&[0]), Err(LoadFault::Rest));
     Ok(())
 }
+
+/// With no allocation refused all is as above. By hand, `rt try --test --fail-alloc N` refuses the Nth: then want of
+/// memory is answered, nothing has changed, and the same call gives the answer.
+#[test]
+fn a_refused_growth_changes_nothing(rt: HostRuntime) {
+    let alloc = rt.alloc();
+    match budget(alloc, &COUNTING) {
+        Ok(budget) => assert_eq!(rt; budget, 12),
+        Err(fault) => {
+            assert_eq!(rt; fault, LoadFault::OutOfMemory);
+            assert_eq!(rt; budget(alloc, &COUNTING), Ok(12));
+        }
+    }
+    assert_eq!(rt; budget(alloc, &COUNTING[..135]), Err(LoadFault::Cut));
+
+    let mut reader = ImageReader::new(alloc);
+    for piece in [&COUNTING[..70], &COUNTING[70..], &[]] {
+        if let Err(fault) = reader.feed(piece) {
+            assert_eq!(rt; fault, LoadFault::OutOfMemory);
+            assert_eq!(rt; reader.feed(piece), Ok(()));
+        }
+    }
+    let answer = reader.finish_load();
+    if let Err(fault) = answer {
+        assert_eq!(rt; fault, LoadFault::OutOfMemory);
+        return;
+    }
+    match read_image(alloc, &COUNTING) {
+        Ok(image) => assert_eq!(rt; image.program.len(), 120),
+        Err(fault) => assert_eq!(rt; fault, LoadFault::OutOfMemory),
+    }
+}
