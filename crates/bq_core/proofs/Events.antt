@@ -9,19 +9,21 @@ use Rattle.bq_disc.specs.OneProcessor.{Running, present_at, charge, marked, ente
 use Rattle.bq_core.specs.declared.carried.Carried.{Carried}
 use Rattle.bq_core.specs.declared.seat.Seat.{Seat}
 use Rattle.bq_core.specs.declared.seat.Seat.TheVariants.{Absent, Blocked, Away}
-use Rattle.bq_core.specs.Processors.{Processor, Programs, opening, count_of, in_hand, HasEachOnce}
+use Rattle.bq_core.specs.Processors.{Processor, opening, count_of, in_hand}
 use Rattle.bq_core.specs.World.{World, processor, inbox, seat, with_processor, with_inbox, with_seat}
 use Rattle.bq_core.specs.Refusals.{is_absent, is_away}
-use Rattle.bq_disc.specs.Pulls.{movable}
-use Rattle.bq_core.specs.OwnChoices.{allows}
-use Rattle.bq_core.specs.Choices.{Setting, Settled, decided_by, as_number}
-use Rattle.bq_core.specs.Steps.{charged_at, after_leaving, as_it_leaves, taken_from, without_task, with_pulled, started_if_idle, task_numbered, may_move}
-use Rattle.bq_core.specs.StandsOnce.{HasPlace}
+use Rattle.bq_disc.specs.Movable.{is_movable_to}
+use Rattle.bq_policies.specs.Programs.{Programs}
+use Rattle.bq_hooks.specs.Contexts.{as_number}
+use Rattle.bq_hooks.specs.OwnPlace.{allows, HasPlace}
+use Rattle.bq_hooks.specs.Permitted.{may_pull, task_numbered}
+use Rattle.bq_core.specs.Choices.{Setting, Settled, decided_by}
+use Rattle.bq_core.specs.Steps.{charged_at, after_leaving, as_it_leaves, taken_from, without_task, with_pulled, started_if_idle}
 use Rattle.bq_core.proofs.Tallies.{tally, tally-append, tally-charge, tally-decided, tally-enter_all, tally-without, tally-present}
 use Rattle.bq_core.proofs.Counts.{keeps_charge}
 use Rattle.bq_core.proofs.Once.{count_of-held_by}
 use Rattle.bq_core.proofs.Moves.{tally-after_leaving, tally-without_task, tally-pulled}
-use Rattle.bq_core.proofs.Permitted.{may_move_names, movable_can_use}
+use Rattle.bq_core.proofs.Permitted.{may_pull_names, may_go}
 use Rattle.bq_core.proofs.Suits.{unsuited, suits_of, of_suits}
 use Rattle.bq_core.proofs.Tidy.{IsTidy, with_processor_tidy, running_tidy, inbox_tidy, seat_tidy, leaves_lobby, enters_lobby}
 
@@ -117,27 +119,27 @@ block_tidy d count w cpu now t y l e =
     let fits = suits_of count cpu t (omega (arith, left (unsuited count cpu), y.present cpu)) in
     enters_lobby count (with_processor w cpu q) t (as_it_leaves p.running cpu t) free refl fits.place
 
-taken_by_cases : (count cpu from id : ℕ) (p : Running) (o : Option Task) → HasEachOnce p.queue → tally (unsuited count from) (present_at p) ≡ 0 →
-    is_some (with_id id (movable cpu p.queue)) ≡ true → with_id id p.queue ≡ o → tally (unsuited count cpu) (option_to_list (option_map (left_at p.kept) o)) ≡ 0
-taken_by_cases count cpu from id p None once fit may e = refl
-taken_by_cases count cpu from id p (Some t) once fit may e =
+taken_by_cases : (count cpu from id : ℕ) (p : Running) (o : Option Task) → tally (unsuited count from) (present_at p) ≡ 0 →
+    is_movable_to cpu id p.queue ≡ true → with_id id p.queue ≡ o → tally (unsuited count cpu) (option_to_list (option_map (left_at p.kept) o)) ≡ 0
+taken_by_cases count cpu from id p None fit may e = refl
+taken_by_cases count cpu from id p (Some t) fit may e =
     let left = suits_of count from t (omega (arith, fit, tally-present (unsuited count from) p.current [] p.queue, tally-without (unsuited count from) id p.queue t e)) in
-    omega (arith, of_suits count cpu (left_at p.kept t) (movable_can_use cpu id p.queue t once may e) left.place)
+    omega (arith, of_suits count cpu (left_at p.kept t) (may_go cpu id p.queue t may e) left.place)
 
 -- a task that is pulled fits where it goes
-taken_fits : (count cpu from n : ℕ) (p : Running) (task : Option ℕ) → HasEachOnce p.queue → tally (unsuited count from) (present_at p) ≡ 0 → may_move cpu p.queue n ≡ true → task_numbered n ≡ task →
+taken_fits : (count cpu from n : ℕ) (p : Running) (task : Option ℕ) → tally (unsuited count from) (present_at p) ≡ 0 → may_pull cpu p.queue n ≡ true → task_numbered n ≡ task →
     tally (unsuited count cpu) (option_to_list (taken_from p task)) ≡ 0
-taken_fits count cpu from n p None once fit may e = refl
-taken_fits count cpu from n p (Some id) once fit may e = taken_by_cases count cpu from id p (with_id id p.queue) once fit (may_move_names cpu p.queue n id may e) refl
+taken_fits count cpu from n p None fit may e = refl
+taken_fits count cpu from n p (Some id) fit may e = taken_by_cases count cpu from id p (with_id id p.queue) fit (may_pull_names cpu p.queue n id may e) refl
 
 -- a task goes from another processor's queue to this one's
 pub pull_tidy : (d : Discipline) (count : ℕ) (w : World) (cpu from now n : ℕ) (task : Option ℕ) (programs : Programs) → IsTidy count [] w → cpu < count → from < count → cpu ≢ from →
-    HasEachOnce (processor w from).running.queue → may_move cpu (processor w from).running.queue n ≡ true → task_numbered n ≡ task →
+    may_pull cpu (processor w from).running.queue n ≡ true → task_numbered n ≡ task →
     IsTidy count [] (with_processor (with_processor w cpu (record (charged_at d w cpu now) {
       running = started_if_idle d (with_pulled d (charged_at d w cpu now).running (taken_from (marked d (processor w from).running) task)) (charged_at d w cpu now).running.current;
       programs = programs;
     })) from (record (processor w from) { running = without_task (marked d (processor w from).running) task }))
-pull_tidy d count w cpu from now n task programs y l k apart once may e =
+pull_tidy d count w cpu from now n task programs y l k apart may e =
     let p : Processor = charged_at d w cpu now in
     let source : Running = marked d (processor w from).running in
     let taken : List Task = option_to_list (taken_from source task) in
@@ -149,5 +151,5 @@ pull_tidy d count w cpu from now n task programs y l k apart once may e =
     let done : IsTidy count [] (with_processor mid cpu here) =
     running_tidy count taken [] mid cpu here free l (sym (ap (λ (x : Processor). x.hand) still))
     (λ g. omega (arith, tally-pulled g d p.running (taken_from source task), tally-charge g d (processor w cpu).running now, ap (λ (x : Processor). tally g (present_at x.running)) still))
-    (taken_fits count cpu from n source task once (y.present from) may e) in
+    (taken_fits count cpu from n source task (y.present from) may e) in
     subst (λ ps. IsTidy count [] (record w { processors = ps })) (sym (set_comm w.processors cpu from here there apart)) done

@@ -2,15 +2,14 @@ pub mod NumberTests
 pub mod Tallies
 pub mod Counts
 pub mod Once
-pub mod Places
 pub mod Switching
-pub mod Steps
-pub mod Installs
 pub mod Suits
 pub mod Tidy
 pub mod Moves
 pub mod Permitted
+pub mod Steps
 pub mod Events
 pub mod Order
+pub mod Installs
 pub mod Pulls
 pub mod Runs

@@ -14,7 +14,7 @@ use Rattle.bq_core.specs.declared.seat.Seat.TheVariants.{Absent}
 use Rattle.bq_core.specs.Processors.{Processor, opening, count_of, held_by, in_hand, HasEachOnce}
 use Rattle.bq_core.specs.World.{World, processor, inbox, seat}
 use Rattle.bq_core.specs.Refusals.{is_away}
-use Rattle.bq_core.specs.Choices.{as_number}
+use Rattle.bq_hooks.specs.Contexts.{as_number}
 use Rattle.bq_core.specs.StandsOnce.{held_count, placed_count, standing_count, IsOrderly}
 use Rattle.bq_core.proofs.Counts.{one, one_self, count_of-append, count_of-without, queue_le_present, with_id-absent, HasEachOnce-left}
 use Rattle.bq_core.proofs.Tallies.{with_id-id}

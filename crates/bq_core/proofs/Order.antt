@@ -5,29 +5,33 @@ use Rattle.std.proofs.lemmas.List.{length-replicate}
 use Rattle.std.proofs.lemmas.Nat.{pow_pos, mod_below}
 use Rattle.bq_disc.specs.OneProcessor.{Running, marked}
 use Rattle.bq_core.specs.declared.carried.Carried.{Carried}
-use Rattle.bq_core.specs.declared.event.Hook.{Hook}
+use Rattle.bq_maps.specs.declared.board.Call.{Call as Asked}
+use Rattle.bq_verify.specs.declared.hook.Hook.{Hook}
+use Rattle.bq_verify.specs.Accepted.{Accepted}
+use Rattle.bq_policies.specs.Answers.{fresh_maps}
+use Rattle.bq_policies.specs.Programs.{Program, with_program}
+use Rattle.bq_hooks.specs.declared.settled.By.{By}
+use Rattle.bq_hooks.specs.Contexts.{or_nobody}
+use Rattle.bq_hooks.specs.OwnPlace.{own_place, HasPlace}
+use Rattle.bq_hooks.specs.Permitted.{may_place, may_pull}
 use Rattle.bq_core.specs.declared.event.Event.{Event}
-use Rattle.bq_core.specs.declared.policy.Policy.{Policy}
-use Rattle.bq_core.specs.declared.reply.By.{By}
 use Rattle.bq_core.specs.declared.event.Event.TheVariants.{Admit, Retire, Draw, Install, BeginWake, EndWake, Drain, Tick, Block, Pull}
 use Rattle.bq_core.specs.declared.reply.Reply.{Reply}
 use Rattle.bq_core.specs.declared.reply.Reply.TheVariants.{Admitted, Retired, Drawn, Installed, Begun, Placed, Drained, Ticked, Blocked as Went, Pulled as Moved}
 use Rattle.bq_core.specs.declared.refusal.Refusal.{Refusal}
 use Rattle.bq_core.specs.declared.refusal.Refusal.TheVariants as no
-use Rattle.bq_core.specs.Calls.{CounterCall}
-use Rattle.bq_core.specs.Processors.{Processor, Program, HasEachOnce, opening, with_program}
+use Rattle.bq_core.specs.Processors.{Processor, HasEachOnce, opening}
 use Rattle.bq_core.specs.World.{World, opening_world, processor, seat, count_in}
 use Rattle.bq_core.specs.Refusals.{refusal, argument_refusal, state_refusal, either, is_absent, is_away}
-use Rattle.bq_core.specs.OwnChoices.{own_place, own_pull}
-use Rattle.bq_core.specs.Choices.{Setting, Settled}
-use Rattle.bq_core.specs.Steps.{WorldStep, Performs, charged_at, admitted, may_go, may_move, nobody}
-use Rattle.bq_core.specs.StandsOnce.{IsOrderly, HasPlace}
+use Rattle.bq_core.specs.Choices.{Setting, Settled, place_bytes, own_pull}
+use Rattle.bq_core.specs.Steps.{WorldStep, Performs, charged_at, admitted}
+use Rattle.bq_core.specs.StandsOnce.{IsOrderly}
 use Rattle.bq_core.specs.Laws.{OpeningIsOrderly, StepKeeps, RunKeeps, StepKeepsOrder, RunKeepsOrder, HistoryIsOrderly, under_any_answers}
 use Rattle.bq_core.proofs.Counts.{each_once_queue}
 use Rattle.bq_core.proofs.NumberTests.{within_of, differs}
 use Rattle.bq_core.proofs.Once.{each_once_running}
 use Rattle.bq_core.proofs.Tidy.{IsTidy, tidy_of, orderly_of, opening_tidy}
-use Rattle.bq_core.proofs.Permitted.{settled_permitted, own_place_permitted, own_pull_permitted, may_go_fits}
+use Rattle.bq_core.proofs.Permitted.{settled_permitted, own_place_permitted, own_pull_permitted, may_place_fits}
 use Rattle.bq_core.proofs.Events
 
 -- the opening world is in order
@@ -44,17 +48,17 @@ accepted : (w : World) (e : Event) → refusal w e ≡ None → (argument_refusa
 accepted w e h = neither (argument_refusal (count_in w) e) (state_refusal w e) h
 
 -- the first of some refusals doesn't hold, and none of the others does
-passed : (b : Bool) (r : Refusal) (rest : Option Refusal) → cond b (Some r) rest ≡ None → (b ≡ false) × (rest ≡ None)
+pub passed : (b : Bool) (r : Refusal) (rest : Option Refusal) → cond b (Some r) rest ≡ None → (b ≡ false) × (rest ≡ None)
 passed true r rest h = cc
 passed false r rest h = (refl, h)
 
 -- a test whose contrary fails holds
-not_false : (b : Bool) → not b ≡ false → b ≡ true
+pub not_false : (b : Bool) → not b ≡ false → b ≡ true
 not_false true h = refl
 not_false false h = cc
 
 -- a processor that is not refused is there
-there : (count cpu : ℕ) (rest : Option Refusal) → cond (nat_le count cpu) (Some no.NoProcessor) rest ≡ None → (cpu < count) × (rest ≡ None)
+pub there : (count cpu : ℕ) (rest : Option Refusal) → cond (nat_le count cpu) (Some no.NoProcessor) rest ≡ None → (cpu < count) × (rest ≡ None)
 there count cpu rest h = let f = passed (nat_le count cpu) no.NoProcessor rest h in (within_of cpu count f.0, f.1)
 
 -- the mask of a task that is admitted has a processor of the machine
@@ -68,27 +72,27 @@ abbrev Keeps : World → World → Type 0
 Keeps w w' = IsTidy (count_in w) [] w'
 
 -- each event by itself, as it is not refused
-admit_keeps : (s : Setting) (w : World) (id : ℕ) (nice : ℤ) (mask slice : ℕ) (calls : List CounterCall) (w' : World) → IsTidy (count_in w) [] w → refusal w (Admit id nice mask slice) ≡ None →
+admit_keeps : (s : Setting) (w : World) (id : ℕ) (nice : ℤ) (mask slice : ℕ) (calls : List Asked) (w' : World) → IsTidy (count_in w) [] w → refusal w (Admit id nice mask slice) ≡ None →
     Performs s w (Admit id nice mask slice) calls Admitted w' → Keeps w w'
 admit_keeps s w id nice mask slice calls w' y h k =
     let f = accepted w (Admit id nice mask slice) h in
     let absent = not_false (is_absent (seat w id)) (passed (not (is_absent (seat w id))) no.TaskExists None f.1).0 in
     subst (Keeps w) (sym k.1) (Events.admit_tidy (count_in w) w id (admitted (count_in w) id nice mask slice) y absent refl (admitted_has_place (count_in w) id nice mask slice f.0))
 
-retire_keeps : (s : Setting) (w : World) (id : ℕ) (calls : List CounterCall) (w' : World) → IsTidy (count_in w) [] w → refusal w (Retire id) ≡ None → Performs s w (Retire id) calls Retired w' → Keeps w w'
+retire_keeps : (s : Setting) (w : World) (id : ℕ) (calls : List Asked) (w' : World) → IsTidy (count_in w) [] w → refusal w (Retire id) ≡ None → Performs s w (Retire id) calls Retired w' → Keeps w w'
 retire_keeps s w id calls w' y h k =
     let f = accepted w (Retire id) h in
     let later = (passed (is_absent (seat w id)) no.NoTask _ f.1).1 in
     subst (Keeps w) (sym k.1) (Events.retire_tidy (count_in w) w id y (passed (is_away (seat w id)) no.NotBlocked None later).0)
 
-install_keeps : (s : Setting) (w : World) (cpu : ℕ) (hook : Hook) (g : ℕ) (policy : Option Policy) (calls : List CounterCall) (w' : World) → IsTidy (count_in w) [] w → refusal w (Install cpu hook g policy) ≡ None →
+install_keeps : (s : Setting) (w : World) (cpu : ℕ) (hook : Hook) (g : ℕ) (policy : Option Accepted) (calls : List Asked) (w' : World) → IsTidy (count_in w) [] w → refusal w (Install cpu hook g policy) ≡ None →
     Performs s w (Install cpu hook g policy) calls Installed w' → Keeps w w'
 install_keeps s w cpu hook g policy calls w' y h k =
-    let new : Program = record { policy = policy; generation = g; maps = s.fresh_maps policy } in
+    let new : Program = record { policy = policy; generation = g; maps = fresh_maps policy } in
     let l = (there (count_in w) cpu _ (accepted w (Install cpu hook g policy) h).0).0 in
     subst (Keeps w) (sym k.1) (Events.install_tidy (count_in w) w cpu (with_program hook (processor w cpu).programs new) y l)
 
-begin_wake_keeps : (s : Setting) (w : World) (cpu id : ℕ) (calls : List CounterCall) (task : ℕ) (loads : List ℕ) (w' : World) → IsTidy (count_in w) [] w → refusal w (BeginWake cpu id) ≡ None →
+begin_wake_keeps : (s : Setting) (w : World) (cpu id : ℕ) (calls : List Asked) (task : ℕ) (loads : List ℕ) (w' : World) → IsTidy (count_in w) [] w → refusal w (BeginWake cpu id) ≡ None →
     Performs s w (BeginWake cpu id) calls (Begun task loads) w' → Keeps w w'
 begin_wake_keeps s w cpu id calls task loads w' y h k =
     let f = accepted w (BeginWake cpu id) h in
@@ -96,7 +100,7 @@ begin_wake_keeps s w cpu id calls task loads w' y h k =
     let later = (passed (is_away (seat w id)) no.NotBlocked _ (passed (is_absent (seat w id)) no.NoTask _ f.1).1).1 in
     subst (Keeps w) (sym k.5) (Events.begin_wake_tidy (count_in w) w cpu id k.0 loads y l k.2 (passed (is_some (processor w cpu).hand) no.InHand None later).0)
 
-end_wake_keeps : (s : Setting) (w : World) (cpu now : ℕ) (calls : List CounterCall) (task to : ℕ) (by : By) (steps : ℕ) (w' : World) → IsTidy (count_in w) [] w → refusal w (EndWake cpu now) ≡ None →
+end_wake_keeps : (s : Setting) (w : World) (cpu now : ℕ) (calls : List Asked) (task to : ℕ) (by : By) (steps : ℕ) (w' : World) → IsTidy (count_in w) [] w → refusal w (EndWake cpu now) ≡ None →
     Performs s w (EndWake cpu now) calls (Placed task to by steps) w' → Keeps w w'
 end_wake_keeps s w cpu now calls task to by steps w' y h k =
     let l = (there (count_in w) cpu None (accepted w (EndWake cpu now) h).0).0 in
@@ -104,30 +108,30 @@ end_wake_keeps s w cpu now calls task to by steps w' y h k =
     let carried : Carried = k.0 in
     let settled : Settled = k.1 in
     let own : ℕ = unwrap_or (own_place (count_in w) carried.loads carried.task) 0 in
-    let goes = settled_permitted s (s.place_context w cpu carried own) p.programs.place p.running.last cpu (may_go (count_in w) carried.task) own settled
+    let goes = settled_permitted s (place_bytes (record { task = carried.task; waking = cpu; processors = count_in w; own = own; loads = carried.loads })) p.programs.place p.running.last cpu (may_place (count_in w) carried.task) own settled
     (own_place_permitted (count_in w) carried.loads carried.task (y.hand cpu carried k.2)) k.4.0 in
-    let fits = may_go_fits (count_in w) carried.task to (subst (λ n. may_go (count_in w) carried.task n ≡ true) (sym k.4.1) goes) in
+    let fits = may_place_fits (count_in w) carried.task to (subst (λ n. may_place (count_in w) carried.task n ≡ true) (sym k.4.1) goes) in
     subst (Keeps w) (sym k.4.5) (Events.end_wake_tidy s.discipline (count_in w) w cpu now to carried (record p.programs { place = settled.program }) y l k.2 fits.0 fits.1)
 
-drain_keeps : (s : Setting) (w : World) (cpu now : ℕ) (calls : List CounterCall) (count : ℕ) (run : Option ℕ) (by : By) (steps : ℕ) (w' : World) → IsTidy (count_in w) [] w → refusal w (Drain cpu now) ≡ None →
+drain_keeps : (s : Setting) (w : World) (cpu now : ℕ) (calls : List Asked) (count : ℕ) (run : Option ℕ) (by : By) (steps : ℕ) (w' : World) → IsTidy (count_in w) [] w → refusal w (Drain cpu now) ≡ None →
     Performs s w (Drain cpu now) calls (Drained count run by steps) w' → Keeps w w'
 drain_keeps s w cpu now calls count run by steps w' y h k =
     let l = (there (count_in w) cpu None (accepted w (Drain cpu now) h).0).0 in
     subst (Keeps w) (sym k.1.6) (Events.drain_tidy s (count_in w) w cpu now k.0 y l)
 
-tick_keeps : (s : Setting) (w : World) (cpu now : ℕ) (calls : List CounterCall) (run : Option ℕ) (by : By) (steps : ℕ) (w' : World) → IsTidy (count_in w) [] w → refusal w (Tick cpu now) ≡ None →
+tick_keeps : (s : Setting) (w : World) (cpu now : ℕ) (calls : List Asked) (run : Option ℕ) (by : By) (steps : ℕ) (w' : World) → IsTidy (count_in w) [] w → refusal w (Tick cpu now) ≡ None →
     Performs s w (Tick cpu now) calls (Ticked run by steps) w' → Keeps w w'
 tick_keeps s w cpu now calls run by steps w' y h k =
     let l = (there (count_in w) cpu None (accepted w (Tick cpu now) h).0).0 in
     subst (Keeps w) (sym k.1.5) (Events.tick_tidy s (count_in w) w cpu now k.0 y l)
 
-block_keeps : (s : Setting) (w : World) (cpu now : ℕ) (calls : List CounterCall) (task : ℕ) (run : Option ℕ) (w' : World) → IsTidy (count_in w) [] w → refusal w (Block cpu now) ≡ None →
+block_keeps : (s : Setting) (w : World) (cpu now : ℕ) (calls : List Asked) (task : ℕ) (run : Option ℕ) (w' : World) → IsTidy (count_in w) [] w → refusal w (Block cpu now) ≡ None →
     Performs s w (Block cpu now) calls (Went task run) w' → Keeps w w'
 block_keeps s w cpu now calls task run w' y h k =
     let l = (there (count_in w) cpu None (accepted w (Block cpu now) h).0).0 in
     subst (Keeps w) (sym k.1.4) (Events.block_tidy s.discipline (count_in w) w cpu now k.0 y l k.1.1)
 
-pull_keeps : (s : Setting) (w : World) (cpu from now : ℕ) (calls : List CounterCall) (task : Option ℕ) (run : Option ℕ) (by : By) (steps : ℕ) (w' : World) → IsOrderly w → IsTidy (count_in w) [] w →
+pull_keeps : (s : Setting) (w : World) (cpu from now : ℕ) (calls : List Asked) (task : Option ℕ) (run : Option ℕ) (by : By) (steps : ℕ) (w' : World) → IsOrderly w → IsTidy (count_in w) [] w →
     refusal w (Pull cpu from now) ≡ None → Performs s w (Pull cpu from now) calls (Moved task run by steps) w' → Keeps w w'
 pull_keeps s w cpu from now calls task run by steps w' o y h k =
     let f = there (count_in w) cpu _ (accepted w (Pull cpu from now) h).0 in
@@ -138,13 +142,13 @@ pull_keeps s w cpu from now calls task run by steps w' o y h k =
     let source : Running = marked s.discipline other.running in
     let settled : Settled = k.0 in
     let own : Option ℕ = own_pull cpu p (record other { running = source }) in
-    let may = settled_permitted s (s.pull_context w cpu from own) p.programs.pull p.running.last cpu (may_move cpu source.queue) (unwrap_or own nobody) settled
-    (own_pull_permitted cpu p (record other { running = source })) k.1.0 in
     let once : HasEachOnce other.running.queue = each_once_queue other.running (each_once_running w from o) in
-    subst (Keeps w) (sym k.1.6) (Events.pull_tidy s.discipline (count_in w) w cpu from now settled.choice task (record p.programs { pull = settled.program }) y f.0 g.0 apart once may (sym k.1.1))
+    let may = settled_permitted s _ p.programs.pull p.running.last cpu (may_pull cpu source.queue) (or_nobody own) settled
+    (own_pull_permitted cpu p (record other { running = source }) once) k.1.0 in
+    subst (Keeps w) (sym k.1.6) (Events.pull_tidy s.discipline (count_in w) w cpu from now settled.choice task (record p.programs { pull = settled.program }) y f.0 g.0 apart may (sym k.1.1))
 
 -- an event that is not refused keeps a world tidy
-performs_tidy : (s : Setting) (w : World) (e : Event) (calls : List CounterCall) (r : Reply) (w' : World) → IsOrderly w → IsTidy (count_in w) [] w → refusal w e ≡ None → Performs s w e calls r w' → Keeps w w'
+performs_tidy : (s : Setting) (w : World) (e : Event) (calls : List Asked) (r : Reply) (w' : World) → IsOrderly w → IsTidy (count_in w) [] w → refusal w e ≡ None → Performs s w e calls r w' → Keeps w w'
 performs_tidy s w (Admit id nice mask slice) calls Admitted w' o y h k = admit_keeps s w id nice mask slice calls w' y h k
 performs_tidy s w (Retire id) calls Retired w' o y h k = retire_keeps s w id calls w' y h k
 performs_tidy s w Draw calls (Drawn n) w' o y h k = subst (Keeps w) (sym k.2) (Events.draw_tidy (count_in w) w n y)
@@ -158,7 +162,7 @@ performs_tidy s w (Pull cpu from now) calls (Moved task run by steps) w' o y h k
 performs_tidy s w e calls r w' o y h k = absurd k
 
 -- in every setting a step leaves the world tidy
-pub step_tidy : (s : Setting) (w : World) (e : Event) (calls : List CounterCall) (r : Result Reply Refusal) (w' : World) → length w.inboxes ≡ length w.processors → WorldStep s w e calls r w' → IsOrderly w → Keeps w w'
+pub step_tidy : (s : Setting) (w : World) (e : Event) (calls : List Asked) (r : Result Reply Refusal) (w' : World) → length w.inboxes ≡ length w.processors → WorldStep s w e calls r w' → IsOrderly w → Keeps w w'
 step_tidy s w e calls (Ok r) w' l step o = performs_tidy s w e calls r w' o (tidy_of w l o) step.0 step.1
 step_tidy s w e calls (Err r) w' l step o = subst (Keeps w) (sym step.1) (tidy_of w l o)
 
@@ -180,11 +184,11 @@ run_keeps s w es calls answers w' l run o = absurd run
 
 -- the laws as they are promised
 pub step_keeps_order : StepKeepsOrder
-step_keeps_order d fresh = step_keeps (under_any_answers d fresh)
+step_keeps_order d = step_keeps (under_any_answers d)
 
 pub run_keeps_order : RunKeepsOrder
-run_keeps_order d fresh = run_keeps (under_any_answers d fresh)
+run_keeps_order d = run_keeps (under_any_answers d)
 
 pub history_is_orderly : HistoryIsOrderly
-history_is_orderly d fresh n es calls answers w' run =
-    run_keeps (under_any_answers d fresh) (opening_world n) es calls answers w' (length-replicate n [] ∙ sym (length-replicate n opening)) run (opening_is_orderly n)
+history_is_orderly d n es calls answers w' run =
+    run_keeps (under_any_answers d) (opening_world n) es calls answers w' (length-replicate n [] ∙ sym (length-replicate n opening)) run (opening_is_orderly n)

@@ -1,25 +1,27 @@
 -- Runs of events, one step after another.
-use Rattle.std.proofs.Common.{◌≡◌, List, [], ◌∷◌, ◌++◌, length, replicate, refl, append_assoc, append-nil}
+use Rattle.std.proofs.Common.{◌≡◌, List, [], ◌∷◌, ◌++◌, length, refl, subst, arith}
 use Rattle.std.specs.Prelude.{Result}
+use Rattle.bq_maps.specs.declared.board.Call.{Call as Asked}
+use Rattle.bq_maps.specs.Counters.{Through}
 use Rattle.bq_core.specs.declared.event.Event.{Event}
 use Rattle.bq_core.specs.declared.reply.Reply.{Reply}
 use Rattle.bq_core.specs.declared.refusal.Refusal.{Refusal}
 use Rattle.bq_core.specs.World.{World}
 use Rattle.bq_core.specs.Choices.{Setting}
-use Rattle.bq_core.specs.Steps.{WorldStep, WorldRun}
-
--- what is left of a run, with the answers that were given, makes the whole run
-abbrev pub GoesOn : Setting → World → List Event → World → List Event → List (Result Reply Refusal) → Type 0
-GoesOn s w0 all w rest answers = (more : List (Result Reply Refusal)) (v : World) → WorldRun s w rest (replicate (length rest) []) more v →
-    WorldRun s w0 all (replicate (length all) []) (answers ++ more) v
+use Rattle.bq_core.specs.Steps.{WorldStep, WorldRun, ThroughAll}
 
 -- one more step
-pub GoesOn-step : (s : Setting) (w0 w mid : World) (all rest next : List Event) (e : Event) (answers : List (Result Reply Refusal)) (a : Result Reply Refusal) →
-    rest ≡ e ∷ next → WorldStep s w e [] a mid → GoesOn s w0 all w rest answers → GoesOn s w0 all mid next (answers ++ a ∷ [])
-GoesOn-step s w0 w mid all rest next e answers a same step goes more v run =
-    rw append_assoc (goes (a ∷ more) v (rw same (mid, step, run)))
+pub run_more : (s : Setting) (w mid w' : World) (es : List Event) (e : Event) (calls : List (List Asked)) (c : List Asked) (answers : List (Result Reply Refusal)) (a : Result Reply Refusal) →
+    WorldRun s w es calls answers mid → WorldStep s mid e c a w' → WorldRun s w (es ++ e ∷ []) (calls ++ c ∷ []) (answers ++ a ∷ []) w'
+run_more s w mid w' [] e [] c [] a run step = (w', subst (λ v. WorldStep s v e c a w') run step, refl)
+run_more s w mid w' (x ∷ es) e (k ∷ calls) c (b ∷ answers) a run step = (run.0, run.1, run_more s run.0 mid w' es e calls c answers a run.2 step)
+run_more s w mid w' es e calls c answers a run step = absurd run
 
--- nothing is left
-pub GoesOn-whole : (s : Setting) (w0 w : World) (all rest : List Event) (answers : List (Result Reply Refusal)) → rest ≡ [] → GoesOn s w0 all w rest answers →
-    WorldRun s w0 all (replicate (length all) []) answers w
-GoesOn-whole s w0 w all rest answers none goes = rw append-nil at (goes [] w (rw none refl))
+-- and what it asked of the counters
+pub through_more : {B : Type 0} (leads : B → Asked → B → Type 0) (old mid new : B) (calls : List (List Asked)) (c : List Asked) → ThroughAll leads old calls mid → Through leads mid c new → ThroughAll leads old (calls ++ c ∷ []) new
+through_more leads old mid new [] c all next = (new, subst (λ b. Through leads b c new) all next, refl)
+through_more leads old mid new (k ∷ calls) c all next = (all.0, all.1, through_more leads all.0 mid new calls c all.2 next)
+
+pub nothing_left : {X : Type 0} (xs : List X) → length xs ≡ 0 → xs ≡ []
+nothing_left [] h = refl
+nothing_left (x ∷ xs) h = absurd (omega arith)

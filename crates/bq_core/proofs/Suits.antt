@@ -5,8 +5,7 @@ use Rattle.std.specs.List.{AllByRecursion}
 use Rattle.std.proofs.lemmas.List.Elements.{All-from_recursion, recursion_from_All}
 use Rattle.bq_disc.specs.Tasks.{Task}
 use Rattle.bq_disc.specs.Queues.{can_use}
-use Rattle.bq_core.specs.OwnChoices.{allows}
-use Rattle.bq_core.specs.StandsOnce.{HasPlace}
+use Rattle.bq_hooks.specs.OwnPlace.{allows, HasPlace}
 use Rattle.bq_core.proofs.Tallies.{tally, worth}
 use Rattle.bq_core.proofs.NumberTests.{below_of, below_to, differs, differ_to}
 

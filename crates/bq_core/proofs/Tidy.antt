@@ -13,8 +13,9 @@ use Rattle.bq_core.specs.declared.seat.Seat.TheVariants.{Absent, Blocked, Away}
 use Rattle.bq_core.specs.Processors.{Processor, opening, count_of, held_by, in_hand}
 use Rattle.bq_core.specs.World.{World, processor, inbox, seat, count_in, with_processor, with_inbox, with_seat}
 use Rattle.bq_core.specs.Refusals.{is_away}
-use Rattle.bq_core.specs.Choices.{as_number}
-use Rattle.bq_core.specs.StandsOnce.{held_count, placed_count, standing_count, runnable_at, HasPlace, IsOrderly}
+use Rattle.bq_hooks.specs.Contexts.{as_number}
+use Rattle.bq_hooks.specs.OwnPlace.{HasPlace}
+use Rattle.bq_core.specs.StandsOnce.{held_count, placed_count, standing_count, runnable_at, IsOrderly}
 use Rattle.bq_core.proofs.Suits.{unsuited, Suits, none_unsuited, all_suit}
 use Rattle.bq_core.proofs.Tallies.{tally, tally-append}
 use Rattle.bq_core.proofs.Counts.{one, ones, one_self, count_is}

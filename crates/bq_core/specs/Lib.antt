@@ -1,9 +1,6 @@
-pub mod Calls
 pub mod Processors
-pub mod Policies
 pub mod World
 pub mod Refusals
-pub mod OwnChoices
 pub mod Choices
 pub mod Steps
 pub mod StandsOnce

@@ -1,48 +1,19 @@
 -- A processor as the world sees it: who runs and waits there, the task in its hand, and what stands at its hooks.
-use Rattle.std.specs.Prelude.{ℕ, ◌+◌, ◌≤◌, List, [], ◌∷◌, ◌++◌, length, Option, None, if◌then◌else◌}
+use Rattle.std.specs.Prelude.{◌≡◌, ℕ, ◌+◌, ◌≤◌, List, [], ◌∷◌, ◌++◌, length, Option, None, if◌then◌else◌}
 use Rattle.std.specs.Option.{option_map, option_to_list}
 use Rattle.bq_disc.specs.Tasks.{Task, has_id}
 use Rattle.bq_disc.specs.OneProcessor.{Running, at_rest, present_at}
+use Rattle.bq_policies.specs.Programs.{Programs, no_programs}
 use Rattle.bq_core.specs.declared.carried.Carried.{Carried}
-use Rattle.bq_core.specs.declared.event.Hook.{Hook}
-use Rattle.bq_core.specs.declared.event.Hook.TheVariants as hooks
-use Rattle.bq_core.specs.declared.policy.Policy.{Policy}
-
--- what stands at a hook: a policy or none, its generation, and its own maps' bytes
-pub record Program : Type 0 where
-  pub policy : Option Policy
-  pub generation : ℕ
-  pub maps : List (List ℕ)
-
-pub record Programs : Type 0 where
-  pub place : Program
-  pub preempt : Program
-  pub pull : Program
 
 pub record Processor : Type 0 where
   pub running : Running
   pub hand : Option Carried
   pub programs : Programs
 
-abbrev pub no_program : Program
-no_program = record { policy = None; generation = 0; maps = [] }
-
-abbrev pub no_programs : Programs
-no_programs = record { place = no_program; preempt = no_program; pull = no_program }
-
 -- nothing has come to it, and nothing is installed
 abbrev pub opening : Processor
 opening = record { running = at_rest; hand = None; programs = no_programs }
-
-abbrev pub at_hook : Hook → Programs → Program
-at_hook hooks.Place ps = ps.place
-at_hook hooks.Preempt ps = ps.preempt
-at_hook hooks.Pull ps = ps.pull
-
-abbrev pub with_program : Hook → Programs → Program → Programs
-with_program hooks.Place ps new = record ps { place = new }
-with_program hooks.Preempt ps new = record ps { preempt = new }
-with_program hooks.Pull ps new = record ps { pull = new }
 
 -- the task in a hand
 abbrev pub in_hand : Processor → List Task
@@ -68,3 +39,7 @@ count_of id (x ∷ xs) = (if has_id id x then 1 else 0) + count_of id xs
 -- no id stands there twice
 abbrev pub HasEachOnce : List Task → Type 0
 HasEachOnce xs = (id : ℕ) → count_of id xs ≤ 1
+
+-- each id is one of a seat
+abbrev pub HasSeatedIds : List Task → Type 0
+HasSeatedIds xs = (id : ℕ) → 1024 ≤ id → count_of id xs ≡ 0

@@ -2,15 +2,14 @@
 use Rattle.std.specs.Prelude.{ℕ, ◌%◌, ◌^◌, ℤ, pos, negsuc, int_le, Bool, true, false, not, ◌==◌, ◌||◌, ◌&&◌, nat_lt, nat_le, List, [], ◌∷◌, Option, Some, None, if◌then◌else◌, is_some, is_none}
 use Rattle.bq_core.specs.declared.seat.Seat.{Seat}
 use Rattle.bq_core.specs.declared.seat.Seat.TheVariants.{Absent, Blocked, Away}
-use Rattle.bq_core.specs.declared.event.Hook.{Hook}
-use Rattle.bq_core.specs.declared.event.Hook.TheVariants as hooks
+use Rattle.bq_verify.specs.declared.hook.Hook.{Hook}
+use Rattle.bq_verify.specs.declared.hook.Hook.TheVariants as hooks
+use Rattle.bq_verify.specs.Accepted.{Accepted}
+use Rattle.bq_policies.specs.Programs.{at_hook}
 use Rattle.bq_core.specs.declared.event.Event.{Event}
 use Rattle.bq_core.specs.declared.event.Event.TheVariants.{Admit, Retire, Draw, Install, BeginWake, EndWake, Drain, Tick, Block, Pull}
 use Rattle.bq_core.specs.declared.refusal.Refusal.{Refusal}
 use Rattle.bq_core.specs.declared.refusal.Refusal.TheVariants as no
-use Rattle.bq_core.specs.declared.policy.Policy.{Policy}
-use Rattle.bq_core.specs.Processors.{at_hook}
-use Rattle.bq_core.specs.Policies.{hook_of}
 use Rattle.bq_core.specs.World.{World, processor, seat, count_in}
 
 -- the first that holds
@@ -37,9 +36,9 @@ same_hook hooks.Preempt hooks.Preempt = true
 same_hook hooks.Pull hooks.Pull = true
 same_hook a b = false
 
-abbrev pub is_for : Hook → Option Policy → Bool
+abbrev pub is_for : Hook → Option Accepted → Bool
 is_for h None = true
-is_for h (Some p) = same_hook h (hook_of p)
+is_for h (Some p) = same_hook h p.hook
 
 abbrev pub no_processor : ℕ → ℕ → Bool × Refusal
 no_processor count cpu = (nat_le count cpu, no.NoProcessor)

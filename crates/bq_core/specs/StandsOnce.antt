@@ -1,14 +1,15 @@
 -- Each admitted task stands exactly once, on a processor of its mask where it runs or waits; nothing else stands anywhere.
-use Rattle.std.specs.Prelude.{◌≡◌, ◌≢◌, ℕ, ◌+◌, ◌<◌, ◌^◌, true, List, [], ◌∷◌, ◌++◌, Some, All}
+use Rattle.std.specs.Prelude.{◌≡◌, ℕ, ◌+◌, true, List, [], ◌∷◌, ◌++◌, Some, All}
 use Rattle.bq_disc.specs.Tasks.{Task}
 use Rattle.bq_disc.specs.Queues.{can_use}
 use Rattle.bq_disc.specs.OneProcessor.{present_at}
+use Rattle.bq_hooks.specs.Contexts.{as_number}
+use Rattle.bq_hooks.specs.OwnPlace.{HasPlace}
 use Rattle.bq_core.specs.declared.carried.Carried.{Carried}
 use Rattle.bq_core.specs.declared.seat.Seat.TheVariants.{Blocked}
 use Rattle.bq_core.specs.Processors.{Processor, held_by, count_of}
 use Rattle.bq_core.specs.World.{World, processor, inbox, seat, count_in}
 use Rattle.bq_core.specs.Refusals.{is_away}
-use Rattle.bq_core.specs.Choices.{as_number}
 
 -- how often an id stands in hands, currents and queues
 abbrev pub held_count : ℕ → List Processor → ℕ
@@ -26,10 +27,6 @@ standing_count id w = held_count id w.processors + placed_count id w.inboxes
 -- the tasks that run, or wait in a queue or an inbox
 abbrev pub runnable_at : World → ℕ → List Task
 runnable_at w cpu = present_at (processor w cpu).running ++ inbox w cpu
-
--- the mask has bits of the machine's processors alone, and at least one
-abbrev pub HasPlace : ℕ → Task → Type 0
-HasPlace count t = (t.mask < 2 ^ count) × (t.mask ≢ 0)
 
 pub record StandsOnce (w : World) : Type 0 where
   -- an id that is away stands once with the processors, and no other id does

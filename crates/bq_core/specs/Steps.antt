@@ -1,10 +1,15 @@
 -- The step that each event makes in the world.
-use Rattle.std.specs.Prelude.{◌≡◌, ℕ, ◌+◌, ◌-◌, ◌%◌, ◌^◌, ◌⊎◌, ℤ, pos, min, Bool, ◌==◌, ◌||◌, ◌&&◌, nat_lt, List, [], ◌∷◌, ◌++◌, length, Option, Some, None, Result, Ok, Err, if◌then◌else◌, is_some, unwrap_or}
+use Rattle.std.specs.Prelude.{◌≡◌, ℕ, ◌+◌, ◌-◌, ◌%◌, ◌^◌, ◌⊎◌, ℤ, pos, min, List, [], ◌∷◌, ◌++◌, length, Option, Some, None, Result, Ok, Err}
 use Rattle.std.specs.Option.{option_map}
 use Rattle.bq_weights.specs.VirtualTime.{weight_of}
 use Rattle.bq_disc.specs.Tasks.{Task, with_id, without, place, id_of}
 use Rattle.bq_disc.specs.Discipline.{Discipline, pulled, left_at}
 use Rattle.bq_disc.specs.OneProcessor.{Running, charge, marked, start, enter_all}
+use Rattle.bq_maps.specs.declared.board.Call.{Call as Asked}
+use Rattle.bq_maps.specs.Counters.{Through}
+use Rattle.bq_policies.specs.Answers.{fresh_maps}
+use Rattle.bq_policies.specs.Programs.{Program, with_program}
+use Rattle.bq_hooks.specs.Permitted.{task_numbered}
 use Rattle.bq_core.specs.declared.carried.Carried.{Carried}
 use Rattle.bq_core.specs.declared.seat.Seat.TheVariants.{Absent, Blocked, Away}
 use Rattle.bq_core.specs.declared.event.Event.{Event}
@@ -13,32 +18,18 @@ use Rattle.bq_core.specs.declared.reply.Reply.{Reply}
 use Rattle.bq_core.specs.declared.reply.Reply.TheVariants.{Admitted, Retired, Drawn, Installed, Begun, Placed, Drained, Ticked, Blocked as Went, Pulled as Moved}
 use Rattle.bq_core.specs.declared.refusal.Refusal.{Refusal}
 use Rattle.bq_core.specs.declared.refusal.Refusal.TheVariants as no
-use Rattle.bq_core.specs.Calls.{CounterCall}
-use Rattle.bq_core.specs.Processors.{Processor, Program, with_program}
+use Rattle.bq_core.specs.Processors.{Processor}
 use Rattle.bq_core.specs.World.{World, processor, inbox, seat, count_in, with_processor, with_inbox, with_seat, loads_of}
 use Rattle.bq_core.specs.Refusals.{refusal, argument_refusal}
-use Rattle.bq_disc.specs.Pulls.{movable}
-use Rattle.bq_core.specs.OwnChoices.{own_place, own_pull, allows}
-use Rattle.bq_core.specs.Choices.{Setting, Settled, Settles, SettlesPreempt, decided_by}
+use Rattle.bq_core.specs.Choices.{Setting, Settled, SettlesPlace, SettlesPreempt, SettlesPull, decided_by}
 
 -- the processor after its time has passed
 abbrev pub charged_at : Discipline → World → ℕ → ℕ → Processor
 charged_at d w cpu now = let p = processor w cpu in record p { running = charge d p.running now }
 
--- the number that stands for no task
-abbrev pub nobody : ℕ
-nobody = 4294967295
-
-abbrev pub task_numbered : ℕ → Option ℕ
-task_numbered n = if n == nobody then None else Some n
-
--- a place policy may name a processor of the task's mask
-abbrev pub may_go : ℕ → Task → ℕ → Bool
-may_go count t r0 = nat_lt r0 count && allows t.mask r0
-
--- a pull policy may name a task that may go to the processor, or nobody
-abbrev pub may_move : ℕ → List Task → ℕ → Bool
-may_move cpu queue r0 = r0 == nobody || is_some (with_id r0 (movable cpu queue))
+-- the other processor of a pull, its mark computed anew
+abbrev pub source_at : Discipline → World → ℕ → Processor
+source_at d w from = let other = processor w from in record other { running = marked d other.running }
 
 -- a task as it is admitted
 abbrev pub admitted : ℕ → ℕ → ℤ → ℕ → ℕ → Task
@@ -71,7 +62,7 @@ started_if_idle d p None = start d p
 started_if_idle d p (Some t) = p
 
 -- the reply to an event that is not refused, and the world that it leaves
-abbrev pub Performs : Setting → World → Event → List CounterCall → Reply → World → Type 0
+abbrev pub Performs : Setting → World → Event → List Asked → Reply → World → Type 0
 -- the task stands in the lobby
 Performs s w (Admit id nice mask slice) calls Admitted w' =
     (calls ≡ []) × (w' ≡ with_seat w id (Blocked (admitted (count_in w) id nice mask slice)))
@@ -82,7 +73,7 @@ Performs s w Draw calls (Drawn n) w' = (calls ≡ []) × (n ≡ min (w.drawn + 1
 Performs s w (Install cpu h g policy) calls Installed w' =
     (calls ≡ [])
     × (let p = processor w cpu in
-    let new : Program = record { policy = policy; generation = g; maps = s.fresh_maps policy } in
+    let new : Program = record { policy = policy; generation = g; maps = fresh_maps policy } in
     w' ≡ with_processor w cpu (record p { programs = with_program h p.programs new }))
 -- the task goes from the lobby to the hand, with all loads of that moment
 Performs s w (BeginWake cpu id) calls (Begun task loads) w' =
@@ -92,8 +83,7 @@ Performs s w (BeginWake cpu id) calls (Begun task loads) w' =
 Performs s w (EndWake cpu now) calls (Placed task to by steps) w' =
     (carried : Carried) × (settled : Settled) × ((processor w cpu).hand ≡ Some carried) × (task ≡ carried.task.id)
     × (let p = charged_at s.discipline w cpu now in
-    let own = unwrap_or (own_place (count_in w) carried.loads carried.task) 0 in
-    Settles s (s.place_context w cpu carried own) p.programs.place p.running.last cpu (may_go (count_in w) carried.task) own settled
+    SettlesPlace s (count_in w) cpu p carried settled
     × (to ≡ settled.choice) × (by ≡ settled.by) × (steps ≡ settled.steps) × (calls ≡ settled.calls)
     × (w' ≡ with_inbox (with_processor w cpu (record p { hand = None; programs = record p.programs { place = settled.program } })) to (inbox w to ++ carried.task ∷ [])))
 -- all placed tasks enter in their order, and then it is decided who runs
@@ -123,13 +113,11 @@ Performs s w (Block cpu now) calls (Went task run) w' =
 Performs s w (Pull cpu from now) calls (Moved task run by steps) w' =
     (settled : Settled)
     × (let p = charged_at s.discipline w cpu now in
-    let other = processor w from in
-    let source = marked s.discipline other.running in
-    let own = own_pull cpu p (record other { running = source }) in
-    let q = started_if_idle s.discipline (with_pulled s.discipline p.running (taken_from source task)) p.running.current in
-    Settles s (s.pull_context w cpu from own) p.programs.pull p.running.last cpu (may_move cpu source.queue) (unwrap_or own nobody) settled
+    let other = source_at s.discipline w from in
+    let q = started_if_idle s.discipline (with_pulled s.discipline p.running (taken_from other.running task)) p.running.current in
+    SettlesPull s cpu from p other settled
     × (task ≡ task_numbered settled.choice) × (run ≡ id_of q.current) × (by ≡ settled.by) × (steps ≡ settled.steps) × (calls ≡ settled.calls)
-    × (w' ≡ with_processor (with_processor w cpu (record p { running = q; programs = record p.programs { pull = settled.program } })) from (record other { running = without_task source task })))
+    × (w' ≡ with_processor (with_processor w cpu (record p { running = q; programs = record p.programs { pull = settled.program } })) from (record other { running = without_task other.running task })))
 Performs s w e calls r w' = ⊥
 
 -- the events that ask for memory
@@ -140,24 +128,18 @@ TakesMemory e = ⊥
 
 -- What an event does. A refusal leaves the world as it was, and so does want of memory, which Admit and Install alone may
 -- meet: after a refusal of their arguments, and before one of the world's.
-abbrev pub WorldStep : Setting → World → Event → List CounterCall → Result Reply Refusal → World → Type 0
+abbrev pub WorldStep : Setting → World → Event → List Asked → Result Reply Refusal → World → Type 0
 WorldStep s w e calls (Ok r) w' = (refusal w e ≡ None) × Performs s w e calls r w'
 WorldStep s w e calls (Err r) w' =
     (calls ≡ []) × (w' ≡ w) × ((refusal w e ≡ Some r) ⊎ (TakesMemory e × (argument_refusal (count_in w) e ≡ None) × (r ≡ no.OutOfMemory)))
 
 -- the answers to some events are those of steps one after another
-abbrev pub WorldRun : Setting → World → List Event → List (List CounterCall) → List (Result Reply Refusal) → World → Type 0
+abbrev pub WorldRun : Setting → World → List Event → List (List Asked) → List (Result Reply Refusal) → World → Type 0
 WorldRun s w [] [] [] w' = w' ≡ w
 WorldRun s w (e ∷ es) (calls ∷ more) (a ∷ answers) w' = (mid : World) × WorldStep s w e calls a mid × WorldRun s mid es more answers w'
 WorldRun s w es more answers w' = ⊥
 
--- a setting in which no policy runs, since there is none
-abbrev pub without_policies : Discipline → Setting
-without_policies d = record {
-  discipline = d;
-  place_context = λ w cpu carried own. [];
-  preempt_context = λ cpu p own. [];
-  pull_context = λ w cpu from own. [];
-  fresh_maps = λ policy. [];
-  Runs = λ policy context maps now cpu r0 maps' steps calls. ⊥;
-}
+-- what was asked of the counters in each of some events leads from the one board to the other, one event after another
+abbrev pub ThroughAll : {B : Type 0} → (B → Asked → B → Type 0) → B → List (List Asked) → B → Type 0
+ThroughAll leads old [] new = new ≡ old
+ThroughAll {B} leads old (calls ∷ more) new = (mid : B) × Through leads old calls mid × ThroughAll leads mid more new

@@ -2,7 +2,8 @@
 ghost use Rattle.std.specs.Prelude.{◌≡◌, ◌<◌, [], None};
 ghost use Rattle.bq_core.specs.World.{count_in};
 ghost use Rattle.bq_core.specs.Refusals.{argument_refusal};
-ghost use Rattle.bq_core.specs.Steps.{WorldStep, without_policies};
+ghost use Rattle.bq_core.specs.Choices.{policies};
+ghost use Rattle.bq_core.specs.Steps.{WorldStep};
 
 use crate::arguments::allowed;
 use crate::parts::Parts;
@@ -22,7 +23,7 @@ impl<Q: RunQueue, const P: usize> Parts<Q, P> {
         slice: u64,
     ) -> Result<Reply, Refusal>
         requires fits { argument_refusal (count_in self.old) (Event.Admit task nice mask slice) ≡ None }
-        ensures step { WorldStep (without_policies Q.R.discipline) self.old (Event.Admit task nice mask slice) [] result self.new }
+        ensures step { WorldStep (policies Q.R.discipline) self.old (Event.Admit task nice mask slice) [] result self.new }
     {
         let mask = allowed(self.cpus.len(), mask);
         let node = Node::new(task, bq_weights::weight(nice), mask, slice);
@@ -40,7 +41,7 @@ impl<Q: RunQueue, const P: usize> Parts<Q, P> {
     #[inline(never)]
     pub(crate) fn retire(&mut self, task: u16) -> Result<Reply, Refusal>
         requires seat { task < 1024 }
-        ensures step { WorldStep (without_policies Q.R.discipline) self.old (Event.Retire task) [] result self.new }
+        ensures step { WorldStep (policies Q.R.discipline) self.old (Event.Retire task) [] result self.new }
     {
         if self.lobby.is_absent(task) {
             return Err(Refusal::NoTask);

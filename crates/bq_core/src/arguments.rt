@@ -22,25 +22,25 @@ pub fn argument_refusal(count: usize, event: &Event) -> Option<Refusal>
     requires { count ≤ 64 }
     ensures { result ≡ argument_refusal count event.now }
 {
-    match *event {
+    match event {
         Event::Draw => None,
         Event::Admit {
             task,
             nice,
             mask,
             slice,
-        } => admit_refusal(count, task, nice, mask, slice),
-        Event::Retire { task } => (task >= 1024).then_some(Refusal::NoTask),
+        } => admit_refusal(count, *task, *nice, *mask, *slice),
+        Event::Retire { task } => (*task >= 1024).then_some(Refusal::NoTask),
         Event::Install {
             processor,
             hook,
             generation,
             policy,
-        } => install_refusal(count, processor, hook, generation, policy),
+        } => install_refusal(count, *processor, *hook, *generation, policy),
         Event::BeginWake { processor, task } => {
-            if usize::from(processor) >= count {
+            if usize::from(*processor) >= count {
                 Some(Refusal::NoProcessor)
-            } else if task >= 1024 {
+            } else if *task >= 1024 {
                 Some(Refusal::NoTask)
             } else {
                 None
@@ -50,7 +50,7 @@ pub fn argument_refusal(count: usize, event: &Event) -> Option<Refusal>
         | Event::Drain { processor, .. }
         | Event::Tick { processor, .. }
         | Event::Block { processor, .. } => {
-            if usize::from(processor) >= count {
+            if usize::from(*processor) >= count {
                 Some(Refusal::NoProcessor)
             } else {
                 None
@@ -61,7 +61,7 @@ pub fn argument_refusal(count: usize, event: &Event) -> Option<Refusal>
             from,
             ..
         } => {
-            if usize::from(processor) >= count || usize::from(from) >= count {
+            if usize::from(*processor) >= count || usize::from(*from) >= count {
                 Some(Refusal::NoProcessor)
             } else if processor == from {
                 Some(Refusal::SameProcessor)
@@ -94,15 +94,15 @@ fn install_refusal(
     processor: u8,
     hook: Hook,
     generation: u64,
-    policy: Option<Policy>,
+    policy: &Option<Policy>,
 ) -> Option<Refusal>
-    ensures { result ≡ argument_refusal count (Event.Install processor hook generation policy) }
+    ensures { result ≡ argument_refusal count (Event.Install processor hook generation policy.now) }
 {
     if usize::from(processor) >= count {
         return Some(Refusal::NoProcessor);
     }
     match policy {
-        Some(policy) => match policy {},
-        None => None,
+        Some(policy) if policy.hook() != hook => Some(Refusal::WrongHook),
+        _ => None,
     }
 }

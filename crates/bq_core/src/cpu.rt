@@ -7,11 +7,12 @@ ghost use Rattle.bq_disc.specs.Trees.{IsRising};
 ghost use Rattle.bq_disc.specs.Pulls.{pull_of};
 ghost use Rattle.bq_disc.specs.Discipline.{left_at};
 ghost use Rattle.bq_disc.specs.Chains.{task_of, chain_behind, IsStraightBehind};
-ghost use Rattle.bq_disc.specs.OneProcessor.{charge, marked, start, switched, decided, own_preempt, enter_all, entered, present_at};
-ghost use Rattle.bq_core.specs.Processors.{opening, at_hook, with_program, load_of, size_of, count_of, HasEachOnce};
+ghost use Rattle.bq_disc.specs.OneProcessor.{charge, marked, start, switched, enter_all, entered, present_at};
+ghost use Rattle.bq_policies.specs.Programs.{at_hook, with_program, IsFor};
+ghost use Rattle.bq_core.specs.Processors.{opening, load_of, size_of, count_of, HasEachOnce};
 ghost use Rattle.bq_core.specs.Steps.{taken_from, without_task, with_pulled, started_if_idle};
 
-use crate::{Carried, Hook, Hooks, Inbox, Installed, Policy, Unlinked};
+use crate::{Carried, Hook, Hooks, Inbox, Installed, Unlinked};
 use bq_disc::node::{self, Link};
 use bq_disc::{Entry, Node, RunQueue};
 use std::marker::Model;
@@ -22,11 +23,11 @@ const LATEST: u64 = (1 << 48) - 1;
 /// A processor. Each of its calls is its share of an event's step.
 #[derive(Drop)]
 pub struct Cpu<Q: RunQueue> {
-    queue: Q,
-    current: Option<Unlinked>,
-    last: u64,
+    pub(crate) queue: Q,
+    pub(crate) current: Option<Unlinked>,
+    pub(crate) last: u64,
     hand: Option<Carried>,
-    hooks: Hooks,
+    pub(crate) hooks: Hooks,
 }
 
 impl<Q: RunQueue> Model for Cpu<Q> {
@@ -165,23 +166,8 @@ impl<Q: RunQueue> Cpu<Q> {
         }
     }
 
-    /// It is decided who runs, by the discipline.
-    pub fn decide(&mut self)
-        requires once { HasEachOnce (present_at self.old.running) }
-        ensures { self.new ≡ record self.old { running = decided Q.R.discipline self.old.running self.old.running.current (own_preempt Q.R.discipline self.old.running.queue self.old.running.current) } }
-    {
-        match &self.current {
-            None => self.start(),
-            Some(task) => {
-                if self.queue.wants_preempt(task.node()) {
-                    self.switch();
-                }
-            }
-        }
-    }
-
     /// The current task and the next change places.
-    fn switch(&mut self)
+    pub fn switch(&mut self)
         requires once { HasEachOnce (present_at self.old.running) }
         ensures { self.new ≡ record self.old { running = switched Q.R.discipline self.old.running self.old.running.current } }
     {
@@ -273,11 +259,12 @@ impl<Q: RunQueue> Cpu<Q> {
         self.hand.take()
     }
 
-    /// A policy, or none, stands at a hook from now on.
-    pub fn install(&mut self, hook: Hook, generation: u64, policy: Option<Policy>)
-        ensures { self.new ≡ record self.old { programs = with_program hook self.old.programs (record { policy = policy; generation = generation; maps = [] }) } }
+    /// Something else stands at a hook from now on.
+    pub fn install(&mut self, hook: Hook, installed: Installed)
+        requires { IsFor hook installed.policy }
+        ensures { self.new ≡ record self.old { programs = with_program hook self.old.programs installed } }
     {
-        self.hooks.install(hook, Installed::new(policy, generation));
+        self.hooks.install(hook, installed);
     }
 }
 

@@ -1,21 +1,10 @@
 //! What may happen in the world.
 
-use crate::Policy;
-
-/// The three places where a policy is asked.
-#[derive(Clone, Copy, PartialEq, Eq)]
-pub enum Hook {
-    /// Where a woken task goes.
-    Place,
-    /// Whether the running task gives way.
-    Preempt,
-    /// Which task an emptier processor takes.
-    Pull,
-}
+use crate::{Hook, Policy};
 
 /// One event. Processors are numbered from 0, tasks from 0 to 1023; `now` is a reading of the processor's clock, in
 /// nanoseconds.
-#[derive(Clone, Copy)]
+#[derive(Drop)]
 pub enum Event {
     /// A new task stands in the lobby. Bits of the mask from the number of processors on are ignored; the slice is in
     /// nanoseconds.

@@ -1,16 +1,19 @@
 //! The events of the generations: a number is drawn, and what it stands for is installed.
-ghost use Rattle.std.specs.Prelude.{◌≡◌, ◌<◌, []};
+ghost use Rattle.std.specs.Prelude.{◌≡◌, ◌<◌, [], None};
 ghost use Rattle.bq_core.specs.World.{count_in};
-ghost use Rattle.bq_core.specs.Steps.{WorldStep, without_policies};
+ghost use Rattle.bq_core.specs.Choices.{policies};
+ghost use Rattle.bq_core.specs.Refusals.{argument_refusal};
+ghost use Rattle.bq_core.specs.Steps.{WorldStep};
 
 use crate::parts::Parts;
-use crate::{Event, Hook, Policy, Refusal, Reply};
+use crate::{Event, Hook, Installed, Policy, Refusal, Reply};
 use bq_disc::RunQueue;
+use std::alloc::Global;
 
 impl<Q: RunQueue, const P: usize> Parts<Q, P> {
     /// The next generation's number is drawn. The greatest of all is drawn again and again.
     pub(crate) fn draw(&mut self) -> Result<Reply, Refusal>
-        ensures step { WorldStep (without_policies Q.R.discipline) self.old Event.Draw [] result self.new }
+        ensures step { WorldStep (policies Q.R.discipline) self.old Event.Draw [] result self.new }
     {
         self.drawn = self.drawn.saturating_add(1);
         Ok(Reply::Drawn {
@@ -18,18 +21,23 @@ impl<Q: RunQueue, const P: usize> Parts<Q, P> {
         })
     }
 
-    /// A policy, or none, stands at a processor's hook from now on. Its generation was drawn, and is above the one that
-    /// stands there.
+    /// A policy, or none, stands at a processor's hook from now on, with maps of its own, for which it takes memory. Its
+    /// generation was drawn, and is above the one that stands there.
+    #[inline(never)]
     pub(crate) fn install(
         &mut self,
+        alloc: Global,
         processor: u8,
         hook: Hook,
         generation: u64,
         policy: Option<Policy>,
     ) -> Result<Reply, Refusal>
-        requires inside { processor < count_in self.old }
-        ensures step { WorldStep (without_policies Q.R.discipline) self.old (Event.Install processor hook generation policy) [] result self.new }
+        requires fits { argument_refusal (count_in self.old) (Event.Install processor hook generation policy) ≡ None }
+        ensures step { WorldStep (policies Q.R.discipline) self.old (Event.Install processor hook generation policy) [] result self.new }
     {
+        let Ok(installed) = Installed::new(alloc, policy, generation) else {
+            return Err(Refusal::OutOfMemory);
+        };
         let newest = self.cpu(processor).generation(hook);
         if newest > 0 && generation <= newest {
             return Err(Refusal::Older(newest));
@@ -37,7 +45,7 @@ impl<Q: RunQueue, const P: usize> Parts<Q, P> {
         if generation == 0 || generation > self.drawn {
             return Err(Refusal::NotDrawn);
         }
-        self.cpus[usize::from(processor)].install(hook, generation, policy);
+        self.cpus[usize::from(processor)].install(hook, installed);
         Ok(Reply::Installed)
     }
 }

@@ -1,35 +1,54 @@
 //! The events of one processor: its clock ticks, placed tasks enter, and the running task goes to sleep.
 ghost use Rattle.std.specs.Prelude.{◌≡◌, ◌<◌, []};
 ghost use Rattle.bq_core.specs.World.{count_in};
-ghost use Rattle.bq_core.specs.Steps.{WorldStep, without_policies};
+ghost use Rattle.bq_maps.specs.Counters.{Through};
+ghost use Rattle.bq_core.specs.Choices.{policies};
+ghost use Rattle.bq_core.specs.Steps.{WorldStep};
 ghost use Rattle.bq_core.specs.StandsOnce.{IsOrderly};
 
 use crate::parts::Parts;
-use crate::{By, Event, Refusal, Reply};
+use crate::{Event, Refusal, Reply, Scratch};
 use bq_disc::RunQueue;
+use bq_maps::Board;
 
 impl<Q: RunQueue, const P: usize> Parts<Q, P> {
     /// The clock of a processor ticks.
-    pub(crate) fn tick(&mut self, processor: u8, now: u64) -> Result<Reply, Refusal>
+    pub(crate) fn tick<B: Board>(
+        &mut self,
+        processor: u8,
+        now: u64,
+        scratch: &mut Scratch,
+        board: &mut B,
+    ) -> Result<Reply, Refusal>
         requires orderly { IsOrderly self.old }
         requires inside { processor < count_in self.old }
-        ensures step { WorldStep (without_policies Q.R.discipline) self.old (Event.Tick processor now) [] result self.new }
+        requires unasked { scratch.old ≡ [] }
+        ensures step { WorldStep (policies Q.R.discipline) self.old (Event.Tick processor now) scratch.new result self.new }
+        ensures board { Through B.leads board.old scratch.new board.new }
     {
         let cpu = &mut self.cpus[usize::from(processor)];
         cpu.charge(now);
-        cpu.decide();
+        let preempted = cpu.decide(processor, scratch, board);
         Ok(Reply::Ticked {
             run: cpu.run(),
-            by: By::Discipline,
-            steps: 0,
+            by: preempted.by,
+            steps: preempted.steps,
         })
     }
 
     /// All tasks that were placed on a processor enter its queue.
-    pub(crate) fn drain(&mut self, processor: u8, now: u64) -> Result<Reply, Refusal>
+    pub(crate) fn drain<B: Board>(
+        &mut self,
+        processor: u8,
+        now: u64,
+        scratch: &mut Scratch,
+        board: &mut B,
+    ) -> Result<Reply, Refusal>
         requires orderly { IsOrderly self.old }
         requires inside { processor < count_in self.old }
-        ensures step { WorldStep (without_policies Q.R.discipline) self.old (Event.Drain processor now) [] result self.new }
+        requires unasked { scratch.old ≡ [] }
+        ensures step { WorldStep (policies Q.R.discipline) self.old (Event.Drain processor now) scratch.new result self.new }
+        ensures board { Through B.leads board.old scratch.new board.new }
     {
         let inbox = &mut self.inboxes[usize::from(processor)];
         let count = inbox.len();
@@ -37,12 +56,12 @@ impl<Q: RunQueue, const P: usize> Parts<Q, P> {
         let cpu = &mut self.cpus[usize::from(processor)];
         cpu.charge(now);
         cpu.enter_all(tasks);
-        cpu.decide();
+        let preempted = cpu.decide(processor, scratch, board);
         Ok(Reply::Drained {
             count,
             run: cpu.run(),
-            by: By::Discipline,
-            steps: 0,
+            by: preempted.by,
+            steps: preempted.steps,
         })
     }
 
@@ -50,7 +69,7 @@ impl<Q: RunQueue, const P: usize> Parts<Q, P> {
     pub(crate) fn block(&mut self, processor: u8, now: u64) -> Result<Reply, Refusal>
         requires orderly { IsOrderly self.old }
         requires inside { processor < count_in self.old }
-        ensures step { WorldStep (without_policies Q.R.discipline) self.old (Event.Block processor now) [] result self.new }
+        ensures step { WorldStep (policies Q.R.discipline) self.old (Event.Block processor now) [] result self.new }
     {
         let cpu = &mut self.cpus[usize::from(processor)];
         if cpu.current().is_none() {

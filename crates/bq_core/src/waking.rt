@@ -2,13 +2,15 @@
 ghost use Rattle.std.specs.Prelude.{◌≡◌, ◌<◌, ◌≤◌, ◌^◌, ℕ, [], length, slice_index_or};
 ghost use Rattle.bq_core.specs.Processors.{opening, load_of};
 ghost use Rattle.bq_core.specs.World.{count_in, loads_of};
-ghost use Rattle.bq_core.specs.Steps.{WorldStep, without_policies};
+ghost use Rattle.bq_maps.specs.Counters.{Through};
+ghost use Rattle.bq_core.specs.Choices.{policies};
+ghost use Rattle.bq_core.specs.Steps.{WorldStep};
 ghost use Rattle.bq_core.specs.StandsOnce.{IsOrderly};
 
 use crate::parts::Parts;
-use crate::placing::own_place;
-use crate::{By, Carried, Cpu, Event, Inbox, Loads, Refusal, Reply};
+use crate::{Carried, Cpu, Event, Inbox, Loads, Refusal, Reply, Scratch};
 use bq_disc::RunQueue;
+use bq_maps::Board;
 
 impl<Q: RunQueue, const P: usize> Parts<Q, P> {
     /// A sleeping task comes into the hand of a processor, with the loads of that moment.
@@ -17,7 +19,7 @@ impl<Q: RunQueue, const P: usize> Parts<Q, P> {
         requires orderly { IsOrderly self.old }
         requires inside { processor < count_in self.old }
         requires seat { task < 1024 }
-        ensures step { WorldStep (without_policies Q.R.discipline) self.old (Event.BeginWake processor task) [] result self.new }
+        ensures step { WorldStep (policies Q.R.discipline) self.old (Event.BeginWake processor task) [] result self.new }
     {
         if self.lobby.is_absent(task) {
             return Err(Refusal::NoTask);
@@ -39,10 +41,18 @@ impl<Q: RunQueue, const P: usize> Parts<Q, P> {
 
     /// The task in the hand of a processor is placed: it stands at the end of the chosen processor's inbox.
     #[inline(never)]
-    pub(crate) fn end_wake(&mut self, processor: u8, now: u64) -> Result<Reply, Refusal>
+    pub(crate) fn end_wake<B: Board>(
+        &mut self,
+        processor: u8,
+        now: u64,
+        scratch: &mut Scratch,
+        board: &mut B,
+    ) -> Result<Reply, Refusal>
         requires orderly { IsOrderly self.old }
         requires inside { processor < count_in self.old }
-        ensures step { WorldStep (without_policies Q.R.discipline) self.old (Event.EndWake processor now) [] result self.new }
+        requires unasked { scratch.old ≡ [] }
+        ensures step { WorldStep (policies Q.R.discipline) self.old (Event.EndWake processor now) scratch.new result self.new }
+        ensures board { Through B.leads board.old scratch.new board.new }
     {
         let count = self.cpus.len();
         let cpu = &mut self.cpus[usize::from(processor)];
@@ -50,15 +60,15 @@ impl<Q: RunQueue, const P: usize> Parts<Q, P> {
             return Err(Refusal::NothingInHand);
         };
         cpu.charge(now);
-        let to = own_place(count, &carried);
+        let placed = cpu.choose_place(processor, count, &carried, scratch, board);
         let Carried { task, loads: _ } = carried;
         let id = task.id();
-        self.inboxes[usize::from(to)].push(task);
+        self.inboxes[usize::from(placed.choice)].push(task);
         Ok(Reply::Placed {
             task: id,
-            to,
-            by: By::Discipline,
-            steps: 0,
+            to: placed.choice,
+            by: placed.by,
+            steps: placed.steps,
         })
     }
 }

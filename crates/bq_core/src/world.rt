@@ -1,15 +1,18 @@
 //! The world and its events: the call by which everything else drives it.
 ghost use Rattle.std.specs.Prelude.{◌≡◌, ◌+◌, ◌≤◌, ◌<◌, List, [], ◌∷◌, Err, OnOk, OnErr, IfOk, IfErr, length, replicate, vec_len, vec_capacity};
 ghost use Rattle.bq_core.specs.World.{opening_world, processor, count_in};
-ghost use Rattle.bq_core.specs.Calls.{CounterCall};
-ghost use Rattle.bq_core.specs.Steps.{WorldStep, WorldRun, without_policies};
+ghost use Rattle.bq_core.specs.Choices.{policies};
+ghost use Rattle.bq_core.specs.Steps.{WorldStep, WorldRun, ThroughAll};
+ghost use Rattle.bq_maps.specs.Counters.{Through};
+ghost use Rattle.bq_maps.specs.declared.board.Call.{Call as Asked};
 ghost use Rattle.bq_core.specs.StandsOnce.{StandsOnce, IsOrderly};
 ghost use Rattle.bq_core.specs.declared.refusal.Refusal.TheVariants as no;
 
 use crate::arguments::argument_refusal;
 use crate::parts::Parts;
-use crate::{Cpu, Event, Refusal, Reply};
+use crate::{Cpu, Event, Refusal, Reply, Scratch};
 use bq_disc::RunQueue;
+use bq_maps::Board;
 use std::alloc::{AllocError, Global};
 use std::marker::Model;
 
@@ -18,6 +21,7 @@ use std::marker::Model;
 #[derive(Drop)]
 pub struct Core<Q: RunQueue, const P: usize> {
     parts: Parts<Q, P>,
+    scratch: Scratch,
 }
 
 impl<Q: RunQueue, const P: usize> Model for Core<Q, P> {
@@ -39,28 +43,39 @@ impl<Q: RunQueue + Drop, const P: usize> Core<Q, P> {
         ensures { IfOk result (λ c. c ≡ opening_world P) }
     {
         let parts = Parts::new(alloc)?;
-        Ok(Core { parts })
+        Ok(Core {
+            parts,
+            scratch: Scratch::new(),
+        })
     }
 }
 
 impl<Q: RunQueue, const P: usize> Core<Q, P> {
-    /// One event. A refusal leaves the world as it was. Only Admit may be refused for want of memory.
-    pub fn step(&mut self, alloc: Global, event: Event) -> Result<Reply, Refusal>
-        ensures step { WorldStep (without_policies Q.R.discipline) self.old event [] result self.new }
+    /// One event. What policies ask of the counters goes through the board. A refusal leaves the world as it was, and the
+    /// board. Only Admit and Install may be refused for want of memory.
+    pub fn step<B: Board>(
+        &mut self,
+        alloc: Global,
+        event: Event,
+        board: &mut B,
+    ) -> Result<Reply, Refusal>
+        ensures step { (calls : List Asked) × WorldStep (policies Q.R.discipline) self.old event calls result self.new × Through B.leads board.old calls board.new }
         ensures once { StandsOnce self.new }
     {
-        self.parts.step(alloc, event)
+        self.parts.step(alloc, event, &mut self.scratch, board)
     }
 
     /// Some events in order, and the answer to each. The list of answers is made before the first event: where that growth
     /// is refused the answer is OutOfMemory, and nothing has happened.
-    pub fn run(
+    pub fn run<B: Board>(
         &mut self,
         alloc: Global,
         events: Vec<Event>,
+        board: &mut B,
     ) -> Result<Vec<Result<Reply, Refusal>>, Refusal>
-        ensures ok { IfOk result (λ answers. WorldRun (without_policies Q.R.discipline) self.old events.items (replicate (length events.items) []) answers.items self.new) }
+        ensures ok { IfOk result (λ answers. (calls : List (List Asked)) × WorldRun (policies Q.R.discipline) self.old events.items calls answers.items self.new × ThroughAll B.leads board.old calls board.new) }
         ensures err { OnErr result (self.new ≡ self.old) }
+        ensures still { OnErr result (board.new ≡ board.old) }
         ensures memory { IfErr result (λ refusal. refusal ≡ no.OutOfMemory) }
         ensures once { StandsOnce self.new }
     {
@@ -68,25 +83,26 @@ impl<Q: RunQueue, const P: usize> Core<Q, P> {
             let _ = &self.parts;
             return Err(Refusal::OutOfMemory);
         };
-        self.run_all(alloc, events.as_slice(), &mut answers);
+        self.run_all(alloc, events, &mut answers, board);
         Ok(answers)
     }
 
     /// Some events in order, whose answers are added to a list that has room for them.
-    fn run_all(
+    fn run_all<B: Board>(
         &mut self,
         alloc: Global,
-        events: &[Event],
+        events: Vec<Event>,
         answers: &mut Vec<Result<Reply, Refusal>>,
+        board: &mut B,
     )
-        requires room { vec_len answers.old + length events.now ≤ vec_capacity answers.old }
+        requires room { vec_len answers.old + length events.items ≤ vec_capacity answers.old }
         requires empty { answers.old.items ≡ [] }
-        ensures run { WorldRun (without_policies Q.R.discipline) self.old events.now (replicate (length events.now) []) answers.new.items self.new }
+        ensures run { (calls : List (List Asked)) × WorldRun (policies Q.R.discipline) self.old events.items calls answers.new.items self.new × ThroughAll B.leads board.old calls board.new }
         ensures once { StandsOnce self.new }
     {
         let _ = &self.parts;
-        for &event in events {
-            let answer = self.step(alloc, event);
+        for event in events {
+            let answer = self.step(alloc, event, board);
             if answers.push(answer).is_err() {
                 unreachable!();
             }
@@ -111,13 +127,21 @@ impl<Q: RunQueue, const P: usize> Core<Q, P> {
 }
 
 impl<Q: RunQueue, const P: usize> Parts<Q, P> {
-    /// One event.
-    pub(crate) fn step(&mut self, alloc: Global, event: Event) -> Result<Reply, Refusal>
+    /// One event. The scratch space has its calls of counters afterwards.
+    pub(crate) fn step<B: Board>(
+        &mut self,
+        alloc: Global,
+        event: Event,
+        scratch: &mut Scratch,
+        board: &mut B,
+    ) -> Result<Reply, Refusal>
         requires orderly { IsOrderly self.old }
-        ensures step { WorldStep (without_policies Q.R.discipline) self.old event [] result self.new }
+        ensures step { WorldStep (policies Q.R.discipline) self.old event scratch.new result self.new }
+        ensures board { Through B.leads board.old scratch.new board.new }
         ensures even { length self.old.inboxes ≡ length self.old.processors }
     {
         let _ = &self.cpus;
+        scratch.clear();
         if let Some(refusal) = argument_refusal(self.processors(), &event) {
             return Err(refusal);
         }
@@ -135,17 +159,17 @@ impl<Q: RunQueue, const P: usize> Parts<Q, P> {
                 hook,
                 generation,
                 policy,
-            } => self.install(processor, hook, generation, policy),
+            } => self.install(alloc, processor, hook, generation, policy),
             Event::BeginWake { processor, task } => self.begin_wake(processor, task),
-            Event::EndWake { processor, now } => self.end_wake(processor, now),
-            Event::Drain { processor, now } => self.drain(processor, now),
-            Event::Tick { processor, now } => self.tick(processor, now),
+            Event::EndWake { processor, now } => self.end_wake(processor, now, scratch, board),
+            Event::Drain { processor, now } => self.drain(processor, now, scratch, board),
+            Event::Tick { processor, now } => self.tick(processor, now, scratch, board),
             Event::Block { processor, now } => self.block(processor, now),
             Event::Pull {
                 processor,
                 from,
                 now,
-            } => self.pull(processor, from, now),
+            } => self.pull(processor, from, now, scratch, board),
         }
     }
 }

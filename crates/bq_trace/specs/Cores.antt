@@ -1,4 +1,5 @@
 -- The world of a core, whichever size and rule it has.
+use Rattle.std.specs.Prelude.{ℕ, List}
 use Rattle.bq_core.specs.World.{World}
 use Rattle.bq_trace.specs.Machines.{Machine}
 use Rattle.bq_trace.specs.declared.command.Rule.TheVariants as rules
@@ -16,6 +17,6 @@ world_of (Sixteen w) = w
 world_of (ThirtyTwo w) = w
 world_of (SixtyFour w) = w
 
-abbrev pub machine_of : Ruled → Machine
-machine_of (ruled.Cfs w) = record { rule = rules.Cfs; world = w }
-machine_of (ruled.Eevdf w) = record { rule = rules.Eevdf; world = w }
+abbrev pub machine_of : Ruled → List ℕ → Machine
+machine_of (ruled.Cfs w) counters = record { rule = rules.Cfs; world = w; counters = counters }
+machine_of (ruled.Eevdf w) counters = record { rule = rules.Eevdf; world = w; counters = counters }

@@ -1,11 +1,13 @@
--- The machine that a trace drives: the discipline of its queues, and its world.
-use Rattle.std.specs.Prelude.{◌≢◌, ℕ, [], Result, Err}
+-- The machine that a trace drives: the discipline of its queues, its world, and the counters that its policies share.
+use Rattle.std.specs.Prelude.{◌≢◌, ℕ, List, replicate, Result, Err}
 use Rattle.bq_disc.specs.Discipline.{Discipline}
 use Rattle.bq_cfs.specs.Cfs.{cfs}
 use Rattle.bq_eevdf.specs.Eevdf.{eevdf}
+use Rattle.bq_maps.specs.declared.board.Call.{Call as Asked}
+use Rattle.bq_maps.specs.Counters.{Counts, Through}
 use Rattle.bq_core.specs.World.{World, opening_world}
-use Rattle.bq_core.specs.Choices.{Setting}
-use Rattle.bq_core.specs.Steps.{WorldStep, without_policies}
+use Rattle.bq_core.specs.Choices.{Setting, policies}
+use Rattle.bq_core.specs.Steps.{WorldStep}
 use Rattle.bq_core.specs.declared.event.Event.{Event}
 use Rattle.bq_core.specs.declared.reply.Reply.{Reply}
 use Rattle.bq_core.specs.declared.refusal.Refusal.{Refusal}
@@ -18,6 +20,7 @@ use Rattle.bq_trace.specs.declared.command.Size.TheVariants.{One, Two, Four, Eig
 pub record Machine : Type 0 where
   pub rule : Rule
   pub world : World
+  pub counters : List ℕ
 
 abbrev pub discipline_of : Rule → Discipline
 discipline_of Cfs = cfs
@@ -25,7 +28,7 @@ discipline_of Eevdf = eevdf
 
 -- what the machine's world runs under
 abbrev pub setting_of : Rule → Setting
-setting_of rule = without_policies (discipline_of rule)
+setting_of rule = policies (discipline_of rule)
 
 -- how many processors a size has
 abbrev pub processors_in : Size → ℕ
@@ -39,9 +42,12 @@ processors_in SixtyFour = 64
 
 -- a machine to which nothing has happened
 abbrev pub opening_machine : Rule → Size → Machine
-opening_machine rule size = record { rule = rule; world = opening_world (processors_in size) }
+opening_machine rule size = record { rule = rule; world = opening_world (processors_in size); counters = replicate 64 0 }
 
--- One event is a step of a world, and it has an answer that is not want of memory.
-pub record Steps (s : Setting) (w : World) (event : Event) (answer : Result Reply Refusal) (v : World) : Type 0 where
-  pub step : WorldStep s w event [] answer v
+-- One event is a step of a world, what it asked of the counters leads from the ones to the others, and it has an answer that
+-- is not want of memory.
+pub record Steps (s : Setting) (w : World) (old : List ℕ) (event : Event) (answer : Result Reply Refusal) (v : World) (new : List ℕ) : Type 0 where
+  pub calls : List Asked
+  pub step : WorldStep s w event calls answer v
+  pub through : Through Counts old calls new
   pub answered : answer ≢ Err OutOfMemory

@@ -5,8 +5,8 @@ use Rattle.std.specs.Fmt.{decimal}
 use Rattle.bq_disc.specs.Tasks.{Task}
 use Rattle.bq_disc.specs.OneProcessor.{Running}
 use Rattle.bq_core.specs.World.{World, processor, count_in}
-use Rattle.bq_core.specs.declared.reply.By.{By}
-use Rattle.bq_core.specs.declared.reply.By.TheVariants.{Policy, Discipline}
+use Rattle.bq_hooks.specs.declared.settled.By.{By}
+use Rattle.bq_hooks.specs.declared.settled.By.TheVariants.{Policy, Discipline}
 use Rattle.bq_core.specs.declared.reply.Reply.{Reply}
 use Rattle.bq_core.specs.declared.reply.Reply.TheVariants.{Admitted, Retired, Drawn, Installed, Begun, Placed, Drained, Ticked, Blocked, Pulled}
 use Rattle.bq_core.specs.declared.refusal.Refusal.{Refusal}

@@ -20,7 +20,7 @@ use Rattle.bq_trace.specs.declared.progress.Progress.{Progress}
 -- An event is done in the machine's world, under its rule, and the text is the line that answers it.
 pub record DoesAndAnswers (m : Driven) (event : Event) (answer : Result Reply Refusal) (text : List ℕ) (n : Driven) : Type 0 where
   pub same_rule : n.rule ≡ m.rule
-  pub step : Steps (setting_of m.rule) m.world event answer n.world
+  pub step : Steps (setting_of m.rule) m.world m.counters event answer n.world n.counters
   pub line : text ≡ event_line answer
 
 -- What follows the begin of a wake: the end, unless the begin was refused.

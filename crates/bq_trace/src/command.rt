@@ -24,7 +24,7 @@ pub enum Size {
 }
 
 /// What a line may ask.
-#[derive(Clone, Copy)]
+#[derive(Drop)]
 pub enum Command {
     /// A machine is made.
     Machine { rule: Rule, size: Size },
@@ -37,7 +37,7 @@ pub enum Command {
 }
 
 /// What a line is.
-#[derive(Clone, Copy)]
+#[derive(Drop)]
 pub enum Reading {
     /// It has no words, or is a comment.
     Skipped,

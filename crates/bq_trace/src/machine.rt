@@ -1,7 +1,7 @@
 //! The machine that a trace drives: a core of one of the sizes, under one of the rules, that a trace may ask for.
 ghost use Rattle.std.specs.Prelude.{◌≡◌, ◌++◌, Result, is_ok, IfOk, OnOk, string_bytes};
 ghost use Rattle.bq_core.specs.World.{opening_world};
-ghost use Rattle.bq_core.specs.Steps.{without_policies};
+ghost use Rattle.bq_core.specs.Choices.{policies};
 ghost use Rattle.bq_core.specs.declared.reply.Reply.{Reply};
 ghost use Rattle.bq_core.specs.declared.refusal.Refusal.{Refusal};
 ghost use Rattle.bq_trace.specs.Machines.{processors_in, opening_machine, Steps};
@@ -12,7 +12,7 @@ use crate::command::{Rule, Size};
 use crate::shows::write_processor;
 use crate::texts::{write_answer, write_refusal};
 use bq_cfs::CfsQueue;
-use bq_core::{Core, Event, Refusal};
+use bq_core::{Core, Event, Plain, Refusal};
 use bq_disc::RunQueue;
 use bq_eevdf::EevdfQueue;
 use std::alloc::{AllocError, Global};
@@ -70,18 +70,24 @@ impl<Q: RunQueue + Drop> Sized<Q> {
 }
 
 impl<Q: RunQueue> Sized<Q> {
-    fn answer(&mut self, alloc: Global, event: Event, text: &mut String) -> Result<bool, AllocError>
+    fn answer(
+        &mut self,
+        alloc: Global,
+        event: Event,
+        board: &mut Plain,
+        text: &mut String,
+    ) -> Result<bool, AllocError>
         ensures { IfOk result (λ done. (answer : Result Reply Refusal) × (is_ok answer ≡ done)
-            × Steps (without_policies Q.R.discipline) self.old event answer self.new × (string_bytes text.new ≡ string_bytes text.old ++ event_line answer)) }
+            × Steps (policies Q.R.discipline) self.old board.old event answer self.new board.new × (string_bytes text.new ≡ string_bytes text.old ++ event_line answer)) }
     {
         match &mut self.core {
-            Cores::One(core) => answer(core, alloc, event, text),
-            Cores::Two(core) => answer(core, alloc, event, text),
-            Cores::Four(core) => answer(core, alloc, event, text),
-            Cores::Eight(core) => answer(core, alloc, event, text),
-            Cores::Sixteen(core) => answer(core, alloc, event, text),
-            Cores::ThirtyTwo(core) => answer(core, alloc, event, text),
-            Cores::SixtyFour(core) => answer(core, alloc, event, text),
+            Cores::One(core) => answer(core, alloc, event, board, text),
+            Cores::Two(core) => answer(core, alloc, event, board, text),
+            Cores::Four(core) => answer(core, alloc, event, board, text),
+            Cores::Eight(core) => answer(core, alloc, event, board, text),
+            Cores::Sixteen(core) => answer(core, alloc, event, board, text),
+            Cores::ThirtyTwo(core) => answer(core, alloc, event, board, text),
+            Cores::SixtyFour(core) => answer(core, alloc, event, board, text),
         }
     }
 
@@ -105,12 +111,13 @@ fn answer<Q: RunQueue, const P: usize>(
     core: &mut Core<Q, P>,
     alloc: Global,
     event: Event,
+    board: &mut Plain,
     text: &mut String,
 ) -> Result<bool, AllocError>
     ensures { IfOk result (λ done. (answer : Result Reply Refusal) × (is_ok answer ≡ done)
-        × Steps (without_policies Q.R.discipline) core.old event answer core.new × (string_bytes text.new ≡ string_bytes text.old ++ event_line answer)) }
+        × Steps (policies Q.R.discipline) core.old board.old event answer core.new board.new × (string_bytes text.new ≡ string_bytes text.old ++ event_line answer)) }
 {
-    let answer = core.step(alloc, event);
+    let answer = core.step(alloc, event, board);
     if let Err(Refusal::OutOfMemory) = answer {
         return Err(AllocError);
     }
@@ -139,14 +146,18 @@ enum Ruled {
     Eevdf(Sized<EevdfQueue>),
 }
 
-/// A machine. Contracts see its rule and its world.
+/// A machine. Contracts see its rule, its world, and the counters that its policies share.
 pub struct Machine {
     core: Ruled,
+    board: Plain,
 }
 
 impl Drop for Machine {
     fn drop(self) {
-        let Machine { core: _core } = self;
+        let Machine {
+            core: _core,
+            board: _board,
+        } = self;
     }
 }
 
@@ -157,7 +168,7 @@ impl Model for Machine {
 
     ghost use Rattle.bq_trace.specs.Cores.{machine_of};
 
-    ghost view = { λ m. machine_of m.core };
+    ghost view = { λ m. machine_of m.core m.board };
 }
 
 impl Machine {
@@ -171,7 +182,10 @@ impl Machine {
             Rule::Cfs => Ruled::Cfs(Sized::new(alloc, size)?),
             Rule::Eevdf => Ruled::Eevdf(Sized::new(alloc, size)?),
         };
-        Ok(Machine { core })
+        Ok(Machine {
+            core,
+            board: Plain::new(),
+        })
     }
 
     /// Does an event and adds the line that answers it. True where it was not refused.
@@ -185,8 +199,8 @@ impl Machine {
             × Adds (string_bytes text.old) (string_bytes text.new) (λ line. DoesAndAnswers self.old event answer line self.new)) }
     {
         match &mut self.core {
-            Ruled::Cfs(core) => core.answer(alloc, event, text),
-            Ruled::Eevdf(core) => core.answer(alloc, event, text),
+            Ruled::Cfs(core) => core.answer(alloc, event, &mut self.board, text),
+            Ruled::Eevdf(core) => core.answer(alloc, event, &mut self.board, text),
         }
     }
 

@@ -1,5 +1,6 @@
 //! What each line of a trace does, and what answers it.
 ghost use Rattle.std.specs.Prelude.{◌≡◌, IfOk, OnOk, string_bytes};
+ghost use Rattle.bq_trace.specs.Trace.{Answers};
 ghost use Rattle.bq_trace.specs.Writing.{Adds};
 
 use crate::command::{Command, Reading};
@@ -28,6 +29,43 @@ impl Machine {
         }
         Ok(())
     }
+
+    /// Does what the line of this number says and adds what answers it. True where the line is bad.
+    fn obey(
+        &mut self,
+        alloc: Global,
+        reading: Reading,
+        number: u64,
+        text: &mut String,
+    ) -> Result<bool, AllocError>
+        ensures { IfOk result (λ bad. Adds (string_bytes text.old) (string_bytes text.new) (λ line. Answers (Phase.Running self.old) reading number line (Phase.Running self.new) bad)) }
+    {
+        match reading {
+            Reading::Skipped => Ok(false),
+            Reading::Says(Command::Does(event)) => {
+                self.answer(alloc, event, text)?;
+                Ok(false)
+            }
+            Reading::Says(
+                Command::Wake {
+                    processor,
+                    task,
+                    now,
+                },
+            ) => {
+                self.wake(alloc, processor, task, now, text)?;
+                Ok(false)
+            }
+            Reading::Says(Command::Show { processor }) => {
+                self.show(text, processor)?;
+                Ok(false)
+            }
+            Reading::Bad | Reading::Says(Command::Machine { .. }) => {
+                write_bad(text, number)?;
+                Ok(true)
+            }
+        }
+    }
 }
 
 /// Where a trace stands: before its machine line, past one that failed, or with its machine.
@@ -41,9 +79,30 @@ pub enum Phase {
     Running(Machine),
 }
 
-impl Phase {
-    ghost use Rattle.bq_trace.specs.Trace.{Answers};
+/// Where a trace stands after the line of this number, which may be its machine line; adds what answers it. True where the
+/// line is bad.
+fn first_phase(
+    alloc: Global,
+    reading: Reading,
+    number: u64,
+    text: &mut String,
+) -> Result<(Phase, bool), AllocError>
+    ensures { IfOk result (λ first. Adds (string_bytes text.old) (string_bytes text.new) (λ line. Answers Phase.Waiting reading number line first.0 first.1)) }
+{
+    match reading {
+        Reading::Skipped => Ok((Phase::Waiting, false)),
+        Reading::Says(Command::Machine { rule, size }) => {
+            let machine = Machine::new(alloc, rule, size)?;
+            Ok((Phase::Running(machine), false))
+        }
+        _ => {
+            write_bad(text, number)?;
+            Ok((Phase::Over, true))
+        }
+    }
+}
 
+impl Phase {
     /// Does what the line of this number says and adds what answers it. True where the line is bad.
     fn answer(
         &mut self,
@@ -56,43 +115,12 @@ impl Phase {
     {
         match self {
             Phase::Over => Ok(false),
-            Phase::Waiting => match reading {
-                Reading::Skipped => Ok(false),
-                Reading::Says(Command::Machine { rule, size }) => {
-                    *self = Phase::Running(Machine::new(alloc, rule, size)?);
-                    Ok(false)
-                }
-                _ => {
-                    *self = Phase::Over;
-                    write_bad(text, number)?;
-                    Ok(true)
-                }
-            },
-            Phase::Running(machine) => match reading {
-                Reading::Skipped => Ok(false),
-                Reading::Says(Command::Does(event)) => {
-                    machine.answer(alloc, event, text)?;
-                    Ok(false)
-                }
-                Reading::Says(
-                    Command::Wake {
-                        processor,
-                        task,
-                        now,
-                    },
-                ) => {
-                    machine.wake(alloc, processor, task, now, text)?;
-                    Ok(false)
-                }
-                Reading::Says(Command::Show { processor }) => {
-                    machine.show(text, processor)?;
-                    Ok(false)
-                }
-                Reading::Bad | Reading::Says(Command::Machine { .. }) => {
-                    write_bad(text, number)?;
-                    Ok(true)
-                }
-            },
+            Phase::Waiting => {
+                let (phase, bad) = first_phase(alloc, reading, number, text)?;
+                *self = phase;
+                Ok(bad)
+            }
+            Phase::Running(machine) => machine.obey(alloc, reading, number, text),
         }
     }
 }

@@ -1,102 +1,120 @@
-use Rattle.std.proofs.Common.{◌≡◌, ◌<◌, ap, sym, ◌∙◌, length, arith}
-use Rattle.std.proofs.lemmas.List.{get_or_read}
-use Rattle.bq_disc.specs.Tasks.{id_of}
-use Rattle.bq_disc.specs.OneProcessor.{charge, marked}
-use Rattle.bq_core.specs.Processors.{Processor, opening, size_of}
-use Rattle.bq_core.specs.World.{World, processor}
-use Rattle.bq_core.specs.Steps.{charged_at, taken_from, without_task, with_pulled, started_if_idle}
-use Rattle.bq_core.proofs.Pulls.{pull_for, source_of, pulled_by, after_giving, holding, after_pulling, pull_step, read_other, read_again, write_back_two, same_current, few_charged, few_given, taken_fresh}
+use Rattle.std.proofs.Common.{◌≡◌, ap, sym, subst, ◌∙◌, length, arith, None}
+use Rattle.std.specs.Prelude.{IfSome}
+use Rattle.bq_disc.specs.Tasks.{id_of, with_id}
+use Rattle.bq_core.specs.Processors.{Processor}
+use Rattle.bq_core.specs.World.{World, processor, count_in, with_processor}
+use Rattle.bq_core.specs.Choices.{Settled, SettlesPull, policies}
+use Rattle.bq_core.specs.Steps.{charged_at, source_at, taken_from, without_task, with_pulled, started_if_idle}
+use Rattle.bq_core.proofs.Pulls.{with_two, count_with_two, first_of_two, second_of_two, first_again, both_again, few_charged, few_given, source_small, source_distinct, taken_fresh, puller_after, source_after, pull_step}
 use Rattle.bq_core.proofs.parts.Parts.pull.Goals as goal
 
-pub size-size-requires : goal.size-size-requires
-size-size-requires g c =
-    let w = c.args.self.now in
-    let d = g.Q.R.Rule.discipline in
-    let cpu = c.args.processor in
-    let items = ap (λ (v : World). v.processors) c.self.view_is in
-    let seats = ap (λ (v : World). length v.seats) c.self.view_is in
-    let inside : cpu < length c.self.inside.cpus.items = rw items c.requires.inside in
-    let at = rw c.from.ensures at c.index_mut-puller.ensures.value in
-    let place : c.index_mut-puller.result.now ≡ processor w cpu = rw items at (get_or_read c.self.inside.cpus.items cpu c.index_mut-puller.result.now inside at opening) in
-    let charged : c.charge.new.self ≡ charged_at d w cpu c.args.now = c.charge.ensures ∙ ap (λ (x : Processor). record x { running = charge d x.running c.args.now }) place in
-    let few = few_charged d w cpu c.args.now (sym seats ∙ c.self.invariant.2) c.requires.orderly in
-    rw charged (omega (arith, few))
-
-pub own_pull-own-requires-clause-few : goal.own_pull-own-requires-clause-few
-own_pull-own-requires-clause-few g c =
+pub choose_pull-pulled-requires : goal.choose_pull-pulled-requires
+choose_pull-pulled-requires g c =
     let w = c.args.self.now in
     let d = g.Q.R.Rule.discipline in
     let cpu = c.args.processor in
     let from = c.args.from in
     let now = c.args.now in
-    let items = ap (λ (v : World). v.processors) c.self.view_is in
-    let seats = ap (λ (v : World). length v.seats) c.self.view_is in
-    let inside_from : from < length c.self.inside.cpus.items = rw items c.requires.inside_from in
-    let at_from = rw (c.from.ensures, c.from-2.ensures) at c.index_mut-source.ensures.value in
-    let place_from : c.index_mut-source.result.now ≡ processor w from =
-    rw items at (read_other c.self.inside.cpus.items cpu from c.charge.new.self c.index_mut-source.result.now opening c.requires.apart inside_from at_from) in
-    let source : c.remark.new.self ≡ source_of d w from = c.remark.ensures ∙ ap (λ (x : Processor). record x { running = marked d x.running }) place_from in
-    let few = few_given d w from (sym seats ∙ c.self.invariant.2) c.requires.orderly in
-    rw source (omega (arith, few))
+    let p = charged_at d w cpu now in
+    let other = source_at d w from in
+    let first : processor c.come_up.new.self cpu ≡ p = ap (λ (v : World). processor v cpu) c.come_up.ensures ∙ first_of_two w cpu from p other c.requires.apart c.requires.inside in
+    let second : processor c.come_up.new.self from ≡ other = ap (λ (v : World). processor v from) c.come_up.ensures ∙ second_of_two w cpu from p other c.requires.inside_from in
+    let seats : length w.seats ≡ 1024 = ap (λ (v : World). length v.seats) (sym c.self.view_is) ∙ c.self.invariant.2 in
+    let same : count_in c.come_up.new.self ≡ count_in w = ap (λ (v : World). count_in v) c.come_up.ensures ∙ count_with_two w cpu from p other in (
+      omega arith,
+      (
+        rw same c.requires.inside,
+        (
+          rw same c.requires.inside_from,
+          (
+            c.requires.apart,
+            (
+              rw first (few_charged d w cpu now seats c.requires.orderly),
+              (
+                rw second (few_given d w from seats c.requires.orderly),
+                (
+                  rw second (source_distinct d w from c.requires.orderly),
+                  (
+                    rw second (source_small d w from seats c.requires.orderly),
+                    (
+                        c.requires.unasked),
+                  ),
+                ),
+              ),
+            ),
+          ),
+        ),
+      ),
+    )
 
-pub accept-requires : goal.accept-requires
-accept-requires g c =
+pub move_task-run-requires : goal.move_task-run-requires
+move_task-run-requires g c =
     let w = c.args.self.now in
     let d = g.Q.R.Rule.discipline in
     let cpu = c.args.processor in
     let from = c.args.from in
     let now = c.args.now in
-    let items = ap (λ (v : World). v.processors) c.self.view_is in
-    let inside : cpu < length c.self.inside.cpus.items = rw items c.requires.inside in
-    let at = rw c.from.ensures at c.index_mut-puller.ensures.value in
-    let place : c.index_mut-puller.result.now ≡ processor w cpu = rw items at (get_or_read c.self.inside.cpus.items cpu c.index_mut-puller.result.now inside at opening) in
-    let charged : c.charge.new.self ≡ charged_at d w cpu now = c.charge.ensures ∙ ap (λ (x : Processor). record x { running = charge d x.running now }) place in
-    let inside_from : from < length c.self.inside.cpus.items = rw items c.requires.inside_from in
-    let at_from = rw (c.from.ensures, c.from-2.ensures) at c.index_mut-source.ensures.value in
-    let place_from : c.index_mut-source.result.now ≡ processor w from =
-    rw items at (read_other c.self.inside.cpus.items cpu from c.charge.new.self c.index_mut-source.result.now opening c.requires.apart inside_from at_from) in
-    let source : c.remark.new.self ≡ source_of d w from = c.remark.ensures ∙ ap (λ (x : Processor). record x { running = marked d x.running }) place_from in
-    let at_again = rw (c.from.ensures, c.from-2.ensures, c.from-3.ensures) at c.index_mut-puller-2.ensures.value in
-    let again : c.index_mut-puller-2.result.now ≡ charged_at d w cpu now =
-    read_again c.self.inside.cpus.items cpu from c.charge.new.self c.give-given.new.self c.index_mut-puller-2.result.now c.requires.apart inside at_again ∙ charged in
-    let given : c.give-given.result ≡ taken_from (source_of d w from).running c.own_pull-own.result = c.give-given.ensures.task ∙ ap (λ (x : Processor). taken_from x.running c.own_pull-own.result) source in
-    record { fresh = rw (given, again) (taken_fresh d w cpu from now c.own_pull-own.result c.requires.apart c.requires.orderly) }
+    let p = charged_at d w cpu now in
+    let other = source_at d w from in
+    let first : processor c.come_up.new.self cpu ≡ p = ap (λ (v : World). processor v cpu) c.come_up.ensures ∙ first_of_two w cpu from p other c.requires.apart c.requires.inside in
+    let pulled = c.choose_pull-pulled in
+    let program = (processor pulled.new.self cpu).programs.pull in
+    let asked : Processor = record p { programs = record p.programs { pull = program } } in
+    let chosen : pulled.new.self ≡ with_two w cpu from asked other =
+    pulled.ensures.rest
+    ∙ ap (λ (x : Processor). with_processor c.come_up.new.self cpu (record x { programs = record x.programs { pull = program } })) first
+    ∙ ap (λ (v : World). with_processor v cpu asked) c.come_up.ensures
+    ∙ first_again w cpu from p other asked c.requires.apart in
+    let one : processor pulled.new.self cpu ≡ asked = ap (λ (v : World). processor v cpu) chosen ∙ first_of_two w cpu from asked other c.requires.apart c.requires.inside in
+    let two : processor pulled.new.self from ≡ other = ap (λ (v : World). processor v from) chosen ∙ second_of_two w cpu from asked other c.requires.inside_from in
+    let same : count_in pulled.new.self ≡ count_in w = ap (λ (v : World). count_in v) chosen ∙ count_with_two w cpu from asked other in
+    let fresh = taken_fresh d w cpu from now pulled.result.choice c.requires.apart c.requires.orderly in
+    let here = subst (λ (x : Processor). IfSome (taken_from other.running pulled.result.choice) (λ t. with_id t.id x.running.queue ≡ None)) (sym one) fresh in (
+      omega arith,
+      (
+        rw same c.requires.inside,
+        (
+          rw same c.requires.inside_from,
+          (
+            c.requires.apart,
+            (
+                subst (λ (x : Processor). IfSome (taken_from x.running pulled.result.choice) (λ t. with_id t.id (processor pulled.new.self cpu).running.queue ≡ None)) (sym two) here),
+          ),
+        ),
+      ),
+    )
 
-pub returns : goal.returns
-returns g c =
+pub returns-clause-step : goal.returns-clause-step
+returns-clause-step g c =
     let w = c.args.self.now in
     let d = g.Q.R.Rule.discipline in
     let cpu = c.args.processor in
     let from = c.args.from in
     let now = c.args.now in
-    let items = ap (λ (v : World). v.processors) c.self.view_is in
-    let inside : cpu < length c.self.inside.cpus.items = rw items c.requires.inside in
-    let at = rw c.from.ensures at c.index_mut-puller.ensures.value in
-    let place : c.index_mut-puller.result.now ≡ processor w cpu = rw items at (get_or_read c.self.inside.cpus.items cpu c.index_mut-puller.result.now inside at opening) in
-    let charged : c.charge.new.self ≡ charged_at d w cpu now = c.charge.ensures ∙ ap (λ (x : Processor). record x { running = charge d x.running now }) place in
-    let inside_from : from < length c.self.inside.cpus.items = rw items c.requires.inside_from in
-    let at_from = rw (c.from.ensures, c.from-2.ensures) at c.index_mut-source.ensures.value in
-    let place_from : c.index_mut-source.result.now ≡ processor w from =
-    rw items at (read_other c.self.inside.cpus.items cpu from c.charge.new.self c.index_mut-source.result.now opening c.requires.apart inside_from at_from) in
-    let source : c.remark.new.self ≡ source_of d w from = c.remark.ensures ∙ ap (λ (x : Processor). record x { running = marked d x.running }) place_from in
-    let at_again = rw (c.from.ensures, c.from-2.ensures, c.from-3.ensures) at c.index_mut-puller-2.ensures.value in
-    let again : c.index_mut-puller-2.result.now ≡ charged_at d w cpu now =
-    read_again c.self.inside.cpus.items cpu from c.charge.new.self c.give-given.new.self c.index_mut-puller-2.result.now c.requires.apart inside at_again ∙ charged in
-    let given : c.give-given.result ≡ taken_from (source_of d w from).running c.own_pull-own.result = c.give-given.ensures.task ∙ ap (λ (x : Processor). taken_from x.running c.own_pull-own.result) source in
-    let own = c.own_pull-own.result in
-    let seats = ap (λ (v : World). length v.seats) c.self.view_is in
-    let chosen : own ≡ pulled_by d w cpu from now =
-    c.own_pull-own.ensures
-    ∙ ap (λ (x : Processor). pull_for cpu c.size-size.result x) source ∙ ap (λ n. pull_for cpu n (source_of d w from)) (c.size-size.ensures ∙ ap (λ (x : Processor). size_of x) charged) in
-    let left : c.give-given.new.self ≡ after_giving d w from own = c.give-given.ensures.rest ∙ ap (λ (x : Processor). record x { running = without_task x.running own }) source in
-    let held : c.accept.new.self ≡ holding d w cpu from now own =
-    c.accept.ensures ∙ ap (λ (x : Processor). record x { running = with_pulled d x.running c.give-given.result }) again
-    ∙ ap (λ o. let p = charged_at d w cpu now in record p { running = with_pulled d p.running o }) given in
-    let new : c.start_if_idle.new.self ≡ after_pulling d w cpu from now own =
-    c.start_if_idle.ensures ∙ ap (λ (x : Processor). record x { running = started_if_idle d x.running x.running.current }) held
-    ∙ ap (λ o. let p = holding d w cpu from now own in record p { running = started_if_idle d p.running o }) (same_current d (charged_at d w cpu now).running _) in
-    record {
-      step = pull_step d w _ cpu from now own _ (sym seats ∙ c.self.invariant.2) c.requires.orderly c.requires.inside c.requires.inside_from c.requires.apart chosen
-          (c.run.ensures ∙ ap (λ (x : Processor). id_of x.running.current) new)
-          (write_back_two _ w _ _ _ cpu from c.charge.new.self _ _ _ _ c.self.view_is c.from.ensures c.from-2.ensures c.from-3.ensures c.requires.apart new left);
-    }
+    let p = charged_at d w cpu now in
+    let other = source_at d w from in
+    let first : processor c.come_up.new.self cpu ≡ p = ap (λ (v : World). processor v cpu) c.come_up.ensures ∙ first_of_two w cpu from p other c.requires.apart c.requires.inside in
+    let second : processor c.come_up.new.self from ≡ other = ap (λ (v : World). processor v from) c.come_up.ensures ∙ second_of_two w cpu from p other c.requires.inside_from in
+    let pulled = c.choose_pull-pulled in
+    let program = (processor pulled.new.self cpu).programs.pull in
+    let asked : Processor = record p { programs = record p.programs { pull = program } } in
+    let chosen : pulled.new.self ≡ with_two w cpu from asked other =
+    pulled.ensures.rest
+    ∙ ap (λ (x : Processor). with_processor c.come_up.new.self cpu (record x { programs = record x.programs { pull = program } })) first
+    ∙ ap (λ (v : World). with_processor v cpu asked) c.come_up.ensures
+    ∙ first_again w cpu from p other asked c.requires.apart in
+    let one : processor pulled.new.self cpu ≡ asked = ap (λ (v : World). processor v cpu) chosen ∙ first_of_two w cpu from asked other c.requires.apart c.requires.inside in
+    let two : processor pulled.new.self from ≡ other = ap (λ (v : World). processor v from) chosen ∙ second_of_two w cpu from asked other c.requires.inside_from in
+    let settled : Settled = record { choice = pulled.ensures.settled.0; by = pulled.result.by; steps = pulled.result.steps; calls = pulled.new.scratch; program = program } in
+    let settles_here = subst (λ (x : Processor). SettlesPull (policies d) cpu from x (processor c.come_up.new.self from) settled) first pulled.ensures.settled.1 in
+    let settles = subst (λ (x : Processor). SettlesPull (policies d) cpu from p x settled) second settles_here in
+    let task = pulled.result.choice in
+    let moved = c.move_task-run.ensures.moved
+    ∙ ap (λ (x : Processor). with_two pulled.new.self cpu from (record x { running = started_if_idle d (with_pulled d x.running (taken_from (processor pulled.new.self from).running task)) x.running.current }) (let y = processor pulled.new.self from in record y { running = without_task y.running task })) one
+    ∙ ap (λ (y : Processor). with_two pulled.new.self cpu from (record asked { running = started_if_idle d (with_pulled d asked.running (taken_from y.running task)) asked.running.current }) (record y { running = without_task y.running task })) two
+    ∙ ap (λ (v : World). with_two v cpu from (puller_after d w cpu from now task program) (source_after d w from task)) chosen
+    ∙ both_again w cpu from asked other (puller_after d w cpu from now task program) (source_after d w from task) c.requires.apart in
+    let end : processor c.move_task-run.new.self cpu ≡ puller_after d w cpu from now task program =
+    ap (λ (v : World). processor v cpu) moved ∙ first_of_two w cpu from (puller_after d w cpu from now task program) (source_after d w from task) c.requires.apart c.requires.inside in
+    pull_step d w _ cpu from now task _ settled c.requires.inside c.requires.inside_from c.requires.apart settles pulled.ensures.settled.2
+    (c.move_task-run.ensures.run ∙ ap (λ (x : Processor). id_of x.running.current) end) moved

@@ -1,19 +1,20 @@
-use Rattle.std.proofs.Common.{◌+◌, ◌≤◌, ◌++◌, List, [], length, drop, replicate}
-use Rattle.std.specs.Prelude.{Result, vec_len, vec_capacity}
-use Rattle.bq_core.specs.declared.reply.Reply.{Reply}
-use Rattle.bq_core.specs.declared.refusal.Refusal.{Refusal}
-use Rattle.bq_core.specs.World.{World}
-use Rattle.bq_core.specs.Steps.{WorldRun, without_policies}
+use Rattle.std.proofs.Common.{◌≡◌, ◌+◌, ◌≤◌, ◌++◌, List, length}
+use Rattle.std.specs.Prelude.{vec_len, vec_capacity}
+use Rattle.std.specs.Vec.Iter.{into_iter_items, into_iter_len}
+use Rattle.bq_maps.specs.declared.board.Call.{Call as Asked}
+use Rattle.bq_core.specs.Choices.{policies}
+use Rattle.bq_core.specs.Steps.{WorldRun, ThroughAll}
 use Rattle.bq_core.specs.StandsOnce.{StandsOnce}
 use Rattle.bq_core.proofs.world.Core.run_all.Given as goal
 
 abbrev pub invariant-loop-event : goal.invariant-loop-event
 invariant-loop-event g l =
-    let rest = drop l.event-index l.events in
-    let all = l.events in
+    let rest = into_iter_items l.event-iterator in
     record {
+      whole : l.yielded ++ rest ≡ into_iter_items l.initial.event-iterator;
+      left : into_iter_len l.event-iterator ≡ length rest;
       room : vec_len l.answers + length rest ≤ vec_capacity l.answers;
-      goes_on : (more : List (Result Reply Refusal)) (w : World) → WorldRun (without_policies g.Q.R.Rule.discipline) l.self rest (replicate (length rest) []) more w →
-          WorldRun (without_policies g.Q.R.Rule.discipline) l.fn.self all (replicate (length all) []) (l.answers.items ++ more) w;
+      ran : (calls : List (List Asked)) × WorldRun (policies g.Q.R.Rule.discipline) l.fn.self l.yielded calls l.answers.items l.self
+          × ThroughAll g.B.Board.leads l.fn.board calls l.board;
       once : StandsOnce l.self;
     }

@@ -1,13 +1,12 @@
-use Rattle.std.proofs.Common.{[]}
-use Rattle.bq_core.specs.Steps.{without_policies}
+use Rattle.bq_core.specs.Choices.{policies}
 use Rattle.bq_core.proofs.Order.{step_keeps}
 use Rattle.bq_core.proofs.world.Core.step.Goals as goal
 
 pub invariant_of-self : goal.invariant_of-self
 invariant_of-self g c =
-    step_keeps (without_policies g.Q.R.Rule.discipline) c.self.inside.parts c.args.event [] c.step.result c.step.new.self c.step.ensures.even c.step.ensures.step c.self.invariant
+    step_keeps (policies g.Q.R.Rule.discipline) c.self.inside.parts c.args.event c.step.new.scratch c.step.result c.step.new.self c.step.ensures.even c.step.ensures.step c.self.invariant
 
 pub returns-clause-once : goal.returns-clause-once
 returns-clause-once g c =
-    let orderly = step_keeps (without_policies g.Q.R.Rule.discipline) c.self.inside.parts c.args.event [] c.step.result c.step.new.self c.step.ensures.even c.step.ensures.step c.self.invariant in
+    let orderly = step_keeps (policies g.Q.R.Rule.discipline) c.self.inside.parts c.args.event c.step.new.scratch c.step.result c.step.new.self c.step.ensures.even c.step.ensures.step c.self.invariant in
     orderly.once
