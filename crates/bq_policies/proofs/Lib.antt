@@ -1,1 +1,2 @@
 pub mod ZeroLemmas
+pub mod AnswerLemmas

@@ -5,6 +5,7 @@
 
 pub mod hooks;
 pub mod installed;
+pub mod laws;
 pub mod policy;
 pub mod scratch;
 #[cfg(test)]
