@@ -8,5 +8,6 @@ pub mod SessionLemmas
 pub mod ShowLemmas
 pub mod StandingLemmas
 pub mod WakeLemmas
+pub mod LoadingLemmas
 pub mod WordLemmas
 pub mod WritingLemmas

@@ -6,7 +6,8 @@ use Rattle.bq_core.specs.declared.reply.Reply.{Reply}
 use Rattle.bq_core.specs.declared.refusal.Refusal.{Refusal}
 use Rattle.bq_trace.specs.Machines.{Machine}
 use Rattle.bq_trace.specs.Writing.{Adds}
-use Rattle.bq_trace.specs.Trace.{DoesAndAnswers, EndsWake, Wakes}
+use Rattle.bq_trace.specs.Doing.{DoesAndAnswers}
+use Rattle.bq_trace.specs.Trace.{EndsWake, Wakes}
 
 ends : (begun answer : Result Reply Refusal) (mid n : Machine) (c now : ℕ) (line : List ℕ) → is_ok begun ≡ true → DoesAndAnswers mid (EndWake c now) answer line n → EndsWake begun mid c now line n
 ends (Ok reply) answer mid n c now line ok h = (answer, h)

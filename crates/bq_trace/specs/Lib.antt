@@ -9,6 +9,8 @@ pub mod Machines
 pub mod Numbers
 pub mod Replaying
 pub mod Texts
+pub mod Doing
+pub mod Loading
 pub mod Trace
 pub mod Words
 pub mod Writing

@@ -12,7 +12,7 @@ use Rattle.bq_trace.specs.declared.command.Rule.TheVariants.{Cfs, Eevdf}
 use Rattle.bq_trace.specs.declared.command.Size.{Size}
 use Rattle.bq_trace.specs.declared.command.Size.TheVariants.{One, Two, Four, Eight, Sixteen, ThirtyTwo, SixtyFour}
 use Rattle.bq_trace.specs.declared.command.Command.{Command}
-use Rattle.bq_trace.specs.declared.command.Command.TheVariants.{Machine, Does, Wake, Show}
+use Rattle.bq_trace.specs.declared.command.Command.TheVariants.{Machine, Does, Wake, Load, Show, Counter}
 use Rattle.bq_trace.specs.declared.command.Reading.{Reading}
 use Rattle.bq_trace.specs.declared.command.Reading.TheVariants.{Skipped, Bad, Says}
 
@@ -58,13 +58,18 @@ abbrev pub draw_of : List (List ℕ) → Option Command
 draw_of [] = Some (Does Draw)
 draw_of other = None
 
--- so far no image is known, and a policy can only be taken away
+-- the processor, the generation, the hook, and what spells an image
+abbrev pub install_words : List (List ℕ) → Option (ℕ × ℕ × Hook × List ℕ)
+install_words (processor ∷ generation ∷ hook ∷ image ∷ []) =
+    option_and_then (λ c. option_and_then (λ g. option_map (λ h. (c, g, h, image)) (hook_of hook)) (decimal_of generation)) (processor_of processor)
+install_words other = None
+
+-- a policy is taken away by `none`, and else comes as an image
+abbrev pub installing : ℕ × ℕ × Hook × List ℕ → Command
+installing (c, g, h, image) = if bytes_eq image (codes "none") then Does (Install c h g None) else Load c h g image
+
 abbrev pub install_of : List (List ℕ) → Option Command
-install_of (processor ∷ generation ∷ hook ∷ image ∷ []) =
-    if bytes_eq image (codes "none")
-    then option_and_then (λ c. option_and_then (λ g. option_map (λ h. Does (Install c h g None)) (hook_of hook)) (decimal_of generation)) (processor_of processor)
-    else None
-install_of other = None
+install_of operands = option_map installing (install_words operands)
 
 abbrev pub begin_of : List (List ℕ) → Option Command
 begin_of (processor ∷ task ∷ []) = option_and_then (λ c. option_map (λ t. Does (BeginWake c t)) (task_of task)) (processor_of processor)
@@ -100,14 +105,17 @@ abbrev pub show_of : List (List ℕ) → Option Command
 show_of (processor ∷ []) = option_map (λ c. Show c) (processor_of processor)
 show_of other = None
 
--- a command by its name and the words after it
-abbrev pub command_of : List ℕ → List (List ℕ) → Option Command
-command_of name operands =
+abbrev pub counter_of : List (List ℕ) → Option Command
+counter_of (counter ∷ []) = option_map (λ i. Counter i) (processor_of counter)
+counter_of other = None
+
+-- a command by its name and the words after it, but for `install`
+abbrev pub plain_command_of : List ℕ → List (List ℕ) → Option Command
+plain_command_of name operands =
     if bytes_eq name (codes "machine") then machine_of operands
     else if bytes_eq name (codes "admit") then admit_of operands
     else if bytes_eq name (codes "retire") then retire_of operands
     else if bytes_eq name (codes "draw") then draw_of operands
-    else if bytes_eq name (codes "install") then install_of operands
     else if bytes_eq name (codes "begin") then begin_of operands
     else if bytes_eq name (codes "end") then end_of operands
     else if bytes_eq name (codes "wake") then wake_of operands
@@ -116,7 +124,11 @@ command_of name operands =
     else if bytes_eq name (codes "block") then block_of operands
     else if bytes_eq name (codes "pull") then pull_of operands
     else if bytes_eq name (codes "show") then show_of operands
+    else if bytes_eq name (codes "counter") then counter_of operands
     else None
+
+abbrev pub command_of : List ℕ → List (List ℕ) → Option Command
+command_of name operands = if bytes_eq name (codes "install") then install_of operands else plain_command_of name operands
 
 abbrev pub said : Option Command → Reading
 said None = Bad

@@ -89,3 +89,7 @@ processor_line c p =
 -- the same, or the refusal of a processor that the machine doesn't have
 abbrev pub show_line : World → ℕ → List ℕ
 show_line w c = if nat_lt c (count_in w) then processor_line c (processor w c).running else event_line (Err NoProcessor)
+
+-- the line that shows a counter
+abbrev pub counter_line : ℕ → ℕ → List ℕ
+counter_line i value = codes "counter " ++ (decimal i ++ (codes " " ++ (decimal value ++ codes "\n")))

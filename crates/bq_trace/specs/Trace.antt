@@ -1,27 +1,22 @@
 -- What a trace's lines are answered (this project's own trace format).
-use Rattle.std.specs.Prelude.{◌≡◌, ℕ, Bool, true, false, ◌&&◌, not, List, [], ◌∷◌, ◌++◌, Option, Result, Ok, Err}
+use Rattle.std.specs.Prelude.{◌≡◌, ℕ, Bool, true, false, ◌&&◌, not, List, [], ◌∷◌, ◌++◌, Option, Result, Ok, Err, slice_index, nat_lt, if◌then◌else◌}
 use Rattle.std.specs.Str.Lines.{lines}
-use Rattle.bq_core.specs.declared.event.Event.{Event}
 use Rattle.bq_core.specs.declared.event.Event.TheVariants.{BeginWake, EndWake}
 use Rattle.bq_core.specs.declared.reply.Reply.{Reply}
 use Rattle.bq_core.specs.declared.refusal.Refusal.{Refusal}
 use Rattle.bq_trace.specs.Counts.{one_more}
-use Rattle.bq_trace.specs.Machines.{Machine as Driven, opening_machine, setting_of, Steps}
+use Rattle.bq_trace.specs.Machines.{Machine as Driven, opening_machine}
+use Rattle.bq_trace.specs.Doing.{DoesAndAnswers}
+use Rattle.bq_trace.specs.Loading.{LoadsAndAnswers}
 use Rattle.bq_trace.specs.Writing.{AppendsPart}
 use Rattle.bq_trace.specs.Lines.{reading_of}
-use Rattle.bq_trace.specs.Texts.{event_line, bad_line, show_line}
-use Rattle.bq_trace.specs.declared.command.Command.TheVariants.{Machine, Does, Wake, Show}
+use Rattle.bq_trace.specs.Texts.{bad_line, show_line, counter_line}
+use Rattle.bq_trace.specs.declared.command.Command.TheVariants.{Machine, Does, Wake, Load, Show, Counter}
 use Rattle.bq_trace.specs.declared.command.Reading.{Reading}
 use Rattle.bq_trace.specs.declared.command.Reading.TheVariants.{Skipped, Bad, Says}
 use Rattle.bq_trace.specs.declared.progress.Phase.{Phase}
 use Rattle.bq_trace.specs.declared.progress.Phase.TheVariants.{Waiting, Over, Running}
 use Rattle.bq_trace.specs.declared.progress.Progress.{Progress}
-
--- An event is done in the machine's world, under its rule, and the text is the line that answers it.
-pub record DoesAndAnswers (m : Driven) (event : Event) (answer : Result Reply Refusal) (text : List ℕ) (n : Driven) : Type 0 where
-  pub same_rule : n.rule ≡ m.rule
-  pub step : Steps (setting_of m.rule) m.world m.counters event answer n.world n.counters
-  pub line : text ≡ event_line answer
 
 -- What follows the begin of a wake: the end, unless the begin was refused.
 abbrev pub EndsWake : Result Reply Refusal → Driven → ℕ → ℕ → List ℕ → Driven → Type 0
@@ -48,6 +43,9 @@ Answers (Running m) Skipped n text after bad = (text ≡ []) × (after ≡ Runni
 Answers (Running m) (Says (Does event)) n text after bad =
     (k : Driven) × (answer : Result Reply Refusal) × DoesAndAnswers m event answer text k × (after ≡ Running k) × (bad ≡ false)
 Answers (Running m) (Says (Wake c task now)) n text after bad = (k : Driven) × Wakes m c task now text k × (after ≡ Running k) × (bad ≡ false)
+Answers (Running m) (Says (Load c hook generation image)) n text after bad = (k : Driven) × LoadsAndAnswers m c hook generation image text k × (after ≡ Running k) × (bad ≡ false)
+Answers (Running m) (Says (Counter i)) n text after bad =
+    (text ≡ (if nat_lt i 64 then counter_line i (slice_index m.counters i) else bad_line n)) × (after ≡ Running m) × (bad ≡ not (nat_lt i 64))
 Answers (Running m) (Says (Show c)) n text after bad = (text ≡ show_line m.world c) × (after ≡ Running m) × (bad ≡ false)
 Answers (Running m) (Says (Machine rule size)) n text after bad = (text ≡ bad_line n) × (after ≡ Running m) × (bad ≡ true)
 Answers (Running m) Bad n text after bad = (text ≡ bad_line n) × (after ≡ Running m) × (bad ≡ true)

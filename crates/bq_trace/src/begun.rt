@@ -66,24 +66,24 @@ impl Begun {
     }
 
     /// What the line says where the text ends.
-    pub fn last(&self) -> Reading
-        ensures { (line : List ℕ) → StandsFor self.now line → result ≡ reading_of line }
+    pub fn last(&self, alloc: Global) -> Result<Reading, AllocError>
+        ensures { IfOk result (λ reading. (line : List ℕ) → StandsFor self.now line → reading ≡ reading_of line) }
     {
         if self.is_too_long {
-            Reading::Bad
+            Ok(Reading::Bad)
         } else {
-            read_line(self.bytes.as_slice())
+            read_line(alloc, self.bytes.as_slice())
         }
     }
 
     /// What the line says that a line feed ends here.
-    fn ended(&self) -> Reading
-        ensures { (line : List ℕ) → StandsFor self.now line → result ≡ reading_of (strip_carriage_return line) }
+    fn ended(&self, alloc: Global) -> Result<Reading, AllocError>
+        ensures { IfOk result (λ reading. (line : List ℕ) → StandsFor self.now line → reading ≡ reading_of (strip_carriage_return line)) }
     {
         if self.is_too_long {
-            Reading::Bad
+            Ok(Reading::Bad)
         } else {
-            read_line(without_cr(self.bytes.as_slice()))
+            read_line(alloc, without_cr(self.bytes.as_slice()))
         }
     }
 
@@ -95,16 +95,16 @@ impl Begun {
     }
 
     /// What the line says that ends with these bytes and a line feed. Nothing has begun then.
-    pub fn end(&mut self, tail: &[u8]) -> Result<Reading, AllocError>
+    pub fn end(&mut self, alloc: Global, tail: &[u8]) -> Result<Reading, AllocError>
         requires { IsOneLine tail.now }
         ensures says { IfOk result (λ reading. (line : List ℕ) → StandsFor self.old line → reading ≡ reading_of (strip_carriage_return (line ++ tail.now))) }
         ensures cleared { OnOk result (self.new ≡ Some []) }
     {
         if self.is_empty() {
-            return Ok(read_line(without_cr(tail)));
+            return read_line(alloc, without_cr(tail));
         }
         self.extend(tail)?;
-        let reading = self.ended();
+        let reading = self.ended(alloc)?;
         self.clear();
         Ok(reading)
     }

@@ -1,6 +1,7 @@
 //! What the lines of a trace may ask.
 
-use bq_core::Event;
+use crate::image::HexWord;
+use bq_core::{Event, Hook};
 
 /// How a machine's processors choose among their tasks.
 #[derive(Clone, Copy, Debug, PartialEq, Eq)]
@@ -27,13 +28,33 @@ pub enum Size {
 #[derive(Drop)]
 pub enum Command {
     /// A machine is made.
-    Machine { rule: Rule, size: Size },
+    Machine {
+        rule: Rule,
+        size: Size,
+    },
     /// An event happens in it.
     Does(Event),
     /// A wake begins, and ends at once.
-    Wake { processor: u8, task: u16, now: u64 },
+    Wake {
+        processor: u8,
+        task: u16,
+        now: u64,
+    },
+    /// An image is loaded, and its policy installed as an event.
+    Load {
+        processor: u8,
+        hook: Hook,
+        generation: u64,
+        image: HexWord,
+    },
     /// A processor is shown.
-    Show { processor: u8 },
+    Show {
+        processor: u8,
+    },
+    /// A counter is shown.
+    Counter {
+        counter: u8,
+    },
 }
 
 /// What a line is.

@@ -7,11 +7,15 @@ pub mod begun;
 pub mod command;
 pub mod counted;
 pub mod fault;
+pub mod image;
 pub mod laws;
 pub mod lines;
+pub mod loading;
 pub mod machine;
 pub mod numbers;
 pub mod pieces;
+#[cfg(test)]
+mod policy_tests;
 pub mod progress;
 pub mod session;
 pub mod shows;

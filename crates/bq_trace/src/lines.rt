@@ -1,46 +1,54 @@
 //! What a line of a trace says.
-ghost use Rattle.std.specs.Prelude.{◌≡◌, ◌∷◌};
+ghost use Rattle.std.specs.Prelude.{◌≡◌, ◌∷◌, IfOk};
+ghost use Rattle.std.specs.Option.{option_map};
 ghost use Rattle.bq_trace.specs.Words.{words};
-ghost use Rattle.bq_trace.specs.Lines.{rule_of, size_of, hook_of, machine_of, admit_of, retire_of, draw_of, install_of, begin_of, end_of, wake_of, drain_of, tick_of, block_of, pull_of, show_of, command_of, reading_of_words, reading_of};
+ghost use Rattle.bq_trace.specs.Lines.{rule_of, size_of, hook_of, machine_of, admit_of, retire_of, draw_of, install_words, install_of, begin_of, end_of, wake_of, drain_of, tick_of, block_of, pull_of, show_of, counter_of, plain_command_of, reading_of_words, reading_of};
 
 use crate::command::{Command, Reading, Rule, Size};
+use crate::image::HexWord;
 use crate::numbers;
 use crate::words::{end_of_words, is_allowed_line, next_word};
 use bq_core::{Event, Hook};
+use std::alloc::{AllocError, Global};
 
 /// The longest line.
 const LONGEST: usize = 131_072;
 
-/// What a line says, without what ends it.
+/// What a line says, without what ends it. It takes memory for an image alone.
 #[tactic(auto, unfolding(crate::specs::Lines::reading_of))]
-pub fn read_line(line: &[u8]) -> Reading
-    ensures { result ≡ reading_of line.now }
+pub fn read_line(alloc: Global, line: &[u8]) -> Result<Reading, AllocError>
+    ensures { IfOk result (λ reading. reading ≡ reading_of line.now) }
 {
     if line.len() > LONGEST || !is_allowed_line(line) {
-        return Reading::Bad;
+        return Ok(Reading::Bad);
     }
-    read_words(line)
+    read_words(alloc, line)
 }
 
 /// What a line of allowed bytes says.
-fn read_words(line: &[u8]) -> Reading
-    ensures { result ≡ reading_of_words (words line.now) }
+fn read_words(alloc: Global, line: &[u8]) -> Result<Reading, AllocError>
+    ensures { IfOk result (λ reading. reading ≡ reading_of_words (words line.now)) }
 {
     let Some((name, operands)) = next_word(line) else {
-        return Reading::Skipped;
+        return Ok(Reading::Skipped);
     };
     if name.starts_with(b"#") {
-        return Reading::Skipped;
+        return Ok(Reading::Skipped);
     }
-    match command(name, operands) {
-        Some(command) => Reading::Says(command),
-        None => Reading::Bad,
+    let said = if name == b"install".as_slice() {
+        install(alloc, operands)?
+    } else {
+        command(name, operands)
+    };
+    match said {
+        Some(command) => Ok(Reading::Says(command)),
+        None => Ok(Reading::Bad),
     }
 }
 
-/// The command of this name.
+/// The command of this name, which is not `install`.
 fn command(name: &[u8], operands: &[u8]) -> Option<Command>
-    ensures { result ≡ command_of name.now (words operands.now) }
+    ensures { result ≡ plain_command_of name.now (words operands.now) }
 {
     if name == b"machine".as_slice() {
         machine(operands)
@@ -50,8 +58,6 @@ fn command(name: &[u8], operands: &[u8]) -> Option<Command>
         retire(operands)
     } else if name == b"draw".as_slice() {
         draw(operands)
-    } else if name == b"install".as_slice() {
-        install(operands)
     } else if name == b"begin".as_slice() {
         begin(operands)
     } else if name == b"end".as_slice() {
@@ -68,6 +74,8 @@ fn command(name: &[u8], operands: &[u8]) -> Option<Command>
         pull(operands)
     } else if name == b"show".as_slice() {
         show(operands)
+    } else if name == b"counter".as_slice() {
+        counter(operands)
     } else {
         None
     }
@@ -161,25 +169,41 @@ fn draw(operands: &[u8]) -> Option<Command>
     Some(Command::Does(Event::Draw))
 }
 
-fn install(operands: &[u8]) -> Option<Command>
-    ensures { result ≡ install_of (words operands.now) }
+/// The words of an `install`: the processor, the generation, the hook, and what spells an image.
+fn install_words(operands: &[u8]) -> Option<(u8, u64, Hook, &[u8])>
+    ensures { option_map (λ w. (w.0, w.1, w.2, w.3.now)) result ≡ install_words (words operands.now) }
 {
     let (first, rest) = next_word(operands)?;
     let (second, rest) = next_word(rest)?;
     let (third, rest) = next_word(rest)?;
-    let (fourth, rest) = next_word(rest)?;
+    let (image, rest) = next_word(rest)?;
     end_of_words(rest)?;
-    if fourth != b"none".as_slice() {
-        return None;
-    }
     let processor = numbers::processor(first)?;
     let generation = numbers::decimal(second)?;
     let hook = hook(third)?;
-    Some(Command::Does(Event::Install {
+    Some((processor, generation, hook, image))
+}
+
+fn install(alloc: Global, operands: &[u8]) -> Result<Option<Command>, AllocError>
+    ensures { IfOk result (λ said. said ≡ install_of (words operands.now)) }
+{
+    let Some((processor, generation, hook, image)) = install_words(operands) else {
+        return Ok(None);
+    };
+    if image == b"none".as_slice() {
+        return Ok(Some(Command::Does(Event::Install {
+            processor,
+            hook,
+            generation,
+            policy: None,
+        })));
+    }
+    let image = HexWord::new(alloc, image)?;
+    Ok(Some(Command::Load {
         processor,
         hook,
         generation,
-        policy: None,
+        image,
     }))
 }
 
@@ -279,4 +303,13 @@ fn show(operands: &[u8]) -> Option<Command>
     end_of_words(rest)?;
     let processor = numbers::processor(first)?;
     Some(Command::Show { processor })
+}
+
+fn counter(operands: &[u8]) -> Option<Command>
+    ensures { result ≡ counter_of (words operands.now) }
+{
+    let (first, rest) = next_word(operands)?;
+    end_of_words(rest)?;
+    let counter = numbers::processor(first)?;
+    Some(Command::Counter { counter })
 }

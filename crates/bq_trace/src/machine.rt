@@ -1,11 +1,11 @@
 //! The machine that a trace drives: a core of one of the sizes, under one of the rules, that a trace may ask for.
-ghost use Rattle.std.specs.Prelude.{◌≡◌, ◌++◌, Result, is_ok, IfOk, OnOk, string_bytes};
+ghost use Rattle.std.specs.Prelude.{◌≡◌, ◌<◌, ◌++◌, slice_index, Result, is_ok, IfOk, OnOk, string_bytes};
 ghost use Rattle.bq_core.specs.World.{opening_world};
 ghost use Rattle.bq_core.specs.Choices.{policies};
 ghost use Rattle.bq_core.specs.declared.reply.Reply.{Reply};
 ghost use Rattle.bq_core.specs.declared.refusal.Refusal.{Refusal};
 ghost use Rattle.bq_trace.specs.Machines.{processors_in, opening_machine, Steps};
-ghost use Rattle.bq_trace.specs.Texts.{event_line, show_line};
+ghost use Rattle.bq_trace.specs.Texts.{event_line, show_line, counter_line};
 ghost use Rattle.bq_trace.specs.Writing.{Adds};
 
 use crate::command::{Rule, Size};
@@ -172,7 +172,7 @@ impl Model for Machine {
 }
 
 impl Machine {
-    ghost use Rattle.bq_trace.specs.Trace.{DoesAndAnswers};
+    ghost use Rattle.bq_trace.specs.Doing.{DoesAndAnswers};
 
     /// A machine to which nothing has happened.
     pub fn new(alloc: Global, rule: Rule, size: Size) -> Result<Machine, AllocError>
@@ -202,6 +202,15 @@ impl Machine {
             Ruled::Cfs(core) => core.answer(alloc, event, &mut self.board, text),
             Ruled::Eevdf(core) => core.answer(alloc, event, &mut self.board, text),
         }
+    }
+
+    /// Adds the line that shows a counter.
+    pub fn show_counter(&self, text: &mut String, counter: u8) -> Result<(), AllocError>
+        requires { counter < 64 }
+        ensures { OnOk result (string_bytes text.new ≡ string_bytes text.old ++ counter_line counter (slice_index self.now.counters counter)) }
+    {
+        let value = self.board.value(counter);
+        write!(text, "counter {counter} {value}\n")
     }
 
     /// Adds the line that shows a processor, or refuses it.

@@ -28,7 +28,7 @@ pub fn decimal(word: &[u8]) -> Option<u64>
     number(word, 10)
 }
 
-/// A processor: decimal, below 2^8.
+/// A processor or a counter: decimal, below 2^8.
 pub fn processor(word: &[u8]) -> Option<u8>
     ensures { result ≡ processor_of word.now }
 {

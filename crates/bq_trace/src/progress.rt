@@ -56,6 +56,25 @@ impl Machine {
                 self.wake(alloc, processor, task, now, text)?;
                 Ok(false)
             }
+            Reading::Says(
+                Command::Load {
+                    processor,
+                    hook,
+                    generation,
+                    image,
+                },
+            ) => {
+                self.install_image(alloc, processor, hook, generation, &image, text)?;
+                Ok(false)
+            }
+            Reading::Says(Command::Counter { counter }) => {
+                if counter >= 64 {
+                    write_bad(text, number)?;
+                    return Ok(true);
+                }
+                self.show_counter(text, counter)?;
+                Ok(false)
+            }
             Reading::Says(Command::Show { processor }) => {
                 self.show(text, processor)?;
                 Ok(false)

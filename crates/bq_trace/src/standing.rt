@@ -39,7 +39,7 @@ impl Standing {
             → Adds (string_bytes text.old) (string_bytes text.new) (λ piece. AnswersLine self.old.progress (strip_carriage_return (line ++ tail.now)) piece self.new.progress)) }
         ensures cleared { OnOk result (self.new.begun ≡ Some []) }
     {
-        let reading = self.begun.end(tail)?;
+        let reading = self.begun.end(alloc, tail)?;
         self.progress.answer(alloc, reading, text)
     }
 
@@ -69,7 +69,7 @@ impl Standing {
         if self.begun.is_empty() {
             return Ok(());
         }
-        let reading = self.begun.last();
+        let reading = self.begun.last(alloc)?;
         self.progress.answer(alloc, reading, text)?;
         Ok(())
     }

@@ -12,4 +12,4 @@ returns c = λ begun h.
     let old = string_bytes c.args.text.now in
     let new = string_bytes c.answer.new.text in
     ends_with p q begun old new h.one_line (sym (c.is_empty.ensures.line begun h) ∙ c.if-is_empty.false)
-    (subst (λ r. Adds old new (λ piece. AnswersReading p r piece q)) (c.last-reading.ensures begun h) c.in_ok-answer.ensures)
+    (subst (λ r. Adds old new (λ piece. AnswersReading p r piece q)) (c.in_ok-reading.ensures begun h) c.in_ok-answer.ensures)

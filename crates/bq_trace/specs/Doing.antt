@@ -1,0 +1,13 @@
+-- What a machine does at an event, and the line that answers it.
+use Rattle.std.specs.Prelude.{◌≡◌, ℕ, List, Result}
+use Rattle.bq_core.specs.declared.event.Event.{Event}
+use Rattle.bq_core.specs.declared.reply.Reply.{Reply}
+use Rattle.bq_core.specs.declared.refusal.Refusal.{Refusal}
+use Rattle.bq_trace.specs.Machines.{Machine as Driven, setting_of, Steps}
+use Rattle.bq_trace.specs.Texts.{event_line}
+
+-- An event is done in the machine's world, under its rule, and the text is the line that answers it.
+pub record DoesAndAnswers (m : Driven) (event : Event) (answer : Result Reply Refusal) (text : List ℕ) (n : Driven) : Type 0 where
+  pub same_rule : n.rule ≡ m.rule
+  pub step : Steps (setting_of m.rule) m.world m.counters event answer n.world n.counters
+  pub line : text ≡ event_line answer
