@@ -122,6 +122,24 @@ fn first_phase(
 }
 
 impl Phase {
+    /// Does what the line of this number says, before any machine line. True where the line is bad.
+    ///
+    /// A machine is large, and room for it is made here: so this stands apart from what each line goes through.
+    #[inline(never)]
+    fn begin(
+        &mut self,
+        alloc: Global,
+        reading: Reading,
+        number: u64,
+        text: &mut String,
+    ) -> Result<bool, AllocError>
+        ensures { IfOk result (λ bad. Adds (string_bytes text.old) (string_bytes text.new) (λ line. Answers Phase.Waiting reading number line self.new bad)) }
+    {
+        let (phase, bad) = first_phase(alloc, reading, number, text)?;
+        *self = phase;
+        Ok(bad)
+    }
+
     /// Does what the line of this number says and adds what answers it. True where the line is bad.
     fn answer(
         &mut self,
@@ -134,11 +152,7 @@ impl Phase {
     {
         match self {
             Phase::Over => Ok(false),
-            Phase::Waiting => {
-                let (phase, bad) = first_phase(alloc, reading, number, text)?;
-                *self = phase;
-                Ok(bad)
-            }
+            Phase::Waiting => self.begin(alloc, reading, number, text),
             Phase::Running(machine) => machine.obey(alloc, reading, number, text),
         }
     }
