@@ -1,4 +1,7 @@
 """Draws traces: any event with any arguments, refused ones and bad lines among them, with policies at the hooks."""
+import pathlib
+import re
+
 from model import programs, verdicts
 from model.assembler import assembled
 from model.images import HOOKS, Image
@@ -16,14 +19,30 @@ OTHER_FIRST_LINES = ["machine cfs 3", "machine rr 2", "machine cfs", "draw", "ma
 ODD_HEX = ["0", "zz", "42515", "0x42"]
 
 
+def policies_of_the_repository():
+    """Their texts, hooks and shapes, by the table of policies/README.md."""
+    folder = pathlib.Path(__file__).parents[2] / "policies"
+    rows = re.findall(r"^\| `(\w+\.s)` \| (\w+) \| (?:`([\d:,]+)`)?", (folder / "README.md").read_text(), re.MULTILINE)
+    for name, hook, maps in rows:
+        shapes = [tuple(map(int, shape.split(":"))) for shape in maps.split(",") if shape]
+        yield (folder / name).read_text(), hook, shapes
+
+
+REPOSITORY = list(policies_of_the_repository())
+
+
 def image(draw, hook):
-    """An image that is loaded."""
-    version = draw.choice([1, 2])
-    shapes = []
-    if draw.random() < 0.5:
-        for _ in range(draw.choice([1, 1, 2, 8])):
-            shapes.append((8 * draw.choice([1, 2, 4, draw.randrange(1, 33)]), draw.choice([1, 2, 4, draw.randrange(1, 257)])))
-    return Image(version, hook, tuple(shapes), assembled(programs.drawn_program(draw, hook, version, shapes)))
+    """An image that is loaded, and the text of its program."""
+    version, shapes = draw.choice([1, 2]), []
+    if draw.random() < 0.2:
+        text, shapes = draw.choice([(text, shapes) for text, its_hook, shapes in REPOSITORY if its_hook == hook])
+    else:
+        if draw.random() < 0.5:
+            for _ in range(draw.choice([1, 1, 2, 8])):
+                value_size = 8 * draw.choice([1, 2, 4, draw.randrange(1, 33)])
+                shapes.append((value_size, draw.choice([1, 2, 4, draw.randrange(1, 257)])))
+        text = programs.drawn_program(draw, hook, version, shapes)
+    return Image(version, hook, tuple(shapes), assembled(text)), text
 
 
 def refused_image(draw, good):
@@ -51,6 +70,12 @@ def judged_image(draw):
     return Image(draw.choice([1, 2]), "preempt", shapes, program).spelled()
 
 
+def any_image(draw):
+    """Bytes that may be an image."""
+    kind, good = draw.random(), image(draw, draw.choice(HOOKS))[0].spelled()
+    return good if kind < 0.2 else judged_image(draw) if kind < 0.6 else refused_image(draw, good)
+
+
 class Drawing:
     """A trace that is being drawn."""
 
@@ -62,7 +87,7 @@ class Drawing:
         else:
             sizes, self.nices, self.grain, steps = SIZES, range(-20, 20), 1, [3_000, 3_000_000, 10**9, 10**12]
         self.size, self.tasks, self.step = draw.choice(sizes), draw.choice([3, 10, 60, 1100]), draw.choice(steps)
-        self.images = [image(draw, hook) for hook in HOOKS for _ in range(4)]
+        self.images = [image(draw, hook)[0] for hook in HOOKS for _ in range(4)]
         self.now, self.drawn = 0, 0
 
     def lines(self):

@@ -26,6 +26,10 @@ class Image:
         shapes = b"".join(struct.pack("<HH", *shape) for shape in self.shapes)
         return head + shapes + struct.pack("<I", len(self.program) // 8) + self.program
 
+    @functools.cached_property
+    def budget(self):
+        return machine.budget(self.program)
+
     def maps(self):
         return [machine.Map(*shape) for shape in self.shapes]
 

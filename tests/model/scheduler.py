@@ -164,6 +164,8 @@ class World:
         shown = context(policy.image.version)
         run = machine.Run(policy.image.program, shown, policy.maps, here.last, here.number, self.counters)
         answer, steps = run.to_exit()
+        if steps > policy.image.budget:
+            raise machine.Trap(f"{steps} steps, and a budget of {policy.image.budget}")
         return (answer, f"by policy steps {steps}") if answer in permitted else (own, f"by rule steps {steps}")
 
     def place(self, here, task, loads):

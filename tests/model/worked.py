@@ -44,6 +44,14 @@ PROGRAMS = [  # r0 and steps, on a context of zeros of the hook preempt
     ("mov64 r0, 0 / jeq64 r0, 0, +1 / mov64 r0, 1 / exit", 0, 3),
     (EACH_WAY, 0, 2049),
 ]
+BUDGETS = [
+    ("mov64 r0, 0 / exit", 2),
+    ("mov64 r0, 0 / jeq64 r0, 0, +1 / mov64 r0, 1 / exit", 4),
+    ("ldxw r2, [r1+0] / jgt64 r2, 55, +3 / add64 r1, r2 / ldxb r0, [r1+0] / exit / mov64 r0, 0 / exit", 5),
+    (COUNTING, 12),
+    (EACH_WAY, 4096),
+    ("lddw r0, 1 / exit", 2),
+]
 BYTES = [  # assembled
     (OWN_PLACE, "6110240000000000 9500000000000000"),
     ("jeq64 r1, 0, e / lddw r2, 1 / e: / exit", "1501020000000000 1802000001000000 0000000000000000 9500000000000000"),
@@ -197,6 +205,8 @@ def check():
     for text, r0, steps in PROGRAMS:
         run = machine.Run(assembled(lines(text)), bytes(56), [], 0, 0, [0] * machine.COUNTERS)
         assert run.to_exit() == (r0, steps), text
+    for text, longest in BUDGETS:
+        assert machine.budget(assembled(lines(text))) == longest, text
     for worked in TRACES:
         trace, expected = parted(worked)
         assert replies("\n".join(trace)) == expected, trace
