@@ -1,13 +1,29 @@
 -- What words ask for.
-use Rattle.std.specs.Prelude.{◌≡◌, List, Some, codes}
-use Rattle.clap.specs.Words.{Row, Text, subcommand_of}
+use Rattle.std.specs.Prelude.{◌≡◌, ℕ, List, Some, option_map, codes}
+use Rattle.clap.specs.Words.{Row, Text, first_of, subcommand_of}
+use Rattle.bq_verify.specs.declared.hook.Version.{Version}
+use Rattle.bq_verify.specs.declared.hook.Version.TheVariants.{First, Second}
+use Rattle.bq_program.specs.Check.{hook_word}
+use Rattle.bq_program.specs.Forms.{maps_text}
+use Rattle.bq_program.specs.declared.options.Options.{Options}
 use Rattle.bq_cli.specs.Program.{program}
 use Rattle.bq_cli.specs.declared.asked.Job.{Job}
-use Rattle.bq_cli.specs.declared.asked.Job.TheVariants.{Asm, Dis, Replay}
+use Rattle.bq_cli.specs.declared.asked.Job.TheVariants.{Asm, Check, Dis, Replay}
+
+abbrev pub version_word : Version → List ℕ
+version_word First = codes "1"
+version_word Second = codes "2"
+
+-- the options have the values that were found; the text of the maps is taken as it stands
+pub record AreOptions (rows : List Row) (o : Options) : Type 0 where
+  pub hook : option_map (λ h. hook_word h) o.hook ≡ first_of (codes "hook") rows
+  pub maps : maps_text o ≡ first_of (codes "maps") rows
+  pub format : option_map (λ v. version_word v) o.format ≡ first_of (codes "format") rows
 
 -- a command by its name and what was found for its options
 abbrev pub IsJobOf : Text → List Row → Job → Type 0
-IsJobOf name rows Asm = name ≡ codes "asm"
+IsJobOf name rows (Asm o) = (name ≡ codes "asm") × AreOptions rows o
+IsJobOf name rows Check = name ≡ codes "check"
 IsJobOf name rows Dis = name ≡ codes "dis"
 IsJobOf name rows Replay = name ≡ codes "replay"
 

@@ -1,14 +1,17 @@
 //! What the program may be asked to do.
 ghost use Rattle.std.specs.Prelude.{◌≡◌};
 
+use bq_program::Options;
 use std::alloc::{AllocError, AllocFailed};
 use thiserror::Error;
 
 /// What the program is asked to do.
-#[derive(Clone, Copy, Debug, PartialEq, Eq)]
+#[derive(Debug, Drop)]
 pub enum Job {
-    /// Reads an assembler text and writes the hex of its program.
-    Asm,
+    /// Reads an assembler text and writes the hex of its program, or of an image with it.
+    Asm(Options),
+    /// Reads the hex of an image and writes its hook and its budget.
+    Check,
     /// Reads the hex of a program and writes its listing.
     Dis,
     /// Reads a trace and writes what answers it.

@@ -6,12 +6,13 @@ ghost use Rattle.bq_trace.specs.Counts.{inner_of, calls_of, failures_of};
 ghost use Rattle.bq_trace.specs.Writing.{AppendsPart};
 ghost use Rattle.bq_trace.specs.Faults.{IsFault};
 ghost use Rattle.bq_program.specs.Asm.{AsmWrites};
+ghost use Rattle.bq_program.specs.Check.{CheckWrites};
 ghost use Rattle.bq_program.specs.Dis.{DisWrites};
-ghost use Rattle.bq_cli.specs.Performing.{AnswersAll, BreaksOff, Performs, PerformsInPart};
+ghost use Rattle.bq_cli.specs.Performing.{AnswersAll, AsmPerforms, AsmPerformsInPart, BreaksOff, Performs, PerformsInPart};
 
 use crate::asked::Job;
 use crate::whole::read_whole;
-use bq_program::{Answer, assembled, disassembled};
+use bq_program::{Answer, Form, Options, assembled, checked, disassembled, refused_options};
 use bq_trace::{Counted, ReplayFault, replay};
 use std::alloc::Global;
 use std::io::{Read, Write};
@@ -33,29 +34,77 @@ pub fn perform<R: Read, W: Write>(
         (failures_of output.old) (failures_of output.new) (calls_of input.old) (calls_of input.new)) }
 {
     match job {
-        Job::Asm => perform_asm(alloc, input, output),
+        Job::Asm(options) => perform_asm(alloc, options, input, output),
+        Job::Check => perform_check(alloc, input, output),
         Job::Dis => perform_dis(alloc, input, output),
         Job::Replay => replay(alloc, input, output),
     }
 }
 
-/// Reads an assembler text and writes what answers it.
+/// Reads an assembler text and writes what answers it in the form that the options ask for. Options that are refused are
+/// answered before anything is read.
 fn perform_asm<R: Read, W: Write>(
     alloc: Global,
+    options: &Options,
     input: &mut Counted<R>,
     output: &mut Counted<W>,
 ) -> Result<bool, ReplayFault>
-    ensures ok { IfOk result (AnswersAll AsmWrites (R.remaining (inner_of input.old)) (R.remaining (inner_of input.new))
+    ensures ok { IfOk result (AsmPerforms options.now (R.remaining (inner_of input.old)) (R.remaining (inner_of input.new))
         (W.contents (inner_of output.old)) (W.contents (inner_of output.new))) }
     ensures reads { OnOk result (failures_of input.new ≡ failures_of input.old) }
     ensures writes { OnOk result (failures_of output.new ≡ failures_of output.old) }
-    ensures part { OnErr result (BreaksOff AsmWrites (R.remaining (inner_of input.old)) (R.remaining (inner_of input.new))
+    ensures part { OnErr result (AsmPerformsInPart options.now (R.remaining (inner_of input.old)) (R.remaining (inner_of input.new))
+        (W.contents (inner_of output.old)) (W.contents (inner_of output.new))) }
+    ensures fault { IfErr result (λ e. IsFault e (failures_of input.old) (failures_of input.new)
+        (failures_of output.old) (failures_of output.new) (calls_of input.old) (calls_of input.new)) }
+{
+    match options.form(alloc) {
+        Ok(form) => perform_assembly(alloc, &form, input, output),
+        Err(fault) => {
+            let answer = refused_options(alloc, fault)?;
+            write_answer(&answer, output)
+        }
+    }
+}
+
+/// Reads an assembler text and writes what answers it in this form.
+fn perform_assembly<R: Read, W: Write>(
+    alloc: Global,
+    form: &Form,
+    input: &mut Counted<R>,
+    output: &mut Counted<W>,
+) -> Result<bool, ReplayFault>
+    ensures ok { IfOk result (AnswersAll (AsmWrites form.now) (R.remaining (inner_of input.old)) (R.remaining (inner_of input.new))
+        (W.contents (inner_of output.old)) (W.contents (inner_of output.new))) }
+    ensures reads { OnOk result (failures_of input.new ≡ failures_of input.old) }
+    ensures writes { OnOk result (failures_of output.new ≡ failures_of output.old) }
+    ensures part { OnErr result (BreaksOff (AsmWrites form.now) (R.remaining (inner_of input.old)) (R.remaining (inner_of input.new))
         (W.contents (inner_of output.old)) (W.contents (inner_of output.new))) }
     ensures fault { IfErr result (λ e. IsFault e (failures_of input.old) (failures_of input.new)
         (failures_of output.old) (failures_of output.new) (calls_of input.old) (calls_of input.new)) }
 {
     let text = read_whole(alloc, input)?;
-    let answer = assembled(alloc, text.as_slice())?;
+    let answer = assembled(alloc, form, text.as_slice())?;
+    write_answer(&answer, output)
+}
+
+/// Reads the hex of an image and writes what answers it.
+fn perform_check<R: Read, W: Write>(
+    alloc: Global,
+    input: &mut Counted<R>,
+    output: &mut Counted<W>,
+) -> Result<bool, ReplayFault>
+    ensures ok { IfOk result (AnswersAll CheckWrites (R.remaining (inner_of input.old)) (R.remaining (inner_of input.new))
+        (W.contents (inner_of output.old)) (W.contents (inner_of output.new))) }
+    ensures reads { OnOk result (failures_of input.new ≡ failures_of input.old) }
+    ensures writes { OnOk result (failures_of output.new ≡ failures_of output.old) }
+    ensures part { OnErr result (BreaksOff CheckWrites (R.remaining (inner_of input.old)) (R.remaining (inner_of input.new))
+        (W.contents (inner_of output.old)) (W.contents (inner_of output.new))) }
+    ensures fault { IfErr result (λ e. IsFault e (failures_of input.old) (failures_of input.new)
+        (failures_of output.old) (failures_of output.new) (calls_of input.old) (calls_of input.new)) }
+{
+    let hex = read_whole(alloc, input)?;
+    let answer = checked(alloc, hex.as_slice())?;
     write_answer(&answer, output)
 }
 

@@ -1,10 +1,13 @@
 //! The program's commands: the words that ask for one, what it does, and the exit status of what came of it.
-//! Promises that words ask for what clap finds in them, that `asm` and `dis` write exactly what bq_program answers for
-//! the whole of their input, and that a replay keeps the promise of bq_trace.
+//! Promises that words ask for what clap finds in them, that `asm`, `check` and `dis` write exactly what bq_program
+//! answers for the whole of their input, and that a replay keeps the promise of bq_trace.
 #![tactic(auto)]
 
 pub mod asked;
+mod asm_words;
 pub mod commands;
+#[cfg(test)]
+mod image_tests;
 pub mod program;
 pub mod status;
 #[cfg(test)]

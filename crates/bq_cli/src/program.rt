@@ -1,18 +1,56 @@
 //! The program and its commands, as clap takes them.
 ghost use Rattle.std.specs.Prelude.{◌≡◌, IfOk, false};
-ghost use Rattle.clap.specs.Words.{app_of, with_subcommand};
+ghost use Rattle.clap.specs.Words.{app_of, rule_of, with_rule, with_subcommand};
 ghost use Rattle.clap.specs.declared.builder.command.Command.TheViews.{out-Command as fields_of};
-ghost use Rattle.bq_cli.specs.Program.{program, asm_app, dis_app, replay_app};
+ghost use Rattle.bq_cli.specs.Program.{program, option_rule, asm_app, check_app, dis_app, replay_app};
 
-use clap::Command;
+use clap::{Arg, Command};
 use std::alloc::{AllocError, Global};
 
-fn asm_command<'a>(alloc: Global) -> Command<'a>
-    ensures app { app_of result ≡ asm_app }
+fn asm_command<'a>(alloc: Global) -> Result<Command<'a>, AllocError>
+    ensures app { IfOk result (λ c. app_of c ≡ asm_app) }
+    ensures local { IfOk result (λ c. (fields_of c).has_globals ≡ false) }
+{
+    let command = Command::new(alloc, "asm").about(
+        "Reads an assembler text from standard input and writes the hex of its program",
+    );
+    let hook = option(alloc, "hook", "HOOK").help(
+        "Writes an image for this hook: place, preempt or pull",
+    );
+    let command = with_option(command, hook)?;
+    let maps = option(alloc, "maps", "MAPS").help(
+        "The value size and the entries of each map, as in 8:2,16:4",
+    );
+    let command = with_option(command, maps)?;
+    let format = option(alloc, "format", "FORMAT").help(
+        "The version of the image: 1, which it is without this, or 2",
+    );
+    with_option(command, format)
+}
+
+/// An option that takes one value.
+fn option<'a>(alloc: Global, name: &'a str, value: &'a str) -> Arg<'a>
+    ensures rule { rule_of result ≡ option_rule name.entry.now }
+    ensures local { result.global ≡ false }
+{
+    Arg::new(alloc, name).long(name).value_name(value)
+}
+
+/// A command with one option more.
+fn with_option<'a>(command: Command<'a>, option: Arg<'a>) -> Result<Command<'a>, AllocError>
+    requires local { option.global ≡ false }
+    ensures app { IfOk result (λ c. app_of c ≡ with_rule (app_of command.entry) (rule_of option.entry)) }
+    ensures globals { IfOk result (λ c. (fields_of c).has_globals ≡ (fields_of command.entry).has_globals) }
+{
+    command.arg(option)
+}
+
+fn check_command<'a>(alloc: Global) -> Command<'a>
+    ensures app { app_of result ≡ check_app }
     ensures local { (fields_of result).has_globals ≡ false }
 {
-    Command::new(alloc, "asm").about(
-        "Reads an assembler text from standard input and writes the hex of its program",
+    Command::new(alloc, "check").about(
+        "Reads the hex of an image from standard input and writes its hook and its budget",
     )
 }
 
@@ -49,7 +87,8 @@ pub fn program<'a>(alloc: Global) -> Result<Command<'a>, AllocError>
     let command = Command::new(alloc, "bqsim")
         .about("Simulates processors that choose among their tasks as CFS and EEVDF do")
         .version("0.1.0");
-    let command = with_command(command, asm_command(alloc))?;
+    let command = with_command(command, asm_command(alloc)?)?;
+    let command = with_command(command, check_command(alloc))?;
     let command = with_command(command, dis_command(alloc))?;
     let command = with_command(command, replay_command(alloc))?;
     let command = command.bin_name("bqsim")?;

@@ -31,7 +31,7 @@ fn ends_by_one_where_a_line_is_bad(rt: HostRuntime) {
 }
 
 /// What some words are told, and where in the text.
-const TOLD: [(&[&str], &str); 8] = [
+const TOLD: [(&[&str], &str); 17] = [
     (&[], "Usage: bqsim"),
     (&["--help"], "Usage: bqsim"),
     (&["help"], "Usage: bqsim"),
@@ -40,6 +40,21 @@ const TOLD: [(&[&str], &str); 8] = [
     (&["play"], "error: "),
     (&["replay", "again"], "error: "),
     (&["--replay"], "error: "),
+    (&["--help"], "check "),
+    (&["check", "--help"], "Usage: bqsim check"),
+    (&["asm", "--help"], "place, preempt or pull"),
+    (&["asm", "--help"], "--maps <MAPS>"),
+    (
+        &["asm", "--hook", "tick"],
+        "invalid value 'tick' for '--hook'",
+    ),
+    (&["asm", "--hook"], "error: "),
+    (
+        &["asm", "--hook", "pull", "--format", "3"],
+        "invalid value '3' for '--format'",
+    ),
+    (&["asm", "--hook", "pull", "--hook", "place"], "error: "),
+    (&["check", "--hook", "pull"], "error: "),
 ];
 
 #[test]

@@ -5,6 +5,7 @@ ghost use Rattle.bq_cli.specs.Program.{program};
 ghost use Rattle.bq_cli.specs.Jobs.{IsJob};
 
 use crate::asked::{Job, JobFault};
+use crate::asm_words::options;
 use crate::program::program;
 use clap::ArgMatches;
 use clap::error::ErrorKind;
@@ -20,8 +21,11 @@ pub fn job<'a>(alloc: Global, words: &'a [&'a str]) -> Result<Job, JobFault>
         → (job : Job) → IsJob (map (λ w. w.now) words.entry.now) job → e ≡ JobFault.OutOfMemory) }
 {
     let matches = found(alloc, words)?;
-    if let Some(_) = matches.subcommand_matches("asm") {
-        return Ok(Job::Asm);
+    if let Some(matches) = matches.subcommand_matches("asm") {
+        return Ok(Job::Asm(options(alloc, matches)?));
+    }
+    if let Some(_) = matches.subcommand_matches("check") {
+        return Ok(Job::Check);
     }
     if let Some(_) = matches.subcommand_matches("dis") {
         return Ok(Job::Dis);
@@ -59,7 +63,7 @@ fn refusal(alloc: Global, error: &clap::Error) -> JobFault
 
 /// The fault of words with no command.
 fn no_command(alloc: Global) -> JobFault {
-    match format!(in alloc; "error: a command is needed: asm, dis or replay\n") {
+    match format!(in alloc; "error: a command is needed: asm, check, dis or replay\n") {
         Ok(text) => JobFault::Words(text),
         Err(_) => JobFault::OutOfMemory,
     }

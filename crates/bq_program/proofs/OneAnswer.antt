@@ -1,5 +1,5 @@
 -- An input has one answer.
-use Rattle.std.proofs.Common.{◌≡◌, ℕ, true, false, List, ◌++◌, ◌⊎◌, inl, inr, refl, sym, ap, subst, ◌∙◌}
+use Rattle.std.proofs.Common.{◌≡◌, ℕ, true, false, List, ◌++◌, ◌⊎◌, inl, inr, refl, sym, ap, subst, ◌∙◌, arith}
 use Rattle.std.specs.Prelude.{◌&&◌, nat_le, codes}
 use Rattle.std.specs.List.{list_all}
 use Rattle.hex.specs.Hex.{encode_lower}
@@ -13,14 +13,34 @@ use Rattle.bq_insn.proofs.OneFaultLemmas as fault
 use Rattle.bq_insn.proofs.LengthLemmas as lengths
 use Rattle.bq_asm.specs.Text.{listing_text}
 use Rattle.bq_asm.proofs.LawLemmas as asm
+use Rattle.bq_maps.specs.declared.shape.MapShape.{MapShape}
+use Rattle.bq_verify.specs.declared.hook.Hook.{Hook}
+use Rattle.bq_verify.specs.declared.hook.Version.{Version}
+use Rattle.bq_load.specs.Layout.{header_bytes, IsImage}
+use Rattle.bq_program.specs.declared.form.Form.{Form}
+use Rattle.bq_program.specs.declared.form.Form.TheVariants.{Program, Image}
+use Rattle.bq_program.specs.Forms.{SpellsForm}
+use Rattle.bq_program.specs.HexText.{IsNoHex}
 use Rattle.bq_program.specs.Refusals.{refusal, cause_and_place}
 use Rattle.bq_program.specs.Asm.{asm_number, IsAssembled, IsNoText, IsFaultyText}
-use Rattle.bq_program.specs.Dis.{dis_number, IsNoHex, IsListed, IsFaultyProgram}
+use Rattle.bq_program.specs.Dis.{dis_number, IsListed, IsFaultyProgram}
 use Rattle.bq_program.specs.Laws.{OneAssembly, OneListing}
 
-assembled_or_refused : (text x y : List ℕ) → IsAssembled text x → IsNoText text y ⊎ IsFaultyText text y → ⊥
-assembled_or_refused text x y p (inl q) = q.0 p.0
-assembled_or_refused text x y p (inr q) = asm.no_program_is_faulty text p.1 q.1 q.2 p.2 q.3
+assembled_or_refused : (form : Form) (text x y : List ℕ) → IsAssembled form text x → IsNoText text y ⊎ IsFaultyText text y → ⊥
+assembled_or_refused form text x y p (inl q) = q.0 p.is_text
+assembled_or_refused form text x y p (inr q) = asm.no_program_is_faulty text p.insns q.1 q.2 p.assembles q.3
+
+-- the bytes of an image are told by its parts
+one_image : (a b : List ℕ) (version : Version) (hook : Hook) (shapes : List MapShape) (program : List ℕ)
+    → IsImage a version hook shapes program → IsImage b version hook shapes program → a ≡ b
+one_image a b version hook shapes program p q =
+    let slots : p.slots ≡ q.slots = omega (arith, p.framed.whole, q.framed.whole) in
+    p.framed.bytes_are ∙ ap (λ n. header_bytes (record { version = version; hook = hook; shapes = shapes; slots = n }) ++ program) slots ∙ sym q.framed.bytes_are
+
+-- a program has one spelling in a form
+one_spelling : (form : Form) (insns : List Insn) (a b : List ℕ) → SpellsForm form insns a → SpellsForm form insns b → a ≡ b
+one_spelling Program insns a b p q = p ∙ sym q
+one_spelling (Image i) insns a b p q = one_image a b i.version i.hook i.shapes.items (spelling insns) p q
 
 one_text_refusal : (text x y : List ℕ) → IsNoText text x ⊎ IsFaultyText text x → IsNoText text y ⊎ IsFaultyText text y → x ≡ y
 one_text_refusal text x y (inl p) (inl q) = p.1 ∙ sym q.1
@@ -31,12 +51,17 @@ one_text_refusal text x y (inr p) (inr q) =
     p.4 ∙ ap (λ n. refusal (cause_and_place (codes "A") (asm_number p.2) n)) same.0
     ∙ ap (λ c. refusal (cause_and_place (codes "A") (asm_number c) q.1)) same.1 ∙ sym q.4
 
+same_assembly : (form : Form) (text x y : List ℕ) → IsAssembled form text x → IsAssembled form text y → x ≡ y
+same_assembly form text x y p q =
+    let insns : p.insns ≡ q.insns = asm.one_program text p.insns q.insns p.assembles q.assembles in
+    let bytes : p.bytes ≡ q.bytes = one_spelling form q.insns p.bytes q.bytes (subst (λ l. SpellsForm form l p.bytes) insns p.spells) q.spells in
+    p.line ∙ ap (λ b. encode_lower b ++ codes "\n") bytes ∙ sym q.line
+
 pub one_assembly : OneAssembly
-one_assembly text true true x y p q =
-    (refl, p.3 ∙ ap (λ insns. encode_lower (spelling insns) ++ codes "\n") (asm.one_program text p.1 q.1 p.2 q.2) ∙ sym q.3)
-one_assembly text true false x y p q = absurd (assembled_or_refused text x y p q)
-one_assembly text false true x y p q = absurd (assembled_or_refused text y x q p)
-one_assembly text false false x y p q = (refl, one_text_refusal text x y p q)
+one_assembly form text true true x y p q = (refl, same_assembly form text x y p q)
+one_assembly form text true false x y p q = absurd (assembled_or_refused form text x y p q)
+one_assembly form text false true x y p q = absurd (assembled_or_refused form text y x q p)
+one_assembly form text false false x y p q = (refl, one_text_refusal text x y p q)
 
 all_insns : (insns : List Insn) → is_well_formed insns ≡ true → list_all is_insn insns ≡ true
 all_insns insns h = (both (list_all is_insn insns) (nat_le 1 (slot_count insns) && nat_le (slot_count insns) 4096) h).0

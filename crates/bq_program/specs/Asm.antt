@@ -1,14 +1,15 @@
--- What `asm` writes for the bytes of a text, and whether it accepts them.
+-- What `asm` writes in a form for the bytes of a text, and whether it accepts them.
 use Rattle.std.specs.Prelude.{◌≡◌, ℕ, Bool, true, false, List, ◌++◌, ◌⊎◌, codes}
 use Rattle.std.specs.Str.{IsUtf8}
 use Rattle.hex.specs.Hex.{encode_lower}
 use Rattle.bq_insn.specs.declared.Insn.{Insn}
-use Rattle.bq_insn.specs.Spelling.{spelling}
 use Rattle.bq_asm.specs.declared.fault.Cause.{Cause}
 use Rattle.bq_asm.specs.declared.fault.Cause.TheVariants.{Word, Number, LabelTwice, LabelMissing, Slots}
 use Rattle.bq_asm.specs.Lines.{lines_of}
 use Rattle.bq_asm.specs.Assembly.{Assembles}
 use Rattle.bq_asm.specs.Faults.{Faulty}
+use Rattle.bq_program.specs.declared.form.Form.{Form}
+use Rattle.bq_program.specs.Forms.{SpellsForm}
 use Rattle.bq_program.specs.Refusals.{refusal, cause_and_place}
 
 -- the number of a cause, after the letter A
@@ -19,9 +20,14 @@ asm_number LabelTwice = 3
 asm_number LabelMissing = 4
 asm_number Slots = 5
 
--- the text stands for a program: its bytes as hex in lower case, and the line's end
-abbrev pub IsAssembled : List ℕ → List ℕ → Type 0
-IsAssembled text written = IsUtf8 text × (insns : List Insn) × Assembles text insns × (written ≡ encode_lower (spelling insns) ++ codes "\n")
+-- the text stands for a program: its bytes in that form as hex in lower case, and the line's end
+pub record IsAssembled (form : Form) (text written : List ℕ) : Type 0 where
+  pub is_text : IsUtf8 text
+  pub insns : List Insn
+  pub assembles : Assembles text insns
+  pub bytes : List ℕ
+  pub spells : SpellsForm form insns bytes
+  pub line : written ≡ encode_lower bytes ++ codes "\n"
 
 -- the bytes are no text
 abbrev pub IsNoText : List ℕ → List ℕ → Type 0
@@ -33,6 +39,6 @@ IsFaultyText text written =
     IsUtf8 text × (line : ℕ) × (cause : Cause) × Faulty (lines_of text) line cause × (written ≡ refusal (cause_and_place (codes "A") (asm_number cause) line))
 
 -- what is written for a text that is accepted, or for one that is not
-abbrev pub AsmWrites : List ℕ → Bool → List ℕ → Type 0
-AsmWrites text true written = IsAssembled text written
-AsmWrites text false written = IsNoText text written ⊎ IsFaultyText text written
+abbrev pub AsmWrites : Form → List ℕ → Bool → List ℕ → Type 0
+AsmWrites form text true written = IsAssembled form text written
+AsmWrites form text false written = IsNoText text written ⊎ IsFaultyText text written

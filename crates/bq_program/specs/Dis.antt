@@ -1,7 +1,5 @@
 -- What `dis` writes for a text of hex, and whether it accepts it.
-use Rattle.std.specs.Prelude.{◌≡◌, ℕ, Bool, true, false, ◌||◌, ◌==◌, not, List, ◌⊎◌, filter, Ok, Err, codes}
-use Rattle.hex.specs.declared.error.FromHexError.{FromHexError}
-use Rattle.hex.specs.Hex.{decode_of}
+use Rattle.std.specs.Prelude.{◌≡◌, ℕ, Bool, true, false, List, ◌⊎◌, codes}
 use Rattle.bq_insn.specs.declared.Insn.{Insn}
 use Rattle.bq_insn.specs.declared.fault.Cause.{Cause}
 use Rattle.bq_insn.specs.declared.fault.Cause.TheVariants.{Length, Opcode, Register, Field, Offset, Imm, WideCut}
@@ -10,6 +8,7 @@ use Rattle.bq_insn.specs.Spelling.{spelling, is_well_formed}
 use Rattle.bq_insn.specs.Laws.{AllFit}
 use Rattle.bq_insn.specs.Faults.{IsFault}
 use Rattle.bq_asm.specs.Text.{listing_text}
+use Rattle.bq_program.specs.HexText.{SpellsBytes, IsNoHex}
 use Rattle.bq_program.specs.Refusals.{refusal, cause_and_place}
 
 -- the number of a cause, after the letter I
@@ -21,22 +20,6 @@ dis_number Field = 4
 dis_number Offset = 5
 dis_number Imm = 6
 dis_number WideCut = 7
-
--- a space, a tab, a carriage return or a line feed
-abbrev pub is_blank : ℕ → Bool
-is_blank b = (b == 32) || ((b == 9) || ((b == 13) || (b == 10)))
-
--- what stands between blanks
-abbrev pub digits_in : List ℕ → List ℕ
-digits_in text = filter (λ b. not (is_blank b)) text
-
--- the text is hex, and spells these bytes
-abbrev pub SpellsBytes : List ℕ → List ℕ → Type 0
-SpellsBytes text bytes = decode_of (digits_in text) ≡ Ok bytes
-
--- the text is no hex
-abbrev pub IsNoHex : List ℕ → Type 0
-IsNoHex text = (error : FromHexError) × (decode_of (digits_in text) ≡ Err error)
 
 -- the bytes are those of a program: its listing
 abbrev pub IsListed : List ℕ → List ℕ → Type 0

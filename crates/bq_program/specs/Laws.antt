@@ -1,11 +1,12 @@
 -- Laws of what is answered: an input has one answer.
 use Rattle.std.specs.Prelude.{◌≡◌, ℕ, Bool, List}
+use Rattle.bq_program.specs.declared.form.Form.{Form}
 use Rattle.bq_program.specs.Asm.{AsmWrites}
 use Rattle.bq_program.specs.Dis.{DisWrites}
 
--- `asm` does not both accept and refuse an input, and writes one text for it
+-- in each form `asm` does not both accept and refuse an input, and writes one text for it
 abbrev pub OneAssembly : Type 0
-OneAssembly = (text : List ℕ) (a b : Bool) (x y : List ℕ) → AsmWrites text a x → AsmWrites text b y → (a ≡ b) × (x ≡ y)
+OneAssembly = (form : Form) (text : List ℕ) (a b : Bool) (x y : List ℕ) → AsmWrites form text a x → AsmWrites form text b y → (a ≡ b) × (x ≡ y)
 
 -- nor does `dis`
 abbrev pub OneListing : Type 0

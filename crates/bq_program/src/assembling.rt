@@ -1,24 +1,23 @@
-//! From an assembler text to the hex of its program.
+//! From an assembler text to the hex of its program, or of an image with it.
 ghost use Rattle.std.specs.Prelude.{◌≡◌, IfOk};
 ghost use Rattle.std.specs.String.{string_bytes};
 ghost use Rattle.bq_program.specs.Asm.{AsmWrites, asm_number};
 
 use crate::Answer;
+use crate::form::Form;
 use bq_asm::{AsmFault, Cause, assemble};
-use bq_insn::encode::encode;
 use std::alloc::{AllocError, Global};
 
-/// The lower-case hex of the program that an assembler text stands for, and LF; else why it is refused.
-pub fn assembled(alloc: Global, text: &[u8]) -> Result<Answer, AllocError>
-    ensures { IfOk result (λ a. AsmWrites text.now a.accepted (string_bytes a.text)) }
+/// The lower-case hex of the program that an assembler text stands for, in that form, and LF; else why it is refused.
+pub fn assembled(alloc: Global, form: &Form, text: &[u8]) -> Result<Answer, AllocError>
+    ensures { IfOk result (λ a. AsmWrites form.now text.now a.accepted (string_bytes a.text)) }
 {
     let Ok(text) = std::str::from_utf8(text) else {
         return Answer::refused(alloc, "text");
     };
     match assemble(alloc, text) {
         Ok(insns) => {
-            let mut bytes = Vec::new(alloc);
-            encode(insns.as_slice(), &mut bytes)?;
+            let bytes = form.bytes_of(alloc, insns.as_slice())?;
             let hex = hex::encode(alloc, bytes.as_slice())?;
             let text = format!(in alloc; "{hex}\n")?;
             Ok(Answer::accepted(text))

@@ -1,13 +1,25 @@
-//! What `asm` and `dis` answer: programs from text to hex and back.
+//! What `asm`, `dis` and `check` answer: programs and images from text to hex, programs back to text, and what is known
+//! of an image.
 #![tactic(auto)]
 
 mod answer;
 mod assembling;
+mod checking;
+mod form;
+mod hex_text;
+mod image_form;
 pub mod laws;
 mod listing;
+mod options;
+mod shapes_text;
 #[cfg(test)]
 mod tests;
 
 pub use answer::Answer;
 pub use assembling::assembled;
+pub use bq_load::{Hook, Version};
+pub use checking::{checked, fault_text, hook_word};
+pub use form::Form;
+pub use image_form::ImageForm;
 pub use listing::disassembled;
+pub use options::{Options, OptionsFault, refused_options};

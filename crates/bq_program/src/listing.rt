@@ -1,9 +1,10 @@
 //! From hex to the listing of a program.
-ghost use Rattle.std.specs.Prelude.{◌≡◌, IfOk, MatchOption};
+ghost use Rattle.std.specs.Prelude.{◌≡◌, IfOk};
 ghost use Rattle.std.specs.String.{string_bytes};
-ghost use Rattle.bq_program.specs.Dis.{DisWrites, IsNoHex, SpellsBytes, digits_in, is_blank, dis_number};
+ghost use Rattle.bq_program.specs.Dis.{DisWrites, dis_number};
 
 use crate::Answer;
+use crate::hex_text::bytes_of;
 use bq_asm::listing;
 use bq_insn::decode::decode;
 use bq_insn::fault::{Cause, DecodeFault};
@@ -28,37 +29,8 @@ pub fn disassembled(alloc: Global, hex: &[u8]) -> Result<Answer, AllocError>
     }
 }
 
-/// The bytes that a hex text spells, None where it is no hex.
-fn bytes_of(alloc: Global, text: &[u8]) -> Result<Option<Vec<u8>>, AllocError>
-    ensures { IfOk result (λ read. MatchOption read (IsNoHex text.now) (λ bytes. SpellsBytes text.now bytes.items)) }
-{
-    let digits = digits_in(alloc, text)?;
-    match hex::decode(alloc, digits.as_slice()) {
-        Ok(bytes) => Ok(Some(bytes)),
-        Err(hex::FromHexError::OutOfMemory) => Err(AllocError),
-        Err(_) => Ok(None),
-    }
-}
-
-/// The text without its blanks.
-fn digits_in(alloc: Global, text: &[u8]) -> Result<Vec<u8>, AllocError>
-    ensures { IfOk result (λ digits. digits.items ≡ digits_in text.now) }
-{
-    text.iter()
-        .copied()
-        .filter(|byte| !is_blank(*byte))
-        .collect(alloc)
-}
-
-/// A space, a tab, or a part of a line's end.
-fn is_blank(byte: u8) -> bool
-    ensures { result ≡ is_blank byte }
-{
-    byte == b' ' || byte == b'\t' || byte == b'\r' || byte == b'\n'
-}
-
 /// The number by which a cause is named.
-fn number_of(cause: Cause) -> u8
+pub(crate) fn number_of(cause: Cause) -> u8
     ensures { result ≡ dis_number cause }
 {
     match cause {

@@ -1,6 +1,9 @@
-// Worked cases of both commands: input, what is written, and whether it was accepted.
+// Worked cases of the commands: input, what is written, and whether it was accepted.
 
-use crate::{Answer, assembled, disassembled};
+use crate::{
+    Answer, Form, Hook, Options, OptionsFault, Version, assembled, checked, disassembled,
+    refused_options,
+};
 use std::process::Abort;
 use std::test::Fail;
 
@@ -79,18 +82,60 @@ fn text_is_assembled_or_refused(rt: HostRuntime) -> Result<(), Fail> {
         ("# exit", false, "refused A1 1\n"),
     ];
     for (text, accepted, hex) in &cases {
-        let answer = assembled(rt.alloc(), text.as_bytes())?;
+        let answer = assembled(rt.alloc(), &Form::Program, text.as_bytes())?;
         shows(&rt, &answer, *accepted, hex);
     }
-    let torn = assembled(rt.alloc(), b"exit ; \xff".as_slice())?;
+    let torn = assembled(rt.alloc(), &Form::Program, b"exit ; \xff".as_slice())?;
     shows(&rt, &torn, false, "refused text\n");
     Ok(())
 }
 
 #[test]
 fn a_listing_comes_back(rt: HostRuntime) -> Result<(), Fail> {
-    let hex = assembled(rt.alloc(), b"mov64 r0, 1\nja end\nend:\nexit\n".as_slice())?;
+    let hex = assembled(
+        rt.alloc(),
+        &Form::Program,
+        b"mov64 r0, 1\nja end\nend:\nexit\n".as_slice(),
+    )?;
     let text = disassembled(rt.alloc(), hex.text.as_bytes())?;
     shows(&rt, &text, true, "mov64 r0, 1\nja +0\nexit\n");
+    Ok(())
+}
+
+#[test]
+fn an_image_is_assembled_and_checked(rt: HostRuntime) -> Result<(), Fail> {
+    let options = Options {
+        hook: Some(Hook::Preempt),
+        maps: None,
+        format: None,
+    };
+    let Ok(form) = options.form(rt.alloc()) else {
+        return Err(Fail::from("the options were refused"));
+    };
+    let hex = assembled(rt.alloc(), &form, b"mov64 r0, 0\nexit\n".as_slice())?;
+    shows(
+        &rt,
+        &hex,
+        true,
+        "425150490101000002000000b7000000000000009500000000000000\n",
+    );
+    let known = checked(rt.alloc(), hex.text.as_bytes())?;
+    shows(&rt, &known, true, "accepted preempt budget 2\n");
+    Ok(())
+}
+
+#[test]
+fn options_without_a_hook_are_refused(rt: HostRuntime) -> Result<(), Fail> {
+    let options = Options {
+        hook: None,
+        maps: None,
+        format: Some(Version::First),
+    };
+    let Err(fault) = options.form(rt.alloc()) else {
+        return Err(Fail::from("the options were taken"));
+    };
+    assert_eq!(rt; fault, OptionsFault::Format);
+    let answer = refused_options(rt.alloc(), fault)?;
+    shows(&rt, &answer, false, "refused format\n");
     Ok(())
 }

@@ -1,0 +1,18 @@
+-- The line that refuses an image, by its fault.
+use Rattle.std.proofs.Common.{◌≡◌, ◌∙◌, ℕ, List, Bool, true, false, Result, Ok, Err, IfOk, inr, ap, sym, subst}
+use Rattle.std.specs.Prelude.{◌≢◌}
+use Rattle.std.specs.String.{string_bytes}
+use Rattle.std.specs.declared.alloc.AllocError.{AllocError}
+use Rattle.bq_load.specs.declared.fault.LoadFault.{LoadFault}
+use Rattle.bq_load.specs.declared.fault.LoadFault.TheVariants as fault
+use Rattle.bq_load.specs.Answers.{IsUnloaded}
+use Rattle.bq_program.specs.declared.answer.Answer.{Answer}
+use Rattle.bq_program.specs.Refusals.{refusal}
+use Rattle.bq_program.specs.HexText.{SpellsBytes}
+use Rattle.bq_program.specs.Check.{CheckWrites, fault_text}
+
+pub refuses_fault : (text bytes reason : List ℕ) (f : LoadFault) (r : Result Answer AllocError) → SpellsBytes text bytes → IsUnloaded bytes f → f ≢ fault.OutOfMemory → reason ≡ fault_text f
+    → IfOk r (λ a. string_bytes a.text ≡ refusal reason) → IfOk r (λ a. a.accepted ≡ false) → IfOk r (λ a. CheckWrites text a.accepted (string_bytes a.text))
+refuses_fault text bytes reason f (Err e) spells unloaded other is line refused = tt
+refuses_fault text bytes reason f (Ok a) spells unloaded other is line refused =
+    subst (λ b. CheckWrites text b (string_bytes a.text)) (sym refused) (inr (bytes, spells, f, unloaded, other, line ∙ ap refusal is))
