@@ -48,7 +48,7 @@ def spelled(words, slot, labels):
             return instruction(0x06, immediate=distance(operands[0]))
         case "lddw":
             number = int(operands[1], 0)
-            return wide(register(operands[0]), 0, number & 2**32 - 1, number >> 32)
+            return wide(register(operands[0]), 0, number, number >> 32)
         case "ldmap":
             return wide(register(operands[0]), 5, int(operands[1], 0), 0)
     if parts := re.fullmatch(r"(ldx|ldxs|st|stx)(b|h|w|dw)", name):
@@ -89,7 +89,7 @@ def instruction(opcode, dst=0, src=0, offset=0, immediate=0):
 
 
 def wide(dst, src, lower, upper):
-    return struct.pack("<BBhI", 0x18, dst | src << 4, 0, lower) + struct.pack("<II", 0, upper)
+    return struct.pack("<BBhI", 0x18, dst | src << 4, 0, lower & 2**32 - 1) + struct.pack("<II", 0, upper)
 
 
 def arithmetic_class(bits):

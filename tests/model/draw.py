@@ -70,16 +70,10 @@ def judged_image(draw):
     return Image(draw.choice([1, 2]), "preempt", shapes, program).spelled()
 
 
-def any_image(draw):
-    """Bytes that may be an image."""
-    kind, good = draw.random(), image(draw, draw.choice(HOOKS))[0].spelled()
-    return good if kind < 0.2 else judged_image(draw) if kind < 0.6 else refused_image(draw, good)
-
-
 class Drawing:
     """A trace that is being drawn."""
 
-    def __init__(self, draw):
+    def __init__(self, draw, policies):
         """Some traces have few processors, tasks of nice 0 alone and round times, so that they meet the bounds exactly."""
         self.draw = draw
         if draw.random() < 0.3:
@@ -87,7 +81,7 @@ class Drawing:
         else:
             sizes, self.nices, self.grain, steps = SIZES, range(-20, 20), 1, [3_000, 3_000_000, 10**9, 10**12]
         self.size, self.tasks, self.step = draw.choice(sizes), draw.choice([3, 10, 60, 1100]), draw.choice(steps)
-        self.images = [image(draw, hook)[0] for hook in HOOKS for _ in range(4)]
+        self.images = policies
         self.now, self.drawn = 0, 0
 
     def lines(self):
@@ -180,5 +174,6 @@ class Drawing:
             )[0]
 
 
-def drawn_trace(draw):
-    return list(Drawing(draw).lines())
+def trace(draw, policies):
+    """The lines of a trace with these images, which are loaded; there is one for each hook at least."""
+    return list(Drawing(draw, policies).lines())

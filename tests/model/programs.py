@@ -54,7 +54,7 @@ class Writer:
         """A program of some of the kinds of statement."""
         kinds = self.draw.sample(STATEMENTS, self.draw.choice([1, 2, 4, len(STATEMENTS)]))
         if not self.shapes:
-            kinds = [kind for kind in kinds if kind not in (Writer.look_up, Writer.update)] or [Writer.compute]
+            kinds = [kind for kind in kinds if kind not in (Writer.look_up, Writer.update, Writer.copy)] or [Writer.compute]
         self.kinds = kinds
         self.put("mov64 r9, r1")
         for at in range(8, self.written + 1, 8):
@@ -72,6 +72,16 @@ class Writer:
             self.set_numbers()
             self.draw.choice([self.compute, self.compute, self.compute, self.skip])()
             self.tell()
+        self.end()
+        return "\n".join(self.lines)
+
+    def words_of_the_context(self):
+        """A program that adds words of the context to counters."""
+        self.put("mov64 r9, r1", *(f"mov64 {register}, 0" for register in NUMBERS))
+        for _ in range(MOST_COUNTER_CALLS):
+            self.counter_calls += 1
+            at = self.draw.choice([0, self.length - 8, self.draw.randrange(self.length - 7), self.draw.randrange(self.length - 7)])
+            self.put(f"ldxdw r2, [r9+{at}]", f"mov64 r1, {self.draw.randrange(64)}", "call 100")
         self.end()
         return "\n".join(self.lines)
 
@@ -186,16 +196,15 @@ class Writer:
     def below_the_stack(self):
         """Bytes that were not written at the start, by one store whose bytes are read."""
         at = self.draw.randrange(-512, -self.written - 16)
-        self.store_whole(at)
-        name, length = self.load()
-        self.put(f"{name} {self.number()}, [r10{at + self.draw.randrange(9 - length):+d}]")
-
-    def store_whole(self, at):
         self.put(f"stxdw [r10{at:+d}], {self.number()}")
+        self.fetch("r10", at, at + 8)
+
+    def room_for_a_pointer(self):
+        return f"[r10-{8 * self.draw.randrange(self.written // 8 + 3, 65)}]"
 
     def pointer_on_the_stack(self):
-        at = -8 * self.draw.randrange(self.written // 8 + 3, 65)
-        self.put(f"stxdw [r10{at:+d}], r9", f"ldxdw r2, [r10{at:+d}]")
+        room = self.room_for_a_pointer()
+        self.put(f"stxdw {room}, r9", f"ldxdw r2, {room}")
         self.fetch("r2", 0, self.length)
 
     def clock(self):
@@ -218,9 +227,11 @@ class Writer:
             self.put("call 101")
         self.put(f"mov64 {self.number()}, r0")
 
-    def entry(self):
-        """The reference of some map in r1, and the address of an entry's number in r2; answers the map's shape."""
-        number = self.draw.randrange(len(self.shapes))
+    def any_map(self):
+        return self.draw.randrange(len(self.shapes))
+
+    def entry(self, number):
+        """The reference of the map of this number in r1, and the address of an entry's number in r2; answers the value size."""
         value_size, entries = self.shapes[number]
         kind = self.draw.random()
         if kind < 0.5:
@@ -236,7 +247,7 @@ class Writer:
 
     def look_up(self):
         """Stores and loads in an entry, where there is one."""
-        value_size, none, end = self.entry(), self.label(), self.label()
+        value_size, none, end = self.entry(self.any_map()), self.label(), self.label()
         self.put("call 1")
         if self.draw.random() < 0.5:
             self.put(f"jeq64 r0, 0, {none}")
@@ -257,7 +268,7 @@ class Writer:
         self.put(f"{end}:")
 
     def update(self):
-        value_size = self.entry()
+        value_size = self.entry(self.any_map())
         if self.draw.random() < 0.8 or value_size > self.length:
             self.put("mov64 r3, r10", f"add64 r3, {-self.draw.randrange(value_size, self.written + 1)}")
         else:
@@ -266,11 +277,21 @@ class Writer:
         if self.draw.random() < 0.5:
             self.look_up()
 
+    def copy(self):
+        """An entry is the value of an update of its own map, and now and then the number of the entry is found there too."""
+        number, end, room = self.any_map(), self.label(), self.room_for_a_pointer()
+        self.entry(number)
+        self.put("call 1", f"jeq64 r0, 0, {end}", f"stxdw {room}, r0")
+        self.entry(number)
+        if self.draw.random() < 0.3:
+            self.put(f"ldxdw r2, {room}")
+        self.put(f"ldxdw r3, {room}", "mov64 r4, 0", "call 2", f"mov64 {self.number()}, r0", f"{end}:")
+
 
 STATEMENTS = [
     Writer.from_context, Writer.from_a_place_of_the_context, Writer.compute, Writer.skip, Writer.on_the_stack,
     Writer.below_the_stack, Writer.pointer_on_the_stack, Writer.clock, Writer.processor, Writer.count, Writer.look_up,
-    Writer.update,
+    Writer.update, Writer.copy,
 ]  # fmt: skip
 
 
@@ -294,4 +315,6 @@ def drawn_program(draw, hook, version, shapes):
     if kind < 0.2:
         return echo(draw, LENGTHS[hook, version])
     writer = Writer(draw, hook, version, shapes)
-    return writer.operations() if kind < 0.4 else writer.any_program()
+    if kind < 0.3:
+        return writer.words_of_the_context()
+    return writer.operations() if kind < 0.45 else writer.any_program()
