@@ -154,14 +154,16 @@ def compare_policies(program, drawing):
 
 def compare_drawn(program, traces, drawing):
     count = 0
-    for number in range(1, traces + 1):
+    for _ in range(traces):
         lines = draw.trace(drawing, compare_policies(program, drawing))
         try:
             count += compare_trace(program, lines)
-        except Differs as found:
+        except Differs:
+            lines = shortened(program, lines)
             with open("differs.trace", "w") as file:
-                file.write("\n".join(shortened(program, lines)) + "\n")
-            raise Differs(f"trace {number}: {found}; see differs.trace") from found
+                file.write("\n".join(lines) + "\n")
+            compare_trace(program, lines)  # says what differs in the short trace
+            raise
     return f"{traces} traces, {count} replies alike"
 
 
@@ -178,7 +180,7 @@ def main():
             traces = int(sys.argv[2]) if len(sys.argv) > 2 else 100
             print(compare_drawn(program, traces, random.Random(sys.argv[3] if len(sys.argv) > 3 else "1")))
     except Differs as found:
-        sys.exit(str(found))
+        sys.exit(f"differs: {found}")
 
 
 if __name__ == "__main__":

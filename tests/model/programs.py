@@ -235,7 +235,8 @@ class Writer:
         value_size, entries = self.shapes[number]
         kind = self.draw.random()
         if kind < 0.5:
-            self.put(f"stw [r10-4], {self.draw.choice([0, 0, entries - 1, entries, self.immediate()])}", "mov64 r2, r10", "add64 r2, -4")
+            key = self.draw.choice([0, 0, entries - 1, entries, self.immediate()])
+            self.put(f"stw [r10-4], {key}", "mov64 r2, r10", "add64 r2, -4")
         elif kind < 0.9:
             chosen = self.number()
             self.put(f"mov64 r2, {chosen}", f"and64 r2, {self.draw.choice([1, 3, 255])}", "stxw [r10-4], r2")
