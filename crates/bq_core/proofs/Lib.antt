@@ -13,3 +13,4 @@ pub mod Order
 pub mod Installs
 pub mod Pulls
 pub mod Runs
+pub mod ShareSteps

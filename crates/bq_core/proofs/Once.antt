@@ -11,7 +11,7 @@ use Rattle.bq_disc.specs.Tasks.{Task, with_id}
 use Rattle.bq_disc.specs.Queues.{HasSmallIds}
 use Rattle.bq_disc.specs.OneProcessor.{present_at}
 use Rattle.bq_core.specs.declared.seat.Seat.TheVariants.{Absent}
-use Rattle.bq_core.specs.Processors.{Processor, opening, count_of, held_by, in_hand, HasEachOnce}
+use Rattle.bq_core.specs.Processors.{Processor, opening, count_of, held_by, in_hand, HasEachOnce, HasSeatedIds}
 use Rattle.bq_core.specs.World.{World, processor, inbox, seat}
 use Rattle.bq_core.specs.Refusals.{is_away}
 use Rattle.bq_hooks.specs.Contexts.{as_number}
@@ -85,6 +85,9 @@ pub none_beyond_at : (w : World) (cpu id : ℕ) → length w.seats ≡ 1024 → 
 none_beyond_at w cpu id l o h =
     let p : Processor = processor w cpu in
     omega (arith, none_beyond w id l o h, held_le id w.processors cpu, placed_le id w.inboxes cpu, count_of-held_by id p, count_of-append id (present_at p.running) (inbox w cpu))
+
+pub seated_running : (w : World) (cpu : ℕ) → length w.seats ≡ 1024 → IsOrderly w → HasSeatedIds (present_at (processor w cpu).running)
+seated_running w cpu l o = λ id h. omega (arith, none_beyond_at w cpu id l o h, count_of-append id (present_at (processor w cpu).running) (inbox w cpu))
 
 -- the first of some tasks has an id below a bound from which none stands there
 head_below : (x : Task) (m n : ℕ) → (n ≤ x.id → one x.id x + m ≡ 0) → x.id < n

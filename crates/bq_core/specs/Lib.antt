@@ -3,5 +3,6 @@ pub mod World
 pub mod Refusals
 pub mod Choices
 pub mod Steps
+pub mod Shares
 pub mod StandsOnce
 pub mod Laws

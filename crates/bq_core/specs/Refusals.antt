@@ -1,5 +1,6 @@
 -- Which events are refused, and why: by their arguments, or by what the world holds. The first that holds is named.
 use Rattle.std.specs.Prelude.{ℕ, ◌%◌, ◌^◌, ℤ, pos, negsuc, int_le, Bool, true, false, not, ◌==◌, ◌||◌, ◌&&◌, nat_lt, nat_le, List, [], ◌∷◌, Option, Some, None, if◌then◌else◌, is_some, is_none}
+use Rattle.bq_core.specs.declared.carried.Carried.{Carried}
 use Rattle.bq_core.specs.declared.seat.Seat.{Seat}
 use Rattle.bq_core.specs.declared.seat.Seat.TheVariants.{Absent, Blocked, Away}
 use Rattle.bq_verify.specs.declared.hook.Hook.{Hook}
@@ -57,16 +58,21 @@ argument_refusal count (Tick cpu now) = first_refusal (no_processor count cpu �
 argument_refusal count (Block cpu now) = first_refusal (no_processor count cpu ∷ [])
 argument_refusal count (Pull cpu from now) = first_refusal (no_processor count cpu ∷ no_processor count from ∷ (cpu == from, no.SameProcessor) ∷ [])
 
+-- what a seat and a hand refuse of a wake that begins
+abbrev pub begin_refusal : Seat → Option Carried → Option Refusal
+begin_refusal s hand = first_refusal ((is_absent s, no.NoTask) ∷ (is_away s, no.NotBlocked) ∷ (is_some hand, no.InHand) ∷ [])
+
+-- what is refused of a generation, where another stands at the hook and so many numbers were drawn
+abbrev pub install_refusal : ℕ → ℕ → ℕ → Option Refusal
+install_refusal newest drawn g = first_refusal ((nat_lt 0 newest && nat_le g newest, no.Older newest) ∷ (g == 0 || nat_lt drawn g, no.NotDrawn) ∷ [])
+
 -- what this world refuses
 abbrev pub state_refusal : World → Event → Option Refusal
 state_refusal w (Admit id nice mask slice) = first_refusal ((not (is_absent (seat w id)), no.TaskExists) ∷ [])
 state_refusal w (Retire id) = first_refusal ((is_absent (seat w id), no.NoTask) ∷ (is_away (seat w id), no.NotBlocked) ∷ [])
 state_refusal w Draw = None
-state_refusal w (Install cpu h g policy) =
-    let newest = (at_hook h (processor w cpu).programs).generation in
-    first_refusal ((nat_lt 0 newest && nat_le g newest, no.Older newest) ∷ (g == 0 || nat_lt w.drawn g, no.NotDrawn) ∷ [])
-state_refusal w (BeginWake cpu id) =
-    first_refusal ((is_absent (seat w id), no.NoTask) ∷ (is_away (seat w id), no.NotBlocked) ∷ (is_some (processor w cpu).hand, no.InHand) ∷ [])
+state_refusal w (Install cpu h g policy) = install_refusal (at_hook h (processor w cpu).programs).generation w.drawn g
+state_refusal w (BeginWake cpu id) = begin_refusal (seat w id) (processor w cpu).hand
 state_refusal w (EndWake cpu now) = first_refusal ((is_none (processor w cpu).hand, no.NothingInHand) ∷ [])
 state_refusal w (Drain cpu now) = None
 state_refusal w (Tick cpu now) = None

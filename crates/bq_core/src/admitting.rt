@@ -5,10 +5,9 @@ ghost use Rattle.bq_core.specs.Refusals.{argument_refusal};
 ghost use Rattle.bq_core.specs.Choices.{policies};
 ghost use Rattle.bq_core.specs.Steps.{WorldStep};
 
-use crate::arguments::allowed;
 use crate::parts::Parts;
-use crate::{Event, Refusal, Reply, Unlinked};
-use bq_disc::{Node, RunQueue};
+use crate::{Event, Refusal, Reply, new_task};
+use bq_disc::RunQueue;
 use std::alloc::Global;
 
 impl<Q: RunQueue, const P: usize> Parts<Q, P> {
@@ -25,16 +24,10 @@ impl<Q: RunQueue, const P: usize> Parts<Q, P> {
         requires fits { argument_refusal (count_in self.old) (Event.Admit task nice mask slice) ≡ None }
         ensures step { WorldStep (policies Q.R.discipline) self.old (Event.Admit task nice mask slice) [] result self.new }
     {
-        let mask = allowed(self.cpus.len(), mask);
-        let node = Node::new(task, bq_weights::weight(nice), mask, slice);
-        let Ok(node) = Box::new(alloc, node) else {
+        let Ok(new) = new_task(alloc, self.cpus.len(), task, nice, mask, slice) else {
             return Err(Refusal::OutOfMemory);
         };
-        if !self.lobby.is_absent(task) {
-            return Err(Refusal::TaskExists);
-        }
-        self.lobby.seat(task, Unlinked::new(node));
-        Ok(Reply::Admitted)
+        self.lobby.admit(task, new)
     }
 
     /// A task leaves the lobby for good.

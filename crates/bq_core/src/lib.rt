@@ -21,8 +21,10 @@ pub mod refusal;
 pub mod reply;
 mod running;
 pub mod seat;
+pub mod shares;
 pub mod unlinked;
 mod waking;
+pub mod wakes;
 pub mod world;
 
 pub use arguments::argument_refusal;
@@ -38,5 +40,7 @@ pub use outcome::Outcome;
 pub use refusal::Refusal;
 pub use reply::Reply;
 pub use seat::Seat;
+pub use shares::new_task;
 pub use unlinked::Unlinked;
+pub use wakes::Placement;
 pub use world::Core;

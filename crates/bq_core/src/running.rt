@@ -27,13 +27,7 @@ impl<Q: RunQueue, const P: usize> Parts<Q, P> {
         ensures board { Through B.leads board.old scratch.new board.new }
     {
         let cpu = &mut self.cpus[usize::from(processor)];
-        cpu.charge(now);
-        let preempted = cpu.decide(processor, scratch, board);
-        Ok(Reply::Ticked {
-            run: cpu.run(),
-            by: preempted.by,
-            steps: preempted.steps,
-        })
+        Ok(cpu.tick(processor, now, scratch, board))
     }
 
     /// All tasks that were placed on a processor enter its queue.
@@ -51,18 +45,8 @@ impl<Q: RunQueue, const P: usize> Parts<Q, P> {
         ensures board { Through B.leads board.old scratch.new board.new }
     {
         let inbox = &mut self.inboxes[usize::from(processor)];
-        let count = inbox.len();
-        let tasks = inbox.take_all();
         let cpu = &mut self.cpus[usize::from(processor)];
-        cpu.charge(now);
-        cpu.enter_all(tasks);
-        let preempted = cpu.decide(processor, scratch, board);
-        Ok(Reply::Drained {
-            count,
-            run: cpu.run(),
-            by: preempted.by,
-            steps: preempted.steps,
-        })
+        Ok(cpu.drain(inbox, processor, now, scratch, board))
     }
 
     /// The running task of a processor goes to the lobby.
@@ -72,17 +56,6 @@ impl<Q: RunQueue, const P: usize> Parts<Q, P> {
         ensures step { WorldStep (policies Q.R.discipline) self.old (Event.Block processor now) [] result self.new }
     {
         let cpu = &mut self.cpus[usize::from(processor)];
-        if cpu.current().is_none() {
-            return Err(Refusal::Idle);
-        }
-        cpu.charge(now);
-        let Some(task) = cpu.leave(processor) else {
-            return Err(Refusal::Idle);
-        };
-        cpu.start();
-        let run = cpu.run();
-        let id = task.id();
-        self.lobby.seat(id, task);
-        Ok(Reply::Blocked { task: id, run })
+        cpu.block(&mut self.lobby, processor, now)
     }
 }

@@ -1,5 +1,5 @@
 //! How many tasks each processor has.
-ghost use Rattle.std.specs.Prelude.{◌≡◌, ◌<◌, ◌≤◌, [], ◌∷◌, ◌++◌, length, slice_index};
+ghost use Rattle.std.specs.Prelude.{◌≡◌, ◌<◌, ◌≤◌, [], ◌∷◌, ◌++◌, length, slice_index, slice_set};
 
 use arrayvec::ArrayVec;
 use std::marker::Model;
@@ -45,6 +45,16 @@ impl Loads {
         match self.counts.get(processor) {
             Some(count) => *count,
             None => 0,
+        }
+    }
+
+    /// The load of a processor that has one is now this.
+    pub fn set(&mut self, processor: usize, count: u16)
+        ensures { self.new ≡ slice_set self.old processor count }
+    {
+        let counts = self.counts.as_mut_slice();
+        if processor < counts.len() {
+            counts[processor] = count;
         }
     }
 

@@ -1,5 +1,5 @@
 //! What runs of policies work on.
-ghost use Rattle.std.specs.Prelude.{◌≡◌, []};
+ghost use Rattle.std.specs.Prelude.{◌≡◌, ◌≤◌, [], length};
 
 use arrayvec::ArrayVec;
 use bq_interp::Stack;
@@ -43,7 +43,8 @@ impl Scratch {
 
     /// The calls of counters of the last run, in their order.
     pub fn calls(&self) -> &[Call]
-        ensures { result.now ≡ self.now }
+        ensures value { result.now ≡ self.now }
+        ensures few { length result.now ≤ 16 }
     {
         self.calls.as_slice()
     }
