@@ -1,0 +1,25 @@
+-- CFS is fair: what two tasks are served, each scaled by its weight, stays near.
+use Rattle.std.specs.Prelude.{◌≡◌, ℕ, ◌+◌, ◌≤◌, max, List, Some, All}
+use Rattle.bq_weights.specs.VirtualTime.{vdelta_of}
+use Rattle.bq_disc.specs.Tasks.{Task}
+use Rattle.bq_disc.specs.OneProcessor.{Running, present_at}
+use Rattle.bq_cfs.specs.Cfs.{cfs}
+use Rattle.bq_cfs.specs.Spread.{IsSound}
+use Rattle.bq_fair.specs.Histories.{HasRoom, RisesByAtMost, task_at, served}
+
+-- Proportional service, where no virtual time is beyond V at the start: of two tasks a and b, of ids i and j, a comes to no
+-- more virtual time than V, or than 1,000,000 beyond where b began, and what b was served, and one rise at its own weight
+abbrev pub CfsServesInProportion : Type 0
+CfsServesInProportion =
+    (V r : ℕ) (p : Running) (nows : List ℕ) (i j : ℕ) (a b : Task) →
+    IsSound p → HasRoom p → All (λ t. t.v ≤ V) (present_at p) → RisesByAtMost r cfs p nows →
+    task_at i p ≡ Some a → task_at j p ≡ Some b →
+    a.v + served i cfs p nows ≤ served j cfs p nows + max V (b.v + 1000000) + vdelta_of r a.weight
+
+-- So what any two are served differs by at most the spread at the start, the granularity, and one rise
+abbrev pub CfsServesWithin : Type 0
+CfsServesWithin =
+    (L S r : ℕ) (p : Running) (nows : List ℕ) (i j : ℕ) (a b : Task) →
+    IsSound p → HasRoom p → All (λ t. (L ≤ t.v) × (t.v ≤ L + S)) (present_at p) → RisesByAtMost r cfs p nows →
+    task_at i p ≡ Some a → task_at j p ≡ Some b →
+    served i cfs p nows ≤ served j cfs p nows + S + 1000000 + vdelta_of r a.weight
