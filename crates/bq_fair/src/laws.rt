@@ -1,5 +1,6 @@
 //! Laws of fairness: each is the contract of a function that does nothing.
 ghost use Rattle.bq_fair.specs.CfsFairness.{CfsServesInProportion, CfsServesWithin};
+ghost use Rattle.bq_fair.specs.EevdfFairness.{TickRunsEligible};
 
 /// CFS, proportional service. Over Ticks that the rule alone decides, each with a rise of the clock of at most r, and where
 /// no v present is beyond V at the start: of two tasks a and b that are present, a comes to no more virtual time than the
@@ -12,4 +13,9 @@ pub fn cfs_serves_in_proportion()
 /// at the weight of the one that was served more, however long the history is.
 pub fn cfs_serves_within()
     ensures { CfsServesWithin }
+{}
+
+/// EEVDF: the task that runs after a Tick is eligible.
+pub fn eevdf_runs_eligible()
+    ensures { TickRunsEligible }
 {}

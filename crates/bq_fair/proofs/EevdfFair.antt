@@ -1,0 +1,32 @@
+-- EEVDF: what each task may be ahead of the mean, and what it may be owed.
+use Rattle.std.proofs.Common.{◌≡◌, ℕ, ◌+◌, ◌-◌, ◌*◌, ◌/◌, ◌^◌, ◌≤◌, max, min, Bool, true, false, nat_le, List, [], ◌∷◌, length, Option, Some, None, refl, ap, sym, ◌∙◌, arith}
+use Rattle.std.specs.Prelude.{All, IfSome}
+use Rattle.bq_disc.specs.Tasks.{Task, with_id, without, has_id}
+use Rattle.bq_disc.specs.Totals.{total_weight, weighted_sum, is_at_most_mean}
+use Rattle.bq_disc.specs.Queues.{HasDistinctIds}
+use Rattle.bq_disc.specs.OneProcessor.{Running, present_at, charge}
+use Rattle.bq_disc.proofs.SetFacts.{IfSome-weaker}
+use Rattle.bq_cfs.specs.Spread.{IsSound}
+use Rattle.bq_eevdf.specs.Eevdf.{eevdf, is_eligible}
+use Rattle.bq_fair.specs.Histories.{ticked, history, rise, RisesByAtMost, task_at, charge_of, served}
+use Rattle.bq_fair.specs.EevdfFairness.{TickRunsEligible}
+use Rattle.bq_fair.proofs.TickFacts.{charged_distinct}
+use Rattle.bq_fair.proofs.SumFacts.{sum_over, sum_ticked, total_weight-sum, weighted_sum-sum}
+use Rattle.bq_fair.proofs.EligibleFacts.{runs_eligible}
+
+-- sums of the processor that a Tick leaves are those of the charged one
+total_weight-charged : (p : Running) (now : ℕ) → total_weight (present_at (ticked eevdf p now)) ≡ total_weight (present_at (charge eevdf p now))
+total_weight-charged p now =
+    total_weight-sum (present_at (ticked eevdf p now)) ∙ sum_ticked (λ (t : Task). t.weight) eevdf p now ∙ sym (total_weight-sum (present_at (charge eevdf p now)))
+
+weighted_sum-charged : (p : Running) (now : ℕ) → weighted_sum (present_at (ticked eevdf p now)) ≡ weighted_sum (present_at (charge eevdf p now))
+weighted_sum-charged p now =
+    weighted_sum-sum (present_at (ticked eevdf p now)) ∙ sum_ticked (λ (t : Task). t.weight * t.v) eevdf p now ∙ sym (weighted_sum-sum (present_at (charge eevdf p now)))
+
+pub tick_runs_eligible : TickRunsEligible
+tick_runs_eligible p now s =
+    let c = charge eevdf p now in
+    let q = ticked eevdf p now in
+    IfSome-weaker q.current (λ t. is_eligible (present_at c) t ≡ true) (λ t. is_eligible (present_at q) t ≡ true)
+    (λ t h. ap (λ n. is_at_most_mean n (weighted_sum (present_at q)) t) (total_weight-charged p now) ∙ ap (λ n. is_at_most_mean (total_weight (present_at c)) n t) (weighted_sum-charged p now) ∙ h)
+    (runs_eligible c (charged_distinct eevdf p now s.distinct))
