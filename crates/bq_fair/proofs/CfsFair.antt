@@ -1,5 +1,5 @@
 -- CFS: the task that runs is near each, so no task gets far beyond another.
-use Rattle.std.proofs.Common.{◌≡◌, ℕ, ◌+◌, ◌-◌, ◌*◌, ◌^◌, ◌<◌, ◌≤◌, max, Bool, true, false, cond, eqb, nat_lt, List, [], ◌∷◌, Option, Some, None, refl, ap, sym, ◌∙◌, arith}
+use Rattle.std.proofs.Common.{◌≡◌, ℕ, ◌+◌, ◌-◌, ◌*◌, ◌^◌, ◌<◌, ◌≤◌, max, Bool, true, false, cond, eqb, nat_lt, List, [], ◌∷◌, Option, Some, None, refl, sym, ◌∙◌, arith}
 use Rattle.std.specs.Prelude.{All, IfSome}
 use Rattle.std.specs.Option.{option_map_or}
 use Rattle.std.specs.List.{AllByRecursion}
@@ -17,7 +17,7 @@ use Rattle.bq_cfs.proofs.BoundFacts.{weaker, none_below_least}
 use Rattle.bq_cfs.proofs.MoveFacts.{each-with_id}
 use Rattle.bq_fair.specs.Histories.{ticked, history, rise, RisesByAtMost, task_at}
 use Rattle.bq_fair.specs.CfsFairness.{CfsServesInProportion, CfsServesWithin}
-use Rattle.bq_fair.proofs.PlaceFacts.{idle, busy, with_id-own}
+use Rattle.bq_fair.proofs.PlaceFacts.{idle, busy, current_present}
 use Rattle.bq_fair.proofs.TickFacts.{Change, Stays, Runs, came, tick_keeps, charged_distinct}
 use Rattle.bq_fair.proofs.SoundFacts.{of_each, vdelta_of-le, IsWellFormed, well_formed, rises, well_formed_ticked, got_to}
 
@@ -125,10 +125,6 @@ fair_history : (V r : ℕ) (p : Running) (nows : List ℕ) → IsWellFormed p �
 fair_history V r p [] w fair le = fair
 fair_history V r p (now ∷ nows) w fair le =
     fair_history V r (ticked cfs p now) nows (well_formed_ticked cfs p now w) (fair_ticked V r p now w fair le.0) le.1
-
-current_present : (q : List Task) (kept : ℕ) (o : Option Task) (last : ℕ) (m : Task) → (let p : Running = record { queue = q; kept = kept; current = o; last = last } in o ≡ Some m → task_at m.id p ≡ Some m)
-current_present q kept None last m e = cc
-current_present q kept (Some c) last m e = let same : c ≡ m = cc in ap (λ (x : Task). with_id x.id (c ∷ q)) (sym same) ∙ with_id-own c q ∙ e
 
 -- where no v is beyond V
 fair_at_start : (V r : ℕ) (p : Running) → All (λ t. t.v ≤ V) (present_at p) → IsFair V r p

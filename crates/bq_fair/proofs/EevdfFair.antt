@@ -1,17 +1,14 @@
 -- EEVDF: what each task may be ahead of the mean, and what it may be owed.
-use Rattle.std.proofs.Common.{◌≡◌, ℕ, ◌+◌, ◌-◌, ◌*◌, ◌/◌, ◌^◌, ◌≤◌, max, min, Bool, true, false, nat_le, List, [], ◌∷◌, length, Option, Some, None, refl, ap, sym, ◌∙◌, arith}
-use Rattle.std.specs.Prelude.{All, IfSome}
-use Rattle.bq_disc.specs.Tasks.{Task, with_id, without, has_id}
+use Rattle.std.proofs.Common.{◌≡◌, ℕ, ◌*◌, true, ap, sym, ◌∙◌}
+use Rattle.bq_disc.specs.Tasks.{Task}
 use Rattle.bq_disc.specs.Totals.{total_weight, weighted_sum, is_at_most_mean}
-use Rattle.bq_disc.specs.Queues.{HasDistinctIds}
 use Rattle.bq_disc.specs.OneProcessor.{Running, present_at, charge}
 use Rattle.bq_disc.proofs.SetFacts.{IfSome-weaker}
-use Rattle.bq_cfs.specs.Spread.{IsSound}
 use Rattle.bq_eevdf.specs.Eevdf.{eevdf, is_eligible}
-use Rattle.bq_fair.specs.Histories.{ticked, history, rise, RisesByAtMost, task_at, charge_of, served}
+use Rattle.bq_fair.specs.Histories.{ticked}
 use Rattle.bq_fair.specs.EevdfFairness.{TickRunsEligible}
 use Rattle.bq_fair.proofs.TickFacts.{charged_distinct}
-use Rattle.bq_fair.proofs.SumFacts.{sum_over, sum_ticked, total_weight-sum, weighted_sum-sum}
+use Rattle.bq_fair.proofs.SumFacts.{sum_ticked, total_weight-sum, weighted_sum-sum}
 use Rattle.bq_fair.proofs.EligibleFacts.{runs_eligible}
 
 -- sums of the processor that a Tick leaves are those of the charged one

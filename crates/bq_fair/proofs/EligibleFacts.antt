@@ -1,11 +1,11 @@
 -- EEVDF: the task that runs after a decision is eligible.
-use Rattle.std.proofs.Common.{◌≡◌, ◌≢◌, ℕ, ◌*◌, ◌≤◌, Bool, true, false, cond, eqb, not, List, [], ◌∷◌, Option, Some, None, refl, ap, sym, ◌∙◌, arith}
+use Rattle.std.proofs.Common.{◌≡◌, ℕ, Bool, true, false, cond, eqb, not, List, ◌∷◌, Option, Some, None, refl, ap, sym, ◌∙◌}
 use Rattle.std.specs.Prelude.{IfSome, IsSome, Contains, unwrap_or, if◌then◌else◌, ◌==◌}
-use Rattle.bq_disc.specs.Tasks.{Task, with_id, without, first_by, due_before, id_of}
+use Rattle.bq_disc.specs.Tasks.{Task, with_id, due_before, id_of}
 use Rattle.bq_disc.specs.Queues.{HasDistinctIds}
 use Rattle.bq_disc.specs.Discipline.{next_of}
 use Rattle.bq_disc.specs.Orders.{first_by-member}
-use Rattle.bq_disc.specs.OneProcessor.{Running, present_at, charge, decided, own_preempt, exchanged, run_id}
+use Rattle.bq_disc.specs.OneProcessor.{Running, present_at, decided, own_preempt, exchanged, run_id}
 use Rattle.bq_disc.proofs.SetFacts.{is_same, same_is, with_id-Contains}
 use Rattle.bq_disc.proofs.SameSums.{Contains-filter}
 use Rattle.bq_eevdf.specs.Eevdf.{eevdf, earliest, eligible, is_eligible, is_other}

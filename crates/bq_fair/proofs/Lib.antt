@@ -6,3 +6,6 @@ pub mod CfsFair
 pub mod SumFacts
 pub mod EligibleFacts
 pub mod EevdfFair
+pub mod ListFacts
+pub mod BalanceFacts
+pub mod OwedFacts

@@ -105,3 +105,8 @@ distinct_exchanged q kept last i u (Some m) e d = distinct-exchanged u m q (own_
 pub last_exchanged : (q : List Task) (kept last : ℕ) (u : Task) (o : Option Task) → (exchanged (busy q kept u last) u o).last ≡ last
 last_exchanged q kept last u None = refl
 last_exchanged q kept last u (Some m) = refl
+
+-- the task that runs is the one of its id
+pub current_present : (q : List Task) (kept : ℕ) (o : Option Task) (last : ℕ) (m : Task) → (let p : Running = record { queue = q; kept = kept; current = o; last = last } in o ≡ Some m → with_id m.id (present_at p) ≡ Some m)
+current_present q kept None last m e = cc
+current_present q kept (Some c) last m e = let same : c ≡ m = cc in ap (λ (x : Task). with_id x.id (c ∷ q)) (sym same) ∙ with_id-own c q ∙ e

@@ -1,14 +1,14 @@
 -- EEVDF is fair: no task is far ahead of the mean, so none is far behind it.
 -- With W the weights of all that are present together and M the sum of weight times v, the mean is M / W. A task is ahead of
 -- it by v - M / W, so by (W * v - M) / W; each law is stated times W, without a division.
-use Rattle.std.specs.Prelude.{◌≡◌, ℕ, ◌+◌, ◌-◌, ◌*◌, ◌≤◌, true, List, [], ◌∷◌, length, Option, Some, All, IfSome}
+use Rattle.std.specs.Prelude.{◌≡◌, ℕ, ◌+◌, ◌-◌, ◌*◌, ◌≤◌, true, List, [], ◌∷◌, length, Some, All, IfSome}
 use Rattle.bq_weights.specs.VirtualTime.{vdelta_of}
 use Rattle.bq_disc.specs.Tasks.{Task, without}
 use Rattle.bq_disc.specs.Totals.{total_weight, weighted_sum}
 use Rattle.bq_disc.specs.OneProcessor.{Running, present_at}
 use Rattle.bq_cfs.specs.Spread.{IsSound}
 use Rattle.bq_eevdf.specs.Eevdf.{eevdf, is_eligible}
-use Rattle.bq_fair.specs.Histories.{HasRoom, RisesByAtMost, ticked, history, rise, task_at, served}
+use Rattle.bq_fair.specs.Histories.{RisesByAtMost, ticked, history, rise, task_at}
 
 -- the weights of all that are present, and the sum of weight times v
 abbrev pub weight_at : Running → ℕ

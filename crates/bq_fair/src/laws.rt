@@ -1,6 +1,6 @@
 //! Laws of fairness: each is the contract of a function that does nothing.
 ghost use Rattle.bq_fair.specs.CfsFairness.{CfsServesInProportion, CfsServesWithin};
-ghost use Rattle.bq_fair.specs.EevdfFairness.{TickRunsEligible};
+ghost use Rattle.bq_fair.specs.EevdfFairness.{BeginsBalanced, HistoryStaysBalanced, NoneIsOwedLong, NoneIsOwedMore, StaysBalanced, TickRunsEligible};
 
 /// CFS, proportional service. Over Ticks that the rule alone decides, each with a rise of the clock of at most r, and where
 /// no v present is beyond V at the start: of two tasks a and b that are present, a comes to no more virtual time than the
@@ -18,4 +18,33 @@ pub fn cfs_serves_within()
 /// EEVDF: the task that runs after a Tick is eligible.
 pub fn eevdf_runs_eligible()
     ensures { TickRunsEligible }
+{}
+
+/// EEVDF: where no task is ahead of the mean by more than E / W, the processor is balanced for E and any r: its task that
+/// runs is ahead by no more, and each other task by no more than that and the part of one rise at its own weight that it
+/// does not move the mean by itself.
+pub fn eevdf_begins_balanced()
+    ensures { BeginsBalanced }
+{}
+
+/// A Tick at which the clock rises by at most r keeps a processor balanced, whose ids differ, whose weights are of the
+/// table's range and whose virtual times end at 2^62; and keeps these premises too.
+pub fn eevdf_stays_balanced()
+    ensures { StaysBalanced }
+{}
+
+/// So do any number of Ticks: no task is ever ahead of the mean by more than one rise.
+pub fn eevdf_history_stays_balanced()
+    ensures { HistoryStaysBalanced }
+{}
+
+/// The lags of all that are present add up to 0; so at a balanced processor none is owed more than what the others are
+/// ahead by together.
+pub fn eevdf_none_is_owed_more()
+    ensures { NoneIsOwedMore }
+{}
+
+/// In time: where n tasks are present, none is owed more than n - 2 rises and its own share of one, and E for the others.
+pub fn eevdf_none_is_owed_long()
+    ensures { NoneIsOwedLong }
 {}
