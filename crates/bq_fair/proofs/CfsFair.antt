@@ -1,5 +1,5 @@
 -- CFS: the task that runs is near each, so no task gets far beyond another.
-use Rattle.std.proofs.Common.{◌≡◌, ℕ, ◌+◌, ◌-◌, ◌*◌, ◌^◌, ◌<◌, ◌≤◌, max, Bool, true, false, cond, eqb, nat_lt, List, [], ◌∷◌, Option, Some, None, refl, sym, ◌∙◌, arith}
+use Rattle.std.proofs.Common.{◌≡◌, ℕ, ◌+◌, ◌<◌, ◌≤◌, max, Bool, true, false, cond, eqb, nat_lt, List, [], ◌∷◌, Option, Some, None, refl, sym, ◌∙◌, arith}
 use Rattle.std.specs.Prelude.{All, IfSome}
 use Rattle.std.specs.Option.{option_map_or}
 use Rattle.std.specs.List.{AllByRecursion}
@@ -19,7 +19,7 @@ use Rattle.bq_fair.specs.Histories.{ticked, history, rise, RisesByAtMost, task_a
 use Rattle.bq_fair.specs.CfsFairness.{CfsServesInProportion, CfsServesWithin}
 use Rattle.bq_fair.proofs.PlaceFacts.{idle, busy, current_present}
 use Rattle.bq_fair.proofs.TickFacts.{Change, Stays, Runs, came, tick_keeps, charged_distinct}
-use Rattle.bq_fair.proofs.SoundFacts.{of_each, vdelta_of-le, IsWellFormed, well_formed, rises, well_formed_ticked, got_to}
+use Rattle.bq_fair.proofs.SoundFacts.{each_has_room, of_each, vdelta_of-le, IsWellFormed, well_formed, rises, well_formed_ticked, got_to}
 
 -- Who runs after a decision
 
@@ -91,9 +91,9 @@ runs_near p now j m t d e f =
 -- How far one gets beyond another
 
 -- the task that runs is at most V, or 1,000,000 beyond each, and no task is further beyond by more than one rise at its own weight
-record IsFair (V r : ℕ) (p : Running) : Type 0 where
-  runs : (j : ℕ) (m t : Task) → p.current ≡ Some m → task_at j p ≡ Some t → m.v ≤ max V (t.v + 1000000)
-  each : (i j : ℕ) (u t : Task) → task_at i p ≡ Some u → task_at j p ≡ Some t → u.v ≤ max V (t.v + 1000000) + vdelta_of r u.weight
+pub record IsFair (V r : ℕ) (p : Running) : Type 0 where
+  pub runs : (j : ℕ) (m t : Task) → p.current ≡ Some m → task_at j p ≡ Some t → m.v ≤ max V (t.v + 1000000)
+  pub each : (i j : ℕ) (u t : Task) → task_at i p ≡ Some u → task_at j p ≡ Some t → u.v ≤ max V (t.v + 1000000) + vdelta_of r u.weight
 
 -- a task that stays or runs, beside another that does
 one_beyond_by : (V r : ℕ) (p : Running) (now i j : ℕ) (t u b : Task) → IsWellFormed p → IsFair V r p → rise p now ≤ r → task_at i p ≡ Some t → task_at j p ≡ Some b → Change cfs p now i t u → u.v ≤ max V (b.v + 1000000) + vdelta_of r u.weight
@@ -121,13 +121,13 @@ fair_ticked V r p now w fair le = record {
     omega arith;
 }
 
-fair_history : (V r : ℕ) (p : Running) (nows : List ℕ) → IsWellFormed p → IsFair V r p → RisesByAtMost r cfs p nows → IsFair V r (history cfs p nows)
+pub fair_history : (V r : ℕ) (p : Running) (nows : List ℕ) → IsWellFormed p → IsFair V r p → RisesByAtMost r cfs p nows → IsFair V r (history cfs p nows)
 fair_history V r p [] w fair le = fair
 fair_history V r p (now ∷ nows) w fair le =
     fair_history V r (ticked cfs p now) nows (well_formed_ticked cfs p now w) (fair_ticked V r p now w fair le.0) le.1
 
 -- where no v is beyond V
-fair_at_start : (V r : ℕ) (p : Running) → All (λ t. t.v ≤ V) (present_at p) → IsFair V r p
+pub fair_at_start : (V r : ℕ) (p : Running) → All (λ t. t.v ≤ V) (present_at p) → IsFair V r p
 fair_at_start V r p h = record {
   runs = λ j m t e f. let le = of_each (λ (x : Task). x.v ≤ V) p m.id m h (current_present p.queue p.kept p.current p.last m e) in omega arith;
   each = λ i j u t f g. let le = of_each (λ (x : Task). x.v ≤ V) p i u h f in omega arith;
@@ -136,7 +136,7 @@ fair_at_start V r p h = record {
 pub serves_in_proportion : CfsServesInProportion
 serves_in_proportion V r p nows i j a b s room h le f g =
     let w = well_formed p s in
-    let each = λ (k : ℕ) (t : Task) (e : task_at k p ≡ Some t). of_each (λ (x : Task). 15 * x.v + 1024 * (2 ^ 48 - 1 - p.last) ≤ 15 * 2 ^ 62) p k t room e in
+    let each = each_has_room p room in
     let fair = fair_history V r p nows w (fair_at_start V r p h) le in
     let x = got_to cfs p nows i a w each f in
     let y = got_to cfs p nows j b w each g in

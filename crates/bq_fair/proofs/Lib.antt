@@ -9,3 +9,6 @@ pub mod EevdfFair
 pub mod ListFacts
 pub mod BalanceFacts
 pub mod OwedFacts
+pub mod WorkFacts
+pub mod CfsShares
+pub mod EevdfShares

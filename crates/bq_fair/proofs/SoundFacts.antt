@@ -11,7 +11,7 @@ use Rattle.bq_disc.specs.Discipline.{Discipline}
 use Rattle.bq_disc.specs.OneProcessor.{Running, present_at, reading}
 use Rattle.bq_disc.proofs.SetFacts.{Contains-with_id}
 use Rattle.bq_cfs.specs.Spread.{IsSound}
-use Rattle.bq_fair.specs.Histories.{ticked, history, rise, task_at, charge_of, served}
+use Rattle.bq_fair.specs.Histories.{HasRoom, ticked, history, rise, task_at, charge_of, served}
 use Rattle.bq_fair.proofs.TickFacts.{Change, Stays, Runs, changes, came, tick_keeps}
 
 -- what holds of all that are present holds of the one of an id
@@ -86,8 +86,11 @@ HasRoomAt last t = 15 * t.v + 1024 * (2 ^ 48 - 1 - last) ≤ 15 * 2 ^ 62
 abbrev pub EachHasRoom : Running → Type 0
 EachHasRoom p = (i : ℕ) (t : Task) → task_at i p ≡ Some t → HasRoomAt p.last t
 
+pub each_has_room : (p : Running) → HasRoom p → EachHasRoom p
+each_has_room p h = λ i t f. of_each (HasRoomAt p.last) p i t h f
+
 -- so a Tick does not come to the end
-roomy : (last now v w c : ℕ) → 15 ≤ w → c ≤ vdelta_of (reading last now - last) w → 15 * v + 1024 * (2 ^ 48 - 1 - last) ≤ 15 * 2 ^ 62 → (v + c ≤ 2 ^ 62) × (15 * (v + c) + 1024 * (2 ^ 48 - 1 - reading last now) ≤ 15 * 2 ^ 62)
+pub roomy : (last now v w c : ℕ) → 15 ≤ w → c ≤ vdelta_of (reading last now - last) w → 15 * v + 1024 * (2 ^ 48 - 1 - last) ≤ 15 * 2 ^ 62 → (v + c ≤ 2 ^ 62) × (15 * (v + c) + 1024 * (2 ^ 48 - 1 - reading last now) ≤ 15 * 2 ^ 62)
 roomy last now v w c low le room =
     let x = max last (min now (2 ^ 48 - 1)) - last in
     let most : 15 * c ≤ x * 1024 = omega (arith, vdelta_of-least x w low) in
@@ -120,3 +123,7 @@ got_to d p (now ∷ nows) i t w room f =
     let g = got_to d (ticked d p now) nows i u (well_formed_ticked d p now w) (room_ticked d p now w room) c.1 in
     let rest = g.2 in
     (g.0, g.1, omega arith, g.3 ∙ r.weight)
+
+pub well_formed_history : (d : Discipline) (p : Running) (nows : List ℕ) → IsWellFormed p → IsWellFormed (history d p nows)
+well_formed_history d p [] w = w
+well_formed_history d p (now ∷ nows) w = well_formed_history d (ticked d p now) nows (well_formed_ticked d p now w)

@@ -1,3 +1,4 @@
 pub mod Histories
+pub mod Work
 pub mod CfsFairness
 pub mod EevdfFairness
