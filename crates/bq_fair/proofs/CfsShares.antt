@@ -18,7 +18,7 @@ use Rattle.bq_fair.proofs.CfsFair.{fair_history, fair_at_start}
 use Rattle.bq_fair.proofs.WorkFacts.{moves_the_sum, books_the_time}
 
 -- where none of some tasks is beyond N by more than one rise at its own weight
-shares : (N r : ℕ) (xs : List Task) → AllByRecursion (λ t. t.v ≤ N + vdelta_of r t.weight) xs → weighted_sum xs ≤ total_weight xs * N + 1024 * r * length xs
+pub shares : (N r : ℕ) (xs : List Task) → AllByRecursion (λ t. t.v ≤ N + vdelta_of r t.weight) xs → weighted_sum xs ≤ total_weight xs * N + 1024 * r * length xs
 shares N r [] h = omega arith
 shares N r (x ∷ xs) h =
     let here = mul-le-mul_left x.weight h.0 in
@@ -28,7 +28,7 @@ shares N r (x ∷ xs) h =
     let product = ap (λ k. 1024 * r * k) n in
     omega arith
 
-share_by : (M W N most B s r n : ℕ) → M + B ≤ W * N + 1024 * r * n → N ≤ s + most → M + B ≤ W * (s + most) + 1024 * r * n
+pub share_by : (M W N most B s r n : ℕ) → M + B ≤ W * N + 1024 * r * n → N ≤ s + most → M + B ≤ W * (s + most) + 1024 * r * n
 share_by M W N most B s r n h le = omega (arith, mul-le-mul_left W le)
 
 pub serves_its_share : CfsServesItsShare
@@ -46,15 +46,15 @@ serves_its_share V r p nows j b s room h le f =
     let v = u.2 in
     share_by (moment_at p) (weight_at p) N (max V (b.v + 1000000)) (booked cfs p nows) (served j cfs p nows) r (length (present_at p)) m (omega arith)
 
-least_under : (L : ℕ) (xs : List Task) → AllByRecursion (λ t. L ≤ t.v) xs → total_weight xs * L ≤ weighted_sum xs
+pub least_under : (L : ℕ) (xs : List Task) → AllByRecursion (λ t. L ≤ t.v) xs → total_weight xs * L ≤ weighted_sum xs
 least_under L [] h = omega arith
 least_under L (x ∷ xs) h =
     let here = mul-le-mul_left x.weight h.0 in
     omega (arith, here, least_under L xs h.1)
 
-waiting_by : (M W L S most B A s r n c : ℕ) → s ≡ 0 → W * L ≤ M → most ≤ L + S + 1000000 → M + B ≤ W * (s + most) + 1024 * r * n → A ≤ B + c → A ≤ W * (S + 1000000) + 1024 * r * n + c
-waiting_by M W L S most B A s r n c none low le h near =
-    let nothing : s + most ≤ L + S + 1000000 = omega arith in
+pub waiting_by : (M W L S g most B A s r n c : ℕ) → s ≡ 0 → W * L ≤ M → most ≤ L + S + g → M + B ≤ W * (s + most) + 1024 * r * n → A ≤ B + c → A ≤ W * (S + g) + 1024 * r * n + c
+waiting_by M W L S g most B A s r n c none low le h near =
+    let nothing : s + most ≤ L + S + g = omega arith in
     let product = mul-le-mul_left W nothing in
     omega arith
 
@@ -67,4 +67,4 @@ cfs_waiting L S r p nows j b s room h le busy f none =
     let own = of_each range p j b h f in
     let share = serves_its_share V r p nows j b s room high le f in
     let near = books_the_time cfs p nows s busy in
-    waiting_by (moment_at p) (weight_at p) L S (max V (b.v + 1000000)) (booked cfs p nows) (1024 * elapsed cfs p nows) (served j cfs p nows) r (length (present_at p)) (88760 * length nows) none (least_under L (present_at p) (recursion_from_All (λ (x : Task). L ≤ x.v) (present_at p) low)) (omega arith) share near.1
+    waiting_by (moment_at p) (weight_at p) L S 1000000 (max V (b.v + 1000000)) (booked cfs p nows) (1024 * elapsed cfs p nows) (served j cfs p nows) r (length (present_at p)) (88760 * length nows) none (least_under L (present_at p) (recursion_from_All (λ (x : Task). L ≤ x.v) (present_at p) low)) (omega arith) share near.1

@@ -12,3 +12,5 @@ pub mod OwedFacts
 pub mod WorkFacts
 pub mod CfsShares
 pub mod EevdfShares
+pub mod DueFacts
+pub mod EevdfSlices

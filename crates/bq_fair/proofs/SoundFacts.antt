@@ -47,15 +47,17 @@ well_formed p s = record {
 pub record Rises (d : Discipline) (p : Running) (now i : ℕ) (t u : Task) : Type 0 where
   pub v : u.v ≡ min (t.v + charge_of i p now) (2 ^ 62)
   pub weight : u.weight ≡ t.weight
+  pub slice : u.slice ≡ t.slice
   pub most : charge_of i p now ≤ vdelta_of (rise p now) t.weight
 
 pub rises : (d : Discipline) (p : Running) (now i : ℕ) (t u : Task) → t.v ≤ 2 ^ 62 → Change d p now i t u → Rises d p now i t u
 rises d p now i t u h (Stays e z) =
     let v : u.v ≡ t.v = ap (λ (x : Task). x.v) e in
-    record { v = omega arith; weight = ap (λ (x : Task). x.weight) e; most = omega arith }
+    record { v = omega arith; weight = ap (λ (x : Task). x.weight) e; slice = ap (λ (x : Task). x.slice) e; most = omega arith }
 rises d p now i t u h (Runs c e z) = record {
   v = ap (λ (x : Task). x.v) e ∙ ap (λ n. min (t.v + n) (2 ^ 62)) (sym z);
   weight = ap (λ (x : Task). x.weight) e;
+  slice = ap (λ (x : Task). x.slice) e;
   most = omega arith;
 }
 
@@ -108,12 +110,12 @@ room_ticked d p now w room i u f =
 
 -- Histories
 
--- where a task has got in a history: its weight stays, and its virtual time rises by what it is served
+-- where a task has got in a history: its weight and slice stay, and its virtual time rises by what it is served
 abbrev pub GotTo : Discipline → Running → List ℕ → ℕ → Task → Type 0
-GotTo d p nows i t = (u : Task) × (task_at i (history d p nows) ≡ Some u) × (u.v ≡ t.v + served i d p nows) × (u.weight ≡ t.weight)
+GotTo d p nows i t = (u : Task) × (task_at i (history d p nows) ≡ Some u) × (u.v ≡ t.v + served i d p nows) × (u.weight ≡ t.weight) × (u.slice ≡ t.slice)
 
 pub got_to : (d : Discipline) (p : Running) (nows : List ℕ) (i : ℕ) (t : Task) → IsWellFormed p → EachHasRoom p → task_at i p ≡ Some t → GotTo d p nows i t
-got_to d p [] i t w room f = (t, f, omega arith, refl)
+got_to d p [] i t w room f = (t, f, omega arith, refl, refl)
 got_to d p (now ∷ nows) i t w room f =
     let c = changes d p now i t w.distinct f in
     let u = c.0 in
@@ -122,7 +124,7 @@ got_to d p (now ∷ nows) i t w room f =
     let v : u.v ≡ t.v + charge_of i p now = let e = r.v in omega (arith, after.0) in
     let g = got_to d (ticked d p now) nows i u (well_formed_ticked d p now w) (room_ticked d p now w room) c.1 in
     let rest = g.2 in
-    (g.0, g.1, omega arith, g.3 ∙ r.weight)
+    (g.0, g.1, omega arith, g.3 ∙ r.weight, g.4 ∙ r.slice)
 
 pub well_formed_history : (d : Discipline) (p : Running) (nows : List ℕ) → IsWellFormed p → IsWellFormed (history d p nows)
 well_formed_history d p [] w = w

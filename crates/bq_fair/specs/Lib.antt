@@ -2,3 +2,4 @@ pub mod Histories
 pub mod Work
 pub mod CfsFairness
 pub mod EevdfFairness
+pub mod EevdfDeadlines

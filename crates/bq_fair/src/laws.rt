@@ -1,5 +1,6 @@
 //! Laws of fairness: each is the contract of a function that does nothing.
 ghost use Rattle.bq_fair.specs.CfsFairness.{CfsServesInProportion, CfsServesItsShare, CfsServesWithin, CfsWaiting};
+ghost use Rattle.bq_fair.specs.EevdfDeadlines.{EevdfServesBySlices, EevdfSharesBySlices, EevdfWaitsBySlices, NoneIsBeyondADeadline};
 ghost use Rattle.bq_fair.specs.EevdfFairness.{BeginsBalanced, EevdfServesInProportion, EevdfServesItsShare, EevdfWaiting, HistoryStaysBalanced, NoneIsOwedLong, NoneIsOwedMore, StaysBalanced, TickRunsEligible};
 ghost use Rattle.bq_fair.specs.Work.{BooksTheTime, MovesTheSum};
 
@@ -88,4 +89,27 @@ pub fn eevdf_serves_in_proportion()
 /// EEVDF, bounded waiting: while a task is served nothing the clock rises by a bounded time.
 pub fn eevdf_waiting_is_bounded()
     ensures { EevdfWaiting }
+{}
+
+/// EEVDF, by slices: where no v is beyond V at the start, no task ever comes beyond the greater of V and another's deadline
+/// by more than one rise at its own weight; and each task stays due no later than one slice from where it stands.
+pub fn eevdf_none_is_beyond_a_deadline()
+    ensures { NoneIsBeyondADeadline }
+{}
+
+/// EEVDF, proportional service by slices: of two tasks a and b, a comes to no more virtual time than the greater of V and
+/// one slice of b's beyond where b began, and what b was served, and one rise at a's own weight; however many there are.
+pub fn eevdf_serves_by_slices()
+    ensures { EevdfServesBySlices }
+{}
+
+/// EEVDF, service by share and by slices.
+pub fn eevdf_shares_by_slices()
+    ensures { EevdfSharesBySlices }
+{}
+
+/// EEVDF, bounded waiting by slices: where all v lie from L to L + S at the start, a task that is served nothing waits for at
+/// most W / 1024 times S and its slice's virtual time, and n r, and less than 87 ns a Tick for rounding.
+pub fn eevdf_waits_by_slices()
+    ensures { EevdfWaitsBySlices }
 {}
