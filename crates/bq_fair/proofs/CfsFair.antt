@@ -24,7 +24,7 @@ use Rattle.bq_fair.proofs.SoundFacts.{each_has_room, of_each, vdelta_of-le, IsWe
 -- Who runs after a decision
 
 -- a task is at most 1,000,000 beyond each of some
-abbrev IsNearEach : List Task → Task → Type 0
+abbrev pub IsNearEach : List Task → Task → Type 0
 IsNearEach xs m = AllByRecursion (λ t. m.v ≤ t.v + 1000000) xs
 
 -- with distinct ids, the least task is the one of its id
@@ -78,6 +78,10 @@ decided_near q kept last u false d e = (omega arith, near_each u.v q e)
 runs_near_by : (q : List Task) (kept : ℕ) (o : Option Task) (last : ℕ) → (let p : Running = record { queue = q; kept = kept; current = o; last = last } in HasDistinctIds (present_at p) → IfSome (decided cfs p o (own_preempt cfs q o)).current (IsNearEach (present_at p)))
 runs_near_by q kept None last d = started_near q kept last d
 runs_near_by q kept (Some u) last d = decided_near q kept last u (own_preempt cfs q (Some u)) d refl
+
+-- the task that runs after a decision is so of all that are present
+pub runs_near_each : (p : Running) → HasDistinctIds (present_at p) → IfSome (decided cfs p p.current (own_preempt cfs p.queue p.current)).current (IsNearEach (present_at p))
+runs_near_each p d = runs_near_by p.queue p.kept p.current p.last d
 
 -- the task that runs after a Tick is at most 1,000,000 beyond each that is present
 pub runs_near : (p : Running) (now j : ℕ) (m t : Task) → HasDistinctIds (present_at p) → (ticked cfs p now).current ≡ Some m → task_at j (ticked cfs p now) ≡ Some t → m.v ≤ t.v + 1000000

@@ -7,6 +7,7 @@ use Rattle.bq_weights.specs.VirtualTime.{vdelta_of, advance_of}
 use Rattle.bq_disc.specs.Tasks.{Task, with_id, due_before}
 use Rattle.bq_disc.specs.Totals.{total_weight, weighted_sum}
 use Rattle.bq_disc.specs.Queues.{HasDistinctIds}
+use Rattle.bq_disc.specs.Discipline.{charged}
 use Rattle.bq_disc.specs.OneProcessor.{Running, present_at, charge}
 use Rattle.bq_disc.proofs.SetFacts.{Contains-with_id}
 use Rattle.bq_disc.proofs.SameSums.{filter-Contains}
@@ -41,14 +42,24 @@ renewed_by_test x v slice weight deadline false e low high up ends =
     let lt : v < deadline = grind (arith, nat_tests) in
     (omega arith, omega arith, omega arith)
 
-dues : (p : Running) (now i : ℕ) (t u : Task) → t.v ≤ 2 ^ 62 → IsDue t → Change eevdf p now i t u → Dues t u
-dues p now i t u ends h (Stays e z) = rw e (record { due = h; up = omega arith })
-dues p now i t u ends h (Runs c e z) =
-    let v = min (t.v + vdelta_of (rise p now) t.weight) (2 ^ 62) in
+-- as time is charged
+charged_dues : (t : Task) (x : ℕ) → t.v ≤ 2 ^ 62 → IsDue t → Dues t (charged eevdf t x)
+charged_dues t x ends h =
+    let v = min (t.v + vdelta_of x t.weight) (2 ^ 62) in
     let low = h.low in
     let high = h.high in
     let r = renewed_by_test t.v v t.slice t.weight t.deadline (nat_le t.deadline v) refl low high (omega arith) (omega arith) in
-    rw e (record { due = record { low = r.0; high = r.1 }; up = r.2 })
+    record { due = record { low = r.0; high = r.1 }; up = r.2 }
+
+pub charged_due : (t : Task) (x : ℕ) → t.v ≤ 2 ^ 62 → IsDue t → IsDue (charged eevdf t x)
+charged_due t x ends h = (charged_dues t x ends h).due
+
+pub charged_later : (t : Task) (x : ℕ) → t.v ≤ 2 ^ 62 → IsDue t → t.deadline ≤ (charged eevdf t x).deadline
+charged_later t x ends h = (charged_dues t x ends h).up
+
+dues : (p : Running) (now i : ℕ) (t u : Task) → t.v ≤ 2 ^ 62 → IsDue t → Change eevdf p now i t u → Dues t u
+dues p now i t u ends h (Stays e z) = rw e (record { due = h; up = omega arith })
+dues p now i t u ends h (Runs c e z) = rw e (charged_dues t (rise p now) ends h)
 
 -- The task that runs
 
@@ -77,7 +88,7 @@ before_due_by xs m t false e c first dm dt =
     let low = dt.low in
     omega arith
 
-before_due : (xs : List Task) (m t : Task) (j : ℕ) → HasDistinctIds xs → earliest xs ≡ Some m → with_id j xs ≡ Some t → IsDue m → IsDue t → m.v ≤ t.deadline
+pub before_due : (xs : List Task) (m t : Task) (j : ℕ) → HasDistinctIds xs → earliest xs ≡ Some m → with_id j xs ≡ Some t → IsDue m → IsDue t → m.v ≤ t.deadline
 before_due xs m t j d e f dm dt =
     let c = Contains-with_id j xs t f in
     before_due_by xs m t (is_eligible xs t) refl (earliest_is_eligible xs m d e) (λ k. none_is_due_before xs m e t (filter-Contains (is_eligible xs) xs t c.0 c.1 c.2 k)) dm dt

@@ -89,3 +89,7 @@ earliest_is_eligible xs m d e = (of_some (IsChosen xs) (earliest xs) m (earliest
 -- and no eligible one is due before it
 pub none_is_due_before : (xs : List Task) (m : Task) → IsEarliestOf xs m → (t : Task) → Contains (eligible xs) t → due_before t m ≡ false
 none_is_due_before xs m e = of_some (λ x. (t : Task) → Contains (eligible xs) t → due_before t x ≡ false) (earliest xs) m (first_by-least due_before due_before-IsOrder (eligible xs)) e
+
+-- the earliest is the task of its id
+pub chosen_present : (xs : List Task) (m : Task) → HasDistinctIds xs → IsEarliestOf xs m → with_id m.id xs ≡ Some m
+chosen_present xs m d e = (of_some (IsChosen xs) (earliest xs) m (earliest_is_chosen xs d) e).0

@@ -14,3 +14,6 @@ pub mod CfsShares
 pub mod EevdfShares
 pub mod DueFacts
 pub mod EevdfSlices
+pub mod StepFacts
+pub mod ThroughoutFacts
+pub mod Throughout

@@ -3,3 +3,4 @@ pub mod Work
 pub mod CfsFairness
 pub mod EevdfFairness
 pub mod EevdfDeadlines
+pub mod Steps

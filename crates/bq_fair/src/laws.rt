@@ -2,6 +2,7 @@
 ghost use Rattle.bq_fair.specs.CfsFairness.{CfsServesInProportion, CfsServesItsShare, CfsServesWithin, CfsWaiting};
 ghost use Rattle.bq_fair.specs.EevdfDeadlines.{EevdfServesBySlices, EevdfSharesBySlices, EevdfWaitsBySlices, NoneIsBeyondADeadline};
 ghost use Rattle.bq_fair.specs.EevdfFairness.{BeginsBalanced, EevdfServesInProportion, EevdfServesItsShare, EevdfWaiting, HistoryStaysBalanced, NoneIsOwedLong, NoneIsOwedMore, StaysBalanced, TickRunsEligible};
+ghost use Rattle.bq_fair.specs.Steps.{CfsServesThroughout, EevdfServesThroughout};
 ghost use Rattle.bq_fair.specs.Work.{BooksTheTime, MovesTheSum};
 
 /// CFS, proportional service. Over Ticks that the rule alone decides, each with a rise of the clock of at most r, and where
@@ -112,4 +113,16 @@ pub fn eevdf_shares_by_slices()
 /// most W / 1024 times S and its slice's virtual time, and n r, and less than 87 ns a Tick for rounding.
 pub fn eevdf_waits_by_slices()
     ensures { EevdfWaitsBySlices }
+{}
+
+/// CFS, with others coming and going: of two tasks that are present throughout the one comes no further beyond the other than
+/// if nothing else entered or left, wherever in virtual time what enters does; r is the most that the clock rises between
+/// two decisions.
+pub fn cfs_serves_throughout()
+    ensures { CfsServesThroughout }
+{}
+
+/// EEVDF, with others coming and going, by slices: so too.
+pub fn eevdf_serves_throughout()
+    ensures { EevdfServesThroughout }
 {}
