@@ -11,7 +11,8 @@ use Rattle.bq_disc.specs.OneProcessor.{Running, present_at}
 use Rattle.bq_cfs.specs.Spread.{IsSound}
 use Rattle.bq_eevdf.specs.Eevdf.{eevdf}
 use Rattle.bq_fair.specs.Histories.{ticked, rise, task_at}
-use Rattle.bq_fair.specs.EevdfFairness.{weight_at, moment_at, most_ahead, IsBalanced, BeginsBalanced, StaysBalanced, HistoryStaysBalanced}
+use Rattle.bq_fair.specs.Work.{weight_at, moment_at}
+use Rattle.bq_fair.specs.EevdfFairness.{most_ahead, IsBalanced, BeginsBalanced, StaysBalanced, HistoryStaysBalanced}
 use Rattle.bq_fair.proofs.TickFacts.{Change, Stays, Runs, came}
 use Rattle.bq_fair.proofs.SoundFacts.{of_each, vdelta_of-le, IsWellFormed, well_formed, rises, well_formed_ticked}
 use Rattle.bq_fair.proofs.SumFacts.{total_weight-ticked, weighted_sum-busy, weighted_sum-idle}

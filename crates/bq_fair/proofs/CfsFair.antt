@@ -1,5 +1,5 @@
 -- CFS: the task that runs is near each, so no task gets far beyond another.
-use Rattle.std.proofs.Common.{◌≡◌, ℕ, ◌+◌, ◌-◌, ◌*◌, ◌^◌, ◌<◌, ◌≤◌, max, Bool, true, false, cond, eqb, nat_lt, List, [], ◌∷◌, Option, Some, None, refl, sym, ◌∙◌, arith}
+use Rattle.std.proofs.Common.{◌≡◌, ℕ, ◌+◌, ◌<◌, ◌≤◌, max, Bool, true, false, cond, eqb, nat_lt, List, [], ◌∷◌, Option, Some, None, refl, sym, ◌∙◌, arith}
 use Rattle.std.specs.Prelude.{All, IfSome}
 use Rattle.std.specs.Option.{option_map_or}
 use Rattle.std.specs.List.{AllByRecursion}
@@ -19,12 +19,12 @@ use Rattle.bq_fair.specs.Histories.{ticked, history, rise, RisesByAtMost, task_a
 use Rattle.bq_fair.specs.CfsFairness.{CfsServesInProportion, CfsServesWithin}
 use Rattle.bq_fair.proofs.PlaceFacts.{idle, busy, current_present}
 use Rattle.bq_fair.proofs.TickFacts.{Change, Stays, Runs, came, tick_keeps, charged_distinct}
-use Rattle.bq_fair.proofs.SoundFacts.{of_each, vdelta_of-le, IsWellFormed, well_formed, rises, well_formed_ticked, got_to}
+use Rattle.bq_fair.proofs.SoundFacts.{each_has_room, of_each, vdelta_of-le, IsWellFormed, well_formed, rises, well_formed_ticked, got_to}
 
 -- Who runs after a decision
 
 -- a task is at most 1,000,000 beyond each of some
-abbrev IsNearEach : List Task → Task → Type 0
+abbrev pub IsNearEach : List Task → Task → Type 0
 IsNearEach xs m = AllByRecursion (λ t. m.v ≤ t.v + 1000000) xs
 
 -- with distinct ids, the least task is the one of its id
@@ -79,6 +79,10 @@ runs_near_by : (q : List Task) (kept : ℕ) (o : Option Task) (last : ℕ) → (
 runs_near_by q kept None last d = started_near q kept last d
 runs_near_by q kept (Some u) last d = decided_near q kept last u (own_preempt cfs q (Some u)) d refl
 
+-- the task that runs after a decision is so of all that are present
+pub runs_near_each : (p : Running) → HasDistinctIds (present_at p) → IfSome (decided cfs p p.current (own_preempt cfs p.queue p.current)).current (IsNearEach (present_at p))
+runs_near_each p d = runs_near_by p.queue p.kept p.current p.last d
+
 -- the task that runs after a Tick is at most 1,000,000 beyond each that is present
 pub runs_near : (p : Running) (now j : ℕ) (m t : Task) → HasDistinctIds (present_at p) → (ticked cfs p now).current ≡ Some m → task_at j (ticked cfs p now) ≡ Some t → m.v ≤ t.v + 1000000
 runs_near p now j m t d e f =
@@ -91,9 +95,9 @@ runs_near p now j m t d e f =
 -- How far one gets beyond another
 
 -- the task that runs is at most V, or 1,000,000 beyond each, and no task is further beyond by more than one rise at its own weight
-record IsFair (V r : ℕ) (p : Running) : Type 0 where
-  runs : (j : ℕ) (m t : Task) → p.current ≡ Some m → task_at j p ≡ Some t → m.v ≤ max V (t.v + 1000000)
-  each : (i j : ℕ) (u t : Task) → task_at i p ≡ Some u → task_at j p ≡ Some t → u.v ≤ max V (t.v + 1000000) + vdelta_of r u.weight
+pub record IsFair (V r : ℕ) (p : Running) : Type 0 where
+  pub runs : (j : ℕ) (m t : Task) → p.current ≡ Some m → task_at j p ≡ Some t → m.v ≤ max V (t.v + 1000000)
+  pub each : (i j : ℕ) (u t : Task) → task_at i p ≡ Some u → task_at j p ≡ Some t → u.v ≤ max V (t.v + 1000000) + vdelta_of r u.weight
 
 -- a task that stays or runs, beside another that does
 one_beyond_by : (V r : ℕ) (p : Running) (now i j : ℕ) (t u b : Task) → IsWellFormed p → IsFair V r p → rise p now ≤ r → task_at i p ≡ Some t → task_at j p ≡ Some b → Change cfs p now i t u → u.v ≤ max V (b.v + 1000000) + vdelta_of r u.weight
@@ -121,13 +125,13 @@ fair_ticked V r p now w fair le = record {
     omega arith;
 }
 
-fair_history : (V r : ℕ) (p : Running) (nows : List ℕ) → IsWellFormed p → IsFair V r p → RisesByAtMost r cfs p nows → IsFair V r (history cfs p nows)
+pub fair_history : (V r : ℕ) (p : Running) (nows : List ℕ) → IsWellFormed p → IsFair V r p → RisesByAtMost r cfs p nows → IsFair V r (history cfs p nows)
 fair_history V r p [] w fair le = fair
 fair_history V r p (now ∷ nows) w fair le =
     fair_history V r (ticked cfs p now) nows (well_formed_ticked cfs p now w) (fair_ticked V r p now w fair le.0) le.1
 
 -- where no v is beyond V
-fair_at_start : (V r : ℕ) (p : Running) → All (λ t. t.v ≤ V) (present_at p) → IsFair V r p
+pub fair_at_start : (V r : ℕ) (p : Running) → All (λ t. t.v ≤ V) (present_at p) → IsFair V r p
 fair_at_start V r p h = record {
   runs = λ j m t e f. let le = of_each (λ (x : Task). x.v ≤ V) p m.id m h (current_present p.queue p.kept p.current p.last m e) in omega arith;
   each = λ i j u t f g. let le = of_each (λ (x : Task). x.v ≤ V) p i u h f in omega arith;
@@ -136,7 +140,7 @@ fair_at_start V r p h = record {
 pub serves_in_proportion : CfsServesInProportion
 serves_in_proportion V r p nows i j a b s room h le f g =
     let w = well_formed p s in
-    let each = λ (k : ℕ) (t : Task) (e : task_at k p ≡ Some t). of_each (λ (x : Task). 15 * x.v + 1024 * (2 ^ 48 - 1 - p.last) ≤ 15 * 2 ^ 62) p k t room e in
+    let each = each_has_room p room in
     let fair = fair_history V r p nows w (fair_at_start V r p h) le in
     let x = got_to cfs p nows i a w each f in
     let y = got_to cfs p nows j b w each g in

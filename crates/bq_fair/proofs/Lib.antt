@@ -9,3 +9,11 @@ pub mod EevdfFair
 pub mod ListFacts
 pub mod BalanceFacts
 pub mod OwedFacts
+pub mod WorkFacts
+pub mod CfsShares
+pub mod EevdfShares
+pub mod DueFacts
+pub mod EevdfSlices
+pub mod StepFacts
+pub mod ThroughoutFacts
+pub mod Throughout

@@ -8,7 +8,8 @@ use Rattle.bq_disc.specs.Tasks.{Task, without}
 use Rattle.bq_disc.specs.Totals.{total_weight, weighted_sum}
 use Rattle.bq_disc.specs.OneProcessor.{present_at}
 use Rattle.bq_cfs.proofs.MoveFacts.{each-without}
-use Rattle.bq_fair.specs.EevdfFairness.{weight_at, moment_at, most_ahead, ahead_together, NoneIsOwedMore, NoneIsOwedLong}
+use Rattle.bq_fair.specs.Work.{weight_at, moment_at}
+use Rattle.bq_fair.specs.EevdfFairness.{most_ahead, ahead_together, NoneIsOwedMore, NoneIsOwedLong}
 use Rattle.bq_fair.proofs.SoundFacts.{vdelta_of-weighted}
 use Rattle.bq_fair.proofs.SumFacts.{length-sum, sum_over-without}
 use Rattle.bq_fair.proofs.ListFacts.{All-from_ids, weights_split, moments_split}

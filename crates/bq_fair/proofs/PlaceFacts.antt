@@ -25,7 +25,7 @@ placed_by_test i t xs true e n = ap (λ k. with_id k (place t xs)) (sym (is_same
 placed_by_test i t xs false e n = with_id-place_other i t xs e
 
 -- a task that enters is found as the first would be
-with_id-place : (i : ℕ) (t : Task) (xs : List Task) → with_id t.id xs ≡ None → with_id i (place t xs) ≡ with_id i (t ∷ xs)
+pub with_id-place : (i : ℕ) (t : Task) (xs : List Task) → with_id t.id xs ≡ None → with_id i (place t xs) ≡ with_id i (t ∷ xs)
 with_id-place i t xs n = placed_by_test i t xs (eqb t.id i) refl n
 
 other_by_test : (i j : ℕ) (b c : Bool) (x : Task) (xs ys : List Task) → eqb x.id i ≡ b → eqb x.id j ≡ c → eqb i j ≡ false → with_id j ys ≡ with_id j xs → with_id j (cond b xs (x ∷ ys)) ≡ cond c (Some x) (with_id j xs)
@@ -33,7 +33,8 @@ other_by_test i j true true x xs ys e g ne rest = let same = same_is i j (sym (i
 other_by_test i j true false x xs ys e g ne rest = refl
 other_by_test i j false c x xs ys e g ne rest = rw g (ap (λ o. cond c (Some x) o) rest)
 
-with_id-without_other : (i j : ℕ) (xs : List Task) → eqb i j ≡ false → with_id j (without i xs) ≡ with_id j xs
+-- the others stay where one is taken out
+pub with_id-without_other : (i j : ℕ) (xs : List Task) → eqb i j ≡ false → with_id j (without i xs) ≡ with_id j xs
 with_id-without_other i j [] ne = refl
 with_id-without_other i j (x ∷ xs) ne = other_by_test i j (eqb x.id i) (eqb x.id j) x xs (without i xs) refl refl ne (with_id-without_other i j xs ne)
 

@@ -11,7 +11,7 @@ use Rattle.bq_disc.specs.Discipline.{Discipline}
 use Rattle.bq_disc.specs.OneProcessor.{Running, present_at, reading}
 use Rattle.bq_disc.proofs.SetFacts.{Contains-with_id}
 use Rattle.bq_cfs.specs.Spread.{IsSound}
-use Rattle.bq_fair.specs.Histories.{ticked, history, rise, task_at, charge_of, served}
+use Rattle.bq_fair.specs.Histories.{HasRoom, ticked, history, rise, task_at, charge_of, served}
 use Rattle.bq_fair.proofs.TickFacts.{Change, Stays, Runs, changes, came, tick_keeps}
 
 -- what holds of all that are present holds of the one of an id
@@ -47,15 +47,17 @@ well_formed p s = record {
 pub record Rises (d : Discipline) (p : Running) (now i : ℕ) (t u : Task) : Type 0 where
   pub v : u.v ≡ min (t.v + charge_of i p now) (2 ^ 62)
   pub weight : u.weight ≡ t.weight
+  pub slice : u.slice ≡ t.slice
   pub most : charge_of i p now ≤ vdelta_of (rise p now) t.weight
 
 pub rises : (d : Discipline) (p : Running) (now i : ℕ) (t u : Task) → t.v ≤ 2 ^ 62 → Change d p now i t u → Rises d p now i t u
 rises d p now i t u h (Stays e z) =
     let v : u.v ≡ t.v = ap (λ (x : Task). x.v) e in
-    record { v = omega arith; weight = ap (λ (x : Task). x.weight) e; most = omega arith }
+    record { v = omega arith; weight = ap (λ (x : Task). x.weight) e; slice = ap (λ (x : Task). x.slice) e; most = omega arith }
 rises d p now i t u h (Runs c e z) = record {
   v = ap (λ (x : Task). x.v) e ∙ ap (λ n. min (t.v + n) (2 ^ 62)) (sym z);
   weight = ap (λ (x : Task). x.weight) e;
+  slice = ap (λ (x : Task). x.slice) e;
   most = omega arith;
 }
 
@@ -86,8 +88,11 @@ HasRoomAt last t = 15 * t.v + 1024 * (2 ^ 48 - 1 - last) ≤ 15 * 2 ^ 62
 abbrev pub EachHasRoom : Running → Type 0
 EachHasRoom p = (i : ℕ) (t : Task) → task_at i p ≡ Some t → HasRoomAt p.last t
 
+pub each_has_room : (p : Running) → HasRoom p → EachHasRoom p
+each_has_room p h = λ i t f. of_each (HasRoomAt p.last) p i t h f
+
 -- so a Tick does not come to the end
-roomy : (last now v w c : ℕ) → 15 ≤ w → c ≤ vdelta_of (reading last now - last) w → 15 * v + 1024 * (2 ^ 48 - 1 - last) ≤ 15 * 2 ^ 62 → (v + c ≤ 2 ^ 62) × (15 * (v + c) + 1024 * (2 ^ 48 - 1 - reading last now) ≤ 15 * 2 ^ 62)
+pub roomy : (last now v w c : ℕ) → 15 ≤ w → c ≤ vdelta_of (reading last now - last) w → 15 * v + 1024 * (2 ^ 48 - 1 - last) ≤ 15 * 2 ^ 62 → (v + c ≤ 2 ^ 62) × (15 * (v + c) + 1024 * (2 ^ 48 - 1 - reading last now) ≤ 15 * 2 ^ 62)
 roomy last now v w c low le room =
     let x = max last (min now (2 ^ 48 - 1)) - last in
     let most : 15 * c ≤ x * 1024 = omega (arith, vdelta_of-least x w low) in
@@ -105,12 +110,12 @@ room_ticked d p now w room i u f =
 
 -- Histories
 
--- where a task has got in a history: its weight stays, and its virtual time rises by what it is served
+-- where a task has got in a history: its weight and slice stay, and its virtual time rises by what it is served
 abbrev pub GotTo : Discipline → Running → List ℕ → ℕ → Task → Type 0
-GotTo d p nows i t = (u : Task) × (task_at i (history d p nows) ≡ Some u) × (u.v ≡ t.v + served i d p nows) × (u.weight ≡ t.weight)
+GotTo d p nows i t = (u : Task) × (task_at i (history d p nows) ≡ Some u) × (u.v ≡ t.v + served i d p nows) × (u.weight ≡ t.weight) × (u.slice ≡ t.slice)
 
 pub got_to : (d : Discipline) (p : Running) (nows : List ℕ) (i : ℕ) (t : Task) → IsWellFormed p → EachHasRoom p → task_at i p ≡ Some t → GotTo d p nows i t
-got_to d p [] i t w room f = (t, f, omega arith, refl)
+got_to d p [] i t w room f = (t, f, omega arith, refl, refl)
 got_to d p (now ∷ nows) i t w room f =
     let c = changes d p now i t w.distinct f in
     let u = c.0 in
@@ -119,4 +124,8 @@ got_to d p (now ∷ nows) i t w room f =
     let v : u.v ≡ t.v + charge_of i p now = let e = r.v in omega (arith, after.0) in
     let g = got_to d (ticked d p now) nows i u (well_formed_ticked d p now w) (room_ticked d p now w room) c.1 in
     let rest = g.2 in
-    (g.0, g.1, omega arith, g.3 ∙ r.weight)
+    (g.0, g.1, omega arith, g.3 ∙ r.weight, g.4 ∙ r.slice)
+
+pub well_formed_history : (d : Discipline) (p : Running) (nows : List ℕ) → IsWellFormed p → IsWellFormed (history d p nows)
+well_formed_history d p [] w = w
+well_formed_history d p (now ∷ nows) w = well_formed_history d (ticked d p now) nows (well_formed_ticked d p now w)

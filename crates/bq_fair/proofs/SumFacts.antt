@@ -6,7 +6,7 @@ use Rattle.bq_disc.specs.Discipline.{Discipline, charged, next_of}
 use Rattle.bq_disc.specs.OneProcessor.{Running, present_at, charge, run_id, exchanged, decided, own_preempt}
 use Rattle.bq_disc.proofs.QueueFacts.{without-absent}
 use Rattle.bq_disc.proofs.SetFacts.{with_id-id}
-use Rattle.bq_fair.specs.Histories.{ticked, rise}
+use Rattle.bq_fair.specs.Histories.{ticked, history, rise}
 use Rattle.bq_fair.proofs.PlaceFacts.{idle, busy}
 
 -- the sum of a number that each of some tasks has
@@ -116,3 +116,12 @@ weighted_sum-busy d p now t e =
 pub weighted_sum-idle : (d : Discipline) (p : Running) (now : ℕ) → p.current ≡ None → weighted_sum (present_at (ticked d p now)) ≡ weighted_sum (present_at p)
 weighted_sum-idle d p now e =
     weighted_sum-sum (present_at (ticked d p now)) ∙ sum_idle (λ (x : Task). x.weight * x.v) d p now e ∙ sym (weighted_sum-sum (present_at p))
+
+-- a Tick leaves how many are present, and so does a history
+length-ticked : (d : Discipline) (p : Running) (now : ℕ) → length (present_at (ticked d p now)) ≡ length (present_at p)
+length-ticked d p now =
+    length-sum (present_at (ticked d p now)) ∙ sum_stays (λ t. 1) d p now (λ t n. refl) ∙ sym (length-sum (present_at p))
+
+pub length-history : (d : Discipline) (p : Running) (nows : List ℕ) → length (present_at (history d p nows)) ≡ length (present_at p)
+length-history d p [] = refl
+length-history d p (now ∷ nows) = length-history d (ticked d p now) nows ∙ length-ticked d p now

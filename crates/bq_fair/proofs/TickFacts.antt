@@ -34,6 +34,10 @@ charge_distinct : (d : Discipline) (q : List Task) (kept : ℕ) (o : Option Task
 charge_distinct d q kept None last now h = h
 charge_distinct d q kept (Some c) last now h = h
 
+-- a charge changes a task that is present so
+pub charge_changed : (d : Discipline) (p : Running) (now i : ℕ) (t : Task) → task_at i p ≡ Some t → Changed d p now i t (task_at i (charge d p now))
+charge_changed d p now i t f = charge_changes d p.queue p.kept p.current p.last now i t f
+
 -- the processor once time has been charged, with who is present as it stays
 pub charged_distinct : (d : Discipline) (p : Running) (now : ℕ) → HasDistinctIds (present_at p) → HasDistinctIds (present_at (charge d p now))
 charged_distinct d p now h = charge_distinct d p.queue p.kept p.current p.last now h
@@ -59,13 +63,17 @@ nobody : (d : Discipline) (q : List Task) (kept : ℕ) (o : Option Task) (last n
 nobody d q kept None last now i u e f = cc
 nobody d q kept (Some c) last now i u e f = nobody_by_test (eqb c.id i) c u (charged d c (reading last now - last)) (with_id i q) e f
 
-came_by : (d : Discipline) (p : Running) (now i : ℕ) (u : Task) (o : Option Task) → task_at i p ≡ o → HasDistinctIds (present_at p) → task_at i (ticked d p now) ≡ Some u → (t : Task) × (task_at i p ≡ Some t) × Change d p now i t u
-came_by d p now i u (Some t) e h f =
-    let c = changes d p now i t h e in
+came_by : (d : Discipline) (p : Running) (now i : ℕ) (u : Task) (o : Option Task) → task_at i p ≡ o → task_at i (charge d p now) ≡ Some u → (t : Task) × (task_at i p ≡ Some t) × Change d p now i t u
+came_by d p now i u (Some t) e f =
+    let c = charge_changed d p now i t e in
     let same : c.0 ≡ u = some_same c.0 u (sym c.1 ∙ f) in
     (t, e, subst (λ x. Change d p now i t x) same c.2)
-came_by d p now i u None e h f = absurd (nobody d p.queue p.kept p.current p.last now i u e (sym ((tick_keeps d p now h).same i) ∙ f))
+came_by d p now i u None e f = absurd (nobody d p.queue p.kept p.current p.last now i u e f)
 
--- and each task that is present was present, and has changed so
+-- and each task that is present then was present, and has changed so
+pub charge_came : (d : Discipline) (p : Running) (now i : ℕ) (u : Task) → task_at i (charge d p now) ≡ Some u → (t : Task) × (task_at i p ≡ Some t) × Change d p now i t u
+charge_came d p now i u f = came_by d p now i u (task_at i p) refl f
+
+-- the same of a Tick
 pub came : (d : Discipline) (p : Running) (now i : ℕ) (u : Task) → HasDistinctIds (present_at p) → task_at i (ticked d p now) ≡ Some u → (t : Task) × (task_at i p ≡ Some t) × Change d p now i t u
-came d p now i u h f = came_by d p now i u (task_at i p) refl h f
+came d p now i u h f = charge_came d p now i u (sym ((tick_keeps d p now h).same i) ∙ f)

@@ -1,21 +1,14 @@
 -- EEVDF is fair: no task is far ahead of the mean, so none is far behind it.
 -- With W the weights of all that are present together and M the sum of weight times v, the mean is M / W. A task is ahead of
 -- it by v - M / W, so by (W * v - M) / W; each law is stated times W, without a division.
-use Rattle.std.specs.Prelude.{◌≡◌, ℕ, ◌+◌, ◌-◌, ◌*◌, ◌≤◌, true, List, [], ◌∷◌, length, Some, All, IfSome}
+use Rattle.std.specs.Prelude.{◌≡◌, ℕ, ◌+◌, ◌-◌, ◌*◌, ◌≤◌, true, List, [], ◌∷◌, length, Some, All, IfSome, IsSome}
 use Rattle.bq_weights.specs.VirtualTime.{vdelta_of}
 use Rattle.bq_disc.specs.Tasks.{Task, without}
-use Rattle.bq_disc.specs.Totals.{total_weight, weighted_sum}
 use Rattle.bq_disc.specs.OneProcessor.{Running, present_at}
 use Rattle.bq_cfs.specs.Spread.{IsSound}
 use Rattle.bq_eevdf.specs.Eevdf.{eevdf, is_eligible}
-use Rattle.bq_fair.specs.Histories.{RisesByAtMost, ticked, history, rise, task_at}
-
--- the weights of all that are present, and the sum of weight times v
-abbrev pub weight_at : Running → ℕ
-weight_at p = total_weight (present_at p)
-
-abbrev pub moment_at : Running → ℕ
-moment_at p = weighted_sum (present_at p)
+use Rattle.bq_fair.specs.Histories.{HasRoom, RisesByAtMost, ticked, history, rise, task_at, served}
+use Rattle.bq_fair.specs.Work.{weight_at, moment_at, booked, elapsed}
 
 -- the task that runs is eligible
 abbrev pub RunsEligible : Running → Type 0
@@ -66,3 +59,25 @@ abbrev pub NoneIsOwedLong : Type 0
 NoneIsOwedLong =
     (E r : ℕ) (p : Running) (j : ℕ) (b : Task) → IsSound p → IsBalanced E r p → task_at j p ≡ Some b →
     b.weight * moment_at p ≤ b.weight * (weight_at p * b.v) + (weight_at p - b.weight) * E + 1024 * r * ((length (present_at p) - 2) * weight_at p + b.weight)
+
+-- Service by share: what a task is served, times its weight and W, is at least its weight of what is booked, but for what it
+-- was ahead of the mean at the start and what one may be owed
+abbrev pub EevdfServesItsShare : Type 0
+EevdfServesItsShare =
+    (E r : ℕ) (p : Running) (nows : List ℕ) (j : ℕ) (b : Task) →
+    IsSound p → HasRoom p → IsBalanced E r p → RisesByAtMost r eevdf p nows → task_at j p ≡ Some b →
+    b.weight * (moment_at p + booked eevdf p nows) ≤ b.weight * (weight_at p * (b.v + served j eevdf p nows)) + (weight_at p - b.weight) * E + 1024 * r * ((length (present_at p) - 2) * weight_at p + b.weight)
+
+-- Proportional service: of two tasks a and b, a comes beyond b by no more than it may be ahead and b may be owed
+abbrev pub EevdfServesInProportion : Type 0
+EevdfServesInProportion =
+    (E r : ℕ) (p : Running) (nows : List ℕ) (i j : ℕ) (a b : Task) →
+    IsSound p → HasRoom p → IsBalanced E r p → RisesByAtMost r eevdf p nows → task_at i p ≡ Some a → task_at j p ≡ Some b →
+    b.weight * (weight_at p * (a.v + served i eevdf p nows)) ≤ b.weight * (weight_at p * (b.v + served j eevdf p nows)) + b.weight * most_ahead E r (weight_at p) a.weight + (weight_at p - b.weight) * E + 1024 * r * ((length (present_at p) - 2) * weight_at p + b.weight)
+
+-- Bounded waiting: while a task is served nothing the clock rises by no more than this
+abbrev pub EevdfWaiting : Type 0
+EevdfWaiting =
+    (E r : ℕ) (p : Running) (nows : List ℕ) (j : ℕ) (b : Task) →
+    IsSound p → HasRoom p → IsBalanced E r p → RisesByAtMost r eevdf p nows → IsSome p.current → task_at j p ≡ Some b → served j eevdf p nows ≡ 0 →
+    b.weight * (moment_at p + 1024 * elapsed eevdf p nows) ≤ b.weight * (weight_at p * b.v + 88760 * length nows) + (weight_at p - b.weight) * E + 1024 * r * ((length (present_at p) - 2) * weight_at p + b.weight)
