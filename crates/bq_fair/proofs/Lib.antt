@@ -17,3 +17,4 @@ pub mod EevdfSlices
 pub mod StepFacts
 pub mod ThroughoutFacts
 pub mod Throughout
+pub mod EventFacts

@@ -6,7 +6,7 @@ use Rattle.bq_disc.specs.OneProcessor.{present_at}
 use Rattle.bq_cfs.specs.Cfs.{cfs}
 use Rattle.bq_cfs.proofs.MoveFacts.{each-with_id}
 use Rattle.bq_eevdf.specs.Eevdf.{eevdf, earliest}
-use Rattle.bq_fair.specs.Steps.{Step, Pass, Decide, Enter, Leave, stepped, EntersDue, CfsServesThroughout, EevdfServesThroughout}
+use Rattle.bq_fair.specs.Steps.{Step, Pass, Decide, Enter, Leave, Mark, stepped, EntersDue, CfsServesThroughout, EevdfServesThroughout}
 use Rattle.bq_fair.proofs.SoundFacts.{of_each, each_has_room, well_formed}
 use Rattle.bq_fair.proofs.ListFacts.{of_some}
 use Rattle.bq_fair.proofs.CfsFair.{IsNearEach, runs_near_each}
@@ -25,6 +25,7 @@ anyhow (Pass now ∷ ss) = (tt, anyhow ss)
 anyhow (Decide ∷ ss) = (tt, anyhow ss)
 anyhow (Enter t ∷ ss) = (tt, anyhow ss)
 anyhow (Leave k ∷ ss) = (tt, anyhow ss)
+anyhow (Mark ∷ ss) = (tt, anyhow ss)
 
 cfs_reach : IsReach cfs (λ t. t.v + 1000000) Anyhow
 cfs_reach = record {
@@ -52,6 +53,7 @@ due_of_entered (Pass now ∷ ss) h = (tt, due_of_entered ss h)
 due_of_entered (Decide ∷ ss) h = (tt, due_of_entered ss h)
 due_of_entered (Enter t ∷ ss) h = (record { low = h.0.0; high = h.0.1 }, due_of_entered ss h.1)
 due_of_entered (Leave k ∷ ss) h = (tt, due_of_entered ss h)
+due_of_entered (Mark ∷ ss) h = (tt, due_of_entered ss h)
 
 eevdf_reach : IsReach eevdf (λ t. t.deadline) IsDue
 eevdf_reach = record {

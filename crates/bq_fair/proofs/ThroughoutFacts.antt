@@ -9,7 +9,7 @@ use Rattle.bq_disc.specs.Discipline.{Discipline, charged}
 use Rattle.bq_disc.specs.OneProcessor.{Running, present_at, charge, reading, own_preempt}
 use Rattle.bq_disc.proofs.SetFacts.{with_id-id}
 use Rattle.bq_fair.specs.Histories.{task_at, rise, charge_of}
-use Rattle.bq_fair.specs.Steps.{Step, Pass, Decide, Enter, Leave, stepped, after, charged_by, served_by, since, DecidesWithin, EntersNew, EachEntersNew, kept_current, leaves, StaysThroughout}
+use Rattle.bq_fair.specs.Steps.{Step, Pass, Decide, Enter, Leave, Mark, stepped, after, charged_by, served_by, since, DecidesWithin, EntersNew, EachEntersNew, kept_current, leaves, StaysThroughout}
 use Rattle.bq_fair.proofs.PlaceFacts.{current_present}
 use Rattle.bq_fair.proofs.TickFacts.{Change, Stays, Runs, charge_changed}
 use Rattle.bq_fair.proofs.DecideFacts.{keeps_present}
@@ -26,6 +26,7 @@ OfEntered P (Enter t) = P t
 OfEntered P (Pass now) = Unit {0}
 OfEntered P Decide = Unit {0}
 OfEntered P (Leave k) = Unit {0}
+OfEntered P Mark = Unit {0}
 
 abbrev pub OfEachEntered : (Task → Type 0) → List Step → Type 0
 OfEachEntered P [] = Unit {0}
@@ -163,6 +164,7 @@ close_stepped d reach P law V r n p (Pass now) i j u t w h new le li lj c = clos
 close_stepped d reach P law V r n p Decide i j u t w h new le li lj c = close_decide d reach P law V r n p i j u t w h c
 close_stepped d reach P law V r n p (Enter x) i j u t w h new le li lj c = close_enter d V r n reach p x i j u t w new c
 close_stepped d reach P law V r n p (Leave k) i j u t w h new le li lj c = close_leave d V r n reach p k i j u t w li lj c
+close_stepped d reach P law V r n p Mark i j u t w h new le li lj c = (u, t, record { one = c.one; other = c.other; runs = c.runs; ever = c.ever })
 
 -- where they have got
 abbrev pub EverClose : ℕ → ℕ → ℕ → ℕ → (Task → ℕ) → (Task → Type 0) → Running → Type 0
@@ -205,6 +207,7 @@ moves d p (Pass now) i t u w f room g =
 moves d p Decide i t u w f room g = stands d p Decide i t u g refl (keeps_present d p (own_preempt d p.queue p.current) w.distinct).last room
 moves d p (Enter x) i t u w f room g = stands d p (Enter x) i t u g refl refl room
 moves d p (Leave k) i t u w f room g = stands d p (Leave k) i t u g refl refl room
+moves d p Mark i t u w f room g = stands d p Mark i t u g refl refl room
 
 pub got_by : (d : Discipline) (p : Running) (ss : List Step) (i : ℕ) (t : Task) → IsWellFormed p → EachEntersNew d p ss → StaysThroughout i ss → HasRoomAt p.last t → task_at i p ≡ Some t → GotBy d p ss i t
 got_by d p [] i t w new si room f = (t, f, omega arith, refl, refl)

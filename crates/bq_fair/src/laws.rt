@@ -2,6 +2,7 @@
 ghost use Rattle.bq_fair.specs.CfsFairness.{CfsServesInProportion, CfsServesItsShare, CfsServesWithin, CfsWaiting};
 ghost use Rattle.bq_fair.specs.EevdfDeadlines.{EevdfServesBySlices, EevdfSharesBySlices, EevdfWaitsBySlices, NoneIsBeyondADeadline};
 ghost use Rattle.bq_fair.specs.EevdfFairness.{BeginsBalanced, EevdfServesInProportion, EevdfServesItsShare, EevdfWaiting, HistoryStaysBalanced, NoneIsOwedLong, NoneIsOwedMore, StaysBalanced, TickRunsEligible};
+ghost use Rattle.bq_fair.specs.Events.{EventsAreSteps};
 ghost use Rattle.bq_fair.specs.Steps.{CfsServesThroughout, EevdfServesThroughout};
 ghost use Rattle.bq_fair.specs.Work.{BooksTheTime, MovesTheSum};
 
@@ -125,4 +126,10 @@ pub fn cfs_serves_throughout()
 /// EEVDF, with others coming and going, by slices: so too.
 pub fn eevdf_serves_throughout()
     ensures { EevdfServesThroughout }
+{}
+
+/// Each event of a processor is some of those steps, where the rule alone decides: a Tick, a Block, a Drain, the end of a wake,
+/// and a pull at either end.
+pub fn events_are_steps()
+    ensures { EventsAreSteps }
 {}
