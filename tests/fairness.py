@@ -150,12 +150,12 @@ def reach(rule, t, v):
     return v + (GRANULARITY if rule is Cfs else vdelta(t.slice, t.weight))
 
 
-def see_pairs(name, rule, tasks, V, r, nearest, seed):
+def see_pairs(name, rule, tasks, r, nearest, seed):
     for a in tasks:
         for b in tasks:
             if a is not b:
-                bound = max(V, reach(rule, b, b.start)) - a.start + vdelta(r, a.weight)
-                nearest.see(f"{name}, proportional service", a.served - b.served, bound, seed, all(t.start == V for t in tasks))
+                bound = max(a.start, reach(rule, b, b.start)) - a.start + vdelta(r, a.weight)
+                nearest.see(f"{name}, proportional service", a.served - b.served, bound, seed, a.start == b.start)
 
 
 def ticks_history(rule, name, seed, nearest, ticks):
@@ -177,7 +177,7 @@ def ticks_history(rule, name, seed, nearest, ticks):
         p.tick(rise)
         booked = sum(t.weight * t.served for t in tasks)
         assert booked <= 1024 * clock <= booked + 88760 * number
-        see_pairs(name, rule, tasks, V, d, nearest, seed)
+        see_pairs(name, rule, tasks, d, nearest, seed)
         for b in tasks:
             least = W * (b.served + max(V, reach(rule, b, b.start))) + 1024 * d * n - start
             nearest.see(f"{name}, service by share", booked, least, seed, V == L)
@@ -203,7 +203,6 @@ def steps_history(rule, name, seed, nearest, steps):
     """Any steps, others entering and leaving: the laws of Steps. Time may pass more than once before a decision."""
     r = random.Random(seed)
     tasks = drawn_tasks(r, rule)
-    V = max(t.v for t in tasks)
     d, kind = r.choice(RISES), r.choice(KINDS)
     p = Processor(rule, tasks)
     throughout, others, number, left = list(tasks), [], 100, d
@@ -228,7 +227,7 @@ def steps_history(rule, name, seed, nearest, steps):
                     group.remove(gone)
             if p.current is gone:
                 p.current = None
-        see_pairs(f"{name}, others coming and going", rule, throughout, V, d, nearest, seed)
+        see_pairs(f"{name}, others coming and going", rule, throughout, d, nearest, seed)
 
 
 def counterexamples():

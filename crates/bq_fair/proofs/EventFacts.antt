@@ -42,13 +42,13 @@ pub events_are_steps : EventsAreSteps
 events_are_steps = record {
   tick = λ d p now. refl;
   block = λ d p now t h e.
-    let c = charge d p now in
-    ap (λ x. stepped d x Decide) (stops d c.queue c.kept c.current c.last t (charged_distinct d p now h) e);
+      let c = charge d p now in
+      ap (λ x. stepped d x Decide) (stops d c.queue c.kept c.current c.last t (charged_distinct d p now h) e);
   drain = λ d p now tasks. let c = charge d p now in drained d c.queue c.kept c.current c.last tasks;
   wake = λ d p now. refl;
   pull = λ d p now t. refl;
   idle = λ d p e. starts d p.queue p.kept p.current p.last e;
   pulled_away = λ d p id t h f.
-    let m = marked d p in
-    ap (λ o. record m { current = o; queue = without id p.queue }) (keeps_current id p.queue p.current t h f);
+      let m = marked d p in
+      ap (λ o. record m { current = o; queue = without id p.queue }) (keeps_current id p.queue p.current t h f);
 }

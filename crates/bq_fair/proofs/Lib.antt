@@ -18,3 +18,4 @@ pub mod StepFacts
 pub mod ThroughoutFacts
 pub mod Throughout
 pub mod EventFacts
+pub mod TickSteps

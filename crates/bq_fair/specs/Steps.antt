@@ -1,11 +1,11 @@
 -- Histories in which tasks come and go. What happens at a processor is made of few steps: time passes and is charged, the rule
 -- decides, a task enters the queue, a task leaves, the mark is computed anew. So a Tick is the first two; a Block has a Leave
 -- between them, and a Drain its entries; the end of a wake and a pull pass time and decide nothing (specs/Events).
-use Rattle.std.specs.Prelude.{◌≡◌, ℕ, ◌+◌, ◌≤◌, ◌^◌, max, Bool, false, ◌==◌, if◌then◌else◌, List, [], ◌∷◌, Option, None, Some, All}
+use Rattle.std.specs.Prelude.{◌≡◌, ℕ, ◌+◌, ◌≤◌, ◌^◌, max, Bool, false, ◌==◌, if◌then◌else◌, List, [], ◌∷◌, Option, None, Some}
 use Rattle.bq_weights.specs.VirtualTime.{IsWeight, vdelta_of}
 use Rattle.bq_disc.specs.Tasks.{Task, has_id, place, without}
 use Rattle.bq_disc.specs.Discipline.{Discipline}
-use Rattle.bq_disc.specs.OneProcessor.{Running, present_at, marked, charge, decided, own_preempt}
+use Rattle.bq_disc.specs.OneProcessor.{Running, marked, charge, decided, own_preempt}
 use Rattle.bq_cfs.specs.Cfs.{cfs}
 use Rattle.bq_cfs.specs.Spread.{IsSound}
 use Rattle.bq_eevdf.specs.Eevdf.{eevdf}
@@ -107,18 +107,19 @@ abbrev pub StaysThroughout : ℕ → List Step → Type 0
 StaysThroughout id [] = Unit {0}
 StaysThroughout id (s ∷ ss) = (leaves id s ≡ false) × StaysThroughout id ss
 
--- CFS: two tasks that are present throughout are served in proportion as if no other came or went
+-- CFS: of two tasks that are present throughout a comes to no more virtual time than where it began, or than 1,000,000 beyond
+-- where b began, and what b was served, and one rise at its own weight; whatever others are there, come and go
 abbrev pub CfsServesThroughout : Type 0
 CfsServesThroughout =
-    (V r : ℕ) (p : Running) (ss : List Step) (i j : ℕ) (a b : Task) →
-    IsSound p → HasRoom p → All (λ t. t.v ≤ V) (present_at p) → EachEntersNew cfs p ss → DecidesWithin r cfs 0 p ss →
+    (r : ℕ) (p : Running) (ss : List Step) (i j : ℕ) (a b : Task) →
+    IsSound p → HasRoom p → EachEntersNew cfs p ss → DecidesWithin r cfs 0 p ss →
     task_at i p ≡ Some a → task_at j p ≡ Some b → StaysThroughout i ss → StaysThroughout j ss →
-    a.v + served_by i cfs p ss ≤ served_by j cfs p ss + max V (b.v + 1000000) + vdelta_of r a.weight
+    a.v + served_by i cfs p ss ≤ served_by j cfs p ss + max a.v (b.v + 1000000) + vdelta_of r a.weight
 
--- EEVDF: and so they are, by slices
+-- EEVDF: so too, by one slice of b's in place of 1,000,000
 abbrev pub EevdfServesThroughout : Type 0
 EevdfServesThroughout =
-    (V r : ℕ) (p : Running) (ss : List Step) (i j : ℕ) (a b : Task) →
-    IsSound p → HasRoom p → HasDeadlines p → All (λ t. t.v ≤ V) (present_at p) → EachEntersNew eevdf p ss → EntersDue ss → DecidesWithin r eevdf 0 p ss →
+    (r : ℕ) (p : Running) (ss : List Step) (i j : ℕ) (a b : Task) →
+    IsSound p → HasRoom p → HasDeadlines p → EachEntersNew eevdf p ss → EntersDue ss → DecidesWithin r eevdf 0 p ss →
     task_at i p ≡ Some a → task_at j p ≡ Some b → StaysThroughout i ss → StaysThroughout j ss →
-    a.v + served_by i eevdf p ss ≤ served_by j eevdf p ss + max V (b.v + vdelta_of b.slice b.weight) + vdelta_of r a.weight
+    a.v + served_by i eevdf p ss ≤ served_by j eevdf p ss + max a.v (b.v + vdelta_of b.slice b.weight) + vdelta_of r a.weight
