@@ -23,7 +23,7 @@ def vdelta(d, w):
 class Task:
     def __init__(self, id, weight, v, slice, deadline=0):
         self.id, self.weight, self.v, self.slice, self.deadline = id, weight, v, slice, deadline
-        self.start, self.served, self.time, self.charges = v, 0, 0, 0
+        self.start, self.served, self.time = v, 0, 0
 
 
 class Cfs:
@@ -84,7 +84,6 @@ class Processor:
             self.rule.renew(t)
             t.served += vdelta(rise, t.weight)
             t.time += rise
-            t.charges += 1
         self.kept = self.rule.mark(self.kept, self.present())
 
     def start(self):
@@ -107,156 +106,128 @@ class Processor:
         self.charge(rise)
         self.decide()
 
-    def block(self, rise):
-        self.charge(rise)
-        if self.current:
-            left, self.current = self.current, None
-            self.start()
-            return left
-        return None
-
-    def wake(self, rise, entering):
-        """A Drain of tasks under CFS: each enters at the mark and its distance from it, at most the bonus below."""
-        self.charge(rise)
-        for t, rel in entering:
-            t.v = min(max(self.kept + max(rel, -BONUS), 0), END)
-            t.start = t.v
-            self.queue.append(t)
-        self.decide()
-
 
 class Nearest:
-    """The greatest part of a bound that was reached."""
+    """The greatest part of a bound that was reached, by law."""
 
     def __init__(self):
         self.parts = {}
 
-    def see(self, law, value, bound, seed):
+    def see(self, law, value, bound, seed, counts=True):
+        """A value and its bound; the part counts where the history begins even, so that no gap at the start makes it great."""
         assert value <= bound, f"{law}: {value} exceeds {bound} in the history of seed {seed}"
-        if bound > 0:
-            self.parts[law] = max(self.parts.get(law, 0), value / bound)
+        if counts and bound > 0 and value > self.parts.get(law, 0) * bound:
+            self.parts[law] = value / bound
+
+
+def drawn_task(r, rule, id, v, weights):
+    w = r.choice(weights)
+    s = r.choice([100_000, 1_000_000, 3_000_000, 100_000_000])
+    return Task(id, w, v, s, v + vdelta(s, w) if rule is Eevdf else 0)
 
 
 def drawn_tasks(r, rule):
-    n = r.choice([1, 2, 2, 2, 3, 3, 4, 6, 9])
-    spread = r.choice([0, 0, 1000, 1_000_000, 20_000_000])
+    n = r.choice([1, 2, 2, 2, 3, 3, 4, 6])
+    spread = r.choice([0, 0, 0, 1000, 1_000_000, 20_000_000])
     weights = r.choice([WEIGHTS, WEIGHTS[:4], WEIGHTS[-4:], [88761, 15], [15], [1024]])
-    base = 2 ** 32
-    tasks = []
-    for i in range(n):
-        w = r.choice(weights)
-        s = r.choice([100_000, 1_000_000, 3_000_000, 100_000_000])
-        v = base + r.randint(0, spread)
-        tasks.append(Task(i, w, v, s, v + vdelta(s, w) if rule is Eevdf else 0))
-    return tasks
+    return [drawn_task(r, rule, i, 2 ** 32 + r.randint(0, spread), weights) for i in range(n)]
 
 
-def drawn_rises(r, d, ticks):
-    kind = r.choice(["most", "any", "small", "two"])
-    low = min(87, d)
+def drawn_rise(r, kind, d):
     if kind == "most":
-        return [d] * ticks
-    if kind == "small":
-        return [r.randint(low, min(d, 200)) for _ in range(ticks)]
+        return d
     if kind == "two":
-        return [r.choice([0, d]) for _ in range(ticks)]
-    return [r.randint(low, d) for _ in range(ticks)]
+        return r.choice([0, d])
+    return r.randint(0, min(d, 200) if kind == "small" else d)
 
 
-def cfs_history(seed, nearest, ticks):
-    r = random.Random(seed)
-    tasks = drawn_tasks(r, Cfs)
-    V = max(t.v for t in tasks)
-    least = min(t.v for t in tasks)
-    d = r.choice([87, 1000, 100_000, 1_000_000, 4_000_000, 50_000_000])
-    p = Processor(Cfs, tasks)
-    if r.random() < 0.5:
-        p.start()
-    waits = {}
-    for t in tasks:
-        waits[t.id] = None
-    rises = drawn_rises(r, d, ticks)
-    ran = 0
-    for rise in rises:
-        busy = p.current is not None
-        p.tick(rise)
-        ran += rise if busy else 0
-        for a in tasks:
-            for b in tasks:
-                bound = max(V, b.start + GRANULARITY) - a.start + vdelta(d, a.weight)
-                nearest.see("CFS, proportional service", a.served - b.served, bound, seed)
+RISES = [87, 1000, 100_000, 1_000_000, 4_000_000, 50_000_000]
+KINDS = ["most", "most", "any", "small", "two"]
+
+
+def reach(rule, t, v):
+    """How far another may come beyond a task that stands at v: the granularity, or its slice."""
+    return v + (GRANULARITY if rule is Cfs else vdelta(t.slice, t.weight))
+
+
+def see_pairs(name, rule, tasks, r, nearest, seed):
+    for a in tasks:
         for b in tasks:
-            if b.served == 0 and b.charges == 0 and busy:
-                top = max(V, b.start + GRANULARITY)
-                total = sum(t.weight * (top - t.start) for t in tasks) + 1024 * d * len(tasks)
-                booked = sum(t.weight * t.served for t in tasks)
-                nearest.see("CFS, booked before a waiting task runs", booked, total, seed)
-                nearest.see("CFS, time before a waiting task runs", 512 * ran, total, seed)
-    nearest.see("CFS, spread at the end", max(t.v for t in tasks) - min(t.v for t in tasks),
-                max(V - least, GRANULARITY) + max(vdelta(d, t.weight) for t in tasks), seed)
+            if a is not b:
+                bound = max(a.start, reach(rule, b, b.start)) - a.start + vdelta(r, a.weight)
+                nearest.see(f"{name}, proportional service", a.served - b.served, bound, seed, a.start == b.start)
 
 
-def cfs_changing_history(seed, nearest, ticks):
-    """Ticks, Blocks and wakes of others; a task that blocks is not present throughout."""
+def ticks_history(rule, name, seed, nearest, ticks):
+    """Ticks alone: the laws of Histories, Work, CfsFairness, EevdfFairness and EevdfDeadlines."""
     r = random.Random(seed)
-    tasks = drawn_tasks(r, Cfs)
-    V = max(t.v for t in tasks)
-    d = r.choice([87, 1000, 100_000, 1_000_000, 4_000_000])
-    p = Processor(Cfs, tasks)
-    throughout = list(tasks)
-    number = 100
-    for _ in range(ticks):
-        rise = r.randint(min(87, d), d) if r.random() < 0.7 else d
-        kind = r.random()
-        if kind < 0.75:
-            p.tick(rise)
-        elif kind < 0.85 and len(throughout) > 2 or p.current and p.current not in throughout:
-            left = p.block(rise)
-            if left in throughout:
-                throughout.remove(left)
-        else:
-            new = Task(number, r.choice(WEIGHTS), 0, 3_000_000)
-            number += 1
-            p.wake(rise, [(new, r.choice([-2 ** 30, -BONUS, 0, 2 ** 20, 2 ** 30]))])
-        for a in throughout:
-            for b in throughout:
-                bound = max(V, b.start + BONUS + GRANULARITY) - a.start + vdelta(d, a.weight)
-                nearest.see("CFS, proportional service, others coming and going", a.served - b.served, bound, seed)
-
-
-def eevdf_history(seed, nearest, ticks):
-    r = random.Random(seed)
-    tasks = drawn_tasks(r, Eevdf)
+    tasks = drawn_tasks(r, rule)
     n = len(tasks)
-    d = r.choice([87, 1000, 100_000, 1_000_000, 4_000_000, 50_000_000])
+    V, L = max(t.v for t in tasks), min(t.v for t in tasks)
+    d, kind = r.choice(RISES), r.choice(KINDS)
     W = sum(t.weight for t in tasks)
-    M0 = M = sum(t.weight * t.v for t in tasks)
-    ahead = max(0, max(W * t.v - M for t in tasks))  # E
-    room = {t.id: ahead + (W - t.weight) * vdelta(d, t.weight) for t in tasks}  # what each may be ahead, times W
-    all_room = sum(t.weight * room[t.id] for t in tasks)
-    p = Processor(Eevdf, tasks)
-    if r.random() < 0.5:
-        p.start()
-    ran = 0
-    for rise in drawn_rises(r, d, ticks):
-        busy = p.current is not None
+    start = sum(t.weight * t.v for t in tasks)
+    E = max(0, max(W * t.v - start for t in tasks))
+    p = Processor(rule, tasks)
+    p.start()
+    clock = 0
+    for number in range(1, ticks + 1):
+        rise = drawn_rise(r, kind, d)
+        clock += rise
         p.tick(rise)
-        ran += rise if busy else 0
-        M = sum(t.weight * t.v for t in tasks)
-        for a in tasks:
-            nearest.see("EEVDF, ahead of the mean", W * a.v - M, room[a.id], seed)
-            owed = all_room - a.weight * room[a.id]
-            nearest.see("EEVDF, owed to a task", a.weight * (M - W * a.v), owed, seed)
-            simple = (W - a.weight) * ahead + 1024 * d * ((n - 2) * W + a.weight) if n > 1 else 0
-            nearest.see("EEVDF, owed, in time", a.weight * (M - W * a.v), simple, seed)
-            if a.charges == 0 and busy:
-                nearest.see("EEVDF, booked before a waiting task runs", a.weight * M, a.weight * W * a.start + owed, seed)
-            for b in tasks:
-                if a is not b:
-                    bound = b.weight * W * (b.start - a.start) + b.weight * room[a.id] + all_room - b.weight * room[b.id]
-                    nearest.see("EEVDF, proportional service", b.weight * W * (a.served - b.served), bound, seed)
-                    behind = (M - W * a.v) / W
-                    most = max(vdelta(t.slice, t.weight) for t in tasks)
+        booked = sum(t.weight * t.served for t in tasks)
+        assert booked <= 1024 * clock <= booked + 88760 * number
+        see_pairs(name, rule, tasks, d, nearest, seed)
+        for b in tasks:
+            least = W * (b.served + max(V, reach(rule, b, b.start))) + 1024 * d * n - start
+            nearest.see(f"{name}, service by share", booked, least, seed, V == L)
+            if b.served == 0:
+                wait = W * (V - L + reach(rule, b, 0)) + 1024 * d * n + 88760 * number
+                nearest.see(f"{name}, waiting", 1024 * clock, wait, seed, V == L)
+        if rule is Eevdf:
+            M = start + booked
+            ahead = {t.id: E + (W - t.weight) * vdelta(d, t.weight) for t in tasks}
+            together = sum(t.weight * ahead[t.id] for t in tasks)
+            assert W * p.current.v <= M
+            for a in tasks:
+                nearest.see("EEVDF, ahead of the mean", W * a.v - M, ahead[a.id], seed, E == 0)
+                nearest.see("EEVDF, owed, by what the others are ahead", a.weight * (M - W * a.v), together - a.weight * ahead[a.id], seed, E == 0)
+                if n > 1:
+                    owed = (W - a.weight) * E + 1024 * d * ((n - 2) * W + a.weight)
+                    nearest.see("EEVDF, owed, by n - 2 rises and a share of one", a.weight * (M - W * a.v), owed, seed, E == 0)
+                for b in tasks:
+                    nearest.see("EEVDF, beyond a deadline by a rise", a.v - b.deadline, max(V - b.deadline, 0) + vdelta(d, a.weight), seed, E == 0)
+
+
+def steps_history(rule, name, seed, nearest, steps):
+    """Any steps, others entering and leaving: the laws of Steps. Time may pass more than once before a decision."""
+    r = random.Random(seed)
+    tasks = drawn_tasks(r, rule)
+    d, kind = r.choice(RISES), r.choice(KINDS)
+    p = Processor(rule, tasks)
+    throughout, others, number, left = list(tasks), [], 100, d
+    for _ in range(steps):
+        what = r.random()
+        if what < 0.4:
+            rise = min(left, drawn_rise(r, kind, d))
+            left -= rise
+            p.charge(rise)
+        elif what < 0.8:
+            p.decide()
+            left = d
+        elif what < 0.9:
+            new = drawn_task(r, rule, number, 2 ** 32 + r.choice([0, 0, r.randint(-10 ** 7, 10 ** 8)]), WEIGHTS)
+            number += 1
+            others.append(new)
+            p.queue.append(new)
+        elif others or len(throughout) > 2:
+            gone = r.choice(others if others and r.random() < 0.8 else p.present())
+            for group in (others, throughout, p.queue):
+                if gone in group:
+                    group.remove(gone)
+            if p.current is gone:
+                p.current = None
+        see_pairs(f"{name}, others coming and going", rule, throughout, d, nearest, seed)
 
 
 def counterexamples():
@@ -266,34 +237,42 @@ def counterexamples():
     p.start()
     for _ in range(1000):
         p.tick(10 ** 9)
-    print("  CFS at the end of virtual time: served", a.served, "and", b.served)
-    a, b = Task(1, 88761, 2 ** 32, 3_000_000), Task(2, 1024, 2 ** 32, 3_000_000)
-    p = Processor(Cfs, [a, b])
-    p.start()
-    for _ in range(100_000):
-        p.tick(86)
-    print("  CFS, each rise 86 ns, weight 88761: time", a.time, "and", b.time, "booked", a.served)
-    a, b = Task(1, 88761, 2 ** 32, 3_000_000, 2 ** 32 + 1), Task(2, 1024, 2 ** 32, 3_000_000, 2 ** 32 + 2)
-    p = Processor(Eevdf, [a, b])
-    p.start()
-    for _ in range(100_000):
-        p.tick(86)
-    print("  EEVDF, the same: time", a.time, "and", b.time, "booked", a.served)
+    print("  CFS, at the end of virtual time:          ran for", a.time, "and", b.time)
+    for rule in (Cfs, Eevdf):
+        tasks = [Task(1, 88761, 2 ** 32, 3_000_000, 2 ** 32 + 34610), Task(2, 1024, 2 ** 32, 3_000_000, 2 ** 32 + 3_000_000)]
+        p = Processor(rule, tasks)
+        p.start()
+        for _ in range(100_000):
+            p.tick(86)
+        print(f"  {rule.__name__}, 100,000 rises of 86 ns, weight 88761: ran for", tasks[0].time, "and", tasks[1].time)
+    # under CFS tasks that enter below the least, run and go keep a waiting one from running; under EEVDF as well
+    for rule in (Cfs, Eevdf):
+        waiting = Task(1, 1024, 2 ** 32, 3_000_000, 2 ** 32 + 3_000_000)
+        p = Processor(rule, [waiting])
+        clock = 0
+        for number in range(2, 1002):
+            new = Task(number, 1024, p.kept - BONUS, 3_000_000, p.kept)
+            p.queue.append(new)
+            p.decide()
+            p.tick(BONUS - 1)
+            clock += BONUS - 1
+            p.queue = [t for t in p.queue if t is not new]
+            p.current = None
+        print(f"  {rule.__name__}, 1,000 tasks that enter 3 ms below the mark, run and leave: a waiting one ran for", waiting.time, "of", clock)
 
 
 def main():
-    histories = int(sys.argv[1]) if len(sys.argv) > 1 else 2000
+    histories = int(sys.argv[1]) if len(sys.argv) > 1 else 20_000
     first = int(sys.argv[2]) if len(sys.argv) > 2 else 1
     nearest = Nearest()
+    rules = [(Cfs, "CFS"), (Eevdf, "EEVDF")]
     for seed in range(first, first + histories):
-        ticks = 10 if seed % 20 else 150
-        kind = seed % 5
-        if kind < 2:
-            cfs_history(seed, nearest, ticks)
-        elif kind < 4:
-            eevdf_history(seed, nearest, ticks)
+        rule, name = rules[seed % 2]
+        length = 400 if seed % 1000 < 2 else 8 if seed % 10 else 30
+        if seed % 6 < 4:
+            ticks_history(rule, name, seed, nearest, length)
         else:
-            cfs_changing_history(seed, nearest, ticks)
+            steps_history(rule, name, seed, nearest, 3 * length)
     print(f"{histories} histories; of each bound the greatest part that was reached")
     for law in sorted(nearest.parts):
         print(f"  {nearest.parts[law]:.6f}  {law}")

@@ -101,11 +101,11 @@ level_ticked E r p now s w l le =
     record {
       runs = λ t e. eligible_ahead (weight_at q) (moment_at q) E t (of_some _ q.current t (tick_runs_eligible p now s) e);
       each = λ i u f.
-        let b = came eevdf p now i u w.distinct f in
-        let t = b.0 in
-        let rs = rises eevdf p now i t u (w.ends i t b.1) b.2 in
-        let h = ahead_by E r p now i t u w l le b.1 b.2 in
-        rw (total_weight-ticked eevdf p now, rs.weight) h;
+          let b = came eevdf p now i u w.distinct f in
+          let t = b.0 in
+          let rs = rises eevdf p now i t u (w.ends i t b.1) b.2 in
+          let h = ahead_by E r p now i t u w l le b.1 b.2 in
+          rw (total_weight-ticked eevdf p now, rs.weight) h;
     }
 
 pub begins_balanced : BeginsBalanced

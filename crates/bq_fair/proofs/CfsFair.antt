@@ -4,7 +4,6 @@ use Rattle.std.specs.Prelude.{All, IfSome}
 use Rattle.std.specs.Option.{option_map_or}
 use Rattle.std.specs.List.{AllByRecursion}
 use Rattle.std.proofs.lemmas.Bool.Decides.{nat_tests}
-use Rattle.std.proofs.lemmas.List.Elements.{All-weaker}
 use Rattle.bq_weights.specs.VirtualTime.{vdelta_of}
 use Rattle.bq_disc.specs.Tasks.{Task, with_id, runs_before, former}
 use Rattle.bq_disc.specs.Queues.{HasDistinctIds}
@@ -16,10 +15,9 @@ use Rattle.bq_cfs.specs.Cfs.{cfs, least}
 use Rattle.bq_cfs.proofs.BoundFacts.{weaker, none_below_least}
 use Rattle.bq_cfs.proofs.MoveFacts.{each-with_id}
 use Rattle.bq_fair.specs.Histories.{ticked, history, rise, RisesByAtMost, task_at}
-use Rattle.bq_fair.specs.CfsFairness.{CfsServesInProportion, CfsServesWithin}
 use Rattle.bq_fair.proofs.PlaceFacts.{idle, busy, current_present}
 use Rattle.bq_fair.proofs.TickFacts.{Change, Stays, Runs, came, tick_keeps, charged_distinct}
-use Rattle.bq_fair.proofs.SoundFacts.{each_has_room, of_each, vdelta_of-le, IsWellFormed, well_formed, rises, well_formed_ticked, got_to}
+use Rattle.bq_fair.proofs.SoundFacts.{of_each, vdelta_of-le, IsWellFormed, rises, well_formed_ticked}
 
 -- Who runs after a decision
 
@@ -116,13 +114,13 @@ fair_ticked : (V r : ℕ) (p : Running) (now : ℕ) → IsWellFormed p → IsFai
 fair_ticked V r p now w fair le = record {
   runs = λ j m t e f. let near = runs_near p now j m t w.distinct e f in omega arith;
   each = λ i j u t f g.
-    let a = came cfs p now i u w.distinct f in
-    let b = came cfs p now j t w.distinct g in
-    let one = one_beyond_by V r p now i j a.0 u b.0 w fair le a.1 b.1 a.2 in
-    let rs = rises cfs p now j b.0 t (w.ends j b.0 b.1) b.2 in
-    let v = rs.v in
-    let ends = w.ends j b.0 b.1 in
-    omega arith;
+      let a = came cfs p now i u w.distinct f in
+      let b = came cfs p now j t w.distinct g in
+      let one = one_beyond_by V r p now i j a.0 u b.0 w fair le a.1 b.1 a.2 in
+      let rs = rises cfs p now j b.0 t (w.ends j b.0 b.1) b.2 in
+      let v = rs.v in
+      let ends = w.ends j b.0 b.1 in
+      omega arith;
 }
 
 pub fair_history : (V r : ℕ) (p : Running) (nows : List ℕ) → IsWellFormed p → IsFair V r p → RisesByAtMost r cfs p nows → IsFair V r (history cfs p nows)
@@ -136,25 +134,3 @@ fair_at_start V r p h = record {
   runs = λ j m t e f. let le = of_each (λ (x : Task). x.v ≤ V) p m.id m h (current_present p.queue p.kept p.current p.last m e) in omega arith;
   each = λ i j u t f g. let le = of_each (λ (x : Task). x.v ≤ V) p i u h f in omega arith;
 }
-
-pub serves_in_proportion : CfsServesInProportion
-serves_in_proportion V r p nows i j a b s room h le f g =
-    let w = well_formed p s in
-    let each = each_has_room p room in
-    let fair = fair_history V r p nows w (fair_at_start V r p h) le in
-    let x = got_to cfs p nows i a w each f in
-    let y = got_to cfs p nows j b w each g in
-    let end = fair.each i j x.0 y.0 x.1 y.1 in
-    let v = x.2 in
-    let u = y.2 in
-    let end_own = rw x.3 at end in
-    omega arith
-
-pub serves_within : CfsServesWithin
-serves_within L S r p nows i j a b s room h le f g =
-    let V = L + S in
-    let high = λ (k : ℕ) (x : Task). of_each (λ (x : Task). (L ≤ x.v) × (x.v ≤ L + S)) p k x h in
-    let one = high i a f in
-    let two = high j b g in
-    let law = serves_in_proportion V r p nows i j a b s room (All-weaker (λ (x : Task). (L ≤ x.v) × (x.v ≤ L + S)) (λ (x : Task). x.v ≤ V) (λ x k. k.1) (present_at p) h) le f g in
-    omega arith

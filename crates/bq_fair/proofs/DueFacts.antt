@@ -134,11 +134,11 @@ timely_ticked V r p now w timely le =
       due = due;
       runs = λ j m t e f. let before = runs_before_due p now j m t w.distinct due e f in omega arith;
       each = λ i j u t f g.
-        let a = came eevdf p now i u w.distinct f in
-        let b = came eevdf p now j t w.distinct g in
-        let one = one_beyond_by V r p now i j a.0 u b.0 w timely le a.1 b.1 a.2 in
-        let up = (dues p now j b.0 t (w.ends j b.0 b.1) (timely.due j b.0 b.1) b.2).up in
-        omega arith;
+          let a = came eevdf p now i u w.distinct f in
+          let b = came eevdf p now j t w.distinct g in
+          let one = one_beyond_by V r p now i j a.0 u b.0 w timely le a.1 b.1 a.2 in
+          let up = (dues p now j b.0 t (w.ends j b.0 b.1) (timely.due j b.0 b.1) b.2).up in
+          omega arith;
     }
 
 pub timely_history : (V r : ℕ) (p : Running) (nows : List ℕ) → IsWellFormed p → IsTimely V r p → RisesByAtMost r eevdf p nows → IsTimely V r (history eevdf p nows)

@@ -7,28 +7,13 @@ use Rattle.bq_disc.specs.OneProcessor.{present_at}
 use Rattle.bq_eevdf.specs.Eevdf.{eevdf}
 use Rattle.bq_fair.specs.Histories.{history, served}
 use Rattle.bq_fair.specs.Work.{weight_at, moment_at, booked, elapsed}
-use Rattle.bq_fair.specs.EevdfDeadlines.{EevdfServesBySlices, EevdfSharesBySlices, EevdfWaitsBySlices}
+use Rattle.bq_fair.specs.EevdfDeadlines.{EevdfSharesBySlices, EevdfWaitsBySlices}
 use Rattle.bq_fair.proofs.SoundFacts.{of_each, each_has_room, well_formed, well_formed_history, got_to}
 use Rattle.bq_fair.proofs.SumFacts.{length-history}
 use Rattle.bq_fair.proofs.ListFacts.{All-from_ids}
 use Rattle.bq_fair.proofs.CfsShares.{shares, share_by, least_under, waiting_by}
 use Rattle.bq_fair.proofs.WorkFacts.{moves_the_sum, books_the_time}
 use Rattle.bq_fair.proofs.DueFacts.{timely_history, timely_at_start}
-
-pub serves_by_slices : EevdfServesBySlices
-serves_by_slices V r p nows i j a b s room due h le f g =
-    let w = well_formed p s in
-    let each = each_has_room p room in
-    let timely = timely_history V r p nows w (timely_at_start V r p due h) le in
-    let x = got_to eevdf p nows i a w each f in
-    let y = got_to eevdf p nows j b w each g in
-    let end = timely.each i j x.0 y.0 x.1 y.1 in
-    let high = (timely.due j y.0 y.1).high in
-    let v = x.2 in
-    let u = y.2 in
-    let end_own = rw x.3 at end in
-    let high_own = rw (y.3, y.4) at high in
-    omega arith
 
 pub shares_by_slices : EevdfSharesBySlices
 shares_by_slices V r p nows j b s room due h le f =

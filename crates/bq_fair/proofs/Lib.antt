@@ -17,3 +17,5 @@ pub mod EevdfSlices
 pub mod StepFacts
 pub mod ThroughoutFacts
 pub mod Throughout
+pub mod EventFacts
+pub mod TickSteps

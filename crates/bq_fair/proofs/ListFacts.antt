@@ -11,9 +11,9 @@ use Rattle.bq_fair.proofs.SumFacts.{sum_over-without, total_weight-sum, weighted
 -- of each id, so of each
 pub All-from_ids : (P : Task → Type 0) (xs : List Task) → HasDistinctIds xs → ((i : ℕ) (t : Task) → with_id i xs ≡ Some t → P t) → All P xs
 All-from_ids P xs d h = λ k x l.
-  let t = slice_index_or xs k x in
-  let c = Contains-get_or xs k x l in
-  h t.id t (with_id-Contains xs t c.0 d c.1 c.2)
+    let t = slice_index_or xs k x in
+    let c = Contains-get_or xs k x l in
+    h t.id t (with_id-Contains xs t c.0 d c.1 c.2)
 
 -- of a value that is there, in two ways
 pub of_some : (P : Task → Type 0) (o : Option Task) (t : Task) → IfSome o P → o ≡ Some t → P t

@@ -86,7 +86,7 @@ changed_places : (j : ℕ) (u m : Task) (q : List Task) → with_id m.id q ≡ S
 changed_places j u m q f n =
     let rest = without m.id q in
     let apart : eqb m.id j ≡ true → eqb u.id j ≡ true → ⊥ =
-      λ a b. let same = is_same m.id j a ∙ sym (is_same u.id j b) in let there = ap (λ k. with_id k q) same in cc
+    λ a b. let same = is_same m.id j a ∙ sym (is_same u.id j b) in let there = ap (λ k. with_id k q) same in cc
     in
     ap (λ o. cond (eqb m.id j) (Some m) o) (with_id-place j u rest (with_id-without u.id m.id q n))
     ∙ either_order (eqb m.id j) (eqb u.id j) m u (with_id j rest) apart

@@ -66,16 +66,16 @@ pub well_formed_ticked : (d : Discipline) (p : Running) (now : ℕ) → IsWellFo
 well_formed_ticked d p now w = record {
   distinct = (tick_keeps d p now w.distinct).distinct;
   weights = λ i u f.
-    let b = came d p now i u w.distinct f in
-    let r = rises d p now i b.0 u (w.ends i b.0 b.1) b.2 in
-    let h = w.weights i b.0 b.1 in
-    let e = r.weight in
-    (omega arith, omega arith);
+      let b = came d p now i u w.distinct f in
+      let r = rises d p now i b.0 u (w.ends i b.0 b.1) b.2 in
+      let h = w.weights i b.0 b.1 in
+      let e = r.weight in
+      (omega arith, omega arith);
   ends = λ i u f.
-    let b = came d p now i u w.distinct f in
-    let r = rises d p now i b.0 u (w.ends i b.0 b.1) b.2 in
-    let v = r.v in
-    omega arith;
+      let b = came d p now i u w.distinct f in
+      let r = rises d p now i b.0 u (w.ends i b.0 b.1) b.2 in
+      let v = r.v in
+      omega arith;
 }
 
 -- Room

@@ -9,7 +9,7 @@ use Rattle.bq_disc.specs.OneProcessor.{Running, present_at, own_preempt}
 use Rattle.bq_disc.proofs.QueueFacts.{with_id-none, with_id-place_other, HasDistinctIds-place, with_id-without, HasDistinctIds-without, with_id-without_same}
 use Rattle.bq_disc.proofs.SetFacts.{is_same, same_is}
 use Rattle.bq_fair.specs.Histories.{task_at}
-use Rattle.bq_fair.specs.Steps.{Step, Pass, Decide, Enter, Leave, stepped, kept_current, EntersNew, leaves}
+use Rattle.bq_fair.specs.Steps.{Step, Pass, Decide, Enter, Leave, Mark, stepped, kept_current, EntersNew, leaves}
 use Rattle.bq_fair.proofs.PlaceFacts.{with_id-place, with_id-without_other}
 use Rattle.bq_fair.proofs.DecideFacts.{keeps_present}
 use Rattle.bq_fair.proofs.TickFacts.{Change, charge_changed, charge_came, charged_distinct}
@@ -91,6 +91,7 @@ step_distinct d p (Pass now) h n = charged_distinct d p now h
 step_distinct d p Decide h n = (keeps_present d p (own_preempt d p.queue p.current) h).distinct
 step_distinct d p (Enter t) h n = entered_distinct p.current p.queue t n.id h
 step_distinct d p (Leave k) h n = left_distinct k p.queue p.current h
+step_distinct d p Mark h n = h
 
 -- a task that enters, or that was there, and was charged where time passed
 pub data Came (d : Discipline) (p : Running) (s : Step) (i : ℕ) (u : Task) : Type 0 where
@@ -107,6 +108,7 @@ step_came d p (Pass now) i u h n f = let c = charge_came d p now i u f in Charge
 step_came d p Decide i u h n f = Was (sym ((keeps_present d p (own_preempt d p.queue p.current) h).same i) ∙ f)
 step_came d p (Enter t) i u h n f = entered_came d p t i u (comes_by i t u (task_at i p) (eqb t.id i) (sym (entered_stays p.current p.queue t i n.id) ∙ f))
 step_came d p (Leave k) i u h n f = Was (left_came_by k i p.queue p.current u (eqb k i) refl h f)
+step_came d p Mark i u h n f = Was f
 
 -- how a task that does not leave changes: not, or as time passes
 abbrev pub Goes : Discipline → Running → Step → ℕ → Task → Task → Type 0
@@ -114,6 +116,7 @@ Goes d p (Pass now) i t u = Change d p now i t u
 Goes d p Decide i t u = u ≡ t
 Goes d p (Enter x) i t u = u ≡ t
 Goes d p (Leave k) i t u = u ≡ t
+Goes d p Mark i t u = u ≡ t
 
 abbrev pub Going : Discipline → Running → Step → ℕ → Task → Option Task → Type 0
 Going d p s i t o = (u : Task) × (o ≡ Some u) × Goes d p s i t u
@@ -124,6 +127,7 @@ step_goes d p (Pass now) i t h n l f = charge_changed d p now i t f
 step_goes d p Decide i t h n l f = (t, (keeps_present d p (own_preempt d p.queue p.current) h).same i ∙ f, refl)
 step_goes d p (Enter x) i t h n l f = (t, entered_stays p.current p.queue x i n.id ∙ stays_by i x t (present_at p) (eqb x.id i) refl n.id f, refl)
 step_goes d p (Leave k) i t h n l f = (t, left_stays k i p.queue p.current l ∙ f, refl)
+step_goes d p Mark i t h n l f = (t, f, refl)
 
 step_ends : (d : Discipline) (p : Running) (s : Step) (i : ℕ) (u : Task) → IsWellFormed p → EntersNew p s → Came d p s i u → IsWeight u.weight × (u.v ≤ 2 ^ 62)
 step_ends d p s i u w n (Was f) = (w.weights i u f, w.ends i u f)

@@ -9,7 +9,7 @@ use Rattle.bq_disc.specs.Discipline.{Discipline, charged}
 use Rattle.bq_disc.specs.OneProcessor.{Running, present_at, charge, reading, own_preempt}
 use Rattle.bq_disc.proofs.SetFacts.{with_id-id}
 use Rattle.bq_fair.specs.Histories.{task_at, rise, charge_of}
-use Rattle.bq_fair.specs.Steps.{Step, Pass, Decide, Enter, Leave, stepped, after, charged_by, served_by, since, DecidesWithin, EntersNew, EachEntersNew, kept_current, leaves, StaysThroughout}
+use Rattle.bq_fair.specs.Steps.{Step, Pass, Decide, Enter, Leave, Mark, stepped, after, charged_by, served_by, since, DecidesWithin, EntersNew, EachEntersNew, kept_current, leaves, StaysThroughout}
 use Rattle.bq_fair.proofs.PlaceFacts.{current_present}
 use Rattle.bq_fair.proofs.TickFacts.{Change, Stays, Runs, charge_changed}
 use Rattle.bq_fair.proofs.DecideFacts.{keeps_present}
@@ -26,6 +26,7 @@ OfEntered P (Enter t) = P t
 OfEntered P (Pass now) = Unit {0}
 OfEntered P Decide = Unit {0}
 OfEntered P (Leave k) = Unit {0}
+OfEntered P Mark = Unit {0}
 
 abbrev pub OfEachEntered : (Task → Type 0) → List Step → Type 0
 OfEachEntered P [] = Unit {0}
@@ -99,13 +100,16 @@ close_pass d reach P law V r n p now i j u t w h le c =
     let a = charge_changed d p now i u c.one in
     let b = charge_changed d p now j t c.other in
     let up = reach_up d reach P law p now j t b.0 (w.ends j t c.other) (h j t c.other) b.2 in
-    let both = passes d V r n reach p now i j u t a.0 b.0 w c le up a.2 in
-    (a.0, b.0, record {
-      one = a.1;
-      other = b.1;
-      runs = λ m f g. let k = current_charged d p.queue p.kept p.current p.last now m f in both.1 k.0 k.1 (k.2 ∙ g);
-      ever = both.0;
-    })
+    let both = passes d V r n reach p now i j u t a.0 b.0 w c le up a.2 in (
+      a.0,
+      b.0,
+      record {
+        one = a.1;
+        other = b.1;
+        runs = λ m f g. let k = current_charged d p.queue p.kept p.current p.last now m f in both.1 k.0 k.1 (k.2 ∙ g);
+        ever = both.0;
+      },
+    )
 
 -- The rule decides
 
@@ -116,18 +120,21 @@ close_decide : (d : Discipline) (reach : Task → ℕ) (P : Task → Type 0) →
 close_decide d reach P law V r n p i j u t w h c =
     let q = stepped d p Decide in
     let keeps = keeps_present d p (own_preempt d p.queue p.current) w.distinct in
-    let one = keeps.same i ∙ c.one in
-    (u, t, record {
-      one = one;
-      other = keeps.same j ∙ c.other;
-      runs = λ m f g.
-        let near = law.near p j m t w h f c.other in
-        let there = current_present q.queue q.kept q.current q.last m f in
-        let same = same_task (task_at i q) m u (ap (λ k. task_at k q) (sym g) ∙ there) one in
-        let v : m.v ≡ u.v = ap (λ (x : Task). x.v) same in
-        omega arith;
-      ever = c.ever;
-    })
+    let one = keeps.same i ∙ c.one in (
+      u,
+      t,
+      record {
+        one = one;
+        other = keeps.same j ∙ c.other;
+        runs = λ m f g.
+            let near = law.near p j m t w h f c.other in
+            let there = current_present q.queue q.kept q.current q.last m f in
+            let same = same_task (task_at i q) m u (ap (λ k. task_at k q) (sym g) ∙ there) one in
+            let v : m.v ≡ u.v = ap (λ (x : Task). x.v) same in
+            omega arith;
+        ever = c.ever;
+      },
+    )
 
 -- A task enters, or leaves
 
@@ -148,13 +155,16 @@ current_kept k (Some c) m e = current_kept_by c m (eqb c.id k) e
 close_leave : (d : Discipline) (V r n : ℕ) (reach : Task → ℕ) (p : Running) (k i j : ℕ) (u t : Task) → IsWellFormed p → leaves i (Leave k) ≡ false → leaves j (Leave k) ≡ false → IsClose V r n i j reach p u t → AreClose V r n i j reach (stepped d p (Leave k))
 close_leave d V r n reach p k i j u t w li lj c =
     let a = step_goes d p (Leave k) i u w.distinct tt li c.one in
-    let b = step_goes d p (Leave k) j t w.distinct tt lj c.other in
-    (u, t, record {
-      one = a.1 ∙ ap (λ y. Some y) a.2;
-      other = b.1 ∙ ap (λ y. Some y) b.2;
-      runs = λ m f g. c.runs m (current_kept k p.current m f) g;
-      ever = c.ever;
-    })
+    let b = step_goes d p (Leave k) j t w.distinct tt lj c.other in (
+      u,
+      t,
+      record {
+        one = a.1 ∙ ap (λ y. Some y) a.2;
+        other = b.1 ∙ ap (λ y. Some y) b.2;
+        runs = λ m f g. c.runs m (current_kept k p.current m f) g;
+        ever = c.ever;
+      },
+    )
 
 -- Any step, and any number of them
 
@@ -163,6 +173,7 @@ close_stepped d reach P law V r n p (Pass now) i j u t w h new le li lj c = clos
 close_stepped d reach P law V r n p Decide i j u t w h new le li lj c = close_decide d reach P law V r n p i j u t w h c
 close_stepped d reach P law V r n p (Enter x) i j u t w h new le li lj c = close_enter d V r n reach p x i j u t w new c
 close_stepped d reach P law V r n p (Leave k) i j u t w h new le li lj c = close_leave d V r n reach p k i j u t w li lj c
+close_stepped d reach P law V r n p Mark i j u t w h new le li lj c = (u, t, record { one = c.one; other = c.other; runs = c.runs; ever = c.ever })
 
 -- where they have got
 abbrev pub EverClose : ℕ → ℕ → ℕ → ℕ → (Task → ℕ) → (Task → Type 0) → Running → Type 0
@@ -205,6 +216,7 @@ moves d p (Pass now) i t u w f room g =
 moves d p Decide i t u w f room g = stands d p Decide i t u g refl (keeps_present d p (own_preempt d p.queue p.current) w.distinct).last room
 moves d p (Enter x) i t u w f room g = stands d p (Enter x) i t u g refl refl room
 moves d p (Leave k) i t u w f room g = stands d p (Leave k) i t u g refl refl room
+moves d p Mark i t u w f room g = stands d p Mark i t u g refl refl room
 
 pub got_by : (d : Discipline) (p : Running) (ss : List Step) (i : ℕ) (t : Task) → IsWellFormed p → EachEntersNew d p ss → StaysThroughout i ss → HasRoomAt p.last t → task_at i p ≡ Some t → GotBy d p ss i t
 got_by d p [] i t w new si room f = (t, f, omega arith, refl, refl)

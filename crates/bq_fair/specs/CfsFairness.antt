@@ -8,21 +8,19 @@ use Rattle.bq_cfs.specs.Spread.{IsSound}
 use Rattle.bq_fair.specs.Histories.{HasRoom, RisesByAtMost, task_at, served}
 use Rattle.bq_fair.specs.Work.{weight_at, moment_at, booked, elapsed}
 
--- Proportional service, where no virtual time is beyond V at the start: of two tasks a and b, of ids i and j, a comes to no
--- more virtual time than V, or than 1,000,000 beyond where b began, and what b was served, and one rise at its own weight
+-- Proportional service: of two tasks a and b, of ids i and j, a comes to no more virtual time than where it began, or than
+-- 1,000,000 beyond where b began, and what b was served, and one rise at its own weight
 abbrev pub CfsServesInProportion : Type 0
 CfsServesInProportion =
-    (V r : ℕ) (p : Running) (nows : List ℕ) (i j : ℕ) (a b : Task) →
-    IsSound p → HasRoom p → All (λ t. t.v ≤ V) (present_at p) → RisesByAtMost r cfs p nows →
-    task_at i p ≡ Some a → task_at j p ≡ Some b →
-    a.v + served i cfs p nows ≤ served j cfs p nows + max V (b.v + 1000000) + vdelta_of r a.weight
+    (r : ℕ) (p : Running) (nows : List ℕ) (i j : ℕ) (a b : Task) →
+    IsSound p → HasRoom p → RisesByAtMost r cfs p nows → task_at i p ≡ Some a → task_at j p ≡ Some b →
+    a.v + served i cfs p nows ≤ served j cfs p nows + max a.v (b.v + 1000000) + vdelta_of r a.weight
 
--- So what any two are served differs by at most the spread at the start, the granularity, and one rise
+-- So what any two are served differs by at most what lay between them at the start, the granularity, and one rise
 abbrev pub CfsServesWithin : Type 0
 CfsServesWithin =
-    (L S r : ℕ) (p : Running) (nows : List ℕ) (i j : ℕ) (a b : Task) →
-    IsSound p → HasRoom p → All (λ t. (L ≤ t.v) × (t.v ≤ L + S)) (present_at p) → RisesByAtMost r cfs p nows →
-    task_at i p ≡ Some a → task_at j p ≡ Some b →
+    (S r : ℕ) (p : Running) (nows : List ℕ) (i j : ℕ) (a b : Task) →
+    IsSound p → HasRoom p → RisesByAtMost r cfs p nows → task_at i p ≡ Some a → task_at j p ≡ Some b → b.v ≤ a.v + S →
     served i cfs p nows ≤ served j cfs p nows + S + 1000000 + vdelta_of r a.weight
 
 -- Service by share: what a task is served, times the weights of all, is at least what is booked, but for a bound

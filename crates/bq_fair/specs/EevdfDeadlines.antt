@@ -21,14 +21,13 @@ NoneIsBeyondADeadline =
     HasDeadlines (history eevdf p nows)
     × ((i j : ℕ) (u t : Task) → task_at i (history eevdf p nows) ≡ Some u → task_at j (history eevdf p nows) ≡ Some t → u.v ≤ max V t.deadline + vdelta_of r u.weight)
 
--- Proportional service: of two tasks a and b, a comes to no more virtual time than V, or than one slice beyond where b began,
--- and what b was served, and one rise at its own weight
+-- Proportional service: of two tasks a and b, a comes to no more virtual time than where it began, or than one slice beyond
+-- where b began, and what b was served, and one rise at its own weight
 abbrev pub EevdfServesBySlices : Type 0
 EevdfServesBySlices =
-    (V r : ℕ) (p : Running) (nows : List ℕ) (i j : ℕ) (a b : Task) →
-    IsSound p → HasRoom p → HasDeadlines p → All (λ t. t.v ≤ V) (present_at p) → RisesByAtMost r eevdf p nows →
-    task_at i p ≡ Some a → task_at j p ≡ Some b →
-    a.v + served i eevdf p nows ≤ served j eevdf p nows + max V (b.v + vdelta_of b.slice b.weight) + vdelta_of r a.weight
+    (r : ℕ) (p : Running) (nows : List ℕ) (i j : ℕ) (a b : Task) →
+    IsSound p → HasRoom p → HasDeadlines p → RisesByAtMost r eevdf p nows → task_at i p ≡ Some a → task_at j p ≡ Some b →
+    a.v + served i eevdf p nows ≤ served j eevdf p nows + max a.v (b.v + vdelta_of b.slice b.weight) + vdelta_of r a.weight
 
 -- Service by share
 abbrev pub EevdfSharesBySlices : Type 0

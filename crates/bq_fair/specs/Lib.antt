@@ -4,3 +4,4 @@ pub mod CfsFairness
 pub mod EevdfFairness
 pub mod EevdfDeadlines
 pub mod Steps
+pub mod Events

@@ -1,21 +1,45 @@
-//! Laws of fairness: each is the contract of a function that does nothing.
+//! Laws of fairness: each is the contract of a function that does nothing. docs/FAIRNESS.md explains them.
 ghost use Rattle.bq_fair.specs.CfsFairness.{CfsServesInProportion, CfsServesItsShare, CfsServesWithin, CfsWaiting};
 ghost use Rattle.bq_fair.specs.EevdfDeadlines.{EevdfServesBySlices, EevdfSharesBySlices, EevdfWaitsBySlices, NoneIsBeyondADeadline};
 ghost use Rattle.bq_fair.specs.EevdfFairness.{BeginsBalanced, EevdfServesInProportion, EevdfServesItsShare, EevdfWaiting, HistoryStaysBalanced, NoneIsOwedLong, NoneIsOwedMore, StaysBalanced, TickRunsEligible};
+ghost use Rattle.bq_fair.specs.Events.{EventsAreSteps};
 ghost use Rattle.bq_fair.specs.Steps.{CfsServesThroughout, EevdfServesThroughout};
 ghost use Rattle.bq_fair.specs.Work.{BooksTheTime, MovesTheSum};
 
-/// CFS, proportional service. Over Ticks that the rule alone decides, each with a rise of the clock of at most r, and where
-/// no v present is beyond V at the start: of two tasks a and b that are present, a comes to no more virtual time than the
-/// greater of V and 1,000,000 beyond where b began, and what b was served, and one rise at a's own weight.
+/// Under each discipline, where a task runs at the start: what Ticks book, the vdelta of each charge times the weight, is
+/// 1024 times the rise of the clock, but for less than one weight lost at each Tick, since vdelta is rounded down.
+pub fn books_the_time()
+    ensures { BooksTheTime }
+{}
+
+/// Under each discipline what Ticks book is what the sum of weight times v rises by; the weights together stay.
+pub fn moves_the_sum()
+    ensures { MovesTheSum }
+{}
+
+/// CFS, proportional service. Over Ticks that the rule alone decides, at each of which the clock rises by at most r: of two
+/// tasks a and b that are present, a comes to no more virtual time than the greater of where it began and 1,000,000 beyond
+/// where b began, and what b was served, and what r takes at a's own weight.
 pub fn cfs_serves_in_proportion()
     ensures { CfsServesInProportion }
 {}
 
-/// So what any two tasks are served, in virtual time, differs by at most the spread at the start, 1,000,000, and one rise
-/// at the weight of the one that was served more, however long the history is.
+/// So what any two tasks are served, in virtual time, differs by at most what lay between them at the start, 1,000,000, and
+/// one rise at the weight of the one that was served more, however long the history is.
 pub fn cfs_serves_within()
     ensures { CfsServesWithin }
+{}
+
+/// CFS, service by share: what a task is served, times the weights of all together, is at least what is booked, but for a
+/// bound that does not grow with the history.
+pub fn cfs_serves_its_share()
+    ensures { CfsServesItsShare }
+{}
+
+/// CFS, bounded waiting: where all v lie from L to L + S at the start, and W are the weights of the n tasks together, a task
+/// that is served nothing waits for at most W (S + 1,000,000) / 1024 + n r, and less than 87 ns a Tick for rounding.
+pub fn cfs_waiting_is_bounded()
+    ensures { CfsWaiting }
 {}
 
 /// EEVDF: the task that runs after a Tick is eligible.
@@ -52,29 +76,6 @@ pub fn eevdf_none_is_owed_long()
     ensures { NoneIsOwedLong }
 {}
 
-/// Under each discipline, where a task runs at the start: what Ticks book, the vdelta of each charge times the weight, is
-/// 1024 times the rise of the clock, but for less than one weight lost at each Tick, since vdelta is rounded down.
-pub fn books_the_time()
-    ensures { BooksTheTime }
-{}
-
-/// Under each discipline what Ticks book is what the sum of weight times v rises by; the weights together stay.
-pub fn moves_the_sum()
-    ensures { MovesTheSum }
-{}
-
-/// CFS, service by share: what a task is served, times the weights of all together, is at least what is booked, but for a
-/// bound that does not grow with the history.
-pub fn cfs_serves_its_share()
-    ensures { CfsServesItsShare }
-{}
-
-/// CFS, bounded waiting: where all v lie from L to L + S at the start, and W are the weights of the n tasks together, a task
-/// that is served nothing waits for at most W (S + 1,000,000) / 1024 + n r, and less than 87 ns a Tick for rounding.
-pub fn cfs_waiting_is_bounded()
-    ensures { CfsWaiting }
-{}
-
 /// EEVDF, service by share: what a task is served, times its weight and W, is at least its weight of what is booked, but for
 /// a bound that does not grow with the history.
 pub fn eevdf_serves_its_share()
@@ -98,13 +99,14 @@ pub fn eevdf_none_is_beyond_a_deadline()
     ensures { NoneIsBeyondADeadline }
 {}
 
-/// EEVDF, proportional service by slices: of two tasks a and b, a comes to no more virtual time than the greater of V and
-/// one slice of b's beyond where b began, and what b was served, and one rise at a's own weight; however many there are.
+/// EEVDF, proportional service by slices: of two tasks a and b, a comes to no more virtual time than the greater of where it
+/// began and one slice of b's beyond where b began, and what b was served, and one rise at a's own weight; however many
+/// tasks there are.
 pub fn eevdf_serves_by_slices()
     ensures { EevdfServesBySlices }
 {}
 
-/// EEVDF, service by share and by slices.
+/// EEVDF, service by share, by slices.
 pub fn eevdf_shares_by_slices()
     ensures { EevdfSharesBySlices }
 {}
@@ -116,8 +118,8 @@ pub fn eevdf_waits_by_slices()
 {}
 
 /// CFS, with others coming and going: of two tasks that are present throughout the one comes no further beyond the other than
-/// if nothing else entered or left, wherever in virtual time what enters does; r is the most that the clock rises between
-/// two decisions.
+/// if nothing entered or left, wherever in virtual time what enters does; r is the most that the clock rises between two
+/// decisions.
 pub fn cfs_serves_throughout()
     ensures { CfsServesThroughout }
 {}
@@ -125,4 +127,10 @@ pub fn cfs_serves_throughout()
 /// EEVDF, with others coming and going, by slices: so too.
 pub fn eevdf_serves_throughout()
     ensures { EevdfServesThroughout }
+{}
+
+/// Each event of a processor is some of those steps, where the rule alone decides: a Tick, a Block, a Drain, the end of a wake,
+/// and a pull at either end.
+pub fn events_are_steps()
+    ensures { EventsAreSteps }
 {}
