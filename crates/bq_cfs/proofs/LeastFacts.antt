@@ -1,5 +1,5 @@
 -- The choice is least.
-use Rattle.std.proofs.Common.{◌≡◌, false, List, Option, Some, None}
+use Rattle.std.proofs.Common.{◌≡◌, false, Option, Some, None}
 use Rattle.std.specs.Prelude.{Contains, IfSome}
 use Rattle.bq_disc.specs.Tasks.{Task, runs_before}
 use Rattle.bq_disc.specs.Orders.{first_by-member}
