@@ -1,5 +1,5 @@
 //! Contents taken out of their locks, at the end.
-ghost use Rattle.std.specs.Prelude.{◌≡◌, ◌+◌, ◌≤◌, ◌++◌, [], map, length, vec_len, vec_capacity};
+ghost use Rattle.std.specs.Prelude.{◌≡◌, ◌≤◌, ◌++◌, map, length, vec_len, vec_capacity};
 ghost use Rattle.bq_history.specs.Items.{part_item};
 
 use crate::cell::{AsPart, Locked};
@@ -16,8 +16,7 @@ pub fn gather<A: AsPart<P> + Drop, R, W, P, D, K, M: World<R, W, P, D, K>, N: Na
     locks: Vec<Mutex<Locked<A, R, P, D, N>>>,
     room: Vec<A>,
 ) -> Vec<A>
-    requires empty { room.items ≡ [] }
-    requires room { vec_len room + vec_len locks ≤ vec_capacity room }
+    requires room { (vec_len room ≡ 0) × (vec_len locks ≤ vec_capacity room) }
     ensures len { length result.items ≡ vec_len locks }
     ensures parts { all.new ≡ all.old ++ map (λ a. part_item (A.part a)) result.items }
 {
