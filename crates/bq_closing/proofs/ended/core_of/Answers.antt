@@ -60,7 +60,7 @@ from_parts-requires g c =
     let inboxes = c.contents_in_order-inboxes.ensures w.inboxes [] (k.2 ∙ sym c.requires.many.1) (inboxes_there s xs ys at state place tasks w k.5) in
     let is = is_world s xs ys at state place tasks w c.contents_in_order-cpus.result.items c.contents_in_order-inboxes.result.items c.args.drawn k.5 cpus inboxes k.4 in (
       search rules,
-      ((ap length cpus ∙ k.1, ap length inboxes ∙ k.2, c.requires.few), subst IsOrderly (sym is) k.3),
+      (c.requires.few, (ap length cpus ∙ k.1, (ap length inboxes ∙ k.2, subst IsOrderly (sym is) k.3))),
     )
 
 pub returns : goal.returns
