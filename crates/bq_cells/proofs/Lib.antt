@@ -1,7 +1,2 @@
-pub mod Reached
-pub mod Looked
-pub mod Named
-pub mod Loads
-pub mod Shapes
-pub mod CallSteps
-pub mod Opening
+pub mod Sent
+pub mod Woken
