@@ -94,7 +94,7 @@ module _ (d : Discipline) (n : ℕ) where
       MovesHere d n k (lobby_part l ∷ []) (record { event = Retire id; reply = r; calls = [] }) k (lobby_part m ∷ [])
   retire_moves id l m k r bound fits share =
       moves_lobby d n l m k (record { event = Retire id; reply = r; calls = [] })
-      (λ w s is. (retires_step d w id r m bound (rw is share), rw s.many fits, retires_named id l r m share))
+      (λ w s is. (retires_step d w id r m bound (rw is share), fits, retires_named id l r m share))
 
   pub tick_moves : (c now : ℕ) (p q : Processor) (calls : List Asked) (k : Kept) (r : Reply) → Ticks (policies d) c now p calls r q →
       MovesHere d n k (cpu_part c p ∷ []) (record { event = Tick c now; reply = Ok r; calls = calls }) k (cpu_part c q ∷ [])

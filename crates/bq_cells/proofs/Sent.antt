@@ -53,7 +53,7 @@ inbox_send = search (crosses, knot.crosses, sendable) depth 60 fits 20000
 
 -- the lobby
 pub lobby_send : IsSend OneLobby.the_row
-lobby_send = search (crosses, knot.crosses, hooks.the_send, loads.the_send, sendable) depth 60 fits 20000
+lobby_send = search (crosses, knot.crosses, sendable) depth 60 fits 20000
 
 result_send : IsSend (Result.the_row Reply.the_row Refusal.the_row)
 result_send = search (reply.the_send, refusal.the_send, sendable) depth 20

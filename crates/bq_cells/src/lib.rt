@@ -10,4 +10,4 @@ pub mod record;
 
 pub use cells::{NumberedCpu, NumberedInbox, OneLobby};
 pub use law::{CpuState, Kept, Part, Sched, WorldState};
-pub use record::{Calls, Record, answer_again, room};
+pub use record::{Calls, Record, room};

@@ -28,8 +28,6 @@ impl Model for Calls {
 }
 
 impl Calls {
-    ghost use Rattle.std.specs.Prelude.{◌↔◌, IsTrue};
-
     /// No call.
     pub fn none() -> Calls
         ensures { result ≡ [] }
@@ -83,74 +81,4 @@ pub fn room(alloc: Global) -> Result<Slip<Record>, Refusal>
         calls: Calls::none(),
     };
     Slip::new(alloc, blank).map_err(|_| Refusal::OutOfMemory)
-}
-
-/// The same reply once more.
-fn again(reply: &Reply) -> Reply
-    ensures { result ≡ reply.now }
-{
-    match reply {
-        Reply::Admitted => Reply::Admitted,
-        Reply::Retired => Reply::Retired,
-        Reply::Drawn { generation } => Reply::Drawn {
-            generation: *generation,
-        },
-        Reply::Installed => Reply::Installed,
-        Reply::Begun { task, loads } => Reply::Begun {
-            task: *task,
-            loads: loads.copy(),
-        },
-        Reply::Placed {
-            task,
-            to,
-            by,
-            steps,
-        } => Reply::Placed {
-            task: *task,
-            to: *to,
-            by: *by,
-            steps: *steps,
-        },
-        Reply::Drained {
-            count,
-            run,
-            by,
-            steps,
-        } => Reply::Drained {
-            count: *count,
-            run: *run,
-            by: *by,
-            steps: *steps,
-        },
-        Reply::Ticked { run, by, steps } => Reply::Ticked {
-            run: *run,
-            by: *by,
-            steps: *steps,
-        },
-        Reply::Blocked { task, run } => Reply::Blocked {
-            task: *task,
-            run: *run,
-        },
-        Reply::Pulled {
-            task,
-            run,
-            by,
-            steps,
-        } => Reply::Pulled {
-            task: *task,
-            run: *run,
-            by: *by,
-            steps: *steps,
-        },
-    }
-}
-
-/// The same answer once more.
-pub fn answer_again(answer: &Result<Reply, Refusal>) -> Result<Reply, Refusal>
-    ensures { result ≡ answer.now }
-{
-    match answer {
-        Ok(reply) => Ok(again(reply)),
-        Err(refusal) => Err(*refusal),
-    }
 }
