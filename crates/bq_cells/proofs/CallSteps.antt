@@ -10,7 +10,7 @@ use Rattle.bq_verify.specs.declared.hook.Hook.{Hook}
 use Rattle.bq_verify.specs.Accepted.{Accepted}
 use Rattle.bq_policies.specs.Answers.{fresh_maps}
 use Rattle.bq_policies.specs.Programs.{Program}
-use Rattle.bq_parts.specs.declared.event.Event.TheVariants.{Admit, Draw, Install, BeginWake, EndWake, Tick, Drain, Block}
+use Rattle.bq_parts.specs.declared.event.Event.TheVariants.{Admit, Retire, Draw, Install, BeginWake, EndWake, Tick, Drain, Block}
 use Rattle.bq_parts.specs.declared.reply.Reply.{Reply}
 use Rattle.bq_parts.specs.declared.reply.Reply.TheVariants.{Drawn, Placed}
 use Rattle.bq_parts.specs.declared.wakes.Placement.{Placement}
@@ -20,26 +20,28 @@ use Rattle.bq_parts.specs.Processors.{Processor, size_of, load_of}
 use Rattle.bq_parts.specs.World.{World, processor, inbox, count_in, with_processor, with_inbox, loads_of}
 use Rattle.bq_parts.specs.Refusals.{argument_refusal}
 use Rattle.bq_parts.specs.Choices.{Setting, Settled, policies, decided_by}
-use Rattle.bq_parts.specs.Steps.{WorldStep, admitted, after_leaving}
-use Rattle.bq_parts.specs.Shares.{after_time, Admits, Ticks, Drains, Blocks, Begins, Places, Installs}
+use Rattle.bq_parts.specs.Moves.{admitted, after_leaving}
+use Rattle.bq_parts.specs.Steps.{WorldStep}
+use Rattle.bq_parts.specs.Shares.{after_time, Admits, Retires, Ticks, Drains, Blocks, Begins, Places, Installs}
 use Rattle.bq_parts.proofs.Once.{few_at}
 use Rattle.bq_parts.proofs.Tallies.{tally, tally-decided, tally-charge, tally-enter_all}
 use Rattle.bq_core.proofs.Steps.{within}
 use Rattle.bq_core.proofs.Moves.{tally-after_leaving}
-use Rattle.bq_core.proofs.ShareSteps.{admits_step, ticks_step, drains_step, blocks_step, begins_step, places_step, installs_step}
+use Rattle.bq_core.proofs.ShareSteps.{admits_step, retires_step, ticks_step, drains_step, blocks_step, begins_step, places_step, installs_step}
 use Rattle.bq_cells.specs.declared.law.Kept.{Kept}
 use Rattle.bq_cells.specs.declared.record.Record.{Record}
 use Rattle.bq_cells.specs.Parts.{cpu_part, inbox_part, lobby_part, kept_of, one_less, one_more, kept_by_block}
 use Rattle.bq_cells.proofs.Reached.{IsSound}
-use Rattle.bq_cells.proofs.Named.{admits_named, blocks_named, begins_named, installs_named}
+use Rattle.bq_cells.proofs.Named.{admits_named, retires_named, blocks_named, begins_named, installs_named}
 use Rattle.bq_cells.proofs.Loads.{loads_set, loads_same, loads_moved, load_kept, loads_box}
 use Rattle.bq_cells.proofs.Shapes.{MovesHere, moves_none, moves_lobby, moves_cpu, moves_cpu_lobby, moves_cpu_inbox}
 
--- the length is a tally
-abbrev ones : ℕ → ℕ → ℕ
+-- each task counts once
+abbrev pub ones : ℕ → ℕ → ℕ
 ones i mask = 1
 
-length_is : (xs : List Task) → length xs ≡ tally ones xs
+-- the length is a tally
+pub length_is : (xs : List Task) → length xs ≡ tally ones xs
 length_is [] = refl
 length_is (x ∷ xs) = omega (arith, length_is xs)
 
@@ -52,7 +54,8 @@ decided_size : (s : Setting) (p : Processor) (settled : Settled) → size_of (de
 decided_size s p settled =
     omega (arith, length_is (present_at (decided_by s p settled).running), length_is (present_at p.running), tally-decided ones s.discipline p.running p.running.current (settled.choice == 1) refl)
 
-time_size : (d : Discipline) (now : ℕ) (p : Processor) → size_of (after_time d now p) ≡ size_of p
+-- time changes no size
+pub time_size : (d : Discipline) (now : ℕ) (p : Processor) → size_of (after_time d now p) ≡ size_of p
 time_size d now p = omega (arith, length_is (present_at (charge d p.running now)), length_is (present_at p.running), tally-charge ones d p.running now)
 
 begin_size : (id : ℕ) (loads : List ℕ) (p : Processor) (l : List Seat) (r : Result Reply Refusal) (q : Processor) (m : List Seat) → Begins id loads p l r q m → size_of q ≡ size_of p
@@ -60,7 +63,7 @@ begin_size id loads p l (Ok r) q m b = ap size_of b.4
 begin_size id loads p l (Err e) q m b = ap size_of b.1
 
 -- a task has left the processor
-kept_less : (w : World) (c : ℕ) (p q : Processor) (k : Kept) → length w.inboxes ≡ length w.processors → kept_of w ≡ k → c < count_in w → processor w c ≡ p → size_of q + 1 ≡ size_of p → kept_of (with_processor w c q) ≡ one_less c k
+pub kept_less : (w : World) (c : ℕ) (p q : Processor) (k : Kept) → length w.inboxes ≡ length w.processors → kept_of w ≡ k → c < count_in w → processor w c ≡ p → size_of q + 1 ≡ size_of p → kept_of (with_processor w c q) ≡ one_less c k
 kept_less w c p q k even kw there at e =
     let was : get_or (loads_of w.processors w.inboxes) c 0 ≡ load_of p (inbox w c) = load_kept w.processors w.inboxes c even there ∙ ap (λ (x : Processor). load_of x (inbox w c)) at in
     let is : load_of q (inbox w c) ≡ get_or (loads_of w.processors w.inboxes) c 0 - 1 = rw was (omega (arith, e)) in
@@ -68,7 +71,7 @@ kept_less w c p q k even kw there at e =
     ∙ ap (one_less c) kw
 
 -- a task has come to the processor
-kept_more : (w : World) (c : ℕ) (p q : Processor) (k : Kept) → length w.inboxes ≡ length w.processors → kept_of w ≡ k → c < count_in w → processor w c ≡ p → size_of q ≡ size_of p + 1 → load_of p (inbox w c) ≤ 1024 →
+pub kept_more : (w : World) (c : ℕ) (p q : Processor) (k : Kept) → length w.inboxes ≡ length w.processors → kept_of w ≡ k → c < count_in w → processor w c ≡ p → size_of q ≡ size_of p + 1 → load_of p (inbox w c) ≤ 1024 →
     kept_of (with_processor w c q) ≡ one_more c k
 kept_more w c p q k even kw there at e few =
     let was : get_or (loads_of w.processors w.inboxes) c 0 ≡ load_of p (inbox w c) = load_kept w.processors w.inboxes c even there ∙ ap (λ (x : Processor). load_of x (inbox w c)) at in
@@ -77,7 +80,8 @@ kept_more w c p q k even kw there at e few =
     ∙ ap (one_more c) kw
 
 module _ (d : Discipline) (n : ℕ) where
-  kept_same : (w : World) (c : ℕ) (p q : Processor) (k : Kept) → kept_of w ≡ k → processor w c ≡ p → size_of q ≡ size_of p → kept_of (with_processor w c q) ≡ k
+  -- a processor of the same size
+  pub kept_same : (w : World) (c : ℕ) (p q : Processor) (k : Kept) → kept_of w ≡ k → processor w c ≡ p → size_of q ≡ size_of p → kept_of (with_processor w c q) ≡ k
   kept_same w c p q k kw at e = ap (λ (ls : List ℕ). record { drawn = w.drawn; loads = ls }) (loads_same w.processors w.inboxes c q (e ∙ sym (ap size_of at))) ∙ kw
 
   pub admit_moves : (id : ℕ) (nice : ℤ) (mask slice : ℕ) (l m : List Seat) (k : Kept) (r : Result Reply Refusal) → argument_refusal n (Admit id nice mask slice) ≡ None →
@@ -85,6 +89,12 @@ module _ (d : Discipline) (n : ℕ) where
   admit_moves id nice mask slice l m k r fits share =
       moves_lobby d n l m k (record { event = Admit id nice mask slice; reply = r; calls = [] })
       (λ w s is. (admits_step d w id nice mask slice r m (rw s.many fits) (rw (s.many, is) share), rw s.many fits, admits_named id (admitted n id nice mask slice) l r m share))
+
+  pub retire_moves : (id : ℕ) (l m : List Seat) (k : Kept) (r : Result Reply Refusal) → id < 1024 → argument_refusal n (Retire id) ≡ None → Retires id l r m →
+      MovesHere d n k (lobby_part l ∷ []) (record { event = Retire id; reply = r; calls = [] }) k (lobby_part m ∷ [])
+  retire_moves id l m k r bound fits share =
+      moves_lobby d n l m k (record { event = Retire id; reply = r; calls = [] })
+      (λ w s is. (retires_step d w id r m bound (rw is share), fits, retires_named id l r m share))
 
   pub tick_moves : (c now : ℕ) (p q : Processor) (calls : List Asked) (k : Kept) (r : Reply) → Ticks (policies d) c now p calls r q →
       MovesHere d n k (cpu_part c p ∷ []) (record { event = Tick c now; reply = Ok r; calls = calls }) k (cpu_part c q ∷ [])
@@ -138,13 +148,13 @@ module _ (d : Discipline) (n : ℕ) where
   place_size : (c now : ℕ) (p q : Processor) (calls : List Asked) (x : Placement) → Places (policies d) n c now p calls (Some x) q → size_of q ≡ size_of p
   place_size c now p q calls x k = ap size_of k.4.5 ∙ time_size d now p
 
-  pub place_moves : (c now : ℕ) (p q : Processor) (xs : List Task) (calls : List Asked) (k : Kept) (x : Placement) → Places (policies d) n c now p calls (Some x) q →
-      MovesHere d n k (cpu_part c p ∷ inbox_part x.to xs ∷ []) (record { event = EndWake c now; reply = Ok (Placed x.task.id x.to x.by x.steps); calls = calls }) (one_more x.to k) (cpu_part c q ∷ inbox_part x.to (xs ++ x.task ∷ []) ∷ [])
-  place_moves c now p q xs calls k x b =
-      moves_cpu_inbox d n c x.to p q xs (xs ++ x.task ∷ []) k (one_more x.to k) (record { event = EndWake c now; reply = Ok (Placed x.task.id x.to x.by x.steps); calls = calls })
+  pub place_moves : (c now task : ℕ) (p q : Processor) (xs : List Task) (calls : List Asked) (k : Kept) (x : Placement) → task ≡ x.task.id → Places (policies d) n c now p calls (Some x) q →
+      MovesHere d n k (cpu_part c p ∷ inbox_part x.to xs ∷ []) (record { event = EndWake c now; reply = Ok (Placed task x.to x.by x.steps); calls = calls }) (one_more x.to k) (cpu_part c q ∷ inbox_part x.to (xs ++ x.task ∷ []) ∷ [])
+  place_moves c now task p q xs calls k x own b =
+      moves_cpu_inbox d n c x.to p q xs (xs ++ x.task ∷ []) k (one_more x.to k) (record { event = EndWake c now; reply = Ok (Placed task x.to x.by x.steps); calls = calls })
       (λ w s kw l at m box.
-          let step : WorldStep (policies d) w (EndWake c now) calls (Ok (Placed x.task.id x.to x.by x.steps)) (with_inbox (with_processor w c q) x.to (xs ++ x.task ∷ [])) =
-          rw (← box) (places_step d w c now calls x q l (rw (s.many, at) b)) in
+          let step : WorldStep (policies d) w (EndWake c now) calls (Ok (Placed task x.to x.by x.steps)) (with_inbox (with_processor w c q) x.to (xs ++ x.task ∷ [])) =
+          rw (own, ← box) (places_step d w c now calls x q l (rw (s.many, at) b)) in
           ((step, rw (within w c l) refl, tt), place_kept w c now p q xs calls k x s kw at m box b))
     where
       place_kept : (w : World) (c now : ℕ) (p q : Processor) (xs : List Task) (calls : List Asked) (k : Kept) (x : Placement) → IsSound n w → kept_of w ≡ k → processor w c ≡ p → x.to < length w.inboxes → inbox w x.to ≡ xs →

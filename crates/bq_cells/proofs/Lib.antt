@@ -4,4 +4,7 @@ pub mod Named
 pub mod Loads
 pub mod Shapes
 pub mod CallSteps
+pub mod PullSteps
+pub mod Woken
 pub mod Opening
+pub mod Sent

@@ -1,5 +1,5 @@
 -- What a look at parts tells: the world has them, and every world that a history leaves is sound.
-use Rattle.std.proofs.Common.{◌≡◌, ℕ, ◌+◌, ◌≤◌, ◌<◌, List, ◌++◌, length, Option, Some, None, refl, ap, ◌∙◌, subst, arith}
+use Rattle.std.proofs.Common.{◌≡◌, ◌≢◌, ℕ, ◌+◌, ◌≤◌, ◌<◌, List, ◌++◌, length, Option, Some, None, refl, ap, ◌∙◌, subst, arith}
 use Rattle.std.specs.Prelude.{IfSome, slice_index_or}
 use Rattle.bq_history.specs.History.{IsReached}
 use Rattle.bq_disc.specs.Tasks.{Task}
@@ -12,7 +12,7 @@ use Rattle.bq_parts.specs.declared.seat.Seat.TheVariants.{Absent, Blocked}
 use Rattle.bq_parts.specs.Processors.{Processor, HasEachOnce, HasSeatedIds}
 use Rattle.bq_parts.specs.World.{World, opening_world, processor, inbox}
 use Rattle.bq_parts.proofs.Counts.{count_of-append}
-use Rattle.bq_parts.proofs.Once.{each_once_running, each_once_runnable, none_beyond_at, few_at}
+use Rattle.bq_parts.proofs.Once.{standing_once, held_two, count_of-held_by, each_once_running, each_once_runnable, none_beyond_at, few_at}
 use Rattle.bq_cells.specs.Parts.{RecordStep, cpu_part, inbox_part, lobby_part, HasPart}
 use Rattle.bq_cells.proofs.Reached.{reached_sound}
 
@@ -60,6 +60,37 @@ module _ (d : Discipline) (n c : ℕ) (p : Processor) (xs : List Task) where
 
   pub both_seated : SeenBoth → HasSeatedIds (present_at p.running ++ xs)
   both_seated k = let s = reached_sound d n k.0 k.1 in rw (← k.2.1, ← k.3.1) (λ id h. none_beyond_at k.0 c id s.seats s.orderly h)
+
+-- a look at two processors
+module _ (d : Discipline) (n c b : ℕ) (p q : Processor) (apart : c ≢ b) where
+  abbrev pub SeenTwo : Type 0
+  SeenTwo = (w : World) × IsReached (RecordStep d) (opening_world n) w × HasPart w (cpu_part c p) × HasPart w (cpu_part b q)
+
+  -- no task stands at both, nor twice at one
+  pub two_once : SeenTwo → HasEachOnce (present_at p.running ++ present_at q.running)
+  two_once k =
+      let s = reached_sound d n k.0 k.1 in
+      let one = processor k.0 c in
+      let other = processor k.0 b in
+      let both : HasEachOnce (present_at one.running ++ present_at other.running) =
+      λ id. omega (arith, standing_once k.0 id s.orderly, held_two id k.0.processors c b apart, count_of-held_by id one, count_of-held_by id other, count_of-append id (present_at one.running) (present_at other.running)) in
+      rw (← k.2.1, ← k.3.1) both
+
+  pub two_seated : SeenTwo → HasSeatedIds (present_at p.running ++ present_at q.running)
+  two_seated k =
+      let s = reached_sound d n k.0 k.1 in
+      let one = (processor k.0 c).running in
+      let other = (processor k.0 b).running in
+      let both : HasSeatedIds (present_at one ++ present_at other) =
+      λ id h. omega (
+        arith,
+        none_beyond_at k.0 c id s.seats s.orderly h,
+        none_beyond_at k.0 b id s.seats s.orderly h,
+        count_of-append id (present_at one) (inbox k.0 c),
+        count_of-append id (present_at other) (inbox k.0 b),
+        count_of-append id (present_at one) (present_at other),
+      ) in
+      rw (← k.2.1, ← k.3.1) both
 
 -- a look at the lobby
 module _ (d : Discipline) (n : ℕ) (seats : List Seat) where

@@ -12,8 +12,8 @@ use Rattle.bq_parts.specs.declared.refusal.Refusal.TheVariants as no
 use Rattle.bq_parts.specs.declared.seat.Seat.{Seat}
 use Rattle.bq_parts.specs.declared.seat.Seat.TheVariants.{Absent}
 use Rattle.bq_parts.specs.Processors.{Processor}
-use Rattle.bq_parts.specs.Refusals.{is_absent, is_away, begin_refusal}
-use Rattle.bq_parts.specs.Shares.{Admits, Blocks, Begins, Installs}
+use Rattle.bq_parts.specs.Refusals.{is_absent, is_away, retire_refusal, begin_refusal}
+use Rattle.bq_parts.specs.Shares.{Admits, Retires, Blocks, Begins, Installs}
 
 -- an answer is not want of memory
 abbrev pub IsNamed : Result Reply Refusal → Type 0
@@ -37,6 +37,13 @@ first_named false x e rest n more h = more h
 
 none_named : (e : Refusal) → None ≡ Some e → e ≢ no.OutOfMemory
 none_named e h = absurd (let no : ⊥ = cc in no)
+
+retire_named : (s : Seat) (e : Refusal) → retire_refusal s ≡ Some e → e ≢ no.OutOfMemory
+retire_named s e h = first_named (is_absent s) no.NoTask e _ (λ h. cc) (first_named (is_away s) no.NotBlocked e None (λ h. cc) (none_named e)) h
+
+pub retires_named : (id : ℕ) (l : List Seat) (r : Result Reply Refusal) (m : List Seat) → Retires id l r m → IsNamed r
+retires_named id l (Ok r) m a = tt
+retires_named id l (Err e) m a = retire_named (slice_index_or l id Absent) e a.0
 
 begin_named : (s : Seat) (hand : Option Carried) (e : Refusal) → begin_refusal s hand ≡ Some e → e ≢ no.OutOfMemory
 begin_named s hand e h =

@@ -1,5 +1,5 @@
 //! A load: an image is verified once, a number is drawn, and what it stands for is installed at each processor.
-ghost use Rattle.std.specs.Prelude.{◌≡◌, ◌∷◌, ◌++◌, ◌<◌, ◌≤◌, ◌×◌, ℕ, [], true, None, Ok, Option, IfOk, IfErr, OnErr, All, length, vec_len, vec_capacity};
+ghost use Rattle.std.specs.Prelude.{◌≡◌, ◌∷◌, ◌++◌, ◌<◌, ◌≤◌, ℕ, [], true, None, Ok, Option, IfOk, IfErr, OnErr, All, length, vec_len, vec_capacity};
 ghost use Rattle.std.specs.Option.{option_map};
 ghost use Rattle.bq_verify.specs.Accepted.{Accepted};
 ghost use Rattle.bq_policies.specs.Answers.{fresh_maps};
@@ -60,9 +60,9 @@ fn policy_of(
     hook: Hook,
     image: Option<&[u8]>,
 ) -> Result<Option<Policy>, LoadRefused>
-    ensures policy { IfOk result (λ p. IsPolicyOf (option_map (λ b. b.now) image) p) }
+    ensures policy { IfOk result (λ p. IsPolicyOf (option_map (λ b. b.now) image.entry) p) }
     ensures hook { IfOk result (λ p. is_for hook p ≡ true) }
-    ensures refused { IfErr result (IsLoadRefused hook (option_map (λ b. b.now) image)) }
+    ensures refused { IfErr result (IsLoadRefused hook (option_map (λ b. b.now) image.entry)) }
 {
     let Some(bytes) = image else {
         return Ok(None);
@@ -91,7 +91,7 @@ fn again(policy: &Option<Policy>) -> Result<Option<Policy>, AllocError>
 }
 
 /// What one install hands over.
-fn spare(alloc: Global, policy: &Option<Policy>) -> Result<Spare, AllocError>
+fn one_spare(alloc: Global, policy: &Option<Policy>) -> Result<Spare, AllocError>
     ensures { IfOk result (λ s. s.installed.policy ≡ policy.now) }
 {
     let installed = Installed::new(alloc, again(policy)?, 0)?;
@@ -115,7 +115,7 @@ fn spares(alloc: Global, policy: &Option<Policy>, count: usize) -> Result<Vec<Sp
 {
     let mut spares = Vec::with_capacity(alloc, count)?;
     'spares: for _ in 0..count {
-        spares.push(spare(alloc, policy)?)?;
+        spares.push(one_spare(alloc, policy)?)?;
     }
     Ok(spares)
 }
@@ -137,8 +137,8 @@ impl<Q: RunQueue + Drop, K: Clock + Drop, N: Naming + Counting, const P: usize> 
     ) -> Result<LoadReceipts, LoadRefused>
         ensures receipts { IfOk result (λ l. seat.new ≡ (seat.old.0, (seat.old.1 ++ l.draw ∷ []) ++ l.installs.items)) }
         ensures draw { IfOk result (λ l. l.draw.entry.event ≡ Event.Draw) }
-        ensures installs { IfOk result (λ l. (generation : ℕ) × (policy : Option Accepted) × (l.draw.entry.reply ≡ Ok (Drawn generation)) × IsPolicyOf (option_map (λ b. b.now) image) policy × (is_for hook policy ≡ true) × AreInstalls 0 P hook generation policy l.installs.items) }
-        ensures refused { IfErr result (IsLoadRefused hook (option_map (λ b. b.now) image)) }
+        ensures installs { IfOk result (λ l. (generation : ℕ) × (policy : Option Accepted) × (l.draw.entry.reply ≡ Ok (Drawn generation)) × IsPolicyOf (option_map (λ b. b.now) image.entry) policy × (is_for hook policy ≡ true) × AreInstalls 0 P hook generation policy l.installs.items) }
+        ensures refused { IfErr result (IsLoadRefused hook (option_map (λ b. b.now) image.entry)) }
         ensures err { OnErr result (seat.new ≡ seat.old) }
     {
         let policy = policy_of(alloc, hook, image)?;
@@ -240,10 +240,10 @@ impl<Q: RunQueue + Drop, K: Clock + Drop, N: Naming + Counting, const P: usize> 
     ) -> Receipt<Record>
         requires tally { working.old.tally ≡ account_of told_calls working.old.caller.1 }
         requires inside { processor < P }
-        requires hook { is_for hook spare.entry.installed.policy ≡ true }
+        requires hook { is_for hook spare.installed.policy ≡ true }
         ensures caller { working.new.caller ≡ (working.old.caller.0, working.old.caller.1 ++ result ∷ []) }
         ensures tally { working.new.tally ≡ account_of told_calls working.new.caller.1 }
-        ensures event { result.entry.event ≡ Event.Install processor hook generation spare.entry.installed.policy }
+        ensures event { result.entry.event ≡ Event.Install processor hook generation spare.installed.policy }
     {
         spare.installed.set_generation(generation);
         let mut guard = self.cpus[usize::from(processor)].lock(rt);

@@ -2,7 +2,7 @@
 ghost use Rattle.std.specs.Prelude.{◌≡◌, ◌∷◌, ◌++◌, [], None, IfOk, IfErr, OnErr};
 ghost use Rattle.bq_seats.specs.Calls.{account_of};
 ghost use Rattle.bq_parts.specs.Refusals.{argument_refusal};
-ghost use Rattle.bq_parts.specs.Steps.{admitted};
+ghost use Rattle.bq_parts.specs.Moves.{admitted};
 ghost use Rattle.bq_cells.specs.Parts.{told_calls};
 ghost use Rattle.bq_machine.specs.Calls.{IsCallRefused};
 

@@ -1,5 +1,5 @@
 //! A machine at the start.
-ghost use Rattle.std.specs.Prelude.{◌≡◌, ◌≤◌, ◌×◌, ◌^◌, ◌++◌, [], List, All, IfOk, length, vec_len, replicate};
+ghost use Rattle.std.specs.Prelude.{◌≡◌, ◌≤◌, ◌^◌, ◌++◌, [], List, All, IfOk, length, vec_len, replicate};
 ghost use Rattle.bq_seats.specs.Calls.{fresh};
 ghost use Rattle.bq_cells.specs.Opened.{ItemOf, cpu_items, inbox_items};
 

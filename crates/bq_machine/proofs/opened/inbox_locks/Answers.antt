@@ -1,7 +1,8 @@
 use Rattle.std.proofs.Common.{◌≡◌, ◌-◌, ◌++◌, ℕ, ◌<◌, ◌∷◌, [], sym, rules, ap, ◌∙◌, arith}
 use Rattle.bq_tie.specs.Whole.{first_of, others_of}
 use Rattle.bq_history.specs.Items.{part_item}
-use Rattle.bq_cells.specs.Parts.{inbox_part, inbox_items}
+use Rattle.bq_cells.specs.Parts.{inbox_part}
+use Rattle.bq_cells.specs.Opened.{inbox_items}
 use Rattle.bq_cells.proofs.Opening.{inbox_turn}
 use Rattle.bq_machine.proofs.opened.inbox_locks.Goals as goal
 

@@ -1,8 +1,11 @@
 use Rattle.std.proofs.Common.{◌≡◌, ap, sym, ◌∙◌, arith, Some}
+use Rattle.std.specs.Option.{option_map}
+use Rattle.bq_parts.specs.declared.carried.Carried.{Carried}
 use Rattle.bq_parts.specs.Choices.{policies}
 use Rattle.bq_parts.specs.Shares.{Places}
 use Rattle.bq_cells.specs.Parts.{cpu_part, inbox_part}
 use Rattle.bq_cells.proofs.Looked.{Seen, SeenInbox, seen_usable, seen_few}
+use Rattle.bq_cells.proofs.Woken.{placed_own}
 use Rattle.bq_cells.proofs.CallSteps.{place_moves}
 use Rattle.bq_machine.proofs.Told.{told_of}
 use Rattle.bq_machine.proofs.locks.Machine.end_at.Goals as goal
@@ -39,13 +42,15 @@ commit_two-requires-clause-moves g c =
     let same : box.number ≡ x.to = ap (λ b. b.number) (there ∙ sym c.inbox.view_is) ∙ c.need_own.ensures in
     let count : c.len.result ≡ n = c.len.ensures ∙ c.args.self.now.counted ∙ sym c.args.self.now.about in
     let calls : c.of-2.result ≡ c.end_wake.new.scratch = c.of-2.ensures ∙ c.calls-2.ensures.value in
-    let share : Places (policies d) n own.number c.now-now.result own.state c.of-2.result (Some x) q = rw calls (rw count at c.in-Some.ensures.share) in (
+    let share : Places (policies d) n own.number c.now-now.result own.state c.of-2.result (Some x) q = rw calls (rw count at c.in-Some.ensures.share) in
+    let hand : option_map (λ (y : Carried). y.task.id) own.state.hand ≡ Some c.args.task = rw c.look.ensures.same c.requires.hand in
+    let asked : c.args.task ≡ x.task.id = placed_own c.args.task own.state.hand share.0 x hand share.2 share.3 in (
       cpu_part own.number own.state,
       inbox_part box.number box.state,
       rw c.look.ensures.same c.requires.says,
       c.inbox-2.invariant.0,
-      rw (c.one_more.ensures, c.again-kept.ensures, c.kept.ensures, c.push.ensures, same, c.id-id.ensures)
-      (place_moves d n own.number c.now-now.result own.state q box.state c.of-2.result k x share),
+      rw (c.one_more.ensures, c.again-kept.ensures, c.kept.ensures, c.push.ensures, same)
+      (place_moves d n own.number c.now-now.result c.args.task own.state q box.state c.of-2.result k x asked share),
     )
 
 pub commit_two-requires-clause-told : goal.commit_two-requires-clause-told
