@@ -7,4 +7,5 @@ pub mod CallSteps
 pub mod PullSteps
 pub mod Woken
 pub mod Opening
+pub mod SameCalls
 pub mod Sent

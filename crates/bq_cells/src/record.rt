@@ -28,6 +28,8 @@ impl Model for Calls {
 }
 
 impl Calls {
+    ghost use Rattle.std.specs.Prelude.{◌↔◌, IsTrue};
+
     /// No call.
     pub fn none() -> Calls
         ensures { result ≡ [] }
@@ -54,6 +56,13 @@ impl Calls {
         ensures { result.now ≡ self.now }
     {
         self.list.as_slice()
+    }
+
+    /// Whether these are the same calls, with the same answers.
+    pub fn is_same(&self, other: &Calls) -> bool
+        ensures { IsTrue result ↔ (self.now ≡ other.now) }
+    {
+        self.as_slice() == other.as_slice()
     }
 }
 
