@@ -5,7 +5,7 @@ ghost use Rattle.bq_parts.specs.Choices.{policies};
 ghost use Rattle.bq_parts.specs.Steps.{WorldStep, WorldRun, ThroughAll};
 ghost use Rattle.bq_maps.specs.Counters.{Through};
 ghost use Rattle.bq_maps.specs.declared.board.Call.{Call as Asked};
-ghost use Rattle.bq_parts.specs.StandsOnce.{StandsOnce, IsOrderly};
+ghost use Rattle.bq_parts.specs.StandsOnce.{IsOrderly};
 ghost use Rattle.bq_parts.specs.declared.refusal.Refusal.TheVariants as no;
 
 use crate::parts::Parts;
@@ -39,7 +39,8 @@ impl<Q: RunQueue + Drop, const P: usize> Core<Q, P> {
     /// need, but for Admit.
     pub fn new(alloc: Global) -> Result<Core<Q, P>, AllocError>
         requires few { P ≤ 64 }
-        ensures { IfOk result (λ c. c ≡ opening_world P) }
+        ensures opening { IfOk result (λ c. c ≡ opening_world P) }
+        ensures orderly { IfOk result (λ c. IsOrderly c) }
     {
         let parts = Parts::new(alloc)?;
         Ok(Core {
@@ -78,7 +79,7 @@ impl<Q: RunQueue, const P: usize> Core<Q, P> {
         board: &mut B,
     ) -> Result<Reply, Refusal>
         ensures step { (calls : List Asked) × WorldStep (policies Q.R.discipline) self.old event calls result self.new × Through B.leads board.old calls board.new }
-        ensures once { StandsOnce self.new }
+        ensures orderly { IsOrderly self.new }
     {
         self.parts.step(alloc, event, &mut self.scratch, board)
     }
@@ -95,7 +96,7 @@ impl<Q: RunQueue, const P: usize> Core<Q, P> {
         ensures err { OnErr result (self.new ≡ self.old) }
         ensures still { OnErr result (board.new ≡ board.old) }
         ensures memory { IfErr result (λ refusal. refusal ≡ no.OutOfMemory) }
-        ensures once { StandsOnce self.new }
+        ensures orderly { IsOrderly self.new }
     {
         let Ok(mut answers) = Vec::with_capacity(alloc, events.len()) else {
             let _ = &self.parts;
@@ -116,7 +117,7 @@ impl<Q: RunQueue, const P: usize> Core<Q, P> {
         requires room { vec_len answers.old + length events.items ≤ vec_capacity answers.old }
         requires empty { answers.old.items ≡ [] }
         ensures run { (calls : List (List Asked)) × WorldRun (policies Q.R.discipline) self.old events.items calls answers.new.items self.new × ThroughAll B.leads board.old calls board.new }
-        ensures once { StandsOnce self.new }
+        ensures orderly { IsOrderly self.new }
     {
         let _ = &self.parts;
         for event in events {

@@ -6,3 +6,6 @@ use Rattle.bq_core.proofs.world.Core.new.Goals as goal
 
 pub invariant_of-result : goal.invariant_of-result
 invariant_of-result g c = subst (λ (w : World). IsOrderly w) (sym c.in_ok-parts.ensures) (opening_is_orderly g.row.P)
+
+pub returns-clause-orderly : goal.returns-clause-orderly
+returns-clause-orderly g c = subst (λ (w : World). IsOrderly w) (sym c.in_ok-parts.ensures) (opening_is_orderly g.row.P)

@@ -28,5 +28,5 @@ loop-event-preserved g c =
         rw items (run_more s c.args.self.now at.self c.step-answer.new.self at.yielded e ran.0 step.0 at.answers.items c.step-answer.result ran.1 step.1),
         through_more g.B.Board.leads c.args.board.now at.board c.step-answer.new.board ran.0 step.0 ran.2 step.2,
       );
-      once = c.step-answer.ensures.once;
+      orderly = c.step-answer.ensures.orderly;
     }

@@ -4,7 +4,7 @@ use Rattle.std.specs.Vec.Iter.{into_iter_items, into_iter_len}
 use Rattle.bq_maps.specs.declared.board.Call.{Call as Asked}
 use Rattle.bq_parts.specs.Choices.{policies}
 use Rattle.bq_parts.specs.Steps.{WorldRun, ThroughAll}
-use Rattle.bq_parts.specs.StandsOnce.{StandsOnce}
+use Rattle.bq_parts.specs.StandsOnce.{IsOrderly}
 use Rattle.bq_core.proofs.world.Core.run_all.Given as goal
 
 abbrev pub invariant-loop-event : goal.invariant-loop-event
@@ -16,5 +16,5 @@ invariant-loop-event g l =
       room : vec_len l.answers + length rest ≤ vec_capacity l.answers;
       ran : (calls : List (List Asked)) × WorldRun (policies g.Q.R.Rule.discipline) l.fn.self l.yielded calls l.answers.items l.self
           × ThroughAll g.B.Board.leads l.fn.board calls l.board;
-      once : StandsOnce l.self;
+      orderly : IsOrderly l.self;
     }

@@ -6,7 +6,6 @@ pub invariant_of-self : goal.invariant_of-self
 invariant_of-self g c =
     step_keeps (policies g.Q.R.Rule.discipline) c.self.inside.parts c.args.event c.step.new.scratch c.step.result c.step.new.self c.step.ensures.even c.step.ensures.step c.self.invariant
 
-pub returns-clause-once : goal.returns-clause-once
-returns-clause-once g c =
-    let orderly = step_keeps (policies g.Q.R.Rule.discipline) c.self.inside.parts c.args.event c.step.new.scratch c.step.result c.step.new.self c.step.ensures.even c.step.ensures.step c.self.invariant in
-    orderly.once
+pub returns-clause-orderly : goal.returns-clause-orderly
+returns-clause-orderly g c =
+    step_keeps (policies g.Q.R.Rule.discipline) c.self.inside.parts c.args.event c.step.new.scratch c.step.result c.step.new.self c.step.ensures.even c.step.ensures.step c.self.invariant
