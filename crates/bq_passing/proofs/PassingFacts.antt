@@ -1,0 +1,130 @@
+-- What a Tick and a Block of the world leave at their processor.
+use Rattle.std.proofs.Common.{◌≡◌, ℕ, ◌<◌, ◌≤◌, Bool, true, false, List, [], ◌∷◌, Option, Some, None, Result, Ok, Err, refl, ap, sym, ◌∙◌, inl, inr, arith}
+use Rattle.std.specs.Prelude.{nat_le, is_none, ◌==◌}
+use Rattle.std.specs.Option.{option_map}
+use Rattle.std.proofs.lemmas.List.{get_or-set_same}
+use Rattle.std.proofs.lemmas.Bool.Decides.{nat_tests}
+use Rattle.bq_disc.specs.Tasks.{Task}
+use Rattle.bq_disc.specs.Discipline.{Discipline}
+use Rattle.bq_disc.specs.OneProcessor.{Running, decided, own_preempt}
+use Rattle.bq_cfs.specs.Cfs.{cfs}
+use Rattle.bq_cfs.specs.Spread.{passed, departed, Block as BlockAt}
+use Rattle.bq_maps.specs.declared.board.Call.{Call as Asked}
+use Rattle.bq_verify.specs.declared.hook.Version.{Version}
+use Rattle.bq_verify.specs.Accepted.{Accepted}
+use Rattle.bq_policies.specs.Programs.{Program}
+use Rattle.bq_hooks.specs.declared.settled.By.TheVariants as who
+use Rattle.bq_hooks.specs.Contexts.{as_number}
+use Rattle.bq_hooks.specs.Permitted.{may_preempt}
+use Rattle.bq_hooks.specs.Settled.{settled as chosen}
+use Rattle.bq_parts.specs.declared.event.Event.TheVariants.{Tick, Block}
+use Rattle.bq_parts.specs.declared.reply.Reply.{Reply}
+use Rattle.bq_parts.specs.declared.reply.Reply.TheVariants.{Ticked, Blocked as Went}
+use Rattle.bq_parts.specs.declared.refusal.Refusal.{Refusal}
+use Rattle.bq_parts.specs.declared.refusal.Refusal.TheVariants as no
+use Rattle.bq_parts.specs.declared.seat.Seat.{Seat}
+use Rattle.bq_parts.specs.Processors.{Processor, opening}
+use Rattle.bq_parts.specs.Refusals.{first_refusal, either}
+use Rattle.bq_parts.specs.World.{World, processor, count_in, with_processor}
+use Rattle.bq_parts.specs.Choices.{Setting, Settled, SettlesBy, SettlesPreempt, decided_by, policies}
+use Rattle.bq_parts.specs.Shares.{Ticks, Blocks, after_time}
+use Rattle.bq_parts.specs.Steps.{WorldStep, after_leaving}
+use Rattle.bq_passing.specs.Passing.{after_tick, after_block, DisciplinePasses, CfsPasses}
+
+-- The discipline's own answer
+
+own_by_test : (b : Bool) (permitted : ℕ → Bool) (r0 own : ℕ) → permitted r0 ≡ b → (chosen permitted (Some r0) own).by ≡ who.Discipline → (chosen permitted (Some r0) own).choice ≡ own
+own_by_test true permitted r0 own e h = let it = rw e at h in cc
+own_by_test false permitted r0 own e h = rw e refl
+
+-- a choice that was the discipline's own is its own
+own_choice : (s : Setting) (policy : Option Accepted) (context : Version → List ℕ) (program : Program) (now cpu : ℕ) (permitted : ℕ → Bool) (own : ℕ) (settled : Settled) →
+    SettlesBy s policy context program now cpu permitted own settled → settled.by ≡ who.Discipline → settled.choice ≡ own
+own_choice s None context program now cpu permitted own settled h e = ap (λ (x : Settled). x.choice) h
+own_choice s (Some policy) context program now cpu permitted own settled h e = h.4 ∙ own_by_test (permitted h.0) permitted h.0 own refl (sym h.5 ∙ e)
+
+as_bool : (b : Bool) → (as_number b == 1) ≡ b
+as_bool true = refl
+as_bool false = refl
+
+-- who runs after it is by the own answer
+own_decision : (s : Setting) (cpu : ℕ) (p : Processor) (o : Option Task) (settled : Settled) → SettlesPreempt s cpu p o settled → settled.by ≡ who.Discipline →
+    decided s.discipline p.running o (settled.choice == 1) ≡ decided s.discipline p.running o (own_preempt s.discipline p.running.queue o)
+own_decision s cpu p None settled h e = refl
+own_decision s cpu p (Some u) settled h e =
+    let own = own_preempt s.discipline p.running.queue (Some u) in
+    let choice = own_choice s p.programs.preempt.policy _ p.programs.preempt p.running.last cpu may_preempt (as_number own) settled h e in
+    ap (λ b. decided s.discipline p.running (Some u) b) (ap (λ k. k == 1) choice ∙ as_bool own)
+
+-- Of the shares
+
+tick_share_leaves : (d : Discipline) (p q : Processor) (cpu now : ℕ) (calls : List Asked) (run : Option ℕ) (steps : ℕ) →
+    Ticks (policies d) cpu now p calls (Ticked run who.Discipline steps) q → q.running ≡ after_tick d p.running now
+tick_share_leaves d p q cpu now calls run steps h =
+    let c = after_time d now p in
+    let by : h.0.by ≡ who.Discipline = let it = h.3 in cc in
+    ap (λ (x : Processor). x.running) h.1.1 ∙ own_decision (policies d) cpu c c.running.current h.0 h.1.0 by
+
+block_share_leaves : (d : Discipline) (p q : Processor) (cpu now : ℕ) (seats seats' : List Seat) (reply : Reply) →
+    Blocks d cpu now p seats (Ok reply) q seats' → q.running ≡ after_block d p.running now
+block_share_leaves d p q cpu now seats seats' reply h = ap (λ (x : Processor). x.running) h.1.1
+
+-- Of the world
+
+in_range : (count cpu : ℕ) (b : Bool) (o : Option Refusal) → nat_le count cpu ≡ b → either (first_refusal ((b, no.NoProcessor) ∷ [])) o ≡ None → cpu < count
+in_range count cpu true o e h = cc
+in_range count cpu false o e h = grind (arith, nat_tests)
+
+there : (w : World) (cpu : ℕ) (q : Processor) → cpu < count_in w → processor (with_processor w cpu q) cpu ≡ q
+there w cpu q l = get_or-set_same w.processors cpu q opening l
+
+tick_leaves : (d : Discipline) (w w' : World) (cpu now : ℕ) (calls : List Asked) (run : Option ℕ) (steps : ℕ) →
+    WorldStep (policies d) w (Tick cpu now) calls (Ok (Ticked run who.Discipline steps)) w' → (processor w' cpu).running ≡ after_tick d (processor w cpu).running now
+tick_leaves d w w' cpu now calls run steps h =
+    let l = in_range (count_in w) cpu (nat_le (count_in w) cpu) None refl h.0 in
+    let p = after_time d now (processor w cpu) in
+    let settled = h.1.0 in
+    let q = decided_by (policies d) p settled in
+    ap (λ (v : World). (processor v cpu).running) h.1.1.5 ∙ ap (λ (x : Processor). x.running) (there w cpu q l)
+    ∙ own_decision (policies d) cpu p p.running.current settled h.1.1.0 (sym h.1.1.2)
+
+block_leaves : (d : Discipline) (w w' : World) (cpu now : ℕ) (calls : List Asked) (task : ℕ) (run : Option ℕ) →
+    WorldStep (policies d) w (Block cpu now) calls (Ok (Went task run)) w' → (processor w' cpu).running ≡ after_block d (processor w cpu).running now
+block_leaves d w w' cpu now calls task run h =
+    let l = in_range (count_in w) cpu (nat_le (count_in w) cpu) _ refl h.0 in
+    let p = after_time d now (processor w cpu) in
+    ap (λ (v : World). (processor v cpu).running) h.1.1.4 ∙ ap (λ (x : Processor). x.running) (there w cpu (record p { running = after_leaving d p.running }) l)
+
+-- under any discipline
+pub discipline_passes : DisciplinePasses
+discipline_passes = record { tick_share = tick_share_leaves; block_share = block_share_leaves; tick = tick_leaves; block = block_leaves }
+
+-- Under CFS
+
+departs : (p : Running) (now : ℕ) (o : Option Task) (t : Task) (f : Task → Task) → option_map f o ≡ Some t → departed p now o ≡ after_block cfs p now
+departs p now None t f e = cc
+departs p now (Some u) t f e = refl
+
+stays : (p : Running) (now : ℕ) (o : Option Task) (r : Refusal) → first_refusal ((is_none o, no.Idle) ∷ []) ≡ Some r → departed p now o ≡ p
+stays p now None r e = refl
+stays p now (Some u) r e = cc
+
+only_idle : (count cpu : ℕ) (b : Bool) (o : Option Refusal) (r : Refusal) → cpu < count → nat_le count cpu ≡ b → either (first_refusal ((b, no.NoProcessor) ∷ [])) o ≡ Some r → o ≡ Some r
+only_idle count cpu true o r l e h = absurd (let k : count ≤ cpu = grind (arith, nat_tests) in omega arith)
+only_idle count cpu false o r l e h = h
+
+blocked : (w w' : World) (cpu now : ℕ) (calls : List Asked) (answer : Result Reply Refusal) → cpu < count_in w →
+    WorldStep (policies cfs) w (Block cpu now) calls answer w' → (processor w' cpu).running ≡ passed (processor w cpu).running (BlockAt now)
+blocked w w' cpu now calls (Ok (Went task run)) l h =
+    let p = (processor w cpu).running in
+    block_leaves cfs w w' cpu now calls task run h ∙ sym (departs p now p.current h.1.0 _ h.1.1.1)
+blocked w w' cpu now calls (Err r) l h =
+    let p = (processor w cpu).running in
+    ap (λ (v : World). (processor v cpu).running) h.1 ∙ sym (elim h.2 [
+      | inl e ↦ stays p now p.current r (only_idle (count_in w) cpu (nat_le (count_in w) cpu) _ r l refl e)
+      | inr e ↦ absurd e.0
+    ])
+blocked w w' cpu now calls (Ok r) l h = absurd h.1
+
+pub cfs_passes : CfsPasses
+cfs_passes = record { tick = tick_leaves cfs; block = blocked }
