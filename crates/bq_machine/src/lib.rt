@@ -5,6 +5,7 @@
 #![tactic(auto)]
 
 pub mod clock;
+mod closed;
 pub mod loading_calls;
 mod lobby_calls;
 pub mod locks;
@@ -14,14 +15,12 @@ mod running_calls;
 pub mod waking_calls;
 
 pub use bq_cells::{Calls, CpuState, Kept, Part, Record, Sched, WorldState};
+pub use bq_closing::Closed;
 pub use bq_counters::{Naming as Counting, Unnamed};
-pub use bq_history::{Closed as History, Receipt};
+pub use bq_history::Receipt;
 pub use bq_tie::Naming;
 pub use clock::Clock;
 pub use loading_calls::{LoadReceipts, LoadRefused};
 pub use locks::{Machine, Seat, Shared};
 pub use opened::{Prepared, prepare};
 pub use waking_calls::WakeReceipts;
-
-#[cfg(test)]
-mod tests;

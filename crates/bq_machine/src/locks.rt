@@ -3,6 +3,7 @@ ghost use Rattle.std.specs.Prelude.{◌≡◌, ◌≤◌, ◌<◌, vec_len};
 
 use crate::clock::Clock;
 use bq_cells::{Kept, NumberedCpu, NumberedInbox, OneLobby, Part, Record, Sched, WorldState};
+use bq_closing::Room;
 use bq_counters::{Counters, Naming as Counting};
 use bq_disc::RunQueue;
 use bq_history::{Cell, History, Journal, Locked};
@@ -35,6 +36,7 @@ pub struct Machine<Q: RunQueue + Drop, K: Clock + Drop, N: Naming + Counting, co
     pub(crate) inboxes: Vec<Mutex<Place<NumberedInbox, N>>>,
     pub(crate) lobby: Mutex<Place<OneLobby, N>>,
     pub(crate) journal: Mutex<Journal<Record, Part, Kept, N>>,
+    pub(crate) room: Mutex<Room<Q, P>>,
     pub(crate) seats: u64,
     ghost about: { history.about ≡ P },
     ghost counted: { vec_len cpus ≡ P },

@@ -6,6 +6,7 @@ ghost use Rattle.bq_cells.specs.Opened.{ItemOf, cpu_items, inbox_items};
 use crate::clock::Clock;
 use crate::locks::{Machine, Place, Seat, Shared};
 use bq_cells::{Kept, NumberedCpu, NumberedInbox, OneLobby, Part, Record, Sched, WorldState};
+use bq_closing::Room;
 use bq_counters::{Naming as Counting, Unnamed};
 use bq_disc::RunQueue;
 use bq_history::{Item, Journal, Locked, Opened, Setup, open};
@@ -149,6 +150,7 @@ impl<Q: RunQueue + Drop, K: Clock + Drop, N: Naming + Counting, const P: usize> 
         ensures seats { IfOk result (λ r. r.1.items ≡ fresh 0 seat_count) }
         ensures about { IfOk result (λ r. (r.0.history.about ≡ P) × (r.0.history.callers ≡ seat_count)) }
     {
+        let room = Room::new(alloc)?;
         let (history, mut all) = prepared.named::<N>();
         let (counters, account) = unnamed.named::<N>();
         let kept = Kept {
@@ -171,6 +173,7 @@ impl<Q: RunQueue + Drop, K: Clock + Drop, N: Naming + Counting, const P: usize> 
             inboxes: inbox_locks,
             lobby: Mutex::new(lobby),
             journal: Mutex::new(journal),
+            room: Mutex::new(room),
             seats: seat_count,
         };
         Ok((machine, seats))
