@@ -3,9 +3,9 @@ ghost use Rattle.std.specs.Prelude.{◌≡◌, ◌≤◌, [], length, IfErr};
 ghost use Rattle.bq_parts.specs.declared.refusal.Refusal.TheVariants as no;
 
 use arrayvec::ArrayVec;
-use bq_history::Slip;
+use bq_history::{Compared, Slip};
 use bq_maps::Call;
-use bq_parts::{Event, Refusal, Reply};
+use bq_parts::{Event, Refusal, Reply, is_same_answer};
 use bq_seats::Told;
 use std::alloc::Global;
 use std::marker::Model;
@@ -78,6 +78,19 @@ impl Told for Record {
     ghost use Rattle.bq_cells.specs.Parts.{told_calls};
 
     ghost calls = { told_calls };
+}
+
+/// Two records are alike where event, answer and calls are the same; policies are compared by their contents.
+impl Compared for Record {
+    ghost use Rattle.std.specs.Prelude.{◌≡◌};
+
+    ghost alike = { λ r s. r ≡ s };
+
+    fn is_alike(&self, other: &Record) -> bool {
+        self.event.is_same(&other.event)
+            && is_same_answer(&self.reply, &other.reply)
+            && self.calls.is_same(&other.calls)
+    }
 }
 
 /// Room for a record, to be made before any lock is taken. What stands there is no event's record yet.

@@ -1,5 +1,5 @@
 -- What is known where one holder has all parts: they are the world that the history leaves.
-use Rattle.std.proofs.Common.{◌≡◌, ◌≢◌, ℕ, ◌+◌, ◌<◌, ◌≤◌, Bool, true, false, cond, eqb, List, [], ◌∷◌, ◌++◌, length, map, refl, sym, ap, ◌∙◌, subst, arith, append_assoc}
+use Rattle.std.proofs.Common.{◌≡◌, ℕ, ◌+◌, ◌≤◌, cond, eqb, List, [], ◌∷◌, ◌++◌, map, refl, sym, ap, ◌∙◌, subst, arith}
 use Rattle.bq_tie.specs.Whole.{count, Each}
 use Rattle.bq_tie.proofs.Moves.{count-append}
 use Rattle.bq_history.specs.Items.{part_item, parts_of}

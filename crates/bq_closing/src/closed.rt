@@ -1,11 +1,12 @@
 //! What is left of a machine at its end.
-ghost use Rattle.std.specs.Prelude.{◌≡◌, length, slice_get};
+ghost use Rattle.std.specs.Prelude.{◌≡◌, ◌↔◌, IsTrue, length, slice_get};
 ghost use Rattle.std.specs.Option.{option_map};
+ghost use Rattle.bq_history.specs.History.{IsConfirmed};
 
 use bq_cells::Record;
 use bq_core::Core;
 use bq_disc::RunQueue;
-use bq_history::Closed as History;
+use bq_history::{Closed as History, Receipt};
 use bq_maps::Call;
 use bq_parts::{Event, Refusal, Reply};
 
@@ -32,5 +33,13 @@ impl<Q: RunQueue + Drop, const P: usize> Closed<Q, P> {
     {
         let record = self.history.logged(place)?;
         Some((&record.event, &record.reply, record.calls.as_slice()))
+    }
+
+    /// Whether the history has the receipt's event at the receipt's place, with the same answer and the same calls of
+    /// counters. Policies are compared by their contents.
+    pub fn confirms(&self, receipt: &Receipt<Record>) -> bool
+        ensures { IsTrue result ↔ IsConfirmed (λ r s. r ≡ s) self.now.history receipt.now }
+    {
+        self.history.confirms(receipt)
     }
 }

@@ -20,8 +20,8 @@ use bq_counters::{Counters, Naming as Counting};
 use bq_disc::RunQueue;
 use bq_history::{History, Item, Journal, Locked, gather};
 use bq_order::contents_in_order;
-use bq_seats::Seat;
 use bq_parts::{Cpu, Inbox, Lobby};
+use bq_seats::Seat;
 use bq_tie::{Holder, Naming};
 use std::sync::Mutex;
 

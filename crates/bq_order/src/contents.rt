@@ -17,7 +17,10 @@ pub trait Holds<C> {
 /// The contents of items in the order of their places, where each place is below their number and no place is that of two.
 /// So they are any list that has each item's content at the item's place. They come into a vector that is empty and has room
 /// for them; no memory is taken.
-pub fn contents_in_order<C: Drop, T: Placed + Holds<C> + Drop>(items: Vec<T>, room: Vec<C>) -> Vec<C>
+pub fn contents_in_order<C: Drop, T: Placed + Holds<C> + Drop>(
+    items: Vec<T>,
+    room: Vec<C>,
+) -> Vec<C>
     requires below { Each (λ x. T.place x < length items.items) items.items }
     requires few { (s : ℕ) → times T.place s items.items ≤ 1 }
     requires room { (vec_len room ≡ 0) × (vec_len items ≤ vec_capacity room) }

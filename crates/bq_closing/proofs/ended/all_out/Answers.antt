@@ -1,7 +1,4 @@
-use Rattle.std.proofs.Common.{◌≡◌, ℕ, List}
-use Rattle.bq_parts.specs.Processors.{Processor}
 use Rattle.bq_cells.specs.Parts.{cpu_part, inbox_part}
-use Rattle.bq_cells.specs.declared.law.Part.{Part}
 use Rattle.bq_cells.specs.declared.cells.NumberedCpu.{NumberedCpu}
 use Rattle.bq_cells.specs.declared.cells.NumberedInbox.{NumberedInbox}
 use Rattle.bq_closing.proofs.Closing.{gathered}

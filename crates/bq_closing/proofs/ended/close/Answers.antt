@@ -1,8 +1,7 @@
-use Rattle.std.proofs.Common.{◌≡◌, ◌∷◌, [], ℕ, List, map, rules, sym, ap, subst, ◌∙◌}
+use Rattle.std.proofs.Common.{◌≡◌, ◌∷◌, [], rules, sym, ap, subst, ◌∙◌}
 use Rattle.bq_history.specs.History.{Leaves}
 use Rattle.bq_history.specs.Items.{part_item}
 use Rattle.bq_parts.specs.World.{World, opening_world}
-use Rattle.bq_cells.specs.Opened.{ItemOf}
 use Rattle.bq_cells.specs.Parts.{RecordStep, cpu_part, inbox_part, lobby_part}
 use Rattle.bq_cells.specs.declared.law.Part.{Part}
 use Rattle.bq_cells.specs.declared.cells.NumberedCpu.{NumberedCpu}

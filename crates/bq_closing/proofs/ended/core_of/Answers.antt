@@ -1,7 +1,6 @@
-use Rattle.std.proofs.Common.{◌≡◌, ℕ, List, [], length, rules, sym, ap, subst, ◌∙◌}
+use Rattle.std.proofs.Common.{ℕ, List, [], length, rules, sym, ap, subst, ◌∙◌}
 use Rattle.bq_disc.specs.Tasks.{Task}
 use Rattle.bq_parts.specs.Processors.{Processor, opening}
-use Rattle.bq_parts.specs.World.{World}
 use Rattle.bq_parts.specs.StandsOnce.{IsOrderly}
 use Rattle.bq_cells.specs.declared.cells.NumberedCpu.{NumberedCpu}
 use Rattle.bq_cells.specs.declared.cells.NumberedInbox.{NumberedInbox}
