@@ -3,20 +3,20 @@ use Rattle.std.proofs.Common.{◌≡◌, ◌≢◌, ℕ, ◌<◌, ◌≤◌, tru
 use Rattle.std.specs.Prelude.{Ok, not, ◌⊎◌, ◌==◌, ◌||◌, ◌&&◌, nat_le, nat_lt}
 use Rattle.std.proofs.lemmas.Bool.Decides.{nat_tests}
 use Rattle.bq_disc.specs.Discipline.{Discipline}
-use Rattle.bq_core.specs.declared.event.Event.TheVariants.{Install}
+use Rattle.bq_parts.specs.declared.event.Event.TheVariants.{Install}
 use Rattle.bq_verify.specs.declared.hook.Hook.{Hook}
 use Rattle.bq_verify.specs.declared.hook.Hook.TheVariants.{Place, Preempt, Pull}
 use Rattle.bq_verify.specs.Accepted.{Accepted}
 use Rattle.bq_policies.specs.Answers.{fresh_maps}
 use Rattle.bq_policies.specs.Programs.{at_hook, with_program, IsFor}
-use Rattle.bq_core.specs.declared.refusal.Refusal.{Refusal}
-use Rattle.bq_core.specs.declared.refusal.Refusal.TheVariants as no
-use Rattle.bq_core.specs.declared.reply.Reply.TheVariants.{Installed}
-use Rattle.bq_core.specs.Processors.{Processor}
-use Rattle.bq_core.specs.World.{World, processor, count_in, with_processor}
-use Rattle.bq_core.specs.Refusals.{refusal, first_refusal, argument_refusal, same_hook, is_for}
-use Rattle.bq_core.specs.Choices.{policies}
-use Rattle.bq_core.specs.Steps.{WorldStep}
+use Rattle.bq_parts.specs.declared.refusal.Refusal.{Refusal}
+use Rattle.bq_parts.specs.declared.refusal.Refusal.TheVariants as no
+use Rattle.bq_parts.specs.declared.reply.Reply.TheVariants.{Installed}
+use Rattle.bq_parts.specs.Processors.{Processor}
+use Rattle.bq_parts.specs.World.{World, processor, count_in, with_processor}
+use Rattle.bq_parts.specs.Refusals.{refusal, first_refusal, argument_refusal, same_hook, is_for}
+use Rattle.bq_parts.specs.Choices.{policies}
+use Rattle.bq_parts.specs.Steps.{WorldStep}
 use Rattle.bq_core.proofs.Order.{there, passed, not_false}
 
 -- what is refused of a generation where another stands

@@ -1,12 +1,6 @@
-pub mod NumberTests
-pub mod Tallies
-pub mod Counts
-pub mod Once
-pub mod Switching
 pub mod Suits
 pub mod Tidy
 pub mod Moves
-pub mod Permitted
 pub mod Steps
 pub mod Events
 pub mod Order

@@ -4,7 +4,7 @@ use Rattle.std.specs.Prelude.{ℤ, Result, Ok, Err, ◌==◌, not, nat_le, is_so
 use Rattle.std.proofs.lemmas.List.{length-replicate}
 use Rattle.std.proofs.lemmas.Nat.{pow_pos, mod_below}
 use Rattle.bq_disc.specs.OneProcessor.{Running, marked}
-use Rattle.bq_core.specs.declared.carried.Carried.{Carried}
+use Rattle.bq_parts.specs.declared.carried.Carried.{Carried}
 use Rattle.bq_maps.specs.declared.board.Call.{Call as Asked}
 use Rattle.bq_verify.specs.declared.hook.Hook.{Hook}
 use Rattle.bq_verify.specs.Accepted.{Accepted}
@@ -14,24 +14,24 @@ use Rattle.bq_hooks.specs.declared.settled.By.{By}
 use Rattle.bq_hooks.specs.Contexts.{or_nobody}
 use Rattle.bq_hooks.specs.OwnPlace.{own_place, HasPlace}
 use Rattle.bq_hooks.specs.Permitted.{may_place, may_pull}
-use Rattle.bq_core.specs.declared.event.Event.{Event}
-use Rattle.bq_core.specs.declared.event.Event.TheVariants.{Admit, Retire, Draw, Install, BeginWake, EndWake, Drain, Tick, Block, Pull}
-use Rattle.bq_core.specs.declared.reply.Reply.{Reply}
-use Rattle.bq_core.specs.declared.reply.Reply.TheVariants.{Admitted, Retired, Drawn, Installed, Begun, Placed, Drained, Ticked, Blocked as Went, Pulled as Moved}
-use Rattle.bq_core.specs.declared.refusal.Refusal.{Refusal}
-use Rattle.bq_core.specs.declared.refusal.Refusal.TheVariants as no
-use Rattle.bq_core.specs.Processors.{Processor, HasEachOnce, opening}
-use Rattle.bq_core.specs.World.{World, opening_world, processor, seat, count_in}
-use Rattle.bq_core.specs.Refusals.{refusal, argument_refusal, state_refusal, either, is_absent, is_away}
-use Rattle.bq_core.specs.Choices.{Setting, Settled, place_bytes, own_pull}
-use Rattle.bq_core.specs.Steps.{WorldStep, Performs, charged_at, admitted}
-use Rattle.bq_core.specs.StandsOnce.{IsOrderly}
+use Rattle.bq_parts.specs.declared.event.Event.{Event}
+use Rattle.bq_parts.specs.declared.event.Event.TheVariants.{Admit, Retire, Draw, Install, BeginWake, EndWake, Drain, Tick, Block, Pull}
+use Rattle.bq_parts.specs.declared.reply.Reply.{Reply}
+use Rattle.bq_parts.specs.declared.reply.Reply.TheVariants.{Admitted, Retired, Drawn, Installed, Begun, Placed, Drained, Ticked, Blocked as Went, Pulled as Moved}
+use Rattle.bq_parts.specs.declared.refusal.Refusal.{Refusal}
+use Rattle.bq_parts.specs.declared.refusal.Refusal.TheVariants as no
+use Rattle.bq_parts.specs.Processors.{Processor, HasEachOnce, opening}
+use Rattle.bq_parts.specs.World.{World, opening_world, processor, seat, count_in}
+use Rattle.bq_parts.specs.Refusals.{refusal, argument_refusal, state_refusal, either, is_absent, is_away}
+use Rattle.bq_parts.specs.Choices.{Setting, Settled, place_bytes, own_pull}
+use Rattle.bq_parts.specs.Steps.{WorldStep, Performs, charged_at, admitted}
+use Rattle.bq_parts.specs.StandsOnce.{IsOrderly}
 use Rattle.bq_core.specs.Laws.{OpeningIsOrderly, StepKeeps, RunKeeps, StepKeepsOrder, RunKeepsOrder, HistoryIsOrderly, under_any_answers}
-use Rattle.bq_core.proofs.Counts.{each_once_queue}
-use Rattle.bq_core.proofs.NumberTests.{within_of, differs}
-use Rattle.bq_core.proofs.Once.{each_once_running}
+use Rattle.bq_parts.proofs.Counts.{each_once_queue}
+use Rattle.bq_parts.proofs.NumberTests.{within_of, differs}
+use Rattle.bq_parts.proofs.Once.{each_once_running}
 use Rattle.bq_core.proofs.Tidy.{IsTidy, tidy_of, orderly_of, opening_tidy}
-use Rattle.bq_core.proofs.Permitted.{settled_permitted, own_place_permitted, own_pull_permitted, may_place_fits}
+use Rattle.bq_parts.proofs.Permitted.{settled_permitted, own_place_permitted, own_pull_permitted, may_place_fits}
 use Rattle.bq_core.proofs.Events
 
 -- the opening world is in order

@@ -11,15 +11,15 @@ use Rattle.bq_disc.specs.Queues.{HasDistinctIds, HasSmallIds}
 use Rattle.bq_disc.specs.OneProcessor.{Running, present_at, charge}
 use Rattle.bq_policies.specs.Programs.{Program}
 use Rattle.bq_hooks.specs.Permitted.{task_numbered}
-use Rattle.bq_core.specs.declared.event.Event.TheVariants.{Pull}
-use Rattle.bq_core.specs.declared.reply.Reply.TheVariants.{Pulled as Moved}
-use Rattle.bq_core.specs.Processors.{Processor, size_of, opening}
-use Rattle.bq_core.specs.World.{World, processor, inbox, count_in, with_processor}
-use Rattle.bq_core.specs.Choices.{Settled, SettlesPull, policies}
-use Rattle.bq_core.specs.StandsOnce.{IsOrderly}
-use Rattle.bq_core.specs.Steps.{WorldStep, charged_at, source_at, taken_from, without_task, with_pulled, started_if_idle}
-use Rattle.bq_core.proofs.Counts.{HasSmallIds-left, HasDistinctIds-from_counts, each_once_queue}
-use Rattle.bq_core.proofs.Once.{few_at, small_at, pulled_free, each_once_running}
+use Rattle.bq_parts.specs.declared.event.Event.TheVariants.{Pull}
+use Rattle.bq_parts.specs.declared.reply.Reply.TheVariants.{Pulled as Moved}
+use Rattle.bq_parts.specs.Processors.{Processor, size_of, opening}
+use Rattle.bq_parts.specs.World.{World, processor, inbox, count_in, with_processor}
+use Rattle.bq_parts.specs.Choices.{Settled, SettlesPull, policies}
+use Rattle.bq_parts.specs.StandsOnce.{IsOrderly}
+use Rattle.bq_parts.specs.Steps.{WorldStep, charged_at, source_at, taken_from, without_task, with_pulled, started_if_idle}
+use Rattle.bq_parts.proofs.Counts.{HasSmallIds-left, HasDistinctIds-from_counts, each_once_queue}
+use Rattle.bq_parts.proofs.Once.{few_at, small_at, pulled_free, each_once_running}
 use Rattle.bq_core.proofs.Steps.{within}
 
 -- a world of which two processors were written

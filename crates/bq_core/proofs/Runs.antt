@@ -3,12 +3,12 @@ use Rattle.std.proofs.Common.{◌≡◌, List, [], ◌∷◌, ◌++◌, length, 
 use Rattle.std.specs.Prelude.{Result}
 use Rattle.bq_maps.specs.declared.board.Call.{Call as Asked}
 use Rattle.bq_maps.specs.Counters.{Through}
-use Rattle.bq_core.specs.declared.event.Event.{Event}
-use Rattle.bq_core.specs.declared.reply.Reply.{Reply}
-use Rattle.bq_core.specs.declared.refusal.Refusal.{Refusal}
-use Rattle.bq_core.specs.World.{World}
-use Rattle.bq_core.specs.Choices.{Setting}
-use Rattle.bq_core.specs.Steps.{WorldStep, WorldRun, ThroughAll}
+use Rattle.bq_parts.specs.declared.event.Event.{Event}
+use Rattle.bq_parts.specs.declared.reply.Reply.{Reply}
+use Rattle.bq_parts.specs.declared.refusal.Refusal.{Refusal}
+use Rattle.bq_parts.specs.World.{World}
+use Rattle.bq_parts.specs.Choices.{Setting}
+use Rattle.bq_parts.specs.Steps.{WorldStep, WorldRun, ThroughAll}
 
 -- one more step
 pub run_more : (s : Setting) (w mid w' : World) (es : List Event) (e : Event) (calls : List (List Asked)) (c : List Asked) (answers : List (Result Reply Refusal)) (a : Result Reply Refusal) →

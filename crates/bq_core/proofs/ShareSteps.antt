@@ -1,33 +1,26 @@
 -- A share is its event's step in any world that has the parts.
-use Rattle.std.proofs.Common.{◌≡◌, ℕ, ◌<◌, List, [], ◌∷◌, ◌++◌, length, false, Some, None, refl, sym, ap, ◌∙◌, subst, inl, inr, Option, ◌+◌, ◌≤◌, arith}
+use Rattle.std.proofs.Common.{◌≡◌, ℕ, ◌<◌, List, [], ◌∷◌, ◌++◌, false, Some, None, refl, sym, ap, ◌∙◌, inl, Option, arith}
 use Rattle.std.specs.Prelude.{ℤ, Result, Ok, Err, nat_le}
 use Rattle.std.proofs.lemmas.Bool.Decides.{nat_tests}
 use Rattle.std.proofs.lemmas.List.{set-get_or}
-use Rattle.std.proofs.lemmas.Bool.{cases_lt}
-use Rattle.bq_disc.specs.Tasks.{Task, id_of, present}
-use Rattle.bq_disc.specs.OneProcessor.{Running, present_at, charge}
+use Rattle.bq_disc.specs.Tasks.{Task, id_of}
 use Rattle.bq_disc.specs.Discipline.{Discipline}
 use Rattle.bq_maps.specs.declared.board.Call.{Call as Asked}
-use Rattle.bq_core.specs.declared.event.Event.TheVariants.{Admit, Install, BeginWake, EndWake, Drain, Tick, Block}
-use Rattle.bq_core.specs.declared.reply.Reply.{Reply}
-use Rattle.bq_core.specs.declared.reply.Reply.TheVariants.{Placed}
-use Rattle.bq_core.specs.declared.refusal.Refusal.{Refusal}
-use Rattle.bq_core.specs.declared.seat.Seat.{Seat}
-use Rattle.bq_core.specs.Processors.{Processor, opening, count_of, HasSeatedIds}
-use Rattle.bq_core.specs.World.{World, processor, inbox, count_in, with_processor, with_inbox, loads_of}
-use Rattle.bq_core.specs.declared.wakes.Placement.{Placement}
-use Rattle.bq_core.specs.Refusals.{argument_refusal}
-use Rattle.bq_core.specs.declared.carried.Carried.{Carried}
-use Rattle.bq_core.specs.Choices.{Settled, SettlesPlace, policies}
-use Rattle.bq_hooks.specs.OwnPlace.{HasPlace}
-use Rattle.bq_hooks.specs.Permitted.{may_place}
-use Rattle.bq_core.proofs.Permitted.{settled_permitted, own_place_permitted, may_place_fits}
-use Rattle.bq_core.specs.Steps.{WorldStep, admitted, after_leaving}
-use Rattle.bq_core.specs.Shares.{after_time, Admits, Ticks, Drains, Blocks, Begins, Places, Installs}
+use Rattle.bq_parts.specs.declared.event.Event.TheVariants.{Admit, Install, BeginWake, EndWake, Drain, Tick, Block}
+use Rattle.bq_parts.specs.declared.reply.Reply.{Reply}
+use Rattle.bq_parts.specs.declared.reply.Reply.TheVariants.{Placed}
+use Rattle.bq_parts.specs.declared.refusal.Refusal.{Refusal}
+use Rattle.bq_parts.specs.declared.seat.Seat.{Seat}
+use Rattle.bq_parts.specs.Processors.{Processor, opening}
+use Rattle.bq_parts.specs.World.{World, processor, inbox, count_in, with_processor, with_inbox, loads_of}
+use Rattle.bq_parts.specs.declared.wakes.Placement.{Placement}
+use Rattle.bq_parts.specs.Refusals.{argument_refusal}
+use Rattle.bq_parts.specs.Choices.{policies}
+use Rattle.bq_parts.specs.Steps.{WorldStep, admitted, after_leaving}
+use Rattle.bq_parts.specs.Shares.{after_time, Admits, Ticks, Drains, Blocks, Begins, Places, Installs}
 use Rattle.bq_verify.specs.declared.hook.Hook.{Hook}
 use Rattle.bq_verify.specs.Accepted.{Accepted}
 use Rattle.bq_policies.specs.Answers.{fresh_maps}
-use Rattle.bq_core.proofs.Counts.{one, one_self, keeps_charge}
 use Rattle.bq_core.proofs.Steps.{within, still_runs, block_idle}
 
 -- the number of a seat is not refused
@@ -62,7 +55,7 @@ blocks_step d w cpu now (Ok r) q seats h b =
           refl,
           ap (λ (x : Processor). id_of x.running.current) b.1.1,
           ap (λ (x : Processor). record (with_processor w cpu x) { seats = seats }) b.1.1
-          ∙ ap (λ (x : List Seat). record (with_processor w cpu (record (after_time d now (processor w cpu)) { running = after_leaving d (after_time d now (processor w cpu)).running })) { seats = x }) b.1.3,
+              ∙ ap (λ (x : List Seat). record (with_processor w cpu (record (after_time d now (processor w cpu)) { running = after_leaving d (after_time d now (processor w cpu)).running })) { seats = x }) b.1.3,
         ),
       ),
     )
@@ -97,46 +90,29 @@ begins_step d w cpu id (Err e) q seats h l b =
 
 pub places_step : (d : Discipline) (w : World) (cpu now : ℕ) (calls : List Asked) (x : Placement) (q : Processor) → cpu < count_in w → Places (policies d) (count_in w) cpu now (processor w cpu) calls (Some x) q →
     WorldStep (policies d) w (EndWake cpu now) calls (Ok (Placed x.task.id x.to x.by x.steps)) (with_inbox (with_processor w cpu q) x.to (inbox w x.to ++ x.task ∷ []))
-places_step d w cpu now calls x q h k =
+places_step d w cpu now calls x q h k = (
+  rw (within w cpu h, k.2) refl,
+  (
+    k.0,
+    k.1,
+    k.2,
+    ap (λ (t : Task). t.id) k.3,
     (
-      rw (within w cpu h, k.2) refl,
-      (
-        k.0,
-        k.1,
-        k.2,
-        ap (λ (t : Task). t.id) k.3,
-        (
-          k.4.0,
-          k.4.1,
-          k.4.2,
-          k.4.3,
-          k.4.4,
-          ap (λ (y : Processor). with_inbox (with_processor w cpu y) x.to (inbox w x.to ++ x.task ∷ [])) k.4.5
+      k.4.0,
+      k.4.1,
+      k.4.2,
+      k.4.3,
+      k.4.4,
+      ap (λ (y : Processor). with_inbox (with_processor w cpu y) x.to (inbox w x.to ++ x.task ∷ [])) k.4.5
           ∙ ap (λ (t : Task). with_inbox (with_processor w cpu (record (after_time d now (processor w cpu)) { hand = None; programs = record (processor w cpu).programs { place = k.1.program } })) x.to (inbox w x.to ++ t ∷ [])) k.3,
-        ),
-      ),
-    )
-
-below_by_case : (t : Task) (m n : ℕ) → (1024 ≤ t.id → m ≡ 0) → m ≡ one t.id t + n → t.id < 1024
-below_by_case t m n h e = elim (cases_lt t.id 1024) [ inl l ↦ l | inr g ↦ absurd (omega (arith, one_self t, h g, e)) ]
-
--- the task that runs has a seat, if all have
-pub current_seated : (d : Discipline) (p : Running) (now : ℕ) (t : Task) → HasSeatedIds (present_at p) → Some t ≡ (charge d p now).current → t.id < 1024
-current_seated d p now t s e =
-    let q = charge d p now in
-    let here : count_of t.id (present_at q) ≡ one t.id t + count_of t.id q.queue = ap (λ (x : Option Task). count_of t.id (present x q.queue)) (sym e) in
-    below_by_case t (count_of t.id (present_at p)) (count_of t.id q.queue) (s t.id) (omega (arith, here, keeps_charge t.id d p now))
+    ),
+  ),
+)
 
 -- the same of a drain, where the parts are known by equations
 pub drains_at : (d : Discipline) (w w' : World) (cpu now : ℕ) (calls : List Asked) (r : Reply) (q p : Processor) (xs : List Task) → cpu < count_in w → p ≡ processor w cpu → xs ≡ inbox w cpu →
     Drains (policies d) cpu now p xs calls r q → w' ≡ with_inbox (with_processor w cpu q) cpu [] → WorldStep (policies d) w (Drain cpu now) calls (Ok r) w'
 drains_at d w w' cpu now calls r q p xs h at box t e = rw e (drains_step d w cpu now calls r q h (rw (← at, ← box) t))
-
--- what is placed is one of those processors
-pub placed_fits : (d : Discipline) (count cpu : ℕ) (p : Processor) (carried : Carried) (settled : Settled) → HasPlace count carried.task → SettlesPlace (policies d) count cpu p carried settled → settled.choice < count
-placed_fits d count cpu p carried settled h k =
-    let goes = settled_permitted (policies d) _ p.programs.place p.running.last cpu (may_place count carried.task) _ settled (own_place_permitted count carried.loads carried.task h) k in
-    (may_place_fits count carried.task settled.choice goes).0
 
 -- where no argument is refused, the generation alone is
 pub installs_step : (d : Discipline) (w : World) (cpu g : ℕ) (h : Hook) (o : Option Accepted) (r : Result Reply Refusal) (q : Processor) → argument_refusal (count_in w) (Install cpu h g o) ≡ None →

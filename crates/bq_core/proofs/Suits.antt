@@ -6,8 +6,8 @@ use Rattle.std.proofs.lemmas.List.Elements.{All-from_recursion, recursion_from_A
 use Rattle.bq_disc.specs.Tasks.{Task}
 use Rattle.bq_disc.specs.Queues.{can_use}
 use Rattle.bq_hooks.specs.OwnPlace.{allows, HasPlace}
-use Rattle.bq_core.proofs.Tallies.{tally, worth}
-use Rattle.bq_core.proofs.NumberTests.{below_of, below_to, differs, differ_to}
+use Rattle.bq_parts.proofs.Tallies.{tally, worth}
+use Rattle.bq_parts.proofs.NumberTests.{below_of, below_to, differs, differ_to}
 
 -- a processor that a task may use, and a mask of the machine's processors
 abbrev pub suits : ℕ → ℕ → ℕ → Bool

@@ -7,19 +7,19 @@ use Rattle.std.proofs.lemmas.Bool.{cases_lt}
 use Rattle.std.proofs.lemmas.Bool.Decides.{nat_tests}
 use Rattle.bq_disc.specs.Tasks.{Task}
 use Rattle.bq_disc.specs.OneProcessor.{present_at}
-use Rattle.bq_core.specs.declared.carried.Carried.{Carried}
-use Rattle.bq_core.specs.declared.seat.Seat.{Seat}
-use Rattle.bq_core.specs.declared.seat.Seat.TheVariants.{Absent, Blocked, Away}
-use Rattle.bq_core.specs.Processors.{Processor, opening, count_of, held_by, in_hand}
-use Rattle.bq_core.specs.World.{World, processor, inbox, seat, count_in, with_processor, with_inbox, with_seat}
-use Rattle.bq_core.specs.Refusals.{is_away}
+use Rattle.bq_parts.specs.declared.carried.Carried.{Carried}
+use Rattle.bq_parts.specs.declared.seat.Seat.{Seat}
+use Rattle.bq_parts.specs.declared.seat.Seat.TheVariants.{Absent, Blocked, Away}
+use Rattle.bq_parts.specs.Processors.{Processor, opening, count_of, held_by, in_hand}
+use Rattle.bq_parts.specs.World.{World, processor, inbox, seat, count_in, with_processor, with_inbox, with_seat}
+use Rattle.bq_parts.specs.Refusals.{is_away}
 use Rattle.bq_hooks.specs.Contexts.{as_number}
 use Rattle.bq_hooks.specs.OwnPlace.{HasPlace}
-use Rattle.bq_core.specs.StandsOnce.{held_count, placed_count, standing_count, runnable_at, IsOrderly}
+use Rattle.bq_parts.specs.StandsOnce.{held_count, placed_count, standing_count, runnable_at, IsOrderly}
 use Rattle.bq_core.proofs.Suits.{unsuited, Suits, none_unsuited, all_suit}
-use Rattle.bq_core.proofs.Tallies.{tally, tally-append}
-use Rattle.bq_core.proofs.Counts.{one, ones, one_self, count_is}
-use Rattle.bq_core.proofs.Once.{count_of-held_by, as_number_le}
+use Rattle.bq_parts.proofs.Tallies.{tally, tally-append}
+use Rattle.bq_parts.proofs.Counts.{one, ones, one_self, count_is}
+use Rattle.bq_parts.proofs.Once.{count_of-held_by, as_number_le}
 
 -- order in a world of so many processors, with some tasks on their way
 pub record IsTidy (count : ℕ) (floating : List Task) (w : World) : Type 0 where

@@ -2,13 +2,13 @@
 use Rattle.std.specs.Prelude.{◌≡◌, ℕ, List, length, Result}
 use Rattle.bq_disc.specs.Discipline.{Discipline}
 use Rattle.bq_maps.specs.declared.board.Call.{Call as Asked}
-use Rattle.bq_core.specs.declared.event.Event.{Event}
-use Rattle.bq_core.specs.declared.reply.Reply.{Reply}
-use Rattle.bq_core.specs.declared.refusal.Refusal.{Refusal}
-use Rattle.bq_core.specs.World.{World, opening_world}
-use Rattle.bq_core.specs.Choices.{Setting}
-use Rattle.bq_core.specs.Steps.{WorldStep, WorldRun}
-use Rattle.bq_core.specs.StandsOnce.{IsOrderly}
+use Rattle.bq_parts.specs.declared.event.Event.{Event}
+use Rattle.bq_parts.specs.declared.reply.Reply.{Reply}
+use Rattle.bq_parts.specs.declared.refusal.Refusal.{Refusal}
+use Rattle.bq_parts.specs.World.{World, opening_world}
+use Rattle.bq_parts.specs.Choices.{Setting}
+use Rattle.bq_parts.specs.Steps.{WorldStep, WorldRun}
+use Rattle.bq_parts.specs.StandsOnce.{IsOrderly}
 
 -- a world in which nothing has happened is in order
 abbrev pub OpeningIsOrderly : Type 0

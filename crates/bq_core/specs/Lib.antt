@@ -1,8 +1,1 @@
-pub mod Processors
-pub mod World
-pub mod Refusals
-pub mod Choices
-pub mod Steps
-pub mod Shares
-pub mod StandsOnce
 pub mod Laws

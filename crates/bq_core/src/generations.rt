@@ -1,9 +1,9 @@
 //! The events of the generations: a number is drawn, and what it stands for is installed.
 ghost use Rattle.std.specs.Prelude.{◌≡◌, ◌<◌, [], None};
-ghost use Rattle.bq_core.specs.World.{count_in};
-ghost use Rattle.bq_core.specs.Choices.{policies};
-ghost use Rattle.bq_core.specs.Refusals.{argument_refusal};
-ghost use Rattle.bq_core.specs.Steps.{WorldStep};
+ghost use Rattle.bq_parts.specs.World.{count_in};
+ghost use Rattle.bq_parts.specs.Choices.{policies};
+ghost use Rattle.bq_parts.specs.Refusals.{argument_refusal};
+ghost use Rattle.bq_parts.specs.Steps.{WorldStep};
 
 use crate::parts::Parts;
 use crate::{Event, Hook, Installed, Policy, Refusal, Reply};

@@ -1,6 +1,6 @@
 //! The parts that the world is made of.
 ghost use Rattle.std.specs.Prelude.{◌≡◌, ◌≤◌, ◌<◌, IfOk, length};
-ghost use Rattle.bq_core.specs.World.{opening_world, processor, count_in};
+ghost use Rattle.bq_parts.specs.World.{opening_world, processor, count_in};
 
 use crate::{Cpu, Inbox, Lobby};
 use bq_disc::RunQueue;
@@ -18,7 +18,7 @@ pub struct Parts<Q: RunQueue, const P: usize> {
 
 impl<Q: RunQueue, const P: usize> Model for Parts<Q, P> {
     ghost use Rattle.std.specs.Prelude.{◌≡◌, ◌≤◌, length};
-    ghost use Rattle.bq_core.specs.World.{World};
+    ghost use Rattle.bq_parts.specs.World.{World};
 
     ghost Value = { World };
 

@@ -4,11 +4,11 @@ ghost use Rattle.bq_disc.specs.Queues.{HasDistinctIds, HasSmallIds};
 ghost use Rattle.bq_disc.specs.Tasks.{id_of, with_id};
 ghost use Rattle.bq_maps.specs.Counters.{Through};
 ghost use Rattle.bq_hooks.specs.Permitted.{task_numbered};
-ghost use Rattle.bq_core.specs.Processors.{size_of};
-ghost use Rattle.bq_core.specs.World.{processor as processor_in, count_in, with_processor};
-ghost use Rattle.bq_core.specs.Choices.{policies, SettlesPull};
-ghost use Rattle.bq_core.specs.Steps.{WorldStep, source_at, charged_at, taken_from, without_task, with_pulled, started_if_idle};
-ghost use Rattle.bq_core.specs.StandsOnce.{IsOrderly};
+ghost use Rattle.bq_parts.specs.Processors.{size_of};
+ghost use Rattle.bq_parts.specs.World.{processor as processor_in, count_in, with_processor};
+ghost use Rattle.bq_parts.specs.Choices.{policies, SettlesPull};
+ghost use Rattle.bq_parts.specs.Steps.{WorldStep, source_at, charged_at, taken_from, without_task, with_pulled, started_if_idle};
+ghost use Rattle.bq_parts.specs.StandsOnce.{IsOrderly};
 
 use crate::parts::Parts;
 use crate::{Event, Outcome, Refusal, Reply, Scratch};

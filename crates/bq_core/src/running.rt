@@ -1,10 +1,10 @@
 //! The events of one processor: its clock ticks, placed tasks enter, and the running task goes to sleep.
 ghost use Rattle.std.specs.Prelude.{◌≡◌, ◌<◌, []};
-ghost use Rattle.bq_core.specs.World.{count_in};
+ghost use Rattle.bq_parts.specs.World.{count_in};
 ghost use Rattle.bq_maps.specs.Counters.{Through};
-ghost use Rattle.bq_core.specs.Choices.{policies};
-ghost use Rattle.bq_core.specs.Steps.{WorldStep};
-ghost use Rattle.bq_core.specs.StandsOnce.{IsOrderly};
+ghost use Rattle.bq_parts.specs.Choices.{policies};
+ghost use Rattle.bq_parts.specs.Steps.{WorldStep};
+ghost use Rattle.bq_parts.specs.StandsOnce.{IsOrderly};
 
 use crate::parts::Parts;
 use crate::{Event, Refusal, Reply, Scratch};

@@ -1,11 +1,11 @@
 //! The two halves of a wake: a sleeping task comes into a processor's hand, and is placed.
 ghost use Rattle.std.specs.Prelude.{◌≡◌, ◌<◌, ◌≤◌, ◌^◌, ℕ, [], length, slice_index_or};
-ghost use Rattle.bq_core.specs.Processors.{opening, load_of};
-ghost use Rattle.bq_core.specs.World.{count_in, loads_of};
+ghost use Rattle.bq_parts.specs.Processors.{opening, load_of};
+ghost use Rattle.bq_parts.specs.World.{count_in, loads_of};
 ghost use Rattle.bq_maps.specs.Counters.{Through};
-ghost use Rattle.bq_core.specs.Choices.{policies};
-ghost use Rattle.bq_core.specs.Steps.{WorldStep};
-ghost use Rattle.bq_core.specs.StandsOnce.{IsOrderly};
+ghost use Rattle.bq_parts.specs.Choices.{policies};
+ghost use Rattle.bq_parts.specs.Steps.{WorldStep};
+ghost use Rattle.bq_parts.specs.StandsOnce.{IsOrderly};
 
 use crate::parts::Parts;
 use crate::{Carried, Cpu, Event, Inbox, Loads, Refusal, Reply, Scratch};

@@ -1,16 +1,15 @@
 //! The world and its events: the call by which everything else drives it.
 ghost use Rattle.std.specs.Prelude.{◌≡◌, ◌+◌, ◌≤◌, ◌<◌, List, [], ◌∷◌, Err, OnOk, OnErr, IfOk, IfErr, length, replicate, vec_len, vec_capacity};
-ghost use Rattle.bq_core.specs.World.{opening_world, processor, count_in};
-ghost use Rattle.bq_core.specs.Choices.{policies};
-ghost use Rattle.bq_core.specs.Steps.{WorldStep, WorldRun, ThroughAll};
+ghost use Rattle.bq_parts.specs.World.{opening_world, processor, count_in};
+ghost use Rattle.bq_parts.specs.Choices.{policies};
+ghost use Rattle.bq_parts.specs.Steps.{WorldStep, WorldRun, ThroughAll};
 ghost use Rattle.bq_maps.specs.Counters.{Through};
 ghost use Rattle.bq_maps.specs.declared.board.Call.{Call as Asked};
-ghost use Rattle.bq_core.specs.StandsOnce.{StandsOnce, IsOrderly};
-ghost use Rattle.bq_core.specs.declared.refusal.Refusal.TheVariants as no;
+ghost use Rattle.bq_parts.specs.StandsOnce.{StandsOnce, IsOrderly};
+ghost use Rattle.bq_parts.specs.declared.refusal.Refusal.TheVariants as no;
 
-use crate::arguments::argument_refusal;
 use crate::parts::Parts;
-use crate::{Cpu, Event, Refusal, Reply, Scratch};
+use crate::{Cpu, Event, Refusal, Reply, Scratch, argument_refusal};
 use bq_disc::RunQueue;
 use bq_maps::Board;
 use std::alloc::{AllocError, Global};
@@ -25,8 +24,8 @@ pub struct Core<Q: RunQueue, const P: usize> {
 }
 
 impl<Q: RunQueue, const P: usize> Model for Core<Q, P> {
-    ghost use Rattle.bq_core.specs.World.{World};
-    ghost use Rattle.bq_core.specs.StandsOnce.{IsOrderly};
+    ghost use Rattle.bq_parts.specs.World.{World};
+    ghost use Rattle.bq_parts.specs.StandsOnce.{IsOrderly};
 
     ghost Value = { World };
 

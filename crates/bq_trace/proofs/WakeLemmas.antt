@@ -1,9 +1,9 @@
 -- A wake that is not refused begins and ends.
 use Rattle.std.proofs.Common.{◌≡◌, ℕ, true, List, ◌++◌, refl, ap, ◌∙◌, append_assoc, Result, Ok, Err}
 use Rattle.std.specs.Prelude.{is_ok}
-use Rattle.bq_core.specs.declared.event.Event.TheVariants.{BeginWake, EndWake}
-use Rattle.bq_core.specs.declared.reply.Reply.{Reply}
-use Rattle.bq_core.specs.declared.refusal.Refusal.{Refusal}
+use Rattle.bq_parts.specs.declared.event.Event.TheVariants.{BeginWake, EndWake}
+use Rattle.bq_parts.specs.declared.reply.Reply.{Reply}
+use Rattle.bq_parts.specs.declared.refusal.Refusal.{Refusal}
 use Rattle.bq_trace.specs.Machines.{Machine}
 use Rattle.bq_trace.specs.Writing.{Adds}
 use Rattle.bq_trace.specs.Doing.{DoesAndAnswers}

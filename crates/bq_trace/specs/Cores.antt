@@ -1,6 +1,6 @@
 -- The world of a core, whichever size and rule it has.
 use Rattle.std.specs.Prelude.{ℕ, List}
-use Rattle.bq_core.specs.World.{World}
+use Rattle.bq_parts.specs.World.{World}
 use Rattle.bq_trace.specs.Machines.{Machine}
 use Rattle.bq_sizes.specs.declared.rule.Rule.TheVariants as rules
 use Rattle.bq_trace.specs.declared.machine.Cores.{Cores}

@@ -1,8 +1,8 @@
 -- What a machine does at an event, and the line that answers it.
 use Rattle.std.specs.Prelude.{◌≡◌, ℕ, List, Result}
-use Rattle.bq_core.specs.declared.event.Event.{Event}
-use Rattle.bq_core.specs.declared.reply.Reply.{Reply}
-use Rattle.bq_core.specs.declared.refusal.Refusal.{Refusal}
+use Rattle.bq_parts.specs.declared.event.Event.{Event}
+use Rattle.bq_parts.specs.declared.reply.Reply.{Reply}
+use Rattle.bq_parts.specs.declared.refusal.Refusal.{Refusal}
 use Rattle.bq_trace.specs.Machines.{Machine as Driven, setting_of, Steps}
 use Rattle.bq_trace.specs.Texts.{event_line}
 

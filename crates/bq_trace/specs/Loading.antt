@@ -12,9 +12,9 @@ use Rattle.bq_verify.specs.declared.hook.Hook.{Hook}
 use Rattle.bq_load.specs.Answers.{Loads, IsUnloaded}
 use Rattle.bq_load.specs.declared.fault.LoadFault.{LoadFault}
 use Rattle.bq_load.specs.declared.fault.LoadFault.TheVariants as fault
-use Rattle.bq_core.specs.declared.event.Event.TheVariants.{Install}
-use Rattle.bq_core.specs.declared.reply.Reply.{Reply}
-use Rattle.bq_core.specs.declared.refusal.Refusal.{Refusal}
+use Rattle.bq_parts.specs.declared.event.Event.TheVariants.{Install}
+use Rattle.bq_parts.specs.declared.reply.Reply.{Reply}
+use Rattle.bq_parts.specs.declared.refusal.Refusal.{Refusal}
 use Rattle.bq_trace.specs.Machines.{Machine as Driven}
 use Rattle.bq_trace.specs.Doing.{DoesAndAnswers}
 

@@ -5,13 +5,13 @@ use Rattle.bq_cfs.specs.Cfs.{cfs}
 use Rattle.bq_eevdf.specs.Eevdf.{eevdf}
 use Rattle.bq_maps.specs.declared.board.Call.{Call as Asked}
 use Rattle.bq_maps.specs.Counters.{Counts, Through}
-use Rattle.bq_core.specs.World.{World, opening_world}
-use Rattle.bq_core.specs.Choices.{Setting, policies}
-use Rattle.bq_core.specs.Steps.{WorldStep}
-use Rattle.bq_core.specs.declared.event.Event.{Event}
-use Rattle.bq_core.specs.declared.reply.Reply.{Reply}
-use Rattle.bq_core.specs.declared.refusal.Refusal.{Refusal}
-use Rattle.bq_core.specs.declared.refusal.Refusal.TheVariants.{OutOfMemory}
+use Rattle.bq_parts.specs.World.{World, opening_world}
+use Rattle.bq_parts.specs.Choices.{Setting, policies}
+use Rattle.bq_parts.specs.Steps.{WorldStep}
+use Rattle.bq_parts.specs.declared.event.Event.{Event}
+use Rattle.bq_parts.specs.declared.reply.Reply.{Reply}
+use Rattle.bq_parts.specs.declared.refusal.Refusal.{Refusal}
+use Rattle.bq_parts.specs.declared.refusal.Refusal.TheVariants.{OutOfMemory}
 use Rattle.bq_sizes.specs.declared.rule.Rule.{Rule}
 use Rattle.bq_sizes.specs.declared.rule.Rule.TheVariants.{Cfs, Eevdf}
 use Rattle.bq_sizes.specs.declared.size.Size.{Size}

@@ -4,13 +4,13 @@ use Rattle.std.specs.List.{flat_map}
 use Rattle.std.specs.Fmt.{decimal}
 use Rattle.bq_disc.specs.Tasks.{Task}
 use Rattle.bq_disc.specs.OneProcessor.{Running}
-use Rattle.bq_core.specs.World.{World, processor, count_in}
+use Rattle.bq_parts.specs.World.{World, processor, count_in}
 use Rattle.bq_hooks.specs.declared.settled.By.{By}
 use Rattle.bq_hooks.specs.declared.settled.By.TheVariants.{Policy, Discipline}
-use Rattle.bq_core.specs.declared.reply.Reply.{Reply}
-use Rattle.bq_core.specs.declared.reply.Reply.TheVariants.{Admitted, Retired, Drawn, Installed, Begun, Placed, Drained, Ticked, Blocked, Pulled}
-use Rattle.bq_core.specs.declared.refusal.Refusal.{Refusal}
-use Rattle.bq_core.specs.declared.refusal.Refusal.TheVariants.{NoProcessor, NoTask, NotBlocked, TaskExists, EmptyMask, Nice, Slice, Idle, SameProcessor, InHand, NothingInHand, Older, NotDrawn, WrongHook, OutOfMemory}
+use Rattle.bq_parts.specs.declared.reply.Reply.{Reply}
+use Rattle.bq_parts.specs.declared.reply.Reply.TheVariants.{Admitted, Retired, Drawn, Installed, Begun, Placed, Drained, Ticked, Blocked, Pulled}
+use Rattle.bq_parts.specs.declared.refusal.Refusal.{Refusal}
+use Rattle.bq_parts.specs.declared.refusal.Refusal.TheVariants.{NoProcessor, NoTask, NotBlocked, TaskExists, EmptyMask, Nice, Slice, Idle, SameProcessor, InHand, NothingInHand, Older, NotDrawn, WrongHook, OutOfMemory}
 
 -- a task or `none`
 abbrev pub task_text : Option ℕ → List ℕ

@@ -1,9 +1,9 @@
 -- What a trace's lines are answered (this project's own trace format).
 use Rattle.std.specs.Prelude.{◌≡◌, ℕ, Bool, true, false, ◌&&◌, not, List, [], ◌∷◌, ◌++◌, Option, Result, Ok, Err, slice_index, nat_lt, if◌then◌else◌}
 use Rattle.std.specs.Str.Lines.{lines}
-use Rattle.bq_core.specs.declared.event.Event.TheVariants.{BeginWake, EndWake}
-use Rattle.bq_core.specs.declared.reply.Reply.{Reply}
-use Rattle.bq_core.specs.declared.refusal.Refusal.{Refusal}
+use Rattle.bq_parts.specs.declared.event.Event.TheVariants.{BeginWake, EndWake}
+use Rattle.bq_parts.specs.declared.reply.Reply.{Reply}
+use Rattle.bq_parts.specs.declared.refusal.Refusal.{Refusal}
 use Rattle.bq_trace.specs.Counts.{one_more}
 use Rattle.bq_trace.specs.Machines.{Machine as Driven, opening_machine}
 use Rattle.bq_trace.specs.Doing.{DoesAndAnswers}

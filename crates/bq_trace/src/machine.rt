@@ -1,9 +1,9 @@
 //! The machine that a trace drives: a core of one of the sizes, under one of the rules, that a trace may ask for.
 ghost use Rattle.std.specs.Prelude.{◌≡◌, ◌<◌, ◌++◌, slice_index, Result, is_ok, IfOk, OnOk, string_bytes};
-ghost use Rattle.bq_core.specs.World.{opening_world};
-ghost use Rattle.bq_core.specs.Choices.{policies};
-ghost use Rattle.bq_core.specs.declared.reply.Reply.{Reply};
-ghost use Rattle.bq_core.specs.declared.refusal.Refusal.{Refusal};
+ghost use Rattle.bq_parts.specs.World.{opening_world};
+ghost use Rattle.bq_parts.specs.Choices.{policies};
+ghost use Rattle.bq_parts.specs.declared.reply.Reply.{Reply};
+ghost use Rattle.bq_parts.specs.declared.refusal.Refusal.{Refusal};
 ghost use Rattle.bq_sizes.specs.Sizes.{processors_in};
 ghost use Rattle.bq_trace.specs.Machines.{opening_machine, Steps};
 ghost use Rattle.bq_trace.specs.Texts.{event_line, show_line, counter_line};
@@ -44,7 +44,7 @@ impl<Q: RunQueue + Drop> Drop for Sized<Q> {
 }
 
 impl<Q: RunQueue> Model for Sized<Q> {
-    ghost use Rattle.bq_core.specs.World.{World};
+    ghost use Rattle.bq_parts.specs.World.{World};
 
     ghost Value = { World };
 

@@ -1,5 +1,5 @@
 use Rattle.std.proofs.Common.{◌≡◌, ◌++◌, length, drop}
-use Rattle.bq_core.specs.World.{loads_of}
+use Rattle.bq_parts.specs.World.{loads_of}
 use Rattle.bq_core.proofs.waking.loads_of.Given as goal
 
 abbrev pub invariant-loop-at : goal.invariant-loop-at

@@ -1,9 +1,8 @@
-use Rattle.std.proofs.Common.{refl, ◌≡◌, ◌<◌, ap, sym, subst, ◌∙◌, length, [], arith}
+use Rattle.std.proofs.Common.{refl, ◌≡◌, ◌<◌, ap, sym, ◌∙◌, length, [], arith}
 use Rattle.std.proofs.lemmas.List.{get_or_read}
-use Rattle.bq_disc.specs.OneProcessor.{present_at}
-use Rattle.bq_core.specs.Processors.{Processor, opening, HasEachOnce, HasSeatedIds}
-use Rattle.bq_core.specs.World.{World, processor, inbox}
-use Rattle.bq_core.proofs.Once.{each_once_runnable, none_beyond_at}
+use Rattle.bq_parts.specs.Processors.{opening}
+use Rattle.bq_parts.specs.World.{World, processor, inbox}
+use Rattle.bq_parts.proofs.Once.{each_once_runnable, none_beyond_at}
 use Rattle.bq_core.proofs.Steps.{write_back_both}
 use Rattle.bq_core.proofs.ShareSteps.{drains_at}
 use Rattle.bq_core.proofs.parts.Parts.drain.Goals as goal

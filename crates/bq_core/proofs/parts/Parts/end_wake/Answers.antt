@@ -2,10 +2,10 @@ use Rattle.std.proofs.Common.{◌≡◌, ◌<◌, ◌++◌, ◌∷◌, Some, Non
 use Rattle.std.proofs.lemmas.List.{get_or_read}
 use Rattle.bq_disc.specs.Tasks.{Task}
 use Rattle.bq_disc.specs.OneProcessor.{charge}
-use Rattle.bq_core.specs.Processors.{Processor, opening}
-use Rattle.bq_core.specs.World.{World, processor, inbox, count_in}
-use Rattle.bq_core.specs.Choices.{Settled, SettlesPlace, policies}
-use Rattle.bq_core.proofs.Once.{few_at}
+use Rattle.bq_parts.specs.Processors.{Processor, opening}
+use Rattle.bq_parts.specs.World.{World, processor, inbox, count_in}
+use Rattle.bq_parts.specs.Choices.{Settled, SettlesPlace, policies}
+use Rattle.bq_parts.proofs.Once.{few_at}
 use Rattle.bq_core.proofs.Steps.{end_step, released, placed_below, write_back_inbox}
 use Rattle.bq_core.proofs.parts.Parts.end_wake.Goals as goal
 

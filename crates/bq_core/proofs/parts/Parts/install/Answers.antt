@@ -1,8 +1,8 @@
 use Rattle.std.proofs.Common.{◌≡◌, ◌<◌, ap, ◌∙◌, length}
 use Rattle.std.proofs.lemmas.List.{get_or_read}
 use Rattle.bq_policies.specs.Programs.{Program, at_hook, with_program}
-use Rattle.bq_core.specs.Processors.{Processor, opening}
-use Rattle.bq_core.specs.World.{World, processor, count_in}
+use Rattle.bq_parts.specs.Processors.{Processor, opening}
+use Rattle.bq_parts.specs.World.{World, processor, count_in}
 use Rattle.bq_core.proofs.Steps.{write_back}
 use Rattle.bq_core.proofs.Installs.{IsNewer, newest_at, installed, install_step, install_there}
 use Rattle.bq_core.proofs.parts.Parts.install.Goals as goal

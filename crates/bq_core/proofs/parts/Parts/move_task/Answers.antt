@@ -1,8 +1,8 @@
 use Rattle.std.proofs.Common.{◌≡◌, ◌<◌, ap, sym, ◌∙◌, length}
 use Rattle.std.proofs.lemmas.List.{get_or_read}
-use Rattle.bq_core.specs.Processors.{Processor, opening}
-use Rattle.bq_core.specs.World.{World, processor}
-use Rattle.bq_core.specs.Steps.{taken_from, without_task, with_pulled, started_if_idle}
+use Rattle.bq_parts.specs.Processors.{Processor, opening}
+use Rattle.bq_parts.specs.World.{World, processor}
+use Rattle.bq_parts.specs.Steps.{taken_from, without_task, with_pulled, started_if_idle}
 use Rattle.bq_core.proofs.Pulls.{read_other, write_back_two, same_current}
 use Rattle.bq_core.proofs.parts.Parts.move_task.Goals as goal
 

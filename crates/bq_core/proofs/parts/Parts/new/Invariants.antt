@@ -1,5 +1,5 @@
 use Rattle.std.proofs.Common.{◌≡◌, replicate, []}
-use Rattle.bq_core.specs.Processors.{opening}
+use Rattle.bq_parts.specs.Processors.{opening}
 use Rattle.bq_core.proofs.parts.Parts.new.Given as goal
 
 abbrev pub invariant-processors : goal.invariant-processors

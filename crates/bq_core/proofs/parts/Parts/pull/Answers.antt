@@ -1,10 +1,10 @@
 use Rattle.std.proofs.Common.{◌≡◌, ap, sym, subst, ◌∙◌, length, arith, None}
 use Rattle.std.specs.Prelude.{IfSome}
 use Rattle.bq_disc.specs.Tasks.{id_of, with_id}
-use Rattle.bq_core.specs.Processors.{Processor}
-use Rattle.bq_core.specs.World.{World, processor, count_in, with_processor}
-use Rattle.bq_core.specs.Choices.{Settled, SettlesPull, policies}
-use Rattle.bq_core.specs.Steps.{charged_at, source_at, taken_from, without_task, with_pulled, started_if_idle}
+use Rattle.bq_parts.specs.Processors.{Processor}
+use Rattle.bq_parts.specs.World.{World, processor, count_in, with_processor}
+use Rattle.bq_parts.specs.Choices.{Settled, SettlesPull, policies}
+use Rattle.bq_parts.specs.Steps.{charged_at, source_at, taken_from, without_task, with_pulled, started_if_idle}
 use Rattle.bq_core.proofs.Pulls.{with_two, count_with_two, first_of_two, second_of_two, first_again, both_again, few_charged, few_given, source_small, source_distinct, taken_fresh, puller_after, source_after, pull_step}
 use Rattle.bq_core.proofs.parts.Parts.pull.Goals as goal
 

@@ -1,7 +1,7 @@
 use Rattle.std.proofs.Common.{◌≡◌, ◌++◌, ◌∷◌, [], true, length, ap, ◌∙◌, append_assoc, arith}
 use Rattle.std.specs.Prelude.{is_ok, not}
 use Rattle.std.specs.Vec.Iter.{into_iter_items}
-use Rattle.bq_core.specs.Choices.{policies}
+use Rattle.bq_parts.specs.Choices.{policies}
 use Rattle.bq_core.proofs.Runs.{run_more, through_more}
 use Rattle.bq_core.proofs.world.Core.run_all.Goals as goal
 

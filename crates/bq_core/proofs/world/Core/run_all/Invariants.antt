@@ -2,9 +2,9 @@ use Rattle.std.proofs.Common.{◌≡◌, ◌+◌, ◌≤◌, ◌++◌, List, len
 use Rattle.std.specs.Prelude.{vec_len, vec_capacity}
 use Rattle.std.specs.Vec.Iter.{into_iter_items, into_iter_len}
 use Rattle.bq_maps.specs.declared.board.Call.{Call as Asked}
-use Rattle.bq_core.specs.Choices.{policies}
-use Rattle.bq_core.specs.Steps.{WorldRun, ThroughAll}
-use Rattle.bq_core.specs.StandsOnce.{StandsOnce}
+use Rattle.bq_parts.specs.Choices.{policies}
+use Rattle.bq_parts.specs.Steps.{WorldRun, ThroughAll}
+use Rattle.bq_parts.specs.StandsOnce.{StandsOnce}
 use Rattle.bq_core.proofs.world.Core.run_all.Given as goal
 
 abbrev pub invariant-loop-event : goal.invariant-loop-event

@@ -1,4 +1,4 @@
-use Rattle.bq_core.specs.Choices.{policies}
+use Rattle.bq_parts.specs.Choices.{policies}
 use Rattle.bq_core.proofs.Order.{step_keeps}
 use Rattle.bq_core.proofs.world.Core.step.Goals as goal
 

@@ -1,0 +1,8 @@
+use Rattle.std.proofs.Common.{◌≡◌, ap, ◌∙◌, replicate, arith}
+use Rattle.bq_parts.specs.declared.seat.Seat.TheVariants.{Absent}
+use Rattle.bq_parts.proofs.lobby.Lobby.new.Goals as goal
+
+pub returns : goal.returns
+returns c =
+    let all : c.seats.counter ≡ 1024 = omega arith in
+    c.seats.invariant ∙ ap (λ n. replicate n Absent) all

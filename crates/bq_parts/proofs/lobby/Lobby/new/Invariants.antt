@@ -1,0 +1,6 @@
+use Rattle.std.proofs.Common.{◌≡◌, replicate}
+use Rattle.bq_parts.specs.declared.seat.Seat.TheVariants.{Absent}
+use Rattle.bq_parts.proofs.lobby.Lobby.new.Given as goal
+
+abbrev pub invariant-seats : goal.invariant-seats
+invariant-seats l = l.seats.items ≡ replicate l.counter Absent

@@ -1,0 +1,95 @@
+-- Settled choices: a policy's answer where it is permitted, and else the discipline's own.
+use Rattle.std.specs.Prelude.{◌≡◌, ℕ, ◌==◌, Bool, List, [], Option, Some, None, unwrap_or}
+use Rattle.bq_disc.specs.Tasks.{Task, id_of}
+use Rattle.bq_disc.specs.Discipline.{Discipline}
+use Rattle.bq_disc.specs.Movable.{movable_to}
+use Rattle.bq_disc.specs.Pulls.{pull_of}
+use Rattle.bq_disc.specs.OneProcessor.{decided, own_preempt}
+use Rattle.bq_maps.specs.declared.board.Call.{Call as Asked}
+use Rattle.bq_verify.specs.declared.hook.Version.{Version}
+use Rattle.bq_verify.specs.declared.hook.Version.TheVariants.{First, Second}
+use Rattle.bq_verify.specs.Accepted.{Accepted}
+use Rattle.bq_policies.specs.Answers.{Answers}
+use Rattle.bq_policies.specs.Programs.{Program}
+use Rattle.bq_hooks.specs.declared.settled.By.{By}
+use Rattle.bq_hooks.specs.declared.settled.By.TheVariants as who
+use Rattle.bq_hooks.specs.Contexts.{PlaceFacts, place_bytes_first, place_bytes_second, preempt_bytes, pull_bytes, as_number, or_nobody}
+use Rattle.bq_hooks.specs.OwnPlace.{own_place}
+use Rattle.bq_hooks.specs.Permitted.{may_place, may_preempt, may_pull}
+use Rattle.bq_hooks.specs.Settled.{settled as chosen}
+use Rattle.bq_parts.specs.declared.carried.Carried.{Carried}
+use Rattle.bq_parts.specs.Processors.{Processor, size_of}
+
+-- what the world runs under: the discipline, and how a policy answers: on a context, maps, a reading and a processor's
+-- number it gives r0, the maps that it leaves and how many steps it took, having asked so much of the counters
+pub record Setting : Type 1 where
+  pub discipline : Discipline
+  pub Answers : Accepted → List ℕ → List (List ℕ) → ℕ → ℕ → ℕ → List (List ℕ) → ℕ → List Asked → Type 0
+
+-- policies answer as their programs run
+abbrev pub policies : Discipline → Setting
+policies d = record { discipline = d; Answers = Answers }
+
+-- a choice, whose it was, how many steps it took, what was asked of the counters, and what stands at the hook afterwards
+pub record Settled : Type 0 where
+  pub choice : ℕ
+  pub by : By
+  pub steps : ℕ
+  pub calls : List Asked
+  pub program : Program
+
+-- no policy was asked
+abbrev pub unasked : ℕ → Program → Settled
+unasked own program = record { choice = own; by = who.Discipline; steps = 0; calls = []; program = program }
+
+-- r0 where it is permitted, and else the own choice. The maps stay as the policy left them, either way
+abbrev pub SettlesBy : Setting → Option Accepted → (Version → List ℕ) → Program → ℕ → ℕ → (ℕ → Bool) → ℕ → Settled → Type 0
+SettlesBy s None context program now cpu permitted own settled = settled ≡ unasked own program
+SettlesBy s (Some policy) context program now cpu permitted own settled =
+    (r0 : ℕ) × (maps : List (List ℕ)) × s.Answers policy (context policy.version) program.maps now cpu r0 maps settled.steps settled.calls
+    × (settled.program ≡ record program { maps = maps })
+    × (settled.choice ≡ (chosen permitted (Some r0) own).choice) × (settled.by ≡ (chosen permitted (Some r0) own).by)
+
+abbrev pub Settles : Setting → (Version → List ℕ) → Program → ℕ → ℕ → (ℕ → Bool) → ℕ → Settled → Type 0
+Settles s context program = SettlesBy s program.policy context program
+
+-- the context of a placement, by the version of the policy's image
+abbrev pub place_bytes : PlaceFacts → Version → List ℕ
+place_bytes facts First = place_bytes_first facts
+place_bytes facts Second = place_bytes_second facts
+
+-- a placement is settled, of the task in a hand, among so many processors
+abbrev pub SettlesPlace : Setting → ℕ → ℕ → Processor → Carried → Settled → Type 0
+SettlesPlace s count cpu p carried settled =
+    let own = unwrap_or (own_place count carried.loads carried.task) 0 in
+    let context = place_bytes (record { task = carried.task; waking = cpu; processors = count; own = own; loads = carried.loads }) in
+    Settles s context p.programs.place p.running.last cpu (may_place count carried.task) own settled
+
+-- a preemption is settled: where nothing runs no policy is asked; else it is answered by 0 or 1
+abbrev pub SettlesPreempt : Setting → ℕ → Processor → Option Task → Settled → Type 0
+SettlesPreempt s cpu p None settled = settled ≡ unasked 0 p.programs.preempt
+SettlesPreempt s cpu p (Some current) settled =
+    let queue = p.running.queue in
+    let own = own_preempt s.discipline queue (Some current) in
+    let context = preempt_bytes (record { processor = cpu; queue = queue; current = current; choice = s.discipline.choice queue; own = own }) in
+    Settles s (λ version. context) p.programs.preempt p.running.last cpu may_preempt (as_number own) settled
+
+-- where the other processor has at least two tasks more, its movable one of greatest (v, id)
+abbrev pub own_pull : ℕ → Processor → Processor → Option ℕ
+own_pull cpu p from = id_of (pull_of cpu (size_of p) (size_of from) from.running.queue)
+
+-- a pull is settled, from another processor
+abbrev pub SettlesPull : Setting → ℕ → ℕ → Processor → Processor → Settled → Type 0
+SettlesPull s cpu from p other settled =
+    let queue = other.running.queue in
+    let own = own_pull cpu p other in
+    let context = pull_bytes (record { puller = cpu; source = from; puller_size = size_of p; source_size = size_of other; movable = movable_to cpu queue; own = own }) in
+    Settles s (λ version. context) p.programs.pull p.running.last cpu (may_pull cpu queue) (or_nobody own) settled
+
+-- Decide: who runs after a preemption was settled, and what stands at the hook
+abbrev pub decided_by : Setting → Processor → Settled → Processor
+decided_by s p settled =
+    record p {
+      running = decided s.discipline p.running p.running.current (settled.choice == 1);
+      programs = record p.programs { preempt = settled.program };
+    }

@@ -1,0 +1,45 @@
+-- A processor as the world sees it: who runs and waits there, the task in its hand, and what stands at its hooks.
+use Rattle.std.specs.Prelude.{◌≡◌, ℕ, ◌+◌, ◌≤◌, List, [], ◌∷◌, ◌++◌, length, Option, None, if◌then◌else◌}
+use Rattle.std.specs.Option.{option_map, option_to_list}
+use Rattle.bq_disc.specs.Tasks.{Task, has_id}
+use Rattle.bq_disc.specs.OneProcessor.{Running, at_rest, present_at}
+use Rattle.bq_policies.specs.Programs.{Programs, no_programs}
+use Rattle.bq_parts.specs.declared.carried.Carried.{Carried}
+
+pub record Processor : Type 0 where
+  pub running : Running
+  pub hand : Option Carried
+  pub programs : Programs
+
+-- nothing has come to it, and nothing is installed
+abbrev pub opening : Processor
+opening = record { running = at_rest; hand = None; programs = no_programs }
+
+-- the task in a hand
+abbrev pub in_hand : Processor → List Task
+in_hand p = option_to_list (option_map (λ (c : Carried). c.task) p.hand)
+
+-- all tasks that a processor has, in its hand too
+abbrev pub held_by : Processor → List Task
+held_by p = present_at p.running ++ in_hand p
+
+-- size: how many tasks run or wait in the queue
+abbrev pub size_of : Processor → ℕ
+size_of p = length (present_at p.running)
+
+-- load: those of its inbox are counted too
+abbrev pub load_of : Processor → List Task → ℕ
+load_of p inbox = size_of p + length inbox
+
+-- how many of some tasks have an id
+abbrev pub count_of : ℕ → List Task → ℕ
+count_of id [] = 0
+count_of id (x ∷ xs) = (if has_id id x then 1 else 0) + count_of id xs
+
+-- no id stands there twice
+abbrev pub HasEachOnce : List Task → Type 0
+HasEachOnce xs = (id : ℕ) → count_of id xs ≤ 1
+
+-- each id is one of a seat
+abbrev pub HasSeatedIds : List Task → Type 0
+HasSeatedIds xs = (id : ℕ) → 1024 ≤ id → count_of id xs ≡ 0

@@ -1,0 +1,88 @@
+-- Which events are refused, and why: by their arguments, or by what the world holds. The first that holds is named.
+use Rattle.std.specs.Prelude.{ℕ, ◌%◌, ◌^◌, ℤ, pos, negsuc, int_le, Bool, true, false, not, ◌==◌, ◌||◌, ◌&&◌, nat_lt, nat_le, List, [], ◌∷◌, Option, Some, None, if◌then◌else◌, is_some, is_none}
+use Rattle.bq_parts.specs.declared.carried.Carried.{Carried}
+use Rattle.bq_parts.specs.declared.seat.Seat.{Seat}
+use Rattle.bq_parts.specs.declared.seat.Seat.TheVariants.{Absent, Blocked, Away}
+use Rattle.bq_verify.specs.declared.hook.Hook.{Hook}
+use Rattle.bq_verify.specs.declared.hook.Hook.TheVariants as hooks
+use Rattle.bq_verify.specs.Accepted.{Accepted}
+use Rattle.bq_policies.specs.Programs.{at_hook}
+use Rattle.bq_parts.specs.declared.event.Event.{Event}
+use Rattle.bq_parts.specs.declared.event.Event.TheVariants.{Admit, Retire, Draw, Install, BeginWake, EndWake, Drain, Tick, Block, Pull}
+use Rattle.bq_parts.specs.declared.refusal.Refusal.{Refusal}
+use Rattle.bq_parts.specs.declared.refusal.Refusal.TheVariants as no
+use Rattle.bq_parts.specs.World.{World, processor, seat, count_in}
+
+-- the first that holds
+abbrev pub first_refusal : List (Bool × Refusal) → Option Refusal
+first_refusal [] = None
+first_refusal ((holds, refusal) ∷ rest) = if holds then Some refusal else first_refusal rest
+
+abbrev pub is_absent : Seat → Bool
+is_absent Absent = true
+is_absent (Blocked t) = false
+is_absent Away = false
+
+abbrev pub is_away : Seat → Bool
+is_away Absent = false
+is_away (Blocked t) = false
+is_away Away = true
+
+abbrev pub out_of_nice : ℤ → Bool
+out_of_nice n = not (int_le (negsuc 19) n) || not (int_le n (pos 19))
+
+abbrev pub same_hook : Hook → Hook → Bool
+same_hook hooks.Place hooks.Place = true
+same_hook hooks.Preempt hooks.Preempt = true
+same_hook hooks.Pull hooks.Pull = true
+same_hook a b = false
+
+abbrev pub is_for : Hook → Option Accepted → Bool
+is_for h None = true
+is_for h (Some p) = same_hook h p.hook
+
+abbrev pub no_processor : ℕ → ℕ → Bool × Refusal
+no_processor count cpu = (nat_le count cpu, no.NoProcessor)
+
+-- an argument that no world of so many processors takes
+abbrev pub argument_refusal : ℕ → Event → Option Refusal
+argument_refusal count (Admit id nice mask slice) =
+    first_refusal ((nat_le 1024 id, no.NoTask) ∷ (mask % 2 ^ count == 0, no.EmptyMask) ∷ (out_of_nice nice, no.Nice) ∷ (nat_lt slice 100000 || nat_lt 100000000 slice, no.Slice) ∷ [])
+argument_refusal count (Retire id) = first_refusal ((nat_le 1024 id, no.NoTask) ∷ [])
+argument_refusal count Draw = None
+argument_refusal count (Install cpu h g policy) = first_refusal (no_processor count cpu ∷ (not (is_for h policy), no.WrongHook) ∷ [])
+argument_refusal count (BeginWake cpu id) = first_refusal (no_processor count cpu ∷ (nat_le 1024 id, no.NoTask) ∷ [])
+argument_refusal count (EndWake cpu now) = first_refusal (no_processor count cpu ∷ [])
+argument_refusal count (Drain cpu now) = first_refusal (no_processor count cpu ∷ [])
+argument_refusal count (Tick cpu now) = first_refusal (no_processor count cpu ∷ [])
+argument_refusal count (Block cpu now) = first_refusal (no_processor count cpu ∷ [])
+argument_refusal count (Pull cpu from now) = first_refusal (no_processor count cpu ∷ no_processor count from ∷ (cpu == from, no.SameProcessor) ∷ [])
+
+-- what a seat and a hand refuse of a wake that begins
+abbrev pub begin_refusal : Seat → Option Carried → Option Refusal
+begin_refusal s hand = first_refusal ((is_absent s, no.NoTask) ∷ (is_away s, no.NotBlocked) ∷ (is_some hand, no.InHand) ∷ [])
+
+-- what is refused of a generation, where another stands at the hook and so many numbers were drawn
+abbrev pub install_refusal : ℕ → ℕ → ℕ → Option Refusal
+install_refusal newest drawn g = first_refusal ((nat_lt 0 newest && nat_le g newest, no.Older newest) ∷ (g == 0 || nat_lt drawn g, no.NotDrawn) ∷ [])
+
+-- what this world refuses
+abbrev pub state_refusal : World → Event → Option Refusal
+state_refusal w (Admit id nice mask slice) = first_refusal ((not (is_absent (seat w id)), no.TaskExists) ∷ [])
+state_refusal w (Retire id) = first_refusal ((is_absent (seat w id), no.NoTask) ∷ (is_away (seat w id), no.NotBlocked) ∷ [])
+state_refusal w Draw = None
+state_refusal w (Install cpu h g policy) = install_refusal (at_hook h (processor w cpu).programs).generation w.drawn g
+state_refusal w (BeginWake cpu id) = begin_refusal (seat w id) (processor w cpu).hand
+state_refusal w (EndWake cpu now) = first_refusal ((is_none (processor w cpu).hand, no.NothingInHand) ∷ [])
+state_refusal w (Drain cpu now) = None
+state_refusal w (Tick cpu now) = None
+state_refusal w (Block cpu now) = first_refusal ((is_none (processor w cpu).running.current, no.Idle) ∷ [])
+state_refusal w (Pull cpu from now) = None
+
+abbrev pub either : Option Refusal → Option Refusal → Option Refusal
+either None other = other
+either (Some r) other = Some r
+
+-- those of the arguments come first
+abbrev pub refusal : World → Event → Option Refusal
+refusal w e = either (argument_refusal (count_in w) e) (state_refusal w e)

@@ -1,0 +1,79 @@
+-- What each event does to the parts that it touches, and what it is replied. Each is the event's step in any world that has these parts.
+use Rattle.std.specs.Prelude.{◌≡◌, ℕ, true, false, List, [], length, slice_index_or, slice_set, Option, Some, None, Result, Ok, Err}
+use Rattle.bq_disc.specs.Tasks.{Task, id_of}
+use Rattle.bq_disc.specs.Discipline.{Discipline}
+use Rattle.bq_disc.specs.OneProcessor.{charge, enter_all}
+use Rattle.bq_maps.specs.declared.board.Call.{Call as Asked}
+use Rattle.bq_parts.specs.declared.seat.Seat.{Seat}
+use Rattle.bq_parts.specs.declared.seat.Seat.TheVariants.{Absent, Blocked, Away}
+use Rattle.bq_parts.specs.declared.reply.Reply.{Reply}
+use Rattle.bq_parts.specs.declared.reply.Reply.TheVariants.{Admitted, Begun, Installed, Drained, Ticked, Blocked as Went}
+use Rattle.bq_parts.specs.declared.refusal.Refusal.{Refusal}
+use Rattle.bq_parts.specs.declared.refusal.Refusal.TheVariants as no
+use Rattle.bq_parts.specs.Processors.{Processor}
+use Rattle.bq_parts.specs.declared.carried.Carried.{Carried}
+use Rattle.bq_parts.specs.declared.wakes.Placement.{Placement}
+use Rattle.bq_parts.specs.Refusals.{is_absent, begin_refusal, install_refusal}
+use Rattle.bq_verify.specs.declared.hook.Hook.{Hook}
+use Rattle.bq_policies.specs.Programs.{Program, at_hook, with_program}
+use Rattle.bq_parts.specs.Choices.{Setting, Settled, SettlesPlace, SettlesPreempt, decided_by}
+use Rattle.bq_parts.specs.Steps.{after_leaving, as_it_leaves}
+
+-- a processor after its time has passed
+abbrev pub after_time : Discipline → ℕ → Processor → Processor
+after_time d now p = record p { running = charge d p.running now }
+
+-- the lobby admits a task
+abbrev pub Admits : ℕ → Task → List Seat → Result Reply Refusal → List Seat → Type 0
+Admits id t seats (Ok r) seats' = (is_absent (slice_index_or seats id Absent) ≡ true) × (r ≡ Admitted) × (seats' ≡ slice_set seats id (Blocked t))
+Admits id t seats (Err e) seats' = (is_absent (slice_index_or seats id Absent) ≡ false) × (e ≡ no.TaskExists) × (seats' ≡ seats)
+
+-- it is decided who runs
+abbrev pub Decides : Setting → ℕ → Processor → Settled → Processor → Type 0
+Decides s cpu p settled q = SettlesPreempt s cpu p p.running.current settled × (q ≡ decided_by s p settled)
+
+-- the clock of a processor ticks
+abbrev pub Ticks : Setting → ℕ → ℕ → Processor → List Asked → Reply → Processor → Type 0
+Ticks s cpu now p calls r q =
+    (settled : Settled) × Decides s cpu (after_time s.discipline now p) settled q
+    × (calls ≡ settled.calls) × (r ≡ Ticked (id_of q.running.current) settled.by settled.steps)
+
+-- the tasks of an inbox enter
+abbrev pub Drains : Setting → ℕ → ℕ → Processor → List Task → List Asked → Reply → Processor → Type 0
+Drains s cpu now p tasks calls r q =
+    (settled : Settled)
+    × (let c = after_time s.discipline now p in
+    Decides s cpu (record c { running = enter_all s.discipline c.running tasks }) settled q)
+    × (calls ≡ settled.calls) × (r ≡ Drained (length tasks) (id_of q.running.current) settled.by settled.steps)
+
+-- the running task goes to the lobby
+abbrev pub Blocks : Discipline → ℕ → ℕ → Processor → List Seat → Result Reply Refusal → Processor → List Seat → Type 0
+Blocks d cpu now p seats (Ok r) q seats' =
+    (t : Task)
+    × (let c = after_time d now p in
+    (c.running.current ≡ Some t) × (q ≡ record c { running = after_leaving d c.running })
+    × (r ≡ Went t.id (id_of q.running.current)) × (seats' ≡ slice_set seats t.id (Blocked (as_it_leaves c.running cpu t))))
+Blocks d cpu now p seats (Err e) q seats' = (p.running.current ≡ None) × (e ≡ no.Idle) × (q ≡ p) × (seats' ≡ seats)
+
+-- a task of the lobby comes into the hand, with these loads
+abbrev pub Begins : ℕ → List ℕ → Processor → List Seat → Result Reply Refusal → Processor → List Seat → Type 0
+Begins id loads p seats (Ok r) q seats' =
+    (t : Task) × (begin_refusal (slice_index_or seats id Absent) p.hand ≡ None) × (slice_index_or seats id Absent ≡ Blocked t) × (r ≡ Begun id loads)
+    × (q ≡ record p { hand = Some (record { task = t; loads = loads }) }) × (seats' ≡ slice_set seats id Away)
+Begins id loads p seats (Err e) q seats' = (begin_refusal (slice_index_or seats id Absent) p.hand ≡ Some e) × (q ≡ p) × (seats' ≡ seats)
+
+-- the task in the hand is given for the processor that is chosen among so many
+abbrev pub Places : Setting → ℕ → ℕ → ℕ → Processor → List Asked → Option Placement → Processor → Type 0
+Places s count cpu now p calls None q = (calls ≡ []) × (p.hand ≡ None) × (q ≡ p)
+Places s count cpu now p calls (Some x) q =
+    (carried : Carried) × (settled : Settled) × (p.hand ≡ Some carried) × (x.task ≡ carried.task)
+    × (let c = after_time s.discipline now p in
+    SettlesPlace s count cpu c carried settled
+    × (x.to ≡ settled.choice) × (x.by ≡ settled.by) × (x.steps ≡ settled.steps) × (calls ≡ settled.calls)
+    × (q ≡ record c { hand = None; programs = record c.programs { place = settled.program } }))
+
+-- something else stands at a hook, where so many numbers were drawn
+abbrev pub Installs : Hook → ℕ → Processor → Program → Result Reply Refusal → Processor → Type 0
+Installs h drawn p new (Ok r) q =
+    (install_refusal (at_hook h p.programs).generation drawn new.generation ≡ None) × (r ≡ Installed) × (q ≡ record p { programs = with_program h p.programs new })
+Installs h drawn p new (Err e) q = (install_refusal (at_hook h p.programs).generation drawn new.generation ≡ Some e) × (q ≡ p)

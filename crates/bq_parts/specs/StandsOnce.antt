@@ -1,0 +1,48 @@
+-- Each admitted task stands exactly once, on a processor of its mask where it runs or waits; nothing else stands anywhere.
+use Rattle.std.specs.Prelude.{◌≡◌, ℕ, ◌+◌, true, List, [], ◌∷◌, ◌++◌, Some, All}
+use Rattle.bq_disc.specs.Tasks.{Task}
+use Rattle.bq_disc.specs.Queues.{can_use}
+use Rattle.bq_disc.specs.OneProcessor.{present_at}
+use Rattle.bq_hooks.specs.Contexts.{as_number}
+use Rattle.bq_hooks.specs.OwnPlace.{HasPlace}
+use Rattle.bq_parts.specs.declared.carried.Carried.{Carried}
+use Rattle.bq_parts.specs.declared.seat.Seat.TheVariants.{Blocked}
+use Rattle.bq_parts.specs.Processors.{Processor, held_by, count_of}
+use Rattle.bq_parts.specs.World.{World, processor, inbox, seat, count_in}
+use Rattle.bq_parts.specs.Refusals.{is_away}
+
+-- how often an id stands in hands, currents and queues
+abbrev pub held_count : ℕ → List Processor → ℕ
+held_count id [] = 0
+held_count id (p ∷ ps) = count_of id (held_by p) + held_count id ps
+
+-- how often it stands in inboxes
+abbrev pub placed_count : ℕ → List (List Task) → ℕ
+placed_count id [] = 0
+placed_count id (tasks ∷ others) = count_of id tasks + placed_count id others
+
+abbrev pub standing_count : ℕ → World → ℕ
+standing_count id w = held_count id w.processors + placed_count id w.inboxes
+
+-- the tasks that run, or wait in a queue or an inbox
+abbrev pub runnable_at : World → ℕ → List Task
+runnable_at w cpu = present_at (processor w cpu).running ++ inbox w cpu
+
+pub record StandsOnce (w : World) : Type 0 where
+  -- an id that is away stands once with the processors, and no other id does
+  pub away : (id : ℕ) → standing_count id w ≡ as_number (is_away (seat w id))
+  -- a task of the lobby stands at its own id
+  pub blocked : (id : ℕ) (t : Task) → seat w id ≡ Blocked t → t.id ≡ id
+  -- each runnable task is on a processor of its mask
+  pub allowed : (cpu : ℕ) → All (λ t. can_use cpu t ≡ true) (runnable_at w cpu)
+
+-- every admitted task has a processor that it may use, wherever it stands
+pub record HasPlaces (w : World) : Type 0 where
+  pub in_lobby : (id : ℕ) (t : Task) → seat w id ≡ Blocked t → HasPlace (count_in w) t
+  pub in_hand : (cpu : ℕ) (c : Carried) → (processor w cpu).hand ≡ Some c → HasPlace (count_in w) c.task
+  pub runnable : (cpu : ℕ) → All (HasPlace (count_in w)) (runnable_at w cpu)
+
+-- what the world keeps from its opening on
+pub record IsOrderly (w : World) : Type 0 where
+  pub once : StandsOnce w
+  pub places : HasPlaces w

@@ -1,0 +1,44 @@
+-- The world: processors with their inboxes, the lobby of the tasks that sleep, and the numbers drawn.
+use Rattle.std.specs.Prelude.{ℕ, List, [], ◌∷◌, length, replicate, slice_index_or, slice_set}
+use Rattle.bq_disc.specs.Tasks.{Task}
+use Rattle.bq_parts.specs.declared.seat.Seat.{Seat}
+use Rattle.bq_parts.specs.declared.seat.Seat.TheVariants.{Absent}
+use Rattle.bq_parts.specs.Processors.{Processor, opening, load_of}
+
+-- the processors; the inbox of each, in the order in which tasks came; the lobby's seat of each id; and how many numbers
+-- were drawn. An absent seat is not admitted; a seat that is away is admitted, and its task is with some processor
+pub record World : Type 0 where
+  pub processors : List Processor
+  pub inboxes : List (List Task)
+  pub seats : List Seat
+  pub drawn : ℕ
+
+-- nothing is admitted, drawn or installed
+abbrev pub opening_world : ℕ → World
+opening_world count = record { processors = replicate count opening; inboxes = replicate count []; seats = replicate 1024 Absent; drawn = 0 }
+
+abbrev pub count_in : World → ℕ
+count_in w = length w.processors
+
+abbrev pub processor : World → ℕ → Processor
+processor w cpu = slice_index_or w.processors cpu opening
+
+abbrev pub inbox : World → ℕ → List Task
+inbox w cpu = slice_index_or w.inboxes cpu []
+
+abbrev pub seat : World → ℕ → Seat
+seat w id = slice_index_or w.seats id Absent
+
+abbrev pub with_processor : World → ℕ → Processor → World
+with_processor w cpu p = record w { processors = slice_set w.processors cpu p }
+
+abbrev pub with_inbox : World → ℕ → List Task → World
+with_inbox w cpu tasks = record w { inboxes = slice_set w.inboxes cpu tasks }
+
+abbrev pub with_seat : World → ℕ → Seat → World
+with_seat w id s = record w { seats = slice_set w.seats id s }
+
+-- the load of each processor
+abbrev pub loads_of : List Processor → List (List Task) → List ℕ
+loads_of (p ∷ ps) (tasks ∷ inboxes) = load_of p tasks ∷ loads_of ps inboxes
+loads_of ps inboxes = []

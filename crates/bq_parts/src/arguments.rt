@@ -1,0 +1,108 @@
+//! Refusals that an event's arguments have in any world of so many processors.
+ghost use Rattle.std.specs.Prelude.{◌≡◌, ◌<◌, ◌≤◌, ◌^◌, ◌%◌, ℕ, Some, None};
+ghost use Rattle.bq_parts.specs.Refusals.{argument_refusal};
+
+use crate::{Event, Hook, Policy, Refusal};
+
+/// The bits of a mask that name one of so many processors.
+pub(crate) fn allowed(count: usize, mask: u64) -> u64
+    requires { count ≤ 64 }
+    ensures { result ≡ mask % 2 ^ count }
+{
+    if count == 64 {
+        mask
+    } else {
+        mask % (1 << count)
+    }
+}
+
+/// The refusal that an event's arguments have in any world of so many processors; the first by number, where there are
+/// several.
+pub fn argument_refusal(count: usize, event: &Event) -> Option<Refusal>
+    requires { count ≤ 64 }
+    ensures { result ≡ argument_refusal count event.now }
+{
+    match event {
+        Event::Draw => None,
+        Event::Admit {
+            task,
+            nice,
+            mask,
+            slice,
+        } => admit_refusal(count, *task, *nice, *mask, *slice),
+        Event::Retire { task } => (*task >= 1024).then_some(Refusal::NoTask),
+        Event::Install {
+            processor,
+            hook,
+            generation,
+            policy,
+        } => install_refusal(count, *processor, *hook, *generation, policy),
+        Event::BeginWake { processor, task } => {
+            if usize::from(*processor) >= count {
+                Some(Refusal::NoProcessor)
+            } else if *task >= 1024 {
+                Some(Refusal::NoTask)
+            } else {
+                None
+            }
+        }
+        Event::EndWake { processor, .. }
+        | Event::Drain { processor, .. }
+        | Event::Tick { processor, .. }
+        | Event::Block { processor, .. } => {
+            if usize::from(*processor) >= count {
+                Some(Refusal::NoProcessor)
+            } else {
+                None
+            }
+        }
+        Event::Pull {
+            processor,
+            from,
+            ..
+        } => {
+            if usize::from(*processor) >= count || usize::from(*from) >= count {
+                Some(Refusal::NoProcessor)
+            } else if processor == from {
+                Some(Refusal::SameProcessor)
+            } else {
+                None
+            }
+        }
+    }
+}
+
+fn admit_refusal(count: usize, task: u16, nice: i8, mask: u64, slice: u64) -> Option<Refusal>
+    requires { count ≤ 64 }
+    ensures { result ≡ argument_refusal count (Event.Admit task nice mask slice) }
+{
+    if task >= 1024 {
+        Some(Refusal::NoTask)
+    } else if allowed(count, mask) == 0 {
+        Some(Refusal::EmptyMask)
+    } else if nice < -20 || nice > 19 {
+        Some(Refusal::Nice)
+    } else if slice < 100_000 || slice > 100_000_000 {
+        Some(Refusal::Slice)
+    } else {
+        None
+    }
+}
+
+fn install_refusal(
+    count: usize,
+    processor: u8,
+    hook: Hook,
+    generation: u64,
+    policy: &Option<Policy>,
+) -> Option<Refusal>
+    ensures { result ≡ argument_refusal count (Event.Install processor hook generation policy.now) }
+{
+    if usize::from(processor) >= count {
+        return Some(Refusal::NoProcessor);
+    }
+    match policy {
+        Some(policy) if policy.hook() != hook => Some(Refusal::WrongHook),
+        _ => None,
+    }
+}

@@ -1,0 +1,244 @@
+//! The choices of a processor: its policies' where they are permitted, and else the discipline's own.
+ghost use Rattle.std.specs.Prelude.{◌≡◌, ◌≤◌, ◌<◌, ◌^◌, [], true, length, Some, IfSome, is_some};
+ghost use Rattle.std.specs.Option.{option_map};
+ghost use Rattle.bq_maps.specs.Counters.{Through};
+ghost use Rattle.bq_policies.specs.Answers.{Answers};
+ghost use Rattle.bq_hooks.specs.Contexts.{as_number, or_nobody, pull_bytes};
+ghost use Rattle.bq_hooks.specs.OwnPlace.{HasPlace};
+ghost use Rattle.bq_hooks.specs.Permitted.{may_pull, task_numbered};
+ghost use Rattle.bq_hooks.specs.Settled.{settled};
+ghost use Rattle.bq_disc.specs.Movable.{movable_to};
+ghost use Rattle.bq_disc.specs.Queues.{HasDistinctIds, HasSmallIds};
+ghost use Rattle.bq_disc.specs.OneProcessor.{present_at};
+ghost use Rattle.bq_parts.specs.Processors.{HasEachOnce, HasSeatedIds, size_of};
+ghost use Rattle.bq_parts.specs.Choices.{policies, place_bytes, SettlesPlace, SettlesPreempt, decided_by};
+
+use crate::{By, Carried, Cpu, Hook, Outcome, Scratch};
+use bq_disc::RunQueue;
+use bq_hooks::place::{Place, place_ctx, wide_place_ctx};
+use bq_hooks::preempt::{Preempt, preempt_ctx};
+use bq_hooks::pull::{Pull, pull_ctx};
+use bq_hooks::{Choice, own_place, settle_place, settle_preempt, settle_pull};
+use bq_interp::{Done, Env};
+use bq_maps::Board;
+use bq_policies::Version;
+
+impl<T> Outcome<T> {
+    /// What the discipline chose where no policy was asked.
+    #[inline(always)]
+    pub fn unasked(choice: T) -> Outcome<T>
+        ensures { result ≡ record { choice = choice; by = By.Discipline; steps = 0 } }
+    {
+        Outcome {
+            choice,
+            by: By::Discipline,
+            steps: 0,
+        }
+    }
+
+    /// What was chosen after a policy took so many steps.
+    #[inline(always)]
+    pub fn after(chosen: Choice<T>, steps: u32) -> Outcome<T>
+        ensures { result ≡ record { choice = chosen.value; by = chosen.by; steps = steps } }
+    {
+        Outcome {
+            choice: chosen.value,
+            by: chosen.by,
+            steps,
+        }
+    }
+}
+
+impl<Q: RunQueue> Cpu<Q> {
+    /// What policies may ask at this processor.
+    fn env(&self, processor: u8) -> Env
+        ensures { result ≡ record { now = self.now.running.last; processor = processor } }
+    {
+        Env {
+            now: self.last,
+            processor: u32::from(processor),
+        }
+    }
+
+    /// The processor, of the first `count`, where the task in a hand is placed.
+    #[inline(never)]
+    pub fn choose_place<B: Board>(
+        &mut self,
+        processor: u8,
+        count: usize,
+        carried: &Carried,
+        scratch: &mut Scratch,
+        board: &mut B,
+    ) -> Outcome<u8>
+        requires few { count ≤ 64 }
+        requires usable { HasPlace count carried.now.task }
+        requires unasked { scratch.old ≡ [] }
+        ensures settled { SettlesPlace (policies Q.R.discipline) count processor self.old carried.now (record { choice = result.choice; by = result.by; steps = result.steps; calls = scratch.new; program = self.new.programs.place }) }
+        ensures rest { self.new ≡ record self.old { programs = record self.old.programs { place = self.new.programs.place } } }
+        ensures board { Through B.leads board.old scratch.new board.new }
+    {
+        let task = &carried.task.node().entity;
+        let own = own_place(count, &carried.loads, task);
+        let Some(version) = self.hooks.version(Hook::Place) else {
+            return Outcome::unasked(own);
+        };
+        let facts = Place {
+            task,
+            waking: processor,
+            processors: count,
+            own,
+            loads: &carried.loads,
+        };
+        let done = self.ask_place(processor, version, &facts, scratch, board);
+        Outcome::after(settle_place(Some(done.r0), count, task, own), done.steps)
+    }
+
+    /// What the place policy, whose image has that version, answers to these facts.
+    fn ask_place<B: Board>(
+        &mut self,
+        processor: u8,
+        version: Version,
+        facts: &Place,
+        scratch: &mut Scratch,
+        board: &mut B,
+    ) -> Done
+        requires version { Some version ≡ option_map (λ p. p.version) self.old.programs.place.policy }
+        ensures answers { IfSome self.old.programs.place.policy (λ p. Answers p (place_bytes facts.now version) self.old.programs.place.maps self.old.running.last processor result.r0 self.new.programs.place.maps result.steps scratch.new) }
+        ensures rest { self.new ≡ record self.old { programs = record self.old.programs { place = record self.old.programs.place { maps = self.new.programs.place.maps } } } }
+        ensures board { Through B.leads board.old scratch.new board.new }
+    {
+        let env = self.env(processor);
+        match version {
+            Version::First => {
+                let mut context = [0; 104];
+                place_ctx(facts, &mut context);
+                self.hooks.ask(Hook::Place, &context, env, scratch, board)
+            }
+            Version::Second => {
+                let mut context = [0; 296];
+                wide_place_ctx(facts, &mut context);
+                self.hooks.ask(Hook::Place, &context, env, scratch, board)
+            }
+        }
+    }
+
+    /// Whether the task that runs gives way. Where none runs no policy is asked.
+    fn choose_preempt<B: Board>(
+        &mut self,
+        processor: u8,
+        scratch: &mut Scratch,
+        board: &mut B,
+    ) -> Outcome<bool>
+        requires distinct { HasDistinctIds self.old.running.queue }
+        requires few { length self.old.running.queue < 2 ^ 32 }
+        requires unasked { scratch.old ≡ [] }
+        ensures settled { SettlesPreempt (policies Q.R.discipline) processor self.old self.old.running.current (record { choice = as_number result.choice; by = result.by; steps = result.steps; calls = scratch.new; program = self.new.programs.preempt }) }
+        ensures rest { self.new ≡ record self.old { programs = record self.old.programs { preempt = self.new.programs.preempt } } }
+        ensures board { Through B.leads board.old scratch.new board.new }
+    {
+        let Some(current) = &self.current else {
+            return Outcome::unasked(false);
+        };
+        let own = self.queue.wants_preempt(current.node());
+        let Some(_) = self.hooks.version(Hook::Preempt) else {
+            return Outcome::unasked(own);
+        };
+        let facts = Preempt {
+            processor,
+            queue: &self.queue,
+            current: &current.node().entity,
+            own,
+        };
+        let mut context = [0; 56];
+        preempt_ctx(&facts, &mut context);
+        let env = Env {
+            now: self.last,
+            processor: u32::from(processor),
+        };
+        let done = self.hooks.ask(Hook::Preempt, &context, env, scratch, board);
+        Outcome::after(settle_preempt(Some(done.r0), own), done.steps)
+    }
+
+    /// It is decided who runs. Where nothing runs the queue's choice does, unasked.
+    pub fn decide<B: Board>(
+        &mut self,
+        processor: u8,
+        scratch: &mut Scratch,
+        board: &mut B,
+    ) -> Outcome<bool>
+        requires once { HasEachOnce (present_at self.old.running) }
+        requires seated { HasSeatedIds (present_at self.old.running) }
+        requires unasked { scratch.old ≡ [] }
+        ensures settled { SettlesPreempt (policies Q.R.discipline) processor self.old self.old.running.current (record { choice = as_number result.choice; by = result.by; steps = result.steps; calls = scratch.new; program = self.new.programs.preempt }) }
+        ensures decided { self.new ≡ decided_by (policies Q.R.discipline) self.old (record { choice = as_number result.choice; by = result.by; steps = result.steps; calls = scratch.new; program = self.new.programs.preempt }) }
+        ensures board { Through B.leads board.old scratch.new board.new }
+    {
+        let preempted = self.choose_preempt(processor, scratch, board);
+        if preempted.choice {
+            self.switch();
+        } else {
+            self.start_if_idle();
+        }
+        preempted
+    }
+
+    /// Whether a policy chooses the task to pull.
+    pub fn asks_pull(&self) -> bool
+        ensures { result ≡ is_some self.now.programs.pull.policy }
+    {
+        self.hooks.version(Hook::Pull).is_some()
+    }
+
+    /// Fills the context of another processor's pull policy, where a task may be pulled from here.
+    pub fn pull_context(
+        &self,
+        puller: u8,
+        source: u8,
+        puller_size: u32,
+        own: Option<u16>,
+        context: &mut [u8; 160],
+    )
+        requires inside { puller < 64 }
+        requires few { size_of self.now < 2 ^ 32 }
+        requires distinct { HasDistinctIds self.now.running.queue }
+        ensures { context.new ≡ pull_bytes (record { puller = puller; source = source; puller_size = puller_size; source_size = size_of self.now; movable = movable_to puller self.now.running.queue; own = own }) }
+    {
+        let facts = Pull {
+            puller,
+            source,
+            puller_size,
+            source_size: self.size() as u32,
+            queue: &self.queue,
+            own,
+        };
+        pull_ctx(&facts, context);
+    }
+
+    /// What the pull policy answers on a context.
+    pub fn ask_pull<B: Board>(
+        &mut self,
+        processor: u8,
+        context: &[u8; 160],
+        scratch: &mut Scratch,
+        board: &mut B,
+    ) -> Done
+        requires there { is_some self.old.programs.pull.policy ≡ true }
+        ensures answers { IfSome self.old.programs.pull.policy (λ p. Answers p context.now self.old.programs.pull.maps self.old.running.last processor result.r0 self.new.programs.pull.maps result.steps scratch.new) }
+        ensures rest { self.new ≡ record self.old { programs = record self.old.programs { pull = record self.old.programs.pull { maps = self.new.programs.pull.maps } } } }
+        ensures board { Through B.leads board.old scratch.new board.new }
+    {
+        let env = self.env(processor);
+        self.hooks.ask(Hook::Pull, context, env, scratch, board)
+    }
+
+    /// The task that goes from here to the puller, if any, by its policy's answer where that is permitted, and else by the
+    /// discipline's own choice.
+    pub fn settle_pull(&self, r0: Option<u64>, puller: u8, own: Option<u16>) -> Choice<Option<u16>>
+        requires inside { puller < 64 }
+        requires small { HasSmallIds self.now.running.queue }
+        ensures value { result.value ≡ task_numbered (settled (may_pull puller self.now.running.queue) r0 (or_nobody own)).choice }
+        ensures by { result.by ≡ (settled (may_pull puller self.now.running.queue) r0 (or_nobody own)).by }
+    {
+        settle_pull(r0, &self.queue, puller, own)
+    }
+}

@@ -1,0 +1,283 @@
+//! One processor: its queue, the task that runs, the clock, the task in its hand, and what stands at its hooks.
+ghost use Rattle.std.specs.Prelude.{◌≡◌, ◌<◌, ◌≤◌, ◌^◌, ◌+◌, ℕ, [], length, Option, Some, None, IfSome, find, is_some};
+ghost use Rattle.std.specs.Option.{option_map};
+ghost use Rattle.bq_disc.specs.Tasks.{id_of, with_id};
+ghost use Rattle.bq_disc.specs.Queues.{follows, HasDistinctIds};
+ghost use Rattle.bq_disc.specs.Trees.{IsRising};
+ghost use Rattle.bq_disc.specs.Pulls.{pull_of};
+ghost use Rattle.bq_disc.specs.Discipline.{left_at};
+ghost use Rattle.bq_disc.specs.Chains.{task_of, chain_behind, IsStraightBehind};
+ghost use Rattle.bq_disc.specs.OneProcessor.{charge, marked, start, switched, enter_all, entered, present_at};
+ghost use Rattle.bq_policies.specs.Programs.{at_hook, with_program, IsFor};
+ghost use Rattle.bq_parts.specs.Processors.{opening, load_of, size_of, count_of, HasEachOnce};
+ghost use Rattle.bq_parts.specs.Steps.{taken_from, without_task, with_pulled, started_if_idle};
+
+use crate::{Carried, Hook, Hooks, Inbox, Installed, Unlinked};
+use bq_disc::node::{self, Link};
+use bq_disc::{Entry, Node, RunQueue};
+use std::marker::Model;
+
+/// Clock readings count as at most this.
+const LATEST: u64 = (1 << 48) - 1;
+
+/// A processor. Each of its calls is its share of an event's step.
+#[derive(Drop)]
+pub struct Cpu<Q: RunQueue> {
+    pub(crate) queue: Q,
+    pub(crate) current: Option<Unlinked>,
+    pub(crate) last: u64,
+    hand: Option<Carried>,
+    pub(crate) hooks: Hooks,
+}
+
+impl<Q: RunQueue> Model for Cpu<Q> {
+    ghost use Rattle.std.specs.Prelude.{◌<◌, ◌^◌};
+    ghost use Rattle.bq_parts.specs.Processors.{Processor};
+
+    ghost Value = { Processor };
+
+    ghost view = { λ c. record { running = record { queue = Q.members c.queue; kept = Q.kept_mark c.queue; current = c.current; last = c.last }; hand = c.hand; programs = c.hooks } };
+
+    ghost invariant = { λ c. c.last < 2 ^ 48 };
+}
+
+/// The node of the task that runs.
+fn node_of(current: &Option<Unlinked>) -> Option<&Node>
+    ensures { option_map (λ n. task_of n.now) result ≡ current.now }
+{
+    match current {
+        None => None,
+        Some(task) => Some(task.node()),
+    }
+}
+
+impl<Q: RunQueue> Cpu<Q> {
+    /// A processor to which nothing has come, and at whose hooks nothing stands.
+    pub fn new() -> Cpu<Q>
+        ensures { result ≡ opening }
+    {
+        Cpu {
+            queue: Q::empty(),
+            current: None,
+            last: 0,
+            hand: None,
+            hooks: Hooks::new(),
+        }
+    }
+
+    /// The task that runs.
+    pub fn current(&self) -> Option<&Node>
+        ensures { option_map (λ n. task_of n.now) result ≡ self.now.running.current }
+    {
+        node_of(&self.current)
+    }
+
+    /// The id of the task that runs.
+    pub fn run(&self) -> Option<u16>
+        ensures { result ≡ id_of self.now.running.current }
+    {
+        match &self.current {
+            None => None,
+            Some(task) => Some(task.id()),
+        }
+    }
+
+    /// The mark that was computed last, in virtual nanoseconds.
+    pub fn kept(&self) -> u64
+        ensures { result ≡ self.now.running.kept }
+    {
+        self.queue.kept()
+    }
+
+    /// The queue's task of least (v, id) above the one given; of none, the task of least (v, id).
+    pub fn after(&self, last: Option<(u64, u16)>) -> Option<&Node>
+        ensures task { option_map (λ n. task_of n.now) result ≡ find (follows last) self.now.running.queue }
+        ensures rising { IsRising self.now.running.queue }
+        ensures distinct { HasDistinctIds self.now.running.queue }
+    {
+        self.queue.after(last)
+    }
+
+    /// The generation that stands at a hook, 0 where nothing was installed.
+    pub fn generation(&self, hook: Hook) -> u64
+        ensures { result ≡ (at_hook hook self.now.programs).generation }
+    {
+        self.hooks.generation(hook)
+    }
+
+    /// How many tasks run or wait in the queue.
+    pub fn size(&self) -> usize
+        requires { size_of self.now < 2 ^ 32 }
+        ensures { result ≡ size_of self.now }
+    {
+        match &self.current {
+            None => self.queue.len(),
+            Some(_) => self.queue.len() + 1,
+        }
+    }
+
+    /// How many tasks run or wait here, those of the inbox too.
+    pub fn load(&self, inbox: &Inbox) -> u32
+        requires few { load_of self.now inbox.now < 2 ^ 32 }
+        ensures { result ≡ load_of self.now inbox.now }
+    {
+        self.size() as u32 + inbox.len()
+    }
+
+    /// The current task has run up to now.
+    pub fn charge(&mut self, now: u64)
+        ensures { self.new ≡ record self.old { running = charge Q.R.discipline self.old.running now } }
+    {
+        let at = self.last.max(now.min(LATEST));
+        if let Some(task) = self.current.take() {
+            let mut node = task.into_node();
+            self.queue.charge(&mut node, at - self.last);
+            self.current = Some(Unlinked::new(node));
+        }
+        self.last = at;
+        self.queue.mark(node_of(&self.current));
+    }
+
+    /// The mark is computed anew.
+    pub fn remark(&mut self)
+        ensures { self.new ≡ record self.old { running = marked Q.R.discipline self.old.running } }
+    {
+        self.queue.mark(node_of(&self.current));
+    }
+
+    /// The queue's choice runs.
+    pub fn start(&mut self)
+        requires { self.old.running.current ≡ None }
+        ensures { self.new ≡ record self.old { running = start Q.R.discipline self.old.running } }
+    {
+        if let Some(id) = self.queue.choice(None) {
+            if let Some(node) = self.queue.take(id) {
+                self.current = Some(Unlinked::new(node));
+            }
+        }
+    }
+
+    /// Where nothing runs the queue's choice runs.
+    pub fn start_if_idle(&mut self)
+        ensures { self.new ≡ record self.old { running = started_if_idle Q.R.discipline self.old.running self.old.running.current } }
+    {
+        if self.current.is_none() {
+            self.start();
+        }
+    }
+
+    /// The current task and the next change places.
+    pub fn switch(&mut self)
+        requires once { HasEachOnce (present_at self.old.running) }
+        ensures { self.new ≡ record self.old { running = switched Q.R.discipline self.old.running self.old.running.current } }
+    {
+        let Some(current) = &self.current else {
+            return;
+        };
+        let Some(id) = self.queue.next(current.node()) else {
+            return;
+        };
+        let Some(next) = self.queue.take(id) else {
+            return;
+        };
+        if let Some(current) = self.current.replace(Unlinked::new(next)) {
+            self.queue.insert(current.into_node());
+        }
+    }
+
+    /// The tasks of a chain enter the queue in their order, woken.
+    pub fn enter_all(&mut self, tasks: Link)
+        requires straight { IsStraightBehind tasks }
+        requires apart { (id : ℕ) → count_of id self.old.running.queue + count_of id (chain_behind tasks) ≤ 1 }
+        ensures { self.new ≡ record self.old { running = enter_all Q.R.discipline self.old.running (chain_behind tasks) } }
+    {
+        enter_chain(&mut self.queue, tasks);
+    }
+
+    /// The current task leaves the processor, whose number is given, to sleep.
+    pub fn leave(&mut self, processor: u8) -> Option<Unlinked>
+        ensures task { result ≡ option_map (λ t. record (left_at self.old.running.kept t) { prev = Some processor }) self.old.running.current }
+        ensures left { self.new ≡ record self.old { running = record self.old.running { current = None } } }
+    {
+        let mut node = self.current.take()?.into_node();
+        self.queue.leave(&mut node);
+        node.entity.set_prev(processor);
+        Some(Unlinked::new(node))
+    }
+
+    /// The task that the discipline would move to a processor of that size.
+    pub fn own_pull(&self, processor: u8, size: usize) -> Option<u16>
+        requires inside { processor < 64 }
+        requires few { size_of self.now < 2 ^ 32 }
+        ensures { result ≡ id_of (pull_of processor size (size_of self.now) self.now.running.queue) }
+    {
+        self.queue.own_pull(processor, size, self.size())
+    }
+
+    /// The task of that id, if any, leaves the queue for another processor's.
+    pub fn give(&mut self, task: Option<u16>) -> Option<Unlinked>
+        ensures task { result ≡ taken_from self.old.running task }
+        ensures rest { self.new ≡ record self.old { running = without_task self.old.running task } }
+    {
+        let mut node = self.queue.take(task?)?;
+        self.queue.leave(&mut node);
+        Some(Unlinked::new(node))
+    }
+
+    /// A task of another processor's queue, if any, enters.
+    pub fn accept(&mut self, task: Option<Unlinked>)
+        requires fresh { IfSome task (λ t. with_id t.id self.old.running.queue ≡ None) }
+        ensures { self.new ≡ record self.old { running = with_pulled Q.R.discipline self.old.running task } }
+    {
+        if let Some(task) = task {
+            let mut node = task.into_node();
+            self.queue.enter(&mut node, Entry::Pull);
+            self.queue.insert(node);
+        }
+    }
+
+    /// Whether there is a task in the hand.
+    pub fn has_in_hand(&self) -> bool
+        ensures { result ≡ is_some self.now.hand }
+    {
+        self.hand.is_some()
+    }
+
+    /// A woken task comes into the hand.
+    pub fn begin(&mut self, carried: Carried)
+        requires { self.old.hand ≡ None }
+        ensures { self.new ≡ record self.old { hand = Some carried } }
+    {
+        self.hand = Some(carried);
+    }
+
+    /// The hand gives its task.
+    pub fn release(&mut self) -> Option<Carried>
+        ensures carried { result ≡ self.old.hand }
+        ensures left { self.new ≡ record self.old { hand = None } }
+    {
+        self.hand.take()
+    }
+
+    /// Something else stands at a hook from now on.
+    pub fn install(&mut self, hook: Hook, installed: Installed)
+        requires { IsFor hook installed.policy }
+        ensures { self.new ≡ record self.old { programs = with_program hook self.old.programs installed } }
+    {
+        self.hooks.install(hook, installed);
+    }
+}
+
+/// The tasks of a chain enter a queue one after another.
+fn enter_chain<Q: RunQueue>(queue: &mut Q, tasks: Link)
+    requires straight { IsStraightBehind tasks }
+    requires apart { (id : ℕ) → count_of id (Q.members queue.old) + count_of id (chain_behind tasks) ≤ 1 }
+    ensures members { Q.members queue.new ≡ entered Q.R.discipline (Q.kept_mark queue.old) (Q.members queue.old) (chain_behind tasks) }
+    ensures mark { Q.kept_mark queue.new ≡ Q.kept_mark queue.old }
+{
+    let mut rest = tasks;
+    while let Some(mut node) = node::pop_front(&mut rest) {
+        queue.enter(&mut node, Entry::Wake);
+        queue.insert(node);
+    }
+}

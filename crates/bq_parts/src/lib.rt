@@ -1,0 +1,38 @@
+//! The parts of the world: a processor, an inbox, the lobby of the tasks that sleep, and what each event does to the parts
+//! that it touches.
+//! Promises that each call on the parts is its event's share of the world's step, with each choice the policy's where
+//! permitted and else the discipline's own. So whoever holds those parts alone, as a world does or a lock, makes the step.
+//! Stands on the queues of bq_disc by their contract alone, on bq_hooks for what is chosen, and on bq_policies for answers.
+#![tactic(auto)]
+
+pub mod arguments;
+mod asking;
+pub mod carried;
+pub mod cpu;
+pub mod event;
+pub mod inbox;
+pub mod lobby;
+pub mod outcome;
+pub mod refusal;
+pub mod reply;
+pub mod seat;
+pub mod shares;
+pub mod unlinked;
+pub mod wakes;
+
+pub use arguments::argument_refusal;
+pub use bq_hooks::{By, Loads};
+pub use bq_maps::{Board, Plain};
+pub use bq_policies::{Hook, Hooks, Installed, Policy, Scratch};
+pub use carried::Carried;
+pub use cpu::Cpu;
+pub use event::Event;
+pub use inbox::Inbox;
+pub use lobby::Lobby;
+pub use outcome::Outcome;
+pub use refusal::Refusal;
+pub use reply::Reply;
+pub use seat::Seat;
+pub use shares::new_task;
+pub use unlinked::Unlinked;
+pub use wakes::Placement;

@@ -1,0 +1,87 @@
+//! Where tasks stand that sleep.
+ghost use Rattle.std.specs.Prelude.{◌≡◌, ◌<◌, false, length, IfOk, replicate, slice_index_or, slice_set};
+ghost use Rattle.bq_parts.specs.Refusals.{is_absent, is_away};
+ghost use Rattle.bq_parts.specs.declared.seat.Seat.TheVariants.{Absent, Blocked, Away};
+
+use crate::{Seat, Unlinked};
+use std::alloc::{AllocError, Global};
+use std::marker::Model;
+
+/// How many tasks there may be: ids are 0 to 1023.
+const SEATS: usize = 1024;
+
+/// The seat of each id. So a task is found by its id at once.
+#[derive(Drop)]
+pub struct Lobby {
+    seats: Vec<Seat>,
+}
+
+impl Model for Lobby {
+    ghost use Rattle.std.specs.Prelude.{◌≡◌, List, length};
+    ghost use Rattle.bq_parts.specs.declared.seat.Seat.{Seat};
+
+    ghost Value = { List Seat };
+
+    ghost view = { λ l. l.seats.items };
+
+    ghost invariant = { λ l. length l.seats.items ≡ 1024 };
+}
+
+impl Lobby {
+    /// Takes the memory for all seats.
+    pub fn new(alloc: Global) -> Result<Lobby, AllocError>
+        ensures { IfOk result (λ l. l ≡ replicate 1024 Absent) }
+    {
+        let mut seats = Vec::with_capacity(alloc, SEATS)?;
+        'seats: for _ in 0..SEATS {
+            seats.push(Seat::Absent)?;
+        }
+        Ok(Lobby { seats })
+    }
+
+    /// Whether an id is not admitted.
+    pub fn is_absent(&self, id: u16) -> bool
+        requires { id < 1024 }
+        ensures { result ≡ is_absent (slice_index_or self.now id Absent) }
+    {
+        matches!(self.seats[usize::from(id)], Seat::Absent)
+    }
+
+    /// Whether the task of an id is with a processor.
+    pub fn is_away(&self, id: u16) -> bool
+        requires { id < 1024 }
+        ensures { result ≡ is_away (slice_index_or self.now id Absent) }
+    {
+        matches!(self.seats[usize::from(id)], Seat::Away)
+    }
+
+    /// A task comes to a seat.
+    pub fn seat(&mut self, id: u16, task: Unlinked)
+        requires { id < 1024 }
+        ensures { self.new ≡ slice_set self.old id (Blocked task) }
+    {
+        self.seats[usize::from(id)] = Seat::Blocked(task);
+    }
+
+    /// A seat is given up for good.
+    pub fn clear(&mut self, id: u16)
+        requires { id < 1024 }
+        ensures { self.new ≡ slice_set self.old id Absent }
+    {
+        self.seats[usize::from(id)] = Seat::Absent;
+    }
+
+    /// The sleeping task of a seat goes to a processor.
+    pub fn send(&mut self, id: u16) -> Unlinked
+        requires seat { id < 1024 }
+        requires there { is_absent (slice_index_or self.old id Absent) ≡ false }
+        requires here { is_away (slice_index_or self.old id Absent) ≡ false }
+        ensures task { slice_index_or self.old id Absent ≡ Blocked result }
+        ensures seats { self.new ≡ slice_set self.old id Away }
+    {
+        match std::mem::replace(&mut self.seats[usize::from(id)], Seat::Away) {
+            Seat::Blocked(task) => task,
+            Seat::Absent | Seat::Away => unreachable!(),
+        }
+    }
+}

@@ -1,0 +1,121 @@
+//! What each event does to the parts that it touches: one processor, and with it its inbox or the lobby.
+ghost use Rattle.std.specs.Prelude.{◌≡◌, ◌≤◌, ◌<◌, ◌++◌, [], None, IfOk};
+ghost use Rattle.bq_maps.specs.Counters.{Through};
+ghost use Rattle.bq_disc.specs.OneProcessor.{present_at};
+ghost use Rattle.bq_parts.specs.Processors.{HasEachOnce, HasSeatedIds};
+ghost use Rattle.bq_parts.specs.Refusals.{argument_refusal};
+ghost use Rattle.bq_parts.specs.Choices.{policies};
+ghost use Rattle.bq_parts.specs.Steps.{admitted};
+ghost use Rattle.bq_parts.specs.Shares.{Admits, Blocks, Drains, Ticks};
+
+use crate::arguments::allowed;
+use crate::{Cpu, Event, Inbox, Lobby, Refusal, Reply, Scratch, Unlinked};
+use bq_disc::{Node, RunQueue};
+use bq_maps::Board;
+use std::alloc::{AllocError, Global};
+
+/// A task as it is admitted among so many processors. It takes memory for the task.
+pub fn new_task(
+    alloc: Global,
+    count: usize,
+    task: u16,
+    nice: i8,
+    mask: u64,
+    slice: u64,
+) -> Result<Unlinked, AllocError>
+    requires few { count ≤ 64 }
+    requires fits { argument_refusal count (Event.Admit task nice mask slice) ≡ None }
+    ensures { IfOk result (λ t. t ≡ admitted count task nice mask slice) }
+{
+    let mask = allowed(count, mask);
+    let node = Node::new(task, bq_weights::weight(nice), mask, slice);
+    let node = Box::new(alloc, node)?;
+    Ok(Unlinked::new(node))
+}
+
+impl Lobby {
+    /// A new task stands in the lobby.
+    pub fn admit(&mut self, id: u16, task: Unlinked) -> Result<Reply, Refusal>
+        requires seat { id < 1024 }
+        ensures share { Admits id task self.old result self.new }
+    {
+        if !self.is_absent(id) {
+            return Err(Refusal::TaskExists);
+        }
+        self.seat(id, task);
+        Ok(Reply::Admitted)
+    }
+}
+
+impl<Q: RunQueue> Cpu<Q> {
+    /// The clock of the processor ticks.
+    pub fn tick<B: Board>(
+        &mut self,
+        processor: u8,
+        now: u64,
+        scratch: &mut Scratch,
+        board: &mut B,
+    ) -> Reply
+        requires once { HasEachOnce (present_at self.old.running) }
+        requires seated { HasSeatedIds (present_at self.old.running) }
+        requires unasked { scratch.old ≡ [] }
+        ensures share { Ticks (policies Q.R.discipline) processor now self.old scratch.new result self.new }
+        ensures board { Through B.leads board.old scratch.new board.new }
+    {
+        self.charge(now);
+        let preempted = self.decide(processor, scratch, board);
+        Reply::Ticked {
+            run: self.run(),
+            by: preempted.by,
+            steps: preempted.steps,
+        }
+    }
+
+    /// All tasks of its inbox enter.
+    pub fn drain<B: Board>(
+        &mut self,
+        inbox: &mut Inbox,
+        processor: u8,
+        now: u64,
+        scratch: &mut Scratch,
+        board: &mut B,
+    ) -> Reply
+        requires once { HasEachOnce (present_at self.old.running ++ inbox.old) }
+        requires seated { HasSeatedIds (present_at self.old.running ++ inbox.old) }
+        requires unasked { scratch.old ≡ [] }
+        ensures share { Drains (policies Q.R.discipline) processor now self.old inbox.old scratch.new result self.new }
+        ensures emptied { inbox.new ≡ [] }
+        ensures board { Through B.leads board.old scratch.new board.new }
+    {
+        let count = inbox.len();
+        let tasks = inbox.take_all();
+        self.charge(now);
+        self.enter_all(tasks);
+        let preempted = self.decide(processor, scratch, board);
+        Reply::Drained {
+            count,
+            run: self.run(),
+            by: preempted.by,
+            steps: preempted.steps,
+        }
+    }
+
+    /// Its running task goes to the lobby.
+    pub fn block(&mut self, lobby: &mut Lobby, processor: u8, now: u64) -> Result<Reply, Refusal>
+        requires { HasSeatedIds (present_at self.old.running) }
+        ensures share { Blocks Q.R.discipline processor now self.old lobby.old result self.new lobby.new }
+    {
+        if self.current().is_none() {
+            return Err(Refusal::Idle);
+        }
+        self.charge(now);
+        let Some(task) = self.leave(processor) else {
+            return Err(Refusal::Idle);
+        };
+        self.start();
+        let run = self.run();
+        let id = task.id();
+        lobby.seat(id, task);
+        Ok(Reply::Blocked { task: id, run })
+    }
+}

@@ -1,0 +1,105 @@
+//! What the two halves of a wake do to the processor.
+ghost use Rattle.std.specs.Prelude.{◌≡◌, ◌≤◌, ◌<◌, [], IfSome};
+ghost use Rattle.bq_maps.specs.Counters.{Through};
+ghost use Rattle.bq_hooks.specs.OwnPlace.{HasPlace};
+ghost use Rattle.bq_policies.specs.Programs.{IsFor};
+ghost use Rattle.bq_parts.specs.Choices.{policies};
+ghost use Rattle.bq_parts.specs.Shares.{Begins, Installs, Places};
+
+use crate::{By, Carried, Cpu, Hook, Installed, Loads, Lobby, Refusal, Reply, Scratch, Unlinked};
+use bq_disc::RunQueue;
+use bq_maps::Board;
+
+/// A task that left a hand, and where it goes: to a processor that a policy chose in so many steps, or the discipline.
+#[derive(Drop)]
+pub struct Placement {
+    pub task: Unlinked,
+    pub to: u8,
+    pub by: By,
+    pub steps: u32,
+}
+
+impl<Q: RunQueue> Cpu<Q> {
+    /// A sleeping task of the lobby comes into the hand, with these loads.
+    pub fn begin_wake(
+        &mut self,
+        lobby: &mut Lobby,
+        task: u16,
+        loads: &Loads,
+    ) -> Result<Reply, Refusal>
+        requires seat { task < 1024 }
+        ensures share { Begins task loads.now self.old lobby.old result self.new lobby.new }
+    {
+        if lobby.is_absent(task) {
+            return Err(Refusal::NoTask);
+        }
+        if lobby.is_away(task) {
+            return Err(Refusal::NotBlocked);
+        }
+        if self.has_in_hand() {
+            return Err(Refusal::InHand);
+        }
+        let carried = Carried {
+            task: lobby.send(task),
+            loads: loads.copy(),
+        };
+        self.begin(carried);
+        Ok(Reply::Begun {
+            task,
+            loads: loads.copy(),
+        })
+    }
+
+    /// The task in the hand is given, and it is chosen where it goes among the first `count` processors.
+    pub fn end_wake<B: Board>(
+        &mut self,
+        processor: u8,
+        count: usize,
+        now: u64,
+        scratch: &mut Scratch,
+        board: &mut B,
+    ) -> Option<Placement>
+        requires few { count ≤ 64 }
+        requires usable { IfSome self.old.hand (λ c. HasPlace count c.task) }
+        requires unasked { scratch.old ≡ [] }
+        ensures share { Places (policies Q.R.discipline) count processor now self.old scratch.new result self.new }
+        ensures below { IfSome result (λ x. x.to < count) }
+        ensures board { Through B.leads board.old scratch.new board.new }
+    {
+        let Some(carried) = self.release() else {
+            return None;
+        };
+        self.charge(now);
+        let placed = self.choose_place(processor, count, &carried, scratch, board);
+        let Carried { task, loads: _ } = carried;
+        Some(Placement {
+            task,
+            to: placed.choice,
+            by: placed.by,
+            steps: placed.steps,
+        })
+    }
+
+    /// Something else stands at a hook from now on, if its generation is above the one that stands there, and is one of
+    /// the numbers drawn so far.
+    pub fn replace(
+        &mut self,
+        hook: Hook,
+        drawn: u64,
+        installed: Installed,
+    ) -> Result<Reply, Refusal>
+        requires { IsFor hook installed.policy }
+        ensures share { Installs hook drawn self.old installed result self.new }
+    {
+        let newest = self.generation(hook);
+        let generation = installed.generation();
+        if newest > 0 && generation <= newest {
+            return Err(Refusal::Older(newest));
+        }
+        if generation == 0 || generation > drawn {
+            return Err(Refusal::NotDrawn);
+        }
+        self.install(hook, installed);
+        Ok(Reply::Installed)
+    }
+}
