@@ -1,5 +1,6 @@
 //! What one thread does: it admits the task of its processor, wakes it there, and lets the processor tick.
-ghost use Rattle.std.specs.Prelude.{◌≡◌, ◌++◌, ◌∷◌, [], OnOk, IfErr};
+ghost use Rattle.std.specs.Prelude.{◌≡◌, ◌×◌, ◌≤◌, ℕ, ◌++◌, ◌∷◌, [], map, IfOk, OnOk, IfErr};
+ghost use Rattle.bq_seats.specs.Calls.{fresh};
 ghost use Rattle.bq_parts.specs.declared.refusal.Refusal.TheVariants as no;
 
 use bq_counters::Naming as Counting;
@@ -8,7 +9,7 @@ use bq_history::Receipt;
 use bq_machine::{Clock, Machine, Record, Seat};
 use bq_parts::Refusal;
 use bq_tie::Naming;
-use std::alloc::Global;
+use std::alloc::{AllocError, Global};
 use std::sync::Wait;
 
 /// The slice of each task, in nanoseconds.
@@ -30,6 +31,23 @@ pub struct Done<N: Naming + Counting> {
     ghost all: { seat.1 ≡ receipts.items },
 }
 
+/// The shifts of seats that have called nothing: the first drives processor 0, and so on.
+pub fn shifts<N: Naming + Counting>(
+    alloc: Global,
+    seats: Vec<Seat<N>>,
+) -> Result<Vec<Shift<N>>, AllocError>
+    requires { (count : ℕ) × (count ≤ 64) × (seats.items ≡ fresh 0 count) }
+    ensures { IfOk result (λ v. map (λ s. s.seat) v.items ≡ seats.items) }
+{
+    let mut shifts = Vec::with_capacity(alloc, seats.len())?;
+    let mut processor = 0u8;
+    for seat in seats {
+        shifts.push(Shift { processor, seat })?;
+        processor = processor.saturating_add(1);
+    }
+    Ok(shifts)
+}
+
 /// Drives a processor: its task, whose id is the processor's number, is admitted, woken and drained there, and then the
 /// processor ticks so often. The only error is want of memory.
 pub fn drive<Q: RunQueue + Drop, K: Clock + Drop, N: Naming + Counting, R: Wait, const P: usize>(
@@ -38,7 +56,9 @@ pub fn drive<Q: RunQueue + Drop, K: Clock + Drop, N: Naming + Counting, R: Wait,
     machine: &Machine<Q, K, N, P>,
     shift: Shift<N>,
     ticks: u32,
-) -> Result<Done<N>, Refusal> {
+) -> Result<Done<N>, Refusal>
+    ensures { IfOk result (λ d. d.seat.0 ≡ shift.seat.0) }
+{
     let Shift {
         processor,
         mut seat,
