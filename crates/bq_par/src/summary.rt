@@ -32,3 +32,31 @@ impl Summary {
         format!(in alloc; "events {events} ticks {ticks} confirmed {confirmed}\n")
     }
 }
+
+/// The seats that came back, and the receipts of each.
+#[derive(Drop)]
+struct Returned<N: Naming + Counting> {
+    seats: Vec<Seat<N>>,
+    lists: Vec<Vec<Receipt<Record>>>,
+    ghost told: { map (λ s. s.1) seats.items ≡ map (λ l. l.items) lists.items },
+}
+
+/// Ends a machine whose seats have come back, and says what its history is. Want of memory is the only error.
+pub fn finish<Q: RunQueue + Drop, K: Clock + Drop, N: Naming + Counting, const P: usize>(
+    alloc: Global,
+    machine: Machine<Q, K, N, P>,
+    done: Vec<Result<Done<N>, Refusal>>,
+) -> Result<Summary, AllocError>
+    ensures { IfOk result (IsSummary Q.R.discipline P) }
+{
+    let Returned { seats, lists } = returned(alloc, done)?;
+    if !machine.owns(&seats) {
+        return Err(AllocError);
+    }
+    let closed = machine.close(seats);
+    Ok(Summary {
+        events: closed.len(),
+        ticks: ticks_in(&closed),
+        confirmed: confirmed_in(&closed, &lists),
+    })
+}

@@ -1,5 +1,5 @@
 // A run queue under CFS whose mark may be held at a gate.
-ghost use Rattle.std.specs.Prelude.{◌≡◌};
+ghost use Rattle.std.specs.Prelude.{◌≡◌, ◌×◌, ◌^◌, []};
 
 use crate::gate::Gate;
 use bq_cfs::CfsQueue;
@@ -9,17 +9,18 @@ use std::sync::Arc;
 
 #[derive(Drop)]
 pub struct HeldQueue {
-    queue: CfsQueue,
+    pub queue: CfsQueue,
     gate: Option<Arc<Gate, Global>>,
 }
 
 impl HeldQueue {
-    /// A queue without tasks, whose mark comes to the gate each time.
-    pub fn at(gate: Arc<Gate, Global>) -> HeldQueue
+    /// A queue without tasks, whose mark comes to the gate each time, if there is one.
+    pub fn at(gate: Option<Arc<Gate, Global>>) -> HeldQueue
+        ensures { (result.queue.members ≡ []) × (result.queue.kept ≡ 2 ^ 32) }
     {
         HeldQueue {
             queue: CfsQueue::empty(),
-            gate: Some(gate),
+            gate,
         }
     }
 }
