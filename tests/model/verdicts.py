@@ -29,6 +29,7 @@ REFUSED_BY_VERIFIER = [  # for the hook preempt: the program, the shapes of its 
     (BYTES_OF_CONTEXT.format("jle64", 55, "ldxb"), [], "V5 3"),
     ("mul64 r1, 2 / mov64 r0, 0 / exit", [], "V6 0"),
     ("mov64 r0, 0 / stxw [r10-4], r1 / exit", [], "V6 1"),
+    (f"mov64 r6, 0 / {LOOK_UP} / jeq64 r0, r6, +0 / mov64 r0, 0 / exit", [(8, 1)], "V6 7"),
     ("ldmap r1, 0 / mov64 r0, 0 / exit", [], "V8 0"),
     (COUNT.replace("r1, 3", "r1, 64") + " / mov64 r0, 0 / exit", [], "V8 2"),
     ("exit", [], "V9 0"),

@@ -4,3 +4,4 @@ pub mod MoveFacts
 pub mod LevelFacts
 pub mod SpreadBegins
 pub mod SpreadStays
+pub mod LeastFacts

@@ -1,12 +1,19 @@
 //! Laws of CFS: each is the contract of a function that does nothing.
 ghost use Rattle.bq_disc.specs.Discipline.{IsLawful};
 ghost use Rattle.bq_cfs.specs.Cfs.{MarkNeverFalls, cfs};
+ghost use Rattle.bq_cfs.specs.LeastChoice.{ChoiceIsLeast};
 ghost use Rattle.bq_cfs.specs.Spread.{BeginsWithin, HistoryStaysWithin, StaysWithin};
 
 /// A choice exists exactly where there is a task, it is one of the tasks, and equal sets give equal choices.
 #[tactic(auto, using(crate::specs::Lawful::cfs_lawful))]
 pub fn cfs_is_lawful()
     ensures { IsLawful cfs }
+{}
+
+/// The choice of some tasks is one of them, and none of them comes before it by (v, id).
+#[tactic(auto, using(crate::proofs::LeastFacts::choice_is_least))]
+pub fn choice_is_least()
+    ensures { ChoiceIsLeast }
 {}
 
 /// The mark never falls.

@@ -18,7 +18,8 @@ use Rattle.bq_hooks.specs.Contexts.{as_number}
 use Rattle.bq_hooks.specs.OwnPlace.{allows, HasPlace}
 use Rattle.bq_hooks.specs.Permitted.{may_pull, task_numbered}
 use Rattle.bq_parts.specs.Choices.{Setting, Settled, decided_by}
-use Rattle.bq_parts.specs.Steps.{charged_at, after_leaving, as_it_leaves, taken_from, without_task, with_pulled, started_if_idle}
+use Rattle.bq_parts.specs.Moves.{after_leaving, as_it_leaves, taken_from, without_task, with_pulled, started_if_idle}
+use Rattle.bq_parts.specs.Steps.{charged_at}
 use Rattle.bq_parts.proofs.Tallies.{tally, tally-append, tally-charge, tally-decided, tally-enter_all, tally-without, tally-present}
 use Rattle.bq_parts.proofs.Counts.{keeps_charge}
 use Rattle.bq_parts.proofs.Once.{count_of-held_by}

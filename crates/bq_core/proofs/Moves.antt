@@ -5,7 +5,7 @@ use Rattle.bq_disc.specs.Tasks.{Task, with_id, without, place, present}
 use Rattle.bq_disc.specs.Discipline.{Discipline, pulled, left_at}
 use Rattle.bq_disc.specs.OneProcessor.{Running, present_at}
 use Rattle.bq_disc.proofs.QueueFacts.{without-absent}
-use Rattle.bq_parts.specs.Steps.{after_leaving, taken_from, without_task, with_pulled, started_if_idle}
+use Rattle.bq_parts.specs.Moves.{after_leaving, taken_from, without_task, with_pulled, started_if_idle}
 use Rattle.bq_parts.proofs.Tallies.{tally, worth, tally-place, tally-without, tally-present, tally-start}
 
 -- the task that leaves and those that stay are those that were there

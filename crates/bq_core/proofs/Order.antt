@@ -24,7 +24,8 @@ use Rattle.bq_parts.specs.Processors.{Processor, HasEachOnce, opening}
 use Rattle.bq_parts.specs.World.{World, opening_world, processor, seat, count_in}
 use Rattle.bq_parts.specs.Refusals.{refusal, argument_refusal, state_refusal, either, is_absent, is_away}
 use Rattle.bq_parts.specs.Choices.{Setting, Settled, place_bytes, own_pull}
-use Rattle.bq_parts.specs.Steps.{WorldStep, Performs, charged_at, admitted}
+use Rattle.bq_parts.specs.Moves.{admitted}
+use Rattle.bq_parts.specs.Steps.{WorldStep, Performs, charged_at}
 use Rattle.bq_parts.specs.StandsOnce.{IsOrderly}
 use Rattle.bq_core.specs.Laws.{OpeningIsOrderly, StepKeeps, RunKeeps, StepKeepsOrder, RunKeepsOrder, HistoryIsOrderly, under_any_answers}
 use Rattle.bq_parts.proofs.Counts.{each_once_queue}

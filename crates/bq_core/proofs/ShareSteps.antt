@@ -1,23 +1,26 @@
 -- A share is its event's step in any world that has the parts.
-use Rattle.std.proofs.Common.{◌≡◌, ℕ, ◌<◌, List, [], ◌∷◌, ◌++◌, false, Some, None, refl, sym, ap, ◌∙◌, inl, Option, arith}
-use Rattle.std.specs.Prelude.{ℤ, Result, Ok, Err, nat_le}
+use Rattle.std.proofs.Common.{◌≡◌, ◌≢◌, ℕ, ◌<◌, eqb, List, [], ◌∷◌, ◌++◌, false, Some, None, refl, sym, ap, ◌∙◌, inl, Option, arith}
+use Rattle.std.specs.Prelude.{ℤ, Result, Ok, Err, nat_le, IfSome}
 use Rattle.std.proofs.lemmas.Bool.Decides.{nat_tests}
 use Rattle.std.proofs.lemmas.List.{set-get_or}
 use Rattle.bq_disc.specs.Tasks.{Task, id_of}
 use Rattle.bq_disc.specs.Discipline.{Discipline}
 use Rattle.bq_maps.specs.declared.board.Call.{Call as Asked}
-use Rattle.bq_parts.specs.declared.event.Event.TheVariants.{Admit, Install, BeginWake, EndWake, Drain, Tick, Block}
+use Rattle.bq_parts.specs.declared.event.Event.TheVariants.{Admit, Retire, Install, BeginWake, EndWake, Drain, Tick, Block, Pull}
 use Rattle.bq_parts.specs.declared.reply.Reply.{Reply}
 use Rattle.bq_parts.specs.declared.reply.Reply.TheVariants.{Placed}
 use Rattle.bq_parts.specs.declared.refusal.Refusal.{Refusal}
+use Rattle.bq_parts.specs.declared.refusal.Refusal.TheVariants as no
 use Rattle.bq_parts.specs.declared.seat.Seat.{Seat}
 use Rattle.bq_parts.specs.Processors.{Processor, opening}
 use Rattle.bq_parts.specs.World.{World, processor, inbox, count_in, with_processor, with_inbox, loads_of}
 use Rattle.bq_parts.specs.declared.wakes.Placement.{Placement}
+use Rattle.bq_parts.specs.declared.carried.Carried.{Carried}
 use Rattle.bq_parts.specs.Refusals.{argument_refusal}
 use Rattle.bq_parts.specs.Choices.{policies}
-use Rattle.bq_parts.specs.Steps.{WorldStep, admitted, after_leaving}
-use Rattle.bq_parts.specs.Shares.{after_time, Admits, Ticks, Drains, Blocks, Begins, Places, Installs}
+use Rattle.bq_parts.specs.Moves.{admitted, after_leaving}
+use Rattle.bq_parts.specs.Steps.{WorldStep}
+use Rattle.bq_parts.specs.Shares.{after_time, Admits, Retires, Ticks, Drains, Blocks, Begins, Places, Installs, Pulls}
 use Rattle.bq_verify.specs.declared.hook.Hook.{Hook}
 use Rattle.bq_verify.specs.Accepted.{Accepted}
 use Rattle.bq_policies.specs.Answers.{fresh_maps}
@@ -31,6 +34,10 @@ pub admits_step : (d : Discipline) (w : World) (id : ℕ) (nice : ℤ) (mask sli
     Admits id (admitted (count_in w) id nice mask slice) w.seats r seats → WorldStep (policies d) w (Admit id nice mask slice) [] r (record w { seats = seats })
 admits_step d w id nice mask slice (Ok r) seats h a = rw a.1 (rw (h, a.0) refl, (refl, ap (λ (x : List Seat). record w { seats = x }) a.2))
 admits_step d w id nice mask slice (Err e) seats h a = (refl, ap (λ (x : List Seat). record w { seats = x }) a.2, inl (rw (h, a.0, a.1) refl))
+
+pub retires_step : (d : Discipline) (w : World) (id : ℕ) (r : Result Reply Refusal) (seats : List Seat) → id < 1024 → Retires id w.seats r seats → WorldStep (policies d) w (Retire id) [] r (record w { seats = seats })
+retires_step d w id (Ok r) seats l b = rw b.1 (rw (seated id l, b.0) refl, (refl, ap (λ (x : List Seat). record w { seats = x }) b.2))
+retires_step d w id (Err e) seats l b = (refl, ap (λ (x : List Seat). record w { seats = x }) b.1, inl (rw (seated id l, b.0) refl))
 
 pub ticks_step : (d : Discipline) (w : World) (cpu now : ℕ) (calls : List Asked) (r : Reply) (q : Processor) → cpu < count_in w → Ticks (policies d) cpu now (processor w cpu) calls r q →
     WorldStep (policies d) w (Tick cpu now) calls (Ok r) (with_processor w cpu q)
@@ -120,3 +127,32 @@ pub installs_step : (d : Discipline) (w : World) (cpu g : ℕ) (h : Hook) (o : O
 installs_step d w cpu g h o (Ok r) q l k = rw k.1 (rw (l, k.0) refl, (refl, ap (with_processor w cpu) k.2))
 installs_step d w cpu g h o (Err e) q l k =
     (refl, ap (with_processor w cpu) k.1 ∙ ap (λ (x : List Processor). record w { processors = x }) (set-get_or w.processors cpu opening), inl (rw (l, k.0) refl))
+
+apart : (cpu from : ℕ) → cpu ≢ from → eqb cpu from ≡ false
+apart cpu from h = grind (arith, nat_tests)
+
+pub pulls_step : (d : Discipline) (w : World) (cpu from now : ℕ) (calls : List Asked) (r : Reply) (q other : Processor) → cpu < count_in w → from < count_in w → cpu ≢ from →
+    Pulls (policies d) cpu from now (processor w cpu) (processor w from) calls r q other →
+    WorldStep (policies d) w (Pull cpu from now) calls (Ok r) (with_processor (with_processor w cpu q) from other)
+pulls_step d w cpu from now calls r q other h k n p =
+    rw p.1.2 (
+      rw (within w cpu h, within w from k, apart cpu from n) refl,
+      (p.0, (p.1.0, refl, ap (λ (x : Processor). id_of x.running.current) p.1.3, refl, refl, p.1.1, rw (p.1.3, p.1.4) refl)),
+    )
+
+-- the same of a wake's end, where the parts are known by equations
+pub places_at : (d : Discipline) (w w' : World) (cpu now count task : ℕ) (calls : List Asked) (x : Placement) (q p : Processor) (xs : List Task) → cpu < count_in w → p ≡ processor w cpu → count ≡ count_in w →
+    task ≡ x.task.id → xs ≡ inbox w x.to → Places (policies d) count cpu now p calls (Some x) q → w' ≡ with_inbox (with_processor w cpu q) x.to (xs ++ x.task ∷ []) →
+    WorldStep (policies d) w (EndWake cpu now) calls (Ok (Placed task x.to x.by x.steps)) w'
+places_at d w w' cpu now count task calls x q p xs h at many i box k e = rw (e, box, i) (places_step d w cpu now calls x q h (rw (← many, ← at) k))
+
+-- what every task in a hand meets, the one in it does
+pub if_carried : (o : Option Carried) (P : Carried → Type 0) → ((c : Carried) → o ≡ Some c → P c) → IfSome o P
+if_carried None P h = tt
+if_carried (Some c) P h = h c refl
+
+-- where the hand is empty nothing is placed
+pub places_none : (d : Discipline) (w : World) (cpu now : ℕ) (calls : List Asked) (q : Processor) → cpu < count_in w → Places (policies d) (count_in w) cpu now (processor w cpu) calls None q →
+    WorldStep (policies d) w (EndWake cpu now) calls (Err no.NothingInHand) (with_processor w cpu q)
+places_none d w cpu now calls q h k =
+    (k.0, ap (with_processor w cpu) k.2 ∙ ap (λ (x : List Processor). record w { processors = x }) (set-get_or w.processors cpu opening), inl (rw (within w cpu h, k.1) refl))

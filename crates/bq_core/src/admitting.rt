@@ -36,13 +36,6 @@ impl<Q: RunQueue, const P: usize> Parts<Q, P> {
         requires seat { task < 1024 }
         ensures step { WorldStep (policies Q.R.discipline) self.old (Event.Retire task) [] result self.new }
     {
-        if self.lobby.is_absent(task) {
-            return Err(Refusal::NoTask);
-        }
-        if self.lobby.is_away(task) {
-            return Err(Refusal::NotBlocked);
-        }
-        self.lobby.clear(task);
-        Ok(Reply::Retired)
+        self.lobby.retire(task)
     }
 }

@@ -38,14 +38,6 @@ impl<Q: RunQueue, const P: usize> Parts<Q, P> {
         let Ok(installed) = Installed::new(alloc, policy, generation) else {
             return Err(Refusal::OutOfMemory);
         };
-        let newest = self.cpu(processor).generation(hook);
-        if newest > 0 && generation <= newest {
-            return Err(Refusal::Older(newest));
-        }
-        if generation == 0 || generation > self.drawn {
-            return Err(Refusal::NotDrawn);
-        }
-        self.cpus[usize::from(processor)].install(hook, installed);
-        Ok(Reply::Installed)
+        self.cpus[usize::from(processor)].replace(hook, self.drawn, installed)
     }
 }

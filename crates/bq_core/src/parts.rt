@@ -52,6 +52,27 @@ impl<Q: RunQueue + Drop, const P: usize> Parts<Q, P> {
 }
 
 impl<Q: RunQueue, const P: usize> Parts<Q, P> {
+    /// The world that these parts make.
+    pub(crate) fn of(
+        cpus: Vec<Cpu<Q>>,
+        inboxes: Vec<Inbox>,
+        lobby: Lobby,
+        drawn: u64,
+    ) -> Parts<Q, P>
+        requires few { P ≤ 64 }
+        requires cpus { length cpus.items ≡ P }
+        requires inboxes { length inboxes.items ≡ P }
+        ensures { result ≡ record { processors = cpus.items; inboxes = inboxes.items; seats = lobby; drawn = drawn } }
+    {
+        let _seats = &lobby;
+        Parts {
+            cpus,
+            inboxes,
+            lobby,
+            drawn,
+        }
+    }
+
     /// A processor.
     pub fn cpu(&self, number: u8) -> &Cpu<Q>
         requires { number < count_in self.now }

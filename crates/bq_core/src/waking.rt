@@ -8,7 +8,7 @@ ghost use Rattle.bq_parts.specs.Steps.{WorldStep};
 ghost use Rattle.bq_parts.specs.StandsOnce.{IsOrderly};
 
 use crate::parts::Parts;
-use crate::{Carried, Cpu, Event, Inbox, Loads, Refusal, Reply, Scratch};
+use crate::{Cpu, Event, Inbox, Loads, Placement, Refusal, Reply, Scratch};
 use bq_disc::RunQueue;
 use bq_maps::Board;
 
@@ -21,22 +21,9 @@ impl<Q: RunQueue, const P: usize> Parts<Q, P> {
         requires seat { task < 1024 }
         ensures step { WorldStep (policies Q.R.discipline) self.old (Event.BeginWake processor task) [] result self.new }
     {
-        if self.lobby.is_absent(task) {
-            return Err(Refusal::NoTask);
-        }
-        if self.lobby.is_away(task) {
-            return Err(Refusal::NotBlocked);
-        }
-        if self.cpus[usize::from(processor)].has_in_hand() {
-            return Err(Refusal::InHand);
-        }
         let loads = loads_of(self.cpus.as_slice(), self.inboxes.as_slice());
-        let carried = Carried {
-            task: self.lobby.send(task),
-            loads: loads.copy(),
-        };
-        self.cpus[usize::from(processor)].begin(carried);
-        Ok(Reply::Begun { task, loads })
+        let cpu = &mut self.cpus[usize::from(processor)];
+        cpu.begin_with(&mut self.lobby, task, loads)
     }
 
     /// The task in the hand of a processor is placed: it stands at the end of the chosen processor's inbox.
@@ -56,19 +43,22 @@ impl<Q: RunQueue, const P: usize> Parts<Q, P> {
     {
         let count = self.cpus.len();
         let cpu = &mut self.cpus[usize::from(processor)];
-        let Some(carried) = cpu.release() else {
+        let Some(placed) = cpu.end_wake(processor, count, now, scratch, board) else {
             return Err(Refusal::NothingInHand);
         };
-        cpu.charge(now);
-        let placed = cpu.choose_place(processor, count, &carried, scratch, board);
-        let Carried { task, loads: _ } = carried;
+        let Placement {
+            task,
+            to,
+            by,
+            steps,
+        } = placed;
         let id = task.id();
-        self.inboxes[usize::from(placed.choice)].push(task);
+        self.inboxes[usize::from(to)].push(task);
         Ok(Reply::Placed {
             task: id,
-            to: placed.choice,
-            by: placed.by,
-            steps: placed.steps,
+            to,
+            by,
+            steps,
         })
     }
 }

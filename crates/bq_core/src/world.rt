@@ -9,7 +9,7 @@ ghost use Rattle.bq_parts.specs.StandsOnce.{StandsOnce, IsOrderly};
 ghost use Rattle.bq_parts.specs.declared.refusal.Refusal.TheVariants as no;
 
 use crate::parts::Parts;
-use crate::{Cpu, Event, Refusal, Reply, Scratch, argument_refusal};
+use crate::{Cpu, Event, Inbox, Lobby, Refusal, Reply, Scratch, argument_refusal};
 use bq_disc::RunQueue;
 use bq_maps::Board;
 use std::alloc::{AllocError, Global};
@@ -50,6 +50,25 @@ impl<Q: RunQueue + Drop, const P: usize> Core<Q, P> {
 }
 
 impl<Q: RunQueue, const P: usize> Core<Q, P> {
+    /// The world that these parts make, if they are in order. It takes no memory.
+    pub fn from_parts(
+        cpus: Vec<Cpu<Q>>,
+        inboxes: Vec<Inbox>,
+        lobby: Lobby,
+        drawn: u64,
+    ) -> Core<Q, P>
+        requires few { P ≤ 64 }
+        requires cpus { length cpus.items ≡ P }
+        requires inboxes { length inboxes.items ≡ P }
+        requires orderly { IsOrderly (record { processors = cpus.items; inboxes = inboxes.items; seats = lobby; drawn = drawn }) }
+        ensures { result ≡ record { processors = cpus.items; inboxes = inboxes.items; seats = lobby; drawn = drawn } }
+    {
+        Core {
+            parts: Parts::of(cpus, inboxes, lobby, drawn),
+            scratch: Scratch::new(),
+        }
+    }
+
     /// One event. What policies ask of the counters goes through the board. A refusal leaves the world as it was, and the
     /// board. Only Admit and Install may be refused for want of memory.
     pub fn step<B: Board>(

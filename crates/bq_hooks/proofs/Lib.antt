@@ -11,3 +11,4 @@ pub mod PullBytes
 pub mod Shown
 pub mod Permitted
 pub mod Worked
+pub mod LeastPlace

@@ -9,7 +9,7 @@ use Rattle.bq_disc.specs.Tasks.{Task}
 use Rattle.bq_hooks.specs.OwnPlace.{place_before, allows, former_place, first_place, own_place, HasPlace}
 
 -- a processor below a bound that a mask allows
-abbrev IsFit : ℕ → ℕ → ℕ → Type 0
+abbrev pub IsFit : ℕ → ℕ → ℕ → Type 0
 IsFit bound mask p = (p < bound) × (allows mask p ≡ true)
 
 former_fits : (Q : ℕ → Type 0) (loads : List ℕ) (previous : Option ℕ) (p : ℕ) (o : Option ℕ) → Q p → IfSome o Q → Q (former_place loads previous p o)
@@ -17,7 +17,7 @@ former_fits Q loads previous p None h k = h
 former_fits Q loads previous p (Some q) h k = elim (place_before loads previous q p) as (λ b. Q (cond b q p)) [ true ↦ k | false ↦ h ]
 
 -- of some processors that fit the first fits
-first_fits : (Q : ℕ → Type 0) (loads : List ℕ) (previous : Option ℕ) (ps : List ℕ) → AllByRecursion Q ps → IfSome (first_place loads previous ps) Q
+pub first_fits : (Q : ℕ → Type 0) (loads : List ℕ) (previous : Option ℕ) (ps : List ℕ) → AllByRecursion Q ps → IfSome (first_place loads previous ps) Q
 first_fits Q loads previous [] h = tt
 first_fits Q loads previous (p ∷ ps) h = former_fits Q loads previous p (first_place loads previous ps) h.0 (first_fits Q loads previous ps h.1)
 
@@ -26,7 +26,7 @@ fit_by_test true bound mask p ps e l h = ((l, e), h)
 fit_by_test false bound mask p ps e l h = h
 
 -- the processors of a mask fit
-those_fit : (bound mask a n : ℕ) → a + n ≤ bound → AllByRecursion (IsFit bound mask) (filter (allows mask) (range_with_len a n))
+pub those_fit : (bound mask a n : ℕ) → a + n ≤ bound → AllByRecursion (IsFit bound mask) (filter (allows mask) (range_with_len a n))
 those_fit bound mask a zero l = tt
 those_fit bound mask a (suc n) l = fit_by_test (allows mask a) bound mask a (filter (allows mask) (range_with_len (a + 1) n)) refl (omega arith) (those_fit bound mask (a + 1) n (omega arith))
 

@@ -3,3 +3,4 @@ pub mod OwnPlace
 pub mod Permitted
 pub mod Settled
 pub mod Laws
+pub mod PlaceLaw

@@ -1,5 +1,6 @@
 //! The laws of contexts and choices, each as the contract of a function that does nothing.
 ghost use Rattle.bq_hooks.specs.Laws.{ContextsAreBytes, OwnChoicesArePermitted, SettledIsPermitted};
+ghost use Rattle.bq_hooks.specs.PlaceLaw.{OwnPlaceIsLawful};
 
 /// Every context is of its hook's length and consists of bytes, whatever it shows.
 pub fn contexts_are_bytes()
@@ -14,4 +15,10 @@ pub fn own_choices_are_permitted()
 /// So what is settled is permitted.
 pub fn settled_is_permitted()
     ensures { SettledIsPermitted }
+{}
+
+/// A task that may use some processor of the machine has a place of its own. The place is a processor that it may use, none
+/// of those has less load, and of those of equal load it is the previous one, or where that is none of them the least number.
+pub fn own_place_is_lawful()
+    ensures { OwnPlaceIsLawful }
 {}

@@ -1,5 +1,5 @@
 //! How many tasks each processor has.
-ghost use Rattle.std.specs.Prelude.{◌≡◌, ◌<◌, ◌≤◌, [], ◌∷◌, ◌++◌, length, slice_index, slice_set};
+ghost use Rattle.std.specs.Prelude.{◌≡◌, ◌<◌, ◌≤◌, [], ◌∷◌, ◌++◌, length, slice_index, slice_set, ◌↔◌, IsTrue};
 
 use arrayvec::ArrayVec;
 use std::marker::Model;
@@ -63,6 +63,13 @@ impl Loads {
         ensures { result.now ≡ self.now }
     {
         self.counts.as_slice()
+    }
+
+    /// Whether both are the same loads.
+    pub fn is_same(&self, other: &Loads) -> bool
+        ensures { IsTrue result ↔ (self.now ≡ other.now) }
+    {
+        self.as_slice() == other.as_slice()
     }
 
     /// The same loads once more.

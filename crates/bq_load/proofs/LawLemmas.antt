@@ -31,7 +31,7 @@ good_length n slots whole some most = grind (arith, nat_tests)
 not_both : (bytes : List ℕ) (x : Spelled × List ℕ) (f : LoadFault) → frame_at bytes ≡ Ok x → frame_at bytes ≡ Err f → ⊥
 not_both bytes x f e g = cc
 
-framed_is_found : (bytes : List ℕ) (h : Header) (program : List ℕ) (f : LoadFault) → IsFramed bytes h program → frame_at bytes ≡ Err f → ⊥
+pub framed_is_found : (bytes : List ℕ) (h : Header) (program : List ℕ) (f : LoadFault) → IsFramed bytes h program → frame_at bytes ≡ Err f → ⊥
 framed_is_found bytes h program f framed e = not_both bytes (spelled h, program) f (frame_again bytes h program framed) e
 
 whole_program : (bytes : List ℕ) (h : Header) (program : List ℕ) (slot : ℕ) → IsFramed bytes h program → 1 ≤ h.slots → h.slots ≤ 4096 → HasFaultyProgram bytes slot Length → ⊥

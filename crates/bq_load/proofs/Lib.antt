@@ -12,3 +12,4 @@ pub mod WritingLemmas
 pub mod JudgingLemmas
 pub mod ReaderLemmas
 pub mod PieceLemmas
+pub mod OneAnswerLemmas

@@ -1,5 +1,5 @@
 -- What `load` answers, by its parts.
-use Rattle.std.proofs.Common.{◌≡◌, ℕ, true, List, refl, sym, ap, subst, ◌∙◌}
+use Rattle.std.proofs.Common.{◌≡◌, ℕ, ◌≤◌, true, List, Option, length, refl, sym, ap, subst, ◌∙◌}
 use Rattle.bq_graph.specs.declared.cause.Cause.{Cause as Reason}
 use Rattle.bq_insn.specs.declared.Insn.{Insn}
 use Rattle.bq_insn.specs.declared.fault.Cause.TheVariants.{Length, Opcode, Register, Field, Offset, Imm, WideCut}
@@ -14,6 +14,10 @@ use Rattle.bq_insn.proofs.UniqueLemmas as insn
 use Rattle.bq_insn.proofs.LengthLemmas as lengths
 use Rattle.bq_maps.specs.declared.shape.MapShape.{MapShape}
 use Rattle.bq_verify.specs.Accepted.{Accepted, context_length_of}
+use Rattle.bq_graph.specs.Faults.{IsFaultless}
+use Rattle.bq_graph.specs.Paths.{IsGreatest, PathOut}
+use Rattle.bq_maps.specs.Machine.{Safe}
+use Rattle.bq_verify.proofs.SlotLemmas.{few_slots}
 use Rattle.bq_verify.specs.Refusals.{IsRefusal}
 use Rattle.bq_verify.specs.Straight.{IsStraightProgram}
 use Rattle.bq_verify.specs.declared.refused.Refused.{Refused}
@@ -83,20 +87,31 @@ has_program bytes s code insns parts is well_formed numbers = record {
   numbers = numbers;
 }
 
--- and a refusal of the verifier
-pub unloaded_refusal : (bytes : List ℕ) (s : Spelled) (code : List ℕ) (insns : List Insn) (r : Refused) → HasParts bytes s code → HasProgram bytes insns → IsRefusal (spread insns) r → IsUnloaded bytes (of_refusal r)
-unloaded_refusal bytes s code insns refused.OutOfMemory parts p b = has_image bytes s code parts
-unloaded_refusal bytes s code insns (refused.At slot cause) parts p b = record { insns = insns; program = p; refused = b }
+not_memory : (slot : ℕ) (cause : Reason) → refused.At slot cause ≡ refused.OutOfMemory → ⊥
+not_memory slot cause e = cc
+
+-- and a refusal of the verifier, where the program is not straight
+pub unloaded_refusal : (bytes : List ℕ) (s : Spelled) (code : List ℕ) (insns : List Insn) (r : Refused) → HasParts bytes s code → HasProgram bytes insns → IsRefusal (spread insns) r → (HasStraightProgram bytes → r ≡ refused.OutOfMemory) → IsUnloaded bytes (of_refusal r)
+unloaded_refusal bytes s code insns refused.OutOfMemory parts p b memory = has_image bytes s code parts
+unloaded_refusal bytes s code insns (refused.At slot cause) parts p b memory = (record { insns = insns; program = p; refused = b }, λ straight. not_memory slot cause (memory straight))
 
 -- what was accepted is loaded
 pub loaded : (bytes : List ℕ) (s : Spelled) (code : List ℕ) (insns : List Insn) (shapes : List MapShape) (v : Accepted) → HasParts bytes s code → code ≡ spelling insns → is_well_formed insns ≡ true → AllFit insns
-    → s.shapes ≡ shapes_bytes shapes → v.slots ≡ spread insns → v.shapes ≡ shapes → v.hook ≡ s.hook → v.version ≡ s.version → Loads bytes v
-loaded bytes s code insns shapes v parts is well_formed numbers shapes-are slots same_shapes same_hook same_version = record {
+    → s.shapes ≡ shapes_bytes shapes → v.slots ≡ spread insns → v.shapes ≡ shapes → v.hook ≡ s.hook → v.version ≡ s.version
+    → length shapes ≤ 8 → IsFaultless v.slots → Safe v.slots v.shapes (context_length_of v.hook v.version) v.budget → IsGreatest (PathOut v.slots 0) v.budget → Loads bytes v
+loaded bytes s code insns shapes v parts is well_formed numbers shapes-are slots same_shapes same_hook same_version few faultless safe longest = record {
   insns = insns;
   image = rw (same_shapes, same_hook, same_version) (subst (λ (p : List ℕ). IsImage bytes s.version s.hook shapes p) is (is_image bytes s code shapes parts shapes-are));
   well_formed = well_formed;
   numbers = numbers;
   slots = slots;
+  faultless = faultless;
+  accepted = record {
+    short = subst (λ (x : List (Option Insn)). length x ≤ 4096) (sym slots) (few_slots insns well_formed);
+    few = subst (λ (x : List MapShape). length x ≤ 8) (sym same_shapes) few;
+    safe = safe;
+  };
+  longest = longest;
 }
 
 -- ---- straight programs

@@ -1,11 +1,13 @@
 -- What bytes are answered by: an image, a program that is accepted, or why not.
 use Rattle.std.specs.Prelude.{◌≡◌, ℕ, List, ◌++◌, true}
+use Rattle.bq_graph.specs.Faults.{IsFaultless}
+use Rattle.bq_graph.specs.Paths.{IsGreatest, PathOut}
 use Rattle.bq_insn.specs.declared.Insn.{Insn}
 use Rattle.bq_insn.specs.Spelling.{spelling, is_well_formed}
 use Rattle.bq_insn.specs.Slots.{spread}
 use Rattle.bq_insn.specs.Laws.{AllFit}
 use Rattle.bq_maps.specs.declared.shape.MapShape.{MapShape}
-use Rattle.bq_verify.specs.Accepted.{Accepted}
+use Rattle.bq_verify.specs.Accepted.{Accepted, IsAccepted, context_length_of}
 use Rattle.bq_verify.specs.Refusals.{IsRefusal}
 use Rattle.bq_verify.specs.declared.hook.Hook.{Hook}
 use Rattle.bq_verify.specs.declared.hook.Version.{Version}
@@ -16,6 +18,7 @@ use Rattle.bq_load.specs.declared.fault.LoadFault.TheVariants as fault
 use Rattle.bq_load.specs.declared.image.Image.{Image}
 use Rattle.bq_load.specs.Layout.{IsImage}
 use Rattle.bq_load.specs.Faults.{IsFault, HasFaultyProgram}
+use Rattle.bq_load.specs.Straight.{HasStraightProgram}
 
 -- the bytes are this image
 abbrev pub Spells : List ℕ → Image → Type 0
@@ -43,13 +46,16 @@ pub record HasProgram (bytes : List ℕ) (insns : List Insn) : Type 0 where
   pub well_formed : is_well_formed insns ≡ true
   pub numbers : AllFit insns
 
--- the bytes are an image of the program that was accepted
+-- the bytes are an image of that program; its control graph has no fault, it is safe, and its budget is the longest path
 pub record Loads (bytes : List ℕ) (v : Accepted) : Type 0 where
   pub insns : List Insn
   pub image : IsImage bytes v.version v.hook v.shapes (spelling insns)
   pub well_formed : is_well_formed insns ≡ true
   pub numbers : AllFit insns
   pub slots : v.slots ≡ spread insns
+  pub faultless : IsFaultless v.slots
+  pub accepted : IsAccepted v.slots v.shapes (context_length_of v.hook v.version) v.budget
+  pub longest : IsGreatest (PathOut v.slots 0) v.budget
 
 -- the bytes are an image of a program that the verifier refuses so
 pub record HasRefusedProgram (bytes : List ℕ) (answer : Refused) : Type 0 where
@@ -57,12 +63,12 @@ pub record HasRefusedProgram (bytes : List ℕ) (answer : Refused) : Type 0 wher
   pub program : HasProgram bytes insns
   pub refused : IsRefusal (spread insns) answer
 
--- no program is loaded from the bytes: they or their program have that fault, or the verifier refuses it; or they are an
--- image and memory was refused
+-- no program is loaded from the bytes: they or their program have that fault, or the verifier refuses it, which it does to no
+-- straight program; or they are an image and memory was refused
 abbrev pub IsUnloaded : List ℕ → LoadFault → Type 0
 IsUnloaded bytes fault.OutOfMemory = HasImage bytes
 IsUnloaded bytes (fault.Decode slot cause) = HasFaultyProgram bytes slot cause
-IsUnloaded bytes (fault.Refused slot cause) = HasRefusedProgram bytes (refused.At slot cause)
+IsUnloaded bytes (fault.Refused slot cause) = HasRefusedProgram bytes (refused.At slot cause) × (HasStraightProgram bytes → ⊥)
 IsUnloaded bytes named = IsFault bytes named
 
 -- the new bytes are the old ones and then that image

@@ -7,7 +7,9 @@ use Rattle.bq_verify.specs.declared.hook.Version.{Version}
 use Rattle.bq_load.specs.declared.fault.LoadFault.{LoadFault}
 use Rattle.bq_load.specs.Layout.{IsImage}
 use Rattle.bq_load.specs.Faults.{IsFault}
-use Rattle.bq_load.specs.Answers.{HasImage}
+use Rattle.bq_load.specs.declared.fault.LoadFault.TheVariants as fault
+use Rattle.bq_load.specs.Answers.{HasImage, IsUnloaded, Loads}
+use Rattle.bq_verify.specs.Accepted.{Accepted}
 use Rattle.bq_load.specs.Feeding.{Fed, unfed, StandsFor, GoesOn}
 
 -- numbers that bytes can be
@@ -32,6 +34,20 @@ OneFault = (bytes : List ℕ) (f g : LoadFault) → AreBytes bytes → IsFault b
 -- bytes are an image or have a first fault
 abbrev pub EachIsAnswered : Type 0
 EachIsAnswered = (bytes : List ℕ) → AreBytes bytes → HasImage bytes ⊎ ((f : LoadFault) × IsFault bytes f)
+
+-- a fault of the bytes or of their program, which no verifier is asked about
+abbrev pub IsOfBytes : LoadFault → Type 0
+IsOfBytes (fault.Refused slot cause) = ⊥
+IsOfBytes fault.OutOfMemory = ⊥
+IsOfBytes named = Unit {0}
+
+-- bytes with such a fault are answered by no other, want of memory aside
+abbrev pub OneFaultOfBytes : Type 0
+OneFaultOfBytes = (bytes : List ℕ) (f g : LoadFault) → AreBytes bytes → IsOfBytes f → IsUnloaded bytes f → IsUnloaded bytes g → (g ≡ f) ⊎ (g ≡ fault.OutOfMemory)
+
+-- and no program is loaded from them
+abbrev pub FaultyIsNotLoaded : Type 0
+FaultyIsNotLoaded = (bytes : List ℕ) (f : LoadFault) (v : Accepted) → AreBytes bytes → IsOfBytes f → IsUnloaded bytes f → Loads bytes v → ⊥
 
 -- a reader took these pieces, one after another
 abbrev pub TakesAll : Fed → List (List ℕ) → Fed → Type 0

@@ -1,7 +1,5 @@
 //! From an image to a program that may run.
 ghost use Rattle.std.specs.Prelude.{◌≡◌, IfOk, IfErr};
-ghost use Rattle.bq_graph.specs.Faults.{IsFaultless};
-ghost use Rattle.bq_graph.specs.Paths.{IsGreatest, PathOut};
 ghost use Rattle.bq_load.specs.Answers.{Loads, IsUnloaded};
 ghost use Rattle.bq_load.specs.Straight.{HasStraightProgram};
 ghost use Rattle.bq_load.specs.declared.fault.LoadFault.TheVariants.{OutOfMemory};
@@ -19,8 +17,6 @@ use std::alloc::Global;
 /// memory is asked for; after that `OutOfMemory` may be answered in place of any other fault.
 pub fn load(alloc: Global, bytes: &[u8]) -> Result<Verified, LoadFault>
     ensures loaded { IfOk result (Loads bytes.now) }
-    ensures faultless { IfOk result (λ v. IsFaultless v.slots) }
-    ensures budget { IfOk result (λ v. IsGreatest (PathOut v.slots 0) v.budget) }
     ensures unloaded { IfErr result (IsUnloaded bytes.now) }
     ensures accepts { HasStraightProgram bytes.now → IfErr result (λ e. e ≡ OutOfMemory) }
 {

@@ -1,7 +1,5 @@
 //! Images that come in pieces.
 ghost use Rattle.std.specs.Prelude.{◌≡◌, ◌≢◌, ◌<◌, ◌≤◌, ◌++◌, ℕ, List, length, OnOk, IfOk, IfErr, IfSome, IfNone, Some, None, Err};
-ghost use Rattle.bq_graph.specs.Faults.{IsFaultless};
-ghost use Rattle.bq_graph.specs.Paths.{IsGreatest, PathOut};
 ghost use Rattle.bq_load.specs.Answers.{Spells, IsUnread, Loads, IsUnloaded};
 ghost use Rattle.bq_load.specs.Faults.{IsFault};
 ghost use Rattle.bq_load.specs.Feeding.{Holds, HasFailed, StandsFor, GoesOn, unfed};
@@ -97,8 +95,6 @@ impl ImageReader {
     /// What `load` answers for the bytes fed, however they were cut.
     pub fn finish_load(self) -> Result<Verified, LoadFault>
         ensures loaded { IfOk result (λ v. (bytes : List ℕ) → StandsFor self bytes → Loads bytes v) }
-        ensures faultless { IfOk result (λ v. IsFaultless v.slots) }
-        ensures budget { IfOk result (λ v. IsGreatest (PathOut v.slots 0) v.budget) }
         ensures unloaded { IfErr result (λ fault. (bytes : List ℕ) → StandsFor self bytes → IsUnloaded bytes fault) }
         ensures accepts { (bytes : List ℕ) → StandsFor self bytes → AreBytes bytes → HasStraightProgram bytes → IfErr result (λ e. e ≡ OutOfMemory) }
     {

@@ -5,3 +5,4 @@ pub mod Once
 pub mod Switching
 pub mod Permitted
 pub mod Leaves
+pub mod Pulling

@@ -102,29 +102,29 @@ HasSmallIds-from_counts (x ∷ xs) h = (omega (arith, head_below x (count_of x.i
 pub small_at : (w : World) (cpu : ℕ) → length w.seats ≡ 1024 → IsOrderly w → HasSmallIds (present_at (processor w cpu).running ++ inbox w cpu)
 small_at w cpu l o = HasSmallIds-from_counts (present_at (processor w cpu).running ++ inbox w cpu) (λ id h. none_beyond_at w cpu id l o h)
 
--- a task of another processor's queue is not present here
-pub pulled_fresh : (w : World) (cpu from id : ℕ) (t : Task) → cpu ≢ from → with_id id (processor w from).running.queue ≡ Some t → IsOrderly w → count_of id (present_at (processor w cpu).running) ≡ 0
-pulled_fresh w cpu from id t n f o =
+-- two processors have each of their tasks once, together
+pub each_once_two : (w : World) (cpu from : ℕ) → cpu ≢ from → IsOrderly w → HasEachOnce (present_at (processor w cpu).running ++ present_at (processor w from).running)
+each_once_two w cpu from n o = λ id.
     let p : Processor = processor w cpu in
     let q : Processor = processor w from in
-    let itself : one id t ≡ 1 = subst (λ i. one i t ≡ 1) (with_id-id id q.running.queue t f) (one_self t) in
     omega (
       arith,
       standing_once w id o,
       held_two id w.processors cpu from n,
       count_of-held_by id p,
       count_of-held_by id q,
-      queue_le_present id q.running.current q.running.queue,
-      count_of-without id id q.running.queue t f,
-      itself,
+      count_of-append id (present_at p.running) (present_at q.running),
     )
 
--- and so its id is free in the queue here
-pub pulled_free : (w : World) (cpu from id : ℕ) (t : Task) → cpu ≢ from → with_id id (processor w from).running.queue ≡ Some t → IsOrderly w → with_id t.id (processor w cpu).running.queue ≡ None
-pulled_free w cpu from id t n f o =
-    let p : Processor = processor w cpu in
-    let free : with_id id p.running.queue ≡ None = with_id-absent id p.running.queue (omega (arith, queue_le_present id p.running.current p.running.queue, pulled_fresh w cpu from id t n f o)) in
-    subst (λ i. with_id i p.running.queue ≡ None) (sym (with_id-id id (processor w from).running.queue t f)) free
+-- and none beyond the seats
+pub seated_two : (w : World) (cpu from : ℕ) → length w.seats ≡ 1024 → IsOrderly w → HasSeatedIds (present_at (processor w cpu).running ++ present_at (processor w from).running)
+seated_two w cpu from l o = λ id h.
+    omega (
+      arith,
+      seated_running w cpu l o id h,
+      seated_running w from l o id h,
+      count_of-append id (present_at (processor w cpu).running) (present_at (processor w from).running),
+    )
 
 abbrev ids : List Task → List ℕ
 ids xs = map (λ (t : Task). t.id) xs

@@ -1,7 +1,9 @@
+pub mod Events
 pub mod Processors
 pub mod World
 pub mod Refusals
 pub mod Choices
-pub mod Steps
+pub mod Moves
 pub mod Shares
+pub mod Steps
 pub mod StandsOnce

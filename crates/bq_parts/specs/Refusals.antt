@@ -58,6 +58,10 @@ argument_refusal count (Tick cpu now) = first_refusal (no_processor count cpu �
 argument_refusal count (Block cpu now) = first_refusal (no_processor count cpu ∷ [])
 argument_refusal count (Pull cpu from now) = first_refusal (no_processor count cpu ∷ no_processor count from ∷ (cpu == from, no.SameProcessor) ∷ [])
 
+-- what a seat refuses of a task that leaves for good
+abbrev pub retire_refusal : Seat → Option Refusal
+retire_refusal s = first_refusal ((is_absent s, no.NoTask) ∷ (is_away s, no.NotBlocked) ∷ [])
+
 -- what a seat and a hand refuse of a wake that begins
 abbrev pub begin_refusal : Seat → Option Carried → Option Refusal
 begin_refusal s hand = first_refusal ((is_absent s, no.NoTask) ∷ (is_away s, no.NotBlocked) ∷ (is_some hand, no.InHand) ∷ [])
@@ -69,7 +73,7 @@ install_refusal newest drawn g = first_refusal ((nat_lt 0 newest && nat_le g new
 -- what this world refuses
 abbrev pub state_refusal : World → Event → Option Refusal
 state_refusal w (Admit id nice mask slice) = first_refusal ((not (is_absent (seat w id)), no.TaskExists) ∷ [])
-state_refusal w (Retire id) = first_refusal ((is_absent (seat w id), no.NoTask) ∷ (is_away (seat w id), no.NotBlocked) ∷ [])
+state_refusal w (Retire id) = retire_refusal (seat w id)
 state_refusal w Draw = None
 state_refusal w (Install cpu h g policy) = install_refusal (at_hook h (processor w cpu).programs).generation w.drawn g
 state_refusal w (BeginWake cpu id) = begin_refusal (seat w id) (processor w cpu).hand

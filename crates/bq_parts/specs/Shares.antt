@@ -2,31 +2,41 @@
 use Rattle.std.specs.Prelude.{◌≡◌, ℕ, true, false, List, [], length, slice_index_or, slice_set, Option, Some, None, Result, Ok, Err}
 use Rattle.bq_disc.specs.Tasks.{Task, id_of}
 use Rattle.bq_disc.specs.Discipline.{Discipline}
-use Rattle.bq_disc.specs.OneProcessor.{charge, enter_all}
+use Rattle.bq_disc.specs.OneProcessor.{charge, marked, enter_all}
 use Rattle.bq_maps.specs.declared.board.Call.{Call as Asked}
 use Rattle.bq_parts.specs.declared.seat.Seat.{Seat}
 use Rattle.bq_parts.specs.declared.seat.Seat.TheVariants.{Absent, Blocked, Away}
 use Rattle.bq_parts.specs.declared.reply.Reply.{Reply}
-use Rattle.bq_parts.specs.declared.reply.Reply.TheVariants.{Admitted, Begun, Installed, Drained, Ticked, Blocked as Went}
+use Rattle.bq_parts.specs.declared.reply.Reply.TheVariants.{Admitted, Retired, Begun, Installed, Drained, Ticked, Blocked as Went, Pulled as Moved}
 use Rattle.bq_parts.specs.declared.refusal.Refusal.{Refusal}
 use Rattle.bq_parts.specs.declared.refusal.Refusal.TheVariants as no
 use Rattle.bq_parts.specs.Processors.{Processor}
 use Rattle.bq_parts.specs.declared.carried.Carried.{Carried}
 use Rattle.bq_parts.specs.declared.wakes.Placement.{Placement}
-use Rattle.bq_parts.specs.Refusals.{is_absent, begin_refusal, install_refusal}
+use Rattle.bq_parts.specs.Refusals.{is_absent, retire_refusal, begin_refusal, install_refusal}
 use Rattle.bq_verify.specs.declared.hook.Hook.{Hook}
 use Rattle.bq_policies.specs.Programs.{Program, at_hook, with_program}
-use Rattle.bq_parts.specs.Choices.{Setting, Settled, SettlesPlace, SettlesPreempt, decided_by}
-use Rattle.bq_parts.specs.Steps.{after_leaving, as_it_leaves}
+use Rattle.bq_hooks.specs.Permitted.{task_numbered}
+use Rattle.bq_parts.specs.Choices.{Setting, Settled, SettlesPlace, SettlesPreempt, SettlesPull, decided_by}
+use Rattle.bq_parts.specs.Moves.{after_leaving, as_it_leaves, taken_from, without_task, with_pulled, started_if_idle}
 
 -- a processor after its time has passed
 abbrev pub after_time : Discipline → ℕ → Processor → Processor
 after_time d now p = record p { running = charge d p.running now }
 
+-- a processor whose mark is computed anew
+abbrev pub remarked : Discipline → Processor → Processor
+remarked d p = record p { running = marked d p.running }
+
 -- the lobby admits a task
 abbrev pub Admits : ℕ → Task → List Seat → Result Reply Refusal → List Seat → Type 0
 Admits id t seats (Ok r) seats' = (is_absent (slice_index_or seats id Absent) ≡ true) × (r ≡ Admitted) × (seats' ≡ slice_set seats id (Blocked t))
 Admits id t seats (Err e) seats' = (is_absent (slice_index_or seats id Absent) ≡ false) × (e ≡ no.TaskExists) × (seats' ≡ seats)
+
+-- a sleeping task leaves the lobby for good
+abbrev pub Retires : ℕ → List Seat → Result Reply Refusal → List Seat → Type 0
+Retires id seats (Ok r) seats' = (retire_refusal (slice_index_or seats id Absent) ≡ None) × (r ≡ Retired) × (seats' ≡ slice_set seats id Absent)
+Retires id seats (Err e) seats' = (retire_refusal (slice_index_or seats id Absent) ≡ Some e) × (seats' ≡ seats)
 
 -- it is decided who runs
 abbrev pub Decides : Setting → ℕ → Processor → Settled → Processor → Type 0
@@ -77,3 +87,18 @@ abbrev pub Installs : Hook → ℕ → Processor → Program → Result Reply Re
 Installs h drawn p new (Ok r) q =
     (install_refusal (at_hook h p.programs).generation drawn new.generation ≡ None) × (r ≡ Installed) × (q ≡ record p { programs = with_program h p.programs new })
 Installs h drawn p new (Err e) q = (install_refusal (at_hook h p.programs).generation drawn new.generation ≡ Some e) × (q ≡ p)
+
+-- a task of another processor's queue enters this one's; where nothing runs, the choice does
+abbrev pub Pulls : Setting → ℕ → ℕ → ℕ → Processor → Processor → List Asked → Reply → Processor → Processor → Type 0
+Pulls s cpu from now p other calls r q other' =
+    (settled : Settled)
+    × (let c = after_time s.discipline now p in
+    let source = remarked s.discipline other in
+    let task = task_numbered settled.choice in
+    SettlesPull s cpu from c source settled
+    × (calls ≡ settled.calls) × (r ≡ Moved task (id_of q.running.current) settled.by settled.steps)
+    × (q ≡ record c {
+      running = started_if_idle s.discipline (with_pulled s.discipline c.running (taken_from source.running task)) c.running.current;
+      programs = record c.programs { pull = settled.program };
+    })
+    × (other' ≡ record source { running = without_task source.running task }))

@@ -21,6 +21,7 @@ use Rattle.bq_parts.specs.declared.refusal.Refusal.TheVariants as no
 use Rattle.bq_parts.specs.Processors.{Processor}
 use Rattle.bq_parts.specs.World.{World, processor, inbox, seat, count_in, with_processor, with_inbox, with_seat, loads_of}
 use Rattle.bq_parts.specs.Refusals.{refusal, argument_refusal}
+use Rattle.bq_parts.specs.Moves.{admitted, after_leaving, as_it_leaves, taken_from, without_task, with_pulled, started_if_idle}
 use Rattle.bq_parts.specs.Choices.{Setting, Settled, SettlesPlace, SettlesPreempt, SettlesPull, decided_by}
 
 -- the processor after its time has passed
@@ -30,36 +31,6 @@ charged_at d w cpu now = let p = processor w cpu in record p { running = charge 
 -- the other processor of a pull, its mark computed anew
 abbrev pub source_at : Discipline → World → ℕ → Processor
 source_at d w from = let other = processor w from in record other { running = marked d other.running }
-
--- a task as it is admitted
-abbrev pub admitted : ℕ → ℕ → ℤ → ℕ → ℕ → Task
-admitted count id nice mask slice = record { id = id; weight = weight_of nice; mask = mask % 2 ^ count; slice = slice; v = 0; deadline = 0; rel = pos 0; prev = None }
-
--- what the current task leaves behind, and the task as it goes
-abbrev pub after_leaving : Discipline → Running → Running
-after_leaving d p = start d (record p { current = None })
-
-abbrev pub as_it_leaves : Running → ℕ → Task → Task
-as_it_leaves p cpu t = record (left_at p.kept t) { prev = Some cpu }
-
--- the task of that id leaves a queue at the mark that is kept there
-abbrev pub taken_from : Running → Option ℕ → Option Task
-taken_from p None = None
-taken_from p (Some id) = option_map (left_at p.kept) (with_id id p.queue)
-
-abbrev pub without_task : Running → Option ℕ → Running
-without_task p None = p
-without_task p (Some id) = record p { queue = without id p.queue }
-
--- a task from another processor enters
-abbrev pub with_pulled : Discipline → Running → Option Task → Running
-with_pulled d p None = p
-with_pulled d p (Some t) = record p { queue = place (pulled d p.kept t) p.queue }
-
--- where nothing runs the queue's choice runs
-abbrev pub started_if_idle : Discipline → Running → Option Task → Running
-started_if_idle d p None = start d p
-started_if_idle d p (Some t) = p
 
 -- the reply to an event that is not refused, and the world that it leaves
 abbrev pub Performs : Setting → World → Event → List Asked → Reply → World → Type 0

@@ -26,7 +26,7 @@ use bq_policies::Version;
 impl<T> Outcome<T> {
     /// What the discipline chose where no policy was asked.
     #[inline(always)]
-    pub fn unasked(choice: T) -> Outcome<T>
+    pub(crate) fn unasked(choice: T) -> Outcome<T>
         ensures { result ≡ record { choice = choice; by = By.Discipline; steps = 0 } }
     {
         Outcome {
@@ -38,7 +38,7 @@ impl<T> Outcome<T> {
 
     /// What was chosen after a policy took so many steps.
     #[inline(always)]
-    pub fn after(chosen: Choice<T>, steps: u32) -> Outcome<T>
+    pub(crate) fn after(chosen: Choice<T>, steps: u32) -> Outcome<T>
         ensures { result ≡ record { choice = chosen.value; by = chosen.by; steps = steps } }
     {
         Outcome {

@@ -10,7 +10,7 @@ ghost use Rattle.bq_disc.specs.Chains.{task_of, chain_behind, IsStraightBehind};
 ghost use Rattle.bq_disc.specs.OneProcessor.{charge, marked, start, switched, enter_all, entered, present_at};
 ghost use Rattle.bq_policies.specs.Programs.{at_hook, with_program, IsFor};
 ghost use Rattle.bq_parts.specs.Processors.{opening, load_of, size_of, count_of, HasEachOnce};
-ghost use Rattle.bq_parts.specs.Steps.{taken_from, without_task, with_pulled, started_if_idle};
+ghost use Rattle.bq_parts.specs.Moves.{taken_from, without_task, with_pulled, started_if_idle};
 
 use crate::{Carried, Hook, Hooks, Inbox, Installed, Unlinked};
 use bq_disc::node::{self, Link};
@@ -56,8 +56,17 @@ impl<Q: RunQueue> Cpu<Q> {
     pub fn new() -> Cpu<Q>
         ensures { result ≡ opening }
     {
+        Cpu::over(Q::empty())
+    }
+
+    /// The same over a queue that was made before, and that nothing has come to.
+    pub fn over(queue: Q) -> Cpu<Q>
+        requires empty { Q.members queue ≡ [] }
+        requires mark { Q.kept_mark queue ≡ 2 ^ 32 }
+        ensures { result ≡ opening }
+    {
         Cpu {
-            queue: Q::empty(),
+            queue,
             current: None,
             last: 0,
             hand: None,

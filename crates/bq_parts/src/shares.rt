@@ -5,8 +5,8 @@ ghost use Rattle.bq_disc.specs.OneProcessor.{present_at};
 ghost use Rattle.bq_parts.specs.Processors.{HasEachOnce, HasSeatedIds};
 ghost use Rattle.bq_parts.specs.Refusals.{argument_refusal};
 ghost use Rattle.bq_parts.specs.Choices.{policies};
-ghost use Rattle.bq_parts.specs.Steps.{admitted};
-ghost use Rattle.bq_parts.specs.Shares.{Admits, Blocks, Drains, Ticks};
+ghost use Rattle.bq_parts.specs.Moves.{admitted};
+ghost use Rattle.bq_parts.specs.Shares.{Admits, Blocks, Drains, Retires, Ticks};
 
 use crate::arguments::allowed;
 use crate::{Cpu, Event, Inbox, Lobby, Refusal, Reply, Scratch, Unlinked};
@@ -44,6 +44,21 @@ impl Lobby {
         }
         self.seat(id, task);
         Ok(Reply::Admitted)
+    }
+
+    /// A sleeping task leaves the lobby for good.
+    pub fn retire(&mut self, id: u16) -> Result<Reply, Refusal>
+        requires seat { id < 1024 }
+        ensures share { Retires id self.old result self.new }
+    {
+        if self.is_absent(id) {
+            return Err(Refusal::NoTask);
+        }
+        if self.is_away(id) {
+            return Err(Refusal::NotBlocked);
+        }
+        self.clear(id);
+        Ok(Reply::Retired)
     }
 }
 

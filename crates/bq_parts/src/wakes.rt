@@ -30,6 +30,19 @@ impl<Q: RunQueue> Cpu<Q> {
         requires seat { task < 1024 }
         ensures share { Begins task loads.now self.old lobby.old result self.new lobby.new }
     {
+        self.begin_with(lobby, task, loads.copy())
+    }
+
+    /// The same with loads that were counted for this wake alone.
+    pub fn begin_with(
+        &mut self,
+        lobby: &mut Lobby,
+        task: u16,
+        loads: Loads,
+    ) -> Result<Reply, Refusal>
+        requires seat { task < 1024 }
+        ensures share { Begins task loads self.old lobby.old result self.new lobby.new }
+    {
         if lobby.is_absent(task) {
             return Err(Refusal::NoTask);
         }
@@ -44,10 +57,7 @@ impl<Q: RunQueue> Cpu<Q> {
             loads: loads.copy(),
         };
         self.begin(carried);
-        Ok(Reply::Begun {
-            task,
-            loads: loads.copy(),
-        })
+        Ok(Reply::Begun { task, loads })
     }
 
     /// The task in the hand is given, and it is chosen where it goes among the first `count` processors.

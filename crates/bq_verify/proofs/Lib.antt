@@ -6,3 +6,5 @@ pub mod SlotLemmas
 pub mod PassLemmas
 pub mod LongerLemmas
 pub mod WorkedLemmas
+pub mod FirstLemmas
+pub mod FrameLemmas

@@ -16,12 +16,17 @@ use Rattle.bq_maps.specs.Machine.{IsOperand, instruction_at, Step, Ends, IsSetti
 use Rattle.bq_graph.specs.Edges.{Leaves, IsEdge, IsStart}
 use Rattle.bq_views.specs.declared.view.Known.{Known}
 use Rattle.bq_views.specs.declared.view.View.{View}
+use Rattle.bq_views.specs.Ready.{WritesBelowFrame}
 use Rattle.bq_views.specs.Views.{Covers, knowing}
 
 -- each number is above those of the slots that its slot leads to, which come later
 pub record AreHeights (slots : List (Option Insn)) (heights : List ℕ) : Type 0 where
   pub fall : (from to : ℕ) → IsEdge slots from to → slice_index heights to < slice_index heights from
   pub positive : (slot : ℕ) (insn : Insn) → instruction_at slots slot ≡ Some insn → 1 ≤ slice_index heights slot
+
+-- no instruction writes register 10, the address of the stack's end
+abbrev pub SparesFrame : List (Option Insn) → Type 0
+SparesFrame slots = (slot : ℕ) (insn : Insn) → instruction_at slots slot ≡ Some insn → WritesBelowFrame insn
 
 -- an edge from a call of a counter
 pub record IsAskingEdge (slots : List (Option Insn)) (from to : ℕ) : Type 0 where

@@ -28,8 +28,8 @@ cause_for Answer = cause.Answer
 
 -- the same of the cause that is named
 abbrev pub MayCause : Cause → Insn → Type 0
-MayCause cause.Unset insn = Unit {0}
-MayCause cause.PointerUse insn = Unit {0}
+MayCause cause.Unset insn = MayDoubt Unset insn
+MayCause cause.PointerUse insn = MayDoubt PointerUse insn
 MayCause cause.Access insn = MayDoubt Access insn
 MayCause cause.Argument insn = MayDoubt Argument insn
 MayCause cause.Answer insn = MayDoubt Answer insn

@@ -6,11 +6,11 @@ ghost use Rattle.bq_maps.specs.Memory.{Setting, State};
 ghost use Rattle.bq_maps.specs.Machine.{instruction_at};
 ghost use Rattle.bq_maps.specs.declared.shape.MapShape.{MapShape};
 ghost use Rattle.bq_graph.specs.Passes.{IsSound};
-ghost use Rattle.bq_views.specs.Doubts.{MayDoubt};
+ghost use Rattle.bq_views.specs.Doubts.{MayDoubt, ReadsOperand, UsesWord};
 ghost use Rattle.bq_verify.specs.Stops.{IsWantOfMemory, MayStop};
 ghost use Rattle.bq_verify.specs.Ways.{AfterTest, GoesOnSure, HasOnSide, HasWaiting, IsSureOf};
 ghost use Rattle.bq_views.specs.Standing.{Fact, Has, IsScalarOperand, Pointer, Scalar, StandsAt};
-ghost use Rattle.bq_views.specs.Ready.{IsNullCheck, IsReady};
+ghost use Rattle.bq_views.specs.Ready.{IsNullCheck, IsReady, WritesBelowFrame};
 ghost use Rattle.bq_views.specs.Sides.{is_found};
 ghost use Rattle.bq_views.specs.Views.{Covers};
 ghost use Rattle.bq_verify.specs.Control.{Goes, IsKnown, IsOnSide, IsRelearned, PartsTo, WaitsBoxed};
@@ -45,6 +45,7 @@ pub fn visit(
     requires short { length slots.now ≤ 4096 }
     requires context { context < 2 ^ 16 }
     requires few { length shapes.now ≤ 8 }
+    requires below { WritesBelowFrame insn }
     ensures long { length pending.new ≡ length pending.old }
     ensures goes { IfOk result (λ live. ((f : Setting) (s : State) → WaitsBoxed f pending.old s → WaitsBoxed f pending.new s) × Goes slots.now shapes.now context slot view.old (IsKnown pending.new view.new live (slot + 1))) }
     ensures doubts { IfErr result (λ stop. MayStop stop insn) }
@@ -123,7 +124,7 @@ fn branch(
     ensures long { length pending.new ≡ length pending.old }
     ensures parts { IfOk result (λ live. ((f : Setting) (s : State) → WaitsBoxed f pending.old s → WaitsBoxed f pending.new s)
         × ((f : Setting) (s : State) → Covers f view.old s → PartsTo (IsKnown pending.new view.new live next) f s width cond dst src to next)) }
-    ensures doubts { IfErr result (λ stop. (insn : Insn) → MayStop stop insn) }
+    ensures doubts { IfErr result (λ stop. (insn : Insn) → ReadsOperand insn → UsesWord insn → MayStop stop insn) }
     ensures accepts { dst < 10 → StandsAt Scalar view.old dst → IsScalarOperand view.old src → IfErr result IsWantOfMemory }
     ensures checks { (map : ℕ) → dst < 10 → IsNullCheck width cond src → StandsAt (Pointer (Kind.EntryOrNull map) 0) view.old dst → IfErr result IsWantOfMemory }
     ensures checked { (map : ℕ) → IsNullCheck width cond src → StandsAt (Pointer (Kind.EntryOrNull map) 0) view.old dst → IfOk result (λ live. (x : Fact) (k : ℕ) → HasWaiting x pending.old k → (k ≡ to → AfterTest x view.old dst map (is_found cond true)) → (k ≡ next → AfterTest x view.old dst map (is_found cond false)) → IsSureOf x pending.new view.new live next k) }
@@ -138,8 +139,8 @@ fn branch(
     if dst >= 10 {
         return Err(Stop::Doubted(Doubt::PointerUse));
     }
-    let yes = side(width, cond, left, right, true)?;
-    let no = side(width, cond, left, right, false)?;
+    let yes = side(width, cond, left, src, right, true)?;
+    let no = side(width, cond, left, src, right, false)?;
     wait_on_side(alloc, pending, to, view, dst, yes)?;
     Ok(carry_on(view, dst, no))
 }

@@ -1,6 +1,6 @@
-//! Laws of safe programs.
+//! Laws of safe programs, and of the fault that is named of others. Each is a theorem over definitions, and its function does nothing.
 
-ghost use Rattle.bq_verify.specs.Laws.{RunsOnLonger, SafeOnLonger};
+ghost use Rattle.bq_verify.specs.Laws.{FaultlessHasNone, OneFirstFault, RunsOnLonger, SafeOnLonger};
 ghost use Rattle.bq_verify.specs.Worked.{WorkedIsStraight};
 
 /// A program that is safe on a context is safe on a longer one, within the same budget: so one that is safe on the
@@ -12,6 +12,16 @@ pub fn safe_on_longer()
 /// What a run on the first bytes of a context gives, a run on the whole context gives.
 pub fn runs_on_longer()
     ensures { RunsOnLonger }
+{}
+
+/// The control graph of a program has at most one first fault: its cause and its slot.
+pub fn one_first_fault()
+    ensures { OneFirstFault }
+{}
+
+/// A program whose control graph is accepted has no first fault.
+pub fn faultless_has_none()
+    ensures { FaultlessHasNone }
 {}
 
 /// There are straight programs: a worked one, with a store, a look-up, its test and a load of the entry, is one.

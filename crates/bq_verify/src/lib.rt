@@ -4,17 +4,17 @@
 //! registers and stack. A `Verified` is safe within its budget; the interpreter rests on that alone.
 #![tactic(auto)]
 
-pub mod flow;
+mod flow;
 pub mod hook;
 pub mod laws;
-pub mod pass;
+mod pass;
 pub mod program;
 pub mod refused;
-pub mod stop;
+mod stop;
 #[cfg(test)]
 mod tests;
 pub mod verified;
-pub mod waiting;
+mod waiting;
 
 pub use bq_graph::cause::Cause;
 pub use hook::{Hook, Version};

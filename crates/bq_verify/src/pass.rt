@@ -11,7 +11,7 @@ ghost use Rattle.bq_views.specs.Standing.{Pointer, Has, IsPlainAt, StandsAt};
 ghost use Rattle.bq_verify.specs.Straight.{IsStraightProgram};
 ghost use Rattle.bq_verify.specs.Sure.{IsSure};
 ghost use Rattle.bq_views.specs.Views.{Covers};
-ghost use Rattle.bq_verify.specs.Control.{AreHeights, AreMade, IsKnown, PassesOn, RestIsSafe};
+ghost use Rattle.bq_verify.specs.Control.{AreHeights, AreMade, IsKnown, PassesOn, RestIsSafe, SparesFrame};
 
 use crate::flow::visit;
 use crate::refused::{Refused, refuse};
@@ -41,6 +41,7 @@ pub fn judge(
     requires short { length slots.now ≤ 4096 }
     requires context { context < 2 ^ 16 }
     requires few { length shapes.now ≤ 8 }
+    requires frame { SparesFrame slots.now }
     ensures safe { OnOk result (Safe slots.now shapes.now context (slice_index heights.now 0)) }
     ensures stopped { IfErr result (IsStopped slots.now) }
     ensures accepts { IsStraightProgram slots.now shapes.now context → IfErr result IsOutOfMemory }
@@ -75,6 +76,7 @@ fn pass(
     requires short { length slots.now ≤ 4096 }
     requires context { context < 2 ^ 16 }
     requires few { length shapes.now ≤ 8 }
+    requires frame { SparesFrame slots.now }
     ensures safe { OnOk result ((made : ℕ → ℕ) → AreMade slots.now made → RestIsSafe slots.now shapes.now context heights.now made 0 (IsKnown pending.old view.old true 0)) }
     ensures stopped { IfErr result (IsStopped slots.now) }
     ensures accepts { IsStraightProgram slots.now shapes.now context → IsSure slots.now shapes.now pending.old view.old true 0 → IfErr result IsOutOfMemory }
@@ -103,6 +105,7 @@ fn pass_slot(
     requires short { length slots.now ≤ 4096 }
     requires context { context < 2 ^ 16 }
     requires few { length shapes.now ≤ 8 }
+    requires frame { SparesFrame slots.now }
     ensures long { length pending.new ≡ length pending.old }
     ensures passes { IfOk result (λ on. PassesOn slots.now shapes.now context slot (IsKnown pending.old view.old live slot) (IsKnown pending.new view.new on (slot + 1))) }
     ensures stopped { IfErr result (IsStopped slots.now) }

@@ -2,7 +2,9 @@
 
 ghost use Rattle.std.specs.Prelude.{◌≡◌, ◌<◌, ◌≤◌, ℕ, length, OnOk, IfOk, IfErr, None, true, slice_index_or};
 ghost use Rattle.bq_insn.specs.Slots.{spread};
-ghost use Rattle.bq_insn.specs.Spelling.{is_well_formed};
+ghost use Rattle.bq_insn.specs.Spelling.{is_insn, is_well_formed};
+ghost use Rattle.std.specs.List.{list_all};
+ghost use Rattle.bq_maps.specs.Machine.{Safe};
 ghost use Rattle.bq_graph.specs.Edges.{IsWhole};
 ghost use Rattle.bq_graph.specs.Passes.{IsSound, Measured};
 ghost use Rattle.bq_graph.specs.Paths.{IsGreatest, PathOut};
@@ -91,6 +93,7 @@ pub fn verify(alloc: Global, program: Program) -> Result<Verified, Refused>
     ensures version { IfOk result (λ v. v.version ≡ program.version) }
     ensures faultless { IfOk result (λ v. IsFaultless v.slots) }
     ensures budget { IfOk result (λ v. IsGreatest (PathOut v.slots 0) v.budget) }
+    ensures safe { IfOk result (λ v. Safe v.slots v.shapes (context_length_of v.hook v.version) v.budget) }
     ensures refused { IfErr result (IsRefusal (spread program.insns.items)) }
     ensures accepts { IsStraightProgram (spread program.insns.items) program.shapes.items (context_length_of program.hook program.version) → IfErr result IsOutOfMemory }
 {
@@ -99,6 +102,7 @@ pub fn verify(alloc: Global, program: Program) -> Result<Verified, Refused>
 
 /// The same, of a program of some slots, but not too many.
 fn verify_slots(alloc: Global, program: Program) -> Result<Verified, Refused>
+    requires registers { list_all is_insn program.insns.items ≡ true }
     requires some { 0 < length (spread program.insns.items) }
     requires short { length (spread program.insns.items) ≤ 4096 }
     requires few { length program.shapes.items ≤ 8 }
@@ -108,6 +112,7 @@ fn verify_slots(alloc: Global, program: Program) -> Result<Verified, Refused>
     ensures version { IfOk result (λ v. v.version ≡ program.version) }
     ensures faultless { IfOk result (λ v. IsFaultless v.slots) }
     ensures budget { IfOk result (λ v. IsGreatest (PathOut v.slots 0) v.budget) }
+    ensures safe { IfOk result (λ v. Safe v.slots v.shapes (context_length_of v.hook v.version) v.budget) }
     ensures refused { IfErr result (IsRefusal (spread program.insns.items)) }
     ensures accepts { IsStraightProgram (spread program.insns.items) program.shapes.items (context_length_of program.hook program.version) → IfErr result IsOutOfMemory }
 {

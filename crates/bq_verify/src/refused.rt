@@ -50,7 +50,7 @@ fn cause_of(doubt: Doubt) -> Cause
 }
 
 /// The refusal where the pass stopped at a slot.
-pub fn refuse(slot: usize, stop: Stop) -> Refused
+pub(crate) fn refuse(slot: usize, stop: Stop) -> Refused
     ensures stopped { (slots : List (Option Insn)) (insn : Insn) → instruction_at slots slot ≡ Some insn → MayStop stop insn → IsStopped slots result }
     ensures named { (doubt : Missing) → stop ≡ Stop.Doubted doubt → result ≡ At slot (cause_for doubt) }
     ensures memory { IsWantOfMemory stop → IsOutOfMemory result }

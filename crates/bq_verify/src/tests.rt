@@ -179,6 +179,31 @@ fn refusals(rt: HostRuntime) -> Result<(), Fail> {
         &[],
         at(0, Cause::PointerUse),
     )?;
+    // the answer of a look-up beside a register that is 0
+    let one = [MapShape::new(8, 1).ok_or("no shape")?];
+    expect(
+        &rt,
+        rt.alloc(),
+        &[
+            mov(6, 0),
+            set(Size::Word, 10, -4, 0),
+            Insn::MapRef { dst: 1, index: 0 },
+            copy(2, 10),
+            add(2, -4),
+            call(1),
+            Insn::Branch {
+                width: Width::W64,
+                cond: Condition::Equal,
+                dst: 0,
+                src: Source::Reg(6),
+                off: 0,
+            },
+            mov(0, 0),
+            exit,
+        ],
+        &one,
+        at(7, Cause::PointerUse),
+    )?;
     expect(
         &rt,
         rt.alloc(),

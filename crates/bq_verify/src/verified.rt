@@ -35,12 +35,12 @@ impl Verified {
     ghost use Rattle.std.specs.Prelude.{◌≡◌, ◌≤◌, ◌<◌, ℕ, IfErr, IfOk, length, slice_index};
     ghost use Rattle.bq_packed.specs.Packing.{Stands};
     ghost use Rattle.bq_verify.specs.Accepted.{IsAccepted, context_length_of};
-    ghost use Rattle.bq_verify.specs.Control.{AreHeights, AreMade};
+    ghost use Rattle.bq_verify.specs.Control.{AreHeights, AreMade, SparesFrame};
     ghost use Rattle.bq_graph.specs.Passes.{IsSound};
     ghost use Rattle.bq_graph.specs.Edges.{IsStart};
     ghost use Rattle.bq_verify.specs.Refusals.{IsOutOfMemory, IsStopped};
     ghost use Rattle.bq_verify.specs.Straight.{IsStraightProgram};
-    ghost use Rattle.bq_maps.specs.Machine.{instruction_at};
+    ghost use Rattle.bq_maps.specs.Machine.{Safe, instruction_at};
     ghost use Rattle.std.specs.Option.{option_copied};
 
     /// The instruction of each slot.
@@ -112,12 +112,14 @@ impl Verified {
         requires as_many { length heights.now ≡ length slots.items }
         requires short { length slots.items ≤ 4096 }
         requires few { length shapes.items ≤ 8 }
+        requires frame { SparesFrame slots.items }
         requires some { 0 < length slots.items }
         ensures slots { IfOk result (λ v. v.slots ≡ slots.items) }
         ensures shapes { IfOk result (λ v. v.shapes ≡ shapes.items) }
         ensures hook { IfOk result (λ v. v.hook ≡ hook) }
         ensures version { IfOk result (λ v. v.version ≡ version) }
         ensures budget { IfOk result (λ v. v.budget ≡ slice_index heights.now 0) }
+        ensures safe { IfOk result (λ v. Safe v.slots v.shapes (context_length_of v.hook v.version) v.budget) }
         ensures stopped { IfErr result (IsStopped slots.items) }
         ensures accepts { IsStraightProgram slots.items shapes.items (context_length_of hook version) → IfErr result IsOutOfMemory }
     {

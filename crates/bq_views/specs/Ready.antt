@@ -13,6 +13,7 @@ use Rattle.bq_insn.specs.declared.Source.{Source}
 use Rattle.bq_insn.specs.declared.Width.TheVariants.{W64}
 use Rattle.bq_insn.specs.declared.Width.{Width}
 use Rattle.bq_maps.specs.declared.shape.MapShape.{MapShape}
+use Rattle.bq_graph.specs.Faults.{destination_of}
 use Rattle.bq_views.specs.Standing.{Scalar, Pointer, StandsAt, IsSetAt, IsPlainAt, Has, IsScalarOperand}
 use Rattle.bq_views.specs.declared.view.Kind.TheVariants.{Number, Context, Stack, Entry, EntryOrNull, Map}
 use Rattle.bq_views.specs.declared.view.Kind.{Kind}
@@ -148,6 +149,10 @@ IsCarried (Goto32 imm) = ⊥
 IsCarried (Branch w c dst src off) = ⊥
 IsCarried Exit = ⊥
 IsCarried insn = Unit {0}
+
+-- the instruction does not write register 10, the address of the stack's end
+abbrev pub WritesBelowFrame : Insn → Type 0
+WritesBelowFrame insn = (r : ℕ) → destination_of insn ≡ Some r → r < 10
 
 -- a call of a counter: register 1 is one of 64, and of an add register 2 is the amount
 abbrev pub IsAsking : View → ℤ → Type 0

@@ -1,15 +1,22 @@
 -- The left operand of a branch on one side of its test.
-use Rattle.std.specs.Prelude.{Bool, true, not, ◌≡◌, ℕ, Option, Some, None}
+use Rattle.std.specs.Prelude.{Bool, true, not, ◌≡◌, ℕ, Option, Some, None, ◌⊎◌}
 use Rattle.bq_insn.specs.declared.Condition.TheVariants.{Equal}
 use Rattle.bq_insn.specs.declared.Condition.{Condition}
+use Rattle.bq_insn.specs.declared.Source.{Source}
+use Rattle.bq_insn.specs.declared.Width.{Width}
+use Rattle.bq_views.specs.Ready.{IsNullCheck}
 use Rattle.bq_views.specs.Standing.{Pointer, Stands}
-use Rattle.bq_views.specs.declared.view.Kind.TheVariants.{Number, Entry}
+use Rattle.bq_views.specs.declared.view.Kind.TheVariants.{Number, Entry, EntryOrNull}
 use Rattle.bq_views.specs.declared.view.Known.{Known}
 
 -- whether the operands differ on that side of a test
 abbrev pub is_found : Condition → Bool → Bool
 is_found Equal goes = not goes
 is_found c goes = goes
+
+-- the words may be compared so: two numbers, or a look-up's answer with 0 from the instruction, for equality and in 64 bits
+abbrev pub IsCompared : Width → Condition → Known → Source → Known → Type 0
+IsCompared w c left src right = ((left.kind ≡ Number) × (right.kind ≡ Number)) ⊎ ((m : ℕ) × (left.kind ≡ EntryOrNull m) × IsNullCheck w c src)
 
 -- the word on a side of such a test
 pub record IsTested (map : ℕ) (found : Bool) (side : Option Known) : Type 0 where

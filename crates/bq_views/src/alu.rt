@@ -1,6 +1,6 @@
 // Arithmetic on what is known.
 
-ghost use Rattle.std.specs.Prelude.{◌≡◌, ◌<◌, IfSome, OnOk, IsOk, IfErr};
+ghost use Rattle.std.specs.Prelude.{◌≡◌, ◌≢◌, ◌<◌, IfSome, OnOk, IsOk, IfErr};
 ghost use Rattle.bq_maps.specs.declared.shape.MapShape.{MapShape};
 ghost use Rattle.std.specs.Prelude.{List, ℕ, Some};
 ghost use Rattle.bq_insn.specs.Meaning.{alu_result};
@@ -10,7 +10,7 @@ ghost use Rattle.bq_views.specs.After.{After};
 ghost use Rattle.bq_views.specs.Ready.{IsReady, IsCopyOfFrame, IsMoveOfPointer};
 ghost use Rattle.bq_views.specs.Views.{Describes, Carries};
 
-use crate::registers::{known, operand, write};
+use crate::registers::{known, learn, operand};
 use crate::view::{Doubt, Kind, Known, View};
 use bq_insn::{Insn, Operation, Source, Width};
 use bq_ranges::arithmetic;
@@ -53,6 +53,7 @@ fn moved(width: Width, op: Operation, a: Known, b: Known) -> Option<Known>
 
 /// An arithmetic instruction.
 pub fn alu(view: &mut View, width: Width, op: Operation, dst: u8, src: Source) -> Result<(), Doubt>
+    requires { dst < 10 }
     ensures carries { OnOk result ((shapes : List MapShape) (context_length : ℕ) → Carries shapes context_length (Insn.Alu width op dst src) view.old view.new) }
     ensures doubts { IfErr result (λ doubt. MayDoubt doubt (Insn.Alu width op dst src)) }
     ensures accepts { (shapes : List MapShape) (context_length : ℕ) → IsReady shapes context_length view.old (Insn.Alu width op dst src) → IsOk result × ((x : Fact) (slot k : ℕ) → After x slot k (Insn.Alu width op dst src) view.old → Has x view.new) }
@@ -67,10 +68,12 @@ pub fn alu(view: &mut View, width: Width, op: Operation, dst: u8, src: Source) -
 
 /// Arithmetic on what the register holds.
 fn operate(view: &mut View, width: Width, op: Operation, dst: u8, src: Source) -> Result<(), Doubt>
+    requires other { op ≢ Operation.Mov }
+    requires below { dst < 10 }
     ensures carries { OnOk result ((shapes : List MapShape) (context_length : ℕ) → Carries shapes context_length (Insn.Alu width op dst src) view.old view.new) }
     ensures doubts { IfErr result (λ doubt. MayDoubt doubt (Insn.Alu width op dst src)) }
-    ensures accepts { dst < 10 → StandsAt Scalar view.old dst → IsScalarOperand view.old src → IsOk result × IsGiven view.old view.new dst }
-    ensures moves { dst < 10 → (m : IsMoveOfPointer view.old width op dst src) → IsOk result × IsMade (Pointer Kind.Stack m.at) view.old view.new dst }
+    ensures accepts { StandsAt Scalar view.old dst → IsScalarOperand view.old src → IsOk result × IsGiven view.old view.new dst }
+    ensures moves { (m : IsMoveOfPointer view.old width op dst src) → IsOk result × IsMade (Pointer Kind.Stack m.at) view.old view.new dst }
 {
     let Some(right) = operand(view, src) else {
         return Err(Doubt::Unset);
@@ -81,16 +84,17 @@ fn operate(view: &mut View, width: Width, op: Operation, dst: u8, src: Source) -
     let Some(word) = combine(width, op, left, right) else {
         return Err(Doubt::PointerUse);
     };
-    write(view, dst, word)?;
+    learn(view, dst, word);
     Ok(())
 }
 
 /// A copy.
 fn copy(view: &mut View, width: Width, dst: u8, src: Source) -> Result<(), Doubt>
+    requires { dst < 10 }
     ensures carries { OnOk result ((shapes : List MapShape) (context_length : ℕ) → Carries shapes context_length (Insn.Alu width Operation.Mov dst src) view.old view.new) }
     ensures doubts { IfErr result (λ doubt. MayDoubt doubt (Insn.Alu width Operation.Mov dst src)) }
-    ensures accepts { dst < 10 → IsScalarOperand view.old src → IsOk result × IsGiven view.old view.new dst }
-    ensures copies { dst < 10 → (m : IsCopyOfFrame view.old width Operation.Mov src) → IsOk result × IsMade (Pointer Kind.Stack m.base) view.old view.new dst }
+    ensures accepts { IsScalarOperand view.old src → IsOk result × IsGiven view.old view.new dst }
+    ensures copies { (m : IsCopyOfFrame view.old width Operation.Mov src) → IsOk result × IsMade (Pointer Kind.Stack m.base) view.old view.new dst }
 {
     let Some(right) = operand(view, src) else {
         return Err(Doubt::Unset);
@@ -98,7 +102,7 @@ fn copy(view: &mut View, width: Width, dst: u8, src: Source) -> Result<(), Doubt
     let Some(word) = copied(width, right) else {
         return Err(Doubt::PointerUse);
     };
-    write(view, dst, word)?;
+    learn(view, dst, word);
     Ok(())
 }
 

@@ -12,7 +12,7 @@ ghost use Rattle.bq_views.specs.Ready.{IsAtMost, IsReady, IsUpdating, IsNamingEn
 ghost use Rattle.bq_views.specs.Views.{Carries, Clears, Covers, IsBelow};
 
 use crate::places::{reads, reads_value, shape_of};
-use crate::registers::{known, learn, write};
+use crate::registers::{known, learn};
 use crate::view::{Doubt, Kind, Known, View};
 use bq_insn::{Insn, Size, Width};
 use bq_maps::shape::MapShape;
@@ -21,21 +21,22 @@ use bq_ranges::Range;
 /// The reference of a map.
 pub fn map_ref(view: &mut View, shapes: &[MapShape], dst: u8, index: i32) -> Result<(), Doubt>
     requires few { length shapes.now ≤ 8 }
+    requires below { dst < 10 }
     ensures carries { OnOk result ((context_length : ℕ) → Carries shapes.now context_length (Insn.MapRef dst index) view.old view.new) }
     ensures doubts { IfErr result (λ doubt. MayDoubt doubt (Insn.MapRef dst index)) }
-    ensures accepts { dst < 10 → (m : ℕ) → index ≡ pos m → m < length shapes.now → IsOk result × IsMade (Pointer (Kind.Map m) 0) view.old view.new dst }
+    ensures accepts { (m : ℕ) → index ≡ pos m → m < length shapes.now → IsOk result × IsMade (Pointer (Kind.Map m) 0) view.old view.new dst }
 {
     let Some(map) = map_number(shapes, index) else {
         return Err(Doubt::Argument);
     };
-    write(
+    learn(
         view,
         dst,
         Known {
             kind: Kind::Map(map),
             offset: Range::single(0),
         },
-    )?;
+    );
     Ok(())
 }
 

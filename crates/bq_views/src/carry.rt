@@ -5,7 +5,7 @@ ghost use Rattle.bq_views.specs.Doubts.{MayDoubt};
 ghost use Rattle.bq_views.specs.Views.{Carries, IsStraight};
 ghost use Rattle.bq_views.specs.After.{After};
 ghost use Rattle.bq_views.specs.Standing.{Fact, Has};
-ghost use Rattle.bq_views.specs.Ready.{IsCarried, IsReady};
+ghost use Rattle.bq_views.specs.Ready.{IsCarried, IsReady, WritesBelowFrame};
 
 use crate::alu::alu;
 use crate::calls::{call, map_ref};
@@ -20,10 +20,12 @@ use bq_maps::shape::MapShape;
 pub fn carry(view: &mut View, shapes: &[MapShape], context: usize, insn: Insn) -> Result<(), Doubt>
     requires context { context < 2 ^ 16 }
     requires few { length shapes.now ≤ 8 }
+    requires carried { IsCarried insn }
+    requires below { WritesBelowFrame insn }
     ensures straight { OnOk result (IsStraight insn) }
     ensures carries { OnOk result (Carries shapes.now context insn view.old view.new) }
     ensures doubts { IfErr result (λ doubt. MayDoubt doubt insn) }
-    ensures accepts { IsReady shapes.now context view.old insn → IsCarried insn → IsOk result × ((x : Fact) (slot k : ℕ) → After x slot k insn view.old → Has x view.new) }
+    ensures accepts { IsReady shapes.now context view.old insn → IsOk result × ((x : Fact) (slot k : ℕ) → After x slot k insn view.old → Has x view.new) }
 {
     match insn {
         Insn::Alu {
@@ -40,7 +42,7 @@ pub fn carry(view: &mut View, shapes: &[MapShape], context: usize, insn: Insn) -
         } => extend(view, width, bits, dst, src)?,
         Insn::Neg { width, dst } => negate(view, width, dst)?,
         Insn::End { kind, bits, dst } => reorder(view, kind, bits, dst)?,
-        Insn::Imm64 { dst, value } => immediate(view, dst, value)?,
+        Insn::Imm64 { dst, value } => immediate(view, dst, value),
         Insn::Load {
             size,
             signed,
@@ -63,7 +65,7 @@ pub fn carry(view: &mut View, shapes: &[MapShape], context: usize, insn: Insn) -
         Insn::MapRef { dst, index } => map_ref(view, shapes, dst, index)?,
         Insn::Call { helper } => call(view, shapes, context, helper)?,
         Insn::Goto { .. } | Insn::Goto32 { .. } | Insn::Branch { .. } | Insn::Exit => {
-            return Err(Doubt::Unset);
+            unreachable!()
         }
     }
     Ok(())

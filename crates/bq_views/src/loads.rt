@@ -11,7 +11,7 @@ ghost use Rattle.bq_views.specs.Ready.{IsReadable};
 ghost use Rattle.bq_views.specs.Views.{Carries};
 
 use crate::places::{Location, is_readable, locate};
-use crate::registers::write;
+use crate::registers::learn;
 use crate::view::{Doubt, Kind, Known, View};
 use bq_insn::{Bits, Insn, Size, Width};
 use bq_maps::shape::MapShape;
@@ -29,26 +29,27 @@ pub fn load(
     off: i16,
 ) -> Result<(), Doubt>
     requires context { context < 2 ^ 16 }
+    requires below { dst < 10 }
     ensures carries { OnOk result (Carries shapes.now context (Insn.Load size signed dst src off) view.old view.new) }
     ensures doubts { IfErr result (λ doubt. MayDoubt doubt (Insn.Load size signed dst src off)) }
-    ensures accepts { dst < 10 → IsReadable shapes.now context view.old size src off → IsOk result × IsGiven view.old view.new dst }
+    ensures accepts { IsReadable shapes.now context view.old size src off → IsOk result × IsGiven view.old view.new dst }
 {
     let found = locate(view, shapes, context, size, src, off)?;
     if let Some(word) = kept_at(view, found, size, signed) {
-        write(view, dst, word)?;
+        learn(view, dst, word);
         return Ok(());
     }
     if !is_readable(view, found.kind, found.at, size) {
         return Err(Doubt::Access);
     }
-    write(
+    learn(
         view,
         dst,
         Known {
             kind: Kind::Number,
             offset: loads(size, signed),
         },
-    )?;
+    );
     Ok(())
 }
 

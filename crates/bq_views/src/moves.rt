@@ -4,11 +4,11 @@ ghost use Rattle.std.specs.Prelude.{◌≡◌, ◌<◌, ℕ, List, IsOk, OnOk, I
 ghost use Rattle.bq_views.specs.Standing.{IsGiven, Scalar, StandsAt};
 ghost use Rattle.bq_insn.specs.declared.Insn.{Insn};
 ghost use Rattle.bq_maps.specs.declared.shape.MapShape.{MapShape};
-ghost use Rattle.bq_views.specs.Doubts.{MayDoubt};
+ghost use Rattle.bq_views.specs.Doubts.{MayDoubt, ReadsOperand, UsesWord};
 ghost use Rattle.bq_views.specs.declared.view.Kind.TheVariants.{Number};
 ghost use Rattle.bq_views.specs.Views.{Carries, HoldsNumber, knowing};
 
-use crate::registers::{known, write};
+use crate::registers::{known, learn};
 use crate::view::{Doubt, Kind, Known, View};
 use bq_insn::{Bits, Order, Width};
 use bq_ranges::{Range, moves};
@@ -16,7 +16,7 @@ use bq_ranges::{Range, moves};
 /// The range of a register that is a number.
 pub fn number(view: &View, register: u8) -> Result<Range, Doubt>
     ensures holds { IfOk result (HoldsNumber view.now register) }
-    ensures doubts { IfErr result (λ doubt. (insn : Insn) → MayDoubt doubt insn) }
+    ensures doubts { IfErr result (λ doubt. (insn : Insn) → ReadsOperand insn → UsesWord insn → MayDoubt doubt insn) }
     ensures accepts { StandsAt Scalar view.now register → IsOk result }
 {
     let Some(word) = known(view, register) else {
@@ -29,63 +29,62 @@ pub fn number(view: &View, register: u8) -> Result<Range, Doubt>
 }
 
 /// A register becomes a number of that range.
-fn write_number(view: &mut View, register: u8, offset: Range) -> Result<(), Doubt>
-    ensures below { OnOk result (register < 10) }
-    ensures is { OnOk result (view.new ≡ knowing view.old register (record { kind = Number; offset = offset })) }
-    ensures given { OnOk result (IsGiven view.old view.new register) }
-    ensures doubts { IfErr result (λ doubt. (insn : Insn) → MayDoubt doubt insn) }
-    ensures accepts { register < 10 → IsOk result }
+fn learn_number(view: &mut View, register: u8, offset: Range)
+    requires { register < 10 }
+    ensures is { view.new ≡ knowing view.old register (record { kind = Number; offset = offset }) }
+    ensures given { IsGiven view.old view.new register }
 {
-    write(
+    learn(
         view,
         register,
         Known {
             kind: Kind::Number,
             offset,
         },
-    )?;
-    Ok(())
+    );
 }
 
 /// The low bits of a register with their sign extended.
 pub fn extend(view: &mut View, width: Width, bits: Bits, dst: u8, src: u8) -> Result<(), Doubt>
+    requires { dst < 10 }
     ensures carries { OnOk result ((shapes : List MapShape) (context_length : ℕ) → Carries shapes context_length (Insn.MovSx width bits dst src) view.old view.new) }
-    ensures doubts { IfErr result (λ doubt. (insn : Insn) → MayDoubt doubt insn) }
-    ensures accepts { dst < 10 → StandsAt Scalar view.old src → IsOk result × IsGiven view.old view.new dst }
+    ensures doubts { IfErr result (λ doubt. MayDoubt doubt (Insn.MovSx width bits dst src)) }
+    ensures accepts { StandsAt Scalar view.old src → IsOk result × IsGiven view.old view.new dst }
 {
     let word = number(view, src)?;
-    write_number(view, dst, moves::extend(width, bits, word))?;
+    learn_number(view, dst, moves::extend(width, bits, word));
     Ok(())
 }
 
 /// A negation.
 pub fn negate(view: &mut View, width: Width, dst: u8) -> Result<(), Doubt>
+    requires { dst < 10 }
     ensures carries { OnOk result ((shapes : List MapShape) (context_length : ℕ) → Carries shapes context_length (Insn.Neg width dst) view.old view.new) }
-    ensures doubts { IfErr result (λ doubt. (insn : Insn) → MayDoubt doubt insn) }
-    ensures accepts { dst < 10 → StandsAt Scalar view.old dst → IsOk result × IsGiven view.old view.new dst }
+    ensures doubts { IfErr result (λ doubt. MayDoubt doubt (Insn.Neg width dst)) }
+    ensures accepts { StandsAt Scalar view.old dst → IsOk result × IsGiven view.old view.new dst }
 {
     let word = number(view, dst)?;
-    write_number(view, dst, moves::neg(width, word))?;
+    learn_number(view, dst, moves::neg(width, word));
     Ok(())
 }
 
 /// The low bits of a register in a byte order.
 pub fn reorder(view: &mut View, kind: Order, bits: Bits, dst: u8) -> Result<(), Doubt>
+    requires { dst < 10 }
     ensures carries { OnOk result ((shapes : List MapShape) (context_length : ℕ) → Carries shapes context_length (Insn.End kind bits dst) view.old view.new) }
-    ensures doubts { IfErr result (λ doubt. (insn : Insn) → MayDoubt doubt insn) }
-    ensures accepts { dst < 10 → StandsAt Scalar view.old dst → IsOk result × IsGiven view.old view.new dst }
+    ensures doubts { IfErr result (λ doubt. MayDoubt doubt (Insn.End kind bits dst)) }
+    ensures accepts { StandsAt Scalar view.old dst → IsOk result × IsGiven view.old view.new dst }
 {
     let word = number(view, dst)?;
-    write_number(view, dst, moves::reorder(kind, bits, word))?;
+    learn_number(view, dst, moves::reorder(kind, bits, word));
     Ok(())
 }
 
 /// A number of 64 bits from the instruction.
-pub fn immediate(view: &mut View, dst: u8, value: u64) -> Result<(), Doubt>
-    ensures carries { OnOk result ((shapes : List MapShape) (context_length : ℕ) → Carries shapes context_length (Insn.Imm64 dst value) view.old view.new) }
-    ensures doubts { IfErr result (λ doubt. (insn : Insn) → MayDoubt doubt insn) }
-    ensures accepts { dst < 10 → IsOk result × IsGiven view.old view.new dst }
+pub fn immediate(view: &mut View, dst: u8, value: u64)
+    requires { dst < 10 }
+    ensures carries { (shapes : List MapShape) (context_length : ℕ) → Carries shapes context_length (Insn.Imm64 dst value) view.old view.new }
+    ensures given { IsGiven view.old view.new dst }
 {
-    write_number(view, dst, Range::single(value))?;
-    Ok(())
+    learn_number(view, dst, Range::single(value));
 }

@@ -4,7 +4,7 @@ ghost use Rattle.std.specs.Prelude.{Some, ◌↔◌, ◌≡◌, ◌+◌, ◌^◌
 ghost use Rattle.bq_insn.specs.Meaning.{byte_count, word_of};
 ghost use Rattle.bq_ranges.specs.Within.{Within};
 ghost use Rattle.bq_insn.specs.declared.Insn.{Insn};
-ghost use Rattle.bq_views.specs.Doubts.{IsAccess, MayDoubt};
+ghost use Rattle.bq_views.specs.Doubts.{IsAccess, MayDoubt, ReadsOperand};
 ghost use Rattle.bq_views.specs.Standing.{Pointer, StandsAt};
 ghost use Rattle.bq_views.specs.Ready.{IsPlaced, bound_of};
 ghost use Rattle.bq_views.specs.declared.view.Kind.{Kind as Base};
@@ -34,7 +34,7 @@ pub fn locate(
 ) -> Result<Location, Doubt>
     requires context { context < 2 ^ 16 }
     ensures finds { IfOk result (λ p. FindsPlace shapes.now context view.now register off size p.kind p.at) }
-    ensures doubts { IfErr result (λ doubt. (insn : Insn) → IsAccess insn → MayDoubt doubt insn) }
+    ensures doubts { IfErr result (λ doubt. (insn : Insn) → IsAccess insn → ReadsOperand insn → MayDoubt doubt insn) }
     ensures accepts { (kind : Base) (place : ℕ) → IsPlaced shapes.now context view.now size register off kind place → IsOk result }
     ensures there { IfOk result (λ p. (kind : Base) (place : ℕ) → IsPlaced shapes.now context view.now size register off kind place → (p.kind ≡ kind) × (p.at.lo ≡ place) × (p.at.hi ≡ place)) }
 {

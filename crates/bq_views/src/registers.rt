@@ -1,13 +1,11 @@
 // Registers of a view.
 
-ghost use Rattle.std.specs.Prelude.{◌≡◌, ◌<◌, ℕ, ℤ, None, IfErr, IfSome, IsOk, OnOk, slice_index_or};
-ghost use Rattle.bq_insn.specs.declared.Insn.{Insn};
+ghost use Rattle.std.specs.Prelude.{◌≡◌, ◌<◌, ℕ, ℤ, None, IfSome, slice_index_or};
 ghost use Rattle.bq_insn.specs.Meaning.{word_of};
-ghost use Rattle.bq_views.specs.Doubts.{MayDoubt};
 ghost use Rattle.bq_views.specs.Standing.{IsScalarOperand, IsWord, Scalar, Stands};
 ghost use Rattle.bq_views.specs.Views.{Finds, knowing};
 
-use crate::view::{Doubt, Kind, Known, View};
+use crate::view::{Kind, Known, View};
 use bq_insn::Source;
 use bq_ranges::Range;
 
@@ -47,18 +45,4 @@ pub fn learn(view: &mut View, register: u8, word: Known)
     ensures { view.new ≡ knowing view.old register word }
 {
     view.registers[usize::from(register)] = Some(word);
-}
-
-/// Writes what is known of a register that an instruction writes; register 10 is none.
-pub fn write(view: &mut View, register: u8, word: Known) -> Result<(), Doubt>
-    ensures below { OnOk result (register < 10) }
-    ensures is { OnOk result (view.new ≡ knowing view.old register word) }
-    ensures doubts { IfErr result (λ doubt. (insn : Insn) → MayDoubt doubt insn) }
-    ensures accepts { register < 10 → IsOk result }
-{
-    if register >= 10 {
-        return Err(Doubt::Unset);
-    }
-    learn(view, register, word);
-    Ok(())
 }

@@ -1,17 +1,17 @@
 // What a branch tells of its left operand, on each side.
 
-ghost use Rattle.std.specs.Prelude.{◌≡◌, ◌<◌, ℕ, IfOk, IfSome, IfErr, IsOk, List, Some, true, false};
+ghost use Rattle.std.specs.Prelude.{◌≡◌, ◌<◌, ℕ, ℤ, IfOk, IfSome, IfErr, IsOk, OnOk, List, Some, true, false};
 ghost use Rattle.bq_insn.specs.declared.Insn.{Insn};
-ghost use Rattle.bq_insn.specs.Meaning.{taken};
+ghost use Rattle.bq_insn.specs.Meaning.{taken, word_of};
 ghost use Rattle.bq_maps.specs.declared.shape.MapShape.{MapShape};
-ghost use Rattle.bq_views.specs.Doubts.{MayDoubt};
+ghost use Rattle.bq_views.specs.Doubts.{MayDoubt, UsesWord};
 ghost use Rattle.bq_views.specs.Standing.{IsWord, Pointer, Stands};
-ghost use Rattle.bq_views.specs.Ready.{IsNullTest};
-ghost use Rattle.bq_views.specs.Sides.{IsNumberIfAny, IsSide, IsTested, IsTestedIfAny, is_found};
+ghost use Rattle.bq_views.specs.Ready.{IsNullCheck, IsNullTest};
+ghost use Rattle.bq_views.specs.Sides.{IsCompared, IsNumberIfAny, IsSide, IsTested, IsTestedIfAny, is_found};
 ghost use Rattle.bq_views.specs.Views.{Describes, Fits};
 
 use crate::view::{Doubt, Kind, Known};
-use bq_insn::{Condition, Width};
+use bq_insn::{Condition, Source, Width};
 use bq_ranges::narrowing::narrow;
 
 /// What the left operand is on one side of a branch; `None` where control never goes there.
@@ -19,17 +19,20 @@ pub fn side(
     width: Width,
     cond: Condition,
     left: Known,
+    src: Source,
     right: Known,
     goes: bool,
 ) -> Result<Option<Known>, Doubt>
+    requires { (i : ℤ) → src ≡ Source.Imm i → IsWord (word_of i) (Some right) }
     ensures fits { IfOk result (λ side. (shapes : List MapShape) (a b : ℕ) → Describes shapes left a → Describes shapes right b → taken width cond a b ≡ goes → Fits shapes side a) }
-    ensures doubts { IfErr result (λ doubt. (insn : Insn) → MayDoubt doubt insn) }
+    ensures doubts { IfErr result (λ doubt. (insn : Insn) → UsesWord insn → MayDoubt doubt insn) }
+    ensures compared { OnOk result (IsCompared width cond left src right) }
     ensures accepts { left.kind ≡ Kind.Number → right.kind ≡ Kind.Number → IsOk result }
     ensures number { left.kind ≡ Kind.Number → right.kind ≡ Kind.Number → IfOk result IsNumberIfAny }
-    ensures checks { (map : ℕ) → width ≡ Width.W64 → IsNullTest cond → Stands (Pointer (Kind.EntryOrNull map) 0) (Some left) → IsWord 0 (Some right) → IsOk result }
-    ensures tested { (map : ℕ) → width ≡ Width.W64 → IsNullTest cond → Stands (Pointer (Kind.EntryOrNull map) 0) (Some left) → IsWord 0 (Some right) → IfOk result (IsTested map (is_found cond goes)) }
+    ensures checks { (map : ℕ) → IsNullCheck width cond src → Stands (Pointer (Kind.EntryOrNull map) 0) (Some left) → IsOk result }
+    ensures tested { (map : ℕ) → IsNullCheck width cond src → Stands (Pointer (Kind.EntryOrNull map) 0) (Some left) → IfOk result (IsTested map (is_found cond goes)) }
 {
-    match outcome(width, cond, left, right, goes) {
+    match outcome(width, cond, left, src, right, goes) {
         Some(side) => Ok(side),
         None => Err(Doubt::PointerUse),
     }
@@ -40,12 +43,15 @@ fn outcome(
     width: Width,
     cond: Condition,
     left: Known,
+    src: Source,
     right: Known,
     goes: bool,
 ) -> Option<Option<Known>>
+    requires { (i : ℤ) → src ≡ Source.Imm i → IsWord (word_of i) (Some right) }
+    ensures compared { IfSome result (λ _. IsCompared width cond left src right) }
     ensures fits { IfSome result (λ side. (shapes : List MapShape) (a b : ℕ) → Describes shapes left a → Describes shapes right b → taken width cond a b ≡ goes → Fits shapes side a) }
     ensures numbers { left.kind ≡ Kind.Number → right.kind ≡ Kind.Number → IsSide result }
-    ensures tested { (map : ℕ) → width ≡ Width.W64 → IsNullTest cond → Stands (Pointer (Kind.EntryOrNull map) 0) (Some left) → IsWord 0 (Some right) → IsTestedIfAny map (is_found cond goes) result }
+    ensures tested { (map : ℕ) → IsNullCheck width cond src → Stands (Pointer (Kind.EntryOrNull map) 0) (Some left) → IsTestedIfAny map (is_found cond goes) result }
 {
     match (left.kind, right.kind) {
         (Kind::Number, Kind::Number) => match narrow(cond, width, left.offset, right.offset, goes) {
@@ -56,7 +62,7 @@ fn outcome(
             None => Some(None),
         },
         (Kind::EntryOrNull(map), Kind::Number) => {
-            if left.offset.hi > 0 || right.offset.hi > 0 {
+            if left.offset.hi > 0 || src != Source::Imm(0) {
                 return None;
             }
             null_check(map, width, cond, left, right, goes)
@@ -78,6 +84,7 @@ fn null_check(
     requires right { right.kind ≡ Kind.Number }
     requires whole { left.offset.hi ≡ 0 }
     requires null { right.offset.hi ≡ 0 }
+    ensures compared { IfSome result (λ _. (width ≡ Width.W64) × IsNullTest cond) }
     ensures tested { width ≡ Width.W64 → IsNullTest cond → left.offset.lo ≡ 0 → IsTestedIfAny map (is_found cond goes) result }
     ensures fits { IfSome result (λ side. (shapes : List MapShape) (a b : ℕ) → Describes shapes left a → Describes shapes right b → taken width cond a b ≡ goes → Fits shapes side a) }
 {

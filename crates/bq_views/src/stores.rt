@@ -1,12 +1,12 @@
 // Stores, and what they leave known.
 
-ghost use Rattle.std.specs.Prelude.{◌≡◌, ◌+◌, ◌<◌, ◌≤◌, ◌^◌, ℕ, true, false, List, length, slice_index, slice_index_or, IsOk, OnOk, IfErr};
+ghost use Rattle.std.specs.Prelude.{◌≡◌, ◌≢◌, ◌+◌, ◌<◌, ◌≤◌, ◌^◌, ℕ, true, false, List, length, slice_index, slice_index_or, IsOk, OnOk, IfErr};
 ghost use Rattle.bq_insn.specs.declared.Insn.{Insn};
 ghost use Rattle.bq_insn.specs.Meaning.{byte_count, word_of};
 ghost use Rattle.bq_maps.specs.Memory.{Setting, State, InStack, written};
 ghost use Rattle.bq_maps.specs.Machine.{low_bytes, next};
 ghost use Rattle.bq_ranges.specs.Within.{Within};
-ghost use Rattle.bq_views.specs.Doubts.{IsAccess, MayDoubt};
+ghost use Rattle.bq_views.specs.Doubts.{IsAccess, MayDoubt, ReadsOperand, UsesWord};
 ghost use Rattle.bq_views.specs.Ready.{IsPlaced};
 ghost use Rattle.bq_views.specs.Standing.{IsStoredAt, Scalar, StandsAt};
 ghost use Rattle.bq_views.specs.Views.{Carries, Covers, Describes, Forgets, Marks, Stores, keeping};
@@ -84,7 +84,7 @@ fn store(
 ) -> Result<(), Doubt>
     requires context { context < 2 ^ 16 }
     ensures stores { OnOk result (Stores shapes.now context dst off size word view.old view.new) }
-    ensures doubts { IfErr result (λ doubt. (insn : Insn) → IsAccess insn → MayDoubt doubt insn) }
+    ensures doubts { IfErr result (λ doubt. (insn : Insn) → IsAccess insn → ReadsOperand insn → (word.kind ≢ Kind.Number → UsesWord insn) → MayDoubt doubt insn) }
     ensures accepts { word.kind ≡ Kind.Number → (place : ℕ) → IsPlaced shapes.now context view.old size dst off Kind.Stack place → IsOk result × IsStoredAt view.old view.new place (place + byte_count size) }
     ensures entry { word.kind ≡ Kind.Number → (map place : ℕ) → IsPlaced shapes.now context view.old size dst off (Kind.Entry map) place → IsOk result × (view.new ≡ view.old) }
 {
@@ -107,7 +107,7 @@ fn store(
 /// A store on the stack; a word of eight bytes at a multiple of eight is kept whole.
 fn store_on_stack(view: &mut View, at: Range, size: Size, word: Known) -> Result<(), Doubt>
     ensures covers { OnOk result ((f : Setting) (s : State) (o v : ℕ) → Covers f view.old s → Within at o → Describes f.shapes word v → Covers f view.new (next (written s InStack o (low_bytes size v)))) }
-    ensures doubts { IfErr result (λ doubt. (insn : Insn) → IsAccess insn → MayDoubt doubt insn) }
+    ensures doubts { IfErr result (λ doubt. (insn : Insn) → IsAccess insn → (word.kind ≢ Kind.Number → UsesWord insn) → MayDoubt doubt insn) }
     ensures accepts { word.kind ≡ Kind.Number → (place : ℕ) → at.lo ≡ place → at.hi ≡ place → place + byte_count size ≤ 512 → IsOk result × IsStoredAt view.old view.new place (place + byte_count size) }
 {
     if !stays(at, size, 512) {

@@ -41,7 +41,10 @@ returns-in_err-verified-clause-unloaded c =
     let p = err_from_is_err_and c.from_residual-in_err-verified.result c.from_residual-in_err-verified.ensures.1 in
     let s = spelled_of c.in_ok-header.header in
     let made = has_program c.args.bytes.now s c.in_ok-header.program.now c.in_ok-insns.insns.items c.in_ok-header.ensures.ok c.in_ok-insns.ensures.spelled c.in_ok-insns.ensures.well_formed c.in_ok-insns.ensures.numbers in
-    rw (p.1, p.2) (unloaded_refusal c.args.bytes.now s c.in_ok-header.program.now c.in_ok-insns.insns.items c.in_err-verified.field-0.0 c.in_ok-header.ensures.ok made c.in_err-verified.ensures.refused)
+    rw (p.1, p.2) (unloaded_refusal c.args.bytes.now s c.in_ok-header.program.now c.in_ok-insns.insns.items c.in_err-verified.field-0.0 c.in_ok-header.ensures.ok made c.in_err-verified.ensures.refused
+    (λ straight.
+    c.in_err-verified.ensures.accepts
+    (straight_program c.args.bytes.now s c.in_ok-header.program.now c.in_ok-insns.insns.items c.in_ok-shapes.shapes.items c.in_ok-header.ensures.ok straight c.in_ok-insns.ensures.spelled c.in_ok-insns.ensures.well_formed c.in_ok-insns.ensures.numbers c.in_ok-shapes.ensures.ok)))
 
 pub returns-in_err-verified-clause-accepts : goal.returns-in_err-verified-clause-accepts
 returns-in_err-verified-clause-accepts c = λ straight.
@@ -55,3 +58,5 @@ returns-clause-loaded c =
     loaded c.args.bytes.now (spelled_of c.in_ok-header.header) c.in_ok-header.program.now c.in_ok-insns.insns.items c.in_ok-shapes.shapes.items c.in_ok-verified.verified c.in_ok-header.ensures.ok
     c.in_ok-insns.ensures.spelled c.in_ok-insns.ensures.well_formed c.in_ok-insns.ensures.numbers c.in_ok-shapes.ensures.ok
     c.in_ok-verified.ensures.slots c.in_ok-verified.ensures.shapes c.in_ok-verified.ensures.hook c.in_ok-verified.ensures.version
+    (is_image c.args.bytes.now (spelled_of c.in_ok-header.header) c.in_ok-header.program.now c.in_ok-shapes.shapes.items c.in_ok-header.ensures.ok c.in_ok-shapes.ensures.ok).framed.header.few
+    c.in_ok-verified.ensures.faultless c.in_ok-verified.ensures.safe c.in_ok-verified.ensures.budget

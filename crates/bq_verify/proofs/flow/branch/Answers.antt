@@ -41,13 +41,12 @@ pub returns-clause-checked : goal.returns-clause-checked
 returns-clause-checked c = λ map check answer x k waits yes_side no_side.
     let there = known_inside c.args.view.now.registers c.args.dst c.in-Some-known.left c.in-Some-known.ensures in
     let left : Stands (Pointer (EntryOrNull map) 0) (Some c.in-Some-known.left) = subst (λ (v : Option Known). Stands (Pointer (EntryOrNull map) 0) v) (sym c.in-Some-known.ensures) answer in
-    let right : IsWord 0 (Some c.in-Some.right) = c.in-Some.ensures.immediate (pos 0) check.with_zero in
     record {
       waiting = c.in_ok-wait_on_side.ensures.has x k waits
-          (λ same. has_on_tested x c.args.view.now c.args.dst map (is_found c.args.cond true) c.in_ok-yes.yes there (c.in_ok-yes.ensures.tested map check.whole check.of_null left right) (yes_side same));
+          (λ same. has_on_tested x c.args.view.now c.args.dst map (is_found c.args.cond true) c.in_ok-yes.yes there (c.in_ok-yes.ensures.tested map check left) (yes_side same));
       carried = λ live same.
           c.carry_on.ensures.has x
           (has_relearned x c.args.view.now c.wait_on_side.new.view c.args.dst c.in_ok-no.no c.wait_on_side.ensures.same
-          (has_on_tested x c.args.view.now c.args.dst map (is_found c.args.cond false) c.in_ok-no.no there (c.in_ok-no.ensures.tested map check.whole check.of_null left right) (no_side same)))
+          (has_on_tested x c.args.view.now c.args.dst map (is_found c.args.cond false) c.in_ok-no.no there (c.in_ok-no.ensures.tested map check left) (no_side same)))
           live;
     }

@@ -69,11 +69,10 @@ returns-in_ok-wait-in_default c = record {
   doubts = tt;
   accepts = λ ready. tt;
   sure = λ ready x k waits after.
-      let carried = carried_of c.args.insn c.in_default.not-Exit c.in_default.not-Goto c.in_default.not-Goto32 c.in_default.not-Branch in
       record {
         waiting = c.in_ok-wait-in_default.ensures.has x k waits
             (λ same.
-            (c.in_ok-carry-in_default.ensures.accepts ready carried).1 x c.args.slot k
+            (c.in_ok-carry-in_default.ensures.accepts ready).1 x c.args.slot k
             (after
             (record { insn = c.args.insn; here = c.requires.here; leaves = subst (λ (n : ℕ). Leaves c.args.insn c.args.slot n) (sym (same ∙ ap (λ (n : ℕ). c.args.slot + n) c.slots-count.ensures)) (c.in_ok-carry-in_default.ensures.straight c.args.slot) })));
         carried = λ live. absurd (let no : ⊥ = cc in no);
@@ -106,11 +105,10 @@ returns-then-count-eq1 c = record {
   doubts = tt;
   accepts = λ ready. tt;
   sure = λ ready x k waits after.
-      let carried = carried_of c.args.insn c.in_default.not-Exit c.in_default.not-Goto c.in_default.not-Goto32 c.in_default.not-Branch in
       record {
         waiting = waits;
         carried = λ live same.
-            (c.in_ok-carry-in_default.ensures.accepts ready carried).1 x c.args.slot k
+            (c.in_ok-carry-in_default.ensures.accepts ready).1 x c.args.slot k
             (after
             (record { insn = c.args.insn; here = c.requires.here; leaves = subst (λ (n : ℕ). Leaves c.args.insn c.args.slot n) (sym (same ∙ ap (λ (n : ℕ). c.args.slot + n) (sym one))) (c.in_ok-carry-in_default.ensures.straight c.args.slot) }));
       };
@@ -193,3 +191,6 @@ returns-in-Branch-clause-accepts c = λ ready.
       | inl numbers ↦ c.branch-alloc.ensures.accepts needs.0 numbers.0 numbers.1
       | inr check ↦ c.branch-alloc.ensures.checks check.1 needs.0 check.0 check.2
     ]
+
+pub carry-requires-clause-carried : goal.carry-requires-clause-carried
+carry-requires-clause-carried c = carried_of c.args.insn c.in_default.not-Exit c.in_default.not-Goto c.in_default.not-Goto32 c.in_default.not-Branch

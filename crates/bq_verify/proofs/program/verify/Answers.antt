@@ -1,3 +1,4 @@
+use Rattle.bq_verify.proofs.FrameLemmas.{all_insns}
 use Rattle.bq_verify.proofs.SlotLemmas.{some_slots, few_slots}
 use Rattle.bq_verify.proofs.program.verify.Goals as goal
 
@@ -6,3 +7,6 @@ verify_slots-requires-clause-some c = some_slots c.args.program.insns.items c.re
 
 pub verify_slots-requires-clause-short : goal.verify_slots-requires-clause-short
 verify_slots-requires-clause-short c = few_slots c.args.program.insns.items c.requires.whole
+
+pub verify_slots-requires-clause-registers : goal.verify_slots-requires-clause-registers
+verify_slots-requires-clause-registers c = all_insns c.args.program.insns.items c.requires.whole

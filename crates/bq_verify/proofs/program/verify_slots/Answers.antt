@@ -5,6 +5,7 @@ use Rattle.bq_graph.specs.Faults.{IsFaultless}
 use Rattle.bq_graph.specs.Passes.{Measured}
 use Rattle.bq_verify.proofs.GraphLemmas.{whole_at, first_at, sound_at, heights_are, budget_at}
 use Rattle.bq_verify.specs.Control.{AreMade}
+use Rattle.bq_verify.proofs.FrameLemmas.{spares_frame}
 use Rattle.bq_verify.proofs.program.verify_slots.Goals as goal
 
 pub check_graph-requires-clause-whole : goal.check_graph-requires-clause-whole
@@ -43,3 +44,8 @@ pub new-requires-clause-first : goal.new-requires-clause-first
 new-requires-clause-first c =
     let same : c.in_ok-slots.slots.items ≡ spread c.args.program.insns.items = c.in_ok-slots.ensures ∙ ap spread c.as_slice.ensures.value in
     first_at c.args.program.insns.items c.in_ok-slots.slots.items same (subst (λ (s : List (Option Insn)). 0 < length s) (sym same) c.requires.some)
+
+pub new-requires-clause-frame : goal.new-requires-clause-frame
+new-requires-clause-frame c =
+    let same : c.in_ok-slots.slots.items ≡ spread c.args.program.insns.items = c.in_ok-slots.ensures ∙ ap spread c.as_slice.ensures.value in
+    spares_frame c.args.program.insns.items c.in_ok-slots.slots.items same c.requires.registers (subst (λ (s : List (Option Insn)). IsFaultless s) c.as_slice-2.ensures.value c.in_ok-check_graph.ensures.ok)

@@ -12,22 +12,22 @@ use Rattle.bq_views.proofs.alu.operate.Goals as goal
 
 pub returns-clause-carries : goal.returns-clause-carries
 returns-clause-carries c = λ shapes context_length.
-    let there : c.args.dst < length c.args.view.now.registers = omega (arith, c.in_ok-write.ensures.below) in
-    rw c.in_ok-write.ensures.is
+    let there : c.args.dst < length c.args.view.now.registers = omega (arith, c.requires.below) in
+    rw c.learn.ensures
     (carries_put shapes context_length (Alu c.args.width c.args.op c.args.dst c.args.src) c.args.view.now c.args.dst c.in-Some-combine.word there
     (λ f s suits covers.
     let right = c.in-Some.ensures.finds f s covers in
     let left = found_at f c.args.view.now s c.args.dst c.in-Some-known.left c.in-Some-known.ensures covers in (
       alu_result c.args.width c.args.op left.0 right.0,
-      (left.0, right.0, left_from_set c.args.op (s.register c.args.dst) left.0 left.1, right.1, c.in_ok-write.ensures.below, refl),
+      (left.0, right.0, left_from_set c.args.op (s.register c.args.dst) left.0 left.1, right.1, c.requires.below, refl),
       c.in-Some-combine.ensures.describes f.shapes left.0 right.0 left.2 right.2,
     )))
 
 pub returns-clause-moves : goal.returns-clause-moves
-returns-clause-moves c = λ below m.
-    let there : c.args.dst < length c.args.view.now.registers = omega (arith, c.in_ok-write.ensures.below) in
+returns-clause-moves c = λ m.
+    let there : c.args.dst < length c.args.view.now.registers = omega (arith, c.requires.below) in
     let left : Stands (Pointer Stack m.base) (Some c.in-Some-known.left) = subst (λ (v : Option Known). Stands (Pointer Stack m.base) v) (sym c.in-Some-known.ensures) m.stands in
     let right : IsWord (word_of m.distance) (Some c.in-Some.right) = c.in-Some.ensures.immediate m.distance m.by_distance in
     let moved = c.in-Some-combine.ensures.moves m.base (word_of m.distance) m.whole m.is_sum left right in
     let stands : Stands (Pointer Stack m.at) (Some c.in-Some-combine.word) = subst (λ (n : ℕ). Stands (Pointer Stack n) (Some c.in-Some-combine.word)) (moved_is m.base m.at m.distance m.below m.small m.at_is) moved in
-    (refl, subst (λ (v : View). IsMade (Pointer Stack m.at) c.args.view.now v c.args.dst) (sym c.in_ok-write.ensures.is) (knowing_made (Pointer Stack m.at) c.args.view.now c.args.dst c.in-Some-combine.word there stands))
+    (refl, subst (λ (v : View). IsMade (Pointer Stack m.at) c.args.view.now v c.args.dst) (sym c.learn.ensures) (knowing_made (Pointer Stack m.at) c.args.view.now c.args.dst c.in-Some-combine.word there stands))

@@ -7,13 +7,13 @@ use Rattle.bq_views.proofs.calls.map_ref.Goals as goal
 
 pub returns-clause-carries : goal.returns-clause-carries
 returns-clause-carries c = λ context_length.
-    let there : c.args.dst < length c.args.view.now.registers = omega (arith, c.in_ok-write.ensures.below) in
-    rw c.in_ok-write.ensures.is
+    let there : c.args.dst < length c.args.view.now.registers = omega (arith, c.requires.below) in
+    rw c.learn.ensures
     (carries_put c.args.shapes.now context_length (MapRef c.args.dst c.args.index) c.args.view.now c.args.dst _ there
     (λ f s suits covers.
     let index : c.args.index ≡ pos c.in-Some.map = omega (arith, ints, c.in-Some.ensures.index) in
     let inside : c.in-Some.map < length f.shapes = rw suits.shapes_are c.in-Some.ensures.there in (
       reference c.in-Some.map,
-      (c.in-Some.map, index, inside, c.in_ok-write.ensures.below, refl),
+      (c.in-Some.map, index, inside, c.requires.below, refl),
       reference_is f.shapes c.in-Some.map c.single.result inside (omega arith) c.single.ensures.lo,
     )))

@@ -5,7 +5,7 @@ use Rattle.bq_views.specs.declared.view.Kind.TheVariants.{Entry, Stack}
 use Rattle.bq_views.specs.declared.view.View.{View}
 use Rattle.bq_views.specs.After.{After}
 use Rattle.bq_views.specs.Standing.{Has}
-use Rattle.bq_views.specs.Ready.{IsPlaced, IsReady}
+use Rattle.bq_views.specs.Ready.{IsPlaced, IsReady, WritesBelowFrame}
 use Rattle.bq_views.proofs.MergeLemmas.{some_none}
 use Rattle.bq_views.proofs.StandingLemmas.{bytes_at, has_left, has_stored}
 use Rattle.bq_insn.specs.declared.Insn.TheVariants.{Call, Load, MapRef, StoreImm, StoreReg}
@@ -19,12 +19,12 @@ pub returns-in_ok-alu-in-Alu-clause-carries : goal.returns-in_ok-alu-in-Alu-clau
 returns-in_ok-alu-in-Alu-clause-carries c = rw c.in-Alu.is (c.in_ok-alu-in-Alu.ensures.carries c.args.shapes.now c.args.context)
 
 pub returns-in_err-alu-in-Alu-clause-accepts : goal.returns-in_err-alu-in-Alu-clause-accepts
-returns-in_err-alu-in-Alu-clause-accepts c = λ ready carried.
+returns-in_err-alu-in-Alu-clause-accepts c = λ ready.
     let here = subst (λ (i : Insn). IsReady c.args.shapes.now c.args.context c.args.view.now i) c.in-Alu.is ready in
     absurd (let ok : false ≡ true = (c.in_err-alu-in-Alu.ensures.accepts c.args.shapes.now c.args.context here).0 in let no : ⊥ = cc in no)
 
 pub returns-in_ok-alu-in-Alu-clause-accepts : goal.returns-in_ok-alu-in-Alu-clause-accepts
-returns-in_ok-alu-in-Alu-clause-accepts c = λ ready carried.
+returns-in_ok-alu-in-Alu-clause-accepts c = λ ready.
     let here = subst (λ (i : Insn). IsReady c.args.shapes.now c.args.context c.args.view.now i) c.in-Alu.is ready in
     (refl, λ x slot k after. (c.in_ok-alu-in-Alu.ensures.accepts c.args.shapes.now c.args.context here).1 x slot k (subst (λ (i : Insn). After x slot k i c.args.view.now) c.in-Alu.is after))
 
@@ -57,8 +57,8 @@ returns-in_ok-negate-in-Neg-clause-carries c = rw c.in-Neg.is (c.in_ok-negate-in
 pub returns-in_ok-reorder-in-End-clause-carries : goal.returns-in_ok-reorder-in-End-clause-carries
 returns-in_ok-reorder-in-End-clause-carries c = rw c.in-End.is (c.in_ok-reorder-in-End.ensures.carries c.args.shapes.now c.args.context)
 
-pub returns-in_ok-immediate-in-Imm64-clause-carries : goal.returns-in_ok-immediate-in-Imm64-clause-carries
-returns-in_ok-immediate-in-Imm64-clause-carries c = rw c.in-Imm64.is (c.in_ok-immediate-in-Imm64.ensures.carries c.args.shapes.now c.args.context)
+pub returns-in-Imm64-clause-carries : goal.returns-in-Imm64-clause-carries
+returns-in-Imm64-clause-carries c = rw c.in-Imm64.is (c.immediate.ensures.carries c.args.shapes.now c.args.context)
 
 pub returns-in_ok-store_imm-in-StoreImm-clause-carries : goal.returns-in_ok-store_imm-in-StoreImm-clause-carries
 returns-in_ok-store_imm-in-StoreImm-clause-carries c =
@@ -78,7 +78,7 @@ returns-in_ok-store_reg-in-StoreReg-clause-carries c =
     (subst (λ (off : ℤ). Carries c.args.shapes.now c.args.context (StoreReg c.in-StoreReg.size c.in-StoreReg.dst off c.in-StoreReg.src) c.args.view.now c.store_reg.new.view) same c.in_ok-store_reg-in-StoreReg.ensures.carries)
 
 pub returns-in_err-store_imm-in-StoreImm-clause-accepts : goal.returns-in_err-store_imm-in-StoreImm-clause-accepts
-returns-in_err-store_imm-in-StoreImm-clause-accepts c = λ ready carried.
+returns-in_err-store_imm-in-StoreImm-clause-accepts c = λ ready.
     let here = subst (λ (i : Insn). IsReady c.args.shapes.now c.args.context c.args.view.now i) c.in-StoreImm.is ready in
     let fits : SFits w16 c.in-StoreImm.off = search rules in
     let same : to_z w16 (of_z w16 c.in-StoreImm.off) ≡ c.in-StoreImm.off = omega (arith, ints) in
@@ -92,7 +92,7 @@ returns-in_err-store_imm-in-StoreImm-clause-accepts c = λ ready carried.
     ]
 
 pub returns-in_ok-store_imm-in-StoreImm-clause-accepts : goal.returns-in_ok-store_imm-in-StoreImm-clause-accepts
-returns-in_ok-store_imm-in-StoreImm-clause-accepts c = λ ready carried.
+returns-in_ok-store_imm-in-StoreImm-clause-accepts c = λ ready.
     let here = subst (λ (i : Insn). IsReady c.args.shapes.now c.args.context c.args.view.now i) c.in-StoreImm.is ready in
     let fits : SFits w16 c.in-StoreImm.off = search rules in
     let same : to_z w16 (of_z w16 c.in-StoreImm.off) ≡ c.in-StoreImm.off = omega (arith, ints) in
@@ -120,7 +120,7 @@ returns-in_ok-store_imm-in-StoreImm-clause-accepts c = λ ready carried.
     ]
 
 pub returns-in_err-store_reg-in-StoreReg-clause-accepts : goal.returns-in_err-store_reg-in-StoreReg-clause-accepts
-returns-in_err-store_reg-in-StoreReg-clause-accepts c = λ ready carried.
+returns-in_err-store_reg-in-StoreReg-clause-accepts c = λ ready.
     let here = subst (λ (i : Insn). IsReady c.args.shapes.now c.args.context c.args.view.now i) c.in-StoreReg.is ready in
     let fits : SFits w16 c.in-StoreReg.off = search rules in
     let same : to_z w16 (of_z w16 c.in-StoreReg.off) ≡ c.in-StoreReg.off = omega (arith, ints) in
@@ -134,7 +134,7 @@ returns-in_err-store_reg-in-StoreReg-clause-accepts c = λ ready carried.
     ]
 
 pub returns-in_ok-store_reg-in-StoreReg-clause-accepts : goal.returns-in_ok-store_reg-in-StoreReg-clause-accepts
-returns-in_ok-store_reg-in-StoreReg-clause-accepts c = λ ready carried.
+returns-in_ok-store_reg-in-StoreReg-clause-accepts c = λ ready.
     let here = subst (λ (i : Insn). IsReady c.args.shapes.now c.args.context c.args.view.now i) c.in-StoreReg.is ready in
     let fits : SFits w16 c.in-StoreReg.off = search rules in
     let same : to_z w16 (of_z w16 c.in-StoreReg.off) ≡ c.in-StoreReg.off = omega (arith, ints) in
@@ -160,3 +160,24 @@ returns-in_ok-store_reg-in-StoreReg-clause-accepts c = λ ready carried.
                 subst (λ (v : View). Has x v) (sym (c.in_ok-store_reg-in-StoreReg.ensures.entry here.0 f.map f.at placed).1) left,
           )
     ]
+
+pub alu-requires : goal.alu-requires
+alu-requires c = subst (λ (i : Insn). WritesBelowFrame i) c.in-Alu.is c.requires.below c.in-Alu.dst refl
+
+pub extend-requires : goal.extend-requires
+extend-requires c = subst (λ (i : Insn). WritesBelowFrame i) c.in-MovSx.is c.requires.below c.in-MovSx.dst refl
+
+pub negate-requires : goal.negate-requires
+negate-requires c = subst (λ (i : Insn). WritesBelowFrame i) c.in-Neg.is c.requires.below c.in-Neg.dst refl
+
+pub reorder-requires : goal.reorder-requires
+reorder-requires c = subst (λ (i : Insn). WritesBelowFrame i) c.in-End.is c.requires.below c.in-End.dst refl
+
+pub immediate-requires : goal.immediate-requires
+immediate-requires c = subst (λ (i : Insn). WritesBelowFrame i) c.in-Imm64.is c.requires.below c.in-Imm64.dst refl
+
+pub load-requires-clause-below : goal.load-requires-clause-below
+load-requires-clause-below c = subst (λ (i : Insn). WritesBelowFrame i) c.in-Load.is c.requires.below c.in-Load.dst refl
+
+pub map_ref-requires-clause-below : goal.map_ref-requires-clause-below
+map_ref-requires-clause-below c = subst (λ (i : Insn). WritesBelowFrame i) c.in-MapRef.is c.requires.below c.in-MapRef.dst refl

@@ -15,32 +15,32 @@ returns-in-Some-clause-carries c =
     let fits : SFits w16 c.args.off = search rules in
     let same : to_z w16 (of_z w16 c.args.off) ≡ c.args.off = omega (arith, ints) in
     let finds = subst (λ (off : ℤ). FindsPlace c.args.shapes.now c.args.context c.args.view.now c.args.src off c.args.size c.in_ok-found.found.kind c.in_ok-found.found.at) same c.in_ok-found.ensures.finds in
-    let there : c.args.dst < length c.args.view.now.registers = omega (arith, c.in_ok-write.ensures.below) in
-    rw c.in_ok-write.ensures.is
+    let there : c.args.dst < length c.args.view.now.registers = omega (arith, c.requires.below) in
+    rw c.learn.ensures
     (carries_put c.args.shapes.now c.args.context (Load c.args.size c.args.signed c.args.dst c.args.src c.args.off) c.args.view.now c.args.dst c.in-Some.word there
     (kept_load c.args.shapes.now c.args.context c.args.view.now c.args.size c.args.signed c.args.dst c.args.src c.args.off c.in_ok-found.found.kind c.in_ok-found.found.at c.in-Some.word
-    finds c.in-Some.ensures c.in_ok-write.ensures.below))
+    finds c.in-Some.ensures c.requires.below))
 
 pub returns-clause-carries : goal.returns-clause-carries
 returns-clause-carries c =
     let fits : SFits w16 c.args.off = search rules in
     let same : to_z w16 (of_z w16 c.args.off) ≡ c.args.off = omega (arith, ints) in
     let finds = subst (λ (off : ℤ). FindsPlace c.args.shapes.now c.args.context c.args.view.now c.args.src off c.args.size c.in_ok-found.found.kind c.in_ok-found.found.at) same c.in_ok-found.ensures.finds in
-    let there : c.args.dst < length c.args.view.now.registers = omega (arith, c.in_ok-write-2.ensures.below) in
-    rw c.in_ok-write-2.ensures.is
+    let there : c.args.dst < length c.args.view.now.registers = omega (arith, c.requires.below) in
+    rw c.learn-2.ensures
     (carries_put c.args.shapes.now c.args.context (Load c.args.size c.args.signed c.args.dst c.args.src c.args.off) c.args.view.now c.args.dst _ there
     (load_gives c.args.shapes.now c.args.context c.args.view.now c.args.size c.args.signed c.args.dst c.args.src c.args.off c.in_ok-found.found.kind c.in_ok-found.found.at c.loads.result
-    finds (search rules) c.loads.ensures c.in_ok-write-2.ensures.below))
+    finds (search rules) c.loads.ensures c.requires.below))
 
 pub returns-in_err-found-clause-accepts : goal.returns-in_err-found-clause-accepts
-returns-in_err-found-clause-accepts c = λ below ready.
+returns-in_err-found-clause-accepts c = λ ready.
     let fits : SFits w16 c.args.off = search rules in
     let same : to_z w16 (of_z w16 c.args.off) ≡ c.args.off = omega (arith, ints) in
     let placed = subst (λ (off : ℤ). IsPlaced c.args.shapes.now c.args.context c.args.view.now c.args.size c.args.src off ready.kind ready.at) (sym same) ready.placed in
     absurd (let ok : false ≡ true = c.in_err-found.ensures.accepts ready.kind ready.at placed in let no : ⊥ = cc in no)
 
 pub returns-then-not-is_readable-clause-accepts : goal.returns-then-not-is_readable-clause-accepts
-returns-then-not-is_readable-clause-accepts c = λ below ready.
+returns-then-not-is_readable-clause-accepts c = λ ready.
     let fits : SFits w16 c.args.off = search rules in
     let same : to_z w16 (of_z w16 c.args.off) ≡ c.args.off = omega (arith, ints) in
     let placed = subst (λ (off : ℤ). IsPlaced c.args.shapes.now c.args.context c.args.view.now c.args.size c.args.src off ready.kind ready.at) (sym same) ready.placed in

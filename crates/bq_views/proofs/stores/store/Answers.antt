@@ -59,7 +59,7 @@ returns-else-ne-clause-accepts c = λ number place placed.
 pub returns-in_default : goal.returns-in_default
 returns-in_default c = record {
   stores = tt;
-  doubts = λ insn access. access;
+  doubts = λ insn access reads uses. access;
   accepts = λ number place placed.
       let fits : SFits w16 c.args.off = search rules in
       let same : to_z w16 (of_z w16 c.args.off) ≡ c.args.off = omega (arith, ints) in

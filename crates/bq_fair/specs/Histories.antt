@@ -1,0 +1,42 @@
+-- Histories of Ticks at one processor where a discipline alone decides who gives way, and what each task is served in them.
+use Rattle.std.specs.Prelude.{ℕ, ◌+◌, ◌-◌, ◌*◌, ◌≤◌, ◌^◌, if◌then◌else◌, List, [], ◌∷◌, Option, All}
+use Rattle.std.specs.Option.{option_map_or}
+use Rattle.bq_weights.specs.VirtualTime.{vdelta_of}
+use Rattle.bq_disc.specs.Tasks.{Task, has_id, with_id}
+use Rattle.bq_disc.specs.Discipline.{Discipline}
+use Rattle.bq_disc.specs.OneProcessor.{Running, present_at, reading, charge, decided, own_preempt}
+
+-- Tick: the time that has passed is charged, and the discipline's own answer says whether the current task gives way
+abbrev pub ticked : Discipline → Running → ℕ → Running
+ticked d p now = let c = charge d p now in decided d c c.current (own_preempt d c.queue c.current)
+
+-- the processor that Ticks leave, one after another
+abbrev pub history : Discipline → Running → List ℕ → Running
+history d p [] = p
+history d p (now ∷ nows) = history d (ticked d p now) nows
+
+-- how far the clock rises
+abbrev pub rise : Running → ℕ → ℕ
+rise p now = reading p.last now - p.last
+
+-- the clock rises by at most r at each of some Ticks
+abbrev pub RisesByAtMost : ℕ → Discipline → Running → List ℕ → Type 0
+RisesByAtMost r d p [] = Unit {0}
+RisesByAtMost r d p (now ∷ nows) = (rise p now ≤ r) × RisesByAtMost r d (ticked d p now) nows
+
+-- the task of an id, of those that are present
+abbrev pub task_at : ℕ → Running → Option Task
+task_at id p = with_id id (present_at p)
+
+-- the virtual time that a Tick charges the task of an id: what the rise takes at its weight, if it runs
+abbrev pub charge_of : ℕ → Running → ℕ → ℕ
+charge_of id p now = option_map_or (λ t. if has_id id t then vdelta_of (rise p now) t.weight else 0) p.current 0
+
+-- the virtual time that a task is served: the sum of its charges
+abbrev pub served : ℕ → Discipline → Running → List ℕ → ℕ
+served id d p [] = 0
+served id d p (now ∷ nows) = charge_of id p now + served id d (ticked d p now) nows
+
+-- virtual time does not end before the clock does: at the least weight what is left of the clock takes no task beyond 2^62
+abbrev pub HasRoom : Running → Type 0
+HasRoom p = All (λ t. 15 * t.v + 1024 * (2 ^ 48 - 1 - p.last) ≤ 15 * 2 ^ 62) (present_at p)

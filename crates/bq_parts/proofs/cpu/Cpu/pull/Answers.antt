@@ -1,0 +1,31 @@
+use Rattle.std.proofs.Common.{◌≡◌, None, ap, sym, subst, ◌∙◌}
+use Rattle.std.specs.Prelude.{IfSome}
+use Rattle.bq_disc.specs.Tasks.{with_id}
+use Rattle.bq_disc.specs.OneProcessor.{charge}
+use Rattle.bq_parts.specs.Processors.{Processor}
+use Rattle.bq_parts.specs.Moves.{taken_from}
+use Rattle.bq_parts.proofs.Pulling.{few_puller, few_source, source_distinct, source_small, taken_fresh}
+use Rattle.bq_parts.proofs.cpu.Cpu.pull.Goals as goal
+
+pub choose_pull-pulled-requires-clause-few : goal.choose_pull-pulled-requires-clause-few
+choose_pull-pulled-requires-clause-few g c = rw c.charge.ensures (few_puller g.Q.R.Rule.discipline c.args.self.now.running c.args.source.now.running c.args.now c.requires.once c.requires.seated)
+
+pub choose_pull-pulled-requires-clause-few_from : goal.choose_pull-pulled-requires-clause-few_from
+choose_pull-pulled-requires-clause-few_from g c = rw c.remark.ensures (few_source c.args.self.now.running c.args.source.now.running c.requires.once c.requires.seated)
+
+pub choose_pull-pulled-requires-clause-distinct : goal.choose_pull-pulled-requires-clause-distinct
+choose_pull-pulled-requires-clause-distinct g c = rw c.remark.ensures (source_distinct c.args.self.now.running c.args.source.now.running c.requires.once)
+
+pub choose_pull-pulled-requires-clause-small : goal.choose_pull-pulled-requires-clause-small
+choose_pull-pulled-requires-clause-small g c = rw c.remark.ensures (source_small c.args.self.now.running c.args.source.now.running c.requires.seated)
+
+pub take_task-run-requires : goal.take_task-run-requires
+take_task-run-requires g c =
+    let d = g.Q.R.Rule.discipline in
+    let p = c.args.self.now.running in
+    let q = c.args.source.now.running in
+    let task = c.choose_pull-pulled.result.choice in
+    let free = taken_fresh d p q c.args.now task c.requires.once in
+    let queue = ap (λ (x : Processor). x.running.queue) (c.choose_pull-pulled.ensures.rest ∙ ap (λ (x : Processor). record x { programs = record x.programs { pull = c.choose_pull-pulled.new.self.programs.pull } }) c.charge.ensures) in
+    let source = c.remark.ensures in
+    record { fresh = rw (source, queue) free }

@@ -1,0 +1,91 @@
+//! What a Pull does to the two processors: a task of one queue enters the other.
+ghost use Rattle.std.specs.Prelude.{◌≡◌, ◌≤◌, ◌<◌, ◌++◌, ℕ, [], None, IfSome};
+ghost use Rattle.bq_disc.specs.Queues.{HasDistinctIds, HasSmallIds};
+ghost use Rattle.bq_disc.specs.Tasks.{id_of, with_id};
+ghost use Rattle.bq_disc.specs.OneProcessor.{present_at};
+ghost use Rattle.bq_maps.specs.Counters.{Through};
+ghost use Rattle.bq_hooks.specs.Permitted.{task_numbered};
+ghost use Rattle.bq_parts.specs.Processors.{HasEachOnce, HasSeatedIds, size_of};
+ghost use Rattle.bq_parts.specs.Choices.{policies, SettlesPull};
+ghost use Rattle.bq_parts.specs.Moves.{taken_from, without_task, with_pulled, started_if_idle};
+ghost use Rattle.bq_parts.specs.Shares.{Pulls};
+
+use crate::{Cpu, Outcome, Reply, Scratch};
+use bq_disc::RunQueue;
+use bq_maps::Board;
+
+impl<Q: RunQueue> Cpu<Q> {
+    /// The processor takes a task from the queue of another: the one that its policy names, or that of the discipline,
+    /// where the other has more tasks. Each is called by its number.
+    pub fn pull<B: Board>(
+        &mut self,
+        source: &mut Cpu<Q>,
+        processor: u8,
+        from: u8,
+        now: u64,
+        scratch: &mut Scratch,
+        board: &mut B,
+    ) -> Reply
+        requires inside { processor < 64 }
+        requires once { HasEachOnce (present_at self.old.running ++ present_at source.old.running) }
+        requires seated { HasSeatedIds (present_at self.old.running ++ present_at source.old.running) }
+        requires unasked { scratch.old ≡ [] }
+        ensures share { Pulls (policies Q.R.discipline) processor from now self.old source.old scratch.new result self.new source.new }
+        ensures board { Through B.leads board.old scratch.new board.new }
+    {
+        self.charge(now);
+        source.remark();
+        let pulled = self.choose_pull(source, processor, from, scratch, board);
+        let run = self.take_task(source, pulled.choice);
+        Reply::Pulled {
+            task: pulled.choice,
+            run,
+            by: pulled.by,
+            steps: pulled.steps,
+        }
+    }
+
+    /// The task that is pulled, if any. A policy is shown the sizes as they are now.
+    fn choose_pull<B: Board>(
+        &mut self,
+        source: &Cpu<Q>,
+        processor: u8,
+        from: u8,
+        scratch: &mut Scratch,
+        board: &mut B,
+    ) -> Outcome<Option<u16>>
+        requires inside { processor < 64 }
+        requires few { size_of self.old ≤ 1024 }
+        requires few_from { size_of source.now ≤ 1024 }
+        requires distinct { HasDistinctIds source.now.running.queue }
+        requires small { HasSmallIds source.now.running.queue }
+        requires unasked { scratch.old ≡ [] }
+        ensures settled { (choice : ℕ) × SettlesPull (policies Q.R.discipline) processor from self.old source.now (record { choice = choice; by = result.by; steps = result.steps; calls = scratch.new; program = self.new.programs.pull }) × (result.choice ≡ task_numbered choice) }
+        ensures rest { self.new ≡ record self.old { programs = record self.old.programs { pull = self.new.programs.pull } } }
+        ensures board { Through B.leads board.old scratch.new board.new }
+    {
+        let size = self.size();
+        let own = source.own_pull(processor, size);
+        if !self.asks_pull() {
+            return Outcome::after(source.settle_pull(None, processor, own), 0);
+        }
+        let mut context = [0; 160];
+        source.pull_context(processor, from, size as u32, own, &mut context);
+        let done = self.ask_pull(processor, &context, scratch, board);
+        let chosen = source.settle_pull(Some(done.r0), processor, own);
+        Outcome::after(chosen, done.steps)
+    }
+
+    /// A task of the other's queue, if any, comes here; where nothing runs here, the choice does. Answers who runs here.
+    fn take_task(&mut self, source: &mut Cpu<Q>, task: Option<u16>) -> Option<u16>
+        requires fresh { IfSome (taken_from source.old.running task) (λ t. with_id t.id self.old.running.queue ≡ None) }
+        ensures run { result ≡ id_of self.new.running.current }
+        ensures here { self.new ≡ record self.old { running = started_if_idle Q.R.discipline (with_pulled Q.R.discipline self.old.running (taken_from source.old.running task)) self.old.running.current } }
+        ensures there { source.new ≡ record source.old { running = without_task source.old.running task } }
+    {
+        let given = source.give(task);
+        self.accept(given);
+        self.start_if_idle();
+        self.run()
+    }
+}
