@@ -1,19 +1,35 @@
 -- EEVDF: service and waiting, by slices.
-use Rattle.std.proofs.Common.{◌+◌, ◌*◌, ◌≤◌, max, length, arith}
+use Rattle.std.proofs.Common.{ℕ, ◌+◌, ◌*◌, ◌≤◌, max, length, arith}
 use Rattle.std.proofs.lemmas.List.Elements.{All-weaker, recursion_from_All}
+use Rattle.std.proofs.Math.Nat.{mul-le-mul_left}
 use Rattle.bq_weights.specs.VirtualTime.{vdelta_of}
 use Rattle.bq_disc.specs.Tasks.{Task}
 use Rattle.bq_disc.specs.OneProcessor.{present_at}
 use Rattle.bq_eevdf.specs.Eevdf.{eevdf}
 use Rattle.bq_fair.specs.Histories.{history, served}
 use Rattle.bq_fair.specs.Work.{weight_at, moment_at, booked, elapsed}
-use Rattle.bq_fair.specs.EevdfDeadlines.{EevdfSharesBySlices, EevdfWaitsBySlices}
+use Rattle.bq_fair.specs.EevdfDeadlines.{EevdfOwedBySlices, EevdfSharesBySlices, EevdfWaitsBySlices}
 use Rattle.bq_fair.proofs.SoundFacts.{of_each, each_has_room, well_formed, well_formed_history, got_to}
 use Rattle.bq_fair.proofs.SumFacts.{length-history}
 use Rattle.bq_fair.proofs.ListFacts.{All-from_ids}
 use Rattle.bq_fair.proofs.CfsShares.{shares, share_by, least_under, waiting_by}
 use Rattle.bq_fair.proofs.WorkFacts.{moves_the_sum, books_the_time}
 use Rattle.bq_fair.proofs.DueFacts.{timely_history, timely_at_start}
+
+owed_by : (M W N most r n : ℕ) → M ≤ W * N + 1024 * r * n → N ≤ most → M ≤ W * most + 1024 * r * n
+owed_by M W N most r n h le = omega (arith, mul-le-mul_left W le)
+
+pub owed_by_slices : EevdfOwedBySlices
+owed_by_slices V r p nows j b s due h le f =
+    let w = well_formed p s in
+    let q = history eevdf p nows in
+    let timely = timely_history V r p nows w (timely_at_start V r p due h) le in
+    let N = max V b.deadline in
+    let reach : Task → Type 0 = λ t. t.v ≤ N + vdelta_of r t.weight in
+    let all = All-from_ids reach (present_at q) (well_formed_history eevdf p nows w).distinct (λ i t e. timely.each i j t b e f) in
+    let sum = shares N r (present_at q) (recursion_from_All reach (present_at q) all) in
+    let high = (timely.due j b f).high in
+    owed_by (moment_at q) (weight_at q) N (max V (b.v + vdelta_of b.slice b.weight)) r (length (present_at q)) sum (omega arith)
 
 pub shares_by_slices : EevdfSharesBySlices
 shares_by_slices V r p nows j b s room due h le f =

@@ -21,6 +21,14 @@ NoneIsBeyondADeadline =
     HasDeadlines (history eevdf p nows)
     × ((i j : ℕ) (u t : Task) → task_at i (history eevdf p nows) ≡ Some u → task_at j (history eevdf p nows) ≡ Some t → u.v ≤ max V t.deadline + vdelta_of r u.weight)
 
+-- So the mean is beyond a task by no more than where all began or its slice, and its share of a rise of each: what a task is
+-- owed is bounded by its own slice, however many there are
+abbrev pub EevdfOwedBySlices : Type 0
+EevdfOwedBySlices =
+    (V r : ℕ) (p : Running) (nows : List ℕ) (j : ℕ) (b : Task) →
+    IsSound p → HasDeadlines p → All (λ t. t.v ≤ V) (present_at p) → RisesByAtMost r eevdf p nows → task_at j (history eevdf p nows) ≡ Some b →
+    (let q = history eevdf p nows in moment_at q ≤ weight_at q * max V (b.v + vdelta_of b.slice b.weight) + 1024 * r * length (present_at q))
+
 -- Proportional service: of two tasks a and b, a comes to no more virtual time than where it began, or than one slice beyond
 -- where b began, and what b was served, and one rise at its own weight
 abbrev pub EevdfServesBySlices : Type 0

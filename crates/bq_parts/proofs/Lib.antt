@@ -6,3 +6,4 @@ pub mod Switching
 pub mod Permitted
 pub mod Leaves
 pub mod Pulling
+pub mod Sends

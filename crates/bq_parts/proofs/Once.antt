@@ -1,5 +1,5 @@
 -- What an orderly world gives each processor: its tasks once, with small ids, and few of them.
-use Rattle.std.proofs.Common.{◌≡◌, ◌≢◌, ℕ, zero, suc, ◌+◌, ◌<◌, ◌≤◌, Bool, true, false, eqb, List, [], ◌∷◌, ◌++◌, length, Some, None, refl, sym, subst, ap, ◌∙◌, arith, inl, inr, get_or}
+use Rattle.std.proofs.Common.{◌≡◌, ◌≢◌, ℕ, zero, suc, ◌+◌, ◌<◌, ◌≤◌, Bool, true, false, eqb, List, [], ◌∷◌, ◌++◌, length, refl, ap, ◌∙◌, arith, inl, inr, get_or}
 use Rattle.std.proofs.Common.{length-append, ◌||◌}
 use Rattle.std.specs.Prelude.{map}
 use Rattle.std.specs.List.{list_any, AllByRecursion, IsDistinct}
@@ -7,7 +7,7 @@ use Rattle.std.proofs.lemmas.List.{get_or_past}
 use Rattle.std.proofs.lemmas.Map.Steps.{length-le_from_distinct_below}
 use Rattle.std.proofs.lemmas.Bool.{cases_lt}
 use Rattle.std.proofs.lemmas.Bool.Decides.{nat_tests}
-use Rattle.bq_disc.specs.Tasks.{Task, with_id}
+use Rattle.bq_disc.specs.Tasks.{Task}
 use Rattle.bq_disc.specs.Queues.{HasSmallIds}
 use Rattle.bq_disc.specs.OneProcessor.{present_at}
 use Rattle.bq_parts.specs.declared.seat.Seat.TheVariants.{Absent}
@@ -16,8 +16,7 @@ use Rattle.bq_parts.specs.World.{World, processor, inbox, seat}
 use Rattle.bq_parts.specs.Refusals.{is_away}
 use Rattle.bq_hooks.specs.Contexts.{as_number}
 use Rattle.bq_parts.specs.StandsOnce.{held_count, placed_count, standing_count, IsOrderly}
-use Rattle.bq_parts.proofs.Counts.{one, one_self, count_of-append, count_of-without, queue_le_present, with_id-absent, HasEachOnce-left}
-use Rattle.bq_parts.proofs.Tallies.{with_id-id}
+use Rattle.bq_parts.proofs.Counts.{one, one_self, count_of-append, HasEachOnce-left}
 
 -- a processor's tasks are among those of all
 pub held_le : (id : ℕ) (ps : List Processor) (cpu : ℕ) → count_of id (held_by (get_or ps cpu opening)) ≤ held_count id ps

@@ -1,12 +1,12 @@
 -- What two processors, whose tasks together stand once, give a task that goes from the one's queue to the other's.
-use Rattle.std.proofs.Common.{◌≡◌, ℕ, ◌+◌, ◌≤◌, ◌++◌, List, length, Option, Some, None, refl, sym, subst, arith}
+use Rattle.std.proofs.Common.{◌≡◌, ℕ, ◌≤◌, ◌++◌, List, length, Option, Some, None, refl, sym, subst, arith}
 use Rattle.std.specs.Prelude.{IfSome}
 use Rattle.std.specs.Option.{option_map}
 use Rattle.bq_disc.specs.Tasks.{Task, with_id, present}
 use Rattle.bq_disc.specs.Discipline.{Discipline, left_at}
 use Rattle.bq_disc.specs.Queues.{HasDistinctIds, HasSmallIds}
 use Rattle.bq_disc.specs.OneProcessor.{Running, present_at, charge, marked}
-use Rattle.bq_parts.specs.Processors.{count_of, HasEachOnce, HasSeatedIds}
+use Rattle.bq_parts.specs.Processors.{HasEachOnce, HasSeatedIds}
 use Rattle.bq_parts.specs.Moves.{taken_from, with_pulled}
 use Rattle.bq_parts.proofs.Tallies.{with_id-id}
 use Rattle.bq_parts.proofs.Counts.{one, one_self, count_of-append, count_of-without, queue_le_present, with_id-absent, each_once_queue, HasEachOnce-left, HasEachOnce-right, HasDistinctIds-from_counts}

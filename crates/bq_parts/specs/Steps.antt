@@ -1,10 +1,8 @@
 -- The step that each event makes in the world.
-use Rattle.std.specs.Prelude.{◌≡◌, ℕ, ◌+◌, ◌-◌, ◌%◌, ◌^◌, ◌⊎◌, ℤ, pos, min, List, [], ◌∷◌, ◌++◌, length, Option, Some, None, Result, Ok, Err}
-use Rattle.std.specs.Option.{option_map}
-use Rattle.bq_weights.specs.VirtualTime.{weight_of}
-use Rattle.bq_disc.specs.Tasks.{Task, with_id, without, place, id_of}
-use Rattle.bq_disc.specs.Discipline.{Discipline, pulled, left_at}
-use Rattle.bq_disc.specs.OneProcessor.{Running, charge, marked, start, enter_all}
+use Rattle.std.specs.Prelude.{◌≡◌, ℕ, ◌+◌, ◌-◌, ◌^◌, ◌⊎◌, min, List, [], ◌∷◌, ◌++◌, length, Some, None, Result, Ok, Err}
+use Rattle.bq_disc.specs.Tasks.{Task, id_of}
+use Rattle.bq_disc.specs.Discipline.{Discipline}
+use Rattle.bq_disc.specs.OneProcessor.{charge, marked, enter_all}
 use Rattle.bq_maps.specs.declared.board.Call.{Call as Asked}
 use Rattle.bq_maps.specs.Counters.{Through}
 use Rattle.bq_policies.specs.Answers.{fresh_maps}

@@ -7,6 +7,7 @@ pub mod hooks;
 pub mod installed;
 pub mod laws;
 pub mod policy;
+mod same;
 pub mod scratch;
 #[cfg(test)]
 mod tests;

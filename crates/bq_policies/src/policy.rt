@@ -1,6 +1,7 @@
 //! Policies that may be installed.
-ghost use Rattle.std.specs.Prelude.{◌≡◌, IfOk};
+ghost use Rattle.std.specs.Prelude.{◌≡◌, ◌↔◌, IfOk, IsTrue};
 
+use crate::same::{same_shapes, same_slots};
 use bq_verify::{Hook, Verified, Version};
 use std::alloc::{AllocError, Global};
 use std::marker::Model;
@@ -51,6 +52,26 @@ impl Policy {
     {
         self.program().version()
     }
+
+    /// Whether both are the same program, for the same hook, with the same version, shapes and budget.
+    pub fn is_same(&self, other: &Policy) -> bool
+        ensures { IsTrue result ↔ (self.now ≡ other.now) }
+    {
+        let (program, other) = (self.program(), other.program());
+        if program.budget() != other.budget() {
+            return false;
+        }
+        if !same_hook(program.hook(), other.hook()) {
+            return false;
+        }
+        if !same_version(program.version(), other.version()) {
+            return false;
+        }
+        if !same_shapes(program.shapes(), other.shapes()) {
+            return false;
+        }
+        same_slots(program.slots(), other.slots())
+    }
 }
 
 impl Clone for Policy {
@@ -64,4 +85,16 @@ impl Clone for Policy {
         let program = Arc::try_clone(&self.program)?;
         Ok(Policy { program })
     }
+}
+
+fn same_hook(hook: Hook, other: Hook) -> bool
+    ensures { IsTrue result ↔ (hook ≡ other) }
+{
+    hook == other
+}
+
+fn same_version(version: Version, other: Version) -> bool
+    ensures { IsTrue result ↔ (version ≡ other) }
+{
+    version == other
 }

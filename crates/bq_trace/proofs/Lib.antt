@@ -11,3 +11,4 @@ pub mod WakeLemmas
 pub mod LoadingLemmas
 pub mod WordLemmas
 pub mod WritingLemmas
+pub mod WholeSessions

@@ -14,3 +14,4 @@ pub mod Loading
 pub mod Trace
 pub mod Words
 pub mod Writing
+pub mod Sessions

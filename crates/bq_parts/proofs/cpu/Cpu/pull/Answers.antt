@@ -1,9 +1,5 @@
-use Rattle.std.proofs.Common.{◌≡◌, None, ap, sym, subst, ◌∙◌}
-use Rattle.std.specs.Prelude.{IfSome}
-use Rattle.bq_disc.specs.Tasks.{with_id}
-use Rattle.bq_disc.specs.OneProcessor.{charge}
+use Rattle.std.proofs.Common.{ap, ◌∙◌}
 use Rattle.bq_parts.specs.Processors.{Processor}
-use Rattle.bq_parts.specs.Moves.{taken_from}
 use Rattle.bq_parts.proofs.Pulling.{few_puller, few_source, source_distinct, source_small, taken_fresh}
 use Rattle.bq_parts.proofs.cpu.Cpu.pull.Goals as goal
 

@@ -1,0 +1,11 @@
+pub mod Reached
+pub mod Looked
+pub mod Named
+pub mod Loads
+pub mod Shapes
+pub mod CallSteps
+pub mod PullSteps
+pub mod Woken
+pub mod Opening
+pub mod SameCalls
+pub mod Sent

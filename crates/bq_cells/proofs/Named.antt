@@ -1,0 +1,61 @@
+-- No share answers want of memory.
+use Rattle.std.proofs.Common.{◌≡◌, ◌≢◌, ℕ, Bool, true, false, cond, List, Option, Some, None, sym, subst}
+use Rattle.std.specs.Prelude.{Result, Ok, Err, IfErr, slice_index_or, is_some}
+use Rattle.bq_disc.specs.Tasks.{Task}
+use Rattle.bq_disc.specs.Discipline.{Discipline}
+use Rattle.bq_verify.specs.declared.hook.Hook.{Hook}
+use Rattle.bq_policies.specs.Programs.{Program, at_hook}
+use Rattle.bq_parts.specs.declared.carried.Carried.{Carried}
+use Rattle.bq_parts.specs.declared.reply.Reply.{Reply}
+use Rattle.bq_parts.specs.declared.refusal.Refusal.{Refusal}
+use Rattle.bq_parts.specs.declared.refusal.Refusal.TheVariants as no
+use Rattle.bq_parts.specs.declared.seat.Seat.{Seat}
+use Rattle.bq_parts.specs.declared.seat.Seat.TheVariants.{Absent}
+use Rattle.bq_parts.specs.Processors.{Processor}
+use Rattle.bq_parts.specs.Refusals.{is_absent, is_away, retire_refusal, begin_refusal}
+use Rattle.bq_parts.specs.Shares.{Admits, Retires, Blocks, Begins, Installs}
+
+-- an answer is not want of memory
+abbrev pub IsNamed : Result Reply Refusal → Type 0
+IsNamed r = IfErr r (λ e. e ≢ no.OutOfMemory)
+
+pub admits_named : (id : ℕ) (t : Task) (l : List Seat) (r : Result Reply Refusal) (m : List Seat) → Admits id t l r m → IsNamed r
+admits_named id t l (Ok r) m a = tt
+admits_named id t l (Err e) m a = subst (λ x. x ≢ no.OutOfMemory) (sym a.1) (λ h. cc)
+
+pub blocks_named : (d : Discipline) (c now : ℕ) (p : Processor) (l : List Seat) (r : Result Reply Refusal) (q : Processor) (m : List Seat) → Blocks d c now p l r q m → IsNamed r
+blocks_named d c now p l (Ok r) q m b = tt
+blocks_named d c now p l (Err e) q m b = subst (λ x. x ≢ no.OutOfMemory) (sym b.1) (λ h. cc)
+
+-- nor is the first of some refusals of which none is
+first_named : (b : Bool) (x e : Refusal) (rest : Option Refusal) → x ≢ no.OutOfMemory → (rest ≡ Some e → e ≢ no.OutOfMemory) → cond b (Some x) rest ≡ Some e → e ≢ no.OutOfMemory
+first_named true x e rest n more h = subst (λ y. y ≢ no.OutOfMemory) (some_same x e h) n
+  where
+    some_same : (x y : Refusal) → Some x ≡ Some y → x ≡ y
+    some_same x y h = cc
+first_named false x e rest n more h = more h
+
+none_named : (e : Refusal) → None ≡ Some e → e ≢ no.OutOfMemory
+none_named e h = absurd (let no : ⊥ = cc in no)
+
+retire_named : (s : Seat) (e : Refusal) → retire_refusal s ≡ Some e → e ≢ no.OutOfMemory
+retire_named s e h = first_named (is_absent s) no.NoTask e _ (λ h. cc) (first_named (is_away s) no.NotBlocked e None (λ h. cc) (none_named e)) h
+
+pub retires_named : (id : ℕ) (l : List Seat) (r : Result Reply Refusal) (m : List Seat) → Retires id l r m → IsNamed r
+retires_named id l (Ok r) m a = tt
+retires_named id l (Err e) m a = retire_named (slice_index_or l id Absent) e a.0
+
+begin_named : (s : Seat) (hand : Option Carried) (e : Refusal) → begin_refusal s hand ≡ Some e → e ≢ no.OutOfMemory
+begin_named s hand e h =
+    first_named (is_absent s) no.NoTask e _ (λ h. cc) (first_named (is_away s) no.NotBlocked e _ (λ h. cc) (first_named (is_some hand) no.InHand e None (λ h. cc) (none_named e))) h
+
+pub begins_named : (id : ℕ) (loads : List ℕ) (p : Processor) (l : List Seat) (r : Result Reply Refusal) (q : Processor) (m : List Seat) → Begins id loads p l r q m → IsNamed r
+begins_named id loads p l (Ok r) q m b = tt
+begins_named id loads p l (Err e) q m b = begin_named (slice_index_or l id Absent) p.hand e b.0
+
+pub installs_named : (h : Hook) (drawn : ℕ) (p : Processor) (new : Program) (r : Result Reply Refusal) (q : Processor) → Installs h drawn p new r q → IsNamed r
+installs_named h drawn p new (Ok r) q i = tt
+installs_named h drawn p new (Err e) q i =
+    let newest = (at_hook h p.programs).generation in
+    first_named _ (no.Older newest) e _ (λ h. cc) (first_named _ no.NotDrawn e None (λ h. cc) (none_named e)) i.0
+

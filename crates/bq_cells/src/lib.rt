@@ -1,0 +1,13 @@
+//! The world of processors, inboxes and sleeping tasks as several locks hold it: what lies under each lock, what the
+//! history tells of an event, and the law that each event's share over the parts that it touches is a move of the history.
+//! Promises nothing by itself; the machine above takes the law, the cells and the records.
+//! Stands on bq_parts for the shares, on bq_core for the laws of worlds, and on bq_history for what a move is.
+#![tactic(auto)]
+
+pub mod cells;
+pub mod law;
+pub mod record;
+
+pub use cells::{NumberedCpu, NumberedInbox, OneLobby};
+pub use law::{CpuState, Kept, Part, Sched, WorldState};
+pub use record::{Calls, Record, room};

@@ -1,0 +1,36 @@
+//! What is left of a machine at its end.
+ghost use Rattle.std.specs.Prelude.{◌≡◌, length, slice_get};
+ghost use Rattle.std.specs.Option.{option_map};
+
+use bq_cells::Record;
+use bq_core::Core;
+use bq_disc::RunQueue;
+use bq_history::Closed as History;
+use bq_maps::Call;
+use bq_parts::{Event, Refusal, Reply};
+
+/// The history of a machine, the world that it leaves, and its counters.
+#[derive(Drop)]
+pub struct Closed<Q: RunQueue + Drop, const P: usize> {
+    pub history: History<Record>,
+    pub core: Core<Q, P>,
+    pub counters: [u64; 64],
+}
+
+impl<Q: RunQueue + Drop, const P: usize> Closed<Q, P> {
+    /// How many events the history has.
+    pub fn len(&self) -> u64
+        ensures { result ≡ length self.now.history }
+    {
+        self.history.len()
+    }
+
+    /// The event at a place, counted from 0, with what it was answered and its calls of counters, or none where the history
+    /// is not that long.
+    pub fn logged(&self, place: u64) -> Option<(&Event, &Result<Reply, Refusal>, &[Call])>
+        ensures { option_map (λ r. record { event = r.0.now; reply = r.1.now; calls = r.2.now }) result ≡ slice_get self.now.history place }
+    {
+        let record = self.history.logged(place)?;
+        Some((&record.event, &record.reply, record.calls.as_slice()))
+    }
+}

@@ -1,0 +1,209 @@
+//! Whether two programs are the same, instruction by instruction.
+ghost use Rattle.std.specs.Prelude.{◌≡◌, ◌↔◌, IsTrue};
+
+use bq_insn::{Insn, Source};
+use bq_maps::shape::MapShape;
+
+/// Whether both lists have the same instructions in the same slots.
+pub(crate) fn same_slots(slots: &[Option<Insn>], other: &[Option<Insn>]) -> bool
+    ensures { IsTrue result ↔ (slots.now ≡ other.now) }
+{
+    if slots.len() != other.len() {
+        return false;
+    }
+    for at in 0..slots.len() {
+        if !same_slot(&slots[at], &other[at]) {
+            return false;
+        }
+    }
+    true
+}
+
+/// Whether both lists have the same shapes.
+pub(crate) fn same_shapes(shapes: &[MapShape], other: &[MapShape]) -> bool
+    ensures { IsTrue result ↔ (shapes.now ≡ other.now) }
+{
+    if shapes.len() != other.len() {
+        return false;
+    }
+    for at in 0..shapes.len() {
+        if !same_shape(&shapes[at], &other[at]) {
+            return false;
+        }
+    }
+    true
+}
+
+fn same_shape(shape: &MapShape, other: &MapShape) -> bool
+    ensures { IsTrue result ↔ (shape.now ≡ other.now) }
+{
+    shape == other
+}
+
+fn same_slot(slot: &Option<Insn>, other: &Option<Insn>) -> bool
+    ensures { IsTrue result ↔ (slot.now ≡ other.now) }
+{
+    match slot {
+        None => other.is_none(),
+        Some(insn) => match other {
+            None => false,
+            Some(their_insn) => same_insn(insn, their_insn),
+        },
+    }
+}
+
+fn same_insn(insn: &Insn, other: &Insn) -> bool
+    ensures { IsTrue result ↔ (insn.now ≡ other.now) }
+{
+    match insn {
+        Insn::Alu {
+            width,
+            op,
+            dst,
+            src,
+        } => match other {
+            Insn::Alu {
+                width: their_width,
+                op: their_op,
+                dst: their_dst,
+                src: their_src,
+            } => width == their_width
+                && op == their_op
+                && dst == their_dst
+                && same_source(*src, *their_src),
+            _ => false,
+        },
+        Insn::MovSx {
+            width,
+            bits,
+            dst,
+            src,
+        } => match other {
+            Insn::MovSx {
+                width: their_width,
+                bits: their_bits,
+                dst: their_dst,
+                src: their_src,
+            } => width == their_width && bits == their_bits && dst == their_dst && src == their_src,
+            _ => false,
+        },
+        Insn::Neg { width, dst } => match other {
+            Insn::Neg {
+                width: their_width,
+                dst: their_dst,
+            } => width == their_width && dst == their_dst,
+            _ => false,
+        },
+        Insn::End { kind, bits, dst } => match other {
+            Insn::End {
+                kind: their_kind,
+                bits: their_bits,
+                dst: their_dst,
+            } => kind == their_kind && bits == their_bits && dst == their_dst,
+            _ => false,
+        },
+        Insn::Load {
+            size,
+            signed,
+            dst,
+            src,
+            off,
+        } => match other {
+            Insn::Load {
+                size: their_size,
+                signed: their_signed,
+                dst: their_dst,
+                src: their_src,
+                off: their_off,
+            } => size == their_size
+                && signed == their_signed
+                && dst == their_dst
+                && src == their_src
+                && off == their_off,
+            _ => false,
+        },
+        Insn::StoreImm {
+            size,
+            dst,
+            off,
+            imm,
+        } => match other {
+            Insn::StoreImm {
+                size: their_size,
+                dst: their_dst,
+                off: their_off,
+                imm: their_imm,
+            } => size == their_size && dst == their_dst && off == their_off && imm == their_imm,
+            _ => false,
+        },
+        Insn::StoreReg {
+            size,
+            dst,
+            off,
+            src,
+        } => match other {
+            Insn::StoreReg {
+                size: their_size,
+                dst: their_dst,
+                off: their_off,
+                src: their_src,
+            } => size == their_size && dst == their_dst && off == their_off && src == their_src,
+            _ => false,
+        },
+        Insn::Imm64 { dst, value } => match other {
+            Insn::Imm64 {
+                dst: their_dst,
+                value: their_value,
+            } => dst == their_dst && value == their_value,
+            _ => false,
+        },
+        Insn::MapRef { dst, index } => match other {
+            Insn::MapRef {
+                dst: their_dst,
+                index: their_index,
+            } => dst == their_dst && index == their_index,
+            _ => false,
+        },
+        Insn::Goto { off } => match other {
+            Insn::Goto { off: their_off } => off == their_off,
+            _ => false,
+        },
+        Insn::Goto32 { imm } => match other {
+            Insn::Goto32 { imm: their_imm } => imm == their_imm,
+            _ => false,
+        },
+        Insn::Branch {
+            width,
+            cond,
+            dst,
+            src,
+            off,
+        } => match other {
+            Insn::Branch {
+                width: their_width,
+                cond: their_cond,
+                dst: their_dst,
+                src: their_src,
+                off: their_off,
+            } => width == their_width
+                && cond == their_cond
+                && dst == their_dst
+                && same_source(*src, *their_src)
+                && off == their_off,
+            _ => false,
+        },
+        Insn::Call { helper } => match other {
+            Insn::Call {
+                helper: their_helper,
+            } => helper == their_helper,
+            _ => false,
+        },
+        Insn::Exit => matches!(other, Insn::Exit),
+    }
+}
+
+fn same_source(source: Source, other: Source) -> bool
+    ensures { IsTrue result ↔ (source ≡ other) }
+{
+    source == other
+}

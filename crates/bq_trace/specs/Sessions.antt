@@ -1,0 +1,34 @@
+-- What a session does from its start to its end.
+use Rattle.std.specs.Prelude.{◌≡◌, ℕ, Bool, List, [], ◌∷◌, Option, Some}
+use Rattle.std.specs.List.{flat_map}
+use Rattle.std.specs.Io.KnownBytes.{Appends}
+use Rattle.bq_trace.specs.Kept.{StandsFor}
+use Rattle.bq_trace.specs.Feeding.{Feeds, Finishes}
+use Rattle.bq_trace.specs.Trace.{TraceText, start}
+use Rattle.bq_trace.specs.declared.standing.Standing.{Standing}
+
+-- A session is fed some pieces, one after another, as a feed promises it.
+abbrev pub IsFed : Standing → List (List ℕ) → Standing → Option (List ℕ) → Option (List ℕ) → Type 0
+IsFed s [] t old new = (t ≡ s) × (new ≡ old)
+IsFed s (piece ∷ pieces) t old new =
+    (mid : Standing) × (now : Option (List ℕ)) × ((begun : List ℕ) → StandsFor s.begun begun → Feeds s begun piece mid old now) × IsFed mid pieces t now new
+
+-- And it is finished, as its finish promises it.
+abbrev pub IsFinished : Standing → Option (List ℕ) → Option (List ℕ) → Bool → Type 0
+IsFinished s old new clean = (begun : List ℕ) → StandsFor s.begun begun → Finishes s begun old new clean
+
+-- pieces, joined
+abbrev pub joined : List (List ℕ) → List ℕ
+joined pieces = flat_map (λ piece. piece) pieces
+
+-- What the writer got are the answers to an input.
+pub record GetsAnswers (input : List ℕ) (old new : Option (List ℕ)) (clean : Bool) : Type 0 where
+  pub output : List ℕ
+  pub added : Appends old new output
+  pub answers : TraceText input output clean
+
+-- Where a session begins, is fed some pieces and is finished, the writer got the answers to the joined pieces.
+abbrev pub SessionAnswers : Type 0
+SessionAnswers =
+    (s t : Standing) (pieces : List (List ℕ)) (old now new : Option (List ℕ)) (clean : Bool) →
+    s.progress ≡ start → s.begun ≡ Some [] → IsFed s pieces t old now → IsFinished t now new clean → GetsAnswers (joined pieces) old new clean
