@@ -14,7 +14,7 @@ The first trace that is answered otherwise is left in differs.trace, without the
 by hand, and is no part of the gate. Last seen: 400 traces, 410,565 replies alike, in 35 seconds.
 
 `tests/model/` is the model, a file for each page: `scheduler` (SCHEDULING.md), `contexts` (CONTEXTS.md), `machine`
-(MACHINE.md, INSTRUCTIONS.md), `assembler` (ASSEMBLER.md), `images` (IMAGE.md), `replies` (TRACE.md). `programs`, `changes`
+(BPF.md, INSTRUCTIONS.md), `assembler` (ASSEMBLER.md), `images` (IMAGE.md), `replies` (TRACE.md). `programs`, `changes`
 and `draw` draw policies and traces, `verdicts` has programs of which VERIFIER.md says whether they are accepted, and
 `worked` has rows that the model itself must answer before it is believed. The model verifies nothing.
 """

@@ -2,7 +2,7 @@
 use Rattle.std.specs.Prelude.{ℕ, List}
 use Rattle.bq_parts.specs.World.{World}
 use Rattle.bq_trace.specs.Machines.{Machine}
-use Rattle.bq_trace.specs.declared.command.Rule.TheVariants as rules
+use Rattle.bq_sizes.specs.declared.rule.Rule.TheVariants as rules
 use Rattle.bq_trace.specs.declared.machine.Cores.{Cores}
 use Rattle.bq_trace.specs.declared.machine.Cores.TheVariants.{One, Two, Four, Eight, Sixteen, ThirtyTwo, SixtyFour}
 use Rattle.bq_trace.specs.declared.machine.Ruled.{Ruled}

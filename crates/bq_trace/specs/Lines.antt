@@ -7,29 +7,14 @@ use Rattle.bq_verify.specs.declared.hook.Hook.{Hook}
 use Rattle.bq_verify.specs.declared.hook.Hook.TheVariants as hooks
 use Rattle.bq_trace.specs.Words.{words, is_allowed}
 use Rattle.bq_trace.specs.Numbers.{decimal_of, processor_of, task_of, mask_of, nice_of}
-use Rattle.bq_trace.specs.declared.command.Rule.{Rule}
-use Rattle.bq_trace.specs.declared.command.Rule.TheVariants.{Cfs, Eevdf}
-use Rattle.bq_trace.specs.declared.command.Size.{Size}
-use Rattle.bq_trace.specs.declared.command.Size.TheVariants.{One, Two, Four, Eight, Sixteen, ThirtyTwo, SixtyFour}
+use Rattle.bq_sizes.specs.declared.size.Size.{Size}
+use Rattle.bq_sizes.specs.Sizes.{rule_of, size_numbered}
 use Rattle.bq_trace.specs.declared.command.Command.{Command}
 use Rattle.bq_trace.specs.declared.command.Command.TheVariants.{Machine, Does, Wake, Load, Show, Counter}
 use Rattle.bq_trace.specs.declared.command.Reading.{Reading}
 use Rattle.bq_trace.specs.declared.command.Reading.TheVariants.{Skipped, Bad, Says}
 
-abbrev pub rule_of : List ℕ → Option Rule
-rule_of word = if bytes_eq word (codes "cfs") then Some Cfs else if bytes_eq word (codes "eevdf") then Some Eevdf else None
-
-abbrev pub size_numbered : ℕ → Option Size
-size_numbered n =
-    if n == 1 then Some One
-    else if n == 2 then Some Two
-    else if n == 4 then Some Four
-    else if n == 8 then Some Eight
-    else if n == 16 then Some Sixteen
-    else if n == 32 then Some ThirtyTwo
-    else if n == 64 then Some SixtyFour
-    else None
-
+-- the size that a word names
 abbrev pub size_of : List ℕ → Option Size
 size_of word = option_and_then size_numbered (processor_of word)
 

@@ -12,10 +12,10 @@ use Rattle.bq_parts.specs.declared.event.Event.{Event}
 use Rattle.bq_parts.specs.declared.reply.Reply.{Reply}
 use Rattle.bq_parts.specs.declared.refusal.Refusal.{Refusal}
 use Rattle.bq_parts.specs.declared.refusal.Refusal.TheVariants.{OutOfMemory}
-use Rattle.bq_trace.specs.declared.command.Rule.{Rule}
-use Rattle.bq_trace.specs.declared.command.Rule.TheVariants.{Cfs, Eevdf}
-use Rattle.bq_trace.specs.declared.command.Size.{Size}
-use Rattle.bq_trace.specs.declared.command.Size.TheVariants.{One, Two, Four, Eight, Sixteen, ThirtyTwo, SixtyFour}
+use Rattle.bq_sizes.specs.declared.rule.Rule.{Rule}
+use Rattle.bq_sizes.specs.declared.rule.Rule.TheVariants.{Cfs, Eevdf}
+use Rattle.bq_sizes.specs.declared.size.Size.{Size}
+use Rattle.bq_sizes.specs.Sizes.{processors_in}
 
 pub record Machine : Type 0 where
   pub rule : Rule
@@ -29,16 +29,6 @@ discipline_of Eevdf = eevdf
 -- what the machine's world runs under
 abbrev pub setting_of : Rule → Setting
 setting_of rule = policies (discipline_of rule)
-
--- how many processors a size has
-abbrev pub processors_in : Size → ℕ
-processors_in One = 1
-processors_in Two = 2
-processors_in Four = 4
-processors_in Eight = 8
-processors_in Sixteen = 16
-processors_in ThirtyTwo = 32
-processors_in SixtyFour = 64
 
 -- a machine to which nothing has happened
 abbrev pub opening_machine : Rule → Size → Machine

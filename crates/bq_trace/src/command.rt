@@ -2,27 +2,7 @@
 
 use crate::image::HexWord;
 use bq_core::{Event, Hook};
-
-/// How a machine's processors choose among their tasks.
-#[derive(Clone, Copy, Debug, PartialEq, Eq)]
-pub enum Rule {
-    /// The task of least virtual time runs.
-    Cfs,
-    /// Of the tasks that have had no more than their share, that of the earliest deadline runs.
-    Eevdf,
-}
-
-/// How many processors a machine has.
-#[derive(Clone, Copy, Debug, PartialEq, Eq)]
-pub enum Size {
-    One,
-    Two,
-    Four,
-    Eight,
-    Sixteen,
-    ThirtyTwo,
-    SixtyFour,
-}
+use bq_sizes::{Rule, Size};
 
 /// What a line may ask.
 #[derive(Drop)]

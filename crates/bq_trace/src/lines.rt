@@ -2,13 +2,14 @@
 ghost use Rattle.std.specs.Prelude.{◌≡◌, ◌∷◌, IfOk};
 ghost use Rattle.std.specs.Option.{option_map};
 ghost use Rattle.bq_trace.specs.Words.{words};
-ghost use Rattle.bq_trace.specs.Lines.{rule_of, size_of, hook_of, machine_of, admit_of, retire_of, draw_of, install_words, install_of, begin_of, end_of, wake_of, drain_of, tick_of, block_of, pull_of, show_of, counter_of, plain_command_of, reading_of_words, reading_of};
+ghost use Rattle.bq_trace.specs.Lines.{hook_of, machine_of, admit_of, retire_of, draw_of, install_words, install_of, begin_of, end_of, wake_of, drain_of, tick_of, block_of, pull_of, show_of, counter_of, plain_command_of, reading_of_words, reading_of};
 
-use crate::command::{Command, Reading, Rule, Size};
+use crate::command::{Command, Reading};
 use crate::image::HexWord;
 use crate::numbers;
 use crate::words::{end_of_words, is_allowed_line, next_word};
 use bq_core::{Event, Hook};
+use bq_sizes::{Rule, Size};
 use std::alloc::{AllocError, Global};
 
 /// The longest line.
@@ -81,33 +82,6 @@ fn command(name: &[u8], operands: &[u8]) -> Option<Command>
     }
 }
 
-fn rule(word: &[u8]) -> Option<Rule>
-    ensures { result ≡ rule_of word.now }
-{
-    if word == b"cfs".as_slice() {
-        Some(Rule::Cfs)
-    } else if word == b"eevdf".as_slice() {
-        Some(Rule::Eevdf)
-    } else {
-        None
-    }
-}
-
-fn size(word: &[u8]) -> Option<Size>
-    ensures { result ≡ size_of word.now }
-{
-    match numbers::processor(word)? {
-        1 => Some(Size::One),
-        2 => Some(Size::Two),
-        4 => Some(Size::Four),
-        8 => Some(Size::Eight),
-        16 => Some(Size::Sixteen),
-        32 => Some(Size::ThirtyTwo),
-        64 => Some(Size::SixtyFour),
-        _ => None,
-    }
-}
-
 fn hook(word: &[u8]) -> Option<Hook>
     ensures { result ≡ hook_of word.now }
 {
@@ -128,8 +102,8 @@ fn machine(operands: &[u8]) -> Option<Command>
     let (first, rest) = next_word(operands)?;
     let (second, rest) = next_word(rest)?;
     end_of_words(rest)?;
-    let rule = rule(first)?;
-    let size = size(second)?;
+    let rule = Rule::of_word(first)?;
+    let size = Size::of_number(numbers::processor(second)?)?;
     Some(Command::Machine { rule, size })
 }
 

@@ -4,17 +4,18 @@ ghost use Rattle.bq_parts.specs.World.{opening_world};
 ghost use Rattle.bq_parts.specs.Choices.{policies};
 ghost use Rattle.bq_parts.specs.declared.reply.Reply.{Reply};
 ghost use Rattle.bq_parts.specs.declared.refusal.Refusal.{Refusal};
-ghost use Rattle.bq_trace.specs.Machines.{processors_in, opening_machine, Steps};
+ghost use Rattle.bq_sizes.specs.Sizes.{processors_in};
+ghost use Rattle.bq_trace.specs.Machines.{opening_machine, Steps};
 ghost use Rattle.bq_trace.specs.Texts.{event_line, show_line, counter_line};
 ghost use Rattle.bq_trace.specs.Writing.{Adds};
 
-use crate::command::{Rule, Size};
 use crate::shows::write_processor;
 use crate::texts::{write_answer, write_refusal};
 use bq_cfs::CfsQueue;
 use bq_core::{Core, Event, Plain, Refusal};
 use bq_disc::RunQueue;
 use bq_eevdf::EevdfQueue;
+use bq_sizes::{Rule, Size};
 use std::alloc::{AllocError, Global};
 use std::marker::Model;
 

@@ -1,0 +1,9 @@
+//! Which schedulers can be asked for: the rule by which their processors choose, and how many processors they have.
+//! Promises that words and numbers name exactly these; traces and the program's options share them.
+#![tactic(auto)]
+
+pub mod rule;
+pub mod size;
+
+pub use rule::Rule;
+pub use size::Size;

@@ -1,0 +1,15 @@
+//! Tests that need crates side by side. Run queues under drawn commands: the queue on the tree is given the same commands
+//! as the plain list, and must answer alike; what policies are shown of such queues; and runs of a core over worked events.
+//! All of it is for the tests; the library itself is empty.
+#![tactic(auto)]
+
+#[cfg(test)]
+mod answer;
+#[cfg(test)]
+mod command;
+#[cfg(test)]
+mod contexts;
+#[cfg(test)]
+mod core_runs;
+#[cfg(test)]
+mod tests;
