@@ -117,7 +117,7 @@ module _ (d : Discipline) (n : ℕ) where
       (λ w s kw l at m box. (
         (drains_step d w c now calls r q l (rw (at, box) t), rw (within w c l) refl, tt),
         ap (λ (ls : List ℕ). record { drawn = w.drawn; loads = ls })
-          (loads_moved w.processors w.inboxes c q [] l (s.boxes ∙ sym s.many) (drain_load c now p q xs calls r t ∙ sym (ap (λ (x : Processor). load_of x xs) at) ∙ sym (ap (λ (x : List Task). load_of (processor w c) x) box))) ∙ kw,
+            (loads_moved w.processors w.inboxes c q [] l (s.boxes ∙ sym s.many) (drain_load c now p q xs calls r t ∙ sym (ap (λ (x : Processor). load_of x xs) at) ∙ sym (ap (λ (x : List Task). load_of (processor w c) x) box))) ∙ kw,
       ))
 
   block_load : (c now : ℕ) (p q : Processor) (l m : List Seat) (r : Reply) → Blocks d c now p l (Ok r) q m → size_of q + 1 ≡ size_of p
@@ -153,9 +153,9 @@ module _ (d : Discipline) (n : ℕ) where
   place_moves c now task p q xs calls k x own b =
       moves_cpu_inbox d n c x.to p q xs (xs ++ x.task ∷ []) k (one_more x.to k) (record { event = EndWake c now; reply = Ok (Placed task x.to x.by x.steps); calls = calls })
       (λ w s kw l at m box.
-          let step : WorldStep (policies d) w (EndWake c now) calls (Ok (Placed task x.to x.by x.steps)) (with_inbox (with_processor w c q) x.to (xs ++ x.task ∷ [])) =
-          rw (own, ← box) (places_step d w c now calls x q l (rw (s.many, at) b)) in
-          ((step, rw (within w c l) refl, tt), place_kept w c now p q xs calls k x s kw at m box b))
+      let step : WorldStep (policies d) w (EndWake c now) calls (Ok (Placed task x.to x.by x.steps)) (with_inbox (with_processor w c q) x.to (xs ++ x.task ∷ [])) =
+      rw (own, ← box) (places_step d w c now calls x q l (rw (s.many, at) b)) in
+      ((step, rw (within w c l) refl, tt), place_kept w c now p q xs calls k x s kw at m box b))
     where
       place_kept : (w : World) (c now : ℕ) (p q : Processor) (xs : List Task) (calls : List Asked) (k : Kept) (x : Placement) → IsSound n w → kept_of w ≡ k → processor w c ≡ p → x.to < length w.inboxes → inbox w x.to ≡ xs →
           Places (policies d) n c now p calls (Some x) q → kept_of (with_inbox (with_processor w c q) x.to (xs ++ x.task ∷ [])) ≡ one_more x.to k

@@ -58,4 +58,3 @@ installs_named h drawn p new (Ok r) q i = tt
 installs_named h drawn p new (Err e) q i =
     let newest = (at_hook h p.programs).generation in
     first_named _ (no.Older newest) e _ (λ h. cc) (first_named _ no.NotDrawn e None (λ h. cc) (none_named e)) i.0
-

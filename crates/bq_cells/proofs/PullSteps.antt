@@ -123,11 +123,11 @@ module _ (d : Discipline) (n : ℕ) where
       let some : (id : ℕ) → task ≡ Some id → length (option_to_list taken) ≡ 1 =
       λ id e. ap (λ (z : Option ℕ). length (option_to_list (taken_from source.running z))) e ∙ chosen_there d c b now id p o u.0 once u.1.0 e in
       rw u.1.2 (
-        kept_by_task w c b p q o r k task _ u.0.by u.0.steps (length (option_to_list taken)) s kw here at there at' apart
-        (ap size_of u.1.3 ∙ puller_size d now p o task (record (after_time d now p).programs { pull = u.0.program }))
-        (ap (λ (y : Processor). size_of y + length (option_to_list taken)) u.1.4 ∙ source_size d o task)
-        some
-        (λ e. none_taken source.running task e)
+      kept_by_task w c b p q o r k task _ u.0.by u.0.steps (length (option_to_list taken)) s kw here at there at' apart
+      (ap size_of u.1.3 ∙ puller_size d now p o task (record (after_time d now p).programs { pull = u.0.program }))
+      (ap (λ (y : Processor). size_of y + length (option_to_list taken)) u.1.4 ∙ source_size d o task)
+      some
+      (λ e. none_taken source.running task e)
       )
 
   pub pull_moves : (c b now : ℕ) (p q o r : Processor) (calls : List Asked) (k : Kept) (x : Reply) → c ≢ b → Pulls (policies d) c b now p o calls x q r →

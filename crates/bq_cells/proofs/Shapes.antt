@@ -105,7 +105,7 @@ module _ (d : Discipline) (n : ℕ) where
   -- one processor and an inbox
   pub moves_cpu_inbox : (c b : ℕ) (p q : Processor) (xs ys : List Task) (k m : Kept) (e : Record) →
       ((w : World) → IsSound n w → kept_of w ≡ k → c < count_in w → processor w c ≡ p → b < length w.inboxes → inbox w b ≡ xs →
-        RecordStep d w e (with_inbox (with_processor w c q) b ys) × (kept_of (with_inbox (with_processor w c q) b ys) ≡ m)) →
+      RecordStep d w e (with_inbox (with_processor w c q) b ys) × (kept_of (with_inbox (with_processor w c q) b ys) ≡ m)) →
       MovesHere k (cpu_part c p ∷ inbox_part b xs ∷ []) e m (cpu_part c q ∷ inbox_part b ys ∷ [])
   moves_cpu_inbox c b p q xs ys k m e steps = (
     same_self,
@@ -128,7 +128,7 @@ module _ (d : Discipline) (n : ℕ) where
   -- two processors
   pub moves_two_cpus : (c b : ℕ) (p q o r : Processor) (k m : Kept) (e : Record) → c ≢ b →
       ((w : World) → IsSound n w → kept_of w ≡ k → c < count_in w → processor w c ≡ p → b < count_in w → processor w b ≡ o →
-        RecordStep d w e (with_processor (with_processor w c q) b r) × (kept_of (with_processor (with_processor w c q) b r) ≡ m)) →
+      RecordStep d w e (with_processor (with_processor w c q) b r) × (kept_of (with_processor (with_processor w c q) b r) ≡ m)) →
       MovesHere k (cpu_part c p ∷ cpu_part b o ∷ []) e m (cpu_part c q ∷ cpu_part b r ∷ [])
   moves_two_cpus c b p q o r k m e two steps = (
     same_self,

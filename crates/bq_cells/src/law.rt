@@ -3,9 +3,9 @@ ghost use Rattle.std.specs.Prelude.{◌≡◌};
 ghost use Rattle.bq_cells.specs.Parts.{kept_by_block, kept_by_pull, one_less, one_more};
 
 use crate::record::Record;
-use bq_parts::{Inbox, Loads, Lobby, Refusal, Reply};
 use bq_disc::RunQueue;
 use bq_history::World;
+use bq_parts::{Inbox, Loads, Lobby, Refusal, Reply};
 use std::marker::{Model, PhantomData};
 
 /// A processor as the world sees it. No value of it is made.

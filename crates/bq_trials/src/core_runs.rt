@@ -124,10 +124,13 @@ fn a_map_is_written_and_read_back(rt: HostRuntime) -> Result<(), Fail> {
     events.push(tick(0, 0))?;
     events.push(install(0, Hook::Preempt, 1, None))?;
     let mut board = Plain::new();
-    assert_eq!(&rt; lines::<CfsQueue, 2>(alloc, events, &mut board)?.as_str(), "\
+    assert_eq!(&rt;
+        lines::<CfsQueue, 2>(alloc, events, &mut board)?.as_str(),
+        "\
 admit ok\nadmit ok\ndraw 1\ninstall ok\nbegin 1 loads 0 0\nend 1 to 0 by rule steps 0\nbegin 2 loads 1 0\n\
 end 2 to 0 by rule steps 0\ndrain 2 run 1 by rule steps 0\ntick run 1 by policy steps 12\n\
-tick run 2 by policy steps 12\ntick run 2 by rule steps 12\nrefused C12 Older 1\n");
+tick run 2 by policy steps 12\ntick run 2 by rule steps 12\nrefused C12 Older 1\n"
+    );
     Ok(())
 }
 
@@ -151,10 +154,13 @@ fn the_earliest_deadline_is_not_eligible(rt: HostRuntime) -> Result<(), Fail> {
     events.push(tick(0, 200_000))?;
     wake(&mut events, 1, 200_000)?;
     let mut board = Plain::new();
-    assert_eq!(&rt; lines::<EevdfQueue, 1>(alloc, events, &mut board)?.as_str(), "\
+    assert_eq!(&rt;
+        lines::<EevdfQueue, 1>(alloc, events, &mut board)?.as_str(),
+        "\
 admit ok\nadmit ok\nbegin 1 loads 0\nend 1 to 0 by rule steps 0\nbegin 2 loads 1\nend 2 to 0 by rule steps 0\n\
 drain 2 run 2 by rule steps 0\ntick run 1 by rule steps 0\nblock 1 run 2\ntick run 2 by rule steps 0\n\
-begin 1 loads 1\nend 1 to 0 by rule steps 0\n");
+begin 1 loads 1\nend 1 to 0 by rule steps 0\n"
+    );
     Ok(())
 }
 
@@ -189,11 +195,14 @@ fn an_emptier_processor_pulls(rt: HostRuntime) -> Result<(), Fail> {
     events.push(pull(0))?;
     events.push(pull(1))?;
     let mut board = Plain::new();
-    assert_eq!(&rt; lines::<CfsQueue, 2>(alloc, events, &mut board)?.as_str(), "\
+    assert_eq!(&rt;
+        lines::<CfsQueue, 2>(alloc, events, &mut board)?.as_str(),
+        "\
 admit ok\nadmit ok\nadmit ok\ndraw 1\ninstall ok\nbegin 1 loads 0 0\nend 1 to 0 by policy steps 2\n\
 begin 2 loads 1 0\nend 2 to 0 by policy steps 2\nbegin 3 loads 2 0\nend 3 to 0 by policy steps 2\n\
 drain 3 run 1 by rule steps 0\npull 3 run 3 by rule steps 0\npull none run 3 by rule steps 0\ndraw 2\ninstall ok\n\
-pull none run 3 by rule steps 2\ndraw 3\ninstall ok\npull 2 run 3 by policy steps 2\nrefused C9 SameProcessor\n");
+pull none run 3 by rule steps 2\ndraw 3\ninstall ok\npull 2 run 3 by policy steps 2\nrefused C9 SameProcessor\n"
+    );
     Ok(())
 }
 
@@ -212,9 +221,12 @@ fn what_policies_add_stands_on_the_board(rt: HostRuntime) -> Result<(), Fail> {
     events.push(tick(0, 0))?;
     events.push(tick(0, 0))?;
     let mut board = Plain::new();
-    assert_eq!(&rt; lines::<EevdfQueue, 1>(alloc, events, &mut board)?.as_str(), "\
+    assert_eq!(&rt;
+        lines::<EevdfQueue, 1>(alloc, events, &mut board)?.as_str(),
+        "\
 admit ok\ndraw 1\ninstall ok\nbegin 1 loads 0\nend 1 to 0 by rule steps 0\ndrain 1 run 1 by rule steps 0\n\
-tick run 1 by policy steps 5\ntick run 1 by policy steps 5\n");
+tick run 1 by policy steps 5\ntick run 1 by policy steps 5\n"
+    );
     assert_eq!(&rt; board.read(3), 10);
     Ok(())
 }
