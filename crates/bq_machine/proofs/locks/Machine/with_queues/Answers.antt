@@ -1,0 +1,58 @@
+use Rattle.std.proofs.Common.{◌≡◌, ◌++◌, ◌∷◌, [], List, ℕ, replicate, map, ap, sym, ◌∙◌}
+use Rattle.bq_tie.specs.Whole.{first_of, others_of}
+use Rattle.bq_history.specs.Items.{part_item, callers_from, journal_item}
+use Rattle.bq_parts.specs.World.{opening_world}
+use Rattle.bq_cells.specs.declared.law.Kept.{Kept}
+use Rattle.bq_cells.proofs.Loads.{opening_loads}
+use Rattle.bq_cells.specs.Parts.{cpus_from, inboxes_from, kept_of}
+use Rattle.bq_cells.specs.Opened.{cpu_items, inbox_items}
+use Rattle.bq_cells.proofs.Opening.{in_order}
+use Rattle.bq_machine.proofs.locks.Machine.with_queues.Goals as goal
+
+pub open-journal-requires : goal.open-journal-requires
+open-journal-requires g c =
+    let p = c.args.prepared.1 in
+    let none : kept_of (opening_world p.about) ≡ record { drawn = 0; loads = c.no_loads.result } =
+    ap (λ (ls : List ℕ). record { drawn = 0; loads = ls }) (opening_loads p.about ∙ ap (λ (n : ℕ). replicate n 0) c.requires.counts.0 ∙ sym c.no_loads.ensures) in
+    ap first_of c.named-history.ensures.1 ∙ ap (λ (k : Kept). journal_item [] k ∷ []) none
+
+pub cpu_locks-requires-clause-items : goal.cpu_locks-requires-clause-items
+cpu_locks-requires-clause-items g c =
+    let n = g.row.P in
+    let s = c.args.seat_count in
+    let p = c.args.prepared.1 in
+    let base : c.open-lobby.new.all ≡ map part_item (cpus_from 0 p.about ++ inboxes_from 0 p.about) ++ callers_from 0 p.callers = c.open-lobby.ensures.0 ∙ ap others_of (c.open-journal.ensures.0 ∙ ap others_of c.named-history.ensures.1) in
+    let start = rw (c.requires.counts.0, c.requires.counts.1) at base in
+    (inbox_items 0 n ++ callers_from 0 s, start ∙ in_order n (callers_from 0 s) ∙ ap (λ (k : ℕ). cpu_items 0 k ++ (inbox_items 0 n ++ callers_from 0 s)) (sym c.requires.many))
+
+pub inbox_locks-requires : goal.inbox_locks-requires
+inbox_locks-requires g c =
+    let n = g.row.P in
+    let s = c.args.seat_count in
+    let p = c.args.prepared.1 in
+    let base : c.open-lobby.new.all ≡ map part_item (cpus_from 0 p.about ++ inboxes_from 0 p.about) ++ callers_from 0 p.callers = c.open-lobby.ensures.0 ∙ ap others_of (c.open-journal.ensures.0 ∙ ap others_of c.named-history.ensures.1) in
+    let start = rw (c.requires.counts.0, c.requires.counts.1) at base in
+    (callers_from 0 s, c.in_ok-cpu_locks.ensures.rest (inbox_items 0 n ++ callers_from 0 s) (start ∙ in_order n (callers_from 0 s) ∙ ap (λ (k : ℕ). cpu_items 0 k ++ (inbox_items 0 n ++ callers_from 0 s)) (sym c.requires.many)))
+
+pub seats-requires-clause-all : goal.seats-requires-clause-all
+seats-requires-clause-all g c =
+    let n = g.row.P in
+    let s = c.args.seat_count in
+    let p = c.args.prepared.1 in
+    let base : c.open-lobby.new.all ≡ map part_item (cpus_from 0 p.about ++ inboxes_from 0 p.about) ++ callers_from 0 p.callers = c.open-lobby.ensures.0 ∙ ap others_of (c.open-journal.ensures.0 ∙ ap others_of c.named-history.ensures.1) in
+    let start = rw (c.requires.counts.0, c.requires.counts.1) at base in
+    c.in_ok-inbox_locks.ensures.rest (callers_from 0 s) (c.in_ok-cpu_locks.ensures.rest (inbox_items 0 n ++ callers_from 0 s) (start ∙ in_order n (callers_from 0 s) ∙ ap (λ (k : ℕ). cpu_items 0 k ++ (inbox_items 0 n ++ callers_from 0 s)) (sym c.requires.many)))
+
+pub invariant_of-machine : goal.invariant_of-machine
+invariant_of-machine g c =
+    let p = c.args.prepared.1 in
+    let of : c.named-history.result.0 ≡ p = c.named-history.ensures.0 in
+    let callers : c.named-history.result.0.callers ≡ c.args.seat_count = ap (λ s. s.callers) of ∙ c.requires.counts.1 in
+    record {
+      about = ap (λ s. s.about) of ∙ c.requires.counts.0;
+      counted = c.in_ok-cpu_locks.ensures.locks ∙ c.requires.many;
+      one_each = c.in_ok-inbox_locks.ensures.locks;
+      few = c.requires.few;
+      seated = sym callers;
+      same = c.named-counters.ensures.0 ∙ c.requires.counts.2 ∙ sym callers;
+    }

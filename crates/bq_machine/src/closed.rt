@@ -1,0 +1,61 @@
+//! The end of a machine: with its locks and all its seats in one hand again, all that happened is known.
+ghost use Rattle.std.specs.Prelude.{◌↔◌, IsTrue};
+ghost use Rattle.bq_history.specs.History.{Leaves, EachOnce, AreReceiptsOf};
+ghost use Rattle.bq_counters.specs.Sums.{AreSumsOf};
+ghost use Rattle.bq_seats.specs.Calls.{calls_in};
+ghost use Rattle.bq_parts.specs.World.{opening_world};
+ghost use Rattle.bq_cells.specs.Parts.{RecordStep, told_calls};
+
+use crate::clock::Clock;
+use crate::locks::{Machine, Seat};
+use bq_closing::{Closed, Locks};
+use bq_counters::Naming as Counting;
+use bq_disc::RunQueue;
+use bq_tie::Naming;
+
+impl<Q: RunQueue + Drop, K: Clock + Drop, N: Naming + Counting, const P: usize> Machine<
+    Q,
+    K,
+    N,
+    P,
+> {
+    /// Whether each seat of the machine stands there, once. It takes no lock and no memory.
+    pub fn owns(&self, seats: &[Seat<N>]) -> bool
+        ensures { IsTrue result ↔ EachOnce self.now.history.callers seats.now }
+    {
+        bq_history::owns(self.seats, seats)
+    }
+
+    /// The end of the machine, whose seats all stand there, each once. The history is a chain of steps of the world, from
+    /// the opening world to that of the core; it has no event whose arguments were refused or for which memory was wanting.
+    /// Each receipt of each seat stands at its place, the places of each seat rise, and each place is that of just one
+    /// receipt of just one seat. Each counter is the sum, modulo 2^64, of the adds that the history tells. No memory is taken.
+    pub fn close(self, seats: Vec<Seat<N>>) -> Closed<Q, P>
+        requires { EachOnce self.history.callers seats.items }
+        ensures history { Leaves (RecordStep Q.R.discipline) (opening_world P) result.history result.core }
+        ensures receipts { AreReceiptsOf result.history seats.items }
+        ensures counters { AreSumsOf (calls_in told_calls result.history) result.counters }
+    {
+        let Machine {
+            clock: _,
+            history,
+            counters,
+            cpus,
+            inboxes,
+            lobby,
+            journal,
+            room,
+            seats: _,
+        } = self;
+        let locks = Locks {
+            history,
+            counters,
+            cpus,
+            inboxes,
+            lobby,
+            journal,
+            room,
+        };
+        bq_closing::close(locks, seats)
+    }
+}

@@ -1,0 +1,320 @@
+//! A load: an image is verified once, a number is drawn, and what it stands for is installed at each processor.
+ghost use Rattle.std.specs.Prelude.{◌≡◌, ◌∷◌, ◌++◌, ◌<◌, ◌≤◌, ◌+◌, ℕ, [], true, None, Ok, Option, IfOk, IfErr, OnErr, All, length, vec_len, vec_capacity};
+ghost use Rattle.std.specs.Option.{option_map};
+ghost use Rattle.bq_verify.specs.Accepted.{Accepted};
+ghost use Rattle.bq_policies.specs.Answers.{fresh_maps};
+ghost use Rattle.bq_seats.specs.Calls.{account_of};
+ghost use Rattle.bq_parts.specs.Refusals.{argument_refusal, is_for};
+ghost use Rattle.bq_parts.specs.declared.reply.Reply.TheVariants.{Drawn};
+ghost use Rattle.bq_cells.specs.Parts.{told_calls};
+ghost use Rattle.bq_machine.specs.Calls.{AreInstalls};
+ghost use Rattle.bq_machine.specs.Loading.{IsPolicyOf, IsLoadRefused};
+
+use crate::clock::Clock;
+use crate::locks::{Caller, Machine, Place, Seat, need_own};
+use bq_cells::{Calls, NumberedCpu, Record, room};
+use bq_counters::Naming as Counting;
+use bq_disc::RunQueue;
+use bq_history::{Receipt, Slip};
+use bq_load::{LoadFault, load};
+use bq_parts::{Event, Hook, Installed, Policy, Refusal, Reply, answer_again};
+use bq_tie::Naming;
+use std::alloc::{AllocError, Global};
+use std::sync::Wait;
+use thiserror::Error;
+
+/// Why nothing was loaded, and nothing recorded.
+#[derive(Clone, Copy, Debug, PartialEq, Eq, Error)]
+pub enum LoadRefused {
+    /// The bytes are no image of a program that is accepted.
+    #[error("{0}")]
+    Fault(LoadFault),
+    /// The image is for another hook, or a growth was refused.
+    #[error("{0}")]
+    Refusal(Refusal),
+}
+
+/// What a load recorded: that a number was drawn, and what was answered at each processor, by rising number.
+#[derive(Drop)]
+pub struct LoadReceipts {
+    pub draw: Receipt<Record>,
+    pub installs: Vec<Receipt<Record>>,
+}
+
+/// What an install hands over, made before any lock is taken: the policy with its maps, and the policy once more for the
+/// record and for the receipt.
+#[derive(Drop)]
+pub(crate) struct Spare {
+    pub(crate) installed: Installed,
+    pub(crate) for_record: Option<Policy>,
+    pub(crate) for_receipt: Option<Policy>,
+    pub(crate) slip: Slip<Record>,
+    ghost record_is: { for_record ≡ installed.policy },
+    ghost receipt_is: { for_receipt ≡ installed.policy },
+    ghost fresh: { installed.maps ≡ fresh_maps installed.policy },
+}
+
+/// The policy of an image that is for the hook; none of no image.
+fn policy_of(alloc: Global, hook: Hook, image: Option<&[u8]>) -> Result<Option<Policy>, LoadRefused>
+    ensures policy { IfOk result (λ p. IsPolicyOf (option_map (λ b. b.now) image.entry) p) }
+    ensures hook { IfOk result (λ p. is_for hook p ≡ true) }
+    ensures refused { IfErr result (IsLoadRefused hook (option_map (λ b. b.now) image.entry)) }
+{
+    let Some(bytes) = image else {
+        return Ok(None);
+    };
+    let verified = match load(alloc, bytes) {
+        Ok(verified) => verified,
+        Err(fault) => return Err(LoadRefused::Fault(fault)),
+    };
+    if verified.hook() != hook {
+        return Err(LoadRefused::Refusal(Refusal::WrongHook));
+    }
+    match Policy::new(alloc, verified) {
+        Ok(policy) => Ok(Some(policy)),
+        Err(_) => Err(LoadRefused::Refusal(Refusal::OutOfMemory)),
+    }
+}
+
+/// The same policy once more, or none.
+fn again(policy: &Option<Policy>) -> Result<Option<Policy>, AllocError>
+    ensures { IfOk result (λ p. p ≡ policy.now) }
+{
+    match policy {
+        None => Ok(None),
+        Some(policy) => Ok(Some(policy.clone()?)),
+    }
+}
+
+/// What one install hands over.
+fn one_spare(alloc: Global, policy: &Option<Policy>) -> Result<Spare, AllocError>
+    ensures { IfOk result (λ s. s.installed.policy ≡ policy.now) }
+{
+    let installed = Installed::new(alloc, again(policy)?, 0)?;
+    let for_record = again(policy)?;
+    let for_receipt = again(policy)?;
+    let Ok(slip) = room(alloc) else {
+        return Err(AllocError);
+    };
+    Ok(Spare {
+        installed,
+        for_record,
+        for_receipt,
+        slip,
+    })
+}
+
+/// What so many installs hand over.
+fn spares(alloc: Global, policy: &Option<Policy>, count: usize) -> Result<Vec<Spare>, AllocError>
+    ensures many { IfOk result (λ v. vec_len v ≡ count) }
+    ensures policy { IfOk result (λ v. All (λ s. s.installed.policy ≡ policy.now) v.items) }
+{
+    let mut spares = Vec::with_capacity(alloc, count)?;
+    'spares: for _ in 0..count {
+        spares.push(one_spare(alloc, policy)?)?;
+    }
+    Ok(spares)
+}
+
+/// One receipt more in a list that has room for it.
+fn keep(installs: &mut Vec<Receipt<Record>>, receipt: Receipt<Record>)
+    requires room { vec_len installs.old < vec_capacity installs.old }
+    ensures items { installs.new.items ≡ installs.old.items ++ receipt ∷ [] }
+    ensures len { vec_len installs.new ≡ vec_len installs.old + 1 }
+    ensures capacity { vec_capacity installs.old ≤ vec_capacity installs.new }
+{
+    if installs.push(receipt).is_err() {
+        unreachable!()
+    }
+}
+
+impl<Q: RunQueue + Drop, K: Clock + Drop, N: Naming + Counting, const P: usize> Machine<
+    Q,
+    K,
+    N,
+    P,
+> {
+    /// Loads an image, and installs its policy at this hook of each processor, as one number that is drawn for it; no image
+    /// takes the policies away. A processor at which a newer one stands answers that, and the load goes on. It takes memory
+    /// for the policy, its maps and all records.
+    ///
+    /// An image that does not load is answered by its fault, before all else; then one for another hook is refused, and
+    /// want of memory is. Then nothing is recorded.
+    pub fn load_all<R: Wait>(
+        &self,
+        rt: &R,
+        alloc: Global,
+        seat: &mut Seat<N>,
+        hook: Hook,
+        image: Option<&[u8]>,
+    ) -> Result<LoadReceipts, LoadRefused>
+        ensures receipts { IfOk result (λ l. seat.new ≡ (seat.old.0, (seat.old.1 ++ l.draw ∷ []) ++ l.installs.items)) }
+        ensures draw { IfOk result (λ l. l.draw.entry.event ≡ Event.Draw) }
+        ensures installs { IfOk result (λ l. (generation : ℕ) × (policy : Option Accepted) × (l.draw.entry.reply ≡ Ok (Drawn generation)) × IsPolicyOf (option_map (λ b. b.now) image.entry) policy × (is_for hook policy ≡ true) × AreInstalls 0 P hook generation policy l.installs.items) }
+        ensures refused { IfErr result (IsLoadRefused hook (option_map (λ b. b.now) image.entry)) }
+        ensures err { OnErr result (seat.new ≡ seat.old) }
+    {
+        let policy = policy_of(alloc, hook, image)?;
+        let count = self.cpus.len();
+        let (Ok(slip), Ok(spares), Ok(mut installs)) = (
+            room(alloc),
+            spares(alloc, &policy, count),
+            Vec::with_capacity(alloc, count),
+        ) else {
+            return Err(LoadRefused::Refusal(Refusal::OutOfMemory));
+        };
+        let (draw, generation) = self.draw_at(rt, &mut seat.working, slip);
+        self.install_all(
+            rt,
+            &mut seat.working,
+            hook,
+            generation,
+            &policy,
+            spares,
+            &mut installs,
+        );
+        Ok(LoadReceipts { draw, installs })
+    }
+
+    /// Commits that a number is drawn.
+    fn draw_at<R: Wait>(
+        &self,
+        rt: &R,
+        working: &mut Caller<N>,
+        mut slip: Slip<Record>,
+    ) -> (Receipt<Record>, u64)
+        requires tally { working.old.tally ≡ account_of told_calls working.old.caller.1 }
+        ensures caller { working.new.caller ≡ (working.old.caller.0, working.old.caller.1 ++ result.0 ∷ []) }
+        ensures tally { working.new.tally ≡ account_of told_calls working.new.caller.1 }
+        ensures event { result.0.entry.event ≡ Event.Draw }
+        ensures reply { result.0.entry.reply ≡ Ok (Drawn result.1) }
+    {
+        let mut guard = self.journal.lock(rt);
+        let journal = &mut *guard;
+        journal.need_room(rt);
+        let mut kept = journal.kept().again();
+        let generation = kept.drawn.saturating_add(1);
+        kept.drawn = generation;
+        slip.set(Record {
+            event: Event::Draw,
+            reply: Ok(Reply::Drawn { generation }),
+            calls: Calls::none(),
+        });
+        let entry = Record {
+            event: Event::Draw,
+            reply: Ok(Reply::Drawn { generation }),
+            calls: Calls::none(),
+        };
+        let receipt = working.commit(&self.history, journal, slip, entry, kept);
+        (receipt, generation)
+    }
+
+    /// Installs at each processor by rising number. The list of receipts has room for them.
+    fn install_all<R: Wait>(
+        &self,
+        rt: &R,
+        working: &mut Caller<N>,
+        hook: Hook,
+        generation: u64,
+        policy: &Option<Policy>,
+        mut spares: Vec<Spare>,
+        installs: &mut Vec<Receipt<Record>>,
+    )
+        requires tally { working.old.tally ≡ account_of told_calls working.old.caller.1 }
+        requires hook { is_for hook policy.now ≡ true }
+        requires many { vec_len spares ≡ P }
+        requires same { All (λ s. s.installed.policy ≡ policy.now) spares.items }
+        requires none { installs.old.items ≡ [] }
+        requires room { P ≤ vec_capacity installs.old }
+        ensures caller { working.new.caller ≡ (working.old.caller.0, working.old.caller.1 ++ installs.new.items) }
+        ensures tally { working.new.tally ≡ account_of told_calls working.new.caller.1 }
+        ensures installs { AreInstalls 0 P hook generation policy.now installs.new.items }
+    {
+        'installs: for number in 0..self.cpus.len() {
+            let Some(spare) = spares.pop() else {
+                unreachable!()
+            };
+            let receipt = self.install(rt, working, number as u8, hook, generation, spare);
+            keep(installs, receipt);
+        }
+    }
+
+    /// Installs at one processor.
+    fn install<R: Wait>(
+        &self,
+        rt: &R,
+        working: &mut Caller<N>,
+        processor: u8,
+        hook: Hook,
+        generation: u64,
+        mut spare: Spare,
+    ) -> Receipt<Record>
+        requires tally { working.old.tally ≡ account_of told_calls working.old.caller.1 }
+        requires inside { processor < P }
+        requires hook { is_for hook spare.installed.policy ≡ true }
+        ensures caller { working.new.caller ≡ (working.old.caller.0, working.old.caller.1 ++ result ∷ []) }
+        ensures tally { working.new.tally ≡ account_of told_calls working.new.caller.1 }
+        ensures event { result.entry.event ≡ Event.Install processor hook generation spare.installed.policy }
+    {
+        spare.installed.set_generation(generation);
+        let mut guard = self.cpus[usize::from(processor)].lock(rt);
+        let place = &mut *guard;
+        need_own(rt, place.cell.content.number, processor);
+        self.install_at(rt, working, place, hook, spare)
+    }
+
+    /// Commits an install, under the lock of its processor. Whether the generation was drawn is read in the journal.
+    fn install_at<R: Wait>(
+        &self,
+        rt: &R,
+        working: &mut Caller<N>,
+        place: &mut Place<NumberedCpu<Q>, N>,
+        hook: Hook,
+        spare: Spare,
+    ) -> Receipt<Record>
+        requires tally { working.old.tally ≡ account_of told_calls working.old.caller.1 }
+        requires fits { argument_refusal self.now.history.about (Event.Install place.old.number hook spare.installed.generation spare.installed.policy) ≡ None }
+        ensures caller { working.new.caller ≡ (working.old.caller.0, working.old.caller.1 ++ result ∷ []) }
+        ensures tally { working.new.tally ≡ account_of told_calls working.new.caller.1 }
+        ensures event { result.entry.event ≡ Event.Install place.old.number hook spare.installed.generation spare.installed.policy }
+    {
+        let processor = place.cell.content.number;
+        let Spare {
+            installed,
+            for_record,
+            for_receipt,
+            mut slip,
+        } = spare;
+        let generation = installed.generation();
+        let mut guard = self.journal.lock(rt);
+        let journal = &mut *guard;
+        journal.need_room(rt);
+        let kept = journal.kept().again();
+        let reply = place
+            .cell
+            .content
+            .state
+            .replace(hook, kept.drawn, installed);
+        slip.set(Record {
+            event: Event::Install {
+                processor,
+                hook,
+                generation,
+                policy: for_record,
+            },
+            reply: answer_again(&reply),
+            calls: Calls::none(),
+        });
+        let entry = Record {
+            event: Event::Install {
+                processor,
+                hook,
+                generation,
+                policy: for_receipt,
+            },
+            reply,
+            calls: Calls::none(),
+        };
+        working.commit_one(&self.history, journal, &mut place.cell, slip, entry, kept)
+    }
+}
