@@ -28,7 +28,8 @@ use Rattle.bq_parts.specs.Refusals.{first_refusal, either}
 use Rattle.bq_parts.specs.World.{World, processor, count_in, with_processor}
 use Rattle.bq_parts.specs.Choices.{Setting, Settled, SettlesBy, SettlesPreempt, decided_by, policies}
 use Rattle.bq_parts.specs.Shares.{Ticks, Blocks, after_time}
-use Rattle.bq_parts.specs.Steps.{WorldStep, after_leaving}
+use Rattle.bq_parts.specs.Moves.{after_leaving}
+use Rattle.bq_parts.specs.Steps.{WorldStep}
 use Rattle.bq_passing.specs.Passing.{after_tick, after_block, DisciplinePasses, CfsPasses}
 
 -- The discipline's own answer
