@@ -1,6 +1,8 @@
 // Runs of a core over worked events, on a board of its own: the answers, in order, under both disciplines. The lines are
 // worked by hand from the rules of both disciplines and from the programs of the policies.
 
+ghost use Rattle.std.specs.Prelude.{◌≤◌};
+
 use bq_cfs::CfsQueue;
 use bq_core::{Board, Core, Event, Hook, Plain, Policy};
 use bq_disc::RunQueue;
