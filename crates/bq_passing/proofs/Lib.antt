@@ -1,1 +1,2 @@
 pub mod PassingFacts
+pub mod SeenFacts

@@ -49,7 +49,7 @@ as_bool true = refl
 as_bool false = refl
 
 -- who runs after it is by the own answer
-own_decision : (s : Setting) (cpu : ℕ) (p : Processor) (o : Option Task) (settled : Settled) → SettlesPreempt s cpu p o settled → settled.by ≡ who.Discipline →
+pub own_decision : (s : Setting) (cpu : ℕ) (p : Processor) (o : Option Task) (settled : Settled) → SettlesPreempt s cpu p o settled → settled.by ≡ who.Discipline →
     decided s.discipline p.running o (settled.choice == 1) ≡ decided s.discipline p.running o (own_preempt s.discipline p.running.queue o)
 own_decision s cpu p None settled h e = refl
 own_decision s cpu p (Some u) settled h e =

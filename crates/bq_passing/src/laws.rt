@@ -1,5 +1,6 @@
 //! Laws of the world's steps at one processor: each is the contract of a function that does nothing.
 ghost use Rattle.bq_passing.specs.Passing.{CfsPasses, DisciplinePasses};
+ghost use Rattle.bq_passing.specs.Seen.{EventIsSteps, HistoryIsSteps};
 
 /// A Tick whose answer is the discipline's own, and a Block, leave at their processor what the definitions of one processor
 /// say: its time passes, and the discipline decides who runs; or its current task goes, and the queue's choice runs. So do
@@ -13,4 +14,19 @@ pub fn discipline_passes()
 #[tactic(auto, using(crate::proofs::PassingFacts::cfs_passes))]
 pub fn cfs_passes()
     ensures { CfsPasses }
+{}
+
+/// What each event of the world, refused or not, leaves at a processor are few steps there, by the definitions of one
+/// processor: time passes, tasks enter and leave, the discipline decides. Asked is that where the event asks who runs at that
+/// processor the discipline answered; elsewhere policies may answer as they like.
+#[tactic(auto, using(crate::proofs::SeenFacts::event_is_steps))]
+pub fn event_is_steps()
+    ensures { EventIsSteps }
+{}
+
+/// So a history of the world is, at each of its processors, a history of that processor's steps, of which the laws of fairness
+/// speak.
+#[tactic(auto, using(crate::proofs::SeenFacts::history_is_steps))]
+pub fn history_is_steps()
+    ensures { HistoryIsSteps }
 {}

@@ -1,0 +1,219 @@
+-- Each event of the world is some steps at each processor, and so is each history.
+use Rattle.std.proofs.Common.{◌≡◌, ◌≢◌, ℕ, ◌<◌, Bool, true, false, cond, List, [], ◌∷◌, ◌++◌, Option, Some, None, Result, Ok, Err, refl, ap, sym, subst, ◌∙◌, arith}
+use Rattle.std.specs.Prelude.{ℤ, ◌==◌}
+use Rattle.std.specs.Option.{option_map_or}
+use Rattle.std.proofs.lemmas.List.{length-set, get_or-set_same, get_or-set_other}
+use Rattle.std.proofs.lemmas.Bool.Decides.{nat_tests}
+use Rattle.bq_disc.specs.Tasks.{Task, with_id, without, place}
+use Rattle.bq_disc.specs.Queues.{HasDistinctIds, can_use}
+use Rattle.bq_disc.specs.Discipline.{Discipline, pulled, left_at}
+use Rattle.bq_disc.specs.OneProcessor.{Running, present_at, charge, marked, enter_all, decided, own_preempt}
+use Rattle.bq_disc.specs.Movable.{is_movable_to}
+use Rattle.bq_maps.specs.declared.board.Call.{Call as Asked}
+use Rattle.bq_verify.specs.declared.hook.Hook.{Hook}
+use Rattle.bq_verify.specs.Accepted.{Accepted}
+use Rattle.bq_hooks.specs.declared.settled.By.{By}
+use Rattle.bq_hooks.specs.declared.settled.By.TheVariants as who
+use Rattle.bq_hooks.specs.Contexts.{or_nobody}
+use Rattle.bq_hooks.specs.Permitted.{may_pull, task_numbered}
+use Rattle.bq_fair.specs.Steps.{Step, Pass, Decide, Enter, Leave, Mark, stepped, after}
+use Rattle.bq_fair.specs.Events.{entries}
+use Rattle.bq_fair.proofs.EventFacts.{events_are_steps}
+use Rattle.bq_parts.specs.declared.event.Event.{Event}
+use Rattle.bq_parts.specs.declared.event.Event.TheVariants.{Admit, Retire, Draw, Install, BeginWake, EndWake, Drain, Tick, Block, Pull}
+use Rattle.bq_parts.specs.declared.reply.Reply.{Reply}
+use Rattle.bq_parts.specs.declared.reply.Reply.TheVariants.{Admitted, Retired, Drawn, Installed, Begun, Placed, Drained, Ticked, Blocked as Went, Pulled as Moved}
+use Rattle.bq_parts.specs.declared.refusal.Refusal.{Refusal}
+use Rattle.bq_parts.specs.declared.refusal.Refusal.TheVariants as no
+use Rattle.bq_parts.specs.Processors.{Processor, opening}
+use Rattle.bq_parts.specs.World.{World, processor, inbox, seat, count_in, with_processor}
+use Rattle.bq_parts.specs.Moves.{after_leaving, taken_from, without_task, with_pulled, started_if_idle}
+use Rattle.bq_parts.specs.StandsOnce.{IsOrderly}
+use Rattle.bq_parts.specs.Choices.{policies, Settled, own_pull, decided_by}
+use Rattle.bq_parts.specs.Shares.{Decides, after_time, remarked}
+use Rattle.bq_parts.specs.Steps.{WorldStep}
+use Rattle.bq_parts.proofs.Counts.{each_once_queue, HasDistinctIds-from_counts}
+use Rattle.bq_parts.proofs.NumberTests.{differs}
+use Rattle.bq_parts.proofs.Once.{each_once_running}
+use Rattle.bq_parts.proofs.Permitted.{settled_permitted, own_pull_permitted, may_pull_names}
+use Rattle.bq_core.proofs.Order.{step_tidy, tidy_is_orderly, accepted, passed, there}
+use Rattle.bq_core.proofs.Tidy.{IsTidy}
+use Rattle.bq_passing.specs.Seen.{running_at, entry, begins, leaving, steps_at, DecidesAlone, IsSeenAt, EventIsSteps, HistoryIsSteps}
+use Rattle.bq_passing.proofs.PassingFacts.{discipline_passes, own_decision}
+
+-- What is read of a world after a processor was written
+
+same_number : (a b : ℕ) → (a == b) ≡ true → a ≡ b
+same_number a b e = grind (arith, nat_tests)
+
+other_number : (a b : ℕ) → (a == b) ≡ false → b ≢ a
+other_number a b e = λ h. grind (arith, nat_tests)
+
+at_itself : (w : World) (cpu : ℕ) (q : Processor) → cpu < count_in w → running_at (with_processor w cpu q) cpu ≡ q.running
+at_itself w cpu q l = ap (λ (x : Processor). x.running) (get_or-set_same w.processors cpu q opening l)
+
+at_another : (w : World) (cpu at : ℕ) (q : Processor) → cpu ≢ at → running_at (with_processor w cpu q) at ≡ running_at w at
+at_another w cpu at q n = ap (λ (x : Processor). x.running) (get_or-set_other w.processors cpu at q opening n)
+
+-- where the running part stays, nothing is seen of it anywhere
+unseen : (w : World) (cpu at : ℕ) (q : Processor) (t : Bool) → (at == cpu) ≡ t → at < count_in w → q.running ≡ running_at w cpu → running_at (with_processor w cpu q) at ≡ running_at w at
+unseen w cpu at q true e l h =
+    let same = same_number at cpu e in
+    subst (λ n. running_at (with_processor w cpu q) n ≡ running_at w n) (sym same) (at_itself w cpu q (subst (λ n. n < count_in w) same l) ∙ h)
+unseen w cpu at q false e l h = at_another w cpu at q (other_number at cpu e)
+
+-- what an event does at its own processor alone
+seen_there : (d : Discipline) (w : World) (cpu at : ℕ) (q : Processor) (ss : List Step) (t : Bool) → (at == cpu) ≡ t → at < count_in w →
+    (at ≡ cpu → q.running ≡ after d (running_at w cpu) ss) → running_at (with_processor w cpu q) at ≡ after d (running_at w at) (cond t ss [])
+seen_there d w cpu at q ss true e l h =
+    let same = same_number at cpu e in
+    subst (λ n. running_at (with_processor w cpu q) n ≡ after d (running_at w n) ss) (sym same) (at_itself w cpu q (subst (λ n. n < count_in w) same l) ∙ h same)
+seen_there d w cpu at q ss false e l h = at_another w cpu at q (other_number at cpu e)
+
+distinct_at : (w : World) (cpu : ℕ) → IsOrderly w → HasDistinctIds (present_at (running_at w cpu))
+distinct_at w cpu o = HasDistinctIds-from_counts (present_at (running_at w cpu)) (each_once_running w cpu o)
+
+-- The events that one processor sees
+
+-- what is decided by the discipline's own answer
+decides_own : (d : Discipline) (cpu : ℕ) (p : Processor) (settled : Settled) → Decides (policies d) cpu p settled (decided_by (policies d) p settled) → settled.by ≡ who.Discipline →
+    (decided_by (policies d) p settled).running ≡ decided d p.running p.running.current (own_preempt d p.running.queue p.running.current)
+decides_own d cpu p settled h e = own_decision (policies d) cpu p p.running.current settled h.0 e
+
+tick_seen : (d : Discipline) (at : ℕ) (w w' : World) (cpu now : ℕ) (calls : List Asked) (run : Option ℕ) (by : By) (steps : ℕ) → at < count_in w →
+    WorldStep (policies d) w (Tick cpu now) calls (Ok (Ticked run by steps)) w' → (at ≡ cpu → by ≡ who.Discipline) →
+    running_at w' at ≡ after d (running_at w at) (cond (at == cpu) (Pass now ∷ Decide ∷ []) [])
+tick_seen d at w w' cpu now calls run by steps l h alone =
+    let settled = h.1.0 in
+    let p = after_time d now (processor w cpu) in
+    let q = decided_by (policies d) p settled in
+    ap (λ v. running_at v at) h.1.1.5
+    ∙ seen_there d w cpu at q (Pass now ∷ Decide ∷ []) (at == cpu) refl l (λ same. decides_own d cpu p settled (h.1.1.0, refl) (sym h.1.1.2 ∙ alone same))
+
+drain_seen : (d : Discipline) (at : ℕ) (w w' : World) (cpu now : ℕ) (calls : List Asked) (count : ℕ) (run : Option ℕ) (by : By) (steps : ℕ) → at < count_in w →
+    WorldStep (policies d) w (Drain cpu now) calls (Ok (Drained count run by steps)) w' → (at ≡ cpu → by ≡ who.Discipline) →
+    running_at w' at ≡ after d (running_at w at) (cond (at == cpu) (Pass now ∷ entries d (charge d (running_at w cpu) now).kept (inbox w cpu)) [])
+drain_seen d at w w' cpu now calls count run by steps l h alone =
+    let settled = h.1.0 in
+    let c = after_time d now (processor w cpu) in
+    let p = record c { running = enter_all d c.running (inbox w cpu) } in
+    let q = decided_by (policies d) p settled in
+    ap (λ v. running_at v at) h.1.1.6
+    ∙ seen_there d w cpu at q (Pass now ∷ entries d c.running.kept (inbox w cpu)) (at == cpu) refl l
+    (λ same. decides_own d cpu p settled (h.1.1.0, refl) (sym h.1.1.3 ∙ alone same) ∙ events_are_steps.drain d (running_at w cpu) now (inbox w cpu))
+
+end_wake_seen : (d : Discipline) (at : ℕ) (w w' : World) (cpu now : ℕ) (calls : List Asked) (task to : ℕ) (by : By) (steps : ℕ) → at < count_in w →
+    WorldStep (policies d) w (EndWake cpu now) calls (Ok (Placed task to by steps)) w' →
+    running_at w' at ≡ after d (running_at w at) (cond (at == cpu) (Pass now ∷ []) [])
+end_wake_seen d at w w' cpu now calls task to by steps l h =
+    let settled : Settled = h.1.1 in
+    let c = after_time d now (processor w cpu) in
+    let q = record c { hand = None; programs = record c.programs { place = settled.program } } in
+    ap (λ v. running_at v at) h.1.4.5
+    ∙ seen_there d w cpu at q (Pass now ∷ []) (at == cpu) refl l (λ same. refl)
+
+block_seen : (d : Discipline) (at : ℕ) (w w' : World) (cpu now : ℕ) (calls : List Asked) (task : ℕ) (run : Option ℕ) → IsOrderly w → at < count_in w →
+    WorldStep (policies d) w (Block cpu now) calls (Ok (Went task run)) w' →
+    running_at w' at ≡ after d (running_at w at) (cond (at == cpu) (Pass now ∷ Leave task ∷ Decide ∷ []) [])
+block_seen d at w w' cpu now calls task run o l h =
+    let c = after_time d now (processor w cpu) in
+    let q = record c { running = after_leaving d c.running } in
+    ap (λ v. running_at v at) h.1.1.4
+    ∙ seen_there d w cpu at q (Pass now ∷ Leave task ∷ Decide ∷ []) (at == cpu) refl l
+    (λ same. events_are_steps.block d (running_at w cpu) now h.1.0 (distinct_at w cpu o) h.1.1.1
+    ∙ ap (λ id. after d (running_at w cpu) (Pass now ∷ Leave id ∷ Decide ∷ [])) (sym h.1.1.2))
+
+-- A pull, as its two processors see it
+
+entered_then : (d : Discipline) (p : Running) (o cur : Option Task) → p.current ≡ cur → started_if_idle d (with_pulled d p o) cur ≡ after d p (entry d p o ++ begins cur)
+entered_then d p None None e = events_are_steps.idle d p e
+entered_then d p (Some t) None e = events_are_steps.idle d (with_pulled d p (Some t)) e
+entered_then d p None (Some u) e = refl
+entered_then d p (Some t) (Some u) e = refl
+
+there_is : (cpu : ℕ) (o : Option Task) → option_map_or (can_use cpu) o false ≡ true → (t : Task) × (o ≡ Some t)
+there_is cpu None h = cc
+there_is cpu (Some t) h = (t, refl)
+
+goes_away : (d : Discipline) (cpu n : ℕ) (p : Running) (task : Option ℕ) → HasDistinctIds (present_at p) → may_pull cpu p.queue n ≡ true → task_numbered n ≡ task →
+    without_task (marked d p) task ≡ after d p (leaving task)
+goes_away d cpu n p None h may e = refl
+goes_away d cpu n p (Some id) h may e =
+    let found = there_is cpu (with_id id p.queue) (may_pull_names cpu p.queue n id may e) in
+    events_are_steps.pulled_away d p id found.0 h found.1
+
+-- written at two processors, it is seen at the one, at the other, or not
+pull_cases : (d : Discipline) (w : World) (cpu from at : ℕ) (q r : Processor) (ss rs : List Step) (t u : Bool) → (at == cpu) ≡ t → (at == from) ≡ u → cpu ≢ from → at < count_in w →
+    q.running ≡ after d (running_at w cpu) ss → r.running ≡ after d (running_at w from) rs →
+    running_at (with_processor (with_processor w cpu q) from r) at ≡ after d (running_at w at) (cond t ss (cond u rs []))
+pull_cases d w cpu from at q r ss rs true u e f n l hq hr =
+    let same = same_number at cpu e in
+    let here = subst (λ n. n < count_in w) same l in
+    subst (λ n. running_at (with_processor (with_processor w cpu q) from r) n ≡ after d (running_at w n) ss) (sym same)
+    (at_another (with_processor w cpu q) from cpu r (λ h. n (sym h)) ∙ at_itself w cpu q here ∙ hq)
+pull_cases d w cpu from at q r ss rs false true e f n l hq hr =
+    let same = same_number at from f in
+    let here : from < count_in (with_processor w cpu q) = rw length-set (subst (λ n. n < count_in w) same l) in
+    subst (λ n. running_at (with_processor (with_processor w cpu q) from r) n ≡ after d (running_at w n) rs) (sym same)
+    (at_itself (with_processor w cpu q) from r here ∙ hr)
+pull_cases d w cpu from at q r ss rs false false e f n l hq hr =
+    at_another (with_processor w cpu q) from at r (other_number at from f) ∙ at_another w cpu at q (other_number at cpu e)
+
+pull_seen : (d : Discipline) (at : ℕ) (w w' : World) (cpu from now : ℕ) (calls : List Asked) (task run : Option ℕ) (by : By) (steps : ℕ) → IsOrderly w → at < count_in w →
+    WorldStep (policies d) w (Pull cpu from now) calls (Ok (Moved task run by steps)) w' →
+    running_at w' at ≡ after d (running_at w at)
+    (cond (at == cpu) (let c = charge d (running_at w cpu) now in Pass now ∷ entry d c (taken_from (marked d (running_at w from)) task) ++ begins c.current) (cond (at == from) (leaving task) []))
+pull_seen d at w w' cpu from now calls task run by steps o l h =
+    let k = h.1 in
+    let settled : Settled = k.0 in
+    let c = after_time d now (processor w cpu) in
+    let other = remarked d (processor w from) in
+    let queue = (running_at w from).queue in
+    let f = there (count_in w) cpu _ (accepted w (Pull cpu from now) h.0).0 in
+    let g = there (count_in w) from _ f.1 in
+    let apart = differs cpu from (passed (cpu == from) no.SameProcessor None g.1).0 in
+    let once = each_once_queue (running_at w from) (each_once_running w from o) in
+    let may : may_pull cpu queue settled.choice ≡ true =
+    settled_permitted (policies d) _ c.programs.pull c.running.last cpu (may_pull cpu queue) (or_nobody (own_pull cpu c other)) settled (own_pull_permitted cpu c other once) k.1.0 in
+    let q = record c { running = started_if_idle d (with_pulled d c.running (taken_from other.running task)) c.running.current; programs = record c.programs { pull = settled.program } } in
+    let r = record other { running = without_task other.running task } in
+    ap (λ v. running_at v at) k.1.6
+    ∙ pull_cases d w cpu from at q r (Pass now ∷ entry d c.running (taken_from other.running task) ++ begins c.running.current) (leaving task) (at == cpu) (at == from) refl refl apart l
+    (entered_then d c.running (taken_from other.running task) c.running.current refl)
+    (goes_away d cpu settled.choice (running_at w from) task (distinct_at w from o) may (sym k.1.1))
+
+-- Each event
+
+pub event_is_steps : EventIsSteps
+event_is_steps d at w w' e calls (Err r) o l h alone = ap (λ v. running_at v at) h.1
+event_is_steps d at w w' (Admit id nice mask slice) calls (Ok Admitted) o l h alone = ap (λ v. running_at v at) h.1.1
+event_is_steps d at w w' (Retire id) calls (Ok Retired) o l h alone = ap (λ v. running_at v at) h.1.1
+event_is_steps d at w w' Draw calls (Ok (Drawn n)) o l h alone = ap (λ v. running_at v at) h.1.2
+event_is_steps d at w w' (Install cpu hook g policy) calls (Ok Installed) o l h alone =
+    ap (λ v. running_at v at) h.1.1 ∙ unseen w cpu at _ (at == cpu) refl l refl
+event_is_steps d at w w' (BeginWake cpu id) calls (Ok (Begun task loads)) o l h alone =
+    ap (λ v. running_at v at) h.1.5 ∙ unseen w cpu at _ (at == cpu) refl l refl
+event_is_steps d at w w' (EndWake cpu now) calls (Ok (Placed task to by steps)) o l h alone = end_wake_seen d at w w' cpu now calls task to by steps l h
+event_is_steps d at w w' (Drain cpu now) calls (Ok (Drained count run by steps)) o l h alone = drain_seen d at w w' cpu now calls count run by steps l h alone
+event_is_steps d at w w' (Tick cpu now) calls (Ok (Ticked run by steps)) o l h alone = tick_seen d at w w' cpu now calls run by steps l h alone
+event_is_steps d at w w' (Block cpu now) calls (Ok (Went task run)) o l h alone = block_seen d at w w' cpu now calls task run o l h
+event_is_steps d at w w' (Pull cpu from now) calls (Ok (Moved task run by steps)) o l h alone = pull_seen d at w w' cpu from now calls task run by steps o l h
+event_is_steps d at w w' e calls (Ok r) o l h alone = absurd h.1
+
+-- Histories
+
+after-append : (d : Discipline) (p : Running) (ss rs : List Step) → after d p (ss ++ rs) ≡ after d (after d p ss) rs
+after-append d p [] rs = refl
+after-append d p (s ∷ ss) rs = after-append d (stepped d p s) ss rs
+
+pub history_is_steps : HistoryIsSteps
+history_is_steps d at w w' [] [] [] ss b o l h = ap (λ v. running_at v at) h.0 ∙ ap (λ xs. after d (running_at w at) xs) (sym h.1)
+history_is_steps d at w w' (e ∷ es) (calls ∷ more) (a ∷ answers) ss b o l h =
+    let mid : World = h.0 in
+    let rest : List Step = h.1 in
+    let y = step_tidy (policies d) w e calls a mid b h.2 o in
+    let first = event_is_steps d at w mid e calls a o l h.2 h.3 in
+    let l' : at < count_in mid = omega (arith, y.many) in
+    let then = history_is_steps d at mid w' es more answers rest (omega (arith, y.many, y.boxes)) (tidy_is_orderly (count_in w) mid y) l' h.4 in
+    then ∙ ap (λ p. after d p rest) first ∙ sym (after-append d (running_at w at) (steps_at d at w e a) rest) ∙ ap (λ xs. after d (running_at w at) xs) (sym h.5)
+history_is_steps d at w w' es more answers ss b o l h = absurd h
