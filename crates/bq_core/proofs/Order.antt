@@ -45,7 +45,7 @@ neither None p h = (refl, h)
 neither (Some r) p h = cc
 
 -- none is refused: neither by its arguments nor by the world
-pub accepted : (w : World) (e : Event) → refusal w e ≡ None → (argument_refusal (count_in w) e ≡ None) × (state_refusal w e ≡ None)
+accepted : (w : World) (e : Event) → refusal w e ≡ None → (argument_refusal (count_in w) e ≡ None) × (state_refusal w e ≡ None)
 accepted w e h = neither (argument_refusal (count_in w) e) (state_refusal w e) h
 
 -- the first of some refusals doesn't hold, and none of the others does
@@ -168,7 +168,7 @@ step_tidy s w e calls (Ok r) w' l step o = performs_tidy s w e calls r w' o (tid
 step_tidy s w e calls (Err r) w' l step o = subst (Keeps w) (sym step.1) (tidy_of w l o)
 
 -- a tidy world is in order, however many processors it was said to have
-pub tidy_is_orderly : (count : ℕ) (w : World) → IsTidy count [] w → IsOrderly w
+tidy_is_orderly : (count : ℕ) (w : World) → IsTidy count [] w → IsOrderly w
 tidy_is_orderly count w y = orderly_of w (subst (λ c. IsTidy c [] w) (sym y.many) y)
 
 -- in every setting a step keeps order

@@ -26,6 +26,7 @@ use Rattle.bq_parts.specs.declared.reply.Reply.TheVariants.{Admitted, Retired, D
 use Rattle.bq_parts.specs.declared.refusal.Refusal.{Refusal}
 use Rattle.bq_parts.specs.declared.refusal.Refusal.TheVariants as no
 use Rattle.bq_parts.specs.Processors.{Processor, opening}
+use Rattle.bq_parts.specs.Refusals.{either, argument_refusal}
 use Rattle.bq_parts.specs.World.{World, processor, inbox, seat, count_in, with_processor}
 use Rattle.bq_parts.specs.Moves.{after_leaving, taken_from, without_task, with_pulled, started_if_idle}
 use Rattle.bq_parts.specs.StandsOnce.{IsOrderly}
@@ -36,7 +37,7 @@ use Rattle.bq_parts.proofs.Counts.{each_once_queue, HasDistinctIds-from_counts}
 use Rattle.bq_parts.proofs.NumberTests.{differs}
 use Rattle.bq_parts.proofs.Once.{each_once_running}
 use Rattle.bq_parts.proofs.Permitted.{settled_permitted, own_pull_permitted, may_pull_names}
-use Rattle.bq_core.proofs.Order.{step_tidy, tidy_is_orderly, accepted, passed, there}
+use Rattle.bq_core.proofs.Order.{step_tidy, step_keeps, passed, there}
 use Rattle.bq_core.proofs.Tidy.{IsTidy}
 use Rattle.bq_passing.specs.Seen.{running_at, entry, begins, leaving, steps_at, DecidesAlone, IsSeenAt, EventIsSteps, HistoryIsSteps}
 use Rattle.bq_passing.proofs.PassingFacts.{discipline_passes, own_decision}
@@ -142,6 +143,11 @@ goes_away d cpu n p (Some id) h may e =
     let found = there_is cpu (with_id id p.queue) (may_pull_names cpu p.queue n id may e) in
     events_are_steps.pulled_away d p id found.0 h found.1
 
+-- an event that is not refused is not refused by its arguments
+by_arguments : (o p : Option Refusal) → either o p ≡ None → o ≡ None
+by_arguments None p h = refl
+by_arguments (Some r) p h = cc
+
 -- written at two processors, it is seen at the one, at the other, or not
 pull_cases : (d : Discipline) (w : World) (cpu from at : ℕ) (q r : Processor) (ss rs : List Step) (t u : Bool) → (at == cpu) ≡ t → (at == from) ≡ u → cpu ≢ from → at < count_in w →
     q.running ≡ after d (running_at w cpu) ss → r.running ≡ after d (running_at w from) rs →
@@ -169,7 +175,7 @@ pull_seen d at w w' cpu from now calls task run by steps o l h =
     let c = after_time d now (processor w cpu) in
     let other = remarked d (processor w from) in
     let queue = (running_at w from).queue in
-    let f = there (count_in w) cpu _ (accepted w (Pull cpu from now) h.0).0 in
+    let f = there (count_in w) cpu _ (by_arguments (argument_refusal (count_in w) (Pull cpu from now)) _ h.0) in
     let g = there (count_in w) from _ f.1 in
     let apart = differs cpu from (passed (cpu == from) no.SameProcessor None g.1).0 in
     let once = each_once_queue (running_at w from) (each_once_running w from o) in
@@ -214,6 +220,6 @@ history_is_steps d at w w' (e ∷ es) (calls ∷ more) (a ∷ answers) ss b o l 
     let y = step_tidy (policies d) w e calls a mid b h.2 o in
     let first = event_is_steps d at w mid e calls a o l h.2 h.3 in
     let l' : at < count_in mid = omega (arith, y.many) in
-    let then = history_is_steps d at mid w' es more answers rest (omega (arith, y.many, y.boxes)) (tidy_is_orderly (count_in w) mid y) l' h.4 in
+    let then = history_is_steps d at mid w' es more answers rest (omega (arith, y.many, y.boxes)) (step_keeps (policies d) w e calls a mid b h.2 o) l' h.4 in
     then ∙ ap (λ p. after d p rest) first ∙ sym (after-append d (running_at w at) (steps_at d at w e a) rest) ∙ ap (λ xs. after d (running_at w at) xs) (sym h.5)
 history_is_steps d at w w' es more answers ss b o l h = absurd h
