@@ -47,13 +47,13 @@ use Rattle.bq_passing.proofs.PassingFacts.{discipline_passes, own_decision}
 same_number : (a b : ℕ) → (a == b) ≡ true → a ≡ b
 same_number a b e = grind (arith, nat_tests)
 
-other_number : (a b : ℕ) → (a == b) ≡ false → b ≢ a
+other_number : (a b : ℕ) → (a == b) ≡ false → a ≢ b
 other_number a b e = λ h. grind (arith, nat_tests)
 
 at_itself : (w : World) (cpu : ℕ) (q : Processor) → cpu < count_in w → running_at (with_processor w cpu q) cpu ≡ q.running
 at_itself w cpu q l = ap (λ (x : Processor). x.running) (get_or-set_same w.processors cpu q opening l)
 
-at_another : (w : World) (cpu at : ℕ) (q : Processor) → cpu ≢ at → running_at (with_processor w cpu q) at ≡ running_at w at
+at_another : (w : World) (cpu at : ℕ) (q : Processor) → at ≢ cpu → running_at (with_processor w cpu q) at ≡ running_at w at
 at_another w cpu at q n = ap (λ (x : Processor). x.running) (get_or-set_other w.processors cpu at q opening n)
 
 -- where the running part stays, nothing is seen of it anywhere
@@ -156,7 +156,7 @@ pull_cases d w cpu from at q r ss rs true u e f n l hq hr =
     let same = same_number at cpu e in
     let here = subst (λ n. n < count_in w) same l in
     subst (λ n. running_at (with_processor (with_processor w cpu q) from r) n ≡ after d (running_at w n) ss) (sym same)
-    (at_another (with_processor w cpu q) from cpu r (λ h. n (sym h)) ∙ at_itself w cpu q here ∙ hq)
+    (at_another (with_processor w cpu q) from cpu r n ∙ at_itself w cpu q here ∙ hq)
 pull_cases d w cpu from at q r ss rs false true e f n l hq hr =
     let same = same_number at from f in
     let here : from < count_in (with_processor w cpu q) = rw length-set (subst (λ n. n < count_in w) same l) in
