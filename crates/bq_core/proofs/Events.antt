@@ -10,7 +10,7 @@ use Rattle.bq_parts.specs.declared.carried.Carried.{Carried}
 use Rattle.bq_parts.specs.declared.seat.Seat.{Seat}
 use Rattle.bq_parts.specs.declared.seat.Seat.TheVariants.{Absent, Blocked, Away}
 use Rattle.bq_parts.specs.Processors.{Processor, opening, count_of, in_hand}
-use Rattle.bq_parts.specs.World.{World, processor, inbox, seat, with_processor, with_inbox, with_seat}
+use Rattle.bq_parts.specs.World.{World, processor, inbox, seat, with_processor, with_inbox}
 use Rattle.bq_parts.specs.Refusals.{is_absent, is_away}
 use Rattle.bq_disc.specs.Movable.{is_movable_to}
 use Rattle.bq_policies.specs.Programs.{Programs}
@@ -19,14 +19,18 @@ use Rattle.bq_hooks.specs.OwnPlace.{allows, HasPlace}
 use Rattle.bq_hooks.specs.Permitted.{may_pull, task_numbered}
 use Rattle.bq_parts.specs.Choices.{Setting, Settled, decided_by}
 use Rattle.bq_parts.specs.Moves.{after_leaving, as_it_leaves, taken_from, without_task, with_pulled, started_if_idle}
-use Rattle.bq_parts.specs.Steps.{charged_at}
+use Rattle.bq_parts.specs.Shares.{after_time}
 use Rattle.bq_parts.proofs.Tallies.{tally, tally-append, tally-charge, tally-decided, tally-enter_all, tally-without, tally-present}
 use Rattle.bq_parts.proofs.Counts.{keeps_charge}
 use Rattle.bq_parts.proofs.Once.{count_of-held_by}
 use Rattle.bq_core.proofs.Moves.{tally-after_leaving, tally-without_task, tally-pulled}
 use Rattle.bq_parts.proofs.Permitted.{may_pull_names, may_go}
 use Rattle.bq_core.proofs.Suits.{unsuited, suits_of, of_suits}
-use Rattle.bq_core.proofs.Tidy.{IsTidy, with_processor_tidy, running_tidy, inbox_tidy, seat_tidy, leaves_lobby, enters_lobby}
+use Rattle.bq_core.proofs.Tidy.{IsTidy, with_seat, with_processor_tidy, running_tidy, inbox_tidy, seat_tidy, leaves_lobby, enters_lobby}
+
+-- the processor after its time has passed
+abbrev pub charged_at : Discipline → World → ℕ → ℕ → Processor
+charged_at d w cpu now = after_time d now (processor w cpu)
 
 -- an absent seat is not away
 absent_is_not_away : (s : Seat) → is_absent s ≡ true → as_number (is_away s) ≡ 0

@@ -1,9 +1,11 @@
 pub mod Suits
+pub mod Well
 pub mod Tidy
 pub mod Moves
 pub mod Steps
 pub mod Events
 pub mod Order
+pub mod OneStep
 pub mod Installs
 pub mod Pulls
 pub mod Runs

@@ -10,7 +10,8 @@ use Rattle.bq_parts.specs.declared.refusal.Refusal.TheVariants as no
 use Rattle.bq_parts.specs.Processors.{Processor}
 use Rattle.bq_parts.specs.World.{World, processor, count_in, with_processor, with_inbox}
 use Rattle.bq_parts.specs.Choices.{policies}
-use Rattle.bq_parts.specs.Steps.{WorldStep, charged_at}
+use Rattle.bq_parts.specs.Shares.{after_time}
+use Rattle.bq_parts.specs.Steps.{WorldStep}
 
 -- a processor's number that is in range is not refused
 pub within : (w : World) (cpu : ℕ) → cpu < count_in w → nat_le (count_in w) cpu ≡ false
@@ -27,7 +28,7 @@ pub write_back_inbox : (v w : World) (i cpu j to : ℕ) (x q : Processor) (xs ys
 write_back_inbox v w i cpu j to x q xs ys e f h k l = rw (e, f, h, k, l) refl
 
 -- a task runs after its time has passed exactly where one ran before
-pub still_runs : (d : Discipline) (w : World) (cpu now : ℕ) (t : Task) → Some t ≡ (charged_at d w cpu now).running.current → is_none (processor w cpu).running.current ≡ false
+pub still_runs : (d : Discipline) (w : World) (cpu now : ℕ) (t : Task) → Some t ≡ (after_time d now (processor w cpu)).running.current → is_none (processor w cpu).running.current ≡ false
 still_runs d w cpu now t h =
     let at : (o : Option Task) (f : Task → Task) → Some t ≡ option_map f o → is_none o ≡ false = elim [ None ↦ λ f k. (cc) | Some s ↦ λ f k. refl ] in
     at (processor w cpu).running.current _ h

@@ -11,15 +11,20 @@ use Rattle.bq_parts.specs.declared.carried.Carried.{Carried}
 use Rattle.bq_parts.specs.declared.seat.Seat.{Seat}
 use Rattle.bq_parts.specs.declared.seat.Seat.TheVariants.{Absent, Blocked, Away}
 use Rattle.bq_parts.specs.Processors.{Processor, opening, count_of, held_by, in_hand}
-use Rattle.bq_parts.specs.World.{World, processor, inbox, seat, count_in, with_processor, with_inbox, with_seat}
+use Rattle.bq_parts.specs.World.{World, processor, inbox, seat, count_in, with_processor, with_inbox, with_seats}
 use Rattle.bq_parts.specs.Refusals.{is_away}
 use Rattle.bq_hooks.specs.Contexts.{as_number}
 use Rattle.bq_hooks.specs.OwnPlace.{HasPlace}
 use Rattle.bq_parts.specs.StandsOnce.{held_count, placed_count, standing_count, runnable_at, IsOrderly}
+use Rattle.bq_core.proofs.Well.{AllWell, at_set}
 use Rattle.bq_core.proofs.Suits.{unsuited, Suits, none_unsuited, all_suit}
 use Rattle.bq_parts.proofs.Tallies.{tally, tally-append}
 use Rattle.bq_parts.proofs.Counts.{one, ones, one_self, count_is}
 use Rattle.bq_parts.proofs.Once.{count_of-held_by, as_number_le}
+
+-- one seat is written
+abbrev pub with_seat : World → ℕ → Seat → World
+with_seat w id s = with_seats w (set w.seats id s)
 
 -- order in a world of so many processors, with some tasks on their way
 pub record IsTidy (count : ℕ) (floating : List Task) (w : World) : Type 0 where
@@ -47,9 +52,9 @@ tidy_of w l o =
       placed = λ cpu. omega (arith, none cpu, split cpu);
     }
 
--- and the other way round
-pub orderly_of : (w : World) → IsTidy (count_in w) [] w → IsOrderly w
-orderly_of w y =
+-- and the other way round, where all processors are well
+pub orderly_of : (w : World) → IsTidy (count_in w) [] w → AllWell w → IsOrderly w
+orderly_of w y well =
     let all : (cpu : ℕ) → All (Suits (count_in w) cpu) (runnable_at w cpu) =
     λ cpu. all_suit (count_in w) cpu (runnable_at w cpu) (omega (arith, tally-append (unsuited (count_in w) cpu) (present_at (processor w cpu).running) (inbox w cpu), y.present cpu, y.placed cpu)) in
     record {
@@ -63,17 +68,15 @@ orderly_of w y =
         in_hand = y.hand;
         runnable = λ cpu k d l. (all cpu k d l).place;
       };
+      rising = λ cpu. (well cpu).rising;
+      ready = λ cpu. (well cpu).ready;
     }
 
--- a fact of each place of a list, after one place was written
-at_set : {X : Type 0} (Q : ℕ → X → Type 0) (xs : List X) (i : ℕ) (x d : X) → Q i x → ((j : ℕ) → Q j (get_or xs j d)) → (j : ℕ) → Q j (get_or (set xs i x) j d)
-at_set Q [] i x d q h j = h j
-at_set Q (y ∷ ys) zero x d q h zero = q
-at_set Q (y ∷ ys) zero x d q h (suc j) = h (suc j)
-at_set Q (y ∷ ys) (suc i) x d q h zero = h zero
-at_set Q (y ∷ ys) (suc i) x d q h (suc j) = at_set (λ n. Q (suc n)) ys i x d q (λ n. h (suc n)) j
+-- an orderly world's processors are well
+pub well_of : (w : World) → IsOrderly w → AllWell w
+well_of w o cpu = record { rising = o.rising cpu; ready = o.ready cpu }
 
--- the same, where it may be false at the place that was written
+-- a fact of each place of a list, after one place was written, where it may have been false
 at_set_else : {X : Type 0} (Q : ℕ → X → Type 0) (xs : List X) (i : ℕ) (x d : X) → i < length xs → Q i x → ((j : ℕ) → j ≢ i → Q j (get_or xs j d)) → (j : ℕ) → Q j (get_or (set xs i x) j d)
 at_set_else Q [] i x d l q h j = absurd (omega arith)
 at_set_else Q (y ∷ ys) zero x d l q h zero = q
@@ -199,7 +202,7 @@ placed_nowhere id zero = refl
 placed_nowhere id (suc n) = omega (arith, placed_nowhere id n)
 
 -- of equals each place has the same, and beyond them too
-same_everywhere : {X : Type 0} (x : X) (n i : ℕ) → get_or (replicate n x) i x ≡ x
+pub same_everywhere : {X : Type 0} (x : X) (n i : ℕ) → get_or (replicate n x) i x ≡ x
 same_everywhere x zero i = refl
 same_everywhere x (suc n) zero = refl
 same_everywhere x (suc n) (suc i) = same_everywhere x n i

@@ -2,7 +2,7 @@
 ghost use Rattle.std.specs.Prelude.{◌≡◌, ◌≤◌, ◌<◌, ◌^◌, ℕ, List, [], length, Option, Some, None, IfSome, find, take};
 ghost use Rattle.std.specs.Option.{option_map};
 ghost use Rattle.bq_disc.specs.Tasks.{Task, present, id_of, place, without, with_id};
-ghost use Rattle.bq_disc.specs.Queues.{follows, HasDistinctIds};
+ghost use Rattle.bq_disc.specs.Queues.{follows, HasDistinctIds, HasSmallIds};
 ghost use Rattle.bq_disc.specs.Trees.{IsRising};
 ghost use Rattle.bq_disc.specs.Movable.{movable_to, is_movable_to, ids};
 ghost use Rattle.bq_disc.specs.Discipline.{Discipline, charged, entered_by, left_at, next_other};
@@ -56,13 +56,15 @@ pub trait RunQueue {
 
     /// The task of an id, if it is there.
     fn get(&self, id: u16) -> Option<&Node>
-        ensures { option_map (λ n. task_of n.now) result ≡ with_id id (members self.now) };
+        ensures task { option_map (λ n. task_of n.now) result ≡ with_id id (members self.now) }
+        ensures small { HasSmallIds (members self.now) };
 
     /// The task of least (v, id) above the one given; of none, the task of least (v, id).
     fn after(&self, last: Option<(u64, u16)>) -> Option<&Node>
         ensures task { option_map (λ n. task_of n.now) result ≡ find (follows last) (members self.now) }
         ensures rising { IsRising (members self.now) }
-        ensures distinct { HasDistinctIds (members self.now) };
+        ensures distinct { HasDistinctIds (members self.now) }
+        ensures small { HasSmallIds (members self.now) };
 
     /// The tasks that may go to a processor, the greatest (v, id) first.
     fn movable(&self, cpu: u8) -> Movable
@@ -74,7 +76,8 @@ pub trait RunQueue {
     /// Whether the task of that id is there and may go to a processor.
     fn is_movable(&self, id: u16, cpu: u8) -> bool
         requires { cpu < 64 }
-        ensures { result ≡ is_movable_to cpu id (members self.now) }
+        ensures value { result ≡ is_movable_to cpu id (members self.now) }
+        ensures small { HasSmallIds (members self.now) }
     {
         match self.get(id) {
             None => false,

@@ -2,7 +2,7 @@
 ghost use Rattle.std.specs.Prelude.{◌≡◌, ◌≤◌, ◌<◌, ◌^◌, List, [], length, None, IfSome, find, filter, take};
 ghost use Rattle.std.specs.Option.{option_map};
 ghost use Rattle.bq_disc.specs.Tasks.{Task, place, without, with_id, first_by, runs_before};
-ghost use Rattle.bq_disc.specs.Queues.{follows, key_of, HasDistinctIds};
+ghost use Rattle.bq_disc.specs.Queues.{follows, key_of, HasDistinctIds, HasSmallIds};
 ghost use Rattle.bq_disc.specs.Trees.{IsRising};
 ghost use Rattle.bq_disc.specs.Movable.{movable_to, ids};
 ghost use Rattle.bq_disc.specs.Totals.{sums_of, is_at_most_mean, HasBounds};
@@ -41,13 +41,15 @@ pub trait Timeline {
 
     /// The task of an id, if it is there.
     fn get(&self, id: u16) -> Option<&Node>
-        ensures { option_map (λ n. task_of n.now) result ≡ with_id id (tasks self.now) };
+        ensures task { option_map (λ n. task_of n.now) result ≡ with_id id (tasks self.now) }
+        ensures small { HasSmallIds (tasks self.now) };
 
     /// The task of least (v, id) above the one given; of none, the task of least (v, id).
     fn after(&self, last: Option<(u64, u16)>) -> Option<&Node>
         ensures task { option_map (λ n. task_of n.now) result ≡ find (follows last) (tasks self.now) }
         ensures rising { IsRising (tasks self.now) }
-        ensures distinct { HasDistinctIds (tasks self.now) };
+        ensures distinct { HasDistinctIds (tasks self.now) }
+        ensures small { HasSmallIds (tasks self.now) };
 
     /// The tasks that may go to a processor, the greatest (v, id) first.
     fn movable(&self, cpu: u8) -> Movable

@@ -1,7 +1,6 @@
 //! Settled choices: a policy's answer where it is permitted, and else the discipline's own.
 ghost use Rattle.std.specs.Prelude.{◌≡◌, ◌<◌, ◌≤◌, ◌^◌, true};
 ghost use Rattle.bq_disc.specs.Movable.{is_movable_to};
-ghost use Rattle.bq_disc.specs.Queues.{HasSmallIds};
 ghost use Rattle.bq_hooks.specs.Contexts.{as_number, or_nobody};
 ghost use Rattle.bq_hooks.specs.Permitted.{may_place, may_preempt, may_pull, task_numbered};
 ghost use Rattle.bq_hooks.specs.Settled.{settled};
@@ -87,8 +86,7 @@ pub fn settle_pull<Q: RunQueue>(
     puller: u8,
     own: Option<u16>,
 ) -> Choice<Option<u16>>
-    requires inside { puller < 64 }
-    requires small { HasSmallIds (Q.members queue.now) }
+    requires { puller < 64 }
     ensures value { result.value ≡ task_numbered (settled (may_pull puller (Q.members queue.now)) r0 (or_nobody own)).choice }
     ensures by { result.by ≡ (settled (may_pull puller (Q.members queue.now)) r0 (or_nobody own)).by }
 {
@@ -102,13 +100,10 @@ pub fn settle_pull<Q: RunQueue>(
 /// Whether that is the id of a task of the queue that may go to the puller.
 #[tactic(auto, using(crate::proofs::Ids::absent_beyond))]
 fn may_go<Q: RunQueue>(id: u64, queue: &Q, puller: u8) -> bool
-    requires inside { puller < 64 }
-    requires small { HasSmallIds (Q.members queue.now) }
+    requires { puller < 64 }
     ensures value { result ≡ is_movable_to puller id (Q.members queue.now) }
     ensures fits { result ≡ true → id < 2 ^ 16 }
 {
-    match u16::try_from(id) {
-        Ok(id) => queue.is_movable(id, puller),
-        Err(_) => false,
-    }
+    let low = (id % (1 << 16)) as u16;
+    queue.is_movable(low, puller) && u64::from(low) == id
 }

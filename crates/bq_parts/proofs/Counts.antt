@@ -2,7 +2,7 @@
 use Rattle.std.proofs.Common.{◌≡◌, ℕ, ◌+◌, ◌≤◌, Bool, true, false, cond, eqb, List, [], ◌∷◌, ◌++◌, Option, Some, None, refl, sym, ap, arith}
 use Rattle.std.proofs.lemmas.Bool.Decides.{nat_tests}
 use Rattle.bq_disc.specs.Tasks.{Task, has_id, with_id, without, place, present}
-use Rattle.bq_disc.specs.Queues.{HasDistinctIds, HasSmallIds}
+use Rattle.bq_disc.specs.Queues.{HasDistinctIds}
 use Rattle.bq_disc.specs.Discipline.{Discipline, next_of}
 use Rattle.bq_disc.specs.OneProcessor.{Running, present_at, charge, start, run_id, switched, exchanged, decided, entered, enter_all}
 use Rattle.bq_parts.specs.Processors.{count_of, HasEachOnce}
@@ -133,17 +133,9 @@ HasEachOnce-decided d p b h = λ id. omega (arith, h id, keeps_decided id d p p.
 pub HasEachOnce-enter_all : (d : Discipline) (p : Running) (tasks : List Task) → HasEachOnce (present_at p ++ tasks) → HasEachOnce (present_at (enter_all d p tasks))
 HasEachOnce-enter_all d p tasks h = λ id. omega (arith, h id, count_of-append id (present_at p) tasks, count_of-enter_all id d p tasks)
 
--- of two lists together each has each task once, and small ids
+-- of two lists together each has each task once
 pub HasEachOnce-left : (xs ys : List Task) → HasEachOnce (xs ++ ys) → HasEachOnce xs
 HasEachOnce-left xs ys h = λ id. omega (arith, h id, count_of-append id xs ys)
 
 pub HasEachOnce-right : (xs ys : List Task) → HasEachOnce (xs ++ ys) → HasEachOnce ys
 HasEachOnce-right xs ys h = λ id. omega (arith, h id, count_of-append id xs ys)
-
-pub HasSmallIds-left : (xs ys : List Task) → HasSmallIds (xs ++ ys) → HasSmallIds xs
-HasSmallIds-left [] ys h = tt
-HasSmallIds-left (x ∷ xs) ys h = (h.0, HasSmallIds-left xs ys h.1)
-
-pub HasSmallIds-right : (xs ys : List Task) → HasSmallIds (xs ++ ys) → HasSmallIds ys
-HasSmallIds-right [] ys h = h
-HasSmallIds-right (x ∷ xs) ys h = HasSmallIds-right xs ys h.1

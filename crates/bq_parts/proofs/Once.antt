@@ -8,7 +8,6 @@ use Rattle.std.proofs.lemmas.Map.Steps.{length-le_from_distinct_below}
 use Rattle.std.proofs.lemmas.Bool.{cases_lt}
 use Rattle.std.proofs.lemmas.Bool.Decides.{nat_tests}
 use Rattle.bq_disc.specs.Tasks.{Task}
-use Rattle.bq_disc.specs.Queues.{HasSmallIds}
 use Rattle.bq_disc.specs.OneProcessor.{present_at}
 use Rattle.bq_parts.specs.declared.seat.Seat.TheVariants.{Absent}
 use Rattle.bq_parts.specs.Processors.{Processor, opening, count_of, held_by, in_hand, HasEachOnce, HasSeatedIds}
@@ -91,15 +90,6 @@ seated_running w cpu l o = λ id h. omega (arith, none_beyond_at w cpu id l o h,
 -- the first of some tasks has an id below a bound from which none stands there
 head_below : (x : Task) (m n : ℕ) → (n ≤ x.id → one x.id x + m ≡ 0) → x.id < n
 head_below x m n h = elim (cases_lt x.id n) [ inl l ↦ l | inr g ↦ absurd (omega (arith, one_self x, h g)) ]
-
--- tasks of which none has an id from 1024 on have ids of 16 bits
-pub HasSmallIds-from_counts : (xs : List Task) → ((id : ℕ) → 1024 ≤ id → count_of id xs ≡ 0) → HasSmallIds xs
-HasSmallIds-from_counts [] h = tt
-HasSmallIds-from_counts (x ∷ xs) h = (omega (arith, head_below x (count_of x.id xs) 1024 (h x.id)), HasSmallIds-from_counts xs (λ id l. omega (arith, h id l)))
-
--- so the ids of a processor's tasks have 16 bits
-pub small_at : (w : World) (cpu : ℕ) → length w.seats ≡ 1024 → IsOrderly w → HasSmallIds (present_at (processor w cpu).running ++ inbox w cpu)
-small_at w cpu l o = HasSmallIds-from_counts (present_at (processor w cpu).running ++ inbox w cpu) (λ id h. none_beyond_at w cpu id l o h)
 
 -- two processors have each of their tasks once, together
 pub each_once_two : (w : World) (cpu from : ℕ) → cpu ≢ from → IsOrderly w → HasEachOnce (present_at (processor w cpu).running ++ present_at (processor w from).running)

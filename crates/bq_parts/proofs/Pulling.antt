@@ -4,13 +4,13 @@ use Rattle.std.specs.Prelude.{IfSome}
 use Rattle.std.specs.Option.{option_map}
 use Rattle.bq_disc.specs.Tasks.{Task, with_id, present}
 use Rattle.bq_disc.specs.Discipline.{Discipline, left_at}
-use Rattle.bq_disc.specs.Queues.{HasDistinctIds, HasSmallIds}
+use Rattle.bq_disc.specs.Queues.{HasDistinctIds}
 use Rattle.bq_disc.specs.OneProcessor.{Running, present_at, charge, marked}
 use Rattle.bq_parts.specs.Processors.{HasEachOnce, HasSeatedIds}
 use Rattle.bq_parts.specs.Moves.{taken_from, with_pulled}
 use Rattle.bq_parts.proofs.Tallies.{with_id-id}
 use Rattle.bq_parts.proofs.Counts.{one, one_self, count_of-append, count_of-without, queue_le_present, with_id-absent, each_once_queue, HasEachOnce-left, HasEachOnce-right, HasDistinctIds-from_counts}
-use Rattle.bq_parts.proofs.Once.{few_below, HasSmallIds-from_counts}
+use Rattle.bq_parts.proofs.Once.{few_below}
 
 -- seated ids of two lists together are those of each
 pub seated_left : (xs ys : List Task) → HasSeatedIds (xs ++ ys) → HasSeatedIds xs
@@ -36,13 +36,9 @@ few_puller d p q now h k =
 pub few_source : (p q : Running) → HasEachOnce (present_at p ++ present_at q) → HasSeatedIds (present_at p ++ present_at q) → length (present_at q) ≤ 1024
 few_source p q h k = few_running q (HasEachOnce-right (present_at p) (present_at q) h) (seated_right (present_at p) (present_at q) k)
 
--- the source's ids are distinct and small
+-- the source's ids are distinct
 pub source_distinct : (p q : Running) → HasEachOnce (present_at p ++ present_at q) → HasDistinctIds q.queue
 source_distinct p q h = HasDistinctIds-from_counts q.queue (each_once_queue q (HasEachOnce-right (present_at p) (present_at q) h))
-
-pub source_small : (p q : Running) → HasSeatedIds (present_at p ++ present_at q) → HasSmallIds q.queue
-source_small p q k =
-    HasSmallIds-from_counts q.queue (λ id l. omega (arith, seated_right (present_at p) (present_at q) k id l, queue_le_present id q.current q.queue))
 
 -- a task of the source's queue is not in the puller's
 pulled_free : (p q : Running) (id : ℕ) (t : Task) → HasEachOnce (present_at p ++ present_at q) → with_id id q.queue ≡ Some t → with_id t.id p.queue ≡ None

@@ -9,7 +9,8 @@ use Rattle.bq_maps.specs.declared.board.Call.{Call as Asked}
 use Rattle.bq_verify.specs.declared.hook.Version.{Version}
 use Rattle.bq_verify.specs.declared.hook.Version.TheVariants.{First, Second}
 use Rattle.bq_verify.specs.Accepted.{Accepted}
-use Rattle.bq_policies.specs.Answers.{Answers}
+use Rattle.bq_maps.specs.Arrays.{HaveShapes}
+use Rattle.bq_policies.specs.Answers.{Answers, IsWithin}
 use Rattle.bq_policies.specs.Programs.{Program}
 use Rattle.bq_hooks.specs.declared.settled.By.{By}
 use Rattle.bq_hooks.specs.declared.settled.By.TheVariants as who
@@ -42,13 +43,15 @@ pub record Settled : Type 0 where
 abbrev pub unasked : ℕ → Program → Settled
 unasked own program = record { choice = own; by = who.Discipline; steps = 0; calls = []; program = program }
 
--- r0 where it is permitted, and else the own choice. The maps stay as the policy left them, either way
+-- r0 where it is permitted, and else the own choice. The maps stay as the policy left them, either way: they keep their
+-- shapes. The policy answers within its budget, with sixteen calls of counters at most
 abbrev pub SettlesBy : Setting → Option Accepted → (Version → List ℕ) → Program → ℕ → ℕ → (ℕ → Bool) → ℕ → Settled → Type 0
 SettlesBy s None context program now cpu permitted own settled = settled ≡ unasked own program
 SettlesBy s (Some policy) context program now cpu permitted own settled =
     (r0 : ℕ) × (maps : List (List ℕ)) × s.Answers policy (context policy.version) program.maps now cpu r0 maps settled.steps settled.calls
     × (settled.program ≡ record program { maps = maps })
     × (settled.choice ≡ (chosen permitted (Some r0) own).choice) × (settled.by ≡ (chosen permitted (Some r0) own).by)
+    × IsWithin policy settled.steps settled.calls × HaveShapes policy.shapes maps
 
 abbrev pub Settles : Setting → (Version → List ℕ) → Program → ℕ → ℕ → (ℕ → Bool) → ℕ → Settled → Type 0
 Settles s context program = SettlesBy s program.policy context program

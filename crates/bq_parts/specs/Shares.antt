@@ -1,4 +1,4 @@
--- What each event does to the parts that it touches, and what it is replied. Each is the event's step in any world that has these parts.
+-- What each event does to the parts that it touches, and what it is replied. The world's step cites these.
 use Rattle.std.specs.Prelude.{◌≡◌, ℕ, true, false, List, [], length, slice_index_or, slice_set, Option, Some, None, Result, Ok, Err}
 use Rattle.bq_disc.specs.Tasks.{Task, id_of}
 use Rattle.bq_disc.specs.Discipline.{Discipline}
@@ -16,6 +16,7 @@ use Rattle.bq_parts.specs.declared.wakes.Placement.{Placement}
 use Rattle.bq_parts.specs.Refusals.{is_absent, retire_refusal, begin_refusal, install_refusal}
 use Rattle.bq_verify.specs.declared.hook.Hook.{Hook}
 use Rattle.bq_policies.specs.Programs.{Program, at_hook, with_program}
+use Rattle.bq_policies.specs.Standing.{MayStand}
 use Rattle.bq_hooks.specs.Permitted.{task_numbered}
 use Rattle.bq_parts.specs.Choices.{Setting, Settled, SettlesPlace, SettlesPreempt, SettlesPull, decided_by}
 use Rattle.bq_parts.specs.Moves.{after_leaving, as_it_leaves, taken_from, without_task, with_pulled, started_if_idle}
@@ -82,10 +83,10 @@ Places s count cpu now p calls (Some x) q =
     × (x.to ≡ settled.choice) × (x.by ≡ settled.by) × (x.steps ≡ settled.steps) × (calls ≡ settled.calls)
     × (q ≡ record c { hand = None; programs = record c.programs { place = settled.program } }))
 
--- something else stands at a hook, where so many numbers were drawn
+-- something else that may stand there stands at a hook, where so many numbers were drawn
 abbrev pub Installs : Hook → ℕ → Processor → Program → Result Reply Refusal → Processor → Type 0
 Installs h drawn p new (Ok r) q =
-    (install_refusal (at_hook h p.programs).generation drawn new.generation ≡ None) × (r ≡ Installed) × (q ≡ record p { programs = with_program h p.programs new })
+    (install_refusal (at_hook h p.programs).generation drawn new.generation ≡ None) × (r ≡ Installed) × (q ≡ record p { programs = with_program h p.programs new }) × MayStand h new
 Installs h drawn p new (Err e) q = (install_refusal (at_hook h p.programs).generation drawn new.generation ≡ Some e) × (q ≡ p)
 
 -- a task of another processor's queue enters this one's; where nothing runs, the choice does

@@ -1,10 +1,13 @@
--- Each admitted task stands exactly once, on a processor of its mask where it runs or waits; nothing else stands anywhere.
+-- Worlds in order: each admitted task stands exactly once, on a processor of its mask where it runs or waits, and nothing else
+-- stands anywhere; queues rise by (v, id); and each policy at a hook was accepted.
 use Rattle.std.specs.Prelude.{◌≡◌, ℕ, ◌+◌, true, List, [], ◌∷◌, ◌++◌, Some, All}
 use Rattle.bq_disc.specs.Tasks.{Task}
 use Rattle.bq_disc.specs.Queues.{can_use}
+use Rattle.bq_disc.specs.Trees.{IsRising}
 use Rattle.bq_disc.specs.OneProcessor.{present_at}
 use Rattle.bq_hooks.specs.Contexts.{as_number}
 use Rattle.bq_hooks.specs.OwnPlace.{HasPlace}
+use Rattle.bq_policies.specs.Standing.{AreReady}
 use Rattle.bq_parts.specs.declared.carried.Carried.{Carried}
 use Rattle.bq_parts.specs.declared.seat.Seat.TheVariants.{Blocked}
 use Rattle.bq_parts.specs.Processors.{Processor, held_by, count_of}
@@ -46,3 +49,7 @@ pub record HasPlaces (w : World) : Type 0 where
 pub record IsOrderly (w : World) : Type 0 where
   pub once : StandsOnce w
   pub places : HasPlaces w
+  -- each queue rises by (v, id)
+  pub rising : (cpu : ℕ) → IsRising (processor w cpu).running.queue
+  -- whatever stands at a hook was accepted for it, and its maps have its shapes
+  pub ready : (cpu : ℕ) → AreReady (processor w cpu).programs

@@ -35,8 +35,8 @@ with_processor w cpu p = record w { processors = slice_set w.processors cpu p }
 abbrev pub with_inbox : World → ℕ → List Task → World
 with_inbox w cpu tasks = record w { inboxes = slice_set w.inboxes cpu tasks }
 
-abbrev pub with_seat : World → ℕ → Seat → World
-with_seat w id s = record w { seats = slice_set w.seats id s }
+abbrev pub with_seats : World → List Seat → World
+with_seats w seats = record w { seats = seats }
 
 -- the load of each processor
 abbrev pub loads_of : List Processor → List (List Task) → List ℕ

@@ -2,13 +2,14 @@
 ghost use Rattle.std.specs.Prelude.{◌≡◌, ◌≤◌, ◌<◌, ◌^◌, [], true, length, Some, IfSome, is_some};
 ghost use Rattle.std.specs.Option.{option_map};
 ghost use Rattle.bq_maps.specs.Counters.{Through};
-ghost use Rattle.bq_policies.specs.Answers.{Answers};
+ghost use Rattle.bq_maps.specs.Arrays.{HaveShapes};
+ghost use Rattle.bq_policies.specs.Answers.{Answers, IsWithin};
 ghost use Rattle.bq_hooks.specs.Contexts.{as_number, or_nobody, pull_bytes};
 ghost use Rattle.bq_hooks.specs.OwnPlace.{HasPlace};
 ghost use Rattle.bq_hooks.specs.Permitted.{may_pull, task_numbered};
 ghost use Rattle.bq_hooks.specs.Settled.{settled};
 ghost use Rattle.bq_disc.specs.Movable.{movable_to};
-ghost use Rattle.bq_disc.specs.Queues.{HasDistinctIds, HasSmallIds};
+ghost use Rattle.bq_disc.specs.Queues.{HasDistinctIds};
 ghost use Rattle.bq_disc.specs.OneProcessor.{present_at};
 ghost use Rattle.bq_parts.specs.Processors.{HasEachOnce, HasSeatedIds, size_of};
 ghost use Rattle.bq_parts.specs.Choices.{policies, place_bytes, SettlesPlace, SettlesPreempt, decided_by};
@@ -104,6 +105,8 @@ impl<Q: RunQueue> Cpu<Q> {
     ) -> Done
         requires version { Some version ≡ option_map (λ p. p.version) self.old.programs.place.policy }
         ensures answers { IfSome self.old.programs.place.policy (λ p. Answers p (place_bytes facts.now version) self.old.programs.place.maps self.old.running.last processor result.r0 self.new.programs.place.maps result.steps scratch.new) }
+        ensures within { IfSome self.old.programs.place.policy (λ p. IsWithin p result.steps scratch.new) }
+        ensures shapes { IfSome self.old.programs.place.policy (λ p. HaveShapes p.shapes self.new.programs.place.maps) }
         ensures rest { self.new ≡ record self.old { programs = record self.old.programs { place = record self.old.programs.place { maps = self.new.programs.place.maps } } } }
         ensures board { Through B.leads board.old scratch.new board.new }
     {
@@ -224,6 +227,8 @@ impl<Q: RunQueue> Cpu<Q> {
     ) -> Done
         requires there { is_some self.old.programs.pull.policy ≡ true }
         ensures answers { IfSome self.old.programs.pull.policy (λ p. Answers p context.now self.old.programs.pull.maps self.old.running.last processor result.r0 self.new.programs.pull.maps result.steps scratch.new) }
+        ensures within { IfSome self.old.programs.pull.policy (λ p. IsWithin p result.steps scratch.new) }
+        ensures shapes { IfSome self.old.programs.pull.policy (λ p. HaveShapes p.shapes self.new.programs.pull.maps) }
         ensures rest { self.new ≡ record self.old { programs = record self.old.programs { pull = record self.old.programs.pull { maps = self.new.programs.pull.maps } } } }
         ensures board { Through B.leads board.old scratch.new board.new }
     {
@@ -234,8 +239,7 @@ impl<Q: RunQueue> Cpu<Q> {
     /// The task that goes from here to the puller, if any, by its policy's answer where that is permitted, and else by the
     /// discipline's own choice.
     pub fn settle_pull(&self, r0: Option<u64>, puller: u8, own: Option<u16>) -> Choice<Option<u16>>
-        requires inside { puller < 64 }
-        requires small { HasSmallIds self.now.running.queue }
+        requires { puller < 64 }
         ensures value { result.value ≡ task_numbered (settled (may_pull puller self.now.running.queue) r0 (or_nobody own)).choice }
         ensures by { result.by ≡ (settled (may_pull puller self.now.running.queue) r0 (or_nobody own)).by }
     {

@@ -1,6 +1,6 @@
 //! What a Pull does to the two processors: a task of one queue enters the other.
 ghost use Rattle.std.specs.Prelude.{◌≡◌, ◌≤◌, ◌<◌, ◌++◌, ℕ, [], None, IfSome};
-ghost use Rattle.bq_disc.specs.Queues.{HasDistinctIds, HasSmallIds};
+ghost use Rattle.bq_disc.specs.Queues.{HasDistinctIds};
 ghost use Rattle.bq_disc.specs.Tasks.{id_of, with_id};
 ghost use Rattle.bq_disc.specs.OneProcessor.{present_at};
 ghost use Rattle.bq_maps.specs.Counters.{Through};
@@ -58,7 +58,6 @@ impl<Q: RunQueue> Cpu<Q> {
         requires few { size_of self.old ≤ 1024 }
         requires few_from { size_of source.now ≤ 1024 }
         requires distinct { HasDistinctIds source.now.running.queue }
-        requires small { HasSmallIds source.now.running.queue }
         requires unasked { scratch.old ≡ [] }
         ensures settled { (choice : ℕ) × SettlesPull (policies Q.R.discipline) processor from self.old source.now (record { choice = choice; by = result.by; steps = result.steps; calls = scratch.new; program = self.new.programs.pull }) × (result.choice ≡ task_numbered choice) }
         ensures rest { self.new ≡ record self.old { programs = record self.old.programs { pull = self.new.programs.pull } } }

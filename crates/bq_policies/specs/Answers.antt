@@ -1,5 +1,5 @@
 -- What a policy answers when it is asked.
-use Rattle.std.specs.Prelude.{ℕ, ◌*◌, List, [], map, replicate, Option, Some, None}
+use Rattle.std.specs.Prelude.{ℕ, ◌*◌, ◌≤◌, List, [], length, map, replicate, Option, Some, None}
 use Rattle.bq_maps.specs.declared.shape.MapShape.{MapShape}
 use Rattle.bq_maps.specs.declared.board.Call.{Call as Asked}
 use Rattle.bq_maps.specs.Machine.{RunFrom, start}
@@ -19,3 +19,7 @@ fresh_maps (Some policy) = map zeros_of policy.shapes
 -- takes so many steps, and makes these calls of counters: so a run of its program goes.
 abbrev pub Answers : Accepted → List ℕ → List (List ℕ) → ℕ → ℕ → ℕ → List (List ℕ) → ℕ → List Asked → Type 0
 Answers policy context maps now processor r0 maps' steps calls = RunFrom (setting_of policy context now processor) (start maps) steps calls r0 maps'
+
+-- it is within the policy's budget to take so many steps, with these calls of counters: there are sixteen at most
+abbrev pub IsWithin : Accepted → ℕ → List Asked → Type 0
+IsWithin policy steps calls = (steps ≤ policy.budget) × (length calls ≤ 16)

@@ -1,14 +1,15 @@
 -- Laws of policies: what an accepted one answers rests on what it is shown alone, and comes within its budget.
-use Rattle.std.specs.Prelude.{◌≡◌, ℕ, ◌^◌, ◌<◌, ◌≤◌, List, length, slice_index}
+use Rattle.std.specs.Prelude.{◌≡◌, ℕ, ◌^◌, ◌<◌, List, length, slice_index}
 use Rattle.bq_maps.specs.Arrays.{HaveShapes}
 use Rattle.bq_maps.specs.declared.board.Call.{Call as Asked}
 use Rattle.bq_interp.specs.Laws.{AnswerAlike}
-use Rattle.bq_verify.specs.Accepted.{Accepted, IsAccepted, context_length_of}
-use Rattle.bq_policies.specs.Answers.{Answers}
+use Rattle.bq_verify.specs.Accepted.{Accepted, context_length_of}
+use Rattle.bq_policies.specs.Answers.{Answers, IsWithin}
+use Rattle.bq_policies.specs.Standing.{WasAccepted}
 
 -- a policy was accepted, and is shown a context of its length, maps of its shapes, a clock reading and a processor's number
 pub record IsAsked (policy : Accepted) (context : List ℕ) (maps : List (List ℕ)) (now processor : ℕ) : Type 0 where
-  pub accepted : IsAccepted policy.slots policy.shapes (context_length_of policy.hook policy.version) policy.budget
+  pub accepted : WasAccepted policy
   pub long : length context ≡ context_length_of policy.hook policy.version
   pub bytes : (i : ℕ) → slice_index context i < 256
   pub shapes : HaveShapes policy.shapes maps
@@ -20,7 +21,7 @@ abbrev pub AnswersWithin : Type 0
 AnswersWithin =
     (policy : Accepted) (context : List ℕ) (maps maps' : List (List ℕ)) (now processor r0 steps : ℕ) (calls : List Asked) →
     IsAsked policy context maps now processor → Answers policy context maps now processor r0 maps' steps calls →
-    (steps ≤ policy.budget) × (length calls ≤ 16)
+    IsWithin policy steps calls
 
 -- and where the counters answer alike it gives one answer, in as many steps, and leaves the same maps
 abbrev pub AnswersOnce : Type 0

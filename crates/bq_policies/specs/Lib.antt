@@ -1,3 +1,4 @@
 pub mod Programs
 pub mod Answers
+pub mod Standing
 pub mod Laws

@@ -1,9 +1,10 @@
 //! What stands at the hooks of a processor.
-ghost use Rattle.std.specs.Prelude.{◌≡◌, ◌≤◌, true, length, IfSome, is_some};
+ghost use Rattle.std.specs.Prelude.{◌≡◌, true, length, IfSome, is_some};
 ghost use Rattle.std.specs.Option.{option_map};
 ghost use Rattle.bq_maps.specs.Counters.{Through};
 ghost use Rattle.bq_verify.specs.Accepted.{context_length_of};
-ghost use Rattle.bq_policies.specs.Answers.{Answers};
+ghost use Rattle.bq_maps.specs.Arrays.{HaveShapes};
+ghost use Rattle.bq_policies.specs.Answers.{Answers, IsWithin};
 ghost use Rattle.bq_policies.specs.Programs.{no_programs, at_hook, with_program, IsFor};
 
 use crate::{Hook, Installed, Scratch, Version};
@@ -90,7 +91,8 @@ impl Hooks {
         requires there { is_some (at_hook hook self.old).policy ≡ true }
         requires context { IfSome (at_hook hook self.old).policy (λ p. length context.now ≡ context_length_of hook p.version) }
         ensures answers { IfSome (at_hook hook self.old).policy (λ p. Answers p context.now (at_hook hook self.old).maps env.now env.processor result.r0 (at_hook hook self.new).maps result.steps scratch.new) }
-        ensures within { IfSome (at_hook hook self.old).policy (λ p. result.steps ≤ p.budget) }
+        ensures within { IfSome (at_hook hook self.old).policy (λ p. IsWithin p result.steps scratch.new) }
+        ensures shapes { IfSome (at_hook hook self.old).policy (λ p. HaveShapes p.shapes (at_hook hook self.new).maps) }
         ensures stays { self.new ≡ with_program hook self.old (record (at_hook hook self.old) { maps = (at_hook hook self.new).maps }) }
         ensures board { Through B.leads board.old scratch.new board.new }
     {

@@ -1,9 +1,11 @@
 //! What stands at one hook.
-ghost use Rattle.std.specs.Prelude.{◌≡◌, ◌≤◌, [], true, length, None, IfOk, IfSome, is_some};
+ghost use Rattle.std.specs.Prelude.{◌≡◌, [], true, length, Some, None, IfOk, IfSome, is_some};
 ghost use Rattle.std.specs.Option.{option_map};
 ghost use Rattle.bq_maps.specs.Counters.{Through};
 ghost use Rattle.bq_verify.specs.Accepted.{context_length_of};
-ghost use Rattle.bq_policies.specs.Answers.{Answers, fresh_maps};
+ghost use Rattle.bq_maps.specs.Arrays.{HaveShapes};
+ghost use Rattle.bq_policies.specs.Answers.{Answers, IsWithin, fresh_maps};
+ghost use Rattle.bq_policies.specs.Standing.{IsEquipped};
 ghost use Rattle.bq_policies.specs.Programs.{no_program};
 
 use crate::{Policy, Scratch};
@@ -22,10 +24,13 @@ pub struct Installed {
 
 impl Model for Installed {
     ghost use Rattle.bq_policies.specs.Programs.{Program, policy_in, maps_in};
+    ghost use Rattle.bq_policies.specs.Standing.{IsEquipped};
 
     ghost Value = { Program };
 
     ghost view = { λ i. record { policy = policy_in i.equipped; generation = i.generation; maps = maps_in i.equipped } };
+
+    ghost invariant = { λ i. IsEquipped (policy_in i.equipped) (maps_in i.equipped) };
 }
 
 impl Installed {
@@ -59,7 +64,8 @@ impl Installed {
 
     /// Its generation.
     pub fn generation(&self) -> u64
-        ensures { result ≡ self.now.generation }
+        ensures value { result ≡ self.now.generation }
+        ensures equipped { IsEquipped self.now.policy self.now.maps }
     {
         self.generation
     }
@@ -104,7 +110,8 @@ impl Installed {
         requires there { is_some self.old.policy ≡ true }
         requires context { IfSome self.old.policy (λ p. length context.now ≡ context_length_of p.hook p.version) }
         ensures answers { IfSome self.old.policy (λ p. Answers p context.now self.old.maps env.now env.processor result.r0 self.new.maps result.steps scratch.new) }
-        ensures within { IfSome self.old.policy (λ p. result.steps ≤ p.budget) }
+        ensures within { IfSome self.old.policy (λ p. IsWithin p result.steps scratch.new) }
+        ensures shapes { IfSome self.old.policy (λ p. HaveShapes p.shapes self.new.maps) }
         ensures stays { self.new ≡ record self.old { maps = self.new.maps } }
         ensures board { Through B.leads board.old scratch.new board.new }
     {
@@ -138,6 +145,7 @@ impl Equipped {
     fn new(alloc: Global, policy: Policy) -> Result<Equipped, AllocError>
         ensures policy { IfOk result (λ e. e.0 ≡ policy) }
         ensures maps { IfOk result (λ e. e.1 ≡ fresh_maps (Some policy)) }
+        ensures equipped { IfOk result (λ e. IsEquipped (Some e.0) e.1) }
     {
         let maps = Maps::new(alloc, policy.program().shapes())?;
         let _sizes = maps.shapes();
@@ -166,11 +174,12 @@ impl Equipped {
     ) -> Done
         requires context { length context.now ≡ context_length_of self.old.0.hook self.old.0.version }
         ensures answers { Answers self.old.0 context.now self.old.1 env.now env.processor result.r0 self.new.1 result.steps scratch.new }
-        ensures within { result.steps ≤ self.old.0.budget }
+        ensures within { IsWithin self.old.0 result.steps scratch.new }
+        ensures equipped { IsEquipped (Some self.new.0) self.new.1 }
         ensures policy { self.new.0 ≡ self.old.0 }
         ensures board { Through B.leads board.old scratch.new board.new }
     {
-        run_into(
+        let done = run_into(
             self.policy.program(),
             context,
             &mut self.maps,
@@ -178,6 +187,9 @@ impl Equipped {
             env,
             board,
             &mut scratch.calls,
-        )
+        );
+        let _few = scratch.calls();
+        let _sizes = self.maps.shapes();
+        done
     }
 }

@@ -1,5 +1,6 @@
 //! Policies that may be installed.
 ghost use Rattle.std.specs.Prelude.{◌≡◌, ◌↔◌, IfOk, IsTrue};
+ghost use Rattle.bq_policies.specs.Standing.{WasAccepted};
 
 use crate::same::{same_shapes, same_slots};
 use bq_verify::{Hook, Verified, Version};
@@ -17,10 +18,13 @@ pub struct Policy {
 impl Model for Policy {
     ghost use Rattle.std.specs.Arc.{arc_value};
     ghost use Rattle.bq_verify.specs.Accepted.{Accepted};
+    ghost use Rattle.bq_policies.specs.Standing.{WasAccepted};
 
     ghost Value = { Accepted };
 
     ghost view = { λ p. arc_value p.program };
+
+    ghost invariant = { λ p. WasAccepted (arc_value p.program) };
 }
 
 impl Policy {
@@ -28,13 +32,15 @@ impl Policy {
     pub fn new(alloc: Global, program: Verified) -> Result<Policy, AllocError>
         ensures { IfOk result (λ p. p ≡ program) }
     {
+        let _accepted = program.slots();
         let program = Arc::new(alloc, program)?;
         Ok(Policy { program })
     }
 
-    /// Its program.
+    /// Its program, which was accepted.
     pub fn program(&self) -> &Verified
-        ensures { result.now ≡ self.now }
+        ensures value { result.now ≡ self.now }
+        ensures accepted { WasAccepted self.now }
     {
         &self.program
     }

@@ -1,6 +1,6 @@
 use Rattle.std.proofs.Common.{ap, ◌∙◌}
 use Rattle.bq_parts.specs.Processors.{Processor}
-use Rattle.bq_parts.proofs.Pulling.{few_puller, few_source, source_distinct, source_small, taken_fresh}
+use Rattle.bq_parts.proofs.Pulling.{few_puller, few_source, source_distinct, taken_fresh}
 use Rattle.bq_parts.proofs.cpu.Cpu.pull.Goals as goal
 
 pub choose_pull-pulled-requires-clause-few : goal.choose_pull-pulled-requires-clause-few
@@ -11,9 +11,6 @@ choose_pull-pulled-requires-clause-few_from g c = rw c.remark.ensures (few_sourc
 
 pub choose_pull-pulled-requires-clause-distinct : goal.choose_pull-pulled-requires-clause-distinct
 choose_pull-pulled-requires-clause-distinct g c = rw c.remark.ensures (source_distinct c.args.self.now.running c.args.source.now.running c.requires.once)
-
-pub choose_pull-pulled-requires-clause-small : goal.choose_pull-pulled-requires-clause-small
-choose_pull-pulled-requires-clause-small g c = rw c.remark.ensures (source_small c.args.self.now.running c.args.source.now.running c.requires.seated)
 
 pub take_task-run-requires : goal.take_task-run-requires
 take_task-run-requires g c =
