@@ -1,2 +1,3 @@
 pub mod PassingFacts
 pub mod SeenFacts
+pub mod SoundFacts

@@ -26,12 +26,13 @@ use Rattle.bq_parts.specs.declared.reply.Reply.TheVariants.{Admitted, Retired, D
 use Rattle.bq_parts.specs.declared.refusal.Refusal.{Refusal}
 use Rattle.bq_parts.specs.declared.refusal.Refusal.TheVariants as no
 use Rattle.bq_parts.specs.Processors.{Processor, opening}
-use Rattle.bq_parts.specs.Refusals.{either, argument_refusal}
+use Rattle.bq_parts.specs.declared.seat.Seat.{Seat}
+use Rattle.bq_parts.specs.Refusals.{either, argument_refusal, refusal}
 use Rattle.bq_parts.specs.World.{World, processor, inbox, seat, count_in, with_processor}
 use Rattle.bq_parts.specs.Moves.{after_leaving, taken_from, without_task, with_pulled, started_if_idle}
 use Rattle.bq_parts.specs.StandsOnce.{IsOrderly}
 use Rattle.bq_parts.specs.Choices.{policies, Settled, own_pull, decided_by}
-use Rattle.bq_parts.specs.Shares.{Decides, after_time, remarked}
+use Rattle.bq_parts.specs.Shares.{Ticks, Drains, Blocks, Pulls, after_time, remarked}
 use Rattle.bq_parts.specs.Steps.{WorldStep}
 use Rattle.bq_parts.proofs.Counts.{each_once_queue, HasDistinctIds-from_counts}
 use Rattle.bq_parts.proofs.NumberTests.{differs}
@@ -39,7 +40,7 @@ use Rattle.bq_parts.proofs.Once.{each_once_running}
 use Rattle.bq_parts.proofs.Permitted.{settled_permitted, own_pull_permitted, may_pull_names}
 use Rattle.bq_core.proofs.Order.{step_tidy, step_keeps, passed, there}
 use Rattle.bq_core.proofs.Tidy.{IsTidy}
-use Rattle.bq_passing.specs.Seen.{running_at, entry, begins, leaving, steps_at, DecidesAlone, IsSeenAt, EventIsSteps, HistoryIsSteps}
+use Rattle.bq_passing.specs.Seen.{running_at, entry, begins, own_steps, leaving, steps_at, DecidesAlone, IsSeenAt, EventIsSteps, HistoryIsSteps}
 use Rattle.bq_passing.proofs.PassingFacts.{discipline_passes, own_decision}
 
 -- What is read of a world after a processor was written
@@ -76,53 +77,29 @@ distinct_at w cpu o = HasDistinctIds-from_counts (present_at (running_at w cpu))
 
 -- The events that one processor sees
 
--- what is decided by the discipline's own answer
-decides_own : (d : Discipline) (cpu : ℕ) (p : Processor) (settled : Settled) → Decides (policies d) cpu p settled (decided_by (policies d) p settled) → settled.by ≡ who.Discipline →
-    (decided_by (policies d) p settled).running ≡ decided d p.running p.running.current (own_preempt d p.running.queue p.running.current)
-decides_own d cpu p settled h e = own_decision (policies d) cpu p p.running.current settled h.0 e
+tick_seen : (d : Discipline) (at cpu now : ℕ) (p q : Processor) (calls : List Asked) (r : Reply) → Ticks (policies d) cpu now p calls r q → DecidesAlone at (Tick cpu now) (Ok r) →
+    at ≡ cpu → q.running ≡ after d p.running (Pass now ∷ Decide ∷ [])
+tick_seen d at cpu now p q calls r h alone same =
+    let settled : Settled = h.0 in
+    let own = subst (λ x. DecidesAlone at (Tick cpu now) (Ok x)) h.3 alone same in
+    let c = after_time d now p in
+    ap (λ (x : Processor). x.running) h.1.1 ∙ own_decision (policies d) cpu c c.running.current settled h.1.0 own
 
-tick_seen : (d : Discipline) (at : ℕ) (w w' : World) (cpu now : ℕ) (calls : List Asked) (run : Option ℕ) (by : By) (steps : ℕ) → at < count_in w →
-    WorldStep (policies d) w (Tick cpu now) calls (Ok (Ticked run by steps)) w' → (at ≡ cpu → by ≡ who.Discipline) →
-    running_at w' at ≡ after d (running_at w at) (cond (at == cpu) (Pass now ∷ Decide ∷ []) [])
-tick_seen d at w w' cpu now calls run by steps l h alone =
-    let settled = h.1.0 in
-    let p = after_time d now (processor w cpu) in
-    let q = decided_by (policies d) p settled in
-    ap (λ v. running_at v at) h.1.1.5
-    ∙ seen_there d w cpu at q (Pass now ∷ Decide ∷ []) (at == cpu) refl l (λ same. decides_own d cpu p settled (h.1.1.0, refl) (sym h.1.1.2 ∙ alone same))
+drain_seen : (d : Discipline) (at cpu now : ℕ) (p q : Processor) (tasks : List Task) (calls : List Asked) (r : Reply) → Drains (policies d) cpu now p tasks calls r q → DecidesAlone at (Drain cpu now) (Ok r) →
+    at ≡ cpu → q.running ≡ after d p.running (Pass now ∷ entries d (charge d p.running now).kept tasks)
+drain_seen d at cpu now p q tasks calls r h alone same =
+    let settled : Settled = h.0 in
+    let own = subst (λ x. DecidesAlone at (Drain cpu now) (Ok x)) h.3 alone same in
+    let c = after_time d now p in
+    let e = record c { running = enter_all d c.running tasks } in
+    ap (λ (x : Processor). x.running) h.1.1 ∙ own_decision (policies d) cpu e e.running.current settled h.1.0 own ∙ events_are_steps.drain d p.running now tasks
 
-drain_seen : (d : Discipline) (at : ℕ) (w w' : World) (cpu now : ℕ) (calls : List Asked) (count : ℕ) (run : Option ℕ) (by : By) (steps : ℕ) → at < count_in w →
-    WorldStep (policies d) w (Drain cpu now) calls (Ok (Drained count run by steps)) w' → (at ≡ cpu → by ≡ who.Discipline) →
-    running_at w' at ≡ after d (running_at w at) (cond (at == cpu) (Pass now ∷ entries d (charge d (running_at w cpu) now).kept (inbox w cpu)) [])
-drain_seen d at w w' cpu now calls count run by steps l h alone =
-    let settled = h.1.0 in
-    let c = after_time d now (processor w cpu) in
-    let p = record c { running = enter_all d c.running (inbox w cpu) } in
-    let q = decided_by (policies d) p settled in
-    ap (λ v. running_at v at) h.1.1.6
-    ∙ seen_there d w cpu at q (Pass now ∷ entries d c.running.kept (inbox w cpu)) (at == cpu) refl l
-    (λ same. decides_own d cpu p settled (h.1.1.0, refl) (sym h.1.1.3 ∙ alone same) ∙ events_are_steps.drain d (running_at w cpu) now (inbox w cpu))
-
-end_wake_seen : (d : Discipline) (at : ℕ) (w w' : World) (cpu now : ℕ) (calls : List Asked) (task to : ℕ) (by : By) (steps : ℕ) → at < count_in w →
-    WorldStep (policies d) w (EndWake cpu now) calls (Ok (Placed task to by steps)) w' →
-    running_at w' at ≡ after d (running_at w at) (cond (at == cpu) (Pass now ∷ []) [])
-end_wake_seen d at w w' cpu now calls task to by steps l h =
-    let settled : Settled = h.1.1 in
-    let c = after_time d now (processor w cpu) in
-    let q = record c { hand = None; programs = record c.programs { place = settled.program } } in
-    ap (λ v. running_at v at) h.1.4.5
-    ∙ seen_there d w cpu at q (Pass now ∷ []) (at == cpu) refl l (λ same. refl)
-
-block_seen : (d : Discipline) (at : ℕ) (w w' : World) (cpu now : ℕ) (calls : List Asked) (task : ℕ) (run : Option ℕ) → IsOrderly w → at < count_in w →
-    WorldStep (policies d) w (Block cpu now) calls (Ok (Went task run)) w' →
-    running_at w' at ≡ after d (running_at w at) (cond (at == cpu) (Pass now ∷ Leave task ∷ Decide ∷ []) [])
-block_seen d at w w' cpu now calls task run o l h =
-    let c = after_time d now (processor w cpu) in
-    let q = record c { running = after_leaving d c.running } in
-    ap (λ v. running_at v at) h.1.1.4
-    ∙ seen_there d w cpu at q (Pass now ∷ Leave task ∷ Decide ∷ []) (at == cpu) refl l
-    (λ same. events_are_steps.block d (running_at w cpu) now h.1.0 (distinct_at w cpu o) h.1.1.1
-    ∙ ap (λ id. after d (running_at w cpu) (Pass now ∷ Leave id ∷ Decide ∷ [])) (sym h.1.1.2))
+block_seen : (d : Discipline) (w : World) (cpu now : ℕ) (q : Processor) (seats : List Seat) (r : Reply) → IsOrderly w → Blocks d cpu now (processor w cpu) w.seats (Ok r) q seats →
+    q.running ≡ after d (running_at w cpu) (own_steps d w (Block cpu now) r)
+block_seen d w cpu now q seats r o h =
+    let t : Task = h.0 in
+    subst (λ x. q.running ≡ after d (running_at w cpu) (own_steps d w (Block cpu now) x)) (sym h.1.2)
+    (ap (λ (x : Processor). x.running) h.1.1 ∙ events_are_steps.block d (running_at w cpu) now t (distinct_at w cpu o) h.1.0)
 
 -- A pull, as its two processors see it
 
@@ -144,7 +121,7 @@ goes_away d cpu n p (Some id) h may e =
     events_are_steps.pulled_away d p id found.0 h found.1
 
 -- an event that is not refused is not refused by its arguments
-by_arguments : (o p : Option Refusal) → either o p ≡ None → o ≡ None
+pub by_arguments : (o p : Option Refusal) → either o p ≡ None → o ≡ None
 by_arguments None p h = refl
 by_arguments (Some r) p h = cc
 
@@ -165,46 +142,55 @@ pull_cases d w cpu from at q r ss rs false true e f n l hq hr =
 pull_cases d w cpu from at q r ss rs false false e f n l hq hr =
     at_another (with_processor w cpu q) from at r (other_number at from f) ∙ at_another w cpu at q (other_number at cpu e)
 
-pull_seen : (d : Discipline) (at : ℕ) (w w' : World) (cpu from now : ℕ) (calls : List Asked) (task run : Option ℕ) (by : By) (steps : ℕ) → IsOrderly w → at < count_in w →
-    WorldStep (policies d) w (Pull cpu from now) calls (Ok (Moved task run by steps)) w' →
-    running_at w' at ≡ after d (running_at w at)
-    (cond (at == cpu) (let c = charge d (running_at w cpu) now in Pass now ∷ entry d c (taken_from (marked d (running_at w from)) task) ++ begins c.current) (cond (at == from) (leaving task) []))
-pull_seen d at w w' cpu from now calls task run by steps o l h =
-    let k = h.1 in
-    let settled : Settled = k.0 in
+pull_seen : (d : Discipline) (at : ℕ) (w : World) (cpu from now : ℕ) (q other : Processor) (calls : List Asked) (r : Reply) → IsOrderly w → at < count_in w → cpu ≢ from →
+    Pulls (policies d) cpu from now (processor w cpu) (processor w from) calls r q other →
+    running_at (with_processor (with_processor w cpu q) from other) at ≡ after d (running_at w at) (steps_at d at w (Pull cpu from now) (Ok r))
+pull_seen d at w cpu from now q other calls r o l apart h =
+    let settled : Settled = h.0 in
+    let task = task_numbered settled.choice in
     let c = after_time d now (processor w cpu) in
-    let other = remarked d (processor w from) in
+    let source = remarked d (processor w from) in
     let queue = (running_at w from).queue in
-    let f = there (count_in w) cpu _ (by_arguments (argument_refusal (count_in w) (Pull cpu from now)) _ h.0) in
-    let g = there (count_in w) from _ f.1 in
-    let apart = differs cpu from (passed (cpu == from) no.SameProcessor None g.1).0 in
     let once = each_once_queue (running_at w from) (each_once_running w from o) in
     let may : may_pull cpu queue settled.choice ≡ true =
-    settled_permitted (policies d) _ c.programs.pull c.running.last cpu (may_pull cpu queue) (or_nobody (own_pull cpu c other)) settled (own_pull_permitted cpu c other once) k.1.0 in
-    let q = record c { running = started_if_idle d (with_pulled d c.running (taken_from other.running task)) c.running.current; programs = record c.programs { pull = settled.program } } in
-    let r = record other { running = without_task other.running task } in
-    ap (λ v. running_at v at) k.1.6
-    ∙ pull_cases d w cpu from at q r (Pass now ∷ entry d c.running (taken_from other.running task) ++ begins c.running.current) (leaving task) (at == cpu) (at == from) refl refl apart l
-    (entered_then d c.running (taken_from other.running task) c.running.current refl)
-    (goes_away d cpu settled.choice (running_at w from) task (distinct_at w from o) may (sym k.1.1))
+    settled_permitted (policies d) _ c.programs.pull c.running.last cpu (may_pull cpu queue) (or_nobody (own_pull cpu c source)) settled (own_pull_permitted cpu c source once) h.1.0 in
+    subst (λ x. running_at (with_processor (with_processor w cpu q) from other) at ≡ after d (running_at w at) (steps_at d at w (Pull cpu from now) (Ok x))) (sym h.1.2)
+    (pull_cases d w cpu from at q other (Pass now ∷ entry d c.running (taken_from source.running task) ++ begins c.running.current) (leaving task) (at == cpu) (at == from) refl refl apart l
+    (ap (λ (x : Processor). x.running) h.1.3 ∙ entered_then d c.running (taken_from source.running task) c.running.current refl)
+    (ap (λ (x : Processor). x.running) h.1.4 ∙ goes_away d cpu settled.choice (running_at w from) task (distinct_at w from o) may refl))
+
+-- the two processors of a pull that is not refused differ
+pulls_apart : (w : World) (cpu from now : ℕ) → refusal w (Pull cpu from now) ≡ None → cpu ≢ from
+pulls_apart w cpu from now h =
+    let f = there (count_in w) cpu _ (by_arguments (argument_refusal (count_in w) (Pull cpu from now)) _ h) in
+    let g = there (count_in w) from _ f.1 in
+    differs cpu from (passed (cpu == from) no.SameProcessor None g.1).0
 
 -- Each event
 
 pub event_is_steps : EventIsSteps
 event_is_steps d at w w' e calls (Err r) o l h alone = ap (λ v. running_at v at) h.1
-event_is_steps d at w w' (Admit id nice mask slice) calls (Ok Admitted) o l h alone = ap (λ v. running_at v at) h.1.1
-event_is_steps d at w w' (Retire id) calls (Ok Retired) o l h alone = ap (λ v. running_at v at) h.1.1
-event_is_steps d at w w' Draw calls (Ok (Drawn n)) o l h alone = ap (λ v. running_at v at) h.1.2
-event_is_steps d at w w' (Install cpu hook g policy) calls (Ok Installed) o l h alone =
-    ap (λ v. running_at v at) h.1.1 ∙ unseen w cpu at _ (at == cpu) refl l refl
-event_is_steps d at w w' (BeginWake cpu id) calls (Ok (Begun task loads)) o l h alone =
-    ap (λ v. running_at v at) h.1.5 ∙ unseen w cpu at _ (at == cpu) refl l refl
-event_is_steps d at w w' (EndWake cpu now) calls (Ok (Placed task to by steps)) o l h alone = end_wake_seen d at w w' cpu now calls task to by steps l h
-event_is_steps d at w w' (Drain cpu now) calls (Ok (Drained count run by steps)) o l h alone = drain_seen d at w w' cpu now calls count run by steps l h alone
-event_is_steps d at w w' (Tick cpu now) calls (Ok (Ticked run by steps)) o l h alone = tick_seen d at w w' cpu now calls run by steps l h alone
-event_is_steps d at w w' (Block cpu now) calls (Ok (Went task run)) o l h alone = block_seen d at w w' cpu now calls task run o l h
-event_is_steps d at w w' (Pull cpu from now) calls (Ok (Moved task run by steps)) o l h alone = pull_seen d at w w' cpu from now calls task run by steps o l h
-event_is_steps d at w w' e calls (Ok r) o l h alone = absurd h.1
+event_is_steps d at w w' (Admit id nice mask slice) calls (Ok r) o l h alone = ap (λ v. running_at v at) h.1.3
+event_is_steps d at w w' (Retire id) calls (Ok r) o l h alone = ap (λ v. running_at v at) h.1.3
+event_is_steps d at w w' Draw calls (Ok r) o l h alone = ap (λ v. running_at v at) h.1.2
+event_is_steps d at w w' (Install cpu hook g policy) calls (Ok r) o l h alone =
+    ap (λ v. running_at v at) h.1.3 ∙ unseen w cpu at h.1.0 (at == cpu) refl l (ap (λ (x : Processor). x.running) h.1.1.2)
+event_is_steps d at w w' (BeginWake cpu id) calls (Ok r) o l h alone =
+    ap (λ v. running_at v at) h.1.4 ∙ unseen w cpu at h.1.0 (at == cpu) refl l (ap (λ (x : Processor). x.running) h.1.2.4)
+event_is_steps d at w w' (EndWake cpu now) calls (Ok r) o l h alone =
+    ap (λ v. running_at v at) h.1.4
+    ∙ seen_there d w cpu at h.1.1 (Pass now ∷ []) (at == cpu) refl l (λ same. ap (λ (x : Processor). x.running) h.1.2.4.5)
+event_is_steps d at w w' (Drain cpu now) calls (Ok r) o l h alone =
+    ap (λ v. running_at v at) h.1.2
+    ∙ seen_there d w cpu at h.1.0 (own_steps d w (Drain cpu now) r) (at == cpu) refl l (drain_seen d at cpu now (processor w cpu) h.1.0 (inbox w cpu) calls r h.1.1 alone)
+event_is_steps d at w w' (Tick cpu now) calls (Ok r) o l h alone =
+    ap (λ v. running_at v at) h.1.2
+    ∙ seen_there d w cpu at h.1.0 (own_steps d w (Tick cpu now) r) (at == cpu) refl l (tick_seen d at cpu now (processor w cpu) h.1.0 calls r h.1.1 alone)
+event_is_steps d at w w' (Block cpu now) calls (Ok r) o l h alone =
+    ap (λ v. running_at v at) h.1.4
+    ∙ seen_there d w cpu at h.1.0 (own_steps d w (Block cpu now) r) (at == cpu) refl l (λ same. block_seen d w cpu now h.1.0 h.1.1 r o h.1.2)
+event_is_steps d at w w' (Pull cpu from now) calls (Ok r) o l h alone =
+    ap (λ v. running_at v at) h.1.3 ∙ pull_seen d at w cpu from now h.1.0 h.1.1 calls r o l (pulls_apart w cpu from now h.0) h.1.2
 
 -- Histories
 
