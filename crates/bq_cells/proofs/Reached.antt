@@ -8,9 +8,8 @@ use Rattle.bq_maps.specs.declared.board.Call.{Call as Asked}
 use Rattle.bq_parts.specs.declared.event.Event.{Event}
 use Rattle.bq_parts.specs.declared.event.Event.TheVariants.{Admit, Retire, Draw, Install, BeginWake, EndWake, Drain, Tick, Block, Pull}
 use Rattle.bq_parts.specs.declared.reply.Reply.{Reply}
-use Rattle.bq_parts.specs.declared.reply.Reply.TheVariants.{Admitted, Retired, Drawn, Installed, Begun, Placed, Drained, Ticked, Blocked as Went, Pulled as Moved}
 use Rattle.bq_parts.specs.declared.refusal.Refusal.{Refusal}
-use Rattle.bq_parts.specs.declared.seat.Seat.TheVariants.{Absent, Blocked, Away}
+use Rattle.bq_parts.specs.declared.seat.Seat.TheVariants.{Absent, Away}
 use Rattle.bq_parts.specs.Processors.{Processor, opening, HasEachOnce, HasSeatedIds}
 use Rattle.bq_parts.specs.World.{World, opening_world, count_in, processor}
 use Rattle.bq_parts.specs.Choices.{Setting, policies}
@@ -30,17 +29,16 @@ pub record IsSound (n : ℕ) (w : World) : Type 0 where
   pub orderly : IsOrderly w
 
 seats_after : (s : Setting) (w : World) (e : Event) (calls : List Asked) (r : Reply) (u : World) → Performs s w e calls r u → length u.seats ≡ length w.seats
-seats_after s w (Admit id nice mask slice) calls Admitted u k = ap (λ (v : World). length v.seats) k.1 ∙ length-set w.seats id _
-seats_after s w (Retire id) calls Retired u k = ap (λ (v : World). length v.seats) k.1 ∙ length-set w.seats id Absent
-seats_after s w Draw calls (Drawn g) u k = ap (λ (v : World). length v.seats) k.2
-seats_after s w (Install cpu h g policy) calls Installed u k = ap (λ (v : World). length v.seats) k.1
-seats_after s w (BeginWake cpu id) calls (Begun task loads) u k = ap (λ (v : World). length v.seats) k.5 ∙ length-set w.seats id Away
-seats_after s w (EndWake cpu now) calls (Placed task to by steps) u k = ap (λ (v : World). length v.seats) k.4.5
-seats_after s w (Drain cpu now) calls (Drained count run by steps) u k = ap (λ (v : World). length v.seats) k.1.6
-seats_after s w (Tick cpu now) calls (Ticked run by steps) u k = ap (λ (v : World). length v.seats) k.1.5
-seats_after s w (Block cpu now) calls (Went task run) u k = ap (λ (v : World). length v.seats) k.1.4 ∙ length-set w.seats k.0.id _
-seats_after s w (Pull cpu from now) calls (Moved task run by steps) u k = ap (λ (v : World). length v.seats) k.1.6
-seats_after s w e calls r u k = absurd k
+seats_after s w (Admit id nice mask slice) calls r u k = ap (λ (v : World). length v.seats) k.3 ∙ ap length k.1.2 ∙ length-set w.seats id _
+seats_after s w (Retire id) calls r u k = ap (λ (v : World). length v.seats) k.3 ∙ ap length k.1.2 ∙ length-set w.seats id Absent
+seats_after s w Draw calls r u k = ap (λ (v : World). length v.seats) k.2
+seats_after s w (Install cpu h g policy) calls r u k = ap (λ (v : World). length v.seats) k.3
+seats_after s w (BeginWake cpu id) calls r u k = ap (λ (v : World). length v.seats) k.4 ∙ ap length k.2.5 ∙ length-set w.seats id Away
+seats_after s w (EndWake cpu now) calls r u k = ap (λ (v : World). length v.seats) k.4
+seats_after s w (Drain cpu now) calls r u k = ap (λ (v : World). length v.seats) k.2
+seats_after s w (Tick cpu now) calls r u k = ap (λ (v : World). length v.seats) k.2
+seats_after s w (Block cpu now) calls r u k = ap (λ (v : World). length v.seats) k.4 ∙ ap length k.2.1.3 ∙ length-set w.seats k.2.0.id _
+seats_after s w (Pull cpu from now) calls r u k = ap (λ (v : World). length v.seats) k.3
 
 seats_stay : (s : Setting) (w : World) (e : Event) (calls : List Asked) (r : Result Reply Refusal) (u : World) → WorldStep s w e calls r u → length u.seats ≡ length w.seats
 seats_stay s w e calls (Ok r) u k = seats_after s w e calls r u k.1
@@ -49,13 +47,12 @@ seats_stay s w e calls (Err r) u k = ap (λ (v : World). length v.seats) k.1
 step_sound : (d : Discipline) (n : ℕ) (v : World) (x : Record) (u : World) → IsSound n v → RecordStep d v x u → IsSound n u
 step_sound d n v x u s told =
     let k = told.0 in
-    let even : length v.inboxes ≡ count_in v = s.boxes ∙ sym s.many in
-    let y = step_tidy (policies d) v x.event x.calls x.reply u even k s.orderly in
+    let y = step_tidy (policies d) v x.event x.calls x.reply u k s.orderly in
     record {
       many = y.many ∙ s.many;
       boxes = y.boxes ∙ s.many;
       seats = seats_stay (policies d) v x.event x.calls x.reply u k ∙ s.seats;
-      orderly = step_keeps (policies d) v x.event x.calls x.reply u even k s.orderly;
+      orderly = step_keeps (policies d) v x.event x.calls x.reply u k s.orderly;
     }
 
 opening_sound : (n : ℕ) → IsSound n (opening_world n)

@@ -74,6 +74,11 @@ pub drains_at : (d : Discipline) (w w' : World) (cpu now : ℕ) (calls : List As
     Drains (policies d) cpu now p xs calls r q → w' ≡ with_inbox (with_processor w cpu q) cpu [] → WorldStep (policies d) w (Drain cpu now) calls (Ok r) w'
 drains_at d w w' cpu now calls r q p xs h at box t e = rw e (drains_step d w cpu now calls r q h (rw (← at, ← box) t))
 
+-- and of a block
+pub blocks_at : (d : Discipline) (w w' : World) (cpu now : ℕ) (r : Result Reply Refusal) (q p : Processor) (seats seats' : List Seat) → cpu < count_in w → p ≡ processor w cpu → seats ≡ w.seats →
+    Blocks d cpu now p seats r q seats' → w' ≡ with_seats (with_processor w cpu q) seats' → WorldStep (policies d) w (Block cpu now) [] r w'
+blocks_at d w w' cpu now r q p seats seats' h at is b e = rw e (blocks_step d w cpu now r q seats' h (rw (← at, ← is) b))
+
 -- where no argument is refused, the generation alone is
 pub installs_step : (d : Discipline) (w : World) (cpu g : ℕ) (h : Hook) (o : Option Accepted) (r : Result Reply Refusal) (q : Processor) → argument_refusal (count_in w) (Install cpu h g o) ≡ None →
     Installs h w.drawn (processor w cpu) (record { policy = o; generation = g; maps = fresh_maps o }) r q → WorldStep (policies d) w (Install cpu h g o) [] r (with_processor w cpu q)

@@ -37,14 +37,14 @@ pub record IsTidy (count : ℕ) (floating : List Task) (w : World) : Type 0 wher
   pub placed : (cpu : ℕ) → tally (unsuited count cpu) (inbox w cpu) ≡ 0
 
 -- an orderly world is tidy with none on its way
-pub tidy_of : (w : World) → length w.inboxes ≡ length w.processors → IsOrderly w → IsTidy (count_in w) [] w
-tidy_of w l o =
+pub tidy_of : (w : World) → IsOrderly w → IsTidy (count_in w) [] w
+tidy_of w o =
     let none : (cpu : ℕ) → tally (unsuited (count_in w) cpu) (runnable_at w cpu) ≡ 0 = λ cpu. none_unsuited (count_in w) cpu (runnable_at w cpu) (o.once.allowed cpu) (o.places.runnable cpu) in
     let split : (cpu : ℕ) → tally (unsuited (count_in w) cpu) (runnable_at w cpu) ≡ tally (unsuited (count_in w) cpu) (present_at (processor w cpu).running) + tally (unsuited (count_in w) cpu) (inbox w cpu) =
     λ cpu. tally-append (unsuited (count_in w) cpu) (present_at (processor w cpu).running) (inbox w cpu) in
     record {
       many = refl;
-      boxes = l;
+      boxes = o.even;
       away = λ id. omega (arith, o.once.away id);
       blocked = λ id t e. (o.once.blocked id t e, o.places.in_lobby id t e);
       hand = o.places.in_hand;
@@ -68,6 +68,7 @@ orderly_of w y well =
         in_hand = y.hand;
         runnable = λ cpu k d l. (all cpu k d l).place;
       };
+      even = y.boxes;
       rising = λ cpu. (well cpu).rising;
       ready = λ cpu. (well cpu).ready;
     }

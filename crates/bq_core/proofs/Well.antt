@@ -12,15 +12,16 @@ use Rattle.bq_verify.specs.declared.hook.Hook.TheVariants.{Place, Preempt, Pull}
 use Rattle.bq_verify.specs.declared.hook.Version.{Version}
 use Rattle.bq_verify.specs.Accepted.{Accepted}
 use Rattle.bq_policies.specs.Programs.{Program, Programs, no_programs, with_program}
+use Rattle.bq_hooks.specs.Permitted.{task_numbered}
 use Rattle.bq_policies.specs.Standing.{IsEquipped, MayStand, AreReady}
 use Rattle.bq_parts.specs.declared.event.Event.{Event}
 use Rattle.bq_parts.specs.declared.event.Event.TheVariants as event
 use Rattle.bq_parts.specs.declared.reply.Reply.{Reply}
 use Rattle.bq_parts.specs.Processors.{Processor, opening}
-use Rattle.bq_parts.specs.World.{World, processor, with_processor}
+use Rattle.bq_parts.specs.World.{World, processor, inbox, with_processor}
 use Rattle.bq_parts.specs.Choices.{Setting, Settled, SettlesBy, SettlesPreempt, decided_by}
 use Rattle.bq_parts.specs.Moves.{taken_from, without_task, with_pulled, started_if_idle}
-use Rattle.bq_parts.specs.Shares.{after_time, Decides}
+use Rattle.bq_parts.specs.Shares.{after_time, remarked, Decides}
 use Rattle.bq_parts.specs.Steps.{Performs}
 
 pub record IsWell (p : Processor) : Type 0 where
@@ -155,7 +156,7 @@ performs_well s w (event.EndWake cpu now) calls r w' all k =
 performs_well s w (event.Drain cpu now) calls r w' all k =
     let c = after_time s.discipline now (processor w cpu) in
     let well = all cpu in
-    let q = decides_well s cpu _ k.1.0 k.0 k.1.1 (record { rising = rising_entered s.discipline c.running.kept c.running.queue _ well.rising; ready = well.ready }) in
+    let q = decides_well s cpu _ k.1.0 k.0 k.1.1 (record { rising = rising_entered s.discipline c.running.kept c.running.queue (inbox w cpu) well.rising; ready = well.ready }) in
     rw k.2 (well_at w cpu k.0 all q)
 performs_well s w (event.Tick cpu now) calls r w' all k =
     rw k.2 (well_at w cpu k.0 all (decides_well s cpu _ k.1.0 k.0 k.1.1 (time_well s.discipline now (processor w cpu) (all cpu))))
@@ -170,12 +171,15 @@ performs_well s w (event.Pull cpu from now) calls r w' all k =
     let c = after_time d now (processor w cpu) in
     let other = processor w from in
     let x = k.2 in
+    let source : Running = (remarked d other).running in
+    let task = task_numbered x.0.choice in
+    let taken = taken_from source task in
     let well = all cpu in
     let there = all from in
     let new = settled_stands s Pull c.programs.pull.policy _ c.programs.pull c.running.last cpu _ _ x.0 refl x.1.0 (well.ready Pull) in
     let q : IsWell k.0 = rw x.1.3 (record {
-      rising = rising_started d (with_pulled d c.running _) c.running.current (rising_pulled d c.running _ well.rising);
+      rising = rising_started d (with_pulled d c.running taken) c.running.current (rising_pulled d c.running taken well.rising);
       ready = ready_with c.programs Pull x.0.program well.ready new;
     }) in
-    let o : IsWell k.1 = rw x.1.4 (record { rising = rising_taken _ _ there.rising; ready = there.ready }) in
+    let o : IsWell k.1 = rw x.1.4 (record { rising = rising_taken source task there.rising; ready = there.ready }) in
     rw k.3 (well_at (with_processor w cpu k.0) from k.1 (well_at w cpu k.0 all q) o)

@@ -1,17 +1,22 @@
 //! The laws of the world, each as the contract of a function that does nothing.
-ghost use Rattle.bq_core.specs.Laws.{HistoryIsOrderly, OpeningIsOrderly, RunKeepsOrder, StepKeepsOrder};
+ghost use Rattle.bq_core.specs.Laws.{HistoryIsOrderly, OpeningIsOrderly, RunKeepsOrder, StepIsOne, StepKeepsOrder, StepKeepsOrderAnyhow};
 
-/// A world in which nothing has happened is in order: no task stands anywhere.
+/// A world in which nothing has happened is in order: no task stands anywhere, and no policy.
 pub fn opening_is_orderly()
     ensures { OpeningIsOrderly }
 {}
 
-/// Each event, refused or not, keeps a world in order, under every discipline and whatever the policies answer.
+/// Each event, refused or not, keeps a world in order, under every discipline.
 pub fn step_keeps_order()
     ensures { StepKeepsOrder }
 {}
 
-/// So do events one after another.
+/// So it does whatever the policies answer.
+pub fn step_keeps_order_anyhow()
+    ensures { StepKeepsOrderAnyhow }
+{}
+
+/// Events one after another keep it so, and each of them leaves a world in order.
 pub fn run_keeps_order()
     ensures { RunKeepsOrder }
 {}
@@ -19,4 +24,10 @@ pub fn run_keeps_order()
 /// So every world that events leave of the opening one is in order.
 pub fn history_is_orderly()
     ensures { HistoryIsOrderly }
+{}
+
+/// What an event does is decided by the world, the event and what the counters answer: there is one reply, one world
+/// afterwards, and one list of calls. Want of memory is excepted.
+pub fn step_is_one()
+    ensures { StepIsOne }
 {}

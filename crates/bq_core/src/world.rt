@@ -7,6 +7,7 @@ ghost use Rattle.bq_maps.specs.Counters.{Through};
 ghost use Rattle.bq_maps.specs.declared.board.Call.{Call as Asked};
 ghost use Rattle.bq_parts.specs.StandsOnce.{IsOrderly};
 ghost use Rattle.bq_parts.specs.declared.refusal.Refusal.TheVariants as no;
+ghost use Rattle.bq_core.specs.Laws.{StaysOrderly};
 
 use crate::parts::Parts;
 use crate::{Cpu, Event, Inbox, Lobby, Refusal, Reply, Scratch, argument_refusal};
@@ -85,7 +86,7 @@ impl<Q: RunQueue, const P: usize> Core<Q, P> {
     }
 
     /// Some events in order, and the answer to each. The list of answers is made before the first event: where that growth
-    /// is refused the answer is OutOfMemory, and nothing has happened.
+    /// is refused the answer is OutOfMemory, and nothing has happened. Each event leaves a world in order.
     pub fn run<B: Board>(
         &mut self,
         alloc: Global,
@@ -97,9 +98,10 @@ impl<Q: RunQueue, const P: usize> Core<Q, P> {
         ensures still { OnErr result (board.new ≡ board.old) }
         ensures memory { IfErr result (λ refusal. refusal ≡ no.OutOfMemory) }
         ensures orderly { IsOrderly self.new }
+        ensures throughout { StaysOrderly (policies Q.R.discipline) self.old events.items }
     {
+        let _ = &self.parts;
         let Ok(mut answers) = Vec::with_capacity(alloc, events.len()) else {
-            let _ = &self.parts;
             return Err(Refusal::OutOfMemory);
         };
         self.run_all(alloc, events, &mut answers, board);
@@ -157,7 +159,6 @@ impl<Q: RunQueue, const P: usize> Parts<Q, P> {
         requires orderly { IsOrderly self.old }
         ensures step { WorldStep (policies Q.R.discipline) self.old event scratch.new result self.new }
         ensures board { Through B.leads board.old scratch.new board.new }
-        ensures even { length self.old.inboxes ≡ length self.old.processors }
     {
         let _ = &self.cpus;
         scratch.clear();

@@ -1,6 +1,6 @@
 -- Worlds in order: each admitted task stands exactly once, on a processor of its mask where it runs or waits, and nothing else
 -- stands anywhere; queues rise by (v, id); and each policy at a hook was accepted.
-use Rattle.std.specs.Prelude.{◌≡◌, ℕ, ◌+◌, true, List, [], ◌∷◌, ◌++◌, Some, All}
+use Rattle.std.specs.Prelude.{◌≡◌, ℕ, ◌+◌, true, List, [], ◌∷◌, ◌++◌, length, Some, All}
 use Rattle.bq_disc.specs.Tasks.{Task}
 use Rattle.bq_disc.specs.Queues.{can_use}
 use Rattle.bq_disc.specs.Trees.{IsRising}
@@ -49,6 +49,8 @@ pub record HasPlaces (w : World) : Type 0 where
 pub record IsOrderly (w : World) : Type 0 where
   pub once : StandsOnce w
   pub places : HasPlaces w
+  -- each processor has an inbox
+  pub even : length w.inboxes ≡ length w.processors
   -- each queue rises by (v, id)
   pub rising : (cpu : ℕ) → IsRising (processor w cpu).running.queue
   -- whatever stands at a hook was accepted for it, and its maps have its shapes

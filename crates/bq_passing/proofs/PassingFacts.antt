@@ -28,7 +28,6 @@ use Rattle.bq_parts.specs.Refusals.{first_refusal, either}
 use Rattle.bq_parts.specs.World.{World, processor, count_in, with_processor}
 use Rattle.bq_parts.specs.Choices.{Setting, Settled, SettlesBy, SettlesPreempt, decided_by, policies}
 use Rattle.bq_parts.specs.Shares.{Ticks, Blocks, after_time}
-use Rattle.bq_parts.specs.Moves.{after_leaving}
 use Rattle.bq_parts.specs.Steps.{WorldStep}
 use Rattle.bq_passing.specs.Passing.{after_tick, after_block, DisciplinePasses, CfsPasses}
 
@@ -79,22 +78,21 @@ in_range count cpu false o e h = grind (arith, nat_tests)
 there : (w : World) (cpu : ℕ) (q : Processor) → cpu < count_in w → processor (with_processor w cpu q) cpu ≡ q
 there w cpu q l = get_or-set_same w.processors cpu q opening l
 
+-- where the number of a processor is not refused, what is written there is what stands there
+written : (w w' v : World) (cpu : ℕ) (q : Processor) (o : Option Refusal) → either (first_refusal ((nat_le (count_in w) cpu, no.NoProcessor) ∷ [])) o ≡ None → w' ≡ v → processor v cpu ≡ processor (with_processor w cpu q) cpu → processor w' cpu ≡ q
+written w w' v cpu q o h e f = ap (λ (u : World). processor u cpu) e ∙ f ∙ there w cpu q (in_range (count_in w) cpu (nat_le (count_in w) cpu) o refl h)
+
 tick_leaves : (d : Discipline) (w w' : World) (cpu now : ℕ) (calls : List Asked) (run : Option ℕ) (steps : ℕ) →
     WorldStep (policies d) w (Tick cpu now) calls (Ok (Ticked run who.Discipline steps)) w' → (processor w' cpu).running ≡ after_tick d (processor w cpu).running now
 tick_leaves d w w' cpu now calls run steps h =
-    let l = in_range (count_in w) cpu (nat_le (count_in w) cpu) None refl h.0 in
-    let p = after_time d now (processor w cpu) in
-    let settled = h.1.0 in
-    let q = decided_by (policies d) p settled in
-    ap (λ (v : World). (processor v cpu).running) h.1.1.5 ∙ ap (λ (x : Processor). x.running) (there w cpu q l)
-    ∙ own_decision (policies d) cpu p p.running.current settled h.1.1.0 (sym h.1.1.2)
+    let k = h.1 in
+    ap (λ (x : Processor). x.running) (written w w' _ cpu k.0 None h.0 k.2 refl) ∙ tick_share_leaves d (processor w cpu) k.0 cpu now calls run steps k.1
 
 block_leaves : (d : Discipline) (w w' : World) (cpu now : ℕ) (calls : List Asked) (task : ℕ) (run : Option ℕ) →
     WorldStep (policies d) w (Block cpu now) calls (Ok (Went task run)) w' → (processor w' cpu).running ≡ after_block d (processor w cpu).running now
 block_leaves d w w' cpu now calls task run h =
-    let l = in_range (count_in w) cpu (nat_le (count_in w) cpu) _ refl h.0 in
-    let p = after_time d now (processor w cpu) in
-    ap (λ (v : World). (processor v cpu).running) h.1.1.4 ∙ ap (λ (x : Processor). x.running) (there w cpu (record p { running = after_leaving d p.running }) l)
+    let k = h.1 in
+    ap (λ (x : Processor). x.running) (written w w' _ cpu k.0 _ h.0 k.4 refl) ∙ block_share_leaves d (processor w cpu) k.0 cpu now w.seats k.1 (Went task run) k.2
 
 -- under any discipline
 pub discipline_passes : DisciplinePasses
@@ -116,16 +114,17 @@ only_idle count cpu false o r l e h = h
 
 blocked : (w w' : World) (cpu now : ℕ) (calls : List Asked) (answer : Result Reply Refusal) → cpu < count_in w →
     WorldStep (policies cfs) w (Block cpu now) calls answer w' → (processor w' cpu).running ≡ passed (processor w cpu).running (BlockAt now)
-blocked w w' cpu now calls (Ok (Went task run)) l h =
+blocked w w' cpu now calls (Ok r) l h =
     let p = (processor w cpu).running in
-    block_leaves cfs w w' cpu now calls task run h ∙ sym (departs p now p.current h.1.0 _ h.1.1.1)
+    let k = h.1 in
+    let left = ap (λ (x : Processor). x.running) (written w w' _ cpu k.0 _ h.0 k.4 refl) ∙ block_share_leaves cfs (processor w cpu) k.0 cpu now w.seats k.1 r k.2 in
+    left ∙ sym (departs p now p.current k.2.0 _ k.2.1.0)
 blocked w w' cpu now calls (Err r) l h =
     let p = (processor w cpu).running in
     ap (λ (v : World). (processor v cpu).running) h.1 ∙ sym (elim h.2 [
       | inl e ↦ stays p now p.current r (only_idle (count_in w) cpu (nat_le (count_in w) cpu) _ r l refl e)
       | inr e ↦ absurd e.0
     ])
-blocked w w' cpu now calls (Ok r) l h = absurd h.1
 
 pub cfs_passes : CfsPasses
 cfs_passes = record { tick = tick_leaves cfs; block = blocked }

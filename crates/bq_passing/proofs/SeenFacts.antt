@@ -45,7 +45,7 @@ use Rattle.bq_passing.proofs.PassingFacts.{discipline_passes, own_decision}
 
 -- What is read of a world after a processor was written
 
-same_number : (a b : ℕ) → (a == b) ≡ true → a ≡ b
+pub same_number : (a b : ℕ) → (a == b) ≡ true → a ≡ b
 same_number a b e = grind (arith, nat_tests)
 
 other_number : (a b : ℕ) → (a == b) ≡ false → a ≢ b
@@ -72,7 +72,7 @@ seen_there d w cpu at q ss true e l h =
     subst (λ n. running_at (with_processor w cpu q) n ≡ after d (running_at w n) ss) (sym same) (at_itself w cpu q (subst (λ n. n < count_in w) same l) ∙ h same)
 seen_there d w cpu at q ss false e l h = at_another w cpu at q (other_number at cpu e)
 
-distinct_at : (w : World) (cpu : ℕ) → IsOrderly w → HasDistinctIds (present_at (running_at w cpu))
+pub distinct_at : (w : World) (cpu : ℕ) → IsOrderly w → HasDistinctIds (present_at (running_at w cpu))
 distinct_at w cpu o = HasDistinctIds-from_counts (present_at (running_at w cpu)) (each_once_running w cpu o)
 
 -- The events that one processor sees
@@ -160,7 +160,7 @@ pull_seen d at w cpu from now q other calls r o l apart h =
     (ap (λ (x : Processor). x.running) h.1.4 ∙ goes_away d cpu settled.choice (running_at w from) task (distinct_at w from o) may refl))
 
 -- the two processors of a pull that is not refused differ
-pulls_apart : (w : World) (cpu from now : ℕ) → refusal w (Pull cpu from now) ≡ None → cpu ≢ from
+pub pulls_apart : (w : World) (cpu from now : ℕ) → refusal w (Pull cpu from now) ≡ None → cpu ≢ from
 pulls_apart w cpu from now h =
     let f = there (count_in w) cpu _ (by_arguments (argument_refusal (count_in w) (Pull cpu from now)) _ h) in
     let g = there (count_in w) from _ f.1 in
@@ -199,13 +199,13 @@ after-append d p [] rs = refl
 after-append d p (s ∷ ss) rs = after-append d (stepped d p s) ss rs
 
 pub history_is_steps : HistoryIsSteps
-history_is_steps d at w w' [] [] [] ss b o l h = ap (λ v. running_at v at) h.0 ∙ ap (λ xs. after d (running_at w at) xs) (sym h.1)
-history_is_steps d at w w' (e ∷ es) (calls ∷ more) (a ∷ answers) ss b o l h =
+history_is_steps d at w w' [] [] [] ss o l h = ap (λ v. running_at v at) h.0 ∙ ap (λ xs. after d (running_at w at) xs) (sym h.1)
+history_is_steps d at w w' (e ∷ es) (calls ∷ more) (a ∷ answers) ss o l h =
     let mid : World = h.0 in
     let rest : List Step = h.1 in
-    let y = step_tidy (policies d) w e calls a mid b h.2 o in
+    let y = step_tidy (policies d) w e calls a mid h.2 o in
     let first = event_is_steps d at w mid e calls a o l h.2 h.3 in
     let l' : at < count_in mid = omega (arith, y.many) in
-    let then = history_is_steps d at mid w' es more answers rest (omega (arith, y.many, y.boxes)) (step_keeps (policies d) w e calls a mid b h.2 o) l' h.4 in
+    let then = history_is_steps d at mid w' es more answers rest (step_keeps (policies d) w e calls a mid h.2 o) l' h.4 in
     then ∙ ap (λ p. after d p rest) first ∙ sym (after-append d (running_at w at) (steps_at d at w e a) rest) ∙ ap (λ xs. after d (running_at w at) xs) (sym h.5)
-history_is_steps d at w w' es more answers ss b o l h = absurd h
+history_is_steps d at w w' es more answers ss o l h = absurd h

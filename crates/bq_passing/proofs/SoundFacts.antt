@@ -1,7 +1,7 @@
 -- What every task of a world keeps: its weight is of the table's range, and where it is present a fact that the discipline keeps
 -- of each that enters and runs.
-use Rattle.std.proofs.Common.{◌≡◌, ℕ, zero, suc, ◌+◌, ◌<◌, ◌≤◌, Bool, true, false, cond, List, [], ◌∷◌, ◌++◌, length, Option, Some, None, Result, Ok, Err, refl, ap, sym, subst, ◌∙◌, arith, get_or, set}
-use Rattle.std.specs.Prelude.{ℤ, pos, negsuc, ◌==◌, ◌||◌, ◌^◌, All, slice_index, replicate}
+use Rattle.std.proofs.Common.{◌≡◌, ℕ, zero, suc, ◌+◌, ◌-◌, ◌<◌, ◌≤◌, Bool, true, false, cond, List, [], ◌∷◌, ◌++◌, length, Option, Some, None, Result, Ok, Err, refl, ap, sym, subst, ◌∙◌, arith, get_or, set}
+use Rattle.std.specs.Prelude.{ℤ, pos, negsuc, ◌==◌, ◌||◌, ◌^◌, ◌%◌, nat_le, All, slice_index, replicate}
 use Rattle.std.specs.List.{AllByRecursion}
 use Rattle.std.specs.Option.{option_map}
 use Rattle.std.proofs.lemmas.Bool.Decides.{nat_tests}
@@ -16,6 +16,7 @@ use Rattle.bq_parts.specs.declared.seat.Seat.TheVariants.{Absent, Blocked, Away}
 use Rattle.bq_parts.specs.declared.event.Event.{Event}
 use Rattle.bq_parts.specs.declared.event.Event.TheVariants as event
 use Rattle.bq_parts.specs.declared.reply.Reply.{Reply}
+use Rattle.bq_parts.specs.declared.refusal.Refusal.TheVariants as no
 use Rattle.bq_parts.specs.Processors.{Processor, opening}
 use Rattle.bq_parts.specs.Refusals.{refusal, argument_refusal, out_of_nice}
 use Rattle.bq_parts.specs.World.{World, opening_world, processor, inbox, seat, count_in, with_processor, with_inbox, with_seats}
@@ -41,7 +42,7 @@ each_found P id [] t h e = cc
 each_found P id (x ∷ xs) t h e = each_found_by P (has_id id x) x t (with_id id xs) h.0 (each_found P id xs t h.1) e
 
 each_place_by : (P : Task → Type 0) (b : Bool) (t x : Task) (xs rest : List Task) → P t → P x → Each P xs → Each P rest → Each P (cond b (t ∷ x ∷ xs) (x ∷ rest))
-each_place_by P true t x xs rest p q h r = (p, q, h)
+each_place_by P true t x xs rest p q h r = (p, (q, h))
 each_place_by P false t x xs rest p q h r = (q, r)
 
 each_place : (P : Task → Type 0) (t : Task) (xs : List Task) → P t → Each P xs → Each P (place t xs)
@@ -175,7 +176,7 @@ blocked_is t h = λ u e. let same : t ≡ u = cc in subst HasWeight same h
 -- The table of weights
 
 all_weights : AllByRecursion IsWeight weights
-all_weights = ((omega arith, omega arith), (omega arith, omega arith), (omega arith, omega arith), (omega arith, omega arith), (omega arith, omega arith), (omega arith, omega arith), (omega arith, omega arith), (omega arith, omega arith), (omega arith, omega arith), (omega arith, omega arith), (omega arith, omega arith), (omega arith, omega arith), (omega arith, omega arith), (omega arith, omega arith), (omega arith, omega arith), (omega arith, omega arith), (omega arith, omega arith), (omega arith, omega arith), (omega arith, omega arith), (omega arith, omega arith), (omega arith, omega arith), (omega arith, omega arith), (omega arith, omega arith), (omega arith, omega arith), (omega arith, omega arith), (omega arith, omega arith), (omega arith, omega arith), (omega arith, omega arith), (omega arith, omega arith), (omega arith, omega arith), (omega arith, omega arith), (omega arith, omega arith), (omega arith, omega arith), (omega arith, omega arith), (omega arith, omega arith), (omega arith, omega arith), (omega arith, omega arith), (omega arith, omega arith), (omega arith, omega arith), (omega arith, omega arith), tt)
+all_weights = ((omega arith, omega arith), ((omega arith, omega arith), ((omega arith, omega arith), ((omega arith, omega arith), ((omega arith, omega arith), ((omega arith, omega arith), ((omega arith, omega arith), ((omega arith, omega arith), ((omega arith, omega arith), ((omega arith, omega arith), ((omega arith, omega arith), ((omega arith, omega arith), ((omega arith, omega arith), ((omega arith, omega arith), ((omega arith, omega arith), ((omega arith, omega arith), ((omega arith, omega arith), ((omega arith, omega arith), ((omega arith, omega arith), ((omega arith, omega arith), ((omega arith, omega arith), ((omega arith, omega arith), ((omega arith, omega arith), ((omega arith, omega arith), ((omega arith, omega arith), ((omega arith, omega arith), ((omega arith, omega arith), ((omega arith, omega arith), ((omega arith, omega arith), ((omega arith, omega arith), ((omega arith, omega arith), ((omega arith, omega arith), ((omega arith, omega arith), ((omega arith, omega arith), ((omega arith, omega arith), ((omega arith, omega arith), ((omega arith, omega arith), ((omega arith, omega arith), ((omega arith, omega arith), ((omega arith, omega arith), tt))))))))))))))))))))))))))))))))))))))))
 
 weight_there : (xs : List ℕ) (k : ℕ) → AllByRecursion IsWeight xs → k < length xs → IsWeight (slice_index xs k)
 weight_there [] k h l = absurd (omega arith)
@@ -194,40 +195,43 @@ decides_holds s P cpu p settled q h k = rw h.1 (holds_decided s.discipline P p.r
 decides_hand : (s : Setting) (cpu : ℕ) (p : Processor) (settled : Settled) (q : Processor) → Decides s cpu p settled q → HandIsSound p → HandIsSound q
 decides_hand s cpu p settled q h k = rw h.1 k
 
+held_task : (x c : Carried) → Some x ≡ Some c → x.task ≡ c.task
+held_task x c e = let same : x ≡ c = cc in ap (λ (y : Carried). y.task) same
+
 -- an event that is not refused keeps a world sound
 pub performs_sound : (s : Setting) (P : Task → Type 0) → IsKept s.discipline P → (w : World) (e : Event) (calls : List Asked) (r : Reply) (w' : World) → IsSoundWorld P w → refusal w e ≡ None → Performs s w e calls r w' → IsSoundWorld P w'
-performs_sound s P k w (event.Admit id nice mask slice) calls r w' y no h =
-    let arguments = by_arguments (argument_refusal (count_in w) (event.Admit id nice mask slice)) _ no in
-    let f = passed _ _ _ (passed _ _ _ (passed _ _ _ arguments).1).1 in
+performs_sound s P k w (event.Admit id nice mask slice) calls r w' y free h =
+    let arguments = by_arguments (argument_refusal (count_in w) (event.Admit id nice mask slice)) _ free in
+    let f = passed (out_of_nice nice) no.Nice _ (passed (mask % 2 ^ count_in w == 0) no.EmptyMask _ (passed (nat_le 1024 id) no.NoTask _ arguments).1).1 in
     rw (h.3, h.1.2) (sound_seat P w id (Blocked (admitted (count_in w) id nice mask slice)) y (blocked_is _ (nice_weight nice f.0)))
-performs_sound s P k w (event.Retire id) calls r w' y no h = rw (h.3, h.1.2) (sound_seat P w id Absent y (λ t e. cc))
-performs_sound s P k w event.Draw calls r w' y no h = rw h.2 (sound_drawn P w _ y)
-performs_sound s P k w (event.Install cpu hook g policy) calls r w' y no h =
+performs_sound s P k w (event.Retire id) calls r w' y free h = rw (h.3, h.1.2) (sound_seat P w id Absent y (λ t e. cc))
+performs_sound s P k w event.Draw calls r w' y free h = rw h.2 (sound_drawn P w _ y)
+performs_sound s P k w (event.Install cpu hook g policy) calls r w' y free h =
     rw (h.3, h.1.2) (sound_processor P w cpu _ y (y.running cpu) (y.hand cpu))
-performs_sound s P k w (event.BeginWake cpu id) calls r w' y no h =
+performs_sound s P k w (event.BeginWake cpu id) calls r w' y free h =
     let b = h.2 in
     let t : Task = b.0 in
-    let one = sound_processor P w cpu (record (processor w cpu) { hand = Some (record { task = t; loads = _ }) }) y (y.running cpu) (λ c e. let same : t ≡ c.task = cc in subst HasWeight same (y.lobby id t b.2)) in
+    let one = sound_processor P w cpu (record (processor w cpu) { hand = Some (record { task = t; loads = _ }) }) y (y.running cpu) (λ c e. subst HasWeight (held_task _ c e) (y.lobby id t b.2)) in
     rw (h.4, b.4, b.5) (sound_seat P _ id Away one (λ t e. cc))
-performs_sound s P k w (event.EndWake cpu now) calls r w' y no h =
+performs_sound s P k w (event.EndWake cpu now) calls r w' y free h =
     let b = h.2 in
     let carried : Carried = b.0 in
     let one = sound_processor P w cpu h.1 y (rw b.4.5 (holds_charge s.discipline P k (processor w cpu).running now (y.running cpu))) (rw b.4.5 (λ c e. cc)) in
     let task : HasWeight h.0.task = rw b.3 (y.hand cpu carried b.2) in
     rw h.4 (sound_inbox P (with_processor w cpu h.1) h.0.to _ one (each_append HasWeight (inbox w h.0.to) (h.0.task ∷ []) (y.placed h.0.to) (task, tt)))
-performs_sound s P k w (event.Drain cpu now) calls r w' y no h =
+performs_sound s P k w (event.Drain cpu now) calls r w' y free h =
     let d = s.discipline in
     let c = after_time d now (processor w cpu) in
     let e = record c { running = enter_all d c.running (inbox w cpu) } in
     let t = holds_charge d P k (processor w cpu).running now (y.running cpu) in
-    let entered = record { current = t.current; queue = each_entered d P k c.running.kept c.running.queue (inbox w cpu) t.queue (y.placed cpu) } in
+    let entered : Holds P e.running = record { current = t.current; queue = each_entered d P k c.running.kept c.running.queue (inbox w cpu) t.queue (y.placed cpu) } in
     let one = sound_processor P w cpu h.0 y (decides_holds s P cpu e h.1.0 h.0 h.1.1 entered) (decides_hand s cpu e h.1.0 h.0 h.1.1 (y.hand cpu)) in
     rw h.2 (sound_inbox P (with_processor w cpu h.0) cpu [] one tt)
-performs_sound s P k w (event.Tick cpu now) calls r w' y no h =
+performs_sound s P k w (event.Tick cpu now) calls r w' y free h =
     let d = s.discipline in
     let c = after_time d now (processor w cpu) in
     rw h.2 (sound_processor P w cpu h.0 y (decides_holds s P cpu c h.1.0 h.0 h.1.1 (holds_charge d P k (processor w cpu).running now (y.running cpu))) (decides_hand s cpu c h.1.0 h.0 h.1.1 (y.hand cpu)))
-performs_sound s P k w (event.Block cpu now) calls r w' y no h =
+performs_sound s P k w (event.Block cpu now) calls r w' y free h =
     let d = s.discipline in
     let b = h.2 in
     let c = after_time d now (processor w cpu) in
@@ -237,7 +241,7 @@ performs_sound s P k w (event.Block cpu now) calls r w' y no h =
     let left = holds_start d P gone (record { current = λ u e. cc; queue = charged.queue }) in
     let one = sound_processor P w cpu h.0 y (rw b.1.1 left) (rw b.1.1 (y.hand cpu)) in
     rw (h.4, b.1.3) (sound_seat P (with_processor w cpu h.0) t.id _ one (blocked_is _ (k.weight t (charged.current t b.1.0))))
-performs_sound s P k w (event.Pull cpu from now) calls r w' y no h =
+performs_sound s P k w (event.Pull cpu from now) calls r w' y free h =
     let d = s.discipline in
     let x = h.2 in
     let c = after_time d now (processor w cpu) in
@@ -258,8 +262,8 @@ same_everywhere x (suc n) (suc i) = same_everywhere x n i
 
 pub opening_sound : (P : Task → Type 0) (count : ℕ) → IsSoundWorld P (opening_world count)
 opening_sound P count = record {
-  running = λ cpu. rw (same_everywhere opening count cpu) (record { current = λ t e. cc; queue = tt });
-  hand = λ cpu c e. let none : None ≡ Some c = sym (ap (λ (p : Processor). p.hand) (same_everywhere opening count cpu)) ∙ e in cc;
-  placed = λ cpu. rw (same_everywhere [] count cpu) tt;
-  lobby = λ id t e. let none : Absent ≡ Blocked t = sym (same_everywhere Absent 1024 id) ∙ e in cc;
+  running = λ cpu. rw (same_everywhere {X = Processor} opening count cpu) (record { current = λ t e. cc; queue = tt });
+  hand = λ cpu c e. let none : None ≡ Some c = sym (ap (λ (p : Processor). p.hand) (same_everywhere {X = Processor} opening count cpu)) ∙ e in cc;
+  placed = λ cpu. rw (same_everywhere {X = List Task} [] count cpu) tt;
+  lobby = λ id t e. let none : Absent ≡ Blocked t = sym (same_everywhere {X = Seat} Absent 1024 id) ∙ e in cc;
 }

@@ -1,5 +1,5 @@
 -- A history of the world as one processor has it: the steps that each event makes there, where the discipline alone decides.
-use Rattle.std.specs.Prelude.{◌≡◌, ℕ, ◌<◌, Bool, false, ◌==◌, if◌then◌else◌, List, [], ◌∷◌, ◌++◌, length, Option, None, Some, Result, Ok, Err}
+use Rattle.std.specs.Prelude.{◌≡◌, ℕ, ◌<◌, Bool, false, ◌==◌, if◌then◌else◌, List, [], ◌∷◌, ◌++◌, Option, None, Some, Result, Ok, Err}
 use Rattle.bq_disc.specs.Tasks.{Task}
 use Rattle.bq_disc.specs.Discipline.{Discipline, pulled}
 use Rattle.bq_disc.specs.OneProcessor.{Running, charge, marked}
@@ -93,8 +93,8 @@ EventIsSteps =
     IsOrderly w → at < count_in w → WorldStep (policies d) w e calls a w' → DecidesAlone at e a →
     running_at w' at ≡ after d (running_at w at) (steps_at d at w e a)
 
--- and so for a history, where each processor has an inbox
+-- and so for a history
 abbrev pub HistoryIsSteps : Type 0
 HistoryIsSteps =
     (d : Discipline) (at : ℕ) (w w' : World) (es : List Event) (more : List (List Asked)) (answers : List (Result Reply Refusal)) (ss : List Step) →
-    length w.inboxes ≡ length w.processors → IsOrderly w → at < count_in w → IsSeenAt d at w es more answers w' ss → running_at w' at ≡ after d (running_at w at) ss
+    IsOrderly w → at < count_in w → IsSeenAt d at w es more answers w' ss → running_at w' at ≡ after d (running_at w at) ss

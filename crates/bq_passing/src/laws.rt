@@ -1,6 +1,7 @@
 //! Laws of the world's steps at one processor: each is the contract of a function that does nothing.
 ghost use Rattle.bq_passing.specs.Passing.{CfsPasses, DisciplinePasses};
 ghost use Rattle.bq_passing.specs.Seen.{EventIsSteps, HistoryIsSteps};
+ghost use Rattle.bq_passing.specs.WorldFairness.{CfsWorldServes, EevdfWorldServes};
 
 /// A Tick whose answer is the discipline's own, and a Block, leave at their processor what the definitions of one processor
 /// say: its time passes, and the discipline decides who runs; or its current task goes, and the queue's choice runs. So do
@@ -29,4 +30,18 @@ pub fn event_is_steps()
 #[tactic(auto, using(crate::proofs::SeenFacts::history_is_steps))]
 pub fn history_is_steps()
     ensures { HistoryIsSteps }
+{}
+
+/// CFS, in the world: whatever has happened since the opening, and whatever policies do elsewhere, two tasks that stay at a
+/// processor where the discipline alone decides are served in proportion to their weights from then on, but for where they
+/// stood, one granularity and one rise of the clock.
+#[tactic(auto, using(crate::proofs::WorldFacts::cfs_world_serves))]
+pub fn cfs_world_serves()
+    ensures { CfsWorldServes }
+{}
+
+/// EEVDF, in the world: so too, by the other task's slice in place of the granularity.
+#[tactic(auto, using(crate::proofs::WorldFacts::eevdf_world_serves))]
+pub fn eevdf_world_serves()
+    ensures { EevdfWorldServes }
 {}

@@ -1,4 +1,4 @@
-//! What a step of the world leaves at one processor, where the discipline alone decides.
+//! What the steps of the world leave at one processor, where the discipline alone decides: so the laws of fairness hold in the world.
 #![tactic(auto)]
 
 pub mod laws;

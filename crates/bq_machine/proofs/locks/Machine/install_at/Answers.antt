@@ -32,7 +32,7 @@ commit_one-requires-clause-moves g c =
     let share = subst (λ (x : Program). Installs h k.drawn own.state x r q) whole had in (
       cpu_part own.number own.state,
       c.place.invariant.0,
-      rw (c.again-kept.ensures, c.kept.ensures, c.none-2.ensures, c.generation-generation.ensures, c.args.spare.receipt_is)
+      rw (c.again-kept.ensures, c.kept.ensures, c.none-2.ensures, c.generation-generation.ensures.value, c.args.spare.receipt_is)
           (install_moves d n own.number i.generation h i.policy own.state q k r fits share),
     )
 
