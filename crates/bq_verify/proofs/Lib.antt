@@ -8,3 +8,4 @@ pub mod LongerLemmas
 pub mod WorkedLemmas
 pub mod FirstLemmas
 pub mod FrameLemmas
+pub mod AskLemmas
