@@ -9,3 +9,4 @@ pub mod WorkedLemmas
 pub mod FirstLemmas
 pub mod FrameLemmas
 pub mod AskLemmas
+pub mod CallingLemmas

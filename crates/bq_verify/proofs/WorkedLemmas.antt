@@ -22,18 +22,18 @@ use Rattle.bq_verify.specs.Straight.{held_along, OnEachPath, always, stores, wri
 use Rattle.bq_verify.specs.Worked.{worked, WorkedIsStraight}
 
 -- a fact of each instruction and its slot
-abbrev AllAt : (ℕ → Insn → Type 0) → ℕ → List (Option Insn) → Type 0
+abbrev pub AllAt : (ℕ → Insn → Type 0) → ℕ → List (Option Insn) → Type 0
 AllAt P n [] = Unit {0}
 AllAt P n (None ∷ rest) = AllAt P (n + 1) rest
 AllAt P n (Some insn ∷ rest) = P n insn × AllAt P (n + 1) rest
 
-some_same : (a b : Insn) → Some a ≡ Some b → a ≡ b
+pub some_same : (a b : Insn) → Some a ≡ Some b → a ≡ b
 some_same a b e = cc
 
-no_insn : (a : Insn) → None ≡ Some a → ⊥
+pub no_insn : (a : Insn) → None ≡ Some a → ⊥
 no_insn a e = cc
 
-at_slot : (P : ℕ → Insn → Type 0) (n : ℕ) (slots : List (Option Insn)) → AllAt P n slots → (k : ℕ) (insn : Insn) → instruction_at slots k ≡ Some insn → P (n + k) insn
+pub at_slot : (P : ℕ → Insn → Type 0) (n : ℕ) (slots : List (Option Insn)) → AllAt P n slots → (k : ℕ) (insn : Insn) → instruction_at slots k ≡ Some insn → P (n + k) insn
 at_slot P n [] all k insn here = absurd (no_insn insn here)
 at_slot P n (None ∷ rest) all zero insn here = absurd (no_insn insn here)
 at_slot P n (None ∷ rest) all (suc k) insn here =
@@ -53,18 +53,18 @@ each_slot : (P : ℕ → Insn → Type 0) → AllAt P 0 program → (k : ℕ) (i
 each_slot P all k insn here = let e : 0 + k ≡ k = omega arith in subst (λ (m : ℕ). P m insn) e (at_slot P 0 program all k insn here)
 
 -- what holds at the start of a path, and over each edge, holds at its end
-along : (slots : List (Option Insn)) (makes leaves : Option Insn → Bool) (P : ℕ → Bool → Type 0) → ((from to : ℕ) (held : Bool) → IsEdge slots from to → P from held → P to (makes (instruction_at slots from) || (leaves (instruction_at slots from) && held))) → (rest : List ℕ) (from : ℕ) (held : Bool) → IsPath slots from rest → P from held → P (end_of from rest) (held_along slots makes leaves held from rest)
+pub along : (slots : List (Option Insn)) (makes leaves : Option Insn → Bool) (P : ℕ → Bool → Type 0) → ((from to : ℕ) (held : Bool) → IsEdge slots from to → P from held → P to (makes (instruction_at slots from) || (leaves (instruction_at slots from) && held))) → (rest : List ℕ) (from : ℕ) (held : Bool) → IsPath slots from rest → P from held → P (end_of from rest) (held_along slots makes leaves held from rest)
 along slots makes leaves P step [] from held path p = p
 along slots makes leaves P step (next ∷ rest) from held path p = along slots makes leaves P step rest next _ path.1 (step from next held path.0 p)
 
 -- what each instruction before a slot makes so is so there on each path
-made_before : (slots : List (Option Insn)) (makes leaves : Option Insn → Bool) (first : Bool) (slot : ℕ) → 0 < slot → ((from : ℕ) → IsEdge slots from slot → makes (instruction_at slots from) ≡ true) → OnEachPath slots makes leaves first slot
+pub made_before : (slots : List (Option Insn)) (makes leaves : Option Insn → Bool) (first : Bool) (slot : ℕ) → 0 < slot → ((from : ℕ) → IsEdge slots from slot → makes (instruction_at slots from) ≡ true) → OnEachPath slots makes leaves first slot
 made_before slots makes leaves first slot later made rest path ends =
     along slots makes leaves (λ n held. n ≡ slot → held ≡ true)
     (λ from to held edge p same. let m : makes (instruction_at slots from) ≡ true = made from (subst (λ (n : ℕ). IsEdge slots from n) same edge) in rw m refl)
     rest 0 first path (λ same. absurd (omega arith)) ends
 
-or_true : (b : Bool) → (b || true) ≡ true
+pub or_true : (b : Bool) → (b || true) ≡ true
 or_true true = refl
 or_true false = refl
 
@@ -73,7 +73,7 @@ from_first slots makes made zero held p = rw made refl
 from_first slots makes made (suc n) held p = let h : held ≡ true = p (omega arith) in rw h (or_true _)
 
 -- what the first instruction makes so, and each leaves so, is so at each later slot
-made_first : (slots : List (Option Insn)) (makes : Option Insn → Bool) → makes (instruction_at slots 0) ≡ true → (slot : ℕ) → 0 < slot → OnEachPath slots makes always false slot
+pub made_first : (slots : List (Option Insn)) (makes : Option Insn → Bool) → makes (instruction_at slots 0) ≡ true → (slot : ℕ) → 0 < slot → OnEachPath slots makes always false slot
 made_first slots makes made slot later rest path ends =
     along slots makes always (λ n held. 0 < n → held ≡ true)
     (λ from to held edge p le. from_first slots makes made from held p)
@@ -83,13 +83,13 @@ made_first slots makes made slot later rest path ends =
 abbrev before : ℕ → ℕ
 before k = slice_index (0 ∷ 0 ∷ 0 ∷ 1 ∷ 3 ∷ 4 ∷ 5 ∷ 6 ∷ 7 ∷ 6 ∷ 9 ∷ []) k
 
-no_distance : (d : ℤ) → None ≡ Some d → ⊥
+pub no_distance : (d : ℤ) → None ≡ Some d → ⊥
 no_distance d e = cc
 
-one_distance : (d e : ℤ) → Some d ≡ Some e → d ≡ e
+pub one_distance : (d e : ℤ) → Some d ≡ Some e → d ≡ e
 one_distance d e same = cc
 
-not_false : false ≡ true → ⊥
+pub not_false : false ≡ true → ⊥
 not_false e = cc
 
 goes_next : (n : ℕ) (insn : Insn) → instruction_at program n ≡ Some insn → distance_of insn ≡ None → n ≡ before (n + slots_of insn) → (to : ℕ) → Leaves insn n to → n ≡ before to
@@ -154,10 +154,10 @@ to_9 = record {
 to_10 : Path program 0 10
 to_10 = on 9 _ refl refl to_9
 
-no_register : (n : ℕ) → None ≡ Some n → ⊥
+pub no_register : (n : ℕ) → None ≡ Some n → ⊥
 no_register n e = cc
 
-not_frame : (r : ℕ) → r < 10 → Some r ≡ Some 10 → ⊥
+pub not_frame : (r : ℕ) → r < 10 → Some r ≡ Some 10 → ⊥
 not_frame r lt e = let ten : ℕ = 10 in let same : r ≡ 10 = cc in omega arith
 
 a_helper : (h : ℤ) → Call (pos 1) ≡ Call h → is_helper h ≡ false → ⊥
