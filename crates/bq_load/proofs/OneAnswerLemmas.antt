@@ -1,21 +1,33 @@
--- Bytes with a fault of their own have no other answer.
-use Rattle.std.proofs.Common.{◌≡◌, ℕ, List, Ok, Err, refl, sym, ap, subst, ◌∙◌, ◌⊎◌, inl, inr}
+-- Bytes with a fault of their own, of their program or of its control graph have no other answer, and at most one program is loaded.
+use Rattle.std.proofs.Common.{◌≡◌, ℕ, ◌<◌, List, Option, Result, Ok, Err, refl, sym, ap, subst, ◌∙◌, ◌⊎◌, inl, inr, arith}
+use Rattle.std.specs.Prelude.{true, ◌&&◌, nat_le}
+use Rattle.std.specs.List.{list_all}
 use Rattle.bq_insn.specs.declared.fault.Cause.{Cause}
 use Rattle.bq_insn.specs.declared.fault.DecodeFault.TheVariants.{At}
 use Rattle.bq_insn.specs.declared.Insn.{Insn}
 use Rattle.bq_insn.specs.Faults.{IsFault as IsProgramFault}
-use Rattle.bq_insn.specs.Spelling.{spelling}
+use Rattle.bq_insn.specs.Slots.{spread}
+use Rattle.bq_insn.specs.Spelling.{is_insn, is_well_formed, slot_count, spelling}
+use Rattle.bq_insn.proofs.FormLemmas.{both}
 use Rattle.bq_insn.proofs.LengthLemmas as lengths
 use Rattle.bq_insn.proofs.OneFaultLemmas as insn
+use Rattle.bq_insn.proofs.UniqueLemmas.{one_program}
+use Rattle.bq_graph.specs.declared.cause.Cause.{Cause as Named}
+use Rattle.bq_graph.specs.Faults.{IsFaultless, IsFirstFault, place_of}
+use Rattle.bq_graph.specs.Paths.{IsGreatest, PathOut}
+use Rattle.bq_verify.specs.Accepted.{Accepted}
+use Rattle.bq_verify.specs.Refusals.{IsRefusal}
+use Rattle.bq_verify.specs.declared.refused.Refused.TheVariants as refused
+use Rattle.bq_verify.proofs.FirstLemmas.{faultless_has_none, one_first_fault}
 use Rattle.bq_load.specs.declared.fault.LoadFault.{LoadFault}
 use Rattle.bq_load.specs.declared.fault.LoadFault.TheVariants as fault
-use Rattle.bq_load.specs.Answers.{HasProgram, IsUnloaded, Loads}
+use Rattle.bq_load.specs.Answers.{HasProgram, HasRefusedProgram, IsUnloaded, Loads}
 use Rattle.bq_load.specs.Faults.{HasFaultyProgram}
-use Rattle.bq_load.specs.Laws.{AreBytes, IsOfBytes, FaultyIsNotLoaded, OneFaultOfBytes}
+use Rattle.bq_load.specs.Laws.{AreBytes, IsAnswer, IsOfBytes, OneAnswer, OneLoaded}
 use Rattle.bq_load.specs.Layout.{Header, IsFramed, IsImage}
 use Rattle.bq_load.specs.Reading.{frame_at}
 use Rattle.bq_load.proofs.FaultLemmas.{fault_again}
-use Rattle.bq_load.proofs.LawLemmas.{framed_is_found}
+use Rattle.bq_load.proofs.LawLemmas.{framed_is_found, one_image}
 use Rattle.bq_load.proofs.UniqueLemmas.{one_frame}
 use Rattle.bq_verify.specs.declared.hook.Hook.{Hook}
 use Rattle.bq_verify.specs.declared.hook.Version.{Version}
@@ -57,43 +69,106 @@ one_faulty bytes s t c d a b =
 same_stop : (bytes : List ℕ) (f g : LoadFault) → frame_at bytes ≡ Err f → frame_at bytes ≡ Err g → g ≡ f
 same_stop bytes f g e d = cc
 
-stopped : (bytes : List ℕ) (f g : LoadFault) → Stops bytes f → Stops bytes g ⊎ Stands bytes → (g ≡ f) ⊎ (g ≡ fault.OutOfMemory)
-stopped bytes f g at (inl other) = inl (same_stop bytes f g at.at other.at)
+registers : (insns : List Insn) → is_well_formed insns ≡ true → list_all is_insn insns ≡ true
+registers insns h = (both (list_all is_insn insns) (nat_le 1 (slot_count insns) && nat_le (slot_count insns) 4096) h).0
+
+-- the answer is that fault, or want of memory
+abbrev IsOnly : LoadFault → Result Accepted LoadFault → Type 0
+IsOnly f answer = (answer ≡ Err f) ⊎ (answer ≡ Err fault.OutOfMemory)
+
+stopped : (bytes : List ℕ) (f g : LoadFault) → Stops bytes f → Stops bytes g ⊎ Stands bytes → IsOnly f (Err g)
+stopped bytes f g at (inl other) = inl (ap (λ (x : LoadFault). Err x) (same_stop bytes f g at.at other.at))
 stopped bytes f g at (inr there) = absurd (framed_is_found bytes there.header there.program f there.framed at.at)
 
-faulty : (bytes : List ℕ) (slot : ℕ) (cause : Cause) (g : LoadFault) → AreBytes bytes → HasFaultyProgram bytes slot cause → IsUnloaded bytes g → (g ≡ fault.Decode slot cause) ⊎ (g ≡ fault.OutOfMemory)
-faulty bytes slot cause (fault.Decode t d) fits b a = inl (one_faulty bytes slot t cause d b a)
-faulty bytes slot cause (fault.Refused t d) fits b a = absurd (no_faulty bytes a.0.insns slot cause b a.0.program)
-faulty bytes slot cause fault.OutOfMemory fits b a = inr refl
-faulty bytes slot cause fault.Magic fits b a = absurd (framed_is_found bytes b.header b.program fault.Magic b.framed (fault_again bytes fault.Magic fits a))
-faulty bytes slot cause fault.Version fits b a = absurd (framed_is_found bytes b.header b.program fault.Version b.framed (fault_again bytes fault.Version fits a))
-faulty bytes slot cause fault.Hook fits b a = absurd (framed_is_found bytes b.header b.program fault.Hook b.framed (fault_again bytes fault.Hook fits a))
-faulty bytes slot cause fault.Shape fits b a = absurd (framed_is_found bytes b.header b.program fault.Shape b.framed (fault_again bytes fault.Shape fits a))
-faulty bytes slot cause fault.Cut fits b a = absurd (framed_is_found bytes b.header b.program fault.Cut b.framed (fault_again bytes fault.Cut fits a))
-faulty bytes slot cause fault.Rest fits b a = absurd (framed_is_found bytes b.header b.program fault.Rest b.framed (fault_again bytes fault.Rest fits a))
+-- reading stops at a fault: it is the answer
+at_stop : (bytes : List ℕ) (f : LoadFault) (answer : Result Accepted LoadFault) → AreBytes bytes → Stops bytes f → IsAnswer bytes answer → IsOnly f answer
+at_stop bytes f (Ok v) fits at a = absurd (framed_is_found bytes _ _ f a.image.framed at.at)
+at_stop bytes f (Err g) fits at a = stopped bytes f g at (by_fault bytes g fits a)
 
-pub one_fault_of_bytes : OneFaultOfBytes
-one_fault_of_bytes bytes fault.Magic g fits of b a = stopped bytes fault.Magic g (record { at = fault_again bytes fault.Magic fits b }) (by_fault bytes g fits a)
-one_fault_of_bytes bytes fault.Version g fits of b a = stopped bytes fault.Version g (record { at = fault_again bytes fault.Version fits b }) (by_fault bytes g fits a)
-one_fault_of_bytes bytes fault.Hook g fits of b a = stopped bytes fault.Hook g (record { at = fault_again bytes fault.Hook fits b }) (by_fault bytes g fits a)
-one_fault_of_bytes bytes fault.Shape g fits of b a = stopped bytes fault.Shape g (record { at = fault_again bytes fault.Shape fits b }) (by_fault bytes g fits a)
-one_fault_of_bytes bytes fault.Cut g fits of b a = stopped bytes fault.Cut g (record { at = fault_again bytes fault.Cut fits b }) (by_fault bytes g fits a)
-one_fault_of_bytes bytes fault.Rest g fits of b a = stopped bytes fault.Rest g (record { at = fault_again bytes fault.Rest fits b }) (by_fault bytes g fits a)
-one_fault_of_bytes bytes (fault.Decode slot cause) g fits of b a = faulty bytes slot cause g fits b a
-one_fault_of_bytes bytes (fault.Refused slot cause) g fits of b a = absurd of
-one_fault_of_bytes bytes fault.OutOfMemory g fits of b a = absurd of
+-- header and program are there, so reading does not stop
+framed : (bytes : List ℕ) (f : LoadFault) (h : Header) (program : List ℕ) → IsFramed bytes h program → Stops bytes f → ⊥
+framed bytes f h program there at = framed_is_found bytes h program f there at.at
 
-stands_not : (bytes : List ℕ) (f : LoadFault) (h : Header) (program : List ℕ) → IsFramed bytes h program → frame_at bytes ≡ Err f → ⊥
-stands_not bytes f h program framed at = framed_is_found bytes h program f framed at
+as_program : (bytes : List ℕ) (v : Accepted) (l : Loads bytes v) → HasProgram bytes l.insns
+as_program bytes v l = record { version = v.version; hook = v.hook; shapes = v.shapes; image = l.image; well_formed = l.well_formed; numbers = l.numbers }
 
-pub faulty_is_not_loaded : FaultyIsNotLoaded
-faulty_is_not_loaded bytes fault.Magic v fits of b l = stands_not bytes fault.Magic _ _ l.image.framed (fault_again bytes fault.Magic fits b)
-faulty_is_not_loaded bytes fault.Version v fits of b l = stands_not bytes fault.Version _ _ l.image.framed (fault_again bytes fault.Version fits b)
-faulty_is_not_loaded bytes fault.Hook v fits of b l = stands_not bytes fault.Hook _ _ l.image.framed (fault_again bytes fault.Hook fits b)
-faulty_is_not_loaded bytes fault.Shape v fits of b l = stands_not bytes fault.Shape _ _ l.image.framed (fault_again bytes fault.Shape fits b)
-faulty_is_not_loaded bytes fault.Cut v fits of b l = stands_not bytes fault.Cut _ _ l.image.framed (fault_again bytes fault.Cut fits b)
-faulty_is_not_loaded bytes fault.Rest v fits of b l = stands_not bytes fault.Rest _ _ l.image.framed (fault_again bytes fault.Rest fits b)
-faulty_is_not_loaded bytes (fault.Decode slot cause) v fits of b l =
-    no_faulty bytes l.insns slot cause b (record { version = v.version; hook = v.hook; shapes = v.shapes; image = l.image; well_formed = l.well_formed; numbers = l.numbers })
-faulty_is_not_loaded bytes (fault.Refused slot cause) v fits of b l = absurd of
-faulty_is_not_loaded bytes fault.OutOfMemory v fits of b l = absurd of
+-- a fault of the program is the answer
+faulty : (bytes : List ℕ) (slot : ℕ) (cause : Cause) (answer : Result Accepted LoadFault) → AreBytes bytes → HasFaultyProgram bytes slot cause → IsAnswer bytes answer → IsOnly (fault.Decode slot cause) answer
+faulty bytes slot cause (Ok v) fits b a = absurd (no_faulty bytes a.insns slot cause b (as_program bytes v a))
+faulty bytes slot cause (Err (fault.Decode t d)) fits b a = inl (ap (λ (x : LoadFault). Err x) (one_faulty bytes slot t cause d b a))
+faulty bytes slot cause (Err (fault.Refused t d)) fits b a = absurd (no_faulty bytes a.0.insns slot cause b a.0.program)
+faulty bytes slot cause (Err fault.OutOfMemory) fits b a = inr refl
+faulty bytes slot cause (Err fault.Magic) fits b a = absurd (framed_is_found bytes b.header b.program fault.Magic b.framed (fault_again bytes fault.Magic fits a))
+faulty bytes slot cause (Err fault.Version) fits b a = absurd (framed_is_found bytes b.header b.program fault.Version b.framed (fault_again bytes fault.Version fits a))
+faulty bytes slot cause (Err fault.Hook) fits b a = absurd (framed_is_found bytes b.header b.program fault.Hook b.framed (fault_again bytes fault.Hook fits a))
+faulty bytes slot cause (Err fault.Shape) fits b a = absurd (framed_is_found bytes b.header b.program fault.Shape b.framed (fault_again bytes fault.Shape fits a))
+faulty bytes slot cause (Err fault.Cut) fits b a = absurd (framed_is_found bytes b.header b.program fault.Cut b.framed (fault_again bytes fault.Cut fits a))
+faulty bytes slot cause (Err fault.Rest) fits b a = absurd (framed_is_found bytes b.header b.program fault.Rest b.framed (fault_again bytes fault.Rest fits a))
+
+-- bytes are at most one program
+one_list : (bytes : List ℕ) (a b : List Insn) → HasProgram bytes a → HasProgram bytes b → a ≡ b
+one_list bytes a b p q =
+    let images = one_image bytes p.version q.version p.hook q.hook p.shapes q.shapes (spelling a) (spelling b) p.image q.image in
+    one_program a b (registers a p.well_formed) (registers b q.well_formed) p.numbers q.numbers images.3
+
+-- a cause of the control graph is its first fault
+first_fault : (slots : List (Option Insn)) (slot : ℕ) (cause : Named) → place_of cause < 7 → IsRefusal slots (refused.At slot cause) → IsFirstFault slots cause slot
+first_fault slots slot cause lt (inl first) = first
+first_fault slots slot cause lt (inr other) = let e = other.1.states in absurd (omega (arith, e, lt))
+
+one_refusal : (slots : List (Option Insn)) (s t : ℕ) (c d : Named) → IsFirstFault slots c s → IsRefusal slots (refused.At t d) → fault.Refused t d ≡ fault.Refused s c
+one_refusal slots s t c d first (inl other) =
+    let one = one_first_fault slots d c t s other first in
+    ap (λ (n : ℕ). fault.Refused n d) one.1 ∙ ap (λ (k : Named). fault.Refused s k) one.0
+one_refusal slots s t c d first (inr other) = absurd (faultless_has_none slots c s other.0 first)
+
+-- the verifier's refusal of one list of instructions, said of the other
+moved : (a b : List Insn) (s : ℕ) (c : Named) → a ≡ b → IsRefusal (spread a) (refused.At s c) → IsRefusal (spread b) (refused.At s c)
+moved a b s c same r = subst (λ (x : List Insn). IsRefusal (spread x) (refused.At s c)) same r
+
+not_faultless : (bytes : List ℕ) (slot : ℕ) (cause : Named) (v : Accepted) → place_of cause < 7 → HasRefusedProgram bytes (refused.At slot cause) → Loads bytes v → ⊥
+not_faultless bytes slot cause v lt b l =
+    let first : IsFirstFault (spread l.insns) cause slot = first_fault (spread l.insns) slot cause lt (moved b.insns l.insns slot cause (one_list bytes b.insns l.insns b.program (as_program bytes v l)) b.refused) in
+    faultless_has_none (spread l.insns) cause slot (subst (λ (x : List (Option Insn)). IsFaultless x) l.slots l.faultless) first
+
+-- a fault of the control graph is the answer
+graph_fault : (bytes : List ℕ) (slot : ℕ) (cause : Named) (answer : Result Accepted LoadFault) → AreBytes bytes → place_of cause < 7 → HasRefusedProgram bytes (refused.At slot cause) → IsAnswer bytes answer → IsOnly (fault.Refused slot cause) answer
+graph_fault bytes slot cause (Ok v) fits lt b a = absurd (not_faultless bytes slot cause v lt b a)
+graph_fault bytes slot cause (Err (fault.Decode t d)) fits lt b a = absurd (no_faulty bytes b.insns t d a b.program)
+graph_fault bytes slot cause (Err (fault.Refused t d)) fits lt b a =
+    let same = one_list bytes a.0.insns b.insns a.0.program b.program in
+    inl (ap (λ (x : LoadFault). Err x) (one_refusal (spread b.insns) slot t cause d (first_fault (spread b.insns) slot cause lt b.refused) (moved a.0.insns b.insns t d same a.0.refused)))
+graph_fault bytes slot cause (Err fault.OutOfMemory) fits lt b a = inr refl
+graph_fault bytes slot cause (Err fault.Magic) fits lt b a = absurd (framed bytes fault.Magic _ _ b.program.image.framed (record { at = fault_again bytes fault.Magic fits a }))
+graph_fault bytes slot cause (Err fault.Version) fits lt b a = absurd (framed bytes fault.Version _ _ b.program.image.framed (record { at = fault_again bytes fault.Version fits a }))
+graph_fault bytes slot cause (Err fault.Hook) fits lt b a = absurd (framed bytes fault.Hook _ _ b.program.image.framed (record { at = fault_again bytes fault.Hook fits a }))
+graph_fault bytes slot cause (Err fault.Shape) fits lt b a = absurd (framed bytes fault.Shape _ _ b.program.image.framed (record { at = fault_again bytes fault.Shape fits a }))
+graph_fault bytes slot cause (Err fault.Cut) fits lt b a = absurd (framed bytes fault.Cut _ _ b.program.image.framed (record { at = fault_again bytes fault.Cut fits a }))
+graph_fault bytes slot cause (Err fault.Rest) fits lt b a = absurd (framed bytes fault.Rest _ _ b.program.image.framed (record { at = fault_again bytes fault.Rest fits a }))
+
+pub one_answer : OneAnswer
+one_answer bytes fault.Magic answer fits of b a = at_stop bytes fault.Magic answer fits (record { at = fault_again bytes fault.Magic fits b }) a
+one_answer bytes fault.Version answer fits of b a = at_stop bytes fault.Version answer fits (record { at = fault_again bytes fault.Version fits b }) a
+one_answer bytes fault.Hook answer fits of b a = at_stop bytes fault.Hook answer fits (record { at = fault_again bytes fault.Hook fits b }) a
+one_answer bytes fault.Shape answer fits of b a = at_stop bytes fault.Shape answer fits (record { at = fault_again bytes fault.Shape fits b }) a
+one_answer bytes fault.Cut answer fits of b a = at_stop bytes fault.Cut answer fits (record { at = fault_again bytes fault.Cut fits b }) a
+one_answer bytes fault.Rest answer fits of b a = at_stop bytes fault.Rest answer fits (record { at = fault_again bytes fault.Rest fits b }) a
+one_answer bytes (fault.Decode slot cause) answer fits of b a = faulty bytes slot cause answer fits b a
+one_answer bytes (fault.Refused slot cause) answer fits of b a = graph_fault bytes slot cause answer fits of b.0 a
+one_answer bytes fault.OutOfMemory answer fits of b a = absurd of
+
+one_greatest : (P : ℕ → Type 0) (m n : ℕ) → IsGreatest P m → IsGreatest P n → m ≡ n
+one_greatest P m n a b = let below = a.bounds n b.holds in let above = b.bounds m a.holds in omega (arith, below, above)
+
+pub one_loaded : OneLoaded
+one_loaded bytes v w a b =
+    let images = one_image bytes v.version w.version v.hook w.hook v.shapes w.shapes (spelling a.insns) (spelling b.insns) a.image b.image in
+    let insns = one_list bytes a.insns b.insns (as_program bytes v a) (as_program bytes w b) in
+    let slots : v.slots ≡ w.slots = a.slots ∙ ap (λ (x : List Insn). spread x) insns ∙ sym b.slots in
+    let budget : v.budget ≡ w.budget =
+    one_greatest (PathOut v.slots 0) v.budget w.budget a.longest (subst (λ (x : List (Option Insn)). IsGreatest (PathOut x 0) w.budget) (sym slots) b.longest) in
+    ap (λ (x : List (Option Insn)). record v { slots = x }) slots
+    ∙ ap (λ (x : List MapShape). record v { slots = w.slots; shapes = x }) images.2
+    ∙ ap (λ (x : Hook). record v { slots = w.slots; shapes = w.shapes; hook = x }) images.1
+    ∙ ap (λ (x : Version). record v { slots = w.slots; shapes = w.shapes; hook = w.hook; version = x }) images.0
+    ∙ ap (λ (n : ℕ). record w { budget = n }) budget

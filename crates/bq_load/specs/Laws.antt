@@ -1,6 +1,7 @@
 -- Laws of the format: bytes say one thing, and in pieces they say the same.
-use Rattle.std.specs.Prelude.{◌≡◌, ℕ, ◌<◌, List, [], ◌∷◌, slice_index, ◌⊎◌}
+use Rattle.std.specs.Prelude.{◌≡◌, ℕ, ◌<◌, List, [], ◌∷◌, slice_index, Result, Ok, Err, ◌⊎◌}
 use Rattle.std.specs.List.{flat_map}
+use Rattle.bq_graph.specs.Faults.{place_of}
 use Rattle.bq_maps.specs.declared.shape.MapShape.{MapShape}
 use Rattle.bq_verify.specs.declared.hook.Hook.{Hook}
 use Rattle.bq_verify.specs.declared.hook.Version.{Version}
@@ -35,19 +36,26 @@ OneFault = (bytes : List ℕ) (f g : LoadFault) → AreBytes bytes → IsFault b
 abbrev pub EachIsAnswered : Type 0
 EachIsAnswered = (bytes : List ℕ) → AreBytes bytes → HasImage bytes ⊎ ((f : LoadFault) × IsFault bytes f)
 
--- a fault of the bytes or of their program, which no verifier is asked about
+-- what the bytes are answered by: the program that is loaded from them, or why none is
+abbrev pub IsAnswer : List ℕ → Result Accepted LoadFault → Type 0
+IsAnswer bytes (Ok v) = Loads bytes v
+IsAnswer bytes (Err f) = IsUnloaded bytes f
+
+-- a fault of the bytes, of their program, or of its control graph: what is not known of registers and stack is no such fault
 abbrev pub IsOfBytes : LoadFault → Type 0
-IsOfBytes (fault.Refused slot cause) = ⊥
+IsOfBytes (fault.Refused slot cause) = place_of cause < 7
 IsOfBytes fault.OutOfMemory = ⊥
 IsOfBytes named = Unit {0}
 
--- bytes with such a fault are answered by no other, want of memory aside
-abbrev pub OneFaultOfBytes : Type 0
-OneFaultOfBytes = (bytes : List ℕ) (f g : LoadFault) → AreBytes bytes → IsOfBytes f → IsUnloaded bytes f → IsUnloaded bytes g → (g ≡ f) ⊎ (g ≡ fault.OutOfMemory)
+-- bytes with such a fault have no other answer, want of memory aside
+abbrev pub OneAnswer : Type 0
+OneAnswer =
+    (bytes : List ℕ) (f : LoadFault) (answer : Result Accepted LoadFault) → AreBytes bytes → IsOfBytes f → IsUnloaded bytes f → IsAnswer bytes answer
+    → (answer ≡ Err f) ⊎ (answer ≡ Err fault.OutOfMemory)
 
--- and no program is loaded from them
-abbrev pub FaultyIsNotLoaded : Type 0
-FaultyIsNotLoaded = (bytes : List ℕ) (f : LoadFault) (v : Accepted) → AreBytes bytes → IsOfBytes f → IsUnloaded bytes f → Loads bytes v → ⊥
+-- at most one program is loaded from bytes
+abbrev pub OneLoaded : Type 0
+OneLoaded = (bytes : List ℕ) (v w : Accepted) → Loads bytes v → Loads bytes w → v ≡ w
 
 -- a reader took these pieces, one after another
 abbrev pub TakesAll : Fed → List (List ℕ) → Fed → Type 0

@@ -1,5 +1,5 @@
 //! Laws of the format. Each is a theorem over its definitions, and its function does nothing.
-ghost use Rattle.bq_load.specs.Laws.{OneImage, NoImageIsFaulty, OneFault, EachIsAnswered, OneFaultOfBytes, FaultyIsNotLoaded, PiecesJoin};
+ghost use Rattle.bq_load.specs.Laws.{OneImage, NoImageIsFaulty, OneFault, EachIsAnswered, OneAnswer, OneLoaded, PiecesJoin};
 
 /// Bytes are at most one image, so what is read after it was written is what it was.
 pub fn one_image()
@@ -21,14 +21,15 @@ pub fn each_is_answered()
     ensures { EachIsAnswered }
 {}
 
-/// Bytes with a fault of their own, or of their program, are answered by no other fault, want of memory aside.
-pub fn one_fault_of_bytes()
-    ensures { OneFaultOfBytes }
+/// Bytes with a fault of their own, of their program or of its control graph have no other answer: no other fault is
+/// named, and no program is loaded from them, want of memory aside.
+pub fn one_answer()
+    ensures { OneAnswer }
 {}
 
-/// And no program is loaded from them.
-pub fn faulty_is_not_loaded()
-    ensures { FaultyIsNotLoaded }
+/// At most one program is loaded from bytes, with one budget.
+pub fn one_loaded()
+    ensures { OneLoaded }
 {}
 
 /// A reader to which pieces were fed stands for all of them together, however they were cut.

@@ -8,3 +8,5 @@ pub mod LongerLemmas
 pub mod WorkedLemmas
 pub mod FirstLemmas
 pub mod FrameLemmas
+pub mod AskLemmas
+pub mod CallingLemmas

@@ -16,7 +16,7 @@ use Rattle.bq_views.specs.declared.view.Known.{Known}
 use Rattle.bq_views.specs.declared.view.View.{View}
 use Rattle.bq_views.specs.Views.{knowing}
 use Rattle.bq_verify.specs.Control.{IsRelearned}
-use Rattle.bq_views.specs.Standing.{Scalar, Pointer, NoPointer, Stands, StandsAt, Fact, Never, AtRegister, IsSetAt, IsPlainAt, Has}
+use Rattle.bq_views.specs.Standing.{Scalar, Exact, Pointer, NoPointer, Stands, StandsAt, Fact, Never, AtRegister, IsSetAt, IsPlainAt, Has, Outlasts}
 use Rattle.bq_verify.specs.Ways.{HasOnSide, AfterTest, IsApartFrom}
 use Rattle.bq_views.specs.Sides.{IsNumberIfAny, IsTested, is_found}
 use Rattle.bq_views.specs.Ready.{IsCarried}
@@ -37,6 +37,8 @@ pub has_tested : (x : Fact) (slot k : ℕ) (w : Width) (c : Condition) (dst : �
 has_tested Never slot k w c dst src off m found view stands side after = absurd after
 has_tested (AtRegister Scalar r) slot k w c dst src off m found view stands side (inl gives) = absurd (some_none _ _ gives refl)
 has_tested (AtRegister Scalar r) slot k w c dst src off m found view stands side (inr (_, scalar)) = inr (λ same. not_both _ (EntryOrNull m) 0 (subst (λ (n : ℕ). StandsAt Scalar view n) same scalar) stands, scalar)
+has_tested (AtRegister (Exact n) r) slot k w c dst src off m found view stands side (inl gives) = absurd gives
+has_tested (AtRegister (Exact n) r) slot k w c dst src off m found view stands side (inr (_, other, exact)) = inr (other, exact)
 has_tested (AtRegister (Pointer kind o) r) slot k w c dst src off m found view stands side (inl (same, m', kind_is, o_is, answer, on_side)) =
     let kinds = pointer_is _ (EntryOrNull m') 0 (EntryOrNull m) 0 answer stands in
     let one : m' ≡ m = let e : EntryOrNull m' ≡ EntryOrNull m = kinds.0 in cc in
@@ -69,9 +71,20 @@ has_on_tested x view dst m found side there tested (inl (yes', is)) =
 has_on_tested x view dst m found side there tested (inr (other, has)) = subst (λ (v : Option Known). HasOnSide x view dst v) (sym tested.is) (knowing_apart x view dst tested.word other has)
 
 -- what is sure of a view is sure on a side of a test of numbers
-pub has_on_side : (x : Fact) (view : View) (dst : ℕ) (side : Option Known) → dst < length view.registers → StandsAt Scalar view dst → IsNumberIfAny side → Has x view → HasOnSide x view dst side
-has_on_side x view dst None there scalar number has = tt
-has_on_side x view dst (Some k) there scalar number has = given_has x view (knowing view dst k) dst scalar (knowing_given view dst k there number) has
+pub has_on_side : (x : Fact) (view : View) (dst : ℕ) (side : Option Known) → dst < length view.registers → Outlasts x dst → StandsAt Scalar view dst → IsNumberIfAny side → Has x view → HasOnSide x view dst side
+has_on_side x view dst None there lasts scalar number has = tt
+has_on_side x view dst (Some k) there lasts scalar number has = given_has x view (knowing view dst k) dst lasts scalar (knowing_given view dst k there number) has
+
+-- what is sure after a branch outlasts the test
+pub outlasts : (x : Fact) (slot k : ℕ) (w : Width) (c : Condition) (dst : ℕ) (src : Source) (off : ℤ) (view : View) → After x slot k (Branch w c dst src off) view → Outlasts x dst
+outlasts (AtRegister (Exact n) r) slot k w c dst src off view (inl gives) = absurd gives
+outlasts (AtRegister (Exact n) r) slot k w c dst src off view (inr (_, other, exact)) = other
+outlasts (AtRegister Scalar r) slot k w c dst src off view after = tt
+outlasts (AtRegister (Pointer kind o) r) slot k w c dst src off view after = tt
+outlasts (AtRegister NoPointer r) slot k w c dst src off view after = tt
+outlasts Never slot k w c dst src off view after = tt
+outlasts (IsSetAt i) slot k w c dst src off view after = tt
+outlasts (IsPlainAt j) slot k w c dst src off view after = tt
 
 -- the other side, after the register was written for the one
 pub has_relearned : (x : Fact) (old new : View) (dst : ℕ) (side : Option Known) → IsRelearned old new dst → HasOnSide x old dst side → HasOnSide x new dst side

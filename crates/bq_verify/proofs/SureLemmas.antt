@@ -8,15 +8,13 @@ use Rattle.std.proofs.lemmas.Int.{ints}
 use Rattle.bq_insn.specs.declared.Insn.{Insn}
 use Rattle.bq_insn.specs.declared.Insn.TheVariants.{Alu, MovSx, Neg, End, Load, StoreImm, StoreReg, Imm64, MapRef, Goto, Goto32, Branch, Call, Exit}
 use Rattle.bq_insn.specs.declared.Operation.{Operation}
-use Rattle.bq_insn.specs.declared.Operation.TheVariants.{Mov}
-use Rattle.bq_insn.specs.declared.Condition.{Condition}
-use Rattle.bq_insn.specs.declared.Condition.TheVariants.{Equal, NotEqual}
+use Rattle.bq_insn.specs.declared.Operation.TheVariants.{Add, Mov}
 use Rattle.bq_insn.specs.declared.Size.{Size}
-use Rattle.bq_insn.specs.declared.Size.TheVariants.{Word}
 use Rattle.bq_insn.specs.declared.Source.{Source}
 use Rattle.bq_insn.specs.declared.Source.TheVariants.{Imm, Reg}
+use Rattle.bq_insn.specs.declared.Width.{Width}
 use Rattle.bq_insn.specs.declared.Width.TheVariants.{W64}
-use Rattle.bq_insn.specs.Meaning.{byte_count}
+use Rattle.bq_insn.specs.Meaning.{byte_count, word_of}
 use Rattle.bq_maps.specs.declared.shape.MapShape.{MapShape}
 use Rattle.bq_maps.specs.Machine.{instruction_at}
 use Rattle.bq_graph.specs.Edges.{IsEdge}
@@ -28,12 +26,13 @@ use Rattle.bq_graph.proofs.EdgeLemmas.{end_of-push, IsPath-push}
 use Rattle.bq_views.specs.declared.view.Kind.{Kind}
 use Rattle.bq_views.specs.declared.view.Kind.TheVariants.{Context, Stack, Entry, EntryOrNull, Map}
 use Rattle.bq_views.specs.declared.view.View.{View}
-use Rattle.bq_views.specs.Standing.{Scalar, Pointer, NoPointer, StandsAt, Fact, Never, AtRegister, IsSetAt, IsPlainAt, Has, IsScalarOperand}
+use Rattle.bq_views.specs.Standing.{Scalar, Exact, Pointer, NoPointer, Stands, StandsAt, Fact, Never, AtRegister, IsSetAt, IsPlainAt, Has, IsScalarOperand}
 use Rattle.bq_verify.specs.Ways.{HasWaiting, GoesOnSure}
-use Rattle.bq_views.specs.Ready.{IsLeftReady, IsPlaced, IsReadable, IsOnFrame, IsIntoEntry, IsReady, size_of_shape}
-use Rattle.bq_views.specs.After.{GivesNumber, LeavesNumber, IsCertain, LeavesPointer, IsFoundSide, Spares, IsStackByte, StoresByte, After}
-use Rattle.bq_verify.specs.Straight.{held_along, OnEachPath, is_register, writes, leaves, spares, stores, always, never, IsWritten, IsStored, IsContextLeft, IsWrittenOperand, IsWrittenLeft, IsOnStack, IsLookUp, IsInLookUp, IsEntryFrom, IsInEntry, IsGoodLoad, IsGoodStore, Needs, IsStraightProgram}
-use Rattle.bq_verify.specs.Sure.{IsDueInLookUp, IsDue, IsSure}
+use Rattle.bq_views.specs.Ready.{IsAsking, IsAtMost, IsCopyOfFrame, IsLeftReady, IsMoveOfPointer, IsNamingEntry, IsPlaced, IsReadable, IsOnFrame, IsIntoEntry, IsReady, IsReadyToAsk, IsUpdating, size_of_shape}
+use Rattle.bq_views.specs.After.{GivesExact, GivesNumber, GivesPointer, IsNoTestOf, LeavesNumber, IsCertain, LeavesPointer, Spares, IsStackByte, StoresByte, After}
+use Rattle.bq_views.proofs.StandingLemmas.{exact_at_most}
+use Rattle.bq_verify.specs.Straight.{held_along, OnEachPath, is_register, writes, leaves, spares, loads, untouched, stores, always, never, IsWritten, IsStored, IsByteStored, IsLoaded, IsContextLeft, IsWrittenOperand, IsWrittenLeft, IsOnStack, MakesPointer, LeavesPointerIn, IsPointerFrom, IsPointerAt, IsInEntry, IsGoodLoad, IsGoodStore, IsCopyOfEnd, IsMoveOnStack, IsNaming, IsGiving, IsCounting, Needs, IsStraightProgram}
+use Rattle.bq_verify.specs.Sure.{IsDue, IsSure}
 
 -- of tests joined
 both_true : (a b : Bool) → (a && b) ≡ true → (a ≡ true) × (b ≡ true)
@@ -87,6 +86,18 @@ leaves_pointer : (kind : Kind) (insn : Insn) → IsCertain kind → LeavesPointe
 leaves_pointer kind (Branch w c dst src off) certain = certain
 leaves_pointer kind _ certain = tt
 
+loads_gives : (insn : Insn) (r n : ℕ) → loads r n (Some insn) ≡ true → GivesExact n insn r
+loads_gives (Alu W64 Mov dst (Imm i)) r n h = let b = both_true _ _ h in (refl, eqb-true dst r b.0, sym (eqb-true (word_of i) n b.1))
+loads_gives _ r n h = absurd (let no : ⊥ = cc in no)
+
+untouched_spares : (insn : Insn) (r : ℕ) → untouched r (Some insn) ≡ true → Spares insn r
+untouched_spares (Branch w c dst src off) r h = λ e. let no : ⊥ = cc in no
+untouched_spares insn r h = spares_is insn r h
+
+untouched_tests : (insn : Insn) (r : ℕ) → untouched r (Some insn) ≡ true → IsNoTestOf insn r
+untouched_tests (Branch w c dst src off) r h = λ same. not_equal dst r h (sym same)
+untouched_tests _ r h = tt
+
 stores_byte : (insn : Insn) (size : Size) (off : ℤ) (i : ℕ) → stores size off (Some insn) ≡ true → IsStackByte size off i → StoresByte insn i
 stores_byte (StoreImm s dst o imm) size off i h byte =
     let a = both_true _ _ h in
@@ -125,14 +136,17 @@ module _ (slots : List (Option Insn)) (makes leaves : Option Insn → Bool) wher
       by false true e f = inr (f, λ rest path ends. (left_on _ _ _ e (held rest path ends)).1)
       by false false e f = absurd (reached (λ p. let on : leaves (Some insn) ≡ true = (left_on _ _ _ e (held p.rest p.is_path p.ends)).0 in let no : ⊥ = cc in no))
 
--- the side where the entry was found is an edge
-found_edge : (slots : List (Option Insn)) (c : Condition) (off : ℤ) (slot to : ℕ) → instruction_at slots slot ≡ Some (Branch W64 c 0 (Imm (pos 0)) off) → IsFoundSide c off slot to → IsEdge slots slot to
-found_edge slots Equal off slot to here side = record { insn = _; here = here; leaves = inl (refl, side.0) }
-found_edge slots NotEqual off slot to here side = record { insn = _; here = here; leaves = inr (off, refl, side.0) }
-found_edge slots _ off slot to here side = absurd side
+-- what a chain of instructions makes of a register, the view knows, if it knows what was before
+gives_pointer : (kind : Kind) (o r slot k : ℕ) (insn : Insn) (view : View) (Was : Kind → ℕ → ℕ → Type 0) → StandsAt (Pointer Stack 512) view 10 → ((kind : Kind) (o r : ℕ) → Was kind o r → StandsAt (Pointer kind o) view r) → MakesPointer kind o r slot k (Some insn) Was → GivesPointer kind o slot k insn r view
+gives_pointer kind o r slot k (MapRef dst index) view Was frame known made = made
+gives_pointer kind o r slot k (Alu w Mov dst (Reg src)) view Was frame known (same, ten, is, top) = (same, ten, rw (is, top) frame)
+gives_pointer kind o r slot k (Alu w Add dst (Imm i)) view Was frame known (same, base, was, o_is) = (same, base, subst (λ (n : ℕ). StandsAt (Pointer kind base) view n) (sym same) (known kind base r was), o_is)
+gives_pointer kind o r slot k (Call helper) view Was frame known (none, one, m, is, zero, was) = (none, one, m, is, zero, known (Map m) 0 1 was)
+gives_pointer kind o r slot k (Branch w c dst src off) view Was frame known (same, m, is, zero, was, side) = (same, m, is, zero, subst (λ (n : ℕ). StandsAt (Pointer (EntryOrNull m) 0) view n) (sym same) (known (EntryOrNull m) 0 r was), side)
+gives_pointer kind o r slot k _ view Was frame known made = absurd made
 
 -- one slot of a straight program
-module _ (slots : List (Option Insn)) (shapes : List MapShape) (context slot : ℕ) (insn : Insn) (view : View) (here : instruction_at slots slot ≡ Some insn) (straight : IsStraightProgram slots shapes context) (has : (x : Fact) → IsDue slots shapes x slot → Has x view) where
+module _ (slots : List (Option Insn)) (shapes : List MapShape) (context slot : ℕ) (insn : Insn) (view : View) (here : instruction_at slots slot ≡ Some insn) (straight : IsStraightProgram slots shapes context) (has : (x : Fact) → IsDue slots x slot → Has x view) where
   reached : (Path slots 0 slot → ⊥) → ⊥
   reached none = has Never none
 
@@ -140,65 +154,33 @@ module _ (slots : List (Option Insn)) (shapes : List MapShape) (context slot : �
   frame_spared (Call helper) other = let le : 6 ≤ 10 = omega arith in le
   frame_spared _ other = other
 
-  -- the instruction by where it stands
-  named : (at : ℕ) (i : Insn) → slot ≡ at → instruction_at slots at ≡ Some i → insn ≡ i
-  named at i same is = let e : Some insn ≡ Some i = sym here ∙ ap (λ (n : ℕ). instruction_at slots n) same ∙ is in cc
-
   frame : StandsAt (Pointer Stack 512) view 10
   frame = has (AtRegister (Pointer Stack 512) 10) (inr (inl (refl, refl, refl)))
 
-  map_named : (begin m : ℕ) → IsLookUp slots shapes begin m → (slot ≡ begin + 2) ⊎ (slot ≡ begin + 3) ⊎ (slot ≡ begin + 4) → StandsAt (Pointer (Map m) 0) view 1
-  map_named begin m look at = has (AtRegister (Pointer (Map m) 0) 1) (inr (inr (inl (begin, m, look, inl (refl, refl, refl, at)))))
+  pointer : (kind : Kind) (o r : ℕ) → IsPointerAt slots kind o r slot → StandsAt (Pointer kind o) view r
+  pointer kind o r at = has (AtRegister (Pointer kind o) r) (inr (inr at))
 
-  frame_copied : (begin m : ℕ) → IsLookUp slots shapes begin m → slot ≡ begin + 3 → StandsAt (Pointer Stack 512) view 2
-  frame_copied begin m look at = has (AtRegister (Pointer Stack 512) 2) (inr (inr (inl (begin, m, look, inr (inl (refl, refl, refl, at))))))
+  -- what the step before says, of this slot and its instruction
+  here_made : (k : ℕ) (kind : Kind) (o r before : ℕ) (back : List ℕ) → before ≡ slot → MakesPointer kind o r before k (instruction_at slots before) (λ kind o r. IsPointerFrom slots kind o r before back) → MakesPointer kind o r slot k (Some insn) (λ kind o r. IsPointerFrom slots kind o r slot back)
+  here_made k kind o r before back same made =
+      subst (λ (v : Option Insn). MakesPointer kind o r slot k v (λ kind o r. IsPointerFrom slots kind o r slot back)) here
+      (subst (λ (n : ℕ). MakesPointer kind o r n k (instruction_at slots n) (λ kind o r. IsPointerFrom slots kind o r n back)) same made)
 
-  number_at : (begin m o : ℕ) → (look : IsLookUp slots shapes begin m) → pos o ≡ (pos 512 +ℤ look.offset) → slot ≡ begin + 4 → StandsAt (Pointer Stack o) view 2
-  number_at begin m o look is at = has (AtRegister (Pointer Stack o) 2) (inr (inr (inl (begin, m, look, inr (inr (inl (refl, is, refl, at)))))))
+  here_left : (kind : Kind) (r before : ℕ) → before ≡ slot → LeavesPointerIn kind r (instruction_at slots before) → LeavesPointerIn kind r (Some insn)
+  here_left kind r before same left = subst (λ (v : Option Insn). LeavesPointerIn kind r v) (ap (λ (n : ℕ). instruction_at slots n) same ∙ here) left
 
-  answered : (begin m : ℕ) → IsLookUp slots shapes begin m → slot ≡ begin + 5 → StandsAt (Pointer (EntryOrNull m) 0) view 0
-  answered begin m look at = has (AtRegister (Pointer (EntryOrNull m) 0) 0) (inr (inr (inl (begin, m, look, inr (inr (inr (refl, refl, refl, at)))))))
-
-  -- what is due in a look-up
-  due_in : (k : ℕ) → IsEdge slots slot k → (kind : Kind) (o r : ℕ) → IsDueInLookUp slots shapes kind o r k → After (AtRegister (Pointer kind o) r) slot k insn view
-  due_in k edge kind o r (begin, m, look, inl (is, zero, one, inl at)) =
-      let same = look.to_copy slot (subst (λ (n : ℕ). IsEdge slots slot n) at edge) in
-      subst (λ (i : Insn). After (AtRegister (Pointer kind o) r) slot k i view) (sym (named begin _ same look.names)) (inl (sym one, m, refl, is, zero))
-  due_in k edge kind o r (begin, m, look, inl (is, zero, one, inr (inl at))) =
-      let same = look.to_move slot (subst (λ (n : ℕ). IsEdge slots slot n) at edge) in
-      let before : StandsAt (Pointer kind o) view r = rw (is, zero, one) (map_named begin m look (inl same)) in
-      subst (λ (i : Insn). After (AtRegister (Pointer kind o) r) slot k i view) (sym (named (begin + 2) _ same look.copies)) (inr (λ e. let two : 2 ≡ r = cc in absurd (omega arith), tt, before))
-  due_in k edge kind o r (begin, m, look, inl (is, zero, one, inr (inr at))) =
-      let same = look.to_call slot (subst (λ (n : ℕ). IsEdge slots slot n) at edge) in
-      let before : StandsAt (Pointer kind o) view r = rw (is, zero, one) (map_named begin m look (inr (inl same))) in
-      subst (λ (i : Insn). After (AtRegister (Pointer kind o) r) slot k i view) (sym (named (begin + 3) _ same look.moves)) (inr (λ e. let two : 2 ≡ r = cc in absurd (omega arith), tt, before))
-  due_in k edge kind o r (begin, m, look, inr (inl (is, top, two, at))) =
-      let same = look.to_move slot (subst (λ (n : ℕ). IsEdge slots slot n) at edge) in
-      let from : StandsAt (Pointer kind o) view 10 = rw (is, top) frame in
-      subst (λ (i : Insn). After (AtRegister (Pointer kind o) r) slot k i view) (sym (named (begin + 2) _ same look.copies)) (inl (sym two, refl, from))
-  due_in k edge kind o r (begin, m, look, inr (inr (inl (is, o_is, two, at)))) =
-      let same = look.to_call slot (subst (λ (n : ℕ). IsEdge slots slot n) at edge) in
-      let from : StandsAt (Pointer kind 512) view 2 = rw is (frame_copied begin m look same) in
-      subst (λ (i : Insn). After (AtRegister (Pointer kind o) r) slot k i view) (sym (named (begin + 3) _ same look.moves)) (inl (sym two, 512, from, o_is))
-  due_in k edge kind o r (begin, m, look, inr (inr (inr (is, zero, none, at)))) =
-      let same = look.to_test slot (subst (λ (n : ℕ). IsEdge slots slot n) at edge) in
-      subst (λ (i : Insn). After (AtRegister (Pointer kind o) r) slot k i view) (sym (named (begin + 4) _ same look.calls)) (inl (none, refl, m, is, zero, map_named begin m look (inr (inr same))))
-
-  -- the address of an entry
-  due_entry : (k : ℕ) → IsEdge slots slot k → (kind : Kind) (o r m : ℕ) → kind ≡ Entry m → o ≡ 0 → r ≡ 0 → (back : List ℕ) → IsEntryFrom slots shapes m k back → After (AtRegister (Pointer kind o) r) slot k insn view
-  due_entry k edge kind o r m is zero none [] (one_way, found) =
-      let same = one_way slot (found.begin + 5) edge (found_edge slots found.look_up.test found.look_up.to_side (found.begin + 5) k found.look_up.tests found.side) in
-      let side = subst (λ (n : ℕ). IsFoundSide found.look_up.test found.look_up.to_side n k) (sym same) found.side in
-      subst (λ (i : Insn). After (AtRegister (Pointer kind o) r) slot k i view) (sym (named (found.begin + 5) _ same found.look_up.tests)) (inl (sym none, m, is, zero, answered found.begin m found.look_up same, side))
-  due_entry k edge kind o r m is zero none (before ∷ back) (one_way, way, spared, rest) =
+  -- a pointer that was made
+  due_pointer : (k : ℕ) → IsEdge slots slot k → (kind : Kind) (o r : ℕ) (back : List ℕ) → IsPointerFrom slots kind o r k back → After (AtRegister (Pointer kind o) r) slot k insn view
+  due_pointer k edge kind o r [] chain = absurd chain
+  due_pointer k edge kind o r (before ∷ back) (one_way, way, inl made) =
+      inl (gives_pointer kind o r slot k insn view (λ kind o r. IsPointerFrom slots kind o r slot back) frame (λ kind o r was. pointer kind o r (back, was)) (here_made k kind o r before back (one_way before slot way edge) made))
+  due_pointer k edge kind o r (before ∷ back) (one_way, way, inr (left, was)) =
       let same = one_way before slot way edge in
-      let at : spares 0 (Some insn) ≡ true = subst (λ (v : Option Insn). spares 0 v ≡ true) (ap (λ (n : ℕ). instruction_at slots n) same ∙ here) spared in
-      let left : Spares insn r = subst (λ (n : ℕ). Spares insn n) (sym none) (spares_is insn 0 at) in
-      let certain : IsCertain kind = rw is tt in
-      inr (left, leaves_pointer kind insn certain, has (AtRegister (Pointer kind o) r) (inr (inr (inr (m, is, zero, none, (back, subst (λ (n : ℕ). IsEntryFrom slots shapes m n back) same rest))))))
+      let leaves' = here_left kind r before same left in
+      inr (spares_is insn r leaves'.0, leaves'.1, pointer kind o r (back, subst (λ (n : ℕ). IsPointerFrom slots kind o r n back) same was))
 
   -- what is due after an edge is sure after the instruction
-  due_on : (k : ℕ) → IsEdge slots slot k → (x : Fact) → IsDue slots shapes x k → After x slot k insn view
+  due_on : (k : ℕ) → IsEdge slots slot k → (x : Fact) → IsDue slots x k → After x slot k insn view
   due_on k edge Never due =
       has Never
       (λ path.
@@ -209,6 +191,11 @@ module _ (slots : List (Option Insn)) (shapes : List MapShape) (context slot : �
       by : (writes r (Some insn) ≡ true) ⊎ ((leaves r (Some insn) ≡ true) × IsWritten slots slot r) → After (AtRegister Scalar r) slot k insn view
       by (inl made) = inl (writes_gives insn r made)
       by (inr (left, written)) = inr (leaves_is insn r left, has (AtRegister Scalar r) written)
+  due_on k edge (AtRegister (Exact n) r) due = by (made_or_left slots (loads r n) (untouched r) false slot k insn here edge due reached)
+    where
+      by : (loads r n (Some insn) ≡ true) ⊎ ((untouched r (Some insn) ≡ true) × IsLoaded slots slot r n) → After (AtRegister (Exact n) r) slot k insn view
+      by (inl made) = inl (loads_gives insn r n made)
+      by (inr (left, loaded)) = inr (untouched_spares insn r left, untouched_tests insn r left, has (AtRegister (Exact n) r) loaded)
   due_on k edge (AtRegister (Pointer kind o) r) (inl (is, zero, one, kept)) = by (made_or_left slots never (spares 1) true slot k insn here edge kept reached)
     where
       by : (never (Some insn) ≡ true) ⊎ ((spares 1 (Some insn) ≡ true) × IsContextLeft slots slot) → After (AtRegister (Pointer kind o) r) slot k insn view
@@ -223,8 +210,7 @@ module _ (slots : List (Option Insn)) (shapes : List MapShape) (context slot : �
         leaves_pointer kind insn certain,
         has (AtRegister (Pointer kind o) r) (inr (inl (is, top, ten))),
       )
-  due_on k edge (AtRegister (Pointer kind o) r) (inr (inr (inl in_look_up))) = due_in k edge kind o r in_look_up
-  due_on k edge (AtRegister (Pointer kind o) r) (inr (inr (inr (m, is, zero, none, (back, entry))))) = due_entry k edge kind o r m is zero none back entry
+  due_on k edge (AtRegister (Pointer kind o) r) (inr (inr (back, chain))) = due_pointer k edge kind o r back chain
   due_on k edge (AtRegister NoPointer r) due = absurd due
   due_on k edge (IsSetAt i) (size, off, stored, byte) = by (made_or_left slots (stores size off) always false slot k insn here edge stored reached)
     where
@@ -247,10 +233,10 @@ module _ (slots : List (Option Insn)) (shapes : List MapShape) (context slot : �
   on_frame : (size : Size) (dst : ℕ) (off : ℤ) → dst ≡ 10 → IsOnStack size off → IsOnFrame shapes context view size dst off
   on_frame size dst off ten (at, at_is, inside) = record { at = at; at_is = at_is; placed = frame_placed size dst off at ten at_is inside }
 
-  entry_placed : (size : Size) (r : ℕ) (off : ℤ) → r ≡ 0 → (entry : IsInEntry slots shapes slot size off) → IsPlaced shapes context view size r off (Entry entry.map) entry.at
-  entry_placed size r off none entry = record {
+  entry_placed : (size : Size) (r : ℕ) (off : ℤ) → (entry : IsInEntry slots shapes slot r size off) → IsPlaced shapes context view size r off (Entry entry.map) entry.at
+  entry_placed size r off entry = record {
     base = 0;
-    stands = subst (λ (n : ℕ). StandsAt (Pointer (Entry entry.map) 0) view n) (sym none) (has (AtRegister (Pointer (Entry entry.map) 0) 0) (inr (inr (inr (entry.map, refl, refl, refl, entry.entry)))));
+    stands = pointer (Entry entry.map) 0 r entry.entry;
     at_is = let is = entry.off_is in omega (arith, ints, is);
     bound = entry.shape.value_size;
     bound_is = ap size_of_shape entry.known;
@@ -279,111 +265,99 @@ module _ (slots : List (Option Insn)) (shapes : List MapShape) (context slot : �
     set = λ e i le lt. has (IsSetAt i) (size, off, stored, (at, at_is, le, lt));
     plain = λ j. has (IsPlainAt j) tt;
   }
-  readable size src off (inr (inr (none, entry))) = record {
+  readable size src off (inr (inr entry)) = record {
     kind = Entry entry.map;
     at = entry.at;
-    placed = entry_placed size src off none entry;
+    placed = entry_placed size src off entry;
     set = λ e. absurd (let no : ⊥ = cc in no);
     plain = λ j. has (IsPlainAt j) tt;
   }
 
   storable : (size : Size) (dst : ℕ) (off : ℤ) → IsGoodStore slots shapes slot size dst off → IsOnFrame shapes context view size dst off ⊎ IsIntoEntry shapes context view size dst off
   storable size dst off (inl (ten, on)) = inl (on_frame size dst off ten on)
-  storable size dst off (inr (none, entry)) = inr (record { map = entry.map; at = entry.at; placed = entry_placed size dst off none entry; other = λ e. absurd (omega arith) })
+  storable size dst off (inr (other, entry)) = inr (record { map = entry.map; at = entry.at; placed = entry_placed size dst off entry; other = other })
 
-  ready_of : (i : Insn) → Needs slots shapes context slot i → IsReady shapes context view i
-  ready_of (Alu w op dst src) n = (n.0.0, inl (left_ready op dst n.1, operand_ready src n.2))
-  ready_of (MovSx w bits dst src) n = (n.0.0, has (AtRegister Scalar src) n.1)
-  ready_of (Neg w dst) n = (n.0.0, has (AtRegister Scalar dst) n.1)
-  ready_of (End order bits dst) n = (n.0.0, has (AtRegister Scalar dst) n.1)
-  ready_of (Load size signed dst src off) n = (n.0.0, readable size src off n.1)
-  ready_of (StoreImm size dst off imm) n = storable size dst off n
-  ready_of (StoreReg size dst off src) n = (has (AtRegister Scalar src) n.0, storable size dst off n.1)
-  ready_of (Imm64 dst value) n = n.0
-  ready_of (MapRef dst index) n = absurd n
-  ready_of (Goto off) n = tt
-  ready_of (Goto32 imm) n = tt
-  ready_of (Branch w c dst src off) n = (n.0, inl (has (AtRegister Scalar dst) n.1, operand_ready src n.2))
-  ready_of (Call helper) n = inl n
-  ready_of Exit n = has (AtRegister Scalar 0) n
+  naming : (map : ℕ) → IsNaming slots slot map → IsNamingEntry view map
+  naming map n = record {
+    names = pointer (Map map) 0 1 n.names;
+    at = n.at;
+    points = pointer Stack n.at 2 n.points;
+    inside = n.inside;
+    set = λ i le lt. has (IsSetAt i) (n.stored i le lt);
+  }
 
-  -- the parts of a look-up
-  ready_in : (begin m : ℕ) → IsLookUp slots shapes begin m → (slot ≡ begin) ⊎ (slot ≡ begin + 2) ⊎ (slot ≡ begin + 3) ⊎ (slot ≡ begin + 4) ⊎ (slot ≡ begin + 5) → IsReady shapes context view insn
-  ready_in begin m look (inl at) =
-      let small : 1 < 10 = omega arith in
-      subst (λ (i : Insn). IsReady shapes context view i) (sym (named begin _ at look.names)) (small, m, refl, look.there)
-  ready_in begin m look (inr (inl at)) =
-      let small : 2 < 10 = omega arith in
-      subst (λ (i : Insn). IsReady shapes context view i) (sym (named (begin + 2) _ at look.copies))
-      (small, inr (inl (record { is_copy = refl; whole = refl; of_frame = refl; base = 512; stands = frame })))
-  ready_in begin m look (inr (inr (inl at))) =
-      let small : 2 < 10 = omega arith in
-      let top : 512 ≤ 512 = omega arith in
-      let under : look.on_stack.0 ≤ 512 = let inside = look.on_stack.2 in omega (arith, inside) in
-      subst (λ (i : Insn). IsReady shapes context view i) (sym (named (begin + 3) _ at look.moves)) (
-        small,
-        inr (inr (record { is_sum = refl; whole = refl; distance = look.offset; by_distance = refl; base = 512; stands = frame_copied begin m look at; at = look.on_stack.0; at_is = look.on_stack.1; below = top; small = under })),
-      )
-  ready_in begin m look (inr (inr (inr (inl at)))) =
-      subst (λ (i : Insn). IsReady shapes context view i) (sym (named (begin + 4) _ at look.calls))
-      (inr (inl (
-        refl,
-        m,
-        record {
-          names = map_named begin m look (inr (inr at));
-          at = look.on_stack.0;
-          points = number_at begin m look.on_stack.0 look look.on_stack.1 at;
-          inside = look.on_stack.2;
-          set = λ i le lt. has (IsSetAt i) (Word, look.offset, subst (λ (n : ℕ). IsStored slots n Word look.offset) (sym at) look.stored, (look.on_stack.0, look.on_stack.1, le, lt));
-        },
-      )))
-  ready_in begin m look (inr (inr (inr (inr at)))) =
-      let small : 0 < 10 = omega arith in
-      subst (λ (i : Insn). IsReady shapes context view i) (sym (named (begin + 5) _ at look.tests))
-      (small, inr (record { whole = refl; of_null = look.of_null; with_zero = refl }, m, answered begin m look at))
+  -- a register that was loaded with a number
+  bounded : (r n most : ℕ) → n ≤ most → IsLoaded slots slot r n → IsAtMost most (slice_index_or view.registers r None)
+  bounded r n most le loaded = exact_at_most n most (slice_index_or view.registers r None) le (has (AtRegister (Exact n) r) loaded)
 
-  ready_by : IsInLookUp slots shapes slot ⊎ Needs slots shapes context slot insn → IsReady shapes context view insn
-  ready_by (inl part) = ready_in part.begin part.map part.look_up part.part
-  ready_by (inr needs) = ready_of insn needs
+  updating : (map : ℕ) → IsGiving slots shapes slot map → IsUpdating shapes view map
+  updating map g = record {
+    names = naming map g.naming;
+    size = g.shape.value_size;
+    size_is = ap size_of_shape g.known;
+    at = g.at;
+    points = pointer Stack g.at 3 g.points;
+    inside = g.inside;
+    set = λ i le lt. has (IsSetAt i) (g.stored i le lt);
+    flags = bounded 4 0 0 (omega arith) g.flags;
+  }
 
-  -- the instruction has what it needs
-  pub ready_at : IsReady shapes context view insn
-  ready_at = ready_by (straight.each slot insn here)
+  asking : (helper : ℤ) → IsCounting slots slot helper → IsAsking view helper
+  asking helper c = (bounded 1 c.counter 63 (let few = c.few in omega (arith, few)) c.loaded, λ is. has (AtRegister Scalar 2) (c.amount is))
+
+  operands : (w : Width) (op : Operation) (dst : ℕ) (src : Source) → (IsWrittenLeft op slots slot dst × IsWrittenOperand slots slot src) ⊎ (IsCopyOfEnd w op src ⊎ IsMoveOnStack slots slot w op dst src) → (IsLeftReady op view dst × IsScalarOperand view src) ⊎ (IsCopyOfFrame view w op src ⊎ IsMoveOfPointer view w op dst src)
+  operands w op dst src (inl numbers) = inl (left_ready op dst numbers.0, operand_ready src numbers.1)
+  operands w op dst src (inr (inl copy)) = inr (inl (record { is_copy = copy.1; whole = copy.0; of_frame = copy.2; base = 512; stands = frame }))
+  operands w op dst src (inr (inr m)) =
+      inr (inr (record { is_sum = m.is_sum; whole = m.whole; distance = m.distance; by_distance = m.by_distance; base = m.base; stands = pointer Stack m.base dst m.from; at = m.at; at_is = m.at_is; below = m.below; small = m.small }))
+
+  -- the instruction has what it needs: for a call of a counter it is the view that is asked from
+  ready_of : (i : Insn) → Needs slots shapes context slot i → IsReady shapes context view i ⊎ IsReadyToAsk view i
+  ready_of (Alu w op dst src) n = inl (n.0, operands w op dst src n.1)
+  ready_of (MovSx w bits dst src) n = inl (n.0, has (AtRegister Scalar src) n.1)
+  ready_of (Neg w dst) n = inl (n.0, has (AtRegister Scalar dst) n.1)
+  ready_of (End order bits dst) n = inl (n.0, has (AtRegister Scalar dst) n.1)
+  ready_of (Load size signed dst src off) n = inl (n.0, readable size src off n.1)
+  ready_of (StoreImm size dst off imm) n = inl (storable size dst off n)
+  ready_of (StoreReg size dst off src) n = inl (has (AtRegister Scalar src) n.0, storable size dst off n.1)
+  ready_of (Imm64 dst value) n = inl n
+  ready_of (MapRef dst index) n = inl n
+  ready_of (Goto off) n = inl tt
+  ready_of (Goto32 imm) n = inl tt
+  ready_of (Branch w c dst src off) (low, inl numbers) = inl (low, inl (has (AtRegister Scalar dst) numbers.0, operand_ready src numbers.1))
+  ready_of (Branch w c dst src off) (low, inr (test, map, at)) = inl (low, inr (test, map, pointer (EntryOrNull map) 0 dst at))
+  ready_of (Call helper) (inl plain) = inl (inl plain)
+  ready_of (Call helper) (inr (inl (one, map, n))) = inl (inr (inl (one, map, naming map n)))
+  ready_of (Call helper) (inr (inr (inl (two, map, g)))) = inl (inr (inr (two, map, updating map g)))
+  ready_of (Call helper) (inr (inr (inr (which, c)))) = inr (which, asking helper c)
+  ready_of Exit n = inl (has (AtRegister Scalar 0) n)
+
+  pub ready_at : IsReady shapes context view insn ⊎ IsReadyToAsk view insn
+  ready_at = ready_of insn (straight.each slot insn here)
 
   -- one slot further the pass is as sure
-  pub sure_on : (pending new : List (Option (Box View Global))) (after : View) (on : Bool) → ((x : Fact) (k : ℕ) → IsDue slots shapes x k → HasWaiting x pending k) → GoesOnSure slots slot insn view pending new after on → IsSure slots shapes new after on (slot + 1)
+  pub sure_on : (pending new : List (Option (Box View Global))) (after : View) (on : Bool) → ((x : Fact) (k : ℕ) → IsDue slots x k → HasWaiting x pending k) → GoesOnSure slots slot insn view pending new after on → IsSure slots new after on (slot + 1)
   sure_on pending new after on waits goes x k due = goes x k (waits x k due) (λ edge. due_on k edge x due)
 
 -- where no view is carried on
-pub sure_over : (slots : List (Option Insn)) (shapes : List MapShape) (pending : List (Option (Box View Global))) (view : View) (slot : ℕ) → ((x : Fact) (k : ℕ) → IsDue slots shapes x k → HasWaiting x pending k) → IsSure slots shapes pending view false slot
-sure_over slots shapes pending view slot waits x k due = record { waiting = waits x k due; carried = λ live. absurd (let no : ⊥ = cc in no) }
+pub sure_over : (slots : List (Option Insn)) (pending : List (Option (Box View Global))) (view : View) (slot : ℕ) → ((x : Fact) (k : ℕ) → IsDue slots x k → HasWaiting x pending k) → IsSure slots pending view false slot
+sure_over slots pending view slot waits x k due = record { waiting = waits x k due; carried = λ live. absurd (let no : ⊥ = cc in no) }
 
 -- at the start
-pub sure_start : (slots : List (Option Insn)) (shapes : List MapShape) (pending : List (Option (Box View Global))) (view : View) → IsSound slots → ((k : ℕ) → slice_index_or pending k None ≡ None) → StandsAt (Pointer Context 0) view 1 → StandsAt (Pointer Stack 512) view 10 → ((j : ℕ) → Has (IsPlainAt j) view) → IsSure slots shapes pending view true 0
-sure_start slots shapes pending view sound blank context frame plain x k due = record { waiting = rw (blank k) tt; carried = λ live same. at x (subst (λ (n : ℕ). IsDue slots shapes x n) same due) }
+pub sure_start : (slots : List (Option Insn)) (pending : List (Option (Box View Global))) (view : View) → IsSound slots → ((k : ℕ) → slice_index_or pending k None ≡ None) → StandsAt (Pointer Context 0) view 1 → StandsAt (Pointer Stack 512) view 10 → ((j : ℕ) → Has (IsPlainAt j) view) → IsSure slots pending view true 0
+sure_start slots pending view sound blank context frame plain x k due = record { waiting = rw (blank k) tt; carried = λ live same. at x (subst (λ (n : ℕ). IsDue slots x n) same due) }
   where
-    no_entry : (m : ℕ) (back : List ℕ) → IsEntryFrom slots shapes m 0 back → ⊥
-    no_entry m [] (one_way, found) =
-        let edge = found_edge slots found.look_up.test found.look_up.to_side (found.begin + 5) 0 found.look_up.tests found.side in
-        let up = (sound.forward (found.begin + 5) 0 edge).0 in
-        omega (arith, up)
-    no_entry m (before ∷ back) (one_way, way, spared, rest) = let up = (sound.forward before 0 way).0 in omega (arith, up)
+    not_made : (kind : Kind) (o r : ℕ) (back : List ℕ) → IsPointerFrom slots kind o r 0 back → ⊥
+    not_made kind o r [] chain = chain
+    not_made kind o r (before ∷ back) chain = let up = (sound.forward before 0 chain.1).0 in omega (arith, up)
 
-    no_part : (kind : Kind) (o r : ℕ) → IsDueInLookUp slots shapes kind o r 0 → ⊥
-    no_part kind o r (begin, m, look, inl (is, zero, one, inl at)) = omega (arith, at)
-    no_part kind o r (begin, m, look, inl (is, zero, one, inr (inl at))) = omega (arith, at)
-    no_part kind o r (begin, m, look, inl (is, zero, one, inr (inr at))) = omega (arith, at)
-    no_part kind o r (begin, m, look, inr (inl (is, top, two, at))) = omega (arith, at)
-    no_part kind o r (begin, m, look, inr (inr (inl (is, o_is, two, at)))) = omega (arith, at)
-    no_part kind o r (begin, m, look, inr (inr (inr (is, zero, none, at)))) = omega (arith, at)
-
-    at : (x : Fact) → IsDue slots shapes x 0 → Has x view
+    at : (x : Fact) → IsDue slots x 0 → Has x view
     at Never due = due (record { rest = []; is_path = tt; ends = refl })
     at (AtRegister Scalar r) due = absurd (let e : false ≡ true = due [] tt refl in let no : ⊥ = cc in no)
+    at (AtRegister (Exact n) r) due = absurd (let e : false ≡ true = due [] tt refl in let no : ⊥ = cc in no)
     at (AtRegister (Pointer kind o) r) (inl (is, zero, one, left)) = rw (is, zero, one) context
     at (AtRegister (Pointer kind o) r) (inr (inl (is, top, ten))) = rw (is, top, ten) frame
-    at (AtRegister (Pointer kind o) r) (inr (inr (inl part))) = absurd (no_part kind o r part)
-    at (AtRegister (Pointer kind o) r) (inr (inr (inr (m, is, zero, none, (back, entry))))) = absurd (no_entry m back entry)
+    at (AtRegister (Pointer kind o) r) (inr (inr (back, chain))) = absurd (not_made kind o r back chain)
     at (AtRegister NoPointer r) due = absurd due
     at (IsSetAt i) (size, off, stored, byte) = absurd (let e : false ≡ true = stored [] tt refl in let no : ⊥ = cc in no)
     at (IsPlainAt j) due = plain j

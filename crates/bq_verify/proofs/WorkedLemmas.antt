@@ -1,9 +1,9 @@
 -- The worked program is straight.
 use Rattle.std.proofs.Common.{◌≡◌, ◌≢◌, ℕ, zero, suc, ◌+◌, ◌<◌, ◌≤◌, Bool, true, false, List, [], ◌∷◌, ◌++◌, Option, Some, None, refl, sym, subst, ◌∙◌, ◌⊎◌, inl, inr, ℤ, pos, arith}
-use Rattle.std.specs.Prelude.{◌&&◌, ◌||◌, slice_index}
+use Rattle.std.specs.Prelude.{◌&&◌, ◌||◌, neg_ℤ, slice_index}
 use Rattle.bq_insn.specs.declared.Insn.{Insn}
 use Rattle.bq_insn.specs.declared.Insn.TheVariants.{Alu, Branch, Call, Exit}
-use Rattle.bq_insn.specs.declared.Operation.TheVariants.{Mov}
+use Rattle.bq_insn.specs.declared.Operation.TheVariants.{Add, Mov}
 use Rattle.bq_insn.specs.declared.Condition.TheVariants.{Equal}
 use Rattle.bq_insn.specs.declared.Size.TheVariants.{Word, Double}
 use Rattle.bq_insn.specs.declared.Source.TheVariants.{Imm}
@@ -16,22 +16,24 @@ use Rattle.bq_graph.specs.Paths.{IsPath, Path, end_of, asks_counter}
 use Rattle.bq_graph.specs.Faults.{IsFaultless, destination_of, is_helper}
 use Rattle.bq_graph.specs.declared.cause.Cause.TheVariants.{Jump, NoExit, Unreached, Frame, Helper, Counters}
 use Rattle.bq_graph.proofs.EdgeLemmas.{end_of-push, IsPath-push, exit_is_last, leads_same}
-use Rattle.bq_verify.specs.Straight.{held_along, OnEachPath, always, stores, writes, leaves, IsWritten, IsLookUp, IsInLookUp, IsFound, IsInEntry, IsFree, Needs}
+use Rattle.bq_views.specs.Ready.{IsNullCheck}
+use Rattle.bq_views.specs.declared.view.Kind.TheVariants.{Entry, EntryOrNull, Map, Stack}
+use Rattle.bq_verify.specs.Straight.{held_along, OnEachPath, always, stores, writes, leaves, HasOneWay, IsByteStored, IsInEntry, IsMoveOnStack, IsNaming, IsPointerAt, IsPointerFrom, IsWritten, Needs}
 use Rattle.bq_verify.specs.Worked.{worked, WorkedIsStraight}
 
 -- a fact of each instruction and its slot
-abbrev AllAt : (ℕ → Insn → Type 0) → ℕ → List (Option Insn) → Type 0
+abbrev pub AllAt : (ℕ → Insn → Type 0) → ℕ → List (Option Insn) → Type 0
 AllAt P n [] = Unit {0}
 AllAt P n (None ∷ rest) = AllAt P (n + 1) rest
 AllAt P n (Some insn ∷ rest) = P n insn × AllAt P (n + 1) rest
 
-some_same : (a b : Insn) → Some a ≡ Some b → a ≡ b
+pub some_same : (a b : Insn) → Some a ≡ Some b → a ≡ b
 some_same a b e = cc
 
-no_insn : (a : Insn) → None ≡ Some a → ⊥
+pub no_insn : (a : Insn) → None ≡ Some a → ⊥
 no_insn a e = cc
 
-at_slot : (P : ℕ → Insn → Type 0) (n : ℕ) (slots : List (Option Insn)) → AllAt P n slots → (k : ℕ) (insn : Insn) → instruction_at slots k ≡ Some insn → P (n + k) insn
+pub at_slot : (P : ℕ → Insn → Type 0) (n : ℕ) (slots : List (Option Insn)) → AllAt P n slots → (k : ℕ) (insn : Insn) → instruction_at slots k ≡ Some insn → P (n + k) insn
 at_slot P n [] all k insn here = absurd (no_insn insn here)
 at_slot P n (None ∷ rest) all zero insn here = absurd (no_insn insn here)
 at_slot P n (None ∷ rest) all (suc k) insn here =
@@ -51,18 +53,18 @@ each_slot : (P : ℕ → Insn → Type 0) → AllAt P 0 program → (k : ℕ) (i
 each_slot P all k insn here = let e : 0 + k ≡ k = omega arith in subst (λ (m : ℕ). P m insn) e (at_slot P 0 program all k insn here)
 
 -- what holds at the start of a path, and over each edge, holds at its end
-along : (slots : List (Option Insn)) (makes leaves : Option Insn → Bool) (P : ℕ → Bool → Type 0) → ((from to : ℕ) (held : Bool) → IsEdge slots from to → P from held → P to (makes (instruction_at slots from) || (leaves (instruction_at slots from) && held))) → (rest : List ℕ) (from : ℕ) (held : Bool) → IsPath slots from rest → P from held → P (end_of from rest) (held_along slots makes leaves held from rest)
+pub along : (slots : List (Option Insn)) (makes leaves : Option Insn → Bool) (P : ℕ → Bool → Type 0) → ((from to : ℕ) (held : Bool) → IsEdge slots from to → P from held → P to (makes (instruction_at slots from) || (leaves (instruction_at slots from) && held))) → (rest : List ℕ) (from : ℕ) (held : Bool) → IsPath slots from rest → P from held → P (end_of from rest) (held_along slots makes leaves held from rest)
 along slots makes leaves P step [] from held path p = p
 along slots makes leaves P step (next ∷ rest) from held path p = along slots makes leaves P step rest next _ path.1 (step from next held path.0 p)
 
 -- what each instruction before a slot makes so is so there on each path
-made_before : (slots : List (Option Insn)) (makes leaves : Option Insn → Bool) (first : Bool) (slot : ℕ) → 0 < slot → ((from : ℕ) → IsEdge slots from slot → makes (instruction_at slots from) ≡ true) → OnEachPath slots makes leaves first slot
+pub made_before : (slots : List (Option Insn)) (makes leaves : Option Insn → Bool) (first : Bool) (slot : ℕ) → 0 < slot → ((from : ℕ) → IsEdge slots from slot → makes (instruction_at slots from) ≡ true) → OnEachPath slots makes leaves first slot
 made_before slots makes leaves first slot later made rest path ends =
     along slots makes leaves (λ n held. n ≡ slot → held ≡ true)
     (λ from to held edge p same. let m : makes (instruction_at slots from) ≡ true = made from (subst (λ (n : ℕ). IsEdge slots from n) same edge) in rw m refl)
     rest 0 first path (λ same. absurd (omega arith)) ends
 
-or_true : (b : Bool) → (b || true) ≡ true
+pub or_true : (b : Bool) → (b || true) ≡ true
 or_true true = refl
 or_true false = refl
 
@@ -71,7 +73,7 @@ from_first slots makes made zero held p = rw made refl
 from_first slots makes made (suc n) held p = let h : held ≡ true = p (omega arith) in rw h (or_true _)
 
 -- what the first instruction makes so, and each leaves so, is so at each later slot
-made_first : (slots : List (Option Insn)) (makes : Option Insn → Bool) → makes (instruction_at slots 0) ≡ true → (slot : ℕ) → 0 < slot → OnEachPath slots makes always false slot
+pub made_first : (slots : List (Option Insn)) (makes : Option Insn → Bool) → makes (instruction_at slots 0) ≡ true → (slot : ℕ) → 0 < slot → OnEachPath slots makes always false slot
 made_first slots makes made slot later rest path ends =
     along slots makes always (λ n held. 0 < n → held ≡ true)
     (λ from to held edge p le. from_first slots makes made from held p)
@@ -81,13 +83,13 @@ made_first slots makes made slot later rest path ends =
 abbrev before : ℕ → ℕ
 before k = slice_index (0 ∷ 0 ∷ 0 ∷ 1 ∷ 3 ∷ 4 ∷ 5 ∷ 6 ∷ 7 ∷ 6 ∷ 9 ∷ []) k
 
-no_distance : (d : ℤ) → None ≡ Some d → ⊥
+pub no_distance : (d : ℤ) → None ≡ Some d → ⊥
 no_distance d e = cc
 
-one_distance : (d e : ℤ) → Some d ≡ Some e → d ≡ e
+pub one_distance : (d e : ℤ) → Some d ≡ Some e → d ≡ e
 one_distance d e same = cc
 
-not_false : false ≡ true → ⊥
+pub not_false : false ≡ true → ⊥
 not_false e = cc
 
 goes_next : (n : ℕ) (insn : Insn) → instruction_at program n ≡ Some insn → distance_of insn ≡ None → n ≡ before (n + slots_of insn) → (to : ℕ) → Leaves insn n to → n ≡ before to
@@ -152,10 +154,10 @@ to_9 = record {
 to_10 : Path program 0 10
 to_10 = on 9 _ refl refl to_9
 
-no_register : (n : ℕ) → None ≡ Some n → ⊥
+pub no_register : (n : ℕ) → None ≡ Some n → ⊥
 no_register n e = cc
 
-not_frame : (r : ℕ) → r < 10 → Some r ≡ Some 10 → ⊥
+pub not_frame : (r : ℕ) → r < 10 → Some r ≡ Some 10 → ⊥
 not_frame r lt e = let ten : ℕ = 10 in let same : r ≡ 10 = cc in omega arith
 
 a_helper : (h : ℤ) → Call (pos 1) ≡ Call h → is_helper h ≡ false → ⊥
@@ -204,56 +206,70 @@ written_10 = made_before program (writes 0) (leaves 0) false 10 (omega arith) (�
 apart_slots : (a b : ℕ) → a < b → a ≡ b → ⊥
 apart_slots a b lt same = omega arith
 
+one_way : (slot : ℕ) → HasOneWay program slot
+one_way slot a b p q = only_before a slot p ∙ sym (only_before b slot q)
+
+edge_on : (n : ℕ) (insn : Insn) → instruction_at program n ≡ Some insn → goes_on insn ≡ true → IsEdge program n (n + slots_of insn)
+edge_on n insn here goes = record { insn = insn; here = here; leaves = inl (goes, refl) }
+
+-- from slot 3 on register 1 names the map
+names_3 : IsPointerFrom program (Map 0) 0 1 3 (1 ∷ [])
+names_3 = (one_way 3, edge_on 1 _ refl refl, inl (refl, 0, refl, refl, refl))
+
+names_4 : IsPointerFrom program (Map 0) 0 1 4 (3 ∷ 1 ∷ [])
+names_4 = (one_way 4, edge_on 3 _ refl refl, inr ((refl, tt), names_3))
+
+names_5 : IsPointerFrom program (Map 0) 0 1 5 (4 ∷ 3 ∷ 1 ∷ [])
+names_5 = (one_way 5, edge_on 4 _ refl refl, inr ((refl, tt), names_4))
+
+-- register 2 points to the stack's end, and then four bytes below
+points_4 : IsPointerFrom program Stack 512 2 4 (3 ∷ [])
+points_4 = (one_way 4, edge_on 3 _ refl refl, inl (refl, refl, refl, refl))
+
+points_5 : IsPointerFrom program Stack 508 2 5 (4 ∷ 3 ∷ [])
+points_5 = (one_way 5, edge_on 4 _ refl refl, inl (refl, 512, points_4, refl))
+
+-- register 0 is the answer, and then an entry
+answer_6 : IsPointerFrom program (EntryOrNull 0) 0 0 6 (5 ∷ 4 ∷ 3 ∷ 1 ∷ [])
+answer_6 = (one_way 6, edge_on 5 _ refl refl, inl (refl, refl, 0, refl, refl, names_5))
+
+entry_7 : IsPointerFrom program (Entry 0) 0 0 7 (6 ∷ 5 ∷ 4 ∷ 3 ∷ 1 ∷ [])
+entry_7 = (one_way 7, edge_on 6 _ refl refl, inl (refl, 0, refl, refl, answer_6, (refl, λ leads. apart_slots 7 9 (omega arith) (leads_same 6 7 9 (pos 2) leads refl))))
+
+stored_5 : (i : ℕ) → 508 ≤ i → i < 508 + 4 → IsByteStored program 5 i
+stored_5 i le lt = (Word, neg_ℤ (pos 4), made_first program (stores Word (neg_ℤ (pos 4))) refl 5 (omega arith), (508, refl, le, lt))
+
+naming : IsNaming program 5 0
+naming = record { names = (4 ∷ 3 ∷ 1 ∷ [], names_5); at = 508; points = (4 ∷ 3 ∷ [], points_5); inside = omega arith; stored = stored_5 }
+
+zero_low : 0 < 10
+zero_low = omega arith
+
+one_low : 1 < 10
+one_low = omega arith
+
+two_low : 2 < 10
+two_low = omega arith
+
 module _ (shape : MapShape) where
-  abbrev look_up : IsLookUp program (shape ∷ []) 1 0
-  look_up = record {
-    there = omega arith;
-    names = refl;
-    copies = refl;
-    offset = _;
-    moves = refl;
-    on_stack = (508, refl, omega arith);
-    stored = made_first program (stores Word _) refl 5 (omega arith);
-    calls = refl;
-    test = Equal;
-    to_side = pos 2;
-    tests = refl;
-    of_null = tt;
-    to_copy = λ from edge. only_before from 3 edge;
-    to_move = λ from edge. only_before from 4 edge;
-    to_call = λ from edge. only_before from 5 edge;
-    to_test = λ from edge. only_before from 6 edge;
-  }
-
-  part_of : (slot : ℕ) → ((slot ≡ 1) ⊎ (slot ≡ 3) ⊎ (slot ≡ 4) ⊎ (slot ≡ 5) ⊎ (slot ≡ 6)) → IsInLookUp program (shape ∷ []) slot
-  part_of slot part = record { begin = 1; map = 0; look_up = look_up; part = part }
-
-  found : IsFound program (shape ∷ []) 0 7
-  found = record { begin = 1; look_up = look_up; side = (refl, λ leads. apart_slots 7 9 (omega arith) (leads_same 6 7 9 (pos 2) leads refl)) }
-
-  in_entry : IsInEntry program (shape ∷ []) 7 Double (pos 0)
-  in_entry = record {
-    map = 0;
-    shape = shape;
-    known = refl;
-    entry = ([], (λ a b p q. only_before a 7 p ∙ sym (only_before b 7 q), found));
-    at = 0;
-    off_is = refl;
-    inside = shape.least_size;
-  }
-
-not_one : (n : ℕ) → n ≡ 0 → n ≢ 1
-not_one n zero_is one_is = omega arith
-
-free : IsFree 0
-free = (omega arith, not_one 0 refl)
+  in_entry : IsInEntry program (shape ∷ []) 7 0 Double (pos 0)
+  in_entry = record { map = 0; shape = shape; known = refl; entry = (6 ∷ 5 ∷ 4 ∷ 3 ∷ 1 ∷ [], entry_7); at = 0; off_is = refl; inside = shape.least_size }
 
 pub worked_is_straight : WorkedIsStraight
 worked_is_straight = (
   refl,
   λ shape context. record {
     faultless = faultless;
-    each = each_slot (λ slot insn. IsInLookUp program (shape ∷ []) slot ⊎ Needs program (shape ∷ []) context slot insn)
-        (inr (inl (refl, (508, refl, omega arith))), (inl (part_of shape 1 (inl refl)), (inl (part_of shape 3 (inr (inl refl))), (inl (part_of shape 4 (inr (inr (inl refl)))), (inl (part_of shape 5 (inr (inr (inr (inl refl))))), (inl (part_of shape 6 (inr (inr (inr (inr refl))))), (inr (free, inr (inr (refl, in_entry shape))), (inr written_8, (inr (free, tt, tt), (inr written_10, tt))))))))));
+    each = each_slot (λ slot insn. Needs program (shape ∷ []) context slot insn)
+        (inl (refl, (508, refl, omega arith)), ((one_low, 0, refl, zero_below), ((two_low, inr (inl (refl, refl, refl))), ((two_low, inr (inr on_stack)), (inr (inl (refl, 0, naming)), ((zero_low, inr (test, 0, (5 ∷ 4 ∷ 3 ∷ 1 ∷ [], answer_6))), ((zero_low, inr (inr (in_entry shape))), (written_8, ((zero_low, inl (tt, tt)), (written_10, tt))))))))));
   },
 )
+  where
+    zero_below : 0 < 1
+    zero_below = omega arith
+
+    on_stack : IsMoveOnStack program 4 W64 Add 2 (Imm (neg_ℤ (pos 4)))
+    on_stack = record { whole = refl; is_sum = refl; distance = neg_ℤ (pos 4); by_distance = refl; base = 512; from = (3 ∷ [], points_4); at = 508; at_is = refl; below = omega arith; small = omega arith }
+
+    test : IsNullCheck W64 Equal (Imm (pos 0))
+    test = record { whole = refl; of_null = tt; with_zero = refl }

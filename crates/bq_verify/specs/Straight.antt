@@ -5,20 +5,21 @@ use Rattle.bq_insn.specs.declared.Insn.{Insn}
 use Rattle.bq_insn.specs.declared.Insn.TheVariants.{Alu, MovSx, Neg, End, Load, StoreImm, StoreReg, Imm64, MapRef, Goto, Goto32, Branch, Call, Exit}
 use Rattle.bq_insn.specs.declared.Operation.{Operation}
 use Rattle.bq_insn.specs.declared.Operation.TheVariants.{Add, Mov}
-use Rattle.bq_insn.specs.declared.Condition.{Condition}
 use Rattle.bq_insn.specs.declared.Size.{Size}
-use Rattle.bq_insn.specs.declared.Size.TheVariants.{Word}
 use Rattle.bq_insn.specs.declared.Source.{Source}
 use Rattle.bq_insn.specs.declared.Source.TheVariants.{Imm, Reg}
+use Rattle.bq_insn.specs.declared.Width.{Width}
 use Rattle.bq_insn.specs.declared.Width.TheVariants.{W64}
-use Rattle.bq_insn.specs.Meaning.{byte_count}
+use Rattle.bq_insn.specs.Meaning.{byte_count, word_of}
 use Rattle.bq_maps.specs.declared.shape.MapShape.{MapShape}
 use Rattle.bq_maps.specs.Machine.{instruction_at}
 use Rattle.bq_graph.specs.Edges.{IsEdge}
 use Rattle.bq_graph.specs.Paths.{IsPath, end_of}
 use Rattle.bq_graph.specs.Faults.{IsFaultless, destination_of}
-use Rattle.bq_views.specs.Ready.{IsNullTest}
-use Rattle.bq_views.specs.After.{IsFoundSide}
+use Rattle.bq_views.specs.Ready.{IsNullCheck}
+use Rattle.bq_views.specs.After.{IsFoundSide, IsStackByte, LeavesPointer}
+use Rattle.bq_views.specs.declared.view.Kind.{Kind}
+use Rattle.bq_views.specs.declared.view.Kind.TheVariants.{Entry, EntryOrNull, Map, Stack}
 
 -- whether something holds at the end of a path: the last instruction before the end made it so, or it was so and that one left it so
 abbrev pub held_along : List (Option Insn) → (Option Insn → Bool) → (Option Insn → Bool) → Bool → ℕ → List ℕ → Bool
@@ -58,6 +59,16 @@ spares r None = true
 spares r (Some (Call helper)) = nat_lt 5 r
 spares r (Some insn) = not (is_register (destination_of insn) r)
 
+-- the instruction moves that number into the register
+abbrev pub loads : ℕ → ℕ → Option Insn → Bool
+loads r n (Some (Alu W64 Mov dst (Imm i))) = (dst == r) && (word_of i == n)
+loads r n _ = false
+
+-- the instruction leaves the register as it is, and does not test it
+abbrev pub untouched : ℕ → Option Insn → Bool
+untouched r (Some (Branch w c dst src off)) = not (dst == r)
+untouched r insn = spares r insn
+
 -- the instruction stores so many bytes at that offset from register 10
 abbrev pub stores : Size → ℤ → Option Insn → Bool
 stores size off (Some (StoreImm s dst o imm)) = (byte_count s == byte_count size) && ((dst == 10) && int_eq o off)
@@ -78,6 +89,14 @@ IsWritten slots slot r = OnEachPath slots (writes r) (leaves r) false slot
 abbrev pub IsStored : List (Option Insn) → ℕ → Size → ℤ → Type 0
 IsStored slots slot size off = OnEachPath slots (stores size off) always false slot
 
+-- on each path to the slot that byte of the stack was stored
+abbrev pub IsByteStored : List (Option Insn) → ℕ → ℕ → Type 0
+IsByteStored slots slot i = (size : Size) × (off : ℤ) × IsStored slots slot size off × IsStackByte size off i
+
+-- on each path to the slot the register was loaded with that number, and not touched since
+abbrev pub IsLoaded : List (Option Insn) → ℕ → ℕ → ℕ → Type 0
+IsLoaded slots slot r n = OnEachPath slots (loads r n) (untouched r) false slot
+
 -- on each path to the slot register 1 was left as it was at the start
 abbrev pub IsContextLeft : List (Option Insn) → ℕ → Type 0
 IsContextLeft slots slot = OnEachPath slots never (spares 1) true slot
@@ -95,95 +114,127 @@ IsWrittenLeft _ slots slot dst = IsWritten slots slot dst
 abbrev pub IsOnStack : Size → ℤ → Type 0
 IsOnStack size off = (at : ℕ) × (pos at ≡ (pos 512 +ℤ off)) × (at + byte_count size ≤ 512)
 
--- a look-up from the slot on: the map, the address of an entry number that was stored on each path to the call, the call, and
--- the test of its answer; control comes to each part from the one before alone
-pub record IsLookUp (slots : List (Option Insn)) (shapes : List MapShape) (slot map : ℕ) : Type 0 where
-  pub there : map < length shapes
-  pub names : instruction_at slots slot ≡ Some (MapRef 1 (pos map))
-  pub copies : instruction_at slots (slot + 2) ≡ Some (Alu W64 Mov 2 (Reg 10))
-  pub offset : ℤ
-  pub moves : instruction_at slots (slot + 3) ≡ Some (Alu W64 Add 2 (Imm offset))
-  pub on_stack : IsOnStack Word offset
-  pub stored : IsStored slots (slot + 4) Word offset
-  pub calls : instruction_at slots (slot + 4) ≡ Some (Call (pos 1))
-  pub test : Condition
-  pub to_side : ℤ
-  pub tests : instruction_at slots (slot + 5) ≡ Some (Branch W64 test 0 (Imm (pos 0)) to_side)
-  pub of_null : IsNullTest test
-  pub to_copy : (from : ℕ) → IsEdge slots from (slot + 2) → from ≡ slot
-  pub to_move : (from : ℕ) → IsEdge slots from (slot + 3) → from ≡ slot + 2
-  pub to_call : (from : ℕ) → IsEdge slots from (slot + 4) → from ≡ slot + 3
-  pub to_test : (from : ℕ) → IsEdge slots from (slot + 5) → from ≡ slot + 4
-
--- the instruction at the slot is part of a look-up
-pub record IsInLookUp (slots : List (Option Insn)) (shapes : List MapShape) (slot : ℕ) : Type 0 where
-  pub begin : ℕ
-  pub map : ℕ
-  pub look_up : IsLookUp slots shapes begin map
-  pub part : (slot ≡ begin) ⊎ (slot ≡ begin + 2) ⊎ (slot ≡ begin + 3) ⊎ (slot ≡ begin + 4) ⊎ (slot ≡ begin + 5)
-
 -- only one edge leads to the slot
 abbrev pub HasOneWay : List (Option Insn) → ℕ → Type 0
 HasOneWay slots slot = (a b : ℕ) → IsEdge slots a slot → IsEdge slots b slot → a ≡ b
 
--- the slot is on the side of a look-up's test where its answer is not 0
-pub record IsFound (slots : List (Option Insn)) (shapes : List MapShape) (map slot : ℕ) : Type 0 where
-  pub begin : ℕ
-  pub look_up : IsLookUp slots shapes begin map
-  pub side : IsFoundSide look_up.test look_up.to_side (begin + 5) slot
+-- on the way to a slot the instruction makes the register such a pointer, by what registers were before: the name of a map, a
+-- copy of register 10, a sum with a number, the answer of a look-up, and on the side of its test where it is not 0 an entry
+abbrev pub MakesPointer : Kind → ℕ → ℕ → ℕ → ℕ → Option Insn → (Kind → ℕ → ℕ → Type 0) → Type 0
+MakesPointer kind o r slot to (Some (MapRef dst index)) Was = (dst ≡ r) × (m : ℕ) × (index ≡ pos m) × (kind ≡ Map m) × (o ≡ 0)
+MakesPointer kind o r slot to (Some (Alu w Mov dst (Reg src))) Was = (dst ≡ r) × (src ≡ 10) × (kind ≡ Stack) × (o ≡ 512)
+MakesPointer kind o r slot to (Some (Alu w Add dst (Imm i))) Was = (dst ≡ r) × (base : ℕ) × Was kind base r × (pos o ≡ (pos base +ℤ i))
+MakesPointer kind o r slot to (Some (Call helper)) Was = (r ≡ 0) × (helper ≡ pos 1) × (m : ℕ) × (kind ≡ EntryOrNull m) × (o ≡ 0) × Was (Map m) 0 1
+MakesPointer kind o r slot to (Some (Branch w c dst src off)) Was = (dst ≡ r) × (m : ℕ) × (kind ≡ Entry m) × (o ≡ 0) × Was (EntryOrNull m) 0 r × IsFoundSide c off slot to
+MakesPointer kind o r slot to _ Was = ⊥
 
--- register 0 is the address of an entry of the map: so it is where the entry was found, and on from there, over slots with one
--- way to them, while no instruction writes register 0 or calls; the list has the slots on the way, backwards
-abbrev pub IsEntryFrom : List (Option Insn) → List MapShape → ℕ → ℕ → List ℕ → Type 0
-IsEntryFrom slots shapes map slot [] = HasOneWay slots slot × IsFound slots shapes map slot
-IsEntryFrom slots shapes map slot (before ∷ back) =
-    HasOneWay slots slot × IsEdge slots before slot × (spares 0 (instruction_at slots before) ≡ true) × IsEntryFrom slots shapes map before back
+-- the instruction leaves such a pointer in the register: a look-up's answer is told apart by a test
+abbrev pub LeavesPointerIn : Kind → ℕ → Option Insn → Type 0
+LeavesPointerIn kind r None = ⊥
+LeavesPointerIn kind r (Some insn) = (spares r (Some insn) ≡ true) × LeavesPointer kind insn
 
-abbrev pub IsEntryAt : List (Option Insn) → List MapShape → ℕ → ℕ → Type 0
-IsEntryAt slots shapes map slot = (back : List ℕ) × IsEntryFrom slots shapes map slot back
+-- the register is such a pointer at the slot: the slots back to where it was made have one way to each; the list has them, backwards
+abbrev pub IsPointerFrom : List (Option Insn) → Kind → ℕ → ℕ → ℕ → List ℕ → Type 0
+IsPointerFrom slots kind o r slot [] = ⊥
+IsPointerFrom slots kind o r slot (before ∷ back) =
+    HasOneWay slots slot × IsEdge slots before slot
+    × (MakesPointer kind o r before slot (instruction_at slots before) (λ kind o r. IsPointerFrom slots kind o r before back)
+    ⊎ (LeavesPointerIn kind r (instruction_at slots before) × IsPointerFrom slots kind o r before back))
 
--- all bytes of an access by register 0 lie in an entry
-pub record IsInEntry (slots : List (Option Insn)) (shapes : List MapShape) (slot : ℕ) (size : Size) (off : ℤ) : Type 0 where
+abbrev pub IsPointerAt : List (Option Insn) → Kind → ℕ → ℕ → ℕ → Type 0
+IsPointerAt slots kind o r slot = (back : List ℕ) × IsPointerFrom slots kind o r slot back
+
+-- all bytes of an access by the register lie in an entry
+pub record IsInEntry (slots : List (Option Insn)) (shapes : List MapShape) (slot r : ℕ) (size : Size) (off : ℤ) : Type 0 where
   pub map : ℕ
   pub shape : MapShape
   pub known : slice_get shapes map ≡ Some shape
-  pub entry : IsEntryAt slots shapes map slot
+  pub entry : IsPointerAt slots (Entry map) 0 r slot
   pub at : ℕ
   pub off_is : off ≡ pos at
   pub inside : at + byte_count size ≤ shape.value_size
 
--- a load: of the context by register 1, of what was stored by register 10, or of an entry by register 0
+-- a load: of the context by register 1, of what was stored by register 10, or of an entry
 abbrev pub IsGoodLoad : List (Option Insn) → List MapShape → ℕ → ℕ → Size → ℕ → ℤ → Type 0
 IsGoodLoad slots shapes context slot size src off =
     ((src ≡ 1) × IsContextLeft slots slot × (at : ℕ) × (off ≡ pos at) × (at + byte_count size ≤ context))
-    ⊎ (((src ≡ 10) × IsOnStack size off × IsStored slots slot size off) ⊎ ((src ≡ 0) × IsInEntry slots shapes slot size off))
+    ⊎ (((src ≡ 10) × IsOnStack size off × IsStored slots slot size off) ⊎ IsInEntry slots shapes slot src size off)
 
--- a store: on the stack by register 10, or into an entry by register 0
+-- a store: on the stack by register 10, or into an entry by another
 abbrev pub IsGoodStore : List (Option Insn) → List MapShape → ℕ → Size → ℕ → ℤ → Type 0
-IsGoodStore slots shapes slot size dst off = ((dst ≡ 10) × IsOnStack size off) ⊎ ((dst ≡ 0) × IsInEntry slots shapes slot size off)
+IsGoodStore slots shapes slot size dst off = ((dst ≡ 10) × IsOnStack size off) ⊎ ((dst ≢ 10) × IsInEntry slots shapes slot dst size off)
 
--- a register that instructions may write: register 1 and register 10 are only bases
-abbrev pub IsFree : ℕ → Type 0
-IsFree r = (r < 10) × (r ≢ 1)
+-- a copy of register 10
+abbrev pub IsCopyOfEnd : Width → Operation → Source → Type 0
+IsCopyOfEnd w op src = (w ≡ W64) × (op ≡ Mov) × (src ≡ Reg 10)
 
--- what an instruction outside look-ups needs
+-- the sum of a pointer into the stack and a number from the instruction, into the stack too
+pub record IsMoveOnStack (slots : List (Option Insn)) (slot : ℕ) (w : Width) (op : Operation) (dst : ℕ) (src : Source) : Type 0 where
+  pub whole : w ≡ W64
+  pub is_sum : op ≡ Add
+  pub distance : ℤ
+  pub by_distance : src ≡ Imm distance
+  pub base : ℕ
+  pub from : IsPointerAt slots Stack base dst slot
+  pub at : ℕ
+  pub at_is : pos at ≡ (pos base +ℤ distance)
+  pub below : base ≤ 512
+  pub small : at ≤ 512
+
+-- register 1 names a map, and register 2 points to four bytes on the stack that were stored
+pub record IsNaming (slots : List (Option Insn)) (slot map : ℕ) : Type 0 where
+  pub names : IsPointerAt slots (Map map) 0 1 slot
+  pub at : ℕ
+  pub points : IsPointerAt slots Stack at 2 slot
+  pub inside : at + 4 ≤ 512
+  pub stored : (i : ℕ) → at ≤ i → i < at + 4 → IsByteStored slots slot i
+
+-- besides, register 3 points to as many stored bytes as a value has, and register 4 is 0
+pub record IsGiving (slots : List (Option Insn)) (shapes : List MapShape) (slot map : ℕ) : Type 0 where
+  pub naming : IsNaming slots slot map
+  pub shape : MapShape
+  pub known : slice_get shapes map ≡ Some shape
+  pub at : ℕ
+  pub points : IsPointerAt slots Stack at 3 slot
+  pub inside : at + shape.value_size ≤ 512
+  pub stored : (i : ℕ) → at ≤ i → i < at + shape.value_size → IsByteStored slots slot i
+  pub flags : IsLoaded slots slot 4 0
+
+-- register 1 is one of the 64 counters, and for an add register 2 was written
+pub record IsCounting (slots : List (Option Insn)) (slot : ℕ) (helper : ℤ) : Type 0 where
+  pub counter : ℕ
+  pub loaded : IsLoaded slots slot 1 counter
+  pub few : counter < 64
+  pub amount : helper ≡ pos 100 → IsWritten slots slot 2
+
+-- a call: of the time or the processor's number, of a look-up, of an update, or of a counter
+abbrev pub IsGoodCall : List (Option Insn) → List MapShape → ℕ → ℤ → Type 0
+IsGoodCall slots shapes slot helper =
+    ((helper ≡ pos 5) ⊎ (helper ≡ pos 8))
+    ⊎ ((helper ≡ pos 1) × (map : ℕ) × IsNaming slots slot map)
+    ⊎ ((helper ≡ pos 2) × (map : ℕ) × IsGiving slots shapes slot map)
+    ⊎ (((helper ≡ pos 100) ⊎ (helper ≡ pos 101)) × IsCounting slots slot helper)
+
+-- what an instruction needs
 abbrev pub Needs : List (Option Insn) → List MapShape → ℕ → ℕ → Insn → Type 0
-Needs slots shapes context slot (Alu w op dst src) = IsFree dst × IsWrittenLeft op slots slot dst × IsWrittenOperand slots slot src
-Needs slots shapes context slot (MovSx w bits dst src) = IsFree dst × IsWritten slots slot src
-Needs slots shapes context slot (Neg w dst) = IsFree dst × IsWritten slots slot dst
-Needs slots shapes context slot (End order bits dst) = IsFree dst × IsWritten slots slot dst
-Needs slots shapes context slot (Load size signed dst src off) = IsFree dst × IsGoodLoad slots shapes context slot size src off
+Needs slots shapes context slot (Alu w op dst src) =
+    (dst < 10) × ((IsWrittenLeft op slots slot dst × IsWrittenOperand slots slot src) ⊎ (IsCopyOfEnd w op src ⊎ IsMoveOnStack slots slot w op dst src))
+Needs slots shapes context slot (MovSx w bits dst src) = (dst < 10) × IsWritten slots slot src
+Needs slots shapes context slot (Neg w dst) = (dst < 10) × IsWritten slots slot dst
+Needs slots shapes context slot (End order bits dst) = (dst < 10) × IsWritten slots slot dst
+Needs slots shapes context slot (Load size signed dst src off) = (dst < 10) × IsGoodLoad slots shapes context slot size src off
 Needs slots shapes context slot (StoreImm size dst off imm) = IsGoodStore slots shapes slot size dst off
 Needs slots shapes context slot (StoreReg size dst off src) = IsWritten slots slot src × IsGoodStore slots shapes slot size dst off
-Needs slots shapes context slot (Imm64 dst value) = IsFree dst
-Needs slots shapes context slot (MapRef dst index) = ⊥
+Needs slots shapes context slot (Imm64 dst value) = dst < 10
+Needs slots shapes context slot (MapRef dst index) = (dst < 10) × (map : ℕ) × (index ≡ pos map) × (map < length shapes)
 Needs slots shapes context slot (Goto off) = Unit {0}
 Needs slots shapes context slot (Goto32 imm) = Unit {0}
-Needs slots shapes context slot (Branch w c dst src off) = (dst < 10) × IsWritten slots slot dst × IsWrittenOperand slots slot src
-Needs slots shapes context slot (Call helper) = (helper ≡ pos 5) ⊎ (helper ≡ pos 8)
+Needs slots shapes context slot (Branch w c dst src off) =
+    (dst < 10) × ((IsWritten slots slot dst × IsWrittenOperand slots slot src) ⊎ (IsNullCheck w c src × (map : ℕ) × IsPointerAt slots (EntryOrNull map) 0 dst slot))
+Needs slots shapes context slot (Call helper) = IsGoodCall slots shapes slot helper
 Needs slots shapes context slot Exit = IsWritten slots slot 0
 
--- a straight program: its control graph has no fault, and each instruction is part of a look-up or has what it needs
+-- a straight program: its control graph has no fault, and each instruction has what it needs
 pub record IsStraightProgram (slots : List (Option Insn)) (shapes : List MapShape) (context : ℕ) : Type 0 where
   pub faultless : IsFaultless slots
-  pub each : (slot : ℕ) (insn : Insn) → instruction_at slots slot ≡ Some insn → IsInLookUp slots shapes slot ⊎ Needs slots shapes context slot insn
+  pub each : (slot : ℕ) (insn : Insn) → instruction_at slots slot ≡ Some insn → Needs slots shapes context slot insn

@@ -1,6 +1,6 @@
--- A worked straight program: it stores the number of an entry, looks the entry up, tests the answer for 0, and answers with the
--- first eight bytes of the entry, or with 0.
-use Rattle.std.specs.Prelude.{true, false, ◌≡◌, ℕ, pos, neg_ℤ, List, [], ◌∷◌}
+-- Worked straight programs. One stores the number of an entry, looks the entry up, tests the answer for 0, and answers with the
+-- first eight bytes of the entry, or with 0. The other updates an entry, adds to a counter and reads it.
+use Rattle.std.specs.Prelude.{true, false, ◌≡◌, ◌≤◌, ℕ, pos, neg_ℤ, List, [], ◌∷◌}
 use Rattle.bq_insn.specs.declared.Insn.{Insn}
 use Rattle.bq_insn.specs.declared.Insn.TheVariants.{Alu, Load, StoreImm, MapRef, Branch, Call, Exit}
 use Rattle.bq_insn.specs.declared.Operation.TheVariants.{Add, Mov}
@@ -22,3 +22,16 @@ worked =
 -- it is a program, and a straight one, beside any one map and on a context of any length
 abbrev pub WorkedIsStraight : Type 0
 WorkedIsStraight = (is_well_formed worked ≡ true) × ((shape : MapShape) (context : ℕ) → IsStraightProgram (spread worked) (shape ∷ []) context)
+
+-- stdw [r10-8], 0; ldmap r1, 0; mov64 r2, r10; add64 r2, -8; mov64 r3, r10; add64 r3, -8; mov64 r4, 0; call 2;
+-- mov64 r2, 1; mov64 r1, 5; call 100; mov64 r1, 5; call 101; exit
+abbrev pub calling : List Insn
+calling =
+    StoreImm Double 10 (neg_ℤ (pos 8)) (pos 0) ∷ MapRef 1 (pos 0) ∷ Alu W64 Mov 2 (Reg 10) ∷ Alu W64 Add 2 (Imm (neg_ℤ (pos 8)))
+    ∷ Alu W64 Mov 3 (Reg 10) ∷ Alu W64 Add 3 (Imm (neg_ℤ (pos 8))) ∷ Alu W64 Mov 4 (Imm (pos 0)) ∷ Call (pos 2)
+    ∷ Alu W64 Mov 2 (Imm (pos 1)) ∷ Alu W64 Mov 1 (Imm (pos 5)) ∷ Call (pos 100) ∷ Alu W64 Mov 1 (Imm (pos 5)) ∷ Call (pos 101) ∷ Exit ∷ []
+
+-- it is a straight program beside any one map whose values have at most 8 bytes
+abbrev pub CallingIsStraight : Type 0
+CallingIsStraight =
+    (is_well_formed calling ≡ true) × ((shape : MapShape) (context : ℕ) → shape.value_size ≤ 8 → IsStraightProgram (spread calling) (shape ∷ []) context)

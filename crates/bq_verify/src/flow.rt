@@ -9,8 +9,8 @@ ghost use Rattle.bq_graph.specs.Passes.{IsSound};
 ghost use Rattle.bq_views.specs.Doubts.{MayDoubt, ReadsOperand, UsesWord};
 ghost use Rattle.bq_verify.specs.Stops.{IsWantOfMemory, MayStop};
 ghost use Rattle.bq_verify.specs.Ways.{AfterTest, GoesOnSure, HasOnSide, HasWaiting, IsSureOf};
-ghost use Rattle.bq_views.specs.Standing.{Fact, Has, IsScalarOperand, Pointer, Scalar, StandsAt};
-ghost use Rattle.bq_views.specs.Ready.{IsNullCheck, IsReady, WritesBelowFrame};
+ghost use Rattle.bq_views.specs.Standing.{Fact, Has, IsScalarOperand, Outlasts, Pointer, Scalar, StandsAt};
+ghost use Rattle.bq_views.specs.Ready.{IsNullCheck, IsReady, IsReadyToAsk, WritesBelowFrame};
 ghost use Rattle.bq_views.specs.Sides.{is_found};
 ghost use Rattle.bq_views.specs.Views.{Covers};
 ghost use Rattle.bq_verify.specs.Control.{Goes, IsKnown, IsOnSide, IsRelearned, PartsTo, WaitsBoxed};
@@ -49,13 +49,41 @@ pub fn visit(
     ensures long { length pending.new ≡ length pending.old }
     ensures goes { IfOk result (λ live. ((f : Setting) (s : State) → WaitsBoxed f pending.old s → WaitsBoxed f pending.new s) × Goes slots.now shapes.now context slot view.old (IsKnown pending.new view.new live (slot + 1))) }
     ensures doubts { IfErr result (λ stop. MayStop stop insn) }
-    ensures accepts { IsReady shapes.now context view.old insn → IfErr result IsWantOfMemory }
-    ensures sure { IsReady shapes.now context view.old insn → IfOk result (GoesOnSure slots.now slot insn view.old pending.old pending.new view.new) }
+    ensures accepts { IsReady shapes.now context view.old insn ⊎ IsReadyToAsk view.old insn → IfErr result IsWantOfMemory }
+    ensures sure { IsReady shapes.now context view.old insn ⊎ IsReadyToAsk view.old insn → IfOk result (GoesOnSure slots.now slot insn view.old pending.old pending.new view.new) }
 {
     if is_counter_call(insn) {
         ask(view, insn)?;
         return Ok(true);
     }
+    go_on(alloc, slots, shapes, context, slot, insn, view, pending)
+}
+
+/// The same, of an instruction that calls no counter.
+fn go_on(
+    alloc: Global,
+    slots: &[Option<Insn>],
+    shapes: &[MapShape],
+    context: usize,
+    slot: usize,
+    insn: Insn,
+    view: &mut View,
+    pending: &mut [Option<Box<View>>],
+) -> Result<bool, Stop>
+    requires here { instruction_at slots.now slot ≡ Some insn }
+    requires inside { slot < length slots.now }
+    requires sound { IsSound slots.now }
+    requires room { length pending.old ≡ length slots.now }
+    requires short { length slots.now ≤ 4096 }
+    requires context { context < 2 ^ 16 }
+    requires few { length shapes.now ≤ 8 }
+    requires below { WritesBelowFrame insn }
+    ensures long { length pending.new ≡ length pending.old }
+    ensures goes { IfOk result (λ live. ((f : Setting) (s : State) → WaitsBoxed f pending.old s → WaitsBoxed f pending.new s) × Goes slots.now shapes.now context slot view.old (IsKnown pending.new view.new live (slot + 1))) }
+    ensures doubts { IfErr result (λ stop. MayStop stop insn) }
+    ensures accepts { IsReady shapes.now context view.old insn → IfErr result IsWantOfMemory }
+    ensures sure { IsReady shapes.now context view.old insn → IfOk result (GoesOnSure slots.now slot insn view.old pending.old pending.new view.new) }
+{
     match insn {
         Insn::Exit => {
             leave(view)?;
@@ -128,7 +156,7 @@ fn branch(
     ensures accepts { dst < 10 → StandsAt Scalar view.old dst → IsScalarOperand view.old src → IfErr result IsWantOfMemory }
     ensures checks { (map : ℕ) → dst < 10 → IsNullCheck width cond src → StandsAt (Pointer (Kind.EntryOrNull map) 0) view.old dst → IfErr result IsWantOfMemory }
     ensures checked { (map : ℕ) → IsNullCheck width cond src → StandsAt (Pointer (Kind.EntryOrNull map) 0) view.old dst → IfOk result (λ live. (x : Fact) (k : ℕ) → HasWaiting x pending.old k → (k ≡ to → AfterTest x view.old dst map (is_found cond true)) → (k ≡ next → AfterTest x view.old dst map (is_found cond false)) → IsSureOf x pending.new view.new live next k) }
-    ensures sure { StandsAt Scalar view.old dst → IsScalarOperand view.old src → IfOk result (λ live. (x : Fact) (k : ℕ) → HasWaiting x pending.old k → ((k ≡ to) ⊎ (k ≡ next) → Has x view.old) → IsSureOf x pending.new view.new live next k) }
+    ensures sure { StandsAt Scalar view.old dst → IsScalarOperand view.old src → IfOk result (λ live. (x : Fact) (k : ℕ) → HasWaiting x pending.old k → ((k ≡ to) ⊎ (k ≡ next) → Outlasts x dst × Has x view.old) → IsSureOf x pending.new view.new live next k) }
 {
     let Some(right) = operand(view, src) else {
         return Err(Stop::Doubted(Doubt::Unset));

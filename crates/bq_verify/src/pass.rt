@@ -79,7 +79,7 @@ fn pass(
     requires frame { SparesFrame slots.now }
     ensures safe { OnOk result ((made : ℕ → ℕ) → AreMade slots.now made → RestIsSafe slots.now shapes.now context heights.now made 0 (IsKnown pending.old view.old true 0)) }
     ensures stopped { IfErr result (IsStopped slots.now) }
-    ensures accepts { IsStraightProgram slots.now shapes.now context → IsSure slots.now shapes.now pending.old view.old true 0 → IfErr result IsOutOfMemory }
+    ensures accepts { IsStraightProgram slots.now shapes.now context → IsSure slots.now pending.old view.old true 0 → IfErr result IsOutOfMemory }
 {
     let mut live = true;
     for slot in 0..slots.len() {
@@ -109,8 +109,8 @@ fn pass_slot(
     ensures long { length pending.new ≡ length pending.old }
     ensures passes { IfOk result (λ on. PassesOn slots.now shapes.now context slot (IsKnown pending.old view.old live slot) (IsKnown pending.new view.new on (slot + 1))) }
     ensures stopped { IfErr result (IsStopped slots.now) }
-    ensures accepts { IsStraightProgram slots.now shapes.now context → IsSure slots.now shapes.now pending.old view.old live slot → IfErr result IsOutOfMemory }
-    ensures sure { IsStraightProgram slots.now shapes.now context → IsSure slots.now shapes.now pending.old view.old live slot → IfOk result (λ on. IsSure slots.now shapes.now pending.new view.new on (slot + 1)) }
+    ensures accepts { IsStraightProgram slots.now shapes.now context → IsSure slots.now pending.old view.old live slot → IfErr result IsOutOfMemory }
+    ensures sure { IsStraightProgram slots.now shapes.now context → IsSure slots.now pending.old view.old live slot → IfOk result (λ on. IsSure slots.now pending.new view.new on (slot + 1)) }
 {
     if !arrive(view, live, pending, slot) {
         return Ok(false);

@@ -1,7 +1,7 @@
 // Programs that are accepted, with their budgets, and programs that are refused, with slot and cause.
 
 ghost use Rattle.std.specs.Prelude.{◌≡◌};
-ghost use Rattle.bq_verify.specs.Worked.{worked};
+ghost use Rattle.bq_verify.specs.Worked.{calling, worked};
 
 use crate::hook::{Hook, Version};
 use crate::program::{Program, verify};
@@ -597,4 +597,82 @@ fn worked_program() -> [Insn; 10]
 fn worked_is_accepted(rt: HostRuntime) -> Result<(), Fail> {
     let one = [MapShape::new(8, 1).ok_or("no shape")?];
     expect(&rt, rt.alloc(), &worked_program(), &one, Ok(8))
+}
+
+/// The program with calls that the law calls straight.
+fn calling_program() -> [Insn; 14]
+    ensures { result ≡ calling }
+{
+    let wide = Width::W64;
+    let mov = Operation::Mov;
+    let add = Operation::Add;
+    let below = Source::Imm(-8);
+    [
+        Insn::StoreImm {
+            size: Size::Double,
+            dst: 10,
+            off: -8,
+            imm: 0,
+        },
+        Insn::MapRef { dst: 1, index: 0 },
+        Insn::Alu {
+            width: wide,
+            op: mov,
+            dst: 2,
+            src: Source::Reg(10),
+        },
+        Insn::Alu {
+            width: wide,
+            op: add,
+            dst: 2,
+            src: below,
+        },
+        Insn::Alu {
+            width: wide,
+            op: mov,
+            dst: 3,
+            src: Source::Reg(10),
+        },
+        Insn::Alu {
+            width: wide,
+            op: add,
+            dst: 3,
+            src: below,
+        },
+        Insn::Alu {
+            width: wide,
+            op: mov,
+            dst: 4,
+            src: Source::Imm(0),
+        },
+        Insn::Call { helper: 2 },
+        Insn::Alu {
+            width: wide,
+            op: mov,
+            dst: 2,
+            src: Source::Imm(1),
+        },
+        Insn::Alu {
+            width: wide,
+            op: mov,
+            dst: 1,
+            src: Source::Imm(5),
+        },
+        Insn::Call { helper: 100 },
+        Insn::Alu {
+            width: wide,
+            op: mov,
+            dst: 1,
+            src: Source::Imm(5),
+        },
+        Insn::Call { helper: 101 },
+        Insn::Exit,
+    ]
+}
+
+// one way, of fourteen instructions
+#[test]
+fn calling_is_accepted(rt: HostRuntime) -> Result<(), Fail> {
+    let one = [MapShape::new(8, 1).ok_or("no shape")?];
+    expect(&rt, rt.alloc(), &calling_program(), &one, Ok(14))
 }

@@ -7,6 +7,8 @@ use Rattle.bq_insn.specs.declared.Insn.TheVariants.{Alu, MovSx, Neg, End, Load, 
 use Rattle.bq_insn.specs.declared.Operation.{Operation}
 use Rattle.bq_insn.specs.declared.Operation.TheVariants.{Add, Mov}
 use Rattle.bq_insn.specs.declared.Width.{Width}
+use Rattle.bq_insn.specs.declared.Width.TheVariants.{W64}
+use Rattle.bq_insn.specs.Meaning.{word_of}
 use Rattle.bq_insn.specs.declared.Source.{Source}
 use Rattle.bq_insn.specs.declared.Source.TheVariants.{Imm, Reg}
 use Rattle.bq_graph.specs.Faults.{destination_of}
@@ -16,9 +18,9 @@ use Rattle.bq_views.specs.declared.view.Known.{Known}
 use Rattle.bq_views.specs.declared.view.View.{View}
 use Rattle.bq_ranges.specs.declared.range.Range.{Range}
 use Rattle.bq_views.specs.Views.{Clears, knowing}
-use Rattle.bq_views.specs.Standing.{Standing, Scalar, Pointer, NoPointer, Stands, StandsAt, Fact, Never, AtRegister, IsSetAt, IsPlainAt, Has, IsMade, IsGiven, IsCalled, IsAnswered, IsStoredAt, IsScalarOperand}
-use Rattle.bq_views.specs.Ready.{IsLeftReady}
-use Rattle.bq_views.specs.After.{GivesNumber, LeavesNumber, GivesPointer, LeavesPointer, Spares, StoresByte, After}
+use Rattle.bq_views.specs.Standing.{Standing, Scalar, Exact, Pointer, NoPointer, Stands, StandsAt, Fact, Never, AtRegister, IsSetAt, IsPlainAt, Has, Outlasts, IsMade, IsGiven, IsCalled, IsAnswered, IsStoredAt, IsScalarOperand}
+use Rattle.bq_views.specs.Ready.{IsAtMost, IsLeftReady}
+use Rattle.bq_views.specs.After.{GivesExact, GivesNumber, LeavesNumber, GivesPointer, LeavesPointer, Spares, StoresByte, After}
 use Rattle.bq_views.proofs.MergeLemmas.{some_none}
 
 -- no word is a number and a pointer
@@ -34,31 +36,36 @@ pointer_is (Some k) kind o kind' o' p q = (sym p.0 ∙ q.0, sym p.2 ∙ q.2)
 same_pointer : (k : Option Known) (kind : Kind) (o : ℕ) (kind' : Kind) (o' : ℕ) (v : Option Known) → Stands (Pointer kind o) k → Stands (Pointer kind' o') k → Stands (Pointer kind' o') v → Stands (Pointer kind o) v
 same_pointer k kind o kind' o' v p q stands = let e = pointer_is k kind o kind' o' p q in rw (e.0, e.1) stands
 
-apart : (k : Option Known) (s : Standing) → Stands Scalar k → Stands s k → (s ≡ Scalar) ⊎ (s ≡ NoPointer)
-apart None s p q = absurd p
-apart (Some k) Scalar p q = inl refl
-apart (Some k) (Pointer kind o) p q = absurd (q.1 (sym q.0 ∙ p))
-apart (Some k) NoPointer p q = inr refl
+-- what outlasts a number of a register that is a number is that it is one
+apart : (k : Option Known) (s : Standing) (r : ℕ) → Outlasts (AtRegister s r) r → Stands Scalar k → Stands s k → (s ≡ Scalar) ⊎ (s ≡ NoPointer)
+apart None s r lasts p q = absurd p
+apart (Some k) Scalar r lasts p q = inl refl
+apart (Some k) (Exact n) r lasts p q = absurd (lasts refl)
+apart (Some k) (Pointer kind o) r lasts p q = absurd (q.1 (sym q.0 ∙ p))
+apart (Some k) NoPointer r lasts p q = inr refl
 
 scalar_is : (k : Option Known) (s : Standing) → Stands Scalar k → (s ≡ Scalar) ⊎ (s ≡ NoPointer) → Stands s k
 scalar_is None s p either = absurd p
 scalar_is (Some k) Scalar p either = p
 scalar_is (Some k) NoPointer p either = p
+scalar_is (Some k) (Exact n) p (inl e) = absurd (let no : ⊥ = cc in no)
+scalar_is (Some k) (Exact n) p (inr e) = absurd (let no : ⊥ = cc in no)
 scalar_is (Some k) (Pointer kind o) p (inl e) = absurd (let no : ⊥ = cc in no)
 scalar_is (Some k) (Pointer kind o) p (inr e) = absurd (let no : ⊥ = cc in no)
 
-given_by : (s : Standing) (old new : View) (dst r : ℕ) (t : Bool) → StandsAt Scalar old dst → IsGiven old new dst → StandsAt s old r → ((t ≡ true) × (r ≡ dst)) ⊎ ((t ≡ false) × (r ≢ dst)) → StandsAt s new r
-given_by s old new dst r t scalar given stands (inr (_, other)) = subst (λ (v : Option Known). Stands s v) (sym (given.kept r other)) stands
-given_by s old new dst r t scalar given stands (inl (_, same)) =
+given_by : (s : Standing) (old new : View) (dst r : ℕ) (t : Bool) → Outlasts (AtRegister s r) dst → StandsAt Scalar old dst → IsGiven old new dst → StandsAt s old r → ((t ≡ true) × (r ≡ dst)) ⊎ ((t ≡ false) × (r ≢ dst)) → StandsAt s new r
+given_by s old new dst r t lasts scalar given stands (inr (_, other)) = subst (λ (v : Option Known). Stands s v) (sym (given.kept r other)) stands
+given_by s old new dst r t lasts scalar given stands (inl (_, same)) =
+    let here_lasts : Outlasts (AtRegister s dst) dst = subst (λ (n : ℕ). Outlasts (AtRegister s n) dst) same lasts in
     let here : StandsAt s old dst = subst (λ (n : ℕ). StandsAt s old n) same stands in
-    subst (λ (n : ℕ). StandsAt s new n) (sym same) (scalar_is _ s given.given (apart _ s scalar here))
+    subst (λ (n : ℕ). StandsAt s new n) (sym same) (scalar_is _ s given.given (apart _ s dst here_lasts scalar here))
 
 -- a number in place of a number
-pub given_has : (x : Fact) (old new : View) (dst : ℕ) → StandsAt Scalar old dst → IsGiven old new dst → Has x old → Has x new
-given_has Never old new dst scalar given has = has
-given_has (AtRegister s r) old new dst scalar given has = given_by s old new dst r _ scalar given has (eqb_tells r dst)
-given_has (IsSetAt i) old new dst scalar given has = subst (λ (l : List Bool). slice_index_or l i false ≡ true) (sym given.set_same) has
-given_has (IsPlainAt j) old new dst scalar given has = subst (λ (l : List (Option Known)). Stands NoPointer (slice_index_or l j None)) (sym given.kept_same) has
+pub given_has : (x : Fact) (old new : View) (dst : ℕ) → Outlasts x dst → StandsAt Scalar old dst → IsGiven old new dst → Has x old → Has x new
+given_has Never old new dst lasts scalar given has = has
+given_has (AtRegister s r) old new dst lasts scalar given has = given_by s old new dst r _ lasts scalar given has (eqb_tells r dst)
+given_has (IsSetAt i) old new dst lasts scalar given has = subst (λ (l : List Bool). slice_index_or l i false ≡ true) (sym given.set_same) has
+given_has (IsPlainAt j) old new dst lasts scalar given has = subst (λ (l : List (Option Known)). Stands NoPointer (slice_index_or l j None)) (sym given.kept_same) has
 
 writes_one : (insn : Insn) (dst r : ℕ) → destination_of insn ≡ Some dst → GivesNumber insn r → r ≡ dst
 writes_one (Call helper) dst r writes gives = absurd (some_none _ _ writes refl)
@@ -83,14 +90,15 @@ stores_none (StoreReg size d off src) dst i writes stores = absurd (some_none _ 
 stores_none _ dst i writes stores = stores
 
 -- what is not of registers goes on, where the stack does not change
-stack_same : (x : Fact) (slot k : ℕ) (insn : Insn) (old new : View) → ((i : ℕ) → StoresByte insn i → ⊥) → new.set ≡ old.set → new.kept ≡ old.kept → ((r : ℕ) → After (AtRegister Scalar r) slot k insn old → StandsAt Scalar new r) → ((kind : Kind) (o r : ℕ) → After (AtRegister (Pointer kind o) r) slot k insn old → StandsAt (Pointer kind o) new r) → After x slot k insn old → Has x new
-stack_same Never slot k insn old new none set kept scalars pointers after = absurd after
-stack_same (AtRegister Scalar r) slot k insn old new none set kept scalars pointers after = scalars r after
-stack_same (AtRegister (Pointer kind o) r) slot k insn old new none set kept scalars pointers after = pointers kind o r after
-stack_same (AtRegister NoPointer r) slot k insn old new none set kept scalars pointers after = absurd after
-stack_same (IsSetAt i) slot k insn old new none set kept scalars pointers (inl stores) = absurd (none i stores)
-stack_same (IsSetAt i) slot k insn old new none set kept scalars pointers (inr has) = subst (λ (l : List Bool). slice_index_or l i false ≡ true) (sym set) has
-stack_same (IsPlainAt j) slot k insn old new none set kept scalars pointers after = subst (λ (l : List (Option Known)). Stands NoPointer (slice_index_or l j None)) (sym kept) after
+stack_same : (x : Fact) (slot k : ℕ) (insn : Insn) (old new : View) → ((i : ℕ) → StoresByte insn i → ⊥) → new.set ≡ old.set → new.kept ≡ old.kept → ((r : ℕ) → After (AtRegister Scalar r) slot k insn old → StandsAt Scalar new r) → ((n r : ℕ) → After (AtRegister (Exact n) r) slot k insn old → StandsAt (Exact n) new r) → ((kind : Kind) (o r : ℕ) → After (AtRegister (Pointer kind o) r) slot k insn old → StandsAt (Pointer kind o) new r) → After x slot k insn old → Has x new
+stack_same Never slot k insn old new none set kept scalars exacts pointers after = absurd after
+stack_same (AtRegister Scalar r) slot k insn old new none set kept scalars exacts pointers after = scalars r after
+stack_same (AtRegister (Exact n) r) slot k insn old new none set kept scalars exacts pointers after = exacts n r after
+stack_same (AtRegister (Pointer kind o) r) slot k insn old new none set kept scalars exacts pointers after = pointers kind o r after
+stack_same (AtRegister NoPointer r) slot k insn old new none set kept scalars exacts pointers after = absurd after
+stack_same (IsSetAt i) slot k insn old new none set kept scalars exacts pointers (inl stores) = absurd (none i stores)
+stack_same (IsSetAt i) slot k insn old new none set kept scalars exacts pointers (inr has) = subst (λ (l : List Bool). slice_index_or l i false ≡ true) (sym set) has
+stack_same (IsPlainAt j) slot k insn old new none set kept scalars exacts pointers after = subst (λ (l : List (Option Known)). Stands NoPointer (slice_index_or l j None)) (sym kept) after
 
 kept_at : (s t : Standing) (old new : View) (dst r : ℕ) → IsMade t old new dst → r ≢ dst → StandsAt s old r → StandsAt s new r
 kept_at s t old new dst r made other stands = subst (λ (v : Option Known). Stands s v) (sym (made.kept r other)) stands
@@ -99,8 +107,8 @@ here_at : (s : Standing) (new : View) (dst r : ℕ) → r ≡ dst → StandsAt s
 here_at s new dst r same stands = subst (λ (n : ℕ). StandsAt s new n) (sym same) stands
 
 -- after an instruction that gives a register a number
-pub has_given : (x : Fact) (slot k : ℕ) (insn : Insn) (old new : View) (dst : ℕ) → destination_of insn ≡ Some dst → ((kind : Kind) (o r : ℕ) → GivesPointer kind o slot k insn r old → ⊥) → IsGiven old new dst → After x slot k insn old → Has x new
-has_given x slot k insn old new dst writes none given after = stack_same x slot k insn old new (λ i stores. stores_none insn dst i writes stores) given.set_same given.kept_same scalars pointers after
+pub has_given : (x : Fact) (slot k : ℕ) (insn : Insn) (old new : View) (dst : ℕ) → destination_of insn ≡ Some dst → ((kind : Kind) (o r : ℕ) → GivesPointer kind o slot k insn r old → ⊥) → ((n r : ℕ) → GivesExact n insn r → StandsAt (Exact n) new r) → IsGiven old new dst → After x slot k insn old → Has x new
+has_given x slot k insn old new dst writes none number given after = stack_same x slot k insn old new (λ i stores. stores_none insn dst i writes stores) given.set_same given.kept_same scalars exacts pointers after
   where
     scalar_at : (r : ℕ) (t : Bool) → ((t ≡ true) × (r ≡ dst)) ⊎ ((t ≡ false) × (r ≢ dst)) → GivesNumber insn r ⊎ (LeavesNumber insn r × StandsAt Scalar old r) → StandsAt Scalar new r
     scalar_at r t (inl (_, same)) either = here_at Scalar new dst r same given.given
@@ -109,6 +117,10 @@ has_given x slot k insn old new dst writes none given after = stack_same x slot 
 
     scalars : (r : ℕ) → GivesNumber insn r ⊎ (LeavesNumber insn r × StandsAt Scalar old r) → StandsAt Scalar new r
     scalars r either = scalar_at r _ (eqb_tells r dst) either
+
+    exacts : (n r : ℕ) → After (AtRegister (Exact n) r) slot k insn old → StandsAt (Exact n) new r
+    exacts n r (inl gives) = number n r gives
+    exacts n r (inr (spares, _, stands)) = kept_at (Exact n) Scalar old new dst r given (spares_other insn dst r writes spares) stands
 
     pointers : (kind : Kind) (o r : ℕ) → GivesPointer kind o slot k insn r old ⊎ (Spares insn r × LeavesPointer kind insn × StandsAt (Pointer kind o) old r) → StandsAt (Pointer kind o) new r
     pointers kind o r (inl gives) = absurd (none kind o r gives)
@@ -128,6 +140,10 @@ has_copied x slot k w dst base old new frame made after =
       | inl gives ↦ absurd (gives.1 refl)
       | inr kept ↦ kept_at Scalar (Pointer Stack base) old new dst r made (λ e. kept.0 (sym e)) kept.1
     ])
+    (λ n r either. elim either [
+      | inl gives ↦ absurd gives
+      | inr kept ↦ kept_at (Exact n) (Pointer Stack base) old new dst r made (λ e. kept.0 (ap (λ (n : ℕ). Some n) (sym e))) kept.2
+    ])
     (λ kind o r either. elim either [
       | inl gives ↦ here_at (Pointer kind o) new dst r (sym gives.0) (same_pointer _ kind o Stack base _ gives.2 frame made.given)
       | inr kept ↦ kept_at (Pointer kind o) (Pointer Stack base) old new dst r made (λ e. kept.0 (ap (λ (n : ℕ). Some n) (sym e))) kept.2
@@ -136,7 +152,7 @@ has_copied x slot k w dst base old new frame made after =
 
 -- after a sum of a pointer and a number
 pub has_moved : (x : Fact) (slot k : ℕ) (w : Width) (dst base at : ℕ) (i : ℤ) (old new : View) → StandsAt (Pointer Stack base) old dst → pos at ≡ (pos base +ℤ i) → IsMade (Pointer Stack at) old new dst → After x slot k (Alu w Add dst (Imm i)) old → Has x new
-has_moved x slot k w dst base at i old new stands at_is made after = stack_same x slot k (Alu w Add dst (Imm i)) old new (λ n stores. stores) made.set_same made.kept_same scalars pointers after
+has_moved x slot k w dst base at i old new stands at_is made after = stack_same x slot k (Alu w Add dst (Imm i)) old new (λ n stores. stores) made.set_same made.kept_same scalars exacts pointers after
   where
     scalar_at : (r : ℕ) (t : Bool) → ((t ≡ true) × (r ≡ dst)) ⊎ ((t ≡ false) × (r ≢ dst)) → StandsAt Scalar old r → StandsAt Scalar new r
     scalar_at r t (inl (_, same)) scalar = absurd (not_both _ Stack base (subst (λ (n : ℕ). StandsAt Scalar old n) same scalar) stands)
@@ -145,6 +161,10 @@ has_moved x slot k w dst base at i old new stands at_is made after = stack_same 
     scalars : (r : ℕ) → ⊥ ⊎ (Unit {0} × StandsAt Scalar old r) → StandsAt Scalar new r
     scalars r (inl gives) = absurd gives
     scalars r (inr (_, scalar)) = scalar_at r _ (eqb_tells r dst) scalar
+
+    exacts : (n r : ℕ) → After (AtRegister (Exact n) r) slot k (Alu w Add dst (Imm i)) old → StandsAt (Exact n) new r
+    exacts n r (inl gives) = absurd gives
+    exacts n r (inr (spares, _, before)) = kept_at (Exact n) (Pointer Stack at) old new dst r made (λ e. spares (ap (λ (n : ℕ). Some n) (sym e))) before
 
     pointers : (kind : Kind) (o r : ℕ) → GivesPointer kind o slot k (Alu w Add dst (Imm i)) r old ⊎ (Spares (Alu w Add dst (Imm i)) r × LeavesPointer kind (Alu w Add dst (Imm i)) × StandsAt (Pointer kind o) old r) → StandsAt (Pointer kind o) new r
     pointers kind o r (inl (same, from, before, o_is)) =
@@ -161,6 +181,10 @@ has_named x slot k dst index m old new is made after =
     (λ r either. elim either [
       | inl gives ↦ absurd gives
       | inr kept ↦ kept_at Scalar (Pointer (Map m) 0) old new dst r made (λ e. kept.0 (ap (λ (n : ℕ). Some n) (sym e))) kept.1
+    ])
+    (λ n r either. elim either [
+      | inl gives ↦ absurd gives
+      | inr kept ↦ kept_at (Exact n) (Pointer (Map m) 0) old new dst r made (λ e. kept.0 (ap (λ (n : ℕ). Some n) (sym e))) kept.2
     ])
     (λ kind o r either. elim either [
       | inl gives ↦
@@ -182,6 +206,10 @@ has_answered x slot k helper old new other answered after =
       | inl gives ↦ here_at Scalar new 0 r gives.0 answered.given
       | inr kept ↦ called_at Scalar Scalar old new r answered kept.0 kept.1
     ])
+    (λ n r either. elim either [
+      | inl gives ↦ absurd gives
+      | inr kept ↦ called_at (Exact n) Scalar old new r answered kept.0 kept.2
+    ])
     (λ kind o r either. elim either [
       | inl gives ↦ absurd (other gives.1)
       | inr kept ↦ called_at (Pointer kind o) Scalar old new r answered kept.0 kept.2
@@ -196,6 +224,10 @@ has_looked_up x slot k m old new names called after =
       | inl gives ↦ absurd (gives.1 refl)
       | inr kept ↦ called_at Scalar (Pointer (EntryOrNull m) 0) old new r called kept.0 kept.1
     ])
+    (λ n r either. elim either [
+      | inl gives ↦ absurd gives
+      | inr kept ↦ called_at (Exact n) (Pointer (EntryOrNull m) 0) old new r called kept.0 kept.2
+    ])
     (λ kind o r either. elim either [
       | inl gives ↦
           let kinds = pointer_is _ (Map gives.2) 0 (Map m) 0 gives.5 names in
@@ -206,29 +238,34 @@ has_looked_up x slot k m old new names called after =
     after
 
 -- after a store on the stack
-pub has_stored : (x : Fact) (slot k : ℕ) (insn : Insn) (old new : View) (from to : ℕ) → ((r : ℕ) → GivesNumber insn r → ⊥) → ((kind : Kind) (o r : ℕ) → GivesPointer kind o slot k insn r old → ⊥) → ((i : ℕ) → StoresByte insn i → (from ≤ i) × (i < to)) → IsStoredAt old new from to → After x slot k insn old → Has x new
-has_stored Never slot k insn old new from to none nowhere bytes stored after = absurd after
-has_stored (AtRegister Scalar r) slot k insn old new from to none nowhere bytes stored (inl gives) = absurd (none r gives)
-has_stored (AtRegister Scalar r) slot k insn old new from to none nowhere bytes stored (inr (_, stands)) = subst (λ (l : List (Option Known)). Stands Scalar (slice_index_or l r None)) (sym stored.registers_same) stands
-has_stored (AtRegister (Pointer kind o) r) slot k insn old new from to none nowhere bytes stored (inl gives) = absurd (nowhere kind o r gives)
-has_stored (AtRegister (Pointer kind o) r) slot k insn old new from to none nowhere bytes stored (inr (_, _, stands)) =
+pub has_stored : (x : Fact) (slot k : ℕ) (insn : Insn) (old new : View) (from to : ℕ) → ((r : ℕ) → GivesNumber insn r → ⊥) → ((n r : ℕ) → GivesExact n insn r → ⊥) → ((kind : Kind) (o r : ℕ) → GivesPointer kind o slot k insn r old → ⊥) → ((i : ℕ) → StoresByte insn i → (from ≤ i) × (i < to)) → IsStoredAt old new from to → After x slot k insn old → Has x new
+has_stored Never slot k insn old new from to none inexact nowhere bytes stored after = absurd after
+has_stored (AtRegister Scalar r) slot k insn old new from to none inexact nowhere bytes stored (inl gives) = absurd (none r gives)
+has_stored (AtRegister Scalar r) slot k insn old new from to none inexact nowhere bytes stored (inr (_, stands)) = subst (λ (l : List (Option Known)). Stands Scalar (slice_index_or l r None)) (sym stored.registers_same) stands
+has_stored (AtRegister (Exact n) r) slot k insn old new from to none inexact nowhere bytes stored (inl gives) = absurd (inexact n r gives)
+has_stored (AtRegister (Exact n) r) slot k insn old new from to none inexact nowhere bytes stored (inr (_, _, stands)) =
+    subst (λ (l : List (Option Known)). Stands (Exact n) (slice_index_or l r None)) (sym stored.registers_same) stands
+has_stored (AtRegister (Pointer kind o) r) slot k insn old new from to none inexact nowhere bytes stored (inl gives) = absurd (nowhere kind o r gives)
+has_stored (AtRegister (Pointer kind o) r) slot k insn old new from to none inexact nowhere bytes stored (inr (_, _, stands)) =
     subst (λ (l : List (Option Known)). Stands (Pointer kind o) (slice_index_or l r None)) (sym stored.registers_same) stands
-has_stored (AtRegister NoPointer r) slot k insn old new from to none nowhere bytes stored after = absurd after
-has_stored (IsSetAt i) slot k insn old new from to none nowhere bytes stored (inl stores) = stored.stored i (bytes i stores).0 (bytes i stores).1
-has_stored (IsSetAt i) slot k insn old new from to none nowhere bytes stored (inr has) = stored.set i has
-has_stored (IsPlainAt j) slot k insn old new from to none nowhere bytes stored after = stored.plain j after
+has_stored (AtRegister NoPointer r) slot k insn old new from to none inexact nowhere bytes stored after = absurd after
+has_stored (IsSetAt i) slot k insn old new from to none inexact nowhere bytes stored (inl stores) = stored.stored i (bytes i stores).0 (bytes i stores).1
+has_stored (IsSetAt i) slot k insn old new from to none inexact nowhere bytes stored (inr has) = stored.set i has
+has_stored (IsPlainAt j) slot k insn old new from to none inexact nowhere bytes stored after = stored.plain j after
 
 -- after an instruction that writes nothing that is known
-pub has_left : (x : Fact) (slot k : ℕ) (insn : Insn) (view : View) → ((r : ℕ) → GivesNumber insn r → ⊥) → ((kind : Kind) (o r : ℕ) → GivesPointer kind o slot k insn r view → ⊥) → ((i : ℕ) → StoresByte insn i → ⊥) → After x slot k insn view → Has x view
-has_left Never slot k insn view none nowhere bytes after = after
-has_left (AtRegister Scalar r) slot k insn view none nowhere bytes (inl gives) = absurd (none r gives)
-has_left (AtRegister Scalar r) slot k insn view none nowhere bytes (inr (_, stands)) = stands
-has_left (AtRegister (Pointer kind o) r) slot k insn view none nowhere bytes (inl gives) = absurd (nowhere kind o r gives)
-has_left (AtRegister (Pointer kind o) r) slot k insn view none nowhere bytes (inr (_, _, stands)) = stands
-has_left (AtRegister NoPointer r) slot k insn view none nowhere bytes after = absurd after
-has_left (IsSetAt i) slot k insn view none nowhere bytes (inl stores) = absurd (bytes i stores)
-has_left (IsSetAt i) slot k insn view none nowhere bytes (inr has) = has
-has_left (IsPlainAt j) slot k insn view none nowhere bytes after = after
+pub has_left : (x : Fact) (slot k : ℕ) (insn : Insn) (view : View) → ((r : ℕ) → GivesNumber insn r → ⊥) → ((n r : ℕ) → GivesExact n insn r → ⊥) → ((kind : Kind) (o r : ℕ) → GivesPointer kind o slot k insn r view → ⊥) → ((i : ℕ) → StoresByte insn i → ⊥) → After x slot k insn view → Has x view
+has_left Never slot k insn view none inexact nowhere bytes after = after
+has_left (AtRegister Scalar r) slot k insn view none inexact nowhere bytes (inl gives) = absurd (none r gives)
+has_left (AtRegister Scalar r) slot k insn view none inexact nowhere bytes (inr (_, stands)) = stands
+has_left (AtRegister (Exact n) r) slot k insn view none inexact nowhere bytes (inl gives) = absurd (inexact n r gives)
+has_left (AtRegister (Exact n) r) slot k insn view none inexact nowhere bytes (inr (_, _, stands)) = stands
+has_left (AtRegister (Pointer kind o) r) slot k insn view none inexact nowhere bytes (inl gives) = absurd (nowhere kind o r gives)
+has_left (AtRegister (Pointer kind o) r) slot k insn view none inexact nowhere bytes (inr (_, _, stands)) = stands
+has_left (AtRegister NoPointer r) slot k insn view none inexact nowhere bytes after = absurd after
+has_left (IsSetAt i) slot k insn view none inexact nowhere bytes (inl stores) = absurd (bytes i stores)
+has_left (IsSetAt i) slot k insn view none inexact nowhere bytes (inr has) = has
+has_left (IsPlainAt j) slot k insn view none inexact nowhere bytes after = after
 
 -- bytes of a store lie where it is placed
 pub bytes_at : (a b count i : ℕ) (off : ℤ) → pos a ≡ (pos 512 +ℤ off) → pos b ≡ (pos 512 +ℤ off) → a ≤ i → i < a + count → (b ≤ i) × (i < b + count)
@@ -265,3 +302,25 @@ answer_stands map m range same lo hi = (ap (λ (n : ℕ). EntryOrNull n) same, �
 pub left_scalar : (op : Operation) (view : View) (dst : ℕ) → (op ≡ Mov → ⊥) → IsLeftReady op view dst → StandsAt Scalar view dst
 left_scalar Mov view dst other ready = absurd (other refl)
 left_scalar _ view dst other ready = ready
+
+-- a number that an instruction gives is its immediate
+pub exact_of : (n : ℕ) (w : Width) (dst : ℕ) (src : Source) (r : ℕ) → GivesExact n (Alu w Mov dst src) r → (i : ℤ) × (src ≡ Imm i) × (w ≡ W64) × (dst ≡ r) × (n ≡ word_of i)
+exact_of n w dst (Imm i) r gives = (i, refl, gives.0, gives.1, gives.2)
+exact_of n w dst (Reg src) r gives = absurd gives
+
+-- only a MOV gives one
+pub exact_moves : (n : ℕ) (w : Width) (op : Operation) (dst : ℕ) (src : Source) (r : ℕ) → (op ≡ Mov → ⊥) → GivesExact n (Alu w op dst src) r → ⊥
+exact_moves n w Mov dst src r other gives = other refl
+exact_moves n w _ dst src r other gives = gives
+
+-- after a MOV of a number
+pub has_exact : (n : ℕ) (w : Width) (dst : ℕ) (src : Source) (r : ℕ) (old new : View) → ((i : ℤ) → src ≡ Imm i → w ≡ W64 → IsMade (Exact (word_of i)) old new dst) → GivesExact n (Alu w Mov dst src) r → StandsAt (Exact n) new r
+has_exact n w dst src r old new made gives =
+    let e = exact_of n w dst src r gives in
+    let at : StandsAt (Exact (word_of e.0)) new r = here_at (Exact (word_of e.0)) new dst r (sym e.3) (made e.0 e.1 e.2).given in
+    subst (λ (x : ℕ). StandsAt (Exact x) new r) (sym e.4) at
+
+-- that number is at most as much
+pub exact_at_most : (n most : ℕ) (k : Option Known) → n ≤ most → Stands (Exact n) k → IsAtMost most k
+exact_at_most n most None le stands = absurd stands
+exact_at_most n most (Some k) le stands = (stands.0, let hi = stands.2 in omega (arith, hi, le))

@@ -1,6 +1,6 @@
 -- What is sure of a view after an instruction, by the view before it.
 use Rattle.std.specs.Prelude.{◌≡◌, ◌≢◌, ℕ, ◌+◌, ◌<◌, ◌≤◌, ℤ, pos, ◌+ℤ◌, Some, ◌⊎◌}
-use Rattle.bq_insn.specs.Meaning.{byte_count}
+use Rattle.bq_insn.specs.Meaning.{byte_count, word_of}
 use Rattle.bq_insn.specs.declared.Condition.TheVariants.{Equal, NotEqual}
 use Rattle.bq_insn.specs.declared.Condition.{Condition}
 use Rattle.bq_insn.specs.declared.Insn.TheVariants.{Alu, StoreImm, StoreReg, MapRef, Branch, Call}
@@ -8,9 +8,10 @@ use Rattle.bq_insn.specs.declared.Insn.{Insn}
 use Rattle.bq_insn.specs.declared.Operation.TheVariants.{Add, Mov}
 use Rattle.bq_insn.specs.declared.Size.{Size}
 use Rattle.bq_insn.specs.declared.Source.TheVariants.{Imm, Reg}
+use Rattle.bq_insn.specs.declared.Width.TheVariants.{W64}
 use Rattle.bq_maps.specs.Machine.{LeadsTo}
 use Rattle.bq_graph.specs.Faults.{destination_of}
-use Rattle.bq_views.specs.Standing.{Scalar, Pointer, NoPointer, StandsAt, Fact, Never, AtRegister, IsSetAt, IsPlainAt, Has}
+use Rattle.bq_views.specs.Standing.{Scalar, Exact, Pointer, NoPointer, StandsAt, Fact, Never, AtRegister, IsSetAt, IsPlainAt, Has}
 use Rattle.bq_views.specs.declared.view.Kind.TheVariants.{Entry, EntryOrNull, Map}
 use Rattle.bq_views.specs.declared.view.Kind.{Kind}
 use Rattle.bq_views.specs.declared.view.View.{View}
@@ -30,6 +31,16 @@ LeavesNumber (Alu w Mov dst src) r = dst ≢ r
 LeavesNumber (Alu w op dst src) r = Unit {0}
 LeavesNumber (Call helper) r = 6 ≤ r
 LeavesNumber insn r = destination_of insn ≡ Some r → ⊥
+
+-- the instruction gives the register that number
+abbrev pub GivesExact : ℕ → Insn → ℕ → Type 0
+GivesExact n (Alu w Mov dst (Imm i)) r = (w ≡ W64) × (dst ≡ r) × (n ≡ word_of i)
+GivesExact n insn r = ⊥
+
+-- the instruction is no test of the register
+abbrev pub IsNoTestOf : Insn → ℕ → Type 0
+IsNoTestOf (Branch w c dst src off) r = r ≢ dst
+IsNoTestOf insn r = Unit {0}
 
 -- the instruction leaves the register as it is
 abbrev pub Spares : Insn → ℕ → Type 0
@@ -74,6 +85,7 @@ StoresByte insn i = ⊥
 abbrev pub After : Fact → ℕ → ℕ → Insn → View → Type 0
 After Never slot k insn view = ⊥
 After (AtRegister Scalar r) slot k insn view = GivesNumber insn r ⊎ (LeavesNumber insn r × Has (AtRegister Scalar r) view)
+After (AtRegister (Exact n) r) slot k insn view = GivesExact n insn r ⊎ (Spares insn r × IsNoTestOf insn r × Has (AtRegister (Exact n) r) view)
 After (AtRegister (Pointer kind o) r) slot k insn view = GivesPointer kind o slot k insn r view ⊎ (Spares insn r × LeavesPointer kind insn × Has (AtRegister (Pointer kind o) r) view)
 After (AtRegister NoPointer r) slot k insn view = ⊥
 After (IsSetAt i) slot k insn view = StoresByte insn i ⊎ Has (IsSetAt i) view

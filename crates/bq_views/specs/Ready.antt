@@ -156,4 +156,9 @@ WritesBelowFrame insn = (r : ℕ) → destination_of insn ≡ Some r → r < 10
 
 -- a call of a counter: register 1 is one of 64, and of an add register 2 is the amount
 abbrev pub IsAsking : View → ℤ → Type 0
-IsAsking view helper = IsAtMost 63 (slice_index_or view.registers 1 None) × (helper ≡ pos 100 → IsAtMost (2 ^ 64 - 1) (slice_index_or view.registers 2 None))
+IsAsking view helper = IsAtMost 63 (slice_index_or view.registers 1 None) × (helper ≡ pos 100 → StandsAt Scalar view 2)
+
+-- what a call of a counter needs
+abbrev pub IsReadyToAsk : View → Insn → Type 0
+IsReadyToAsk view (Call helper) = ((helper ≡ pos 100) ⊎ (helper ≡ pos 101)) × IsAsking view helper
+IsReadyToAsk view insn = ⊥

@@ -7,17 +7,20 @@ use Rattle.bq_views.specs.declared.view.Kind.{Kind}
 use Rattle.bq_views.specs.declared.view.Known.{Known}
 use Rattle.bq_views.specs.declared.view.View.{View}
 
--- a number; a pointer that is so far above what it counts from; no pointer, but perhaps nothing
+-- a number; that number; a pointer that is so far above what it counts from; no pointer, but perhaps nothing
 pub data Standing : Type 0 where
   Scalar : Standing
+  Exact : ℕ → Standing
   Pointer : Kind → ℕ → Standing
   NoPointer : Standing
 
 abbrev pub Stands : Standing → Option Known → Type 0
 Stands Scalar None = ⊥
+Stands (Exact n) None = ⊥
 Stands (Pointer kind o) None = ⊥
 Stands NoPointer None = Unit {0}
 Stands Scalar (Some k) = k.kind ≡ Number
+Stands (Exact n) (Some k) = (k.kind ≡ Number) × (k.offset.lo ≡ n) × (k.offset.hi ≡ n)
 Stands (Pointer kind o) (Some k) = (k.kind ≡ kind) × (kind ≢ Number) × (k.offset.lo ≡ o) × (k.offset.hi ≡ o)
 Stands NoPointer (Some k) = k.kind ≡ Number
 
@@ -36,6 +39,11 @@ Has Never view = ⊥
 Has (AtRegister s r) view = Stands s (slice_index_or view.registers r None)
 Has (IsSetAt i) view = slice_index_or view.set i false ≡ true
 Has (IsPlainAt j) view = Stands NoPointer (slice_index_or view.kept j None)
+
+-- the fact stays true where a number in the register is known anew as a number
+abbrev pub Outlasts : Fact → ℕ → Type 0
+Outlasts (AtRegister (Exact n) r) dst = r ≢ dst
+Outlasts x dst = Unit {0}
 
 abbrev pub IsScalarOperand : View → Source → Type 0
 IsScalarOperand view (Imm i) = Unit {0}

@@ -2,10 +2,10 @@
 
 ghost use Rattle.std.specs.Prelude.{◌≡◌, ◌≢◌, ◌<◌, IfSome, OnOk, IsOk, IfErr};
 ghost use Rattle.bq_maps.specs.declared.shape.MapShape.{MapShape};
-ghost use Rattle.std.specs.Prelude.{List, ℕ, Some};
-ghost use Rattle.bq_insn.specs.Meaning.{alu_result};
+ghost use Rattle.std.specs.Prelude.{List, ℕ, ℤ, Some};
+ghost use Rattle.bq_insn.specs.Meaning.{alu_result, word_of};
 ghost use Rattle.bq_views.specs.Doubts.{MayDoubt};
-ghost use Rattle.bq_views.specs.Standing.{Fact, Has, Scalar, Pointer, Stands, StandsAt, IsScalarOperand, IsGiven, IsMade, IsWord};
+ghost use Rattle.bq_views.specs.Standing.{Fact, Has, Scalar, Exact, Pointer, Stands, StandsAt, IsScalarOperand, IsGiven, IsMade, IsWord};
 ghost use Rattle.bq_views.specs.After.{After};
 ghost use Rattle.bq_views.specs.Ready.{IsReady, IsCopyOfFrame, IsMoveOfPointer};
 ghost use Rattle.bq_views.specs.Views.{Describes, Carries};
@@ -94,6 +94,7 @@ fn copy(view: &mut View, width: Width, dst: u8, src: Source) -> Result<(), Doubt
     ensures carries { OnOk result ((shapes : List MapShape) (context_length : ℕ) → Carries shapes context_length (Insn.Alu width Operation.Mov dst src) view.old view.new) }
     ensures doubts { IfErr result (λ doubt. MayDoubt doubt (Insn.Alu width Operation.Mov dst src)) }
     ensures accepts { IsScalarOperand view.old src → IsOk result × IsGiven view.old view.new dst }
+    ensures exact { OnOk result ((i : ℤ) → src ≡ Source.Imm i → width ≡ Width.W64 → IsMade (Exact (word_of i)) view.old view.new dst) }
     ensures copies { (m : IsCopyOfFrame view.old width Operation.Mov src) → IsOk result × IsMade (Pointer Kind.Stack m.base) view.old view.new dst }
 {
     let Some(right) = operand(view, src) else {

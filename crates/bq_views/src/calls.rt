@@ -1,13 +1,13 @@
 // Map references and calls of helpers.
 
-ghost use Rattle.std.specs.Prelude.{◌≡◌, ◌<◌, ◌≤◌, ◌^◌, ℕ, pos, List, IfSome, IsOk, OnOk, Some, length, IfErr, IsTrue, None, slice_index_or};
+ghost use Rattle.std.specs.Prelude.{◌≡◌, ◌<◌, ◌≤◌, ◌^◌, ◌-◌, ℕ, pos, List, IfSome, IsOk, OnOk, Some, length, IfErr, IsTrue, None, slice_index_or};
 ghost use Rattle.bq_maps.specs.Memory.{Setting, State, reference};
 ghost use Rattle.bq_maps.specs.Machine.{called};
 ghost use Rattle.bq_maps.specs.declared.shape.MapShape.{MapShape};
 ghost use Rattle.bq_ranges.specs.Within.{Within};
 ghost use Rattle.bq_views.specs.Doubts.{MayDoubt};
 ghost use Rattle.bq_views.specs.After.{After};
-ghost use Rattle.bq_views.specs.Standing.{Fact, Has, IsAnswered, IsCalled, IsMade, Pointer, StandsAt};
+ghost use Rattle.bq_views.specs.Standing.{Fact, Has, IsAnswered, IsCalled, IsMade, Pointer, Scalar, StandsAt};
 ghost use Rattle.bq_views.specs.Ready.{IsAtMost, IsReady, IsUpdating, IsNamingEntry};
 ghost use Rattle.bq_views.specs.Views.{Carries, Clears, Covers, IsBelow};
 
@@ -166,6 +166,7 @@ fn update(view: &mut View, shapes: &[MapShape], context: usize) -> Result<(), Do
 pub fn is_at_most(view: &View, register: u8, most: u64) -> bool
     ensures below { IsTrue result → (bound : ℕ) → most < bound → IsBelow view.now register bound }
     ensures found { IsAtMost most (slice_index_or view.now.registers register None) → IsTrue result }
+    ensures any { most ≡ 2 ^ 64 - 1 → StandsAt Scalar view.now register → IsTrue result }
 {
     let Some(word) = known(view, register) else {
         return false;

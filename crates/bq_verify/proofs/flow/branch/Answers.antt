@@ -29,11 +29,11 @@ returns-clause-sure c = λ scalar operand x k waits both.
     let left : c.in-Some-known.left.kind ≡ Number = subst (λ (v : Option Known). Stands Scalar v) (sym c.in-Some-known.ensures) scalar in
     let right : c.in-Some.right.kind ≡ Number = c.in-Some.ensures.scalar operand in
     record {
-      waiting = c.in_ok-wait_on_side.ensures.has x k waits (λ same. has_on_side x c.args.view.now c.args.dst c.in_ok-yes.yes there scalar (c.in_ok-yes.ensures.number left right) (both (inl same)));
+      waiting = c.in_ok-wait_on_side.ensures.has x k waits (λ same. has_on_side x c.args.view.now c.args.dst c.in_ok-yes.yes there (both (inl same)).0 scalar (c.in_ok-yes.ensures.number left right) (both (inl same)).1);
       carried = λ live same.
           c.carry_on.ensures.has x
           (has_relearned x c.args.view.now c.wait_on_side.new.view c.args.dst c.in_ok-no.no c.wait_on_side.ensures.same
-          (has_on_side x c.args.view.now c.args.dst c.in_ok-no.no there scalar (c.in_ok-no.ensures.number left right) (both (inr same))))
+          (has_on_side x c.args.view.now c.args.dst c.in_ok-no.no there (both (inr same)).0 scalar (c.in_ok-no.ensures.number left right) (both (inr same)).1))
           live;
     }
 

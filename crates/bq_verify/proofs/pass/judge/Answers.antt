@@ -16,5 +16,5 @@ returns-in_err-pass-clause-accepts c = λ straight.
     let blank : (k : ℕ) → slice_index_or c.as_mut_slice.result.now k None ≡ None = search rules in
     let memory : IsOutOfMemory c.in_err-pass.field-0.0 =
     c.in_err-pass.ensures.accepts straight
-    (sure_start c.args.slots.now c.args.shapes.now c.as_mut_slice.result.now c.start-view.result c.requires.sound blank c.start-view.ensures.context c.start-view.ensures.frame c.start-view.ensures.plain) in
+    (sure_start c.args.slots.now c.as_mut_slice.result.now c.start-view.result c.requires.sound blank c.start-view.ensures.context c.start-view.ensures.frame c.start-view.ensures.plain) in
     search rules

@@ -13,15 +13,15 @@ returns-in-Ok-clause-passes c =
     c.visit.new.pending c.visit.new.view c.in-Ok.on c.in-Ok.ensures.goes.0 c.in-Ok.ensures.goes.1
 
 pub returns-then-not-arrive-clause-sure : goal.returns-then-not-arrive-clause-sure
-returns-then-not-arrive-clause-sure c = λ straight sure. sure_over c.args.slots.now c.args.shapes.now c.arrive.new.pending c.arrive.new.view (c.args.slot + 1) (λ x k due. c.arrive.ensures.waits x k (sure x k due).waiting)
+returns-then-not-arrive-clause-sure c = λ straight sure. sure_over c.args.slots.now c.arrive.new.pending c.arrive.new.view (c.args.slot + 1) (λ x k due. c.arrive.ensures.waits x k (sure x k due).waiting)
 
 pub returns-in_default-clause-sure : goal.returns-in_default-clause-sure
-returns-in_default-clause-sure c = λ straight sure. sure_over c.args.slots.now c.args.shapes.now c.arrive.new.pending c.arrive.new.view (c.args.slot + 1) (λ x k due. c.arrive.ensures.waits x k (sure x k due).waiting)
+returns-in_default-clause-sure c = λ straight sure. sure_over c.args.slots.now c.arrive.new.pending c.arrive.new.view (c.args.slot + 1) (λ x k due. c.arrive.ensures.waits x k (sure x k due).waiting)
 
 pub returns-in-Ok-clause-sure : goal.returns-in-Ok-clause-sure
 returns-in-Ok-clause-sure c = λ straight sure.
     let here = sym c.in-Some.ensures in
-    let has = λ (x : Fact) (due : IsDue c.args.slots.now c.args.shapes.now x c.args.slot). c.arrive.ensures.has x (sure x c.args.slot due) c.if-not-arrive.false in
+    let has = λ (x : Fact) (due : IsDue c.args.slots.now x c.args.slot). c.arrive.ensures.has x (sure x c.args.slot due) c.if-not-arrive.false in
     sure_on c.args.slots.now c.args.shapes.now c.args.context c.args.slot c.in-Some.insn c.arrive.new.view here straight has c.arrive.new.pending c.visit.new.pending c.visit.new.view c.in-Ok.on
     (λ x k due. c.arrive.ensures.waits x k (sure x k due).waiting)
     (c.in-Ok.ensures.sure (ready_at c.args.slots.now c.args.shapes.now c.args.context c.args.slot c.in-Some.insn c.arrive.new.view here straight has))
@@ -29,5 +29,5 @@ returns-in-Ok-clause-sure c = λ straight sure.
 pub returns-in-Err-clause-accepts : goal.returns-in-Err-clause-accepts
 returns-in-Err-clause-accepts c = λ straight sure.
     let here = sym c.in-Some.ensures in
-    let has = λ (x : Fact) (due : IsDue c.args.slots.now c.args.shapes.now x c.args.slot). c.arrive.ensures.has x (sure x c.args.slot due) c.if-not-arrive.false in
+    let has = λ (x : Fact) (due : IsDue c.args.slots.now x c.args.slot). c.arrive.ensures.has x (sure x c.args.slot due) c.if-not-arrive.false in
     c.refuse.ensures.memory (c.in-Err.ensures.accepts (ready_at c.args.slots.now c.args.shapes.now c.args.context c.args.slot c.in-Some.insn c.arrive.new.view here straight has))

@@ -1,7 +1,7 @@
 use Rattle.std.proofs.Common.{subst, refl, inl, inr, false, true, ◌≡◌, rules}
-use Rattle.bq_views.specs.After.{After}
+use Rattle.bq_views.specs.After.{After, GivesExact}
 use Rattle.bq_views.specs.Ready.{IsCopyOfFrame}
-use Rattle.bq_views.proofs.StandingLemmas.{has_copied, has_given, has_moved, left_scalar, no_pointer}
+use Rattle.bq_views.proofs.StandingLemmas.{exact_moves, has_copied, has_exact, has_given, has_moved, left_scalar, no_pointer}
 use Rattle.bq_insn.specs.declared.Operation.{Operation}
 use Rattle.bq_insn.specs.declared.Operation.TheVariants.{Add, Mov}
 use Rattle.bq_insn.specs.declared.Source.{Source}
@@ -37,6 +37,9 @@ returns-then-eq-clause-accepts c = λ shapes context ready.
         λ x slot k after.
             has_given x slot k (Alu c.args.width c.args.op c.args.dst c.args.src) c.args.view.now c.copy.new.view c.args.dst refl
             (λ kind o r. no_pointer kind o slot k c.args.width c.args.op c.args.dst c.args.src r c.args.view.now n.0 n.1)
+            (λ m r gives.
+            has_exact m c.args.width c.args.dst c.args.src r c.args.view.now c.copy.new.view c.in_ok-copy.ensures.exact
+            (subst (λ (op : Operation). GivesExact m (Alu c.args.width op c.args.dst c.args.src) r) same gives))
             (c.in_ok-copy.ensures.accepts n.1).1
             after,
       )
@@ -77,6 +80,7 @@ returns-clause-accepts c = λ shapes context ready.
         λ x slot k after.
             has_given x slot k (Alu c.args.width c.args.op c.args.dst c.args.src) c.args.view.now c.operate.new.view c.args.dst refl
             (λ kind o r. no_pointer kind o slot k c.args.width c.args.op c.args.dst c.args.src r c.args.view.now n.0 n.1)
+            (λ m r gives. absurd (exact_moves m c.args.width c.args.op c.args.dst c.args.src r other gives))
             (c.in_ok-operate.ensures.accepts (left_scalar c.args.op c.args.view.now c.args.dst other n.0) n.1).1
             after,
       )

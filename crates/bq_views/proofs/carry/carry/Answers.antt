@@ -103,7 +103,7 @@ returns-in_ok-store_imm-in-StoreImm-clause-accepts c = λ ready.
             refl,
             λ x slot k after.
                 has_stored x slot k insn c.args.view.now c.store_imm.new.view f.at (f.at + byte_count c.in-StoreImm.size)
-                (λ r gives. some_none _ _ gives refl) (λ kind o r gives. gives)
+                (λ r gives. some_none _ _ gives refl) (λ n r gives. gives) (λ kind o r gives. gives)
                 (λ i stores. bytes_at stores.1.0 f.at (byte_count c.in-StoreImm.size) i c.in-StoreImm.off stores.1.1 f.at_is stores.1.2 stores.1.3)
                 (c.in_ok-store_imm-in-StoreImm.ensures.accepts f.at placed).1
                 (subst (λ (i : Insn). After x slot k i c.args.view.now) c.in-StoreImm.is after),
@@ -113,7 +113,7 @@ returns-in_ok-store_imm-in-StoreImm-clause-accepts c = λ ready.
             refl,
             λ x slot k after.
                 let left =
-                has_left x slot k insn c.args.view.now (λ r gives. some_none _ _ gives refl) (λ kind o r gives. gives) (λ i stores. f.other stores.0)
+                has_left x slot k insn c.args.view.now (λ r gives. some_none _ _ gives refl) (λ n r gives. gives) (λ kind o r gives. gives) (λ i stores. f.other stores.0)
                 (subst (λ (i : Insn). After x slot k i c.args.view.now) c.in-StoreImm.is after) in
                 subst (λ (v : View). Has x v) (sym (c.in_ok-store_imm-in-StoreImm.ensures.entry f.map f.at placed).1) left,
           )
@@ -145,7 +145,7 @@ returns-in_ok-store_reg-in-StoreReg-clause-accepts c = λ ready.
             refl,
             λ x slot k after.
                 has_stored x slot k insn c.args.view.now c.store_reg.new.view f.at (f.at + byte_count c.in-StoreReg.size)
-                (λ r gives. some_none _ _ gives refl) (λ kind o r gives. gives)
+                (λ r gives. some_none _ _ gives refl) (λ n r gives. gives) (λ kind o r gives. gives)
                 (λ i stores. bytes_at stores.1.0 f.at (byte_count c.in-StoreReg.size) i c.in-StoreReg.off stores.1.1 f.at_is stores.1.2 stores.1.3)
                 (c.in_ok-store_reg-in-StoreReg.ensures.accepts here.0 f.at placed).1
                 (subst (λ (i : Insn). After x slot k i c.args.view.now) c.in-StoreReg.is after),
@@ -155,7 +155,7 @@ returns-in_ok-store_reg-in-StoreReg-clause-accepts c = λ ready.
             refl,
             λ x slot k after.
                 let left =
-                has_left x slot k insn c.args.view.now (λ r gives. some_none _ _ gives refl) (λ kind o r gives. gives) (λ i stores. f.other stores.0)
+                has_left x slot k insn c.args.view.now (λ r gives. some_none _ _ gives refl) (λ n r gives. gives) (λ kind o r gives. gives) (λ i stores. f.other stores.0)
                 (subst (λ (i : Insn). After x slot k i c.args.view.now) c.in-StoreReg.is after) in
                 subst (λ (v : View). Has x v) (sym (c.in_ok-store_reg-in-StoreReg.ensures.entry here.0 f.map f.at placed).1) left,
           )
