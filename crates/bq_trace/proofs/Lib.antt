@@ -1,14 +1,11 @@
-pub mod AllowedLemmas
 pub mod ChainLemmas
-pub mod KeptLemmas
-pub mod NumberLemmas
 pub mod QueueWalks
 pub mod ReplayLemmas
 pub mod SessionLemmas
 pub mod ShowLemmas
 pub mod StandingLemmas
+pub mod StoryTexts
+pub mod TakingLemmas
 pub mod WakeLemmas
-pub mod LoadingLemmas
-pub mod WordLemmas
-pub mod WritingLemmas
 pub mod WholeSessions
+pub mod WritingLemmas

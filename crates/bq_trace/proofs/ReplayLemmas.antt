@@ -6,7 +6,7 @@ use Rattle.std.specs.Io.KnownBytes.{Appends, Consumes, Keeps, IsAtEnd}
 use Rattle.std.proofs.KnownBytes.{Appends-nil, Appends-trans, Consumes-nil, Consumes-trans, Consumes-kept}
 use Rattle.std.proofs.lemmas.List.{map-append}
 use Rattle.std.proofs.lemmas.Grind.{flat_map-append}
-use Rattle.bq_trace.specs.Kept.{IsOneLine, StandsFor}
+use Rattle.bq_lines.specs.Kept.{IsOneLine, StandsFor}
 use Rattle.bq_trace.specs.Trace.{Chain, start}
 use Rattle.bq_trace.specs.Feeding.{with_feeds, Continues, Feeds, BreaksOff, Finishes}
 use Rattle.bq_trace.specs.Replaying.{Replays, ReplaysInPart}

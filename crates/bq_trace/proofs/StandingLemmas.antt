@@ -1,38 +1,50 @@
--- How the lines of a piece are answered in turn.
+-- What comes of the lines of a piece in turn.
 use Rattle.std.proofs.Common.{◌≡◌, ℕ, List, [], ◌∷◌, ◌++◌, length, map, refl, sym, ap, ◌∙◌, append_assoc, append-nil, subst, true, false, cond, eqb, Some}
 use Rattle.std.specs.List.{AllByRecursion}
 use Rattle.std.specs.Str.Lines.{lines, strip_carriage_return}
 use Rattle.std.proofs.lemmas.List.{map-append}
 use Rattle.std.proofs.lemmas.List.Elements.{All-append, All-nil}
-use Rattle.bq_trace.specs.Kept.{IsOneLine, StandsFor}
-use Rattle.bq_trace.specs.Writing.{Adds}
-use Rattle.bq_trace.specs.Trace.{Chain, AnswersLine}
-use Rattle.bq_trace.specs.Feeding.{with_feeds, Continues}
-use Rattle.bq_trace.proofs.ChainLemmas.{Chain-append, Chain-one, lines-one}
+use Rattle.bq_lines.specs.Kept.{IsOneLine, StandsFor}
+use Rattle.bq_trace.specs.News.{News, Told, TakesAll, Gets}
+use Rattle.bq_trace.specs.Telling.{TellsLine, Story, GoesOn}
+use Rattle.bq_trace.specs.Feeding.{with_feeds}
+use Rattle.bq_trace.proofs.ChainLemmas.{lines-one}
+use Rattle.bq_trace.proofs.TakingLemmas.{TakesAll-append}
 use Rattle.bq_trace.specs.declared.progress.Progress.{Progress}
 use Rattle.bq_trace.specs.declared.standing.Standing.{Standing}
 
--- The lines so far are answered, current is the line that has begun, and rest is still to come.
-pub record SoFar (s : Standing) (whole : List ℕ) (t : Standing) (rest old new : List ℕ) : Type 0 where
+-- one story after another
+pub Story-append : (p m q : Progress) (xs ys : List (List ℕ)) (t u : Told) → Story p xs t m → Story m ys u q → Story p (xs ++ ys) (t ++ u) q
+Story-append p m q [] ys t u h k =
+    subst (λ s. Story s ys (t ++ u) q) h.1 (subst (λ l. Story m ys (l ++ u) q) (sym h.0) k)
+Story-append p m q (x ∷ xs) ys t u h k =
+    (h.0, h.1, h.2 ++ u, h.3, Story-append h.0 m q xs ys h.2 u h.4 k, ap (λ l. l ++ u) h.5 ∙ append_assoc h.1 h.2 u)
+
+pub Story-one : (p q : Progress) (line : List ℕ) (told : Told) → TellsLine p line told q → Story p (line ∷ []) told q
+Story-one p q line told h = (q, told, [], h, (refl, refl), sym (append-nil told))
+
+-- The lines so far are told, current is the line that has begun, and rest is still to come.
+pub record SoFar {S : Type 0} (takes : S → ℕ → News → S → Type 0) (s : Standing) (whole : List ℕ) (t : Standing) (rest : List ℕ) (old new : S) : Type 0 where
   pub ended : List (List ℕ)
   pub current : List ℕ
-  pub text : List ℕ
+  pub told : Told
   pub split : whole ≡ with_feeds ended ++ (current ++ rest)
   pub each : AllByRecursion IsOneLine ended
-  pub chain : Chain s.progress (map strip_carriage_return ended) text t.progress
+  pub story : Story s.progress (map strip_carriage_return ended) told t.progress
   pub stands : StandsFor t.begun current
-  pub added : new ≡ old ++ text
+  pub taken : TakesAll takes old told new
 
-pub SoFar-none : (s : Standing) (begun piece old : List ℕ) → StandsFor s.begun begun → SoFar s (begun ++ piece) s piece old old
-SoFar-none s begun piece old h = record {
+pub SoFar-none : {S : Type 0} (takes : S → ℕ → News → S → Type 0) (s : Standing) (begun piece : List ℕ) (old : S) → StandsFor s.begun begun
+    → SoFar takes s (begun ++ piece) s piece old old
+SoFar-none takes s begun piece old h = record {
   ended = [];
   current = begun;
-  text = [];
+  told = [];
   split = refl;
   each = tt;
-  chain = (refl, refl);
+  story = (refl, refl);
   stands = h;
-  added = sym (append-nil old);
+  taken = refl;
 }
 
 AllByRecursion-one : (xs : List (List ℕ)) (x : List ℕ) → AllByRecursion IsOneLine xs → IsOneLine x → AllByRecursion IsOneLine (xs ++ x ∷ [])
@@ -51,55 +63,57 @@ pub stands_for_nothing : StandsFor (Some []) []
 stands_for_nothing = record { one_line = All-nil (λ b. eqb b 10 ≡ false); kept_is = refl }
 
 -- one more line ends
-pub SoFar-more : (s t u : Standing) (whole rest tail more old mid new : List ℕ) → (h : SoFar s whole t rest old mid) → rest ≡ tail ++ 10 ∷ more → IsOneLine tail
-    → Adds mid new (λ piece. AnswersLine t.progress (strip_carriage_return (h.current ++ tail)) piece u.progress) → u.begun ≡ Some [] → SoFar s whole u more old new
-SoFar-more s t u whole rest tail more old mid new h cut one a cleared = record {
+pub SoFar-more : {S : Type 0} (takes : S → ℕ → News → S → Type 0) (s t u : Standing) (whole rest tail more : List ℕ) (old mid new : S) → (h : SoFar takes s whole t rest old mid)
+    → rest ≡ tail ++ 10 ∷ more → IsOneLine tail
+    → Gets takes mid new (λ told. TellsLine t.progress (strip_carriage_return (h.current ++ tail)) told u.progress) → u.begun ≡ Some [] → SoFar takes s whole u more old new
+SoFar-more takes s t u whole rest tail more old mid new h cut one a cleared = record {
   ended = h.ended ++ (h.current ++ tail) ∷ [];
   current = [];
-  text = h.text ++ a.piece;
+  told = h.told ++ a.told;
   split = h.split ∙ ap (λ r. with_feeds h.ended ++ (h.current ++ r)) cut ∙ ap (λ l. with_feeds h.ended ++ l) (sym (append_assoc h.current tail (10 ∷ more)))
       ∙ sym (with_feeds-one h.ended (h.current ++ tail) more);
   each = AllByRecursion-one h.ended (h.current ++ tail) h.each (All-append (λ b. eqb b 10 ≡ false) h.current tail h.stands.one_line one);
-  chain = subst (λ ls. Chain s.progress ls (h.text ++ a.piece) u.progress) (sym (map-append strip_carriage_return h.ended ((h.current ++ tail) ∷ [])))
-      (Chain-append s.progress t.progress u.progress (map strip_carriage_return h.ended) (strip_carriage_return (h.current ++ tail) ∷ []) h.text a.piece h.chain
-      (Chain-one t.progress u.progress (strip_carriage_return (h.current ++ tail)) a.piece a.holds));
+  story = subst (λ ls. Story s.progress ls (h.told ++ a.told) u.progress) (sym (map-append strip_carriage_return h.ended ((h.current ++ tail) ∷ [])))
+      (Story-append s.progress t.progress u.progress (map strip_carriage_return h.ended) (strip_carriage_return (h.current ++ tail) ∷ []) h.told a.told h.story
+      (Story-one t.progress u.progress (strip_carriage_return (h.current ++ tail)) a.told a.holds));
   stands = subst (λ k. StandsFor k []) (sym cleared) stands_for_nothing;
-  added = a.added ∙ ap (λ l. l ++ a.piece) h.added ∙ append_assoc old h.text a.piece;
+  taken = TakesAll-append takes old mid new h.told a.told h.taken a.taken;
 }
 
 -- no line ends in what is left
-pub SoFar-all : (s t u : Standing) (begun piece rest old new : List ℕ) → (h : SoFar s (begun ++ piece) t rest old new) → u.progress ≡ t.progress → StandsFor u.begun (h.current ++ rest)
-    → Adds old new (λ answers. Continues s begun piece answers u)
-SoFar-all s t u begun piece rest old new h same stands = record {
-  piece = h.text;
-  added = h.added;
+pub SoFar-all : {S : Type 0} (takes : S → ℕ → News → S → Type 0) (s t u : Standing) (begun piece rest : List ℕ) (old new : S) → (h : SoFar takes s (begun ++ piece) t rest old new)
+    → u.progress ≡ t.progress → StandsFor u.begun (h.current ++ rest) → Gets takes old new (λ told. GoesOn s begun piece told u)
+SoFar-all takes s t u begun piece rest old new h same stands = record {
+  told = h.told;
+  taken = h.taken;
   holds = record {
     ended = h.ended;
     rest = h.current ++ rest;
     whole = h.split;
     each = h.each;
-    chain = subst (λ p. Chain s.progress (map strip_carriage_return h.ended) h.text p) (sym same) h.chain;
+    story = subst (λ p. Story s.progress (map strip_carriage_return h.ended) h.told p) (sym same) h.story;
     stands = stands;
   };
 }
 
 -- there is no last line
-pub ends_without : (p : Progress) (begun old : List ℕ) → IsOneLine begun → eqb (length begun) 0 ≡ true → Adds old old (λ answers. Chain p (lines begun) answers p)
-ends_without p begun old one e =
+pub ends_without : {S : Type 0} (takes : S → ℕ → News → S → Type 0) (p : Progress) (begun : List ℕ) (old : S) → IsOneLine begun → eqb (length begun) 0 ≡ true
+    → Gets takes old old (λ told. Story p (lines begun) told p)
+ends_without takes p begun old one e =
     let none : lines begun ≡ [] = lines-one begun one ∙ ap (λ t. cond t [] (begun ∷ [])) e in
     record {
-      piece = [];
-      added = sym (append-nil old);
-      holds = subst (λ ls. Chain p ls [] p) (sym none) (refl, refl);
+      told = [];
+      taken = refl;
+      holds = subst (λ ls. Story p ls [] p) (sym none) (refl, refl);
     }
 
--- the last line is answered
-pub ends_with : (p q : Progress) (begun old new : List ℕ) → IsOneLine begun → eqb (length begun) 0 ≡ false → Adds old new (λ piece. AnswersLine p begun piece q)
-    → Adds old new (λ answers. Chain p (lines begun) answers q)
-ends_with p q begun old new one e a =
+-- the last line is told
+pub ends_with : {S : Type 0} (takes : S → ℕ → News → S → Type 0) (p q : Progress) (begun : List ℕ) (old new : S) → IsOneLine begun → eqb (length begun) 0 ≡ false
+    → Gets takes old new (λ told. TellsLine p begun told q) → Gets takes old new (λ told. Story p (lines begun) told q)
+ends_with takes p q begun old new one e a =
     let last : lines begun ≡ begun ∷ [] = lines-one begun one ∙ ap (λ t. cond t [] (begun ∷ [])) e in
     record {
-      piece = a.piece;
-      added = a.added;
-      holds = subst (λ ls. Chain p ls a.piece q) (sym last) (Chain-one p q begun a.piece a.holds);
+      told = a.told;
+      taken = a.taken;
+      holds = subst (λ ls. Story p ls a.told q) (sym last) (Story-one p q begun a.told a.holds);
     }

@@ -3,7 +3,7 @@ use Rattle.std.proofs.Common.{◌≡◌, ℕ, Bool, List, [], ◌∷◌, ◌++�
 use Rattle.std.specs.Str.Lines.{lines, strip_carriage_return}
 use Rattle.std.specs.Io.KnownBytes.{Appends}
 use Rattle.std.proofs.KnownBytes.{Appends-nil, Appends-trans}
-use Rattle.bq_trace.specs.Kept.{StandsFor}
+use Rattle.bq_lines.specs.Kept.{StandsFor}
 use Rattle.bq_trace.specs.Trace.{Chain, start}
 use Rattle.bq_trace.specs.Feeding.{Continues, Feeds, Finishes}
 use Rattle.bq_trace.specs.Sessions.{IsFed, joined, GetsAnswers, SessionAnswers}

@@ -1,6 +1,7 @@
 -- The world of a core, whichever size and rule it has.
-use Rattle.std.specs.Prelude.{ℕ, List}
-use Rattle.bq_parts.specs.World.{World}
+use Rattle.std.specs.Prelude.{ℕ, List, nat_lt, Option, Some, None, if◌then◌else◌}
+use Rattle.bq_parts.specs.Processors.{Processor}
+use Rattle.bq_parts.specs.World.{World, processor, count_in}
 use Rattle.bq_trace.specs.Machines.{Machine}
 use Rattle.bq_sizes.specs.declared.rule.Rule.TheVariants as rules
 use Rattle.bq_trace.specs.declared.machine.Cores.{Cores}
@@ -20,3 +21,7 @@ world_of (SixtyFour w) = w
 abbrev pub machine_of : Ruled → List ℕ → Machine
 machine_of (ruled.Cfs w) counters = record { rule = rules.Cfs; world = w; counters = counters }
 machine_of (ruled.Eevdf w) counters = record { rule = rules.Eevdf; world = w; counters = counters }
+
+-- a processor, if the world has it
+abbrev pub processor_in : World → ℕ → Option Processor
+processor_in w c = if nat_lt c (count_in w) then Some (processor w c) else None

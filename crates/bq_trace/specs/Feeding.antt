@@ -3,7 +3,7 @@ use Rattle.std.specs.Prelude.{◌≡◌, ℕ, Bool, List, [], ◌∷◌, ◌++�
 use Rattle.std.specs.List.{flat_map, AllByRecursion}
 use Rattle.std.specs.Str.Lines.{lines, strip_carriage_return}
 use Rattle.std.specs.Io.KnownBytes.{Appends}
-use Rattle.bq_trace.specs.Kept.{IsOneLine, StandsFor}
+use Rattle.bq_lines.specs.Kept.{IsOneLine, StandsFor}
 use Rattle.bq_trace.specs.Trace.{Chain, WritesBeginning}
 use Rattle.bq_trace.specs.declared.progress.Progress.{Progress}
 use Rattle.bq_trace.specs.declared.standing.Standing.{Standing}

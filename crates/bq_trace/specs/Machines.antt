@@ -34,6 +34,12 @@ setting_of rule = policies (discipline_of rule)
 abbrev pub opening_machine : Rule → Size → Machine
 opening_machine rule size = record { rule = rule; world = opening_world (processors_in size); counters = replicate 64 0 }
 
+-- One event is a step of a world, and what it asked of the counters leads from the ones to the others.
+pub record Advances (s : Setting) (w : World) (old : List ℕ) (event : Event) (answer : Result Reply Refusal) (v : World) (new : List ℕ) : Type 0 where
+  pub calls : List Asked
+  pub step : WorldStep s w event calls answer v
+  pub through : Through Counts old calls new
+
 -- One event is a step of a world, what it asked of the counters leads from the ones to the others, and it has an answer that
 -- is not want of memory.
 pub record Steps (s : Setting) (w : World) (old : List ℕ) (event : Event) (answer : Result Reply Refusal) (v : World) (new : List ℕ) : Type 0 where

@@ -2,7 +2,7 @@
 use Rattle.std.specs.Prelude.{◌≡◌, ℕ, Bool, List, [], ◌∷◌, Option, Some}
 use Rattle.std.specs.List.{flat_map}
 use Rattle.std.specs.Io.KnownBytes.{Appends}
-use Rattle.bq_trace.specs.Kept.{StandsFor}
+use Rattle.bq_lines.specs.Kept.{StandsFor}
 use Rattle.bq_trace.specs.Feeding.{Feeds, Finishes}
 use Rattle.bq_trace.specs.Trace.{TraceText, start}
 use Rattle.bq_trace.specs.declared.standing.Standing.{Standing}

@@ -9,11 +9,11 @@ use Rattle.bq_trace.specs.Machines.{Machine as Driven, opening_machine}
 use Rattle.bq_trace.specs.Doing.{DoesAndAnswers}
 use Rattle.bq_trace.specs.Loading.{LoadsAndAnswers}
 use Rattle.bq_trace.specs.Writing.{AppendsPart}
-use Rattle.bq_trace.specs.Lines.{reading_of}
+use Rattle.bq_lines.specs.Lines.{reading_of}
 use Rattle.bq_trace.specs.Texts.{bad_line, show_line, counter_line}
-use Rattle.bq_trace.specs.declared.command.Command.TheVariants.{Machine, Does, Wake, Load, Show, Counter}
-use Rattle.bq_trace.specs.declared.command.Reading.{Reading}
-use Rattle.bq_trace.specs.declared.command.Reading.TheVariants.{Skipped, Bad, Says}
+use Rattle.bq_lines.specs.declared.command.Command.TheVariants.{Machine, Does, Wake, Load, Show, Counter}
+use Rattle.bq_lines.specs.declared.command.Reading.{Reading}
+use Rattle.bq_lines.specs.declared.command.Reading.TheVariants.{Skipped, Bad, Says}
 use Rattle.bq_trace.specs.declared.progress.Phase.{Phase}
 use Rattle.bq_trace.specs.declared.progress.Phase.TheVariants.{Waiting, Over, Running}
 use Rattle.bq_trace.specs.declared.progress.Progress.{Progress}

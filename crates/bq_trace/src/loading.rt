@@ -1,33 +1,38 @@
 //! Images that a trace installs, and the lines that refuse them.
 ghost use Rattle.std.specs.Prelude.{◌≡◌, ◌≢◌, ◌++◌, OnOk, string_bytes};
-ghost use Rattle.bq_trace.specs.Loading.{LoadsAndAnswers, fault_line, program_number, refusal_number};
-ghost use Rattle.bq_trace.specs.Writing.{Adds};
+ghost use Rattle.bq_trace.specs.Loading.{fault_line, program_number, refusal_number};
 ghost use Rattle.bq_load.specs.declared.fault.LoadFault.TheVariants as why;
 
-use crate::image::HexWord;
 use crate::machine::Machine;
+use crate::sink::Sink;
+use crate::telling;
 use bq_core::{Event, Hook, Policy};
+use bq_lines::HexWord;
 use bq_load::{LoadFault, load};
 use std::alloc::{AllocError, Global};
 
 impl Machine {
-    /// Loads an image that is spelled in hex and installs its policy as an event; adds the line that answers it. What
-    /// doesn't load is refused, and is no event.
-    pub fn install_image(
+    ghost use Rattle.bq_trace.specs.News.{Gets};
+    ghost use Rattle.bq_trace.specs.Telling.{LoadHappens};
+
+    /// Loads an image that is spelled in hex and installs its policy as an event, and tells what comes of it. What doesn't
+    /// load is refused, and is no event.
+    pub fn install_image<S: Sink>(
         &mut self,
         alloc: Global,
+        number: u64,
         processor: u8,
         hook: Hook,
         generation: u64,
         image: &HexWord,
-        text: &mut String,
+        sink: &mut S,
     ) -> Result<(), AllocError>
-        ensures { OnOk result (Adds (string_bytes text.old) (string_bytes text.new) (λ line. LoadsAndAnswers self.old processor hook generation image.now line self.new)) }
+        ensures { OnOk result (Gets S.takes sink.old sink.new (λ told. LoadHappens self.old number processor hook generation image.now told self.new)) }
     {
         let bytes = match hex::decode(alloc, image.as_bytes()) {
             Ok(bytes) => bytes,
             Err(hex::FromHexError::OutOfMemory) => return Err(AllocError),
-            Err(_) => return text.push_str("refused hex\n"),
+            Err(_) => return telling::refuse_word(number, sink),
         };
         match load(alloc, bytes.as_slice()) {
             Ok(program) => {
@@ -38,17 +43,17 @@ impl Machine {
                     generation,
                     policy,
                 };
-                self.answer(alloc, event, text)?;
+                self.happen(alloc, number, event, sink)?;
                 Ok(())
             }
             Err(LoadFault::OutOfMemory) => Err(AllocError),
-            Err(fault) => write_fault(text, fault),
+            Err(fault) => telling::refuse_image(number, fault, sink),
         }
     }
 }
 
 /// Adds the line that refuses an image.
-fn write_fault(text: &mut String, fault: LoadFault) -> Result<(), AllocError>
+pub fn write_fault(text: &mut String, fault: LoadFault) -> Result<(), AllocError>
     requires { fault ≢ why.OutOfMemory }
     ensures { OnOk result (string_bytes text.new ≡ string_bytes text.old ++ fault_line fault) }
 {

@@ -1,18 +1,17 @@
 //! The machine that a trace drives: a core of one of the sizes, under one of the rules, that a trace may ask for.
-ghost use Rattle.std.specs.Prelude.{◌≡◌, ◌<◌, ◌++◌, slice_index, Result, is_ok, IfOk, OnOk, string_bytes};
+ghost use Rattle.std.specs.Prelude.{◌≡◌, ◌<◌, slice_index, IfOk};
+ghost use Rattle.std.specs.Borrow.{Bor};
+ghost use Rattle.std.specs.Option.{option_map};
 ghost use Rattle.bq_parts.specs.World.{opening_world};
+ghost use Rattle.bq_parts.specs.Processors.{Processor};
 ghost use Rattle.bq_parts.specs.Choices.{policies};
-ghost use Rattle.bq_parts.specs.declared.reply.Reply.{Reply};
-ghost use Rattle.bq_parts.specs.declared.refusal.Refusal.{Refusal};
 ghost use Rattle.bq_sizes.specs.Sizes.{processors_in};
-ghost use Rattle.bq_trace.specs.Machines.{opening_machine, Steps};
-ghost use Rattle.bq_trace.specs.Texts.{event_line, show_line, counter_line};
-ghost use Rattle.bq_trace.specs.Writing.{Adds};
+ghost use Rattle.bq_trace.specs.Machines.{opening_machine, Advances};
+ghost use Rattle.bq_trace.specs.Cores.{processor_in};
+ghost use Rattle.bq_trace.specs.Seeing.{seen_of};
 
-use crate::shows::write_processor;
-use crate::texts::{write_answer, write_refusal};
 use bq_cfs::CfsQueue;
-use bq_core::{Core, Event, Plain, Refusal};
+use bq_core::{Core, Cpu, Event, Plain, Refusal, Reply};
 use bq_disc::RunQueue;
 use bq_eevdf::EevdfQueue;
 use bq_sizes::{Rule, Size};
@@ -71,73 +70,64 @@ impl<Q: RunQueue + Drop> Sized<Q> {
 }
 
 impl<Q: RunQueue> Sized<Q> {
-    fn answer(
-        &mut self,
-        alloc: Global,
-        event: Event,
-        board: &mut Plain,
-        text: &mut String,
-    ) -> Result<bool, AllocError>
-        ensures { IfOk result (λ done. (answer : Result Reply Refusal) × (is_ok answer ≡ done)
-            × Steps (policies Q.R.discipline) self.old board.old event answer self.new board.new × (string_bytes text.new ≡ string_bytes text.old ++ event_line answer)) }
+    fn step(&mut self, alloc: Global, event: Event, board: &mut Plain) -> Result<Reply, Refusal>
+        ensures { Advances (policies Q.R.discipline) self.old board.old event result self.new board.new }
     {
         match &mut self.core {
-            Cores::One(core) => answer(core, alloc, event, board, text),
-            Cores::Two(core) => answer(core, alloc, event, board, text),
-            Cores::Four(core) => answer(core, alloc, event, board, text),
-            Cores::Eight(core) => answer(core, alloc, event, board, text),
-            Cores::Sixteen(core) => answer(core, alloc, event, board, text),
-            Cores::ThirtyTwo(core) => answer(core, alloc, event, board, text),
-            Cores::SixtyFour(core) => answer(core, alloc, event, board, text),
+            Cores::One(core) => step(core, alloc, event, board),
+            Cores::Two(core) => step(core, alloc, event, board),
+            Cores::Four(core) => step(core, alloc, event, board),
+            Cores::Eight(core) => step(core, alloc, event, board),
+            Cores::Sixteen(core) => step(core, alloc, event, board),
+            Cores::ThirtyTwo(core) => step(core, alloc, event, board),
+            Cores::SixtyFour(core) => step(core, alloc, event, board),
         }
     }
 
-    fn show(&self, text: &mut String, processor: u8) -> Result<(), AllocError>
-        ensures { OnOk result (string_bytes text.new ≡ string_bytes text.old ++ show_line self.now processor) }
+    fn cpu(&self, number: u8) -> Option<&Cpu<Q>>
+        ensures { option_map (λ (c : Bor Processor). c.now) result ≡ processor_in self.now number }
     {
         match &self.core {
-            Cores::One(core) => show(core, text, processor),
-            Cores::Two(core) => show(core, text, processor),
-            Cores::Four(core) => show(core, text, processor),
-            Cores::Eight(core) => show(core, text, processor),
-            Cores::Sixteen(core) => show(core, text, processor),
-            Cores::ThirtyTwo(core) => show(core, text, processor),
-            Cores::SixtyFour(core) => show(core, text, processor),
+            Cores::One(core) => cpu(core, number),
+            Cores::Two(core) => cpu(core, number),
+            Cores::Four(core) => cpu(core, number),
+            Cores::Eight(core) => cpu(core, number),
+            Cores::Sixteen(core) => cpu(core, number),
+            Cores::ThirtyTwo(core) => cpu(core, number),
+            Cores::SixtyFour(core) => cpu(core, number),
         }
     }
 }
 
-/// Does an event and adds the line that answers it. True where it was not refused.
-fn answer<Q: RunQueue, const P: usize>(
+/// Does an event.
+fn step<Q: RunQueue, const P: usize>(
     core: &mut Core<Q, P>,
     alloc: Global,
     event: Event,
     board: &mut Plain,
-    text: &mut String,
-) -> Result<bool, AllocError>
-    ensures { IfOk result (λ done. (answer : Result Reply Refusal) × (is_ok answer ≡ done)
-        × Steps (policies Q.R.discipline) core.old board.old event answer core.new board.new × (string_bytes text.new ≡ string_bytes text.old ++ event_line answer)) }
+) -> Result<Reply, Refusal>
+    ensures { Advances (policies Q.R.discipline) core.old board.old event result core.new board.new }
 {
-    let answer = core.step(alloc, event, board);
-    if let Err(Refusal::OutOfMemory) = answer {
-        return Err(AllocError);
-    }
-    write_answer(text, &answer)?;
-    Ok(answer.is_ok())
+    core.step(alloc, event, board)
 }
 
-/// Adds the line that shows a processor, or refuses it.
-fn show<Q: RunQueue, const P: usize>(
-    core: &Core<Q, P>,
-    text: &mut String,
-    processor: u8,
-) -> Result<(), AllocError>
-    ensures { OnOk result (string_bytes text.new ≡ string_bytes text.old ++ show_line core.now processor) }
+/// A processor, if the core has it.
+fn cpu<Q: RunQueue, const P: usize>(core: &Core<Q, P>, number: u8) -> Option<&Cpu<Q>>
+    ensures { option_map (λ (c : Bor Processor). c.now) result ≡ processor_in core.now number }
 {
-    if usize::from(processor) >= core.processors() {
-        return write_refusal(text, Refusal::NoProcessor);
+    if usize::from(number) >= core.processors() {
+        return None;
     }
-    write_processor(text, processor, core.cpu(processor))
+    Some(core.cpu(number))
+}
+
+/// A processor under the rule of its machine, as it stands now.
+#[derive(Clone, Copy)]
+pub enum Seen<'a> {
+    /// Under CFS.
+    Cfs(&'a Cpu<CfsQueue>),
+    /// Under EEVDF.
+    Eevdf(&'a Cpu<EevdfQueue>),
 }
 
 /// A core under each rule.
@@ -173,7 +163,8 @@ impl Model for Machine {
 }
 
 impl Machine {
-    ghost use Rattle.bq_trace.specs.Doing.{DoesAndAnswers};
+    ghost use Rattle.bq_trace.specs.Telling.{Moves};
+    ghost use Rattle.bq_trace.specs.Seeing.{seen_in};
 
     /// A machine to which nothing has happened.
     pub fn new(alloc: Global, rule: Rule, size: Size) -> Result<Machine, AllocError>
@@ -189,38 +180,47 @@ impl Machine {
         })
     }
 
-    /// Does an event and adds the line that answers it. True where it was not refused.
-    pub fn answer(
-        &mut self,
-        alloc: Global,
-        event: Event,
-        text: &mut String,
-    ) -> Result<bool, AllocError>
-        ensures { IfOk result (λ done. (answer : Result Reply Refusal) × (is_ok answer ≡ done)
-            × Adds (string_bytes text.old) (string_bytes text.new) (λ line. DoesAndAnswers self.old event answer line self.new)) }
+    /// The rule of its processors.
+    pub fn rule(&self) -> Rule
+        ensures { result ≡ self.now.rule }
     {
-        match &mut self.core {
-            Ruled::Cfs(core) => core.answer(alloc, event, &mut self.board, text),
-            Ruled::Eevdf(core) => core.answer(alloc, event, &mut self.board, text),
+        match &self.core {
+            Ruled::Cfs(_) => Rule::Cfs,
+            Ruled::Eevdf(_) => Rule::Eevdf,
         }
     }
 
-    /// Adds the line that shows a counter.
-    pub fn show_counter(&self, text: &mut String, counter: u8) -> Result<(), AllocError>
-        requires { counter < 64 }
-        ensures { OnOk result (string_bytes text.new ≡ string_bytes text.old ++ counter_line counter (slice_index self.now.counters counter)) }
+    /// Does an event.
+    pub fn step(&mut self, alloc: Global, event: Event) -> Result<Reply, Refusal>
+        ensures { Moves self.old event result self.new }
     {
-        let value = self.board.value(counter);
-        write!(text, "counter {counter} {value}\n")
+        match &mut self.core {
+            Ruled::Cfs(core) => core.step(alloc, event, &mut self.board),
+            Ruled::Eevdf(core) => core.step(alloc, event, &mut self.board),
+        }
     }
 
-    /// Adds the line that shows a processor, or refuses it.
-    pub fn show(&self, text: &mut String, processor: u8) -> Result<(), AllocError>
-        ensures { OnOk result (string_bytes text.new ≡ string_bytes text.old ++ show_line self.now.world processor) }
+    /// The value of a counter.
+    pub fn counter(&self, counter: u8) -> u64
+        requires { counter < 64 }
+        ensures { result ≡ slice_index self.now.counters counter }
+    {
+        self.board.value(counter)
+    }
+
+    /// A processor as it stands now, if the machine has it.
+    pub fn seen(&self, processor: u8) -> Option<Seen<'_>>
+        ensures { option_map seen_of result ≡ seen_in self.now processor }
     {
         match &self.core {
-            Ruled::Cfs(core) => core.show(text, processor),
-            Ruled::Eevdf(core) => core.show(text, processor),
+            Ruled::Cfs(core) => match core.cpu(processor) {
+                Some(cpu) => Some(Seen::Cfs(cpu)),
+                None => None,
+            },
+            Ruled::Eevdf(core) => match core.cpu(processor) {
+                Some(cpu) => Some(Seen::Eevdf(cpu)),
+                None => None,
+            },
         }
     }
 }

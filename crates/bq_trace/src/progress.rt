@@ -1,49 +1,91 @@
-//! What each line of a trace does, and what answers it.
-ghost use Rattle.std.specs.Prelude.{◌≡◌, IfOk, OnOk, string_bytes};
-ghost use Rattle.bq_trace.specs.Trace.{Answers};
-ghost use Rattle.bq_trace.specs.Writing.{Adds};
+//! What each line of a trace does, and what comes of it.
+ghost use Rattle.std.specs.Prelude.{◌≡◌, ◌↔◌, IsTrue, ℕ, List, Result, Err, is_ok, IfOk, OnOk};
+ghost use Rattle.std.specs.Borrow.{Bor};
+ghost use Rattle.std.specs.Option.{option_map};
+ghost use Rattle.bq_parts.specs.declared.reply.Reply.{Reply};
+ghost use Rattle.bq_parts.specs.declared.refusal.Refusal.{Refusal};
+ghost use Rattle.bq_parts.specs.declared.refusal.Refusal.TheVariants as no;
+ghost use Rattle.bq_trace.specs.News.{Gets};
+ghost use Rattle.bq_trace.specs.Telling.{Happens, WakeHappens, Tells};
 
-use crate::command::{Command, Reading};
+use crate::bare::bare;
 use crate::machine::Machine;
-use crate::texts::write_bad;
-use bq_core::Event;
+use crate::sink::Sink;
+use crate::telling;
+use bq_core::{Event, Refusal, Reply};
+use bq_lines::{Command, Reading, read_heard};
 use std::alloc::{AllocError, Global};
 
-impl Machine {
-    ghost use Rattle.bq_trace.specs.Trace.{Wakes};
+/// Whether memory was wanted for an event.
+fn is_out_of_memory(answer: &Result<Reply, Refusal>) -> bool
+    ensures { IsTrue result ↔ (answer.now ≡ Err no.OutOfMemory) }
+{
+    match answer {
+        Err(Refusal::OutOfMemory) => true,
+        _ => false,
+    }
+}
 
-    /// Begins a wake, and ends it unless that was refused.
-    fn wake(
+impl Machine {
+    /// Does an event, and tells it before and after. True where it was not refused.
+    pub fn happen<S: Sink>(
         &mut self,
         alloc: Global,
+        number: u64,
+        event: Event,
+        sink: &mut S,
+    ) -> Result<bool, AllocError>
+        ensures { IfOk result (λ done. (answer : Result Reply Refusal) × (is_ok answer ≡ done)
+            × Gets S.takes sink.old sink.new (λ told. Happens self.old number event answer told self.new)) }
+    {
+        let told = bare(&event);
+        sink.comes(number, &told, self)?;
+        let answer = self.step(alloc, event);
+        if is_out_of_memory(&answer) {
+            return Err(AllocError);
+        }
+        sink.answered(number, &told, &answer, self)?;
+        Ok(answer.is_ok())
+    }
+
+    /// Begins a wake, and ends it unless that was refused.
+    fn wake<S: Sink>(
+        &mut self,
+        alloc: Global,
+        number: u64,
         processor: u8,
         task: u16,
         now: u64,
-        text: &mut String,
+        sink: &mut S,
     ) -> Result<(), AllocError>
-        ensures { OnOk result (Adds (string_bytes text.old) (string_bytes text.new) (λ lines. Wakes self.old processor task now lines self.new)) }
+        ensures { OnOk result (Gets S.takes sink.old sink.new (λ told. WakeHappens self.old number processor task now told self.new)) }
     {
-        let begun = self.answer(alloc, Event::BeginWake { processor, task }, text)?;
+        let begun = self.happen(alloc, number, Event::BeginWake { processor, task }, sink)?;
         if begun {
-            self.answer(alloc, Event::EndWake { processor, now }, text)?;
+            self.happen(alloc, number, Event::EndWake { processor, now }, sink)?;
         }
         Ok(())
     }
 
-    /// Does what the line of this number says and adds what answers it. True where the line is bad.
-    fn obey(
+    /// Does what the line of this number says and tells what comes of it. True where the line is bad.
+    fn obey<S: Sink>(
         &mut self,
         alloc: Global,
-        reading: Reading,
         number: u64,
-        text: &mut String,
+        line: Option<&[u8]>,
+        reading: Reading,
+        sink: &mut S,
     ) -> Result<bool, AllocError>
-        ensures { IfOk result (λ bad. Adds (string_bytes text.old) (string_bytes text.new) (λ line. Answers (Phase.Running self.old) reading number line (Phase.Running self.new) bad)) }
+        ensures { IfOk result (λ bad. Gets S.takes sink.old sink.new
+            (λ told. Tells (Phase.Running self.old) number (option_map (λ (l : Bor (List ℕ)). l.now) line.entry) reading told (Phase.Running self.new) bad)) }
     {
         match reading {
-            Reading::Skipped => Ok(false),
+            Reading::Skipped => {
+                telling::skip(number, line, sink)?;
+                Ok(false)
+            }
             Reading::Says(Command::Does(event)) => {
-                self.answer(alloc, event, text)?;
+                self.happen(alloc, number, event, sink)?;
                 Ok(false)
             }
             Reading::Says(
@@ -53,7 +95,7 @@ impl Machine {
                     now,
                 },
             ) => {
-                self.wake(alloc, processor, task, now, text)?;
+                self.wake(alloc, number, processor, task, now, sink)?;
                 Ok(false)
             }
             Reading::Says(
@@ -64,23 +106,23 @@ impl Machine {
                     image,
                 },
             ) => {
-                self.install_image(alloc, processor, hook, generation, &image, text)?;
+                self.install_image(alloc, number, processor, hook, generation, &image, sink)?;
                 Ok(false)
             }
             Reading::Says(Command::Counter { counter }) => {
                 if counter >= 64 {
-                    write_bad(text, number)?;
+                    telling::call_bad(number, line, sink)?;
                     return Ok(true);
                 }
-                self.show_counter(text, counter)?;
+                telling::count(number, counter, self.counter(counter), sink)?;
                 Ok(false)
             }
             Reading::Says(Command::Show { processor }) => {
-                self.show(text, processor)?;
+                telling::show(number, processor, self, sink)?;
                 Ok(false)
             }
             Reading::Bad | Reading::Says(Command::Machine { .. }) => {
-                write_bad(text, number)?;
+                telling::call_bad(number, line, sink)?;
                 Ok(true)
             }
         }
@@ -98,24 +140,30 @@ pub enum Phase {
     Running(Machine),
 }
 
-/// Where a trace stands after the line of this number, which may be its machine line; adds what answers it. True where the
-/// line is bad.
-fn first_phase(
+/// Where a trace stands after the line of this number, which may be its machine line; tells what comes of it. True where
+/// the line is bad.
+fn first_phase<S: Sink>(
     alloc: Global,
-    reading: Reading,
     number: u64,
-    text: &mut String,
+    line: Option<&[u8]>,
+    reading: Reading,
+    sink: &mut S,
 ) -> Result<(Phase, bool), AllocError>
-    ensures { IfOk result (λ first. Adds (string_bytes text.old) (string_bytes text.new) (λ line. Answers Phase.Waiting reading number line first.0 first.1)) }
+    ensures { IfOk result (λ first. Gets S.takes sink.old sink.new
+        (λ told. Tells Phase.Waiting number (option_map (λ (l : Bor (List ℕ)). l.now) line.entry) reading told first.0 first.1)) }
 {
     match reading {
-        Reading::Skipped => Ok((Phase::Waiting, false)),
+        Reading::Skipped => {
+            telling::skip(number, line, sink)?;
+            Ok((Phase::Waiting, false))
+        }
         Reading::Says(Command::Machine { rule, size }) => {
             let machine = Machine::new(alloc, rule, size)?;
+            telling::open(number, rule, size, sink)?;
             Ok((Phase::Running(machine), false))
         }
         _ => {
-            write_bad(text, number)?;
+            telling::call_bad(number, line, sink)?;
             Ok((Phase::Over, true))
         }
     }
@@ -126,34 +174,38 @@ impl Phase {
     ///
     /// A machine is large, and room for it is made here: so this stands apart from what each line goes through.
     #[inline(never)]
-    fn begin(
+    fn begin<S: Sink>(
         &mut self,
         alloc: Global,
-        reading: Reading,
         number: u64,
-        text: &mut String,
+        line: Option<&[u8]>,
+        reading: Reading,
+        sink: &mut S,
     ) -> Result<bool, AllocError>
-        ensures { IfOk result (λ bad. Adds (string_bytes text.old) (string_bytes text.new) (λ line. Answers Phase.Waiting reading number line self.new bad)) }
+        ensures { IfOk result (λ bad. Gets S.takes sink.old sink.new
+            (λ told. Tells Phase.Waiting number (option_map (λ (l : Bor (List ℕ)). l.now) line.entry) reading told self.new bad)) }
     {
-        let (phase, bad) = first_phase(alloc, reading, number, text)?;
+        let (phase, bad) = first_phase(alloc, number, line, reading, sink)?;
         *self = phase;
         Ok(bad)
     }
 
-    /// Does what the line of this number says and adds what answers it. True where the line is bad.
-    fn answer(
+    /// Does what the line of this number says and tells what comes of it. True where the line is bad.
+    fn answer<S: Sink>(
         &mut self,
         alloc: Global,
-        reading: Reading,
         number: u64,
-        text: &mut String,
+        line: Option<&[u8]>,
+        reading: Reading,
+        sink: &mut S,
     ) -> Result<bool, AllocError>
-        ensures { IfOk result (λ bad. Adds (string_bytes text.old) (string_bytes text.new) (λ line. Answers self.old reading number line self.new bad)) }
+        ensures { IfOk result (λ bad. Gets S.takes sink.old sink.new
+            (λ told. Tells self.old number (option_map (λ (l : Bor (List ℕ)). l.now) line.entry) reading told self.new bad)) }
     {
         match self {
             Phase::Over => Ok(false),
-            Phase::Waiting => self.begin(alloc, reading, number, text),
-            Phase::Running(machine) => machine.obey(alloc, reading, number, text),
+            Phase::Waiting => self.begin(alloc, number, line, reading, sink),
+            Phase::Running(machine) => machine.obey(alloc, number, line, reading, sink),
         }
     }
 }
@@ -170,7 +222,8 @@ pub struct Progress {
 }
 
 impl Progress {
-    ghost use Rattle.bq_trace.specs.Trace.{AnswersReading, start};
+    ghost use Rattle.bq_trace.specs.Trace.{start};
+    ghost use Rattle.bq_trace.specs.Telling.{TellsHeard};
 
     /// Before the first line.
     pub fn start() -> Progress
@@ -183,17 +236,20 @@ impl Progress {
         }
     }
 
-    /// Does what the next line says and adds what answers it. After an `Err` the state is of no use.
-    pub fn answer(
+    /// Does what the next line says, of which so much is heard, and tells what comes of it. After an `Err` the state is of
+    /// no use.
+    pub fn answer<S: Sink>(
         &mut self,
         alloc: Global,
-        reading: Reading,
-        text: &mut String,
+        line: Option<&[u8]>,
+        sink: &mut S,
     ) -> Result<(), AllocError>
-        ensures { OnOk result (Adds (string_bytes text.old) (string_bytes text.new) (λ line. AnswersReading self.old reading line self.new)) }
+        ensures { OnOk result (Gets S.takes sink.old sink.new
+            (λ told. TellsHeard self.old (option_map (λ (l : Bor (List ℕ)). l.now) line.entry) told self.new)) }
     {
+        let reading = read_heard(alloc, line)?;
         self.line = self.line.saturating_add(1);
-        let bad = self.phase.answer(alloc, reading, self.line, text)?;
+        let bad = self.phase.answer(alloc, self.line, line, reading, sink)?;
         self.clean = self.clean && !bad;
         Ok(())
     }

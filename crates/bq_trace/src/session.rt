@@ -2,7 +2,7 @@
 ghost use Rattle.std.specs.Prelude.{◌≡◌, ℕ, List, [], IfOk, IfErr, OnOk, OnErr, Some};
 ghost use Rattle.bq_trace.specs.Counts.{inner_of, failures_of};
 ghost use Rattle.bq_trace.specs.Faults.{IsWriteFault};
-ghost use Rattle.bq_trace.specs.Kept.{StandsFor};
+ghost use Rattle.bq_lines.specs.Kept.{StandsFor};
 
 use crate::counted::Counted;
 use crate::fault::ReplayFault;

@@ -1,9 +1,11 @@
 //! The line that shows a processor.
 ghost use Rattle.std.specs.Prelude.{◌≡◌, ◌++◌, Some, OnOk, string_bytes};
 ghost use Rattle.std.specs.Option.{option_map};
-ghost use Rattle.bq_trace.specs.Texts.{entity_text, current_text, spaced_entities, processor_line};
+ghost use Rattle.bq_trace.specs.Texts.{entity_text, current_text, spaced_entities, processor_line, show_line};
 
-use bq_core::Cpu;
+use crate::machine::{Machine, Seen};
+use crate::texts::write_refusal;
+use bq_core::{Cpu, Refusal};
 use bq_disc::{Entity, RunQueue};
 use std::alloc::AllocError;
 use std::fmt;
@@ -50,7 +52,7 @@ fn write_queue<Q: RunQueue>(text: &mut String, cpu: &Cpu<Q>) -> Result<(), Alloc
 }
 
 /// Adds the line that shows a processor.
-pub fn write_processor<Q: RunQueue>(
+fn write_processor<Q: RunQueue>(
     text: &mut String,
     processor: u8,
     cpu: &Cpu<Q>,
@@ -63,4 +65,15 @@ pub fn write_processor<Q: RunQueue>(
     text.push_str(" queue")?;
     write_queue(text, cpu)?;
     text.push_str("\n")
+}
+
+/// Adds the line that shows a processor of a machine, or refuses it.
+pub fn write_shown(text: &mut String, processor: u8, machine: &Machine) -> Result<(), AllocError>
+    ensures { OnOk result (string_bytes text.new ≡ string_bytes text.old ++ show_line machine.now.world processor) }
+{
+    match machine.seen(processor) {
+        None => write_refusal(text, Refusal::NoProcessor),
+        Some(Seen::Cfs(cpu)) => write_processor(text, processor, cpu),
+        Some(Seen::Eevdf(cpu)) => write_processor(text, processor, cpu),
+    }
 }

@@ -1,11 +1,12 @@
 //! Where a replay stands in a trace.
-ghost use Rattle.std.specs.Prelude.{◌≡◌, ◌++◌, ℕ, List, [], OnOk, Some, string_bytes};
+ghost use Rattle.std.specs.Prelude.{◌≡◌, ◌++◌, ℕ, List, [], OnOk, Some};
 ghost use Rattle.std.specs.Str.Lines.{lines, strip_carriage_return};
-ghost use Rattle.bq_trace.specs.Kept.{IsOneLine, StandsFor};
-ghost use Rattle.bq_trace.specs.Writing.{Adds};
+ghost use Rattle.bq_lines.specs.Kept.{IsOneLine, StandsFor};
+ghost use Rattle.bq_trace.specs.News.{Gets};
 
-use crate::begun::{Begun, first_line};
 use crate::progress::Progress;
+use crate::sink::Sink;
+use bq_lines::begun::{Begun, first_line, heard, without_cr};
 use std::alloc::{AllocError, Global};
 
 /// Where a replay stands: after some lines, and in a line that has begun.
@@ -18,8 +19,8 @@ pub struct Standing {
 }
 
 impl Standing {
-    ghost use Rattle.bq_trace.specs.Trace.{start, AnswersLine, Chain};
-    ghost use Rattle.bq_trace.specs.Feeding.{Continues};
+    ghost use Rattle.bq_trace.specs.Trace.{start};
+    ghost use Rattle.bq_trace.specs.Telling.{TellsLine, Story, GoesOn};
 
     /// Before the first byte. The line that has begun is kept in memory from `alloc`.
     pub fn new(alloc: Global) -> Standing
@@ -32,45 +33,53 @@ impl Standing {
         }
     }
 
-    /// The line that has begun ends with these bytes and a line feed. Adds what answers it.
-    fn end_line(&mut self, alloc: Global, tail: &[u8], text: &mut String) -> Result<(), AllocError>
+    /// The line that has begun ends with these bytes and a line feed. Tells what comes of it.
+    fn end_line<S: Sink>(
+        &mut self,
+        alloc: Global,
+        tail: &[u8],
+        sink: &mut S,
+    ) -> Result<(), AllocError>
         requires { IsOneLine tail.now }
-        ensures answered { OnOk result ((line : List ℕ) → StandsFor self.old.begun line
-            → Adds (string_bytes text.old) (string_bytes text.new) (λ piece. AnswersLine self.old.progress (strip_carriage_return (line ++ tail.now)) piece self.new.progress)) }
+        ensures told { OnOk result ((line : List ℕ) → StandsFor self.old.begun line
+            → Gets S.takes sink.old sink.new (λ told. TellsLine self.old.progress (strip_carriage_return (line ++ tail.now)) told self.new.progress)) }
         ensures cleared { OnOk result (self.new.begun ≡ Some []) }
     {
-        let reading = self.begun.end(alloc, tail)?;
-        self.progress.answer(alloc, reading, text)
+        if self.begun.is_empty() {
+            return self.progress.answer(alloc, heard(without_cr(tail)), sink);
+        }
+        self.begun.extend(tail)?;
+        self.progress.answer(alloc, self.begun.ended(), sink)?;
+        self.begun.clear();
+        Ok(())
     }
 
-    /// The trace goes on with this piece. Adds what answers the lines that it ends.
-    pub fn go_on(
+    /// The trace goes on with this piece. Tells what comes of the lines that it ends.
+    pub fn go_on<S: Sink>(
         &mut self,
         alloc: Global,
         piece: &[u8],
-        text: &mut String,
+        sink: &mut S,
     ) -> Result<(), AllocError>
         ensures { OnOk result ((begun : List ℕ) → StandsFor self.old.begun begun
-            → Adds (string_bytes text.old) (string_bytes text.new) (λ answers. Continues self.old begun piece.now answers self.new)) }
+            → Gets S.takes sink.old sink.new (λ told. GoesOn self.old begun piece.now told self.new)) }
     {
         let mut rest = piece;
         while let Some((tail, more)) = first_line(rest) {
-            self.end_line(alloc, tail, text)?;
+            self.end_line(alloc, tail, sink)?;
             rest = more;
         }
         self.begun.extend(rest)
     }
 
-    /// The trace ends here. Adds what answers the line that has begun.
-    pub fn end(&mut self, alloc: Global, text: &mut String) -> Result<(), AllocError>
+    /// The trace ends here. Tells what comes of the line that has begun.
+    pub fn end<S: Sink>(&mut self, alloc: Global, sink: &mut S) -> Result<(), AllocError>
         ensures { OnOk result ((begun : List ℕ) → StandsFor self.old.begun begun
-            → Adds (string_bytes text.old) (string_bytes text.new) (λ answers. Chain self.old.progress (lines begun) answers self.new.progress)) }
+            → Gets S.takes sink.old sink.new (λ told. Story self.old.progress (lines begun) told self.new.progress)) }
     {
         if self.begun.is_empty() {
             return Ok(());
         }
-        let reading = self.begun.last(alloc)?;
-        self.progress.answer(alloc, reading, text)?;
-        Ok(())
+        self.progress.answer(alloc, self.begun.last(), sink)
     }
 }

@@ -1,6 +1,6 @@
 //! The lines that a trace is answered by.
 ghost use Rattle.std.specs.Prelude.{◌≡◌, ◌++◌, Some, OnOk, Ok, Err, string_bytes};
-ghost use Rattle.bq_trace.specs.Texts.{task_text, who_text, spaced, event_line, bad_line};
+ghost use Rattle.bq_trace.specs.Texts.{task_text, who_text, spaced, event_line, bad_line, counter_line};
 
 use bq_core::{By, Refusal, Reply};
 use std::alloc::AllocError;
@@ -143,4 +143,11 @@ pub fn write_bad(text: &mut String, number: u64) -> Result<(), AllocError>
     ensures { OnOk result (string_bytes text.new ≡ string_bytes text.old ++ bad_line number) }
 {
     write!(text, "bad {number}\n")
+}
+
+/// Adds the line that shows a counter.
+pub fn write_counter(text: &mut String, counter: u8, value: u64) -> Result<(), AllocError>
+    ensures { OnOk result (string_bytes text.new ≡ string_bytes text.old ++ counter_line counter value) }
+{
+    write!(text, "counter {counter} {value}\n")
 }

@@ -1,13 +1,16 @@
 use Rattle.std.proofs.Common.{ℕ, List, [], subst}
 use Rattle.std.specs.Prelude.{string_bytes}
 use Rattle.std.specs.Str.Lines.{lines}
+use Rattle.std.specs.Io.KnownBytes.{Appends}
 use Rattle.bq_trace.specs.Counts.{inner_of}
-use Rattle.bq_trace.specs.Kept.{StandsFor}
+use Rattle.bq_lines.specs.Kept.{StandsFor}
 use Rattle.bq_trace.specs.Trace.{Chain}
 use Rattle.bq_trace.specs.Writing.{Adds, AppendsPart}
-use Rattle.bq_trace.specs.Feeding.{BreaksOff}
+use Rattle.bq_trace.specs.Feeding.{BreaksOff, Finishes}
+use Rattle.bq_trace.specs.Telling.{Story}
 use Rattle.bq_trace.specs.declared.standing.Standing.{Standing}
-use Rattle.bq_trace.proofs.SessionLemmas.{on_err, feeds_none, finishes_part}
+use Rattle.bq_trace.proofs.StoryTexts.{gets_text, story_text}
+use Rattle.bq_trace.proofs.SessionLemmas.{on_err, feeds_none, finishes_part, finishes_all}
 use Rattle.bq_trace.proofs.session.Session.end.Goals as goal
 
 pub returns-in_err-end-clause-part : goal.returns-in_err-end-clause-part
@@ -21,12 +24,32 @@ pub returns-in_err-write_text-clause-part : goal.returns-in_err-write_text-claus
 returns-in_err-write_text-clause-part g c =
     let old = g.W.Write.contents (inner_of c.args.out.now) in
     let new = g.W.Write.contents (inner_of c.write_text.new.self) in
-    let answers = string_bytes c.end.new.text in
+    let answers = string_bytes c.end.new.sink in
+    let s = c.self.inside.standing in
+    let t = c.end.new.self in
     let written : AppendsPart old new answers = rw c.as_bytes.ensures.value at c.in_err-write_text.ensures.part in
     let on = c.in_ok-end.ensures in
-    let part : (begun : List ℕ) → StandsFor c.self.inside.standing.begun begun → BreaksOff c.self.inside.standing begun [] old new =
+    let all : (begun : List ℕ) → StandsFor s.begun begun → BreaksOff s begun [] old new =
     λ begun h.
-    let added : Adds [] answers (λ l. Chain c.self.inside.standing.progress (lines begun) l c.end.new.self.progress) = rw c.clear.ensures.bytes at (on begun h) in
-    finishes_part c.self.inside.standing c.end.new.self begun answers old new added written
+    let told : Adds (string_bytes c.clear.new.self) answers (λ l. Chain s.progress (lines begun) l t.progress) = gets_text string_bytes c.clear.new.self c.end.new.sink (λ told. Story s.progress (lines begun) told t.progress) (λ l. Chain s.progress (lines begun) l t.progress) (story_text s.progress t.progress (lines begun)) (on begun h) in
+    let added : Adds [] answers (λ l. Chain s.progress (lines begun) l t.progress) = rw c.clear.ensures.bytes at told in
+    finishes_part s t begun answers old new added written
     in
-    on_err _ (subst (λ (s : Standing). (begun : List ℕ) → StandsFor s.begun begun → BreaksOff s begun [] old new) c.self.view_is part)
+    on_err _ (subst (λ (s : Standing). (begun : List ℕ) → StandsFor s.begun begun → BreaksOff s begun [] old new) c.self.view_is all)
+
+pub returns-clause-ok : goal.returns-clause-ok
+returns-clause-ok g c =
+    let old = g.W.Write.contents (inner_of c.args.out.now) in
+    let new = g.W.Write.contents (inner_of c.write_text.new.self) in
+    let answers = string_bytes c.end.new.sink in
+    let s = c.self.inside.standing in
+    let t = c.end.new.self in
+    let written : Appends old new answers = rw c.as_bytes.ensures.value at c.in_ok-write_text.ensures.whole in
+    let on = c.in_ok-end.ensures in
+    let all : (begun : List ℕ) → StandsFor s.begun begun → Finishes s begun old new t.progress.clean =
+    λ begun h.
+    let told : Adds (string_bytes c.clear.new.self) answers (λ l. Chain s.progress (lines begun) l t.progress) = gets_text string_bytes c.clear.new.self c.end.new.sink (λ told. Story s.progress (lines begun) told t.progress) (λ l. Chain s.progress (lines begun) l t.progress) (story_text s.progress t.progress (lines begun)) (on begun h) in
+    let added : Adds [] answers (λ l. Chain s.progress (lines begun) l t.progress) = rw c.clear.ensures.bytes at told in
+    finishes_all s t begun answers old new added written
+    in
+    subst (λ (s : Standing). (begun : List ℕ) → StandsFor s.begun begun → Finishes s begun old new t.progress.clean) c.self.view_is all

@@ -1,11 +1,14 @@
 use Rattle.std.proofs.Common.{ℕ, List, [], subst}
 use Rattle.std.specs.Prelude.{string_bytes}
+use Rattle.std.specs.Io.KnownBytes.{Appends}
 use Rattle.bq_trace.specs.Counts.{inner_of}
-use Rattle.bq_trace.specs.Kept.{StandsFor}
+use Rattle.bq_lines.specs.Kept.{StandsFor}
 use Rattle.bq_trace.specs.Writing.{Adds, AppendsPart}
-use Rattle.bq_trace.specs.Feeding.{Continues, BreaksOff}
+use Rattle.bq_trace.specs.Feeding.{Continues, Feeds, BreaksOff}
+use Rattle.bq_trace.specs.Telling.{GoesOn}
 use Rattle.bq_trace.specs.declared.standing.Standing.{Standing}
-use Rattle.bq_trace.proofs.SessionLemmas.{on_err, feeds_none, feeds_part}
+use Rattle.bq_trace.proofs.StoryTexts.{gets_text, goes_on_text}
+use Rattle.bq_trace.proofs.SessionLemmas.{on_err, feeds_none, feeds_part, feeds_all}
 use Rattle.bq_trace.proofs.session.Session.go_on.Goals as goal
 
 pub returns-in_err-go_on-clause-part : goal.returns-in_err-go_on-clause-part
@@ -20,12 +23,33 @@ returns-in_err-write_text-clause-part g c =
     let piece = c.args.piece.now in
     let old = g.W.Write.contents (inner_of c.args.out.now) in
     let new = g.W.Write.contents (inner_of c.write_text.new.self) in
-    let answers = string_bytes c.go_on.new.text in
+    let answers = string_bytes c.go_on.new.sink in
+    let s = c.self.inside.standing in
+    let t = c.go_on.new.self in
     let written : AppendsPart old new answers = rw c.as_bytes.ensures.value at c.in_err-write_text.ensures.part in
     let on = c.in_ok-go_on.ensures in
-    let part : (begun : List ℕ) → StandsFor c.self.inside.standing.begun begun → BreaksOff c.self.inside.standing begun piece old new =
+    let all : (begun : List ℕ) → StandsFor s.begun begun → BreaksOff s begun piece old new =
     λ begun h.
-    let added : Adds [] answers (λ l. Continues c.self.inside.standing begun piece l c.go_on.new.self) = rw c.clear.ensures.bytes at (on begun h) in
-    feeds_part c.self.inside.standing c.go_on.new.self begun piece answers old new added written
+    let told : Adds (string_bytes c.clear.new.self) answers (λ l. Continues s begun piece l t) = gets_text string_bytes c.clear.new.self c.go_on.new.sink (λ told. GoesOn s begun piece told t) (λ l. Continues s begun piece l t) (goes_on_text s t begun piece) (on begun h) in
+    let added : Adds [] answers (λ l. Continues s begun piece l t) = rw c.clear.ensures.bytes at told in
+    feeds_part s t begun piece answers old new added written
     in
-    on_err _ (subst (λ (s : Standing). (begun : List ℕ) → StandsFor s.begun begun → BreaksOff s begun piece old new) c.self.view_is part)
+    on_err _ (subst (λ (s : Standing). (begun : List ℕ) → StandsFor s.begun begun → BreaksOff s begun piece old new) c.self.view_is all)
+
+pub returns-clause-ok : goal.returns-clause-ok
+returns-clause-ok g c =
+    let piece = c.args.piece.now in
+    let old = g.W.Write.contents (inner_of c.args.out.now) in
+    let new = g.W.Write.contents (inner_of c.write_text.new.self) in
+    let answers = string_bytes c.go_on.new.sink in
+    let s = c.self.inside.standing in
+    let t = c.go_on.new.self in
+    let written : Appends old new answers = rw c.as_bytes.ensures.value at c.in_ok-write_text.ensures.whole in
+    let on = c.in_ok-go_on.ensures in
+    let all : (begun : List ℕ) → StandsFor s.begun begun → Feeds s begun piece t old new =
+    λ begun h.
+    let told : Adds (string_bytes c.clear.new.self) answers (λ l. Continues s begun piece l t) = gets_text string_bytes c.clear.new.self c.go_on.new.sink (λ told. GoesOn s begun piece told t) (λ l. Continues s begun piece l t) (goes_on_text s t begun piece) (on begun h) in
+    let added : Adds [] answers (λ l. Continues s begun piece l t) = rw c.clear.ensures.bytes at told in
+    feeds_all s t begun piece answers old new added written
+    in
+    subst (λ (s : Standing). (begun : List ℕ) → StandsFor s.begun begun → Feeds s begun piece t old new) c.self.view_is all

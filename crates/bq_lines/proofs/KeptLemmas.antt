@@ -1,0 +1,54 @@
+-- What is heard of a line by what is kept of it.
+use Rattle.std.proofs.Common.{◌≡◌, ℕ, ◌+◌, ◌-◌, ◌<◌, ◌≤◌, List, length, take, refl, sym, Bool, true, false, cond, eqb, ltb, Some, None, arith}
+use Rattle.std.specs.Prelude.{slice_index}
+use Rattle.std.specs.Str.Lines.{strip_carriage_return}
+use Rattle.std.proofs.lemmas.Bool.Decides.{nat_tests}
+use Rattle.std.proofs.lemmas.Grind.{common_steps}
+use Rattle.bq_lines.specs.Kept.{StandsFor, heard}
+use Rattle.bq_lines.specs.Lines.{reading_of, reading_heard}
+use Rattle.bq_lines.specs.declared.command.Reading.TheVariants.{Bad}
+
+-- where nothing is kept the line is too long
+length_unkept : (line : List ℕ) → StandsFor None line → 131073 < length line
+length_unkept line h = unkept (length line) (ltb 131073 (length line)) refl h.kept_is
+  where
+    unkept : (n : ℕ) (b : Bool) → ltb 131073 n ≡ b → None ≡ cond b None (Some line) → 131073 < n
+    unkept n true e k = grind (arith, nat_tests)
+    unkept n false e k = cc
+
+-- where something is kept it is the line
+pub kept_whole : (bytes line : List ℕ) → StandsFor (Some bytes) line → bytes ≡ line
+kept_whole bytes line h = whole (ltb 131073 (length line)) h.kept_is
+  where
+    whole : (b : Bool) → Some bytes ≡ cond b None (Some line) → bytes ≡ line
+    whole true k = cc
+    whole false k = cc
+
+reading_of-long : (line : List ℕ) → ltb 131072 (length line) ≡ true → reading_of line ≡ Bad
+unfolding reading_of
+reading_of-long line e = rw e refl
+
+-- nothing is heard of a line that is too long
+heard-long : (line : List ℕ) → 131072 < length line → heard line ≡ None
+heard-long line long = let e : ltb 131072 (length line) ≡ true = grind (arith, nat_tests) in rw e refl
+
+length-strip : (line : List ℕ) → length line ≤ length (strip_carriage_return line) + 1
+length-strip line = stripped (eqb (slice_index line (length line - 1)) 13)
+  where
+    stripped : (b : Bool) → length line ≤ length (cond b (take (length line - 1) line) line) + 1
+    stripped true = grind (arith, common_steps)
+    stripped false = omega arith
+
+pub heard-unkept : (line : List ℕ) → StandsFor None line → heard line ≡ None
+heard-unkept line h = heard-long line (omega (arith, length_unkept line h))
+
+pub heard-strip_unkept : (line : List ℕ) → StandsFor None line → heard (strip_carriage_return line) ≡ None
+heard-strip_unkept line h = heard-long (strip_carriage_return line) (omega (arith, length_unkept line h, length-strip line))
+
+-- what is heard of a line says what the line says
+pub reading_heard-line : (line : List ℕ) → reading_heard (heard line) ≡ reading_of line
+reading_heard-line line = said (ltb 131072 (length line)) refl
+  where
+    said : (b : Bool) → ltb 131072 (length line) ≡ b → reading_heard (cond b None (Some line)) ≡ reading_of line
+    said true e = sym (reading_of-long line e)
+    said false e = refl

@@ -1,0 +1,4 @@
+pub mod AllowedLemmas
+pub mod KeptLemmas
+pub mod NumberLemmas
+pub mod WordLemmas

@@ -1,0 +1,138 @@
+//! The lines of a text that comes in pieces.
+ghost use Rattle.std.specs.Prelude.{◌≡◌, ◌↔◌, IsTrue, ◌+◌, ◌<◌, ◌==◌, ◌++◌, ◌∷◌, ℕ, List, [], length, take, drop, OnOk, OnErr, IfSome, IfNone, Some, None};
+ghost use Rattle.std.specs.Borrow.{Bor};
+ghost use Rattle.std.specs.Option.{option_map};
+ghost use Rattle.std.specs.Str.Lines.{strip_carriage_return};
+ghost use Rattle.bq_lines.specs.Kept.{IsOneLine, StandsFor, heard};
+
+use crate::lines::LONGEST;
+use std::alloc::{AllocError, Global};
+use std::marker::Model;
+
+/// One byte more than the longest line, for a CR at its end.
+const KEPT: usize = 131_073;
+
+/// What is kept of a line that has begun: its bytes, unless it is too long whatever ends it.
+#[derive(Drop)]
+pub struct Begun {
+    bytes: Vec<u8>,
+    is_too_long: bool,
+}
+
+impl Model for Begun {
+    ghost use Rattle.std.specs.Prelude.{ℕ, List, Option, Some, None, if◌then◌else◌, ◌≤◌, length};
+
+    ghost Value = { Option (List ℕ) };
+
+    ghost invariant = { λ b. length b.bytes.items ≤ 131073 };
+
+    ghost view = { λ b. if b.is_too_long then None else Some b.bytes.items };
+}
+
+impl Begun {
+    /// Nothing has begun.
+    pub fn new(alloc: Global) -> Begun
+        ensures { result ≡ Some [] }
+    {
+        Begun {
+            bytes: Vec::new(alloc),
+            is_too_long: false,
+        }
+    }
+
+    /// Whether nothing has begun.
+    pub fn is_empty(&self) -> bool
+        ensures kept { IsTrue result ↔ (self.now ≡ Some []) }
+        ensures line { (line : List ℕ) → StandsFor self.now line → result ≡ (length line == 0) }
+    {
+        !self.is_too_long && self.bytes.is_empty()
+    }
+
+    /// The line goes on with this piece. An `Err` changes nothing.
+    pub fn extend(&mut self, piece: &[u8]) -> Result<(), AllocError>
+        requires { IsOneLine piece.now }
+        ensures ok { OnOk result ((line : List ℕ) → StandsFor self.old line → StandsFor self.new (line ++ piece.now)) }
+        ensures err { OnErr result (self.new ≡ self.old) }
+    {
+        if self.is_too_long {
+            return Ok(());
+        }
+        if piece.len() > KEPT - self.bytes.len() {
+            self.is_too_long = true;
+            self.bytes.clear();
+            return Ok(());
+        }
+        self.bytes.extend_from_slice(piece)
+    }
+
+    /// What is heard of the line, where the text ends.
+    pub fn last(&self) -> Option<&[u8]>
+        ensures { (line : List ℕ) → StandsFor self.now line → option_map (λ (l : Bor (List ℕ)). l.now) result ≡ heard line }
+    {
+        if self.is_too_long {
+            None
+        } else {
+            heard(self.bytes.as_slice())
+        }
+    }
+
+    /// What is heard of the line, where a line feed ends it.
+    pub fn ended(&self) -> Option<&[u8]>
+        ensures { (line : List ℕ) → StandsFor self.now line → option_map (λ (l : Bor (List ℕ)). l.now) result ≡ heard (strip_carriage_return line) }
+    {
+        if self.is_too_long {
+            None
+        } else {
+            heard(without_cr(self.bytes.as_slice()))
+        }
+    }
+
+    /// Nothing has begun any more.
+    pub fn clear(&mut self)
+        ensures { self.new ≡ Some [] }
+    {
+        self.bytes.clear();
+        self.is_too_long = false;
+    }
+}
+
+/// What is heard of a line.
+pub fn heard(line: &[u8]) -> Option<&[u8]>
+    ensures { option_map (λ (l : Bor (List ℕ)). l.now) result ≡ heard line.now }
+{
+    if line.len() > LONGEST {
+        None
+    } else {
+        Some(line)
+    }
+}
+
+/// Where the first line feed is.
+fn line_feed(bytes: &[u8]) -> Option<usize>
+    ensures found { IfSome result (λ at. (at < length bytes.now) × IsOneLine (take at bytes.now)
+        × (bytes.now ≡ take at bytes.now ++ 10 ∷ drop (at + 1) bytes.now)) }
+    ensures none { IfNone result (IsOneLine bytes.now) }
+{
+    bytes.iter().position(|b| *b == b'\n')
+}
+
+/// The first line, and what follows its line feed.
+pub fn first_line(bytes: &[u8]) -> Option<(&[u8], &[u8])>
+    ensures found { IfSome result (λ p. (bytes.now ≡ p.0.now ++ 10 ∷ p.1.now) × IsOneLine p.0.now) }
+    ensures none { IfNone result (IsOneLine bytes.now) }
+{
+    match line_feed(bytes) {
+        Some(at) => Some((&bytes[..at], &bytes[at + 1..])),
+        None => None,
+    }
+}
+
+/// The line without the one CR at its end, if it has one.
+pub fn without_cr(line: &[u8]) -> &[u8]
+    ensures { result.now ≡ strip_carriage_return line.now }
+{
+    match line {
+        [front @ .., b'\r'] => front,
+        _ => line,
+    }
+}

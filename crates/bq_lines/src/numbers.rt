@@ -1,0 +1,69 @@
+//! The numbers that words write.
+ghost use Rattle.std.specs.Prelude.{◌≡◌, ◌≤◌};
+ghost use Rattle.bq_lines.specs.Numbers.{number_of, decimal_of, processor_of, task_of, mask_of, nice_of};
+
+/// The number that the word writes in this base.
+fn number(word: &[u8], base: u32) -> Option<u64>
+    requires low { 2 ≤ base }
+    requires high { base ≤ 36 }
+    ensures { result ≡ number_of base word.now }
+{
+    if word.is_empty() {
+        return None;
+    }
+    let mut value: u64 = 0;
+    for byte in word {
+        let digit = char::from(*byte).to_digit(base)?;
+        value = value
+            .checked_mul(u64::from(base))?
+            .checked_add(u64::from(digit))?;
+    }
+    Some(value)
+}
+
+/// A generation, a slice or a clock reading: decimal, below 2^64.
+pub fn decimal(word: &[u8]) -> Option<u64>
+    ensures { result ≡ decimal_of word.now }
+{
+    number(word, 10)
+}
+
+/// A processor or a counter: decimal, below 2^8.
+pub fn processor(word: &[u8]) -> Option<u8>
+    ensures { result ≡ processor_of word.now }
+{
+    u8::try_from(decimal(word)?).ok()
+}
+
+/// A task: decimal, below 2^16.
+pub fn task(word: &[u8]) -> Option<u16>
+    ensures { result ≡ task_of word.now }
+{
+    u16::try_from(decimal(word)?).ok()
+}
+
+/// A mask: decimal, or hex digits after `0x`, below 2^64.
+pub fn mask(word: &[u8]) -> Option<u64>
+    ensures { result ≡ mask_of word.now }
+{
+    match word.strip_prefix(b"0x") {
+        Some(digits) => number(digits, 16),
+        None => decimal(word),
+    }
+}
+
+/// A nice value: decimal, from -128 to 127.
+pub fn nice(word: &[u8]) -> Option<i8>
+    ensures { result ≡ nice_of word.now }
+{
+    match word.strip_prefix(b"-") {
+        Some(digits) => {
+            let size = decimal(digits)?;
+            if size > 128 {
+                return None;
+            }
+            Some((-(size as i64)) as i8)
+        }
+        None => i8::try_from(decimal(word)?).ok(),
+    }
+}

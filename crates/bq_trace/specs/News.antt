@@ -1,0 +1,63 @@
+-- What comes of the lines of a trace, whoever takes it, and the text that answers it.
+use Rattle.std.specs.Prelude.{◌≡◌, ℕ, List, [], ◌∷◌, ◌++◌, Option, Result, codes}
+use Rattle.bq_load.specs.declared.fault.LoadFault.{LoadFault}
+use Rattle.bq_parts.specs.declared.event.Event.{Event}
+use Rattle.bq_parts.specs.declared.reply.Reply.{Reply}
+use Rattle.bq_parts.specs.declared.refusal.Refusal.{Refusal}
+use Rattle.bq_sizes.specs.declared.rule.Rule.{Rule}
+use Rattle.bq_sizes.specs.declared.size.Size.{Size}
+use Rattle.bq_trace.specs.Machines.{Machine}
+use Rattle.bq_trace.specs.Loading.{fault_line}
+use Rattle.bq_trace.specs.Texts.{event_line, bad_line, show_line, counter_line}
+
+pub data News : Type 0 where
+  -- a machine is made
+  Opened : Rule → Size → News
+  -- the line says nothing: it has no words, or is a comment
+  Skipped : List ℕ → News
+  -- this event is about to be done in the machine
+  Comes : Event → Machine → News
+  -- it was answered, and the machine is this
+  Answered : Event → Result Reply Refusal → Machine → News
+  -- the word of an image is no hex
+  Unspelled : News
+  -- an image doesn't load
+  Unloaded : LoadFault → News
+  -- a processor is to be shown
+  Shown : ℕ → Machine → News
+  -- a counter has this value
+  Counted : ℕ → ℕ → News
+  -- the line is bad: what is heard of it, unless it is too long
+  Bad : Option (List ℕ) → News
+
+-- news, each with the number of its line
+abbrev pub Told : Type 0
+Told = List (ℕ × News)
+
+-- the text that answers the news of the line of this number
+abbrev pub text_of : ℕ → News → List ℕ
+text_of n (Opened rule size) = []
+text_of n (Skipped line) = []
+text_of n (Comes event m) = []
+text_of n (Answered event answer m) = event_line answer
+text_of n Unspelled = codes "refused hex\n"
+text_of n (Unloaded why) = fault_line why
+text_of n (Shown c m) = show_line m.world c
+text_of n (Counted i value) = counter_line i value
+text_of n (Bad heard) = bad_line n
+
+-- the text that answers all of them
+abbrev pub texts : Told → List ℕ
+texts [] = []
+texts ((n, x) ∷ more) = text_of n x ++ texts more
+
+-- something takes news one after another
+abbrev pub TakesAll : {S : Type 0} → (S → ℕ → News → S → Type 0) → S → Told → S → Type 0
+TakesAll takes old [] new = new ≡ old
+TakesAll {S} takes old ((n, x) ∷ more) new = (mid : S) × takes old n x mid × TakesAll takes mid more new
+
+-- it takes news of which this holds
+pub record Gets {S : Type 0} (takes : S → ℕ → News → S → Type 0) (old new : S) (Holds : Told → Type 0) : Type 0 where
+  pub told : Told
+  pub taken : TakesAll takes old told new
+  pub holds : Holds told
