@@ -4,7 +4,7 @@ use Rattle.std.specs.Prelude.{ℤ, Result, Ok, Err, ◌==◌, nat_le}
 use Rattle.std.proofs.lemmas.Bool.Decides.{nat_tests}
 use Rattle.bq_disc.specs.Tasks.{Task}
 use Rattle.bq_disc.specs.Discipline.{Discipline}
-use Rattle.bq_disc.specs.OneProcessor.{Running, present_at, charge, enter_all}
+use Rattle.bq_disc.specs.OneProcessor.{present_at, charge, enter_all}
 use Rattle.bq_maps.specs.declared.board.Call.{Call as Asked}
 use Rattle.bq_verify.specs.declared.hook.Hook.{Hook}
 use Rattle.bq_verify.specs.Accepted.{Accepted}
@@ -29,7 +29,6 @@ use Rattle.bq_core.proofs.Steps.{within}
 use Rattle.bq_core.proofs.Moves.{tally-after_leaving}
 use Rattle.bq_core.proofs.ShareSteps.{admits_step, retires_step, ticks_step, drains_step, blocks_step, begins_step, places_step, installs_step}
 use Rattle.bq_cells.specs.declared.law.Kept.{Kept}
-use Rattle.bq_cells.specs.declared.record.Record.{Record}
 use Rattle.bq_cells.specs.Parts.{cpu_part, inbox_part, lobby_part, kept_of, one_less, one_more, kept_by_block}
 use Rattle.bq_cells.proofs.Reached.{IsSound}
 use Rattle.bq_cells.proofs.Named.{admits_named, retires_named, blocks_named, begins_named, installs_named}

@@ -1,9 +1,8 @@
 -- The loads that the journal keeps, as processors and inboxes change.
-use Rattle.std.proofs.Common.{◌≡◌, ℕ, zero, suc, ◌+◌, ◌<◌, List, [], ◌∷◌, length, refl, sym, ap, ◌∙◌, arith, get_or, set, replicate}
+use Rattle.std.proofs.Common.{◌≡◌, ℕ, zero, suc, ◌+◌, ◌<◌, List, [], ◌∷◌, length, refl, ap, arith, get_or, set, replicate}
 use Rattle.bq_disc.specs.Tasks.{Task}
-use Rattle.bq_disc.specs.OneProcessor.{present_at}
 use Rattle.bq_parts.specs.Processors.{Processor, opening, size_of, load_of}
-use Rattle.bq_parts.specs.World.{World, loads_of}
+use Rattle.bq_parts.specs.World.{loads_of}
 
 -- a processor of another load
 pub loads_set : (ps : List Processor) (boxes : List (List Task)) (c : ℕ) (q : Processor) → length boxes ≡ length ps → loads_of (set ps c q) boxes ≡ set (loads_of ps boxes) c (load_of q (get_or boxes c []))

@@ -1,5 +1,5 @@
 -- A pull is a move of the history: where a task goes from the one processor to the other, so do the loads that are kept.
-use Rattle.std.proofs.Common.{◌≡◌, ◌≢◌, ℕ, ◌+◌, ◌<◌, ◌≤◌, Bool, true, false, eqb, List, [], ◌∷◌, length, Option, Some, None, refl, sym, ap, ◌∙◌, subst, arith}
+use Rattle.std.proofs.Common.{◌≡◌, ◌≢◌, ℕ, ◌+◌, ◌<◌, true, false, eqb, List, [], ◌∷◌, length, Option, Some, None, refl, sym, ap, ◌∙◌, subst, arith}
 use Rattle.std.specs.Prelude.{Ok}
 use Rattle.std.specs.Option.{option_map, option_map_or, option_to_list}
 use Rattle.std.proofs.lemmas.List.{length-set, get_or-set_other, set_comm}
@@ -29,7 +29,6 @@ use Rattle.bq_core.proofs.Steps.{within}
 use Rattle.bq_core.proofs.Moves.{tally-pulled, tally-without_task}
 use Rattle.bq_core.proofs.ShareSteps.{pulls_step}
 use Rattle.bq_cells.specs.declared.law.Kept.{Kept}
-use Rattle.bq_cells.specs.declared.record.Record.{Record}
 use Rattle.bq_cells.specs.Parts.{cpu_part, kept_of, one_less, kept_by_pull}
 use Rattle.bq_cells.proofs.Reached.{IsSound}
 use Rattle.bq_cells.proofs.Shapes.{MovesHere, moves_two_cpus}

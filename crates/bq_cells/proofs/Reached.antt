@@ -1,17 +1,16 @@
 -- What every world has that a history leaves.
-use Rattle.std.proofs.Common.{◌≡◌, ℕ, ◌<◌, List, [], ◌∷◌, length, refl, sym, ap, ◌∙◌, subst}
-use Rattle.std.specs.Prelude.{Result, Ok, Err, replicate}
+use Rattle.std.proofs.Common.{◌≡◌, ℕ, List, [], length, ap, ◌∙◌}
+use Rattle.std.specs.Prelude.{Result, Ok, Err}
 use Rattle.std.proofs.lemmas.List.{length-set, length-replicate}
 use Rattle.bq_disc.specs.Discipline.{Discipline}
-use Rattle.bq_disc.specs.OneProcessor.{present_at}
 use Rattle.bq_maps.specs.declared.board.Call.{Call as Asked}
 use Rattle.bq_parts.specs.declared.event.Event.{Event}
 use Rattle.bq_parts.specs.declared.event.Event.TheVariants.{Admit, Retire, Draw, Install, BeginWake, EndWake, Drain, Tick, Block, Pull}
 use Rattle.bq_parts.specs.declared.reply.Reply.{Reply}
 use Rattle.bq_parts.specs.declared.refusal.Refusal.{Refusal}
 use Rattle.bq_parts.specs.declared.seat.Seat.TheVariants.{Absent, Away}
-use Rattle.bq_parts.specs.Processors.{Processor, opening, HasEachOnce, HasSeatedIds}
-use Rattle.bq_parts.specs.World.{World, opening_world, count_in, processor}
+use Rattle.bq_parts.specs.Processors.{opening}
+use Rattle.bq_parts.specs.World.{World, opening_world, count_in}
 use Rattle.bq_parts.specs.Choices.{Setting, policies}
 use Rattle.bq_parts.specs.Steps.{WorldStep, Performs}
 use Rattle.bq_parts.specs.StandsOnce.{IsOrderly}

@@ -1,5 +1,5 @@
 -- The parts of the world, and what the journal keeps of it.
-use Rattle.std.specs.Prelude.{◌≡◌, ◌≢◌, ◌<◌, ℕ, zero, suc, ◌+◌, Bool, true, false, eqb, List, [], ◌∷◌, ◌++◌, length, replicate, Option, None, Some, Result, Ok, Err, IfErr, slice_set, slice_index, ◌-◌, ◌^◌, min}
+use Rattle.std.specs.Prelude.{◌≡◌, ◌≢◌, ◌<◌, ℕ, zero, suc, ◌+◌, Bool, true, false, eqb, List, [], ◌∷◌, ◌++◌, length, replicate, None, Some, Result, Ok, Err, IfErr, slice_set, slice_index, ◌-◌, ◌^◌, min}
 use Rattle.bq_maps.specs.declared.board.Call.{Call as Asked}
 use Rattle.bq_disc.specs.Tasks.{Task}
 use Rattle.bq_disc.specs.Discipline.{Discipline}

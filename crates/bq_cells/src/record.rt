@@ -3,9 +3,10 @@ ghost use Rattle.std.specs.Prelude.{◌≡◌, ◌≤◌, [], length, IfErr};
 ghost use Rattle.bq_parts.specs.declared.refusal.Refusal.TheVariants as no;
 
 use arrayvec::ArrayVec;
+use bq_alike::{is_same_answer, is_same_event};
 use bq_history::{Compared, Slip};
 use bq_maps::Call;
-use bq_parts::{Event, Refusal, Reply, is_same_answer};
+use bq_parts::{Event, Refusal, Reply};
 use bq_seats::Told;
 use std::alloc::Global;
 use std::marker::Model;
@@ -87,7 +88,7 @@ impl Compared for Record {
     ghost alike = { λ r s. r ≡ s };
 
     fn is_alike(&self, other: &Record) -> bool {
-        self.event.is_same(&other.event)
+        is_same_event(&self.event, &other.event)
             && is_same_answer(&self.reply, &other.reply)
             && self.calls.is_same(&other.calls)
     }

@@ -1,6 +1,6 @@
 -- What each event keeps of every processor: its queue rises, and whatever stands at its hooks may stand there.
-use Rattle.std.proofs.Common.{◌≡◌, ℕ, zero, suc, Bool, true, false, List, [], ◌∷◌, Option, Some, None, refl, sym, subst, ◌∙◌, get_or, set}
-use Rattle.std.specs.Prelude.{Result, Ok, ◌==◌}
+use Rattle.std.proofs.Common.{◌≡◌, ℕ, zero, suc, Bool, true, false, List, [], ◌∷◌, Option, Some, None, refl, sym, subst, get_or, set}
+use Rattle.std.specs.Prelude.{◌==◌}
 use Rattle.bq_disc.specs.Tasks.{Task, with_id, without, place, id_of}
 use Rattle.bq_disc.specs.Trees.{IsRising}
 use Rattle.bq_disc.specs.Discipline.{Discipline, woken, pulled, next_of}

@@ -28,7 +28,7 @@ impl<Q: RunQueue, const P: usize> Model for Parts<Q, P> {
 }
 
 impl<Q: RunQueue + Drop, const P: usize> Parts<Q, P> {
-    /// The opening world. It takes all the memory that later events need, but for Admit.
+    /// The opening world. It takes all the memory that later events need, but for Admit and Install.
     pub fn new(alloc: Global) -> Result<Parts<Q, P>, AllocError>
         requires few { P ≤ 64 }
         ensures { IfOk result (λ w. w ≡ opening_world P) }

@@ -37,7 +37,7 @@ impl<Q: RunQueue, const P: usize> Model for Core<Q, P> {
 
 impl<Q: RunQueue + Drop, const P: usize> Core<Q, P> {
     /// The opening world, in which nothing is admitted, drawn or installed. It takes all the memory that later events
-    /// need, but for Admit.
+    /// need, but for Admit and Install.
     pub fn new(alloc: Global) -> Result<Core<Q, P>, AllocError>
         requires few { P ≤ 64 }
         ensures opening { IfOk result (λ c. c ≡ opening_world P) }

@@ -12,12 +12,13 @@ ghost use Rattle.bq_machine.specs.Loading.{IsPolicyOf, IsLoadRefused};
 
 use crate::clock::Clock;
 use crate::locks::{Caller, Machine, Place, Seat, need_own};
+use bq_alike::answer_again;
 use bq_cells::{Calls, NumberedCpu, Record, room};
 use bq_counters::Naming as Counting;
 use bq_disc::RunQueue;
 use bq_history::{Receipt, Slip};
 use bq_load::{LoadFault, load};
-use bq_parts::{Event, Hook, Installed, Policy, Refusal, Reply, answer_again};
+use bq_parts::{Event, Hook, Installed, Policy, Refusal, Reply};
 use bq_tie::Naming;
 use std::alloc::{AllocError, Global};
 use std::sync::Wait;

@@ -8,11 +8,12 @@ ghost use Rattle.bq_machine.specs.Calls.{IsCallRefused};
 
 use crate::clock::Clock;
 use crate::locks::{Caller, Machine, Place, Seat};
+use bq_alike::answer_again;
 use bq_cells::{Calls, OneLobby, Record, room};
 use bq_counters::Naming as Counting;
 use bq_disc::RunQueue;
 use bq_history::{Receipt, Slip};
-use bq_parts::{Event, Refusal, Unlinked, answer_again, argument_refusal, new_task};
+use bq_parts::{Event, Refusal, Unlinked, argument_refusal, new_task};
 use bq_tie::Naming;
 use std::alloc::Global;
 use std::sync::Wait;

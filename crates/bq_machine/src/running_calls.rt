@@ -6,11 +6,12 @@ ghost use Rattle.bq_machine.specs.Calls.{IsCallRefused};
 
 use crate::clock::Clock;
 use crate::locks::{Caller, Machine, Place, Seat, need_own};
+use bq_alike::answer_again;
 use bq_cells::{Calls, NumberedCpu, NumberedInbox, OneLobby, Record, room};
 use bq_counters::Naming as Counting;
 use bq_disc::RunQueue;
 use bq_history::{Receipt, Slip, look_at_both};
-use bq_parts::{Event, Refusal, answer_again};
+use bq_parts::{Event, Refusal};
 use bq_tie::Naming;
 use std::alloc::Global;
 use std::sync::Wait;

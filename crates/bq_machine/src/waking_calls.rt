@@ -10,11 +10,12 @@ ghost use Rattle.bq_machine.specs.Calls.{IsCallRefused, IsPlaced};
 
 use crate::clock::Clock;
 use crate::locks::{Caller, CpuCell, Machine, Place, Seat, need_own};
+use bq_alike::answer_again;
 use bq_cells::{Calls, OneLobby, Record, room};
 use bq_counters::Naming as Counting;
 use bq_disc::RunQueue;
 use bq_history::{Receipt, Slip};
-use bq_parts::{Event, Placement, Refusal, Reply, answer_again};
+use bq_parts::{Event, Placement, Refusal, Reply};
 use bq_tie::Naming;
 use std::alloc::Global;
 use std::sync::Wait;

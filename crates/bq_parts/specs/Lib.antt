@@ -1,4 +1,3 @@
-pub mod Events
 pub mod Processors
 pub mod World
 pub mod Refusals

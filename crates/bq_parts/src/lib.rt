@@ -5,7 +5,6 @@
 //! Stands on the queues of bq_disc by their contract alone, on bq_hooks for what is chosen, and on bq_policies for answers.
 #![tactic(auto)]
 
-pub mod again;
 pub mod arguments;
 mod asking;
 pub mod carried;
@@ -17,13 +16,11 @@ pub mod outcome;
 pub mod pulls;
 pub mod refusal;
 pub mod reply;
-pub mod same;
 pub mod seat;
 pub mod shares;
 pub mod unlinked;
 pub mod wakes;
 
-pub use again::answer_again;
 pub use arguments::argument_refusal;
 pub use bq_hooks::{By, Loads};
 pub use bq_maps::{Board, Plain};
@@ -36,7 +33,6 @@ pub use lobby::Lobby;
 pub use outcome::Outcome;
 pub use refusal::Refusal;
 pub use reply::Reply;
-pub use same::is_same_answer;
 pub use seat::Seat;
 pub use shares::new_task;
 pub use unlinked::Unlinked;

@@ -26,7 +26,7 @@ use Rattle.bq_parts.specs.declared.seat.Seat.{Seat}
 use Rattle.bq_parts.specs.Processors.{Processor, opening}
 use Rattle.bq_parts.specs.Refusals.{first_refusal, either}
 use Rattle.bq_parts.specs.World.{World, processor, count_in, with_processor}
-use Rattle.bq_parts.specs.Choices.{Setting, Settled, SettlesBy, SettlesPreempt, decided_by, policies}
+use Rattle.bq_parts.specs.Choices.{Setting, Settled, SettlesBy, SettlesPreempt, policies}
 use Rattle.bq_parts.specs.Shares.{Ticks, Blocks, after_time}
 use Rattle.bq_parts.specs.Steps.{WorldStep}
 use Rattle.bq_passing.specs.Passing.{after_tick, after_block, DisciplinePasses, CfsPasses}

@@ -1,4 +1,4 @@
-use Rattle.std.proofs.Common.{◌≡◌, sym, ◌∙◌}
+use Rattle.std.proofs.Common.{sym, ◌∙◌}
 use Rattle.std.proofs.lemmas.Slice.Eq.{slice_eq-Decides}
 use Rattle.bq_cells.proofs.SameCalls.{call_decides}
 use Rattle.bq_cells.proofs.record.Calls.is_same.Goals as goal
