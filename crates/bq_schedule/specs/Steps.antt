@@ -93,6 +93,9 @@ taken cpu now (Some id) s = comes id cpu now (waited_there id now s)
 abbrev pub move_of : ℕ → ℕ → ℕ → ℕ → Figures → Moved
 move_of from to at id s = record { task = id; from = from; to = to; at = at; waited = at - (task_of s id).since }
 
+abbrev pub moves_as : ℕ → ℕ → ℕ → Option ℕ → Figures → Option Moved
+moves_as from to at task s = option_map (λ (id : ℕ). move_of from to at id s) task
+
 -- the reading of the clock, as it counts
 abbrev pub time_at : ℕ → ℕ → Figures → ℕ
 time_at cpu now s = reading (processor_of s cpu).last now
@@ -145,7 +148,7 @@ pulled_told cpu from now d task run s =
     let s2 = taken cpu at task s1 in
     record (read_told cpu now s) {
       decision = Some d;
-      pull = option_map (λ (id : ℕ). move_of from cpu at id s1) task;
+      pull = moves_as from cpu at task s1;
       stop = stop_at Preempted cpu at run s2;
       start = start_at Preempted cpu at run s2;
     }

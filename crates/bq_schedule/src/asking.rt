@@ -1,5 +1,6 @@
 //! What came of each hook.
-ghost use Rattle.std.specs.Prelude.{◌≡◌};
+ghost use Rattle.std.specs.Prelude.{◌≡◌, if◌then◌else◌};
+ghost use Rattle.bq_schedule.specs.Counts.{counted};
 ghost use Rattle.bq_schedule.specs.Steps.{hook_asked, processor_asked, asked};
 
 use crate::change::Decision;
@@ -36,12 +37,19 @@ impl HookFigures {
     fn ask(&mut self, decision: &Decision)
         ensures { self.new ≡ hook_asked self.old decision.now }
     {
-        if decision.was_asked() {
-            self.asked = self.asked.saturating_add(1);
-        }
-        if decision.was_overruled() {
-            self.overruled = self.overruled.saturating_add(1);
-        }
+        self.asked = count_if(self.asked, decision.was_asked());
+        self.overruled = count_if(self.overruled, decision.was_overruled());
         self.steps = self.steps.saturating_add(u64::from(decision.steps));
+    }
+}
+
+/// A count, one further where something holds.
+pub(crate) fn count_if(count: u64, holds: bool) -> u64
+    ensures { result ≡ counted count (if holds then 1 else 0) }
+{
+    if holds {
+        count.saturating_add(1)
+    } else {
+        count
     }
 }

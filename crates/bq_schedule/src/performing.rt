@@ -1,6 +1,7 @@
 //! What each answer changes.
-ghost use Rattle.std.specs.Prelude.{◌≡◌, ◌<◌, length, true};
-ghost use Rattle.bq_schedule.specs.Steps.{weight_at, admitted, woken, emptied, taken, move_of, placed, placed_told, decided, decided_told, blocked, blocked_told, pulled, pulled_told, performed, performed_told, is_there};
+ghost use Rattle.std.specs.Prelude.{◌≡◌, ◌-◌, ◌<◌, length, true};
+ghost use Rattle.bq_schedule.specs.Steps.{weight_at, admitted, woken, emptied, taken, waited_there, moves_as, placed, placed_told, decided, decided_told, blocked, blocked_told, pulled, pulled_told, performed, performed_told, is_there};
+ghost use Rattle.bq_schedule.specs.Figures.{task_of};
 ghost use Rattle.bq_schedule.specs.Standing.{leaves};
 
 use crate::change::{Change, Decision, Left, Moved, Wake};
@@ -188,10 +189,7 @@ impl Schedule {
         let read = self.read(cpu, now);
         let at = self.processor(cpu).last;
         self.ask(cpu, &decision);
-        let pull = match task {
-            Some(id) => Some(self.take_over(id, from, cpu, at)),
-            None => None,
-        };
+        let pull = self.take_over(task, from, cpu, at);
         let (stop, start) = self.switch(Left::Preempted, cpu, at, run);
         Change {
             decision: Some(decision),
@@ -202,23 +200,33 @@ impl Schedule {
         }
     }
 
-    /// A task is pulled: what it waited where it was counts, and it waits anew.
-    fn take_over(&mut self, id: u16, from: u8, to: u8, at: u64) -> Moved
-        ensures figures { self.new ≡ taken to at (Some id) self.old }
-        ensures told { result ≡ move_of from to at id self.old }
+    /// A task is pulled, if any: what it waited where it was counts, and it waits anew.
+    fn take_over(&mut self, task: Option<u16>, from: u8, to: u8, at: u64) -> Option<Moved>
+        ensures figures { self.new ≡ taken to at task self.old }
+        ensures told { result ≡ moves_as from to at task self.old }
     {
-        let mut task = self.task(id);
-        let waited = at.saturating_sub(task.since);
-        task.waited = task.waited.saturating_add(waited);
-        self.set_task(id, task);
+        let id = task?;
+        let waited = self.count_wait(id, at);
         self.come(id, to, at);
-        Moved {
+        Some(Moved {
             task: id,
             from,
             to,
             at,
             waited,
-        }
+        })
+    }
+
+    /// How long a task has waited where it is counts.
+    fn count_wait(&mut self, id: u16, now: u64) -> u64
+        ensures figures { self.new ≡ waited_there id now self.old }
+        ensures waited { result ≡ now - (task_of self.old id).since }
+    {
+        let mut task = self.task(id);
+        let waited = now.saturating_sub(task.since);
+        task.waited = task.waited.saturating_add(waited);
+        self.set_task(id, task);
+        waited
     }
 
     /// The wake of a placed task ended now.

@@ -3,6 +3,7 @@ ghost use Rattle.std.specs.Prelude.{◌≡◌};
 ghost use Rattle.bq_schedule.specs.Figures.{processor_of, task_of};
 ghost use Rattle.bq_schedule.specs.Running.{is_run_by, start_of, starts_as, begun, processor_runs, with_latency, task_started, task_preempted, stopped, started, switched, stop_of, stop_at, start_at};
 
+use crate::asking::count_if;
 use crate::change::{Left, Start, Stop};
 use crate::figures::{ProcessorFigures, TaskFigures};
 use crate::schedule::Schedule;
@@ -108,12 +109,8 @@ impl TaskFigures {
     fn start(&mut self, start: &Start)
         ensures { self.new ≡ task_started self.old start.now }
     {
-        if let Some(latency) = start.latency {
-            self.count_latency(latency);
-        }
-        if start.has_migrated() {
-            self.migrations = self.migrations.saturating_add(1);
-        }
+        self.count_latency(start.latency);
+        self.migrations = count_if(self.migrations, start.has_migrated());
         self.waited = self.waited.saturating_add(start.waited);
         self.woken = None;
         self.drains = None;
@@ -121,10 +118,13 @@ impl TaskFigures {
         self.switches = self.switches.saturating_add(1);
     }
 
-    /// One more latency of a wake.
-    fn count_latency(&mut self, latency: u64)
-        ensures { self.new ≡ with_latency self.old (Some latency) }
+    /// One more latency of a wake, if there is one.
+    fn count_latency(&mut self, latency: Option<u64>)
+        ensures { self.new ≡ with_latency self.old latency }
     {
+        let Some(latency) = latency else {
+            return;
+        };
         self.latencies = self.latencies.saturating_add(1);
         self.latency = self.latency.saturating_add(latency);
         self.greatest_latency = self.greatest_latency.max(latency);
