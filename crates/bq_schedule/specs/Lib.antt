@@ -5,3 +5,4 @@ pub mod Passing
 pub mod Standing
 pub mod Running
 pub mod Steps
+pub mod Percentiles

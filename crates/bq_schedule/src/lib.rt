@@ -6,6 +6,7 @@
 mod asking;
 pub mod change;
 pub mod figures;
+pub mod latencies;
 pub mod laws;
 mod passing;
 mod performing;
@@ -16,5 +17,9 @@ mod standing;
 
 pub use change::{Change, Decision, Left, Moved, Reading, Start, Stop, Wake};
 pub use figures::{HookFigures, ProcessorFigures, TaskFigures};
+pub use latencies::Latencies;
 pub use schedule::{PARTS, Schedule};
 pub use slice::Slice;
+
+#[cfg(test)]
+mod tests;
