@@ -6,3 +6,5 @@ pub mod Standing
 pub mod Running
 pub mod Steps
 pub mod Percentiles
+pub mod Slices
+pub mod Laws
