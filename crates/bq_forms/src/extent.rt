@@ -1,0 +1,37 @@
+//! The stretch of time that a picture is drawn over.
+
+use crate::window::Window;
+use bq_schedule::Schedule;
+
+/// The stretch of time that a picture is drawn over: from the first reading of a clock to the last, of the processors that are
+/// shown, as far as the window goes. It is not empty.
+#[derive(Clone, Copy, Debug, PartialEq, Eq)]
+pub struct Extent {
+    pub from: u64,
+    pub to: u64,
+}
+
+impl Extent {
+    /// That of a schedule in a window. `None` where no time passes.
+    pub fn of(schedule: &Schedule, window: &Window) -> Option<Extent> {
+        let mut first = u64::MAX;
+        let mut last = 0;
+        for number in 0..64u8 {
+            let figures = schedule.processor(number);
+            if let Some(reading) = figures.first {
+                if window.shows_processor(number) {
+                    first = first.min(reading);
+                    last = last.max(figures.last);
+                }
+            }
+        }
+        let from = first.max(window.from);
+        let to = last.min(window.to);
+        (from < to).then_some(Extent { from, to })
+    }
+
+    /// How long it is, in nanoseconds.
+    pub fn length(&self) -> u64 {
+        self.to.saturating_sub(self.from)
+    }
+}

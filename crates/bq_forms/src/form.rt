@@ -1,0 +1,43 @@
+//! What every form does.
+
+use crate::names::Names;
+use bq_schedule::{Change, Schedule};
+use std::alloc::AllocError;
+
+/// A form in which a schedule is shown. It adds to a text what is ripe, and the caller may write that out and clear it
+/// whenever it likes. Its only error is want of memory.
+///
+/// ```text
+/// form.begin(&schedule, &names, &mut text)?;
+/// // for each event and its answer:
+/// let change = schedule.take(&event, &answer);
+/// form.take(&change, &schedule, &names, &mut text)?;
+/// // once the trace is over:
+/// form.end(&schedule, &names, &mut text)?;
+/// ```
+pub trait Form: Drop {
+    /// Begins, at a schedule to which nothing has happened.
+    fn begin(
+        &mut self,
+        schedule: &Schedule,
+        names: &Names,
+        text: &mut String,
+    ) -> Result<(), AllocError>;
+
+    /// Takes what one answer changed, and the schedule after it.
+    fn take(
+        &mut self,
+        change: &Change,
+        schedule: &Schedule,
+        names: &Names,
+        text: &mut String,
+    ) -> Result<(), AllocError>;
+
+    /// Ends, at the schedule of the whole trace.
+    fn end(
+        &mut self,
+        schedule: &Schedule,
+        names: &Names,
+        text: &mut String,
+    ) -> Result<(), AllocError>;
+}

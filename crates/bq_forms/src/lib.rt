@@ -1,0 +1,33 @@
+//! The forms in which a schedule is shown as text: a report, a map, a list of runs, comma-separated values, JSON.
+//! Promises that a form only adds to its text, and shows what lies in its window, cut at its edges.
+//! Stands on bq_schedule for what happened; it reads no trace and writes to no one.
+#![tactic(auto)]
+
+pub mod amounts;
+pub mod extent;
+pub mod form;
+pub mod map;
+pub mod names;
+pub mod percent;
+pub mod percentiles;
+pub mod report;
+pub mod rows;
+pub mod steps;
+pub mod summary;
+pub mod tables;
+#[cfg(test)]
+mod tests;
+pub mod timehist;
+pub mod window;
+
+pub use amounts::{Micros, Millis, Moment, Unit};
+pub use extent::Extent;
+pub use form::Form;
+pub use map::Map;
+pub use names::{Label, Names};
+pub use report::Report;
+pub use rows::Csv;
+pub use steps::round_step;
+pub use summary::Json;
+pub use timehist::Timehist;
+pub use window::Window;

@@ -1,0 +1,71 @@
+//! The names that a trace's comments give to its tasks.
+
+use std::alloc::{AllocError, Global};
+use std::collections::BTreeMap;
+use std::{fmt, str};
+
+/// The names that a trace's comments give to its tasks.
+///
+/// After the comment `# task 4 server` task 4 is named `server`. The latest name counts.
+#[derive(Drop)]
+pub struct Names {
+    alloc: Global,
+    names: BTreeMap<u16, String>,
+}
+
+impl Names {
+    /// No task has a name.
+    pub fn new(alloc: Global) -> Names {
+        Names {
+            alloc,
+            names: BTreeMap::new(alloc),
+        }
+    }
+
+    /// Reads a comment as it stands in the trace. One that names no task is let be.
+    pub fn learn(&mut self, comment: &[u8]) -> Result<(), AllocError> {
+        if let Some((task, name)) = naming(comment) {
+            let name = String::from_str(self.alloc, name)?;
+            self.names.insert(task, name)?;
+        }
+        Ok(())
+    }
+
+    /// The name of a task.
+    pub fn of(&self, task: u16) -> Option<&str> {
+        match self.names.get(&task) {
+            Some(name) => Some(name.as_str()),
+            None => None,
+        }
+    }
+}
+
+/// The task that a comment names, and its name.
+fn naming(comment: &[u8]) -> Option<(u16, &str)> {
+    let rest = comment.trim_ascii().strip_prefix(b"#")?;
+    let rest = rest.trim_ascii().strip_prefix(b"task ")?;
+    let rest = rest.trim_ascii();
+    let end = rest.iter().position(|byte| *byte == b' ')?;
+    let task = str::from_utf8(&rest[..end]).ok()?.parse::<u16>().ok()?;
+    let name = str::from_utf8(&rest[end..]).ok()?.trim();
+    Some((task, name))
+}
+
+/// A task by its name, or by its number where it has none.
+#[derive(Clone, Copy)]
+pub struct Label<'a> {
+    pub names: &'a Names,
+    pub task: u16,
+}
+
+impl fmt::Display for Label<'_> {
+    fn fmt<W: fmt::Write>(&self, f: &mut fmt::Formatter<W>) -> fmt::Result {
+        match self.names.of(self.task) {
+            Some(name) => write!(f, "{name}"),
+            None => {
+                let task = self.task;
+                write!(f, "task {task}")
+            }
+        }
+    }
+}

@@ -1,0 +1,180 @@
+//! The report as JSON.
+
+use crate::form::Form;
+use crate::names::Names;
+use crate::percentiles::{Percentiles, WakeLatencies};
+use crate::report::IDS;
+use crate::tables::nanoseconds;
+use crate::window::Window;
+use bq_schedule::{Change, HookFigures, ProcessorFigures, Schedule, TaskFigures};
+use serde_json::{Value, json};
+use std::alloc::{AllocError, Global};
+
+/// The figures of the report, in full, as one JSON object: `tasks` and `processors`, an object each. Times are nanoseconds.
+#[derive(Drop)]
+pub struct Json {
+    alloc: Global,
+    window: Window,
+    latencies: WakeLatencies,
+}
+
+impl Json {
+    /// The figures of what is in the window.
+    pub fn new(alloc: Global, window: Window) -> Json {
+        Json {
+            alloc,
+            window,
+            latencies: WakeLatencies::new(alloc),
+        }
+    }
+
+    fn write_tasks(
+        &mut self,
+        schedule: &Schedule,
+        names: &Names,
+        text: &mut String,
+    ) -> Result<(), AllocError> {
+        let mut is_first = true;
+        for task in 0..IDS {
+            let figures = schedule.task(task);
+            if figures.is_admitted && self.window.shows_task(task) {
+                let fair = nanoseconds(schedule.fair_time(task));
+                let percentiles = self.latencies.percentiles(task);
+                let value = self.task(task, names, &figures, fair, &percentiles)?;
+                self.write_element(&value, is_first, text)?;
+                is_first = false;
+            }
+        }
+        Ok(())
+    }
+
+    fn write_processors(&self, schedule: &Schedule, text: &mut String) -> Result<(), AllocError> {
+        let mut is_first = true;
+        for number in 0..64u8 {
+            if usize::from(number) < schedule.processors() && self.window.shows_processor(number) {
+                let value = self.processor(number, &schedule.processor(number))?;
+                self.write_element(&value, is_first, text)?;
+                is_first = false;
+            }
+        }
+        Ok(())
+    }
+
+    /// Adds an element of an array, on a line of its own.
+    fn write_element(
+        &self,
+        value: &Value,
+        is_first: bool,
+        text: &mut String,
+    ) -> Result<(), AllocError> {
+        let element = value.to_string(self.alloc)?;
+        text.push_str(if is_first { "\n" } else { ",\n" })?;
+        text.push_str(element.as_str())
+    }
+
+    fn task(
+        &self,
+        task: u16,
+        names: &Names,
+        figures: &TaskFigures,
+        fair: u64,
+        percentiles: &Percentiles,
+    ) -> Result<Value, AllocError> {
+        let name = match names.of(task) {
+            Some(name) => Value::try_from_str(self.alloc, name)?,
+            None => Value::Null,
+        };
+        let latency = self.latency(percentiles)?;
+        let counts = json!(in self.alloc; {
+            "switches": (figures.switches),
+            "preemptions": (figures.preemptions),
+            "migrations": (figures.migrations),
+            "wakes": (figures.wakes)
+        })?;
+        json!(in self.alloc; {
+            "task": task,
+            "name": name,
+            "nice": (figures.nice),
+            "weight": (figures.weight),
+            "ran": (figures.time),
+            "fair": fair,
+            "waited": (figures.waited),
+            "latency": latency,
+            "counts": counts
+        })
+    }
+
+    fn latency(&self, percentiles: &Percentiles) -> Result<Value, AllocError> {
+        let median = number(percentiles.p50);
+        let most = number(percentiles.p95);
+        let nearly_all = number(percentiles.p99);
+        let greatest = number(percentiles.greatest);
+        json!(in self.alloc; {"p50": median, "p95": most, "p99": nearly_all, "max": greatest})
+    }
+
+    fn processor(&self, number: u8, figures: &ProcessorFigures) -> Result<Value, AllocError> {
+        let place = self.hook(&figures.place)?;
+        let preempt = self.hook(&figures.preempt)?;
+        let pull = self.hook(&figures.pull)?;
+        let idle = figures.idle();
+        json!(in self.alloc; {
+            "processor": number,
+            "busy": (figures.busy),
+            "idle": idle,
+            "switches": (figures.switches),
+            "place": place,
+            "preempt": preempt,
+            "pull": pull
+        })
+    }
+
+    fn hook(&self, figures: &HookFigures) -> Result<Value, AllocError> {
+        json!(in self.alloc; {
+            "asked": (figures.asked),
+            "overruled": (figures.overruled),
+            "steps": (figures.steps)
+        })
+    }
+}
+
+/// A number, or null.
+fn number(value: Option<u64>) -> Value {
+    match value {
+        Some(value) => Value::from(value),
+        None => Value::Null,
+    }
+}
+
+impl Form for Json {
+    fn begin(
+        &mut self,
+        _schedule: &Schedule,
+        _names: &Names,
+        _text: &mut String,
+    ) -> Result<(), AllocError> {
+        Ok(())
+    }
+
+    fn take(
+        &mut self,
+        change: &Change,
+        _schedule: &Schedule,
+        _names: &Names,
+        _text: &mut String,
+    ) -> Result<(), AllocError> {
+        self.latencies.take(change)
+    }
+
+    fn end(
+        &mut self,
+        schedule: &Schedule,
+        names: &Names,
+        text: &mut String,
+    ) -> Result<(), AllocError> {
+        text.push_str("{\"tasks\":[")?;
+        self.write_tasks(schedule, names, text)?;
+        text.push_str("\n],\"processors\":[")?;
+        self.write_processors(schedule, text)?;
+        text.push_str("\n]}\n")
+    }
+}

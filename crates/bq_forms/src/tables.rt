@@ -1,0 +1,134 @@
+//! The tables of a report, of at most 80 columns.
+
+use crate::names::Names;
+use crate::percent::Percent;
+use crate::percentiles::Percentiles;
+use bq_schedule::{HookFigures, PARTS, ProcessorFigures, TaskFigures};
+use std::alloc::AllocError;
+
+/// Above the lines of the tasks.
+pub const TASK_HEAD: &str =
+    " task name            nice       cpu ms      fair ms switches preempted migrated\n";
+
+/// Above the lines of the latencies.
+pub const LATENCY_HEAD: &str =
+    " task name               wakes      p50 us      p95 us      p99 us      max us\n";
+
+/// Above the lines of the processors.
+pub const PROCESSOR_HEAD: &str = "  cpu  busy %      busy ms      idle ms switches\n";
+
+/// Above the lines of the hooks at which a policy was asked.
+pub const HOOK_HEAD: &str = "  cpu hook            asked  overruled          steps\n";
+
+/// A task by its number and its name, in 20 columns.
+fn write_task(text: &mut String, task: u16, names: &Names) -> Result<(), AllocError> {
+    let name = names.of(task).unwrap_or("");
+    write!(text, "{task:>5} {name:<14.14}")
+}
+
+/// A time in milliseconds, in 13 columns.
+fn write_millis(text: &mut String, time: u64) -> Result<(), AllocError> {
+    let whole = time / 1_000_000;
+    let part = time / 1000 % 1000;
+    write!(text, "{whole:>9}.{part:03}")
+}
+
+/// A latency in microseconds, in 12 columns; `-` where there is none.
+fn write_latency(text: &mut String, latency: Option<u64>) -> Result<(), AllocError> {
+    match latency {
+        Some(latency) => {
+            let whole = latency / 1000;
+            let part = latency % 1000;
+            write!(text, "{whole:>8}.{part:03}")
+        }
+        None => text.push_str("           -"),
+    }
+}
+
+/// Parts of a nanosecond as the nearest number of nanoseconds. It stops at its type's greatest number.
+pub fn nanoseconds(parts: u128) -> u64 {
+    u64::try_from(parts.saturating_add(PARTS / 2) / PARTS).unwrap_or(u64::MAX)
+}
+
+/// The line of a task: its nice value, its time and its fair time, and how often it began to run, gave way and migrated.
+pub fn write_task_line(
+    text: &mut String,
+    task: u16,
+    names: &Names,
+    figures: &TaskFigures,
+    fair: u128,
+) -> Result<(), AllocError> {
+    write_task(text, task, names)?;
+    let nice = figures.nice;
+    write!(text, "{nice:>5}")?;
+    write_millis(text, figures.time)?;
+    write_millis(text, nanoseconds(fair))?;
+    let switches = figures.switches;
+    let preemptions = figures.preemptions;
+    let migrations = figures.migrations;
+    write!(text, "{switches:>9}{preemptions:>10}{migrations:>9}\n")
+}
+
+/// The line of a task's latencies, from wake to run.
+pub fn write_latency_line(
+    text: &mut String,
+    task: u16,
+    names: &Names,
+    wakes: u64,
+    percentiles: &Percentiles,
+) -> Result<(), AllocError> {
+    write_task(text, task, names)?;
+    write!(text, "{wakes:>10}")?;
+    write_latency(text, percentiles.p50)?;
+    write_latency(text, percentiles.p95)?;
+    write_latency(text, percentiles.p99)?;
+    write_latency(text, percentiles.greatest)?;
+    text.push_str("\n")
+}
+
+/// The line of a processor: how much of its time a task ran.
+pub fn write_processor_line(
+    text: &mut String,
+    processor: u8,
+    figures: &ProcessorFigures,
+) -> Result<(), AllocError> {
+    let idle = figures.idle();
+    let busy = Percent {
+        part: figures.busy,
+        whole: figures.busy.saturating_add(idle),
+    };
+    write!(text, "{processor:>5}  {busy}")?;
+    write_millis(text, figures.busy)?;
+    write_millis(text, idle)?;
+    let switches = figures.switches;
+    write!(text, "{switches:>9}\n")
+}
+
+/// The lines of a processor's hooks at which a policy was asked.
+pub fn write_hook_lines(
+    text: &mut String,
+    processor: u8,
+    figures: &ProcessorFigures,
+) -> Result<(), AllocError> {
+    write_hook_line(text, processor, "place", &figures.place)?;
+    write_hook_line(text, processor, "preempt", &figures.preempt)?;
+    write_hook_line(text, processor, "pull", &figures.pull)
+}
+
+fn write_hook_line(
+    text: &mut String,
+    processor: u8,
+    name: &str,
+    figures: &HookFigures,
+) -> Result<(), AllocError> {
+    if figures.asked == 0 {
+        return Ok(());
+    }
+    let asked = figures.asked;
+    let overruled = figures.overruled;
+    let steps = figures.steps;
+    write!(
+        text,
+        "{processor:>5} {name:<8}{asked:>13}{overruled:>11}{steps:>15}\n"
+    )
+}

@@ -1,0 +1,67 @@
+//! What is shown of a schedule.
+ghost use Rattle.std.specs.Prelude.{◌↔◌, IsTrue};
+ghost use Rattle.std.specs.Option.{SomeIff};
+ghost use Rattle.bq_forms.specs.Windows.{ShowsProcessor, ShowsTask, Shows, ShowsPart, part_of};
+
+use bq_schedule::Slice;
+use std::alloc::Global;
+
+/// What is shown of a schedule: a stretch of time, processors and tasks. A run is cut at the window's edges; what happens at a
+/// moment is shown if it happens in the window, edges included.
+#[derive(Drop)]
+pub struct Window {
+    /// The first moment, in nanoseconds.
+    pub from: u64,
+    /// The last moment; `u64::MAX` is no end.
+    pub to: u64,
+    /// The processors: number p is shown if bit p is set.
+    pub processors: u64,
+    /// The tasks; none named is every task.
+    pub tasks: Vec<u16>,
+}
+
+impl Window {
+    /// All of a schedule.
+    pub fn whole(alloc: Global) -> Window {
+        Window {
+            from: 0,
+            to: u64::MAX,
+            processors: u64::MAX,
+            tasks: Vec::new(alloc),
+        }
+    }
+
+    /// Whether a processor is shown.
+    pub fn shows_processor(&self, processor: u8) -> bool
+        ensures { IsTrue result ↔ ShowsProcessor self.now processor }
+    {
+        processor < 64 && (self.processors >> processor) % 2 == 1
+    }
+
+    /// Whether a task is shown.
+    pub fn shows_task(&self, task: u16) -> bool
+        ensures { IsTrue result ↔ ShowsTask self.now task }
+    {
+        self.tasks.is_empty() || self.tasks.contains(&task)
+    }
+
+    /// Whether something is shown that happens to a task at a processor at a moment.
+    pub fn shows(&self, processor: u8, task: u16, at: u64) -> bool
+        ensures { IsTrue result ↔ Shows self.now processor task at }
+    {
+        self.from <= at && at <= self.to && self.shows_processor(processor) && self.shows_task(task)
+    }
+
+    /// The part of a run or a slice that is shown, if any of it is.
+    pub fn clip(&self, slice: &Slice) -> Option<Slice>
+        ensures { SomeIff result (ShowsPart self.now slice.now) (part_of self.now slice.now) }
+    {
+        let from = slice.from.max(self.from);
+        let to = slice.to.min(self.to);
+        if from < to && self.shows_processor(slice.processor) && self.shows_task(slice.task) {
+            Some(Slice { from, to, ..*slice })
+        } else {
+            None
+        }
+    }
+}

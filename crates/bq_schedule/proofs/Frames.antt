@@ -1,0 +1,251 @@
+-- What each move of a schedule leaves as it was. A processor's works are what only a reading of its clock changes.
+use Rattle.std.proofs.Common.{◌≡◌, ◌≢◌, ℕ, ◌+◌, ◌<◌, ◌≤◌, Bool, true, false, List, length, get_or, Option, Some, None, refl, sym, ap, ◌∙◌, ◌⊎◌, inl, inr, get_or-set_same, get_or-set_other, eqb, leb, cond, arith}
+use Rattle.std.proofs.lemmas.List.{set_past, length-set}
+use Rattle.std.proofs.lemmas.Bool.Decides.{eqb_tells, leb_tells, nat_tests}
+use Rattle.std.specs.Prelude.{slice_set}
+use Rattle.std.specs.Option.{option_map}
+use Rattle.bq_verify.specs.declared.hook.Hook.{Hook}
+use Rattle.bq_verify.specs.declared.hook.Hook.TheVariants.{Place, Preempt, Pull}
+use Rattle.bq_schedule.specs.declared.slice.Slice.{Slice}
+use Rattle.bq_schedule.specs.declared.change.Decision.{Decision}
+use Rattle.bq_schedule.specs.declared.change.Start.{Start}
+use Rattle.bq_schedule.specs.declared.change.Left.{Left}
+use Rattle.bq_schedule.specs.declared.change.Left.TheVariants.{Preempted, Blocked}
+use Rattle.bq_schedule.specs.declared.figures.TaskFigures.{TaskFigures}
+use Rattle.bq_schedule.specs.declared.figures.ProcessorFigures.{ProcessorFigures}
+use Rattle.bq_schedule.specs.Figures.{Figures, unread, unknown, processor_of, task_of, with_processor, with_task}
+use Rattle.bq_schedule.specs.Passing.{with_charged, read_at, processor_read}
+use Rattle.bq_schedule.specs.Standing.{left_from, leaves, joins, comes}
+use Rattle.bq_schedule.specs.Running.{stopped, started, begun, begun_if, starts_as, processor_runs, switched, is_run_by, with_latency}
+use Rattle.bq_schedule.specs.Steps.{processor_asked, asked, admitted, woken, waited_there, emptied, taken}
+
+-- a place of a list is set to what f cannot tell from what was there
+get_or-set_case : {X Y : Type 0} (f : X → Y) (xs : List X) (i j : ℕ) (y d : X) (b c : Bool) → f y ≡ f (get_or xs i d) →
+    ((b ≡ true) × (j ≡ i)) ⊎ ((b ≡ false) × (j ≢ i)) → ((c ≡ true) × (length xs ≤ i)) ⊎ ((c ≡ false) × (i < length xs)) →
+    f (get_or (slice_set xs i y) j d) ≡ f (get_or xs j d)
+get_or-set_case f xs i j y d b c e (inl same) (inr inside) =
+    ap (λ k. f (get_or (slice_set xs i y) k d)) same.1 ∙ ap f (get_or-set_same xs i y d inside.1) ∙ e ∙ ap (λ k. f (get_or xs k d)) (sym same.1)
+get_or-set_case f xs i j y d b c e (inl same) (inl past) = ap (λ l. f (get_or l j d)) (set_past xs i y past.1)
+get_or-set_case f xs i j y d b c e (inr other) within = ap f (get_or-set_other xs i j y d other.1)
+
+pub get_or-set_like : {X Y : Type 0} (f : X → Y) (xs : List X) (i j : ℕ) (y d : X) → f y ≡ f (get_or xs i d) → f (get_or (slice_set xs i y) j d) ≡ f (get_or xs j d)
+get_or-set_like f xs i j y d e = get_or-set_case f xs i j y d (eqb j i) (leb (length xs) i) e (eqb_tells j i) (leb_tells (length xs) i)
+
+-- so a processor that is set to one that f cannot tell from it changes f of none
+pub processor_kept : {Y : Type 0} (f : ProcessorFigures → Y) (s : Figures) (i j : ℕ) (p : ProcessorFigures) → f p ≡ f (processor_of s i) →
+    f (processor_of (with_processor s i p) j) ≡ f (processor_of s j)
+processor_kept f s i j p e = get_or-set_like f s.processors i j p unread e
+
+-- nor does such a task
+pub task_kept : {Y : Type 0} (f : TaskFigures → Y) (s : Figures) (i j : ℕ) (t : TaskFigures) → f t ≡ f (task_of s i) →
+    f (task_of (with_task s i t) j) ≡ f (task_of s j)
+task_kept f s i j t e = get_or-set_like f s.tasks i j t unknown e
+
+-- what only a reading of the clock changes
+pub record Works : Type 0 where
+  pub first : Option ℕ
+  pub last : ℕ
+  pub run : Option Slice
+  pub busy : ℕ
+  pub shared : ℕ
+  pub unshared : ℕ
+
+abbrev pub works : ProcessorFigures → Works
+works p = record { first = p.first; last = p.last; run = p.run; busy = p.busy; shared = p.shared; unshared = p.unshared }
+
+works-processor_asked : (p : ProcessorFigures) (d : Decision) (h : Hook) → works (processor_asked p d h) ≡ works p
+works-processor_asked p d Place = refl
+works-processor_asked p d Preempt = refl
+works-processor_asked p d Pull = refl
+
+running-processor_asked : (p : ProcessorFigures) (d : Decision) (h : Hook) → (processor_asked p d h).running ≡ p.running
+running-processor_asked p d Place = refl
+running-processor_asked p d Preempt = refl
+running-processor_asked p d Pull = refl
+
+-- what keeps everything of the processors but who runs, what is runnable, and counts
+pub record KeepsWorks (s s' : Figures) : Type 0 where
+  pub at : (j : ℕ) → works (processor_of s' j) ≡ works (processor_of s j)
+  pub count : length s'.processors ≡ length s.processors
+  pub tasks : length s'.tasks ≡ length s.tasks
+  pub times : (id : ℕ) → (task_of s' id).time ≡ (task_of s id).time
+
+pub record KeepsRunning (s s' : Figures) : Type 0 where
+  pub at : (j : ℕ) → (processor_of s' j).running ≡ (processor_of s j).running
+
+pub works-id : (s : Figures) → KeepsWorks s s
+works-id s = record { at = λ j. refl; count = refl; tasks = refl; times = λ id. refl }
+
+pub works-then : (s t u : Figures) → KeepsWorks s t → KeepsWorks t u → KeepsWorks s u
+works-then s t u a b = record { at = λ j. b.at j ∙ a.at j; count = b.count ∙ a.count; tasks = b.tasks ∙ a.tasks; times = λ id. b.times id ∙ a.times id }
+
+pub running-then : (s t u : Figures) → KeepsRunning s t → KeepsRunning t u → KeepsRunning s u
+running-then s t u a b = record { at = λ j. b.at j ∙ a.at j }
+
+pub running-id : (s : Figures) → KeepsRunning s s
+running-id s = record { at = λ j. refl }
+
+-- a processor whose works stay
+pub works-with_processor : (s : Figures) (i : ℕ) (p : ProcessorFigures) → works p ≡ works (processor_of s i) → KeepsWorks s (with_processor s i p)
+works-with_processor s i p e = record { at = λ j. processor_kept works s i j p e; count = length-set s.processors i p; tasks = refl; times = λ id. refl }
+
+pub running-with_processor : (s : Figures) (i : ℕ) (p : ProcessorFigures) → p.running ≡ (processor_of s i).running → KeepsRunning s (with_processor s i p)
+running-with_processor s i p e = record { at = λ j. processor_kept (λ q. q.running) s i j p e }
+
+-- a task whose time stays
+pub works-with_task : (s : Figures) (i : ℕ) (t : TaskFigures) → t.time ≡ (task_of s i).time → KeepsWorks s (with_task s i t)
+works-with_task s i t e = record { at = λ j. refl; count = refl; tasks = length-set s.tasks i t; times = λ id. task_kept (λ u. u.time) s i id t e }
+
+pub running-with_task : (s : Figures) (i : ℕ) (t : TaskFigures) → KeepsRunning s (with_task s i t)
+running-with_task s i t = record { at = λ j. refl }
+
+-- the moves
+pub works-asked : (cpu : ℕ) (d : Decision) (s : Figures) → KeepsWorks s (asked cpu d s)
+works-asked cpu d s = works-with_processor s cpu _ (works-processor_asked (processor_of s cpu) d d.hook)
+
+pub running-asked : (cpu : ℕ) (d : Decision) (s : Figures) → KeepsRunning s (asked cpu d s)
+running-asked cpu d s = running-with_processor s cpu _ (running-processor_asked (processor_of s cpu) d d.hook)
+
+works-left_from : (id : ℕ) (s : Figures) (place : Option ℕ) → KeepsWorks s (left_from id s place)
+works-left_from id s None = works-id s
+works-left_from id s (Some cpu) = works-then _ _ _ (works-with_processor s cpu _ refl) (works-with_task _ id _ refl)
+
+running-left_from : (id : ℕ) (s : Figures) (place : Option ℕ) → KeepsRunning s (left_from id s place)
+running-left_from id s None = running-id s
+running-left_from id s (Some cpu) = running-then _ _ _ (running-with_processor s cpu _ refl) (running-with_task _ id _)
+
+pub works-leaves : (id : ℕ) (s : Figures) → KeepsWorks s (leaves id s)
+works-leaves id s = works-left_from id s (task_of s id).place
+
+pub running-leaves : (id : ℕ) (s : Figures) → KeepsRunning s (leaves id s)
+running-leaves id s = running-left_from id s (task_of s id).place
+
+works-joins : (id cpu now : ℕ) (s : Figures) → KeepsWorks s (joins id cpu now s)
+works-joins id cpu now s = works-then _ _ _ (works-with_processor s cpu _ refl) (works-with_task _ id _ refl)
+
+running-joins : (id cpu now : ℕ) (s : Figures) → KeepsRunning s (joins id cpu now s)
+running-joins id cpu now s = running-then _ _ _ (running-with_processor s cpu _ refl) (running-with_task _ id _)
+
+pub works-comes : (id cpu now : ℕ) (s : Figures) → KeepsWorks s (comes id cpu now s)
+works-comes id cpu now s = works-then _ _ _ (works-leaves id s) (works-joins id cpu now (leaves id s))
+
+pub running-comes : (id cpu now : ℕ) (s : Figures) → KeepsRunning s (comes id cpu now s)
+running-comes id cpu now s = running-then _ _ _ (running-leaves id s) (running-joins id cpu now (leaves id s))
+
+pub works-taken : (cpu now : ℕ) (task : Option ℕ) (s : Figures) → KeepsWorks s (taken cpu now task s)
+works-taken cpu now None s = works-id s
+works-taken cpu now (Some id) s = works-then _ _ _ (works-with_task s id _ refl) (works-comes id cpu now (waited_there id now s))
+
+pub running-taken : (cpu now : ℕ) (task : Option ℕ) (s : Figures) → KeepsRunning s (taken cpu now task s)
+running-taken cpu now None s = running-id s
+running-taken cpu now (Some id) s = running-then _ _ _ (running-with_task s id _) (running-comes id cpu now (waited_there id now s))
+
+time-with_latency : (t : TaskFigures) (n : Option ℕ) → (with_latency t n).time ≡ t.time
+time-with_latency t None = refl
+time-with_latency t (Some n) = refl
+
+works-stopped : (left : Left) (now : ℕ) (running : Option Start) (s : Figures) → KeepsWorks s (stopped left now running s)
+works-stopped left now None s = works-id s
+works-stopped Blocked now (Some old) s = works-id s
+works-stopped Preempted now (Some old) s = works-with_task s old.task _ refl
+
+running-stopped : (left : Left) (now : ℕ) (running : Option Start) (s : Figures) → KeepsRunning s (stopped left now running s)
+running-stopped left now None s = running-id s
+running-stopped Blocked now (Some old) s = running-id s
+running-stopped Preempted now (Some old) s = running-with_task s old.task _
+
+works-begun_if : (cpu now : ℕ) (run : Option ℕ) (s : Figures) → KeepsWorks s (begun_if cpu now run s)
+works-begun_if cpu now None s = works-id s
+works-begun_if cpu now (Some id) s = works-with_task s id _ (time-with_latency (task_of s id) _)
+
+processors-begun_if : (cpu now : ℕ) (run : Option ℕ) (s : Figures) → (begun_if cpu now run s).processors ≡ s.processors
+processors-begun_if cpu now None s = refl
+processors-begun_if cpu now (Some id) s = refl
+
+works-processor_runs : (p : ProcessorFigures) (o : Option Start) → works (processor_runs p o) ≡ works p
+works-processor_runs p None = refl
+works-processor_runs p (Some start) = refl
+
+works-started : (cpu now : ℕ) (run : Option ℕ) (s : Figures) → KeepsWorks s (started cpu now run s)
+works-started cpu now run s =
+    let e : processor_of (begun_if cpu now run s) cpu ≡ processor_of s cpu = ap (λ l. get_or l cpu unread) (processors-begun_if cpu now run s) in
+    works-then _ _ _ (works-begun_if cpu now run s)
+        (works-with_processor (begun_if cpu now run s) cpu _ (works-processor_runs (processor_of s cpu) (starts_as cpu now run s) ∙ ap works (sym e)))
+
+works-switched_if : (b : Bool) (left : Left) (cpu now : ℕ) (run : Option ℕ) (s : Figures) →
+    KeepsWorks s (cond b s (started cpu now run (stopped left now (processor_of s cpu).running s)))
+works-switched_if true left cpu now run s = works-id s
+works-switched_if false left cpu now run s =
+    works-then _ _ _ (works-stopped left now (processor_of s cpu).running s) (works-started cpu now run (stopped left now (processor_of s cpu).running s))
+
+pub works-switched : (left : Left) (cpu now : ℕ) (run : Option ℕ) (s : Figures) → KeepsWorks s (switched left cpu now run s)
+works-switched left cpu now run s = works-switched_if (is_run_by (processor_of s cpu).running run) left cpu now run s
+
+-- who runs
+abbrev pub who : ProcessorFigures → Option ℕ
+who p = option_map (λ (s : Start). s.task) p.running
+
+-- what is told of who runs at a processor holds afterwards, and at the others it is as it was
+abbrev pub RunsAs : Option (Option ℕ) → ℕ → Figures → Figures → Type 0
+RunsAs None cpu s s' = KeepsRunning s s'
+RunsAs (Some run) cpu s s' = (who (processor_of s' cpu) ≡ run) × ((j : ℕ) → j ≢ cpu → (processor_of s' j).running ≡ (processor_of s j).running)
+
+pub runs-after : (o : Option (Option ℕ)) (cpu : ℕ) (s t u : Figures) → KeepsRunning s t → RunsAs o cpu t u → RunsAs o cpu s u
+runs-after None cpu s t u a b = running-then s t u a b
+runs-after (Some run) cpu s t u a b = (b.0, λ j ne. b.1 j ne ∙ a.at j)
+
+pub runs-before : (o : Option (Option ℕ)) (cpu : ℕ) (s t u : Figures) → RunsAs o cpu s t → KeepsRunning t u → RunsAs o cpu s u
+runs-before None cpu s t u a b = running-then s t u a b
+runs-before (Some run) cpu s t u a b = (ap (option_map (λ (x : Start). x.task)) (b.at cpu) ∙ a.0, λ j ne. b.at j ∙ a.1 j ne)
+
+who-processor_runs : (p : ProcessorFigures) (cpu now : ℕ) (run : Option ℕ) (s : Figures) → who (processor_runs p (starts_as cpu now run s)) ≡ run
+who-processor_runs p cpu now None s = refl
+who-processor_runs p cpu now (Some id) s = refl
+
+runs-started : (cpu now : ℕ) (run : Option ℕ) (s : Figures) → cpu < length s.processors → RunsAs (Some run) cpu s (started cpu now run s)
+runs-started cpu now run s inside =
+    let e : (begun_if cpu now run s).processors ≡ s.processors = processors-begun_if cpu now run s in
+    let q = processor_runs (processor_of s cpu) (starts_as cpu now run s) in
+    (ap (λ l. who (get_or (slice_set l cpu q) cpu unread)) e ∙ ap who (get_or-set_same s.processors cpu q unread inside) ∙ who-processor_runs (processor_of s cpu) cpu now run s,
+     λ j ne. ap (λ l. (get_or (slice_set l cpu q) j unread).running) e ∙ ap (λ (p : ProcessorFigures). p.running) (get_or-set_other s.processors cpu j q unread ne))
+
+who_is : (running : Option Start) (run : Option ℕ) → is_run_by running run ≡ true → option_map (λ (x : Start). x.task) running ≡ run
+who_is None None e = refl
+who_is None (Some id) e = cc
+who_is (Some start) None e = cc
+who_is (Some start) (Some id) e = grind (arith, nat_tests)
+
+runs-switched_if : (b : Bool) (left : Left) (cpu now : ℕ) (run : Option ℕ) (s : Figures) → is_run_by (processor_of s cpu).running run ≡ b → cpu < length s.processors →
+    RunsAs (Some run) cpu s (cond b s (started cpu now run (stopped left now (processor_of s cpu).running s)))
+runs-switched_if true left cpu now run s e inside = (who_is (processor_of s cpu).running run e, λ j ne. refl)
+runs-switched_if false left cpu now run s e inside =
+    let t = stopped left now (processor_of s cpu).running s in
+    let inside' : cpu < length t.processors = omega (arith, (works-stopped left now (processor_of s cpu).running s).count) in
+    runs-after (Some run) cpu s t (started cpu now run t) (running-stopped left now (processor_of s cpu).running s) (runs-started cpu now run t inside')
+
+pub runs-switched : (left : Left) (cpu now : ℕ) (run : Option ℕ) (s : Figures) → cpu < length s.processors → RunsAs (Some run) cpu s (switched left cpu now run s)
+runs-switched left cpu now run s inside = runs-switched_if (is_run_by (processor_of s cpu).running run) left cpu now run s refl inside
+
+running-with_charged : (s : Figures) (o : Option Slice) → KeepsRunning s (with_charged s o)
+running-with_charged s None = running-id s
+running-with_charged s (Some x) = running-with_task s x.task _
+
+pub running-read_at : (cpu now : ℕ) (s : Figures) → KeepsRunning s (read_at cpu now s)
+running-read_at cpu now s = running-then _ _ _ (running-with_processor s cpu _ refl) (running-with_charged _ _)
+
+count-with_charged : (s : Figures) (o : Option Slice) → (with_charged s o).processors ≡ s.processors
+count-with_charged s None = refl
+count-with_charged s (Some x) = refl
+
+pub processors-read_at : (cpu now : ℕ) (s : Figures) → (read_at cpu now s).processors ≡ slice_set s.processors cpu (processor_read cpu (processor_of s cpu) now)
+processors-read_at cpu now s = count-with_charged _ _
+
+pub count-read_at : (cpu now : ℕ) (s : Figures) → length (read_at cpu now s).processors ≡ length s.processors
+count-read_at cpu now s = ap (λ (l : List ProcessorFigures). length l) (processors-read_at cpu now s) ∙ length-set s.processors cpu _
+
+tasks-with_charged : (s : Figures) (o : Option Slice) → length (with_charged s o).tasks ≡ length s.tasks
+tasks-with_charged s None = refl
+tasks-with_charged s (Some x) = length-set s.tasks x.task _
+
+pub tasks-read_at : (cpu now : ℕ) (s : Figures) → length (read_at cpu now s).tasks ≡ length s.tasks
+tasks-read_at cpu now s = tasks-with_charged (with_processor s cpu (processor_read cpu (processor_of s cpu) now)) _

@@ -1,0 +1,73 @@
+-- The figures of all processors and tasks.
+use Rattle.std.specs.Prelude.{ℕ, pos, false, List, replicate, slice_index_or, slice_set, None}
+use Rattle.bq_schedule.specs.declared.figures.TaskFigures.{TaskFigures}
+use Rattle.bq_schedule.specs.declared.figures.ProcessorFigures.{ProcessorFigures}
+use Rattle.bq_schedule.specs.declared.figures.HookFigures.{HookFigures}
+
+-- of each processor by its number and each task by its id, and how many events were refused
+pub record Figures : Type 0 where
+  pub processors : List ProcessorFigures
+  pub tasks : List TaskFigures
+  pub refused : ℕ
+
+abbrev pub unasked : HookFigures
+unasked = record { asked = 0; overruled = 0; steps = 0 }
+
+-- a processor whose clock was never read
+abbrev pub unread : ProcessorFigures
+unread = record {
+  first = None;
+  last = 0;
+  running = None;
+  run = None;
+  runnable = 0;
+  weight = 0;
+  shared = 0;
+  unshared = 0;
+  busy = 0;
+  switches = 0;
+  drains = 0;
+  place = unasked;
+  preempt = unasked;
+  pull = unasked;
+}
+
+-- an id that was never admitted
+abbrev pub unknown : TaskFigures
+unknown = record {
+  is_admitted = false;
+  nice = pos 0;
+  weight = 0;
+  place = None;
+  since = 0;
+  woken = None;
+  drains = None;
+  before = None;
+  joined = 0;
+  settled = 0;
+  time = 0;
+  waited = 0;
+  wakes = 0;
+  latencies = 0;
+  latency = 0;
+  greatest_latency = 0;
+  switches = 0;
+  preemptions = 0;
+  migrations = 0;
+}
+
+-- nothing has happened yet
+abbrev pub opening : ℕ → Figures
+opening count = record { processors = replicate count unread; tasks = replicate 1024 unknown; refused = 0 }
+
+abbrev pub processor_of : Figures → ℕ → ProcessorFigures
+processor_of s cpu = slice_index_or s.processors cpu unread
+
+abbrev pub task_of : Figures → ℕ → TaskFigures
+task_of s id = slice_index_or s.tasks id unknown
+
+abbrev pub with_processor : Figures → ℕ → ProcessorFigures → Figures
+with_processor s cpu p = record s { processors = slice_set s.processors cpu p }
+
+abbrev pub with_task : Figures → ℕ → TaskFigures → Figures
+with_task s id t = record s { tasks = slice_set s.tasks id t }

@@ -1,0 +1,10 @@
+pub mod Moments
+pub mod Counts
+pub mod Figures
+pub mod Passing
+pub mod Standing
+pub mod Running
+pub mod Steps
+pub mod Percentiles
+pub mod Slices
+pub mod Laws

@@ -1,0 +1,15 @@
+-- What has happened: events, and what each was answered.
+use Rattle.std.specs.Prelude.{ℕ, List, Option, Some, None, Result}
+use Rattle.bq_parts.specs.declared.event.Event.{Event}
+use Rattle.bq_parts.specs.declared.event.Event.TheVariants.{EndWake, Drain, Tick, Block, Pull}
+use Rattle.bq_parts.specs.declared.reply.Reply.{Reply}
+use Rattle.bq_parts.specs.declared.refusal.Refusal.{Refusal}
+
+-- an event, and its answer
+pub record Moment : Type 0 where
+  pub event : Event
+  pub answer : Result Reply Refusal
+
+-- a history: the moment that came last stands first
+abbrev pub History : Type 0
+History = List Moment

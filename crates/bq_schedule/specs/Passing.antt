@@ -1,0 +1,84 @@
+-- A clock is read: what the processor's task is charged, how slices make runs, and what each runnable task's share is.
+use Rattle.std.specs.Prelude.{ℕ, ◌+◌, ◌-◌, ◌*◌, ◌/◌, Bool, ◌==◌, ◌&&◌, nat_lt, Option, Some, None, is_some, if◌then◌else◌}
+use Rattle.bq_disc.specs.OneProcessor.{reading}
+use Rattle.bq_schedule.specs.declared.slice.Slice.{Slice}
+use Rattle.bq_schedule.specs.declared.change.Start.{Start}
+use Rattle.bq_schedule.specs.declared.change.Reading.{Reading}
+use Rattle.bq_schedule.specs.declared.figures.TaskFigures.{TaskFigures}
+use Rattle.bq_schedule.specs.declared.figures.ProcessorFigures.{ProcessorFigures}
+use Rattle.bq_schedule.specs.Counts.{counted, counted_wide, parts}
+use Rattle.bq_schedule.specs.Figures.{Figures, processor_of, task_of, with_processor, with_task}
+
+-- the reading itself. It goes back where it is below the last
+abbrev pub reading_at : ℕ → ProcessorFigures → ℕ → Reading
+reading_at cpu p now = record { processor = cpu; from = p.last; to = reading p.last now; is_back = nat_lt now p.last }
+
+-- the stretch from one reading to another, of the task that ran; one of no length is none
+abbrev pub slice_between : ℕ → ℕ → ℕ → Option Start → Option Slice
+slice_between cpu from to None = None
+slice_between cpu from to (Some start) =
+    if nat_lt from to then Some (record { processor = cpu; task = start.task; from = from; to = to }) else None
+
+abbrev pub slice_at : ℕ → ProcessorFigures → ℕ → Option Slice
+slice_at cpu p now = slice_between cpu p.last (reading p.last now) p.running
+
+abbrev pub length_of : Option Slice → ℕ
+length_of None = 0
+length_of (Some s) = s.to - s.from
+
+-- a slice goes on from a run: it is of the same task, and begins where the run ends
+abbrev pub goes_on : Slice → Slice → Bool
+goes_on run s = run.task == s.task && run.to == s.from
+
+-- the run that goes on last, after another slice
+abbrev pub joined_run : Option Slice → Option Slice → Option Slice
+joined_run run None = run
+joined_run None (Some s) = Some s
+joined_run (Some run) (Some s) = if goes_on run s then Some (record run { to = s.to }) else Some s
+
+-- the run that another slice does not go on from
+abbrev pub ended_run : Option Slice → Option Slice → Option Slice
+ended_run run None = None
+ended_run None (Some s) = None
+ended_run (Some run) (Some s) = if goes_on run s then None else Some run
+
+-- what each unit of weight is given of so many nanoseconds, in whole parts: none where nothing is runnable
+abbrev pub part_of : ℕ → ℕ → ℕ
+part_of time weight = time * parts / weight
+
+-- the clock comes to a reading, and what ran is charged and shared out among those that are runnable
+abbrev pub passed : ProcessorFigures → ℕ → Option Slice → ProcessorFigures
+passed p to s =
+    let part = part_of (length_of s) p.weight in
+    record p {
+      first = (if is_some p.first then p.first else Some to);
+      last = to;
+      run = joined_run p.run s;
+      busy = counted p.busy (length_of s);
+      shared = counted_wide p.shared part;
+      unshared = counted_wide p.unshared (length_of s * parts - p.weight * part);
+    }
+
+abbrev pub processor_read : ℕ → ProcessorFigures → ℕ → ProcessorFigures
+processor_read cpu p now = passed p (reading p.last now) (slice_at cpu p now)
+
+abbrev pub task_charged : TaskFigures → ℕ → TaskFigures
+task_charged t length = record t { time = counted t.time length }
+
+-- the slice counts for its task
+abbrev pub with_charged : Figures → Option Slice → Figures
+with_charged s None = s
+with_charged s (Some slice) = with_task s slice.task (task_charged (task_of s slice.task) (length_of (Some slice)))
+
+abbrev pub read_at : ℕ → ℕ → Figures → Figures
+read_at cpu now s =
+    let p = processor_of s cpu in
+    with_charged (with_processor s cpu (processor_read cpu p now)) (slice_at cpu p now)
+
+-- the time from the first reading to the last in which nothing ran
+abbrev pub idle_since : Option ℕ → ℕ → ℕ → ℕ
+idle_since None last busy = 0
+idle_since (Some first) last busy = last - first - busy
+
+abbrev pub idle_of : ProcessorFigures → ℕ
+idle_of p = idle_since p.first p.last p.busy

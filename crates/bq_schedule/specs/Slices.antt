@@ -1,0 +1,77 @@
+-- The slices of a history, from its events and answers alone: who ran at a processor between two readings of its clock.
+use Rattle.std.specs.Prelude.{ℕ, ◌+◌, ◌-◌, ◌==◌, nat_lt, Bool, List, [], ◌∷◌, ◌++◌, Option, Some, None, Result, Ok, Err, if◌then◌else◌, unwrap_or, option_to_list}
+use Rattle.std.specs.List.{sum_by}
+use Rattle.bq_disc.specs.OneProcessor.{reading}
+use Rattle.bq_parts.specs.declared.event.Event.{Event}
+use Rattle.bq_parts.specs.declared.event.Event.TheVariants.{EndWake, Drain, Tick, Block, Pull}
+use Rattle.bq_parts.specs.declared.reply.Reply.{Reply}
+use Rattle.bq_parts.specs.declared.reply.Reply.TheVariants.{Placed, Drained, Ticked, Blocked, Pulled}
+use Rattle.bq_parts.specs.declared.refusal.Refusal.{Refusal}
+use Rattle.bq_schedule.specs.declared.slice.Slice.{Slice}
+use Rattle.bq_schedule.specs.Moments.{Moment, History}
+
+-- what an answer shows of a processor: what was read of its clock, and who runs there from then on, where that is told
+pub record Sight : Type 0 where
+  pub cpu : ℕ
+  pub now : ℕ
+  pub run : Option (Option ℕ)
+
+-- what a reply to an event shows; one that is not of its kind shows nothing
+abbrev pub sight : Event → Reply → Option Sight
+sight (EndWake cpu now) (Placed task to by steps) = Some (record { cpu = cpu; now = now; run = None })
+sight (Drain cpu now) (Drained count run by steps) = Some (record { cpu = cpu; now = now; run = Some run })
+sight (Tick cpu now) (Ticked run by steps) = Some (record { cpu = cpu; now = now; run = Some run })
+sight (Block cpu now) (Blocked task run) = Some (record { cpu = cpu; now = now; run = Some run })
+sight (Pull cpu from now) (Pulled task run by steps) = Some (record { cpu = cpu; now = now; run = Some run })
+sight e r = None
+
+-- a refused event shows nothing
+abbrev pub sight_of : Event → Result Reply Refusal → Option Sight
+sight_of e (Ok r) = sight e r
+sight_of e (Err r) = None
+
+-- the last reading of a processor's clock
+abbrev pub clock_after : ℕ → ℕ → Option Sight → ℕ
+clock_after cpu last None = last
+clock_after cpu last (Some s) = if s.cpu == cpu then reading last s.now else last
+
+abbrev pub clock : ℕ → History → ℕ
+clock cpu [] = 0
+clock cpu (m ∷ past) = clock_after cpu (clock cpu past) (sight_of m.event m.answer)
+
+-- who runs at a processor
+abbrev pub runner_after : ℕ → Option ℕ → Option Sight → Option ℕ
+runner_after cpu who None = who
+runner_after cpu who (Some s) = if s.cpu == cpu then unwrap_or s.run who else who
+
+abbrev pub runner : ℕ → History → Option ℕ
+runner cpu [] = None
+runner cpu (m ∷ past) = runner_after cpu (runner cpu past) (sight_of m.event m.answer)
+
+-- the stretch between two readings, of who ran; one of no length is none
+abbrev pub stretch : ℕ → Option ℕ → ℕ → ℕ → Option Slice
+stretch cpu None from to = None
+stretch cpu (Some id) from to = if nat_lt from to then Some (record { processor = cpu; task = id; from = from; to = to }) else None
+
+-- the slice that a moment ends, where a history has come before it
+abbrev pub slice_shown : History → Option Sight → Option Slice
+slice_shown past None = None
+slice_shown past (Some s) = stretch s.cpu (runner s.cpu past) (clock s.cpu past) (reading (clock s.cpu past) s.now)
+
+-- all slices, in the order in which they ended
+abbrev pub slices : History → List Slice
+slices [] = []
+slices (m ∷ past) = slices past ++ option_to_list (slice_shown past (sight_of m.event m.answer))
+
+-- their time, of those that are chosen
+abbrev pub time_if : (Slice → Bool) → Slice → ℕ
+time_if chosen s = if chosen s then s.to - s.from else 0
+
+abbrev pub time_in : (Slice → Bool) → List Slice → ℕ
+time_in chosen xs = sum_by (time_if chosen) xs
+
+abbrev pub is_of : ℕ → Slice → Bool
+is_of id s = s.task == id
+
+abbrev pub is_at : ℕ → Slice → Bool
+is_at cpu s = s.processor == cpu

@@ -1,0 +1,197 @@
+-- What each moment changes: in the figures, and as it is told.
+use Rattle.std.specs.Prelude.{ℕ, ◌+◌, ◌-◌, ℤ, true, false, Bool, ◌==◌, ◌||◌, ◌&&◌, not, nat_lt, List, [], ◌∷◌, length, Option, Some, None, Result, Ok, Err, if◌then◌else◌}
+use Rattle.std.specs.Option.{option_map}
+use Rattle.bq_weights.specs.VirtualTime.{weight_of}
+use Rattle.bq_hooks.specs.declared.settled.By.{By}
+use Rattle.bq_hooks.specs.declared.settled.By.TheVariants as who
+use Rattle.bq_verify.specs.declared.hook.Hook.{Hook}
+use Rattle.bq_verify.specs.declared.hook.Hook.TheVariants.{Place, Preempt, Pull as OnPull}
+use Rattle.bq_disc.specs.OneProcessor.{reading}
+use Rattle.bq_parts.specs.Refusals.{out_of_nice}
+use Rattle.bq_parts.specs.declared.refusal.Refusal.{Refusal}
+use Rattle.bq_parts.specs.declared.event.Event.{Event}
+use Rattle.bq_parts.specs.declared.event.Event.TheVariants.{Admit, EndWake, Drain, Tick, Block, Pull}
+use Rattle.bq_parts.specs.declared.reply.Reply.{Reply}
+use Rattle.bq_parts.specs.declared.reply.Reply.TheVariants.{Admitted, Placed, Drained, Ticked, Blocked as Went, Pulled}
+use Rattle.bq_schedule.specs.declared.change.Change.{Change}
+use Rattle.bq_schedule.specs.declared.change.Decision.{Decision}
+use Rattle.bq_schedule.specs.declared.change.Wake.{Wake}
+use Rattle.bq_schedule.specs.declared.change.Moved.{Moved}
+use Rattle.bq_schedule.specs.declared.change.Left.{Left}
+use Rattle.bq_schedule.specs.declared.change.Left.TheVariants.{Preempted, Blocked}
+use Rattle.bq_schedule.specs.declared.figures.TaskFigures.{TaskFigures}
+use Rattle.bq_schedule.specs.declared.figures.ProcessorFigures.{ProcessorFigures}
+use Rattle.bq_schedule.specs.declared.figures.HookFigures.{HookFigures}
+use Rattle.bq_schedule.specs.Counts.{counted}
+use Rattle.bq_schedule.specs.Moments.{Moment, History}
+use Rattle.bq_schedule.specs.Figures.{Figures, opening, processor_of, task_of, with_processor, with_task}
+use Rattle.bq_schedule.specs.Passing.{reading_at, slice_at, ended_run, read_at}
+use Rattle.bq_schedule.specs.Standing.{leaves, comes}
+use Rattle.bq_schedule.specs.Running.{switched, stop_at, start_at}
+
+-- nothing is told
+abbrev pub nothing : Change
+nothing = record { reading = None; slice = None; run = None; decision = None; wake = None; pull = None; stop = None; start = None }
+
+-- a policy was asked: it took steps, or its answer stands
+abbrev pub is_by_policy : By → Bool
+is_by_policy who.Policy = true
+is_by_policy who.Discipline = false
+
+abbrev pub was_asked : Decision → Bool
+was_asked d = is_by_policy d.by || nat_lt 0 d.steps
+
+-- it was asked, and the discipline chose all the same
+abbrev pub was_overruled : Decision → Bool
+was_overruled d = not (is_by_policy d.by) && nat_lt 0 d.steps
+
+abbrev pub hook_asked : HookFigures → Decision → HookFigures
+hook_asked h d = record {
+  asked = counted h.asked (if was_asked d then 1 else 0);
+  overruled = counted h.overruled (if was_overruled d then 1 else 0);
+  steps = counted h.steps d.steps;
+}
+
+abbrev pub processor_asked : ProcessorFigures → Decision → Hook → ProcessorFigures
+processor_asked p d Place = record p { place = hook_asked p.place d }
+processor_asked p d Preempt = record p { preempt = hook_asked p.preempt d }
+processor_asked p d OnPull = record p { pull = hook_asked p.pull d }
+
+abbrev pub asked : ℕ → Decision → Figures → Figures
+asked cpu d s = with_processor s cpu (processor_asked (processor_of s cpu) d d.hook)
+
+-- the weight of a nice value; none is outside the table
+abbrev pub weight_at : ℤ → ℕ
+weight_at nice = if out_of_nice nice then 0 else weight_of nice
+
+-- an id is admitted, with its nice value
+abbrev pub admitted : ℕ → ℤ → Figures → Figures
+admitted id nice s = with_task s id (record (task_of s id) { is_admitted = true; nice = nice; weight = weight_at nice })
+
+-- a wake of the task ended then
+abbrev pub woken : ℕ → ℕ → ℕ → Figures → Figures
+woken id cpu now s =
+    let t = task_of s id in
+    with_task s id (record t { wakes = counted t.wakes 1; woken = Some now; drains = Some (processor_of s cpu).drains })
+
+-- how long it has waited where it is taken from counts
+abbrev pub waited_there : ℕ → ℕ → Figures → Figures
+waited_there id now s =
+    let t = task_of s id in
+    with_task s id (record t { waited = counted t.waited (now - t.since) })
+
+-- the inbox was drained
+abbrev pub emptied : ℕ → Figures → Figures
+emptied cpu s = let p = processor_of s cpu in with_processor s cpu (record p { drains = counted p.drains 1 })
+
+-- a task may have been pulled
+abbrev pub taken : ℕ → ℕ → Option ℕ → Figures → Figures
+taken cpu now None s = s
+taken cpu now (Some id) s = comes id cpu now (waited_there id now s)
+
+-- what is told of a task that is pulled
+abbrev pub move_of : ℕ → ℕ → ℕ → ℕ → Figures → Moved
+move_of from to at id s = record { task = id; from = from; to = to; at = at; waited = at - (task_of s id).since }
+
+abbrev pub moves_as : ℕ → ℕ → ℕ → Option ℕ → Figures → Option Moved
+moves_as from to at task s = option_map (λ (id : ℕ). move_of from to at id s) task
+
+-- the reading of the clock, as it counts
+abbrev pub time_at : ℕ → ℕ → Figures → ℕ
+time_at cpu now s = reading (processor_of s cpu).last now
+
+-- where nothing but a reading is told
+abbrev pub read_told : ℕ → ℕ → Figures → Change
+read_told cpu now s =
+    let p = processor_of s cpu in
+    record nothing { reading = Some (reading_at cpu p now); slice = slice_at cpu p now; run = ended_run p.run (slice_at cpu p now) }
+
+abbrev pub placed : ℕ → ℕ → Decision → ℕ → ℕ → Figures → Figures
+placed cpu now d id to s =
+    let at = time_at cpu now s in
+    woken id to at (comes id to at (asked cpu d (read_at cpu now s)))
+
+abbrev pub placed_told : ℕ → ℕ → Decision → ℕ → ℕ → Figures → Change
+placed_told cpu now d id to s =
+    record (read_told cpu now s) { decision = Some d; wake = Some (record { task = id; from = cpu; to = to; at = time_at cpu now s }) }
+
+-- a hook has answered, and this task runs
+abbrev pub decided : ℕ → ℕ → Decision → Option ℕ → Figures → Figures
+decided cpu now d run s = switched Preempted cpu (time_at cpu now s) run (asked cpu d (read_at cpu now s))
+
+abbrev pub decided_told : ℕ → ℕ → Decision → Option ℕ → Figures → Change
+decided_told cpu now d run s =
+    let s' = asked cpu d (read_at cpu now s) in
+    let at = time_at cpu now s in
+    record (read_told cpu now s) { decision = Some d; stop = stop_at Preempted cpu at run s'; start = start_at Preempted cpu at run s' }
+
+-- the task went to sleep, and this one runs
+abbrev pub blocked : ℕ → ℕ → ℕ → Option ℕ → Figures → Figures
+blocked cpu now id run s = switched Blocked cpu (time_at cpu now s) run (leaves id (read_at cpu now s))
+
+abbrev pub blocked_told : ℕ → ℕ → ℕ → Option ℕ → Figures → Change
+blocked_told cpu now id run s =
+    let s' = leaves id (read_at cpu now s) in
+    let at = time_at cpu now s in
+    record (read_told cpu now s) { stop = stop_at Blocked cpu at run s'; start = start_at Blocked cpu at run s' }
+
+-- a task may have been pulled, and this one runs
+abbrev pub pulled : ℕ → ℕ → Decision → Option ℕ → Option ℕ → Figures → Figures
+pulled cpu now d task run s =
+    let at = time_at cpu now s in
+    switched Preempted cpu at run (taken cpu at task (asked cpu d (read_at cpu now s)))
+
+abbrev pub pulled_told : ℕ → ℕ → ℕ → Decision → Option ℕ → Option ℕ → Figures → Change
+pulled_told cpu from now d task run s =
+    let at = time_at cpu now s in
+    let s1 = asked cpu d (read_at cpu now s) in
+    let s2 = taken cpu at task s1 in
+    record (read_told cpu now s) {
+      decision = Some d;
+      pull = moves_as from cpu at task s1;
+      stop = stop_at Preempted cpu at run s2;
+      start = start_at Preempted cpu at run s2;
+    }
+
+-- What an answer changes in the figures. One that is not of its event's kind changes nothing
+abbrev pub performed : Figures → Event → Reply → Figures
+performed s (Admit id nice mask slice) Admitted = admitted id nice (leaves id s)
+performed s (EndWake cpu now) (Placed task to by steps) = placed cpu now (record { hook = Place; by = by; steps = steps }) task to s
+performed s (Drain cpu now) (Drained count run by steps) = emptied cpu (decided cpu now (record { hook = Preempt; by = by; steps = steps }) run s)
+performed s (Tick cpu now) (Ticked run by steps) = decided cpu now (record { hook = Preempt; by = by; steps = steps }) run s
+performed s (Block cpu now) (Went task run) = blocked cpu now task run s
+performed s (Pull cpu from now) (Pulled task run by steps) = pulled cpu now (record { hook = OnPull; by = by; steps = steps }) task run s
+performed s e r = s
+
+-- and what is told of it
+abbrev pub performed_told : Figures → Event → Reply → Change
+performed_told s (EndWake cpu now) (Placed task to by steps) = placed_told cpu now (record { hook = Place; by = by; steps = steps }) task to s
+performed_told s (Drain cpu now) (Drained count run by steps) = decided_told cpu now (record { hook = Preempt; by = by; steps = steps }) run s
+performed_told s (Tick cpu now) (Ticked run by steps) = decided_told cpu now (record { hook = Preempt; by = by; steps = steps }) run s
+performed_told s (Block cpu now) (Went task run) = blocked_told cpu now task run s
+performed_told s (Pull cpu from now) (Pulled task run by steps) = pulled_told cpu from now (record { hook = OnPull; by = by; steps = steps }) task run s
+performed_told s e r = nothing
+
+-- the processor whose clock the event reads is there, if it reads one
+abbrev pub is_there : Figures → Event → Bool
+is_there s (EndWake cpu now) = nat_lt cpu (length s.processors)
+is_there s (Drain cpu now) = nat_lt cpu (length s.processors)
+is_there s (Tick cpu now) = nat_lt cpu (length s.processors)
+is_there s (Block cpu now) = nat_lt cpu (length s.processors)
+is_there s (Pull cpu from now) = nat_lt cpu (length s.processors)
+is_there s e = true
+
+-- the figures after an event and its answer. A refused event is counted, and changes nothing else
+abbrev pub after : Figures → Event → Result Reply Refusal → Figures
+after s e (Ok r) = if is_there s e then performed s e r else s
+after s e (Err r) = record s { refused = counted s.refused 1 }
+
+-- what is told of it
+abbrev pub change : Figures → Event → Result Reply Refusal → Change
+change s e (Ok r) = if is_there s e then performed_told s e r else nothing
+change s e (Err r) = nothing
+
+-- the figures that a history leaves
+abbrev pub figures : ℕ → History → Figures
+figures count [] = opening count
+figures count (m ∷ past) = after (figures count past) m.event m.answer

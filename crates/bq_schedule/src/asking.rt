@@ -1,0 +1,55 @@
+//! What came of each hook.
+ghost use Rattle.std.specs.Prelude.{◌≡◌, if◌then◌else◌};
+ghost use Rattle.bq_schedule.specs.Counts.{counted};
+ghost use Rattle.bq_schedule.specs.Steps.{hook_asked, processor_asked, asked};
+
+use crate::change::Decision;
+use crate::figures::{HookFigures, ProcessorFigures};
+use crate::schedule::Schedule;
+use bq_parts::Hook;
+
+impl Schedule {
+    /// A hook of a processor came to its choice.
+    pub(crate) fn ask(&mut self, cpu: u8, decision: &Decision)
+        ensures { self.new ≡ asked cpu decision.now self.old }
+    {
+        if let Some(processor) = self.processors.get_mut(usize::from(cpu)) {
+            processor.ask(decision);
+        }
+    }
+}
+
+impl ProcessorFigures {
+    /// A hook came to its choice.
+    fn ask(&mut self, decision: &Decision)
+        ensures { self.new ≡ processor_asked self.old decision.now decision.now.hook }
+    {
+        match decision.hook {
+            Hook::Place => self.place.ask(decision),
+            Hook::Preempt => self.preempt.ask(decision),
+            Hook::Pull => self.pull.ask(decision),
+        }
+    }
+}
+
+impl HookFigures {
+    /// This came of the hook.
+    fn ask(&mut self, decision: &Decision)
+        ensures { self.new ≡ hook_asked self.old decision.now }
+    {
+        self.asked = count_if(self.asked, decision.was_asked());
+        self.overruled = count_if(self.overruled, decision.was_overruled());
+        self.steps = self.steps.saturating_add(u64::from(decision.steps));
+    }
+}
+
+/// A count, one further where something holds.
+pub(crate) fn count_if(count: u64, holds: bool) -> u64
+    ensures { result ≡ counted count (if holds then 1 else 0) }
+{
+    if holds {
+        count.saturating_add(1)
+    } else {
+        count
+    }
+}

@@ -1,0 +1,68 @@
+//! Exact percentiles of latencies.
+ghost use Rattle.std.specs.Prelude.{◌≡◌, ◌<◌, ◌↔◌, List, ℕ, [], ◌∷◌, ◌++◌, length, slice_index, IfSome, IsNone, OnOk, OnErr, IsPermutation, IsSorted};
+ghost use Rattle.std.specs.Ordering.{nat_cmp};
+ghost use Rattle.bq_schedule.specs.Percentiles.{rank};
+
+use std::alloc::{AllocError, Global};
+use std::marker::Model;
+
+/// Latencies, in nanoseconds, each kept: the memory grows with them. A schedule itself keeps their number, sum and greatest
+/// alone; whoever wants percentiles pushes the latency of each start that has one.
+#[derive(Drop)]
+pub struct Latencies {
+    values: Vec<u64>,
+}
+
+impl Model for Latencies {
+    ghost use Rattle.std.specs.Prelude.{List, ℕ};
+
+    ghost Value = { List ℕ };
+
+    ghost view = { λ l. l.values.items };
+}
+
+impl Latencies {
+    /// None yet. It takes no memory until one is pushed.
+    pub fn new(alloc: Global) -> Latencies
+        ensures { result ≡ [] }
+    {
+        Latencies {
+            values: Vec::new(alloc),
+        }
+    }
+
+    /// One more. Where there is no memory for it nothing changes.
+    pub fn push(&mut self, latency: u64) -> Result<(), AllocError>
+        ensures ok { OnOk result (self.new ≡ self.old ++ latency ∷ []) }
+        ensures err { OnErr result (self.new ≡ self.old) }
+    {
+        self.values.push(latency)?;
+        Ok(())
+    }
+
+    /// The least of them that at least so many percent of them are not above, by nearest rank; the greatest beyond 100
+    /// percent; none where there is none. It sorts them.
+    pub fn percentile(&mut self, percent: u8) -> Option<u64>
+        ensures none { IsNone result ↔ (self.old ≡ []) }
+        ensures value { IfSome result (λ v. v ≡ slice_index self.new (rank percent (length self.new))) }
+        ensures sorted { IsSorted nat_cmp self.new }
+        ensures kept { IsPermutation self.old self.new }
+    {
+        self.values.sort_unstable();
+        let count = self.values.len();
+        if count == 0 {
+            return None;
+        }
+        Some(self.values[rank(percent, count)])
+    }
+}
+
+/// The place of a percentile among so many sorted numbers, of which there is one at least.
+fn rank(percent: u8, count: usize) -> usize
+    requires { 0 < count }
+    ensures place { result ≡ rank percent count }
+    ensures within { result < count }
+{
+    let reached = (count as u128 * u128::from(percent)).div_ceil(100);
+    (reached.min(count as u128) as usize).saturating_sub(1)
+}

@@ -1,0 +1,25 @@
+//! A schedule, as events and their answers tell it: who ran where and when, who waited, what each task's fair share was.
+//! Promises that each answer changes exactly what it tells, and that the figures are those of the slices (laws).
+//! Stands on bq_parts for events and answers alone: it holds no world, and asks none.
+#![tactic(auto)]
+
+mod asking;
+pub mod change;
+pub mod figures;
+pub mod latencies;
+pub mod laws;
+mod passing;
+mod performing;
+mod running;
+pub mod schedule;
+pub mod slice;
+mod standing;
+
+pub use change::{Change, Decision, Left, Moved, Reading, Start, Stop, Wake};
+pub use figures::{HookFigures, ProcessorFigures, TaskFigures};
+pub use latencies::Latencies;
+pub use schedule::{PARTS, Schedule};
+pub use slice::Slice;
+
+#[cfg(test)]
+mod tests;

@@ -1,0 +1,152 @@
+//! A clock is read: the task that ran is charged, and its time is shared out among those that are runnable.
+ghost use Rattle.std.specs.Prelude.{◌≡◌, ◌<◌, length};
+ghost use Rattle.bq_schedule.specs.Passing.{reading_at, slice_between, length_of, joined_run, ended_run, passed, task_charged, with_charged, read_at, goes_on};
+ghost use Rattle.bq_schedule.specs.Steps.{read_told};
+
+use crate::change::{Change, Reading, Start};
+use crate::figures::{ProcessorFigures, TaskFigures};
+use crate::schedule::{PARTS, Schedule};
+use crate::slice::Slice;
+
+/// The greatest reading of a clock.
+const LATEST: u64 = (1 << 48) - 1;
+
+impl Schedule {
+    /// The clock of a processor is read.
+    pub(crate) fn read(&mut self, processor: u8, now: u64) -> Change
+        requires { processor < length self.old.processors }
+        ensures figures { self.new ≡ read_at processor now self.old }
+        ensures change { result ≡ read_told processor now self.old }
+    {
+        let cpu = &mut self.processors[usize::from(processor)];
+        let reading = cpu.reading(processor, now);
+        let slice = slice_between(processor, reading.from, reading.to, cpu.running);
+        let run = ended_run(cpu.run, slice);
+        cpu.pass(reading.to, slice);
+        self.charge(slice);
+        Change {
+            reading: Some(reading),
+            slice,
+            run,
+            ..Change::nothing()
+        }
+    }
+
+    /// A slice counts for its task.
+    fn charge(&mut self, slice: Option<Slice>)
+        ensures { self.new ≡ with_charged self.old slice }
+    {
+        let Some(slice) = slice else {
+            return;
+        };
+        if let Some(task) = self.tasks.get_mut(usize::from(slice.task)) {
+            task.charge(slice.length());
+        }
+    }
+}
+
+impl Slice {
+    /// How long it is, in nanoseconds.
+    pub fn length(&self) -> u64
+        ensures { result ≡ length_of (Some self.now) }
+    {
+        self.to.saturating_sub(self.from)
+    }
+
+    /// Whether another goes on from it: it is of the same task, and begins where this one ends.
+    fn goes_on(&self, next: &Slice) -> bool
+        ensures { result ≡ goes_on self.now next.now }
+    {
+        self.task == next.task && self.to == next.from
+    }
+}
+
+impl TaskFigures {
+    /// The task ran for so long.
+    fn charge(&mut self, length: u64)
+        ensures { self.new ≡ task_charged self.old length }
+    {
+        self.time = self.time.saturating_add(length);
+    }
+}
+
+impl ProcessorFigures {
+    /// A reading of the clock.
+    fn reading(&self, processor: u8, now: u64) -> Reading
+        ensures { result ≡ reading_at processor self.now now }
+    {
+        Reading {
+            processor,
+            from: self.last,
+            to: now.min(LATEST).max(self.last),
+            is_back: now < self.last,
+        }
+    }
+
+    /// The clock is read, and so much of a slice is charged.
+    fn pass(&mut self, to: u64, slice: Option<Slice>)
+        ensures { self.new ≡ passed self.old to slice }
+    {
+        let length = length_of(slice);
+        let time = u128::from(length) * PARTS;
+        let weight = u128::from(self.weight);
+        let part = if weight == 0 { 0 } else { time / weight };
+        if self.first.is_none() {
+            self.first = Some(to);
+        }
+        self.last = to;
+        self.run = joined_run(self.run, slice);
+        self.busy = self.busy.saturating_add(length);
+        self.shared = self.shared.saturating_add(part);
+        self.unshared = self.unshared.saturating_add(time - weight * part);
+    }
+}
+
+/// The stretch from one reading to another, of the task that ran.
+fn slice_between(processor: u8, from: u64, to: u64, running: Option<Start>) -> Option<Slice>
+    ensures { result ≡ slice_between processor from to running }
+{
+    match running {
+        Some(start) if from < to => Some(Slice {
+            processor,
+            task: start.task,
+            from,
+            to,
+        }),
+        _ => None,
+    }
+}
+
+/// How long a slice is, in nanoseconds; 0 where there is none.
+fn length_of(slice: Option<Slice>) -> u64
+    ensures { result ≡ length_of slice }
+{
+    match slice {
+        Some(slice) => slice.length(),
+        None => 0,
+    }
+}
+
+/// The run that goes on last, after another slice.
+fn joined_run(run: Option<Slice>, slice: Option<Slice>) -> Option<Slice>
+    ensures { result ≡ joined_run run slice }
+{
+    match (run, slice) {
+        (Some(run), Some(slice)) if run.goes_on(&slice) => Some(Slice {
+            to: slice.to,
+            ..run
+        }),
+        (_, Some(slice)) => Some(slice),
+        (run, None) => run,
+    }
+}
+
+/// The run that another slice does not go on from.
+fn ended_run(run: Option<Slice>, slice: Option<Slice>) -> Option<Slice>
+    ensures { result ≡ ended_run run slice }
+{
+    match (run, slice) {
+        (Some(run), Some(slice)) if !run.goes_on(&slice) => Some(run),
+        _ => None,
+    }
+}

@@ -1,0 +1,254 @@
+//! What each answer changes.
+ghost use Rattle.std.specs.Prelude.{◌≡◌, ◌-◌, ◌<◌, length, true};
+ghost use Rattle.bq_schedule.specs.Steps.{weight_at, admitted, woken, emptied, taken, waited_there, moves_as, placed, placed_told, decided, decided_told, blocked, blocked_told, pulled, pulled_told, performed, performed_told, is_there};
+ghost use Rattle.bq_schedule.specs.Figures.{task_of};
+ghost use Rattle.bq_schedule.specs.Standing.{leaves};
+
+use crate::change::{Change, Decision, Left, Moved, Wake};
+use crate::schedule::Schedule;
+use bq_parts::{Event, Hook, Reply};
+use bq_weights::weight;
+
+impl Schedule {
+    /// What an answer changes. One that is not of its event's kind changes nothing.
+    pub(crate) fn perform(&mut self, event: &Event, reply: &Reply) -> Change
+        requires { is_there self.old event.now ≡ true }
+        ensures figures { self.new ≡ performed self.old event.now reply.now }
+        ensures change { result ≡ performed_told self.old event.now reply.now }
+    {
+        match (event, reply) {
+            (
+                Event::Admit {
+                    task,
+                    nice,
+                    mask: _,
+                    slice: _,
+                },
+                Reply::Admitted,
+            ) => {
+                self.admit(*task, *nice);
+                Change::nothing()
+            }
+            (
+                Event::EndWake { processor, now },
+                Reply::Placed {
+                    task,
+                    to,
+                    by,
+                    steps,
+                },
+            ) => self.place(
+                *processor,
+                *now,
+                Decision::new(Hook::Place, *by, *steps),
+                *task,
+                *to,
+            ),
+            (
+                Event::Drain { processor, now },
+                Reply::Drained {
+                    count: _,
+                    run,
+                    by,
+                    steps,
+                },
+            ) => self.drain(
+                *processor,
+                *now,
+                Decision::new(Hook::Preempt, *by, *steps),
+                *run,
+            ),
+            (Event::Tick { processor, now }, Reply::Ticked { run, by, steps }) => {
+                self.decide(
+                    *processor,
+                    *now,
+                    Decision::new(Hook::Preempt, *by, *steps),
+                    *run,
+                )
+            }
+            (Event::Block { processor, now }, Reply::Blocked { task, run }) => {
+                self.block(*processor, *now, *task, *run)
+            }
+            (
+                Event::Pull {
+                    processor,
+                    from,
+                    now,
+                },
+                Reply::Pulled {
+                    task,
+                    run,
+                    by,
+                    steps,
+                },
+            ) => {
+                let decision = Decision::new(Hook::Pull, *by, *steps);
+                self.pull(*processor, *from, *now, decision, *task, *run)
+            }
+            _ => Change::nothing(),
+        }
+    }
+
+    /// An id is admitted.
+    fn admit(&mut self, id: u16, nice: i8)
+        ensures { self.new ≡ admitted id nice (leaves id self.old) }
+    {
+        self.leave(id);
+        let mut task = self.task(id);
+        task.is_admitted = true;
+        task.nice = nice;
+        task.weight = weight_at(nice);
+        self.set_task(id, task);
+    }
+
+    /// A wake ended.
+    fn place(&mut self, cpu: u8, now: u64, decision: Decision, id: u16, to: u8) -> Change
+        requires { cpu < length self.old.processors }
+        ensures figures { self.new ≡ placed cpu now decision id to self.old }
+        ensures change { result ≡ placed_told cpu now decision id to self.old }
+    {
+        let read = self.read(cpu, now);
+        let at = self.processor(cpu).last;
+        self.ask(cpu, &decision);
+        self.come(id, to, at);
+        self.wake(id, to, at);
+        Change {
+            decision: Some(decision),
+            wake: Some(Wake {
+                task: id,
+                from: cpu,
+                to,
+                at,
+            }),
+            ..read
+        }
+    }
+
+    /// All placed tasks entered, and a hook came to its choice.
+    fn drain(&mut self, cpu: u8, now: u64, decision: Decision, run: Option<u16>) -> Change
+        requires { cpu < length self.old.processors }
+        ensures figures { self.new ≡ emptied cpu (decided cpu now decision run self.old) }
+        ensures change { result ≡ decided_told cpu now decision run self.old }
+    {
+        let change = self.decide(cpu, now, decision, run);
+        let mut processor = self.processor(cpu);
+        processor.drains = processor.drains.saturating_add(1);
+        self.set_processor(cpu, processor);
+        change
+    }
+
+    /// A hook came to its choice, and this runs.
+    fn decide(&mut self, cpu: u8, now: u64, decision: Decision, run: Option<u16>) -> Change
+        requires { cpu < length self.old.processors }
+        ensures figures { self.new ≡ decided cpu now decision run self.old }
+        ensures change { result ≡ decided_told cpu now decision run self.old }
+    {
+        let read = self.read(cpu, now);
+        let at = self.processor(cpu).last;
+        self.ask(cpu, &decision);
+        let (stop, start) = self.switch(Left::Preempted, cpu, at, run);
+        Change {
+            decision: Some(decision),
+            stop,
+            start,
+            ..read
+        }
+    }
+
+    /// The running task went to sleep.
+    fn block(&mut self, cpu: u8, now: u64, id: u16, run: Option<u16>) -> Change
+        requires { cpu < length self.old.processors }
+        ensures figures { self.new ≡ blocked cpu now id run self.old }
+        ensures change { result ≡ blocked_told cpu now id run self.old }
+    {
+        let read = self.read(cpu, now);
+        let at = self.processor(cpu).last;
+        self.leave(id);
+        let (stop, start) = self.switch(Left::Blocked, cpu, at, run);
+        Change {
+            stop,
+            start,
+            ..read
+        }
+    }
+
+    /// A task may have been pulled.
+    fn pull(
+        &mut self,
+        cpu: u8,
+        from: u8,
+        now: u64,
+        decision: Decision,
+        task: Option<u16>,
+        run: Option<u16>,
+    ) -> Change
+        requires { cpu < length self.old.processors }
+        ensures figures { self.new ≡ pulled cpu now decision task run self.old }
+        ensures change { result ≡ pulled_told cpu from now decision task run self.old }
+    {
+        let read = self.read(cpu, now);
+        let at = self.processor(cpu).last;
+        self.ask(cpu, &decision);
+        let pull = self.take_over(task, from, cpu, at);
+        let (stop, start) = self.switch(Left::Preempted, cpu, at, run);
+        Change {
+            decision: Some(decision),
+            pull,
+            stop,
+            start,
+            ..read
+        }
+    }
+
+    /// A task is pulled, if any: what it waited where it was counts, and it waits anew.
+    fn take_over(&mut self, task: Option<u16>, from: u8, to: u8, at: u64) -> Option<Moved>
+        ensures figures { self.new ≡ taken to at task self.old }
+        ensures told { result ≡ moves_as from to at task self.old }
+    {
+        let id = task?;
+        let waited = self.count_wait(id, at);
+        self.come(id, to, at);
+        Some(Moved {
+            task: id,
+            from,
+            to,
+            at,
+            waited,
+        })
+    }
+
+    /// How long a task has waited where it is counts.
+    fn count_wait(&mut self, id: u16, now: u64) -> u64
+        ensures figures { self.new ≡ waited_there id now self.old }
+        ensures waited { result ≡ now - (task_of self.old id).since }
+    {
+        let mut task = self.task(id);
+        let waited = now.saturating_sub(task.since);
+        task.waited = task.waited.saturating_add(waited);
+        self.set_task(id, task);
+        waited
+    }
+
+    /// The wake of a placed task ended now.
+    fn wake(&mut self, id: u16, cpu: u8, now: u64)
+        ensures { self.new ≡ woken id cpu now self.old }
+    {
+        let drains = self.processor(cpu).drains;
+        let mut task = self.task(id);
+        task.wakes = task.wakes.saturating_add(1);
+        task.woken = Some(now);
+        task.drains = Some(drains);
+        self.set_task(id, task);
+    }
+}
+
+/// The weight of a nice value; 0 outside the table.
+fn weight_at(nice: i8) -> u32
+    ensures { result ≡ weight_at nice }
+{
+    if (-20..=19).contains(&nice) {
+        weight(nice)
+    } else {
+        0
+    }
+}

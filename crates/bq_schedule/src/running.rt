@@ -1,0 +1,151 @@
+//! Who runs at a processor.
+ghost use Rattle.std.specs.Prelude.{◌≡◌};
+ghost use Rattle.bq_schedule.specs.Figures.{processor_of, task_of};
+ghost use Rattle.bq_schedule.specs.Running.{is_run_by, start_of, starts_as, begun, processor_runs, with_latency, task_started, task_preempted, stopped, started, switched, stop_of, stop_at, start_at};
+
+use crate::asking::count_if;
+use crate::change::{Left, Start, Stop};
+use crate::figures::{ProcessorFigures, TaskFigures};
+use crate::schedule::Schedule;
+
+impl Schedule {
+    /// From now on this task runs at a processor, or none does. Where it is the one that ran before nothing changes.
+    pub(crate) fn switch(
+        &mut self,
+        left: Left,
+        cpu: u8,
+        now: u64,
+        run: Option<u16>,
+    ) -> (Option<Stop>, Option<Start>)
+        ensures figures { self.new ≡ switched left cpu now run self.old }
+        ensures stop { result.0 ≡ stop_at left cpu now run self.old }
+        ensures start { result.1 ≡ start_at left cpu now run self.old }
+    {
+        let running = self.processor(cpu).running;
+        if is_run_by(running, run) {
+            return (None, None);
+        }
+        (self.stop(left, now, running), self.start(cpu, now, run))
+    }
+
+    /// What ran no longer does.
+    fn stop(&mut self, left: Left, now: u64, running: Option<Start>) -> Option<Stop>
+        ensures figures { self.new ≡ stopped left now running self.old }
+        ensures stop { result ≡ stop_of left now running }
+    {
+        let start = running?;
+        if left == Left::Preempted {
+            let mut task = self.task(start.task);
+            task.preempt(now);
+            self.set_task(start.task, task);
+        }
+        Some(Stop {
+            start,
+            at: now,
+            left,
+        })
+    }
+
+    /// A task begins to run, or none.
+    fn start(&mut self, cpu: u8, now: u64, run: Option<u16>) -> Option<Start>
+        ensures figures { self.new ≡ started cpu now run self.old }
+        ensures start { result ≡ starts_as cpu now run self.old }
+    {
+        let mut processor = self.processor(cpu);
+        let start = match run {
+            Some(id) => Some(self.begin(cpu, now, id)),
+            None => None,
+        };
+        processor.run(start);
+        self.set_processor(cpu, processor);
+        start
+    }
+
+    /// A task begins to run.
+    fn begin(&mut self, cpu: u8, now: u64, id: u16) -> Start
+        ensures figures { self.new ≡ begun cpu now id self.old }
+        ensures start { result ≡ start_of cpu id now (task_of self.old id) }
+    {
+        let mut task = self.task(id);
+        let start = task.starting(cpu, now, id);
+        task.start(&start);
+        self.set_task(id, task);
+        start
+    }
+}
+
+impl ProcessorFigures {
+    /// This is what runs from now on.
+    fn run(&mut self, start: Option<Start>)
+        ensures { self.new ≡ processor_runs self.old start }
+    {
+        if start.is_some() {
+            self.switches = self.switches.saturating_add(1);
+        }
+        self.running = start;
+    }
+}
+
+impl TaskFigures {
+    /// How the task begins to run.
+    fn starting(&self, processor: u8, at: u64, task: u16) -> Start
+        ensures { result ≡ start_of processor task at self.now }
+    {
+        let latency = match self.woken {
+            Some(woken) => Some(at.saturating_sub(woken)),
+            None => None,
+        };
+        Start {
+            processor,
+            task,
+            at,
+            waited: at.saturating_sub(self.since),
+            latency,
+            before: self.before,
+        }
+    }
+
+    /// The task begins to run.
+    fn start(&mut self, start: &Start)
+        ensures { self.new ≡ task_started self.old start.now }
+    {
+        self.count_latency(start.latency);
+        self.migrations = count_if(self.migrations, start.has_migrated());
+        self.waited = self.waited.saturating_add(start.waited);
+        self.woken = None;
+        self.drains = None;
+        self.before = Some(start.processor);
+        self.switches = self.switches.saturating_add(1);
+    }
+
+    /// One more latency of a wake, if there is one.
+    fn count_latency(&mut self, latency: Option<u64>)
+        ensures { self.new ≡ with_latency self.old latency }
+    {
+        let Some(latency) = latency else {
+            return;
+        };
+        self.latencies = self.latencies.saturating_add(1);
+        self.latency = self.latency.saturating_add(latency);
+        self.greatest_latency = self.greatest_latency.max(latency);
+    }
+
+    /// Another task runs in its place, and it waits from now on.
+    fn preempt(&mut self, now: u64)
+        ensures { self.new ≡ task_preempted self.old now }
+    {
+        self.since = now;
+        self.preemptions = self.preemptions.saturating_add(1);
+    }
+}
+
+/// Whether what runs is this task, or nothing where there is none.
+fn is_run_by(running: Option<Start>, run: Option<u16>) -> bool
+    ensures { result ≡ is_run_by running run }
+{
+    match (running, run) {
+        (Some(start), Some(id)) => start.task == id,
+        (None, None) => true,
+        _ => false,
+    }
+}

@@ -1,0 +1,167 @@
+//! A schedule as far as answers tell it.
+ghost use Rattle.std.specs.Prelude.{◌≡◌, IfOk, length};
+ghost use Rattle.bq_schedule.specs.Figures.{opening, processor_of, task_of, with_processor, with_task};
+ghost use Rattle.bq_schedule.specs.Standing.{fair_of, undrained};
+ghost use Rattle.bq_schedule.specs.Steps.{after, change, is_there};
+
+use crate::change::Change;
+use crate::figures::{ProcessorFigures, TaskFigures};
+use bq_parts::{Event, Refusal, Reply};
+use std::alloc::{AllocError, Global};
+use std::marker::Model;
+
+/// How many parts of a nanosecond there are: fair times are counted in parts.
+pub const PARTS: u128 = 1_000_000_000_000;
+
+/// How many tasks there may be: ids are 0 to 1023.
+const TASKS: usize = 1024;
+
+/// A schedule: who ran where and when, as events and their answers have told it so far.
+///
+/// It is built one answer at a time, each in a time that does not grow with the history, the tasks or the processors, and
+/// takes no memory after it is made.
+#[derive(Drop)]
+pub struct Schedule {
+    pub(crate) processors: Vec<ProcessorFigures>,
+    pub(crate) tasks: Vec<TaskFigures>,
+    pub(crate) refused: u64,
+}
+
+impl Model for Schedule {
+    ghost use Rattle.bq_schedule.specs.Figures.{Figures};
+
+    ghost Value = { Figures };
+
+    ghost view = { λ s. record { processors = s.processors.items; tasks = s.tasks.items; refused = s.refused } };
+}
+
+impl Schedule {
+    /// The schedule of so many processors, at which nothing has happened. It takes all the memory that it needs.
+    pub fn new(alloc: Global, processors: u8) -> Result<Schedule, AllocError>
+        ensures { IfOk result (λ s. s ≡ opening processors) }
+    {
+        let mut cpus = Vec::with_capacity(alloc, usize::from(processors))?;
+        'processors: for _ in 0..processors {
+            cpus.push(ProcessorFigures::new())?;
+        }
+        let mut tasks = Vec::with_capacity(alloc, TASKS)?;
+        'tasks: for _ in 0..TASKS {
+            tasks.push(TaskFigures::new())?;
+        }
+        Ok(Schedule {
+            processors: cpus,
+            tasks,
+            refused: 0,
+        })
+    }
+
+    /// Takes an event and its answer, and tells what that changed. A refused event is counted, and changes nothing else; so
+    /// does one whose answer is not of its kind, or that names a processor which is not there.
+    pub fn take(&mut self, event: &Event, answer: &Result<Reply, Refusal>) -> Change
+        ensures figures { self.new ≡ after self.old event.now answer.now }
+        ensures change { result ≡ change self.old event.now answer.now }
+    {
+        match answer {
+            Ok(reply) if self.has_processor(event) => self.perform(event, reply),
+            Ok(_) => Change::nothing(),
+            Err(_) => {
+                self.refused = self.refused.saturating_add(1);
+                Change::nothing()
+            }
+        }
+    }
+
+    /// The figures of a processor; of one that is not there, those of one at which nothing happened.
+    pub fn processor(&self, number: u8) -> ProcessorFigures
+        ensures { result ≡ processor_of self.now number }
+    {
+        match self.processors.get(usize::from(number)) {
+            Some(figures) => *figures,
+            None => ProcessorFigures::new(),
+        }
+    }
+
+    /// The figures of a task; of an id that was never admitted, those of one to which nothing happened.
+    pub fn task(&self, id: u16) -> TaskFigures
+        ensures { result ≡ task_of self.now id }
+    {
+        match self.tasks.get(usize::from(id)) {
+            Some(figures) => *figures,
+            None => TaskFigures::new(),
+        }
+    }
+
+    /// The fair time of a task, in parts of a nanosecond: for each moment in which a task ran at the processor where this one
+    /// was runnable, its weight over the weights of all that were runnable there.
+    pub fn fair_time(&self, id: u16) -> u128
+        ensures { result ≡ fair_of self.now id }
+    {
+        self.fair_of(&self.task(id))
+    }
+
+    /// The processor on which a task was placed, where that has not drained its inbox since.
+    pub fn undrained(&self, id: u16) -> Option<u8>
+        ensures { result ≡ undrained self.now id }
+    {
+        let task = self.task(id);
+        let cpu = task.place?;
+        let drains = task.drains?;
+        if self.processor(cpu).drains == drains {
+            Some(cpu)
+        } else {
+            None
+        }
+    }
+
+    /// How many processors there are.
+    pub fn processors(&self) -> usize
+        ensures { result ≡ length self.now.processors }
+    {
+        self.processors.len()
+    }
+
+    /// How many events were refused. It stops at the greatest number.
+    pub fn refused(&self) -> u64
+        ensures { result ≡ self.now.refused }
+    {
+        self.refused
+    }
+}
+
+impl Schedule {
+    /// Whether the processor is there whose clock an event reads, where it reads one.
+    fn has_processor(&self, event: &Event) -> bool
+        ensures { result ≡ is_there self.now event.now }
+    {
+        match event {
+            Event::EndWake { processor, now: _ }
+            | Event::Drain { processor, now: _ }
+            | Event::Tick { processor, now: _ }
+            | Event::Block { processor, now: _ }
+            | Event::Pull {
+                processor,
+                from: _,
+                now: _,
+            } => usize::from(*processor) < self.processors.len(),
+            _ => true,
+        }
+    }
+
+    /// The figures of a processor that is there are these.
+    pub(crate) fn set_processor(&mut self, number: u8, figures: ProcessorFigures)
+        ensures { self.new ≡ with_processor self.old number figures }
+    {
+        if let Some(place) = self.processors.get_mut(usize::from(number)) {
+            *place = figures;
+        }
+    }
+
+    /// The figures of a task whose id is below 1024 are these.
+    pub(crate) fn set_task(&mut self, id: u16, figures: TaskFigures)
+        ensures { self.new ≡ with_task self.old id figures }
+    {
+        if let Some(place) = self.tasks.get_mut(usize::from(id)) {
+            *place = figures;
+        }
+    }
+}

@@ -1,0 +1,13 @@
+//! Stretches of time in which a task runs.
+
+/// A stretch of time in which a task ran at a processor, by that processor's clock, in nanoseconds. It is not empty.
+///
+/// A slice is what one reading of the clock charges: from the reading before to this one. A run is what slices of a task
+/// make that touch each other, as long as no slice of another task or idle time comes between.
+#[derive(Clone, Copy, Debug, PartialEq, Eq)]
+pub struct Slice {
+    pub processor: u8,
+    pub task: u16,
+    pub from: u64,
+    pub to: u64,
+}

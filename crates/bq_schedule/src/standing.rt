@@ -1,0 +1,84 @@
+//! Where tasks are runnable: they come to a processor, and leave it.
+ghost use Rattle.std.specs.Prelude.{◌≡◌};
+ghost use Rattle.bq_schedule.specs.Standing.{pending, fair_at, processor_left, processor_joined, leaves, joins, comes};
+
+use crate::figures::{ProcessorFigures, TaskFigures};
+use crate::schedule::Schedule;
+
+impl Schedule {
+    /// The fair time of a task of these figures, in parts.
+    pub(crate) fn fair_of(&self, task: &TaskFigures) -> u128
+        ensures { result ≡ fair_at self.now task.now task.now.place }
+    {
+        match task.place {
+            Some(cpu) => task
+                .settled
+                .saturating_add(self.processor(cpu).pending(task)),
+            None => task.settled,
+        }
+    }
+
+    /// A task is runnable no longer, where it was.
+    pub(crate) fn leave(&mut self, id: u16)
+        ensures { self.new ≡ leaves id self.old }
+    {
+        let mut task = self.task(id);
+        let Some(cpu) = task.place else {
+            return;
+        };
+        task.settled = self.fair_of(&task);
+        task.place = None;
+        task.drains = None;
+        let mut figures = self.processor(cpu);
+        figures.leave(task.weight);
+        self.set_processor(cpu, figures);
+        self.set_task(id, task);
+    }
+
+    /// A task that is runnable nowhere is runnable at a processor from now on.
+    fn join(&mut self, id: u16, cpu: u8, now: u64)
+        ensures { self.new ≡ joins id cpu now self.old }
+    {
+        let mut task = self.task(id);
+        let mut figures = self.processor(cpu);
+        task.place = Some(cpu);
+        task.since = now;
+        task.joined = figures.shared;
+        figures.join(task.weight);
+        self.set_processor(cpu, figures);
+        self.set_task(id, task);
+    }
+
+    /// A task comes to a processor from wherever it was.
+    pub(crate) fn come(&mut self, id: u16, cpu: u8, now: u64)
+        ensures { self.new ≡ comes id cpu now self.old }
+    {
+        self.leave(id);
+        self.join(id, cpu, now);
+    }
+}
+
+impl ProcessorFigures {
+    /// The share that a task of this processor has had since it came, in parts.
+    fn pending(&self, task: &TaskFigures) -> u128
+        ensures { result ≡ pending self.now task.now }
+    {
+        u128::from(task.weight).saturating_mul(self.shared.saturating_sub(task.joined))
+    }
+
+    /// A task of this weight is runnable here no longer.
+    fn leave(&mut self, weight: u32)
+        ensures { self.new ≡ processor_left self.old weight }
+    {
+        self.runnable = self.runnable.saturating_sub(1);
+        self.weight = self.weight.saturating_sub(u64::from(weight));
+    }
+
+    /// A task of this weight is runnable here from now on.
+    fn join(&mut self, weight: u32)
+        ensures { self.new ≡ processor_joined self.old weight }
+    {
+        self.runnable = self.runnable.saturating_add(1);
+        self.weight = self.weight.saturating_add(u64::from(weight));
+    }
+}
