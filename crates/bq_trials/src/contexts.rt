@@ -1,11 +1,9 @@
 //! Contexts and settled pulls over the queues of both rules. Expected bytes are written field by field from the tables of
 //! docs/CONTEXTS.md.
 
-ghost use Rattle.bq_disc.specs.Queues.{HasSmallIds};
-
 use crate::answer::put;
 use bq_cfs::{Cfs, CfsQueue};
-use bq_disc::{Entity, List, Node, RunQueue};
+use bq_disc::{Entity, List, RunQueue};
 use bq_eevdf::{Eevdf, EevdfQueue};
 use bq_hooks::{By, Choice, Preempt, Pull, preempt_ctx, pull_ctx, settle_pull};
 use std::alloc::{AllocError, Global};
@@ -222,29 +220,13 @@ fn a_pull_of_one_of_two(rt: HostRuntime) -> io::Result<()> {
     Ok(())
 }
 
-/// Puts a task into a queue whose ids are small.
-#[tactic(auto, using(bq_disc::proofs::QueueFacts::queue_facts))]
-fn put_small<Q: RunQueue>(alloc: Global, queue: &mut Q, entity: Entity) -> Result<(), AllocError>
-    requires small { HasSmallIds (Q.members queue.old) }
-    ensures small { HasSmallIds (Q.members queue.new) }
-{
-    let node = Box::new(
-        alloc,
-        Node::new(entity.id(), 1024, entity.mask(), 3_000_000),
-    )?;
-    if queue.get(entity.id()).is_none() {
-        queue.insert(node);
-    }
-    Ok(())
-}
-
 /// Tasks 2 and 3 may be pulled by processor 1, and task 1 may not.
 #[test]
 fn pulls_that_are_permitted(rt: HostRuntime) -> io::Result<()> {
     let mut queue = CfsQueue::empty();
-    put_small(rt.alloc(), &mut queue, Entity::new(1, 1024, 1, 3_000_000))?;
-    put_small(rt.alloc(), &mut queue, Entity::new(2, 1024, 3, 3_000_000))?;
-    put_small(rt.alloc(), &mut queue, Entity::new(3, 1024, 3, 3_000_000))?;
+    put(rt.alloc(), &mut queue, Entity::new(1, 1024, 1, 3_000_000))?;
+    put(rt.alloc(), &mut queue, Entity::new(2, 1024, 3, 3_000_000))?;
+    put(rt.alloc(), &mut queue, Entity::new(3, 1024, 3, 3_000_000))?;
     let cases = [
         (None, Some(3), By::Discipline),
         (Some(1), Some(3), By::Discipline),
