@@ -1,10 +1,10 @@
 -- The worked program with calls of helpers 2, 100 and 101 is straight.
-use Rattle.std.proofs.Common.{◌≡◌, ◌≢◌, ℕ, zero, suc, ◌+◌, ◌<◌, ◌≤◌, Bool, true, false, List, [], ◌∷◌, ◌++◌, Option, Some, None, refl, sym, ap, subst, ◌∙◌, ◌⊎◌, inl, inr, ℤ, pos, arith}
-use Rattle.std.specs.Prelude.{◌&&◌, ◌||◌, if◌then◌else◌, neg_ℤ, slice_index}
+use Rattle.std.proofs.Common.{◌≡◌, ℕ, ◌+◌, ◌<◌, ◌≤◌, Bool, true, false, List, [], ◌∷◌, ◌++◌, Option, Some, None, refl, sym, subst, ◌∙◌, inl, inr, ℤ, pos, arith}
+use Rattle.std.specs.Prelude.{if◌then◌else◌, neg_ℤ, slice_index}
 use Rattle.std.proofs.lemmas.Int.{ints}
 use Rattle.bq_insn.specs.declared.Insn.{Insn}
-use Rattle.bq_insn.specs.declared.Insn.TheVariants.{Alu, Call, Exit}
-use Rattle.bq_insn.specs.declared.Operation.TheVariants.{Add, Mov}
+use Rattle.bq_insn.specs.declared.Insn.TheVariants.{Call, Exit}
+use Rattle.bq_insn.specs.declared.Operation.TheVariants.{Add}
 use Rattle.bq_insn.specs.declared.Size.TheVariants.{Double}
 use Rattle.bq_insn.specs.declared.Source.TheVariants.{Imm}
 use Rattle.bq_insn.specs.declared.Width.TheVariants.{W64}
@@ -17,7 +17,7 @@ use Rattle.bq_graph.specs.Faults.{IsFaultless, destination_of, is_helper}
 use Rattle.bq_graph.specs.declared.cause.Cause.TheVariants.{Jump, NoExit, Unreached, Frame, Helper, Counters}
 use Rattle.bq_graph.proofs.EdgeLemmas.{end_of-push, IsPath-push, exit_is_last}
 use Rattle.bq_views.specs.declared.view.Kind.TheVariants.{Map, Stack}
-use Rattle.bq_verify.specs.Straight.{always, leaves, loads, stores, untouched, writes, HasOneWay, IsByteStored, IsCounting, IsGiving, IsLoaded, IsMoveOnStack, IsNaming, IsPointerFrom, IsWritten, Needs, OnEachPath}
+use Rattle.bq_verify.specs.Straight.{leaves, loads, stores, untouched, writes, HasOneWay, IsByteStored, IsCounting, IsGiving, IsLoaded, IsMoveOnStack, IsNaming, IsPointerFrom, IsWritten, Needs, OnEachPath}
 use Rattle.bq_verify.specs.Worked.{calling, CallingIsStraight}
 use Rattle.bq_verify.proofs.WorkedLemmas.{AllAt, along, at_slot, made_before, made_first, no_distance, no_register, not_false, not_frame, or_true}
 

@@ -4,7 +4,7 @@ use Rattle.std.proofs.lemmas.Bool.{cases_lt}
 use Rattle.bq_insn.specs.declared.Insn.{Insn}
 use Rattle.bq_graph.specs.declared.cause.Cause.{Cause}
 use Rattle.bq_graph.specs.declared.cause.Cause.TheVariants.{Jump, NoExit, Unreached, Frame, Helper, Counters}
-use Rattle.bq_graph.specs.Faults.{HasFault, IsFaultless, IsFirstFault, place_of}
+use Rattle.bq_graph.specs.Faults.{HasFault, IsFirstFault, place_of}
 use Rattle.bq_verify.specs.Laws.{FaultlessHasNone, OneFirstFault}
 
 -- the cause of that check

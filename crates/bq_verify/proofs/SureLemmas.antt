@@ -26,12 +26,12 @@ use Rattle.bq_graph.proofs.EdgeLemmas.{end_of-push, IsPath-push}
 use Rattle.bq_views.specs.declared.view.Kind.{Kind}
 use Rattle.bq_views.specs.declared.view.Kind.TheVariants.{Context, Stack, Entry, EntryOrNull, Map}
 use Rattle.bq_views.specs.declared.view.View.{View}
-use Rattle.bq_views.specs.Standing.{Scalar, Exact, Pointer, NoPointer, Stands, StandsAt, Fact, Never, AtRegister, IsSetAt, IsPlainAt, Has, IsScalarOperand}
+use Rattle.bq_views.specs.Standing.{Scalar, Exact, Pointer, NoPointer, StandsAt, Fact, Never, AtRegister, IsSetAt, IsPlainAt, Has, IsScalarOperand}
 use Rattle.bq_verify.specs.Ways.{HasWaiting, GoesOnSure}
 use Rattle.bq_views.specs.Ready.{IsAsking, IsAtMost, IsCopyOfFrame, IsLeftReady, IsMoveOfPointer, IsNamingEntry, IsPlaced, IsReadable, IsOnFrame, IsIntoEntry, IsReady, IsReadyToAsk, IsUpdating, size_of_shape}
 use Rattle.bq_views.specs.After.{GivesExact, GivesNumber, GivesPointer, IsNoTestOf, LeavesNumber, IsCertain, LeavesPointer, Spares, IsStackByte, StoresByte, After}
 use Rattle.bq_views.proofs.StandingLemmas.{exact_at_most}
-use Rattle.bq_verify.specs.Straight.{held_along, OnEachPath, is_register, writes, leaves, spares, loads, untouched, stores, always, never, IsWritten, IsStored, IsByteStored, IsLoaded, IsContextLeft, IsWrittenOperand, IsWrittenLeft, IsOnStack, MakesPointer, LeavesPointerIn, IsPointerFrom, IsPointerAt, IsInEntry, IsGoodLoad, IsGoodStore, IsCopyOfEnd, IsMoveOnStack, IsNaming, IsGiving, IsCounting, Needs, IsStraightProgram}
+use Rattle.bq_verify.specs.Straight.{held_along, OnEachPath, is_register, writes, leaves, spares, loads, untouched, stores, always, never, IsWritten, IsStored, IsLoaded, IsContextLeft, IsWrittenOperand, IsWrittenLeft, IsOnStack, MakesPointer, LeavesPointerIn, IsPointerFrom, IsPointerAt, IsInEntry, IsGoodLoad, IsGoodStore, IsCopyOfEnd, IsMoveOnStack, IsNaming, IsGiving, IsCounting, Needs, IsStraightProgram}
 use Rattle.bq_verify.specs.Sure.{IsDue, IsSure}
 
 -- of tests joined
@@ -258,11 +258,11 @@ module _ (slots : List (Option Insn)) (shapes : List MapShape) (context slot : �
     set = λ e. absurd (let no : ⊥ = cc in no);
     plain = λ j. has (IsPlainAt j) tt;
   }
-  readable size src off (inr (inl (ten, (at, at_is, inside), stored))) = record {
+  readable size src off (inr (inl (ten, (at, at_is, inside, stored)))) = record {
     kind = Stack;
     at = at;
     placed = frame_placed size src off at ten at_is inside;
-    set = λ e i le lt. has (IsSetAt i) (size, off, stored, (at, at_is, le, lt));
+    set = λ e i le lt. has (IsSetAt i) (stored i le lt);
     plain = λ j. has (IsPlainAt j) tt;
   }
   readable size src off (inr (inr entry)) = record {

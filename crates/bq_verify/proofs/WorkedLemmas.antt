@@ -1,5 +1,5 @@
 -- The worked program is straight.
-use Rattle.std.proofs.Common.{◌≡◌, ◌≢◌, ℕ, zero, suc, ◌+◌, ◌<◌, ◌≤◌, Bool, true, false, List, [], ◌∷◌, ◌++◌, Option, Some, None, refl, sym, subst, ◌∙◌, ◌⊎◌, inl, inr, ℤ, pos, arith}
+use Rattle.std.proofs.Common.{◌≡◌, ℕ, zero, suc, ◌+◌, ◌<◌, ◌≤◌, Bool, true, false, List, [], ◌∷◌, ◌++◌, Option, Some, None, refl, sym, subst, ◌∙◌, inl, inr, ℤ, pos, arith}
 use Rattle.std.specs.Prelude.{◌&&◌, ◌||◌, neg_ℤ, slice_index}
 use Rattle.bq_insn.specs.declared.Insn.{Insn}
 use Rattle.bq_insn.specs.declared.Insn.TheVariants.{Alu, Branch, Call, Exit}
@@ -18,7 +18,7 @@ use Rattle.bq_graph.specs.declared.cause.Cause.TheVariants.{Jump, NoExit, Unreac
 use Rattle.bq_graph.proofs.EdgeLemmas.{end_of-push, IsPath-push, exit_is_last, leads_same}
 use Rattle.bq_views.specs.Ready.{IsNullCheck}
 use Rattle.bq_views.specs.declared.view.Kind.TheVariants.{Entry, EntryOrNull, Map, Stack}
-use Rattle.bq_verify.specs.Straight.{held_along, OnEachPath, always, stores, writes, leaves, HasOneWay, IsByteStored, IsInEntry, IsMoveOnStack, IsNaming, IsPointerAt, IsPointerFrom, IsWritten, Needs}
+use Rattle.bq_verify.specs.Straight.{held_along, OnEachPath, always, stores, writes, leaves, HasOneWay, IsByteStored, IsInEntry, IsMoveOnStack, IsNaming, IsPointerFrom, IsWritten, Needs}
 use Rattle.bq_verify.specs.Worked.{worked, WorkedIsStraight}
 
 -- a fact of each instruction and its slot

@@ -89,7 +89,7 @@ IsWritten slots slot r = OnEachPath slots (writes r) (leaves r) false slot
 abbrev pub IsStored : List (Option Insn) → ℕ → Size → ℤ → Type 0
 IsStored slots slot size off = OnEachPath slots (stores size off) always false slot
 
--- on each path to the slot that byte of the stack was stored
+-- one of the bytes that were so stored on each path
 abbrev pub IsByteStored : List (Option Insn) → ℕ → ℕ → Type 0
 IsByteStored slots slot i = (size : Size) × (off : ℤ) × IsStored slots slot size off × IsStackByte size off i
 
@@ -154,11 +154,16 @@ pub record IsInEntry (slots : List (Option Insn)) (shapes : List MapShape) (slot
   pub off_is : off ≡ pos at
   pub inside : at + byte_count size ≤ shape.value_size
 
+-- all bytes of an access at that offset from register 10 lie on the stack, and were stored on each path to the slot
+abbrev pub IsReadBack : List (Option Insn) → ℕ → Size → ℤ → Type 0
+IsReadBack slots slot size off =
+    (at : ℕ) × (pos at ≡ (pos 512 +ℤ off)) × (at + byte_count size ≤ 512) × ((i : ℕ) → at ≤ i → i < at + byte_count size → IsByteStored slots slot i)
+
 -- a load: of the context by register 1, of what was stored by register 10, or of an entry
 abbrev pub IsGoodLoad : List (Option Insn) → List MapShape → ℕ → ℕ → Size → ℕ → ℤ → Type 0
 IsGoodLoad slots shapes context slot size src off =
     ((src ≡ 1) × IsContextLeft slots slot × (at : ℕ) × (off ≡ pos at) × (at + byte_count size ≤ context))
-    ⊎ (((src ≡ 10) × IsOnStack size off × IsStored slots slot size off) ⊎ IsInEntry slots shapes slot src size off)
+    ⊎ (((src ≡ 10) × IsReadBack slots slot size off) ⊎ IsInEntry slots shapes slot src size off)
 
 -- a store: on the stack by register 10, or into an entry by another
 abbrev pub IsGoodStore : List (Option Insn) → List MapShape → ℕ → Size → ℕ → ℤ → Type 0

@@ -1,5 +1,5 @@
 -- What the pass is sure to know on the way through a straight program.
-use Rattle.std.specs.Prelude.{Bool, ◌≡◌, ℕ, ◌+◌, List, Option, ◌⊎◌}
+use Rattle.std.specs.Prelude.{Bool, ◌≡◌, ℕ, List, Option, ◌⊎◌}
 use Rattle.std.proofs.Common.{Global}
 use Rattle.std.specs.declared.boxed.Box.{Box}
 use Rattle.bq_insn.specs.declared.Insn.{Insn}

@@ -1,7 +1,7 @@
-use Rattle.std.proofs.Common.{◌≡◌, Option, Some, pos, true, false, inl, inr, subst, sym}
+use Rattle.std.proofs.Common.{◌≡◌, Option, Some, true, false, inl, inr, subst, sym}
 use Rattle.bq_views.specs.declared.view.Kind.TheVariants.{EntryOrNull, Number}
 use Rattle.bq_views.specs.declared.view.Known.{Known}
-use Rattle.bq_views.specs.Standing.{IsWord, Pointer, Scalar, Stands}
+use Rattle.bq_views.specs.Standing.{Pointer, Scalar, Stands}
 use Rattle.bq_views.specs.Sides.{is_found}
 use Rattle.bq_verify.proofs.SideLemmas.{known_inside, has_on_side, has_on_tested, has_relearned}
 use Rattle.bq_verify.specs.Control.{IsKnown}
