@@ -1,2 +1,4 @@
 pub mod Frames
 pub mod Clocks
+pub mod Times
+pub mod Sums
