@@ -95,11 +95,11 @@ outside a b e h = grind (arith, nat_tests)
 
 -- where the event's processor is not there, nothing is shown of one that is
 shows-nothing : (s : Figures) (e : Event) (r : Reply) → is_there s e ≡ false → IsWithin (length s.processors) (sight e r) → Shows s s (sight e r)
-shows-nothing s (EndWake cpu now) (Placed task to by steps) none h = absurd (outside cpu (length s.processors) none h.0)
-shows-nothing s (Drain cpu now) (Drained count run by steps) none h = absurd (outside cpu (length s.processors) none h.0)
-shows-nothing s (Tick cpu now) (Ticked run by steps) none h = absurd (outside cpu (length s.processors) none h.0)
-shows-nothing s (Block cpu now) (Went task run) none h = absurd (outside cpu (length s.processors) none h.0)
-shows-nothing s (Pull cpu from now) (Pulled task run by steps) none h = absurd (outside cpu (length s.processors) none h.0)
+shows-nothing s (EndWake cpu now) (Placed task to by steps) none h = absurd (outside cpu (length s.processors) none h)
+shows-nothing s (Drain cpu now) (Drained count run by steps) none h = absurd (outside cpu (length s.processors) none h)
+shows-nothing s (Tick cpu now) (Ticked run by steps) none h = absurd (outside cpu (length s.processors) none h)
+shows-nothing s (Block cpu now) (Went task run) none h = absurd (outside cpu (length s.processors) none h)
+shows-nothing s (Pull cpu from now) (Pulled task run by steps) none h = absurd (outside cpu (length s.processors) none h)
 shows-nothing s e r none h = (works-id s, running-id s)
 
 shows-if : (b : Bool) (s : Figures) (e : Event) (r : Reply) → is_there s e ≡ b → IsWithin (length s.processors) (sight e r) → Shows s (cond b (performed s e r) s) (sight e r)

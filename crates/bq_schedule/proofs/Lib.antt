@@ -2,3 +2,4 @@ pub mod Frames
 pub mod Clocks
 pub mod Times
 pub mod Sums
+pub mod Worlds

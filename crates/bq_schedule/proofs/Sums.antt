@@ -87,7 +87,7 @@ clocks-kept s t h = sums_alike last_of t.processors s.processors h.count (λ j. 
 
 clocks-shown : (s s' : Figures) (o : Option Sight) → IsWithin (length s.processors) o → Shows s s' o → clocks_of s + worth any (slice_seen s o) ≤ clocks_of s'
 clocks-shown s s' None w h = omega (arith, clocks-kept s s' h.0)
-clocks-shown s s' (Some x) w h = omega (arith, clocks-kept (read_at x.cpu x.now s) s' h.0, clocks-read_at x.cpu x.now s w.0)
+clocks-shown s s' (Some x) w h = omega (arith, clocks-kept (read_at x.cpu x.now s) s' h.0, clocks-read_at x.cpu x.now s w)
 
 -- all slices together are no longer than all clocks
 slices-le-clocks : (count : ℕ) (past : History) → IsOf count past → time_in any (slices past) ≤ clocks_of (figures count past)

@@ -45,11 +45,11 @@ outside : (a b : ℕ) → ltb a b ≡ false → a < b → ⊥
 outside a b e h = grind (arith, nat_tests)
 
 seen-nothing : (s : Figures) (e : Event) (r : Reply) → is_there s e ≡ false → IsWithin (length s.processors) (sight e r) → None ≡ slice_seen s (sight e r)
-seen-nothing s (EndWake cpu now) (Placed task to by steps) none h = absurd (outside cpu (length s.processors) none h.0)
-seen-nothing s (Drain cpu now) (Drained count run by steps) none h = absurd (outside cpu (length s.processors) none h.0)
-seen-nothing s (Tick cpu now) (Ticked run by steps) none h = absurd (outside cpu (length s.processors) none h.0)
-seen-nothing s (Block cpu now) (Went task run) none h = absurd (outside cpu (length s.processors) none h.0)
-seen-nothing s (Pull cpu from now) (Pulled task run by steps) none h = absurd (outside cpu (length s.processors) none h.0)
+seen-nothing s (EndWake cpu now) (Placed task to by steps) none h = absurd (outside cpu (length s.processors) none h)
+seen-nothing s (Drain cpu now) (Drained count run by steps) none h = absurd (outside cpu (length s.processors) none h)
+seen-nothing s (Tick cpu now) (Ticked run by steps) none h = absurd (outside cpu (length s.processors) none h)
+seen-nothing s (Block cpu now) (Went task run) none h = absurd (outside cpu (length s.processors) none h)
+seen-nothing s (Pull cpu from now) (Pulled task run by steps) none h = absurd (outside cpu (length s.processors) none h)
 seen-nothing s e r none h = refl
 
 seen-if : (b : Bool) (s : Figures) (e : Event) (r : Reply) → is_there s e ≡ b → IsWithin (length s.processors) (sight e r) → (cond b (performed_told s e r) nothing).slice ≡ slice_seen s (sight e r)
@@ -68,7 +68,7 @@ stretch_is cpu from to (Some start) = refl
 pub shown-seen : (count : ℕ) (past : History) (o : Option Sight) → IsOf count past → IsWithin count o → slice_seen (figures count past) o ≡ slice_shown past o
 shown-seen count past None h w = refl
 shown-seen count past (Some x) h w =
-    let c = clocks count past x.cpu h w.0 in
+    let c = clocks count past x.cpu h w in
     let p = processor_of (figures count past) x.cpu in
     stretch_is x.cpu p.last (reading p.last x.now) p.running
     ∙ ap (λ n. stretch x.cpu (who p) n (reading n x.now)) c.0

@@ -1,5 +1,5 @@
 //! The laws of schedules, each as the contract of a function that does nothing.
-ghost use Rattle.bq_schedule.specs.Laws.{AddsUpSlices, ShowsClocks, TellsSlices};
+ghost use Rattle.bq_schedule.specs.Laws.{AddsUpSlices, FillsWindow, IsCharged, ShowsClocks, SlicesStandApart, TellsSlices};
 
 /// A schedule shows each processor's last reading, and who runs there.
 pub fn shows_clocks()
@@ -14,4 +14,20 @@ pub fn tells_slices()
 /// The time of a task is the sum of its slices, and that of a processor is the sum of the slices there.
 pub fn adds_up_slices()
     ensures { AddsUpSlices }
+{}
+
+/// In every history of a world the clocks and the running tasks are those by which the slices are cut. So the time of a slice
+/// is what the world charged its task.
+pub fn is_charged()
+    ensures { IsCharged }
+{}
+
+/// The slices of a processor do not overlap: each ends before the next begins, or where it does, and none is empty.
+pub fn slices_stand_apart()
+    ensures { SlicesStandApart }
+{}
+
+/// The slices of a processor and its idle time fill the time from its first reading to the last.
+pub fn fills_window()
+    ensures { FillsWindow }
 {}
