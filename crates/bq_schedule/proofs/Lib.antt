@@ -3,3 +3,5 @@ pub mod Clocks
 pub mod Times
 pub mod Sums
 pub mod Worlds
+pub mod Apart
+pub mod Windows
