@@ -17,9 +17,11 @@ end_later n k xs le h = All-weaker (λ (s : Slice). s.to ≤ n) (λ (s : Slice).
 
 apart-push : (xs : List Slice) (y : Slice) → StandApart xs → All (λ (s : Slice). s.to ≤ y.from) xs → y.from < y.to → StandApart (xs ++ y ∷ [])
 apart-push [] y h e lt = (lt, All-nil (λ (next : Slice). y.to ≤ next.from), tt)
-apart-push (x ∷ xs) y h e lt =
-    (h.0, All-push (λ (next : Slice). x.to ≤ next.from) xs y h.1 (All-head (λ (s : Slice). s.to ≤ y.from) x xs e),
-     apart-push xs y h.2 (All-tail (λ (s : Slice). s.to ≤ y.from) x xs e) lt)
+apart-push (x ∷ xs) y h e lt = (
+  h.0,
+  All-push (λ (next : Slice). x.to ≤ next.from) xs y h.1 (All-head (λ (s : Slice). s.to ≤ y.from) x xs e),
+  apart-push xs y h.2 (All-tail (λ (s : Slice). s.to ≤ y.from) x xs e) lt,
+)
 
 -- the slice, if it is at that processor
 abbrev pub at_only : ℕ → Option Slice → Option Slice
@@ -41,9 +43,10 @@ IsNext c r (Some y) = (y.from ≡ c) × (y.from < y.to) × (y.to ≤ r)
 
 grow : (xs : List Slice) (o : Option Slice) (c r : ℕ) → StandApart xs × EndBy c xs → IsNext c r o → StandApart (xs ++ option_to_list o) × EndBy r (xs ++ option_to_list o)
 grow xs None c r h n = rw append-nil (h.0, end_later c r xs n h.1)
-grow xs (Some y) c r h n =
-    (apart-push xs y h.0 (end_later c y.from xs (omega (arith, n.0)) h.1) n.1,
-     All-push (λ (s : Slice). s.to ≤ r) xs y (end_later c r xs (omega (arith, n.0, n.1, n.2)) h.1) n.2)
+grow xs (Some y) c r h n = (
+  apart-push xs y h.0 (end_later c y.from xs (omega (arith, n.0)) h.1) n.1,
+  All-push (λ (s : Slice). s.to ≤ r) xs y (end_later c r xs (omega (arith, n.0, n.1, n.2)) h.1) n.2,
+)
 
 rises : (b : Bool) (c now : ℕ) → c ≤ cond b (reading c now) c
 rises true c now = omega arith
@@ -71,6 +74,6 @@ stand_apart [] cpu = (tt, All-nil (λ (s : Slice). s.to ≤ 0))
 stand_apart (m ∷ past) cpu =
     let o = sight_of m.event m.answer in
     let is : slices_at cpu (m ∷ past) ≡ slices_at cpu past ++ option_to_list (at_only cpu (slice_shown past o)) =
-        filter-append (is_at cpu) (slices past) (option_to_list (slice_shown past o)) ∙ ap (λ ys. slices_at cpu past ++ ys) (filter-one cpu (slice_shown past o)) in
+    filter-append (is_at cpu) (slices past) (option_to_list (slice_shown past o)) ∙ ap (λ ys. slices_at cpu past ++ ys) (filter-one cpu (slice_shown past o)) in
     let P : List Slice → Type 0 = λ xs. StandApart xs × All (λ (s : Slice). s.to ≤ clock cpu (m ∷ past)) xs in
     subst P (sym is) (grow (slices_at cpu past) (at_only cpu (slice_shown past o)) (clock cpu past) (clock cpu (m ∷ past)) (stand_apart past cpu) (next_shown past cpu o))

@@ -79,8 +79,12 @@ slice-le-rise cpu now p = omega (arith, worth-le-rise cpu p.last (reading p.last
 clocks-read_at : (cpu now : ℕ) (s : Figures) → cpu < length s.processors → clocks_of s + worth any (slice_at cpu (processor_of s cpu) now) ≤ clocks_of (read_at cpu now s)
 clocks-read_at cpu now s inside =
     let p = processor_of s cpu in
-    omega (arith, slice-le-rise cpu now p, sum_by-set last_of s.processors cpu (processor_read cpu p now) unread inside,
-        ap (λ l. sum_by last_of l) (processors-read_at cpu now s))
+    omega (
+      arith,
+      slice-le-rise cpu now p,
+      sum_by-set last_of s.processors cpu (processor_read cpu p now) unread inside,
+      ap (λ l. sum_by last_of l) (processors-read_at cpu now s),
+    )
 
 clocks-kept : (s t : Figures) → KeepsWorks s t → clocks_of t ≡ clocks_of s
 clocks-kept s t h = sums_alike last_of t.processors s.processors h.count (λ j. ap (λ (w : Works). w.last) (h.at j))
@@ -96,8 +100,13 @@ slices-le-clocks count (m ∷ past) h =
     let s = figures count past in
     let o = sight_of m.event m.answer in
     let w = within-figures count past m h in
-    omega (arith, slices-le-clocks count past h.1, clocks-shown s (after s m.event m.answer) o w (shows-after s m.event m.answer w),
-        time_in-more any (slices past) (slice_shown past o), ap (worth any) (shown-seen count past o h.1 h.0))
+    omega (
+      arith,
+      slices-le-clocks count past h.1,
+      clocks-shown s (after s m.event m.answer) o w (shows-after s m.event m.answer w),
+      time_in-more any (slices past) (slice_shown past o),
+      ap (worth any) (shown-seen count past o h.1 h.0),
+    )
 
 short_if : (b : Bool) (last now : ℕ) → last ≤ 281474976710655 → cond b (reading last now) last ≤ 281474976710655
 short_if true last now h = omega arith
@@ -116,9 +125,9 @@ clocks-are-short : (count : ℕ) (past : History) → count ≤ 255 → IsOf cou
 clocks-are-short count past few h =
     let s = figures count past in
     let all : All (λ (p : ProcessorFigures). last_of p ≤ 281474976710655) s.processors =
-        All-from_get_or (λ (p : ProcessorFigures). last_of p ≤ 281474976710655) s.processors unread (λ i inside.
-            let i' : i < count = omega (arith, count-figures count past h) in
-            omega (arith, (clocks count past i h i').0, clock-is-short i past)) in
+    All-from_get_or (λ (p : ProcessorFigures). last_of p ≤ 281474976710655) s.processors unread (λ i inside.
+    let i' : i < count = omega (arith, count-figures count past h) in
+    omega (arith, (clocks count past i h i').0, clock-is-short i past)) in
     omega (arith, count-figures count past h, sum_by-le last_of 281474976710655 s.processors all)
 
 -- the time of a task rises by the slices that are of it
@@ -162,8 +171,13 @@ tasks-figures count (m ∷ past) h =
 fits-next : (chosen : Slice → Bool) (count : ℕ) (past : History) (m : Moment) → count ≤ 255 → IsOf count (m ∷ past) →
     time_in chosen (slices past) + worth chosen (slice_shown past (sight_of m.event m.answer)) ≤ 18446744073709551615
 fits-next chosen count past m few h =
-    omega (arith, time_in-more chosen (slices past) (slice_shown past (sight_of m.event m.answer)), time_in-le chosen (slices (m ∷ past)),
-        slices-le-clocks count (m ∷ past) h, clocks-are-short count (m ∷ past) few h)
+    omega (
+      arith,
+      time_in-more chosen (slices past) (slice_shown past (sight_of m.event m.answer)),
+      time_in-le chosen (slices (m ∷ past)),
+      slices-le-clocks count (m ∷ past) h,
+      clocks-are-short count (m ∷ past) few h,
+    )
 
 pub times : (count : ℕ) (past : History) → count ≤ 255 → IsOf count past → (id : ℕ) → id < 1024 → (task_of (figures count past) id).time ≡ time_in (is_of id) (slices past)
 times count [] few h id inside = ap (λ (t : TaskFigures). t.time) (get_or-replicate 1024 id unknown unknown inside)
@@ -174,8 +188,13 @@ times count (m ∷ past) few h id inside =
     let seen = ap (worth (is_of id)) (shown-seen count past o h.1 h.0) in
     let inside' : id < length s.tasks = omega (arith, tasks-figures count past h.1) in
     let fits : (task_of s id).time + worth (is_of id) (slice_seen s o) ≤ 18446744073709551615 = omega (arith, before, seen, fits-next (is_of id) count past m few h) in
-    omega (arith, before, seen, time_in-more (is_of id) (slices past) (slice_shown past o),
-        time-shown s (after s m.event m.answer) o id inside' fits (shows-after s m.event m.answer (within-figures count past m h)))
+    omega (
+      arith,
+      before,
+      seen,
+      time_in-more (is_of id) (slices past) (slice_shown past o),
+      time-shown s (after s m.event m.answer) o id inside' fits (shows-after s m.event m.answer (within-figures count past m h)),
+    )
 
 -- the busy time of a processor rises by the slices that are there
 busy-read_at : (cpu now j : ℕ) (s : Figures) (b : Bool) → j < length s.processors → ((b ≡ true) × (cpu ≡ j)) ⊎ ((b ≡ false) × (cpu ≢ j)) →
@@ -222,8 +241,13 @@ busy count (m ∷ past) few h cpu inside =
     let seen = ap (worth (is_at cpu)) (shown-seen count past o h.1 h.0) in
     let inside' : cpu < length s.processors = omega (arith, count-figures count past h.1) in
     let fits : (processor_of s cpu).busy + worth (is_at cpu) (slice_seen s o) ≤ 18446744073709551615 = omega (arith, before, seen, fits-next (is_at cpu) count past m few h) in
-    omega (arith, before, seen, time_in-more (is_at cpu) (slices past) (slice_shown past o),
-        busy-shown s (after s m.event m.answer) o cpu inside' fits (shows-after s m.event m.answer (within-figures count past m h)))
+    omega (
+      arith,
+      before,
+      seen,
+      time_in-more (is_at cpu) (slices past) (slice_shown past o),
+      busy-shown s (after s m.event m.answer) o cpu inside' fits (shows-after s m.event m.answer (within-figures count past m h)),
+    )
 
 pub adds_up : (count : ℕ) (past : History) → count ≤ 255 → IsOf count past →
     ((id : ℕ) → id < 1024 → (task_of (figures count past) id).time ≡ time_in (is_of id) (slices past))

@@ -47,9 +47,9 @@ begun-read_as p to s (Some first) e le none h = (first, rw e refl, omega (arith,
 begun-read : (cpu now : ℕ) (p : ProcessorFigures) → Filled p → HasBegun (works (processor_read cpu p now))
 begun-read cpu now p h =
     begun-read_as p (reading p.last now) (slice_at cpu p now) p.first refl
-        (length-le-rise cpu p.last (reading p.last now) p.running (ltb p.last (reading p.last now)) refl (omega arith))
-        (λ none. ap (λ o. length_of (slice_between cpu p.last (reading p.last now) o)) none)
-        h
+    (length-le-rise cpu p.last (reading p.last now) p.running (ltb p.last (reading p.last now)) refl (omega arith))
+    (λ none. ap (λ o. length_of (slice_between cpu p.last (reading p.last now) o)) none)
+    h
 
 same_works : (p q : ProcessorFigures) → works q ≡ works p → q.running ≡ p.running → Filled p → Filled q
 same_works p q w r h =
@@ -90,7 +90,7 @@ filled count [] cpu h inside =
 filled count (m ∷ past) cpu h inside =
     let s = figures count past in
     filled-shown s (after s m.event m.answer) (sight_of m.event m.answer) cpu (omega (arith, count-figures count past h.1))
-        (shows-after s m.event m.answer (within-figures count past m h)) (filled count past cpu h.1 inside)
+    (shows-after s m.event m.answer (within-figures count past m h)) (filled count past cpu h.1 inside)
 
 fills_if : (first : Option ℕ) (p : ProcessorFigures) → p.first ≡ first → IsFilled first p.last p.busy p.running → p.busy + idle_of p ≡ window_since p.first p.last
 fills_if None p e h = rw e (omega (arith, h.0))

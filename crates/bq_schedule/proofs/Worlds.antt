@@ -147,20 +147,20 @@ shown-performs s w (Install cpu hook g policy) calls Installed w' h k = like w _
 shown-performs s w (BeginWake cpu id) calls (Begun task loads) w' h k = like w _ w' None (ap (λ (v : World). v.processors) (sym k.5)) (kept w cpu _ refl refl)
 shown-performs s w (EndWake cpu now) calls (Placed task to by steps) w' h k =
     like w _ w' _ (ap (λ (v : World). v.processors) (sym k.4.5))
-        (read_there w (record { cpu = cpu; now = now; run = None }) _ refl (id-charged s.discipline (processor w cpu).running.current _))
+    (read_there w (record { cpu = cpu; now = now; run = None }) _ refl (id-charged s.discipline (processor w cpu).running.current _))
 shown-performs s w (Drain cpu now) calls (Drained count run by steps) w' h k =
     let p = enter_all s.discipline (charge s.discipline (processor w cpu).running now) (get_or w.inboxes cpu []) in
     like w _ w' _ (ap (λ (v : World). v.processors) (sym k.1.6))
-        (read_there w (record { cpu = cpu; now = now; run = Some run }) _ (last-decided s.discipline p p.current (k.0.choice == 1)) (sym k.1.2))
+    (read_there w (record { cpu = cpu; now = now; run = Some run }) _ (last-decided s.discipline p p.current (k.0.choice == 1)) (sym k.1.2))
 shown-performs s w (Tick cpu now) calls (Ticked run by steps) w' h k =
     let p = charge s.discipline (processor w cpu).running now in
     like w _ w' _ (ap (λ (v : World). v.processors) (sym k.1.5))
-        (read_there w (record { cpu = cpu; now = now; run = Some run }) _ (last-decided s.discipline p p.current (k.0.choice == 1)) (sym k.1.1))
+    (read_there w (record { cpu = cpu; now = now; run = Some run }) _ (last-decided s.discipline p p.current (k.0.choice == 1)) (sym k.1.1))
 shown-performs s w (Block cpu now) calls (Went task run) w' h k =
     let p = charge s.discipline (processor w cpu).running now in
     let rest : Running = record p { current = None } in
     like w _ w' _ (ap (λ (v : World). v.processors) (sym k.1.4))
-        (read_there w (record { cpu = cpu; now = now; run = Some run }) _ (last-run_id rest (id_of (s.discipline.choice rest.queue))) (sym k.1.3))
+    (read_there w (record { cpu = cpu; now = now; run = Some run }) _ (last-run_id rest (id_of (s.discipline.choice rest.queue))) (sym k.1.3))
 shown-performs s w (Pull cpu from now) calls (Moved task run by steps) w' h k =
     let d = s.discipline in
     let f = there (count_in w) cpu _ (accepted w (Pull cpu from now) h) in
@@ -174,11 +174,11 @@ shown-performs s w (Pull cpu from now) calls (Moved task run by steps) w' h k =
     let u = with_processor w cpu p in
     let there' : processor u from ≡ processor w from = get_or-set_other w.processors cpu from p opening (λ e. apart (sym e)) in
     then_kept w u w' (Some (record { cpu = cpu; now = now; run = Some run }))
-        (read_there w (record { cpu = cpu; now = now; run = Some run }) p (last-started_if_idle d (with_pulled d c.running taken) c.running.current ∙ last-with_pulled d c.running taken) (sym k.1.2))
-        (like u (with_processor u from q) w' None (ap (λ (v : World). v.processors) (sym k.1.6))
-            (kept u from q
-                (last-without_task other.running task ∙ ap (λ (v : Processor). v.running.last) (sym there'))
-                (ap id_of (current-without_task other.running task) ∙ ap (λ (v : Processor). id_of v.running.current) (sym there'))))
+    (read_there w (record { cpu = cpu; now = now; run = Some run }) p (last-started_if_idle d (with_pulled d c.running taken) c.running.current ∙ last-with_pulled d c.running taken) (sym k.1.2))
+    (like u (with_processor u from q) w' None (ap (λ (v : World). v.processors) (sym k.1.6))
+    (kept u from q
+    (last-without_task other.running task ∙ ap (λ (v : Processor). v.running.last) (sym there'))
+    (ap id_of (current-without_task other.running task) ∙ ap (λ (v : Processor). id_of v.running.current) (sym there'))))
 shown-performs s w e calls r w' h k = absurd k
 
 -- an event that is not refused names a processor that is there
