@@ -5,3 +5,4 @@ pub mod Sums
 pub mod Worlds
 pub mod Apart
 pub mod Windows
+pub mod Wakes

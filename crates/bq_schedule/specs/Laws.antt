@@ -1,5 +1,5 @@
 -- The laws of schedules.
-use Rattle.std.specs.Prelude.{◌≡◌, ℕ, ◌+◌, ◌-◌, ◌*◌, ◌<◌, ◌≤◌, All, List, [], ◌∷◌, ◌++◌, length, Option, Some, None, Result, option_to_list}
+use Rattle.std.specs.Prelude.{◌≡◌, ℕ, ◌+◌, ◌-◌, ◌*◌, ◌<◌, ◌≤◌, true, All, List, [], ◌∷◌, ◌++◌, length, Option, Some, None, Result, option_to_list}
 use Rattle.std.specs.Option.{option_map}
 use Rattle.bq_disc.specs.Tasks.{id_of}
 use Rattle.bq_disc.specs.Discipline.{Discipline}
@@ -16,6 +16,7 @@ use Rattle.bq_schedule.specs.Moments.{Moment, History}
 use Rattle.bq_schedule.specs.Figures.{Figures, processor_of, task_of}
 use Rattle.bq_schedule.specs.Passing.{idle_of}
 use Rattle.bq_schedule.specs.Slices.{Sight, sight_of, clock, runner, slices, time_in, is_of, is_at, StandApart, slices_at}
+use Rattle.bq_schedule.specs.Wakes.{begins, awaited}
 use Rattle.bq_schedule.specs.Steps.{after, change, figures}
 
 -- what is shown is of a processor that is there
@@ -74,3 +75,12 @@ abbrev pub FillsWindow : Type 0
 FillsWindow = (count : ℕ) (past : History) (cpu : ℕ) → count ≤ 255 → IsOf count past → cpu < count →
     let p = processor_of (figures count past) cpu in
     time_in (is_at cpu) (slices past) + idle_of p ≡ window_since p.first p.last
+
+-- A start is told where its task begins to run, and with it the distance from the end of its last wake, where it has not run
+-- since that: so a wake has at most one latency, the distance to its task's first run
+abbrev pub TellsLatencies : Type 0
+TellsLatencies = (count : ℕ) (past : History) (m : Moment) (start : Start) → IsOf count (m ∷ past) → start.task < 1024 →
+    (change (figures count past) m.event m.answer).start ≡ Some start →
+    (begins start.task past (sight_of m.event m.answer) ≡ true)
+    × (start.at ≡ clock start.processor (m ∷ past))
+    × (start.latency ≡ option_map (λ (woken : ℕ). start.at - woken) (awaited start.task past))

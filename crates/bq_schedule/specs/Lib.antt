@@ -7,4 +7,5 @@ pub mod Running
 pub mod Steps
 pub mod Percentiles
 pub mod Slices
+pub mod Wakes
 pub mod Laws

@@ -1,5 +1,5 @@
 //! The laws of schedules, each as the contract of a function that does nothing.
-ghost use Rattle.bq_schedule.specs.Laws.{AddsUpSlices, FillsWindow, IsCharged, ShowsClocks, SlicesStandApart, TellsSlices};
+ghost use Rattle.bq_schedule.specs.Laws.{AddsUpSlices, FillsWindow, IsCharged, ShowsClocks, SlicesStandApart, TellsLatencies, TellsSlices};
 
 /// A schedule shows each processor's last reading, and who runs there.
 pub fn shows_clocks()
@@ -30,4 +30,10 @@ pub fn slices_stand_apart()
 /// The slices of a processor and its idle time fill the time from its first reading to the last.
 pub fn fills_window()
     ensures { FillsWindow }
+{}
+
+/// A start is told where its task begins to run, with the distance from the end of its last wake, where it has not run since
+/// that. So a wake has at most one latency: the distance to its task's first run.
+pub fn tells_latencies()
+    ensures { TellsLatencies }
 {}
