@@ -6,3 +6,4 @@ pub mod Worlds
 pub mod Apart
 pub mod Windows
 pub mod Wakes
+pub mod Purses

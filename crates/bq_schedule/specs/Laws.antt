@@ -14,7 +14,10 @@ use Rattle.bq_schedule.specs.declared.change.Start.{Start}
 use Rattle.bq_schedule.specs.declared.slice.Slice.{Slice}
 use Rattle.bq_schedule.specs.Moments.{Moment, History}
 use Rattle.bq_schedule.specs.Figures.{Figures, processor_of, task_of}
-use Rattle.bq_schedule.specs.Passing.{idle_of}
+use Rattle.bq_schedule.specs.Counts.{parts}
+use Rattle.bq_schedule.specs.Passing.{idle_of, part_of}
+use Rattle.bq_schedule.specs.Standing.{fair_of}
+use Rattle.bq_schedule.specs.FairTimes.{share, all_fair, all_unshared, all_busy}
 use Rattle.bq_schedule.specs.Slices.{Sight, sight_of, clock, runner, slices, time_in, is_of, is_at, StandApart, slices_at}
 use Rattle.bq_schedule.specs.Wakes.{begins, awaited}
 use Rattle.bq_schedule.specs.Steps.{after, change, figures}
@@ -84,3 +87,18 @@ TellsLatencies = (count : ℕ) (past : History) (m : Moment) (start : Start) →
     (begins start.task past (sight_of m.event m.answer) ≡ true)
     × (start.at ≡ clock start.processor (m ∷ past))
     × (start.latency ≡ option_map (λ (woken : ℕ). start.at - woken) (awaited start.task past))
+
+-- the fair time of a task rises at each reading by its share of the slice, and by nothing else
+abbrev pub SharesOut : Type 0
+SharesOut = (count : ℕ) (past : History) (m : Moment) (id : ℕ) → count ≤ 255 → IsOf count (m ∷ past) →
+    fair_of (figures count (m ∷ past)) id ≡ fair_of (figures count past) id + share (figures count past) (sight_of m.event m.answer) id
+
+-- all fair times, and what could not be shared in whole parts, add up to the time in which any task ran
+abbrev pub AddsUpFairTimes : Type 0
+AddsUpFairTimes = (count : ℕ) (past : History) → count ≤ 255 → IsOf count past →
+    let s = figures count past in
+    all_fair s + all_unshared s ≡ parts * all_busy s
+
+-- of a slice less is left over than there is weight
+abbrev pub LeavesLittle : Type 0
+LeavesLittle = (time weight : ℕ) → 0 < weight → time * parts - weight * part_of time weight < weight

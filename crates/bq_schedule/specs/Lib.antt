@@ -8,4 +8,5 @@ pub mod Steps
 pub mod Percentiles
 pub mod Slices
 pub mod Wakes
+pub mod FairTimes
 pub mod Laws

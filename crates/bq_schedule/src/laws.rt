@@ -1,5 +1,5 @@
 //! The laws of schedules, each as the contract of a function that does nothing.
-ghost use Rattle.bq_schedule.specs.Laws.{AddsUpSlices, FillsWindow, IsCharged, ShowsClocks, SlicesStandApart, TellsLatencies, TellsSlices};
+ghost use Rattle.bq_schedule.specs.Laws.{AddsUpFairTimes, AddsUpSlices, FillsWindow, IsCharged, LeavesLittle, SharesOut, ShowsClocks, SlicesStandApart, TellsLatencies, TellsSlices};
 
 /// A schedule shows each processor's last reading, and who runs there.
 pub fn shows_clocks()
@@ -36,4 +36,20 @@ pub fn fills_window()
 /// that. So a wake has at most one latency: the distance to its task's first run.
 pub fn tells_latencies()
     ensures { TellsLatencies }
+{}
+
+/// The fair time of a task rises at each reading by its weight over all weights that are runnable there, of the slice that the
+/// reading charges, in whole parts; and by nothing else.
+pub fn shares_out()
+    ensures { SharesOut }
+{}
+
+/// All fair times, and what could not be shared in whole parts, add up to the time in which any task ran.
+pub fn adds_up_fair_times()
+    ensures { AddsUpFairTimes }
+{}
+
+/// Of a slice fewer parts are left over than there are units of weight.
+pub fn leaves_little()
+    ensures { LeavesLittle }
 {}
