@@ -4,8 +4,8 @@ use crate::form::Form;
 use crate::names::Names;
 use crate::percentiles::WakeLatencies;
 use crate::tables::{
-    HOOK_HEAD, LATENCY_HEAD, PROCESSOR_HEAD, TASK_HEAD, write_hook_lines, write_latency_line,
-    write_processor_line, write_task_line,
+    HOOK_HEAD, LATENCY_HEAD, PROCESSOR_HEAD, TASK_HEAD, nanoseconds, write_hook_lines,
+    write_latency_line, write_processor_line, write_task_line,
 };
 use crate::window::Window;
 use bq_schedule::{Change, ProcessorFigures, Schedule};
@@ -41,7 +41,9 @@ impl Report {
         for task in 0..IDS {
             let figures = schedule.task(task);
             if figures.is_admitted && self.window.shows_task(task) {
-                write_task_line(text, task, names, &figures, schedule.fair_time(task))?;
+                let name = names.of(task).unwrap_or("");
+                let fair = nanoseconds(schedule.fair_time(task));
+                write_task_line(text, task, name, &figures, fair)?;
             }
         }
         Ok(())
@@ -58,7 +60,8 @@ impl Report {
             let figures = schedule.task(task);
             if figures.is_admitted && self.window.shows_task(task) {
                 let percentiles = self.latencies.percentiles(task);
-                write_latency_line(text, task, names, figures.wakes, &percentiles)?;
+                let name = names.of(task).unwrap_or("");
+                write_latency_line(text, task, name, figures.wakes, &percentiles)?;
             }
         }
         Ok(())
