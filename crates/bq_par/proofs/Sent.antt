@@ -1,0 +1,44 @@
+-- The queues of both disciplines may cross threads.
+use denote.RattleType.{RattleType}
+use denote.Param.Send.{IsSend, sendable}
+use Rattle.std.proofs.Crossing.{crosses}
+use Rattle.bq_disc.proofs.node.Node.TheLaws.TheKnot as knot
+use Rattle.bq_disc.specs.contracts.ruled.RuledQueue as Ruled
+use Rattle.bq_disc.specs.contracts.ruled.RuledQueueRunQueue.TheImpl as ruled
+use Rattle.bq_disc.proofs.ruled.RuledQueue.TheSendSync as sent
+use Rattle.bq_tree.specs.contracts.index.Tree as Tree
+use Rattle.bq_tree.specs.contracts.index.TreeTimeline.TheImpl as timeline
+use Rattle.bq_tree.specs.contracts.summary.NoSums as NoSums
+use Rattle.bq_tree.specs.contracts.summary.NoSumsSummary.TheImpl as no_sums
+use Rattle.bq_tree.specs.contracts.summary.Sums as Sums
+use Rattle.bq_tree.specs.contracts.summary.SumsSummary.TheImpl as sums
+use Rattle.bq_cfs.specs.contracts.rule.Cfs as Cfs
+use Rattle.bq_cfs.specs.contracts.rule.CfsRule.TheImpl as cfs
+use Rattle.bq_eevdf.specs.contracts.rule.Eevdf as Eevdf
+use Rattle.bq_eevdf.specs.contracts.rule.EevdfRule.TheImpl as eevdf
+
+cfs_tree_send : IsSend (Tree.the_row NoSums.the_row no_sums.ghosts)
+cfs_tree_send = search (crosses, knot.crosses, sendable) depth 60 fits 20000
+
+abbrev pub cfs_tree : RattleType
+cfs_tree = Tree.the_row NoSums.the_row no_sums.ghosts
+
+abbrev pub cfs_queue : RattleType
+cfs_queue = Ruled.the_row cfs_tree Cfs.the_row (timeline.ghosts NoSums.the_row no_sums.ghosts timeline.no_dict) cfs.ghosts
+
+-- a queue under CFS may
+pub cfs_queue_send : IsSend cfs_queue
+cfs_queue_send = sent.the_send cfs_tree Cfs.the_row (timeline.ghosts NoSums.the_row no_sums.ghosts timeline.no_dict) cfs.ghosts cfs_tree_send
+
+eevdf_tree_send : IsSend (Tree.the_row Sums.the_row sums.ghosts)
+eevdf_tree_send = search (crosses, knot.crosses, sendable) depth 60 fits 20000
+
+abbrev pub eevdf_tree : RattleType
+eevdf_tree = Tree.the_row Sums.the_row sums.ghosts
+
+abbrev pub eevdf_queue : RattleType
+eevdf_queue = Ruled.the_row eevdf_tree Eevdf.the_row (timeline.ghosts Sums.the_row sums.ghosts timeline.no_dict) eevdf.ghosts
+
+-- a queue under EEVDF may
+pub eevdf_queue_send : IsSend eevdf_queue
+eevdf_queue_send = sent.the_send eevdf_tree Eevdf.the_row (timeline.ghosts Sums.the_row sums.ghosts timeline.no_dict) eevdf.ghosts eevdf_tree_send
