@@ -35,27 +35,30 @@ shows-placed cpu now d id to s =
     let r = read_at cpu now s in
     let a = asked cpu d r in
     let at = time_at cpu now s in
-    let c = comes id to at a in
-    (works-then r a _ (works-asked cpu d r) (works-then a c _ (works-comes id to at a) (works-with_task c id _ refl)),
-     running-then s r _ (running-read_at cpu now s) (running-then r a _ (running-asked cpu d r) (running-then a c _ (running-comes id to at a) (running-with_task c id _))))
+    let c = comes id to at a in (
+      works-then r a _ (works-asked cpu d r) (works-then a c _ (works-comes id to at a) (works-with_task c id _ refl)),
+      running-then s r _ (running-read_at cpu now s) (running-then r a _ (running-asked cpu d r) (running-then a c _ (running-comes id to at a) (running-with_task c id _))),
+    )
 
 shows-decided : (cpu now : ℕ) (d : Decision) (run : Option ℕ) (s : Figures) → cpu < length s.processors → Shows s (decided cpu now d run s) (Some (record { cpu = cpu; now = now; run = Some run }))
 shows-decided cpu now d run s inside =
     let r = read_at cpu now s in
     let a = asked cpu d r in
     let at = time_at cpu now s in
-    let inside' : cpu < length a.processors = omega (arith, count-read_at cpu now s, (works-asked cpu d r).count) in
-    (works-then r a _ (works-asked cpu d r) (works-switched Preempted cpu at run a),
-     runs-after (Some run) cpu s a (switched Preempted cpu at run a) (running-then s r a (running-read_at cpu now s) (running-asked cpu d r)) (runs-switched Preempted cpu at run a inside'))
+    let inside' : cpu < length a.processors = omega (arith, count-read_at cpu now s, (works-asked cpu d r).count) in (
+      works-then r a _ (works-asked cpu d r) (works-switched Preempted cpu at run a),
+      runs-after (Some run) cpu s a (switched Preempted cpu at run a) (running-then s r a (running-read_at cpu now s) (running-asked cpu d r)) (runs-switched Preempted cpu at run a inside'),
+    )
 
 shows-blocked : (cpu now id : ℕ) (run : Option ℕ) (s : Figures) → cpu < length s.processors → Shows s (blocked cpu now id run s) (Some (record { cpu = cpu; now = now; run = Some run }))
 shows-blocked cpu now id run s inside =
     let r = read_at cpu now s in
     let a = leaves id r in
     let at = time_at cpu now s in
-    let inside' : cpu < length a.processors = omega (arith, count-read_at cpu now s, (works-leaves id r).count) in
-    (works-then r a _ (works-leaves id r) (works-switched Blocked cpu at run a),
-     runs-after (Some run) cpu s a (switched Blocked cpu at run a) (running-then s r a (running-read_at cpu now s) (running-leaves id r)) (runs-switched Blocked cpu at run a inside'))
+    let inside' : cpu < length a.processors = omega (arith, count-read_at cpu now s, (works-leaves id r).count) in (
+      works-then r a _ (works-leaves id r) (works-switched Blocked cpu at run a),
+      runs-after (Some run) cpu s a (switched Blocked cpu at run a) (running-then s r a (running-read_at cpu now s) (running-leaves id r)) (runs-switched Blocked cpu at run a inside'),
+    )
 
 shows-pulled : (cpu now : ℕ) (d : Decision) (task run : Option ℕ) (s : Figures) → cpu < length s.processors → Shows s (pulled cpu now d task run s) (Some (record { cpu = cpu; now = now; run = Some run }))
 shows-pulled cpu now d task run s inside =
@@ -63,11 +66,12 @@ shows-pulled cpu now d task run s inside =
     let a = asked cpu d r in
     let at = time_at cpu now s in
     let k = taken cpu at task a in
-    let inside' : cpu < length k.processors = omega (arith, count-read_at cpu now s, (works-asked cpu d r).count, (works-taken cpu at task a).count) in
-    (works-then r a _ (works-asked cpu d r) (works-then a k _ (works-taken cpu at task a) (works-switched Preempted cpu at run k)),
-     runs-after (Some run) cpu s k (switched Preempted cpu at run k)
-        (running-then s r k (running-read_at cpu now s) (running-then r a k (running-asked cpu d r) (running-taken cpu at task a)))
-        (runs-switched Preempted cpu at run k inside'))
+    let inside' : cpu < length k.processors = omega (arith, count-read_at cpu now s, (works-asked cpu d r).count, (works-taken cpu at task a).count) in (
+      works-then r a _ (works-asked cpu d r) (works-then a k _ (works-taken cpu at task a) (works-switched Preempted cpu at run k)),
+      runs-after (Some run) cpu s k (switched Preempted cpu at run k)
+          (running-then s r k (running-read_at cpu now s) (running-then r a k (running-asked cpu d r) (running-taken cpu at task a)))
+          (runs-switched Preempted cpu at run k inside'),
+    )
 
 shows-drained : (cpu now : ℕ) (d : Decision) (run : Option ℕ) (s : Figures) → cpu < length s.processors → Shows s (emptied cpu (decided cpu now d run s)) (Some (record { cpu = cpu; now = now; run = Some run }))
 shows-drained cpu now d run s inside =
@@ -95,11 +99,11 @@ outside a b e h = grind (arith, nat_tests)
 
 -- where the event's processor is not there, nothing is shown of one that is
 shows-nothing : (s : Figures) (e : Event) (r : Reply) → is_there s e ≡ false → IsWithin (length s.processors) (sight e r) → Shows s s (sight e r)
-shows-nothing s (EndWake cpu now) (Placed task to by steps) none h = absurd (outside cpu (length s.processors) none h.0)
-shows-nothing s (Drain cpu now) (Drained count run by steps) none h = absurd (outside cpu (length s.processors) none h.0)
-shows-nothing s (Tick cpu now) (Ticked run by steps) none h = absurd (outside cpu (length s.processors) none h.0)
-shows-nothing s (Block cpu now) (Went task run) none h = absurd (outside cpu (length s.processors) none h.0)
-shows-nothing s (Pull cpu from now) (Pulled task run by steps) none h = absurd (outside cpu (length s.processors) none h.0)
+shows-nothing s (EndWake cpu now) (Placed task to by steps) none h = absurd (outside cpu (length s.processors) none h)
+shows-nothing s (Drain cpu now) (Drained count run by steps) none h = absurd (outside cpu (length s.processors) none h)
+shows-nothing s (Tick cpu now) (Ticked run by steps) none h = absurd (outside cpu (length s.processors) none h)
+shows-nothing s (Block cpu now) (Went task run) none h = absurd (outside cpu (length s.processors) none h)
+shows-nothing s (Pull cpu from now) (Pulled task run by steps) none h = absurd (outside cpu (length s.processors) none h)
 shows-nothing s e r none h = (works-id s, running-id s)
 
 shows-if : (b : Bool) (s : Figures) (e : Event) (r : Reply) → is_there s e ≡ b → IsWithin (length s.processors) (sight e r) → Shows s (cond b (performed s e r) s) (sight e r)
@@ -194,6 +198,7 @@ clocks count (m ∷ past) cpu h inside =
     let o = sight_of m.event m.answer in
     let before = clocks count past cpu h.1 inside in
     let inside' : cpu < length s.processors = omega (arith, count-figures count past h.1) in
-    let shown : Shows s (after s m.event m.answer) o = shows-after s m.event m.answer (within-figures count past m h) in
-    (last-shown s _ o cpu inside' shown ∙ ap (λ n. clock_after cpu n o) before.0,
-     who-shown s _ o cpu shown ∙ ap (λ w. runner_after cpu w o) before.1)
+    let shown : Shows s (after s m.event m.answer) o = shows-after s m.event m.answer (within-figures count past m h) in (
+      last-shown s _ o cpu inside' shown ∙ ap (λ n. clock_after cpu n o) before.0,
+      who-shown s _ o cpu shown ∙ ap (λ w. runner_after cpu w o) before.1,
+    )

@@ -170,7 +170,7 @@ works-started : (cpu now : ℕ) (run : Option ℕ) (s : Figures) → KeepsWorks 
 works-started cpu now run s =
     let e : processor_of (begun_if cpu now run s) cpu ≡ processor_of s cpu = ap (λ l. get_or l cpu unread) (processors-begun_if cpu now run s) in
     works-then _ _ _ (works-begun_if cpu now run s)
-        (works-with_processor (begun_if cpu now run s) cpu _ (works-processor_runs (processor_of s cpu) (starts_as cpu now run s) ∙ ap works (sym e)))
+    (works-with_processor (begun_if cpu now run s) cpu _ (works-processor_runs (processor_of s cpu) (starts_as cpu now run s) ∙ ap works (sym e)))
 
 works-switched_if : (b : Bool) (left : Left) (cpu now : ℕ) (run : Option ℕ) (s : Figures) →
     KeepsWorks s (cond b s (started cpu now run (stopped left now (processor_of s cpu).running s)))
@@ -205,9 +205,10 @@ who-processor_runs p cpu now (Some id) s = refl
 runs-started : (cpu now : ℕ) (run : Option ℕ) (s : Figures) → cpu < length s.processors → RunsAs (Some run) cpu s (started cpu now run s)
 runs-started cpu now run s inside =
     let e : (begun_if cpu now run s).processors ≡ s.processors = processors-begun_if cpu now run s in
-    let q = processor_runs (processor_of s cpu) (starts_as cpu now run s) in
-    (ap (λ l. who (get_or (slice_set l cpu q) cpu unread)) e ∙ ap who (get_or-set_same s.processors cpu q unread inside) ∙ who-processor_runs (processor_of s cpu) cpu now run s,
-     λ j ne. ap (λ l. (get_or (slice_set l cpu q) j unread).running) e ∙ ap (λ (p : ProcessorFigures). p.running) (get_or-set_other s.processors cpu j q unread ne))
+    let q = processor_runs (processor_of s cpu) (starts_as cpu now run s) in (
+      ap (λ l. who (get_or (slice_set l cpu q) cpu unread)) e ∙ ap who (get_or-set_same s.processors cpu q unread inside) ∙ who-processor_runs (processor_of s cpu) cpu now run s,
+      λ j ne. ap (λ l. (get_or (slice_set l cpu q) j unread).running) e ∙ ap (λ (p : ProcessorFigures). p.running) (get_or-set_other s.processors cpu j q unread ne),
+    )
 
 who_is : (running : Option Start) (run : Option ℕ) → is_run_by running run ≡ true → option_map (λ (x : Start). x.task) running ≡ run
 who_is None None e = refl

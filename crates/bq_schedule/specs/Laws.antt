@@ -1,27 +1,51 @@
 -- The laws of schedules.
-use Rattle.std.specs.Prelude.{◌≡◌, ℕ, ◌+◌, ◌-◌, ◌*◌, ◌<◌, ◌≤◌, List, [], ◌∷◌, ◌++◌, length, Option, Some, None, option_to_list}
+use Rattle.std.specs.Prelude.{◌≡◌, ℕ, ◌+◌, ◌-◌, ◌*◌, ◌<◌, ◌≤◌, true, All, List, [], ◌∷◌, ◌++◌, length, Option, Some, None, Result, option_to_list}
 use Rattle.std.specs.Option.{option_map}
+use Rattle.bq_disc.specs.Tasks.{id_of}
+use Rattle.bq_disc.specs.Discipline.{Discipline}
+use Rattle.bq_maps.specs.declared.board.Call.{Call as Asked}
+use Rattle.bq_parts.specs.declared.event.Event.{Event}
+use Rattle.bq_parts.specs.declared.reply.Reply.{Reply}
+use Rattle.bq_parts.specs.declared.refusal.Refusal.{Refusal}
+use Rattle.bq_parts.specs.World.{World, opening_world, processor}
+use Rattle.bq_parts.specs.Steps.{WorldRun}
+use Rattle.bq_core.specs.Laws.{under_any_answers}
 use Rattle.bq_schedule.specs.declared.change.Start.{Start}
 use Rattle.bq_schedule.specs.declared.slice.Slice.{Slice}
 use Rattle.bq_schedule.specs.Moments.{Moment, History}
 use Rattle.bq_schedule.specs.Figures.{Figures, processor_of, task_of}
-use Rattle.bq_schedule.specs.Slices.{Sight, sight_of, clock, runner, slices, time_in, is_of, is_at}
+use Rattle.bq_schedule.specs.Counts.{parts}
+use Rattle.bq_schedule.specs.Passing.{idle_of, part_of}
+use Rattle.bq_schedule.specs.Standing.{fair_of}
+use Rattle.bq_schedule.specs.FairTimes.{share, all_fair, all_unshared, all_busy}
+use Rattle.bq_schedule.specs.Slices.{Sight, sight_of, clock, runner, slices, time_in, is_of, is_at, StandApart, slices_at}
+use Rattle.bq_schedule.specs.Wakes.{begins, awaited}
 use Rattle.bq_schedule.specs.Steps.{after, change, figures}
 
--- what is told names a processor that is there, and an id of a seat
-abbrev pub NamesSeat : Option (Option ℕ) → Type 0
-NamesSeat None = Unit {0}
-NamesSeat (Some None) = Unit {0}
-NamesSeat (Some (Some id)) = id < 1024
-
+-- what is shown is of a processor that is there
 abbrev pub IsWithin : ℕ → Option Sight → Type 0
 IsWithin count None = Unit {0}
-IsWithin count (Some s) = (s.cpu < count) × NamesSeat s.run
+IsWithin count (Some s) = s.cpu < count
 
 -- a history of so many processors
 abbrev pub IsOf : ℕ → History → Type 0
 IsOf count [] = Unit {0}
 IsOf count (m ∷ past) = IsWithin count (sight_of m.event m.answer) × IsOf count past
+
+-- the moments of some events and their answers, on top of a history
+abbrev pub grown : History → List Event → List (Result Reply Refusal) → History
+grown past (e ∷ es) (a ∷ answers) = grown (record { event = e; answer = a } ∷ past) es answers
+grown past es answers = past
+
+-- What the world charges is what the slices say. In every history of a world of so many processors, under every discipline and
+-- whatever policies answer, each processor's last reading is the clock of the history, and its current task is who runs: so at
+-- each reading the world charges the task of the slice with the rise that is the slice's length.
+abbrev pub IsCharged : Type 0
+IsCharged = (d : Discipline) (count : ℕ) (es : List Event) (calls : List (List Asked)) (answers : List (Result Reply Refusal)) (w : World) →
+    WorldRun (under_any_answers d) (opening_world count) es calls answers w →
+    let past = grown [] es answers in
+    IsOf count past
+    × ((cpu : ℕ) → cpu < count → ((processor w cpu).running.last ≡ clock cpu past) × (id_of (processor w cpu).running.current ≡ runner cpu past))
 
 -- the figures show each processor's last reading and who runs there
 abbrev pub ShowsClocks : Type 0
@@ -39,3 +63,42 @@ abbrev pub AddsUpSlices : Type 0
 AddsUpSlices = (count : ℕ) (past : History) → count ≤ 255 → IsOf count past →
     ((id : ℕ) → id < 1024 → (task_of (figures count past) id).time ≡ time_in (is_of id) (slices past))
     × ((cpu : ℕ) → cpu < count → (processor_of (figures count past) cpu).busy ≡ time_in (is_at cpu) (slices past))
+
+-- the slices of a processor do not overlap, and end by its last reading
+abbrev pub SlicesStandApart : Type 0
+SlicesStandApart = (past : History) (cpu : ℕ) → StandApart (slices_at cpu past) × All (λ s. s.to ≤ clock cpu past) (slices_at cpu past)
+
+-- the time from the first reading of a processor's clock to the last
+abbrev pub window_since : Option ℕ → ℕ → ℕ
+window_since None last = 0
+window_since (Some first) last = last - first
+
+-- slices and idle time fill it
+abbrev pub FillsWindow : Type 0
+FillsWindow = (count : ℕ) (past : History) (cpu : ℕ) → count ≤ 255 → IsOf count past → cpu < count →
+    let p = processor_of (figures count past) cpu in
+    time_in (is_at cpu) (slices past) + idle_of p ≡ window_since p.first p.last
+
+-- A start is told where its task begins to run, and with it the distance from the end of its last wake, where it has not run
+-- since that: so a wake has at most one latency, the distance to its task's first run
+abbrev pub TellsLatencies : Type 0
+TellsLatencies = (count : ℕ) (past : History) (m : Moment) (start : Start) → IsOf count (m ∷ past) → start.task < 1024 →
+    (change (figures count past) m.event m.answer).start ≡ Some start →
+    (begins start.task past (sight_of m.event m.answer) ≡ true)
+    × (start.at ≡ clock start.processor (m ∷ past))
+    × (start.latency ≡ option_map (λ (woken : ℕ). start.at - woken) (awaited start.task past))
+
+-- the fair time of a task rises at each reading by its share of the slice, and by nothing else
+abbrev pub SharesOut : Type 0
+SharesOut = (count : ℕ) (past : History) (m : Moment) (id : ℕ) → count ≤ 255 → IsOf count (m ∷ past) →
+    fair_of (figures count (m ∷ past)) id ≡ fair_of (figures count past) id + share (figures count past) (sight_of m.event m.answer) id
+
+-- all fair times, and what could not be shared in whole parts, add up to the time in which any task ran
+abbrev pub AddsUpFairTimes : Type 0
+AddsUpFairTimes = (count : ℕ) (past : History) → count ≤ 255 → IsOf count past →
+    let s = figures count past in
+    all_fair s + all_unshared s ≡ parts * all_busy s
+
+-- of a slice less is left over than there is weight
+abbrev pub LeavesLittle : Type 0
+LeavesLittle = (time weight : ℕ) → 0 < weight → time * parts - weight * part_of time weight < weight

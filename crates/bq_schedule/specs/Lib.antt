@@ -7,4 +7,6 @@ pub mod Running
 pub mod Steps
 pub mod Percentiles
 pub mod Slices
+pub mod Wakes
+pub mod FairTimes
 pub mod Laws

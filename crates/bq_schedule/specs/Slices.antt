@@ -1,5 +1,5 @@
 -- The slices of a history, from its events and answers alone: who ran at a processor between two readings of its clock.
-use Rattle.std.specs.Prelude.{ℕ, ◌+◌, ◌-◌, ◌==◌, nat_lt, Bool, List, [], ◌∷◌, ◌++◌, Option, Some, None, Result, Ok, Err, if◌then◌else◌, unwrap_or, option_to_list}
+use Rattle.std.specs.Prelude.{ℕ, ◌+◌, ◌-◌, ◌<◌, ◌≤◌, All, filter, ◌==◌, nat_lt, Bool, List, [], ◌∷◌, ◌++◌, Option, Some, None, Result, Ok, Err, if◌then◌else◌, unwrap_or, option_to_list}
 use Rattle.std.specs.List.{sum_by}
 use Rattle.bq_disc.specs.OneProcessor.{reading}
 use Rattle.bq_parts.specs.declared.event.Event.{Event}
@@ -75,3 +75,12 @@ is_of id s = s.task == id
 
 abbrev pub is_at : ℕ → Slice → Bool
 is_at cpu s = s.processor == cpu
+
+-- no slice begins before one that stands before it has ended, and none is empty
+abbrev pub StandApart : List Slice → Type 0
+StandApart [] = Unit {0}
+StandApart (s ∷ xs) = (s.from < s.to) × All (λ next. s.to ≤ next.from) xs × StandApart xs
+
+-- those of one processor
+abbrev pub slices_at : ℕ → History → List Slice
+slices_at cpu past = filter (is_at cpu) (slices past)

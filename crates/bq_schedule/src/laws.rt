@@ -1,5 +1,5 @@
 //! The laws of schedules, each as the contract of a function that does nothing.
-ghost use Rattle.bq_schedule.specs.Laws.{AddsUpSlices, ShowsClocks, TellsSlices};
+ghost use Rattle.bq_schedule.specs.Laws.{AddsUpFairTimes, AddsUpSlices, FillsWindow, IsCharged, LeavesLittle, SharesOut, ShowsClocks, SlicesStandApart, TellsLatencies, TellsSlices};
 
 /// A schedule shows each processor's last reading, and who runs there.
 pub fn shows_clocks()
@@ -14,4 +14,42 @@ pub fn tells_slices()
 /// The time of a task is the sum of its slices, and that of a processor is the sum of the slices there.
 pub fn adds_up_slices()
     ensures { AddsUpSlices }
+{}
+
+/// In every history of a world the clocks and the running tasks are those by which the slices are cut. So the time of a slice
+/// is what the world charged its task.
+pub fn is_charged()
+    ensures { IsCharged }
+{}
+
+/// The slices of a processor do not overlap: each ends before the next begins, or where it does, and none is empty.
+pub fn slices_stand_apart()
+    ensures { SlicesStandApart }
+{}
+
+/// The slices of a processor and its idle time fill the time from its first reading to the last.
+pub fn fills_window()
+    ensures { FillsWindow }
+{}
+
+/// A start is told where its task begins to run, with the distance from the end of its last wake, where it has not run since
+/// that. So a wake has at most one latency: the distance to its task's first run.
+pub fn tells_latencies()
+    ensures { TellsLatencies }
+{}
+
+/// The fair time of a task rises at each reading by its weight over all weights that are runnable there, of the slice that the
+/// reading charges, in whole parts; and by nothing else.
+pub fn shares_out()
+    ensures { SharesOut }
+{}
+
+/// All fair times, and what could not be shared in whole parts, add up to the time in which any task ran.
+pub fn adds_up_fair_times()
+    ensures { AddsUpFairTimes }
+{}
+
+/// Of a slice fewer parts are left over than there are units of weight.
+pub fn leaves_little()
+    ensures { LeavesLittle }
 {}

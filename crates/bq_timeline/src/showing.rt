@@ -48,15 +48,10 @@ pub fn show<R: Read, W: Write>(
             standing.end(alloc, &mut viewer)?;
             viewer.end()?;
             output.write_text(viewer.screen.text.as_bytes())?;
-            let Viewer {
-                alloc: _,
-                schedule: _,
-                troubles,
-                screen,
-            } = viewer;
+            let clean = viewer.troubles == 0;
             return Ok(Outcome {
-                clean: troubles == 0,
-                notes: screen.into_notes(),
+                clean,
+                notes: viewer.into_notes(),
             });
         }
         standing.go_on(alloc, &piece[..count], &mut viewer)?;

@@ -1,0 +1,79 @@
+-- The slices of a processor stand apart.
+use Rattle.std.proofs.Common.{◌≡◌, ◌≢◌, ℕ, ◌<◌, ◌≤◌, Bool, true, false, List, [], ◌∷◌, ◌++◌, Option, Some, None, refl, sym, ap, ◌∙◌, ◌⊎◌, inl, inr, eqb, ltb, cond, append-nil, subst, arith}
+use Rattle.std.specs.Prelude.{option_to_list, All, filter}
+use Rattle.std.proofs.lemmas.Bool.Decides.{eqb_tells, nat_tests}
+use Rattle.std.proofs.lemmas.List.Elements.{filter-append, All-nil, All-push, All-head, All-tail, All-weaker}
+use Rattle.bq_disc.specs.OneProcessor.{reading}
+use Rattle.bq_schedule.specs.declared.slice.Slice.{Slice}
+use Rattle.bq_schedule.specs.Moments.{Moment, History}
+use Rattle.bq_schedule.specs.Slices.{Sight, sight_of, clock_after, clock, runner, stretch, slice_shown, slices, is_at, StandApart, slices_at}
+
+-- slices that end by some time
+abbrev pub EndBy : ℕ → List Slice → Type 0
+EndBy n xs = All (λ (s : Slice). s.to ≤ n) xs
+
+end_later : (n k : ℕ) (xs : List Slice) → n ≤ k → EndBy n xs → EndBy k xs
+end_later n k xs le h = All-weaker (λ (s : Slice). s.to ≤ n) (λ (s : Slice). s.to ≤ k) (λ s e. omega (arith, le, e)) xs h
+
+apart-push : (xs : List Slice) (y : Slice) → StandApart xs → All (λ (s : Slice). s.to ≤ y.from) xs → y.from < y.to → StandApart (xs ++ y ∷ [])
+apart-push [] y h e lt = (lt, All-nil (λ (next : Slice). y.to ≤ next.from), tt)
+apart-push (x ∷ xs) y h e lt = (
+  h.0,
+  All-push (λ (next : Slice). x.to ≤ next.from) xs y h.1 (All-head (λ (s : Slice). s.to ≤ y.from) x xs e),
+  apart-push xs y h.2 (All-tail (λ (s : Slice). s.to ≤ y.from) x xs e) lt,
+)
+
+-- the slice, if it is at that processor
+abbrev pub at_only : ℕ → Option Slice → Option Slice
+at_only cpu None = None
+at_only cpu (Some y) = cond (is_at cpu y) (Some y) None
+
+filter-one_if : (y : Slice) (b : Bool) → cond b (y ∷ []) [] ≡ option_to_list (cond b (Some y) None)
+filter-one_if y true = refl
+filter-one_if y false = refl
+
+filter-one : (cpu : ℕ) (o : Option Slice) → filter (is_at cpu) (option_to_list o) ≡ option_to_list (at_only cpu o)
+filter-one cpu None = refl
+filter-one cpu (Some y) = filter-one_if y (is_at cpu y)
+
+-- a slice from one time on, that ends by another
+abbrev pub IsNext : ℕ → ℕ → Option Slice → Type 0
+IsNext c r None = c ≤ r
+IsNext c r (Some y) = (y.from ≡ c) × (y.from < y.to) × (y.to ≤ r)
+
+grow : (xs : List Slice) (o : Option Slice) (c r : ℕ) → StandApart xs × EndBy c xs → IsNext c r o → StandApart (xs ++ option_to_list o) × EndBy r (xs ++ option_to_list o)
+grow xs None c r h n = rw append-nil (h.0, end_later c r xs n h.1)
+grow xs (Some y) c r h n = (
+  apart-push xs y h.0 (end_later c y.from xs (omega (arith, n.0)) h.1) n.1,
+  All-push (λ (s : Slice). s.to ≤ r) xs y (end_later c r xs (omega (arith, n.0, n.1, n.2)) h.1) n.2,
+)
+
+rises : (b : Bool) (c now : ℕ) → c ≤ cond b (reading c now) c
+rises true c now = omega arith
+rises false c now = omega arith
+
+-- what a moment ends at a processor begins at its last reading, and ends by the next
+next_at : (x : Sight) (past : History) (cpu : ℕ) (who : Option ℕ) (b e : Bool) → ltb (clock x.cpu past) (reading (clock x.cpu past) x.now) ≡ b → ((e ≡ true) × (x.cpu ≡ cpu)) ⊎ ((e ≡ false) × (x.cpu ≢ cpu)) → eqb x.cpu cpu ≡ e →
+    IsNext (clock cpu past) (cond e (reading (clock cpu past) x.now) (clock cpu past)) (at_only cpu (stretch x.cpu who (clock x.cpu past) (reading (clock x.cpu past) x.now)))
+next_at x past cpu None b e lt t is = rises e (clock cpu past) x.now
+next_at x past cpu (Some id) true true lt (inl same) is =
+    let k : clock x.cpu past ≡ clock cpu past = ap (λ j. clock j past) same.1 in
+    rw (lt, is) (k, grind (arith, nat_tests), omega (arith, k, ap (λ n. reading n x.now) k))
+next_at x past cpu (Some id) true false lt (inr other) is = rw (lt, is) (omega arith)
+next_at x past cpu (Some id) false e lt t is = rw lt (rises e (clock cpu past) x.now)
+next_at x past cpu (Some id) true true lt (inr other) is = absurd (cc)
+next_at x past cpu (Some id) true false lt (inl same) is = absurd (cc)
+
+next_shown : (past : History) (cpu : ℕ) (o : Option Sight) → IsNext (clock cpu past) (clock_after cpu (clock cpu past) o) (at_only cpu (slice_shown past o))
+next_shown past cpu None = omega arith
+next_shown past cpu (Some x) =
+    next_at x past cpu (runner x.cpu past) (ltb (clock x.cpu past) (reading (clock x.cpu past) x.now)) (eqb x.cpu cpu) refl (eqb_tells x.cpu cpu) refl
+
+pub stand_apart : (past : History) (cpu : ℕ) → StandApart (slices_at cpu past) × All (λ (s : Slice). s.to ≤ clock cpu past) (slices_at cpu past)
+stand_apart [] cpu = (tt, All-nil (λ (s : Slice). s.to ≤ 0))
+stand_apart (m ∷ past) cpu =
+    let o = sight_of m.event m.answer in
+    let is : slices_at cpu (m ∷ past) ≡ slices_at cpu past ++ option_to_list (at_only cpu (slice_shown past o)) =
+    filter-append (is_at cpu) (slices past) (option_to_list (slice_shown past o)) ∙ ap (λ ys. slices_at cpu past ++ ys) (filter-one cpu (slice_shown past o)) in
+    let P : List Slice → Type 0 = λ xs. StandApart xs × All (λ (s : Slice). s.to ≤ clock cpu (m ∷ past)) xs in
+    subst P (sym is) (grow (slices_at cpu past) (at_only cpu (slice_shown past o)) (clock cpu past) (clock cpu (m ∷ past)) (stand_apart past cpu) (next_shown past cpu o))

@@ -1,0 +1,81 @@
+-- What is told of each moment is its slice, and the times add up.
+use Rattle.std.proofs.Common.{◌≡◌, ◌≢◌, ℕ, ◌+◌, ◌-◌, ◌*◌, ◌<◌, ◌≤◌, min, Bool, true, false, List, [], ◌∷◌, ◌++◌, length, get_or, Option, Some, None, Result, Ok, Err, refl, sym, ap, ◌∙◌, ◌⊎◌, inl, inr, get_or-set_same, get_or-set_other, eqb, ltb, cond, arith}
+use Rattle.std.specs.Prelude.{slice_set, option_to_list, All}
+use Rattle.std.specs.List.{sum_by}
+use Rattle.std.specs.Option.{option_map}
+use Rattle.std.proofs.lemmas.Bool.Decides.{eqb_tells, nat_tests}
+use Rattle.std.proofs.lemmas.List.{get_or-replicate, length-set, length-replicate}
+use Rattle.std.proofs.lemmas.List.Elements.{All-from_get_or}
+use Rattle.std.proofs.lemmas.List.Sums.{sum_by-cons, sum_by_push, sum_by-set, sum_by-le}
+use Rattle.bq_disc.specs.OneProcessor.{reading}
+use Rattle.bq_parts.specs.declared.event.Event.{Event}
+use Rattle.bq_parts.specs.declared.event.Event.TheVariants.{Admit, EndWake, Drain, Tick, Block, Pull}
+use Rattle.bq_parts.specs.declared.reply.Reply.{Reply}
+use Rattle.bq_parts.specs.declared.reply.Reply.TheVariants.{Admitted, Placed, Drained, Ticked, Blocked as Went, Pulled}
+use Rattle.bq_parts.specs.declared.refusal.Refusal.{Refusal}
+use Rattle.bq_schedule.specs.declared.slice.Slice.{Slice}
+use Rattle.bq_schedule.specs.declared.change.Start.{Start}
+use Rattle.bq_schedule.specs.declared.change.Change.{Change}
+use Rattle.bq_schedule.specs.declared.figures.ProcessorFigures.{ProcessorFigures}
+use Rattle.bq_schedule.specs.declared.figures.TaskFigures.{TaskFigures}
+use Rattle.bq_schedule.specs.Counts.{counted}
+use Rattle.bq_schedule.specs.Moments.{Moment, History}
+use Rattle.bq_schedule.specs.Figures.{Figures, opening, unread, unknown, processor_of, task_of, with_processor, with_task}
+use Rattle.bq_schedule.specs.Passing.{slice_between, slice_at, length_of, read_at, processor_read, with_charged, task_charged}
+use Rattle.bq_schedule.specs.Slices.{Sight, sight, sight_of, clock, runner, stretch, slice_shown, slices, time_if, time_in, is_of, is_at}
+use Rattle.bq_schedule.specs.Steps.{performed_told, change, nothing, is_there, after, figures}
+use Rattle.bq_schedule.specs.Laws.{IsWithin, IsOf}
+use Rattle.bq_schedule.proofs.Frames.{who, Works, works, KeepsWorks, tasks-read_at, processors-read_at, count-read_at}
+use Rattle.bq_schedule.proofs.Clocks.{Shows, clocks, shows-after, count-figures, count-after, within-figures, processor-read_at}
+
+-- the slice that figures show
+abbrev pub slice_seen : Figures → Option Sight → Option Slice
+slice_seen s None = None
+slice_seen s (Some x) = slice_at x.cpu (processor_of s x.cpu) x.now
+
+seen-performed : (s : Figures) (e : Event) (r : Reply) → (performed_told s e r).slice ≡ slice_seen s (sight e r)
+seen-performed s (EndWake cpu now) (Placed task to by steps) = refl
+seen-performed s (Drain cpu now) (Drained count run by steps) = refl
+seen-performed s (Tick cpu now) (Ticked run by steps) = refl
+seen-performed s (Block cpu now) (Went task run) = refl
+seen-performed s (Pull cpu from now) (Pulled task run by steps) = refl
+seen-performed s e r = refl
+
+outside : (a b : ℕ) → ltb a b ≡ false → a < b → ⊥
+outside a b e h = grind (arith, nat_tests)
+
+seen-nothing : (s : Figures) (e : Event) (r : Reply) → is_there s e ≡ false → IsWithin (length s.processors) (sight e r) → None ≡ slice_seen s (sight e r)
+seen-nothing s (EndWake cpu now) (Placed task to by steps) none h = absurd (outside cpu (length s.processors) none h)
+seen-nothing s (Drain cpu now) (Drained count run by steps) none h = absurd (outside cpu (length s.processors) none h)
+seen-nothing s (Tick cpu now) (Ticked run by steps) none h = absurd (outside cpu (length s.processors) none h)
+seen-nothing s (Block cpu now) (Went task run) none h = absurd (outside cpu (length s.processors) none h)
+seen-nothing s (Pull cpu from now) (Pulled task run by steps) none h = absurd (outside cpu (length s.processors) none h)
+seen-nothing s e r none h = refl
+
+seen-if : (b : Bool) (s : Figures) (e : Event) (r : Reply) → is_there s e ≡ b → IsWithin (length s.processors) (sight e r) → (cond b (performed_told s e r) nothing).slice ≡ slice_seen s (sight e r)
+seen-if true s e r there h = seen-performed s e r
+seen-if false s e r there h = seen-nothing s e r there h
+
+seen-change : (s : Figures) (e : Event) (a : Result Reply Refusal) → IsWithin (length s.processors) (sight_of e a) → (change s e a).slice ≡ slice_seen s (sight_of e a)
+seen-change s e (Ok r) h = seen-if (is_there s e) s e r refl h
+seen-change s e (Err r) h = refl
+
+-- a slice by who runs
+stretch_is : (cpu from to : ℕ) (running : Option Start) → slice_between cpu from to running ≡ stretch cpu (option_map (λ (x : Start). x.task) running) from to
+stretch_is cpu from to None = refl
+stretch_is cpu from to (Some start) = refl
+
+pub shown-seen : (count : ℕ) (past : History) (o : Option Sight) → IsOf count past → IsWithin count o → slice_seen (figures count past) o ≡ slice_shown past o
+shown-seen count past None h w = refl
+shown-seen count past (Some x) h w =
+    let c = clocks count past x.cpu h w in
+    let p = processor_of (figures count past) x.cpu in
+    stretch_is x.cpu p.last (reading p.last x.now) p.running
+    ∙ ap (λ n. stretch x.cpu (who p) n (reading n x.now)) c.0
+    ∙ ap (λ y. stretch x.cpu y (clock x.cpu past) (reading (clock x.cpu past) x.now)) c.1
+
+pub told : (count : ℕ) (past : History) (m : Moment) → IsOf count (m ∷ past) → (change (figures count past) m.event m.answer).slice ≡ slice_shown past (sight_of m.event m.answer)
+told count past m h = seen-change (figures count past) m.event m.answer (within-figures count past m h) ∙ shown-seen count past (sight_of m.event m.answer) h.1 h.0
+
+pub tells : (count : ℕ) (past : History) (m : Moment) → IsOf count (m ∷ past) → slices (m ∷ past) ≡ slices past ++ option_to_list (change (figures count past) m.event m.answer).slice
+tells count past m h = ap (λ o. slices past ++ option_to_list o) (sym (told count past m h))

@@ -1,0 +1,5 @@
+use Rattle.bq_schedule.proofs.Windows as Windows
+use Rattle.bq_schedule.proofs.laws.fills_window.Goals as goal
+
+pub returns : goal.returns
+returns c = Windows.fills_window

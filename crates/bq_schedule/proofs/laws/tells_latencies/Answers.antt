@@ -1,0 +1,5 @@
+use Rattle.bq_schedule.proofs.Wakes as Wakes
+use Rattle.bq_schedule.proofs.laws.tells_latencies.Goals as goal
+
+pub returns : goal.returns
+returns c = Wakes.tells_latencies

@@ -1,0 +1,40 @@
+-- Which wakes still wait for their task to run.
+use Rattle.std.specs.Prelude.{ℕ, Bool, true, false, not, ◌==◌, ◌&&◌, List, [], ◌∷◌, Option, Some, None, Result, Ok, Err, if◌then◌else◌}
+use Rattle.bq_disc.specs.OneProcessor.{reading}
+use Rattle.bq_parts.specs.declared.event.Event.{Event}
+use Rattle.bq_parts.specs.declared.event.Event.TheVariants.{EndWake}
+use Rattle.bq_parts.specs.declared.reply.Reply.{Reply}
+use Rattle.bq_parts.specs.declared.reply.Reply.TheVariants.{Placed}
+use Rattle.bq_parts.specs.declared.refusal.Refusal.{Refusal}
+use Rattle.bq_schedule.specs.Moments.{Moment, History}
+use Rattle.bq_schedule.specs.Slices.{Sight, sight_of, clock, runner}
+
+-- that task runs
+abbrev pub is_run : ℕ → Option ℕ → Bool
+is_run id None = false
+is_run id (Some k) = k == id
+
+-- the task begins to run: from now on it does, and it did not
+abbrev pub begins_as : ℕ → Option ℕ → Option (Option ℕ) → Bool
+begins_as id who None = false
+begins_as id who (Some run) = is_run id run && not (is_run id who)
+
+abbrev pub begins : ℕ → History → Option Sight → Bool
+begins id past None = false
+begins id past (Some s) = begins_as id (runner s.cpu past) s.run
+
+-- when a wake of the task ends, by the clock of the processor that wakes it
+abbrev pub wake_end : ℕ → History → Event → Result Reply Refusal → Option ℕ
+wake_end id past (EndWake cpu now) (Ok (Placed task to by steps)) = if task == id then Some (reading (clock cpu past) now) else None
+wake_end id past e a = None
+
+-- a wake ends; or the task begins to run, and waits for no wake's run any more; or all stays
+abbrev pub awaited_after : Option ℕ → Bool → Option ℕ → Option ℕ
+awaited_after (Some at) has_begun before = Some at
+awaited_after None has_begun before = if has_begun then None else before
+
+-- when the last wake of the task ended, where it has not run since: none once it has
+abbrev pub awaited : ℕ → History → Option ℕ
+awaited id [] = None
+awaited id (m ∷ past) =
+    awaited_after (wake_end id past m.event m.answer) (begins id past (sight_of m.event m.answer)) (awaited id past)
