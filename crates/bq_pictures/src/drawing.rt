@@ -1,0 +1,163 @@
+//! What is drawn, and where.
+
+use crate::lanes::{Lanes, Wait};
+use crate::scale::Scale;
+use crate::shapes::{
+    LANE, Run, Shades, write_axis, write_end, write_head, write_legend, write_row_name, write_run,
+    write_tick, write_wait,
+};
+use bq_forms::{Extent, Names, Window};
+use bq_schedule::{Slice, Start, Wake};
+use std::alloc::{AllocError, Global};
+use std::collections::BTreeSet;
+
+/// Above the first row.
+const TOP: usize = 56;
+
+/// How high a run is drawn.
+pub const BAND: usize = 28;
+
+/// Between a row and the next.
+const GAP: usize = 26;
+
+/// What is drawn of a processor.
+#[derive(Drop)]
+pub struct Row {
+    runs: Vec<Run>,
+    waits: Vec<Wait>,
+    wakes: Vec<(u64, u16)>,
+}
+
+/// What is drawn.
+#[derive(Drop)]
+pub struct Drawing {
+    alloc: Global,
+    rows: Vec<Row>,
+    tasks: BTreeSet<u16>,
+}
+
+impl Drawing {
+    /// Nothing.
+    pub fn new(alloc: Global) -> Drawing {
+        Drawing {
+            alloc,
+            rows: Vec::new(alloc),
+            tasks: BTreeSet::new(alloc),
+        }
+    }
+
+    /// One processor more.
+    pub fn push_row(&mut self) -> Result<(), AllocError> {
+        self.rows.push(Row {
+            runs: Vec::new(self.alloc),
+            waits: Vec::new(self.alloc),
+            wakes: Vec::new(self.alloc),
+        })?;
+        Ok(())
+    }
+
+    /// A run that began so.
+    pub fn push_run(&mut self, run: &Slice, start: &Start) -> Result<(), AllocError> {
+        if let Some(row) = self.rows.get_mut(usize::from(run.processor)) {
+            self.tasks.insert(run.task)?;
+            row.runs.push(Run {
+                task: run.task,
+                from: run.from,
+                to: run.to,
+                waited: start.waited,
+                latency: start.latency,
+            })?;
+        }
+        Ok(())
+    }
+
+    /// A wait at a processor.
+    pub fn push_wait(&mut self, processor: u8, wait: Wait) -> Result<(), AllocError> {
+        if let Some(row) = self.rows.get_mut(usize::from(processor)) {
+            self.tasks.insert(wait.task)?;
+            row.waits.push(wait)?;
+        }
+        Ok(())
+    }
+
+    /// A wake, at the processor where its task was placed.
+    pub fn push_wake(&mut self, wake: &Wake) -> Result<(), AllocError> {
+        if let Some(row) = self.rows.get_mut(usize::from(wake.to)) {
+            self.tasks.insert(wake.task)?;
+            row.wakes.push((wake.at, wake.task))?;
+        }
+        Ok(())
+    }
+
+    /// The picture. Waits are put in the order in which they begin.
+    pub fn write(
+        &mut self,
+        window: &Window,
+        extent: Extent,
+        names: &Names,
+        text: &mut String,
+    ) -> Result<(), AllocError> {
+        let scale = Scale { extent };
+        let tasks: Vec<u16> = self.tasks.iter().copied().collect(self.alloc)?;
+        let shades = Shades {
+            tasks: tasks.as_slice(),
+            names,
+        };
+        let mut body = String::new(self.alloc);
+        let mut top = TOP;
+        for (number, row) in self.rows.iter_mut().enumerate() {
+            if shows_row(window, number) {
+                row.waits.sort_unstable();
+                let lanes = row.write(self.alloc, number, top, &scale, &shades, &mut body)?;
+                top = top
+                    .saturating_add(BAND)
+                    .saturating_add(lanes.saturating_mul(LANE))
+                    .saturating_add(GAP);
+            }
+        }
+        write_head(&shades, &extent, top, text)?;
+        write_axis(&scale, TOP, top, text)?;
+        text.push_str(body.as_str())?;
+        write_legend(&shades, top, text)?;
+        write_end(text)
+    }
+}
+
+fn shows_row(window: &Window, number: usize) -> bool {
+    match u8::try_from(number) {
+        Ok(number) => window.shows_processor(number),
+        Err(_) => false,
+    }
+}
+
+impl Row {
+    /// Draws the row from this height on, and tells how many lanes of waits it has.
+    fn write(
+        &self,
+        alloc: Global,
+        number: usize,
+        top: usize,
+        scale: &Scale,
+        shades: &Shades<'_>,
+        text: &mut String,
+    ) -> Result<usize, AllocError> {
+        write_row_name(number, top, text)?;
+        for run in self.runs.iter() {
+            write_run(run, top, scale, shades, text)?;
+        }
+        let mut lanes = Lanes::new(alloc);
+        for wait in self.waits.iter() {
+            if let Some(lane) = lanes.take(wait)? {
+                let height = lane
+                    .saturating_mul(LANE)
+                    .saturating_add(BAND)
+                    .saturating_add(top);
+                write_wait(wait, height, scale, shades, text)?;
+            }
+        }
+        for (at, task) in self.wakes.iter() {
+            write_tick(*at, *task, top, scale, shades, text)?;
+        }
+        Ok(lanes.count())
+    }
+}

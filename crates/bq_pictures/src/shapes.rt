@@ -1,0 +1,365 @@
+//! The shapes of the picture.
+
+use crate::colours::{COLOURS, STYLE, hex};
+use crate::drawing::BAND;
+use crate::escaped::Escaped;
+use crate::lanes::Wait;
+use crate::scale::{Hundredths, LEFT, Scale, WIDTH};
+use bq_forms::{Extent, Millis, Names, round_step};
+use std::alloc::AllocError;
+
+/// How high a wait is drawn, with the space below it.
+pub const LANE: usize = 9;
+
+/// How wide the picture is.
+const PAGE: u64 = LEFT + WIDTH + 24;
+
+/// How many tasks stand in a line of the legend.
+const ABREAST: usize = 6;
+
+/// A run, and how it began.
+#[derive(Clone, Copy, Debug)]
+pub struct Run {
+    pub task: u16,
+    pub from: u64,
+    pub to: u64,
+    pub waited: u64,
+    pub latency: Option<u64>,
+}
+
+/// The tasks that are shown, by rising number, and their names.
+#[derive(Clone, Copy)]
+pub struct Shades<'a> {
+    pub tasks: &'a [u16],
+    pub names: &'a Names,
+}
+
+impl Shades<'_> {
+    /// The place of a task among those that are shown.
+    fn place(&self, task: u16) -> usize {
+        self.tasks.binary_search(&task).unwrap_or(0)
+    }
+
+    /// The number of a task's colour.
+    fn colour(&self, task: u16) -> usize {
+        self.place(task) % COLOURS
+    }
+
+    /// Adds the name of a task, or its number.
+    fn write_name(&self, task: u16, text: &mut String) -> Result<(), AllocError> {
+        match self.names.of(task) {
+            Some(name) => {
+                let name = Escaped(name);
+                write!(text, "{name}")
+            }
+            None => write!(text, "task {task}"),
+        }
+    }
+
+    /// How many characters its name has.
+    fn name_length(&self, task: u16) -> u64 {
+        match self.names.of(task) {
+            Some(name) => name.chars().count() as u64,
+            None => 9,
+        }
+    }
+}
+
+/// The beginning: the size, the styles, the hatches of the colours, and the title.
+pub fn write_head(
+    shades: &Shades<'_>,
+    extent: &Extent,
+    bottom: usize,
+    text: &mut String,
+) -> Result<(), AllocError> {
+    let lines = shades.tasks.len().div_ceil(ABREAST);
+    let height = bottom
+        .saturating_add(84)
+        .saturating_add(lines.saturating_mul(24));
+    write!(
+        text,
+        "<svg xmlns=\"http://www.w3.org/2000/svg\" width=\"{PAGE}\" height=\"{height}\" viewBox=\"0 0 {PAGE} {height}\" role=\"img\">\n"
+    )?;
+    text.push_str("<title>Schedule</title>\n<style>\n")?;
+    text.push_str(BASE)?;
+    text.push_str(STYLE)?;
+    text.push_str(DARK)?;
+    text.push_str("</style>\n<defs>\n")?;
+    for place in 0..COLOURS {
+        let colour = hex(place);
+        write!(
+            text,
+            "<pattern id=\"h{place}\" width=\"5\" height=\"5\" patternUnits=\"userSpaceOnUse\" patternTransform=\"rotate(45)\">"
+        )?;
+        write!(
+            text,
+            "<rect width=\"5\" height=\"5\" fill=\"{colour}\" fill-opacity=\"0.22\"/>"
+        )?;
+        write!(
+            text,
+            "<rect width=\"1.6\" height=\"5\" fill=\"{colour}\"/></pattern>\n"
+        )?;
+    }
+    text.push_str("</defs>\n<rect class=\"page\" width=\"100%\" height=\"100%\"/>\n")?;
+    let from = Millis(extent.from);
+    let to = Millis(extent.to);
+    write!(
+        text,
+        "<text class=\"title\" x=\"{LEFT}\" y=\"30\">Schedule <tspan class=\"small\" dx=\"6\">{from} to {to} ms</tspan></text>\n"
+    )
+}
+
+const BASE: &str = concat!(
+    "text{font:12px system-ui,-apple-system,'Segoe UI',Roboto,Helvetica,Arial,sans-serif;fill:#1b1f24}\n",
+    ".page{fill:#fff}.title{font-size:17px;font-weight:600}.cpu{font-weight:600}\n",
+    ".small{font-size:11px;font-weight:400;fill:#59636e}.grid{stroke:#d8dee4;stroke-width:1}.band{fill:#8c959f;fill-opacity:.13}\n",
+    ".run{stroke-width:0}.wait{stroke-width:.7}.tick{stroke-width:1.5}.in{text-anchor:middle;font-weight:600}\n"
+);
+
+const DARK: &str = concat!(
+    "@media (prefers-color-scheme:dark){text{fill:#e6edf3}.page{fill:#0d1117}\n",
+    ".small{fill:#9198a1}.grid{stroke:#30363d}\n",
+    ".l0,.l5{fill:#fff}.l1,.l2,.l3,.l4,.l6,.l7{fill:#111}}\n"
+);
+
+/// The name of a row, and the band in which its runs lie.
+pub fn write_row_name(number: usize, top: usize, text: &mut String) -> Result<(), AllocError> {
+    let line = top.saturating_add(18);
+    write!(
+        text,
+        "<rect class=\"band\" x=\"{LEFT}\" y=\"{top}\" width=\"{WIDTH}\" height=\"{BAND}\"/>\n"
+    )?;
+    write!(
+        text,
+        "<text class=\"cpu\" x=\"16\" y=\"{line}\">cpu {number}</text>\n"
+    )
+}
+
+/// A run, with its task's name where there is room, and all of it in a tooltip.
+pub fn write_run(
+    run: &Run,
+    top: usize,
+    scale: &Scale,
+    shades: &Shades<'_>,
+    text: &mut String,
+) -> Result<(), AllocError> {
+    let place = scale.place(run.from);
+    let width = scale.width(run.from, run.to);
+    let colour = shades.colour(run.task);
+    write!(
+        text,
+        "<g><rect class=\"run c{colour}\" x=\"{place}\" y=\"{top}\" width=\"{width}\" height=\"{BAND}\" rx=\"2\"/>"
+    )?;
+    write_run_title(run, shades, text)?;
+    if width.0
+        >= shades
+            .name_length(run.task)
+            .saturating_mul(760)
+            .saturating_add(800)
+    {
+        let middle = Hundredths(place.0.saturating_add(width.0 / 2));
+        let line = top.saturating_add(18);
+        write!(
+            text,
+            "<text class=\"in l{colour}\" x=\"{middle}\" y=\"{line}\">"
+        )?;
+        shades.write_name(run.task, text)?;
+        text.push_str("</text>")?;
+    }
+    text.push_str("</g>\n")
+}
+
+fn write_run_title(run: &Run, shades: &Shades<'_>, text: &mut String) -> Result<(), AllocError> {
+    text.push_str("<title>")?;
+    shades.write_name(run.task, text)?;
+    let task = run.task;
+    let from = Millis(run.from);
+    let to = Millis(run.to);
+    let length = Millis(run.to.saturating_sub(run.from));
+    write!(text, " ({task}) runs {from} to {to} ms: {length} ms")?;
+    let waited = Millis(run.waited);
+    write!(text, ", after {waited} ms of waiting")?;
+    if let Some(latency) = run.latency {
+        let latency = Millis(latency);
+        write!(text, ", {latency} ms since its wake")?;
+    }
+    text.push_str("</title>")
+}
+
+/// A wait, hatched.
+pub fn write_wait(
+    wait: &Wait,
+    height: usize,
+    scale: &Scale,
+    shades: &Shades<'_>,
+    text: &mut String,
+) -> Result<(), AllocError> {
+    let place = scale.place(wait.from);
+    let width = scale.width(wait.from, wait.to);
+    let colour = shades.colour(wait.task);
+    let hue = hex(colour);
+    let top = height.saturating_add(2);
+    write!(
+        text,
+        "<rect class=\"wait\" x=\"{place}\" y=\"{top}\" width=\"{width}\" height=\"6\" fill=\"url(#h{colour})\" stroke=\"{hue}\"><title>"
+    )?;
+    shades.write_name(wait.task, text)?;
+    let from = Millis(wait.from);
+    let to = Millis(wait.to);
+    write!(text, " waits {from} to {to} ms</title></rect>\n")
+}
+
+/// A wake, as a tick above the row.
+pub fn write_tick(
+    at: u64,
+    task: u16,
+    top: usize,
+    scale: &Scale,
+    shades: &Shades<'_>,
+    text: &mut String,
+) -> Result<(), AllocError> {
+    let place = scale.place(at);
+    let colour = shades.colour(task);
+    let begin = top.saturating_sub(10);
+    write!(
+        text,
+        "<path class=\"tick c{colour}\" d=\"M{place} {begin}v9l-2.5 -4h5l-2.5 4\"><title>"
+    )?;
+    shades.write_name(task, text)?;
+    let at = Millis(at);
+    write!(text, " is woken at {at} ms</title></path>\n")
+}
+
+/// The axis of time: lines at round moments.
+pub fn write_axis(
+    scale: &Scale,
+    top: usize,
+    bottom: usize,
+    text: &mut String,
+) -> Result<(), AllocError> {
+    let Some(step) = round_step(scale.extent.length(), 10) else {
+        return Ok(());
+    };
+    let unit = AxisUnit::of(step);
+    let begin = top.saturating_sub(12);
+    let line = bottom.saturating_add(16);
+    let mut at = scale.extent.from.div_ceil(step.max(1)).saturating_mul(step);
+    for _ in 0..12u8 {
+        if at > scale.extent.to {
+            break;
+        }
+        let place = scale.place(at);
+        let count = at / unit.length().max(1);
+        write!(
+            text,
+            "<path class=\"grid\" d=\"M{place} {begin}V{bottom}\"/>"
+        )?;
+        write!(
+            text,
+            "<text class=\"small\" text-anchor=\"middle\" x=\"{place}\" y=\"{line}\">{count}</text>\n"
+        )?;
+        at = at.saturating_add(step);
+    }
+    let name = unit.name();
+    write!(
+        text,
+        "<text class=\"small\" x=\"16\" y=\"{line}\">time, {name}</text>\n"
+    )
+}
+
+/// The unit of the axis, of which each step is a whole number.
+#[derive(Clone, Copy)]
+enum AxisUnit {
+    Nanoseconds,
+    Microseconds,
+    Milliseconds,
+    Seconds,
+}
+
+impl AxisUnit {
+    fn of(step: u64) -> AxisUnit {
+        if step < 1000 {
+            AxisUnit::Nanoseconds
+        } else if step < 1_000_000 {
+            AxisUnit::Microseconds
+        } else if step < 1_000_000_000 {
+            AxisUnit::Milliseconds
+        } else {
+            AxisUnit::Seconds
+        }
+    }
+
+    fn length(self) -> u64 {
+        match self {
+            AxisUnit::Nanoseconds => 1,
+            AxisUnit::Microseconds => 1000,
+            AxisUnit::Milliseconds => 1_000_000,
+            AxisUnit::Seconds => 1_000_000_000,
+        }
+    }
+
+    fn name(self) -> &'static str {
+        match self {
+            AxisUnit::Nanoseconds => "ns",
+            AxisUnit::Microseconds => "us",
+            AxisUnit::Milliseconds => "ms",
+            AxisUnit::Seconds => "s",
+        }
+    }
+}
+
+/// The legend: the tasks with their colours, and what hatches and ticks are.
+pub fn write_legend(
+    shades: &Shades<'_>,
+    bottom: usize,
+    text: &mut String,
+) -> Result<(), AllocError> {
+    let first = bottom.saturating_add(40);
+    for (place, task) in shades.tasks.iter().enumerate() {
+        let left = (place % ABREAST).saturating_mul(176).saturating_add(72);
+        let top = (place / ABREAST).saturating_mul(24).saturating_add(first);
+        let colour = place % COLOURS;
+        let right = left.saturating_add(20);
+        let line = top.saturating_add(11);
+        write!(
+            text,
+            "<rect class=\"run c{colour}\" x=\"{left}\" y=\"{top}\" width=\"14\" height=\"14\" rx=\"2\"/>"
+        )?;
+        write!(text, "<text x=\"{right}\" y=\"{line}\">")?;
+        shades.write_name(*task, text)?;
+        if shades.names.of(*task).is_some() {
+            write!(text, " ({task})")?;
+        }
+        text.push_str("</text>\n")?;
+    }
+    let lines = shades.tasks.len().div_ceil(ABREAST);
+    write_key(lines.saturating_mul(24).saturating_add(first), text)
+}
+
+/// What hatches and ticks are.
+fn write_key(top: usize, text: &mut String) -> Result<(), AllocError> {
+    let line = top.saturating_add(14);
+    let bar = top.saturating_add(6);
+    let tick = top.saturating_add(4);
+    write!(
+        text,
+        "<rect class=\"wait\" x=\"72\" y=\"{bar}\" width=\"26\" height=\"6\" fill=\"url(#h7)\" stroke=\"#8c8c8c\"/>"
+    )?;
+    write!(
+        text,
+        "<text class=\"small\" x=\"106\" y=\"{line}\">waits</text>"
+    )?;
+    write!(
+        text,
+        "<path class=\"tick c7\" d=\"M170 {tick}v9l-2.5 -4h5l-2.5 4\"/>"
+    )?;
+    write!(
+        text,
+        "<text class=\"small\" x=\"182\" y=\"{line}\">is woken</text>\n"
+    )
+}
+
+/// The end.
+pub fn write_end(text: &mut String) -> Result<(), AllocError> {
+    text.push_str("</svg>\n")
+}
