@@ -1,0 +1,23 @@
+-- What a timeline keeps of the news of a trace: the schedule that they tell, and how many lines were bad or refused.
+use Rattle.std.specs.Prelude.{ℕ, Option, Some, None, Result, Ok, Err, nat_lt, if◌then◌else◌}
+use Rattle.bq_parts.specs.World.{count_in}
+use Rattle.bq_sizes.specs.Sizes.{processors_in}
+use Rattle.bq_trace.specs.Counts.{one_more}
+use Rattle.bq_trace.specs.News.{News, Opened, Answered, Unspelled, Unloaded, Shown, Bad}
+use Rattle.bq_schedule.specs.Figures.{Figures, opening}
+use Rattle.bq_schedule.specs.Steps.{after}
+
+-- the schedule begins with the machine, and each event is taken with its answer
+abbrev pub watched : Option Figures → News → Option Figures
+watched s (Opened rule size) = Some (opening (processors_in size))
+watched (Some s) (Answered event answer m) = Some (after s event answer)
+watched s news = s
+
+-- each line that is bad or refused is counted once
+abbrev pub troubled : ℕ → News → ℕ
+troubled n (Answered event (Err refusal) m) = one_more n
+troubled n Unspelled = one_more n
+troubled n (Unloaded why) = one_more n
+troubled n (Shown c m) = if nat_lt c (count_in m.world) then n else one_more n
+troubled n (Bad line) = one_more n
+troubled n news = n

@@ -1,0 +1,204 @@
+//! Why a line is bad.
+
+use bq_lines::numbers;
+use bq_lines::words::{is_allowed_line, next_word};
+use bq_sizes::{Rule, Size};
+use std::{fmt, str};
+
+/// What a word of a line is to be.
+#[derive(Clone, Copy, Debug, PartialEq, Eq)]
+pub enum Kind {
+    Rule,
+    Size,
+    Processor,
+    Task,
+    Nice,
+    Mask,
+    Time,
+    Generation,
+    Slice,
+    Hook,
+    Image,
+    Counter,
+}
+
+impl Kind {
+    /// Whether a word is that.
+    fn fits(self, word: &[u8]) -> bool {
+        match self {
+            Kind::Rule => Rule::of_word(word).is_some(),
+            Kind::Size => numbers::processor(word)
+                .and_then(|number| Size::of_number(number))
+                .is_some(),
+            Kind::Processor => numbers::processor(word).is_some(),
+            Kind::Task => numbers::task(word).is_some(),
+            Kind::Nice => numbers::nice(word).is_some(),
+            Kind::Mask => numbers::mask(word).is_some(),
+            Kind::Time | Kind::Generation | Kind::Slice => numbers::decimal(word).is_some(),
+            Kind::Hook => {
+                word == b"place".as_slice()
+                    || word == b"preempt".as_slice()
+                    || word == b"pull".as_slice()
+            }
+            Kind::Image => true,
+            Kind::Counter => numbers::processor(word).is_some_and(|counter| counter < 64),
+        }
+    }
+}
+
+impl fmt::Display for Kind {
+    fn fmt<W: fmt::Write>(&self, f: &mut fmt::Formatter<W>) -> fmt::Result {
+        match self {
+            Kind::Rule => write!(f, "is no rule (cfs or eevdf)"),
+            Kind::Size => { write!(f, "is no number of processors (1, 2, 4, 8, 16, 32 or 64)") }
+            Kind::Processor => write!(f, "does not fit a processor's number (0 to 255)"),
+            Kind::Task => write!(f, "does not fit a task's number (0 to 65535)"),
+            Kind::Nice => write!(f, "does not fit a nice value (-128 to 127)"),
+            Kind::Mask => { write!(f, "does not fit a mask (64 bits, decimal or hex after 0x)") }
+            Kind::Time => write!(f, "does not fit a clock reading (0 to 2^64 - 1)"),
+            Kind::Generation => write!(f, "does not fit a generation (0 to 2^64 - 1)"),
+            Kind::Slice => write!(f, "does not fit a slice (0 to 2^64 - 1)"),
+            Kind::Hook => write!(f, "is no hook (place, preempt or pull)"),
+            Kind::Image => write!(f, "is no image"),
+            Kind::Counter => write!(f, "does not fit a counter's number (0 to 63)"),
+        }
+    }
+}
+
+/// The words that follow a command's name.
+fn operands_of(name: &[u8]) -> Option<&'static [Kind]> {
+    if name == b"machine".as_slice() {
+        Some(&[Kind::Rule, Kind::Size])
+    } else if name == b"admit".as_slice() {
+        Some(&[Kind::Task, Kind::Nice, Kind::Mask, Kind::Slice])
+    } else if name == b"retire".as_slice() {
+        Some(&[Kind::Task])
+    } else if name == b"draw".as_slice() {
+        Some(&[])
+    } else if name == b"install".as_slice() {
+        Some(&[Kind::Processor, Kind::Generation, Kind::Hook, Kind::Image])
+    } else if name == b"begin".as_slice() {
+        Some(&[Kind::Processor, Kind::Task])
+    } else if name == b"wake".as_slice() {
+        Some(&[Kind::Processor, Kind::Task, Kind::Time])
+    } else if name == b"end".as_slice()
+        || name == b"drain".as_slice()
+        || name == b"tick".as_slice()
+        || name == b"block".as_slice()
+    {
+        Some(&[Kind::Processor, Kind::Time])
+    } else if name == b"pull".as_slice() {
+        Some(&[Kind::Processor, Kind::Processor, Kind::Time])
+    } else if name == b"show".as_slice() {
+        Some(&[Kind::Processor])
+    } else if name == b"counter".as_slice() {
+        Some(&[Kind::Counter])
+    } else {
+        None
+    }
+}
+
+/// Why a line is bad.
+#[derive(Clone, Copy)]
+pub enum Fault<'a> {
+    /// It has more than 131,072 bytes.
+    TooLong,
+    /// It has a byte that is neither printable ASCII nor a tab.
+    Byte,
+    /// No command has this name.
+    Name(&'a [u8]),
+    /// The command takes another number of words.
+    Count { name: &'a [u8], wanted: usize },
+    /// A word is not what stands at its place.
+    Word { word: &'a [u8], kind: Kind },
+    /// A machine is made already.
+    Again,
+    /// The trace does not begin with its machine.
+    NoMachine,
+}
+
+/// Why a bad line is bad; nothing is heard of one that is too long. `is_open` says whether the machine is made.
+pub fn fault(line: Option<&[u8]>, is_open: bool) -> Fault<'_> {
+    let Some(line) = line else {
+        return Fault::TooLong;
+    };
+    if !is_allowed_line(line) {
+        return Fault::Byte;
+    }
+    let Some((name, rest)) = next_word(line) else {
+        return Fault::NoMachine;
+    };
+    let Some(kinds) = operands_of(name) else {
+        return Fault::Name(name);
+    };
+    match word_fault(name, rest, kinds) {
+        Some(fault) => fault,
+        None if is_open => Fault::Again,
+        None => Fault::NoMachine,
+    }
+}
+
+/// What is wrong with the words after a command's name: their number, or the first that does not fit.
+fn word_fault<'a>(name: &'a [u8], operands: &'a [u8], kinds: &[Kind]) -> Option<Fault<'a>> {
+    let wanted = kinds.len();
+    let mut rest = operands;
+    let mut misfit = None;
+    for kind in kinds {
+        let Some((word, more)) = next_word(rest) else {
+            return Some(Fault::Count { name, wanted });
+        };
+        if misfit.is_none() && !kind.fits(word) {
+            misfit = Some(Fault::Word { word, kind: *kind });
+        }
+        rest = more;
+    }
+    if next_word(rest).is_some() {
+        return Some(Fault::Count { name, wanted });
+    }
+    misfit
+}
+
+/// A word of a line, cut where it is long.
+struct Quoted<'a>(&'a [u8]);
+
+impl fmt::Display for Quoted<'_> {
+    fn fmt<W: fmt::Write>(&self, f: &mut fmt::Formatter<W>) -> fmt::Result {
+        let word = if self.0.len() > 40 {
+            &self.0[..40]
+        } else {
+            self.0
+        };
+        match str::from_utf8(word) {
+            Ok(word) => write!(f, "{word}"),
+            Err(_) => Ok(()),
+        }
+    }
+}
+
+impl fmt::Display for Fault<'_> {
+    fn fmt<W: fmt::Write>(&self, f: &mut fmt::Formatter<W>) -> fmt::Result {
+        match self {
+            Fault::TooLong => write!(f, "a line has at most 131072 bytes"),
+            Fault::Byte => write!(f, "a byte is neither printable ASCII nor a tab"),
+            Fault::Name(name) => {
+                let name = Quoted(name);
+                write!(f, "{name} is no command")
+            }
+            Fault::Count { name, wanted } => {
+                let name = Quoted(name);
+                write!(f, "{name} takes {wanted} words after it")
+            }
+            Fault::Word { word, kind } => {
+                let word = Quoted(word);
+                write!(f, "{word} {kind}")
+            }
+            Fault::Again => write!(f, "the machine is made already"),
+            Fault::NoMachine => {
+                write!(
+                    f,
+                    "a trace begins with its machine line; nothing after this is done"
+                )
+            }
+        }
+    }
+}

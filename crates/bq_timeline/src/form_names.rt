@@ -1,0 +1,35 @@
+//! The forms by their names.
+
+/// A form in which a schedule is shown.
+#[derive(Clone, Copy, Debug, PartialEq, Eq)]
+pub enum FormName {
+    Report,
+    Map,
+    Timehist,
+    Why,
+    Csv,
+    Json,
+}
+
+impl FormName {
+    /// The form of that name.
+    pub fn of_word(word: &str) -> Option<FormName> {
+        match word {
+            "report" => Some(FormName::Report),
+            "map" => Some(FormName::Map),
+            "timehist" => Some(FormName::Timehist),
+            "why" => Some(FormName::Why),
+            "csv" => Some(FormName::Csv),
+            "json" => Some(FormName::Json),
+            _ => None,
+        }
+    }
+
+    /// Whether a person reads it line by line, so that notes on lines may stand in it.
+    pub fn has_notes(self) -> bool {
+        match self {
+            FormName::Report | FormName::Map | FormName::Timehist | FormName::Why => true,
+            FormName::Csv | FormName::Json => false,
+        }
+    }
+}

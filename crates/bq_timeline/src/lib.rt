@@ -1,0 +1,20 @@
+//! The command `timeline`: a trace, read as `replay` reads it, shown as a schedule in a form that people read.
+//! Promises that the schedule shown is that of the events and answers of the trace, and that no refused or bad line is
+//! passed over.
+//! Stands on bq_trace's sinks, on bq_schedule and its forms, and on bq_why.
+#![tactic(auto)]
+
+pub mod faults;
+pub mod form_names;
+pub mod happenings;
+pub mod numbers;
+pub mod screen;
+pub mod settings;
+pub mod showing;
+pub mod shown;
+pub mod viewer;
+pub mod why_text;
+pub mod words_of;
+
+pub use settings::{Settings, SettingsFault, Words};
+pub use showing::{Outcome, show};

@@ -1,0 +1,171 @@
+//! What is written of a trace: the form, with notes on its lines where a person reads it, and what goes to standard error.
+
+use crate::faults::fault;
+use crate::happenings::{Because, InWords};
+use crate::settings::Settings;
+use crate::shown::Shown;
+use bq_core::{Event, Refusal, Reply};
+use bq_forms::Names;
+use bq_load::LoadFault;
+use bq_schedule::{Change, Schedule};
+use bq_trace::Machine;
+use std::alloc::{AllocError, Global};
+
+/// What is written of a trace, as far as it has come.
+#[derive(Drop)]
+pub struct Screen {
+    names: Names,
+    shown: Shown,
+    has_notes: bool,
+    /// What goes to the output, since it was cleared last.
+    pub text: String,
+    /// What goes to standard error.
+    pub notes: String,
+}
+
+impl Screen {
+    /// Nothing is written yet.
+    pub fn new(alloc: Global, settings: Settings) -> Screen {
+        let has_notes = settings.form.has_notes();
+        Screen {
+            names: Names::new(alloc),
+            shown: Shown::of(alloc, settings),
+            has_notes,
+            text: String::new(alloc),
+            notes: String::new(alloc),
+        }
+    }
+
+    /// Where notes on lines go: into the form that a person reads, and else to standard error.
+    fn notes(&mut self) -> &mut String {
+        if self.has_notes {
+            &mut self.text
+        } else {
+            &mut self.notes
+        }
+    }
+
+    /// The machine is made.
+    pub fn begin(&mut self, schedule: &Schedule) -> Result<(), AllocError> {
+        self.shown.begin(schedule, &self.names, &mut self.text)
+    }
+
+    /// A comment may name a task.
+    pub fn comment(&mut self, line: &[u8]) -> Result<(), AllocError> {
+        self.names.learn(line)
+    }
+
+    /// An event is about to be done.
+    pub fn comes(&mut self, event: &Event, machine: &Machine) {
+        if let Shown::Why(form) = &mut self.shown {
+            form.comes(event, machine);
+        }
+    }
+
+    /// An event was done, or refused.
+    pub fn answered(
+        &mut self,
+        number: u64,
+        event: &Event,
+        answer: &Result<Reply, Refusal>,
+        machine: &Machine,
+        change: &Change,
+        schedule: &Schedule,
+    ) -> Result<(), AllocError> {
+        let reply = match answer {
+            Ok(reply) => reply,
+            Err(refusal) => {
+                let event = InWords(event);
+                let because = Because(*refusal);
+                return write!(self.notes(), "line {number}: {event}: {because}\n");
+            }
+        };
+        if let Some(reading) = &change.reading {
+            if reading.is_back {
+                let processor = reading.processor;
+                let last = reading.to;
+                write!(
+                    self.notes(),
+                    "line {number}: the clock of processor {processor} goes back; the reading counts as {last}\n"
+                )?;
+            }
+        }
+        if let Shown::Why(form) = &self.shown {
+            return form.answered(
+                number,
+                event,
+                reply,
+                machine,
+                change,
+                &self.names,
+                &mut self.text,
+            );
+        }
+        self.shown
+            .take(change, schedule, &self.names, &mut self.text)
+    }
+
+    /// The word of an image is no hex.
+    pub fn unspelled(&mut self, number: u64) -> Result<(), AllocError> {
+        write!(self.notes(), "line {number}: the image is no hex\n")
+    }
+
+    /// An image does not load.
+    pub fn unloaded(&mut self, number: u64, fault: LoadFault) -> Result<(), AllocError> {
+        write!(
+            self.notes(),
+            "line {number}: the image does not load: {fault}\n"
+        )
+    }
+
+    /// A processor is to be shown that is not there.
+    pub fn not_there(&mut self, number: u64, processor: u8) -> Result<(), AllocError> {
+        let because = Because(Refusal::NoProcessor);
+        write!(self.notes(), "line {number}: show {processor}: {because}\n")
+    }
+
+    /// A line is bad.
+    pub fn bad(
+        &mut self,
+        number: u64,
+        line: Option<&[u8]>,
+        is_open: bool,
+    ) -> Result<(), AllocError> {
+        let fault = fault(line, is_open);
+        write!(self.notes(), "line {number}: {fault}\n")
+    }
+
+    /// The trace is over. So many lines were bad or refused.
+    pub fn end(&mut self, schedule: &Schedule, troubles: u64) -> Result<(), AllocError> {
+        self.shown.end(schedule, &self.names, &mut self.text)?;
+        for task in 0..1024u16 {
+            if let Some(processor) = schedule.undrained(task) {
+                write!(
+                    &mut self.notes,
+                    "task {task} was placed on processor {processor}, which was never drained after\n"
+                )?;
+            }
+        }
+        self.sum_up(troubles)
+    }
+
+    /// Notes how many lines were bad or refused, if any were.
+    pub fn sum_up(&mut self, troubles: u64) -> Result<(), AllocError> {
+        if troubles > 0 {
+            write!(&mut self.notes, "lines bad or refused: {troubles}\n")?;
+        }
+        Ok(())
+    }
+
+    /// What goes to standard error.
+    pub fn into_notes(self) -> String {
+        let Screen {
+            names: _,
+            shown: _,
+            has_notes: _,
+            text: _,
+            notes,
+        } = self;
+        notes
+    }
+}

@@ -1,0 +1,91 @@
+//! The forms, behind one name.
+
+use crate::form_names::FormName;
+use crate::settings::Settings;
+use crate::why_text::Why;
+use bq_forms::{Csv, Form, Json, Map, Names, Report, Timehist};
+use bq_schedule::{Change, Schedule};
+use std::alloc::{AllocError, Global};
+
+/// A form of one of the names.
+#[derive(Drop)]
+pub enum Shown {
+    Report(Report),
+    Map(Map),
+    Timehist(Timehist),
+    Csv(Csv),
+    Json(Json),
+    /// It is written from the machine itself, choice by choice.
+    Why(Why),
+}
+
+impl Shown {
+    /// The form that the settings ask for, of what they show.
+    pub fn of(alloc: Global, settings: Settings) -> Shown {
+        let Settings {
+            form,
+            window,
+            width,
+        } = settings;
+        match form {
+            FormName::Report => Shown::Report(Report::new(alloc, window)),
+            FormName::Map => Shown::Map(Map::new(alloc, window, width)),
+            FormName::Timehist => Shown::Timehist(Timehist::new(window)),
+            FormName::Csv => Shown::Csv(Csv::new(alloc, window)),
+            FormName::Json => Shown::Json(Json::new(alloc, window)),
+            FormName::Why => Shown::Why(Why::new(alloc, window)),
+        }
+    }
+
+    /// Begins, at a schedule to which nothing has happened.
+    pub fn begin(
+        &mut self,
+        schedule: &Schedule,
+        names: &Names,
+        text: &mut String,
+    ) -> Result<(), AllocError> {
+        match self {
+            Shown::Report(form) => form.begin(schedule, names, text),
+            Shown::Map(form) => form.begin(schedule, names, text),
+            Shown::Timehist(form) => form.begin(schedule, names, text),
+            Shown::Csv(form) => form.begin(schedule, names, text),
+            Shown::Json(form) => form.begin(schedule, names, text),
+            Shown::Why(_) => Ok(()),
+        }
+    }
+
+    /// Takes what one answer changed.
+    pub fn take(
+        &mut self,
+        change: &Change,
+        schedule: &Schedule,
+        names: &Names,
+        text: &mut String,
+    ) -> Result<(), AllocError> {
+        match self {
+            Shown::Report(form) => form.take(change, schedule, names, text),
+            Shown::Map(form) => form.take(change, schedule, names, text),
+            Shown::Timehist(form) => form.take(change, schedule, names, text),
+            Shown::Csv(form) => form.take(change, schedule, names, text),
+            Shown::Json(form) => form.take(change, schedule, names, text),
+            Shown::Why(_) => Ok(()),
+        }
+    }
+
+    /// Ends, at the schedule of the whole trace.
+    pub fn end(
+        &mut self,
+        schedule: &Schedule,
+        names: &Names,
+        text: &mut String,
+    ) -> Result<(), AllocError> {
+        match self {
+            Shown::Report(form) => form.end(schedule, names, text),
+            Shown::Map(form) => form.end(schedule, names, text),
+            Shown::Timehist(form) => form.end(schedule, names, text),
+            Shown::Csv(form) => form.end(schedule, names, text),
+            Shown::Json(form) => form.end(schedule, names, text),
+            Shown::Why(_) => Ok(()),
+        }
+    }
+}

@@ -1,0 +1,122 @@
+//! The sink of a timeline: the schedule that a trace tells, and the form that it is shown in.
+ghost use Rattle.bq_timeline.specs.Watching.{watched, troubled};
+ghost use Rattle.std.specs.Prelude.{◌≡◌};
+
+use crate::screen::Screen;
+use crate::settings::Settings;
+use bq_core::{Event, Refusal, Reply};
+use bq_load::LoadFault;
+use bq_schedule::Schedule;
+use bq_sizes::{Rule, Size};
+use bq_trace::{Machine, Sink};
+use std::alloc::{AllocError, Global};
+
+/// A trace as far as it has come: its schedule, once it has a machine, and how many of its lines were bad or refused.
+#[derive(Drop)]
+pub struct Viewer {
+    alloc: Global,
+    pub schedule: Option<Schedule>,
+    pub troubles: u64,
+    pub screen: Screen,
+}
+
+impl Viewer {
+    /// No line has come.
+    pub fn new(alloc: Global, settings: Settings) -> Viewer
+        ensures schedule { result.schedule ≡ None }
+        ensures troubles { result.troubles ≡ 0 }
+    {
+        Viewer {
+            alloc,
+            schedule: None,
+            troubles: 0,
+            screen: Screen::new(alloc, settings),
+        }
+    }
+
+    /// The trace is over.
+    pub fn end(&mut self) -> Result<(), AllocError> {
+        match &self.schedule {
+            Some(schedule) => self.screen.end(schedule, self.troubles),
+            None => self.screen.sum_up(self.troubles),
+        }
+    }
+}
+
+impl Viewer {
+    /// What goes to standard error.
+    pub fn into_notes(self) -> String {
+        let Viewer {
+            alloc: _,
+            schedule: _,
+            troubles: _,
+            screen,
+        } = self;
+        screen.into_notes()
+    }
+}
+
+impl Sink for Viewer {
+    ghost takes = { λ old n news new. (new.schedule ≡ watched old.schedule news) × (new.troubles ≡ troubled old.troubles news) };
+
+    fn opened(&mut self, _number: u64, _rule: Rule, size: Size) -> Result<(), AllocError> {
+        let schedule = Schedule::new(self.alloc, size.processors())?;
+        self.screen.begin(&schedule)?;
+        self.schedule = Some(schedule);
+        Ok(())
+    }
+
+    fn skipped(&mut self, _number: u64, line: &[u8]) -> Result<(), AllocError> {
+        self.screen.comment(line)
+    }
+
+    fn comes(&mut self, _number: u64, event: &Event, machine: &Machine) -> Result<(), AllocError> {
+        self.screen.comes(event, machine);
+        Ok(())
+    }
+
+    fn answered(
+        &mut self,
+        number: u64,
+        event: &Event,
+        answer: &Result<Reply, Refusal>,
+        machine: &Machine,
+    ) -> Result<(), AllocError> {
+        if answer.is_err() {
+            self.troubles = self.troubles.saturating_add(1);
+        }
+        if let Some(schedule) = &mut self.schedule {
+            let change = schedule.take(event, answer);
+            self.screen
+                .answered(number, event, answer, machine, &change, schedule)?;
+        }
+        Ok(())
+    }
+
+    fn unspelled(&mut self, number: u64) -> Result<(), AllocError> {
+        self.troubles = self.troubles.saturating_add(1);
+        self.screen.unspelled(number)
+    }
+
+    fn unloaded(&mut self, number: u64, fault: LoadFault) -> Result<(), AllocError> {
+        self.troubles = self.troubles.saturating_add(1);
+        self.screen.unloaded(number, fault)
+    }
+
+    fn shown(&mut self, number: u64, processor: u8, machine: &Machine) -> Result<(), AllocError> {
+        if machine.seen(processor).is_none() {
+            self.troubles = self.troubles.saturating_add(1);
+            self.screen.not_there(number, processor)?;
+        }
+        Ok(())
+    }
+
+    fn counted(&mut self, _number: u64, _counter: u8, _value: u64) -> Result<(), AllocError> {
+        Ok(())
+    }
+
+    fn bad(&mut self, number: u64, line: Option<&[u8]>) -> Result<(), AllocError> {
+        self.troubles = self.troubles.saturating_add(1);
+        self.screen.bad(number, line, self.schedule.is_some())
+    }
+}

@@ -1,0 +1,383 @@
+//! The form `why`: at each choice the tasks that were there, and why the one that runs was chosen.
+
+use crate::happenings::InWords;
+use crate::words_of::{Ids, Lag, Virtual, Who};
+use bq_core::{By, Event, Reply};
+use bq_disc::Entity;
+use bq_forms::{Millis, Names, Window};
+use bq_schedule::Change;
+use bq_sizes::Rule;
+use bq_trace::{Machine, Seen};
+use bq_why::{Reason, Row, present, rows, why};
+use std::alloc::{AllocError, Global};
+
+/// How far ahead a task may be under CFS before it gives way, in virtual nanoseconds.
+const GRANULARITY: u64 = 1_000_000;
+
+/// A choice of the task that runs at a processor.
+struct Choice {
+    processor: u8,
+    run: Option<u16>,
+    by: By,
+    steps: u32,
+}
+
+/// The form `why`, of what is in its window.
+#[derive(Drop)]
+pub struct Why {
+    alloc: Global,
+    window: Window,
+    /// Who ran where the next event happens.
+    was: Option<u16>,
+}
+
+/// The processor at which an event may choose, and its time.
+fn place_of(event: &Event) -> Option<(u8, u64)> {
+    match event {
+        Event::EndWake { processor, now }
+        | Event::Drain { processor, now }
+        | Event::Tick { processor, now }
+        | Event::Block { processor, now }
+        | Event::Pull {
+            processor,
+            from: _,
+            now,
+        } => Some((*processor, *now)),
+        _ => None,
+    }
+}
+
+/// Who runs at a processor of the machine.
+fn running(machine: &Machine, processor: u8) -> Option<u16> {
+    match machine.seen(processor) {
+        Some(Seen::Cfs(cpu)) => cpu.run(),
+        Some(Seen::Eevdf(cpu)) => cpu.run(),
+        None => None,
+    }
+}
+
+impl Why {
+    /// The choices in the window.
+    pub fn new(alloc: Global, window: Window) -> Why {
+        Why {
+            alloc,
+            window,
+            was: None,
+        }
+    }
+
+    /// Notes who runs before an event.
+    pub fn comes(&mut self, event: &Event, machine: &Machine) {
+        self.was = match place_of(event) {
+            Some((processor, _)) => running(machine, processor),
+            None => None,
+        };
+    }
+
+    /// Adds the choices of an event that was done.
+    pub fn answered(
+        &self,
+        number: u64,
+        event: &Event,
+        reply: &Reply,
+        machine: &Machine,
+        change: &Change,
+        names: &Names,
+        text: &mut String,
+    ) -> Result<(), AllocError> {
+        let Some((processor, now)) = place_of(event) else {
+            return Ok(());
+        };
+        let at = match &change.reading {
+            Some(reading) => reading.to,
+            None => now,
+        };
+        if !self.shows(processor, at, reply) {
+            return Ok(());
+        }
+        let time = Millis(at);
+        let event = InWords(event);
+        write!(text, "{time} ms  line {number}: {event}\n")?;
+        match reply {
+            Reply::Placed {
+                task,
+                to,
+                by,
+                steps,
+            } => write_place(text, names, *task, *to, *by, *steps),
+            Reply::Drained { run, by, steps, .. } | Reply::Ticked { run, by, steps } => {
+                let choice = Choice {
+                    processor,
+                    run: *run,
+                    by: *by,
+                    steps: *steps,
+                };
+                self.write_choice(text, names, machine, &choice)
+            }
+            Reply::Blocked { task, run } => {
+                let who = Who { names, task: *task };
+                write!(text, "    {who} goes to sleep\n")?;
+                self.write_start(text, names, machine, processor, *run)
+            }
+            Reply::Pulled {
+                task,
+                run,
+                by,
+                steps,
+            } => {
+                write_pull(text, names, *task, *by, *steps)?;
+                if self.was.is_none() {
+                    self.write_start(text, names, machine, processor, *run)
+                } else {
+                    Ok(())
+                }
+            }
+            _ => Ok(()),
+        }
+    }
+
+    /// Whether the choices of a reply are shown.
+    fn shows(&self, processor: u8, at: u64, reply: &Reply) -> bool {
+        let task = match reply {
+            Reply::Placed { task, .. } | Reply::Blocked { task, .. } => Some(*task),
+            Reply::Drained { run, .. } | Reply::Ticked { run, .. } => *run,
+            Reply::Pulled { task, .. } => *task,
+            _ => None,
+        };
+        self.window.from <= at
+            && at <= self.window.to
+            && self.window.shows_processor(processor)
+            && (self.window.tasks.is_empty()
+                || self.shows_either(task)
+                || self.shows_either(self.was))
+    }
+
+    fn shows_either(&self, task: Option<u16>) -> bool {
+        match task {
+            Some(task) => self.window.shows_task(task),
+            None => false,
+        }
+    }
+
+    /// Adds the choice of a processor at which nothing ran.
+    fn write_start(
+        &self,
+        text: &mut String,
+        names: &Names,
+        machine: &Machine,
+        processor: u8,
+        run: Option<u16>,
+    ) -> Result<(), AllocError> {
+        let choice = Choice {
+            processor,
+            run,
+            by: By::Discipline,
+            steps: 0,
+        };
+        self.write_choice(text, names, machine, &choice)
+    }
+
+    /// Adds the tasks that were there, and why the one that runs was chosen.
+    fn write_choice(
+        &self,
+        text: &mut String,
+        names: &Names,
+        machine: &Machine,
+        choice: &Choice,
+    ) -> Result<(), AllocError> {
+        let rule = machine.rule();
+        let (mark, tasks) = match machine.seen(choice.processor) {
+            Some(Seen::Cfs(cpu)) => (cpu.kept(), present(self.alloc, cpu)?),
+            Some(Seen::Eevdf(cpu)) => (cpu.kept(), present(self.alloc, cpu)?),
+            None => return Ok(()),
+        };
+        let rows = rows(self.alloc, tasks.as_slice())?;
+        if !rows.is_empty() {
+            let mark = Virtual(mark);
+            write!(text, "    mark {mark}\n")?;
+            self.write_rows(text, names, rule, rows.as_slice(), choice.run)?;
+        }
+        let reason = why(rule, choice.by, self.was, choice.run, tasks.as_slice());
+        self.write_reason(
+            text,
+            names,
+            choice,
+            reason,
+            tasks.as_slice(),
+            rows.as_slice(),
+        )
+    }
+
+    /// Adds a line a task.
+    fn write_rows(
+        &self,
+        text: &mut String,
+        names: &Names,
+        rule: Rule,
+        rows: &[Row],
+        run: Option<u16>,
+    ) -> Result<(), AllocError> {
+        match rule {
+            Rule::Cfs => text.push_str("      task        weight          v\n")?,
+            Rule::Eevdf => text.push_str(
+                "      task        weight          v   deadline        lag\n",
+            )?,
+        }
+        for row in rows {
+            let who = format!(in self.alloc;
+                "{}",
+                Who {
+                    names,
+                    task: row.task
+                }
+            )?;
+            let sign = if run == Some(row.task) { '>' } else { ' ' };
+            let weight = row.weight;
+            let v = format!(in self.alloc; "{}", Virtual(row.v))?;
+            write!(text, "    {sign} {who:<10}{weight:>8} {v:>10}")?;
+            if let Rule::Eevdf = rule {
+                let deadline = format!(in self.alloc; "{}", Virtual(row.deadline))?;
+                let lag = format!(in self.alloc; "{}", Lag(row))?;
+                let eligible = if row.is_eligible {
+                    "eligible"
+                } else {
+                    "not eligible"
+                };
+                write!(text, " {deadline:>10} {lag:>10}  {eligible}")?;
+            }
+            text.push_str("\n")?;
+        }
+        Ok(())
+    }
+
+    /// Adds why the task that runs was chosen.
+    fn write_reason(
+        &self,
+        text: &mut String,
+        names: &Names,
+        choice: &Choice,
+        reason: Reason,
+        tasks: &[Entity],
+        rows: &[Row],
+    ) -> Result<(), AllocError> {
+        let Some(run) = choice.run else {
+            return text.push_str("    nothing runs: nobody is there\n");
+        };
+        let who = Who { names, task: run };
+        write!(text, "    {who} runs: ")?;
+        if choice.by == By::Discipline && choice.steps > 0 {
+            let steps = choice.steps;
+            write!(
+                text,
+                "policy's answer at preempt is not permitted ({steps} steps); "
+            )?;
+        }
+        match reason {
+            Reason::Policy => self.write_policy(text, choice, tasks),
+            Reason::EarliestDeadline => {
+                let eligible = Ids { names, rows };
+                write!(text, "the earliest deadline of the eligible {eligible}\n")
+            }
+            Reason::LeastRuntime => text.push_str("least virtual runtime\n"),
+            Reason::GivesWay { ahead } => {
+                let ahead = Millis(ahead);
+                match self.was {
+                    Some(was) => {
+                        let was = Who { names, task: was };
+                        write!(text, "{was} gives way: {ahead} ms ahead of {who}\n")
+                    }
+                    None => text.push_str("least virtual runtime\n"),
+                }
+            }
+            Reason::Stays { ahead, of } => {
+                let ahead = Millis(ahead);
+                let of = Who { names, task: of };
+                let bound = Millis(GRANULARITY);
+                write!(
+                    text,
+                    "{ahead} ms ahead of {of}, and gives way only beyond {bound} ms\n"
+                )
+            }
+            Reason::Nobody | Reason::Other => text.push_str("not the rule's choice\n"),
+        }
+    }
+
+    /// Adds what the policy at preempt said. Where nobody else was there it can't be told from who runs.
+    fn write_policy(
+        &self,
+        text: &mut String,
+        choice: &Choice,
+        tasks: &[Entity],
+    ) -> Result<(), AllocError> {
+        let steps = choice.steps;
+        if self.was != choice.run {
+            write!(text, "policy at preempt answered 1 ({steps} steps)\n")
+        } else if tasks.len() > 1 {
+            write!(text, "policy at preempt answered 0 ({steps} steps)\n")
+        } else {
+            write!(
+                text,
+                "policy at preempt answered, and nobody else is there ({steps} steps)\n"
+            )
+        }
+    }
+}
+
+/// Adds where a woken task is placed, and why.
+fn write_place(
+    text: &mut String,
+    names: &Names,
+    task: u16,
+    to: u8,
+    by: By,
+    steps: u32,
+) -> Result<(), AllocError> {
+    let who = Who { names, task };
+    write!(text, "    {who} is placed on {to}: ")?;
+    match by {
+        By::Policy => write!(text, "policy at place answered {to} ({steps} steps)\n"),
+        By::Discipline => {
+            if steps > 0 {
+                write!(
+                    text,
+                    "policy's answer at place is not permitted ({steps} steps); "
+                )?;
+            }
+            text.push_str("the least load in its mask, where it was last if that ties\n")
+        }
+    }
+}
+
+/// Adds which task is pulled, and why.
+fn write_pull(
+    text: &mut String,
+    names: &Names,
+    task: Option<u16>,
+    by: By,
+    steps: u32,
+) -> Result<(), AllocError> {
+    match task {
+        Some(task) => {
+            let who = Who { names, task };
+            write!(text, "    {who} is pulled: ")?;
+        }
+        None => text.push_str("    nothing is pulled: ")?,
+    }
+    match by {
+        By::Policy => write!(text, "policy at pull answered so ({steps} steps)\n"),
+        By::Discipline => {
+            if steps > 0 {
+                write!(
+                    text,
+                    "policy's answer at pull is not permitted ({steps} steps); "
+                )?;
+            }
+            match task {
+                Some(_) => text.push_str(
+                    "two tasks more are there, and of those that may go it is last by v\n",
+                ),
+                None => text.push_str("fewer than two tasks more are there, or none may go\n"),
+            }
+        }
+    }
+}

@@ -1,0 +1,88 @@
+//! Tasks, virtual times and lags as text.
+
+use bq_forms::{Millis, Names};
+use bq_why::Row;
+use std::fmt;
+
+/// Virtual time begins here.
+const START: u64 = 1 << 32;
+
+/// A task by its name, or by its number.
+#[derive(Clone, Copy)]
+pub struct Who<'a> {
+    pub names: &'a Names,
+    pub task: u16,
+}
+
+impl fmt::Display for Who<'_> {
+    fn fmt<W: fmt::Write>(&self, f: &mut fmt::Formatter<W>) -> fmt::Result {
+        match self.names.of(self.task) {
+            Some(name) => write!(f, "{name}"),
+            None => {
+                let task = self.task;
+                write!(f, "{task}")
+            }
+        }
+    }
+}
+
+/// The eligible tasks of some rows, in braces.
+#[derive(Clone, Copy)]
+pub struct Ids<'a> {
+    pub names: &'a Names,
+    pub rows: &'a [Row],
+}
+
+impl fmt::Display for Ids<'_> {
+    fn fmt<W: fmt::Write>(&self, f: &mut fmt::Formatter<W>) -> fmt::Result {
+        write!(f, "{{")?;
+        let mut is_first = true;
+        for row in self.rows {
+            if row.is_eligible {
+                if !is_first {
+                    write!(f, ", ")?;
+                }
+                is_first = false;
+                let who = Who {
+                    names: self.names,
+                    task: row.task,
+                };
+                write!(f, "{who}")?;
+            }
+        }
+        write!(f, "}}")
+    }
+}
+
+/// Virtual time, in milliseconds from where it begins.
+#[derive(Clone, Copy)]
+pub struct Virtual(pub u64);
+
+impl fmt::Display for Virtual {
+    fn fmt<W: fmt::Write>(&self, f: &mut fmt::Formatter<W>) -> fmt::Result {
+        let distance = Millis(self.0.abs_diff(START));
+        if self.0 < START {
+            write!(f, "-{distance}")
+        } else {
+            write!(f, "{distance}")
+        }
+    }
+}
+
+/// The lag of a row, in milliseconds of the processor: above 0 where it is owed.
+#[derive(Clone, Copy)]
+pub struct Lag<'a>(pub &'a Row);
+
+impl fmt::Display for Lag<'_> {
+    fn fmt<W: fmt::Write>(&self, f: &mut fmt::Formatter<W>) -> fmt::Result {
+        let amount = match u64::try_from(self.0.lag) {
+            Ok(lag) => Millis(lag),
+            Err(_) => Millis(u64::MAX),
+        };
+        if self.0.is_eligible {
+            write!(f, "+{amount}")
+        } else {
+            write!(f, "-{amount}")
+        }
+    }
+}

@@ -1,0 +1,41 @@
+-- Why the task that runs does so.
+use Rattle.std.specs.Prelude.{ℕ, ◌+◌, ◌-◌, ◌==◌, nat_lt, if◌then◌else◌, List, Option, Some, None}
+use Rattle.bq_hooks.specs.declared.settled.By.{By}
+use Rattle.bq_hooks.specs.declared.settled.By.TheVariants as who
+use Rattle.bq_sizes.specs.declared.rule.Rule.{Rule}
+use Rattle.bq_sizes.specs.declared.rule.Rule.TheVariants.{Cfs, Eevdf}
+use Rattle.bq_disc.specs.Tasks.{Task, with_id}
+use Rattle.bq_cfs.specs.Cfs.{cfs}
+use Rattle.bq_eevdf.specs.Eevdf.{eevdf}
+use Rattle.bq_why.specs.declared.reasons.Reason.{Reason}
+use Rattle.bq_why.specs.declared.reasons.Reason.TheVariants.{Nobody, Policy, EarliestDeadline, LeastRuntime, GivesWay, Stays, Other}
+
+-- under EEVDF it is the choice of all that are there
+abbrev pub eevdf_reason_of : ℕ → Option Task → Reason
+eevdf_reason_of run None = Other
+eevdf_reason_of run (Some t) = if t.id == run then EarliestDeadline else Other
+
+-- the least runs: where the one that ran is more than 1,000,000 ahead of it, that gives way
+abbrev pub least_reason_of : Option Task → Task → Reason
+least_reason_of None l = LeastRuntime
+least_reason_of (Some f) l = if nat_lt (l.v + 1000000) f.v then GivesWay (f.v - l.v) else LeastRuntime
+
+-- under CFS it is the least, or it runs on though another one is less
+abbrev pub cfs_reason_of : Option Task → Option Task → Option Task → Reason
+cfs_reason_of former (Some l) (Some r) = if r.id == l.id then least_reason_of former l else Stays (r.v - l.v) l.id
+cfs_reason_of former l r = Other
+
+abbrev pub former_of : Option ℕ → List Task → Option Task
+former_of None xs = None
+former_of (Some id) xs = with_id id xs
+
+-- the rule's reason, by the tasks that are there, the task that ran before and the one that runs
+abbrev pub rule_reason_of : Rule → Option ℕ → ℕ → List Task → Reason
+rule_reason_of Eevdf was run xs = eevdf_reason_of run (eevdf.choice xs)
+rule_reason_of Cfs was run xs = cfs_reason_of (former_of was xs) (cfs.choice xs) (with_id run xs)
+
+-- by whose choice it runs: a policy is named exactly where the choice was a policy's
+abbrev pub reason_of : Rule → By → Option ℕ → Option ℕ → List Task → Reason
+reason_of rule by was None xs = Nobody
+reason_of rule who.Policy was (Some run) xs = Policy
+reason_of rule who.Discipline was (Some run) xs = rule_reason_of rule was run xs

@@ -1,0 +1,19 @@
+-- The tasks of a processor, as a choice sees them.
+use Rattle.std.specs.Prelude.{ℕ, ◌+◌, ◌-◌, ◌*◌, ◌/◌, List, unwrap_or}
+use Rattle.bq_disc.specs.Tasks.{Task}
+use Rattle.bq_disc.specs.Totals.{total_weight, weighted_sum, is_at_most_mean, mean_of}
+use Rattle.bq_why.specs.declared.table.Row.{Row}
+
+-- how far two numbers are apart
+abbrev pub apart : ℕ → ℕ → ℕ
+apart m n = (m - n) + (n - m)
+
+-- A task's row, by the weight, the sum of weight times v, and the mean v of all. What it is owed, or has had too much, is its
+-- distance from the mean, by its weight: virtual time passes 1024 / weight times as fast as the clock
+abbrev pub row_by : ℕ → ℕ → ℕ → Task → Row
+row_by weight sum mean t =
+    record { task = t.id; weight = t.weight; v = t.v; deadline = t.deadline; is_eligible = is_at_most_mean weight sum t; lag = t.weight * apart t.v mean / 1024 }
+
+-- a task's row among all
+abbrev pub row_of : List Task → Task → Row
+row_of xs t = row_by (total_weight xs) (weighted_sum xs) (unwrap_or (mean_of xs) 0) t

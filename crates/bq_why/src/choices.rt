@@ -1,0 +1,79 @@
+//! Whom a rule chooses of some tasks.
+ghost use Rattle.std.specs.Prelude.{◌≡◌, ◌≤◌, length, filter};
+ghost use Rattle.bq_disc.specs.Tasks.{first_by, former, runs_before, due_before};
+ghost use Rattle.bq_disc.specs.Totals.{is_at_most_mean};
+ghost use Rattle.bq_trace.specs.Machines.{discipline_of};
+
+use crate::totals::totals;
+use bq_disc::Entity;
+use bq_sizes::Rule;
+
+/// The task that a rule chooses: under CFS that of least (v, id), under EEVDF of the eligible that of least (deadline, id).
+pub fn choice(rule: Rule, tasks: &[Entity]) -> Option<Entity>
+    requires { length tasks.now ≤ 1024 }
+    ensures { result ≡ (discipline_of rule).choice tasks.now }
+{
+    match rule {
+        Rule::Cfs => least(tasks),
+        Rule::Eevdf => {
+            let totals = totals(tasks);
+            earliest(tasks, totals.weight, totals.moment)
+        }
+    }
+}
+
+/// The task of least (v, id).
+fn least(tasks: &[Entity]) -> Option<Entity>
+    ensures { result ≡ first_by runs_before tasks.now }
+{
+    let mut best: Option<Entity> = None;
+    let mut at = tasks.len();
+    while at > 0 {
+        at -= 1;
+        best = Some(run_first(&tasks[at], best));
+    }
+    best
+}
+
+/// A task, unless another that is given runs before it.
+fn run_first(task: &Entity, other: Option<Entity>) -> Entity
+    ensures { result ≡ former runs_before task.now other }
+{
+    match other {
+        Some(other) if other.runs_before(task) => other,
+        _ => *task,
+    }
+}
+
+/// Of the tasks whose v is at most the mean, by this weight and this sum of weight times v, that of least (deadline, id).
+fn earliest(tasks: &[Entity], weight: u64, moment: u128) -> Option<Entity>
+    ensures { result ≡ first_by due_before (filter (is_at_most_mean weight moment) tasks.now) }
+{
+    let mut best: Option<Entity> = None;
+    let mut at = tasks.len();
+    while at > 0 {
+        at -= 1;
+        if tasks[at].is_at_most_mean(weight, moment) {
+            best = Some(due_first(&tasks[at], best));
+        }
+    }
+    best
+}
+
+/// A task, unless another that is given is due before it.
+fn due_first(task: &Entity, other: Option<Entity>) -> Entity
+    ensures { result ≡ former due_before task.now other }
+{
+    match other {
+        Some(other) if is_due_before(&other, task) => other,
+        _ => *task,
+    }
+}
+
+/// Whether a task is due before another: of equal deadlines that of the lesser id comes first.
+fn is_due_before(task: &Entity, other: &Entity) -> bool
+    ensures { result ≡ due_before task.now other.now }
+{
+    task.deadline() < other.deadline()
+        || (task.deadline() == other.deadline() && task.id() < other.id())
+}

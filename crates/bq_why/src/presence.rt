@@ -1,0 +1,39 @@
+//! The tasks that run or wait at a processor.
+ghost use Rattle.std.specs.Prelude.{◌≡◌, ◌≤◌, ◌++◌, length, IfOk, OnOk};
+ghost use Rattle.bq_disc.specs.OneProcessor.{present_at};
+
+use crate::totals::MOST;
+use bq_core::Cpu;
+use bq_disc::{Entity, RunQueue};
+use std::alloc::{AllocError, Global};
+
+/// The tasks that run or wait at a processor, the running one first, then by rising (v, id). Were there more than 1,024, some
+/// would be left out; there are only so many ids.
+pub fn present<Q: RunQueue>(alloc: Global, cpu: &Cpu<Q>) -> Result<Vec<Entity>, AllocError>
+    ensures few { IfOk result (λ tasks. length tasks.items ≤ 1024) }
+    ensures all { IfOk result (λ tasks. length (present_at cpu.now.running) ≤ 1024 → tasks.items ≡ present_at cpu.now.running) }
+{
+    let mut tasks = Vec::new(alloc);
+    if let Some(node) = cpu.current() {
+        tasks.push(node.entity)?;
+    }
+    add_queue(cpu, &mut tasks)?;
+    Ok(tasks)
+}
+
+/// Adds the tasks of the queue by rising (v, id), as long as there are fewer than 1,024.
+fn add_queue<Q: RunQueue>(cpu: &Cpu<Q>, tasks: &mut Vec<Entity>) -> Result<(), AllocError>
+    requires { length tasks.old.items ≤ 1024 }
+    ensures few { OnOk result (length tasks.new.items ≤ 1024) }
+    ensures all { OnOk result (length (tasks.old.items ++ cpu.now.running.queue) ≤ 1024 → tasks.new.items ≡ tasks.old.items ++ cpu.now.running.queue) }
+{
+    let mut last: Option<(u64, u16)> = None;
+    while tasks.len() < MOST {
+        let Some(node) = cpu.after(last) else {
+            return Ok(());
+        };
+        tasks.push(node.entity)?;
+        last = Some(node.entity.key());
+    }
+    Ok(())
+}

@@ -1,0 +1,23 @@
+//! What the tasks of a list have together.
+ghost use Rattle.std.specs.Prelude.{◌≡◌, ◌≤◌, length};
+ghost use Rattle.bq_disc.specs.Totals.{sums_of, HasBounds};
+
+use bq_disc::{Entity, Totals};
+
+/// The most tasks that a processor may have: ids are 0 to 1023.
+pub const MOST: usize = 1024;
+
+/// The totals of some tasks.
+pub(crate) fn totals(tasks: &[Entity]) -> Totals
+    requires { length tasks.now ≤ 1024 }
+    ensures sums { result ≡ sums_of tasks.now }
+    ensures bounds { HasBounds result }
+{
+    let mut totals = Totals::none();
+    let mut at = tasks.len();
+    while at > 0 {
+        at -= 1;
+        totals.add(&tasks[at]);
+    }
+    totals
+}
