@@ -7,3 +7,4 @@ pub mod Apart
 pub mod Windows
 pub mod Wakes
 pub mod Purses
+pub mod Shares
