@@ -8,3 +8,4 @@ pub mod Windows
 pub mod Wakes
 pub mod Purses
 pub mod Shares
+pub mod Comings

@@ -44,7 +44,7 @@ weight_at_if : (b : Bool) (n : ℕ) → n ≤ 88761 → cond b 0 n ≤ 88761
 weight_at_if true n h = omega arith
 weight_at_if false n h = h
 
-weight_at-le : (nice : ℤ) → weight_at nice ≤ 88761
+pub weight_at-le : (nice : ℤ) → weight_at nice ≤ 88761
 weight_at-le nice = weight_at_if _ (weight_of nice) (weight_of-le nice)
 
 -- a task that is somewhere has a seat
@@ -56,11 +56,11 @@ seated : (s : Figures) (id cpu : ℕ) → (task_of s id).place ≡ Some cpu → 
 seated s id cpu e = seated_by s id cpu (leb (length s.tasks) id) e (leb_tells (length s.tasks) id)
 
 -- one that has none has nothing
-unseated : (s : Figures) (id : ℕ) → length s.tasks ≤ id → task_of s id ≡ unknown
+pub unseated : (s : Figures) (id : ℕ) → length s.tasks ≤ id → task_of s id ≡ unknown
 unseated s id past = get_or_past s.tasks id unknown past
 
 -- where a task is set, what f reads of each task is what it was, or what it is set to
-set_reads : {Y : Type 0} (f : TaskFigures → Y) (s : Figures) (id j : ℕ) (t : TaskFigures) (b : Bool) → id < length s.tasks → ((b ≡ true) × (id ≡ j)) ⊎ ((b ≡ false) × (id ≢ j)) →
+pub set_reads : {Y : Type 0} (f : TaskFigures → Y) (s : Figures) (id j : ℕ) (t : TaskFigures) (b : Bool) → id < length s.tasks → ((b ≡ true) × (id ≡ j)) ⊎ ((b ≡ false) × (id ≢ j)) →
     f (task_of (with_task s id t) j) ≡ cond b (f t) (f (task_of s j))
 set_reads f s id j t true inside (inl e) = ap (λ k. f (get_or (slice_set s.tasks id t) k unknown)) (sym e.1) ∙ ap f (get_or-set_same s.tasks id t unknown inside)
 set_reads f s id j t false inside (inl e) = absurd (cc)
@@ -72,7 +72,7 @@ cond_same true m n e = e
 cond_same false m n e = refl
 
 -- the weights at a processor, where a task is set
-weights-set : (s : Figures) (id cpu : ℕ) (t : TaskFigures) → id < length s.tasks → weights_at (with_task s id t) cpu + weight_there cpu (task_of s id) ≡ weights_at s cpu + weight_there cpu t
+pub weights-set : (s : Figures) (id cpu : ℕ) (t : TaskFigures) → id < length s.tasks → weights_at (with_task s id t) cpu + weight_there cpu (task_of s id) ≡ weights_at s cpu + weight_there cpu t
 weights-set s id cpu t inside = sum_by-set (weight_there cpu) s.tasks id t unknown inside
 
 there-le : (b : Bool) (n : ℕ) → n ≤ 88761 → cond b n 0 ≤ 88761
@@ -86,17 +86,17 @@ eqb_refl : (a : ℕ) → eqb a a ≡ true
 eqb_refl a = grind (arith, nat_tests)
 
 -- a task has its weight where it is, and none elsewhere
-weight-here : (cpu : ℕ) (t : TaskFigures) → t.place ≡ Some cpu → weight_there cpu t ≡ t.weight
+pub weight-here : (cpu : ℕ) (t : TaskFigures) → t.place ≡ Some cpu → weight_there cpu t ≡ t.weight
 weight-here cpu t e = ap (λ o. cond (is_place cpu o) t.weight 0) e ∙ ap (λ b. cond b t.weight 0) (eqb_refl cpu)
 
-weight-elsewhere : (cpu k : ℕ) (t : TaskFigures) (b : Bool) → t.place ≡ Some k → eqb k cpu ≡ false → weight_there cpu t ≡ 0
+pub weight-elsewhere : (cpu k : ℕ) (t : TaskFigures) (b : Bool) → t.place ≡ Some k → eqb k cpu ≡ false → weight_there cpu t ≡ 0
 weight-elsewhere cpu k t b e ne = ap (λ o. cond (is_place cpu o) t.weight 0) e ∙ ap (λ b. cond b t.weight 0) ne
 
-weight-nowhere : (cpu : ℕ) (t : TaskFigures) → t.place ≡ None → weight_there cpu t ≡ 0
+pub weight-nowhere : (cpu : ℕ) (t : TaskFigures) → t.place ≡ None → weight_there cpu t ≡ 0
 weight-nowhere cpu t e = ap (λ o. cond (is_place cpu o) t.weight 0) e
 
 -- what a processor's figures are after one is set
-set-there : (s : Figures) (i j : ℕ) (p : ProcessorFigures) (b : Bool) → j < length s.processors → ((b ≡ true) × (i ≡ j)) ⊎ ((b ≡ false) × (i ≢ j)) →
+pub set-there : (s : Figures) (i j : ℕ) (p : ProcessorFigures) (b : Bool) → j < length s.processors → ((b ≡ true) × (i ≡ j)) ⊎ ((b ≡ false) × (i ≢ j)) →
     (processor_of (with_processor s i p) j).weight ≡ cond b p.weight (processor_of s j).weight
 set-there s i j p true inside (inl e) = ap (λ k. (get_or (slice_set s.processors k p) j unread).weight) e.1 ∙ ap (λ (q : ProcessorFigures). q.weight) (get_or-set_same s.processors j p unread inside)
 set-there s i j p false inside (inl e) = absurd (cc)
@@ -104,7 +104,7 @@ set-there s i j p true inside (inr e) = absurd (cc)
 set-there s i j p false inside (inr e) = ap (λ (q : ProcessorFigures). q.weight) (get_or-set_other s.processors i j p unread (λ h. e.1 (sym h)))
 
 -- what was given at each processor is kept where a processor is set that has given the same
-shared-with_processor : (s : Figures) (i : ℕ) (p : ProcessorFigures) (j : ℕ) → p.shared ≡ Purses.shared_at s i → Purses.shared_at (with_processor s i p) j ≡ Purses.shared_at s j
+pub shared-with_processor : (s : Figures) (i : ℕ) (p : ProcessorFigures) (j : ℕ) → p.shared ≡ Purses.shared_at s i → Purses.shared_at (with_processor s i p) j ≡ Purses.shared_at s j
 shared-with_processor s i p j e = processor_kept (λ (q : ProcessorFigures). q.shared) s i j p e
 
 -- a task leaves its processor: it keeps what it has, and its weight goes
@@ -139,7 +139,7 @@ cond-joined f true u v h k = h
 cond-joined f false u v h k = k
 
 -- one purse is another, which came after what was given; so did the others
-joined-set : (s s' : Figures) (j : ℕ) (u : Purses.Purse) (b : Bool) → ((k : ℕ) → Purses.shared_at s' k ≡ Purses.shared_at s k) → Purses.purse (task_of s' j) ≡ cond b u (Purses.purse (task_of s j)) →
+pub joined-set : (s s' : Figures) (j : ℕ) (u : Purses.Purse) (b : Bool) → ((k : ℕ) → Purses.shared_at s' k ≡ Purses.shared_at s k) → Purses.purse (task_of s' j) ≡ cond b u (Purses.purse (task_of s j)) →
     Joined (Purses.shared_at s) u → Joined (Purses.shared_at s) (Purses.purse (task_of s j)) → Joined (Purses.shared_at s') (Purses.purse (task_of s' j))
 joined-set s s' j u b gives is new old =
     Purses.joined-more (Purses.shared_at s) (Purses.shared_at s') (Purses.purse (task_of s' j)) (task_of s' j).place (λ k. omega (arith, gives k))
@@ -153,16 +153,12 @@ worth-cond s id j u true (inr e) same = absurd (cc)
 worth-cond s id j u false (inr e) same = refl
 
 -- one purse is another of the same worth
-raw-set : (s s' : Figures) (id j : ℕ) (u : Purses.Purse) → ((k : ℕ) → Purses.shared_at s' k ≡ Purses.shared_at s k) → Purses.purse (task_of s' j) ≡ cond (eqb id j) u (Purses.purse (task_of s j)) →
+pub raw-set : (s s' : Figures) (id j : ℕ) (u : Purses.Purse) → ((k : ℕ) → Purses.shared_at s' k ≡ Purses.shared_at s k) → Purses.purse (task_of s' j) ≡ cond (eqb id j) u (Purses.purse (task_of s j)) →
     worth (Purses.shared_at s) u ≡ Purses.raw s id → Purses.raw s' j ≡ Purses.raw s j
 raw-set s s' id j u gives is same =
     Purses.worth-same (Purses.shared_at s') (Purses.shared_at s) (Purses.purse (task_of s' j)) (task_of s' j).place gives
     ∙ ap (λ v. worth (Purses.shared_at s) v) is
     ∙ worth-cond s id j u (eqb id j) (eqb_tells id j) same
-
-table-set : (b : Bool) (n k : ℕ) (u v : Purses.Purse) → u.weight ≤ 88761 → v.weight ≤ 88761 → (cond b u v).weight ≤ 88761
-table-set true n k u v h l = h
-table-set false n k u v h l = l
 
 left-one : (s : Figures) (id cpu : ℕ) (p : ProcessorFigures) (t' : TaskFigures) → Purses.IsSound s → (task_of s id).place ≡ Some cpu → p.shared ≡ Purses.shared_at s cpu →
     p.weight ≡ (processor_of s cpu).weight - (task_of s id).weight → t'.place ≡ None → t'.weight ≡ (task_of s id).weight → t'.settled ≡ Purses.raw s id →
@@ -201,7 +197,7 @@ pub left : (s : Figures) (id : ℕ) → Purses.IsSound s → Purses.raw s id ≤
 left s id h small = left-if s id (task_of s id).place h refl small
 
 -- all weights together are few
-weights-few : (s : Figures) (cpu : ℕ) → Purses.IsSound s → weights_at s cpu ≤ 90891264
+pub weights-few : (s : Figures) (cpu : ℕ) → Purses.IsSound s → weights_at s cpu ≤ 90891264
 weights-few s cpu h =
     omega (arith, h.seats, sum_by-le (weight_there cpu) 88761 s.tasks
         (All-from_get_or (λ (t : TaskFigures). weight_there cpu t ≤ 88761) s.tasks unknown (λ j inside. there-le (is_place cpu (task_of s j).place) (task_of s j).weight (h.table j))))

@@ -1,4 +1,4 @@
-use Rattle.bq_schedule.proofs.Shares as Shares
+use Rattle.bq_schedule.proofs.Comings as Shares
 use Rattle.bq_schedule.proofs.laws.shares_out.Goals as goal
 
 pub returns : goal.returns
