@@ -120,7 +120,7 @@ works-leaves id s = works-left_from id s (task_of s id).place
 pub running-leaves : (id : ℕ) (s : Figures) → KeepsRunning s (leaves id s)
 running-leaves id s = running-left_from id s (task_of s id).place
 
-works-joins : (id cpu now : ℕ) (s : Figures) → KeepsWorks s (joins id cpu now s)
+pub works-joins : (id cpu now : ℕ) (s : Figures) → KeepsWorks s (joins id cpu now s)
 works-joins id cpu now s = works-then _ _ _ (works-with_processor s cpu _ refl) (works-with_task _ id _ refl)
 
 running-joins : (id cpu now : ℕ) (s : Figures) → KeepsRunning s (joins id cpu now s)

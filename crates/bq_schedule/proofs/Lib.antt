@@ -7,3 +7,5 @@ pub mod Apart
 pub mod Windows
 pub mod Wakes
 pub mod Purses
+pub mod Shares
+pub mod Comings

@@ -141,7 +141,7 @@ abbrev pub JoinedBy : (ℕ → ℕ) → Purse → Option ℕ → Type 0
 JoinedBy shared u None = Unit {0}
 JoinedBy shared u (Some cpu) = u.joined ≤ shared cpu
 
-joined-more : (f g : ℕ → ℕ) (u : Purse) (o : Option ℕ) → ((j : ℕ) → f j ≤ g j) → JoinedBy f u o → JoinedBy g u o
+pub joined-more : (f g : ℕ → ℕ) (u : Purse) (o : Option ℕ) → ((j : ℕ) → f j ≤ g j) → JoinedBy f u o → JoinedBy g u o
 joined-more f g u None h e = tt
 joined-more f g u (Some cpu) h e = omega (arith, h cpu, e)
 
@@ -152,7 +152,7 @@ pub record IsSound (s : Figures) : Type 0 where
   pub table : (id : ℕ) → (task_of s id).weight ≤ 88761
   pub seats : length s.tasks ≡ 1024
 
-joined-same : (f : ℕ → ℕ) (u v : Purse) → u ≡ v → JoinedBy f v v.place → JoinedBy f u u.place
+pub joined-same : (f : ℕ → ℕ) (u v : Purse) → u ≡ v → JoinedBy f v v.place → JoinedBy f u u.place
 joined-same f u v e h = let P : Purse → Type 0 = λ w. JoinedBy f w w.place in subst P (sym e) h
 
 pub sound-kept : (s s' : Figures) → KeepsPurses s s' → IsSound s → IsSound s'
