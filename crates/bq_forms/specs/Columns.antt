@@ -1,6 +1,7 @@
 -- Text in columns, as `{:>9}` and the like write it.
-use Rattle.std.specs.Prelude.{ℕ, ◌-◌, ◌/◌, ◌^◌, ℤ, List, ◌++◌, Option, Some, None, codes}
+use Rattle.std.specs.Prelude.{ℕ, ◌-◌, ◌/◌, ◌%◌, ◌^◌, ℤ, List, ◌++◌, Option, Some, None, unwrap_or, codes}
 use Rattle.std.specs.Fmt.{format_spec, styled_decimal, styled_signed_decimal, styled_text}
+use Rattle.bq_schedule.specs.declared.change.Start.{Start}
 use Rattle.bq_schedule.specs.declared.figures.TaskFigures.{TaskFigures}
 use Rattle.bq_schedule.specs.declared.figures.HookFigures.{HookFigures}
 use Rattle.bq_forms.specs.declared.percentiles.Percentiles.{Percentiles}
@@ -12,6 +13,10 @@ right width n = styled_decimal (format_spec 32 3 0 width (2 ^ 64 - 1)) n
 
 abbrev pub right_signed : ℕ → ℤ → List ℕ
 right_signed width z = styled_signed_decimal (format_spec 32 3 0 width (2 ^ 64 - 1)) z
+
+-- the same with zeros before it
+abbrev pub zeros : ℕ → ℕ → List ℕ
+zeros width n = styled_decimal (format_spec 32 0 4 width (2 ^ 64 - 1)) n
 
 -- a text at the left end of so many columns, and cut where it has more characters
 abbrev pub left : ℕ → List ℕ → List ℕ
@@ -51,3 +56,14 @@ latency_line task name wakes p = task_columns task name ++ (right 10 wakes ++ la
 abbrev pub hook_line : ℕ → List ℕ → HookFigures → List ℕ
 hook_line processor name h =
     right 5 processor ++ (codes " " ++ (left 8 name ++ (right 13 h.asked ++ (right 11 h.overruled ++ (right 15 h.steps ++ codes "\n")))))
+
+-- a moment in nanoseconds, in seconds, and a processor
+abbrev pub moment_columns : ℕ → ℕ → List ℕ
+moment_columns at processor =
+    right 8 (at / 1000000000) ++ (codes "." ++ (zeros 6 (at / 1000 % 1000000) ++ (codes " [" ++ (zeros 4 processor ++ codes "]  "))))
+
+-- a run that began so and ends at this moment: how long it had waited, its latency where it has one, how long it is
+abbrev pub run_columns : Start → ℕ → List ℕ → List ℕ
+run_columns start at name =
+    moment_columns at start.processor ++ (task_columns start.task name
+    ++ (thousandths_in 7 (start.waited / 1000) ++ (thousandths_in 7 (unwrap_or start.latency 0 / 1000) ++ thousandths_in 7 ((at - start.at) / 1000))))

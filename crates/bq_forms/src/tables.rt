@@ -22,7 +22,7 @@ pub const PROCESSOR_HEAD: &str = "  cpu  busy %      busy ms      idle ms switch
 pub const HOOK_HEAD: &str = "  cpu hook            asked  overruled          steps\n";
 
 /// A task by its number and its name, in 20 columns.
-fn write_task(text: &mut String, task: u16, name: &str) -> Result<(), AllocError>
+pub fn write_task(text: &mut String, task: u16, name: &str) -> Result<(), AllocError>
     ensures { OnOk result (string_bytes text.new ≡ string_bytes text.old ++ task_columns task name.now) }
 {
     write!(text, "{task:>5} {name:<14.14}")
