@@ -17,9 +17,11 @@ use Rattle.bq_parts.specs.declared.refusal.Refusal.TheVariants as no
 use Rattle.bq_parts.specs.Processors.{Processor, opening}
 use Rattle.bq_parts.specs.World.{World, opening_world, processor, count_in, with_processor}
 use Rattle.bq_parts.specs.Refusals.{refusal, argument_refusal, state_refusal, either}
-use Rattle.bq_parts.specs.Moves.{after_leaving, with_pulled, started_if_idle, without_task, taken_from}
-use Rattle.bq_parts.specs.Choices.{Setting, Settled, decided_by}
-use Rattle.bq_parts.specs.Steps.{Performs, WorldStep, WorldRun, charged_at, source_at}
+use Rattle.bq_parts.specs.Moves.{with_pulled, started_if_idle, without_task, taken_from}
+use Rattle.bq_parts.specs.Choices.{Setting}
+use Rattle.bq_hooks.specs.Permitted.{task_numbered}
+use Rattle.bq_parts.specs.Shares.{after_time, remarked}
+use Rattle.bq_parts.specs.Steps.{Performs, WorldStep, WorldRun}
 use Rattle.bq_core.specs.Laws.{under_any_answers}
 use Rattle.bq_core.proofs.Order.{there, passed}
 use Rattle.bq_schedule.specs.Moments.{Moment, History}
@@ -139,61 +141,92 @@ neither (Some r) p h = cc
 accepted : (w : World) (e : Event) → refusal w e ≡ None → argument_refusal (count_in w) e ≡ None
 accepted w e h = neither (argument_refusal (count_in w) e) (state_refusal w e) h
 
+-- of an answer that is another
+shown_as : (w w' : World) (e : Event) (r x : Reply) → r ≡ x → Shown w w' (sight e x) → Shown w w' (sight e r)
+shown_as w w' e r x h k = rw h k
+
 pub shown-performs : (s : Setting) (w : World) (e : Event) (calls : List Asked) (r : Reply) (w' : World) → refusal w e ≡ None → Performs s w e calls r w' → Shown w w' (sight e r)
-shown-performs s w (Admit id nice mask slice) calls Admitted w' h k = like w w w' None (ap (λ (v : World). v.processors) (sym k.1)) (same w)
-shown-performs s w (Retire id) calls Retired w' h k = like w w w' None (ap (λ (v : World). v.processors) (sym k.1)) (same w)
-shown-performs s w Draw calls (Drawn n) w' h k = like w w w' None (ap (λ (v : World). v.processors) (sym k.2)) (same w)
-shown-performs s w (Install cpu hook g policy) calls Installed w' h k = like w _ w' None (ap (λ (v : World). v.processors) (sym k.1)) (kept w cpu _ refl refl)
-shown-performs s w (BeginWake cpu id) calls (Begun task loads) w' h k = like w _ w' None (ap (λ (v : World). v.processors) (sym k.5)) (kept w cpu _ refl refl)
-shown-performs s w (EndWake cpu now) calls (Placed task to by steps) w' h k =
-    like w _ w' _ (ap (λ (v : World). v.processors) (sym k.4.5))
-    (read_there w (record { cpu = cpu; now = now; run = None }) _ refl (id-charged s.discipline (processor w cpu).running.current _))
-shown-performs s w (Drain cpu now) calls (Drained count run by steps) w' h k =
+shown-performs s w (Admit id nice mask slice) calls r w' h k =
+    shown_as w w' (Admit id nice mask slice) r Admitted k.1.1 (like w w w' None (ap (λ (v : World). v.processors) (sym k.3)) (same w))
+shown-performs s w (Retire id) calls r w' h k = shown_as w w' (Retire id) r Retired k.1.1 (like w w w' None (ap (λ (v : World). v.processors) (sym k.3)) (same w))
+shown-performs s w Draw calls r w' h k = shown_as w w' Draw r (Drawn _) k.0 (like w w w' None (ap (λ (v : World). v.processors) (sym k.2)) (same w))
+shown-performs s w (Install cpu hook g policy) calls r w' h k =
+    let i = k.1 in
+    shown_as w w' (Install cpu hook g policy) r Installed i.1
+    (like w (with_processor w cpu k.0) w' None (ap (λ (v : World). v.processors) (sym k.3)) (kept w cpu k.0 (ap (λ (q : Processor). q.running.last) i.2) (ap (λ (q : Processor). id_of q.running.current) i.2)))
+shown-performs s w (BeginWake cpu id) calls r w' h k =
+    let b = k.2 in
+    shown_as w w' (BeginWake cpu id) r (Begun id _) b.3
+    (like w (with_processor w cpu k.0) w' None (ap (λ (v : World). v.processors) (sym k.4)) (kept w cpu k.0 (ap (λ (q : Processor). q.running.last) b.4) (ap (λ (q : Processor). id_of q.running.current) b.4)))
+shown-performs s w (EndWake cpu now) calls r w' h k =
+    let written = k.2.4.5 in
+    shown_as w w' (EndWake cpu now) r (Placed k.0.task.id k.0.to k.0.by k.0.steps) k.3
+    (like w (with_processor w cpu k.1) w' _ (ap (λ (v : World). v.processors) (sym k.4))
+    (read_there w (record { cpu = cpu; now = now; run = None }) k.1 (ap (λ (q : Processor). q.running.last) written)
+    (ap (λ (q : Processor). id_of q.running.current) written ∙ id-charged s.discipline (processor w cpu).running.current _)))
+shown-performs s w (Drain cpu now) calls r w' h k =
     let p = enter_all s.discipline (charge s.discipline (processor w cpu).running now) (get_or w.inboxes cpu []) in
-    like w _ w' _ (ap (λ (v : World). v.processors) (sym k.1.6))
-    (read_there w (record { cpu = cpu; now = now; run = Some run }) _ (last-decided s.discipline p p.current (k.0.choice == 1)) (sym k.1.2))
-shown-performs s w (Tick cpu now) calls (Ticked run by steps) w' h k =
+    let x = k.1 in
+    shown_as w w' (Drain cpu now) r (Drained _ (id_of k.0.running.current) x.0.by x.0.steps) x.3
+    (like w (with_processor w cpu k.0) w' _ (ap (λ (v : World). v.processors) (sym k.2))
+    (read_there w (record { cpu = cpu; now = now; run = Some (id_of k.0.running.current) }) k.0
+    (ap (λ (q : Processor). q.running.last) x.1.1 ∙ last-decided s.discipline p p.current (x.0.choice == 1)) refl))
+shown-performs s w (Tick cpu now) calls r w' h k =
     let p = charge s.discipline (processor w cpu).running now in
-    like w _ w' _ (ap (λ (v : World). v.processors) (sym k.1.5))
-    (read_there w (record { cpu = cpu; now = now; run = Some run }) _ (last-decided s.discipline p p.current (k.0.choice == 1)) (sym k.1.1))
-shown-performs s w (Block cpu now) calls (Went task run) w' h k =
+    let x = k.1 in
+    shown_as w w' (Tick cpu now) r (Ticked (id_of k.0.running.current) x.0.by x.0.steps) x.3
+    (like w (with_processor w cpu k.0) w' _ (ap (λ (v : World). v.processors) (sym k.2))
+    (read_there w (record { cpu = cpu; now = now; run = Some (id_of k.0.running.current) }) k.0
+    (ap (λ (q : Processor). q.running.last) x.1.1 ∙ last-decided s.discipline p p.current (x.0.choice == 1)) refl))
+shown-performs s w (Block cpu now) calls r w' h k =
     let p = charge s.discipline (processor w cpu).running now in
     let rest : Running = record p { current = None } in
-    like w _ w' _ (ap (λ (v : World). v.processors) (sym k.1.4))
-    (read_there w (record { cpu = cpu; now = now; run = Some run }) _ (last-run_id rest (id_of (s.discipline.choice rest.queue))) (sym k.1.3))
-shown-performs s w (Pull cpu from now) calls (Moved task run by steps) w' h k =
+    let x = k.2 in
+    shown_as w w' (Block cpu now) r (Went x.0.id (id_of k.0.running.current)) x.1.2
+    (like w (with_processor w cpu k.0) w' _ (ap (λ (v : World). v.processors) (sym k.4))
+    (read_there w (record { cpu = cpu; now = now; run = Some (id_of k.0.running.current) }) k.0
+    (ap (λ (q : Processor). q.running.last) x.1.1 ∙ last-run_id rest (id_of (s.discipline.choice rest.queue))) refl))
+shown-performs s w (Pull cpu from now) calls r w' h k =
     let d = s.discipline in
     let f = there (count_in w) cpu _ (accepted w (Pull cpu from now) h) in
     let g = there (count_in w) from _ f.1 in
     let apart : cpu ≢ from = differs cpu from (passed (cpu == from) no.SameProcessor None g.1).0 in
-    let c : Processor = charged_at d w cpu now in
-    let other : Processor = source_at d w from in
+    let x = k.2 in
+    let task = task_numbered x.0.choice in
+    let c : Processor = after_time d now (processor w cpu) in
+    let other : Processor = remarked d (processor w from) in
     let taken = taken_from other.running task in
-    let p : Processor = record c { running = started_if_idle d (with_pulled d c.running taken) c.running.current; programs = record c.programs { pull = k.0.program } } in
-    let q : Processor = record other { running = without_task other.running task } in
-    let u = with_processor w cpu p in
-    let there' : processor u from ≡ processor w from = get_or-set_other w.processors cpu from p opening (λ e. apart (sym e)) in
-    then_kept w u w' (Some (record { cpu = cpu; now = now; run = Some run }))
-    (read_there w (record { cpu = cpu; now = now; run = Some run }) p (last-started_if_idle d (with_pulled d c.running taken) c.running.current ∙ last-with_pulled d c.running taken) (sym k.1.2))
-    (like u (with_processor u from q) w' None (ap (λ (v : World). v.processors) (sym k.1.6))
-    (kept u from q
-    (last-without_task other.running task ∙ ap (λ (v : Processor). v.running.last) (sym there'))
-    (ap id_of (current-without_task other.running task) ∙ ap (λ (v : Processor). id_of v.running.current) (sym there'))))
-shown-performs s w e calls r w' h k = absurd k
+    let u = with_processor w cpu k.0 in
+    let there' : processor u from ≡ processor w from = get_or-set_other w.processors cpu from k.0 opening (λ e. apart (sym e)) in
+    shown_as w w' (Pull cpu from now) r (Moved task (id_of k.0.running.current) x.0.by x.0.steps) x.1.2
+    (then_kept w u w' (Some (record { cpu = cpu; now = now; run = Some (id_of k.0.running.current) }))
+    (read_there w (record { cpu = cpu; now = now; run = Some (id_of k.0.running.current) }) k.0
+    (ap (λ (q : Processor). q.running.last) x.1.3 ∙ last-started_if_idle d (with_pulled d c.running taken) c.running.current ∙ last-with_pulled d c.running taken) refl)
+    (like u (with_processor u from k.1) w' None (ap (λ (v : World). v.processors) (sym k.3))
+    (kept u from k.1
+    (ap (λ (q : Processor). q.running.last) x.1.4 ∙ last-without_task other.running task ∙ ap (λ (v : Processor). v.running.last) (sym there'))
+    (ap (λ (q : Processor). id_of q.running.current) x.1.4 ∙ ap id_of (current-without_task other.running task) ∙ ap (λ (v : Processor). id_of v.running.current) (sym there')))))
+
+within_as : (n : ℕ) (e : Event) (r x : Reply) → r ≡ x → IsWithin n (sight e x) → IsWithin n (sight e r)
+within_as n e r x h k = rw h k
 
 -- an event that is not refused names a processor that is there
 within-performs : (s : Setting) (w : World) (e : Event) (calls : List Asked) (r : Reply) (w' : World) → refusal w e ≡ None → Performs s w e calls r w' → IsWithin (count_in w) (sight e r)
-within-performs s w (EndWake cpu now) calls (Placed task to by steps) w' h k = (there (count_in w) cpu None (accepted w (EndWake cpu now) h)).0
-within-performs s w (Drain cpu now) calls (Drained count run by steps) w' h k = (there (count_in w) cpu None (accepted w (Drain cpu now) h)).0
-within-performs s w (Tick cpu now) calls (Ticked run by steps) w' h k = (there (count_in w) cpu None (accepted w (Tick cpu now) h)).0
-within-performs s w (Block cpu now) calls (Went task run) w' h k = (there (count_in w) cpu None (accepted w (Block cpu now) h)).0
-within-performs s w (Pull cpu from now) calls (Moved task run by steps) w' h k = (there (count_in w) cpu _ (accepted w (Pull cpu from now) h)).0
-within-performs s w (Admit id nice mask slice) calls Admitted w' h k = tt
-within-performs s w (Retire id) calls Retired w' h k = tt
-within-performs s w Draw calls (Drawn n) w' h k = tt
-within-performs s w (Install cpu hook g policy) calls Installed w' h k = tt
-within-performs s w (BeginWake cpu id) calls (Begun task loads) w' h k = tt
-within-performs s w e calls r w' h k = absurd k
+within-performs s w (EndWake cpu now) calls r w' h k =
+    within_as (count_in w) (EndWake cpu now) r (Placed k.0.task.id k.0.to k.0.by k.0.steps) k.3 (there (count_in w) cpu None (accepted w (EndWake cpu now) h)).0
+within-performs s w (Drain cpu now) calls r w' h k =
+    within_as (count_in w) (Drain cpu now) r (Drained _ _ k.1.0.by k.1.0.steps) k.1.3 (there (count_in w) cpu None (accepted w (Drain cpu now) h)).0
+within-performs s w (Tick cpu now) calls r w' h k =
+    within_as (count_in w) (Tick cpu now) r (Ticked _ k.1.0.by k.1.0.steps) k.1.3 (there (count_in w) cpu None (accepted w (Tick cpu now) h)).0
+within-performs s w (Block cpu now) calls r w' h k =
+    within_as (count_in w) (Block cpu now) r (Went k.2.0.id _) k.2.1.2 (there (count_in w) cpu None (accepted w (Block cpu now) h)).0
+within-performs s w (Pull cpu from now) calls r w' h k =
+    within_as (count_in w) (Pull cpu from now) r (Moved (task_numbered k.2.0.choice) _ k.2.0.by k.2.0.steps) k.2.1.2 (there (count_in w) cpu _ (accepted w (Pull cpu from now) h)).0
+within-performs s w (Admit id nice mask slice) calls r w' h k = within_as (count_in w) (Admit id nice mask slice) r Admitted k.1.1 tt
+within-performs s w (Retire id) calls r w' h k = within_as (count_in w) (Retire id) r Retired k.1.1 tt
+within-performs s w Draw calls r w' h k = within_as (count_in w) Draw r (Drawn _) k.0 tt
+within-performs s w (Install cpu hook g policy) calls r w' h k = within_as (count_in w) (Install cpu hook g policy) r Installed k.1.1 tt
+within-performs s w (BeginWake cpu id) calls r w' h k = within_as (count_in w) (BeginWake cpu id) r (Begun id _) k.2.3 tt
 
 -- each step shows what its answer says, refused or not
 shown-step : (s : Setting) (w : World) (e : Event) (calls : List Asked) (a : Result Reply Refusal) (w' : World) → WorldStep s w e calls a w' → Shown w w' (sight_of e a) × IsWithin (count_in w) (sight_of e a)
