@@ -9,3 +9,4 @@ pub mod Wakes
 pub mod Purses
 pub mod Shares
 pub mod Comings
+pub mod Totals

@@ -121,7 +121,7 @@ clock-is-short cpu [] = omega arith
 clock-is-short cpu (m ∷ past) = short_after cpu (clock cpu past) (sight_of m.event m.answer) (clock-is-short cpu past)
 
 -- all clocks together stay below 2^64
-clocks-are-short : (count : ℕ) (past : History) → count ≤ 255 → IsOf count past → clocks_of (figures count past) ≤ 71776119061217025
+pub clocks-are-short : (count : ℕ) (past : History) → count ≤ 255 → IsOf count past → clocks_of (figures count past) ≤ 71776119061217025
 clocks-are-short count past few h =
     let s = figures count past in
     let all : All (λ (p : ProcessorFigures). last_of p ≤ 281474976710655) s.processors =

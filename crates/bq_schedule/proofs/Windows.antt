@@ -83,7 +83,7 @@ filled-shown : (s s' : Figures) (o : Option Sight) (j : ℕ) → j < length s.pr
 filled-shown s s' None j inside h f = same_works (processor_of s j) (processor_of s' j) (h.0.at j) (h.1.at j) f
 filled-shown s s' (Some x) j inside h f = filled-there s s' x j (eqb x.cpu j) refl inside h f (eqb_tells x.cpu j)
 
-filled : (count : ℕ) (past : History) (cpu : ℕ) → IsOf count past → cpu < count → Filled (processor_of (figures count past) cpu)
+pub filled : (count : ℕ) (past : History) (cpu : ℕ) → IsOf count past → cpu < count → Filled (processor_of (figures count past) cpu)
 filled count [] cpu h inside =
     let P : ProcessorFigures → Type 0 = λ p. Filled p in
     subst P (sym (get_or-replicate count cpu unread unread inside)) (refl, refl)
