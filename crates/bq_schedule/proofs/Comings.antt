@@ -1,6 +1,6 @@
 -- A task that comes to a processor, or is admitted, has what it had.
-use Rattle.std.proofs.Common.{◌≡◌, ◌≢◌, ℕ, ◌+◌, ◌-◌, ◌*◌, ◌<◌, ◌≤◌, min, Bool, true, false, length, get_or, Option, Some, None, refl, sym, ap, ◌∙◌, ◌⊎◌, inl, inr, eqb, leb, cond, arith}
-use Rattle.std.specs.Prelude.{slice_set, ℤ}
+use Rattle.std.proofs.Common.{◌≡◌, ◌≢◌, ℕ, ◌+◌, ◌-◌, ◌*◌, ◌<◌, ◌≤◌, Bool, true, false, length, get_or, Option, Some, None, refl, sym, ap, ◌∙◌, ◌⊎◌, inl, inr, eqb, leb, cond, arith}
+use Rattle.std.specs.Prelude.{ℤ}
 use Rattle.std.specs.List.{sum_by}
 use Rattle.std.proofs.lemmas.Bool.Decides.{eqb_tells, leb_tells}
 use Rattle.std.proofs.lemmas.List.{set_past, length-set}
@@ -9,7 +9,7 @@ use Rattle.bq_schedule.specs.declared.figures.ProcessorFigures.{ProcessorFigures
 use Rattle.bq_schedule.specs.Counts.{counted}
 use Rattle.bq_schedule.specs.Figures.{Figures, unknown, processor_of, task_of, with_processor, with_task}
 use Rattle.bq_schedule.specs.Standing.{processor_joined, joins}
-use Rattle.bq_schedule.specs.Steps.{admitted, weight_at}
+use Rattle.bq_schedule.specs.Steps.{admitted}
 use Rattle.bq_schedule.specs.FairTimes.{weight_there, weights_at}
 use Rattle.bq_schedule.proofs.Frames.{task_kept}
 use Rattle.bq_schedule.proofs.Purses
@@ -58,7 +58,7 @@ joined-inside s id cpu p t' h inside at shared weight place same joined settled 
         weights = λ j there.
             let there' : j < length s.processors = omega (arith, there, length-set s.processors cpu p) in
             weights-joined s s2 id cpu j (processor_of s2 j).weight t' (eqb cpu j) h (eqb_tells cpu j) refl at place same (h.weights j there') (weights-set s1 id j t' inside)
-                (set-there s cpu j p (eqb cpu j) there' (eqb_tells cpu j) ∙ ap (λ w. cond (eqb cpu j) w (processor_of s j).weight) weight);
+            (set-there s cpu j p (eqb cpu j) there' (eqb_tells cpu j) ∙ ap (λ w. cond (eqb cpu j) w (processor_of s j).weight) weight);
         joined = λ j. joined-set s s2 j u (eqb id j) gives (is j) (joined-here (Purses.shared_at s) u cpu t'.place place joined) (h.joined j);
         table = λ j. omega (arith, h.table j, task_kept (λ (v : TaskFigures). v.weight) s1 id j t' same);
         seats = length-set s.tasks id t' ∙ h.seats;
@@ -91,7 +91,7 @@ joined-outside s id cpu p t' h past shared weight =
         weights = λ j there.
             let there' : j < length s.processors = omega (arith, there, length-set s.processors cpu p) in
             counted-none s cpu j (processor_of s2 j).weight (eqb cpu j) h there' (eqb_tells cpu j)
-                (set-there s cpu j p (eqb cpu j) there' (eqb_tells cpu j) ∙ ap (λ w. cond (eqb cpu j) w (processor_of s j).weight) (weight ∙ ap (counted (processor_of s cpu).weight) none))
+            (set-there s cpu j p (eqb cpu j) there' (eqb_tells cpu j) ∙ ap (λ w. cond (eqb cpu j) w (processor_of s j).weight) (weight ∙ ap (counted (processor_of s cpu).weight) none))
             ∙ h.weights j there' ∙ ap (λ l. sum_by (weight_there j) l) (sym tasks);
         joined = λ j. Purses.joined-more (Purses.shared_at s) (Purses.shared_at s2) (Purses.purse (task_of s2 j)) (task_of s2 j).place (λ k. omega (arith, gives k))
             (Purses.joined-same (Purses.shared_at s) (Purses.purse (task_of s2 j)) (Purses.purse (task_of s j)) (ap Purses.purse (same j)) (h.joined j));

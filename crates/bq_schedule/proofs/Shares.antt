@@ -1,24 +1,18 @@
 -- Fair times rise by what readings give, and add up.
-use Rattle.std.proofs.Common.{◌≡◌, ◌≢◌, ℕ, ◌+◌, ◌-◌, ◌*◌, ◌/◌, ◌<◌, ◌≤◌, min, max, Bool, true, false, List, [], ◌∷◌, length, get_or, Option, Some, None, Result, Ok, Err, refl, sym, ap, ◌∙◌, ◌⊎◌, inl, inr, eqb, leb, ltb, cond, zero, suc, subst, get_or-set_same, get_or-set_other, arith}
+use Rattle.std.proofs.Common.{◌≡◌, ◌≢◌, ℕ, ◌+◌, ◌-◌, ◌*◌, ◌<◌, ◌≤◌, max, Bool, true, false, List, [], ◌∷◌, length, get_or, Option, Some, None, refl, sym, ap, ◌∙◌, ◌⊎◌, inl, inr, eqb, leb, cond, zero, suc, get_or-set_same, get_or-set_other, arith}
 use Rattle.std.specs.Prelude.{slice_set, ℤ, pos, negsuc}
-use Rattle.std.specs.List.{sum_by}
-use Rattle.std.proofs.Math.Nat.{div-le_self, mul-div-le}
 use Rattle.std.proofs.lemmas.Bool.Decides.{eqb_tells, leb_tells, nat_tests}
-use Rattle.std.proofs.lemmas.List.{get_or-replicate, get_or_past, set_past, length-set, length-replicate}
-use Rattle.std.proofs.lemmas.List.Sums.{sum_by-cons, sum_by-set, sum_by-le, get_or-le-sum_by}
+use Rattle.std.proofs.lemmas.List.{get_or_past, length-set}
+use Rattle.std.proofs.lemmas.List.Sums.{sum_by-set, sum_by-le, get_or-le-sum_by}
 use Rattle.std.proofs.lemmas.List.Elements.{All-from_get_or}
 use Rattle.bq_weights.specs.VirtualTime.{weights, weight_of}
-use Rattle.bq_schedule.specs.declared.slice.Slice.{Slice}
-use Rattle.bq_schedule.specs.declared.change.Decision.{Decision}
 use Rattle.bq_schedule.specs.declared.figures.TaskFigures.{TaskFigures}
 use Rattle.bq_schedule.specs.declared.figures.ProcessorFigures.{ProcessorFigures}
-use Rattle.bq_schedule.specs.Counts.{counted, counted_wide, parts}
-use Rattle.bq_schedule.specs.Figures.{Figures, opening, unread, unknown, processor_of, task_of, with_processor, with_task}
-use Rattle.bq_schedule.specs.Passing.{slice_at, length_of, part_of, passed, processor_read, read_at, with_charged, task_charged}
-use Rattle.bq_schedule.specs.Standing.{pending, fair_at, fair_of, processor_left, processor_joined, left_from, leaves, joins, comes}
+use Rattle.bq_schedule.specs.Figures.{Figures, unread, unknown, processor_of, task_of, with_processor, with_task}
+use Rattle.bq_schedule.specs.Standing.{fair_at, processor_left, left_from, leaves}
 use Rattle.bq_schedule.specs.Steps.{weight_at}
-use Rattle.bq_schedule.specs.FairTimes.{is_place, weight_there, weights_at, share, all_fair, all_unshared, all_busy}
-use Rattle.bq_schedule.proofs.Frames.{Works, works, KeepsWorks, processor_kept, task_kept}
+use Rattle.bq_schedule.specs.FairTimes.{is_place, weight_there, weights_at}
+use Rattle.bq_schedule.proofs.Frames.{processor_kept, task_kept}
 use Rattle.bq_schedule.proofs.Purses
 
 -- a weight is one of the table, or none
@@ -143,7 +137,7 @@ pub joined-set : (s s' : Figures) (j : ℕ) (u : Purses.Purse) (b : Bool) → ((
     Joined (Purses.shared_at s) u → Joined (Purses.shared_at s) (Purses.purse (task_of s j)) → Joined (Purses.shared_at s') (Purses.purse (task_of s' j))
 joined-set s s' j u b gives is new old =
     Purses.joined-more (Purses.shared_at s) (Purses.shared_at s') (Purses.purse (task_of s' j)) (task_of s' j).place (λ k. omega (arith, gives k))
-        (Purses.joined-same (Purses.shared_at s) (Purses.purse (task_of s' j)) (cond b u (Purses.purse (task_of s j))) is (cond-joined (Purses.shared_at s) b u (Purses.purse (task_of s j)) new old))
+    (Purses.joined-same (Purses.shared_at s) (Purses.purse (task_of s' j)) (cond b u (Purses.purse (task_of s j))) is (cond-joined (Purses.shared_at s) b u (Purses.purse (task_of s j)) new old))
 
 worth-cond : (s : Figures) (id j : ℕ) (u : Purses.Purse) (b : Bool) → ((b ≡ true) × (id ≡ j)) ⊎ ((b ≡ false) × (id ≢ j)) → worth (Purses.shared_at s) u ≡ Purses.raw s id →
     worth (Purses.shared_at s) (cond b u (Purses.purse (task_of s j))) ≡ Purses.raw s j
@@ -176,8 +170,8 @@ left-one s id cpu p t' h at shared weight nowhere same settled =
             let there' : j < length s.processors = omega (arith, there, length-set s.processors cpu p) in
             let gone : weight_there j t' ≡ 0 = weight-nowhere j t' nowhere in
             weights-left s s2 id cpu j (eqb cpu j) (processor_of s2 j).weight (eqb_tells cpu j) refl inside at (h.weights j there')
-                (omega (arith, weights-set s1 id j t' inside, gone))
-                (set-there s cpu j p (eqb cpu j) there' (eqb_tells cpu j) ∙ ap (λ w. cond (eqb cpu j) w (processor_of s j).weight) weight);
+            (omega (arith, weights-set s1 id j t' inside, gone))
+            (set-there s cpu j p (eqb cpu j) there' (eqb_tells cpu j) ∙ ap (λ w. cond (eqb cpu j) w (processor_of s j).weight) weight);
         joined = λ j. joined-set s s2 j u (eqb id j) gives (is j) (rw nowhere tt) (h.joined j);
         table = λ j. omega (arith, h.table j, task_kept (λ (v : TaskFigures). v.weight) s1 id j t' same);
         seats = length-set s.tasks id t' ∙ h.seats;
@@ -199,5 +193,9 @@ left s id h small = left-if s id (task_of s id).place h refl small
 -- all weights together are few
 pub weights-few : (s : Figures) (cpu : ℕ) → Purses.IsSound s → weights_at s cpu ≤ 90891264
 weights-few s cpu h =
-    omega (arith, h.seats, sum_by-le (weight_there cpu) 88761 s.tasks
-        (All-from_get_or (λ (t : TaskFigures). weight_there cpu t ≤ 88761) s.tasks unknown (λ j inside. there-le (is_place cpu (task_of s j).place) (task_of s j).weight (h.table j))))
+    omega (
+      arith,
+      h.seats,
+      sum_by-le (weight_there cpu) 88761 s.tasks
+          (All-from_get_or (λ (t : TaskFigures). weight_there cpu t ≤ 88761) s.tasks unknown (λ j inside. there-le (is_place cpu (task_of s j).place) (task_of s j).weight (h.table j))),
+    )

@@ -1,5 +1,5 @@
 -- Fair times rise by what readings give, and with what is left over they add up to the time in which tasks ran.
-use Rattle.std.proofs.Common.{◌≡◌, ◌≢◌, ℕ, ◌+◌, ◌-◌, ◌*◌, ◌/◌, ◌<◌, ◌≤◌, min, Bool, true, false, List, [], ◌∷◌, length, get_or, Option, Some, None, Result, Ok, Err, refl, sym, ap, ◌∙◌, ◌⊎◌, inl, inr, eqb, leb, ltb, cond, zero, suc, replicate, get_or-set_same, get_or-set_other, arith}
+use Rattle.std.proofs.Common.{◌≡◌, ◌≢◌, ℕ, ◌+◌, ◌-◌, ◌*◌, ◌<◌, ◌≤◌, Bool, true, false, List, [], ◌∷◌, length, get_or, Option, Some, None, Result, Ok, Err, refl, sym, ap, ◌∙◌, ◌⊎◌, inl, inr, eqb, leb, ltb, cond, zero, suc, replicate, get_or-set_same, get_or-set_other, arith}
 use Rattle.std.specs.Prelude.{slice_set, ℤ}
 use Rattle.std.specs.List.{sum_by}
 use Rattle.std.proofs.Math.Nat.{div-le_self, mul-div-le}
@@ -21,16 +21,16 @@ use Rattle.bq_schedule.specs.declared.figures.ProcessorFigures.{ProcessorFigures
 use Rattle.bq_schedule.specs.Counts.{parts}
 use Rattle.bq_schedule.specs.Moments.{Moment, History}
 use Rattle.bq_schedule.specs.Figures.{Figures, opening, unread, unknown, processor_of, task_of, with_processor, with_task}
-use Rattle.bq_schedule.specs.Passing.{slice_at, length_of, part_of, passed, processor_read, read_at, with_charged, task_charged}
-use Rattle.bq_schedule.specs.Standing.{fair_at, fair_of, leaves, joins, comes}
+use Rattle.bq_schedule.specs.Passing.{slice_at, length_of, part_of, processor_read, read_at, with_charged}
+use Rattle.bq_schedule.specs.Standing.{fair_at, fair_of, leaves, comes}
 use Rattle.bq_schedule.specs.Running.{switched}
 use Rattle.bq_schedule.specs.Slices.{Sight, sight, sight_of}
-use Rattle.bq_schedule.specs.Steps.{asked, admitted, woken, waited_there, emptied, taken, placed, decided, blocked, pulled, performed, time_at, is_there, after, figures}
+use Rattle.bq_schedule.specs.Steps.{asked, admitted, waited_there, emptied, taken, placed, decided, blocked, pulled, performed, time_at, is_there, after, figures}
 use Rattle.bq_schedule.specs.FairTimes.{is_place, weight_there, weights_at, share, all_fair, all_unshared, all_busy}
 use Rattle.bq_schedule.specs.Laws.{IsWithin, IsOf, SharesOut, AddsUpFairTimes}
-use Rattle.bq_schedule.proofs.Frames.{Works, works, KeepsWorks, works-id, works-then, processor_kept, task_kept, works-with_processor, works-with_task, works-asked, works-leaves, works-joins, works-comes, works-taken, works-switched, processors-read_at, count-read_at, tasks-read_at}
-use Rattle.bq_schedule.proofs.Clocks.{Shows, count-figures, within-figures, shows-after}
-use Rattle.bq_schedule.proofs.Sums.{clocks_of, clocks-are-short}
+use Rattle.bq_schedule.proofs.Frames.{Works, KeepsWorks, works-id, works-then, processor_kept, task_kept, works-with_processor, works-with_task, works-asked, works-leaves, works-comes, works-switched, processors-read_at, count-read_at, tasks-read_at}
+use Rattle.bq_schedule.proofs.Clocks.{count-figures, within-figures}
+use Rattle.bq_schedule.proofs.Sums.{clocks-are-short}
 use Rattle.bq_schedule.proofs.Windows.{filled, IsFilled}
 use Rattle.bq_schedule.proofs.Purses
 use Rattle.bq_schedule.proofs.Shares as Leaving
@@ -282,7 +282,7 @@ sound-read_at cpu now s h inside fits =
           ∙ sym (Purses.sums_like (weight_there j) (weight_there j) unknown r.tasks s.tasks (tasks-read_at cpu now s) (λ i. ap (Purses.weight_of_purse j) (purse-read_at cpu now s i)));
       joined = λ id.
           Purses.joined-more (Purses.shared_at s) (Purses.shared_at r) (Purses.purse (task_of r id)) (task_of r id).place (λ j. omega (arith, shared-read_at cpu now j s inside fits))
-              (Purses.joined-same (Purses.shared_at s) (Purses.purse (task_of r id)) (Purses.purse (task_of s id)) (purse-read_at cpu now s id) (h.joined id));
+          (Purses.joined-same (Purses.shared_at s) (Purses.purse (task_of r id)) (Purses.purse (task_of s id)) (purse-read_at cpu now s id) (h.joined id));
       table = λ id. omega (arith, h.table id, ap (λ (u : Purses.Purse). u.weight) (purse-read_at cpu now s id));
       seats = tasks-read_at cpu now s ∙ h.seats;
     }
@@ -333,8 +333,8 @@ reads cpu now s f inside short =
     let unshared : q.unshared ≡ p.unshared + (time * parts - p.weight * part) = omega (arith, part-of-rest, f.total, short, busies, is-busy, part-of-all, busy) in
     let raws : (id : ℕ) → Purses.raw r id ≡ Purses.raw s id + weight_there cpu (task_of s id) * part = λ id. raw-read_at cpu now id s f.sound inside fits in
     let all : all_raw r ≡ all_raw s + weights_at s cpu * part =
-        Purses.sums_like (Purses.raw_of r) (λ (t : TaskFigures). Purses.raw_of s t + weight_there cpu t * part) unknown r.tasks s.tasks (tasks-read_at cpu now s) raws
-        ∙ sums_both (Purses.raw_of s) (weight_there cpu) part s.tasks in
+    Purses.sums_like (Purses.raw_of r) (λ (t : TaskFigures). Purses.raw_of s t + weight_there cpu t * part) unknown r.tasks s.tasks (tasks-read_at cpu now s) raws
+    ∙ sums_both (Purses.raw_of s) (weight_there cpu) part s.tasks in
     let weights : p.weight * part ≡ weights_at s cpu * part = ap (λ n. n * part) (f.sound.weights cpu inside) in
     record {
       full = record {
@@ -359,9 +359,12 @@ busy-le (Some first) p h = omega (arith, h)
 is_short : (count : ℕ) (past : History) → count ≤ 255 → IsOf count past → IsShort (figures count past)
 is_short count past few h =
     let s = figures count past in
-    omega (arith, clocks-are-short count past few h,
-        sums_le (λ (p : ProcessorFigures). p.busy) (λ (p : ProcessorFigures). p.last) s.processors (λ j inside.
-            busy-le (processor_of s j).first (processor_of s j) (filled count past j h (omega (arith, inside, count-figures count past h)))))
+    omega (
+      arith,
+      clocks-are-short count past few h,
+      sums_le (λ (p : ProcessorFigures). p.busy) (λ (p : ProcessorFigures). p.last) s.processors (λ j inside.
+          busy-le (processor_of s j).first (processor_of s j) (filled count past j h (omega (arith, inside, count-figures count past h)))),
+    )
 
 -- at the opening nothing is there
 same_everywhere_if : {X : Type 0} (n i : ℕ) (x : X) (b : Bool) → ((b ≡ true) × (length (replicate n x) ≤ i)) ⊎ ((b ≡ false) × (i < length (replicate n x))) → get_or (replicate n x) i x ≡ x
@@ -433,5 +436,5 @@ adds_up_fair_times count past few h =
     let s = figures count past in
     let f = full count past few h in
     let fair : all_fair s ≡ all_raw s =
-        Purses.sums_like (λ (t : TaskFigures). fair_at s t t.place) (Purses.raw_of s) unknown s.tasks s.tasks refl (λ j. fair-raw s j f (is_short count past few h)) in
+    Purses.sums_like (λ (t : TaskFigures). fair_at s t t.place) (Purses.raw_of s) unknown s.tasks s.tasks refl (λ j. fair-raw s j f (is_short count past few h)) in
     omega (arith, fair, f.total)
