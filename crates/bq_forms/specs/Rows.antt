@@ -1,5 +1,5 @@
 -- The rows of comma-separated values.
-use Rattle.std.specs.Prelude.{◌≡◌, ℕ, List, [], ◌++◌, Option, Some, None, codes}
+use Rattle.std.specs.Prelude.{ℕ, List, [], ◌++◌, Option, Some, None, codes}
 use Rattle.std.specs.Fmt.{decimal}
 use Rattle.bq_schedule.specs.declared.slice.Slice.{Slice}
 

@@ -1,6 +1,7 @@
 //! The report: a table of the tasks, of their latencies, of the processors and of the policies.
 
 use crate::form::Form;
+use crate::longest::IDS;
 use crate::names::Names;
 use crate::percentiles::WakeLatencies;
 use crate::tables::{
@@ -10,9 +11,6 @@ use crate::tables::{
 use crate::window::Window;
 use bq_schedule::{Change, ProcessorFigures, Schedule};
 use std::alloc::{AllocError, Global};
-
-/// How many ids tasks may have.
-pub const IDS: u16 = 1024;
 
 /// The figures of a whole trace, in tables. The window chooses which tasks and processors have lines; a stretch of time in it
 /// changes no figure. It holds the latency of each wake.

@@ -4,9 +4,9 @@ ghost use Rattle.serde_json.specs.View.{view};
 ghost use Rattle.bq_forms.specs.Objects.{hook_object, latency_object, number_or_null};
 
 use crate::form::Form;
+use crate::longest::IDS;
 use crate::names::Names;
 use crate::percentiles::{Percentiles, WakeLatencies};
-use crate::report::IDS;
 use crate::tables::nanoseconds;
 use crate::window::Window;
 use bq_schedule::{Change, HookFigures, ProcessorFigures, Schedule, TaskFigures};
