@@ -23,8 +23,8 @@ use Rattle.bq_load.specs.declared.fault.LoadFault.{LoadFault}
 use Rattle.bq_load.specs.declared.fault.LoadFault.TheVariants as fault
 use Rattle.bq_load.specs.Answers.{HasProgram, HasRefusedProgram, IsUnloaded, Loads}
 use Rattle.bq_load.specs.Faults.{HasFaultyProgram}
-use Rattle.bq_load.specs.Laws.{AreBytes, IsAnswer, IsOfBytes, OneAnswer, OneLoaded}
-use Rattle.bq_load.specs.Layout.{Header, IsFramed, IsImage}
+use Rattle.bq_load.specs.Laws.{AreBytes, IsAnswer, OneAnswer, OneLoaded}
+use Rattle.bq_load.specs.Layout.{Header, IsFramed}
 use Rattle.bq_load.specs.Reading.{frame_at}
 use Rattle.bq_load.proofs.FaultLemmas.{fault_again}
 use Rattle.bq_load.proofs.LawLemmas.{framed_is_found, one_image}
