@@ -1,2 +1,3 @@
 pub mod AnswerFacts
 pub mod FoundLemmas
+pub mod ParWords

@@ -1,14 +1,18 @@
 -- What words ask for.
-use Rattle.std.specs.Prelude.{◌≡◌, ℕ, List, Some, option_map, codes}
+use Rattle.std.specs.Prelude.{◌≡◌, ℕ, List, Option, Some, option_map, option_and_then, codes}
 use Rattle.clap.specs.Words.{Row, Text, first_of, subcommand_of}
 use Rattle.bq_verify.specs.declared.hook.Version.{Version}
 use Rattle.bq_verify.specs.declared.hook.Version.TheVariants.{First, Second}
 use Rattle.bq_program.specs.Check.{hook_word}
 use Rattle.bq_program.specs.Forms.{maps_text}
 use Rattle.bq_program.specs.declared.options.Options.{Options}
+use Rattle.bq_sizes.specs.Sizes.{rule_of, size_numbered}
+use Rattle.bq_sizes.specs.declared.size.Size.{Size}
+use Rattle.bq_trace.specs.Numbers.{below, decimal_of, processor_of}
 use Rattle.bq_cli.specs.Program.{program}
+use Rattle.bq_cli.specs.declared.asked.Parallel.{Parallel}
 use Rattle.bq_cli.specs.declared.asked.Job.{Job}
-use Rattle.bq_cli.specs.declared.asked.Job.TheVariants.{Asm, Check, Dis, Replay}
+use Rattle.bq_cli.specs.declared.asked.Job.TheVariants.{Asm, Check, Dis, Par, Replay}
 
 abbrev pub version_word : Version → List ℕ
 version_word First = codes "1"
@@ -20,11 +24,26 @@ pub record AreOptions (rows : List Row) (o : Options) : Type 0 where
   pub maps : maps_text o ≡ first_of (codes "maps") rows
   pub format : option_map (λ v. version_word v) o.format ≡ first_of (codes "format") rows
 
+-- a number of ticks, at most 1,000,000
+abbrev pub ticks_of : List ℕ → Option ℕ
+ticks_of word = below 1000001 (decimal_of word)
+
+-- the size of so many processors, in decimal
+abbrev pub processors_of : List ℕ → Option Size
+processors_of word = option_and_then size_numbered (processor_of word)
+
+-- the options of `par` have the values that were found
+pub record IsParallel (rows : List Row) (p : Parallel) : Type 0 where
+  pub rule : option_and_then rule_of (first_of (codes "rule") rows) ≡ Some p.rule
+  pub size : option_and_then processors_of (first_of (codes "processors") rows) ≡ Some p.size
+  pub ticks : option_and_then ticks_of (first_of (codes "ticks") rows) ≡ Some p.ticks
+
 -- a command by its name and what was found for its options
 abbrev pub IsJobOf : Text → List Row → Job → Type 0
 IsJobOf name rows (Asm o) = (name ≡ codes "asm") × AreOptions rows o
 IsJobOf name rows Check = name ≡ codes "check"
 IsJobOf name rows Dis = name ≡ codes "dis"
+IsJobOf name rows (Par p) = (name ≡ codes "par") × IsParallel rows p
 IsJobOf name rows Replay = name ≡ codes "replay"
 
 -- the command and its options are those that clap finds in the words

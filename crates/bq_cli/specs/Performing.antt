@@ -1,5 +1,5 @@
 -- What a command reads and writes.
-use Rattle.std.specs.Prelude.{◌≡◌, ℕ, Bool, false, List, Option, ◌⊎◌}
+use Rattle.std.specs.Prelude.{◌≡◌, ℕ, Bool, true, false, List, Option, ◌⊎◌}
 use Rattle.std.specs.Io.KnownBytes.{Appends, Consumes, IsAtEnd, Keeps}
 use Rattle.bq_trace.specs.Writing.{AppendsPart}
 use Rattle.bq_trace.specs.Replaying.{Replays, ReplaysInPart}
@@ -9,8 +9,12 @@ use Rattle.bq_program.specs.Dis.{DisWrites}
 use Rattle.bq_program.specs.Forms.{AsksFor, RefusesOptions}
 use Rattle.bq_program.specs.declared.form.Form.{Form}
 use Rattle.bq_program.specs.declared.options.Options.{Options}
+use Rattle.bq_sizes.specs.Sizes.{processors_in}
+use Rattle.bq_par.specs.Summaries.{IsSummary, summary_line, discipline_of}
+use Rattle.bq_par.specs.declared.summary.Summary.{Summary}
+use Rattle.bq_cli.specs.declared.asked.Parallel.{Parallel}
 use Rattle.bq_cli.specs.declared.asked.Job.{Job}
-use Rattle.bq_cli.specs.declared.asked.Job.TheVariants.{Asm, Check, Dis, Replay}
+use Rattle.bq_cli.specs.declared.asked.Job.TheVariants.{Asm, Check, Dis, Par, Replay}
 
 -- The reader gave these bytes and has no more.
 abbrev pub GivesAll : Option (List ℕ) → Option (List ℕ) → List ℕ → Type 0
@@ -78,11 +82,24 @@ AsmPerforms o from to old new accepted = AnswersInForm o from to old new accepte
 abbrev pub AsmPerformsInPart : Options → Option (List ℕ) → Option (List ℕ) → Option (List ℕ) → Option (List ℕ) → Type 0
 AsmPerformsInPart o from to old new = BreaksOffInForm o from to old new ⊎ (RefusesInPart o from to old new ⊎ DoesNothing from to old new)
 
+-- The line says what a history of the scheduler that was asked for has.
+abbrev pub IsParLine : Parallel → List ℕ → Type 0
+IsParLine p line = (s : Summary) × IsSummary (discipline_of p.rule) (processors_in p.size) s × (line ≡ summary_line s)
+
+-- The writer got the line.
+abbrev pub WritesPar : Parallel → Option (List ℕ) → Option (List ℕ) → Type 0
+WritesPar p old new = (line : List ℕ) × IsParLine p line × Appends old new line
+
+-- The writer got nothing, or a beginning of the line.
+abbrev pub WritesParInPart : Parallel → Option (List ℕ) → Option (List ℕ) → Type 0
+WritesParInPart p old new = Keeps old new ⊎ ((line : List ℕ) × IsParLine p line × AppendsPart old new line)
+
 -- What was read and written where a command has ended, with whether its input was accepted, or no line of it bad.
 abbrev pub Performs : Job → Option (List ℕ) → Option (List ℕ) → Option (List ℕ) → Option (List ℕ) → Bool → Type 0
 Performs (Asm o) from to old new accepted = AsmPerforms o from to old new accepted
 Performs Check from to old new accepted = AnswersAll CheckWrites from to old new accepted
 Performs Dis from to old new accepted = AnswersAll DisWrites from to old new accepted
+Performs (Par p) from to old new accepted = (to ≡ from) × (accepted ≡ true) × WritesPar p old new
 Performs Replay from to old new clean = Replays from to old new clean
 
 -- What was read and written where it ended by a fault.
@@ -90,4 +107,5 @@ abbrev pub PerformsInPart : Job → Option (List ℕ) → Option (List ℕ) → 
 PerformsInPart (Asm o) from to old new = AsmPerformsInPart o from to old new
 PerformsInPart Check from to old new = BreaksOff CheckWrites from to old new
 PerformsInPart Dis from to old new = BreaksOff DisWrites from to old new
+PerformsInPart (Par p) from to old new = (to ≡ from) × WritesParInPart p old new
 PerformsInPart Replay from to old new = ReplaysInPart from to old new

@@ -7,6 +7,10 @@ use Rattle.clap.specs.Words.{App, Rule, Text, new_app, new_rule, with_rule, with
 abbrev pub option_rule : Text → Rule
 option_rule name = record (new_rule name) { long = Some name; value_names = 1 }
 
+-- an option that takes one value, and may not be left out
+abbrev pub needed_rule : Text → Rule
+needed_rule name = record (option_rule name) { required = true }
+
 abbrev pub asm_app : App
 asm_app = with_rule (with_rule (with_rule (new_app (codes "asm")) (option_rule (codes "hook"))) (option_rule (codes "maps"))) (option_rule (codes "format"))
 
@@ -16,11 +20,24 @@ check_app = new_app (codes "check")
 abbrev pub dis_app : App
 dis_app = new_app (codes "dis")
 
+abbrev pub par_app : App
+par_app = with_rule (with_rule (with_rule (new_app (codes "par")) (needed_rule (codes "rule"))) (needed_rule (codes "processors"))) (needed_rule (codes "ticks"))
+
 abbrev pub replay_app : App
 replay_app = new_app (codes "replay")
 
+-- the program by its name, which tells its version
+abbrev pub named : App
+named = on_top (λ s. record s { has_version = true }) (new_app (codes "bqsim"))
+
+-- with the commands of single programs and images
+abbrev pub with_programs : App
+with_programs = with_subcommand (with_subcommand (with_subcommand named asm_app.top) check_app.top) dis_app.top
+
+-- with all commands
+abbrev pub with_all : App
+with_all = with_subcommand (with_subcommand with_programs par_app.top) replay_app.top
+
 -- the words come without the program's name, and one of them has to be a command
 abbrev pub program : App
-program =
-    on_top (λ s. record s { no_binary_name = true; has_version = true; subcommand_required = true; arg_required_else_help = true })
-    (with_subcommand (with_subcommand (with_subcommand (with_subcommand (new_app (codes "bqsim")) asm_app.top) check_app.top) dis_app.top) replay_app.top)
+program = on_top (λ s. record s { no_binary_name = true; subcommand_required = true; arg_required_else_help = true }) with_all

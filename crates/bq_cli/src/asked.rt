@@ -2,6 +2,7 @@
 ghost use Rattle.std.specs.Prelude.{◌≡◌};
 
 use bq_program::Options;
+use bq_sizes::{Rule, Size};
 use std::alloc::{AllocError, AllocFailed};
 use thiserror::Error;
 
@@ -14,8 +15,18 @@ pub enum Job {
     Check,
     /// Reads the hex of a program and writes its listing.
     Dis,
+    /// Runs processors by threads of their own and writes how long their history is.
+    Par(Parallel),
     /// Reads a trace and writes what answers it.
     Replay,
+}
+
+/// What `par` is to run: under which rule, how many processors, and how often each of them ticks, at most 1,000,000 times.
+#[derive(Clone, Copy, Debug)]
+pub struct Parallel {
+    pub rule: Rule,
+    pub size: Size,
+    pub ticks: u32,
 }
 
 /// Why the words ask for nothing.

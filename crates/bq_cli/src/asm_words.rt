@@ -26,7 +26,7 @@ pub(crate) fn options(alloc: Global, matches: &ArgMatches<'_>) -> Result<Options
 }
 
 /// The first value of an option, if it has one.
-fn value<'a>(matches: &ArgMatches<'a>, option: &str) -> Option<&'a str>
+pub(crate) fn value<'a>(matches: &ArgMatches<'a>, option: &str) -> Option<&'a str>
     ensures { option_map (λ (w : Bor (List ℕ)). w.now) result ≡ first_of option.now (rows_of (found_of matches.now)) }
 {
     matches.get_str(option)
@@ -70,7 +70,7 @@ fn text_in(alloc: Global, word: Option<&str>) -> Result<Option<String>, AllocErr
 }
 
 /// The fault of an option's value that is none of its words.
-fn refused(alloc: Global, option: &str, value: &str) -> JobFault {
+pub(crate) fn refused(alloc: Global, option: &str, value: &str) -> JobFault {
     match format!(in alloc;
         "error: invalid value '{value}' for '--{option}'\n\nFor more information, try '--help'.\n"
     ) {

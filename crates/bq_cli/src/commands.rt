@@ -1,5 +1,5 @@
 //! What the program does for a job.
-ghost use Rattle.std.specs.Prelude.{◌≡◌, ℕ, IfOk, IfErr, OnOk, OnErr};
+ghost use Rattle.std.specs.Prelude.{◌≡◌, ℕ, true, IfOk, IfErr, OnOk, OnErr};
 ghost use Rattle.std.specs.String.{string_bytes};
 ghost use Rattle.std.specs.Io.KnownBytes.{Appends};
 ghost use Rattle.bq_trace.specs.Counts.{inner_of, calls_of, failures_of};
@@ -8,17 +8,21 @@ ghost use Rattle.bq_trace.specs.Faults.{IsFault};
 ghost use Rattle.bq_program.specs.Asm.{AsmWrites};
 ghost use Rattle.bq_program.specs.Check.{CheckWrites};
 ghost use Rattle.bq_program.specs.Dis.{DisWrites};
-ghost use Rattle.bq_cli.specs.Performing.{AnswersAll, AsmPerforms, AsmPerformsInPart, BreaksOff, Performs, PerformsInPart};
+ghost use Rattle.bq_cli.specs.Performing.{AnswersAll, AsmPerforms, AsmPerformsInPart, BreaksOff, Performs, PerformsInPart, WritesPar, WritesParInPart};
 
-use crate::asked::Job;
+use crate::asked::{Job, Parallel};
 use crate::whole::read_whole;
 use bq_program::{Answer, Form, Options, assembled, checked, disassembled, refused_options};
 use bq_trace::{Counted, ReplayFault, replay};
 use std::alloc::Global;
 use std::io::{Read, Write};
+use std::sync::Wait;
+use std::thread::Threads;
 
-/// Does a job. False where something was refused, or a line was bad.
-pub fn perform<R: Read, W: Write>(
+/// Does a job. False where something was refused, or a line was bad. Only `par` starts threads and waits for locks: of it the
+/// promise holds if it returns.
+pub fn perform<T: Threads + Wait + Sync, R: Read, W: Write>(
+    rt: &T,
     alloc: Global,
     job: &Job,
     input: &mut Counted<R>,
@@ -37,8 +41,27 @@ pub fn perform<R: Read, W: Write>(
         Job::Asm(options) => perform_asm(alloc, options, input, output),
         Job::Check => perform_check(alloc, input, output),
         Job::Dis => perform_dis(alloc, input, output),
+        Job::Par(parallel) => perform_par(rt, alloc, parallel, output),
         Job::Replay => replay(alloc, input, output),
     }
+}
+
+/// Runs processors by threads of their own, and writes how long their history is.
+fn perform_par<T: Threads + Wait + Sync, W: Write>(
+    rt: &T,
+    alloc: Global,
+    parallel: &Parallel,
+    output: &mut Counted<W>,
+) -> Result<bool, ReplayFault>
+    ensures ok { IfOk result (λ done. (done ≡ true) × WritesPar parallel.now (W.contents (inner_of output.old)) (W.contents (inner_of output.new))) }
+    ensures kept { OnOk result (failures_of output.new ≡ failures_of output.old) }
+    ensures part { OnErr result (WritesParInPart parallel.now (W.contents (inner_of output.old)) (W.contents (inner_of output.new))) }
+    ensures fault { IfErr result (λ e. (reads read calls after : ℕ) → IsFault e reads read (failures_of output.old) (failures_of output.new) calls after) }
+{
+    let summary = bq_par::run(rt, alloc, parallel.rule, parallel.size, parallel.ticks)?;
+    let line = summary.line(alloc)?;
+    output.write_text(line.as_bytes())?;
+    Ok(true)
 }
 
 /// Reads an assembler text and writes what answers it in the form that the options ask for. Options that are refused are

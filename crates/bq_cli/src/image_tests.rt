@@ -6,20 +6,32 @@ use crate::{Counted, exit_status, job, perform};
 use std::alloc::Global;
 use std::process::Abort;
 use std::str::from_utf8;
+use std::sync::Wait;
 use std::test::Fail;
+use std::thread::Threads;
 
 /// What is written for an input, and the exit status.
-fn done(alloc: Global, words: &[&str], input: &[u8]) -> Result<(String, u8), Fail> {
+fn done<R: Threads + Wait + Sync>(
+    rt: &R,
+    alloc: Global,
+    words: &[&str],
+    input: &[u8],
+) -> Result<(String, u8), Fail> {
     let Ok(job) = job(alloc, words) else {
         return Err(Fail::from("the words were refused"));
     };
-    done_by(alloc, &job, input)
+    done_by(rt, alloc, &job, input)
 }
 
-fn done_by(alloc: Global, job: &Job, input: &[u8]) -> Result<(String, u8), Fail> {
+fn done_by<R: Threads + Wait + Sync>(
+    rt: &R,
+    alloc: Global,
+    job: &Job,
+    input: &[u8],
+) -> Result<(String, u8), Fail> {
     let mut input = Counted::new(input);
     let mut output = Counted::new(Vec::new(alloc));
-    let outcome = perform(alloc, job, &mut input, &mut output);
+    let outcome = perform(rt, alloc, job, &mut input, &mut output);
     let written = output.into_inner();
     Ok((
         String::from_str(alloc, from_utf8(written.as_slice())?)?,
@@ -47,6 +59,7 @@ exit\nldxdw r3, [r0+0]\nmov64 r4, r3\nadd64 r4, 1\nstxdw [r0+0], r4\nmov64 r0, r
 #[test]
 fn images_are_assembled(rt: HostRuntime) -> Result<(), Fail> {
     let zero = done(
+        &rt,
         rt.alloc(),
         &["asm", "--hook", "preempt"],
         b"mov64 r0, 0\nexit\n".as_slice(),
@@ -58,6 +71,7 @@ fn images_are_assembled(rt: HostRuntime) -> Result<(), Fail> {
         0,
     );
     let counting = done(
+        &rt,
         rt.alloc(),
         &["asm", "--hook", "preempt", "--maps", "8:1"],
         COUNTING_TEXT.as_bytes(),
@@ -69,6 +83,7 @@ fn images_are_assembled(rt: HostRuntime) -> Result<(), Fail> {
         0,
     );
     let maps = done(
+        &rt,
         rt.alloc(),
         &["asm", "--format=2", "--maps=8:2,16:4", "--hook=pull"],
         b"mov64 r0, 0\nexit\n".as_slice(),
@@ -81,6 +96,7 @@ fn images_are_assembled(rt: HostRuntime) -> Result<(), Fail> {
         0,
     );
     let faulty = done(
+        &rt,
         rt.alloc(),
         &["asm", "--hook", "pull"],
         b"mov64 r11, 1".as_slice(),
@@ -176,7 +192,7 @@ fn options_are_refused_before_the_text_is_read(rt: HostRuntime) -> Result<(), Fa
         };
         let mut input = Counted::new(b"exit".as_slice());
         let mut output = Counted::new(Vec::new(rt.alloc()));
-        let outcome = perform(rt.alloc(), &job, &mut input, &mut output);
+        let outcome = perform(&rt, rt.alloc(), &job, &mut input, &mut output);
         let written = output.into_inner();
         assert_eq!(rt; from_utf8(written.as_slice())?, line);
         assert_eq!(rt; exit_status(&outcome), 1);
@@ -188,6 +204,7 @@ fn options_are_refused_before_the_text_is_read(rt: HostRuntime) -> Result<(), Fa
 #[test]
 fn eight_maps_are_taken(rt: HostRuntime) -> Result<(), Fail> {
     let image = done(
+        &rt,
         rt.alloc(),
         &[
             "asm",
@@ -198,7 +215,7 @@ fn eight_maps_are_taken(rt: HostRuntime) -> Result<(), Fail> {
         ],
         b"mov64 r0, 0\nexit\n".as_slice(),
     )?;
-    let known = done(rt.alloc(), &["check"], image.0.as_bytes())?;
+    let known = done(&rt, rt.alloc(), &["check"], image.0.as_bytes())?;
     writes(&rt, &known, "accepted place budget 2\n", 0);
     Ok(())
 }
@@ -257,22 +274,25 @@ const CHECKED: [(&str, &str, u8); 13] = [
 #[test]
 fn images_are_checked(rt: HostRuntime) -> Result<(), Fail> {
     for (hex, line, status) in CHECKED {
-        let known = done(rt.alloc(), &["check"], hex.as_bytes())?;
+        let known = done(&rt, rt.alloc(), &["check"], hex.as_bytes())?;
         writes(&rt, &known, line, status);
     }
     let unknown = done(
+        &rt,
         rt.alloc(),
         &["check"],
         b"425150490301000002000000b7000000000000009500000000000000".as_slice(),
     )?;
     writes(&rt, &unknown, "refused L2\n", 1);
     let header = done(
+        &rt,
         rt.alloc(),
         &["check"],
         b"425150490101000088130000".as_slice(),
     )?;
     writes(&rt, &header, "refused L5\n", 1);
     let field = done(
+        &rt,
         rt.alloc(),
         &["check"],
         b"425150490101000002000000b7000000000000009500000001000000".as_slice(),
@@ -298,7 +318,7 @@ fn changed_images_are_refused(rt: HostRuntime) -> Result<(), Fail> {
         if let Some(place) = hex.get_mut(at) {
             *place = digit;
         }
-        let known = done(rt.alloc(), &["check"], hex.as_slice())?;
+        let known = done(&rt, rt.alloc(), &["check"], hex.as_slice())?;
         writes(&rt, &known, line, 1);
     }
     Ok(())
@@ -308,7 +328,7 @@ fn changed_images_are_refused(rt: HostRuntime) -> Result<(), Fail> {
 fn cut_images_are_refused(rt: HostRuntime) -> Result<(), Fail> {
     let mut cut = Vec::new(rt.alloc());
     for byte in COUNTING.as_bytes().chunks_exact(2) {
-        let known = done(rt.alloc(), &["check"], cut.as_slice())?;
+        let known = done(&rt, rt.alloc(), &["check"], cut.as_slice())?;
         writes(&rt, &known, "refused L5\n", 1);
         cut.extend_from_slice(byte)?;
     }
@@ -419,15 +439,20 @@ and64 r6, 15\nadd64 r0, r6\nldxdw r0, [r0+0]\nexit",
 const PREEMPT: &[&str] = &["asm", "--hook", "preempt"];
 
 /// What `check` writes for the image of a text.
-fn judged(alloc: Global, words: &[&str], text: &str) -> Result<(String, u8), Fail> {
-    let image = done(alloc, words, text.as_bytes())?;
-    done(alloc, &["check"], image.0.as_bytes())
+fn judged<R: Threads + Wait + Sync>(
+    rt: &R,
+    alloc: Global,
+    words: &[&str],
+    text: &str,
+) -> Result<(String, u8), Fail> {
+    let image = done(rt, alloc, words, text.as_bytes())?;
+    done(rt, alloc, &["check"], image.0.as_bytes())
 }
 
 #[test]
 fn programs_are_judged(rt: HostRuntime) -> Result<(), Fail> {
     for (words, text, line) in JUDGED {
-        let known = judged(rt.alloc(), words, text)?;
+        let known = judged(&rt, rt.alloc(), words, text)?;
         let status = if line.starts_with("accepted") { 0 } else { 1 };
         writes(&rt, &known, line, status);
     }
@@ -450,21 +475,21 @@ fn long_programs_are_judged(rt: HostRuntime) -> Result<(), Fail> {
     let sixteen = repeated(rt.alloc(), counters, 16, "mov64 r0, 0\nexit\n")?;
     writes(
         &rt,
-        &judged(rt.alloc(), PREEMPT, sixteen.as_str())?,
+        &judged(&rt, rt.alloc(), PREEMPT, sixteen.as_str())?,
         "accepted preempt budget 50\n",
         0,
     );
     let seventeen = repeated(rt.alloc(), counters, 17, "mov64 r0, 0\nexit\n")?;
     writes(
         &rt,
-        &judged(rt.alloc(), PREEMPT, seventeen.as_str())?,
+        &judged(&rt, rt.alloc(), PREEMPT, seventeen.as_str())?,
         "refused L8 V11 50\n",
         1,
     );
     let full = repeated(rt.alloc(), "mov64 r0, 0\n", 4095, "exit\n")?;
     writes(
         &rt,
-        &judged(rt.alloc(), PREEMPT, full.as_str())?,
+        &judged(&rt, rt.alloc(), PREEMPT, full.as_str())?,
         "accepted preempt budget 4096\n",
         0,
     );
@@ -472,7 +497,7 @@ fn long_programs_are_judged(rt: HostRuntime) -> Result<(), Fail> {
     let text = format!(in rt.alloc(); "mov64 r0, 0\n{pairs}")?;
     writes(
         &rt,
-        &judged(rt.alloc(), PREEMPT, text.as_str())?,
+        &judged(&rt, rt.alloc(), PREEMPT, text.as_str())?,
         "accepted preempt budget 4096\n",
         0,
     );
@@ -480,7 +505,7 @@ fn long_programs_are_judged(rt: HostRuntime) -> Result<(), Fail> {
     let image = format!(in rt.alloc(); "425150490101000001100000{over}")?;
     writes(
         &rt,
-        &done(rt.alloc(), &["check"], image.as_bytes())?,
+        &done(&rt, rt.alloc(), &["check"], image.as_bytes())?,
         "refused L7 I1 0\n",
         1,
     );

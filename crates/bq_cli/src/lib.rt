@@ -8,6 +8,7 @@ mod asm_words;
 pub mod commands;
 #[cfg(test)]
 mod image_tests;
+mod par_words;
 pub mod program;
 pub mod status;
 #[cfg(test)]

@@ -2,7 +2,7 @@
 ghost use Rattle.std.specs.Prelude.{◌≡◌, IfOk, false};
 ghost use Rattle.clap.specs.Words.{app_of, rule_of, with_rule, with_subcommand};
 ghost use Rattle.clap.specs.declared.builder.command.Command.TheViews.{out-Command as fields_of};
-ghost use Rattle.bq_cli.specs.Program.{program, option_rule, asm_app, check_app, dis_app, replay_app};
+ghost use Rattle.bq_cli.specs.Program.{program, option_rule, needed_rule, asm_app, check_app, dis_app, par_app, replay_app, with_all, with_programs};
 
 use clap::{Arg, Command};
 use std::alloc::{AllocError, Global};
@@ -63,6 +63,31 @@ fn dis_command<'a>(alloc: Global) -> Command<'a>
     )
 }
 
+fn par_command<'a>(alloc: Global) -> Result<Command<'a>, AllocError>
+    ensures app { IfOk result (λ c. app_of c ≡ par_app) }
+    ensures local { IfOk result (λ c. (fields_of c).has_globals ≡ false) }
+{
+    let command = Command::new(alloc, "par").about(
+        "Runs as many processors by threads of their own, and says how long their one history is",
+    );
+    let rule = needed(alloc, "rule", "RULE").help("How processors choose: cfs or eevdf");
+    let command = with_option(command, rule)?;
+    let processors = needed(alloc, "processors", "PROCESSORS").help(
+        "How many processors there are: 1, 2, 4, 8, 16, 32 or 64",
+    );
+    let command = with_option(command, processors)?;
+    let ticks = needed(alloc, "ticks", "TICKS").help("How often each of them ticks: 0 to 1000000");
+    with_option(command, ticks)
+}
+
+/// An option that takes one value, and may not be left out.
+fn needed<'a>(alloc: Global, name: &'a str, value: &'a str) -> Arg<'a>
+    ensures rule { rule_of result ≡ needed_rule name.entry.now }
+    ensures local { result.global ≡ false }
+{
+    option(alloc, name, value).required(true)
+}
+
 fn replay_command<'a>(alloc: Global) -> Command<'a>
     ensures app { app_of result ≡ replay_app }
     ensures local { (fields_of result).has_globals ≡ false }
@@ -80,18 +105,31 @@ fn with_command<'a>(program: Command<'a>, command: Command<'a>) -> Result<Comman
     program.subcommand(command)
 }
 
-/// The program with its commands. The words come without its name.
-pub fn program<'a>(alloc: Global) -> Result<Command<'a>, AllocError>
-    ensures { IfOk result (λ c. app_of c ≡ program) }
+/// The program with the commands of single programs and images.
+fn with_programs<'a>(alloc: Global) -> Result<Command<'a>, AllocError>
+    ensures { IfOk result (λ c. app_of c ≡ with_programs) }
 {
     let command = Command::new(alloc, "bqsim")
         .about("Simulates processors that choose among their tasks as CFS and EEVDF do")
         .version("0.1.0");
     let command = with_command(command, asm_command(alloc)?)?;
     let command = with_command(command, check_command(alloc))?;
-    let command = with_command(command, dis_command(alloc))?;
-    let command = with_command(command, replay_command(alloc))?;
-    let command = command.bin_name("bqsim")?;
+    with_command(command, dis_command(alloc))
+}
+
+/// The program with all its commands.
+fn with_all<'a>(alloc: Global) -> Result<Command<'a>, AllocError>
+    ensures { IfOk result (λ c. app_of c ≡ with_all) }
+{
+    let command = with_command(with_programs(alloc)?, par_command(alloc)?)?;
+    with_command(command, replay_command(alloc))
+}
+
+/// The program with its commands. The words come without its name.
+pub fn program<'a>(alloc: Global) -> Result<Command<'a>, AllocError>
+    ensures { IfOk result (λ c. app_of c ≡ program) }
+{
+    let command = with_all(alloc)?.bin_name("bqsim")?;
     Ok(
         command
             .no_binary_name(true)

@@ -12,7 +12,7 @@ fn takes_the_words_of_a_replay(rt: HostRuntime) -> Result<(), Fail> {
     };
     let mut input = Counted::new(b"machine cfs 1\ndraw\nretire 7\n".as_slice());
     let mut output = Counted::new(Vec::new(rt.alloc()));
-    let outcome = perform(rt.alloc(), &job, &mut input, &mut output);
+    let outcome = perform(&rt, rt.alloc(), &job, &mut input, &mut output);
     assert_eq!(rt; exit_status(&outcome), 0);
     let output = output.into_inner();
     assert_eq!(rt;
@@ -26,12 +26,12 @@ fn takes_the_words_of_a_replay(rt: HostRuntime) -> Result<(), Fail> {
 fn ends_by_one_where_a_line_is_bad(rt: HostRuntime) {
     let mut input = Counted::new(b"draw\n".as_slice());
     let mut output = Counted::new(Vec::new(rt.alloc()));
-    let outcome = perform(rt.alloc(), &Job::Replay, &mut input, &mut output);
+    let outcome = perform(&rt, rt.alloc(), &Job::Replay, &mut input, &mut output);
     assert_eq!(rt; exit_status(&outcome), 1);
 }
 
 /// What some words are told, and where in the text.
-const TOLD: [(&[&str], &str); 17] = [
+const TOLD: [(&[&str], &str); 24] = [
     (&[], "Usage: bqsim"),
     (&["--help"], "Usage: bqsim"),
     (&["help"], "Usage: bqsim"),
@@ -55,6 +55,50 @@ const TOLD: [(&[&str], &str); 17] = [
     ),
     (&["asm", "--hook", "pull", "--hook", "place"], "error: "),
     (&["check", "--hook", "pull"], "error: "),
+    (&["par", "--help"], "--processors <PROCESSORS>"),
+    (&["par"], "error: "),
+    (&["par", "--rule", "cfs", "--ticks", "10"], "error: "),
+    (
+        &[
+            "par",
+            "--rule",
+            "fifo",
+            "--processors",
+            "4",
+            "--ticks",
+            "10",
+        ],
+        "invalid value 'fifo' for '--rule'",
+    ),
+    (
+        &["par", "--rule", "cfs", "--processors", "3", "--ticks", "10"],
+        "invalid value '3' for '--processors'",
+    ),
+    (
+        &[
+            "par",
+            "--rule",
+            "cfs",
+            "--processors",
+            "4",
+            "--ticks",
+            "1000001",
+        ],
+        "invalid value '1000001' for '--ticks'",
+    ),
+    (
+        &[
+            "par",
+            "--rule",
+            "cfs",
+            "--processors",
+            "4",
+            "--ticks",
+            "10",
+            "again",
+        ],
+        "error: ",
+    ),
 ];
 
 #[test]
@@ -93,10 +137,55 @@ fn assembles_and_lists(rt: HostRuntime) -> Result<(), Fail> {
         };
         let mut input = Counted::new(read.as_bytes());
         let mut output = Counted::new(Vec::new(rt.alloc()));
-        let outcome = perform(rt.alloc(), &job, &mut input, &mut output);
+        let outcome = perform(&rt, rt.alloc(), &job, &mut input, &mut output);
         assert_eq!(rt; exit_status(&outcome), status);
         let output = output.into_inner();
         assert_eq!(rt; from_utf8(output.as_slice())?, written);
+    }
+    Ok(())
+}
+
+/// A rule, a number of processors and one of ticks, and what is written. Of each processor an admit, both halves of a wake, a
+/// drain and its ticks are recorded.
+const PARALLEL: [(&str, &str, &str, &str); 9] = [
+    (
+        "cfs",
+        "4",
+        "1000",
+        "events 4016 ticks 4000 confirmed 4016\n",
+    ),
+    ("eevdf", "2", "10", "events 28 ticks 20 confirmed 28\n"),
+    ("cfs", "1", "0", "events 4 ticks 0 confirmed 4\n"),
+    ("eevdf", "1", "5", "events 9 ticks 5 confirmed 9\n"),
+    ("eevdf", "4", "5", "events 36 ticks 20 confirmed 36\n"),
+    ("cfs", "8", "5", "events 72 ticks 40 confirmed 72\n"),
+    ("eevdf", "16", "5", "events 144 ticks 80 confirmed 144\n"),
+    ("cfs", "32", "5", "events 288 ticks 160 confirmed 288\n"),
+    ("eevdf", "64", "5", "events 576 ticks 320 confirmed 576\n"),
+];
+
+#[test]
+fn processors_run_by_threads_of_their_own(rt: HostRuntime) -> Result<(), Fail> {
+    for (rule, processors, ticks, line) in PARALLEL {
+        let words = [
+            "par",
+            "--rule",
+            rule,
+            "--processors",
+            processors,
+            "--ticks",
+            ticks,
+        ];
+        let Ok(job) = job(rt.alloc(), &words) else {
+            return Err(Fail::from("the words were refused"));
+        };
+        let mut input = Counted::new(b"not read".as_slice());
+        let mut output = Counted::new(Vec::new(rt.alloc()));
+        let outcome = perform(&rt, rt.alloc(), &job, &mut input, &mut output);
+        assert_eq!(rt; exit_status(&outcome), 0);
+        let output = output.into_inner();
+        assert_eq!(rt; from_utf8(output.as_slice())?, line);
+        assert_eq!(rt; input.into_inner(), b"not read".as_slice());
     }
     Ok(())
 }

@@ -6,6 +6,7 @@ ghost use Rattle.bq_cli.specs.Jobs.{IsJob};
 
 use crate::asked::{Job, JobFault};
 use crate::asm_words::options;
+use crate::par_words::parallel;
 use crate::program::program;
 use clap::ArgMatches;
 use clap::error::ErrorKind;
@@ -29,6 +30,9 @@ pub fn job<'a>(alloc: Global, words: &'a [&'a str]) -> Result<Job, JobFault>
     }
     if let Some(_) = matches.subcommand_matches("dis") {
         return Ok(Job::Dis);
+    }
+    if let Some(matches) = matches.subcommand_matches("par") {
+        return Ok(Job::Par(parallel(alloc, matches)?));
     }
     if let Some(_) = matches.subcommand_matches("replay") {
         return Ok(Job::Replay);
@@ -63,7 +67,7 @@ fn refusal(alloc: Global, error: &clap::Error) -> JobFault
 
 /// The fault of words with no command.
 fn no_command(alloc: Global) -> JobFault {
-    match format!(in alloc; "error: a command is needed: asm, check, dis or replay\n") {
+    match format!(in alloc; "error: a command is needed: asm, check, dis, par or replay\n") {
         Ok(text) => JobFault::Words(text),
         Err(_) => JobFault::OutOfMemory,
     }

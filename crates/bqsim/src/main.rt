@@ -46,7 +46,7 @@ fn main(rt: HostRuntime) -> ExitCode {
         Ok(job) => {
             let mut input = Counted::new(rt.stdin());
             let mut output = Counted::new(rt.stdout());
-            let outcome = perform(rt.alloc(), &job, &mut input, &mut output);
+            let outcome = perform(&rt, rt.alloc(), &job, &mut input, &mut output);
             if let Err(fault) = &outcome {
                 let _ = eprintln!(rt; "bqsim: {fault}");
             }

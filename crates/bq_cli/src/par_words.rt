@@ -1,0 +1,90 @@
+//! The options of `par` among its words.
+ghost use Rattle.std.specs.Prelude.{◌≡◌, ℕ, List, Option, Some, IfOk, IfErr, option_map, option_and_then};
+ghost use Rattle.std.specs.Borrow.{Bor};
+ghost use Rattle.clap.specs.Words.{found_of, rows_of};
+ghost use Rattle.bq_sizes.specs.Sizes.{rule_of};
+ghost use Rattle.bq_sizes.specs.declared.rule.Rule.{Rule as Way};
+ghost use Rattle.bq_sizes.specs.declared.size.Size.{Size as Many};
+ghost use Rattle.bq_cli.specs.declared.asked.Parallel.{Parallel as Asked};
+ghost use Rattle.bq_cli.specs.Jobs.{IsParallel, processors_of, ticks_of};
+
+use crate::asked::{JobFault, Parallel};
+use crate::asm_words::{refused, value};
+use bq_sizes::{Rule, Size};
+use bq_trace::numbers;
+use clap::ArgMatches;
+use std::alloc::Global;
+
+/// How often a processor may tick.
+const MOST: u64 = 1_000_000;
+
+/// The options of `par`. A value that names nothing is refused.
+pub(crate) fn parallel(alloc: Global, matches: &ArgMatches<'_>) -> Result<Parallel, JobFault>
+    ensures ok { IfOk result (IsParallel (rows_of (found_of matches.now))) }
+    ensures taken { IfErr result (λ e. (p : Asked) → IsParallel (rows_of (found_of matches.now)) p → e ≡ JobFault.OutOfMemory) }
+{
+    let rule = rule_in(alloc, value(matches, "rule"))?;
+    let size = size_in(alloc, value(matches, "processors"))?;
+    let ticks = ticks_in(alloc, value(matches, "ticks"))?;
+    Ok(Parallel { rule, size, ticks })
+}
+
+/// The rule that a word names.
+fn rule_in(alloc: Global, word: Option<&str>) -> Result<Rule, JobFault>
+    ensures ok { IfOk result (λ r. option_and_then rule_of (option_map (λ (w : Bor (List ℕ)). w.now) word.entry) ≡ Some r) }
+    ensures taken { IfErr result (λ e. (r : Way) → option_and_then rule_of (option_map (λ (w : Bor (List ℕ)). w.now) word.entry) ≡ Some r → e ≡ JobFault.OutOfMemory) }
+{
+    let Some(word) = word else {
+        return Err(refused(alloc, "rule", ""));
+    };
+    match Rule::of_word(word.as_bytes()) {
+        Some(rule) => Ok(rule),
+        None => Err(refused(alloc, "rule", word)),
+    }
+}
+
+/// The number of processors that a word names.
+fn size_in(alloc: Global, word: Option<&str>) -> Result<Size, JobFault>
+    ensures ok { IfOk result (λ s. option_and_then processors_of (option_map (λ (w : Bor (List ℕ)). w.now) word.entry) ≡ Some s) }
+    ensures taken { IfErr result (λ e. (s : Many) → option_and_then processors_of (option_map (λ (w : Bor (List ℕ)). w.now) word.entry) ≡ Some s → e ≡ JobFault.OutOfMemory) }
+{
+    let Some(word) = word else {
+        return Err(refused(alloc, "processors", ""));
+    };
+    match size_named(word.as_bytes()) {
+        Some(size) => Ok(size),
+        None => Err(refused(alloc, "processors", word)),
+    }
+}
+
+/// The size of so many processors, in decimal.
+fn size_named(word: &[u8]) -> Option<Size>
+    ensures { result ≡ processors_of word.now }
+{
+    Size::of_number(numbers::processor(word)?)
+}
+
+/// The number of ticks that a word names.
+fn ticks_in(alloc: Global, word: Option<&str>) -> Result<u32, JobFault>
+    ensures ok { IfOk result (λ n. option_and_then ticks_of (option_map (λ (w : Bor (List ℕ)). w.now) word.entry) ≡ Some n) }
+    ensures taken { IfErr result (λ e. (n : ℕ) → option_and_then ticks_of (option_map (λ (w : Bor (List ℕ)). w.now) word.entry) ≡ Some n → e ≡ JobFault.OutOfMemory) }
+{
+    let Some(word) = word else {
+        return Err(refused(alloc, "ticks", ""));
+    };
+    match ticks_named(word.as_bytes()) {
+        Some(ticks) => Ok(ticks),
+        None => Err(refused(alloc, "ticks", word)),
+    }
+}
+
+/// A number of ticks, in decimal.
+fn ticks_named(word: &[u8]) -> Option<u32>
+    ensures { result ≡ ticks_of word.now }
+{
+    let ticks = numbers::decimal(word)?;
+    if ticks > MOST {
+        return None;
+    }
+    Some(ticks as u32)
+}
