@@ -5,7 +5,7 @@ use Rattle.std.proofs.lemmas.Bool.Decides.{eqb_tells, nat_tests}
 use Rattle.std.proofs.lemmas.List.Elements.{filter-append, All-nil, All-push, All-head, All-tail, All-weaker}
 use Rattle.bq_disc.specs.OneProcessor.{reading}
 use Rattle.bq_schedule.specs.declared.slice.Slice.{Slice}
-use Rattle.bq_schedule.specs.Moments.{Moment, History}
+use Rattle.bq_schedule.specs.Moments.{History}
 use Rattle.bq_schedule.specs.Slices.{Sight, sight_of, clock_after, clock, runner, stretch, slice_shown, slices, is_at, StandApart, slices_at}
 
 -- slices that end by some time

@@ -1,8 +1,8 @@
 -- The clocks of a schedule, and who runs, are those of its history.
-use Rattle.std.proofs.Common.{◌≡◌, ◌≢◌, ℕ, ◌<◌, Bool, true, false, List, [], ◌∷◌, ◌++◌, length, get_or, Option, Some, None, Result, Ok, Err, refl, sym, ap, ◌∙◌, ◌⊎◌, inl, inr, get_or-set_same, get_or-set_other, eqb, ltb, cond, arith}
+use Rattle.std.proofs.Common.{◌≡◌, ◌≢◌, ℕ, ◌<◌, Bool, true, false, [], ◌∷◌, length, get_or, Option, Some, None, Result, Ok, Err, refl, sym, ap, ◌∙◌, ◌⊎◌, inl, inr, get_or-set_same, get_or-set_other, eqb, ltb, cond, arith}
 use Rattle.std.specs.Prelude.{unwrap_or, slice_set}
 use Rattle.std.proofs.lemmas.Bool.Decides.{eqb_tells, nat_tests}
-use Rattle.std.proofs.lemmas.List.{get_or-replicate, length-set, length-replicate}
+use Rattle.std.proofs.lemmas.List.{get_or-replicate, length-replicate}
 use Rattle.std.specs.Option.{option_map}
 use Rattle.bq_disc.specs.OneProcessor.{reading}
 use Rattle.bq_parts.specs.declared.event.Event.{Event}
@@ -16,14 +16,14 @@ use Rattle.bq_schedule.specs.declared.change.Start.{Start}
 use Rattle.bq_schedule.specs.declared.change.Left.TheVariants.{Preempted, Blocked}
 use Rattle.bq_schedule.specs.declared.figures.ProcessorFigures.{ProcessorFigures}
 use Rattle.bq_schedule.specs.Moments.{Moment, History}
-use Rattle.bq_schedule.specs.Figures.{Figures, opening, unread, processor_of, task_of}
+use Rattle.bq_schedule.specs.Figures.{Figures, opening, unread, processor_of}
 use Rattle.bq_schedule.specs.Passing.{read_at, processor_read}
 use Rattle.bq_schedule.specs.Standing.{leaves, comes}
 use Rattle.bq_schedule.specs.Running.{switched}
 use Rattle.bq_schedule.specs.Slices.{Sight, sight, sight_of, clock_after, clock, runner_after, runner}
-use Rattle.bq_schedule.specs.Steps.{asked, woken, taken, emptied, admitted, decided, placed, blocked, pulled, performed, time_at, is_there, after, figures}
+use Rattle.bq_schedule.specs.Steps.{asked, taken, emptied, decided, placed, blocked, pulled, performed, time_at, is_there, after, figures}
 use Rattle.bq_schedule.specs.Laws.{IsWithin, IsOf}
-use Rattle.bq_schedule.proofs.Frames.{Works, works, who, KeepsWorks, KeepsRunning, RunsAs, works-then, works-id, works-with_task, works-with_processor, works-asked, works-leaves, works-comes, works-taken, works-switched, running-then, running-id, running-with_task, running-with_processor, running-asked, running-leaves, running-comes, running-taken, running-read_at, runs-after, runs-before, runs-switched, count-read_at, processors-read_at}
+use Rattle.bq_schedule.proofs.Frames.{Works, who, KeepsWorks, KeepsRunning, RunsAs, works-then, works-id, works-with_task, works-with_processor, works-asked, works-leaves, works-comes, works-taken, works-switched, running-then, running-id, running-with_task, running-with_processor, running-asked, running-leaves, running-comes, running-taken, running-read_at, runs-after, runs-before, runs-switched, count-read_at, processors-read_at}
 
 -- what a reply does: the clock is read that it shows, and nothing else of the works changes; and it runs who it says
 abbrev pub Shows : Figures → Figures → Option Sight → Type 0

@@ -1,5 +1,5 @@
 -- What each move of a schedule leaves as it was. A processor's works are what only a reading of its clock changes.
-use Rattle.std.proofs.Common.{◌≡◌, ◌≢◌, ℕ, ◌+◌, ◌<◌, ◌≤◌, Bool, true, false, List, length, get_or, Option, Some, None, refl, sym, ap, ◌∙◌, ◌⊎◌, inl, inr, get_or-set_same, get_or-set_other, eqb, leb, cond, arith}
+use Rattle.std.proofs.Common.{◌≡◌, ◌≢◌, ℕ, ◌<◌, ◌≤◌, Bool, true, false, List, length, get_or, Option, Some, None, refl, sym, ap, ◌∙◌, ◌⊎◌, inl, inr, get_or-set_same, get_or-set_other, eqb, leb, cond, arith}
 use Rattle.std.proofs.lemmas.List.{set_past, length-set}
 use Rattle.std.proofs.lemmas.Bool.Decides.{eqb_tells, leb_tells, nat_tests}
 use Rattle.std.specs.Prelude.{slice_set}
@@ -16,8 +16,8 @@ use Rattle.bq_schedule.specs.declared.figures.ProcessorFigures.{ProcessorFigures
 use Rattle.bq_schedule.specs.Figures.{Figures, unread, unknown, processor_of, task_of, with_processor, with_task}
 use Rattle.bq_schedule.specs.Passing.{with_charged, read_at, processor_read}
 use Rattle.bq_schedule.specs.Standing.{left_from, leaves, joins, comes}
-use Rattle.bq_schedule.specs.Running.{stopped, started, begun, begun_if, starts_as, processor_runs, switched, is_run_by, with_latency}
-use Rattle.bq_schedule.specs.Steps.{processor_asked, asked, admitted, woken, waited_there, emptied, taken}
+use Rattle.bq_schedule.specs.Running.{stopped, started, begun_if, starts_as, processor_runs, switched, is_run_by, with_latency}
+use Rattle.bq_schedule.specs.Steps.{processor_asked, asked, waited_there, taken}
 
 -- a place of a list is set to what f cannot tell from what was there
 get_or-set_case : {X Y : Type 0} (f : X → Y) (xs : List X) (i j : ℕ) (y d : X) (b c : Bool) → f y ≡ f (get_or xs i d) →
@@ -120,7 +120,7 @@ works-leaves id s = works-left_from id s (task_of s id).place
 pub running-leaves : (id : ℕ) (s : Figures) → KeepsRunning s (leaves id s)
 running-leaves id s = running-left_from id s (task_of s id).place
 
-works-joins : (id cpu now : ℕ) (s : Figures) → KeepsWorks s (joins id cpu now s)
+pub works-joins : (id cpu now : ℕ) (s : Figures) → KeepsWorks s (joins id cpu now s)
 works-joins id cpu now s = works-then _ _ _ (works-with_processor s cpu _ refl) (works-with_task _ id _ refl)
 
 running-joins : (id cpu now : ℕ) (s : Figures) → KeepsRunning s (joins id cpu now s)

@@ -7,3 +7,6 @@ pub mod Apart
 pub mod Windows
 pub mod Wakes
 pub mod Purses
+pub mod Shares
+pub mod Comings
+pub mod Totals

@@ -1,5 +1,5 @@
 -- What each move of a schedule leaves of what tasks are given: where they are runnable, their weights, and what they have.
-use Rattle.std.proofs.Common.{◌≡◌, ◌≢◌, ℕ, ◌+◌, ◌-◌, ◌*◌, ◌<◌, ◌≤◌, Bool, true, false, List, [], ◌∷◌, length, get_or, Option, Some, None, refl, sym, ap, ◌∙◌, ◌⊎◌, inl, inr, eqb, cond, suc, subst, arith}
+use Rattle.std.proofs.Common.{◌≡◌, ℕ, ◌+◌, ◌-◌, ◌*◌, ◌<◌, ◌≤◌, Bool, true, false, List, [], ◌∷◌, length, get_or, Option, Some, None, refl, sym, ap, ◌∙◌, cond, suc, subst, arith}
 use Rattle.std.specs.List.{sum_by}
 use Rattle.std.proofs.lemmas.List.{length-set}
 use Rattle.std.proofs.lemmas.List.Sums.{sum_by-cons}
@@ -13,7 +13,7 @@ use Rattle.bq_schedule.specs.declared.figures.TaskFigures.{TaskFigures}
 use Rattle.bq_schedule.specs.declared.figures.ProcessorFigures.{ProcessorFigures}
 use Rattle.bq_schedule.specs.Figures.{Figures, unread, unknown, processor_of, task_of, with_processor, with_task}
 use Rattle.bq_schedule.specs.Running.{stopped, started, begun_if, starts_as, processor_runs, switched, is_run_by, with_latency}
-use Rattle.bq_schedule.specs.Steps.{processor_asked, asked, woken, waited_there, emptied}
+use Rattle.bq_schedule.specs.Steps.{processor_asked, asked}
 use Rattle.bq_schedule.specs.FairTimes.{is_place, weight_there, weights_at}
 use Rattle.bq_schedule.proofs.Frames.{processor_kept, task_kept}
 
@@ -95,7 +95,7 @@ kept-started : (cpu now : ℕ) (run : Option ℕ) (s : Figures) → KeepsPurses 
 kept-started cpu now run s =
     let e : processor_of (begun_if cpu now run s) cpu ≡ processor_of s cpu = ap (λ l. get_or l cpu unread) (processors-begun_if cpu now run s) in
     kept-then s (begun_if cpu now run s) _ (kept-begun_if cpu now run s)
-        (kept-with_processor (begun_if cpu now run s) cpu _ (pot-processor_runs (processor_of s cpu) (starts_as cpu now run s) ∙ ap pot (sym e)))
+    (kept-with_processor (begun_if cpu now run s) cpu _ (pot-processor_runs (processor_of s cpu) (starts_as cpu now run s) ∙ ap pot (sym e)))
 
 kept-switched_if : (b : Bool) (left : Left) (cpu now : ℕ) (run : Option ℕ) (s : Figures) →
     KeepsPurses s (cond b s (started cpu now run (stopped left now (processor_of s cpu).running s)))
@@ -141,7 +141,7 @@ abbrev pub JoinedBy : (ℕ → ℕ) → Purse → Option ℕ → Type 0
 JoinedBy shared u None = Unit {0}
 JoinedBy shared u (Some cpu) = u.joined ≤ shared cpu
 
-joined-more : (f g : ℕ → ℕ) (u : Purse) (o : Option ℕ) → ((j : ℕ) → f j ≤ g j) → JoinedBy f u o → JoinedBy g u o
+pub joined-more : (f g : ℕ → ℕ) (u : Purse) (o : Option ℕ) → ((j : ℕ) → f j ≤ g j) → JoinedBy f u o → JoinedBy g u o
 joined-more f g u None h e = tt
 joined-more f g u (Some cpu) h e = omega (arith, h cpu, e)
 
@@ -152,7 +152,7 @@ pub record IsSound (s : Figures) : Type 0 where
   pub table : (id : ℕ) → (task_of s id).weight ≤ 88761
   pub seats : length s.tasks ≡ 1024
 
-joined-same : (f : ℕ → ℕ) (u v : Purse) → u ≡ v → JoinedBy f v v.place → JoinedBy f u u.place
+pub joined-same : (f : ℕ → ℕ) (u v : Purse) → u ≡ v → JoinedBy f v v.place → JoinedBy f u u.place
 joined-same f u v e h = let P : Purse → Type 0 = λ w. JoinedBy f w w.place in subst P (sym e) h
 
 pub sound-kept : (s s' : Figures) → KeepsPurses s s' → IsSound s → IsSound s'

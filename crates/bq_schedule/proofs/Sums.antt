@@ -1,33 +1,26 @@
 -- The times of tasks and processors are the sums of their slices.
-use Rattle.std.proofs.Common.{◌≡◌, ◌≢◌, ℕ, ◌+◌, ◌-◌, ◌*◌, ◌<◌, ◌≤◌, min, Bool, true, false, List, [], ◌∷◌, ◌++◌, length, get_or, Option, Some, None, Result, Ok, Err, refl, sym, ap, ◌∙◌, ◌⊎◌, inl, inr, get_or-set_same, get_or-set_other, eqb, ltb, cond, append-nil, suc, arith}
+use Rattle.std.proofs.Common.{◌≡◌, ◌≢◌, ℕ, ◌+◌, ◌-◌, ◌<◌, ◌≤◌, Bool, true, false, List, [], ◌∷◌, ◌++◌, length, get_or, Option, Some, None, refl, sym, ap, ◌∙◌, ◌⊎◌, inl, inr, get_or-set_same, get_or-set_other, eqb, ltb, cond, append-nil, suc, arith}
 use Rattle.std.specs.Prelude.{slice_set, option_to_list, All}
 use Rattle.std.specs.List.{sum_by}
-use Rattle.std.specs.Option.{option_map}
-use Rattle.std.proofs.lemmas.Bool.Decides.{eqb_tells, nat_tests}
-use Rattle.std.proofs.lemmas.List.{get_or-replicate, length-set, length-replicate}
+use Rattle.std.proofs.lemmas.Bool.Decides.{eqb_tells}
+use Rattle.std.proofs.lemmas.List.{get_or-replicate, length-replicate}
 use Rattle.std.proofs.lemmas.List.Elements.{All-from_get_or}
 use Rattle.std.proofs.lemmas.List.Sums.{sum_by-cons, sum_by_push, sum_by-set, sum_by-le}
 use Rattle.bq_disc.specs.OneProcessor.{reading}
-use Rattle.bq_parts.specs.declared.event.Event.{Event}
-use Rattle.bq_parts.specs.declared.event.Event.TheVariants.{Admit, EndWake, Drain, Tick, Block, Pull}
-use Rattle.bq_parts.specs.declared.reply.Reply.{Reply}
-use Rattle.bq_parts.specs.declared.reply.Reply.TheVariants.{Admitted, Placed, Drained, Ticked, Blocked as Went, Pulled}
-use Rattle.bq_parts.specs.declared.refusal.Refusal.{Refusal}
 use Rattle.bq_schedule.specs.declared.slice.Slice.{Slice}
 use Rattle.bq_schedule.specs.declared.change.Start.{Start}
-use Rattle.bq_schedule.specs.declared.change.Change.{Change}
 use Rattle.bq_schedule.specs.declared.figures.ProcessorFigures.{ProcessorFigures}
 use Rattle.bq_schedule.specs.declared.figures.TaskFigures.{TaskFigures}
 use Rattle.bq_schedule.specs.Counts.{counted}
 use Rattle.bq_schedule.specs.Moments.{Moment, History}
-use Rattle.bq_schedule.specs.Figures.{Figures, opening, unread, unknown, processor_of, task_of, with_processor, with_task}
+use Rattle.bq_schedule.specs.Figures.{Figures, unread, unknown, processor_of, task_of, with_processor, with_task}
 use Rattle.bq_schedule.specs.Passing.{slice_between, slice_at, length_of, read_at, processor_read, with_charged, task_charged}
-use Rattle.bq_schedule.specs.Slices.{Sight, sight, sight_of, clock_after, clock, runner, stretch, slice_shown, slices, time_if, time_in, is_of, is_at}
-use Rattle.bq_schedule.specs.Steps.{performed_told, change, nothing, is_there, after, figures}
+use Rattle.bq_schedule.specs.Slices.{Sight, sight_of, clock_after, clock, slice_shown, slices, time_if, time_in, is_of, is_at}
+use Rattle.bq_schedule.specs.Steps.{after, figures}
 use Rattle.bq_schedule.specs.Laws.{IsWithin, IsOf}
-use Rattle.bq_schedule.proofs.Frames.{Works, works, KeepsWorks, tasks-read_at, processors-read_at, count-read_at}
+use Rattle.bq_schedule.proofs.Frames.{Works, KeepsWorks, tasks-read_at, processors-read_at}
 use Rattle.bq_schedule.proofs.Times.{slice_seen, shown-seen}
-use Rattle.bq_schedule.proofs.Clocks.{Shows, clocks, shows-after, count-figures, count-after, within-figures, processor-read_at}
+use Rattle.bq_schedule.proofs.Clocks.{Shows, clocks, shows-after, count-figures, within-figures, processor-read_at}
 
 -- what a slice is worth, if there is one
 abbrev pub worth : (Slice → Bool) → Option Slice → ℕ
@@ -121,7 +114,7 @@ clock-is-short cpu [] = omega arith
 clock-is-short cpu (m ∷ past) = short_after cpu (clock cpu past) (sight_of m.event m.answer) (clock-is-short cpu past)
 
 -- all clocks together stay below 2^64
-clocks-are-short : (count : ℕ) (past : History) → count ≤ 255 → IsOf count past → clocks_of (figures count past) ≤ 71776119061217025
+pub clocks-are-short : (count : ℕ) (past : History) → count ≤ 255 → IsOf count past → clocks_of (figures count past) ≤ 71776119061217025
 clocks-are-short count past few h =
     let s = figures count past in
     let all : All (λ (p : ProcessorFigures). last_of p ≤ 281474976710655) s.processors =

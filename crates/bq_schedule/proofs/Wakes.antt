@@ -1,5 +1,5 @@
 -- The wakes that figures show are those of the history.
-use Rattle.std.proofs.Common.{◌≡◌, ◌≢◌, ℕ, ◌-◌, ◌<◌, Bool, true, false, not, List, [], ◌∷◌, length, get_or, Option, Some, None, Result, Ok, Err, refl, sym, ap, ◌∙◌, ◌⊎◌, inl, inr, eqb, ltb, cond, get_or-set_same, get_or-set_other, subst, arith}
+use Rattle.std.proofs.Common.{◌≡◌, ◌≢◌, ℕ, ◌-◌, ◌<◌, Bool, true, false, not, [], ◌∷◌, length, get_or, Option, Some, None, Result, Ok, Err, refl, sym, ap, ◌∙◌, ◌⊎◌, inl, inr, eqb, ltb, cond, get_or-set_same, get_or-set_other, subst, arith}
 use Rattle.std.specs.Prelude.{slice_set, ◌&&◌}
 use Rattle.std.specs.Option.{option_map}
 use Rattle.std.proofs.lemmas.Bool.Decides.{eqb_tells, nat_tests}
@@ -18,17 +18,17 @@ use Rattle.bq_schedule.specs.declared.change.Left.{Left}
 use Rattle.bq_schedule.specs.declared.change.Left.TheVariants.{Preempted, Blocked}
 use Rattle.bq_schedule.specs.declared.figures.ProcessorFigures.{ProcessorFigures}
 use Rattle.bq_schedule.specs.declared.figures.TaskFigures.{TaskFigures}
-use Rattle.bq_schedule.specs.Moments.{Moment, History}
-use Rattle.bq_schedule.specs.Figures.{Figures, opening, unknown, processor_of, task_of, with_processor, with_task}
+use Rattle.bq_schedule.specs.Moments.{History}
+use Rattle.bq_schedule.specs.Figures.{Figures, unknown, processor_of, task_of, with_processor, with_task}
 use Rattle.bq_schedule.specs.Passing.{read_at, with_charged, processor_read, slice_at}
-use Rattle.bq_schedule.specs.Standing.{left_from, leaves, joins, comes}
-use Rattle.bq_schedule.specs.Running.{stopped, started, starts_as, start_of, start_at, begun, begun_if, switched, is_run_by, task_started, with_latency}
+use Rattle.bq_schedule.specs.Standing.{left_from, leaves, comes}
+use Rattle.bq_schedule.specs.Running.{stopped, started, starts_as, start_of, start_at, begun_if, switched, is_run_by}
 use Rattle.bq_schedule.specs.Slices.{Sight, sight, sight_of, clock, clock_after, runner}
 use Rattle.bq_schedule.specs.Wakes.{is_run, begins_as, begins, wake_end, awaited_after, awaited}
-use Rattle.bq_schedule.specs.Steps.{nothing, asked, admitted, woken, waited_there, emptied, taken, placed, decided, blocked, pulled, performed, performed_told, time_at, is_there, after, change, figures}
+use Rattle.bq_schedule.specs.Steps.{nothing, asked, waited_there, taken, placed, decided, blocked, pulled, performed, performed_told, time_at, is_there, after, change, figures}
 use Rattle.bq_schedule.specs.Laws.{IsWithin, IsOf, TellsLatencies}
 use Rattle.bq_schedule.proofs.Frames.{who, task_kept, running-asked, running-leaves, running-taken, running-read_at}
-use Rattle.bq_schedule.proofs.Clocks.{clocks, count-figures, within-figures, shows-after, last-shown}
+use Rattle.bq_schedule.proofs.Clocks.{clocks, within-figures}
 use Rattle.bq_schedule.proofs.Sums.{tasks-figures}
 
 -- what keeps which wakes are awaited
@@ -283,7 +283,7 @@ starts_if true left s t cpu now run start k r is e = cc
 starts_if false left s t cpu now run start k r is e =
     let u = stopped left (time_at cpu now s) (processor_of t cpu).running t in
     starts_by s u cpu now run start (both s t u k (kept-stopped left (time_at cpu now s) (processor_of t cpu).running t))
-        (ap (λ o. is_run_by o run) (sym r) ∙ is) e
+    (ap (λ o. is_run_by o run) (sym r) ∙ is) e
 
 starts : (left : Left) (s t : Figures) (cpu now : ℕ) (run : Option ℕ) (start : Start) → KeepsWakes s t → (processor_of t cpu).running ≡ (processor_of s cpu).running → start_at left cpu (time_at cpu now s) run t ≡ Some start →
     Starts s cpu now run start
@@ -325,10 +325,11 @@ latency-shown : (count : ℕ) (past : History) (o : Option Sight) (start : Start
     (begins start.task past o ≡ true) × (start.at ≡ clock_after start.processor (clock start.processor past) o) × (start.latency ≡ option_map (λ (woken : ℕ). start.at - woken) (awaited start.task past))
 latency-shown count past None start h w inside t = absurd t
 latency-shown count past (Some x) start h w inside t =
-    let c = clocks count past x.cpu h w in
-    (ap (λ r. begins_as start.task (runner x.cpu past) r) t.1 ∙ ap (λ y. begins_as start.task y (Some t.0)) (sym c.1) ∙ t.2.new,
-     t.2.reading ∙ ap (λ n. reading n x.now) c.0 ∙ sym (ap (λ j. clock_after j (clock j past) (Some x)) t.2.here ∙ clock-there x.cpu past x refl),
-     t.2.late ∙ ap (option_map (λ (woken : ℕ). start.at - woken)) (awaits count past start.task h inside))
+    let c = clocks count past x.cpu h w in (
+      ap (λ r. begins_as start.task (runner x.cpu past) r) t.1 ∙ ap (λ y. begins_as start.task y (Some t.0)) (sym c.1) ∙ t.2.new,
+      t.2.reading ∙ ap (λ n. reading n x.now) c.0 ∙ sym (ap (λ j. clock_after j (clock j past) (Some x)) t.2.here ∙ clock-there x.cpu past x refl),
+      t.2.late ∙ ap (option_map (λ (woken : ℕ). start.at - woken)) (awaits count past start.task h inside),
+    )
 
 pub tells_latencies : TellsLatencies
 tells_latencies count past m start h inside e =

@@ -1,21 +1,19 @@
 -- Slices and idle time fill the time from the first reading to the last.
-use Rattle.std.proofs.Common.{◌≡◌, ◌≢◌, ℕ, ◌+◌, ◌-◌, ◌<◌, ◌≤◌, Bool, true, false, List, [], ◌∷◌, length, get_or, Option, Some, None, refl, sym, ap, ◌∙◌, ◌⊎◌, inl, inr, eqb, ltb, cond, subst, arith}
-use Rattle.std.specs.Option.{option_map}
+use Rattle.std.proofs.Common.{◌≡◌, ◌≢◌, ℕ, ◌+◌, ◌<◌, ◌≤◌, Bool, true, false, [], ◌∷◌, length, Option, Some, None, refl, sym, ap, ◌∙◌, ◌⊎◌, inl, inr, eqb, ltb, cond, subst, arith}
 use Rattle.std.proofs.lemmas.Bool.Decides.{eqb_tells}
 use Rattle.std.proofs.lemmas.List.{get_or-replicate}
 use Rattle.bq_disc.specs.OneProcessor.{reading}
 use Rattle.bq_schedule.specs.declared.slice.Slice.{Slice}
 use Rattle.bq_schedule.specs.declared.change.Start.{Start}
 use Rattle.bq_schedule.specs.declared.figures.ProcessorFigures.{ProcessorFigures}
-use Rattle.bq_schedule.specs.Counts.{counted}
-use Rattle.bq_schedule.specs.Moments.{Moment, History}
+use Rattle.bq_schedule.specs.Moments.{History}
 use Rattle.bq_schedule.specs.Figures.{Figures, unread, processor_of}
 use Rattle.bq_schedule.specs.Passing.{slice_between, slice_at, length_of, passed, processor_read, read_at, idle_of}
-use Rattle.bq_schedule.specs.Slices.{Sight, sight_of, slices, time_in, is_at}
+use Rattle.bq_schedule.specs.Slices.{Sight, sight_of}
 use Rattle.bq_schedule.specs.Steps.{after, figures}
 use Rattle.bq_schedule.specs.Laws.{IsOf, window_since, FillsWindow}
-use Rattle.bq_schedule.proofs.Frames.{Works, works, who, RunsAs}
-use Rattle.bq_schedule.proofs.Clocks.{Shows, clocks, shows-after, count-figures, within-figures, processor-read_at}
+use Rattle.bq_schedule.proofs.Frames.{Works, works, RunsAs}
+use Rattle.bq_schedule.proofs.Clocks.{Shows, shows-after, count-figures, within-figures, processor-read_at}
 use Rattle.bq_schedule.proofs.Sums.{busy}
 
 -- nothing ran before the first reading, and since then no more than the clock rose
@@ -83,7 +81,7 @@ filled-shown : (s s' : Figures) (o : Option Sight) (j : ℕ) → j < length s.pr
 filled-shown s s' None j inside h f = same_works (processor_of s j) (processor_of s' j) (h.0.at j) (h.1.at j) f
 filled-shown s s' (Some x) j inside h f = filled-there s s' x j (eqb x.cpu j) refl inside h f (eqb_tells x.cpu j)
 
-filled : (count : ℕ) (past : History) (cpu : ℕ) → IsOf count past → cpu < count → Filled (processor_of (figures count past) cpu)
+pub filled : (count : ℕ) (past : History) (cpu : ℕ) → IsOf count past → cpu < count → Filled (processor_of (figures count past) cpu)
 filled count [] cpu h inside =
     let P : ProcessorFigures → Type 0 = λ p. Filled p in
     subst P (sym (get_or-replicate count cpu unread unread inside)) (refl, refl)

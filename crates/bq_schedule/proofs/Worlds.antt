@@ -6,7 +6,7 @@ use Rattle.std.proofs.lemmas.Bool.Decides.{eqb_tells, nat_tests}
 use Rattle.std.proofs.lemmas.List.{get_or-replicate, length-set, length-replicate}
 use Rattle.bq_disc.specs.Tasks.{Task, id_of, with_id}
 use Rattle.bq_disc.specs.Discipline.{Discipline, charged, next_of}
-use Rattle.bq_disc.specs.OneProcessor.{Running, reading, charge, marked, run_id, start, exchanged, switched, decided, enter_all}
+use Rattle.bq_disc.specs.OneProcessor.{Running, reading, charge, run_id, exchanged, decided, enter_all}
 use Rattle.bq_maps.specs.declared.board.Call.{Call as Asked}
 use Rattle.bq_parts.specs.declared.event.Event.{Event}
 use Rattle.bq_parts.specs.declared.event.Event.TheVariants.{Admit, Retire, Draw, Install, BeginWake, EndWake, Drain, Tick, Block, Pull}
@@ -17,12 +17,12 @@ use Rattle.bq_parts.specs.declared.refusal.Refusal.TheVariants as no
 use Rattle.bq_parts.specs.Processors.{Processor, opening}
 use Rattle.bq_parts.specs.World.{World, opening_world, processor, count_in, with_processor}
 use Rattle.bq_parts.specs.Refusals.{refusal, argument_refusal, state_refusal, either}
-use Rattle.bq_parts.specs.Moves.{after_leaving, with_pulled, started_if_idle, without_task, taken_from}
-use Rattle.bq_parts.specs.Choices.{Setting, Settled, decided_by}
+use Rattle.bq_parts.specs.Moves.{with_pulled, started_if_idle, without_task, taken_from}
+use Rattle.bq_parts.specs.Choices.{Setting}
 use Rattle.bq_parts.specs.Steps.{Performs, WorldStep, WorldRun, charged_at, source_at}
 use Rattle.bq_core.specs.Laws.{under_any_answers}
 use Rattle.bq_core.proofs.Order.{there, passed}
-use Rattle.bq_schedule.specs.Moments.{Moment, History}
+use Rattle.bq_schedule.specs.Moments.{History}
 use Rattle.bq_schedule.specs.Slices.{Sight, sight, sight_of, clock_after, clock, runner_after, runner}
 use Rattle.bq_schedule.specs.Laws.{IsWithin, IsOf, grown, IsCharged}
 use Rattle.bq_schedule.proofs.Frames.{get_or-set_like}

@@ -1,5 +1,5 @@
 -- The laws of schedules.
-use Rattle.std.specs.Prelude.{◌≡◌, ℕ, ◌+◌, ◌-◌, ◌*◌, ◌<◌, ◌≤◌, true, All, List, [], ◌∷◌, ◌++◌, length, Option, Some, None, Result, option_to_list}
+use Rattle.std.specs.Prelude.{◌≡◌, ℕ, ◌+◌, ◌-◌, ◌*◌, ◌<◌, ◌≤◌, true, All, List, [], ◌∷◌, ◌++◌, Option, Some, None, Result, option_to_list}
 use Rattle.std.specs.Option.{option_map}
 use Rattle.bq_disc.specs.Tasks.{id_of}
 use Rattle.bq_disc.specs.Discipline.{Discipline}
@@ -11,16 +11,15 @@ use Rattle.bq_parts.specs.World.{World, opening_world, processor}
 use Rattle.bq_parts.specs.Steps.{WorldRun}
 use Rattle.bq_core.specs.Laws.{under_any_answers}
 use Rattle.bq_schedule.specs.declared.change.Start.{Start}
-use Rattle.bq_schedule.specs.declared.slice.Slice.{Slice}
 use Rattle.bq_schedule.specs.Moments.{Moment, History}
-use Rattle.bq_schedule.specs.Figures.{Figures, processor_of, task_of}
+use Rattle.bq_schedule.specs.Figures.{processor_of, task_of}
 use Rattle.bq_schedule.specs.Counts.{parts}
 use Rattle.bq_schedule.specs.Passing.{idle_of, part_of}
 use Rattle.bq_schedule.specs.Standing.{fair_of}
 use Rattle.bq_schedule.specs.FairTimes.{share, all_fair, all_unshared, all_busy}
 use Rattle.bq_schedule.specs.Slices.{Sight, sight_of, clock, runner, slices, time_in, is_of, is_at, StandApart, slices_at}
 use Rattle.bq_schedule.specs.Wakes.{begins, awaited}
-use Rattle.bq_schedule.specs.Steps.{after, change, figures}
+use Rattle.bq_schedule.specs.Steps.{change, figures}
 
 -- what is shown is of a processor that is there
 abbrev pub IsWithin : ℕ → Option Sight → Type 0

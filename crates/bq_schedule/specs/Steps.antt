@@ -1,5 +1,5 @@
 -- What each moment changes: in the figures, and as it is told.
-use Rattle.std.specs.Prelude.{ℕ, ◌+◌, ◌-◌, ℤ, true, false, Bool, ◌==◌, ◌||◌, ◌&&◌, not, nat_lt, List, [], ◌∷◌, length, Option, Some, None, Result, Ok, Err, if◌then◌else◌}
+use Rattle.std.specs.Prelude.{ℕ, ◌-◌, ℤ, true, false, Bool, ◌||◌, ◌&&◌, not, nat_lt, [], ◌∷◌, length, Option, Some, None, Result, Ok, Err, if◌then◌else◌}
 use Rattle.std.specs.Option.{option_map}
 use Rattle.bq_weights.specs.VirtualTime.{weight_of}
 use Rattle.bq_hooks.specs.declared.settled.By.{By}
@@ -15,15 +15,12 @@ use Rattle.bq_parts.specs.declared.reply.Reply.{Reply}
 use Rattle.bq_parts.specs.declared.reply.Reply.TheVariants.{Admitted, Placed, Drained, Ticked, Blocked as Went, Pulled}
 use Rattle.bq_schedule.specs.declared.change.Change.{Change}
 use Rattle.bq_schedule.specs.declared.change.Decision.{Decision}
-use Rattle.bq_schedule.specs.declared.change.Wake.{Wake}
 use Rattle.bq_schedule.specs.declared.change.Moved.{Moved}
-use Rattle.bq_schedule.specs.declared.change.Left.{Left}
 use Rattle.bq_schedule.specs.declared.change.Left.TheVariants.{Preempted, Blocked}
-use Rattle.bq_schedule.specs.declared.figures.TaskFigures.{TaskFigures}
 use Rattle.bq_schedule.specs.declared.figures.ProcessorFigures.{ProcessorFigures}
 use Rattle.bq_schedule.specs.declared.figures.HookFigures.{HookFigures}
 use Rattle.bq_schedule.specs.Counts.{counted}
-use Rattle.bq_schedule.specs.Moments.{Moment, History}
+use Rattle.bq_schedule.specs.Moments.{History}
 use Rattle.bq_schedule.specs.Figures.{Figures, opening, processor_of, task_of, with_processor, with_task}
 use Rattle.bq_schedule.specs.Passing.{reading_at, slice_at, ended_run, read_at}
 use Rattle.bq_schedule.specs.Standing.{leaves, comes}

@@ -1,12 +1,12 @@
 -- Which wakes still wait for their task to run.
-use Rattle.std.specs.Prelude.{ℕ, Bool, true, false, not, ◌==◌, ◌&&◌, List, [], ◌∷◌, Option, Some, None, Result, Ok, Err, if◌then◌else◌}
+use Rattle.std.specs.Prelude.{ℕ, Bool, false, not, ◌==◌, ◌&&◌, [], ◌∷◌, Option, Some, None, Result, Ok, if◌then◌else◌}
 use Rattle.bq_disc.specs.OneProcessor.{reading}
 use Rattle.bq_parts.specs.declared.event.Event.{Event}
 use Rattle.bq_parts.specs.declared.event.Event.TheVariants.{EndWake}
 use Rattle.bq_parts.specs.declared.reply.Reply.{Reply}
 use Rattle.bq_parts.specs.declared.reply.Reply.TheVariants.{Placed}
 use Rattle.bq_parts.specs.declared.refusal.Refusal.{Refusal}
-use Rattle.bq_schedule.specs.Moments.{Moment, History}
+use Rattle.bq_schedule.specs.Moments.{History}
 use Rattle.bq_schedule.specs.Slices.{Sight, sight_of, clock, runner}
 
 -- that task runs

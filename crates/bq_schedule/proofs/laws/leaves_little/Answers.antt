@@ -1,8 +1,6 @@
-use Rattle.std.proofs.Common.{◌≡◌, ℕ, ◌+◌, ◌-◌, ◌*◌, ◌<◌, ◌/◌, ◌%◌, arith}
+use Rattle.std.proofs.Common.{ℕ, ◌-◌, ◌*◌, ◌<◌, ◌/◌, ◌%◌, arith}
 use Rattle.std.proofs.Math.Nat.{div-add-mod}
 use Rattle.bq_schedule.specs.Counts.{parts}
-use Rattle.bq_schedule.specs.Passing.{part_of}
-use Rattle.bq_schedule.proofs.Purses.{sound-kept}
 use Rattle.bq_schedule.proofs.laws.leaves_little.Goals as goal
 
 rest : (n weight : ℕ) → 0 < weight → n - weight * (n / weight) < weight

@@ -1,4 +1,4 @@
-use Rattle.std.proofs.Common.{◌≡◌, ◌∙◌, ℕ, ap, arith, List, replicate}
+use Rattle.std.proofs.Common.{◌≡◌, ◌∙◌, ap, arith, List, replicate}
 use Rattle.bq_schedule.specs.declared.figures.ProcessorFigures.{ProcessorFigures}
 use Rattle.bq_schedule.specs.declared.figures.TaskFigures.{TaskFigures}
 use Rattle.bq_schedule.specs.Figures.{Figures, unread, unknown}

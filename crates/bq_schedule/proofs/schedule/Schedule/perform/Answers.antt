@@ -1,4 +1,4 @@
-use Rattle.std.proofs.Common.{◌≡◌, ◌∙◌, ap}
+use Rattle.std.proofs.Common.{◌∙◌, ap}
 use Rattle.bq_schedule.specs.Steps.{emptied, decided}
 use Rattle.bq_schedule.specs.declared.change.Decision.{Decision}
 use Rattle.bq_schedule.proofs.schedule.Schedule.perform.Goals as goal
