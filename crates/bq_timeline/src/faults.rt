@@ -118,7 +118,7 @@ pub enum Fault<'a> {
 }
 
 /// Why a bad line is bad; nothing is heard of one that is too long. `is_open` says whether the machine is made.
-pub fn fault(line: Option<&[u8]>, is_open: bool) -> Fault<'_> {
+pub fn why_bad(line: Option<&[u8]>, is_open: bool) -> Fault<'_> {
     let Some(line) = line else {
         return Fault::TooLong;
     };
@@ -159,15 +159,20 @@ fn word_fault<'a>(name: &'a [u8], operands: &'a [u8], kinds: &[Kind]) -> Option<
 }
 
 /// A word of a line, cut where it is long.
+#[derive(Clone, Copy)]
 struct Quoted<'a>(&'a [u8]);
+
+/// A word, or the beginning of a long one.
+fn beginning(word: &[u8]) -> &[u8] {
+    match word.chunks(40).next() {
+        Some(first) => first,
+        None => word,
+    }
+}
 
 impl fmt::Display for Quoted<'_> {
     fn fmt<W: fmt::Write>(&self, f: &mut fmt::Formatter<W>) -> fmt::Result {
-        let word = if self.0.len() > 40 {
-            &self.0[..40]
-        } else {
-            self.0
-        };
+        let word = beginning(self.0);
         match str::from_utf8(word) {
             Ok(word) => write!(f, "{word}"),
             Err(_) => Ok(()),

@@ -9,6 +9,8 @@ pub enum FormName {
     Why,
     Csv,
     Json,
+    Svg,
+    Perfetto,
 }
 
 impl FormName {
@@ -21,6 +23,8 @@ impl FormName {
             "why" => Some(FormName::Why),
             "csv" => Some(FormName::Csv),
             "json" => Some(FormName::Json),
+            "svg" => Some(FormName::Svg),
+            "perfetto" => Some(FormName::Perfetto),
             _ => None,
         }
     }
@@ -29,7 +33,7 @@ impl FormName {
     pub fn has_notes(self) -> bool {
         match self {
             FormName::Report | FormName::Map | FormName::Timehist | FormName::Why => true,
-            FormName::Csv | FormName::Json => false,
+            FormName::Csv | FormName::Json | FormName::Svg | FormName::Perfetto => false,
         }
     }
 }

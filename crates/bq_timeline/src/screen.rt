@@ -1,6 +1,6 @@
 //! What is written of a trace: the form, with notes on its lines where a person reads it, and what goes to standard error.
 
-use crate::faults::fault;
+use crate::faults::why_bad;
 use crate::happenings::{Because, InWords};
 use crate::settings::Settings;
 use crate::shown::Shown;
@@ -131,7 +131,7 @@ impl Screen {
         line: Option<&[u8]>,
         is_open: bool,
     ) -> Result<(), AllocError> {
-        let fault = fault(line, is_open);
+        let fault = why_bad(line, is_open);
         write!(self.notes(), "line {number}: {fault}\n")
     }
 
@@ -155,17 +155,5 @@ impl Screen {
             write!(&mut self.notes, "lines bad or refused: {troubles}\n")?;
         }
         Ok(())
-    }
-
-    /// What goes to standard error.
-    pub fn into_notes(self) -> String {
-        let Screen {
-            names: _,
-            shown: _,
-            has_notes: _,
-            text: _,
-            notes,
-        } = self;
-        notes
     }
 }

@@ -37,7 +37,7 @@ pub struct Settings {
 #[derive(Clone, Copy, Debug, PartialEq, Eq, Error)]
 pub enum SettingsFault {
     /// No form has that name.
-    #[error("--as: a form is report, map, timehist, why, csv or json")]
+    #[error("--as: a form is report, map, timehist, why, svg, perfetto, csv or json")]
     Form,
     /// That is no time.
     #[error("--from: a time is a number with ns, us, ms or s, as 1500, 1.5ms or 2s")]

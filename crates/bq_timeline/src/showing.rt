@@ -1,7 +1,7 @@
 //! A timeline of a whole trace, from any reader to any writer.
 ghost use Rattle.std.specs.Prelude.{◌≡◌, ℕ, IfErr, OnOk};
 ghost use Rattle.bq_trace.specs.Counts.{inner_of, calls_of, failures_of};
-ghost use Rattle.bq_trace.specs.Faults.{IsFault};
+ghost use Rattle.bq_trace.specs.Faults.{IsFault, IsWriteFault};
 
 use crate::settings::Settings;
 use crate::viewer::Viewer;
@@ -39,24 +39,68 @@ pub fn show<R: Read, W: Write>(
     ensures fault { IfErr result (λ e. IsFault e (failures_of input.old) (failures_of input.new)
         (failures_of output.old) (failures_of output.new) (calls_of input.old) (calls_of input.new)) }
 {
-    let mut standing = Standing::new(alloc);
-    let mut viewer = Viewer::new(alloc, settings);
+    let mut turns = Turns::new(alloc, settings);
     let mut piece = [0u8; PIECE];
     for _ in 0..READS {
         let count = input.read(&mut piece)?;
         if count == 0 {
-            standing.end(alloc, &mut viewer)?;
-            viewer.end()?;
-            output.write_text(viewer.screen.text.as_bytes())?;
-            let clean = viewer.troubles == 0;
-            return Ok(Outcome {
-                clean,
-                notes: viewer.into_notes(),
-            });
+            return turns.finish(output);
         }
-        standing.go_on(alloc, &piece[..count], &mut viewer)?;
-        output.write_text(viewer.screen.text.as_bytes())?;
-        viewer.screen.text.clear();
+        turns.feed(&piece[..count], output)?;
     }
     Err(ReplayFault::TooLong)
+}
+
+/// A timeline of the pieces so far.
+struct Turns {
+    alloc: Global,
+    standing: Standing,
+    viewer: Viewer,
+}
+
+// Written out, so that letting it go is one call.
+impl Drop for Turns {
+    fn drop(self) {
+        let Turns {
+            alloc: _,
+            standing: _standing,
+            viewer: _viewer,
+        } = self;
+    }
+}
+
+impl Turns {
+    fn new(alloc: Global, settings: Settings) -> Turns {
+        Turns {
+            alloc,
+            standing: Standing::new(alloc),
+            viewer: Viewer::new(alloc, settings),
+        }
+    }
+
+    /// Takes a piece, and writes what is ripe.
+    fn feed<W: Write>(&mut self, piece: &[u8], output: &mut Counted<W>) -> Result<(), ReplayFault>
+        ensures kept { OnOk result (failures_of output.new ≡ failures_of output.old) }
+        ensures fault { IfErr result (λ e. IsWriteFault e (failures_of output.old) (failures_of output.new)) }
+    {
+        self.standing.go_on(self.alloc, piece, &mut self.viewer)?;
+        output.write_text(self.viewer.screen.text.as_bytes())?;
+        self.viewer.screen.text.clear();
+        Ok(())
+    }
+
+    /// The trace is over: writes what is left.
+    fn finish<W: Write>(&mut self, output: &mut Counted<W>) -> Result<Outcome, ReplayFault>
+        ensures kept { OnOk result (failures_of output.new ≡ failures_of output.old) }
+        ensures fault { IfErr result (λ e. IsWriteFault e (failures_of output.old) (failures_of output.new)) }
+    {
+        self.standing.end(self.alloc, &mut self.viewer)?;
+        self.viewer.end()?;
+        output.write_text(self.viewer.screen.text.as_bytes())?;
+        let notes = self.viewer.screen.notes.clone()?;
+        Ok(Outcome {
+            clean: self.viewer.troubles == 0,
+            notes,
+        })
+    }
 }

@@ -4,6 +4,7 @@ use crate::form_names::FormName;
 use crate::settings::Settings;
 use crate::why_text::Why;
 use bq_forms::{Csv, Form, Json, Map, Names, Report, Timehist};
+use bq_pictures::{Perfetto, Svg};
 use bq_schedule::{Change, Schedule};
 use std::alloc::{AllocError, Global};
 
@@ -15,6 +16,8 @@ pub enum Shown {
     Timehist(Timehist),
     Csv(Csv),
     Json(Json),
+    Svg(Svg),
+    Perfetto(Perfetto),
     /// It is written from the machine itself, choice by choice.
     Why(Why),
 }
@@ -33,6 +36,8 @@ impl Shown {
             FormName::Timehist => Shown::Timehist(Timehist::new(window)),
             FormName::Csv => Shown::Csv(Csv::new(alloc, window)),
             FormName::Json => Shown::Json(Json::new(alloc, window)),
+            FormName::Svg => Shown::Svg(Svg::new(alloc, window)),
+            FormName::Perfetto => Shown::Perfetto(Perfetto::new(alloc, window)),
             FormName::Why => Shown::Why(Why::new(alloc, window)),
         }
     }
@@ -50,6 +55,8 @@ impl Shown {
             Shown::Timehist(form) => form.begin(schedule, names, text),
             Shown::Csv(form) => form.begin(schedule, names, text),
             Shown::Json(form) => form.begin(schedule, names, text),
+            Shown::Svg(form) => form.begin(schedule, names, text),
+            Shown::Perfetto(form) => form.begin(schedule, names, text),
             Shown::Why(_) => Ok(()),
         }
     }
@@ -68,6 +75,8 @@ impl Shown {
             Shown::Timehist(form) => form.take(change, schedule, names, text),
             Shown::Csv(form) => form.take(change, schedule, names, text),
             Shown::Json(form) => form.take(change, schedule, names, text),
+            Shown::Svg(form) => form.take(change, schedule, names, text),
+            Shown::Perfetto(form) => form.take(change, schedule, names, text),
             Shown::Why(_) => Ok(()),
         }
     }
@@ -85,6 +94,8 @@ impl Shown {
             Shown::Timehist(form) => form.end(schedule, names, text),
             Shown::Csv(form) => form.end(schedule, names, text),
             Shown::Json(form) => form.end(schedule, names, text),
+            Shown::Svg(form) => form.end(schedule, names, text),
+            Shown::Perfetto(form) => form.end(schedule, names, text),
             Shown::Why(_) => Ok(()),
         }
     }

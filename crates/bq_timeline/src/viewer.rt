@@ -43,19 +43,6 @@ impl Viewer {
     }
 }
 
-impl Viewer {
-    /// What goes to standard error.
-    pub fn into_notes(self) -> String {
-        let Viewer {
-            alloc: _,
-            schedule: _,
-            troubles: _,
-            screen,
-        } = self;
-        screen.into_notes()
-    }
-}
-
 impl Sink for Viewer {
     ghost takes = { λ old n news new. (new.schedule ≡ watched old.schedule news) × (new.troubles ≡ troubled old.troubles news) };
 

@@ -15,6 +15,7 @@ use std::alloc::{AllocError, Global};
 const GRANULARITY: u64 = 1_000_000;
 
 /// A choice of the task that runs at a processor.
+#[derive(Clone, Copy)]
 struct Choice {
     processor: u8,
     run: Option<u16>,

@@ -1,0 +1,11 @@
+use Rattle.std.proofs.Common.{◌≡◌}
+use Rattle.bq_trace.specs.Counts.{calls_of, failures_of, HasCounted}
+use Rattle.bq_timeline.proofs.showing.show.Given as goal
+
+-- nothing has failed, and each turn was a read
+abbrev pub invariant-loop : goal.invariant-loop
+invariant-loop g l = record {
+  reads : failures_of l.input ≡ failures_of l.initial.input;
+  writes : failures_of l.output ≡ failures_of l.initial.output;
+  calls : HasCounted l.counter (calls_of l.initial.input) (calls_of l.input);
+}
