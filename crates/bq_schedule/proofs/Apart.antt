@@ -32,7 +32,7 @@ filter-one_if : (y : Slice) (b : Bool) → cond b (y ∷ []) [] ≡ option_to_li
 filter-one_if y true = refl
 filter-one_if y false = refl
 
-filter-one : (cpu : ℕ) (o : Option Slice) → filter (is_at cpu) (option_to_list o) ≡ option_to_list (at_only cpu o)
+pub filter-one : (cpu : ℕ) (o : Option Slice) → filter (is_at cpu) (option_to_list o) ≡ option_to_list (at_only cpu o)
 filter-one cpu None = refl
 filter-one cpu (Some y) = filter-one_if y (is_at cpu y)
 

@@ -10,3 +10,4 @@ pub mod Purses
 pub mod Shares
 pub mod Comings
 pub mod Totals
+pub mod Runs

@@ -1,5 +1,5 @@
 -- The laws of schedules.
-use Rattle.std.specs.Prelude.{◌≡◌, ℕ, ◌+◌, ◌-◌, ◌*◌, ◌<◌, ◌≤◌, true, All, List, [], ◌∷◌, ◌++◌, Option, Some, None, Result, option_to_list}
+use Rattle.std.specs.Prelude.{◌≡◌, ℕ, ◌+◌, ◌-◌, ◌*◌, ◌<◌, ◌≤◌, true, All, List, [], ◌∷◌, ◌++◌, Option, Some, None, Result, option_to_list, ◌==◌, if◌then◌else◌}
 use Rattle.std.specs.Option.{option_map}
 use Rattle.bq_disc.specs.Tasks.{id_of}
 use Rattle.bq_disc.specs.Discipline.{Discipline}
@@ -10,6 +10,7 @@ use Rattle.bq_parts.specs.declared.refusal.Refusal.{Refusal}
 use Rattle.bq_parts.specs.World.{World, opening_world, processor}
 use Rattle.bq_parts.specs.Steps.{WorldRun}
 use Rattle.bq_core.specs.Laws.{under_any_answers}
+use Rattle.bq_schedule.specs.declared.slice.Slice.{Slice}
 use Rattle.bq_schedule.specs.declared.change.Start.{Start}
 use Rattle.bq_schedule.specs.Moments.{Moment, History}
 use Rattle.bq_schedule.specs.Figures.{processor_of, task_of}
@@ -17,7 +18,7 @@ use Rattle.bq_schedule.specs.Counts.{parts}
 use Rattle.bq_schedule.specs.Passing.{idle_of, part_of}
 use Rattle.bq_schedule.specs.Standing.{fair_of}
 use Rattle.bq_schedule.specs.FairTimes.{share, all_fair, all_unshared, all_busy}
-use Rattle.bq_schedule.specs.Slices.{Sight, sight_of, clock, runner, slices, time_in, is_of, is_at, StandApart, slices_at}
+use Rattle.bq_schedule.specs.Slices.{Sight, sight_of, clock, runner, slices, time_in, is_of, is_at, StandApart, slices_at, runs}
 use Rattle.bq_schedule.specs.Wakes.{begins, awaited}
 use Rattle.bq_schedule.specs.Steps.{change, figures}
 
@@ -101,3 +102,18 @@ AddsUpFairTimes = (count : ℕ) (past : History) → count ≤ 255 → IsOf coun
 -- of a slice less is left over than there is weight
 abbrev pub LeavesLittle : Type 0
 LeavesLittle = (time weight : ℕ) → 0 < weight → time * parts - weight * part_of time weight < weight
+
+-- the runs that were told of a processor, in their order
+abbrev pub told_if : ℕ → Option Sight → Option Slice → List Slice
+told_if cpu None run = []
+told_if cpu (Some s) run = if s.cpu == cpu then option_to_list run else []
+
+abbrev pub told_runs : ℕ → ℕ → History → List Slice
+told_runs count cpu [] = []
+told_runs count cpu (m ∷ past) =
+    told_runs count cpu past ++ told_if cpu (sight_of m.event m.answer) (change (figures count past) m.event m.answer).run
+
+-- they and the last one, which may go on, are the runs that the slices there make
+abbrev pub TellsRuns : Type 0
+TellsRuns = (count : ℕ) (past : History) (cpu : ℕ) → IsOf count past → cpu < count →
+    told_runs count cpu past ++ option_to_list (processor_of (figures count past) cpu).run ≡ runs (slices_at cpu past)

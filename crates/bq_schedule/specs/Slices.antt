@@ -9,6 +9,7 @@ use Rattle.bq_parts.specs.declared.reply.Reply.TheVariants.{Placed, Drained, Tic
 use Rattle.bq_parts.specs.declared.refusal.Refusal.{Refusal}
 use Rattle.bq_schedule.specs.declared.slice.Slice.{Slice}
 use Rattle.bq_schedule.specs.Moments.{History}
+use Rattle.bq_schedule.specs.Passing.{goes_on}
 
 -- what an answer shows of a processor: what was read of its clock, and who runs there from then on, where that is told
 pub record Sight : Type 0 where
@@ -84,3 +85,12 @@ StandApart (s ∷ xs) = (s.from < s.to) × All (λ next. s.to ≤ next.from) xs 
 -- those of one processor
 abbrev pub slices_at : ℕ → History → List Slice
 slices_at cpu past = filter (is_at cpu) (slices past)
+
+-- slices that touch are one run, as long as they are of one task
+abbrev pub joined : Slice → List Slice → List Slice
+joined s [] = s ∷ []
+joined s (r ∷ rs) = if goes_on s r then record s { to = r.to } ∷ rs else s ∷ r ∷ rs
+
+abbrev pub runs : List Slice → List Slice
+runs [] = []
+runs (s ∷ xs) = joined s (runs xs)

@@ -1,5 +1,5 @@
 //! The laws of schedules, each as the contract of a function that does nothing.
-ghost use Rattle.bq_schedule.specs.Laws.{AddsUpFairTimes, AddsUpSlices, FillsWindow, IsCharged, LeavesLittle, SharesOut, ShowsClocks, SlicesStandApart, TellsLatencies, TellsSlices};
+ghost use Rattle.bq_schedule.specs.Laws.{AddsUpFairTimes, AddsUpSlices, FillsWindow, IsCharged, LeavesLittle, SharesOut, ShowsClocks, SlicesStandApart, TellsLatencies, TellsRuns, TellsSlices};
 
 /// A schedule shows each processor's last reading, and who runs there.
 pub fn shows_clocks()
@@ -52,4 +52,10 @@ pub fn adds_up_fair_times()
 /// Of a slice fewer parts are left over than there are units of weight.
 pub fn leaves_little()
     ensures { LeavesLittle }
+{}
+
+/// The runs that are told of a processor, with the last one, which may go on, are what its slices make where each is joined to
+/// the one that goes on from it.
+pub fn tells_runs()
+    ensures { TellsRuns }
 {}

@@ -1,0 +1,5 @@
+use Rattle.bq_schedule.proofs.Runs as Runs
+use Rattle.bq_schedule.proofs.laws.tells_runs.Goals as goal
+
+pub returns : goal.returns
+returns c = Runs.tells_runs
