@@ -2,15 +2,18 @@
 
 use std::fmt;
 
-/// A text as XML writes it. A character that XML can't hold is shown as `?`.
+/// A text as XML writes it, cut after so many characters. A character that XML can't hold is shown as `?`.
 ///
 /// `a<b` is `a&lt;b`.
 #[derive(Clone, Copy)]
-pub struct Escaped<'a>(pub &'a str);
+pub struct Escaped<'a> {
+    pub text: &'a str,
+    pub most: usize,
+}
 
 impl fmt::Display for Escaped<'_> {
     fn fmt<W: fmt::Write>(&self, f: &mut fmt::Formatter<W>) -> fmt::Result {
-        for c in self.0.chars() {
+        for c in self.text.chars().take(self.most) {
             match c {
                 '&' => write!(f, "&amp;")?,
                 '<' => write!(f, "&lt;")?,

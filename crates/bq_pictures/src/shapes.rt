@@ -17,6 +17,9 @@ const PAGE: u64 = LEFT + WIDTH + 24;
 /// How many tasks stand in a line of the legend.
 const ABREAST: usize = 6;
 
+/// How many characters of a name stand in the legend.
+const SHORT: usize = 18;
+
 /// A run, and how it began.
 #[derive(Clone, Copy, Debug)]
 pub struct Run {
@@ -45,11 +48,11 @@ impl Shades<'_> {
         self.place(task) % COLOURS
     }
 
-    /// Adds the name of a task, or its number.
-    fn write_name(&self, task: u16, text: &mut String) -> Result<(), AllocError> {
+    /// Adds the name of a task, cut after so many characters, or its number.
+    fn write_name(&self, task: u16, most: usize, text: &mut String) -> Result<(), AllocError> {
         match self.names.of(task) {
             Some(name) => {
-                let name = Escaped(name);
+                let name = Escaped { text: name, most };
                 write!(text, "{name}")
             }
             None => write!(text, "task {task}"),
@@ -163,7 +166,7 @@ pub fn write_run(
             text,
             "<text class=\"in l{colour}\" x=\"{middle}\" y=\"{line}\">"
         )?;
-        shades.write_name(run.task, text)?;
+        shades.write_name(run.task, usize::MAX, text)?;
         text.push_str("</text>")?;
     }
     text.push_str("</g>\n")
@@ -171,7 +174,7 @@ pub fn write_run(
 
 fn write_run_title(run: &Run, shades: &Shades<'_>, text: &mut String) -> Result<(), AllocError> {
     text.push_str("<title>")?;
-    shades.write_name(run.task, text)?;
+    shades.write_name(run.task, usize::MAX, text)?;
     let task = run.task;
     let from = Millis(run.from);
     let to = Millis(run.to);
@@ -203,7 +206,7 @@ pub fn write_wait(
         text,
         "<rect class=\"wait\" x=\"{place}\" y=\"{top}\" width=\"{width}\" height=\"6\" fill=\"url(#h{colour})\" stroke=\"{hue}\"><title>"
     )?;
-    shades.write_name(wait.task, text)?;
+    shades.write_name(wait.task, usize::MAX, text)?;
     let from = Millis(wait.from);
     let to = Millis(wait.to);
     write!(text, " waits {from} to {to} ms</title></rect>\n")
@@ -225,7 +228,7 @@ pub fn write_tick(
         text,
         "<path class=\"tick c{colour}\" d=\"M{place} {begin}v9l-2.5 -4h5l-2.5 4\"><title>"
     )?;
-    shades.write_name(task, text)?;
+    shades.write_name(task, usize::MAX, text)?;
     let at = Millis(at);
     write!(text, " is woken at {at} ms</title></path>\n")
 }
@@ -326,7 +329,7 @@ pub fn write_legend(
             "<rect class=\"run c{colour}\" x=\"{left}\" y=\"{top}\" width=\"14\" height=\"14\" rx=\"2\"/>"
         )?;
         write!(text, "<text x=\"{right}\" y=\"{line}\">")?;
-        shades.write_name(*task, text)?;
+        shades.write_name(*task, SHORT, text)?;
         if shades.names.of(*task).is_some() {
             write!(text, " ({task})")?;
         }
