@@ -4,9 +4,13 @@ use Rattle.std.specs.Fmt.{decimal}
 use Rattle.bq_forms.specs.declared.amounts.Unit.{Unit}
 use Rattle.bq_forms.specs.declared.amounts.Unit.TheVariants.{Microseconds, Milliseconds}
 
+-- the last three digits of a number
+abbrev pub three_decimals : ℕ → List ℕ
+three_decimals n = decimal (n / 100 % 10) ++ (decimal (n / 10 % 10) ++ decimal (n % 10))
+
 -- thousandths, as a number with three decimals
 abbrev pub thousandths : ℕ → List ℕ
-thousandths n = decimal (n / 1000) ++ (codes "." ++ (decimal (n / 100 % 10) ++ (decimal (n / 10 % 10) ++ decimal (n % 10))))
+thousandths n = decimal (n / 1000) ++ (codes "." ++ three_decimals n)
 
 -- nanoseconds as milliseconds; what is less than a microsecond is cut off
 abbrev pub millis_text : ℕ → List ℕ

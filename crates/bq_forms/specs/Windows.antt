@@ -1,5 +1,6 @@
 -- What is shown of a schedule.
-use Rattle.std.specs.Prelude.{◌≡◌, ℕ, ◌<◌, ◌≤◌, max, min, ◌⊎◌, List, [], Contains}
+use Rattle.std.specs.Prelude.{◌≡◌, ℕ, ◌<◌, ◌≤◌, max, min, ◌⊎◌, [], Contains, Option, Some, None}
+use Rattle.std.specs.Option.{SomeIff}
 use Rattle.std.specs.Int.{bit_at}
 use Rattle.bq_schedule.specs.declared.slice.Slice.{Slice}
 use Rattle.bq_forms.specs.declared.window.Window.{Window}
@@ -29,3 +30,8 @@ pub record ShowsPart (w : Window) (s : Slice) : Type 0 where
   pub lasts : (part_of w s).from < (part_of w s).to
   pub processor : ShowsProcessor w s.processor
   pub task : ShowsTask w s.task
+
+-- the part of a slice that is shown, where there is a slice and any of it is shown
+abbrev pub IsShownPart : Window → Option Slice → Option Slice → Type 0
+IsShownPart w None part = part ≡ None
+IsShownPart w (Some s) part = SomeIff part (ShowsPart w s) (part_of w s)

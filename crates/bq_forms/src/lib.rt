@@ -6,6 +6,7 @@
 pub mod amounts;
 pub mod extent;
 pub mod form;
+pub mod longest;
 pub mod map;
 pub mod names;
 pub mod percent;

@@ -3,6 +3,7 @@
 use crate::amounts::{Moment, Unit};
 use crate::extent::Extent;
 use crate::form::Form;
+use crate::longest::longest_in;
 use crate::names::Names;
 use crate::steps::round_step;
 use crate::window::Window;
@@ -117,7 +118,8 @@ impl Map {
                 break;
             }
             let to = from.saturating_add(step);
-            let letter = match longest_in(self.alloc, rest, from, to)? {
+            let begun = rest.iter().take_while(|run| run.from < to).count();
+            let letter = match longest_in(self.alloc, &rest[..begun], from, to)? {
                 Some(task) => self.letter(task),
                 None => '.',
             };
@@ -178,64 +180,6 @@ fn write_ruler(
     }
     text.push_str(label.as_str())?;
     text.push_str("\n")
-}
-
-/// The task that ran longest from one moment to another, of equal ones the first. The runs are those of a processor in their
-/// order.
-fn longest_in(
-    alloc: Global,
-    runs: &[Slice],
-    from: u64,
-    to: u64,
-) -> Result<Option<u16>, AllocError> {
-    let mut shares = Shares::new(alloc);
-    for run in runs {
-        if run.from >= to {
-            break;
-        }
-        let begun = run.from.max(from);
-        let over = run.to.min(to);
-        shares.add(run.task, over.saturating_sub(begun))?;
-    }
-    Ok(shares.longest())
-}
-
-/// Who ran how long.
-#[derive(Drop)]
-struct Shares {
-    shares: Vec<(u16, u64)>,
-}
-
-impl Shares {
-    fn new(alloc: Global) -> Shares {
-        Shares {
-            shares: Vec::new(alloc),
-        }
-    }
-
-    /// A task ran for so long.
-    fn add(&mut self, task: u16, time: u64) -> Result<(), AllocError> {
-        for share in self.shares.iter_mut() {
-            if share.0 == task {
-                share.1 = share.1.saturating_add(time);
-                return Ok(());
-            }
-        }
-        self.shares.push((task, time))?;
-        Ok(())
-    }
-
-    /// The task that ran longest, of equal ones the first.
-    fn longest(&self) -> Option<u16> {
-        let mut longest: Option<(u16, u64)> = None;
-        for (task, time) in self.shares.iter() {
-            longest = match longest {
-                Some((first, most)) if *time <= most => Some((first, most)),
-                _ => Some((*task, *time)),
-            };
-        }
-        longest.map(|(task, _)| task)
-    }
 }
 
 impl Form for Map {

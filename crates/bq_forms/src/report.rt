@@ -1,18 +1,16 @@
 //! The report: a table of the tasks, of their latencies, of the processors and of the policies.
 
 use crate::form::Form;
+use crate::longest::IDS;
 use crate::names::Names;
 use crate::percentiles::WakeLatencies;
 use crate::tables::{
-    HOOK_HEAD, LATENCY_HEAD, PROCESSOR_HEAD, TASK_HEAD, write_hook_lines, write_latency_line,
-    write_processor_line, write_task_line,
+    HOOK_HEAD, LATENCY_HEAD, PROCESSOR_HEAD, TASK_HEAD, nanoseconds, write_hook_lines,
+    write_latency_line, write_processor_line, write_task_line,
 };
 use crate::window::Window;
 use bq_schedule::{Change, ProcessorFigures, Schedule};
 use std::alloc::{AllocError, Global};
-
-/// How many ids tasks may have.
-pub const IDS: u16 = 1024;
 
 /// The figures of a whole trace, in tables. The window chooses which tasks and processors have lines; a stretch of time in it
 /// changes no figure. It holds the latency of each wake.
@@ -41,7 +39,9 @@ impl Report {
         for task in 0..IDS {
             let figures = schedule.task(task);
             if figures.is_admitted && self.window.shows_task(task) {
-                write_task_line(text, task, names, &figures, schedule.fair_time(task))?;
+                let name = names.of(task).unwrap_or("");
+                let fair = nanoseconds(schedule.fair_time(task));
+                write_task_line(text, task, name, &figures, fair)?;
             }
         }
         Ok(())
@@ -58,7 +58,8 @@ impl Report {
             let figures = schedule.task(task);
             if figures.is_admitted && self.window.shows_task(task) {
                 let percentiles = self.latencies.percentiles(task);
-                write_latency_line(text, task, names, figures.wakes, &percentiles)?;
+                let name = names.of(task).unwrap_or("");
+                write_latency_line(text, task, name, figures.wakes, &percentiles)?;
             }
         }
         Ok(())

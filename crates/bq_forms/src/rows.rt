@@ -1,6 +1,10 @@
 //! The slices as comma-separated values.
-ghost use Rattle.std.specs.Prelude.{◌≡◌, IfOk, map};
+ghost use Rattle.std.specs.Prelude.{◌≡◌, ◌++◌, Option, IfOk, OnOk, map, string_bytes};
+ghost use Rattle.std.specs.Str.{IsUtf8};
 ghost use Rattle.csv.specs.Writing.{default_writer, row_text};
+ghost use Rattle.bq_schedule.specs.declared.slice.Slice.{Slice};
+ghost use Rattle.bq_forms.specs.Rows.{slice_row, row_of};
+ghost use Rattle.bq_forms.specs.Windows.{IsShownPart};
 
 use crate::form::Form;
 use crate::names::Names;
@@ -8,22 +12,37 @@ use crate::window::Window;
 use bq_schedule::{Change, Schedule, Slice};
 use csv::{Error, WriterBuilder};
 use std::alloc::{AllocError, Global};
+use std::marker::Model;
 use std::str;
 
-/// The slices that are shown, a row a slice, in the order in which they were charged: processor, task, from, to.
+/// The slices that are shown, a row a slice, in the order in which they were charged: processor, task, from, to. Contracts see
+/// its window.
 #[derive(Drop)]
 pub struct Csv {
     alloc: Global,
     window: Window,
 }
 
+impl Model for Csv {
+    ghost use Rattle.bq_forms.specs.declared.window.Window.{Window};
+
+    ghost Value = { Window };
+
+    ghost view = { λ c. c.window };
+}
+
 impl Csv {
     /// The slices in the window.
-    pub fn new(alloc: Global, window: Window) -> Csv {
+    pub fn new(alloc: Global, window: Window) -> Csv
+        ensures { result ≡ window }
+    {
         Csv { alloc, window }
     }
 
-    fn write_slice(&self, slice: &Slice, text: &mut String) -> Result<(), AllocError> {
+    /// Adds the row of a slice.
+    fn write_slice(&self, slice: Slice, text: &mut String) -> Result<(), AllocError>
+        ensures { OnOk result (string_bytes text.new ≡ string_bytes text.old ++ slice_row slice) }
+    {
         let processor = slice.processor.to_string(self.alloc)?;
         let task = slice.task.to_string(self.alloc)?;
         let from = slice.from.to_string(self.alloc)?;
@@ -38,8 +57,11 @@ impl Csv {
     }
 }
 
-/// Adds a row. Its fields are text.
-fn write_row(alloc: Global, fields: &[&[u8]], text: &mut String) -> Result<(), AllocError> {
+/// Adds a row of these fields, where it is text.
+fn write_row(alloc: Global, fields: &[&[u8]], text: &mut String) -> Result<(), AllocError>
+    ensures { OnOk result (IsUtf8 (row_text default_writer (map (λ f. f.now) fields.now))
+        → string_bytes text.new ≡ string_bytes text.old ++ row_text default_writer (map (λ f. f.now) fields.now)) }
+{
     let Ok(bytes) = row(alloc, fields) else {
         return Err(AllocError);
     };
@@ -83,12 +105,13 @@ impl Form for Csv {
         _schedule: &Schedule,
         _names: &Names,
         text: &mut String,
-    ) -> Result<(), AllocError> {
-        let Some(slice) = change.slice else {
-            return Ok(());
-        };
-        match self.window.clip(&slice) {
-            Some(slice) => self.write_slice(&slice, text),
+    ) -> Result<(), AllocError>
+        ensures row { OnOk result ((part : Option Slice) × IsShownPart self.old change.now.slice part
+            × (string_bytes text.new ≡ string_bytes text.old ++ row_of part)) }
+        ensures same { self.new ≡ self.old }
+    {
+        match self.window.shown_part(change.slice) {
+            Some(slice) => self.write_slice(slice, text),
             None => Ok(()),
         }
     }

@@ -1,9 +1,12 @@
 //! The report as JSON.
+ghost use Rattle.std.specs.Prelude.{◌≡◌, IfOk};
+ghost use Rattle.serde_json.specs.View.{view};
+ghost use Rattle.bq_forms.specs.Objects.{hook_object, latency_object, number_or_null};
 
 use crate::form::Form;
+use crate::longest::IDS;
 use crate::names::Names;
 use crate::percentiles::{Percentiles, WakeLatencies};
-use crate::report::IDS;
 use crate::tables::nanoseconds;
 use crate::window::Window;
 use bq_schedule::{Change, HookFigures, ProcessorFigures, Schedule, TaskFigures};
@@ -104,7 +107,9 @@ impl Json {
         })
     }
 
-    fn latency(&self, percentiles: &Percentiles) -> Result<Value, AllocError> {
+    fn latency(&self, percentiles: &Percentiles) -> Result<Value, AllocError>
+        ensures { IfOk result (λ v. view v ≡ latency_object percentiles.now) }
+    {
         let median = number(percentiles.p50);
         let most = number(percentiles.p95);
         let nearly_all = number(percentiles.p99);
@@ -128,7 +133,9 @@ impl Json {
         })
     }
 
-    fn hook(&self, figures: &HookFigures) -> Result<Value, AllocError> {
+    fn hook(&self, figures: &HookFigures) -> Result<Value, AllocError>
+        ensures { IfOk result (λ v. view v ≡ hook_object figures.now) }
+    {
         json!(in self.alloc; {
             "asked": (figures.asked),
             "overruled": (figures.overruled),
@@ -138,7 +145,9 @@ impl Json {
 }
 
 /// A number, or null.
-fn number(value: Option<u64>) -> Value {
+fn number(value: Option<u64>) -> Value
+    ensures { view result ≡ number_or_null value }
+{
     match value {
         Some(value) => Value::from(value),
         None => Value::Null,

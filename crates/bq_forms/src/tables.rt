@@ -1,6 +1,7 @@
 //! The tables of a report, of at most 80 columns.
+ghost use Rattle.std.specs.Prelude.{◌≡◌, ◌==◌, ◌++◌, [], OnOk, string_bytes, if◌then◌else◌};
+ghost use Rattle.bq_forms.specs.Columns.{task_columns, millis_column, latency_column, latency_columns, task_line, latency_line, hook_line};
 
-use crate::names::Names;
 use crate::percent::Percent;
 use crate::percentiles::Percentiles;
 use bq_schedule::{HookFigures, PARTS, ProcessorFigures, TaskFigures};
@@ -21,25 +22,35 @@ pub const PROCESSOR_HEAD: &str = "  cpu  busy %      busy ms      idle ms switch
 pub const HOOK_HEAD: &str = "  cpu hook            asked  overruled          steps\n";
 
 /// A task by its number and its name, in 20 columns.
-fn write_task(text: &mut String, task: u16, names: &Names) -> Result<(), AllocError> {
-    let name = names.of(task).unwrap_or("");
+pub fn write_task(text: &mut String, task: u16, name: &str) -> Result<(), AllocError>
+    ensures { OnOk result (string_bytes text.new ≡ string_bytes text.old ++ task_columns task name.now) }
+{
     write!(text, "{task:>5} {name:<14.14}")
 }
 
 /// A time in milliseconds, in 13 columns.
-fn write_millis(text: &mut String, time: u64) -> Result<(), AllocError> {
-    let whole = time / 1_000_000;
-    let part = time / 1000 % 1000;
-    write!(text, "{whole:>9}.{part:03}")
+fn write_millis(text: &mut String, time: u64) -> Result<(), AllocError>
+    ensures { OnOk result (string_bytes text.new ≡ string_bytes text.old ++ millis_column time) }
+{
+    let thousandths = time / 1000;
+    let whole = thousandths / 1000;
+    let tenths = thousandths / 100 % 10;
+    let hundredths = thousandths / 10 % 10;
+    let last = thousandths % 10;
+    write!(text, "{whole:>9}.{tenths}{hundredths}{last}")
 }
 
 /// A latency in microseconds, in 12 columns; `-` where there is none.
-fn write_latency(text: &mut String, latency: Option<u64>) -> Result<(), AllocError> {
+fn write_latency(text: &mut String, latency: Option<u64>) -> Result<(), AllocError>
+    ensures { OnOk result (string_bytes text.new ≡ string_bytes text.old ++ latency_column latency) }
+{
     match latency {
         Some(latency) => {
             let whole = latency / 1000;
-            let part = latency % 1000;
-            write!(text, "{whole:>8}.{part:03}")
+            let tenths = latency / 100 % 10;
+            let hundredths = latency / 10 % 10;
+            let last = latency % 10;
+            write!(text, "{whole:>8}.{tenths}{hundredths}{last}")
         }
         None => text.push_str("           -"),
     }
@@ -54,15 +65,17 @@ pub fn nanoseconds(parts: u128) -> u64 {
 pub fn write_task_line(
     text: &mut String,
     task: u16,
-    names: &Names,
+    name: &str,
     figures: &TaskFigures,
-    fair: u128,
-) -> Result<(), AllocError> {
-    write_task(text, task, names)?;
+    fair: u64,
+) -> Result<(), AllocError>
+    ensures { OnOk result (string_bytes text.new ≡ string_bytes text.old ++ task_line task name.now figures.now fair) }
+{
+    write_task(text, task, name)?;
     let nice = figures.nice;
     write!(text, "{nice:>5}")?;
     write_millis(text, figures.time)?;
-    write_millis(text, nanoseconds(fair))?;
+    write_millis(text, fair)?;
     let switches = figures.switches;
     let preemptions = figures.preemptions;
     let migrations = figures.migrations;
@@ -73,12 +86,21 @@ pub fn write_task_line(
 pub fn write_latency_line(
     text: &mut String,
     task: u16,
-    names: &Names,
+    name: &str,
     wakes: u64,
     percentiles: &Percentiles,
-) -> Result<(), AllocError> {
-    write_task(text, task, names)?;
+) -> Result<(), AllocError>
+    ensures { OnOk result (string_bytes text.new ≡ string_bytes text.old ++ latency_line task name.now wakes percentiles.now) }
+{
+    write_task(text, task, name)?;
     write!(text, "{wakes:>10}")?;
+    write_latencies(text, percentiles)
+}
+
+/// A task's latencies, to the end of the line.
+fn write_latencies(text: &mut String, percentiles: &Percentiles) -> Result<(), AllocError>
+    ensures { OnOk result (string_bytes text.new ≡ string_bytes text.old ++ latency_columns percentiles.now) }
+{
     write_latency(text, percentiles.p50)?;
     write_latency(text, percentiles.p95)?;
     write_latency(text, percentiles.p99)?;
@@ -115,12 +137,16 @@ pub fn write_hook_lines(
     write_hook_line(text, processor, "pull", &figures.pull)
 }
 
+/// The line of a hook, where a policy was asked.
 fn write_hook_line(
     text: &mut String,
     processor: u8,
     name: &str,
     figures: &HookFigures,
-) -> Result<(), AllocError> {
+) -> Result<(), AllocError>
+    ensures { OnOk result (string_bytes text.new ≡ string_bytes text.old
+        ++ (if figures.now.asked == 0 then [] else hook_line processor name.now figures.now)) }
+{
     if figures.asked == 0 {
         return Ok(());
     }
@@ -129,6 +155,6 @@ fn write_hook_line(
     let steps = figures.steps;
     write!(
         text,
-        "{processor:>5} {name:<8}{asked:>13}{overruled:>11}{steps:>15}\n"
+        "{processor:>5} {name:<8.8}{asked:>13}{overruled:>11}{steps:>15}\n"
     )
 }

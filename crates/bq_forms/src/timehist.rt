@@ -1,7 +1,10 @@
 //! The runs as `perf sched timehist` lists them.
+ghost use Rattle.std.specs.Prelude.{◌≡◌, ◌++◌, ◌/◌, OnOk, string_bytes};
+ghost use Rattle.bq_forms.specs.Columns.{moment_columns, run_columns, thousandths_in};
 
 use crate::form::Form;
 use crate::names::Names;
+use crate::tables::write_task;
 use crate::window::Window;
 use bq_schedule::{Change, Schedule, Start, Stop, Wake};
 use std::alloc::AllocError;
@@ -38,7 +41,7 @@ impl Timehist {
         }
         write_moment(text, wake.at, wake.from)?;
         match schedule.processor(wake.from).running {
-            Some(start) => write_task(text, start.task, names)?,
+            Some(start) => write_task(text, start.task, names.of(start.task).unwrap_or(""))?,
             None => text.push_str("<idle>              ")?,
         }
         let to = wake.to;
@@ -52,7 +55,7 @@ impl Timehist {
         if !self.window.shows(start.processor, start.task, stop.at) {
             return Ok(());
         }
-        write_run(text, &start, stop.at, names)?;
+        write_run(text, &start, stop.at, names.of(start.task).unwrap_or(""))?;
         text.push_str("\n")
     }
 
@@ -70,31 +73,29 @@ impl Timehist {
         }
         let processor = start.processor;
         write_moment(text, start.at, start.processor)?;
-        write_task(text, start.task, names)?;
+        write_task(text, start.task, names.of(start.task).unwrap_or(""))?;
         write!(text, "  migrated: cpu {before} => {processor}\n")
     }
 }
 
-/// The columns of a run that begins so and ends at this moment.
-fn write_run(text: &mut String, start: &Start, at: u64, names: &Names) -> Result<(), AllocError> {
+/// The columns of a run that began so and ends at this moment.
+fn write_run(text: &mut String, start: &Start, at: u64, name: &str) -> Result<(), AllocError>
+    ensures { OnOk result (string_bytes text.new ≡ string_bytes text.old ++ run_columns start.now at name.now) }
+{
     write_moment(text, at, start.processor)?;
-    write_task(text, start.task, names)?;
+    write_task(text, start.task, name)?;
     write_millis(text, start.waited)?;
     write_millis(text, start.latency.unwrap_or(0))?;
     write_millis(text, at.saturating_sub(start.at))
 }
 
 /// A moment in seconds, and a processor.
-fn write_moment(text: &mut String, at: u64, processor: u8) -> Result<(), AllocError> {
+fn write_moment(text: &mut String, at: u64, processor: u8) -> Result<(), AllocError>
+    ensures { OnOk result (string_bytes text.new ≡ string_bytes text.old ++ moment_columns at processor) }
+{
     let whole = at / 1_000_000_000;
     let part = at / 1000 % 1_000_000;
     write!(text, "{whole:>8}.{part:06} [{processor:04}]  ")
-}
-
-/// A task by its number and its name, in 20 columns.
-fn write_task(text: &mut String, task: u16, names: &Names) -> Result<(), AllocError> {
-    let name = names.of(task).unwrap_or("");
-    write!(text, "{task:>5} {name:<14.14}")
 }
 
 /// A task by its number and its name.
@@ -106,10 +107,15 @@ fn write_named(text: &mut String, task: u16, names: &Names) -> Result<(), AllocE
 }
 
 /// A time in milliseconds, in 11 columns.
-fn write_millis(text: &mut String, time: u64) -> Result<(), AllocError> {
-    let whole = time / 1_000_000;
-    let part = time / 1000 % 1000;
-    write!(text, "{whole:>7}.{part:03}")
+fn write_millis(text: &mut String, time: u64) -> Result<(), AllocError>
+    ensures { OnOk result (string_bytes text.new ≡ string_bytes text.old ++ thousandths_in 7 (time / 1000)) }
+{
+    let thousandths = time / 1000;
+    let whole = thousandths / 1000;
+    let tenths = thousandths / 100 % 10;
+    let hundredths = thousandths / 10 % 10;
+    let last = thousandths % 10;
+    write!(text, "{whole:>7}.{tenths}{hundredths}{last}")
 }
 
 impl Form for Timehist {
@@ -151,7 +157,12 @@ impl Form for Timehist {
             let figures = schedule.processor(number);
             if let Some(start) = figures.running {
                 if self.window.shows(number, start.task, figures.last) {
-                    write_run(text, &start, figures.last, names)?;
+                    write_run(
+                        text,
+                        &start,
+                        figures.last,
+                        names.of(start.task).unwrap_or(""),
+                    )?;
                     text.push_str("  runs on\n")?;
                 }
             }

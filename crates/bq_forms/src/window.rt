@@ -1,7 +1,7 @@
 //! What is shown of a schedule.
 ghost use Rattle.std.specs.Prelude.{◌↔◌, IsTrue};
 ghost use Rattle.std.specs.Option.{SomeIff};
-ghost use Rattle.bq_forms.specs.Windows.{ShowsProcessor, ShowsTask, Shows, ShowsPart, part_of};
+ghost use Rattle.bq_forms.specs.Windows.{ShowsProcessor, ShowsTask, Shows, ShowsPart, IsShownPart, part_of};
 
 use bq_schedule::Slice;
 use std::alloc::Global;
@@ -62,6 +62,16 @@ impl Window {
             Some(Slice { from, to, ..*slice })
         } else {
             None
+        }
+    }
+
+    /// The same of a slice that may be there.
+    pub fn shown_part(&self, slice: Option<Slice>) -> Option<Slice>
+        ensures { IsShownPart self.now slice result }
+    {
+        match slice {
+            Some(slice) => self.clip(&slice),
+            None => None,
         }
     }
 }

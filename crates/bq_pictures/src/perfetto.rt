@@ -1,4 +1,6 @@
 //! The trace format that ui.perfetto.dev and chrome://tracing open.
+ghost use Rattle.std.specs.Prelude.{◌≡◌, IfOk, string_bytes};
+ghost use Rattle.bq_pictures.specs.Events.{run_event};
 
 use bq_forms::{Form, Label, Micros, Names, Window};
 use bq_parts::Hook;
@@ -145,12 +147,7 @@ impl Perfetto {
             "waited_ns": (start.waited)
         })?;
         let args = self.json(&args)?;
-        let processor = run.processor;
-        let from = Micros(run.from);
-        let length = Micros(run.to.saturating_sub(run.from));
-        format!(in self.alloc;
-            ",\n{{\"ph\":\"X\",\"cat\":\"run\",\"name\":{name},\"pid\":0,\"tid\":{processor},\"ts\":{from},\"dur\":{length},\"args\":{args}}}"
-        )
+        event_text(self.alloc, run, name.as_str(), args.as_str())
     }
 
     /// The beginning of the flow of a wake.
@@ -235,6 +232,18 @@ impl Perfetto {
             && reading.to <= self.window.to
             && self.window.shows_processor(reading.processor)
     }
+}
+
+/// The event of a run, with this name and these arguments, each JSON already.
+fn event_text(alloc: Global, run: &Slice, name: &str, args: &str) -> Result<String, AllocError>
+    ensures { IfOk result (λ text. string_bytes text ≡ run_event run.now name.now args.now) }
+{
+    let processor = run.processor;
+    let from = Micros(run.from);
+    let length = Micros(run.to.saturating_sub(run.from));
+    format!(in alloc;
+        ",\n{{\"ph\":\"X\",\"cat\":\"run\",\"name\":{name},\"pid\":0,\"tid\":{processor},\"ts\":{from},\"dur\":{length},\"args\":{args}}}"
+    )
 }
 
 fn hook_name(hook: Hook) -> &'static str {

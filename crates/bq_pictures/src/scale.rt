@@ -1,4 +1,6 @@
 //! Where a moment lies in the picture.
+ghost use Rattle.std.specs.Prelude.{◌≡◌};
+ghost use Rattle.bq_pictures.specs.Places.{place_of};
 
 use bq_forms::Extent;
 use std::fmt;
@@ -32,12 +34,13 @@ pub struct Scale {
 
 impl Scale {
     /// How far a moment lies from the left edge.
-    pub fn place(&self, time: u64) -> Hundredths {
-        let length = self.extent.length().max(1);
+    pub fn place(&self, time: u64) -> Hundredths
+        ensures { result.0 ≡ place_of self.now.extent time }
+    {
+        let length = self.extent.to.saturating_sub(self.extent.from).max(1);
         let after = time.min(self.extent.to).saturating_sub(self.extent.from);
-        let width = u128::from(after) * u128::from(WIDTH * 100) / u128::from(length);
-        let width = u64::try_from(width).unwrap_or(u64::MAX);
-        Hundredths(width.saturating_add(LEFT * 100))
+        let part = u128::from(after) * u128::from(WIDTH * 100) / u128::from(length);
+        Hundredths(LEFT * 100 + part as u64)
     }
 
     /// How wide the stretch between two moments is drawn, and no less than can be seen.

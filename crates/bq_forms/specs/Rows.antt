@@ -1,0 +1,14 @@
+-- The rows of comma-separated values.
+use Rattle.std.specs.Prelude.{ℕ, List, [], ◌++◌, Option, Some, None, codes}
+use Rattle.std.specs.Fmt.{decimal}
+use Rattle.bq_schedule.specs.declared.slice.Slice.{Slice}
+
+-- the row of a slice: processor, task, from, to
+abbrev pub slice_row : Slice → List ℕ
+slice_row s =
+    decimal s.processor ++ (codes "," ++ (decimal s.task ++ (codes "," ++ (decimal s.from ++ (codes "," ++ (decimal s.to ++ codes "\n"))))))
+
+-- the same, and nothing for no slice
+abbrev pub row_of : Option Slice → List ℕ
+row_of None = []
+row_of (Some s) = slice_row s
