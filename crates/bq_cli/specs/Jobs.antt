@@ -8,7 +8,7 @@ use Rattle.bq_program.specs.Forms.{maps_text}
 use Rattle.bq_program.specs.declared.options.Options.{Options}
 use Rattle.bq_sizes.specs.Sizes.{rule_of, size_numbered}
 use Rattle.bq_sizes.specs.declared.size.Size.{Size}
-use Rattle.bq_trace.specs.Numbers.{below, decimal_of, processor_of}
+use Rattle.bq_lines.specs.Numbers.{below, decimal_of, processor_of}
 use Rattle.bq_cli.specs.Program.{program}
 use Rattle.bq_cli.specs.declared.asked.Parallel.{Parallel}
 use Rattle.std.specs.String.{string_bytes}

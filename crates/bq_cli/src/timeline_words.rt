@@ -31,11 +31,7 @@ pub(crate) fn words_of(alloc: Global, matches: &ArgMatches<'_>) -> Result<Words,
 }
 
 /// A text of its own with the first word of an option, if it has one.
-fn word(
-    alloc: Global,
-    matches: &ArgMatches<'_>,
-    option: &str,
-) -> Result<Option<String>, AllocError>
+fn word(alloc: Global, matches: &ArgMatches<'_>, option: &str) -> Result<Option<String>, AllocError>
     ensures { IfOk result (IsWordOf (rows_of (found_of matches.now)) option.now) }
 {
     text_in(alloc, value(matches, option))
