@@ -1,5 +1,5 @@
 -- What words ask for.
-use Rattle.std.specs.Prelude.{◌≡◌, ℕ, List, Option, Some, String, option_map, codes}
+use Rattle.std.specs.Prelude.{◌≡◌, ℕ, List, Some, option_map, codes}
 use Rattle.clap.specs.Words.{Row, Text, first_of, subcommand_of}
 use Rattle.bq_verify.specs.declared.hook.Version.{Version}
 use Rattle.bq_verify.specs.declared.hook.Version.TheVariants.{First, Second}
@@ -7,10 +7,6 @@ use Rattle.bq_program.specs.Check.{hook_word}
 use Rattle.bq_program.specs.Forms.{maps_text}
 use Rattle.bq_program.specs.declared.options.Options.{Options}
 use Rattle.bq_cli.specs.Program.{program}
-use Rattle.std.specs.String.{string_bytes}
-use Rattle.bq_timeline.specs.declared.settings.Words.{Words}
-use Rattle.bq_cli.specs.declared.asked.Asked.{Asked}
-use Rattle.bq_cli.specs.declared.asked.Asked.TheVariants as asked
 use Rattle.bq_cli.specs.declared.asked.Job.{Job}
 use Rattle.bq_cli.specs.declared.asked.Job.TheVariants.{Asm, Check, Dis, Replay}
 
@@ -31,24 +27,6 @@ IsJobOf name rows Check = name ≡ codes "check"
 IsJobOf name rows Dis = name ≡ codes "dis"
 IsJobOf name rows Replay = name ≡ codes "replay"
 
--- a word as it was found for an option, if one was
-abbrev pub IsWordOf : List Row → Text → Option String → Type 0
-IsWordOf rows name word = option_map (λ w. string_bytes w) word ≡ first_of name rows
-
--- each option of a timeline has the word that was found for it, as it stands
-pub record AreWords (rows : List Row) (w : Words) : Type 0 where
-  pub file : IsWordOf rows (codes "file") w.file
-  pub form : IsWordOf rows (codes "as") w.form
-  pub from : IsWordOf rows (codes "from") w.from
-  pub to : IsWordOf rows (codes "to") w.to
-  pub cpus : IsWordOf rows (codes "cpus") w.cpus
-  pub tasks : IsWordOf rows (codes "tasks") w.tasks
-  pub width : IsWordOf rows (codes "width") w.width
-
-abbrev pub IsAskedBy : Text → List Row → Asked → Type 0
-IsAskedBy name rows (asked.Job job) = IsJobOf name rows job
-IsAskedBy name rows (asked.Timeline w) = (name ≡ codes "timeline") × AreWords rows w
-
--- what is asked is what clap finds in the words
-abbrev pub IsAsked : List Text → Asked → Type 0
-IsAsked words a = (name : Text) × (rows : List Row) × (subcommand_of program words ≡ Some (name, rows)) × IsAskedBy name rows a
+-- the command and its options are those that clap finds in the words
+abbrev pub IsJob : List Text → Job → Type 0
+IsJob words job = (name : Text) × (rows : List Row) × (subcommand_of program words ≡ Some (name, rows)) × IsJobOf name rows job

@@ -19,17 +19,8 @@ dis_app = new_app (codes "dis")
 abbrev pub replay_app : App
 replay_app = new_app (codes "replay")
 
--- a word that stands by itself
-abbrev pub operand_rule : Text → Rule
-operand_rule name = record (new_rule name) { value_names = 1 }
-
-abbrev pub timeline_app : App
-timeline_app =
-    with_rule (with_rule (with_rule (with_rule (with_rule (with_rule (with_rule (new_app (codes "timeline")) (operand_rule (codes "file"))) (option_rule (codes "as")))
-    (option_rule (codes "from"))) (option_rule (codes "to"))) (option_rule (codes "cpus"))) (option_rule (codes "tasks"))) (option_rule (codes "width"))
-
 -- the words come without the program's name, and one of them has to be a command
 abbrev pub program : App
 program =
     on_top (λ s. record s { no_binary_name = true; has_version = true; subcommand_required = true; arg_required_else_help = true })
-    (with_subcommand (with_subcommand (with_subcommand (with_subcommand (with_subcommand (new_app (codes "bqsim")) asm_app.top) check_app.top) dis_app.top) replay_app.top) timeline_app.top)
+    (with_subcommand (with_subcommand (with_subcommand (with_subcommand (new_app (codes "bqsim")) asm_app.top) check_app.top) dis_app.top) replay_app.top)

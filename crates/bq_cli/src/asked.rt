@@ -2,7 +2,6 @@
 ghost use Rattle.std.specs.Prelude.{◌≡◌};
 
 use bq_program::Options;
-use bq_timeline::Words;
 use std::alloc::{AllocError, AllocFailed};
 use thiserror::Error;
 
@@ -17,15 +16,6 @@ pub enum Job {
     Dis,
     /// Reads a trace and writes what answers it.
     Replay,
-}
-
-/// What words ask for.
-#[derive(Debug, Drop)]
-pub enum Asked {
-    /// A job from standard input to standard output.
-    Job(Job),
-    /// A timeline of a trace, by the words of its options as they were given.
-    Timeline(Words),
 }
 
 /// Why the words ask for nothing.

@@ -26,7 +26,7 @@ pub(crate) fn options(alloc: Global, matches: &ArgMatches<'_>) -> Result<Options
 }
 
 /// The first value of an option, if it has one.
-pub(crate) fn value<'a>(matches: &ArgMatches<'a>, option: &str) -> Option<&'a str>
+fn value<'a>(matches: &ArgMatches<'a>, option: &str) -> Option<&'a str>
     ensures { option_map (λ (w : Bor (List ℕ)). w.now) result ≡ first_of option.now (rows_of (found_of matches.now)) }
 {
     matches.get_str(option)
@@ -60,7 +60,7 @@ fn format_in(alloc: Global, word: Option<&str>) -> Result<Option<Version>, JobFa
 }
 
 /// A text of its own with what the word says, if there is one.
-pub(crate) fn text_in(alloc: Global, word: Option<&str>) -> Result<Option<String>, AllocError>
+fn text_in(alloc: Global, word: Option<&str>) -> Result<Option<String>, AllocError>
     ensures { IfOk result (λ text. option_map (λ t. string_bytes t) text ≡ option_map (λ (w : Bor (List ℕ)). w.now) word.entry) }
 {
     match word {

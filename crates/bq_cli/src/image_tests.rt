@@ -1,8 +1,8 @@
 //! Images that are assembled and checked: words, what is read, and what is written. The values are worked by hand from the
 //! format, the rules of the verifier and the grammar of `--maps`.
 
-use crate::asked::{Asked, Job};
-use crate::{Counted, asked_by, exit_status, perform};
+use crate::asked::Job;
+use crate::{Counted, exit_status, job, perform};
 use std::alloc::Global;
 use std::process::Abort;
 use std::str::from_utf8;
@@ -10,7 +10,7 @@ use std::test::Fail;
 
 /// What is written for an input, and the exit status.
 fn done(alloc: Global, words: &[&str], input: &[u8]) -> Result<(String, u8), Fail> {
-    let Ok(Asked::Job(job)) = asked_by(alloc, words) else {
+    let Ok(job) = job(alloc, words) else {
         return Err(Fail::from("the words were refused"));
     };
     done_by(alloc, &job, input)
@@ -171,7 +171,7 @@ const REFUSED: [(&[&str], &str); 24] = [
 #[test]
 fn options_are_refused_before_the_text_is_read(rt: HostRuntime) -> Result<(), Fail> {
     for (words, line) in REFUSED {
-        let Ok(Asked::Job(job)) = asked_by(rt.alloc(), words) else {
+        let Ok(job) = job(rt.alloc(), words) else {
             return Err(Fail::from("the words were refused"));
         };
         let mut input = Counted::new(b"exit".as_slice());
