@@ -2,10 +2,9 @@
 use Rattle.std.proofs.Common.{◌≡◌, ◌∙◌, ℕ, List, [], ◌∷◌, Option, Some, None, refl, ap, sym, subst, arith}
 use Rattle.std.specs.Prelude.{option_map, codes, slice_index_or}
 use Rattle.clap.specs.Words.{Row, Text}
-use Rattle.bq_cli.specs.Jobs.{IsParallel, IsAskedBy}
+use Rattle.bq_cli.specs.Jobs.{IsJobOf, IsParallel}
 use Rattle.bq_cli.specs.declared.asked.Parallel.{Parallel}
-use Rattle.bq_cli.specs.declared.asked.Asked.{Asked}
-use Rattle.bq_cli.specs.declared.asked.Asked.TheVariants as words
+use Rattle.bq_cli.specs.declared.asked.Job.{Job}
 use Rattle.bq_cli.specs.declared.asked.Job.TheVariants.{Asm, Check, Dis, Par, Replay}
 
 -- the first letter of a name
@@ -24,11 +23,10 @@ entered (Some x) f g word name rows rows' a b e =
     let same : g x ≡ rows = ap (λ (p : Text × List Row). p.1) pair in
     (sym names ∙ some_same (f x) word a, sym same ∙ some_same (g x) rows' b)
 
--- only what asks for `par` has its name
-pub asked : (name : Text) (rows rows' : List Row) (a : Asked) (Out : Type 0) → name ≡ codes "par" → rows ≡ rows' → IsAskedBy name rows a → ((p : Parallel) → IsParallel rows' p → Out) → Out
-asked name rows rows' (words.Job (Asm o)) Out is same (e, given) k = let letters : 97 ≡ 112 = ap first (sym e ∙ is) in absurd (omega (arith, letters))
-asked name rows rows' (words.Job Check) Out is same e k = let letters : 99 ≡ 112 = ap first (sym e ∙ is) in absurd (omega (arith, letters))
-asked name rows rows' (words.Job Dis) Out is same e k = let letters : 100 ≡ 112 = ap first (sym e ∙ is) in absurd (omega (arith, letters))
-asked name rows rows' (words.Job (Par p)) Out is same (e, given) k = k p (subst (λ r. IsParallel r p) same given)
-asked name rows rows' (words.Job Replay) Out is same e k = let letters : 114 ≡ 112 = ap first (sym e ∙ is) in absurd (omega (arith, letters))
-asked name rows rows' (words.Timeline w) Out is same (e, given) k = let letters : 116 ≡ 112 = ap first (sym e ∙ is) in absurd (omega (arith, letters))
+-- only a job of `par` has its name
+pub asked : (name : Text) (rows rows' : List Row) (job : Job) (Out : Type 0) → name ≡ codes "par" → rows ≡ rows' → IsJobOf name rows job → ((p : Parallel) → IsParallel rows' p → Out) → Out
+asked name rows rows' (Asm o) Out is same (e, given) k = let letters : 97 ≡ 112 = ap first (sym e ∙ is) in absurd (omega (arith, letters))
+asked name rows rows' Check Out is same e k = let letters : 99 ≡ 112 = ap first (sym e ∙ is) in absurd (omega (arith, letters))
+asked name rows rows' Dis Out is same e k = let letters : 100 ≡ 112 = ap first (sym e ∙ is) in absurd (omega (arith, letters))
+asked name rows rows' (Par p) Out is same (e, given) k = k p (subst (λ r. IsParallel r p) same given)
+asked name rows rows' Replay Out is same e k = let letters : 114 ≡ 112 = ap first (sym e ∙ is) in absurd (omega (arith, letters))

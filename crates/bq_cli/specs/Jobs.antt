@@ -1,5 +1,5 @@
 -- What words ask for.
-use Rattle.std.specs.Prelude.{◌≡◌, ℕ, List, Option, Some, String, option_map, option_and_then, codes}
+use Rattle.std.specs.Prelude.{◌≡◌, ℕ, List, Option, Some, option_map, option_and_then, codes}
 use Rattle.clap.specs.Words.{Row, Text, first_of, subcommand_of}
 use Rattle.bq_verify.specs.declared.hook.Version.{Version}
 use Rattle.bq_verify.specs.declared.hook.Version.TheVariants.{First, Second}
@@ -11,10 +11,6 @@ use Rattle.bq_sizes.specs.declared.size.Size.{Size}
 use Rattle.bq_lines.specs.Numbers.{below, decimal_of, processor_of}
 use Rattle.bq_cli.specs.Program.{program}
 use Rattle.bq_cli.specs.declared.asked.Parallel.{Parallel}
-use Rattle.std.specs.String.{string_bytes}
-use Rattle.bq_timeline.specs.declared.settings.Words.{Words}
-use Rattle.bq_cli.specs.declared.asked.Asked.{Asked}
-use Rattle.bq_cli.specs.declared.asked.Asked.TheVariants as asked
 use Rattle.bq_cli.specs.declared.asked.Job.{Job}
 use Rattle.bq_cli.specs.declared.asked.Job.TheVariants.{Asm, Check, Dis, Par, Replay}
 
@@ -50,24 +46,6 @@ IsJobOf name rows Dis = name ≡ codes "dis"
 IsJobOf name rows (Par p) = (name ≡ codes "par") × IsParallel rows p
 IsJobOf name rows Replay = name ≡ codes "replay"
 
--- a word as it was found for an option, if one was
-abbrev pub IsWordOf : List Row → Text → Option String → Type 0
-IsWordOf rows name word = option_map (λ w. string_bytes w) word ≡ first_of name rows
-
--- each option of a timeline has the word that was found for it, as it stands
-pub record AreWords (rows : List Row) (w : Words) : Type 0 where
-  pub file : IsWordOf rows (codes "file") w.file
-  pub form : IsWordOf rows (codes "as") w.form
-  pub from : IsWordOf rows (codes "from") w.from
-  pub to : IsWordOf rows (codes "to") w.to
-  pub cpus : IsWordOf rows (codes "cpus") w.cpus
-  pub tasks : IsWordOf rows (codes "tasks") w.tasks
-  pub width : IsWordOf rows (codes "width") w.width
-
-abbrev pub IsAskedBy : Text → List Row → Asked → Type 0
-IsAskedBy name rows (asked.Job job) = IsJobOf name rows job
-IsAskedBy name rows (asked.Timeline w) = (name ≡ codes "timeline") × AreWords rows w
-
--- what is asked is what clap finds in the words
-abbrev pub IsAsked : List Text → Asked → Type 0
-IsAsked words a = (name : Text) × (rows : List Row) × (subcommand_of program words ≡ Some (name, rows)) × IsAskedBy name rows a
+-- the command and its options are those that clap finds in the words
+abbrev pub IsJob : List Text → Job → Type 0
+IsJob words job = (name : Text) × (rows : List Row) × (subcommand_of program words ≡ Some (name, rows)) × IsJobOf name rows job

@@ -26,15 +26,6 @@ par_app = with_rule (with_rule (with_rule (new_app (codes "par")) (needed_rule (
 abbrev pub replay_app : App
 replay_app = new_app (codes "replay")
 
--- a word that stands by itself
-abbrev pub operand_rule : Text → Rule
-operand_rule name = record (new_rule name) { value_names = 1 }
-
-abbrev pub timeline_app : App
-timeline_app =
-    with_rule (with_rule (with_rule (with_rule (with_rule (with_rule (with_rule (new_app (codes "timeline")) (operand_rule (codes "file"))) (option_rule (codes "as")))
-    (option_rule (codes "from"))) (option_rule (codes "to"))) (option_rule (codes "cpus"))) (option_rule (codes "tasks"))) (option_rule (codes "width"))
-
 -- the program by its name, which tells its version
 abbrev pub named : App
 named = on_top (λ s. record s { has_version = true }) (new_app (codes "bqsim"))
@@ -45,7 +36,7 @@ with_programs = with_subcommand (with_subcommand (with_subcommand named asm_app.
 
 -- with all commands
 abbrev pub with_all : App
-with_all = with_subcommand (with_subcommand (with_subcommand with_programs par_app.top) replay_app.top) timeline_app.top
+with_all = with_subcommand (with_subcommand with_programs par_app.top) replay_app.top
 
 -- the words come without the program's name, and one of them has to be a command
 abbrev pub program : App

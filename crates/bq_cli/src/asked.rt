@@ -3,7 +3,6 @@ ghost use Rattle.std.specs.Prelude.{◌≡◌};
 
 use bq_program::Options;
 use bq_sizes::{Rule, Size};
-use bq_timeline::Words;
 use std::alloc::{AllocError, AllocFailed};
 use thiserror::Error;
 
@@ -28,15 +27,6 @@ pub struct Parallel {
     pub rule: Rule,
     pub size: Size,
     pub ticks: u32,
-}
-
-/// What words ask for.
-#[derive(Debug, Drop)]
-pub enum Asked {
-    /// A job from standard input to standard output.
-    Job(Job),
-    /// A timeline of a trace, by the words of its options as they were given.
-    Timeline(Words),
 }
 
 /// Why the words ask for nothing.

@@ -60,7 +60,7 @@ fn format_in(alloc: Global, word: Option<&str>) -> Result<Option<Version>, JobFa
 }
 
 /// A text of its own with what the word says, if there is one.
-pub(crate) fn text_in(alloc: Global, word: Option<&str>) -> Result<Option<String>, AllocError>
+fn text_in(alloc: Global, word: Option<&str>) -> Result<Option<String>, AllocError>
     ensures { IfOk result (λ text. option_map (λ t. string_bytes t) text ≡ option_map (λ (w : Bor (List ℕ)). w.now) word.entry) }
 {
     match word {

@@ -1,8 +1,8 @@
 //! Images that are assembled and checked: words, what is read, and what is written. The values are worked by hand from the
 //! format, the rules of the verifier and the grammar of `--maps`.
 
-use crate::asked::{Asked, Job};
-use crate::{Counted, asked_by, exit_status, perform};
+use crate::asked::Job;
+use crate::{Counted, exit_status, job, perform};
 use std::alloc::Global;
 use std::process::Abort;
 use std::str::from_utf8;
@@ -17,7 +17,7 @@ fn done<R: Threads + Wait + Sync>(
     words: &[&str],
     input: &[u8],
 ) -> Result<(String, u8), Fail> {
-    let Ok(Asked::Job(job)) = asked_by(alloc, words) else {
+    let Ok(job) = job(alloc, words) else {
         return Err(Fail::from("the words were refused"));
     };
     done_by(rt, alloc, &job, input)
@@ -187,7 +187,7 @@ const REFUSED: [(&[&str], &str); 24] = [
 #[test]
 fn options_are_refused_before_the_text_is_read(rt: HostRuntime) -> Result<(), Fail> {
     for (words, line) in REFUSED {
-        let Ok(Asked::Job(job)) = asked_by(rt.alloc(), words) else {
+        let Ok(job) = job(rt.alloc(), words) else {
             return Err(Fail::from("the words were refused"));
         };
         let mut input = Counted::new(b"exit".as_slice());

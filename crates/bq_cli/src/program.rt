@@ -2,7 +2,7 @@
 ghost use Rattle.std.specs.Prelude.{◌≡◌, IfOk, false};
 ghost use Rattle.clap.specs.Words.{app_of, rule_of, with_rule, with_subcommand};
 ghost use Rattle.clap.specs.declared.builder.command.Command.TheViews.{out-Command as fields_of};
-ghost use Rattle.bq_cli.specs.Program.{program, option_rule, needed_rule, operand_rule, asm_app, check_app, dis_app, par_app, replay_app, timeline_app, with_all, with_programs};
+ghost use Rattle.bq_cli.specs.Program.{program, option_rule, needed_rule, asm_app, check_app, dis_app, par_app, replay_app, with_all, with_programs};
 
 use clap::{Arg, Command};
 use std::alloc::{AllocError, Global};
@@ -97,39 +97,6 @@ fn replay_command<'a>(alloc: Global) -> Command<'a>
     )
 }
 
-/// A word that stands by itself.
-fn operand<'a>(alloc: Global, name: &'a str, value: &'a str) -> Arg<'a>
-    ensures rule { rule_of result ≡ operand_rule name.entry.now }
-    ensures local { result.global ≡ false }
-{
-    Arg::new(alloc, name).value_name(value)
-}
-
-fn timeline_command<'a>(alloc: Global) -> Result<Command<'a>, AllocError>
-    ensures app { IfOk result (λ c. app_of c ≡ timeline_app) }
-    ensures local { IfOk result (λ c. (fields_of c).has_globals ≡ false) }
-{
-    let command = Command::new(alloc, "timeline").about(
-        "Reads a trace and shows its schedule in a form that people read",
-    );
-    let file = operand(alloc, "file", "FILE").help("The trace; standard input without it, or as -");
-    let command = with_option(command, file)?;
-    let form = option(alloc, "as", "FORM").help(
-        "report (without it), map, timehist, why, svg, perfetto, csv or json",
-    );
-    let command = with_option(command, form)?;
-    let from = option(alloc, "from", "TIME").help("Shows what is from then on: 1500, 1.5ms, 2s");
-    let command = with_option(command, from)?;
-    let to = option(alloc, "to", "TIME").help("Shows what is up to then");
-    let command = with_option(command, to)?;
-    let cpus = option(alloc, "cpus", "LIST").help("Shows these processors alone, as in 0-3,8");
-    let command = with_option(command, cpus)?;
-    let tasks = option(alloc, "tasks", "LIST").help("Shows these tasks alone, as in 1,4");
-    let command = with_option(command, tasks)?;
-    let width = option(alloc, "width", "COLUMNS").help("How wide a map is, 80 without it");
-    with_option(command, width)
-}
-
 /// A program with one command more.
 fn with_command<'a>(program: Command<'a>, command: Command<'a>) -> Result<Command<'a>, AllocError>
     requires local { (fields_of command).has_globals ≡ false }
@@ -155,8 +122,7 @@ fn with_all<'a>(alloc: Global) -> Result<Command<'a>, AllocError>
     ensures { IfOk result (λ c. app_of c ≡ with_all) }
 {
     let command = with_command(with_programs(alloc)?, par_command(alloc)?)?;
-    let command = with_command(command, replay_command(alloc))?;
-    with_command(command, timeline_command(alloc)?)
+    with_command(command, replay_command(alloc))
 }
 
 /// The program with its commands. The words come without its name.

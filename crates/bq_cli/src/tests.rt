@@ -1,13 +1,13 @@
 //! Words that the program takes and words that it refuses, and a job that is done.
 
-use crate::asked::{Asked, Job, JobFault};
-use crate::{Counted, asked_by, exit_status, perform};
+use crate::asked::{Job, JobFault};
+use crate::{Counted, exit_status, job, perform};
 use std::str::from_utf8;
 use std::test::Fail;
 
 #[test]
 fn takes_the_words_of_a_replay(rt: HostRuntime) -> Result<(), Fail> {
-    let Ok(Asked::Job(job)) = asked_by(rt.alloc(), &["replay"]) else {
+    let Ok(job) = job(rt.alloc(), &["replay"]) else {
         return Err(Fail::from("the words were refused"));
     };
     let mut input = Counted::new(b"machine cfs 1\ndraw\nretire 7\n".as_slice());
@@ -31,7 +31,7 @@ fn ends_by_one_where_a_line_is_bad(rt: HostRuntime) {
 }
 
 /// What some words are told, and where in the text.
-const TOLD: [(&[&str], &str); 27] = [
+const TOLD: [(&[&str], &str); 24] = [
     (&[], "Usage: bqsim"),
     (&["--help"], "Usage: bqsim"),
     (&["help"], "Usage: bqsim"),
@@ -99,28 +99,12 @@ const TOLD: [(&[&str], &str); 27] = [
         ],
         "error: ",
     ),
-    (&["timeline", "--help"], "--cpus <LIST>"),
-    (&["timeline", "--with", "map"], "error: "),
-    (&["timeline", "a", "b"], "error: "),
 ];
-
-#[test]
-fn takes_the_words_of_a_timeline(rt: HostRuntime) -> Result<(), Fail> {
-    let words: &[&str] = &["timeline", "--as", "why", "t.trace", "--to", "2ms"];
-    let Ok(Asked::Timeline(words)) = asked_by(rt.alloc(), words) else {
-        return Err(Fail::from("the words were refused"));
-    };
-    assert!(rt; words.file.is_some_and(|file| file.as_str() == "t.trace"));
-    assert!(rt; words.form.is_some_and(|form| form.as_str() == "why"));
-    assert!(rt; words.to.is_some_and(|to| to.as_str() == "2ms"));
-    assert!(rt; words.from.is_none());
-    Ok(())
-}
 
 #[test]
 fn tells_other_words(rt: HostRuntime) -> Result<(), Fail> {
     for (words, told) in TOLD {
-        match asked_by(rt.alloc(), words) {
+        match job(rt.alloc(), words) {
             Err(JobFault::Words(text)) => {
                 assert!(rt; text.as_str().contains(told), "{words:?}: {text}");
                 assert!(rt; text.as_str().ends_with("\n"), "{words:?}: {text}");
@@ -148,7 +132,7 @@ const DONE: [(&str, &str, u8, &str); 5] = [
 #[test]
 fn assembles_and_lists(rt: HostRuntime) -> Result<(), Fail> {
     for (word, read, status, written) in DONE {
-        let Ok(Asked::Job(job)) = asked_by(rt.alloc(), &[word]) else {
+        let Ok(job) = job(rt.alloc(), &[word]) else {
             return Err(Fail::from("the word was refused"));
         };
         let mut input = Counted::new(read.as_bytes());

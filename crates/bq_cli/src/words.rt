@@ -2,44 +2,40 @@
 ghost use Rattle.std.specs.Prelude.{◌≡◌, IfOk, IfErr, map, true};
 ghost use Rattle.clap.specs.Words.{takes, kind_of, subcommand_of, subcommand_rows_of};
 ghost use Rattle.bq_cli.specs.Program.{program};
-ghost use Rattle.bq_cli.specs.Jobs.{IsAsked};
+ghost use Rattle.bq_cli.specs.Jobs.{IsJob};
 
-use crate::asked::{Asked, Job, JobFault};
+use crate::asked::{Job, JobFault};
 use crate::asm_words::options;
 use crate::par_words::parallel;
 use crate::program::program;
-use crate::timeline_words::words_of;
 use clap::ArgMatches;
 use clap::error::ErrorKind;
 use std::alloc::Global;
 
 /// Reads the words after the program's name.
-pub fn asked_by<'a>(alloc: Global, words: &'a [&'a str]) -> Result<Asked, JobFault>
+pub fn job<'a>(alloc: Global, words: &'a [&'a str]) -> Result<Job, JobFault>
     // The command is the one that clap finds in the words.
-    ensures ok { IfOk result (IsAsked (map (λ w. w.now) words.entry.now)) }
+    ensures ok { IfOk result (IsJob (map (λ w. w.now) words.entry.now)) }
 
     // Where clap takes the words and finds a command in them, the only fault is want of memory.
     ensures taken { IfErr result (λ e. takes program (map (λ w. w.now) words.entry.now) ≡ true
-        → (a : Asked) → IsAsked (map (λ w. w.now) words.entry.now) a → e ≡ JobFault.OutOfMemory) }
+        → (job : Job) → IsJob (map (λ w. w.now) words.entry.now) job → e ≡ JobFault.OutOfMemory) }
 {
     let matches = found(alloc, words)?;
     if let Some(matches) = matches.subcommand_matches("asm") {
-        return Ok(Asked::Job(Job::Asm(options(alloc, matches)?)));
+        return Ok(Job::Asm(options(alloc, matches)?));
     }
     if let Some(_) = matches.subcommand_matches("check") {
-        return Ok(Asked::Job(Job::Check));
+        return Ok(Job::Check);
     }
     if let Some(_) = matches.subcommand_matches("dis") {
-        return Ok(Asked::Job(Job::Dis));
+        return Ok(Job::Dis);
     }
     if let Some(matches) = matches.subcommand_matches("par") {
-        return Ok(Asked::Job(Job::Par(parallel(alloc, matches)?)));
+        return Ok(Job::Par(parallel(alloc, matches)?));
     }
     if let Some(_) = matches.subcommand_matches("replay") {
-        return Ok(Asked::Job(Job::Replay));
-    }
-    if let Some(matches) = matches.subcommand_matches("timeline") {
-        return Ok(Asked::Timeline(words_of(alloc, matches)?));
+        return Ok(Job::Replay);
     }
     Err(no_command(alloc))
 }
@@ -71,9 +67,7 @@ fn refusal(alloc: Global, error: &clap::Error) -> JobFault
 
 /// The fault of words with no command.
 fn no_command(alloc: Global) -> JobFault {
-    match format!(in alloc;
-        "error: a command is needed: asm, check, dis, par, replay or timeline\n"
-    ) {
+    match format!(in alloc; "error: a command is needed: asm, check, dis, par or replay\n") {
         Ok(text) => JobFault::Words(text),
         Err(_) => JobFault::OutOfMemory,
     }

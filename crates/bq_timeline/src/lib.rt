@@ -4,6 +4,7 @@
 //! Stands on bq_trace's sinks, on bq_schedule and its forms, and on bq_why.
 #![tactic(auto)]
 
+pub mod command;
 pub mod faults;
 pub mod form_names;
 pub mod happenings;
@@ -18,5 +19,6 @@ pub mod viewer;
 pub mod why_text;
 pub mod words_of;
 
+pub use command::{WordsFault, words};
 pub use settings::{Settings, SettingsFault, Words};
 pub use showing::{Outcome, show};

@@ -1,20 +1,27 @@
 //! Does what its words ask, from standard input to standard output.
 #![tactic(auto)]
 
-use bq_cli::asked::{Asked, JobFault};
+use bq_cli::asked::{Job, JobFault};
 use bq_cli::status::{OUT_OF_MEMORY, REFUSED};
-use bq_cli::{Counted, asked_by, exit_status, perform};
-use bq_timeline::{Settings, SettingsFault, Words, show};
-use std::env;
-use std::fs;
+use bq_cli::{Counted, exit_status, job, perform};
+use bq_timeline::{Settings, SettingsFault, Words, WordsFault, show, words};
+use std::alloc::Global;
 use std::io::{ErrorKind, Read};
 use std::process::ExitCode;
+use std::{env, fs};
 
 /// The exit status where the trace's file can't be opened.
 const UNREADABLE: u8 = 4;
 
+/// What the words after the program's name ask for.
+#[derive(Drop)]
+enum Request {
+    Job(Job),
+    Timeline(Words),
+}
+
 /// What the words after the program's name ask for. A word that is no text is refused.
-fn asked(rt: &HostRuntime) -> Result<Asked, JobFault> {
+fn asked(rt: &HostRuntime) -> Result<Request, JobFault> {
     let alloc = rt.alloc();
     let mut given = Vec::new(alloc);
     match env::args(rt) {
@@ -35,7 +42,19 @@ fn asked(rt: &HostRuntime) -> Result<Asked, JobFault> {
     for word in &given {
         words.push(word.as_str())?;
     }
-    asked_by(alloc, words.as_slice())
+    match words.as_slice() {
+        ["timeline", rest @ ..] => timeline_words(alloc, rest),
+        all => Ok(Request::Job(job(alloc, all)?)),
+    }
+}
+
+/// What the words after `timeline` ask for.
+fn timeline_words<'a>(alloc: Global, given: &'a [&'a str]) -> Result<Request, JobFault> {
+    match words(alloc, given) {
+        Ok(words) => Ok(Request::Timeline(words)),
+        Err(WordsFault::Words(text)) => Err(JobFault::Words(text)),
+        Err(WordsFault::OutOfMemory) => Err(JobFault::OutOfMemory),
+    }
 }
 
 /// Shows the timeline of a trace, from the file that the words name or from standard input.
@@ -91,8 +110,8 @@ fn main(rt: HostRuntime) -> ExitCode {
             let _ = eprintln!(rt; "bqsim: out of memory");
             ExitCode::from(OUT_OF_MEMORY)
         }
-        Ok(Asked::Timeline(words)) => timeline(&rt, &words),
-        Ok(Asked::Job(job)) => {
+        Ok(Request::Timeline(words)) => timeline(&rt, &words),
+        Ok(Request::Job(job)) => {
             let mut input = Counted::new(rt.stdin());
             let mut output = Counted::new(rt.stdout());
             let outcome = perform(&rt, rt.alloc(), &job, &mut input, &mut output);

@@ -5,7 +5,7 @@ use Rattle.clap.specs.Words.{Row, Text, found_of, rows_of, subcommand_name_of, s
 use Rattle.clap.specs.declared.parser.matches.ArgMatches.TheViews.{out-ArgMatches, out-SubCommand}
 use Rattle.std.specs.Box.{box_value}
 use Rattle.bq_cli.proofs.ParWords.{asked, entered}
-use Rattle.bq_cli.proofs.words.asked_by.Goals as goal
+use Rattle.bq_cli.proofs.words.job.Goals as goal
 
 pub returns-in_err-parallel-clause-taken : goal.returns-in_err-parallel-clause-taken
 returns-in_err-parallel-clause-taken c =
