@@ -10,8 +10,8 @@ ghost use Rattle.bq_cli.specs.Jobs.{IsParallel, processors_of, ticks_of};
 
 use crate::asked::{JobFault, Parallel};
 use crate::asm_words::{refused, value};
-use bq_sizes::{Rule, Size};
 use bq_lines::numbers;
+use bq_sizes::{Rule, Size};
 use clap::ArgMatches;
 use std::alloc::Global;
 

@@ -1,0 +1,124 @@
+// Calls that are drawn.
+
+use crate::images::{ADDS, COUNTING, IN_TURN, OWN_PULL};
+use bq_disc::RunQueue;
+use bq_load::LoadFault;
+use bq_machine::{Clock, Counting, LoadRefused, Machine, Naming, Seat};
+use bq_parts::{Hook, Refusal};
+use std::alloc::{AllocError, Global};
+use std::sync::Wait;
+
+/// The nice values of tasks that are admitted.
+const NICES: [i8; 8] = [-20, -10, -5, -1, 0, 1, 10, 19];
+
+/// A seat, and the seed of what its thread draws.
+#[derive(Drop)]
+pub struct Racer<N: Naming + Counting> {
+    pub seat: Seat<N>,
+    pub seed: u64,
+}
+
+/// Seats with seeds of their own.
+pub fn racers<N: Naming + Counting>(
+    alloc: Global,
+    seats: Vec<Seat<N>>,
+) -> Result<Vec<Racer<N>>, AllocError> {
+    let mut racers = Vec::new(alloc);
+    let mut seed = 0x9e37_79b9_7f4a_7c15u64;
+    for seat in seats {
+        seed = next(seed);
+        racers.push(Racer { seat, seed })?;
+    }
+    Ok(racers)
+}
+
+/// The next of the numbers that look drawn (xorshift).
+fn next(state: u64) -> u64 {
+    let mut x = state;
+    x ^= x << 13;
+    x ^= x >> 7;
+    x ^= x << 17;
+    x
+}
+
+/// The hook and the image, if any, that a number says.
+fn image(number: u64) -> (Hook, Option<&'static [u8]>) {
+    match number % 8 {
+        0 => (Hook::Preempt, Some(&ADDS)),
+        1 => (Hook::Preempt, Some(&COUNTING)),
+        2 => (Hook::Preempt, None),
+        3 | 4 => (Hook::Place, Some(&IN_TURN)),
+        5 => (Hook::Place, None),
+        6 => (Hook::Pull, Some(&OWN_PULL)),
+        _ => (Hook::Pull, None),
+    }
+}
+
+/// Whether a call was answered, or its arguments refused, and memory was not wanting.
+fn has_memory<A>(answer: &Result<A, Refusal>) -> bool {
+    !matches!(answer, Err(Refusal::OutOfMemory))
+}
+
+/// Makes a call that two numbers say, at any of 64 processors, of any of 1024 tasks. False where memory was wanting.
+fn draw<Q: RunQueue + Drop, K: Clock + Drop, N: Naming + Counting, R: Wait, const P: usize>(
+    rt: &R,
+    alloc: Global,
+    machine: &Machine<Q, K, N, P>,
+    seat: &mut Seat<N>,
+    number: u64,
+    other: u64,
+) -> bool {
+    let processor = ((number >> 10) % 64) as u8;
+    let task = ((number >> 16) % 1024) as u16;
+    match number % 1024 {
+        0 | 1 => {
+            let (hook, image) = image(number >> 32);
+            let loaded = machine.load_all(rt, alloc, seat, hook, image);
+            !matches!(
+                loaded,
+                Err(
+                    LoadRefused::Fault(LoadFault::OutOfMemory)
+                        | LoadRefused::Refusal(Refusal::OutOfMemory)
+                )
+            )
+        }
+        2..=9 => has_memory(&machine.retire(rt, alloc, seat, task)),
+        10..=109 => {
+            let nice = NICES[((number >> 32) % 8) as usize];
+            let slice = 100_000 + (number >> 40) % 10_000_000;
+            has_memory(&machine.admit(rt, alloc, seat, task, nice, other, slice))
+        }
+        110..=409 => has_memory(&machine.wake(rt, alloc, seat, processor, task)),
+        410..=609 => has_memory(&machine.drain(rt, alloc, seat, processor)),
+        610..=809 => has_memory(&machine.tick(rt, alloc, seat, processor)),
+        810..=909 => has_memory(&machine.block(rt, alloc, seat, processor)),
+        910..=1015 => {
+            let from = (other % 64) as u8;
+            has_memory(&machine.pull(rt, alloc, seat, processor, from))
+        }
+        _ => {
+            machine.counter(seat, processor);
+            true
+        }
+    }
+}
+
+/// Makes so many drawn calls, and gives the seat back, unless memory is wanting.
+pub fn race<Q: RunQueue + Drop, K: Clock + Drop, N: Naming + Counting, R: Wait, const P: usize>(
+    rt: &R,
+    alloc: Global,
+    machine: &Machine<Q, K, N, P>,
+    racer: Racer<N>,
+    calls: u32,
+) -> Option<Seat<N>> {
+    let Racer { mut seat, seed } = racer;
+    let mut number = seed;
+    for _ in 0..calls {
+        let other = next(number);
+        if !draw(rt, alloc, machine, &mut seat, number, other) {
+            return None;
+        }
+        number = next(other);
+    }
+    Some(seat)
+}

@@ -1,0 +1,88 @@
+// A run queue under CFS whose mark may be held at a gate.
+ghost use Rattle.std.specs.Prelude.{◌≡◌, ◌^◌, []};
+
+use crate::gate::Gate;
+use bq_cfs::CfsQueue;
+use bq_disc::{Movable, Node, RunQueue};
+use std::alloc::Global;
+use std::sync::Arc;
+
+#[derive(Drop)]
+pub struct HeldQueue {
+    pub queue: CfsQueue,
+    gate: Option<Arc<Gate, Global>>,
+}
+
+impl HeldQueue {
+    /// A queue without tasks, whose mark comes to the gate each time, if there is one.
+    pub fn at(gate: Option<Arc<Gate, Global>>) -> HeldQueue
+        ensures { (result.queue.members ≡ []) × (result.queue.kept ≡ 2 ^ 32) }
+    {
+        HeldQueue {
+            queue: CfsQueue::empty(),
+            gate,
+        }
+    }
+}
+
+impl RunQueue for HeldQueue {
+    type R = bq_cfs::Cfs;
+
+    ghost members = { λ q. q.queue.members };
+
+    ghost kept_mark = { λ q. q.queue.kept };
+
+    fn empty() -> HeldQueue {
+        HeldQueue {
+            queue: CfsQueue::empty(),
+            gate: None,
+        }
+    }
+
+    fn len(&self) -> usize {
+        self.queue.len()
+    }
+
+    fn insert(&mut self, node: Box<Node>) {
+        self.queue.insert(node);
+    }
+
+    fn take(&mut self, id: u16) -> Option<Box<Node>> {
+        self.queue.take(id)
+    }
+
+    fn get(&self, id: u16) -> Option<&Node> {
+        self.queue.get(id)
+    }
+
+    fn after(&self, last: Option<(u64, u16)>) -> Option<&Node> {
+        self.queue.after(last)
+    }
+
+    fn movable(&self, cpu: u8) -> Movable {
+        self.queue.movable(cpu)
+    }
+
+    fn own_pull(&self, cpu: u8, size: usize, from: usize) -> Option<u16> {
+        self.queue.own_pull(cpu, size, from)
+    }
+
+    fn choice(&self, current: Option<&Node>) -> Option<u16> {
+        self.queue.choice(current)
+    }
+
+    fn wants_preempt(&self, current: &Node) -> bool {
+        self.queue.wants_preempt(current)
+    }
+
+    fn mark(&mut self, current: Option<&Node>) -> u64 {
+        if let Some(gate) = &self.gate {
+            gate.pass();
+        }
+        self.queue.mark(current)
+    }
+
+    fn kept(&self) -> u64 {
+        self.queue.kept()
+    }
+}

@@ -1,0 +1,32 @@
+//! Tests of the locked machine by many threads: one history of several seats, calls that are held, loads at once, counters,
+//! refused memory, and long races that are replayed event by event. All of it is for the tests; the library itself is empty.
+#![tactic(auto)]
+
+#[cfg(test)]
+mod caller;
+#[cfg(test)]
+mod counter_tests;
+#[cfg(test)]
+mod counting_clock;
+#[cfg(test)]
+mod drawn;
+#[cfg(test)]
+mod gate;
+#[cfg(test)]
+mod held_queue;
+#[cfg(test)]
+mod history_tests;
+#[cfg(test)]
+mod hold_tests;
+#[cfg(test)]
+mod images;
+#[cfg(test)]
+mod load_tests;
+#[cfg(test)]
+mod play;
+#[cfg(test)]
+mod race_tests;
+#[cfg(test)]
+mod replayed;
+#[cfg(test)]
+mod script;

@@ -1,0 +1,104 @@
+// Long races of drawn calls by eight threads, whose histories a core then goes through once more.
+ghost use Rattle.std.specs.Prelude.{◌≡◌};
+
+use crate::drawn::{race, racers};
+use crate::replayed::is_replayed;
+use bq_cfs::CfsQueue;
+use bq_disc::RunQueue;
+use bq_eevdf::EevdfQueue;
+use bq_machine::{Closed, Counting, Machine, Naming, Prepared, Seat, Unnamed, prepare};
+use bq_par::Metronome;
+use std::alloc::Global;
+use std::marker::Brand;
+use std::sync::Wait;
+use std::test::Fail;
+use std::thread::{Threads, map_vec};
+
+/// How many threads race.
+const THREADS: u64 = 8;
+
+/// How many calls each of them makes.
+const CALLS: u32 = 10_000;
+
+/// The seats that came back.
+fn returned<N: Naming + Counting>(
+    alloc: Global,
+    done: Vec<Option<Seat<N>>>,
+) -> Result<Vec<Seat<N>>, Fail> {
+    let mut seats = Vec::new(alloc);
+    for seat in done {
+        let Some(seat) = seat else {
+            return Err(Fail::from("memory was wanting"));
+        };
+        seats.push(seat)?;
+    }
+    Ok(seats)
+}
+
+fn race_under_cfs<N: Naming + Counting + Send + Sync, R: Threads + Wait + Sync>(
+    rt: &R,
+    alloc: Global,
+    prepared: Prepared<CfsQueue>,
+    unnamed: Unnamed,
+) -> Result<Closed<CfsQueue, 64>, Fail>
+    requires name { prepared.0 ≡ N.table }
+    requires counters { unnamed.0 ≡ N.counters }
+    requires counts { (prepared.1.about ≡ 64) × (prepared.1.callers ≡ THREADS) × (unnamed.1 ≡ THREADS) }
+{
+    let clock = Metronome::new(alloc, 64)?;
+    let (machine, seats) = Machine::<CfsQueue, Metronome, N, 64>::new(
+        alloc, clock, prepared, unnamed, THREADS,
+    )?;
+    let racers = racers(alloc, seats)?;
+    let shared = &machine;
+    let done = map_vec(rt, racers, &|racer| race(rt, alloc, shared, racer, CALLS))?;
+    let seats = returned(alloc, done)?;
+    if !machine.owns(&seats) {
+        return Err(Fail::from("a seat is missing"));
+    }
+    Ok(machine.close(seats))
+}
+
+fn race_under_eevdf<N: Naming + Counting + Send + Sync, R: Threads + Wait + Sync>(
+    rt: &R,
+    alloc: Global,
+    prepared: Prepared<EevdfQueue>,
+    unnamed: Unnamed,
+) -> Result<Closed<EevdfQueue, 64>, Fail>
+    requires name { prepared.0 ≡ N.table }
+    requires counters { unnamed.0 ≡ N.counters }
+    requires counts { (prepared.1.about ≡ 64) × (prepared.1.callers ≡ THREADS) × (unnamed.1 ≡ THREADS) }
+{
+    let clock = Metronome::new(alloc, 64)?;
+    let (machine, seats) = Machine::<EevdfQueue, Metronome, N, 64>::new(
+        alloc, clock, prepared, unnamed, THREADS,
+    )?;
+    let racers = racers(alloc, seats)?;
+    let shared = &machine;
+    let done = map_vec(rt, racers, &|racer| race(rt, alloc, shared, racer, CALLS))?;
+    let seats = returned(alloc, done)?;
+    if !machine.owns(&seats) {
+        return Err(Fail::from("a seat is missing"));
+    }
+    Ok(machine.close(seats))
+}
+
+#[test]
+fn a_race_under_cfs_is_replayed(rt: HostRuntime) -> Result<(), Fail> {
+    let alloc = rt.alloc();
+    let (prepared, unnamed) = prepare::<CfsQueue>(alloc, 64, THREADS)?;
+    let closed = race_under_cfs::<Brand, _>(&rt, alloc, prepared, unnamed)?;
+    assert!(&rt; closed.len() > u64::from(CALLS), "{} events", closed.len());
+    assert!(&rt; is_replayed(alloc, closed)?);
+    Ok(())
+}
+
+#[test]
+fn a_race_under_eevdf_is_replayed(rt: HostRuntime) -> Result<(), Fail> {
+    let alloc = rt.alloc();
+    let (prepared, unnamed) = prepare::<EevdfQueue>(alloc, 64, THREADS)?;
+    let closed = race_under_eevdf::<Brand, _>(&rt, alloc, prepared, unnamed)?;
+    assert!(&rt; closed.len() > u64::from(CALLS), "{} events", closed.len());
+    assert!(&rt; is_replayed(alloc, closed)?);
+    Ok(())
+}

@@ -1,0 +1,219 @@
+// Scripts, and what comes of them.
+ghost use Rattle.std.specs.Prelude.{◌≡◌, ◌^◌, [], All, IfOk, length, vec_len};
+
+use crate::caller::{Caller, Raced};
+use crate::counting_clock::CountingClock;
+use crate::gate::Gate;
+use crate::held_queue::HeldQueue;
+use crate::play::{Play, Script};
+use bq_machine::{Closed, Counting, Naming, Prepared, Receipt, Record, Seat, Unnamed, prepare};
+use bq_parts::Refusal;
+use std::alloc::{AllocError, Global};
+use std::marker::Brand;
+use std::sync::{Arc, Wait};
+use std::test::Fail;
+use std::thread::{Threads, map_vec};
+
+/// A seat, and what its thread is to do.
+#[derive(Drop)]
+pub struct Job<N: Naming + Counting> {
+    pub seat: Seat<N>,
+    pub play: Play,
+}
+
+/// A seat with the receipts that it got, and what was read of a counter.
+#[derive(Drop)]
+pub struct Played<N: Naming + Counting> {
+    pub seat: Seat<N>,
+    pub receipts: Vec<Receipt<Record>>,
+    pub read: u64,
+}
+
+/// What came of all plays: the machine's end, the receipts of each play, and what was read last of counter 3.
+#[derive(Drop)]
+pub struct Outcome {
+    pub closed: Closed<HeldQueue, 4>,
+    pub receipts: Vec<Vec<Receipt<Record>>>,
+    pub read: u64,
+}
+
+impl Outcome {
+    /// How many receipts stand in the history.
+    pub fn confirmed(&self) -> u64 {
+        let mut count = 0u64;
+        for list in &self.receipts {
+            for receipt in list {
+                if self.closed.confirms(receipt) {
+                    count = count.wrapping_add(1);
+                }
+            }
+        }
+        count
+    }
+}
+
+/// One thread's work.
+fn work<N: Naming + Counting, R: Wait>(
+    rt: &R,
+    alloc: Global,
+    machine: &Raced<N>,
+    job: Job<N>,
+) -> Result<Played<N>, Refusal> {
+    let Job { seat, play } = job;
+    let mut caller = Caller {
+        rt,
+        alloc,
+        machine,
+        seat,
+        receipts: Vec::new(alloc),
+    };
+    let read = caller.play(play)?;
+    let Caller { seat, receipts, .. } = caller;
+    Ok(Played {
+        seat,
+        receipts,
+        read,
+    })
+}
+
+/// What was collected so far: seats that have come back, receipts, and what was read last of a counter.
+#[derive(Drop)]
+struct Collected<N: Naming + Counting> {
+    seats: Vec<Seat<N>>,
+    receipts: Vec<Vec<Receipt<Record>>>,
+    read: u64,
+}
+
+impl<N: Naming + Counting> Collected<N> {
+    fn add(&mut self, played: Result<Played<N>, Refusal>) -> Result<(), Fail> {
+        let Ok(played) = played else {
+            return Err(Fail::from("a call was refused"));
+        };
+        let Played {
+            seat,
+            receipts,
+            read,
+        } = played;
+        self.seats.push(seat)?;
+        self.receipts.push(receipts)?;
+        self.read = read;
+        Ok(())
+    }
+
+    /// Some plays in turn, by the seat that came last.
+    fn in_turn<R: Wait>(
+        &mut self,
+        rt: &R,
+        alloc: Global,
+        machine: &Raced<N>,
+        plays: Vec<Play>,
+    ) -> Result<(), Fail> {
+        for play in plays {
+            let Some(seat) = self.seats.pop() else {
+                return Err(Fail::from("no seat"));
+            };
+            self.add(work(rt, alloc, machine, Job { seat, play }))?;
+        }
+        Ok(())
+    }
+}
+
+/// The jobs of plays that are made at once, each with a seat.
+fn jobs<N: Naming + Counting>(
+    alloc: Global,
+    seats: &mut Vec<Seat<N>>,
+    plays: Vec<Play>,
+) -> Result<Vec<Job<N>>, Fail> {
+    let mut jobs = Vec::new(alloc);
+    for play in plays {
+        let Some(seat) = seats.pop() else {
+            return Err(Fail::from("no seat"));
+        };
+        jobs.push(Job { seat, play })?;
+    }
+    Ok(jobs)
+}
+
+/// Plays a script on a machine over these queues, and ends it. It has a seat for each play at once.
+fn play_all<N: Naming + Counting + Send + Sync, R: Threads + Wait + Sync>(
+    rt: &R,
+    alloc: Global,
+    prepared: Prepared<HeldQueue>,
+    unnamed: Unnamed,
+    clock: CountingClock,
+    queues: Vec<HeldQueue>,
+    script: Script,
+) -> Result<Outcome, Fail>
+    requires name { prepared.0 ≡ N.table }
+    requires counters { unnamed.0 ≡ N.counters }
+    requires counts { (prepared.1.about ≡ 4) × (prepared.1.callers ≡ length script.at_once.items) × (unnamed.1 ≡ length script.at_once.items) }
+    requires many { length queues.items ≡ 4 }
+    requires empty { All (λ q. (q.queue.members ≡ []) × (q.queue.kept ≡ 2 ^ 32)) queues.items }
+{
+    let Script {
+        before,
+        at_once,
+        after,
+    } = script;
+    let count = at_once.len() as u64;
+    let (machine, seats) = Raced::<N>::with_queues(alloc, clock, queues, prepared, unnamed, count)?;
+    let mut collected = Collected {
+        seats,
+        receipts: Vec::new(alloc),
+        read: 0,
+    };
+    collected.in_turn(rt, alloc, &machine, before)?;
+    let jobs = jobs(alloc, &mut collected.seats, at_once)?;
+    let shared = &machine;
+    let done = map_vec(rt, jobs, &|job| work(rt, alloc, shared, job))?;
+    for one in done {
+        collected.add(one)?;
+    }
+    collected.in_turn(rt, alloc, &machine, after)?;
+    let Collected {
+        seats,
+        receipts,
+        read,
+    } = collected;
+    if !machine.owns(&seats) {
+        return Err(Fail::from("a seat is missing"));
+    }
+    let closed = machine.close(seats);
+    Ok(Outcome {
+        closed,
+        receipts,
+        read,
+    })
+}
+
+/// Queues without tasks. The mark of the first comes to the gate, if there is one.
+fn queues(
+    alloc: Global,
+    count: usize,
+    gate: Option<Arc<Gate, Global>>,
+) -> Result<Vec<HeldQueue>, AllocError>
+    ensures many { IfOk result (λ v. vec_len v ≡ count) }
+    ensures empty { IfOk result (λ v. All (λ q. (q.queue.members ≡ []) × (q.queue.kept ≡ 2 ^ 32)) v.items) }
+{
+    let mut queues = Vec::new(alloc);
+    let mut gate = gate;
+    'queues: for _ in 0..count {
+        queues.push(HeldQueue::at(gate.take()))?;
+    }
+    Ok(queues)
+}
+
+/// What comes of a script on a machine of four processors, where processor 0's clock, or its queue's mark, comes to a gate.
+pub fn run_script<R: Threads + Wait + Sync>(
+    rt: &R,
+    alloc: Global,
+    at_clock: Option<Arc<Gate, Global>>,
+    at_queue: Option<Arc<Gate, Global>>,
+    script: Script,
+) -> Result<Outcome, Fail> {
+    let clock = CountingClock::new(alloc, 4, at_clock)?;
+    let queues = queues(alloc, 4, at_queue)?;
+    let seats = script.at_once.len() as u64;
+    let (prepared, unnamed) = prepare::<HeldQueue>(alloc, 4, seats)?;
+    play_all::<Brand, R>(rt, alloc, prepared, unnamed, clock, queues, script)
+}
