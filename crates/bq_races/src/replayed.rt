@@ -1,7 +1,7 @@
 // A history that a core goes through once more, event by event.
 ghost use Rattle.std.specs.Prelude.{◌≤◌};
 
-use bq_alike::is_same_answer;
+use bq_alike::{event_again, is_same_answer};
 use bq_core::{Board, Core, Event, Hook, Plain};
 use bq_disc::RunQueue;
 use bq_machine::Closed;
@@ -89,7 +89,7 @@ pub fn is_replayed<Q: RunQueue + Drop, const P: usize>(
             made: 0,
             is_same: true,
         };
-        let answer = core.step(alloc, event.again()?, &mut board);
+        let answer = core.step(alloc, event_again(event)?, &mut board);
         if !is_same_answer(&answer, reply) || !board.was_followed() {
             return Ok(false);
         }
@@ -127,7 +127,7 @@ fn is_same_world<Q: RunQueue + Drop, const P: usize>(
         return Ok(false);
     }
     for event in last_events(alloc, core.processors() as u8)? {
-        let answer = core.step(alloc, event.again()?, &mut Plain::new());
+        let answer = core.step(alloc, event_again(&event)?, &mut Plain::new());
         let other_answer = other.step(alloc, event, &mut Plain::new());
         if !is_same_answer(&answer, &other_answer) {
             return Ok(false);

@@ -52,7 +52,7 @@ fn write_queue<Q: RunQueue>(text: &mut String, cpu: &Cpu<Q>) -> Result<(), Alloc
 }
 
 /// Adds the line that shows a processor.
-fn write_processor<Q: RunQueue>(
+pub fn write_processor<Q: RunQueue>(
     text: &mut String,
     processor: u8,
     cpu: &Cpu<Q>,
