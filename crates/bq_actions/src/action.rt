@@ -11,7 +11,7 @@ pub enum Length {
     Fixed(u64),
     /// Each whole number from `least` to `greatest`, both included, as likely as another.
     Uniform { least: u64, greatest: u64 },
-    /// Exponential with this mean, as far as whole numbers go: at least 1, and at most 45 means and `LONGEST`.
+    /// Exponential with this mean, as far as whole numbers go: at least 1, and at most 46 means and `LONGEST`.
     Exponential { mean: u64 },
 }
 
