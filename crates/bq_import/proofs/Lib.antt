@@ -1,0 +1,4 @@
+pub mod StepLemmas
+pub mod CopyLemmas
+pub mod RunLemmas
+pub mod PathLemmas
