@@ -1,16 +1,16 @@
 -- A step of a program is a step of its copy, and the other way.
-use Rattle.std.proofs.Common.{◌≡◌, ℕ, ◌+◌, ◌-◌, ◌<◌, ◌≤◌, Bool, true, false, List, Option, Some, None, length, refl, arith, sym, ap, ◌∙◌, subst, ◌⊎◌, inl, inr, ℤ, pos}
+use Rattle.std.proofs.Common.{◌≡◌, ℕ, ◌+◌, ◌-◌, ◌<◌, ◌≤◌, Bool, true, false, List, Option, Some, None, length, refl, arith, sym, ap, ◌∙◌, subst, inl, inr, ℤ, pos}
 use Rattle.std.specs.Prelude.{◌&&◌, nat_le, nat_lt}
 use Rattle.bq_insn.specs.declared.Insn.{Insn}
 use Rattle.bq_insn.specs.declared.Insn.TheVariants.{Alu, MovSx, Neg, End, Load, StoreImm, StoreReg, Imm64, MapRef, Goto, Goto32, Branch, Call, Exit}
 use Rattle.bq_insn.specs.Slots.{slots_of}
 use Rattle.bq_maps.specs.declared.board.Call.{Call as Asked}
 use Rattle.bq_maps.specs.Memory.{Setting, State, reference}
-use Rattle.bq_maps.specs.Machine.{Takes, Step, Ends, LeadsTo, instruction_at, put, IsTarget}
-use Rattle.bq_graph.specs.Edges.{distance_of, goes_on, IsStart}
+use Rattle.bq_maps.specs.Machine.{Takes, Step, Ends, LeadsTo, put, IsTarget}
+use Rattle.bq_graph.specs.Edges.{distance_of, goes_on}
 use Rattle.bq_graph.proofs.EdgeLemmas.{some_same, leads_same}
 use Rattle.bq_import.specs.Laws.{beside}
-use Rattle.bq_import.specs.Copies.{is_reference, wide_copy, copied, Stands, JumpsAlike, IsCopyAt, IsCopy}
+use Rattle.bq_import.specs.Copies.{is_reference, wide_copy, copied, Stands, JumpsAlike, IsCopy}
 use Rattle.bq_import.proofs.StepLemmas.{moved, takes_moved}
 
 true_and : (a b : Bool) → (a && b) ≡ true → (a ≡ true) × (b ≡ true)
@@ -118,8 +118,13 @@ module _ (maps : ℕ) (old new : List (Option Insn)) (origin : List ℕ) (f : Se
         let r = refers maps value is in
         record {
           slot = k + 2;
-          takes = (value - reference 0, refl, subst (λ (n : ℕ). value - reference 0 < n) (sym as_many) r.there, target,
-            ap (λ (v : State). moved v (k + 2)) e ∙ ap (λ (n : ℕ). put (moved s k) 2 dst n) (sym r.is));
+          takes = (
+            value - reference 0,
+            refl,
+            subst (λ (n : ℕ). value - reference 0 < n) (sym as_many) r.there,
+            target,
+            ap (λ (v : State). moved v (k + 2)) e ∙ ap (λ (n : ℕ). put (moved s k) 2 dst n) (sym r.is),
+          );
           stands = subst (λ (n : ℕ). Stands new origin (k + 2) n) (sym (ap (λ (v : State). v.slot) e)) on;
         }
 

@@ -2,3 +2,8 @@ pub mod StepLemmas
 pub mod CopyLemmas
 pub mod RunLemmas
 pub mod PathLemmas
+pub mod BackwardLemmas
+pub mod SearchLemmas
+pub mod StackLemmas
+pub mod OrderLemmas
+pub mod ProgramLemmas

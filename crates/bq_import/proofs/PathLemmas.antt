@@ -1,12 +1,12 @@
 -- A copy has the same paths, instruction by instruction.
-use Rattle.std.proofs.Common.{◌≡◌, ℕ, suc, ◌+◌, ◌<◌, ◌≤◌, arith, Bool, true, false, List, [], ◌∷◌, Option, Some, None, length, refl, sym, ap, ◌∙◌, subst, ◌⊎◌, inl, inr, ℤ}
+use Rattle.std.proofs.Common.{◌≡◌, ℕ, suc, ◌+◌, ◌<◌, arith, Bool, true, false, List, [], ◌∷◌, Option, Some, None, length, refl, sym, ap, ◌∙◌, subst, ◌⊎◌, inl, inr, ℤ}
 use Rattle.std.specs.Prelude.{slice_index}
 use Rattle.bq_insn.specs.declared.Insn.{Insn}
 use Rattle.bq_insn.specs.declared.Insn.TheVariants.{Alu, MovSx, Neg, End, Load, StoreImm, StoreReg, Imm64, MapRef, Goto, Goto32, Branch, Call, Exit}
 use Rattle.bq_insn.specs.Slots.{slots_of}
-use Rattle.bq_maps.specs.Machine.{LeadsTo, instruction_at}
-use Rattle.bq_graph.specs.Edges.{IsEdge, IsStart, Leaves, distance_of, goes_on}
-use Rattle.bq_graph.specs.Paths.{IsPath, PathOut, IsGreatest, end_of}
+use Rattle.bq_maps.specs.Machine.{LeadsTo}
+use Rattle.bq_graph.specs.Edges.{IsEdge, IsStart, distance_of, goes_on}
+use Rattle.bq_graph.specs.Paths.{IsPath, PathOut, end_of}
 use Rattle.bq_graph.specs.Faults.{IsBadJump, RunsOut}
 use Rattle.bq_graph.proofs.EdgeLemmas.{some_same, leads_same, start_inside}
 use Rattle.bq_graph.proofs.SoundLemmas.{slots_positive}
@@ -67,22 +67,22 @@ module _ (maps : ℕ) (old new : List (Option Insn)) (origin : List ℕ) (copy :
       let shape = shape_of maps at.original at.distance in
       let same = some_same _ edge.insn at.original edge.here at.here in
       elim edge.leaves [
-        inl (on, is) ↦
-        let on' : goes_on at.original ≡ true = ap goes_on (sym same) ∙ on in
-        let is' : to ≡ from + slots_of at.original = is ∙ ap (λ (i : Insn). from + slots_of i) same in
-        record {
-          landing = slot + slots_of at.original;
-          edge = record { insn = copied maps at.original at.distance; here = at.copy; leaves = inl (shape.on ∙ on', ap (λ (n : ℕ). slot + n) (sym shape.long)) };
-          stands = subst (λ (n : ℕ). Stands new origin (slot + slots_of at.original) n) (sym is') (at.on on');
-        }
+        | inl (on, is) ↦
+            let on' : goes_on at.original ≡ true = ap goes_on (sym same) ∙ on in
+            let is' : to ≡ from + slots_of at.original = is ∙ ap (λ (i : Insn). from + slots_of i) same in
+            record {
+              landing = slot + slots_of at.original;
+              edge = record { insn = copied maps at.original at.distance; here = at.copy; leaves = inl (shape.on ∙ on', ap (λ (n : ℕ). slot + n) (sym shape.long)) };
+              stands = subst (λ (n : ℕ). Stands new origin (slot + slots_of at.original) n) (sym is') (at.on on');
+            }
         | inr (far, is, leads) ↦
-        let is' : distance_of at.original ≡ Some far = ap distance_of (sym same) ∙ is in
-        let alike = at.jumps far is' in
-        record {
-          landing = alike.landing;
-          edge = record { insn = copied maps at.original at.distance; here = at.copy; leaves = inr (at.distance, shape.jumps far is', alike.lands) };
-          stands = subst (λ (n : ℕ). Stands new origin alike.landing n) (leads_same from alike.target to far alike.leads leads) alike.stands;
-        }
+            let is' : distance_of at.original ≡ Some far = ap distance_of (sym same) ∙ is in
+            let alike = at.jumps far is' in
+            record {
+              landing = alike.landing;
+              edge = record { insn = copied maps at.original at.distance; here = at.copy; leaves = inr (at.distance, shape.jumps far is', alike.lands) };
+              stands = subst (λ (n : ℕ). Stands new origin alike.landing n) (leads_same from alike.target to far alike.leads leads) alike.stands;
+            }
       ]
 
   far_of : (v : Option ℤ) → (v ≡ None) ⊎ ((far : ℤ) × (v ≡ Some far))
@@ -95,27 +95,27 @@ module _ (maps : ℕ) (old new : List (Option Insn)) (origin : List ℕ) (copy :
       let shape = shape_of maps at.original at.distance in
       let same = some_same _ edge.insn (copied maps at.original at.distance) edge.here at.copy in
       elim edge.leaves [
-        inl (on, is) ↦
-        let on' : goes_on at.original ≡ true = sym shape.on ∙ (ap goes_on (sym same) ∙ on) in
-        let is' : landing ≡ slot + slots_of at.original = is ∙ (ap (λ (i : Insn). slot + slots_of i) same ∙ ap (λ (n : ℕ). slot + n) shape.long) in
-        record {
-          target = from + slots_of at.original;
-          edge = record { insn = at.original; here = at.here; leaves = inl (on', refl) };
-          stands = subst (λ (n : ℕ). Stands new origin n (from + slots_of at.original)) (sym is') (at.on on');
-        }
+        | inl (on, is) ↦
+            let on' : goes_on at.original ≡ true = sym shape.on ∙ (ap goes_on (sym same) ∙ on) in
+            let is' : landing ≡ slot + slots_of at.original = is ∙ (ap (λ (i : Insn). slot + slots_of i) same ∙ ap (λ (n : ℕ). slot + n) shape.long) in
+            record {
+              target = from + slots_of at.original;
+              edge = record { insn = at.original; here = at.here; leaves = inl (on', refl) };
+              stands = subst (λ (n : ℕ). Stands new origin n (from + slots_of at.original)) (sym is') (at.on on');
+            }
         | inr (near, is, leads) ↦
-        let is' : distance_of (copied maps at.original at.distance) ≡ Some near = ap distance_of (sym same) ∙ is in
-        elim (far_of (distance_of at.original)) [
-          inl none ↦ absurd (none_some near (sym (shape.stays none) ∙ is'))
-          | inr (far, jumps) ↦
-          let alike = at.jumps far jumps in
-          let near' : near ≡ at.distance = some_same _ near at.distance is' (shape.jumps far jumps) in
-          record {
-            target = alike.target;
-            edge = record { insn = at.original; here = at.here; leaves = inr (far, jumps, alike.leads) };
-            stands = subst (λ (n : ℕ). Stands new origin n alike.target) (leads_same slot alike.landing landing at.distance alike.lands (subst (λ (z : ℤ). LeadsTo slot z landing) near' leads)) alike.stands;
-          }
-        ]
+            let is' : distance_of (copied maps at.original at.distance) ≡ Some near = ap distance_of (sym same) ∙ is in
+            elim (far_of (distance_of at.original)) [
+              | inl none ↦ absurd (none_some near (sym (shape.stays none) ∙ is'))
+              | inr (far, jumps) ↦
+                  let alike = at.jumps far jumps in
+                  let near' : near ≡ at.distance = some_same _ near at.distance is' (shape.jumps far jumps) in
+                  record {
+                    target = alike.target;
+                    edge = record { insn = at.original; here = at.here; leaves = inr (far, jumps, alike.leads) };
+                    stands = subst (λ (n : ℕ). Stands new origin n alike.target) (leads_same slot alike.landing landing at.distance alike.lands (subst (λ (z : ℤ). LeadsTo slot z landing) near' leads)) alike.stands;
+                  }
+            ]
       ]
 
   record PathAhead (slot from : ℕ) (rest : List ℕ) : Type 0 where
@@ -159,9 +159,10 @@ module _ (maps : ℕ) (old new : List (Option Insn)) (origin : List ℕ) (copy :
       record { rest = there.rest; is_path = there.is_path; exits = at.here ∙ ap (λ (i : Insn). Some i) same; count_is = out.count_is ∙ ap suc there.long }
 
 pub same_budget : SameBudget
-same_budget maps old new origin copy budget =
-    ( λ most. record { holds = out_ahead maps old new origin copy budget most.holds; bounds = λ n out. most.bounds n (out_behind maps old new origin copy n out) }
-    , λ most. record { holds = out_behind maps old new origin copy budget most.holds; bounds = λ n out. most.bounds n (out_ahead maps old new origin copy n out) })
+same_budget maps old new origin copy budget = (
+  λ most. record { holds = out_ahead maps old new origin copy budget most.holds; bounds = λ n out. most.bounds n (out_behind maps old new origin copy n out) },
+  λ most. record { holds = out_behind maps old new origin copy budget most.holds; bounds = λ n out. most.bounds n (out_ahead maps old new origin copy n out) },
+)
 
 -- of each start of a copy it is known what it is a copy of
 at_start : (new : List (Option Insn)) (origin : List ℕ) (slot : ℕ) → IsStart new slot → Stands new origin slot (slice_index origin slot)
@@ -174,21 +175,21 @@ module _ (maps : ℕ) (old new : List (Option Insn)) (origin : List ℕ) (copy :
       let shape = shape_of maps at.original at.distance in
       let same = some_same _ edge.insn (copied maps at.original at.distance) edge.here at.copy in
       elim edge.leaves [
-        inl (on, is) ↦
-        let on' : goes_on at.original ≡ true = sym shape.on ∙ (ap goes_on (sym same) ∙ on) in
-        let is' : to ≡ from + slots_of at.original = is ∙ (ap (λ (i : Insn). from + slots_of i) same ∙ ap (λ (n : ℕ). from + n) shape.long) in
-        let positive = slots_positive at.original in
-        (omega (arith, is', positive), subst (λ (n : ℕ). IsStart new n) (sym is') (at.on on').start)
+        | inl (on, is) ↦
+            let on' : goes_on at.original ≡ true = sym shape.on ∙ (ap goes_on (sym same) ∙ on) in
+            let is' : to ≡ from + slots_of at.original = is ∙ (ap (λ (i : Insn). from + slots_of i) same ∙ ap (λ (n : ℕ). from + n) shape.long) in
+            let positive = slots_positive at.original in
+            (omega (arith, is', positive), subst (λ (n : ℕ). IsStart new n) (sym is') (at.on on').start)
         | inr (near, is, leads) ↦
-        let is' : distance_of (copied maps at.original at.distance) ≡ Some near = ap distance_of (sym same) ∙ is in
-        elim (far_of maps old new origin copy (distance_of at.original)) [
-          inl none ↦ absurd (none_some near (sym (shape.stays none) ∙ is'))
-          | inr (far, jumps) ↦
-          let alike = at.jumps far jumps in
-          let near' : near ≡ at.distance = some_same _ near at.distance is' (shape.jumps far jumps) in
-          let landing : alike.landing ≡ to = leads_same from alike.landing to at.distance alike.lands (subst (λ (z : ℤ). LeadsTo from z to) near' leads) in
-          (subst (λ (n : ℕ). from < n) landing alike.later, subst (λ (n : ℕ). IsStart new n) landing alike.stands.start)
-        ]
+            let is' : distance_of (copied maps at.original at.distance) ≡ Some near = ap distance_of (sym same) ∙ is in
+            elim (far_of maps old new origin copy (distance_of at.original)) [
+              | inl none ↦ absurd (none_some near (sym (shape.stays none) ∙ is'))
+              | inr (far, jumps) ↦
+                  let alike = at.jumps far jumps in
+                  let near' : near ≡ at.distance = some_same _ near at.distance is' (shape.jumps far jumps) in
+                  let landing : alike.landing ≡ to = leads_same from alike.landing to at.distance alike.lands (subst (λ (z : ℤ). LeadsTo from z to) near' leads) in
+                  (subst (λ (n : ℕ). from < n) landing alike.later, subst (λ (n : ℕ). IsStart new n) landing alike.stands.start)
+            ]
       ]
 
   no_bad_jump : (slot : ℕ) → IsBadJump new slot → ⊥
@@ -198,11 +199,11 @@ module _ (maps : ℕ) (old new : List (Option Insn)) (origin : List ℕ) (copy :
       let same = some_same _ bad.insn (copied maps at.original at.distance) bad.here at.copy in
       let is' : distance_of (copied maps at.original at.distance) ≡ Some bad.distance = ap distance_of (sym same) ∙ bad.jumps in
       elim (far_of maps old new origin copy (distance_of at.original)) [
-        inl none ↦ absurd (none_some bad.distance (sym (shape.stays none) ∙ is'))
+        | inl none ↦ absurd (none_some bad.distance (sym (shape.stays none) ∙ is'))
         | inr (far, jumps) ↦
-        let alike = at.jumps far jumps in
-        let near' : at.distance ≡ bad.distance = some_same _ at.distance bad.distance (shape.jumps far jumps) is' in
-        bad.nowhere alike.landing (subst (λ (z : ℤ). LeadsTo slot z alike.landing) near' alike.lands) alike.later alike.stands.start
+            let alike = at.jumps far jumps in
+            let near' : at.distance ≡ bad.distance = some_same _ at.distance bad.distance (shape.jumps far jumps) is' in
+            bad.nowhere alike.landing (subst (λ (z : ℤ). LeadsTo slot z alike.landing) near' alike.lands) alike.later alike.stands.start
       ]
 
   none_runs_out : (slot : ℕ) → RunsOut new slot → ⊥

@@ -1,11 +1,10 @@
 -- A copy has the same runs, and is safe within the same budgets.
-use Rattle.std.proofs.Common.{◌≡◌, ℕ, zero, suc, ◌+◌, ◌^◌, ◌<◌, ◌≤◌, List, [], ◌∷◌, ◌++◌, Option, Some, None, length, refl, sym, ap, ◌∙◌, subst, ◌⊎◌, inl, inr}
+use Rattle.std.proofs.Common.{◌≡◌, ℕ, zero, suc, List, Option, Some, None, length, refl, sym, ap, ◌∙◌, subst, ◌⊎◌, inl, inr}
 use Rattle.bq_insn.specs.declared.Insn.{Insn}
 use Rattle.bq_maps.specs.declared.shape.MapShape.{MapShape}
 use Rattle.bq_maps.specs.declared.board.Call.{Call as Asked}
-use Rattle.bq_maps.specs.Counters.{answer_of}
 use Rattle.bq_maps.specs.Memory.{Setting, State}
-use Rattle.bq_maps.specs.Machine.{Step, Ends, Chain, RunFrom, GoesOn, GoesWell, IsSetting, Safe, start}
+use Rattle.bq_maps.specs.Machine.{Step, Ends, Chain, RunFrom, GoesOn, GoesWell, IsSetting, start}
 use Rattle.bq_import.specs.Copies.{Stands, IsCopy}
 use Rattle.bq_import.specs.Laws.{beside, SameRuns, SameSafety}
 use Rattle.bq_import.proofs.StepLemmas.{moved}
@@ -101,16 +100,17 @@ its_own : (slots : List (Option Insn)) (f : Setting) → f.slots ≡ slots → f
 its_own slots f e = ap (λ (v : List (Option Insn)). beside f v) e
 
 pub same_safety : SameSafety
-same_safety maps old new origin copy shapes context budget as_many =
-    ( λ safe f contents setting have n calls t chain.
+same_safety maps old new origin copy shapes context budget as_many = (
+  λ safe f contents setting have n calls t chain.
       let own = its_own new f setting.slots_are in
       subst (λ (g : Setting). GoesWell g budget n calls t) (sym own)
       (well_ahead maps old new origin copy f (ap length setting.shapes_are ∙ as_many) contents budget n calls t
-        (λ u there. safe (beside f old) contents (setting_beside new old shapes context f setting) have n calls u there)
-        (subst (λ (g : Setting). Chain g (start contents) n calls t) own chain))
-    , λ safe f contents setting have n calls t chain.
+      (λ u there. safe (beside f old) contents (setting_beside new old shapes context f setting) have n calls u there)
+      (subst (λ (g : Setting). Chain g (start contents) n calls t) own chain)),
+  λ safe f contents setting have n calls t chain.
       let own = its_own old f setting.slots_are in
       subst (λ (g : Setting). GoesWell g budget n calls t) (sym own)
       (well_behind maps old new origin copy f (ap length setting.shapes_are ∙ as_many) contents budget n calls t
-        (λ u there. safe (beside f new) contents (setting_beside old new shapes context f setting) have n calls u there)
-        (subst (λ (g : Setting). Chain g (start contents) n calls t) own chain)))
+      (λ u there. safe (beside f new) contents (setting_beside old new shapes context f setting) have n calls u there)
+      (subst (λ (g : Setting). Chain g (start contents) n calls t) own chain)),
+)

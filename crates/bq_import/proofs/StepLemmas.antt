@@ -1,6 +1,6 @@
 -- What an instruction does depends on its slot only in where it goes on: at another slot, in a setting with another program,
 -- it does the same and goes on as far.
-use Rattle.std.proofs.Common.{◌≡◌, ℕ, ◌+◌, ◌<◌, Bool, true, false, List, Option, Some, None, length, refl, arith, sym, ap, ◌∙◌, ◌⊎◌, inl, inr, ℤ}
+use Rattle.std.proofs.Common.{◌≡◌, ℕ, ◌+◌, List, Option, Some, None, length, refl, ap, ◌∙◌, inl, inr, ℤ}
 use Rattle.bq_insn.specs.declared.Insn.{Insn}
 use Rattle.bq_insn.specs.declared.Insn.TheVariants.{Alu, MovSx, Neg, End, Load, StoreImm, StoreReg, Imm64, MapRef, Goto, Goto32, Branch, Call, Exit}
 use Rattle.bq_insn.specs.Slots.{slots_of}
@@ -67,12 +67,14 @@ module _ (f : Setting) (slots : List (Option Insn)) (k : ℕ) where
   helps_moved : (helper : ℤ) (s t : State) → Helps f helper s t → Helps (beside f slots) helper (moved s k) (moved t (k + 1)) × (t.slot ≡ s.slot + 1)
   helps_moved helper s t (inl (one, (m, shape, n, entry, e))) =
       (inl (one, (m, shape, n, names_moved s m shape n entry, ap (λ (v : State). moved v (k + 1)) e)), ap (λ (v : State). v.slot) e)
-  helps_moved helper s t (inr (inl (two, (m, shape, n, from, value, entry, is, long, reads, none, inl (there, u, writes, e))))) =
-      (inr (inl (two, (m, shape, n, from, value, names_moved s m shape n entry, is, long, reads_moved s from value reads, none, inl (there, moved u k, writes_moved s _ value u writes, ap (λ (v : State). moved v (k + 1)) e)))),
-      ap (λ (v : State). v.slot) e ∙ ap (λ (n : ℕ). n + 1) (writes_slot s _ value u writes))
-  helps_moved helper s t (inr (inl (two, (m, shape, n, from, value, entry, is, long, reads, none, inr (past, e))))) =
-      (inr (inl (two, (m, shape, n, from, value, names_moved s m shape n entry, is, long, reads_moved s from value reads, none, inr (past, ap (λ (v : State). moved v (k + 1)) e)))),
-      ap (λ (v : State). v.slot) e)
+  helps_moved helper s t (inr (inl (two, (m, shape, n, from, value, entry, is, long, reads, none, inl (there, u, writes, e))))) = (
+    inr (inl (two, (m, shape, n, from, value, names_moved s m shape n entry, is, long, reads_moved s from value reads, none, inl (there, moved u k, writes_moved s _ value u writes, ap (λ (v : State). moved v (k + 1)) e)))),
+    ap (λ (v : State). v.slot) e ∙ ap (λ (n : ℕ). n + 1) (writes_slot s _ value u writes),
+  )
+  helps_moved helper s t (inr (inl (two, (m, shape, n, from, value, entry, is, long, reads, none, inr (past, e))))) = (
+    inr (inl (two, (m, shape, n, from, value, names_moved s m shape n entry, is, long, reads_moved s from value reads, none, inr (past, ap (λ (v : State). moved v (k + 1)) e)))),
+    ap (λ (v : State). v.slot) e,
+  )
   helps_moved helper s t (inr (inr (inl (five, e)))) = (inr (inr (inl (five, ap (λ (v : State). moved v (k + 1)) e))), ap (λ (v : State). v.slot) e)
   helps_moved helper s t (inr (inr (inr (eight, e)))) = (inr (inr (inr (eight, ap (λ (v : State). moved v (k + 1)) e))), ap (λ (v : State). v.slot) e)
 
