@@ -8,8 +8,6 @@ pub mod arithmetic;
 pub mod moves;
 pub mod narrowing;
 pub mod range;
-#[cfg(test)]
-mod tests;
 pub mod words;
 
 pub use range::Range;

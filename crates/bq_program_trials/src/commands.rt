@@ -1,6 +1,6 @@
 // Worked cases of the commands: input, what is written, and whether it was accepted.
 
-use crate::{
+use bq_program::{
     Answer, Form, Hook, Options, OptionsFault, Version, assembled, checked, disassembled,
     refused_options,
 };

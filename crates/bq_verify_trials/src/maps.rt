@@ -1,9 +1,9 @@
 // The limits of shapes, and values written and read back.
 
-use crate::arrays::Maps;
-use crate::board::{Board, Plain};
-use crate::helper::Helper;
-use crate::shape::MapShape;
+use bq_maps::arrays::Maps;
+use bq_maps::board::{Board, Plain};
+use bq_maps::helper::Helper;
+use bq_maps::shape::MapShape;
 use std::test::Fail;
 
 #[test]

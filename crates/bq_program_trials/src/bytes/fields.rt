@@ -2,7 +2,7 @@
 ghost use Rattle.std.specs.Prelude.{◌<◌};
 
 use super::{comes_back, fault_of};
-use crate::fault::{Cause, DecodeFault};
+use bq_insn::fault::{Cause, DecodeFault};
 use std::process::Abort;
 use std::test::Fail;
 

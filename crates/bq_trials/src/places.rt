@@ -1,7 +1,7 @@
 // Contexts of places, permitted answers and own places. Expected bytes are written field by field from the tables of
 // docs/CONTEXTS.md; each load is its processor's number and one more.
 
-use crate::{
+use bq_hooks::{
     By, Choice, Loads, Place, own_place, place_ctx, settle_place, settle_preempt, wide_place_ctx,
 };
 use bq_disc::Entity;

@@ -3,9 +3,9 @@
 ghost use Rattle.std.specs.Prelude.{◌≡◌};
 ghost use Rattle.bq_verify.specs.Worked.{calling, worked};
 
-use crate::hook::{Hook, Version};
-use crate::program::{Program, verify};
-use crate::refused::Refused;
+use bq_verify::hook::{Hook, Version};
+use bq_verify::program::{Program, verify};
+use bq_verify::refused::Refused;
 use bq_graph::cause::Cause;
 use bq_insn::encode::well_formed;
 use bq_insn::{Condition, Insn, Operation, Size, Source, Width};

@@ -1,5 +1,5 @@
 // Texts with the bytes or the refusal that the format asks for, and bytes with their listing.
-use crate::{AsmFault, Cause, assemble, listing};
+use bq_asm::{AsmFault, Cause, assemble, listing};
 use bq_insn::decode::decode;
 use bq_insn::encode::encode;
 use std::process::Abort;

@@ -1,7 +1,7 @@
 //! Worked traces in which policies choose, with values from outside this program. Images are those of the format: their
 //! programs are short enough to read as bytes.
 
-use crate::{Counted, Session, replay};
+use bq_trace::{Counted, Session, replay};
 use std::test::Fail;
 
 /// A trace, what it is answered, and whether no line was bad.

@@ -1,9 +1,9 @@
 // Worked intervals: sums, products, shifts, and what branches leave.
 
-use crate::arithmetic::alu;
-use crate::moves::{extend, neg, reorder};
-use crate::narrowing::narrow;
-use crate::range::Range;
+use bq_ranges::arithmetic::alu;
+use bq_ranges::moves::{extend, neg, reorder};
+use bq_ranges::narrowing::narrow;
+use bq_ranges::range::Range;
 use bq_insn::{Bits, Condition, Operation, Order, Width};
 use std::test::Fail;
 

@@ -1,6 +1,6 @@
 //! Worked traces, with values from outside this program.
 
-use crate::{Counted, ReplayFault, Session, replay};
+use bq_trace::{Counted, ReplayFault, Session, replay};
 use std::io;
 use std::io::{Error, ErrorKind, Read, Write};
 use std::str::from_utf8;
