@@ -32,13 +32,25 @@ pub fn slots_of(insn: Insn) -> (Slot, Option<Slot>)
             dst,
             src,
             off,
-        } => one(Form::Load { size, signed }, dst, src, off.cast_unsigned(), 0),
+        } => one(
+            Form::Load { size, signed },
+            dst,
+            src,
+            off.cast_unsigned(),
+            0,
+        ),
         Insn::StoreImm {
             size,
             dst,
             off,
             imm,
-        } => one(Form::StoreImm { size }, dst, 0, off.cast_unsigned(), imm.cast_unsigned()),
+        } => one(
+            Form::StoreImm { size },
+            dst,
+            0,
+            off.cast_unsigned(),
+            imm.cast_unsigned(),
+        ),
         Insn::StoreReg {
             size,
             dst,

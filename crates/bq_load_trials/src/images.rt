@@ -1,8 +1,8 @@
 // Images by their bytes: what is loaded, with its budget, and what is refused, with slot and cause; the same in pieces.
 // The images and their answers are worked by hand from the format and the rules of the verifier.
 
-use bq_load::{Hook, ImageReader, LoadFault, Version, load, read_image, write_image};
 use bq_insn::fault::Cause as Code;
+use bq_load::{Hook, ImageReader, LoadFault, Version, load, read_image, write_image};
 use bq_verify::Cause;
 use std::alloc::{AllocError, Global};
 use std::test::Fail;

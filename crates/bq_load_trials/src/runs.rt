@@ -1,11 +1,11 @@
 // Programs run on two stacks of different bytes: what register 0 is at the EXIT, and how many instructions it took.
 // The values are worked by hand from RFC 9669.
 
+use bq_insn::encode::well_formed;
+use bq_insn::{Bits, Condition, Insn, Operation, Order, Size, Source, Width};
 use bq_interp::env::Env;
 use bq_interp::runs::{Ran, run};
 use bq_interp::stack::Stack;
-use bq_insn::encode::well_formed;
-use bq_insn::{Bits, Condition, Insn, Operation, Order, Size, Source, Width};
 use bq_maps::{Call, MapShape, Maps, Plain};
 use bq_verify::hook::context_length;
 use bq_verify::{Hook, Program, Verified, Version, verify};

@@ -1,9 +1,9 @@
 // The machine by one thread: what is answered, at which places, and what the end confirms. The values follow from the rules.
 ghost use Rattle.std.specs.Prelude.{◌≡◌};
 
-use bq_machine::{Clock, Counting, LoadRefused, Machine, Naming, Prepared, Unnamed, prepare};
 use bq_cfs::CfsQueue;
 use bq_load::LoadFault;
+use bq_machine::{Clock, Counting, LoadRefused, Machine, Naming, Prepared, Unnamed, prepare};
 use bq_parts::{By, Hook, Refusal, Reply};
 use std::alloc::Global;
 use std::marker::Brand;

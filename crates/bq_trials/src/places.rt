@@ -1,10 +1,10 @@
 // Contexts of places, permitted answers and own places. Expected bytes are written field by field from the tables of
 // docs/CONTEXTS.md; each load is its processor's number and one more.
 
+use bq_disc::Entity;
 use bq_hooks::{
     By, Choice, Loads, Place, own_place, place_ctx, settle_place, settle_preempt, wide_place_ctx,
 };
-use bq_disc::Entity;
 use std::process::Abort;
 
 /// The loads 1, 2, 3 and so on.

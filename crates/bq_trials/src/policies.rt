@@ -1,8 +1,8 @@
 // Policies are asked at their hooks: what they answer, in how many steps, and which maps and counters they see.
 
-use bq_policies::{Env, Hook, Hooks, Installed, Policy, Scratch, Version};
 use bq_insn::decode::decode;
 use bq_maps::{Call, MapShape, Plain};
+use bq_policies::{Env, Hook, Hooks, Installed, Policy, Scratch, Version};
 use bq_verify::hook::context_length;
 use bq_verify::{Program, verify};
 use std::alloc::{AllocError, Global};

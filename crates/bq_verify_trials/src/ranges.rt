@@ -1,10 +1,10 @@
 // Worked intervals: sums, products, shifts, and what branches leave.
 
+use bq_insn::{Bits, Condition, Operation, Order, Width};
 use bq_ranges::arithmetic::alu;
 use bq_ranges::moves::{extend, neg, reorder};
 use bq_ranges::narrowing::narrow;
 use bq_ranges::range::Range;
-use bq_insn::{Bits, Condition, Operation, Order, Width};
 use std::test::Fail;
 
 fn range(lo: u64, hi: u64) -> Range {
@@ -24,6 +24,26 @@ fn results(rt: HostRuntime) -> Result<(), Fail> {
         // the amount of a shift is taken modulo the width
         (Operation::Rsh, range(16, 255), range(68, 68), range(1, 15)),
         (Operation::And, range(0, u64::MAX), range(8, 8), range(0, 8)),
+        // of 0 to 12 the mask leaves multiples of 8
+        (
+            Operation::And,
+            range(0, 12),
+            range(0xff8, 0xff8),
+            range(0, 8),
+        ),
+        (Operation::Or, range(4, 5), range(0, 2), range(4, 7)),
+        // no more than the sum, and no more than seven ones
+        (Operation::Or, range(64, 100), range(3, 60), range(64, 127)),
+        (Operation::Xor, range(64, 64), range(0, 1), range(0, 65)),
+        (Operation::Xor, range(0, 5), range(0, 6), range(0, 7)),
+        (Operation::Arsh, range(16, 255), range(4, 4), range(1, 15)),
+        // -16 to -1 by two
+        (
+            Operation::Arsh,
+            range(u64::MAX - 15, u64::MAX),
+            range(2, 2),
+            range(u64::MAX - 3, u64::MAX),
+        ),
         (Operation::Sub, range(5, 9), range(1, 2), range(3, 8)),
         // where all sums or all differences wrap, they are as near one another as before
         (
@@ -148,6 +168,84 @@ fn branches_at_the_ends(rt: HostRuntime) -> Result<(), Fail> {
     for (cond, x, y, taken, left) in cases {
         assert_eq!(rt; narrow(cond, Width::W64, x, y, taken), left);
     }
+    Ok(())
+}
+
+// Signed tests: what is left is one interval, or the least that has both parts.
+#[test]
+fn signed_branches(rt: HostRuntime) -> Result<(), Fail> {
+    let all = Range::full(Width::W64);
+    let zero = Range::single(0);
+    let most = u64::MAX / 2;
+    let negative = range(most + 1, u64::MAX);
+    let cases = [
+        (
+            Condition::SignedGreaterEqual,
+            all,
+            zero,
+            true,
+            Some(range(0, most)),
+        ),
+        (
+            Condition::SignedGreaterEqual,
+            all,
+            zero,
+            false,
+            Some(negative),
+        ),
+        (
+            Condition::SignedLess,
+            range(0, 10),
+            Range::single(4),
+            true,
+            Some(range(0, 3)),
+        ),
+        // 0 to 3 and the negative words are no interval
+        (
+            Condition::SignedLess,
+            all,
+            Range::single(4),
+            true,
+            Some(all),
+        ),
+        (
+            Condition::SignedGreater,
+            all,
+            Range::single(4),
+            true,
+            Some(range(5, most)),
+        ),
+        // at least -2 is left of all words but the negative ones below it
+        (
+            Condition::SignedGreater,
+            range(9, u64::MAX - 2),
+            Range::single(u64::MAX - 2),
+            true,
+            Some(range(9, most)),
+        ),
+        (Condition::SignedLess, negative, zero, false, None),
+        (
+            Condition::AnyBit,
+            all,
+            Range::single(u64::MAX - 7),
+            false,
+            Some(range(0, 7)),
+        ),
+    ];
+    for (cond, x, y, taken, left) in cases {
+        assert_eq!(rt; narrow(cond, Width::W64, x, y, taken), left);
+    }
+    // in 32 bits the sign is bit 31, where the word has no upper half
+    let low = range(0, 0xffff_ffff);
+    let positive = range(0, 0x7fff_ffff);
+    assert_eq!(rt;
+        narrow(Condition::SignedLess, Width::W32, low, zero, false),
+        Some(positive)
+    );
+    assert_eq!(rt;
+        narrow(Condition::SignedLess, Width::W32, all, zero, false),
+        Some(all)
+    );
     Ok(())
 }
 

@@ -3,13 +3,13 @@
 ghost use Rattle.std.specs.Prelude.{◌≡◌};
 ghost use Rattle.bq_verify.specs.Worked.{calling, worked};
 
-use bq_verify::hook::{Hook, Version};
-use bq_verify::program::{Program, verify};
-use bq_verify::refused::Refused;
 use bq_graph::cause::Cause;
 use bq_insn::encode::well_formed;
 use bq_insn::{Condition, Insn, Operation, Size, Source, Width};
 use bq_maps::MapShape;
+use bq_verify::hook::{Hook, Version};
+use bq_verify::program::{Program, verify};
+use bq_verify::refused::Refused;
 use std::alloc::{AllocError, Global};
 use std::process::Abort;
 use std::test::Fail;
