@@ -12,8 +12,6 @@ mod pass;
 pub mod program;
 pub mod refused;
 mod stop;
-#[cfg(test)]
-mod tests;
 pub mod verified;
 mod waiting;
 
