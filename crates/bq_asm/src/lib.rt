@@ -18,7 +18,9 @@ mod place;
 mod table;
 #[cfg(test)]
 mod tests;
+mod told;
 
 pub use assembler::assemble;
 pub use canonical::listing;
 pub use fault::{AsmFault, Cause};
+pub use told::says_instruction;
