@@ -16,8 +16,6 @@ mod number;
 mod operand;
 mod place;
 mod table;
-#[cfg(test)]
-mod tests;
 mod told;
 
 pub use assembler::assemble;

@@ -12,8 +12,6 @@ pub mod laws;
 mod listing;
 mod options;
 mod shapes_text;
-#[cfg(test)]
-mod tests;
 
 pub use answer::Answer;
 pub use assembling::assembled;
