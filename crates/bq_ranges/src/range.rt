@@ -1,5 +1,5 @@
 //! The interval, and the intervals that need no instruction.
-ghost use Rattle.std.specs.Prelude.{◌≤◌, ◌<◌, ◌^◌, ◌+◌, ◌≡◌};
+ghost use Rattle.std.specs.Prelude.{◌≤◌, ◌<◌, ◌^◌, ◌+◌, ◌*◌, ◌≡◌};
 ghost use Rattle.bq_insn.specs.Meaning.{modulus};
 
 use bq_insn::{Bits, Width};
@@ -113,5 +113,15 @@ pub fn greatest(width: Width) -> u64
     match width {
         Width::W32 => 0xffff_ffff,
         Width::W64 => u64::MAX,
+    }
+}
+
+/// The least word of a width that is below zero as a signed number.
+pub fn sign(width: Width) -> u64
+    ensures { 2 * result ≡ modulus width }
+{
+    match width {
+        Width::W32 => 0x8000_0000,
+        Width::W64 => 0x8000_0000_0000_0000,
     }
 }

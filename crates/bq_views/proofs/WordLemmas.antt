@@ -92,3 +92,8 @@ unequal_false a b p q h = grind (arith, nat_tests)
 
 pub word_fits : (shapes : List MapShape) (k : Known) (a : ℕ) → Describes shapes k a → a < 2 ^ 64
 word_fits shapes k a d = omega (arith, d.word_is)
+
+-- a sum may be turned
+pub sum_turned : (x y : ℕ) → alu_result W64 op.Add x y ≡ alu_result W64 op.Add y x
+unfolding operate
+sum_turned x y = omega arith

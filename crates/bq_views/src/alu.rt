@@ -28,6 +28,7 @@ pub fn combine(width: Width, op: Operation, a: Known, b: Known) -> Option<Known>
         }),
         (Kind::EntryOrNull(_), _) | (Kind::Map(_), _) => None,
         (_, Kind::Number) => moved(width, op, a, b),
+        (Kind::Number, _) => added(width, op, a, b),
         _ => None,
     }
 }
@@ -46,6 +47,21 @@ fn moved(width: Width, op: Operation, a: Known, b: Known) -> Option<Known>
         (Width::W64, Operation::Sub) => Some(Known {
             kind: a.kind,
             offset: arithmetic::sub(Width::W64, a.offset, b.offset),
+        }),
+        _ => None,
+    }
+}
+
+/// A number to which a pointer is added: the pointer moved.
+fn added(width: Width, op: Operation, a: Known, b: Known) -> Option<Known>
+    requires { a.kind ≡ Kind.Number }
+    ensures { IfSome result (λ k. (shapes : List MapShape) (x y : ℕ) → Describes shapes a x → Describes shapes b y → Describes shapes k (alu_result width op x y)) }
+{
+    match (width, op, b.kind) {
+        (_, _, Kind::EntryOrNull(_) | Kind::Map(_)) => None,
+        (Width::W64, Operation::Add, _) => Some(Known {
+            kind: b.kind,
+            offset: arithmetic::add(Width::W64, b.offset, a.offset),
         }),
         _ => None,
     }
