@@ -6,6 +6,7 @@
 
 mod flow;
 pub mod hook;
+mod known_at;
 pub mod laws;
 mod pass;
 pub mod program;
@@ -16,6 +17,7 @@ mod waiting;
 
 pub use bq_graph::cause::Cause;
 pub use hook::{Hook, Version};
+pub use known_at::view_at;
 pub use program::{Program, verify};
 pub use refused::Refused;
 pub use verified::Verified;
