@@ -45,18 +45,15 @@ pub struct Settings {
 
 impl Settings {
     /// What the words ask for.
-    pub fn of(alloc: Global, words: Words) -> Result<Settings, SettingsFault> {
-        let hook = hook_in(&words)?;
-        let format = format_in(&words)?;
-        let maps = match &words.maps {
-            None => None,
-            Some(text) => Some(String::from_str(alloc, text.as_str())?),
-        };
+    pub fn of(alloc: Global, words: &Words) -> Result<Settings, SettingsFault> {
+        let hook = hook_in(words)?;
+        let format = format_in(words)?;
         let options = Options {
             hook: Some(hook),
-            maps: words.maps,
+            maps: copy_of(alloc, &words.maps)?,
             format,
         };
+        let maps = copy_of(alloc, &words.maps)?;
         match options.form(alloc) {
             Ok(Form::Image(form)) => Ok(Settings { form, maps }),
             Ok(Form::Program) => Err(SettingsFault::Hook),
@@ -83,5 +80,13 @@ fn format_in(words: &Words) -> Result<Option<Version>, SettingsFault> {
     match version_of(word.as_bytes()) {
         Some(version) => Ok(Some(version)),
         None => Err(SettingsFault::Format),
+    }
+}
+
+/// The same text once more, if there is one.
+fn copy_of(alloc: Global, text: &Option<String>) -> Result<Option<String>, AllocError> {
+    match text {
+        None => Ok(None),
+        Some(text) => Ok(Some(String::from_str(alloc, text.as_str())?)),
     }
 }
