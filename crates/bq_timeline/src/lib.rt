@@ -13,8 +13,6 @@ pub mod screen;
 pub mod settings;
 pub mod showing;
 pub mod shown;
-#[cfg(test)]
-mod tests;
 pub mod viewer;
 pub mod why_text;
 pub mod words_of;

@@ -1,6 +1,6 @@
 //! The pictures of a small trace.
 
-use crate::{Perfetto, Svg};
+use bq_pictures::{Perfetto, Svg};
 use bq_forms::{Form, Names, Window};
 use bq_parts::{By, Event, Refusal, Reply};
 use bq_schedule::Schedule;

@@ -1,8 +1,8 @@
 //! A choice shown, lines that are bad or refused, and the words of options. The values are worked by hand.
 
-use crate::faults::why_bad;
-use crate::numbers::{processors, tasks, time, width};
-use crate::{Settings, Words, show};
+use bq_timeline::faults::why_bad;
+use bq_timeline::numbers::{processors, tasks, time, width};
+use bq_timeline::{Settings, Words, show};
 use bq_trace::Counted;
 use std::alloc::Global;
 use std::str::from_utf8;
