@@ -28,8 +28,8 @@ pub fn write_task(text: &mut String, task: u16, name: &str) -> Result<(), AllocE
     write!(text, "{task:>5} {name:<14.14}")
 }
 
-/// A time in milliseconds, in 13 columns.
-fn write_millis(text: &mut String, time: u64) -> Result<(), AllocError>
+/// A time in milliseconds, in 13 columns: more where it is longer, with a space before it at all times.
+pub fn write_millis(text: &mut String, time: u64) -> Result<(), AllocError>
     ensures { OnOk result (string_bytes text.new ≡ string_bytes text.old ++ millis_column time) }
 {
     let thousandths = time / 1000;
@@ -37,10 +37,10 @@ fn write_millis(text: &mut String, time: u64) -> Result<(), AllocError>
     let tenths = thousandths / 100 % 10;
     let hundredths = thousandths / 10 % 10;
     let last = thousandths % 10;
-    write!(text, "{whole:>9}.{tenths}{hundredths}{last}")
+    write!(text, " {whole:>8}.{tenths}{hundredths}{last}")
 }
 
-/// A latency in microseconds, in 12 columns; `-` where there is none.
+/// A latency in microseconds, in 12 columns, so too; `-` where there is none.
 fn write_latency(text: &mut String, latency: Option<u64>) -> Result<(), AllocError>
     ensures { OnOk result (string_bytes text.new ≡ string_bytes text.old ++ latency_column latency) }
 {
@@ -50,7 +50,7 @@ fn write_latency(text: &mut String, latency: Option<u64>) -> Result<(), AllocErr
             let tenths = latency / 100 % 10;
             let hundredths = latency / 10 % 10;
             let last = latency % 10;
-            write!(text, "{whole:>8}.{tenths}{hundredths}{last}")
+            write!(text, " {whole:>7}.{tenths}{hundredths}{last}")
         }
         None => text.push_str("           -"),
     }
@@ -79,7 +79,7 @@ pub fn write_task_line(
     let switches = figures.switches;
     let preemptions = figures.preemptions;
     let migrations = figures.migrations;
-    write!(text, "{switches:>9}{preemptions:>10}{migrations:>9}\n")
+    write!(text, " {switches:>8} {preemptions:>9} {migrations:>8}\n")
 }
 
 /// The line of a task's latencies, from wake to run.
@@ -93,7 +93,7 @@ pub fn write_latency_line(
     ensures { OnOk result (string_bytes text.new ≡ string_bytes text.old ++ latency_line task name.now wakes percentiles.now) }
 {
     write_task(text, task, name)?;
-    write!(text, "{wakes:>10}")?;
+    write!(text, " {wakes:>9}")?;
     write_latencies(text, percentiles)
 }
 
@@ -123,7 +123,7 @@ pub fn write_processor_line(
     write_millis(text, figures.busy)?;
     write_millis(text, idle)?;
     let switches = figures.switches;
-    write!(text, "{switches:>9}\n")
+    write!(text, " {switches:>8}\n")
 }
 
 /// The lines of a processor's hooks at which a policy was asked.
@@ -155,6 +155,6 @@ fn write_hook_line(
     let steps = figures.steps;
     write!(
         text,
-        "{processor:>5} {name:<8.8}{asked:>13}{overruled:>11}{steps:>15}\n"
+        "{processor:>5} {name:<8.8} {asked:>12} {overruled:>10} {steps:>14}\n"
     )
 }
