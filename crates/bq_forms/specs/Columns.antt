@@ -1,9 +1,12 @@
 -- Text in columns, as `{:>9}` and the like write it.
-use Rattle.std.specs.Prelude.{ℕ, ◌-◌, ◌/◌, ◌%◌, ◌^◌, ℤ, List, ◌++◌, Option, Some, None, unwrap_or, codes}
+use Rattle.std.specs.Prelude.{ℕ, ◌-◌, ◌*◌, ◌/◌, ◌%◌, ◌^◌, ◌==◌, min, ℤ, List, [], ◌++◌, if◌then◌else◌, Option, Some, None, unwrap_or, codes}
 use Rattle.std.specs.Fmt.{format_spec, styled_decimal, styled_signed_decimal, styled_text}
 use Rattle.bq_schedule.specs.declared.change.Start.{Start}
 use Rattle.bq_schedule.specs.declared.figures.TaskFigures.{TaskFigures}
 use Rattle.bq_schedule.specs.declared.figures.HookFigures.{HookFigures}
+use Rattle.bq_schedule.specs.declared.figures.ProcessorFigures.{ProcessorFigures}
+use Rattle.bq_schedule.specs.Counts.{counted, counted_wide, parts}
+use Rattle.bq_schedule.specs.Passing.{idle_of}
 use Rattle.bq_forms.specs.declared.percentiles.Percentiles.{Percentiles}
 use Rattle.bq_forms.specs.Amounts.{three_decimals}
 
@@ -63,6 +66,31 @@ latency_line task name wakes p = task_columns task name ++ (cell 9 wakes ++ late
 abbrev pub hook_line : ℕ → List ℕ → HookFigures → List ℕ
 hook_line processor name h =
     right 5 processor ++ (codes " " ++ (left 8 name ++ (cell 12 h.asked ++ (cell 10 h.overruled ++ (cell 14 h.steps ++ codes "\n")))))
+
+-- how much of a whole a part is, in hundredths of a percent: of nothing every part is 0
+abbrev pub hundredths_of : ℕ → ℕ → ℕ
+hundredths_of part whole = if whole == 0 then 0 else part * 10000 / whole
+
+abbrev pub percent_text : ℕ → ℕ → List ℕ
+percent_text part whole = right 3 (hundredths_of part whole / 100) ++ (codes "." ++ zeros 2 (hundredths_of part whole % 100))
+
+-- the line of a processor: how much of its time a task ran
+abbrev pub processor_line : ℕ → ProcessorFigures → List ℕ
+processor_line processor p =
+    right 5 processor ++ (codes "  " ++ (percent_text p.busy (counted p.busy (idle_of p))
+    ++ (millis_column p.busy ++ (millis_column (idle_of p) ++ (cell 8 p.switches ++ codes "\n")))))
+
+-- the lines of the hooks of a processor at which a policy was asked
+abbrev pub hook_line_if : ℕ → List ℕ → HookFigures → List ℕ
+hook_line_if processor name h = if h.asked == 0 then [] else hook_line processor name h
+
+abbrev pub hook_lines : ℕ → ProcessorFigures → List ℕ
+hook_lines processor p =
+    hook_line_if processor (codes "place") p.place ++ (hook_line_if processor (codes "preempt") p.preempt ++ hook_line_if processor (codes "pull") p.pull)
+
+-- parts of a nanosecond as the nearest number of nanoseconds
+abbrev pub nearest : ℕ → ℕ
+nearest n = min (counted_wide n 500000000000 / parts) (2 ^ 64 - 1)
 
 -- a moment in nanoseconds, in seconds, and a processor
 abbrev pub moment_columns : ℕ → ℕ → List ℕ

@@ -1,6 +1,6 @@
 //! The tables of a report, of at most 80 columns.
-ghost use Rattle.std.specs.Prelude.{◌≡◌, ◌==◌, ◌++◌, [], OnOk, string_bytes, if◌then◌else◌};
-ghost use Rattle.bq_forms.specs.Columns.{task_columns, millis_column, latency_column, latency_columns, task_line, latency_line, hook_line};
+ghost use Rattle.std.specs.Prelude.{◌≡◌, ◌++◌, OnOk, string_bytes};
+ghost use Rattle.bq_forms.specs.Columns.{task_columns, millis_column, latency_column, latency_columns, task_line, latency_line, processor_line, hook_line_if, hook_lines, nearest};
 
 use crate::percent::Percent;
 use crate::percentiles::Percentiles;
@@ -57,7 +57,9 @@ fn write_latency(text: &mut String, latency: Option<u64>) -> Result<(), AllocErr
 }
 
 /// Parts of a nanosecond as the nearest number of nanoseconds. It stops at its type's greatest number.
-pub fn nanoseconds(parts: u128) -> u64 {
+pub fn nanoseconds(parts: u128) -> u64
+    ensures { result ≡ nearest parts }
+{
     u64::try_from(parts.saturating_add(PARTS / 2) / PARTS).unwrap_or(u64::MAX)
 }
 
@@ -113,7 +115,9 @@ pub fn write_processor_line(
     text: &mut String,
     processor: u8,
     figures: &ProcessorFigures,
-) -> Result<(), AllocError> {
+) -> Result<(), AllocError>
+    ensures { OnOk result (string_bytes text.new ≡ string_bytes text.old ++ processor_line processor figures.now) }
+{
     let idle = figures.idle();
     let busy = Percent {
         part: figures.busy,
@@ -131,7 +135,9 @@ pub fn write_hook_lines(
     text: &mut String,
     processor: u8,
     figures: &ProcessorFigures,
-) -> Result<(), AllocError> {
+) -> Result<(), AllocError>
+    ensures { OnOk result (string_bytes text.new ≡ string_bytes text.old ++ hook_lines processor figures.now) }
+{
     write_hook_line(text, processor, "place", &figures.place)?;
     write_hook_line(text, processor, "preempt", &figures.preempt)?;
     write_hook_line(text, processor, "pull", &figures.pull)
@@ -144,8 +150,7 @@ fn write_hook_line(
     name: &str,
     figures: &HookFigures,
 ) -> Result<(), AllocError>
-    ensures { OnOk result (string_bytes text.new ≡ string_bytes text.old
-        ++ (if figures.now.asked == 0 then [] else hook_line processor name.now figures.now)) }
+    ensures { OnOk result (string_bytes text.new ≡ string_bytes text.old ++ hook_line_if processor name.now figures.now) }
 {
     if figures.asked == 0 {
         return Ok(());

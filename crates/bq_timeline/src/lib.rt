@@ -8,6 +8,7 @@ pub mod command;
 pub mod faults;
 pub mod form_names;
 pub mod happenings;
+pub mod near;
 pub mod numbers;
 pub mod screen;
 pub mod settings;

@@ -82,7 +82,7 @@ pub struct Why {
 }
 
 /// The processor at which an event may choose, and its time.
-fn place_of(event: &Event) -> Option<(u8, u64)> {
+pub(crate) fn place_of(event: &Event) -> Option<(u8, u64)> {
     match event {
         Event::EndWake { processor, now }
         | Event::Drain { processor, now }
