@@ -12,9 +12,7 @@ use bq_trace::{Machine, Seen};
 use std::alloc::{AllocError, Global};
 
 /// Above the lines of the bounds.
-const HEAD: &str =
-    "  cpu law                 charges left out  greatest ms   at most ms   of it
-";
+const HEAD: &str = "  cpu law                 charges left out  greatest ms   at most ms   of it\n";
 
 /// The charges of all processors, measured against the bounds of the rule as the trace comes.
 #[derive(Drop)]
@@ -56,14 +54,8 @@ impl Near {
             None => return,
         };
         let rise = reading.to.saturating_sub(reading.from);
-        self.bounds.take(
-            reading.processor,
-            event,
-            reply,
-            self.standing,
-            rise,
-            mean,
-        );
+        self.bounds
+            .take(reading.processor, event, reply, self.standing, rise, mean);
     }
 
     /// Adds a line for each of these processors at which a charge was measured; nothing where none was.

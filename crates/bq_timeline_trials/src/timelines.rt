@@ -188,16 +188,19 @@ fn what_policies_answered_is_shown(rt: HostRuntime) -> Result<(), Fail> {
     assert!(rt;
         text.as_str().contains(
             "    1 runs: policy's answer 200 is not permitted (2 steps); 1.000 ms ahead of 2, and gives way only beyond 1.000 ms\n"
-        ), "{text}"
+        ),
+        "{text}"
     );
     assert!(rt;
         text.as_str()
-            .contains("    2 runs: policy at preempt answered 1 (2 steps)\n"), "{text}"
+            .contains("    2 runs: policy at preempt answered 1 (2 steps)\n"),
+        "{text}"
     );
     assert!(rt;
         text.as_str().contains(
             "    2 is placed on 0: policy's answer 7 is not permitted (2 steps); the least load in its mask"
-        ), "{text}"
+        ),
+        "{text}"
     );
     Ok(())
 }
@@ -208,16 +211,18 @@ fn what_policies_answered_is_shown(rt: HostRuntime) -> Result<(), Fail> {
 fn bounds_stand_below_a_report(rt: HostRuntime) -> Result<(), Fail> {
     let (text, _, _) = shown(rt.alloc(), "report", None, CFS)?;
     assert!(rt;
-        text.as_str().ends_with(
-            concat!(
-                "\n  cpu law                 charges left out  greatest ms   at most ms   of it\n",
-                "    0 beyond the least          2        0        2.000        2.000  100.00 %\n",
-            ),
-        ), "{text}"
+        text.as_str().ends_with(concat!(
+            "\n  cpu law                 charges left out  greatest ms   at most ms   of it\n",
+            "    0 beyond the least          2        0        2.000        2.000  100.00 %\n",
+        ),),
+        "{text}"
     );
     let (text, _, _) = shown(rt.alloc(), "report", None, EEVDF)?;
     assert!(rt;
-        text.as_str().ends_with("    0 ahead of the mean         2        0        0.500        1.000   50.00 %\n"), "{text}"
+        text.as_str().ends_with(
+            "    0 ahead of the mean         2        0        0.500        1.000   50.00 %\n"
+        ),
+        "{text}"
     );
     Ok(())
 }
