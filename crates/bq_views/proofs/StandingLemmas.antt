@@ -284,8 +284,8 @@ pub knowing_given : (view : View) (dst : ℕ) (k : Known) → dst < length view.
 knowing_given view dst k there number = knowing_made Scalar view dst k there number
 
 -- registers 1 to 5 are forgotten, and register 0 is learnt anew
-pub called_by : (s : Standing) (view : View) (registers : List (Option Known)) (k : Known) → 0 < length registers → Clears view.registers registers → Stands s (Some k) → IsCalled s view (knowing (record view { registers = registers }) 0 k)
-called_by s view registers k there clears stands = record {
+pub called_by : (s : Standing) (view : View) (registers : List (Option Known)) (classes : List ℕ) (k : Known) → 0 < length registers → Clears view.registers registers → Stands s (Some k) → IsCalled s view (knowing (record view { registers = registers; classes = classes }) 0 k)
+called_by s view registers classes k there clears stands = record {
   given = subst (λ (v : Option Known). Stands s v) (sym (get_or-set_same registers 0 (Some k) None there)) stands;
   kept = λ r above. get_or-set_other registers 0 r (Some k) None (λ e. absurd (omega arith)) ∙ clears.others r above;
   set_same = refl;

@@ -7,6 +7,7 @@
 
 mod alu;
 mod calls;
+mod copies;
 pub mod carry;
 pub mod counters;
 mod loads;
@@ -16,4 +17,5 @@ mod places;
 pub mod registers;
 pub mod sides;
 mod stores;
+pub mod told;
 pub mod view;
