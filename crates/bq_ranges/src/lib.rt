@@ -10,8 +10,6 @@ pub mod moves;
 pub mod narrowing;
 pub mod range;
 pub mod signed;
-#[cfg(test)]
-mod tests;
 pub mod words;
 
 pub use range::Range;

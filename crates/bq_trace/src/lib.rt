@@ -11,16 +11,12 @@ pub mod laws;
 pub mod loading;
 pub mod machine;
 pub mod pieces;
-#[cfg(test)]
-mod policy_tests;
 pub mod progress;
 pub mod session;
 pub mod shows;
 pub mod sink;
 pub mod standing;
 pub mod telling;
-#[cfg(test)]
-mod tests;
 pub mod texts;
 
 pub use counted::Counted;

@@ -206,13 +206,13 @@ module _ (slots : List (Option Insn)) (shapes : List MapShape) (context_length :
   pub rest_before : PassesOn slots shapes context_length slot K L → RestIsSafe slots shapes context_length heights made (slot + 1) L → RestIsSafe slots shapes context_length heights made slot K
   rest_before passes rest f s setting le begins known = at_state passes rest f s _ setting le begins known (eqb_tells s.slot slot)
 
-no_view : (f : Setting) (s : State) (waiting : Option (Box View Global)) → waiting ≡ None → IsIn f waiting s → ⊥
+pub no_view : (f : Setting) (s : State) (waiting : Option (Box View Global)) → waiting ≡ None → IsIn f waiting s → ⊥
 no_view f s waiting none here = rw none at here
 
 not_true : (live : Bool) → live ≡ false → live ≡ true → ⊥
 not_true live a b = cc
 
-moved : (f : Setting) (s : State) (pending : List (Option (Box View Global))) (slot : ℕ) → s.slot ≡ slot → WaitsBoxed f pending s → IsIn f (slice_index_or pending slot None) s
+pub moved : (f : Setting) (s : State) (pending : List (Option (Box View Global))) (slot : ℕ) → s.slot ≡ slot → WaitsBoxed f pending s → IsIn f (slice_index_or pending slot None) s
 moved f s pending slot same waits = subst (λ (n : ℕ). IsIn f (slice_index_or pending n None) s) same waits
 
 module _ (slots : List (Option Insn)) (shapes : List MapShape) (context_length slot : ℕ) (pending : List (Option (Box View Global))) (view : View) (live : Bool) (K : Setting → State → Type 0) (empty : slice_index_or pending slot None ≡ None) (arrives : (f : Setting) (s : State) → K f s → IsKnown pending view live slot f s) where
