@@ -1,5 +1,5 @@
 -- Places that hold one word stay so until they are written.
-use Rattle.std.proofs.Common.{◌≡◌, ◌≢◌, ℕ, suc, ◌+◌, ◌*◌, ◌^◌, ◌<◌, ◌≤◌, Bool, true, false, List, Option, Some, None, length, get_or, set, refl, sym, subst, arith, ◌∙◌, get_or-set_same, get_or-set_other, length-set, eqb, ◌⊎◌, inl, inr, cond}
+use Rattle.std.proofs.Common.{ap, ◌≡◌, ◌≢◌, ℕ, suc, ◌+◌, ◌*◌, ◌^◌, ◌<◌, ◌≤◌, Bool, true, false, List, Option, Some, None, length, get_or, set, refl, sym, subst, arith, ◌∙◌, get_or-set_same, get_or-set_other, length-set, eqb, ◌⊎◌, inl, inr, cond}
 use Rattle.std.specs.Prelude.{slice_index, slice_set}
 use Rattle.std.specs.Int.{byte_at as byte_of}
 use Rattle.std.proofs.lemmas.Bool.{cases_lt}
@@ -36,7 +36,8 @@ parted_by xs d p b (inr (_, other)) some = (other, get_or-set_other xs d p 0 0 o
 pub parted : (xs : List ℕ) (d p : ℕ) → slice_index (slice_set xs d 0) p ≢ 0 → (p ≢ d) × (slice_index (slice_set xs d 0) p ≡ slice_index xs p)
 parted xs d p some = parted_by xs d p _ (eqb_tells p d) some
 
-register_put : (register : ℕ → Option ℕ) (p d v : ℕ) (b : Bool) → ((b ≡ true) × (p ≡ d)) ⊎ ((b ≡ false) × (p ≢ d)) → p ≢ d → cond b (Some v) (register p) ≡ register p
+-- another register
+pub register_put : (register : ℕ → Option ℕ) (p d v : ℕ) (b : Bool) → ((b ≡ true) × (p ≡ d)) ⊎ ((b ≡ false) × (p ≢ d)) → p ≢ d → cond b (Some v) (register p) ≡ register p
 register_put register p d v b (inl (_, same)) other = absurd (other same)
 register_put register p d v b (inr (e, _)) other = rw e refl
 
@@ -127,3 +128,27 @@ linked classes to from class s word there has all copy = (word, λ p some. at p 
     at p b (inr (_, other)) some =
         let is : get_or (set classes to class) p 0 ≡ get_or classes p 0 = get_or-set_other classes to p class 0 other in
         subst (λ (k : ℕ). HasWord s p (word k)) (sym is) (all p (λ e. some (is ∙ e)))
+
+put_by : (register : ℕ → Option ℕ) (d v : ℕ) (b : Bool) → ((b ≡ true) × (d ≡ d)) ⊎ ((b ≡ false) × (d ≢ d)) → cond b (Some v) (register d) ≡ Some v
+put_by register d v b (inl (e, _)) = rw e refl
+put_by register d v b (inr (_, other)) = absurd (other refl)
+
+-- the register that is written
+pub put_here : (s : State) (slots d v : ℕ) → (put s slots d v).register d ≡ Some v
+put_here s slots d v = put_by s.register d v _ (eqb_tells d d)
+
+-- another one
+pub put_there : (s : State) (slots d v r n : ℕ) → r ≢ d → s.register r ≡ Some n → (put s slots d v).register r ≡ Some n
+put_there s slots d v r n other is = register_put s.register r d v _ (eqb_tells r d) other ∙ is
+
+some_is : (a b : ℕ) → Some a ≡ Some b → a ≡ b
+some_is a b e = cc
+
+-- registers with one word
+pub register_word : (s : State) (r n : ℕ) → r < 11 → s.register r ≡ Some n → HasWord s r n
+register_word s r n low is = (λ lt. is, λ j e. absurd (let no : ⊥ = omega (arith, e, low) in no))
+
+pub register_copy : (s : State) (to from n m : ℕ) → to < 11 → from < 11 → s.register from ≡ Some n → s.register to ≡ Some n → HasWord s from m → HasWord s to m
+register_copy s to from n m low low' is to_is has =
+    let same : n ≡ m = some_is n m (sym is ∙ has.0 low') in
+    register_word s to m low (to_is ∙ ap (λ (k : ℕ). Some k) same)

@@ -280,6 +280,10 @@ knowing_made s view dst k there stands = record {
   kept_same = refl;
 }
 
+-- classes say nothing of that
+pub made_classes : (s : Standing) (old new : View) (dst : ℕ) (classes : List ℕ) → IsMade s old new dst → IsMade s old (record new { classes = classes }) dst
+made_classes s old new dst classes made = record { given = made.given; kept = made.kept; set_same = made.set_same; kept_same = made.kept_same }
+
 pub knowing_given : (view : View) (dst : ℕ) (k : Known) → dst < length view.registers → k.kind ≡ Number → IsGiven view (knowing view dst k) dst
 knowing_given view dst k there number = knowing_made Scalar view dst k there number
 

@@ -7,8 +7,8 @@
 
 mod alu;
 mod calls;
-mod copies;
 pub mod carry;
+mod copies;
 pub mod counters;
 mod loads;
 pub mod merge;
