@@ -25,5 +25,3 @@ pub use locks::{Machine, Seat, Shared};
 pub use opened::{Prepared, prepare};
 pub use waking_calls::WakeReceipts;
 
-#[cfg(test)]
-mod tests;

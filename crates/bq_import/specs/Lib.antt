@@ -1,0 +1,6 @@
+pub mod Copies
+pub mod Laws
+pub mod Backward
+pub mod Faults
+pub mod Search
+pub mod Searching
