@@ -57,17 +57,19 @@ impl<Q: RunQueue + Drop, K: Clock + Drop, N: Naming + Counting, const P: usize> 
         };
         let mut guard = self.lobby.lock(rt);
         let place = &mut *guard;
-        Ok(self.recorder.admit(
-            rt,
-            &mut seat.working,
-            place,
-            task,
-            nice,
-            mask,
-            slice,
-            new,
-            slip,
-        ))
+        Ok(
+            self.recorder.admit(
+                rt,
+                &mut seat.working,
+                place,
+                task,
+                nice,
+                mask,
+                slice,
+                new,
+                slip,
+            ),
+        )
     }
 
     /// A task of the lobby leaves the machine for good. It takes memory for the record.
@@ -94,6 +96,9 @@ impl<Q: RunQueue + Drop, K: Clock + Drop, N: Naming + Counting, const P: usize> 
         let slip = room(alloc)?;
         let mut guard = self.lobby.lock(rt);
         let place = &mut *guard;
-        Ok(self.recorder.retire(rt, &mut seat.working, place, task, slip))
+        Ok(
+            self.recorder
+                .retire(rt, &mut seat.working, place, task, slip),
+        )
     }
 }

@@ -82,7 +82,8 @@ impl<Q: RunQueue + Drop, K: Clock + Drop, N: Naming + Counting, const P: usize> 
         let mut source_guard = self.cpus[usize::from(from)].lock(rt);
         let source = &mut *source_guard;
         need_own(rt, source.cell.content.number, from);
-        self.recorder.pull(rt, working, place, source, now, slip, rooms)
+        self.recorder
+            .pull(rt, working, place, source, now, slip, rooms)
     }
 
     /// Locks the source first, whose number is the lesser.
@@ -110,6 +111,7 @@ impl<Q: RunQueue + Drop, K: Clock + Drop, N: Naming + Counting, const P: usize> 
         let mut guard = self.cpus[usize::from(processor)].lock(rt);
         let place = &mut *guard;
         need_own(rt, place.cell.content.number, processor);
-        self.recorder.pull(rt, working, place, source, now, slip, rooms)
+        self.recorder
+            .pull(rt, working, place, source, now, slip, rooms)
     }
 }

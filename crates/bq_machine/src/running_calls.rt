@@ -48,7 +48,10 @@ impl<Q: RunQueue + Drop, K: Clock + Drop, N: Naming + Counting, const P: usize> 
         let place = &mut *guard;
         need_own(rt, place.cell.content.number, processor);
         let now = self.clock.now(processor);
-        Ok(self.recorder.tick(rt, &mut seat.working, place, now, slip, rooms))
+        Ok(
+            self.recorder
+                .tick(rt, &mut seat.working, place, now, slip, rooms),
+        )
     }
 
     /// All tasks of a processor's inbox enter, and it is decided who runs. It takes memory for the record.
@@ -80,7 +83,10 @@ impl<Q: RunQueue + Drop, K: Clock + Drop, N: Naming + Counting, const P: usize> 
         let mut inbox_guard = self.inboxes[index].lock(rt);
         let inbox = &mut *inbox_guard;
         need_own(rt, inbox.cell.content.number, processor);
-        Ok(self.recorder.drain(rt, &mut seat.working, place, inbox, now, slip, rooms))
+        Ok(
+            self.recorder
+                .drain(rt, &mut seat.working, place, inbox, now, slip, rooms),
+        )
     }
 
     /// The running task of a processor goes to the lobby, and the queue's choice runs. It takes memory for the record.
@@ -111,6 +117,9 @@ impl<Q: RunQueue + Drop, K: Clock + Drop, N: Naming + Counting, const P: usize> 
         let now = self.clock.now(processor);
         let mut lobby_guard = self.lobby.lock(rt);
         let lobby = &mut *lobby_guard;
-        Ok(self.recorder.block(rt, &mut seat.working, place, lobby, now, slip))
+        Ok(
+            self.recorder
+                .block(rt, &mut seat.working, place, lobby, now, slip),
+        )
     }
 }

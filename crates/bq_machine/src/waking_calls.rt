@@ -115,6 +115,7 @@ impl<Q: RunQueue + Drop, K: Clock + Drop, N: Naming + Counting, const P: usize> 
     {
         let mut guard = self.lobby.lock(rt);
         let lobby = &mut *guard;
-        self.recorder.begin_wake(rt, working, cell, lobby, task, slip)
+        self.recorder
+            .begin_wake(rt, working, cell, lobby, task, slip)
     }
 }

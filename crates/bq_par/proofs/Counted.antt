@@ -1,10 +1,16 @@
 -- What is counted in a list up to a place.
-use Rattle.std.proofs.Common.{◌≡◌, ℕ, zero, suc, ◌+◌, ◌≤◌, List, [], ◌∷◌, ◌++◌, length, Option, Some, None, refl, ap, sym, ◌∙◌, arith}
+use Rattle.std.proofs.Common.{◌≡◌, ℕ, zero, suc, ◌+◌, ◌≤◌, List, [], ◌∷◌, ◌++◌, length, Option, Some, None, refl, ap, sym, subst, map, ◌∙◌, arith}
 use Rattle.std.specs.List.{slice_get}
 use Rattle.bq_tie.specs.Whole.{total, Each}
 
 some_same : {A : Type 0} (x y : A) → Some x ≡ Some y → x ≡ y
 some_same x y e = cc
+
+first_same : {A : Type 0} (x y : A) (xs ys : List A) → x ∷ xs ≡ y ∷ ys → x ≡ y
+first_same x y xs ys e = cc
+
+rest_same : {A : Type 0} (x y : A) (xs ys : List A) → x ∷ xs ≡ y ∷ ys → xs ≡ ys
+rest_same x y xs ys e = cc
 
 module _ {A : Type 0} (f : A → ℕ) where
   -- what is counted in the first n
@@ -43,5 +49,27 @@ module _ {A : Type 0} (f : A → ℕ) where
 pub each_at : {A : Type 0} (P : A → Type 0) (n : ℕ) (xs : List A) (x : A) → Each P xs → slice_get xs n ≡ Some x → P x
 each_at P zero [] x k e = cc
 each_at P (suc n) [] x k e = cc
-each_at P zero (y ∷ ys) x k e = rw (← some_same y x e) k.0
+each_at P zero (y ∷ ys) x k e = subst P (some_same y x e) k.0
 each_at P (suc n) (y ∷ ys) x k e = each_at P n ys x k.1 e
+
+-- where two lists show the same, so is what is counted of it
+pub shown_total : {A B X : Type 0} (h : X → ℕ) (f : A → X) (g : B → X) (as : List A) (bs : List B) → map f as ≡ map g bs → total (λ (a : A). h (f a)) as ≡ total (λ (b : B). h (g b)) bs
+shown_total h f g [] [] e = refl
+shown_total h f g [] (b ∷ bs) e = absurd (cc)
+shown_total h f g (a ∷ as) [] e = absurd (cc)
+shown_total h f g (a ∷ as) (b ∷ bs) e =
+    let one = ap h (first_same (f a) (g b) (map f as) (map g bs) e) in
+    let rest = shown_total h f g as bs (rest_same (f a) (g b) (map f as) (map g bs) e) in
+    omega (arith, one, rest)
+
+-- and what holds of each
+pub shown_each : {A B X : Type 0} (P : X → Type 0) (Q : B → Type 0) (f : A → X) (g : B → X) (as : List A) (bs : List B) → map f as ≡ map g bs → Each (λ (b : B). P (g b) × Q b) bs → Each (λ (a : A). P (f a)) as
+shown_each P Q f g [] bs e k = tt
+shown_each P Q f g (a ∷ as) [] e k = absurd (cc)
+shown_each P Q f g (a ∷ as) (b ∷ bs) e k =
+    (subst P (sym (first_same (f a) (g b) (map f as) (map g bs) e)) k.0.0, shown_each P Q f g as bs (rest_same (f a) (g b) (map f as) (map g bs) e) k.1)
+
+-- one more at the end of what is shown
+pub shown_more : {A X : Type 0} (f : A → X) (as : List A) (a : A) → map f (as ++ a ∷ []) ≡ map f as ++ f a ∷ []
+shown_more f [] a = refl
+shown_more f (b ∷ bs) a = ap (λ xs. f b ∷ xs) (shown_more f bs a)
