@@ -20,8 +20,8 @@ use std::sync::Wait;
 use std::thread::{Threads, map_vec};
 
 /// Runs so many processors under a rule, each by a thread of its own (where none can be made, in turn): its task, whose id
-/// is its number, is admitted, woken and drained there, and then it ticks so often. Answers how long their one history is, and how many
-/// ticks it has; all receipts stand in it. Want of memory is the only error.
+/// is its number, is admitted, woken and drained there, and then it ticks so often. Answers how long their one history is.
+/// Want of memory is the only error.
 pub fn run<T: Threads + Wait + Sync>(
     rt: &T,
     alloc: Global,
@@ -29,7 +29,7 @@ pub fn run<T: Threads + Wait + Sync>(
     size: Size,
     ticks: u32,
 ) -> Result<Summary, AllocError>
-    ensures { IfOk result (IsSummary (discipline_of rule) (processors_in size) ticks) }
+    ensures { IfOk result (IsSummary (discipline_of rule) (processors_in size)) }
 {
     match rule {
         Rule::Cfs => on_cfs(rt, alloc, size, ticks),
@@ -43,7 +43,7 @@ fn on_cfs<T: Threads + Wait + Sync>(
     size: Size,
     ticks: u32,
 ) -> Result<Summary, AllocError>
-    ensures { IfOk result (IsSummary cfs (processors_in size) ticks) }
+    ensures { IfOk result (IsSummary cfs (processors_in size)) }
 {
     let processors = u64::from(size.processors());
     let (prepared, unnamed) = prepare::<CfsQueue>(alloc, processors, processors)?;
@@ -56,7 +56,7 @@ fn on_eevdf<T: Threads + Wait + Sync>(
     size: Size,
     ticks: u32,
 ) -> Result<Summary, AllocError>
-    ensures { IfOk result (IsSummary eevdf (processors_in size) ticks) }
+    ensures { IfOk result (IsSummary eevdf (processors_in size)) }
 {
     let processors = u64::from(size.processors());
     let (prepared, unnamed) = prepare::<EevdfQueue>(alloc, processors, processors)?;
@@ -74,7 +74,7 @@ fn sized_cfs<N: Naming + Counting + Send + Sync, T: Threads + Wait + Sync>(
     requires name { prepared.0 ≡ N.table }
     requires counters { unnamed.0 ≡ N.counters }
     requires counts { (prepared.1.about ≡ processors_in size) × (prepared.1.callers ≡ processors_in size) × (unnamed.1 ≡ processors_in size) }
-    ensures { IfOk result (IsSummary cfs (processors_in size) ticks) }
+    ensures { IfOk result (IsSummary cfs (processors_in size)) }
 {
     match size {
         Size::One => run_cfs::<N, T, 1>(rt, alloc, prepared, unnamed, ticks),
@@ -98,7 +98,7 @@ fn sized_eevdf<N: Naming + Counting + Send + Sync, T: Threads + Wait + Sync>(
     requires name { prepared.0 ≡ N.table }
     requires counters { unnamed.0 ≡ N.counters }
     requires counts { (prepared.1.about ≡ processors_in size) × (prepared.1.callers ≡ processors_in size) × (unnamed.1 ≡ processors_in size) }
-    ensures { IfOk result (IsSummary eevdf (processors_in size) ticks) }
+    ensures { IfOk result (IsSummary eevdf (processors_in size)) }
 {
     match size {
         Size::One => run_eevdf::<N, T, 1>(rt, alloc, prepared, unnamed, ticks),
@@ -122,7 +122,7 @@ fn run_cfs<N: Naming + Counting + Send + Sync, T: Threads + Wait + Sync, const P
     requires name { prepared.0 ≡ N.table }
     requires counters { unnamed.0 ≡ N.counters }
     requires counts { (prepared.1.about ≡ P) × (prepared.1.callers ≡ P) × (unnamed.1 ≡ P) }
-    ensures { IfOk result (IsSummary cfs P ticks) }
+    ensures { IfOk result (IsSummary cfs P) }
 {
     let clock = Metronome::new(alloc, P as u8)?;
     let (machine, seats) = Machine::<CfsQueue, Metronome, N, P>::new(
@@ -131,7 +131,7 @@ fn run_cfs<N: Naming + Counting + Send + Sync, T: Threads + Wait + Sync, const P
     let shifts = shifts(alloc, seats)?;
     let shared = &machine;
     let done = map_vec(rt, shifts, &|shift| drive(rt, alloc, shared, shift, ticks))?;
-    finish(alloc, machine, done, ticks)
+    finish(alloc, machine, done)
 }
 
 fn run_eevdf<N: Naming + Counting + Send + Sync, T: Threads + Wait + Sync, const P: usize>(
@@ -145,7 +145,7 @@ fn run_eevdf<N: Naming + Counting + Send + Sync, T: Threads + Wait + Sync, const
     requires name { prepared.0 ≡ N.table }
     requires counters { unnamed.0 ≡ N.counters }
     requires counts { (prepared.1.about ≡ P) × (prepared.1.callers ≡ P) × (unnamed.1 ≡ P) }
-    ensures { IfOk result (IsSummary eevdf P ticks) }
+    ensures { IfOk result (IsSummary eevdf P) }
 {
     let clock = Metronome::new(alloc, P as u8)?;
     let (machine, seats) = Machine::<EevdfQueue, Metronome, N, P>::new(
@@ -154,5 +154,5 @@ fn run_eevdf<N: Naming + Counting + Send + Sync, T: Threads + Wait + Sync, const
     let shifts = shifts(alloc, seats)?;
     let shared = &machine;
     let done = map_vec(rt, shifts, &|shift| drive(rt, alloc, shared, shift, ticks))?;
-    finish(alloc, machine, done, ticks)
+    finish(alloc, machine, done)
 }

