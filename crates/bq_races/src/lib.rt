@@ -1,5 +1,6 @@
-//! Tests of the locked machine by many threads: one history of several seats, calls that are held, loads at once, counters,
-//! refused memory, and long races that are replayed event by event. All of it is for the tests; the library itself is empty.
+//! Tests of the locked machine, by one thread and by many: the rows of one seat, one history of several, calls that are held,
+//! loads at once, counters, refused memory, and long races that are replayed event by event. All of it is for the tests; the
+//! library itself is empty.
 #![tactic(auto)]
 
 #[cfg(test)]
@@ -22,6 +23,8 @@ mod hold_tests;
 mod images;
 #[cfg(test)]
 mod load_tests;
+#[cfg(test)]
+mod one_seat_tests;
 #[cfg(test)]
 mod play;
 #[cfg(test)]
