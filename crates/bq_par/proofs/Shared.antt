@@ -40,10 +40,10 @@ tasks_send : IsSend Inbox.the_row
 tasks_send = search (crosses, knot.crosses, sendable) depth 60 fits 20000
 
 -- what all callers share beside the locks of the parts
-recorder_sync : (Q N R : RattleType) (n : Naming.Ghosts N.Denot) (m : Counting.Ghosts N.Denot) (g : Queue.Ghosts Q.Denot R.Denot) (h : Rule.Ghosts R.Denot) → IsSync (Recorder.the_row Q N R g h n m)
+recorder_sync : (Q N R : RattleType) (n : Naming.Ghosts N.Denot) (m : Counting.Ghosts N.Denot) (g : Queue.Ghosts Q.Denot R.Denot) (h : Rule.Ghosts R.Denot) → IsSync (Recorder.the_row Q N R n m g h)
 recorder_sync Q N R n m g h =
     let journals = Journal.the_row Record.the_row Part.the_row Kept.the_row N n in
-    declared_sync (Recorder.the_type Q N R g h n m) (
+    declared_sync (Recorder.the_type Q N R n m g h) (
       search (owner.the_sync, sendable),
       (
         search (counters.the_sync, sendable),
