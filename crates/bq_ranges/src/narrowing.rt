@@ -2,6 +2,7 @@
 ghost use Rattle.std.specs.Prelude.{◌≡◌, ◌≤◌, ◌<◌, ◌≢◌, ◌↔◌, ◌⊎◌, ℕ, IsTrue};
 ghost use Rattle.bq_insn.specs.Meaning.{compares, modulus, taken};
 ghost use Rattle.bq_ranges.specs.Within.{Within, NarrowsTo, EndsAre};
+ghost use Rattle.bq_insn.specs.declared.Width.{Width as Wide};
 ghost use Rattle.bq_ranges.specs.Tight.{EndsGo, IsByOrder, IsSigned};
 
 use crate::range::{Range, greatest};
@@ -25,6 +26,35 @@ pub fn narrow(cond: Condition, width: Width, x: Range, y: Range, goes: bool) -> 
     match cond {
         Condition::AnyBit => narrow_bits(width, x, y, goes),
         _ => narrow_words(cond, x, y, goes),
+    }
+}
+
+/// The members of `y` that some member of `x` goes that way with, at least; all where no pair does.
+pub fn narrow_right(cond: Condition, width: Width, x: Range, y: Range, goes: bool) -> Range
+    ensures { (a b : ℕ) → Within x a → Within y b → taken width cond a b ≡ goes → Within result b }
+{
+    match narrow(turned(cond), width, y, x, goes) {
+        Some(left) => left,
+        None => y,
+    }
+}
+
+// The test of turned operands.
+fn turned(cond: Condition) -> Condition
+    ensures { (width : Wide) (a b : ℕ) → taken width cond a b ≡ taken width result b a }
+{
+    match cond {
+        Condition::Greater => Condition::Less,
+        Condition::GreaterEqual => Condition::LessEqual,
+        Condition::Less => Condition::Greater,
+        Condition::LessEqual => Condition::GreaterEqual,
+        Condition::SignedGreater => Condition::SignedLess,
+        Condition::SignedGreaterEqual => Condition::SignedLessEqual,
+        Condition::SignedLess => Condition::SignedGreater,
+        Condition::SignedLessEqual => Condition::SignedGreaterEqual,
+        Condition::Equal => Condition::Equal,
+        Condition::NotEqual => Condition::NotEqual,
+        Condition::AnyBit => Condition::AnyBit,
     }
 }
 

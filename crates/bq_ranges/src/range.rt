@@ -71,6 +71,20 @@ impl Range {
         }
     }
 
+    /// Its words that the other has too; all of its own where there are none.
+    pub fn meet(self, other: Range) -> Range
+        ensures both { (x : ℕ) → Within self x → Within other x → Within result x }
+        ensures lo { self.lo ≤ result.lo }
+        ensures hi { result.hi ≤ self.hi }
+    {
+        let lo = self.lo.max(other.lo);
+        let hi = self.hi.min(other.hi);
+        if hi < lo {
+            return self;
+        }
+        Range { lo, hi }
+    }
+
     /// The least range of the low bits of all words.
     pub fn low(self, width: Width) -> Range
         ensures holds { (x : ℕ) → Within self x → Within result (x % modulus width) }

@@ -160,6 +160,7 @@ fn blank() -> View
         registers: nothing(),
         set: unset(),
         kept: nothing(),
+        classes: no_copies(),
     }
 }
 
@@ -167,6 +168,12 @@ fn nothing<const N: usize>() -> [Option<Known>; N]
     ensures { (k : ℕ) → slice_index_or result k None ≡ None }
 {
     [None; N]
+}
+
+fn no_copies<const N: usize>() -> [u8; N]
+    ensures { (k : ℕ) → slice_index result k ≡ 0 }
+{
+    [0; N]
 }
 
 fn unset<const N: usize>() -> [bool; N]

@@ -267,3 +267,126 @@ fn pointers(rt: HostRuntime) -> Result<(), Fail> {
         "out:\nmov64 r0, 0\nexit\n",
     )
 }
+
+#[test]
+fn copies(rt: HostRuntime) -> Result<(), Fail> {
+    let trials = [
+        // what is told of a register is told of its copy
+        (
+            "ldxw r3, [r1+0]\n\
+             mov64 r2, r3\n\
+             jgt64 r3, 55, out",
+            Ok(6),
+        ),
+        (
+            "ldxw r3, [r1+0]\n\
+             mov64 r2, r3\n\
+             jgt64 r3, 56, out",
+            access(4),
+        ),
+        // and of what it is a copy of; the copy of the low half of a word below 2^32 is a copy of the word
+        (
+            "ldxw r2, [r1+0]\n\
+             mov32 r3, r2\n\
+             jgt32 r3, 55, out",
+            Ok(6),
+        ),
+        // of a longer word it is not
+        (
+            "ldxdw r2, [r1+0]\n\
+             mov32 r3, r2\n\
+             jgt32 r3, 55, out",
+            access(4),
+        ),
+        // the least of a number and 7
+        (
+            "ldxw r3, [r1+0]\n\
+             mov32 r2, r3\n\
+             jlt32 r3, 7, least\n\
+             mov32 r2, 7\n\
+             least:\n\
+             jeq64 r2, 9, out",
+            Ok(8),
+        ),
+        // a copy that is written is none
+        (
+            "ldxw r3, [r1+0]\n\
+             mov64 r2, r3\n\
+             add64 r2, 1\n\
+             jgt64 r3, 54, out",
+            access(5),
+        ),
+        // nor is one of a register that is written
+        (
+            "ldxw r3, [r1+0]\n\
+             mov64 r2, r3\n\
+             mov64 r3, 0\n\
+             jgt64 r3, 55, out",
+            access(5),
+        ),
+        // the right operand of a comparison
+        (
+            "ldxw r2, [r1+0]\n\
+             mov64 r3, 55\n\
+             jlt64 r3, r2, out",
+            Ok(6),
+        ),
+        (
+            "ldxw r2, [r1+0]\n\
+             mov64 r3, 56\n\
+             jlt64 r3, r2, out",
+            access(4),
+        ),
+        // and its copies
+        (
+            "ldxw r4, [r1+0]\n\
+             mov64 r2, r4\n\
+             mov64 r3, 55\n\
+             jlt64 r3, r4, out",
+            Ok(7),
+        ),
+    ];
+    expect(&rt, rt.alloc(), trials.as_slice(), BYTE_OF_CONTEXT)
+}
+
+#[test]
+fn copies_of_answers(rt: HostRuntime) -> Result<(), Fail> {
+    let trials = [
+        // the test of a look-up's answer is one of its copy
+        (
+            "stw [r10-4], 0\n\
+             ldmap r1, 0\n\
+             mov64 r2, r10\n\
+             add64 r2, -4\n\
+             call 1\n\
+             mov64 r6, r0\n\
+             jeq64 r0, 0, out\n\
+             ldxdw r0, [r6+8]\n\
+             exit",
+            Ok(9),
+        ),
+        // of another answer it is not
+        (
+            "stw [r10-4], 0\n\
+             ldmap r1, 0\n\
+             mov64 r2, r10\n\
+             add64 r2, -4\n\
+             call 1\n\
+             mov64 r6, r0\n\
+             ldmap r1, 0\n\
+             mov64 r2, r10\n\
+             add64 r2, -4\n\
+             call 1\n\
+             jeq64 r0, 0, out\n\
+             ldxdw r0, [r6+8]\n\
+             exit",
+            access(13),
+        ),
+    ];
+    expect(
+        &rt,
+        rt.alloc(),
+        trials.as_slice(),
+        "out:\nmov64 r0, 0\nexit\n",
+    )
+}

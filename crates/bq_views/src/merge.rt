@@ -5,6 +5,7 @@ ghost use Rattle.bq_maps.specs.Memory.{Setting, State};
 ghost use Rattle.bq_views.specs.Standing.{Fact, Has, Standing, Stands};
 ghost use Rattle.bq_views.specs.Views.{Allows, Covers};
 
+use crate::copies::keep_same;
 use crate::view::{Kind, Known, View};
 
 /// What both say.
@@ -74,4 +75,5 @@ pub fn merge(into: &mut View, other: &View)
     join_all(&mut into.registers, &other.registers);
     keep_common(&mut into.set, &other.set);
     join_all(&mut into.kept, &other.kept);
+    keep_same(&mut into.classes, &other.classes);
 }

@@ -1,8 +1,8 @@
 //! The pictures of a small trace.
 
-use crate::{Perfetto, Svg};
 use bq_forms::{Form, Names, Window};
 use bq_parts::{By, Event, Refusal, Reply};
+use bq_pictures::{Perfetto, Svg};
 use bq_schedule::Schedule;
 use std::alloc::{AllocError, Global};
 use std::test::Fail;

@@ -1,6 +1,6 @@
 //! Each form on a small trace, with its text worked out by hand.
 
-use crate::{Csv, Form, Json, Map, Names, Report, Timehist, Window};
+use bq_forms::{Csv, Form, Json, Map, Names, Report, Timehist, Window};
 use bq_parts::{By, Event, Refusal, Reply};
 use bq_schedule::Schedule;
 use std::alloc::{AllocError, Global};

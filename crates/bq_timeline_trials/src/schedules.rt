@@ -1,9 +1,9 @@
 // Schedules worked by hand: each event with the answer that the rules of docs/SCHEDULING.md give it, and what that tells.
 
-use crate::{
+use bq_parts::{By, Event, Hook, Refusal, Reply};
+use bq_schedule::{
     Change, Decision, Latencies, Left, Moved, PARTS, Reading, Schedule, Slice, Start, Stop, Wake,
 };
-use bq_parts::{By, Event, Hook, Refusal, Reply};
 use std::alloc::Global;
 use std::process::Abort;
 use std::test::Fail;

@@ -1,8 +1,8 @@
 //! A choice shown, lines that are bad or refused, and the words of options. The values are worked by hand.
 
-use crate::faults::why_bad;
-use crate::numbers::{processors, tasks, time, width};
-use crate::{Settings, Words, show};
+use bq_timeline::faults::why_bad;
+use bq_timeline::numbers::{processors, tasks, time, width};
+use bq_timeline::{Settings, Words, show};
 use bq_trace::Counted;
 use std::alloc::Global;
 use std::str::from_utf8;
@@ -171,5 +171,58 @@ fn words_are_numbers(rt: HostRuntime) -> Result<(), Fail> {
     };
     assert!(rt; named.as_slice() == [1, 4].as_slice());
     assert!(rt; tasks(rt.alloc(), "1,,4")?.is_none());
+    Ok(())
+}
+
+/// Policies that answer 200 and 1 at `preempt` and 7 at `place`, each `mov64 r0, ..` and `exit`.
+const POLICIES: &str = concat!(
+    "machine cfs 1\nadmit 1 0 1 1000000\nadmit 2 0 1 1000000\ndraw\ninstall 0 1 preempt 425150490101000002000000b7000000c80000009500000000000000\n",
+    "wake 0 1 0\nwake 0 2 0\ndrain 0 0\ntick 0 1000000\ndraw\ninstall 0 2 preempt 425150490101000002000000b7000000010000009500000000000000\n",
+    "tick 0 1500000\ndraw\ninstall 0 3 place 425150490100000002000000b7000000070000009500000000000000\nblock 0 1600000\nwake 0 2 1700000\n",
+);
+
+#[test]
+fn what_policies_answered_is_shown(rt: HostRuntime) -> Result<(), Fail> {
+    let (text, _, clean) = shown(rt.alloc(), "why", None, POLICIES)?;
+    assert!(rt; clean, "{text}");
+    assert!(rt;
+        text.as_str().contains(
+            "    1 runs: policy's answer 200 is not permitted (2 steps); 1.000 ms ahead of 2, and gives way only beyond 1.000 ms\n"
+        ),
+        "{text}"
+    );
+    assert!(rt;
+        text.as_str()
+            .contains("    2 runs: policy at preempt answered 1 (2 steps)\n"),
+        "{text}"
+    );
+    assert!(rt;
+        text.as_str().contains(
+            "    2 is placed on 0: policy's answer 7 is not permitted (2 steps); the least load in its mask"
+        ),
+        "{text}"
+    );
+    Ok(())
+}
+
+/// Under CFS 1 runs for 2 ms while 2 waits, by two charges: the second takes it as far as it may. Under EEVDF `short` runs for 1 ms,
+/// which takes it 0.5 ms beyond the mean; `long` comes up to the mean after it. A policy that answers decides for the rule.
+#[test]
+fn bounds_stand_below_a_report(rt: HostRuntime) -> Result<(), Fail> {
+    let (text, _, _) = shown(rt.alloc(), "report", None, CFS)?;
+    assert!(rt;
+        text.as_str().ends_with(concat!(
+            "\n  cpu law                 charges left out  greatest ms   at most ms   of it\n",
+            "    0 beyond the least          2        0        2.000        2.000  100.00 %\n",
+        ),),
+        "{text}"
+    );
+    let (text, _, _) = shown(rt.alloc(), "report", None, EEVDF)?;
+    assert!(rt;
+        text.as_str().ends_with(
+            "    0 ahead of the mean         2        0        0.500        1.000   50.00 %\n"
+        ),
+        "{text}"
+    );
     Ok(())
 }
