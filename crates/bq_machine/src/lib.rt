@@ -24,4 +24,3 @@ pub use loading_calls::{LoadReceipts, LoadRefused};
 pub use locks::{Machine, Seat, Shared};
 pub use opened::{Prepared, prepare};
 pub use waking_calls::WakeReceipts;
-
