@@ -1,4 +1,4 @@
-; Hook: preempt.
+;@ hook preempt
 ; Counts in the machine-wide counter 0 how often it is asked, and follows the rule. The line `counter 0` of a trace shows
 ; the count.
 

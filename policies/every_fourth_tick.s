@@ -1,4 +1,6 @@
-; Hook: preempt. Map 0: one entry of 8 bytes, the number of times that it was asked.
+;@ hook preempt
+;@ maps 8:1
+; Map 0: one entry of 8 bytes, the number of times that it was asked.
 ; Only every fourth time the rule is followed; else the running task stays. So tasks change less often.
 
 ldxw r6, [r1+48]        ; the own choice

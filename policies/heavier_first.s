@@ -1,4 +1,4 @@
-; Hook: preempt.
+;@ hook preempt
 ; The running task gives way at once to a heavier one, and never to a lighter one; between equals the rule decides.
 
 ldxw r0, [r1+48]        ; the own choice

@@ -1,4 +1,4 @@
-; Hook: pull.
+;@ hook pull
 ; Of the movable tasks that are shown, the heaviest is taken, of equal ones the one of greatest v; and only where the other
 ; processor has at least two tasks more.
 

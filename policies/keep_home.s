@@ -1,4 +1,4 @@
-; Hook: place.
+;@ hook place
 ; A woken task goes back to the processor that it last left. Where it has none yet, or may not go there, the answer is
 ; not permitted, and the discipline chooses.
 

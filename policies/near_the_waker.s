@@ -1,4 +1,4 @@
-; Hook: place.
+;@ hook place
 ; A woken task goes to the processor that wakes it, if the load there is at most one more than where the discipline would
 ; put it: what it will read is still in that processor's cache.
 ; For machines of at most 16 processors.

@@ -1,6 +1,6 @@
 -- What the lines of a program's text say. A line ends at a line feed or at the text's end, and loses one carriage return
 -- before the line feed. A semicolon begins a comment, and spaces, tabs and commas stand between words.
-use Rattle.std.specs.Prelude.{ℕ, ◌-◌, Bool, ◌||◌, ◌==◌, nat_lt, List, [], ◌∷◌, length, take, drop, slice_get, unwrap_or, filter, map, Option, Some, None, if◌then◌else◌, codes}
+use Rattle.std.specs.Prelude.{ℕ, ◌-◌, Bool, true, false, ◌||◌, ◌==◌, nat_lt, List, [], ◌∷◌, length, take, drop, slice_get, unwrap_or, filter, map, Option, Some, None, if◌then◌else◌, codes}
 use Rattle.std.specs.List.{slice_split, before_first}
 use Rattle.std.specs.Str.{bytes_eq}
 use Rattle.std.specs.Str.Lines.{lines}
@@ -42,6 +42,10 @@ line_of (first ∷ operands) = said first operands (label_set first operands)
 -- what one line of the text says
 abbrev pub line_said : List ℕ → Line
 line_said line = line_of (words (before_first is_comment line))
+
+abbrev pub is_instruction : Line → Bool
+is_instruction (Instruction first operands) = true
+is_instruction line = false
 
 -- what the lines of a text say
 abbrev pub lines_of : List ℕ → List Line

@@ -134,7 +134,7 @@ impl<'a> Draft<'a> {
 }
 
 /// The label that a line sets, if it sets one.
-fn label_set<'a>(first: &'a [u8], operands: &[&'a [u8]]) -> Option<&'a [u8]>
+pub fn label_set<'a>(first: &'a [u8], operands: &[&'a [u8]]) -> Option<&'a [u8]>
     ensures { option_map (λ name. name.now) result ≡ label_set first.entry.now (texts operands.entry.now) }
 {
     if operands.is_empty() {

@@ -16,9 +16,9 @@ mod number;
 mod operand;
 mod place;
 mod table;
-#[cfg(test)]
-mod tests;
+mod told;
 
 pub use assembler::assemble;
 pub use canonical::listing;
 pub use fault::{AsmFault, Cause};
+pub use told::says_instruction;

@@ -5,13 +5,13 @@
 #![tactic(auto)]
 
 mod admitting;
-pub mod generations;
+mod generations;
 pub mod laws;
-pub mod parts;
-pub mod pulling;
+mod parts;
+mod pulling;
 mod running;
 mod waking;
-pub mod world;
+mod world;
 
 pub use bq_parts::{
     Board, By, Carried, Cpu, Event, Hook, Hooks, Inbox, Installed, Loads, Lobby, Outcome,

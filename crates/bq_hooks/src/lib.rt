@@ -11,8 +11,6 @@ pub mod place;
 pub mod preempt;
 pub mod pull;
 pub mod settled;
-#[cfg(test)]
-mod tests;
 
 pub use loads::Loads;
 pub use own_choice::own_place;

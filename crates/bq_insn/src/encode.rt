@@ -45,7 +45,6 @@ fn is_insn(insn: &Insn) -> bool
             }
             _ => false,
         },
-        Insn::Neg { dst, .. } => is_register(dst),
         Insn::End { bits, dst, .. } => match bits {
             Bits::B8 => false,
             _ => is_register(dst),
@@ -60,10 +59,11 @@ fn is_insn(insn: &Insn) -> bool
             (Size::Double, true) => false,
             _ => is_register(dst) && is_register(src),
         },
-        Insn::StoreImm { dst, .. } => is_register(dst),
         Insn::StoreReg { dst, src, .. } => is_register(dst) && is_register(src),
-        Insn::Imm64 { dst, .. } => is_register(dst),
-        Insn::MapRef { dst, .. } => is_register(dst),
+        Insn::Neg { dst, .. }
+        | Insn::StoreImm { dst, .. }
+        | Insn::Imm64 { dst, .. }
+        | Insn::MapRef { dst, .. } => is_register(dst),
         Insn::Goto { .. } | Insn::Goto32 { .. } | Insn::Call { .. } | Insn::Exit => true,
     }
 }

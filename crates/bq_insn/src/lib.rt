@@ -14,8 +14,6 @@ mod opcode;
 mod reading;
 mod slot;
 mod spelling;
-#[cfg(test)]
-mod tests;
 mod uses;
 
 ghost use Rattle.std.specs.Prelude.{◌≡◌};

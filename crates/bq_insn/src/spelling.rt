@@ -32,13 +32,25 @@ pub fn slots_of(insn: Insn) -> (Slot, Option<Slot>)
             dst,
             src,
             off,
-        } => load_slots(size, signed, dst, src, off),
+        } => one(
+            Form::Load { size, signed },
+            dst,
+            src,
+            off.cast_unsigned(),
+            0,
+        ),
         Insn::StoreImm {
             size,
             dst,
             off,
             imm,
-        } => store_imm_slots(size, dst, off, imm),
+        } => one(
+            Form::StoreImm { size },
+            dst,
+            0,
+            off.cast_unsigned(),
+            imm.cast_unsigned(),
+        ),
         Insn::StoreReg {
             size,
             dst,
@@ -103,27 +115,6 @@ fn end_slots(order: Order, bits: Bits, dst: u8) -> (Slot, Option<Slot>)
     ensures { AreSlots result (spelled (Insn.End order bits dst)) }
 {
     one(Form::End { order }, dst, 0, 0, u32::from(bits_number(bits)))
-}
-
-/// The slot of a load.
-fn load_slots(size: Size, signed: bool, dst: u8, src: u8, off: i16) -> (Slot, Option<Slot>)
-    ensures { AreSlots result (spelled (Insn.Load size signed dst src off)) }
-{
-    let form = Form::Load { size, signed };
-    one(form, dst, src, off.cast_unsigned(), 0)
-}
-
-/// The slot of a store of an immediate.
-fn store_imm_slots(size: Size, dst: u8, off: i16, imm: i32) -> (Slot, Option<Slot>)
-    ensures { AreSlots result (spelled (Insn.StoreImm size dst off imm)) }
-{
-    one(
-        Form::StoreImm { size },
-        dst,
-        0,
-        off.cast_unsigned(),
-        imm.cast_unsigned(),
-    )
 }
 
 /// The slot of a branch, by where its second operand stands.

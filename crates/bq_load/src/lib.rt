@@ -12,8 +12,6 @@ mod judging;
 pub mod laws;
 pub mod loading;
 pub mod reader;
-#[cfg(test)]
-mod tests;
 pub mod writing;
 
 pub use bq_verify::{Hook, Version};

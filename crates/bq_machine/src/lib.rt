@@ -25,6 +25,3 @@ pub use loading_calls::{LoadReceipts, LoadRefused};
 pub use locks::Machine;
 pub use opened::{Prepared, prepare};
 pub use waking_calls::WakeReceipts;
-
-#[cfg(test)]
-mod tests;

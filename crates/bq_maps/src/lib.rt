@@ -8,8 +8,6 @@ pub mod arrays;
 pub mod board;
 pub mod helper;
 pub mod shape;
-#[cfg(test)]
-mod tests;
 
 pub use arrays::Maps;
 pub use board::{Board, Call, Plain};

@@ -9,8 +9,6 @@ pub mod laws;
 pub mod policy;
 mod same;
 pub mod scratch;
-#[cfg(test)]
-mod tests;
 
 pub use bq_interp::{Done, Env};
 pub use bq_verify::{Hook, Verified, Version};

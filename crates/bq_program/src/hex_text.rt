@@ -5,7 +5,7 @@ ghost use Rattle.bq_program.specs.HexText.{IsNoHex, SpellsBytes, digits_in, is_b
 use std::alloc::{AllocError, Global};
 
 /// The bytes that a hex text spells, None where it is no hex. Blanks and line ends in the text are dropped.
-pub(crate) fn bytes_of(alloc: Global, text: &[u8]) -> Result<Option<Vec<u8>>, AllocError>
+pub fn bytes_of(alloc: Global, text: &[u8]) -> Result<Option<Vec<u8>>, AllocError>
     ensures { IfOk result (λ read. MatchOption read (IsNoHex text.now) (λ bytes. SpellsBytes text.now bytes.items)) }
 {
     let digits = digits_in(alloc, text)?;

@@ -12,14 +12,14 @@ pub mod laws;
 mod listing;
 mod options;
 mod shapes_text;
-#[cfg(test)]
-mod tests;
 
 pub use answer::Answer;
 pub use assembling::assembled;
 pub use bq_load::{Hook, Version};
 pub use checking::{checked, fault_text, hook_word};
 pub use form::Form;
+pub use hex_text::bytes_of;
 pub use image_form::ImageForm;
 pub use listing::disassembled;
 pub use options::{Options, OptionsFault, refused_options};
+pub use shapes_text::shapes_of;

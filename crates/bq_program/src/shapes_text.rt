@@ -11,7 +11,7 @@ const MAPS: usize = 8;
 
 /// The shapes that the text names, as `8:2,16:4` does: the size of a value and the number of entries. None where it
 /// names more than 8, or one that is not within its limits, or is of another form.
-pub(crate) fn shapes_of(alloc: Global, text: &[u8]) -> Result<Option<Vec<MapShape>>, AllocError>
+pub fn shapes_of(alloc: Global, text: &[u8]) -> Result<Option<Vec<MapShape>>, AllocError>
     ensures { IfOk result (λ named. MatchOption named (NamesNoShapes text.now) (λ shapes. NamesShapes text.now shapes.items)) }
 {
     let mut shapes = Vec::new(alloc);

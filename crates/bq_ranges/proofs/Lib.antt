@@ -2,3 +2,5 @@ pub mod Outcomes
 pub mod TightLemmas
 pub mod TestLemmas
 pub mod MoveLemmas
+pub mod SignedLemmas
+pub mod BitLemmas

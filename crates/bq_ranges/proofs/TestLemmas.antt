@@ -1,8 +1,10 @@
 -- What a test says of its two words, and where low halves are tested as whole words.
 use Rattle.std.proofs.Common.{◌≡◌, ◌≢◌, ℕ, ◌%◌, ◌^◌, ◌<◌, ◌≤◌, Bool, true, false, refl, arith}
 use Rattle.std.proofs.lemmas.Bool.Decides.{nat_tests}
-use Rattle.std.specs.Prelude.{Option, Some, None}
-use Rattle.bq_insn.specs.Meaning.{taken, compares}
+use Rattle.std.specs.Prelude.{Option, Some, None, not, bit_and, ◌==◌}
+use Rattle.std.proofs.lemmas.Nat.{and_comm}
+use Rattle.bq_insn.specs.Meaning.{taken, compares, modulus}
+use Rattle.bq_insn.specs.declared.Width.{Width}
 use Rattle.bq_insn.specs.declared.Width.TheVariants.{W32, W64}
 use Rattle.bq_insn.specs.declared.Condition.{Condition}
 use Rattle.bq_insn.specs.declared.Condition.TheVariants as cond
@@ -81,3 +83,21 @@ halves _ a b unsigned p q =
     let left_word : a % 2 ^ 64 ≡ a = omega arith in
     let right_word : b % 2 ^ 64 ≡ b = omega arith in
     rw (left, right, left_word, right_word) refl
+
+-- a test by no sign of a word of the width is the test of whole words against the low bits
+pub as_words : (w : Width) (c : Condition) (a b : ℕ) → (IsSigned c → ⊥) → a < modulus w → taken w c a b ≡ taken W64 c a (b % modulus w)
+as_words W64 c a b unsigned p =
+    let same : b % 2 ^ 64 % 2 ^ 64 ≡ b % 2 ^ 64 = omega arith in
+    rw same refl
+as_words W32 c a b unsigned p =
+    let same : b % 2 ^ 32 % 2 ^ 32 ≡ b % 2 ^ 32 = omega arith in
+    let low : taken W32 c a (b % 2 ^ 32) ≡ taken W64 c a (b % 2 ^ 32) = halves c a (b % 2 ^ 32) unsigned p (omega arith) in
+    rw same at low
+
+-- equal words are equal either way
+pub same_turned : (a b : ℕ) → (a == b) ≡ (b == a)
+same_turned a b = grind (arith, nat_tests)
+
+-- words have bits in common either way
+pub common_turned : (a b : ℕ) → not (bit_and a b == 0) ≡ not (bit_and b a == 0)
+common_turned a b = rw (and_comm a b) refl

@@ -1,2 +1,3 @@
 pub mod Within
 pub mod Tight
+pub mod Signed

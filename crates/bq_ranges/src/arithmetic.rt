@@ -4,7 +4,8 @@ ghost use Rattle.bq_insn.specs.Meaning.{alu_result, modulus, bit_count, operate}
 ghost use Rattle.bq_ranges.specs.Within.{Within};
 ghost use Rattle.bq_ranges.specs.Tight.{IsTight, IsTightAt, IsTightWithin};
 
-use crate::range::{Range, greatest};
+use crate::bits::{multiple_within, ones};
+use crate::range::{Range, greatest, sign};
 use crate::words;
 use bq_insn::{Operation, Width};
 
@@ -50,7 +51,7 @@ fn outcomes(width: Width, op: Operation, a: Range, b: Range) -> Range
         Operation::Mov => b,
         Operation::Sdiv => Range::full(width),
         Operation::Srem => Range::full(width),
-        Operation::Arsh => Range::full(width),
+        Operation::Arsh => arsh(width, a, b),
     }
 }
 
@@ -155,15 +156,16 @@ fn xor(width: Width, a: Range, b: Range) -> Range
     }
 }
 
-// No union of bits is above the sum.
+// No union of bits is above the sum, or has a bit above those of both.
 fn highest(width: Width, a: Range, b: Range) -> u64
     requires left { a.hi < modulus width }
     requires right { b.hi < modulus width }
     ensures left { a.hi ≤ result }
     ensures right { b.hi ≤ result }
-    ensures least { (z : ℕ) → z ≤ a.hi + b.hi → z < modulus width → z ≤ result }
+    ensures least { (z : ℕ) → z ≤ a.hi + b.hi → z < modulus width → ((k : ℕ) → a.hi < 2 ^ k → b.hi < 2 ^ k → z < 2 ^ k) → z ≤ result }
 {
-    a.hi.saturating_add(b.hi).min(greatest(width))
+    let most = ones(a.hi.max(b.hi)).min(greatest(width));
+    a.hi.saturating_add(b.hi).min(most)
 }
 
 fn and(a: Range, b: Range) -> Range
@@ -171,9 +173,10 @@ fn and(a: Range, b: Range) -> Range
     ensures left { result.hi ≤ a.hi }
     ensures right { result.hi ≤ b.hi }
 {
+    let hi = multiple_within(a.hi.min(b.hi), a);
     Range {
         lo: 0,
-        hi: a.hi.min(b.hi),
+        hi: multiple_within(hi, b),
     }
 }
 
@@ -205,6 +208,26 @@ fn rsh(width: Width, a: Range, b: Range) -> Range
         };
     }
     Range { lo: 0, hi: a.hi }
+}
+
+// Words without the sign bit shift as numbers do, and so do those with it, counted down from the greatest.
+fn arsh(width: Width, a: Range, b: Range) -> Range
+    requires left { a.hi < modulus width }
+    ensures { (x y : ℕ) → Within a x → Within b y → Within result (operate width Operation.Arsh x y % modulus width) }
+{
+    let half = sign(width);
+    if a.hi < half {
+        return rsh(width, a, b);
+    }
+    if a.lo < half || !b.is_single() {
+        return Range::full(width);
+    }
+    let most = greatest(width);
+    let amount = b.lo % bits(width);
+    Range {
+        lo: most - ((most - a.lo) >> amount),
+        hi: most - ((most - a.hi) >> amount),
+    }
 }
 
 fn bits(width: Width) -> u64

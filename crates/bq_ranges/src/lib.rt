@@ -5,11 +5,11 @@
 #![tactic(auto)]
 
 pub mod arithmetic;
+pub mod bits;
 pub mod moves;
 pub mod narrowing;
 pub mod range;
-#[cfg(test)]
-mod tests;
+pub mod signed;
 pub mod words;
 
 pub use range::Range;

@@ -1,33 +1,73 @@
 //! What a branch says of its operand.
-ghost use Rattle.std.specs.Prelude.{◌≡◌, ◌≤◌, ◌<◌, ◌≢◌, ◌↔◌, ℕ, IsTrue};
-ghost use Rattle.bq_insn.specs.Meaning.{taken};
+ghost use Rattle.std.specs.Prelude.{◌≡◌, ◌≤◌, ◌<◌, ◌≢◌, ◌↔◌, ◌⊎◌, ℕ, IsTrue};
+ghost use Rattle.bq_insn.specs.Meaning.{compares, modulus, taken};
 ghost use Rattle.bq_ranges.specs.Within.{Within, NarrowsTo, EndsAre};
+ghost use Rattle.bq_insn.specs.declared.Width.{Width as Wide};
 ghost use Rattle.bq_ranges.specs.Tight.{EndsGo, IsByOrder, IsSigned};
 
-use crate::range::Range;
+use crate::range::{Range, greatest};
+use crate::signed::narrow_signed;
 use bq_insn::{Condition, Width};
 
 /// The members of `x` that go that way with some member of `y`, at least; `None` where no pair does.
 ///
-/// For tests by order in 64 bits against a single word it is the least such range.
+/// For tests by order in 64 bits against a single word, signed or not, it is the least such range.
 pub fn narrow(cond: Condition, width: Width, x: Range, y: Range, goes: bool) -> Option<Range>
     ensures holds { (a b : ℕ) → Within x a → Within y b → taken width cond a b ≡ goes → NarrowsTo result a }
-    ensures least { width ≡ Width.W64 → IsByOrder cond → y.lo ≡ y.hi → EndsGo cond x y.lo goes result }
+    ensures least { width ≡ Width.W64 → IsByOrder cond ⊎ IsSigned cond → y.lo ≡ y.hi → EndsGo cond x y.lo goes result }
 {
-    match width {
-        Width::W64 => narrow_words(cond, x, y, goes),
-        Width::W32 => narrow_halves(cond, x, y, goes),
+    if x.hi > greatest(width) {
+        return Some(x);
+    }
+    let y = y.low(width);
+    if is_signed(cond) {
+        return narrow_signed(cond, width, x, y, goes);
+    }
+    match cond {
+        Condition::AnyBit => narrow_bits(width, x, y, goes),
+        _ => narrow_words(cond, x, y, goes),
     }
 }
 
-// A test of low halves is the test of the words where these have no upper half.
-fn narrow_halves(cond: Condition, x: Range, y: Range, goes: bool) -> Option<Range>
-    ensures { (a b : ℕ) → Within x a → Within y b → taken Width.W32 cond a b ≡ goes → NarrowsTo result a }
+/// The members of `y` that some member of `x` goes that way with, at least; all where no pair does.
+pub fn narrow_right(cond: Condition, width: Width, x: Range, y: Range, goes: bool) -> Range
+    ensures { (a b : ℕ) → Within x a → Within y b → taken width cond a b ≡ goes → Within result b }
 {
-    if is_signed(cond) || x.hi > 0xffff_ffff || y.hi > 0xffff_ffff {
+    match narrow(turned(cond), width, y, x, goes) {
+        Some(left) => left,
+        None => y,
+    }
+}
+
+// The test of turned operands.
+fn turned(cond: Condition) -> Condition
+    ensures { (width : Wide) (a b : ℕ) → taken width cond a b ≡ taken width result b a }
+{
+    match cond {
+        Condition::Greater => Condition::Less,
+        Condition::GreaterEqual => Condition::LessEqual,
+        Condition::Less => Condition::Greater,
+        Condition::LessEqual => Condition::GreaterEqual,
+        Condition::SignedGreater => Condition::SignedLess,
+        Condition::SignedGreaterEqual => Condition::SignedLessEqual,
+        Condition::SignedLess => Condition::SignedGreater,
+        Condition::SignedLessEqual => Condition::SignedGreaterEqual,
+        Condition::Equal => Condition::Equal,
+        Condition::NotEqual => Condition::NotEqual,
+        Condition::AnyBit => Condition::AnyBit,
+    }
+}
+
+// Words that have no bit in common make no more than the greatest word.
+fn narrow_bits(width: Width, x: Range, y: Range, goes: bool) -> Option<Range>
+    requires left { x.hi < modulus width }
+    requires right { y.hi < modulus width }
+    ensures { (a b : ℕ) → Within x a → Within y b → compares width Condition.AnyBit a b ≡ goes → NarrowsTo result a }
+{
+    if goes {
         return Some(x);
     }
-    narrow_words(cond, x, y, goes)
+    at_most(x, greatest(width) - y.lo)
 }
 
 fn is_signed(cond: Condition) -> bool
@@ -63,7 +103,7 @@ fn narrow_words(cond: Condition, x: Range, y: Range, goes: bool) -> Option<Range
     }
 }
 
-fn common(x: Range, y: Range) -> Option<Range>
+pub(crate) fn common(x: Range, y: Range) -> Option<Range>
     ensures holds { (a : ℕ) → Within x a → Within y a → NarrowsTo result a }
     ensures ends { EndsAre (λ a. Within x a × Within y a) result }
 {

@@ -1,5 +1,5 @@
 //! The interval, and the intervals that need no instruction.
-ghost use Rattle.std.specs.Prelude.{◌≤◌, ◌<◌, ◌^◌, ◌+◌, ◌≡◌};
+ghost use Rattle.std.specs.Prelude.{◌≤◌, ◌<◌, ◌^◌, ◌+◌, ◌*◌, ◌≡◌};
 ghost use Rattle.bq_insn.specs.Meaning.{modulus};
 
 use bq_insn::{Bits, Width};
@@ -71,6 +71,20 @@ impl Range {
         }
     }
 
+    /// Its words that the other has too; all of its own where there are none.
+    pub fn meet(self, other: Range) -> Range
+        ensures both { (x : ℕ) → Within self x → Within other x → Within result x }
+        ensures lo { self.lo ≤ result.lo }
+        ensures hi { result.hi ≤ self.hi }
+    {
+        let lo = self.lo.max(other.lo);
+        let hi = self.hi.min(other.hi);
+        if hi < lo {
+            return self;
+        }
+        Range { lo, hi }
+    }
+
     /// The least range of the low bits of all words.
     pub fn low(self, width: Width) -> Range
         ensures holds { (x : ℕ) → Within self x → Within result (x % modulus width) }
@@ -113,5 +127,15 @@ pub fn greatest(width: Width) -> u64
     match width {
         Width::W32 => 0xffff_ffff,
         Width::W64 => u64::MAX,
+    }
+}
+
+/// The least word of a width that is below zero as a signed number.
+pub fn sign(width: Width) -> u64
+    ensures { 2 * result ≡ modulus width }
+{
+    match width {
+        Width::W32 => 0x8000_0000,
+        Width::W64 => 0x8000_0000_0000_0000,
     }
 }

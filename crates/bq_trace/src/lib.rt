@@ -5,22 +5,18 @@
 #![tactic(auto)]
 
 mod bare;
-pub mod counted;
+mod counted;
 pub mod fault;
 pub mod laws;
-pub mod loading;
-pub mod machine;
-pub mod pieces;
-#[cfg(test)]
-mod policy_tests;
-pub mod progress;
-pub mod session;
+mod loading;
+mod machine;
+mod pieces;
+mod progress;
+mod session;
 pub mod shows;
-pub mod sink;
-pub mod standing;
-pub mod telling;
-#[cfg(test)]
-mod tests;
+mod sink;
+mod standing;
+mod telling;
 pub mod texts;
 
 pub use counted::Counted;

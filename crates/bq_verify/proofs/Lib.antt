@@ -10,3 +10,4 @@ pub mod FirstLemmas
 pub mod FrameLemmas
 pub mod AskLemmas
 pub mod CallingLemmas
+pub mod KnownLemmas

@@ -8,6 +8,7 @@ use Rattle.bq_insn.specs.declared.Insn.TheVariants.{Goto, Goto32, Branch, Call, 
 use Rattle.bq_insn.specs.declared.Width.{Width}
 use Rattle.bq_insn.specs.declared.Condition.{Condition}
 use Rattle.bq_insn.specs.declared.Source.{Source}
+use Rattle.bq_insn.specs.declared.Source.TheVariants.{Reg}
 use Rattle.bq_insn.specs.Slots.{slots_of}
 use Rattle.bq_insn.specs.Meaning.{taken}
 use Rattle.bq_maps.specs.declared.shape.MapShape.{MapShape}
@@ -23,14 +24,14 @@ use Rattle.bq_views.specs.declared.view.View.{View}
 use Rattle.bq_views.specs.declared.view.Known.{Known}
 use Rattle.bq_views.specs.declared.view.Kind.TheVariants.{Context, Stack}
 use Rattle.bq_views.specs.Views.{Covers, Suits, Carries, AsksFrom, Describes, Fits, knowing}
-use Rattle.bq_verify.specs.Control.{IsAskingEdge, AreHeights, AreMade, EndsWithin, IsIn, WaitsBoxed, IsKnown, LeadsOn, Goes, PassesOn, RestIsSafe, IsOnSide, IsRelearned, PartsTo}
+use Rattle.bq_verify.specs.Control.{IsAskingEdge, AreHeights, AreMade, EndsWithin, IsIn, WaitsBoxed, IsKnown, LeadsOn, Goes, PassesOn, RestIsSafe, IsOnSide, PartsTo}
 use Rattle.bq_views.specs.Views.{IsStraight}
 use Rattle.bq_views.proofs.MergeLemmas.{some_none}
 use Rattle.bq_views.proofs.PutLemmas.{covers_learn, found_at}
 use Rattle.bq_verify.proofs.ChainLemmas.{goes_well}
 
 pub Covers-at : (f : Setting) (v : View) (s : State) (slot : ℕ) → Covers f v s → Covers f v (record s { slot = slot })
-Covers-at f v s slot covers = record { registers = covers.registers; set = covers.set; kept = covers.kept; maps = covers.maps }
+Covers-at f v s slot covers = record { registers = covers.registers; set = covers.set; kept = covers.kept; maps = covers.maps; copies = covers.copies }
 
 pub suits : (slots : List (Option Insn)) (shapes : List MapShape) (context_length : ℕ) (f : Setting) → IsSetting slots shapes context_length f → Suits shapes context_length f
 suits slots shapes context_length f setting = record {
@@ -46,19 +47,18 @@ after_call : (insn : Insn) → IsCounterCall insn → (slot : ℕ) → Leaves in
 after_call (Call helper) counter slot = inl (refl, refl)
 after_call _ counter slot = absurd counter
 
--- other views of one register
-pub relearned : (v : View) (dst : ℕ) (a : Known) → IsRelearned v (knowing v dst a) dst
-relearned v dst a word = ap (λ (l : List (Option Known)). let w : View = record v { registers = l } in w) (set-set v.registers dst (Some a) (Some word))
-
--- the other side of a branch, after the register was written for the one
-pub on_side : (f : Setting) (old new : View) (dst : ℕ) (word : Option Known) (s : State) → IsRelearned old new dst → IsOnSide f old dst word s → IsOnSide f new dst word s
-on_side f old new dst None s same side = side
-on_side f old new dst (Some word) s same side = subst (λ (v : View). Covers f v s) (sym (same word)) side
-
 -- the side that the test chooses
-pub chosen : (f : Setting) (view : View) (s : State) (slot dst a : ℕ) (word : Option Known) → dst < length view.registers → s.register dst ≡ Some a → Covers f view s → Fits f.shapes word a → IsOnSide f view dst word (record s { slot = slot })
-chosen f view s slot dst a None there is covers fits = fits
-chosen f view s slot dst a (Some word) there is covers fits = covers_learn f view (record s { slot = slot }) dst a word there is (Covers-at f view s slot covers) fits
+pub chosen : (f : Setting) (view : View) (s : State) (slot dst a b : ℕ) (src : Source) (word : Option Known) (right : Known) → s.register dst ≡ Some a → IsOperand s src b → Covers f view s → Fits f.shapes word a → Describes f.shapes right b → IsOnSide f view dst src word right (record s { slot = slot })
+chosen f view s slot dst a b src None right is operand covers fits told = fits
+chosen f view s slot dst a b src (Some word) right is operand covers fits told = (
+  Covers-at f view s slot covers,
+  record {
+    word = a;
+    is = is;
+    left_is = fits;
+    right_is = λ r same. (b, (let at : IsOperand s (Reg r) b = subst (λ (x : Source). IsOperand s x b) same operand in at), told);
+  },
+)
 
 module _ (slots : List (Option Insn)) (shapes : List MapShape) (context_length slot : ℕ) (view : View) (K : Setting → State → Type 0) where
   here_at : (insn : Insn) → instruction_at slots slot ≡ Some insn → (f : Setting) (s : State) → IsSetting slots shapes context_length f → s.slot ≡ slot → instruction_at f.slots s.slot ≡ Some insn
@@ -137,16 +137,16 @@ module _ (slots : List (Option Insn)) (shapes : List MapShape) (context_length s
       parted w c dst src off to f s (here_at (Branch w c dst src off) here f s setting same) (rw same leads) (subst (λ (n : ℕ). PartsTo K f s w c dst src to (n + 1)) (sym same) (parts f s covers)) _ refl
 
 -- the two sides of a branch
-pub parts_of : (f : Setting) (s : State) (view : View) (w : Width) (c : Condition) (dst : ℕ) (src : Source) (to next : ℕ) (K : Setting → State → Type 0) (left right : Known) (yes_word no_word : Option Known) → dst < length view.registers → Some left ≡ slice_index_or view.registers dst None → (b : ℕ) → IsOperand s src b → Describes f.shapes right b → ((shapes : List MapShape) (a b : ℕ) → Describes shapes left a → Describes shapes right b → taken w c a b ≡ true → Fits shapes yes_word a) → ((shapes : List MapShape) (a b : ℕ) → Describes shapes left a → Describes shapes right b → taken w c a b ≡ false → Fits shapes no_word a) → ((t : State) → t.slot ≡ to → IsOnSide f view dst yes_word t → K f t) → ((t : State) → t.slot ≡ next → IsOnSide f view dst no_word t → K f t) → Covers f view s → PartsTo K f s w c dst src to next
-parts_of f s view w c dst src to next K left right yes_word no_word there known b operand word yes_is no_is add_yes add_no covers =
+pub parts_of : (f : Setting) (s : State) (view : View) (w : Width) (c : Condition) (dst : ℕ) (src : Source) (to next : ℕ) (K : Setting → State → Type 0) (left right : Known) (yes_word no_word : Option Known) (yes_right no_right : Known) → Some left ≡ slice_index_or view.registers dst None → (b : ℕ) → IsOperand s src b → Describes f.shapes right b → ((shapes : List MapShape) (a b : ℕ) → Describes shapes left a → Describes shapes right b → taken w c a b ≡ true → Fits shapes yes_word a) → ((shapes : List MapShape) (a b : ℕ) → Describes shapes left a → Describes shapes right b → taken w c a b ≡ false → Fits shapes no_word a) → ((shapes : List MapShape) (a b : ℕ) → Describes shapes left a → Describes shapes right b → taken w c a b ≡ true → Describes shapes yes_right b) → ((shapes : List MapShape) (a b : ℕ) → Describes shapes left a → Describes shapes right b → taken w c a b ≡ false → Describes shapes no_right b) → ((t : State) → t.slot ≡ to → IsOnSide f view dst src yes_word yes_right t → K f t) → ((t : State) → t.slot ≡ next → IsOnSide f view dst src no_word no_right t → K f t) → Covers f view s → PartsTo K f s w c dst src to next
+parts_of f s view w c dst src to next K left right yes_word no_word yes_right no_right known b operand word yes_is no_is yes_told no_told add_yes add_no covers =
     let found = found_at f view s dst left known covers in
     record {
       left = found.0;
       right = b;
       left_is = found.1;
       right_is = operand;
-      yes = λ t e test. rw e (add_yes (record s { slot = to }) refl (chosen f view s to dst found.0 yes_word there found.1 covers (yes_is f.shapes found.0 b found.2 word test)));
-      no = λ t e test. rw e (add_no (record s { slot = next }) refl (chosen f view s next dst found.0 no_word there found.1 covers (no_is f.shapes found.0 b found.2 word test)));
+      yes = λ t e test. rw e (add_yes (record s { slot = to }) refl (chosen f view s to dst found.0 b src yes_word yes_right found.1 operand covers (yes_is f.shapes found.0 b found.2 word test) (yes_told f.shapes found.0 b found.2 word test)));
+      no = λ t e test. rw e (add_no (record s { slot = next }) refl (chosen f view s next dst found.0 b src no_word no_right found.1 operand covers (no_is f.shapes found.0 b found.2 word test) (no_told f.shapes found.0 b found.2 word test)));
     }
 
 -- more steps, and fewer calls before
@@ -206,13 +206,13 @@ module _ (slots : List (Option Insn)) (shapes : List MapShape) (context_length :
   pub rest_before : PassesOn slots shapes context_length slot K L → RestIsSafe slots shapes context_length heights made (slot + 1) L → RestIsSafe slots shapes context_length heights made slot K
   rest_before passes rest f s setting le begins known = at_state passes rest f s _ setting le begins known (eqb_tells s.slot slot)
 
-no_view : (f : Setting) (s : State) (waiting : Option (Box View Global)) → waiting ≡ None → IsIn f waiting s → ⊥
+pub no_view : (f : Setting) (s : State) (waiting : Option (Box View Global)) → waiting ≡ None → IsIn f waiting s → ⊥
 no_view f s waiting none here = rw none at here
 
 not_true : (live : Bool) → live ≡ false → live ≡ true → ⊥
 not_true live a b = cc
 
-moved : (f : Setting) (s : State) (pending : List (Option (Box View Global))) (slot : ℕ) → s.slot ≡ slot → WaitsBoxed f pending s → IsIn f (slice_index_or pending slot None) s
+pub moved : (f : Setting) (s : State) (pending : List (Option (Box View Global))) (slot : ℕ) → s.slot ≡ slot → WaitsBoxed f pending s → IsIn f (slice_index_or pending slot None) s
 moved f s pending slot same waits = subst (λ (n : ℕ). IsIn f (slice_index_or pending n None) s) same waits
 
 module _ (slots : List (Option Insn)) (shapes : List MapShape) (context_length slot : ℕ) (pending : List (Option (Box View Global))) (view : View) (live : Bool) (K : Setting → State → Type 0) (empty : slice_index_or pending slot None ≡ None) (arrives : (f : Setting) (s : State) → K f s → IsKnown pending view live slot f s) where

@@ -15,7 +15,7 @@ use Rattle.bq_views.specs.declared.view.Kind.TheVariants.{Entry, EntryOrNull}
 use Rattle.bq_views.specs.declared.view.Known.{Known}
 use Rattle.bq_views.specs.declared.view.View.{View}
 use Rattle.bq_views.specs.Views.{knowing}
-use Rattle.bq_verify.specs.Control.{IsRelearned}
+use Rattle.bq_views.specs.Told.{HasLearnt, IsLasting}
 use Rattle.bq_views.specs.Standing.{Scalar, Exact, Pointer, NoPointer, Stands, StandsAt, Fact, Never, AtRegister, IsSetAt, IsPlainAt, Has, Outlasts}
 use Rattle.bq_verify.specs.Ways.{HasOnSide, AfterTest, IsApartFrom}
 use Rattle.bq_views.specs.Sides.{IsNumberIfAny, IsTested, is_found}
@@ -36,9 +36,9 @@ known_inside xs r k known = known_within xs r k known (cases_lt r (length xs))
 pub has_tested : (x : Fact) (slot k : ℕ) (w : Width) (c : Condition) (dst : ℕ) (src : Source) (off : ℤ) (m : ℕ) (found : Bool) (view : View) → StandsAt (Pointer (EntryOrNull m) 0) view dst → (IsFoundSide c off slot k → found ≡ true) → After x slot k (Branch w c dst src off) view → AfterTest x view dst m found
 has_tested Never slot k w c dst src off m found view stands side after = absurd after
 has_tested (AtRegister Scalar r) slot k w c dst src off m found view stands side (inl gives) = absurd (some_none _ _ gives refl)
-has_tested (AtRegister Scalar r) slot k w c dst src off m found view stands side (inr (_, scalar)) = inr (λ same. not_both _ (EntryOrNull m) 0 (subst (λ (n : ℕ). StandsAt Scalar view n) same scalar) stands, scalar)
+has_tested (AtRegister Scalar r) slot k w c dst src off m found view stands side (inr (_, scalar)) = inr (λ same. not_both _ (EntryOrNull m) 0 (subst (λ (n : ℕ). StandsAt Scalar view n) same scalar) stands, tt, scalar)
 has_tested (AtRegister (Exact n) r) slot k w c dst src off m found view stands side (inl gives) = absurd gives
-has_tested (AtRegister (Exact n) r) slot k w c dst src off m found view stands side (inr (_, other, exact)) = inr (other, exact)
+has_tested (AtRegister (Exact n) r) slot k w c dst src off m found view stands side (inr (_, other, exact)) = inr (other, tt, exact)
 has_tested (AtRegister (Pointer kind o) r) slot k w c dst src off m found view stands side (inl (same, m', kind_is, o_is, answer, on_side)) =
     let kinds = pointer_is _ (EntryOrNull m') 0 (EntryOrNull m) 0 answer stands in
     let one : m' ≡ m = let e : EntryOrNull m' ≡ EntryOrNull m = kinds.0 in cc in
@@ -49,14 +49,15 @@ has_tested (AtRegister (Pointer kind o) r) slot k w c dst src off m found view s
       λ same.
           let kinds = pointer_is _ kind o (EntryOrNull m) 0 (subst (λ (n : ℕ). StandsAt (Pointer kind o) view n) same before) stands in
           (let refuted : IsCertain (EntryOrNull m) = subst (λ (b : Kind). IsCertain b) kinds.0 certain in refuted),
+      certain,
       before,
     )
 has_tested (AtRegister NoPointer r) slot k w c dst src off m found view stands side after = absurd after
 has_tested (IsSetAt i) slot k w c dst src off m found view stands side (inl stores) = absurd stores
-has_tested (IsSetAt i) slot k w c dst src off m found view stands side (inr has) = inr (tt, has)
-has_tested (IsPlainAt j) slot k w c dst src off m found view stands side after = inr (tt, after)
+has_tested (IsSetAt i) slot k w c dst src off m found view stands side (inr has) = inr (tt, tt, has)
+has_tested (IsPlainAt j) slot k w c dst src off m found view stands side after = inr (tt, tt, after)
 
-knowing_apart : (x : Fact) (view : View) (dst : ℕ) (word : Known) → IsApartFrom x dst → Has x view → Has x (knowing view dst word)
+knowing_apart : (x : Fact) (view : View) (dst : ℕ) (word : Known) → IsApartFrom x dst → Has x view → HasLearnt x view dst word
 knowing_apart Never view dst word other has = has
 knowing_apart (AtRegister s r) view dst word other has = subst (λ (v : Option Known). Stands s v) (sym (get_or-set_other view.registers dst r (Some word) None other)) has
 knowing_apart (IsSetAt i) view dst word other has = has
@@ -66,14 +67,20 @@ knowing_apart (IsPlainAt j) view dst word other has = has
 pub has_on_tested : (x : Fact) (view : View) (dst m : ℕ) (found : Bool) (side : Option Known) → dst < length view.registers → IsTested m found side → AfterTest x view dst m found → HasOnSide x view dst side
 has_on_tested x view dst m found side there tested (inl (yes', is)) =
     let word : Stands (Pointer (Entry m) 0) (slice_index_or (slice_set view.registers dst (Some tested.word)) dst None) = subst (λ (v : Option Known). Stands (Pointer (Entry m) 0) v) (sym (get_or-set_same view.registers dst (Some tested.word) None there)) (tested.entry yes') in
-    let at : HasOnSide (AtRegister (Pointer (Entry m) 0) dst) view dst (Some tested.word) = word in
+    let at : HasOnSide (AtRegister (Pointer (Entry m) 0) dst) view dst (Some tested.word) = (tt, word) in
     subst (λ (v : Option Known). HasOnSide x view dst v) (sym tested.is) (subst (λ (y : Fact). HasOnSide y view dst (Some tested.word)) (sym is) at)
-has_on_tested x view dst m found side there tested (inr (other, has)) = subst (λ (v : Option Known). HasOnSide x view dst v) (sym tested.is) (knowing_apart x view dst tested.word other has)
+has_on_tested x view dst m found side there tested (inr (other, lasting, has)) = subst (λ (v : Option Known). HasOnSide x view dst v) (sym tested.is) (lasting, knowing_apart x view dst tested.word other has)
+
+learnt_of : (x : Fact) (view : View) (dst : ℕ) (k : Known) → Has x (knowing view dst k) → HasLearnt x view dst k
+learnt_of Never view dst k has = has
+learnt_of (AtRegister s r) view dst k has = has
+learnt_of (IsSetAt i) view dst k has = has
+learnt_of (IsPlainAt j) view dst k has = has
 
 -- what is sure of a view is sure on a side of a test of numbers
-pub has_on_side : (x : Fact) (view : View) (dst : ℕ) (side : Option Known) → dst < length view.registers → Outlasts x dst → StandsAt Scalar view dst → IsNumberIfAny side → Has x view → HasOnSide x view dst side
-has_on_side x view dst None there lasts scalar number has = tt
-has_on_side x view dst (Some k) there lasts scalar number has = given_has x view (knowing view dst k) dst lasts scalar (knowing_given view dst k there number) has
+pub has_on_side : (x : Fact) (view : View) (dst : ℕ) (side : Option Known) → dst < length view.registers → Outlasts x dst → IsLasting x → StandsAt Scalar view dst → IsNumberIfAny side → Has x view → HasOnSide x view dst side
+has_on_side x view dst None there lasts lasting scalar number has = tt
+has_on_side x view dst (Some k) there lasts lasting scalar number has = (lasting, learnt_of x view dst k (given_has x view (knowing view dst k) dst lasts scalar (knowing_given view dst k there number) has))
 
 -- what is sure after a branch outlasts the test
 pub outlasts : (x : Fact) (slot k : ℕ) (w : Width) (c : Condition) (dst : ℕ) (src : Source) (off : ℤ) (view : View) → After x slot k (Branch w c dst src off) view → Outlasts x dst
@@ -86,10 +93,16 @@ outlasts Never slot k w c dst src off view after = tt
 outlasts (IsSetAt i) slot k w c dst src off view after = tt
 outlasts (IsPlainAt j) slot k w c dst src off view after = tt
 
--- the other side, after the register was written for the one
-pub has_relearned : (x : Fact) (old new : View) (dst : ℕ) (side : Option Known) → IsRelearned old new dst → HasOnSide x old dst side → HasOnSide x new dst side
-has_relearned x old new dst None same side = tt
-has_relearned x old new dst (Some word) same side = subst (λ (v : View). Has x v) (sym (same word)) side
+-- and it lasts
+pub lasting_after : (x : Fact) (slot k : ℕ) (w : Width) (c : Condition) (dst : ℕ) (src : Source) (off : ℤ) (view : View) → After x slot k (Branch w c dst src off) view → IsLasting x
+lasting_after (AtRegister (Pointer kind o) r) slot k w c dst src off view (inl (same, m, kind_is, o_is, answer, on_side)) = subst (λ (b : Kind). IsCertain b) (sym kind_is) tt
+lasting_after (AtRegister (Pointer kind o) r) slot k w c dst src off view (inr (_, certain, before)) = certain
+lasting_after (AtRegister (Exact n) r) slot k w c dst src off view after = tt
+lasting_after (AtRegister Scalar r) slot k w c dst src off view after = tt
+lasting_after (AtRegister NoPointer r) slot k w c dst src off view after = tt
+lasting_after Never slot k w c dst src off view after = tt
+lasting_after (IsSetAt i) slot k w c dst src off view after = tt
+lasting_after (IsPlainAt j) slot k w c dst src off view after = tt
 
 pub carried_of : (insn : Insn) → (insn ≡ Exit → ⊥) → ((off : ℤ) → insn ≡ Goto off → ⊥) → ((imm : ℤ) → insn ≡ Goto32 imm → ⊥) → ((w : Width) (c : Condition) (d : ℕ) (s : Source) (off : ℤ) → insn ≡ Branch w c d s off → ⊥) → IsCarried insn
 carried_of (Goto off) e g h b = g off refl

@@ -17,7 +17,8 @@ use Rattle.bq_graph.specs.Edges.{Leaves, IsEdge, IsStart}
 use Rattle.bq_views.specs.declared.view.Known.{Known}
 use Rattle.bq_views.specs.declared.view.View.{View}
 use Rattle.bq_views.specs.Ready.{WritesBelowFrame}
-use Rattle.bq_views.specs.Views.{Covers, knowing}
+use Rattle.bq_views.specs.Told.{IsTold}
+use Rattle.bq_views.specs.Views.{Covers}
 
 -- each number is above those of the slots that its slot leads to, which come later
 pub record AreHeights (slots : List (Option Insn)) (heights : List ℕ) : Type 0 where
@@ -84,14 +85,10 @@ abbrev pub RestIsSafe : List (Option Insn) → List MapShape → ℕ → List �
 RestIsSafe slots shapes context_length heights made slot K =
     (f : Setting) (s : State) → IsSetting slots shapes context_length f → slot ≤ s.slot → IsStart slots s.slot → K f s → EndsWithin f s (slice_index heights s.slot) (made s.slot)
 
--- the state is one of the view with that word in the register; of none where control never goes there
-abbrev pub IsOnSide : Setting → View → ℕ → Option Known → State → Type 0
-IsOnSide f view dst None s = ⊥
-IsOnSide f view dst (Some word) s = Covers f (knowing view dst word) s
-
--- the views differ in that register alone
-abbrev pub IsRelearned : View → View → ℕ → Type 0
-IsRelearned old new dst = (word : Known) → knowing new dst word ≡ knowing old dst word
+-- the state is one of the view, and both operands are as told there; of none where control never goes there
+abbrev pub IsOnSide : Setting → View → ℕ → Source → Option Known → Known → State → Type 0
+IsOnSide f view dst src None right s = ⊥
+IsOnSide f view dst src (Some word) right s = Covers f view s × IsTold f s dst src word right
 
 -- both operands are set, and on the side that the test chooses the state is known
 pub record PartsTo (K : Setting → State → Type 0) (f : Setting) (s : State) (w : Width) (c : Condition) (dst : ℕ) (src : Source) (to next : ℕ) : Type 0 where

@@ -5,5 +5,6 @@ pub mod Sure
 pub mod Stops
 pub mod Accepted
 pub mod Refusals
+pub mod KnownAt
 pub mod Laws
 pub mod Worked

@@ -1,11 +1,12 @@
 -- What is sure of views along the ways that control takes.
 use Rattle.std.proofs.Common.{Global}
-use Rattle.std.specs.Prelude.{Bool, true, ◌≡◌, ◌≢◌, ℕ, ◌+◌, List, Option, Some, None, slice_set, slice_index_or, ◌⊎◌}
+use Rattle.std.specs.Prelude.{Bool, true, ◌≡◌, ◌≢◌, ℕ, ◌+◌, List, Option, Some, None, slice_index_or, ◌⊎◌}
 use Rattle.std.specs.declared.boxed.Box.{Box}
 use Rattle.bq_insn.specs.declared.Insn.{Insn}
 use Rattle.bq_graph.specs.Edges.{IsEdge}
 use Rattle.bq_views.specs.After.{After}
 use Rattle.bq_views.specs.Standing.{Pointer, Fact, AtRegister, Has}
+use Rattle.bq_views.specs.Told.{HasLearnt, IsLasting}
 use Rattle.bq_views.specs.declared.view.Kind.TheVariants.{Entry}
 use Rattle.bq_views.specs.declared.view.Known.{Known}
 use Rattle.bq_views.specs.declared.view.View.{View}
@@ -17,7 +18,7 @@ IsApartFrom x dst = Unit {0}
 
 -- what is sure on a side of a test of a look-up's answer: the entry, where it was found, and what is sure of the rest
 abbrev pub AfterTest : Fact → View → ℕ → ℕ → Bool → Type 0
-AfterTest x view dst map found = ((found ≡ true) × (x ≡ AtRegister (Pointer (Entry map) 0) dst)) ⊎ (IsApartFrom x dst × Has x view)
+AfterTest x view dst map found = ((found ≡ true) × (x ≡ AtRegister (Pointer (Entry map) 0) dst)) ⊎ (IsApartFrom x dst × IsLasting x × Has x view)
 
 -- the fact is true of a view that waits, if one does
 abbrev pub HasIn : Fact → Option (Box View Global) → Type 0
@@ -37,7 +38,7 @@ abbrev pub GoesOnSure : List (Option Insn) → ℕ → Insn → View → List (O
 GoesOnSure slots slot insn view old new after live =
     (x : Fact) (k : ℕ) → HasWaiting x old k → (IsEdge slots slot k → After x slot k insn view) → IsSureOf x new after live (slot + 1) k
 
--- the fact is true of the view with that word in the register, if control goes there
+-- the fact lasts, and is true of the view with that word in the register, if control goes there
 abbrev pub HasOnSide : Fact → View → ℕ → Option Known → Type 0
 HasOnSide x view dst None = Unit {0}
-HasOnSide x view dst (Some word) = Has x (record view { registers = slice_set view.registers dst (Some word) })
+HasOnSide x view dst (Some word) = IsLasting x × HasLearnt x view dst word

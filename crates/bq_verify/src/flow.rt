@@ -12,8 +12,9 @@ ghost use Rattle.bq_verify.specs.Ways.{AfterTest, GoesOnSure, HasOnSide, HasWait
 ghost use Rattle.bq_views.specs.Standing.{Fact, Has, IsScalarOperand, Outlasts, Pointer, Scalar, StandsAt};
 ghost use Rattle.bq_views.specs.Ready.{IsNullCheck, IsReady, IsReadyToAsk, WritesBelowFrame};
 ghost use Rattle.bq_views.specs.Sides.{is_found};
+ghost use Rattle.bq_views.specs.Told.{IsLasting};
 ghost use Rattle.bq_views.specs.Views.{Covers};
-ghost use Rattle.bq_verify.specs.Control.{Goes, IsKnown, IsOnSide, IsRelearned, PartsTo, WaitsBoxed};
+ghost use Rattle.bq_verify.specs.Control.{Goes, IsKnown, IsOnSide, PartsTo, WaitsBoxed};
 
 use crate::stop::Stop;
 use crate::waiting::wait;
@@ -22,8 +23,9 @@ use bq_insn::{Condition, Insn, Source, Width};
 use bq_maps::shape::MapShape;
 use bq_views::carry::carry;
 use bq_views::counters::{ask, is_counter_call};
-use bq_views::registers::{known, learn, operand};
-use bq_views::sides::side;
+use bq_views::registers::{known, operand};
+use bq_views::sides::{right_side, side};
+use bq_views::told::tell;
 use bq_views::view::{Doubt, Kind, Known, View};
 use std::alloc::{AllocError, Global};
 
@@ -156,7 +158,7 @@ fn branch(
     ensures accepts { dst < 10 → StandsAt Scalar view.old dst → IsScalarOperand view.old src → IfErr result IsWantOfMemory }
     ensures checks { (map : ℕ) → dst < 10 → IsNullCheck width cond src → StandsAt (Pointer (Kind.EntryOrNull map) 0) view.old dst → IfErr result IsWantOfMemory }
     ensures checked { (map : ℕ) → IsNullCheck width cond src → StandsAt (Pointer (Kind.EntryOrNull map) 0) view.old dst → IfOk result (λ live. (x : Fact) (k : ℕ) → HasWaiting x pending.old k → (k ≡ to → AfterTest x view.old dst map (is_found cond true)) → (k ≡ next → AfterTest x view.old dst map (is_found cond false)) → IsSureOf x pending.new view.new live next k) }
-    ensures sure { StandsAt Scalar view.old dst → IsScalarOperand view.old src → IfOk result (λ live. (x : Fact) (k : ℕ) → HasWaiting x pending.old k → ((k ≡ to) ⊎ (k ≡ next) → Outlasts x dst × Has x view.old) → IsSureOf x pending.new view.new live next k) }
+    ensures sure { StandsAt Scalar view.old dst → IsScalarOperand view.old src → IfOk result (λ live. (x : Fact) (k : ℕ) → HasWaiting x pending.old k → ((k ≡ to) ⊎ (k ≡ next) → Outlasts x dst × IsLasting x × Has x view.old) → IsSureOf x pending.new view.new live next k) }
 {
     let Some(right) = operand(view, src) else {
         return Err(Stop::Doubted(Doubt::Unset));
@@ -169,43 +171,47 @@ fn branch(
     }
     let yes = side(width, cond, left, src, right, true)?;
     let no = side(width, cond, left, src, right, false)?;
-    wait_on_side(alloc, pending, to, view, dst, yes)?;
-    Ok(carry_on(view, dst, no))
+    let told = right_side(width, cond, left, right, true);
+    wait_on_side(alloc, pending, to, view, dst, src, yes, told)?;
+    let other = right_side(width, cond, left, right, false);
+    Ok(carry_on(view, dst, src, no, other))
 }
 
-/// The view with that word in the register waits for the slot, if there is one.
+/// The view waits for the slot with what is told of both operands there, if control goes there.
 fn wait_on_side(
     alloc: Global,
     pending: &mut [Option<Box<View>>],
     slot: usize,
-    view: &mut View,
+    view: &View,
     dst: u8,
+    src: Source,
     side: Option<Known>,
+    right: Known,
 ) -> Result<(), AllocError>
     requires here { slot < length pending.old }
     requires dst { dst < 11 }
     ensures long { length pending.new ≡ length pending.old }
-    ensures same { IsRelearned view.old view.new dst }
     ensures kept { OnOk result ((f : Setting) (s : State) → WaitsBoxed f pending.old s → WaitsBoxed f pending.new s) }
-    ensures added { OnOk result ((f : Setting) (s : State) → s.slot ≡ slot → IsOnSide f view.old dst side s → WaitsBoxed f pending.new s) }
-    ensures has { OnOk result ((x : Fact) (k : ℕ) → HasWaiting x pending.old k → (k ≡ slot → HasOnSide x view.old dst side) → HasWaiting x pending.new k) }
+    ensures added { OnOk result ((f : Setting) (s : State) → s.slot ≡ slot → IsOnSide f view.now dst src side right s → WaitsBoxed f pending.new s) }
+    ensures has { OnOk result ((x : Fact) (k : ℕ) → HasWaiting x pending.old k → (k ≡ slot → HasOnSide x view.now dst side) → HasWaiting x pending.new k) }
 {
     let Some(word) = side else {
         return Ok(());
     };
-    learn(view, dst, word);
-    wait(alloc, pending, slot, view)
+    let mut told = *view;
+    tell(&mut told, dst, src, word, right);
+    wait(alloc, pending, slot, &told)
 }
 
-/// The view with that word in the register is carried on, if there is one.
-fn carry_on(view: &mut View, dst: u8, side: Option<Known>) -> bool
+/// The view is carried on with what is told of both operands there, if control goes there.
+fn carry_on(view: &mut View, dst: u8, src: Source, side: Option<Known>, right: Known) -> bool
     requires { dst < 11 }
-    ensures covers { (f : Setting) (s : State) → IsOnSide f view.old dst side s → (result ≡ true) × Covers f view.new s }
+    ensures covers { (f : Setting) (s : State) → IsOnSide f view.old dst src side right s → (result ≡ true) × Covers f view.new s }
     ensures has { (x : Fact) → HasOnSide x view.old dst side → result ≡ true → Has x view.new }
 {
     let Some(word) = side else {
         return false;
     };
-    learn(view, dst, word);
+    tell(view, dst, src, word, right);
     true
 }

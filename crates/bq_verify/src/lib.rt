@@ -6,18 +6,18 @@
 
 mod flow;
 pub mod hook;
+mod known_at;
 pub mod laws;
 mod pass;
 pub mod program;
 pub mod refused;
 mod stop;
-#[cfg(test)]
-mod tests;
 pub mod verified;
 mod waiting;
 
 pub use bq_graph::cause::Cause;
 pub use hook::{Hook, Version};
+pub use known_at::view_at;
 pub use program::{Program, verify};
 pub use refused::Refused;
 pub use verified::Verified;

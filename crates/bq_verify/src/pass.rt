@@ -89,7 +89,7 @@ fn pass(
 }
 
 /// One slot: whether a view is carried on to the next.
-fn pass_slot(
+pub(crate) fn pass_slot(
     alloc: Global,
     slots: &[Option<Insn>],
     shapes: &[MapShape],
@@ -125,7 +125,7 @@ fn pass_slot(
 }
 
 /// What is known at the start.
-fn start() -> View
+pub(crate) fn start() -> View
     ensures covers { (f : Setting) (maps : List (List ℕ)) → HaveShapes f.shapes maps → Covers f result (beginning maps) }
     ensures context { StandsAt (Pointer Kind.Context 0) result 1 }
     ensures frame { StandsAt (Pointer Kind.Stack 512) result 10 }
@@ -160,6 +160,7 @@ fn blank() -> View
         registers: nothing(),
         set: unset(),
         kept: nothing(),
+        classes: no_copies(),
     }
 }
 
@@ -167,6 +168,12 @@ fn nothing<const N: usize>() -> [Option<Known>; N]
     ensures { (k : ℕ) → slice_index_or result k None ≡ None }
 {
     [None; N]
+}
+
+fn no_copies<const N: usize>() -> [u8; N]
+    ensures { (k : ℕ) → slice_index result k ≡ 0 }
+{
+    [0; N]
 }
 
 fn unset<const N: usize>() -> [bool; N]

@@ -45,7 +45,7 @@ fn blank_counts(alloc: Global, count: usize) -> Result<Vec<Option<u32>>, AllocEr
 }
 
 /// The checks of the control graph.
-fn check_graph(alloc: Global, slots: &[Option<Insn>]) -> Result<(), Refused>
+pub(crate) fn check_graph(alloc: Global, slots: &[Option<Insn>]) -> Result<(), Refused>
     requires some { 0 < length slots.now }
     requires short { length slots.now ≤ 4096 }
     requires whole { IsWhole slots.now }

@@ -152,7 +152,7 @@ load_gives shapes context_length view size signed dst src off kind at numbers fi
     (loaded size signed (number_of read.1), (read.0, read.1, read.2, read.3, read.4, target, refl), number_is f.shapes numbers _ (fits _ read.5))
 
 -- the number of its own eight bytes
-number_of_word : (n : ℕ) → n < 2 ^ 64 → number_of (bytes_low_first 0 8 n) ≡ n
+pub number_of_word : (n : ℕ) → n < 2 ^ 64 → number_of (bytes_low_first 0 8 n) ≡ n
 number_of_word n small = omega arith
 
 -- a load of a word that was stored whole

@@ -13,6 +13,8 @@ use Rattle.bq_ranges.specs.declared.range.Range.{Range}
 use Rattle.bq_views.specs.declared.view.View.{View}
 use Rattle.bq_views.specs.declared.view.Known.{Known}
 use Rattle.bq_views.specs.declared.view.Kind.TheVariants.{Stack, EntryOrNull}
+use Rattle.bq_views.specs.Copies.{PartsFirst}
+use Rattle.bq_views.proofs.CopyLemmas.{copies_called}
 use Rattle.bq_views.specs.Views.{Describes, Holds, Covers, Carries, Bounds, Clears, FindsBytes, IsBelow}
 use Rattle.bq_views.proofs.AccessLemmas.{reads_gives, entry_low}
 use Rattle.bq_views.proofs.WriteLemmas.{covers_entry}
@@ -58,17 +60,18 @@ called_at shapes old cleared register answer k r b c lt clears h d (inr (e, othe
 called_at shapes old cleared register answer k r b c lt clears h d (inr (e, other)) (inr (e', high)) =
     rw (e, e', get_or-set_other cleared 0 r (Some k) None other, clears.others r (omega arith)) h
 
-pub covers_called : (f : Setting) (v : View) (s : State) (cleared : List (Option Known)) (answer : ℕ) (k : Known) → 0 < length cleared → Clears v.registers cleared → Covers f v s → Describes f.shapes k answer → Covers f (record v { registers = slice_set cleared 0 (Some k) }) (called s answer)
-covers_called f v s cleared answer k lt clears covers d = record {
+pub covers_called : (f : Setting) (v : View) (s : State) (cleared : List (Option Known)) (parts : List ℕ) (answer : ℕ) (k : Known) → 0 < length cleared → Clears v.registers cleared → PartsFirst v.classes parts → Covers f v s → Describes f.shapes k answer → Covers f (record v { registers = slice_set cleared 0 (Some k); classes = slice_set parts 0 0 }) (called s answer)
+covers_called f v s cleared parts answer k lt clears first covers d = record {
   registers = λ r. called_at f.shapes v.registers cleared s.register answer k r _ _ lt clears (covers.registers r) d (eqb_tells r 0) (leb_tells (suc r) 6);
   set = covers.set;
   kept = covers.kept;
   maps = covers.maps;
+  copies = copies_called v.classes parts s answer first covers.copies;
 }
 
 -- a look-up carries the view on
-pub carries_look_up : (shapes : List MapShape) (context_length : ℕ) (v : View) (cleared : List (Option Known)) (m : ℕ) (r : Range) → 0 < length cleared → Clears v.registers cleared → r.lo ≡ 0 → m < 256 → ((f : Setting) (s : State) → Covers f v s → (s.register 1 ≡ Some (reference m)) × (m < length f.shapes)) → FindsBytes shapes context_length v 2 4 → Carries shapes context_length (Call (pos 1)) v (record v { registers = slice_set cleared 0 (Some (record { kind = EntryOrNull m; offset = r })) })
-carries_look_up shapes context_length v cleared m r lt clears lo few names finds f s suits covers =
+pub carries_look_up : (shapes : List MapShape) (context_length : ℕ) (v : View) (cleared : List (Option Known)) (parts : List ℕ) (m : ℕ) (r : Range) → 0 < length cleared → Clears v.registers cleared → PartsFirst v.classes parts → r.lo ≡ 0 → m < 256 → ((f : Setting) (s : State) → Covers f v s → (s.register 1 ≡ Some (reference m)) × (m < length f.shapes)) → FindsBytes shapes context_length v 2 4 → Carries shapes context_length (Call (pos 1)) v (record v { registers = slice_set cleared 0 (Some (record { kind = EntryOrNull m; offset = r })); classes = slice_set parts 0 0 })
+carries_look_up shapes context_length v cleared parts m r lt clears first lo few names finds f s suits covers =
     let named = names f s covers in
     let found = finds f s suits covers in
     let shape = shape_at f.shapes m named.1 in
@@ -85,7 +88,7 @@ carries_look_up shapes context_length v cleared m r lt clears lo few names finds
     } in (
       called s (entry_address shape.0 m k),
       inl (refl, (m, shape.0, k, entry, refl)),
-      covers_called f v s cleared (entry_address shape.0 m k) (record { kind = EntryOrNull m; offset = r }) lt clears covers (answer_is f.shapes m k shape.0 r shape.1 few lo),
+      covers_called f v s cleared parts (entry_address shape.0 m k) (record { kind = EntryOrNull m; offset = r }) lt clears first covers (answer_is f.shapes m k shape.0 r shape.1 few lo),
       refl,
     )
 
@@ -99,7 +102,7 @@ entry_written f v s m k shape value known there long small covers =
     let after = covers_entry f v s m first (entry_address shape m k) (length value) 0 value good refl small covers in (
       written s (InEntry m first) 0 value,
       record { region = InEntry m first; offset = 0; writable = tt; good = good; after = refl },
-      record { registers = after.registers; set = after.set; kept = after.kept; maps = after.maps },
+      record { registers = after.registers; set = after.set; kept = after.kept; maps = after.maps; copies = after.copies },
       refl,
     )
   where

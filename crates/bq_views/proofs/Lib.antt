@@ -8,3 +8,5 @@ pub mod CallLemmas
 pub mod StoreLemmas
 pub mod WriteLemmas
 pub mod CounterLemmas
+pub mod CopyLemmas
+pub mod ToldLemmas

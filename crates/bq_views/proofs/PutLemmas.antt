@@ -13,6 +13,7 @@ use Rattle.bq_maps.specs.Memory.{Setting, State, reference}
 use Rattle.bq_maps.specs.Machine.{Does, put, IsLeft}
 use Rattle.bq_views.specs.declared.view.Known.{Known}
 use Rattle.bq_views.specs.declared.view.View.{View}
+use Rattle.bq_views.proofs.CopyLemmas.{copies_learnt, copies_put}
 use Rattle.bq_views.specs.Views.{Describes, Holds, Covers, Suits, Carries, knowing}
 
 pub left_from_set : (o : Operation) (v : Option ℕ) (a : ℕ) → v ≡ Some a → IsLeft o v a
@@ -29,6 +30,7 @@ covers_put f v s slots dst n k lt covers d = record {
   set = covers.set;
   kept = covers.kept;
   maps = covers.maps;
+  copies = copies_put v.classes s slots dst n covers.copies;
 }
 
 -- an instruction that gives a register such a word carries the view on
@@ -41,7 +43,8 @@ carries_put shapes context_length insn v dst k lt gives f s suits covers =
 pub found_at : (f : Setting) (v : View) (s : State) (r : ℕ) (k : Known) → Some k ≡ slice_index_or v.registers r None → Covers f v s → (n : ℕ) × (s.register r ≡ Some n) × Describes f.shapes k n
 found_at f v s r k e covers = rw (sym e) at (covers.registers r)
 
-learn_at : (shapes : List MapShape) (regs : List (Option Known)) (register : ℕ → Option ℕ) (dst n : ℕ) (k : Known) (r : ℕ) (b : Bool) → dst < length regs → register dst ≡ Some n → Holds shapes (get_or regs r None) (register r) → Describes shapes k n → ((b ≡ true) × (r ≡ dst)) ⊎ ((b ≡ false) × (r ≢ dst)) → Holds shapes (get_or (set regs dst (Some k)) r None) (register r)
+-- a place among registers of which more is known
+pub learn_at : (shapes : List MapShape) (regs : List (Option Known)) (register : ℕ → Option ℕ) (dst n : ℕ) (k : Known) (r : ℕ) (b : Bool) → dst < length regs → register dst ≡ Some n → Holds shapes (get_or regs r None) (register r) → Describes shapes k n → ((b ≡ true) × (r ≡ dst)) ⊎ ((b ≡ false) × (r ≢ dst)) → Holds shapes (get_or (set regs dst (Some k)) r None) (register r)
 learn_at shapes regs register dst n k r b lt is h d (inl (e, same)) = rw (same, get_or-set_same regs dst (Some k) None lt) (n, is, d)
 learn_at shapes regs register dst n k r b lt is h d (inr (e, other)) = rw (get_or-set_other regs dst r (Some k) None other) h
 
@@ -52,6 +55,7 @@ covers_learn f v s dst n k lt is covers d = record {
   set = covers.set;
   kept = covers.kept;
   maps = covers.maps;
+  copies = copies_learnt v.classes s dst covers.copies;
 }
 
 -- the reference of a map

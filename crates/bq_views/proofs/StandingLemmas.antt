@@ -280,12 +280,16 @@ knowing_made s view dst k there stands = record {
   kept_same = refl;
 }
 
+-- classes say nothing of that
+pub made_classes : (s : Standing) (old new : View) (dst : ℕ) (classes : List ℕ) → IsMade s old new dst → IsMade s old (record new { classes = classes }) dst
+made_classes s old new dst classes made = record { given = made.given; kept = made.kept; set_same = made.set_same; kept_same = made.kept_same }
+
 pub knowing_given : (view : View) (dst : ℕ) (k : Known) → dst < length view.registers → k.kind ≡ Number → IsGiven view (knowing view dst k) dst
 knowing_given view dst k there number = knowing_made Scalar view dst k there number
 
 -- registers 1 to 5 are forgotten, and register 0 is learnt anew
-pub called_by : (s : Standing) (view : View) (registers : List (Option Known)) (k : Known) → 0 < length registers → Clears view.registers registers → Stands s (Some k) → IsCalled s view (knowing (record view { registers = registers }) 0 k)
-called_by s view registers k there clears stands = record {
+pub called_by : (s : Standing) (view : View) (registers : List (Option Known)) (classes : List ℕ) (k : Known) → 0 < length registers → Clears view.registers registers → Stands s (Some k) → IsCalled s view (knowing (record view { registers = registers; classes = classes }) 0 k)
+called_by s view registers classes k there clears stands = record {
   given = subst (λ (v : Option Known). Stands s v) (sym (get_or-set_same registers 0 (Some k) None there)) stands;
   kept = λ r above. get_or-set_other registers 0 r (Some k) None (λ e. absurd (omega arith)) ∙ clears.others r above;
   set_same = refl;

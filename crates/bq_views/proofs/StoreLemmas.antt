@@ -8,6 +8,7 @@ use Rattle.bq_maps.specs.Memory.{Setting, State, InStack, stack_with, written}
 use Rattle.bq_maps.specs.Machine.{next}
 use Rattle.bq_views.specs.declared.view.View.{View}
 use Rattle.bq_views.specs.declared.view.Known.{Known}
+use Rattle.bq_views.specs.Copies.{AreCopies}
 use Rattle.bq_views.specs.Views.{Describes, Keeps, Covers, Marks, Forgets}
 
 stack_tests : (stack : ℕ → Option ℕ) (at : ℕ) (bytes : List ℕ) (i : ℕ) (b c : Bool) → ((b ≡ true) × (at ≤ i)) ⊎ ((b ≡ false) × (i < at)) → ((c ≡ true) × (suc i ≤ at + length bytes)) ⊎ ((c ≡ false) × (at + length bytes < suc i)) → ((at ≤ i) × (i < at + length bytes) × (cond (b && c) (Some (slice_index bytes (i - at))) (stack i) ≡ Some (slice_index bytes (i - at)))) ⊎ (((i < at) ⊎ (at + length bytes ≤ i)) × (cond (b && c) (Some (slice_index bytes (i - at))) (stack i) ≡ stack i))
@@ -30,6 +31,11 @@ outside stack at bytes i (inl below) (inl (le, lt, e)) = absurd (omega arith)
 outside stack at bytes i (inr past) (inl (le, lt, e)) = absurd (omega arith)
 outside stack at bytes i apart (inr (apart', e)) = e
 
+-- a byte of a slot that the write does not touch
+pub apart_byte : (stack : ℕ → Option ℕ) (at : ℕ) (bytes : List ℕ) (j i : ℕ) → (8 * j + 8 ≤ at) ⊎ (at + length bytes ≤ 8 * j) → i < 8 → stack_with stack at bytes (8 * j + i) ≡ stack (8 * j + i)
+apart_byte stack at bytes j i (inl below) lt = outside stack at bytes (8 * j + i) (inl (omega arith)) (stack_cases stack at bytes (8 * j + i))
+apart_byte stack at bytes j i (inr past) lt = outside stack at bytes (8 * j + i) (inr (omega arith)) (stack_cases stack at bytes (8 * j + i))
+
 -- a slot that the write does not touch keeps its word
 pub Keeps-apart : (shapes : List MapShape) (k : Option Known) (stack : ℕ → Option ℕ) (at : ℕ) (bytes : List ℕ) (j : ℕ) → (8 * j + 8 ≤ at) ⊎ (at + length bytes ≤ 8 * j) → Keeps shapes k stack j → Keeps shapes k (stack_with stack at bytes) j
 Keeps-apart shapes None stack at bytes j apart h = tt
@@ -41,12 +47,13 @@ kept_after shapes old new stack at bytes j h (inl e) = rw e tt
 kept_after shapes old new stack at bytes j h (inr (e, apart)) = rw e (Keeps-apart shapes old stack at bytes j apart h)
 
 -- the view after a write of bytes on the stack
-pub covers_written : (f : Setting) (v w : View) (s : State) (at : ℕ) (bytes : List ℕ) → ((k : ℕ) → k < length bytes → slice_index bytes k < 256) → w.registers ≡ v.registers → Marks v.set w.set at (at + length bytes) → Forgets v.kept w.kept at (at + length bytes) → Covers f v s → Covers f w (next (written s InStack at bytes))
-covers_written f v w s at bytes small same marks forgets covers = record {
+pub covers_written : (f : Setting) (v w : View) (s : State) (at : ℕ) (bytes : List ℕ) → ((k : ℕ) → k < length bytes → slice_index bytes k < 256) → w.registers ≡ v.registers → Marks v.set w.set at (at + length bytes) → Forgets v.kept w.kept at (at + length bytes) → AreCopies w.classes (next (written s InStack at bytes)) → Covers f v s → Covers f w (next (written s InStack at bytes))
+covers_written f v w s at bytes small same marks forgets copies covers = record {
   registers = λ r. rw same (covers.registers r);
   set = λ i h. set_after v s at i bytes _ small (covers.set i) (marks i h) (stack_cases s.stack at bytes i);
   kept = λ j. kept_after f.shapes _ _ s.stack at bytes j (covers.kept j) (forgets j);
   maps = covers.maps;
+  copies = copies;
 }
 
 pub low_at : (a n v i : ℕ) → i < n → slice_index (bytes_low_first a n v) i ≡ byte_of (a + i) v

@@ -37,7 +37,7 @@ moved_down shapes kind r t x y b d w differences =
     let fits = b.fits in
     record { base = d.base; offset = (d.offset + (2 ^ 64 - y)) % 2 ^ 64; is_base = d.is_base; within = differences d.offset y d.within w; word_is = omega (arith, d.word_is, w) }
 
-same_word : (x y : ℕ) → y < 2 ^ 64 → alu_result W64 op.Mov x y ≡ y
+pub same_word : (x y : ℕ) → y < 2 ^ 64 → alu_result W64 op.Mov x y ≡ y
 unfolding operate
 same_word x y h = omega arith
 
@@ -92,3 +92,13 @@ unequal_false a b p q h = grind (arith, nat_tests)
 
 pub word_fits : (shapes : List MapShape) (k : Known) (a : ℕ) → Describes shapes k a → a < 2 ^ 64
 word_fits shapes k a d = omega (arith, d.word_is)
+
+-- a sum may be turned
+pub sum_turned : (x y : ℕ) → alu_result W64 op.Add x y ≡ alu_result W64 op.Add y x
+unfolding operate
+sum_turned x y = omega arith
+
+-- a copy of the low half of a word that has no other
+pub same_half : (n : ℕ) → n < 2 ^ 32 → alu_result W32 op.Mov 0 n ≡ n
+unfolding operate
+same_half n h = omega arith

@@ -22,6 +22,8 @@ use Rattle.bq_views.specs.declared.view.View.{View}
 use Rattle.bq_views.specs.declared.view.Known.{Known}
 use Rattle.bq_views.specs.Views.{Covers, Describes, Keeps, Forgets, Marks, IsOfKind, FindsPlace, Stores, Carries, keeping}
 use Rattle.bq_views.proofs.StoreLemmas.{covers_written, low_at}
+use Rattle.bq_views.specs.Copies.{PartsSlots}
+use Rattle.bq_views.proofs.CopyLemmas.{copies_written, parts_less}
 use Rattle.bq_views.proofs.AccessLemmas.{entry_inside}
 
 -- as many bytes as the store has
@@ -61,11 +63,12 @@ forgets_less old new from to o e low high forgets j = at (forgets j)
     at (inr (same, inr above)) = inr (same, inr (omega arith))
 
 -- bytes written at one place of the range
-pub covers_over : (f : Setting) (v w : View) (s : State) (at : Range) (n o : ℕ) (bytes : List ℕ) → w.registers ≡ v.registers → Marks v.set w.set o (o + n) → Forgets v.kept w.kept at.lo (at.hi + n) → Covers f v s → Within at o → length bytes ≡ n → ((k : ℕ) → k < length bytes → slice_index bytes k < 256) → Covers f w (next (written s InStack o bytes))
-covers_over f v w s at n o bytes same marks forgets covers within long small =
+pub covers_over : (f : Setting) (v w : View) (s : State) (at : Range) (n o : ℕ) (bytes : List ℕ) → w.registers ≡ v.registers → Marks v.set w.set o (o + n) → Forgets v.kept w.kept at.lo (at.hi + n) → PartsSlots v.classes w.classes at.lo (at.hi + n) → Covers f v s → Within at o → length bytes ≡ n → ((k : ℕ) → k < length bytes → slice_index bytes k < 256) → Covers f w (next (written s InStack o bytes))
+covers_over f v w s at n o bytes same marks forgets parts covers within long small =
     covers_written f v w s o bytes small same
     (subst (λ (m : ℕ). Marks v.set w.set o (o + m)) (sym long) marks)
     (forgets_less v.kept w.kept at.lo (at.hi + n) o (o + length bytes) within.0 (omega (arith, within.1, long)) forgets)
+    (copies_written v.classes w.classes s o bytes (parts_less v.classes w.classes at.lo (at.hi + n) o (o + length bytes) within.0 (omega (arith, within.1, long)) parts) covers.copies)
     covers
 
 keeps_at : (f : Setting) (w : View) (t : State) (j i : ℕ) (k : Known) (b : Bool) → j < length w.kept → Keeps f.shapes (Some k) t.stack j → Covers f w t → ((b ≡ true) × (i ≡ j)) ⊎ ((b ≡ false) × (i ≢ j)) → Keeps f.shapes (get_or (set w.kept j (Some k)) i None) t.stack i
@@ -81,6 +84,7 @@ covers_keeping f w t j k there keeps covers = record {
   set = covers.set;
   kept = λ i. keeps_at f w t j i k _ there keeps covers (eqb_tells i j);
   maps = covers.maps;
+  copies = covers.copies;
 }
 
 -- bytes written into an entry
@@ -93,6 +97,7 @@ covers_entry f v s m first address n o bytes good long small covers =
       registers = covers.registers;
       set = covers.set;
       kept = covers.kept;
+      copies = covers.copies;
       maps = have_overwritten f.shapes s.maps m (first + o) bytes covers.maps there (omega (arith, good.inside, long, inside)) small;
     }
 

@@ -15,6 +15,7 @@ use Rattle.bq_maps.specs.Machine.{Does, IsOperand, Asks, called, address_of, low
 use Rattle.bq_insn.specs.declared.Source.{Source}
 use Rattle.bq_ranges.specs.Within.{Within}
 use Rattle.bq_ranges.specs.declared.range.Range.{Range}
+use Rattle.bq_views.specs.Copies.{AreCopies}
 use Rattle.bq_views.specs.declared.view.Kind.{Kind}
 use Rattle.bq_views.specs.declared.view.Kind.TheVariants.{Number, Context, Stack, Entry, EntryOrNull, Map}
 use Rattle.bq_views.specs.declared.view.Known.{Known}
@@ -60,6 +61,7 @@ pub record Covers (f : Setting) (v : View) (s : State) : Type 0 where
   pub set : (i : ℕ) → slice_index_or v.set i false ≡ true → (b : ℕ) × (s.stack i ≡ Some b) × (b < 256)
   pub kept : (j : ℕ) → Keeps f.shapes (slice_index_or v.kept j None) s.stack j
   pub maps : HaveShapes f.shapes s.maps
+  pub copies : AreCopies v.classes s
 
 -- the settings of a program with these shapes and this length of context
 pub record Suits (shapes : List MapShape) (context_length : ℕ) (f : Setting) : Type 0 where
@@ -91,9 +93,9 @@ HoldsNumber view r range = (f : Setting) (s : State) → Covers f view s → (n 
 abbrev pub Finds : View → Source → Known → Type 0
 Finds v src k = (f : Setting) (s : State) → Covers f v s → (b : ℕ) × IsOperand s src b × Describes f.shapes k b
 
--- the known word in place of what was known of the register
+-- the register is written with the known word, and so is no copy
 abbrev pub knowing : View → ℕ → Known → View
-knowing v dst k = record v { registers = slice_set v.registers dst (Some k) }
+knowing v dst k = record v { registers = slice_set v.registers dst (Some k); classes = slice_set v.classes dst 0 }
 
 -- every word of the one is a word of the other
 abbrev pub Allows : Option Known → Option Known → Type 0

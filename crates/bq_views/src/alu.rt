@@ -1,6 +1,6 @@
 // Arithmetic on what is known.
 
-ghost use Rattle.std.specs.Prelude.{◌≡◌, ◌≢◌, ◌<◌, IfSome, OnOk, IsOk, IfErr};
+ghost use Rattle.std.specs.Prelude.{◌≡◌, ◌≢◌, ◌<◌, length, IsTrue, IfSome, OnOk, IsOk, IfErr};
 ghost use Rattle.bq_maps.specs.declared.shape.MapShape.{MapShape};
 ghost use Rattle.std.specs.Prelude.{List, ℕ, ℤ, Some};
 ghost use Rattle.bq_insn.specs.Meaning.{alu_result, word_of};
@@ -8,8 +8,12 @@ ghost use Rattle.bq_views.specs.Doubts.{MayDoubt};
 ghost use Rattle.bq_views.specs.Standing.{Fact, Has, Scalar, Exact, Pointer, Stands, StandsAt, IsScalarOperand, IsGiven, IsMade, IsWord};
 ghost use Rattle.bq_views.specs.After.{After};
 ghost use Rattle.bq_views.specs.Ready.{IsReady, IsCopyOfFrame, IsMoveOfPointer};
+ghost use Rattle.bq_maps.specs.Memory.{State};
+ghost use Rattle.bq_views.specs.Copies.{AreCopies};
+ghost use Rattle.bq_views.specs.Told.{IsCopied};
 ghost use Rattle.bq_views.specs.Views.{Describes, Carries};
 
+use crate::copies::link;
 use crate::registers::{known, learn, operand};
 use crate::view::{Doubt, Kind, Known, View};
 use bq_insn::{Insn, Operation, Source, Width};
@@ -28,6 +32,7 @@ pub fn combine(width: Width, op: Operation, a: Known, b: Known) -> Option<Known>
         }),
         (Kind::EntryOrNull(_), _) | (Kind::Map(_), _) => None,
         (_, Kind::Number) => moved(width, op, a, b),
+        (Kind::Number, _) => added(width, op, a, b),
         _ => None,
     }
 }
@@ -46,6 +51,21 @@ fn moved(width: Width, op: Operation, a: Known, b: Known) -> Option<Known>
         (Width::W64, Operation::Sub) => Some(Known {
             kind: a.kind,
             offset: arithmetic::sub(Width::W64, a.offset, b.offset),
+        }),
+        _ => None,
+    }
+}
+
+/// A number to which a pointer is added: the pointer moved.
+fn added(width: Width, op: Operation, a: Known, b: Known) -> Option<Known>
+    requires { a.kind ≡ Kind.Number }
+    ensures { IfSome result (λ k. (shapes : List MapShape) (x y : ℕ) → Describes shapes a x → Describes shapes b y → Describes shapes k (alu_result width op x y)) }
+{
+    match (width, op, b.kind) {
+        (_, _, Kind::EntryOrNull(_) | Kind::Map(_)) => None,
+        (Width::W64, Operation::Add, _) => Some(Known {
+            kind: b.kind,
+            offset: arithmetic::add(Width::W64, b.offset, a.offset),
         }),
         _ => None,
     }
@@ -104,7 +124,39 @@ fn copy(view: &mut View, width: Width, dst: u8, src: Source) -> Result<(), Doubt
         return Err(Doubt::PointerUse);
     };
     learn(view, dst, word);
+    link_copy(&mut view.classes, width, dst, src, right);
     Ok(())
+}
+
+/// The register is a copy of another one, if it got the whole word.
+fn link_copy(classes: &mut [u8], width: Width, dst: u8, src: Source, word: Known)
+    requires dst { dst < 10 }
+    requires room { length classes.old ≡ 75 }
+    ensures { (s : State) → AreCopies classes.old s → ((r : ℕ) → src ≡ Source.Reg r → r ≢ dst → IsCopied s dst r width word) → AreCopies classes.new s }
+{
+    let Source::Reg(from) = src else {
+        return;
+    };
+    if from == dst || from >= 11 || !is_whole(width, word) {
+        return;
+    }
+    link(classes, usize::from(dst), usize::from(from));
+}
+
+/// Whether a copy of that width has the whole word.
+fn is_whole(width: Width, word: Known) -> bool
+    ensures { IsTrue result → (shapes : List MapShape) (n : ℕ) → Describes shapes word n → alu_result width Operation.Mov 0 n ≡ n }
+{
+    match (width, word.kind) {
+        (Width::W64, _) => true,
+        (Width::W32, Kind::Number) => {
+            if word.offset.hi > 0xffff_ffff {
+                return false;
+            }
+            true
+        }
+        _ => false,
+    }
 }
 
 /// What is known of a copy.

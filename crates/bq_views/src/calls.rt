@@ -11,6 +11,7 @@ ghost use Rattle.bq_views.specs.Standing.{Fact, Has, IsAnswered, IsCalled, IsMad
 ghost use Rattle.bq_views.specs.Ready.{IsAtMost, IsReady, IsUpdating, IsNamingEntry};
 ghost use Rattle.bq_views.specs.Views.{Carries, Clears, Covers, IsBelow};
 
+use crate::copies::part_first;
 use crate::places::{reads, reads_value, shape_of};
 use crate::registers::{known, learn};
 use crate::view::{Doubt, Kind, Known, View};
@@ -125,6 +126,7 @@ fn look_up(view: &mut View, shapes: &[MapShape], context: usize) -> Result<(), D
         return Err(Doubt::Argument);
     }
     clear(&mut view.registers);
+    part_first(&mut view.classes);
     learn(
         view,
         0,
@@ -183,6 +185,7 @@ pub fn answer(view: &mut View, offset: Range)
     ensures answered { IsAnswered view.old view.new }
 {
     clear(&mut view.registers);
+    part_first(&mut view.classes);
     learn(
         view,
         0,

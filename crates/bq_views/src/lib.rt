@@ -8,6 +8,7 @@
 mod alu;
 mod calls;
 pub mod carry;
+mod copies;
 pub mod counters;
 mod loads;
 pub mod merge;
@@ -16,4 +17,5 @@ mod places;
 pub mod registers;
 pub mod sides;
 mod stores;
+pub mod told;
 pub mod view;

@@ -1,11 +1,12 @@
 // Where two ways meet.
 
-ghost use Rattle.std.specs.Prelude.{◌≡◌, ℕ, true, None, length, slice_index_or, false};
+ghost use Rattle.std.specs.Prelude.{◌≡◌, ◌≢◌, ℕ, true, None, Some, length, slice_index_or, false};
 ghost use Rattle.bq_maps.specs.Memory.{Setting, State};
 ghost use Rattle.bq_views.specs.Standing.{Fact, Has, Standing, Stands};
 ghost use Rattle.bq_views.specs.Views.{Allows, Covers};
 
-use crate::view::{Known, View};
+use crate::copies::keep_same;
+use crate::view::{Kind, Known, View};
 
 /// What both say.
 pub fn join(a: Option<Known>, b: Option<Known>) -> Option<Known>
@@ -17,11 +18,29 @@ pub fn join(a: Option<Known>, b: Option<Known>) -> Option<Known>
         return None;
     };
     if a.kind != b.kind {
-        return None;
+        return join_answers(a, b);
     }
     Some(Known {
         kind: a.kind,
         offset: a.offset.hull(b.offset),
+    })
+}
+
+/// An entry and an untested answer of a look-up in the same map are an untested answer.
+fn join_answers(a: Known, b: Known) -> Option<Known>
+    requires { a.kind ≢ b.kind }
+    ensures left { Allows (Some a) result }
+    ensures right { Allows (Some b) result }
+    ensures stands { (s : Standing) → Stands s (Some a) → Stands s (Some b) → Stands s result }
+{
+    let map = match (a.kind, b.kind) {
+        (Kind::Entry(map), Kind::EntryOrNull(other)) if map == other => map,
+        (Kind::EntryOrNull(map), Kind::Entry(other)) if map == other => map,
+        _ => return None,
+    };
+    Some(Known {
+        kind: Kind::EntryOrNull(map),
+        offset: b.offset.hull(a.offset),
     })
 }
 
@@ -56,4 +75,5 @@ pub fn merge(into: &mut View, other: &View)
     join_all(&mut into.registers, &other.registers);
     keep_common(&mut into.set, &other.set);
     join_all(&mut into.kept, &other.kept);
+    keep_same(&mut into.classes, &other.classes);
 }

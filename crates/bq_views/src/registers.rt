@@ -45,4 +45,5 @@ pub fn learn(view: &mut View, register: u8, word: Known)
     ensures { view.new ≡ knowing view.old register word }
 {
     view.registers[usize::from(register)] = Some(word);
+    view.classes[usize::from(register)] = 0;
 }

@@ -12,7 +12,7 @@ ghost use Rattle.bq_views.specs.Views.{Describes, Fits};
 
 use crate::view::{Doubt, Kind, Known};
 use bq_insn::{Condition, Source, Width};
-use bq_ranges::narrowing::narrow;
+use bq_ranges::narrowing::{narrow, narrow_right};
 
 /// What the left operand is on one side of a branch; `None` where control never goes there.
 pub fn side(
@@ -35,6 +35,19 @@ pub fn side(
     match outcome(width, cond, left, src, right, goes) {
         Some(side) => Ok(side),
         None => Err(Doubt::PointerUse),
+    }
+}
+
+/// What the right operand is on one side of a branch, where control goes there.
+pub fn right_side(width: Width, cond: Condition, left: Known, right: Known, goes: bool) -> Known
+    ensures { (shapes : List MapShape) (a b : ℕ) → Describes shapes left a → Describes shapes right b → taken width cond a b ≡ goes → Describes shapes result b }
+{
+    match (left.kind, right.kind) {
+        (Kind::Number, Kind::Number) => Known {
+            kind: Kind::Number,
+            offset: narrow_right(cond, width, left.offset, right.offset, goes),
+        },
+        _ => right,
     }
 }
 

@@ -11,6 +11,7 @@ ghost use Rattle.bq_views.specs.Ready.{IsPlaced};
 ghost use Rattle.bq_views.specs.Standing.{IsStoredAt, Scalar, StandsAt};
 ghost use Rattle.bq_views.specs.Views.{Carries, Covers, Describes, Forgets, Marks, Stores, keeping};
 
+use crate::copies::part_slots;
 use crate::places::{locate, stays};
 use crate::registers::known;
 use crate::view::{Doubt, Kind, Known, View};
@@ -135,6 +136,7 @@ fn overwrite(view: &mut View, at: Range, size: Size)
     let from = at.lo as usize;
     let to = at.hi as usize + size.bytes();
     forget(&mut view.kept, from, to);
+    part_slots(&mut view.classes, from, to);
     if !at.is_single() {
         return;
     }

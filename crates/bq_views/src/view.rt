@@ -36,6 +36,9 @@ pub struct View {
     pub set: [bool; 512],
     /// The word that was stored whole in each slot of eight bytes of the stack, where one is known.
     pub kept: [Option<Known>; 64],
+    /// Of which class each place is: the registers, and then these slots. Places of one class other than 0 hold the same
+    /// word.
+    pub classes: [u8; 75],
 }
 
 /// What is not shown of an instruction.

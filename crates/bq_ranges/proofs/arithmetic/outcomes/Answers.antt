@@ -96,3 +96,7 @@ returns-in-Mov-clause-tight_low c = λ h. rw c.in-Mov.is (as_word c.args.width c
 pub returns-in-Mov-clause-tight_high : goal.returns-in-Mov-clause-tight_high
 unfolding operate
 returns-in-Mov-clause-tight_high c = λ h. rw c.in-Mov.is (as_word c.args.width c.args.b.hi c.args.b.hi refl (omega arith))
+
+pub returns-in-Arsh-clause-holds : goal.returns-in-Arsh-clause-holds
+unfolding operate
+returns-in-Arsh-clause-holds c = λ x y p q. rw c.in-Arsh.is (c.arsh.ensures x y p q)

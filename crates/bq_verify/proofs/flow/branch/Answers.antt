@@ -3,9 +3,9 @@ use Rattle.bq_views.specs.declared.view.Kind.TheVariants.{EntryOrNull, Number}
 use Rattle.bq_views.specs.declared.view.Known.{Known}
 use Rattle.bq_views.specs.Standing.{Pointer, Scalar, Stands}
 use Rattle.bq_views.specs.Sides.{is_found}
-use Rattle.bq_verify.proofs.SideLemmas.{known_inside, has_on_side, has_on_tested, has_relearned}
+use Rattle.bq_verify.proofs.SideLemmas.{known_inside, has_on_side, has_on_tested}
 use Rattle.bq_verify.specs.Control.{IsKnown}
-use Rattle.bq_verify.proofs.PassLemmas.{parts_of, on_side}
+use Rattle.bq_verify.proofs.PassLemmas.{parts_of}
 use Rattle.bq_verify.proofs.flow.branch.Goals as goal
 
 pub returns-clause-parts : goal.returns-clause-parts
@@ -13,13 +13,12 @@ returns-clause-parts c = (
   c.in_ok-wait_on_side.ensures.kept,
   λ f s covers.
       let operand = c.in-Some.ensures.finds f s covers in
-      let there = known_inside c.args.view.now.registers c.args.dst c.in-Some-known.left c.in-Some-known.ensures in
       parts_of f s c.args.view.now c.args.width c.args.cond c.args.dst c.args.src c.args.to c.args.next
       (IsKnown c.wait_on_side.new.pending c.carry_on.new.view c.carry_on.result c.args.next)
-      c.in-Some-known.left c.in-Some.right c.in_ok-yes.yes c.in_ok-no.no there c.in-Some-known.ensures operand.0 operand.1 operand.2
-      c.in_ok-yes.ensures.fits c.in_ok-no.ensures.fits
+      c.in-Some-known.left c.in-Some.right c.in_ok-yes.yes c.in_ok-no.no c.right_side-told.result c.right_side-other.result c.in-Some-known.ensures operand.0 operand.1 operand.2
+      c.in_ok-yes.ensures.fits c.in_ok-no.ensures.fits c.right_side-told.ensures c.right_side-other.ensures
       (λ t at side. inl (c.in_ok-wait_on_side.ensures.added f t at side))
-      (λ t at side. let on = c.carry_on.ensures.covers f t (on_side f c.args.view.now c.wait_on_side.new.view c.args.dst c.in_ok-no.no t c.wait_on_side.ensures.same side) in inr (on.0, at, on.1))
+      (λ t at side. let on = c.carry_on.ensures.covers f t side in inr (on.0, at, on.1))
       covers,
 )
 
@@ -29,12 +28,10 @@ returns-clause-sure c = λ scalar operand x k waits both.
     let left : c.in-Some-known.left.kind ≡ Number = subst (λ (v : Option Known). Stands Scalar v) (sym c.in-Some-known.ensures) scalar in
     let right : c.in-Some.right.kind ≡ Number = c.in-Some.ensures.scalar operand in
     record {
-      waiting = c.in_ok-wait_on_side.ensures.has x k waits (λ same. has_on_side x c.args.view.now c.args.dst c.in_ok-yes.yes there (both (inl same)).0 scalar (c.in_ok-yes.ensures.number left right) (both (inl same)).1);
+      waiting = c.in_ok-wait_on_side.ensures.has x k waits (λ same. let so = both (inl same) in has_on_side x c.args.view.now c.args.dst c.in_ok-yes.yes there so.0 so.1 scalar (c.in_ok-yes.ensures.number left right) so.2);
       carried = λ live same.
-          c.carry_on.ensures.has x
-          (has_relearned x c.args.view.now c.wait_on_side.new.view c.args.dst c.in_ok-no.no c.wait_on_side.ensures.same
-          (has_on_side x c.args.view.now c.args.dst c.in_ok-no.no there (both (inr same)).0 scalar (c.in_ok-no.ensures.number left right) (both (inr same)).1))
-          live;
+          let so = both (inr same) in
+          c.carry_on.ensures.has x (has_on_side x c.args.view.now c.args.dst c.in_ok-no.no there so.0 so.1 scalar (c.in_ok-no.ensures.number left right) so.2) live;
     }
 
 pub returns-clause-checked : goal.returns-clause-checked
@@ -45,8 +42,5 @@ returns-clause-checked c = λ map check answer x k waits yes_side no_side.
       waiting = c.in_ok-wait_on_side.ensures.has x k waits
           (λ same. has_on_tested x c.args.view.now c.args.dst map (is_found c.args.cond true) c.in_ok-yes.yes there (c.in_ok-yes.ensures.tested map check left) (yes_side same));
       carried = λ live same.
-          c.carry_on.ensures.has x
-          (has_relearned x c.args.view.now c.wait_on_side.new.view c.args.dst c.in_ok-no.no c.wait_on_side.ensures.same
-          (has_on_tested x c.args.view.now c.args.dst map (is_found c.args.cond false) c.in_ok-no.no there (c.in_ok-no.ensures.tested map check left) (no_side same)))
-          live;
+          c.carry_on.ensures.has x (has_on_tested x c.args.view.now c.args.dst map (is_found c.args.cond false) c.in_ok-no.no there (c.in_ok-no.ensures.tested map check left) (no_side same)) live;
     }

@@ -1,3 +1,4 @@
+use Rattle.bq_views.specs.Told.{IsLasting}
 use Rattle.std.proofs.Common.{rules, ℕ, Bool, Some, ◌≡◌, ◌+◌, ◌<◌, length, arith, refl, sym, ap, subst, ◌∙◌, true, false, inl, inr}
 use Rattle.bq_insn.specs.declared.Insn.{Insn}
 use Rattle.bq_views.specs.declared.view.Kind.TheVariants.{EntryOrNull}
@@ -6,7 +7,7 @@ use Rattle.bq_views.specs.Ready.{IsReady}
 use Rattle.bq_views.specs.Standing.{Has, Outlasts}
 use Rattle.bq_views.specs.Sides.{is_found}
 use Rattle.bq_views.proofs.MergeLemmas.{some_none}
-use Rattle.bq_verify.proofs.SideLemmas.{carried_of, found_next, found_there, has_tested, outlasts}
+use Rattle.bq_verify.proofs.SideLemmas.{carried_of, found_next, found_there, has_tested, outlasts, lasting_after}
 use Rattle.bq_views.proofs.StandingLemmas.{has_left, not_both}
 use mir.Syntax.{w16, w32}
 use mir.Val.{SFits}
@@ -156,8 +157,9 @@ returns-in-Branch-clause-sure c = λ ready.
           (λ live sure x k waits after.
           let left = λ (edge : IsEdge c.args.slots.now c.args.slot k).
           let after' = subst (λ (i : Insn). After x c.args.slot k i c.args.view.now) c.in-Branch.is (after edge) in
-          let on : Outlasts x c.in-Branch.dst × Has x c.args.view.now = (
+          let on : Outlasts x c.in-Branch.dst × IsLasting x × Has x c.args.view.now = (
             outlasts x c.args.slot k c.in-Branch.width c.in-Branch.cond c.in-Branch.dst c.in-Branch.src c.in-Branch.off c.args.view.now after',
+            lasting_after x c.args.slot k c.in-Branch.width c.in-Branch.cond c.in-Branch.dst c.in-Branch.src c.in-Branch.off c.args.view.now after',
             has_left x c.args.slot k insn c.args.view.now (λ r gives. some_none _ _ gives refl) (λ n r gives. gives) (λ kind o r gives. not_both _ (EntryOrNull gives.1) 0 numbers.0 gives.4) (λ i stores. stores) after',
           ) in
           on in

@@ -7,4 +7,4 @@ pub returns-clause-covers : goal.returns-clause-covers
 returns-clause-covers c = λ f s x covers within.
     let there : 0 < length c.clear.new.registers = omega arith in
     rw c.learn.ensures
-    (covers_called f c.args.view.now s c.clear.new.registers x _ there c.clear.ensures covers (number_is f.shapes c.args.offset x within))
+    (covers_called f c.args.view.now s c.clear.new.registers c.part_first.new.classes x _ there c.clear.ensures c.part_first.ensures covers (number_is f.shapes c.args.offset x within))

@@ -10,7 +10,7 @@ pub returns-clause-carries : goal.returns-clause-carries
 returns-clause-carries c =
     let there : 0 < length c.clear.new.registers = omega arith in
     rw c.learn.ensures
-    (carries_look_up c.args.shapes.now c.args.context c.args.view.now c.clear.new.registers c.in-Some.map c.single.result there c.clear.ensures c.single.ensures.lo (omega arith) c.in-Some.ensures.names (c.reads.ensures.finds c.if-not-reads.false))
+    (carries_look_up c.args.shapes.now c.args.context c.args.view.now c.clear.new.registers c.part_first.new.classes c.in-Some.map c.single.result there c.clear.ensures c.part_first.ensures c.single.ensures.lo (omega arith) c.in-Some.ensures.names (c.reads.ensures.finds c.if-not-reads.false))
 
 pub returns-in_default-clause-accepts : goal.returns-in_default-clause-accepts
 returns-in_default-clause-accepts c = λ m naming. absurd (c.in_default.not-Some m (c.map_of.ensures.found m naming.names))
@@ -22,5 +22,5 @@ returns-clause-accepts c = λ m naming.
     let same : c.in-Some.map ≡ m = cc in (
       refl,
       subst (λ (v : View). IsCalled (Pointer (EntryOrNull m) 0) c.args.view.now v) (sym c.learn.ensures)
-          (called_by (Pointer (EntryOrNull m) 0) c.args.view.now c.clear.new.registers _ there c.clear.ensures (answer_stands c.in-Some.map m c.single.result same c.single.ensures.lo c.single.ensures.hi)),
+          (called_by (Pointer (EntryOrNull m) 0) c.args.view.now c.clear.new.registers c.part_first.new.classes _ there c.clear.ensures (answer_stands c.in-Some.map m c.single.result same c.single.ensures.lo c.single.ensures.hi)),
     )

@@ -1,0 +1,12 @@
+//! How large the numbers of a workload may be.
+
+/// The latest reading of a clock, and the longest duration: 2^48 - 1 nanoseconds, more than three days.
+pub const LONGEST: u64 = 281_474_976_710_655;
+
+/// How many tasks there may be in all.
+pub const MOST_TASKS: u16 = 1024;
+
+/// The shortest and the longest slice that a task may ask for, in nanoseconds.
+pub const LEAST_SLICE: u64 = 100_000;
+
+pub const GREATEST_SLICE: u64 = 100_000_000;

@@ -1,0 +1,22 @@
+//! The machine of a simulation.
+
+use bq_sizes::{Rule, Size};
+
+/// The machine of a simulation, and how long it is watched. Times are nanoseconds.
+#[derive(Clone, Copy, Debug, PartialEq, Eq)]
+pub struct Setup {
+    /// How processors choose among their tasks.
+    pub rule: Rule,
+    /// How many processors there are.
+    pub size: Size,
+    /// How long it runs, from 1 to 2^48 - 1: what comes after this instant is not done.
+    pub duration: u64,
+    /// The time between two ticks of a processor that runs something, from 1 to 2^48 - 1.
+    pub tick: u64,
+    /// The time between two times at which processors pull from the largest, from 1 to 2^48 - 1.
+    pub balance: u64,
+    /// What each change of processor adds to what is left of a run phase, from 0 to 2^48 - 1.
+    pub migration_cost: u64,
+    /// Of the draws.
+    pub seed: u64,
+}

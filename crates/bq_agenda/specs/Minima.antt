@@ -1,0 +1,44 @@
+-- A tree of least numbers, written level by level: what stands at k is the less of what stands at 2k and at 2k + 1. The
+-- leaves stand from 2048 on: one for each place of what may come due.
+use Rattle.std.specs.Prelude.{◌≡◌, ◌≢◌, ℕ, ◌+◌, ◌*◌, ◌%◌, ◌<◌, ◌≤◌, ◌⊎◌, List, slice_index, min, Option, Some, None}
+
+-- the number for what is never due: above all others
+abbrev pub never : ℕ
+never = 18446744073709551615
+
+-- what is due at a time is ordered by that time and then by its place
+abbrev pub number_of : ℕ → Option ℕ → ℕ
+number_of place None = never
+number_of place (Some time) = time * 2048 + place
+
+-- the number of a place
+abbrev pub at_place : List ℕ → ℕ → ℕ
+at_place xs place = slice_index xs (2048 + place)
+
+abbrev pub IsLess : List ℕ → ℕ → Type 0
+IsLess xs k = slice_index xs k ≡ min (slice_index xs (2 * k)) (slice_index xs (2 * k + 1))
+
+-- each inner number is the less of the two below it
+abbrev pub HasMinima : List ℕ → Type 0
+HasMinima xs = (k : ℕ) → 1 ≤ k → k < 2048 → IsLess xs k
+
+-- each but this one
+abbrev pub HasOtherMinima : ℕ → List ℕ → Type 0
+HasOtherMinima but xs = (k : ℕ) → 1 ≤ k → k < 2048 → k ≢ but → IsLess xs k
+
+-- each leaf is never due, or its number is of its place
+abbrev pub HasPlaces : List ℕ → Type 0
+HasPlaces xs = (place : ℕ) → place < 2048 → (at_place xs place ≡ never) ⊎ ((at_place xs place % 2048 ≡ place) × (at_place xs place < never))
+
+-- no other leaf is changed
+abbrev pub ChangesOnly : ℕ → List ℕ → List ℕ → Type 0
+ChangesOnly place xs ys = (k : ℕ) → k < 2048 → k ≢ place → at_place ys k ≡ at_place xs k
+
+abbrev pub AreNever : List ℕ → Type 0
+AreNever xs = (place : ℕ) → place < 2048 → at_place xs place ≡ never
+
+-- what stands at the place is due then, and nothing is due before it
+pub record IsFirst (xs : List ℕ) (time place : ℕ) : Type 0 where
+  pub seated : place < 2048
+  pub taken : at_place xs place ≡ time * 2048 + place
+  pub bound : (other : ℕ) → other < 2048 → time * 2048 + place ≤ at_place xs other

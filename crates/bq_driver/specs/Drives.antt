@@ -1,0 +1,54 @@
+-- A machine driven event by event, and what is told of it.
+use Rattle.std.specs.Prelude.{◌≡◌, ℕ, ◌<◌, ◌≤◌, ◌^◌, List, [], ◌∷◌, ◌++◌, Option, Some, None, Ok}
+use Rattle.bq_parts.specs.declared.event.Event.{Event}
+use Rattle.bq_parts.specs.declared.event.Event.TheVariants.{EndWake, Drain, Tick, Block, Pull}
+use Rattle.bq_parts.specs.declared.reply.Reply.{Reply}
+use Rattle.bq_sizes.specs.declared.rule.Rule.{Rule}
+use Rattle.bq_sizes.specs.declared.size.Size.{Size}
+use Rattle.bq_trace.specs.Counts.{one_more}
+use Rattle.bq_trace.specs.Machines.{opening_machine}
+use Rattle.bq_trace.specs.News.{News, Told, Opened, Gets}
+use Rattle.bq_trace.specs.Telling.{Happens}
+use Rattle.bq_driver.specs.declared.driver.Driver.{Driver}
+
+-- the reading that comes with an event
+abbrev pub reading_of : Event → Option ℕ
+reading_of (EndWake c now) = Some now
+reading_of (Drain c now) = Some now
+reading_of (Tick c now) = Some now
+reading_of (Block c now) = Some now
+reading_of (Pull c from now) = Some now
+reading_of event = None
+
+-- a reading is no less than the last that any clock was given, and counts as it is
+abbrev pub Rises : ℕ → Option ℕ → ℕ → Type 0
+Rises last None next = next ≡ last
+Rises last (Some now) next = (last ≤ now) × (now < 2 ^ 48) × (next ≡ now)
+
+-- a machine to which nothing has happened: the first line of a trace
+pub record Starts (rule : Rule) (size : Size) (told : Told) (d : Driver) : Type 0 where
+  pub machine : d.machine ≡ opening_machine rule size
+  pub line : d.line ≡ 1
+  pub now : d.now ≡ 0
+  pub tells : told ≡ (1, Opened rule size) ∷ []
+
+-- the event of the next line is done, and is not refused
+pub record Does (d : Driver) (event : Event) (reply : Reply) (told : Told) (e : Driver) : Type 0 where
+  pub line : e.line ≡ one_more d.line
+  pub rises : Rises d.now (reading_of event) e.now
+  pub happens : Happens d.machine e.line event (Ok reply) told e.machine
+
+-- some events are done one after another, and none is refused
+abbrev pub Drives : Driver → List Event → Told → Driver → Type 0
+Drives d [] told e = (told ≡ []) × (e ≡ d)
+Drives d (event ∷ events) told e =
+    (reply : Reply) × (mid : Driver) × (first : Told) × (more : Told)
+    × Does d event reply first mid × Drives mid events more e × (told ≡ first ++ more)
+
+-- a sink is told of them
+abbrev pub Drove : {S : Type 0} → (S → ℕ → News → S → Type 0) → S → Driver → List Event → S → Driver → Type 0
+Drove takes old d events new e = Gets takes old new (λ told. Drives d events told e)
+
+-- a sink is told of some events
+abbrev pub Went : {S : Type 0} → (S → ℕ → News → S → Type 0) → S → Driver → S → Driver → Type 0
+Went takes old d new e = (events : List Event) × Drove takes old d events new e

@@ -1,0 +1,28 @@
+//! Why a drive ends before its time.
+
+use bq_core::Refusal;
+use std::alloc::AllocError;
+use thiserror::Error;
+
+/// Why a drive ends before its time. What the sink was told by then is the beginning of a trace.
+#[derive(Debug, Drop, Error)]
+pub enum DriveFault {
+    /// A growth was refused.
+    #[error("out of memory")]
+    OutOfMemory,
+    /// The machine refused an event: whoever drives it lost count of its tasks.
+    #[error("an event was refused: {0}")]
+    Refused(Refusal),
+    /// The reading of a clock fell, or passed 2^48 - 1.
+    #[error("a clock went back")]
+    Reading,
+    /// An answer that is not of its event's kind.
+    #[error("an answer is not of its event's kind")]
+    Answer,
+}
+
+impl From<AllocError> for DriveFault {
+    fn from(_error: AllocError) -> DriveFault {
+        DriveFault::OutOfMemory
+    }
+}

@@ -1,0 +1,247 @@
+-- A step of a program is a step of its copy, and the other way.
+use Rattle.std.proofs.Common.{◌≡◌, ℕ, ◌+◌, ◌-◌, ◌<◌, ◌≤◌, Bool, true, false, List, Option, Some, None, length, refl, arith, sym, ap, ◌∙◌, subst, inl, inr, ℤ, pos}
+use Rattle.std.specs.Prelude.{◌&&◌, nat_le, nat_lt}
+use Rattle.bq_insn.specs.declared.Insn.{Insn}
+use Rattle.bq_insn.specs.declared.Insn.TheVariants.{Alu, MovSx, Neg, End, Load, StoreImm, StoreReg, Imm64, MapRef, Goto, Goto32, Branch, Call, Exit}
+use Rattle.bq_insn.specs.Slots.{slots_of}
+use Rattle.bq_maps.specs.declared.board.Call.{Call as Asked}
+use Rattle.bq_maps.specs.Memory.{Setting, State, reference}
+use Rattle.bq_maps.specs.Machine.{Takes, Step, Ends, LeadsTo, put, IsTarget}
+use Rattle.bq_graph.specs.Edges.{distance_of, goes_on}
+use Rattle.bq_graph.proofs.EdgeLemmas.{some_same, leads_same}
+use Rattle.bq_import.specs.Laws.{beside}
+use Rattle.bq_import.specs.Copies.{is_reference, wide_copy, copied, Stands, JumpsAlike, IsCopy}
+use Rattle.bq_import.proofs.StepLemmas.{moved, takes_moved}
+
+true_and : (a b : Bool) → (a && b) ≡ true → (a ≡ true) × (b ≡ true)
+true_and true true e = (refl, refl)
+true_and true false e = absurd (let no : ⊥ = cc in no)
+true_and false b e = absurd (let no : ⊥ = cc in no)
+
+le_of : (a b : ℕ) → nat_le a b ≡ true → a ≤ b
+le_of a b e = grind arith
+
+lt_of : (a b : ℕ) → nat_lt a b ≡ true → a < b
+lt_of a b e = grind arith
+
+-- a number that is a reference is that of the map of this number
+pub record Refers (maps value : ℕ) : Type 0 where
+  pub there : value - reference 0 < maps
+  pub is : reference (value - reference 0) ≡ value
+
+pub refers : (maps value : ℕ) → is_reference maps value ≡ true → Refers maps value
+refers maps value e =
+    let both = true_and _ _ e in
+    let low = le_of (reference 0) value both.0 in
+    let high = lt_of value (reference maps) both.1 in
+    record { there = omega (arith, low, high); is = omega (arith, low, high) }
+
+wide_exit : (b : Bool) (dst value : ℕ) → wide_copy b dst value ≡ Exit → ⊥
+wide_exit true dst value e = cc
+wide_exit false dst value e = cc
+
+-- only an EXIT is copied as an EXIT
+pub copied_exit : (maps : ℕ) (insn : Insn) (distance : ℤ) → copied maps insn distance ≡ Exit → insn ≡ Exit
+copied_exit maps (Alu w op dst src) distance e = e
+copied_exit maps (MovSx w bits dst src) distance e = e
+copied_exit maps (Neg w dst) distance e = e
+copied_exit maps (End kind bits dst) distance e = e
+copied_exit maps (Load size signed dst src off) distance e = e
+copied_exit maps (StoreImm size dst off imm) distance e = e
+copied_exit maps (StoreReg size dst off src) distance e = e
+copied_exit maps (MapRef dst index) distance e = e
+copied_exit maps (Call helper) distance e = e
+copied_exit maps (Imm64 dst value) distance e = absurd (wide_exit (is_reference maps value) dst value e)
+copied_exit maps (Goto off) distance e = absurd (let no : ⊥ = cc in no)
+copied_exit maps (Goto32 imm) distance e = absurd (let no : ⊥ = cc in no)
+copied_exit maps (Branch w c dst src off) distance e = absurd (let no : ⊥ = cc in no)
+copied_exit maps Exit distance e = e
+
+module _ (maps : ℕ) (old new : List (Option Insn)) (origin : List ℕ) (f : Setting) (as_many : length f.shapes ≡ maps) where
+  -- the copy goes on from that slot, as the original does
+  pub record Ahead (s : State) (k : ℕ) (c : Option Asked) (t : State) (insn : Insn) : Type 0 where
+    pub slot : ℕ
+    pub takes : Takes (beside f new) insn (moved s k) c (moved t slot)
+    pub stands : Stands new origin slot t.slot
+
+  -- the original goes on, as the copy does from that slot
+  pub record Behind (s : State) (k : ℕ) (c : Option Asked) (t' : State) (insn : Insn) : Type 0 where
+    pub state : State
+    pub slot : ℕ
+    pub takes : Takes (beside f old) insn s c state
+    pub is : t' ≡ moved state slot
+    pub stands : Stands new origin slot state.slot
+
+  module _ (s : State) (k : ℕ) (distance : ℤ) where
+    -- where an original goes on
+    abbrev pub OnFrom : Insn → Type 0
+    OnFrom insn = goes_on insn ≡ true → Stands new origin (k + slots_of insn) (s.slot + slots_of insn)
+
+    abbrev pub JumpsFrom : Insn → Type 0
+    JumpsFrom insn = (far : ℤ) → distance_of insn ≡ Some far → JumpsAlike new origin s.slot k far distance
+
+    straight_ahead : (insn : Insn) (c : Option Asked) (t : State) → distance_of insn ≡ None → Stands new origin (k + slots_of insn) (s.slot + slots_of insn) → Takes (beside f old) insn s c t → Ahead s k c t insn
+    straight_ahead insn c t d on p =
+        let there = takes_moved (beside f old) new k insn s c t d p in
+        record {
+          slot = k + slots_of insn;
+          takes = there.0;
+          stands = subst (λ (n : ℕ). Stands new origin (k + slots_of insn) n) (sym there.1) on;
+        }
+
+    straight_behind : (insn : Insn) (c : Option Asked) (t' : State) → distance_of insn ≡ None → Stands new origin (k + slots_of insn) (s.slot + slots_of insn) → Takes (beside f new) insn (moved s k) c t' → Behind s k c t' insn
+    straight_behind insn c t' d on p =
+        let there = takes_moved (beside f new) old s.slot insn (moved s k) c t' d p in
+        record {
+          state = moved t' (s.slot + slots_of insn);
+          slot = k + slots_of insn;
+          takes = there.0;
+          is = ap (λ (n : ℕ). moved t' n) there.1;
+          stands = on;
+        }
+
+    jump_ahead : (far : ℤ) (t : State) (to : ℕ) → JumpsAlike new origin s.slot k far distance → LeadsTo s.slot far to → t ≡ record s { slot = to } →
+        (slot : ℕ) × LeadsTo k distance slot × (moved t slot ≡ moved s slot) × Stands new origin slot t.slot
+    jump_ahead far t to alike leads e =
+        let same : alike.target ≡ t.slot = leads_same s.slot alike.target to far alike.leads leads ∙ sym (ap (λ (v : State). v.slot) e) in
+        (alike.landing, alike.lands, ap (λ (v : State). moved v alike.landing) e, subst (λ (n : ℕ). Stands new origin alike.landing n) same alike.stands)
+
+    jump_behind : (far : ℤ) (t' : State) (to : ℕ) → JumpsAlike new origin s.slot k far distance → LeadsTo k distance to → t' ≡ moved s to →
+        (target : ℕ) × LeadsTo s.slot far target × (t' ≡ moved s to) × Stands new origin to target
+    jump_behind far t' to alike leads e =
+        (alike.target, alike.leads, e, subst (λ (n : ℕ). Stands new origin n alike.target) (leads_same k alike.landing to distance alike.lands leads) alike.stands)
+
+    wide_ahead : (b : Bool) (dst value : ℕ) (t : State) → is_reference maps value ≡ b → Stands new origin (k + 2) (s.slot + 2) → IsTarget dst → t ≡ put s 2 dst value → Ahead s k None t (wide_copy b dst value)
+    wide_ahead false dst value t is on target e =
+        record { slot = k + 2; takes = (target, ap (λ (v : State). moved v (k + 2)) e); stands = subst (λ (n : ℕ). Stands new origin (k + 2) n) (sym (ap (λ (v : State). v.slot) e)) on }
+    wide_ahead true dst value t is on target e =
+        let r = refers maps value is in
+        record {
+          slot = k + 2;
+          takes = (
+            value - reference 0,
+            refl,
+            subst (λ (n : ℕ). value - reference 0 < n) (sym as_many) r.there,
+            target,
+            ap (λ (v : State). moved v (k + 2)) e ∙ ap (λ (n : ℕ). put (moved s k) 2 dst n) (sym r.is),
+          );
+          stands = subst (λ (n : ℕ). Stands new origin (k + 2) n) (sym (ap (λ (v : State). v.slot) e)) on;
+        }
+
+    no_pos : (m n : ℕ) → pos m ≡ pos n → m ≡ n
+    no_pos m n e = cc
+
+    wide_behind : (b : Bool) (dst value : ℕ) (c : Option Asked) (t' : State) → is_reference maps value ≡ b → Stands new origin (k + 2) (s.slot + 2) → Takes (beside f new) (wide_copy b dst value) (moved s k) c t' → Behind s k c t' (Imm64 dst value)
+    wide_behind false dst value c t' is on p = straight_behind (Imm64 dst value) c t' refl on p
+    wide_behind true dst value (Some c) t' is on (asks, fits, e) = absurd asks
+    wide_behind true dst value None t' is on (m, number, there, target, e) =
+        let r = refers maps value is in
+        let same : reference m ≡ value = ap reference (sym (no_pos _ m number)) ∙ r.is in
+        record {
+          state = put s 2 dst value;
+          slot = k + 2;
+          takes = (target, refl);
+          is = e ∙ ap (λ (n : ℕ). put (moved s k) 2 dst n) same;
+          stands = on;
+        }
+
+    pub takes_ahead : (insn : Insn) (c : Option Asked) (t : State) → OnFrom insn → JumpsFrom insn → Takes (beside f old) insn s c t → Ahead s k c t (copied maps insn distance)
+    takes_ahead (Alu w op dst src) c t on jumps p = straight_ahead (Alu w op dst src) c t refl (on refl) p
+    takes_ahead (MovSx w bits dst src) c t on jumps p = straight_ahead (MovSx w bits dst src) c t refl (on refl) p
+    takes_ahead (Neg w dst) c t on jumps p = straight_ahead (Neg w dst) c t refl (on refl) p
+    takes_ahead (End kind bits dst) c t on jumps p = straight_ahead (End kind bits dst) c t refl (on refl) p
+    takes_ahead (Load size signed dst src off) c t on jumps p = straight_ahead (Load size signed dst src off) c t refl (on refl) p
+    takes_ahead (StoreImm size dst off imm) c t on jumps p = straight_ahead (StoreImm size dst off imm) c t refl (on refl) p
+    takes_ahead (StoreReg size dst off src) c t on jumps p = straight_ahead (StoreReg size dst off src) c t refl (on refl) p
+    takes_ahead (MapRef dst index) c t on jumps p = straight_ahead (MapRef dst index) c t refl (on refl) p
+    takes_ahead (Call helper) c t on jumps p = straight_ahead (Call helper) c t refl (on refl) p
+    takes_ahead (Imm64 dst value) None t on jumps (target, e) = wide_ahead (is_reference maps value) dst value t refl (on refl) target e
+    takes_ahead (Imm64 dst value) (Some c) t on jumps (asks, fits, e) = absurd asks
+    takes_ahead (Goto off) None t on jumps (to, leads, e) =
+        let j = jump_ahead off t to (jumps off refl) leads e in
+        record { slot = j.0; takes = (j.0, j.1, j.2); stands = j.3 }
+    takes_ahead (Goto off) (Some c) t on jumps (asks, fits, e) = absurd asks
+    takes_ahead (Goto32 imm) None t on jumps (to, leads, e) =
+        let j = jump_ahead imm t to (jumps imm refl) leads e in
+        record { slot = j.0; takes = (j.0, j.1, j.2); stands = j.3 }
+    takes_ahead (Goto32 imm) (Some c) t on jumps (asks, fits, e) = absurd asks
+    takes_ahead (Branch w cond dst src off) None t on jumps (a, b, left, right, inl (held, to, leads, e)) =
+        let j = jump_ahead off t to (jumps off refl) leads e in
+        record { slot = j.0; takes = (a, b, left, right, inl (held, j.0, j.1, j.2)); stands = j.3 }
+    takes_ahead (Branch w cond dst src off) None t on jumps (a, b, left, right, inr (failed, e)) =
+        record {
+          slot = k + 1;
+          takes = (a, b, left, right, inr (failed, ap (λ (v : State). moved v (k + 1)) e));
+          stands = subst (λ (n : ℕ). Stands new origin (k + 1) n) (sym (ap (λ (v : State). v.slot) e)) (on refl);
+        }
+    takes_ahead (Branch w cond dst src off) (Some c) t on jumps (asks, fits, e) = absurd asks
+    takes_ahead Exit None t on jumps p = absurd p
+    takes_ahead Exit (Some c) t on jumps (asks, fits, e) = absurd asks
+
+    pub takes_behind : (insn : Insn) (c : Option Asked) (t' : State) → OnFrom insn → JumpsFrom insn → Takes (beside f new) (copied maps insn distance) (moved s k) c t' → Behind s k c t' insn
+    takes_behind (Alu w op dst src) c t' on jumps p = straight_behind (Alu w op dst src) c t' refl (on refl) p
+    takes_behind (MovSx w bits dst src) c t' on jumps p = straight_behind (MovSx w bits dst src) c t' refl (on refl) p
+    takes_behind (Neg w dst) c t' on jumps p = straight_behind (Neg w dst) c t' refl (on refl) p
+    takes_behind (End kind bits dst) c t' on jumps p = straight_behind (End kind bits dst) c t' refl (on refl) p
+    takes_behind (Load size signed dst src off) c t' on jumps p = straight_behind (Load size signed dst src off) c t' refl (on refl) p
+    takes_behind (StoreImm size dst off imm) c t' on jumps p = straight_behind (StoreImm size dst off imm) c t' refl (on refl) p
+    takes_behind (StoreReg size dst off src) c t' on jumps p = straight_behind (StoreReg size dst off src) c t' refl (on refl) p
+    takes_behind (MapRef dst index) c t' on jumps p = straight_behind (MapRef dst index) c t' refl (on refl) p
+    takes_behind (Call helper) c t' on jumps p = straight_behind (Call helper) c t' refl (on refl) p
+    takes_behind (Imm64 dst value) c t' on jumps p = wide_behind (is_reference maps value) dst value c t' refl (on refl) p
+    takes_behind (Goto off) None t' on jumps (to, leads, e) =
+        let j = jump_behind off t' to (jumps off refl) leads e in
+        record { state = moved s j.0; slot = to; takes = (j.0, j.1, refl); is = j.2; stands = j.3 }
+    takes_behind (Goto off) (Some c) t' on jumps (asks, fits, e) = absurd asks
+    takes_behind (Goto32 imm) None t' on jumps (to, leads, e) =
+        let j = jump_behind imm t' to (jumps imm refl) leads e in
+        record { state = moved s j.0; slot = to; takes = (j.0, j.1, refl); is = j.2; stands = j.3 }
+    takes_behind (Goto32 imm) (Some c) t' on jumps (asks, fits, e) = absurd asks
+    takes_behind (Branch w cond dst src off) None t' on jumps (a, b, left, right, inl (held, to, leads, e)) =
+        let j = jump_behind off t' to (jumps off refl) leads e in
+        record { state = moved s j.0; slot = to; takes = (a, b, left, right, inl (held, j.0, j.1, refl)); is = j.2; stands = j.3 }
+    takes_behind (Branch w cond dst src off) None t' on jumps (a, b, left, right, inr (failed, e)) =
+        record { state = moved s (s.slot + 1); slot = k + 1; takes = (a, b, left, right, inr (failed, refl)); is = e; stands = on refl }
+    takes_behind (Branch w cond dst src off) (Some c) t' on jumps (asks, fits, e) = absurd asks
+    takes_behind Exit None t' on jumps p = absurd p
+    takes_behind Exit (Some c) t' on jumps (asks, fits, e) = absurd asks
+
+  -- the copy takes a step as the original does
+  pub record StepAhead (s : State) (k : ℕ) (c : Option Asked) (t : State) : Type 0 where
+    pub slot : ℕ
+    pub step : Step (beside f new) (moved s k) c (moved t slot)
+    pub stands : Stands new origin slot t.slot
+
+  pub record StepBehind (s : State) (k : ℕ) (c : Option Asked) (t' : State) : Type 0 where
+    pub state : State
+    pub slot : ℕ
+    pub step : Step (beside f old) s c state
+    pub is : t' ≡ moved state slot
+    pub stands : Stands new origin slot state.slot
+
+  module _ (copy : IsCopy maps old new origin) where
+    pub step_ahead : (s : State) (k : ℕ) (c : Option Asked) (t : State) → Stands new origin k s.slot → Step (beside f old) s c t → StepAhead s k c t
+    step_ahead s k c t stands step =
+        let at = copy.each k s.slot stands in
+        let same = some_same _ step.insn at.original step.here at.here in
+        let ahead = takes_ahead s k at.distance at.original c t at.on at.jumps (subst (λ (i : Insn). Takes (beside f old) i s c t) same step.takes) in
+        record { slot = ahead.slot; step = record { insn = copied maps at.original at.distance; here = at.copy; takes = ahead.takes }; stands = ahead.stands }
+
+    pub step_behind : (s : State) (k : ℕ) (c : Option Asked) (t' : State) → Stands new origin k s.slot → Step (beside f new) (moved s k) c t' → StepBehind s k c t'
+    step_behind s k c t' stands step =
+        let at = copy.each k s.slot stands in
+        let same = some_same _ step.insn (copied maps at.original at.distance) step.here at.copy in
+        let behind = takes_behind s k at.distance at.original c t' at.on at.jumps (subst (λ (i : Insn). Takes (beside f new) i (moved s k) c t') same step.takes) in
+        record { state = behind.state; slot = behind.slot; step = record { insn = at.original; here = at.here; takes = behind.takes }; is = behind.is; stands = behind.stands }
+
+    pub ends_ahead : (s : State) (k answer : ℕ) (after : List (List ℕ)) → Stands new origin k s.slot → Ends (beside f old) s answer after → Ends (beside f new) (moved s k) answer after
+    ends_ahead s k answer after stands ends =
+        let at = copy.each k s.slot stands in
+        let same : at.original ≡ Exit = some_same _ at.original Exit at.here ends.here in
+        record { here = at.copy ∙ ap (λ (i : Insn). Some (copied maps i at.distance)) same; answer_is = ends.answer_is; maps_are = ends.maps_are }
+
+    pub ends_behind : (s : State) (k answer : ℕ) (after : List (List ℕ)) → Stands new origin k s.slot → Ends (beside f new) (moved s k) answer after → Ends (beside f old) s answer after
+    ends_behind s k answer after stands ends =
+        let at = copy.each k s.slot stands in
+        let same : at.original ≡ Exit = copied_exit maps at.original at.distance (some_same _ (copied maps at.original at.distance) Exit at.copy ends.here) in
+        record { here = at.here ∙ ap (λ (i : Insn). Some i) same; answer_is = ends.answer_is; maps_are = ends.maps_are }

@@ -1,0 +1,9 @@
+pub mod StepLemmas
+pub mod CopyLemmas
+pub mod RunLemmas
+pub mod PathLemmas
+pub mod BackwardLemmas
+pub mod SearchLemmas
+pub mod StackLemmas
+pub mod OrderLemmas
+pub mod ProgramLemmas

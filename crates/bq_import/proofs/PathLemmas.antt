@@ -1,0 +1,221 @@
+-- A copy has the same paths, instruction by instruction.
+use Rattle.std.proofs.Common.{◌≡◌, ℕ, suc, ◌+◌, ◌<◌, arith, Bool, true, false, List, [], ◌∷◌, Option, Some, None, length, refl, sym, ap, ◌∙◌, subst, ◌⊎◌, inl, inr, ℤ}
+use Rattle.std.specs.Prelude.{slice_index}
+use Rattle.bq_insn.specs.declared.Insn.{Insn}
+use Rattle.bq_insn.specs.declared.Insn.TheVariants.{Alu, MovSx, Neg, End, Load, StoreImm, StoreReg, Imm64, MapRef, Goto, Goto32, Branch, Call, Exit}
+use Rattle.bq_insn.specs.Slots.{slots_of}
+use Rattle.bq_maps.specs.Machine.{LeadsTo}
+use Rattle.bq_graph.specs.Edges.{IsEdge, IsStart, distance_of, goes_on}
+use Rattle.bq_graph.specs.Paths.{IsPath, PathOut, end_of}
+use Rattle.bq_graph.specs.Faults.{IsBadJump, RunsOut}
+use Rattle.bq_graph.proofs.EdgeLemmas.{some_same, leads_same, start_inside}
+use Rattle.bq_graph.proofs.SoundLemmas.{slots_positive}
+use Rattle.bq_import.specs.Copies.{is_reference, wide_copy, copied, Stands, IsCopy}
+use Rattle.bq_import.specs.Laws.{GoesForward, SameBudget}
+use Rattle.bq_import.proofs.CopyLemmas.{copied_exit}
+
+-- what of an instruction its copy has
+pub record HasShape (insn copy : Insn) (distance : ℤ) : Type 0 where
+  pub on : goes_on copy ≡ goes_on insn
+  pub long : slots_of copy ≡ slots_of insn
+  pub jumps : (far : ℤ) → distance_of insn ≡ Some far → distance_of copy ≡ Some distance
+  pub stays : distance_of insn ≡ None → distance_of copy ≡ None
+
+none_some : (z : ℤ) → None ≡ Some z → ⊥
+none_some z e = cc
+
+some_none : (z : ℤ) → Some z ≡ None → ⊥
+some_none z e = cc
+
+plain : (insn : Insn) (distance : ℤ) → distance_of insn ≡ None → HasShape insn insn distance
+plain insn distance none = record { on = refl; long = refl; jumps = λ far e. absurd (none_some far (sym none ∙ e)); stays = λ e. e }
+
+wide_shape : (b : Bool) (dst value : ℕ) (distance : ℤ) → HasShape (Imm64 dst value) (wide_copy b dst value) distance
+wide_shape true dst value distance = record { on = refl; long = refl; jumps = λ far e. absurd (none_some far e); stays = λ e. e }
+wide_shape false dst value distance = record { on = refl; long = refl; jumps = λ far e. absurd (none_some far e); stays = λ e. e }
+
+pub shape_of : (maps : ℕ) (insn : Insn) (distance : ℤ) → HasShape insn (copied maps insn distance) distance
+shape_of maps (Alu w op dst src) distance = plain (Alu w op dst src) distance refl
+shape_of maps (MovSx w bits dst src) distance = plain (MovSx w bits dst src) distance refl
+shape_of maps (Neg w dst) distance = plain (Neg w dst) distance refl
+shape_of maps (End kind bits dst) distance = plain (End kind bits dst) distance refl
+shape_of maps (Load size signed dst src off) distance = plain (Load size signed dst src off) distance refl
+shape_of maps (StoreImm size dst off imm) distance = plain (StoreImm size dst off imm) distance refl
+shape_of maps (StoreReg size dst off src) distance = plain (StoreReg size dst off src) distance refl
+shape_of maps (MapRef dst index) distance = plain (MapRef dst index) distance refl
+shape_of maps (Call helper) distance = plain (Call helper) distance refl
+shape_of maps Exit distance = plain Exit distance refl
+shape_of maps (Imm64 dst value) distance = wide_shape (is_reference maps value) dst value distance
+shape_of maps (Goto off) distance = record { on = refl; long = refl; jumps = λ far e. refl; stays = λ e. absurd (some_none off e) }
+shape_of maps (Goto32 imm) distance = record { on = refl; long = refl; jumps = λ far e. refl; stays = λ e. absurd (some_none imm e) }
+shape_of maps (Branch w c dst src off) distance = record { on = refl; long = refl; jumps = λ far e. refl; stays = λ e. absurd (some_none off e) }
+
+module _ (maps : ℕ) (old new : List (Option Insn)) (origin : List ℕ) (copy : IsCopy maps old new origin) where
+  record EdgeAhead (slot to : ℕ) : Type 0 where
+    pub landing : ℕ
+    pub edge : IsEdge new slot landing
+    pub stands : Stands new origin landing to
+
+  record EdgeBehind (from landing : ℕ) : Type 0 where
+    pub target : ℕ
+    pub edge : IsEdge old from target
+    pub stands : Stands new origin landing target
+
+  edge_ahead : (slot from to : ℕ) → Stands new origin slot from → IsEdge old from to → EdgeAhead slot to
+  edge_ahead slot from to stands edge =
+      let at = copy.each slot from stands in
+      let shape = shape_of maps at.original at.distance in
+      let same = some_same _ edge.insn at.original edge.here at.here in
+      elim edge.leaves [
+        | inl (on, is) ↦
+            let on' : goes_on at.original ≡ true = ap goes_on (sym same) ∙ on in
+            let is' : to ≡ from + slots_of at.original = is ∙ ap (λ (i : Insn). from + slots_of i) same in
+            record {
+              landing = slot + slots_of at.original;
+              edge = record { insn = copied maps at.original at.distance; here = at.copy; leaves = inl (shape.on ∙ on', ap (λ (n : ℕ). slot + n) (sym shape.long)) };
+              stands = subst (λ (n : ℕ). Stands new origin (slot + slots_of at.original) n) (sym is') (at.on on');
+            }
+        | inr (far, is, leads) ↦
+            let is' : distance_of at.original ≡ Some far = ap distance_of (sym same) ∙ is in
+            let alike = at.jumps far is' in
+            record {
+              landing = alike.landing;
+              edge = record { insn = copied maps at.original at.distance; here = at.copy; leaves = inr (at.distance, shape.jumps far is', alike.lands) };
+              stands = subst (λ (n : ℕ). Stands new origin alike.landing n) (leads_same from alike.target to far alike.leads leads) alike.stands;
+            }
+      ]
+
+  far_of : (v : Option ℤ) → (v ≡ None) ⊎ ((far : ℤ) × (v ≡ Some far))
+  far_of None = inl refl
+  far_of (Some far) = inr (far, refl)
+
+  edge_behind : (slot from landing : ℕ) → Stands new origin slot from → IsEdge new slot landing → EdgeBehind from landing
+  edge_behind slot from landing stands edge =
+      let at = copy.each slot from stands in
+      let shape = shape_of maps at.original at.distance in
+      let same = some_same _ edge.insn (copied maps at.original at.distance) edge.here at.copy in
+      elim edge.leaves [
+        | inl (on, is) ↦
+            let on' : goes_on at.original ≡ true = sym shape.on ∙ (ap goes_on (sym same) ∙ on) in
+            let is' : landing ≡ slot + slots_of at.original = is ∙ (ap (λ (i : Insn). slot + slots_of i) same ∙ ap (λ (n : ℕ). slot + n) shape.long) in
+            record {
+              target = from + slots_of at.original;
+              edge = record { insn = at.original; here = at.here; leaves = inl (on', refl) };
+              stands = subst (λ (n : ℕ). Stands new origin n (from + slots_of at.original)) (sym is') (at.on on');
+            }
+        | inr (near, is, leads) ↦
+            let is' : distance_of (copied maps at.original at.distance) ≡ Some near = ap distance_of (sym same) ∙ is in
+            elim (far_of (distance_of at.original)) [
+              | inl none ↦ absurd (none_some near (sym (shape.stays none) ∙ is'))
+              | inr (far, jumps) ↦
+                  let alike = at.jumps far jumps in
+                  let near' : near ≡ at.distance = some_same _ near at.distance is' (shape.jumps far jumps) in
+                  record {
+                    target = alike.target;
+                    edge = record { insn = at.original; here = at.here; leaves = inr (far, jumps, alike.leads) };
+                    stands = subst (λ (n : ℕ). Stands new origin n alike.target) (leads_same slot alike.landing landing at.distance alike.lands (subst (λ (z : ℤ). LeadsTo slot z landing) near' leads)) alike.stands;
+                  }
+            ]
+      ]
+
+  record PathAhead (slot from : ℕ) (rest : List ℕ) : Type 0 where
+    pub way : List ℕ
+    pub is_path : IsPath new slot way
+    pub long : length way ≡ length rest
+    pub stands : Stands new origin (end_of slot way) (end_of from rest)
+
+  record PathBehind (slot from : ℕ) (way : List ℕ) : Type 0 where
+    pub rest : List ℕ
+    pub is_path : IsPath old from rest
+    pub long : length way ≡ length rest
+    pub stands : Stands new origin (end_of slot way) (end_of from rest)
+
+  path_ahead : (slot from : ℕ) (rest : List ℕ) → Stands new origin slot from → IsPath old from rest → PathAhead slot from rest
+  path_ahead slot from [] stands path = record { way = []; is_path = tt; long = refl; stands = stands }
+  path_ahead slot from (to ∷ rest) stands (edge, path) =
+      let one = edge_ahead slot from to stands edge in
+      let others = path_ahead one.landing to rest one.stands path in
+      record { way = one.landing ∷ others.way; is_path = (one.edge, others.is_path); long = ap suc others.long; stands = others.stands }
+
+  path_behind : (slot from : ℕ) (way : List ℕ) → Stands new origin slot from → IsPath new slot way → PathBehind slot from way
+  path_behind slot from [] stands path = record { rest = []; is_path = tt; long = refl; stands = stands }
+  path_behind slot from (landing ∷ way) stands (edge, path) =
+      let one = edge_behind slot from landing stands edge in
+      let others = path_behind landing one.target way one.stands path in
+      record { rest = one.target ∷ others.rest; is_path = (one.edge, others.is_path); long = ap suc others.long; stands = others.stands }
+
+  out_ahead : (count : ℕ) → PathOut old 0 count → PathOut new 0 count
+  out_ahead count out =
+      let there = path_ahead 0 0 out.rest copy.first out.is_path in
+      let at = copy.each _ _ there.stands in
+      let same : at.original ≡ Exit = some_same _ at.original Exit at.here out.exits in
+      record { rest = there.way; is_path = there.is_path; exits = at.copy ∙ ap (λ (i : Insn). Some (copied maps i at.distance)) same; count_is = out.count_is ∙ ap suc (sym there.long) }
+
+  out_behind : (count : ℕ) → PathOut new 0 count → PathOut old 0 count
+  out_behind count out =
+      let there = path_behind 0 0 out.rest copy.first out.is_path in
+      let at = copy.each _ _ there.stands in
+      let same : at.original ≡ Exit = copied_exit maps at.original at.distance (some_same _ (copied maps at.original at.distance) Exit at.copy out.exits) in
+      record { rest = there.rest; is_path = there.is_path; exits = at.here ∙ ap (λ (i : Insn). Some i) same; count_is = out.count_is ∙ ap suc there.long }
+
+pub same_budget : SameBudget
+same_budget maps old new origin copy budget = (
+  λ most. record { holds = out_ahead maps old new origin copy budget most.holds; bounds = λ n out. most.bounds n (out_behind maps old new origin copy n out) },
+  λ most. record { holds = out_behind maps old new origin copy budget most.holds; bounds = λ n out. most.bounds n (out_ahead maps old new origin copy n out) },
+)
+
+-- of each start of a copy it is known what it is a copy of
+at_start : (new : List (Option Insn)) (origin : List ℕ) (slot : ℕ) → IsStart new slot → Stands new origin slot (slice_index origin slot)
+at_start new origin slot start = record { start = start; origin_is = refl }
+
+module _ (maps : ℕ) (old new : List (Option Insn)) (origin : List ℕ) (copy : IsCopy maps old new origin) where
+  edge_later : (from to : ℕ) → IsEdge new from to → (from < to) × IsStart new to
+  edge_later from to edge =
+      let at = copy.each from _ (at_start new origin from (record { insn = edge.insn; here = edge.here })) in
+      let shape = shape_of maps at.original at.distance in
+      let same = some_same _ edge.insn (copied maps at.original at.distance) edge.here at.copy in
+      elim edge.leaves [
+        | inl (on, is) ↦
+            let on' : goes_on at.original ≡ true = sym shape.on ∙ (ap goes_on (sym same) ∙ on) in
+            let is' : to ≡ from + slots_of at.original = is ∙ (ap (λ (i : Insn). from + slots_of i) same ∙ ap (λ (n : ℕ). from + n) shape.long) in
+            let positive = slots_positive at.original in
+            (omega (arith, is', positive), subst (λ (n : ℕ). IsStart new n) (sym is') (at.on on').start)
+        | inr (near, is, leads) ↦
+            let is' : distance_of (copied maps at.original at.distance) ≡ Some near = ap distance_of (sym same) ∙ is in
+            elim (far_of maps old new origin copy (distance_of at.original)) [
+              | inl none ↦ absurd (none_some near (sym (shape.stays none) ∙ is'))
+              | inr (far, jumps) ↦
+                  let alike = at.jumps far jumps in
+                  let near' : near ≡ at.distance = some_same _ near at.distance is' (shape.jumps far jumps) in
+                  let landing : alike.landing ≡ to = leads_same from alike.landing to at.distance alike.lands (subst (λ (z : ℤ). LeadsTo from z to) near' leads) in
+                  (subst (λ (n : ℕ). from < n) landing alike.later, subst (λ (n : ℕ). IsStart new n) landing alike.stands.start)
+            ]
+      ]
+
+  no_bad_jump : (slot : ℕ) → IsBadJump new slot → ⊥
+  no_bad_jump slot bad =
+      let at = copy.each slot _ (at_start new origin slot (record { insn = bad.insn; here = bad.here })) in
+      let shape = shape_of maps at.original at.distance in
+      let same = some_same _ bad.insn (copied maps at.original at.distance) bad.here at.copy in
+      let is' : distance_of (copied maps at.original at.distance) ≡ Some bad.distance = ap distance_of (sym same) ∙ bad.jumps in
+      elim (far_of maps old new origin copy (distance_of at.original)) [
+        | inl none ↦ absurd (none_some bad.distance (sym (shape.stays none) ∙ is'))
+        | inr (far, jumps) ↦
+            let alike = at.jumps far jumps in
+            let near' : at.distance ≡ bad.distance = some_same _ at.distance bad.distance (shape.jumps far jumps) is' in
+            bad.nowhere alike.landing (subst (λ (z : ℤ). LeadsTo slot z alike.landing) near' alike.lands) alike.later alike.stands.start
+      ]
+
+  none_runs_out : (slot : ℕ) → RunsOut new slot → ⊥
+  none_runs_out slot out =
+      let at = copy.each slot _ (at_start new origin slot (record { insn = out.insn; here = out.here })) in
+      let shape = shape_of maps at.original at.distance in
+      let same = some_same _ out.insn (copied maps at.original at.distance) out.here at.copy in
+      let on' : goes_on at.original ≡ true = sym shape.on ∙ (ap goes_on (sym same) ∙ out.on) in
+      let is' : slots_of out.insn ≡ slots_of at.original = ap slots_of same ∙ shape.long in
+      let inside = start_inside new (slot + slots_of at.original) (at.on on').start in
+      let past = out.past in
+      let no : ⊥ = omega (arith, inside, past, is') in no
+
+pub goes_forward : GoesForward
+goes_forward maps old new origin copy = (edge_later maps old new origin copy, no_bad_jump maps old new origin copy, none_runs_out maps old new origin copy)

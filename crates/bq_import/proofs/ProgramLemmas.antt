@@ -1,0 +1,95 @@
+-- What is known of a well-formed program's slots.
+use Rattle.std.proofs.Common.{◌≡◌, ℕ, zero, suc, ◌-◌, ◌<◌, ◌≤◌, Bool, true, false, List, [], ◌∷◌, ◌++◌, Option, Some, None, length, replicate, refl, arith, ap, ◌∙◌, subst, length-append}
+use Rattle.std.specs.Prelude.{nat_le, ◌&&◌}
+use Rattle.std.specs.List.{flat_map, list_all}
+use Rattle.std.proofs.lemmas.List.{length-replicate, length-reverse}
+use Rattle.std.proofs.lemmas.Bool.Decides.{nat_tests}
+use Rattle.bq_insn.specs.declared.Insn.{Insn}
+use Rattle.bq_insn.specs.declared.Insn.TheVariants.{Alu, MovSx, Neg, End, Load, StoreImm, StoreReg, Imm64, MapRef, Goto, Goto32, Branch, Call, Exit}
+use Rattle.bq_insn.specs.declared.Source.TheVariants.{Imm, Reg}
+use Rattle.bq_insn.specs.Slots.{slots_of, spread}
+use Rattle.bq_insn.specs.Laws.{Fits, AllFit}
+use Rattle.bq_insn.specs.Spelling.{spelled, slot_count, is_insn, is_well_formed}
+use Rattle.bq_graph.proofs.EdgeLemmas.{some_same, some_none}
+use Rattle.bq_import.specs.Backward.{AreGood, IsBuilt, IsFront, insns_of}
+
+-- one instruction
+one_long : (i : Insn) → suc (slots_of i - 1) ≡ length (spelled i)
+one_long (Alu w o d (Imm n)) = refl
+one_long (Alu w o d (Reg s)) = refl
+one_long (MovSx w b d s) = refl
+one_long (Neg w d) = refl
+one_long (End k b d) = refl
+one_long (Load z g d s off) = refl
+one_long (StoreImm z d off n) = refl
+one_long (StoreReg z d off s) = refl
+one_long (Imm64 d v) = refl
+one_long (MapRef d i) = refl
+one_long (Goto off) = refl
+one_long (Goto32 n) = refl
+one_long (Branch w c d (Imm n) off) = refl
+one_long (Branch w c d (Reg s) off) = refl
+one_long (Call h) = refl
+one_long Exit = refl
+
+-- a whole program
+pub spread_long : (insns : List Insn) → length (spread insns) ≡ slot_count insns
+spread_long [] = refl
+spread_long (i ∷ rest) =
+    let more = spread_long rest in
+    let one = one_long i in
+    let gap = length-replicate {A = Option Insn} (slots_of i - 1) None in
+    omega (arith, length-append (Some i ∷ replicate (slots_of i - 1) None) (spread rest), length-append (spelled i) (flat_map spelled rest), gap)
+
+limits : (b : Bool) (n : ℕ) → (b && (nat_le 1 n && nat_le n 4096)) ≡ true → (b ≡ true) × (1 ≤ n) × (n ≤ 4096)
+limits true n h = (refl, grind (arith, nat_tests), grind (arith, nat_tests))
+limits false n h = absurd (let never : ⊥ = cc in never)
+
+pub few_slots : (insns : List Insn) → is_well_formed insns ≡ true → length (spread insns) ≤ 4096
+few_slots insns whole = let n = (limits _ (slot_count insns) whole).2 in omega (arith, spread_long insns)
+
+pub some_slots : (insns : List Insn) → is_well_formed insns ≡ true → 0 < length (spread insns)
+some_slots insns whole = let n = (limits _ (slot_count insns) whole).1 in omega (arith, spread_long insns)
+
+both : (a b : Bool) → (a && b) ≡ true → (a ≡ true) × (b ≡ true)
+both true true e = (refl, refl)
+both true false e = absurd (let never : ⊥ = cc in never)
+both false b e = absurd (let never : ⊥ = cc in never)
+
+gap_good : (n : ℕ) (rest : List (Option Insn)) → AreGood rest → AreGood (replicate n None ++ rest)
+gap_good zero rest good slot insn here = good slot insn here
+gap_good (suc n) rest good zero insn here = absurd (some_none _ insn here refl)
+gap_good (suc n) rest good (suc slot) insn here = gap_good n rest good slot insn here
+
+all_good : (insns : List Insn) → list_all is_insn insns ≡ true → AllFit insns → AreGood (spread insns)
+all_good [] all fits zero insn here = absurd (some_none _ insn here refl)
+all_good [] all fits (suc slot) insn here = absurd (some_none _ insn here refl)
+all_good (i ∷ rest) all fits zero insn here =
+    subst (λ (k : Insn). (is_insn k ≡ true) × Fits k) (some_same _ i insn refl here) ((both (is_insn i) (list_all is_insn rest) all).0, fits.0)
+all_good (i ∷ rest) all fits (suc slot) insn here = gap_good (slots_of i - 1) (spread rest) (all_good rest (both (is_insn i) (list_all is_insn rest) all).1 fits.1) slot insn here
+
+pub are_good : (insns : List Insn) → is_well_formed insns ≡ true → AllFit insns → AreGood (spread insns)
+are_good insns whole fits = all_good insns (limits _ (slot_count insns) whole).0 fits
+
+-- the other way: a program of so many slots, all in range
+pub well_formed : (insns : List Insn) → list_all is_insn insns ≡ true → 0 < length (spread insns) → length (spread insns) ≤ 4096 → is_well_formed insns ≡ true
+well_formed insns all some few =
+    let long = spread_long insns in
+    let low : nat_le 1 (slot_count insns) ≡ true = le_true 1 (slot_count insns) (omega (arith, long, some)) in
+    let high : nat_le (slot_count insns) 4096 ≡ true = le_true (slot_count insns) 4096 (omega (arith, long, few)) in
+    and_true _ _ all (and_true _ _ low high)
+  where
+    le_true : (a b : ℕ) → a ≤ b → nat_le a b ≡ true
+    le_true a b le = grind (arith, nat_tests)
+
+    and_true : (a b : Bool) → a ≡ true → b ≡ true → (a && b) ≡ true
+    and_true true b e f = f
+    and_true false b e f = e
+
+-- what was written from its end is a program
+pub formed : (maps : ℕ) (old back : List (Option Insn)) (origins : List ℕ) → IsBuilt maps old back origins → IsFront back origins 0 → is_well_formed (insns_of back) ≡ true
+formed maps old back origins built front =
+    let short = built.short in
+    let some = front.place_is in
+    let long : length (spread (insns_of back)) ≡ length back = ap length built.spread_is ∙ length-reverse back in
+    well_formed (insns_of back) built.in_range (omega (arith, long, some)) (omega (arith, long, short))

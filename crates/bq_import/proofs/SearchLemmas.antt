@@ -1,0 +1,99 @@
+-- Where control goes, and what is put in front.
+use Rattle.std.proofs.Common.{◌≡◌, ℕ, ◌+◌, ◌-◌, ◌<◌, Bool, true, false, List, length, Option, Some, None, refl, arith, sym, ap, ◌∙◌, subst, inl, inr, ℤ, pos}
+use Rattle.std.specs.Prelude.{if◌then◌else◌, IfSome, IfNone, is_some}
+use Rattle.bq_import.specs.Faults.{LeadsNowhere}
+use Rattle.bq_insn.specs.declared.Insn.{Insn}
+use Rattle.bq_insn.specs.Slots.{slots_of}
+use Rattle.bq_maps.specs.Machine.{LeadsTo, instruction_at}
+use Rattle.bq_graph.specs.Edges.{distance_of, goes_on, IsStart}
+use Rattle.bq_graph.specs.Passes.{LeadsOut, IsOf}
+use Rattle.bq_graph.specs.declared.edges.Targets.{Targets}
+use Rattle.bq_graph.proofs.EdgeLemmas.{some_same, some_none, leads_same, leads_out}
+use Rattle.bq_graph.proofs.SoundLemmas.{slots_positive}
+use Rattle.bq_import.specs.Copies.{Stands}
+use Rattle.bq_import.specs.Backward.{JumpsBack, IsFront, IsLengthened, MayStand}
+use Rattle.bq_import.specs.Search.{IsLinked, AreTargets, JumpsTo}
+
+module _ (slots : List (Option Insn)) (slot : ℕ) (insn : Insn) (here : instruction_at slots slot ≡ Some insn) (linked : IsLinked slots) (targets : Targets) where
+  next_there : (b : Bool) → b ≡ true → targets.next ≡ (if b then Some (slot + slots_of insn) else None) → targets.next ≡ Some (slot + slots_of insn)
+  next_there true e is = is
+  next_there false e is = absurd (let no : ⊥ = cc in no)
+
+  jump_there : (v : Option ℕ) → targets.jump ≡ v → IfSome v (λ to. (far : ℤ) × (distance_of insn ≡ Some far) × LeadsTo slot far to) → IfNone v (distance_of insn ≡ None) →
+      (far : ℤ) → distance_of insn ≡ Some far → (to : ℕ) × LeadsTo slot far to × (targets.jump ≡ Some to)
+  jump_there None is some none far e = absurd (some_none _ far e none)
+  jump_there (Some to) is some none far e =
+      let same : some.0 ≡ far = some_same _ some.0 far some.1 e in
+      (to, subst (λ (z : ℤ). LeadsTo slot z to) same some.2, is)
+
+  starts_at : LeadsOut slots slot targets → (to : ℕ) → IsOf targets to → IsStart slots to
+  starts_at out to of =
+      let edge = out.only to of in
+      let same : edge.insn ≡ insn = some_same _ edge.insn insn edge.here here in
+      let well = linked.leads slot insn here in
+      elim edge.leaves [
+        | inl (on, is) ↦
+            let on' : goes_on insn ≡ true = ap goes_on (sym same) ∙ on in
+            let is' : to ≡ slot + slots_of insn = is ∙ ap (λ (i : Insn). slot + slots_of i) same in
+            subst (λ (n : ℕ). IsStart slots n) (sym is') (well.0 on')
+        | inr (far, is, leads) ↦
+            let there = well.1 far (ap distance_of (sym same) ∙ is) in
+            subst (λ (n : ℕ). IsStart slots n) (leads_same slot there.0 to far there.1 leads) there.2
+      ]
+
+  next_later : (b : Bool) → targets.next ≡ (if b then Some (slot + slots_of insn) else None) → (to : ℕ) → targets.next ≡ Some to → slot < to
+  next_later true is to e = let same = some_same _ to (slot + slots_of insn) e is in let positive = slots_positive insn in omega (arith, same, positive)
+  next_later false is to e = absurd (some_none _ to e is)
+
+  pub are_targets : targets.next ≡ (if goes_on insn then Some (slot + slots_of insn) else None) → IfSome targets.jump (λ to. (far : ℤ) × (distance_of insn ≡ Some far) × LeadsTo slot far to) → IfNone targets.jump (distance_of insn ≡ None) → AreTargets slots slot insn targets
+  are_targets next some none =
+      let out = leads_out slots slot insn here targets next some none in
+      record {
+        out = out;
+        next = λ on. next_there (goes_on insn) on next;
+        jump = jump_there targets.jump refl some none;
+        starts = starts_at out;
+        later = next_later (goes_on insn) next;
+      }
+
+-- the jump's copy lies behind
+module _ (old back : List (Option Insn)) (origins : List ℕ) (slot : ℕ) (insn : Insn) (targets : Targets) (are : AreTargets old slot insn targets) where
+  jump_lands : (distance : ℤ) (v : Option ℕ) → targets.jump ≡ v → IfSome v (JumpsTo back origins distance) → (far : ℤ) → distance_of insn ≡ Some far → JumpsBack back origins slot (length back) far distance
+  jump_lands distance None e jumps far is = let there = are.jump far is in absurd (some_none _ there.0 there.2 e)
+  jump_lands distance (Some to) e jumps far is =
+      let there = are.jump far is in
+      let same : to ≡ there.0 = some_same _ to there.0 e there.2 in
+      record {
+        target = there.0;
+        landing = jumps.landing;
+        apart = jumps.apart;
+        leads = there.1;
+        near_is = jumps.distance_is;
+        place_is = jumps.long;
+        stands = subst (λ (n : ℕ). Stands back origins jumps.landing n) same jumps.stands;
+      }
+
+  pub may_stand : (distance : ℤ) → instruction_at old slot ≡ Some insn → ((n : ℕ) → targets.next ≡ Some n → IsFront back origins n) → IfSome targets.jump (JumpsTo back origins distance) → MayStand old back origins slot insn distance
+  may_stand distance here front jumps = record {
+    here = here;
+    on = λ on. front (slot + slots_of insn) (are.next on);
+    jumps = jump_lands distance targets.jump refl jumps;
+  }
+
+-- what was lengthened twice was lengthened by what was put in front last
+pub lengthened_twice : (maps : ℕ) (old a : List (Option Insn)) (x : List ℕ) (b : List (Option Insn)) (y : List ℕ) (c : List (Option Insn)) (z : List ℕ) (first last : ℕ) → IsLengthened maps old a x b y first → IsLengthened maps old b y c z last → IsLengthened maps old a x c z last
+lengthened_twice maps old a x b y c z first last p q = record { built = q.built; keeps = λ place from s. q.keeps place from (p.keeps place from s); front = q.front }
+
+-- where a jump's copy stands
+pub jumps_to : (back : List (Option Insn)) (origins : List ℕ) (places : List (Option ℕ)) (to place : ℕ) (distance : ℤ) (start : place < length back) → distance ≡ pos (length back - place - 1) → Stands back origins place to → JumpsTo back origins distance to
+jumps_to back origins places to place distance start is stands = record { landing = place; apart = length back - place - 1; distance_is = is; long = omega (arith, start); stands = stands }
+
+-- a jump that leads to no instruction
+pub nowhere : (slots : List (Option Insn)) (slot : ℕ) (insn : Insn) (distance : ℤ) → instruction_at slots slot ≡ Some insn → Some distance ≡ distance_of insn → (v : Option ℕ) → is_some v ≡ false → IfNone v ((to : ℕ) → LeadsTo slot distance to → IsStart slots to → ⊥) → LeadsNowhere slots slot
+nowhere slots slot insn distance here is None none never = record { insn = insn; here = here; distance = distance; jumps = sym is; nowhere = never }
+nowhere slots slot insn distance here is (Some to) none never = absurd (let false : ⊥ = cc in false)
+
+-- a fact of the slot that the option has
+pub if_some : (P : ℕ → Type 0) (v : Option ℕ) (n : ℕ) → v ≡ Some n → P n → IfSome v P
+if_some P None n e p = absurd (let false : ⊥ = cc in false)
+if_some P (Some m) n e p = subst P (some_same _ n m e refl) p

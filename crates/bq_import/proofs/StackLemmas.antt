@@ -1,0 +1,229 @@
+-- The stack of the search, and what is done.
+use Rattle.std.proofs.Common.{◌≡◌, ℕ, zero, suc, ◌+◌, ◌-◌, ◌<◌, ◌≤◌, ◌≢◌, Bool, true, false, List, [], ◌∷◌, ◌++◌, length, take, get_or, Option, Some, None, refl, arith, sym, ap, ◌∙◌, subst, ◌⊎◌, inl, inr, length-append, length-take}
+use Rattle.std.specs.Prelude.{slice_index, slice_set}
+use Rattle.std.proofs.lemmas.List.{get_or_append_left, get_or-append-add, get_or-take, get_or-set_same, get_or-set_other, length-set}
+use Rattle.std.proofs.lemmas.List.Sums.{sum_by-set}
+use Rattle.bq_insn.specs.declared.Insn.{Insn}
+use Rattle.bq_graph.specs.Edges.{IsEdge, IsStart}
+use Rattle.bq_graph.specs.Paths.{Path}
+use Rattle.bq_graph.proofs.EdgeLemmas.{some_same, some_none, start_inside, IsPath-push, end_of-push}
+use Rattle.bq_import.specs.Copies.{Stands}
+use Rattle.bq_import.specs.Backward.{IsBuilt, IsLengthened}
+use Rattle.bq_import.specs.Faults.{IsLoop}
+use Rattle.bq_import.specs.Search.{place_at, IsDone, AreKnown, AreClosed, IsReady, is_open, unopened, IsOn, IsTop, IsSearching, KeepsOpen, left_of}
+
+equal_or_not : (a b : ℕ) → (a ≡ b) ⊎ (a ≢ b)
+equal_or_not zero zero = inl refl
+equal_or_not zero (suc b) = inr (λ e. cc)
+equal_or_not (suc a) zero = inr (λ e. cc)
+equal_or_not (suc a) (suc b) = elim (equal_or_not a b) [ inl e ↦ inl (ap suc e) | inr apart ↦ inr (λ e. apart (omega (arith, e))) ]
+
+-- a path and one edge more
+path_on : (slots : List (Option Insn)) (a b c : ℕ) → Path slots a b → IsEdge slots b c → Path slots a c
+path_on slots a b c p edge = record {
+  rest = p.rest ++ c ∷ [];
+  is_path = IsPath-push slots a p.rest c p.is_path (subst (λ (n : ℕ). IsEdge slots n c) (sym p.ends) edge);
+  ends = end_of-push a p.rest c;
+}
+
+-- a slot that was begun and is not done closes a loop
+pub loop_found : (maps : ℕ) (old back : List (Option Insn)) (origins : List ℕ) (places : List (Option ℕ)) (opens : List Bool) (stack : List ℕ) (from to : ℕ) →
+    IsSearching maps old back origins places opens stack → IsTop stack from → IsEdge old from to → place_at places to ≡ None → is_open opens to ≡ true → IsLoop old from to
+loop_found maps old back origins places opens stack from to at top edge new begun = elim (at.opened to begun) [
+  | inl done ↦ absurd (some_none _ done.0 done.1 new)
+  | inr on ↦
+      let long = top.long in
+      let inside = on.inside in
+      let way = at.ways on.index top.below (omega (arith, long, inside)) (omega (arith, long)) in
+      record { edge = edge; back = subst (λ (n : ℕ). Path old n from) on.slot_is (subst (λ (n : ℕ). Path old (slice_index stack on.index) n) top.slot_is way) }
+]
+
+module _ (maps : ℕ) (old back : List (Option Insn)) (origins : List ℕ) (places : List (Option ℕ)) (opens : List Bool) (stack : List ℕ) (at : IsSearching maps old back origins places opens stack) (slot : ℕ) where
+  module _ (start : IsStart old slot) (new : is_open opens slot ≡ false) (edge : (top : ℕ) → IsTop stack top → IsEdge old top slot) where
+    slot_inside : slot < length opens
+    slot_inside = let inside = start_inside old slot start in let room = at.room in omega (arith, inside, room)
+
+    on_more : (s : ℕ) → IsOn stack s → IsOn (stack ++ slot ∷ []) s
+    on_more s on = let long = length-append stack (slot ∷ []) in let inside = on.inside in
+        record { index = on.index; inside = omega (arith, long, inside); slot_is = get_or_append_left stack (slot ∷ []) 0 on.index on.inside ∙ on.slot_is }
+
+    last_on : slice_index (stack ++ slot ∷ []) (length stack) ≡ slot
+    last_on = ap (λ (n : ℕ). get_or (stack ++ slot ∷ []) n 0) (let e : length stack ≡ length stack + 0 = omega arith in e) ∙ get_or-append-add stack (slot ∷ []) 0 0
+
+    opened_more : (s : ℕ) → is_open (slice_set opens slot true) s ≡ true → IsDone places s ⊎ IsOn (stack ++ slot ∷ []) s
+    opened_more s begun = elim (equal_or_not s slot) [
+      | inl e ↦ inr (let long = length-append stack (slot ∷ []) in record { index = length stack; inside = omega (arith, long); slot_is = last_on ∙ sym e })
+      | inr apart ↦ elim (at.opened s (sym (get_or-set_other opens slot s true false apart) ∙ begun)) [ inl done ↦ inl done | inr on ↦ inr (on_more s on) ]
+    ]
+
+    left_index : (i : ℕ) → i < length stack → slice_index (stack ++ slot ∷ []) i ≡ slice_index stack i
+    left_index i lt = get_or_append_left stack (slot ∷ []) 0 i lt
+
+    below_or : (i : ℕ) → i < length stack + 1 → (i < length stack) ⊎ (i ≡ length stack)
+    below_or i lt = elim (equal_or_not i (length stack)) [ inl e ↦ inr e | inr apart ↦ inl (omega (arith, lt, apart)) ]
+
+    to_last : (i : ℕ) → i < length stack → Path old (slice_index stack i) slot
+    to_last i lt =
+        let below = length stack - 1 in
+        let long : length stack ≡ below + 1 = omega (arith, lt) in
+        path_on old (slice_index stack i) (slice_index stack below) slot (at.ways i below (omega (arith, lt)) (omega (arith, lt)))
+        (edge (slice_index stack below) (record { below = below; long = long; slot_is = refl }))
+
+    ways_more : (i j : ℕ) → i ≤ j → j < length (stack ++ slot ∷ []) → Path old (slice_index (stack ++ slot ∷ []) i) (slice_index (stack ++ slot ∷ []) j)
+    ways_more i j le lt =
+        let long = length-append stack (slot ∷ []) in
+        elim (below_or j (omega (arith, long, lt))) [
+          | inl inside ↦
+              subst (λ (n : ℕ). Path old n (slice_index (stack ++ slot ∷ []) j)) (sym (left_index i (omega (arith, le, inside))))
+              (subst (λ (n : ℕ). Path old (slice_index stack i) n) (sym (left_index j inside)) (at.ways i j le inside))
+          | inr e ↦
+              let there : slice_index (stack ++ slot ∷ []) j ≡ slot = ap (λ (n : ℕ). slice_index (stack ++ slot ∷ []) n) e ∙ last_on in
+              subst (λ (n : ℕ). Path old (slice_index (stack ++ slot ∷ []) i) n) (sym there)
+              (elim (below_or i (omega (arith, le, e))) [
+                | inl inside ↦ subst (λ (n : ℕ). Path old n slot) (sym (left_index i inside)) (to_last i inside)
+                | inr e' ↦
+                    let here : slice_index (stack ++ slot ∷ []) i ≡ slot = ap (λ (n : ℕ). slice_index (stack ++ slot ∷ []) n) e' ∙ last_on in
+                    subst (λ (n : ℕ). Path old n slot) (sym here) (record { rest = []; is_path = tt; ends = refl })
+              ])
+        ]
+
+    starts_more : (i : ℕ) → i < length (stack ++ slot ∷ []) → IsStart old (slice_index (stack ++ slot ∷ []) i)
+    starts_more i lt =
+        let long = length-append stack (slot ∷ []) in
+        elim (below_or i (omega (arith, long, lt))) [
+          | inl inside ↦ subst (λ (n : ℕ). IsStart old n) (sym (left_index i inside)) (at.starts i inside)
+          | inr e ↦ subst (λ (n : ℕ). IsStart old n) (sym (ap (λ (n : ℕ). slice_index (stack ++ slot ∷ []) n) e ∙ last_on)) start
+        ]
+
+    pub after_open : IsSearching maps old back origins places (slice_set opens slot true) (stack ++ slot ∷ [])
+    after_open = record { ordered = at.ordered; room = length-set opens slot true ∙ at.room; opened = opened_more; ways = ways_more; starts = starts_more }
+
+    pub open_now : is_open (slice_set opens slot true) slot ≡ true
+    open_now = get_or-set_same opens slot true false slot_inside
+
+    pub keeps_open : KeepsOpen opens (slice_set opens slot true)
+    keeps_open s begun = elim (equal_or_not s slot) [
+      | inl e ↦ ap (λ (n : ℕ). is_open (slice_set opens slot true) n) e ∙ open_now
+      | inr apart ↦ get_or-set_other opens slot s true false apart ∙ begun
+    ]
+
+    pub less_open : left_of (slice_set opens slot true) (stack ++ slot ∷ []) < left_of opens stack
+    less_open =
+        let sum = sum_by-set unopened opens slot true false slot_inside in
+        let one : unopened (get_or opens slot false) ≡ 1 = ap unopened new in
+        let long = length-append stack (slot ∷ []) in
+        omega (arith, sum, one, long)
+
+  module _ (top : IsTop stack slot) (ready : IsReady old places slot) (back' : List (Option Insn)) (origins' : List ℕ) (more : IsLengthened maps old back origins back' origins' slot) where
+    place : ℕ
+    place = length back' - 1
+
+    on_stack : slot < length places
+    on_stack =
+        let long = top.long in
+        let room = at.ordered.room in
+        let inside = start_inside old slot (subst (λ (n : ℕ). IsStart old n) top.slot_is (at.starts top.below (omega (arith, long)))) in
+        omega (arith, inside, room)
+
+    done_now : IsDone (slice_set places slot (Some place)) slot
+    done_now = (place, get_or-set_same places slot (Some place) None on_stack)
+
+    done_still : (s : ℕ) → IsDone places s → IsDone (slice_set places slot (Some place)) s
+    done_still s done = elim (equal_or_not s slot) [
+      | inl e ↦ subst (λ (n : ℕ). IsDone (slice_set places slot (Some place)) n) (sym e) done_now
+      | inr apart ↦ (done.0, get_or-set_other places slot s (Some place) None apart ∙ done.1)
+    ]
+
+    known_more : AreKnown back' origins' (slice_set places slot (Some place))
+    unfolding place
+    known_more s p e = elim (equal_or_not s slot) [
+      | inl same ↦
+          let is : place ≡ p = some_same _ place p (get_or-set_same places slot (Some place) None on_stack) (ap (λ (n : ℕ). place_at (slice_set places slot (Some place)) n) (sym same) ∙ e) in
+          let front = more.front in
+          let front_is = front.place_is in
+          let there : front.place ≡ p = omega (arith, front_is, is) in
+          subst (λ (n : ℕ). Stands back' origins' n s) there (subst (λ (n : ℕ). Stands back' origins' front.place n) (sym same) front.stands)
+      | inr apart ↦ more.keeps p s (at.ordered.known s p (sym (get_or-set_other places slot s (Some place) None apart) ∙ e))
+    ]
+
+    closed_more : AreClosed old (slice_set places slot (Some place))
+    closed_more from to done edge = elim (equal_or_not from slot) [
+      | inl e ↦ done_still to (ready to (subst (λ (n : ℕ). IsEdge old n to) e edge))
+      | inr apart ↦ done_still to (at.ordered.closed from to (done.0, sym (get_or-set_other places slot from (Some place) None apart) ∙ done.1) edge)
+    ]
+
+    taken_index : (i : ℕ) → i < length stack - 1 → slice_index (take (length stack - 1) stack) i ≡ slice_index stack i
+    taken_index i lt = get_or-take (length stack - 1) stack i 0 lt
+
+    taken_long : length (take (length stack - 1) stack) ≡ length stack - 1
+    taken_long = let least = length-take (length stack - 1) stack in omega (arith, least)
+
+    opened_less : (s : ℕ) → is_open opens s ≡ true → IsDone (slice_set places slot (Some place)) s ⊎ IsOn (take (length stack - 1) stack) s
+    opened_less s begun = elim (at.opened s begun) [
+      | inl done ↦ inl (done_still s done)
+      | inr on ↦
+          elim (equal_or_not on.index top.below) [
+            | inl e ↦
+                let same : s ≡ slot = sym on.slot_is ∙ (ap (λ (n : ℕ). slice_index stack n) e ∙ top.slot_is) in
+                inl (subst (λ (n : ℕ). IsDone (slice_set places slot (Some place)) n) (sym same) done_now)
+            | inr apart ↦
+                let inside = on.inside in
+                let long = top.long in
+                let lt : on.index < length stack - 1 = omega (arith, inside, long, apart) in
+                let taken = taken_long in
+                inr (record { index = on.index; inside = omega (arith, lt, taken); slot_is = taken_index on.index lt ∙ on.slot_is })
+          ]
+    ]
+
+    ways_less : (i j : ℕ) → i ≤ j → j < length (take (length stack - 1) stack) → Path old (slice_index (take (length stack - 1) stack) i) (slice_index (take (length stack - 1) stack) j)
+    ways_less i j le lt =
+        let taken = taken_long in
+        let lt' : j < length stack - 1 = omega (arith, lt, taken) in
+        subst (λ (n : ℕ). Path old n (slice_index (take (length stack - 1) stack) j)) (sym (taken_index i (omega (arith, le, lt'))))
+        (subst (λ (n : ℕ). Path old (slice_index stack i) n) (sym (taken_index j lt')) (at.ways i j le (omega (arith, lt'))))
+
+    starts_less : (i : ℕ) → i < length (take (length stack - 1) stack) → IsStart old (slice_index (take (length stack - 1) stack) i)
+    starts_less i lt =
+        let taken = taken_long in
+        let lt' : i < length stack - 1 = omega (arith, lt, taken) in
+        subst (λ (n : ℕ). IsStart old n) (sym (taken_index i lt')) (at.starts i (omega (arith, lt')))
+
+    pub after_leave : IsSearching maps old back' origins' (slice_set places slot (Some (length back' - 1))) opens (take (length stack - 1) stack)
+    unfolding place
+    after_leave = record {
+      ordered = record { built = more.built; known = known_more; closed = closed_more; room = length-set places slot (Some place) ∙ at.ordered.room };
+      room = at.room;
+      opened = opened_less;
+      ways = ways_less;
+      starts = starts_less;
+    }
+
+    pub less_leave : left_of opens (take (length stack - 1) stack) < left_of opens stack
+    less_leave = let taken = taken_long in let long = top.long in omega (arith, taken, long)
+
+-- before the first slot
+pub nothing_begun : (maps : ℕ) (old back : List (Option Insn)) (origins : List ℕ) (places : List (Option ℕ)) (opens : List Bool) (stack : List ℕ) →
+    IsBuilt maps old back origins → ((k : ℕ) → place_at places k ≡ None) → length places ≡ length old → ((k : ℕ) → is_open opens k ≡ false) → length opens ≡ length old → stack ≡ [] →
+    IsSearching maps old back origins places opens stack
+nothing_begun maps old back origins places opens stack built none room shut room' empty =
+    let short : length stack ≡ 0 = ap length empty in
+    record {
+      ordered = record {
+        built = built;
+        known = λ slot place e. absurd (some_none _ place e (none slot));
+        closed = λ from to done edge. absurd (some_none _ done.0 done.1 (none from));
+        room = room;
+      };
+      room = room';
+      opened = λ slot e. absurd (let never : true ≡ false = sym e ∙ shut slot in true_false never);
+      ways = λ i j le lt. absurd (omega (arith, lt, short));
+      starts = λ i lt. absurd (omega (arith, lt, short));
+    }
+  where
+    true_false : true ≡ false → ⊥
+    true_false e = cc
+
+-- at the end of the search all that was begun is done
+pub root_done : (places : List (Option ℕ)) (stack : List ℕ) (slot : ℕ) → IsDone places slot ⊎ IsOn stack slot → stack ≡ [] → IsDone places slot
+root_done places stack slot (inl done) empty = done
+root_done places stack slot (inr on) empty = let short : length stack ≡ 0 = ap length empty in let inside = on.inside in absurd (omega (arith, inside, short))

@@ -1,0 +1,23 @@
+use Rattle.std.proofs.Common.{◌≡◌, ◌<◌, arith, Some, inl, length}
+use Rattle.bq_graph.specs.Edges.{IsEdge, IsStart}
+use Rattle.bq_graph.proofs.EdgeLemmas.{start_inside}
+use Rattle.bq_import.specs.Search.{IsReady}
+use Rattle.bq_import.proofs.SearchLemmas.{lengthened_twice}
+use Rattle.bq_import.proofs.backward.Backward.+place.Goals as goal
+
+pub place-requires : goal.place-requires
+place-requires t c =
+    let next = c.in-Some-missing_front.next in
+    let is : c.targets-targets.result.next ≡ Some next = c.in-Some-missing_front.ensures.some in
+    let edge : IsEdge c.args.old.now c.args.slot next = c.targets-targets.ensures.out.only next (inl is) in
+    let start : IsStart c.args.old.now next = c.targets-targets.ensures.starts next (inl is) in
+    let later : c.args.slot < next = c.targets-targets.ensures.later next is in
+    let inside : next < length c.args.old.now = start_inside c.args.old.now next start in
+    let ready : IsReady c.args.old.now c.args.places.now next = λ to e. c.requires.closed next to (c.requires.ready next edge) e in
+    (omega (arith, later, inside), (c.requires.built, (c.requires.linked, (c.requires.known, (c.requires.closed, (c.requires.few, (start, ready)))))))
+
+pub put-requires-2-clause-known : goal.put-requires-2-clause-known
+put-requires-2-clause-known t c = λ slot place e. c.in_ok-place.ensures.ok.keeps place slot (c.requires.known slot place e)
+
+pub returns-clause-ok : goal.returns-clause-ok
+returns-clause-ok t c = lengthened_twice _ _ _ _ _ _ _ _ _ _ c.in_ok-place.ensures.ok c.in_ok-put.ensures.ok

@@ -1,0 +1,10 @@
+use Rattle.std.proofs.Common.{◌≡◌, true}
+use Rattle.bq_import.specs.Search.{is_open, left_of}
+use Rattle.bq_import.specs.Searching.{IsAt}
+use Rattle.bq_import.proofs.search.Search.visit.Given as goal
+
+abbrev pub invariant-loop-slot : goal.invariant-loop-slot
+invariant-loop-slot l = IsAt l.maps l.old l.self × (is_open l.self.opens.items l.root ≡ true)
+
+abbrev pub decreases-loop-slot : goal.decreases-loop-slot
+decreases-loop-slot l = left_of l.self.opens.items l.self.stack.items

@@ -1,0 +1,55 @@
+-- When one program is a copy of another: its instructions stand in another order, some of them several times, and each
+-- goes on to copies of where its original goes on to.
+use Rattle.std.specs.Prelude.{◌≡◌, ℕ, ◌+◌, ◌-◌, ◌<◌, ℤ, pos, Bool, true, false, ◌&&◌, nat_lt, nat_le, List, Option, Some, slice_index}
+use Rattle.bq_insn.specs.declared.Insn.{Insn}
+use Rattle.bq_insn.specs.declared.Insn.TheVariants.{Imm64, MapRef, Goto, Goto32, Branch}
+use Rattle.bq_insn.specs.Slots.{slots_of}
+use Rattle.bq_maps.specs.Memory.{reference}
+use Rattle.bq_maps.specs.Machine.{LeadsTo, instruction_at}
+use Rattle.bq_graph.specs.Edges.{distance_of, goes_on, IsStart}
+
+-- a number that is the reference of one of so many maps
+abbrev pub is_reference : ℕ → ℕ → Bool
+is_reference maps value = nat_le (reference 0) value && nat_lt value (reference maps)
+
+-- a wide number, as the reference of a map where it is one
+abbrev pub wide_copy : Bool → ℕ → ℕ → Insn
+wide_copy true dst value = MapRef dst (pos (value - reference 0))
+wide_copy false dst value = Imm64 dst value
+
+-- the same instruction, beside so many maps, with this distance if it jumps
+abbrev pub copied : ℕ → Insn → ℤ → Insn
+copied maps (Goto off) distance = Goto distance
+copied maps (Goto32 imm) distance = Goto32 distance
+copied maps (Branch w c dst src off) distance = Branch w c dst src distance
+copied maps (Imm64 dst value) distance = wide_copy (is_reference maps value) dst value
+copied maps insn distance = insn
+
+-- the slot of the new program is a copy of that slot of the old one
+pub record Stands (new : List (Option Insn)) (origin : List ℕ) (slot from : ℕ) : Type 0 where
+  pub start : IsStart new slot
+  pub origin_is : slice_index origin slot ≡ from
+
+-- both jumps lead somewhere, the copy on to a later slot that is a copy of where the original leads
+pub record JumpsAlike (new : List (Option Insn)) (origin : List ℕ) (from slot : ℕ) (far near : ℤ) : Type 0 where
+  pub target : ℕ
+  pub landing : ℕ
+  pub leads : LeadsTo from far target
+  pub lands : LeadsTo slot near landing
+  pub later : slot < landing
+  pub stands : Stands new origin landing target
+
+-- the instruction at the slot is a copy of the original at that slot, and goes on to copies of where that goes on to
+pub record IsCopyAt (maps : ℕ) (old new : List (Option Insn)) (origin : List ℕ) (slot from : ℕ) : Type 0 where
+  pub original : Insn
+  pub distance : ℤ
+  pub here : instruction_at old from ≡ Some original
+  pub copy : instruction_at new slot ≡ Some (copied maps original distance)
+  pub on : goes_on original ≡ true → Stands new origin (slot + slots_of original) (from + slots_of original)
+  pub jumps : (far : ℤ) → distance_of original ≡ Some far → JumpsAlike new origin from slot far distance
+
+-- the new program is a copy of the old one, beside so many maps, in which each jump goes forward; the list has the old slot of
+-- each new one
+pub record IsCopy (maps : ℕ) (old new : List (Option Insn)) (origin : List ℕ) : Type 0 where
+  pub first : Stands new origin 0 0
+  pub each : (slot from : ℕ) → Stands new origin slot from → IsCopyAt maps old new origin slot from

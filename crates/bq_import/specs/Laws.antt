@@ -1,0 +1,40 @@
+-- Laws of copies: a copy has the same runs, is safe within the same budgets, and has the same longest path.
+use Rattle.std.specs.Prelude.{◌≡◌, ℕ, ◌↔◌, List, Option, length}
+use Rattle.bq_insn.specs.declared.Insn.{Insn}
+use Rattle.bq_maps.specs.declared.shape.MapShape.{MapShape}
+use Rattle.bq_maps.specs.declared.board.Call.{Call as Asked}
+use Rattle.bq_maps.specs.Memory.{Setting}
+use Rattle.bq_maps.specs.Machine.{RunFrom, Safe, start}
+use Rattle.bq_graph.specs.Edges.{IsForward}
+use Rattle.bq_graph.specs.Paths.{IsGreatest, PathOut}
+use Rattle.bq_graph.specs.Faults.{IsBadJump, RunsOut}
+use Rattle.bq_import.specs.Copies.{IsCopy}
+
+-- the setting with another program
+abbrev pub beside : Setting → List (Option Insn) → Setting
+beside f slots = record f { slots = slots }
+
+-- what a run of the one gives, a run of the other gives, in as many steps, with the same calls of counters
+abbrev pub SameRuns : Type 0
+SameRuns =
+    (maps : ℕ) (old new : List (Option Insn)) (origin : List ℕ) → IsCopy maps old new origin →
+    (f : Setting) (contents : List (List ℕ)) (n : ℕ) (calls : List Asked) (answer : ℕ) (after : List (List ℕ)) → length f.shapes ≡ maps →
+    RunFrom (beside f old) (start contents) n calls answer after ↔ RunFrom (beside f new) (start contents) n calls answer after
+
+-- the one is safe within a budget where the other is
+abbrev pub SameSafety : Type 0
+SameSafety =
+    (maps : ℕ) (old new : List (Option Insn)) (origin : List ℕ) → IsCopy maps old new origin →
+    (shapes : List MapShape) (context budget : ℕ) → length shapes ≡ maps → Safe old shapes context budget ↔ Safe new shapes context budget
+
+-- the longest path of the one has as many instructions as that of the other
+abbrev pub SameBudget : Type 0
+SameBudget =
+    (maps : ℕ) (old new : List (Option Insn)) (origin : List ℕ) → IsCopy maps old new origin →
+    (budget : ℕ) → IsGreatest (PathOut old 0) budget ↔ IsGreatest (PathOut new 0) budget
+
+-- each jump of a copy goes to a later instruction, and none of its instructions goes on past the end
+abbrev pub GoesForward : Type 0
+GoesForward =
+    (maps : ℕ) (old new : List (Option Insn)) (origin : List ℕ) → IsCopy maps old new origin →
+    IsForward new × ((slot : ℕ) → IsBadJump new slot → ⊥) × ((slot : ℕ) → RunsOut new slot → ⊥)

@@ -1,0 +1,107 @@
+-- What the search keeps that puts each slot in front once all slots are in place to which control may go from it.
+use Rattle.std.specs.Prelude.{◌≡◌, ℕ, ◌+◌, ◌*◌, ◌<◌, ◌≤◌, ◌⊎◌, Bool, true, false, ℤ, pos, List, length, Option, Some, None, slice_index, slice_index_or, sum_by}
+use Rattle.bq_insn.specs.declared.Insn.{Insn}
+use Rattle.bq_maps.specs.Machine.{LeadsTo, instruction_at}
+use Rattle.bq_insn.specs.Slots.{slots_of}
+use Rattle.bq_graph.specs.Edges.{distance_of, goes_on, IsEdge, IsStart}
+use Rattle.bq_graph.specs.Paths.{Path}
+use Rattle.bq_graph.specs.Passes.{LeadsOut, IsOf}
+use Rattle.bq_graph.specs.declared.edges.Targets.{Targets}
+use Rattle.bq_import.specs.Copies.{Stands}
+use Rattle.bq_import.specs.Backward.{AreGood, IsBuilt}
+
+-- from each instruction control goes to instructions alone
+abbrev pub LeadsWell : List (Option Insn) → ℕ → Insn → Type 0
+LeadsWell slots slot insn =
+    (goes_on insn ≡ true → IsStart slots (slot + slots_of insn))
+    × ((far : ℤ) → distance_of insn ≡ Some far → (to : ℕ) × LeadsTo slot far to × IsStart slots to)
+
+-- whatever instruction stands at the slot, control goes from it to instructions alone
+abbrev pub WellAt : List (Option Insn) → ℕ → Type 0
+WellAt slots slot = (insn : Insn) → instruction_at slots slot ≡ Some insn → LeadsWell slots slot insn
+
+pub record IsLinked (slots : List (Option Insn)) : Type 0 where
+  pub good : AreGood slots
+  pub short : length slots ≤ 4096
+  pub leads : (slot : ℕ) → WellAt slots slot
+
+-- where control may go from the instruction: on, and where it jumps to
+pub record AreTargets (slots : List (Option Insn)) (slot : ℕ) (insn : Insn) (targets : Targets) : Type 0 where
+  pub out : LeadsOut slots slot targets
+  pub next : goes_on insn ≡ true → targets.next ≡ Some (slot + slots_of insn)
+  pub jump : (far : ℤ) → distance_of insn ≡ Some far → (to : ℕ) × LeadsTo slot far to × (targets.jump ≡ Some to)
+  pub starts : (to : ℕ) → IsOf targets to → IsStart slots to
+  pub later : (to : ℕ) → targets.next ≡ Some to → slot < to
+
+abbrev pub place_at : List (Option ℕ) → ℕ → Option ℕ
+place_at places slot = slice_index_or places slot None
+
+-- a copy of the slot stands somewhere
+abbrev pub IsDone : List (Option ℕ) → ℕ → Type 0
+IsDone places slot = (place : ℕ) × (place_at places slot ≡ Some place)
+
+-- each place is that of a copy
+abbrev pub AreKnown : List (Option Insn) → List ℕ → List (Option ℕ) → Type 0
+AreKnown back origins places = (slot place : ℕ) → place_at places slot ≡ Some place → Stands back origins place slot
+
+-- where control goes from what is in place, that is in place too
+abbrev pub AreClosed : List (Option Insn) → List (Option ℕ) → Type 0
+AreClosed old places = (from to : ℕ) → IsDone places from → IsEdge old from to → IsDone places to
+
+-- a jump in front of the copy so far that goes on over this number of slots goes to a copy of that slot
+pub record JumpsTo (back : List (Option Insn)) (origins : List ℕ) (distance : ℤ) (to : ℕ) : Type 0 where
+  pub landing : ℕ
+  pub apart : ℕ
+  pub distance_is : distance ≡ pos apart
+  pub long : length back ≡ landing + 1 + apart
+  pub stands : Stands back origins landing to
+
+-- all to which control may go from the slot is in place
+abbrev pub IsReady : List (Option Insn) → List (Option ℕ) → ℕ → Type 0
+IsReady old places slot = (to : ℕ) → IsEdge old slot to → IsDone places to
+
+-- the copy so far, and the places in it
+pub record IsOrdered (maps : ℕ) (old back : List (Option Insn)) (origins : List ℕ) (places : List (Option ℕ)) : Type 0 where
+  pub built : IsBuilt maps old back origins
+  pub known : AreKnown back origins places
+  pub closed : AreClosed old places
+  pub room : length places ≡ length old
+
+-- what was in place is so still
+abbrev pub KeepsDone : List (Option ℕ) → List (Option ℕ) → Type 0
+KeepsDone before after = (slot : ℕ) → IsDone before slot → IsDone after slot
+
+abbrev pub is_open : List Bool → ℕ → Bool
+is_open opens slot = slice_index_or opens slot false
+
+-- the slot stands on the stack
+pub record IsOn (stack : List ℕ) (slot : ℕ) : Type 0 where
+  pub index : ℕ
+  pub inside : index < length stack
+  pub slot_is : slice_index stack index ≡ slot
+
+-- the slot stands on top of the stack
+pub record IsTop (stack : List ℕ) (slot : ℕ) : Type 0 where
+  pub below : ℕ
+  pub long : length stack ≡ below + 1
+  pub slot_is : slice_index stack below ≡ slot
+
+-- the stack is a path of slots that were opened and are not done
+pub record IsSearching (maps : ℕ) (old back : List (Option Insn)) (origins : List ℕ) (places : List (Option ℕ)) (opens : List Bool) (stack : List ℕ) : Type 0 where
+  pub ordered : IsOrdered maps old back origins places
+  pub room : length opens ≡ length old
+  pub opened : (slot : ℕ) → is_open opens slot ≡ true → IsDone places slot ⊎ IsOn stack slot
+  pub ways : (i j : ℕ) → i ≤ j → j < length stack → Path old (slice_index stack i) (slice_index stack j)
+  pub starts : (i : ℕ) → i < length stack → IsStart old (slice_index stack i)
+
+abbrev pub KeepsOpen : List Bool → List Bool → Type 0
+KeepsOpen before after = (slot : ℕ) → is_open before slot ≡ true → is_open after slot ≡ true
+
+-- 1 where the slot was not begun
+abbrev pub unopened : Bool → ℕ
+unopened true = 0
+unopened false = 1
+
+-- how much is left to do
+abbrev pub left_of : List Bool → List ℕ → ℕ
+left_of opens stack = 2 * sum_by unopened opens + length stack

@@ -1,0 +1,19 @@
+-- A search on its way, and one that has come to its end.
+use Rattle.std.specs.Prelude.{◌≡◌, ℕ, ◌<◌, [], List, Option}
+use Rattle.bq_insn.specs.declared.Insn.{Insn}
+use Rattle.bq_import.specs.declared.search.Search.{Search}
+use Rattle.bq_import.specs.Search.{IsSearching, KeepsOpen, left_of}
+
+abbrev pub IsAt : ℕ → List (Option Insn) → Search → Type 0
+IsAt maps old search = IsSearching maps old search.copy.slots.items search.copy.origins.items search.places.items search.opens.items search.stack.items
+
+-- nothing is left that was begun
+pub record IsDoneWith (maps : ℕ) (old : List (Option Insn)) (search : Search) : Type 0 where
+  pub at : IsAt maps old search
+  pub none : search.stack.items ≡ []
+
+-- the search went on by one slot
+pub record WentOn (maps : ℕ) (old : List (Option Insn)) (before after : Search) : Type 0 where
+  pub at : IsAt maps old after
+  pub keeps : KeepsOpen before.opens.items after.opens.items
+  pub less : left_of after.opens.items after.stack.items < left_of before.opens.items before.stack.items

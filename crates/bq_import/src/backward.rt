@@ -1,0 +1,138 @@
+//! A copy of a program, written from its end: what is written is never moved, so that a jump's distance is known at once.
+ghost use Rattle.std.specs.Prelude.{◌≡◌, ◌<◌, ◌≤◌, ◌+◌, ◌-◌, ◌++◌, [], ◌∷◌, ℕ, ℤ, List, pos, true, length, replicate, reverse, OnOk, IfOk, IfErr, IfSome, IfNone, Option, Some, None};
+ghost use Rattle.bq_insn.specs.Slots.{slots_of, spread};
+ghost use Rattle.bq_insn.specs.Spelling.{is_insn};
+ghost use Rattle.bq_insn.specs.Laws.{Fits};
+ghost use Rattle.bq_insn.specs.declared.Insn.{Insn};
+ghost use Rattle.bq_import.specs.Copies.{copied, is_reference, wide_copy};
+ghost use Rattle.bq_import.specs.Backward.{AreGood, IsBuilt, IsFront, IsLengthened, MayStand};
+ghost use Rattle.bq_import.specs.Faults.{IsFull};
+
+use crate::fault::Disorder;
+use bq_insn::Insn;
+use std::alloc::Global;
+
+/// The most slots of a program.
+const MOST: usize = 4096;
+
+/// The reference of map 0; that of map `k` is `k` more.
+const FIRST_REFERENCE: u64 = 0x4000_0000_0000;
+
+/// A copy from its last slot to its first, and the slot of the original that each slot is a copy of.
+#[derive(Drop)]
+pub struct Backward {
+    pub slots: Vec<Option<Insn>>,
+    pub origins: Vec<usize>,
+}
+
+impl Backward {
+    /// The copy of nothing.
+    pub fn new(alloc: Global) -> Backward
+        ensures { (maps : ℕ) (old : List (Option Insn)) → IsBuilt maps old result.slots.items result.origins.items }
+    {
+        Backward {
+            slots: Vec::new(alloc),
+            origins: Vec::new(alloc),
+        }
+    }
+
+    /// Puts a copy of the instruction at slot `from` in front, with this distance if it jumps.
+    pub fn push(
+        &mut self,
+        old: &[Option<Insn>],
+        maps: usize,
+        from: usize,
+        insn: Insn,
+        distance: i16,
+    ) -> Result<(), Disorder>
+        requires built { IsBuilt maps old.now self.old.slots.items self.old.origins.items }
+        requires good { AreGood old.now }
+        requires few { maps ≤ 8 }
+        requires inside { from < 4096 }
+        requires may { MayStand old.now self.old.slots.items self.old.origins.items from insn distance }
+        ensures ok { OnOk result (IsLengthened maps old.now self.old.slots.items self.old.origins.items self.new.slots.items self.new.origins.items from) }
+        ensures full { IfErr result IsFull }
+    {
+        if self.slots.len() + insn.slots() > MOST {
+            return Err(Disorder::Long);
+        }
+        self.push_rest(insn, from)?;
+        self.push_first(copied(insn, distance, maps), from)?;
+        Ok(())
+    }
+
+    /// The first slot.
+    fn push_first(&mut self, copy: Insn, from: usize) -> Result<(), Disorder>
+        ensures slots { OnOk result (self.new.slots.items ≡ self.old.slots.items ++ (Some copy ∷ [])) }
+        ensures origins { OnOk result (self.new.origins.items ≡ self.old.origins.items ++ (from ∷ [])) }
+        ensures full { IfErr result IsFull }
+    {
+        self.slots.push(Some(copy))?;
+        self.origins.push(from)?;
+        Ok(())
+    }
+
+    /// The second slot, where the instruction has one.
+    fn push_rest(&mut self, insn: Insn, from: usize) -> Result<(), Disorder>
+        requires inside { from < 4096 }
+        ensures slots { OnOk result (self.new.slots.items ≡ self.old.slots.items ++ replicate (slots_of insn - 1) None) }
+        ensures origins { OnOk result (self.new.origins.items ≡ self.old.origins.items ++ replicate (slots_of insn - 1) (from + 1)) }
+        ensures full { IfErr result IsFull }
+    {
+        if insn.slots() == 2 {
+            self.slots.push(None)?;
+            self.origins.push(from + 1)?;
+        }
+        Ok(())
+    }
+
+    /// The slot of which the first instruction so far is a copy.
+    pub fn front(&self) -> Option<usize>
+        requires { (maps : ℕ) × (old : List (Option Insn)) × IsBuilt maps old self.now.slots.items self.now.origins.items }
+        ensures { IfSome result (IsFront self.now.slots.items self.now.origins.items) }
+    {
+        self.origins.last().copied()
+    }
+}
+
+/// The same instruction, beside so many maps, with this distance if it jumps.
+fn copied(insn: Insn, distance: i16, maps: usize) -> Insn
+    requires { maps ≤ 8 }
+    ensures { result ≡ copied maps insn distance }
+{
+    match insn {
+        Insn::Goto { .. } => Insn::Goto { off: distance },
+        Insn::Goto32 { .. } => Insn::Goto32 {
+            imm: i32::from(distance),
+        },
+        Insn::Branch {
+            width,
+            cond,
+            dst,
+            src,
+            ..
+        } => Insn::Branch {
+            width,
+            cond,
+            dst,
+            src,
+            off: distance,
+        },
+        Insn::Imm64 { dst, value } => wide_copy(dst, value, maps),
+        _ => insn,
+    }
+}
+
+/// A wide number, as the reference of a map where it is one.
+fn wide_copy(dst: u8, value: u64, maps: usize) -> Insn
+    requires { maps ≤ 8 }
+    ensures { result ≡ wide_copy (is_reference maps value) dst value }
+{
+    if value >= FIRST_REFERENCE && value < FIRST_REFERENCE + maps as u64 {
+        return Insn::MapRef {
+            dst,
+            index: (value - FIRST_REFERENCE) as i32,
+        };
+    }
+    Insn::Imm64 { dst, value }
+}

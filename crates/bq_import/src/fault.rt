@@ -1,0 +1,46 @@
+//! Why a program cannot be brought into order.
+
+use std::alloc::{AllocError, AllocFailed};
+use thiserror::Error;
+
+/// Why a program has no copy in which each jump goes forward, or none that fits.
+#[derive(Clone, Copy, Debug, PartialEq, Eq, Error)]
+pub enum Disorder {
+    /// The jump at this slot leads to where no instruction begins.
+    #[error("slot {slot}: a jump out of the program")]
+    Outside { slot: usize },
+    /// Control goes on past the end from this slot.
+    #[error("slot {slot}: control goes on past the end; end the function with a return")]
+    Ends { slot: usize },
+    /// Control goes from the first slot to the second, and from there back to the first.
+    #[error("slots {from} and {to}: a loop, by the jump from {from} to {to}; unroll it")]
+    Loop { from: usize, to: usize },
+    /// The copies take more than 4096 slots.
+    #[error("the program takes more than 4096 slots once every jump goes forward; make it shorter")]
+    Long,
+    /// A growth was refused.
+    #[error("out of memory")]
+    OutOfMemory,
+}
+
+impl<T: Drop> From<AllocFailed<T>> for Disorder {
+    ghost use Rattle.std.specs.Prelude.{◌≡◌};
+    ghost use Rattle.bq_import.specs.declared.fault.Disorder.TheVariants.{OutOfMemory};
+
+    ghost from_gives = { λ _ e. e ≡ OutOfMemory };
+
+    fn from(_e: AllocFailed<T>) -> Disorder {
+        Disorder::OutOfMemory
+    }
+}
+
+impl From<AllocError> for Disorder {
+    ghost use Rattle.std.specs.Prelude.{◌≡◌};
+    ghost use Rattle.bq_import.specs.declared.fault.Disorder.TheVariants.{OutOfMemory};
+
+    ghost from_gives = { λ _ e. e ≡ OutOfMemory };
+
+    fn from(_e: AllocError) -> Disorder {
+        Disorder::OutOfMemory
+    }
+}

@@ -1,0 +1,84 @@
+//! Where jumps lead, of those that control may come to. It decides how good an order is, not whether it is right.
+ghost use Rattle.std.specs.Prelude.{◌≡◌, ◌<◌, length};
+ghost use Rattle.bq_import.specs.Search.{IsLinked};
+
+use crate::linked::targets;
+use bq_graph::edges::{Targets, instruction};
+use bq_insn::Insn;
+use std::alloc::{AllocError, Global};
+
+/// A walk over all slots that control may come to.
+#[derive(Drop)]
+struct Walk {
+    /// Whether a jump leads to the slot.
+    landings: Vec<bool>,
+    /// Whether the slot was queued.
+    seen: Vec<bool>,
+    /// The slots that control may come to, as far as they were found.
+    queue: Vec<usize>,
+}
+
+/// Marks the slots that jumps lead to from where control may come.
+pub fn landings(alloc: Global, slots: &[Option<Insn>]) -> Result<Vec<bool>, AllocError>
+    requires { IsLinked slots.now }
+{
+    let mut walk = Walk {
+        landings: vec![in alloc; false; slots.len()]?,
+        seen: vec![in alloc; false; slots.len()]?,
+        queue: Vec::new(alloc),
+    };
+    walk.find(Some(0))?;
+    for index in 0..slots.len() {
+        let Some(slot) = walk.queue.get(index).copied() else {
+            return Ok(walk.landings);
+        };
+        let targets = targets_of(slots, slot);
+        walk.land(targets.jump);
+        walk.find(targets.jump)?;
+        walk.find(targets.next)?;
+    }
+    Ok(walk.landings)
+}
+
+impl Walk {
+    /// Queues the slot, unless it was.
+    fn find(&mut self, slot: Option<usize>) -> Result<(), AllocError> {
+        let Some(slot) = slot else {
+            return Ok(());
+        };
+        if slot >= self.seen.len() || self.seen[slot] {
+            return Ok(());
+        }
+        self.seen[slot] = true;
+        self.queue.push(slot)?;
+        Ok(())
+    }
+
+    /// Marks the slot, if there is one.
+    fn land(&mut self, slot: Option<usize>) {
+        let Some(slot) = slot else {
+            return;
+        };
+        if slot < self.landings.len() {
+            self.landings[slot] = true;
+        }
+    }
+}
+
+/// Where control may go from the slot; nowhere where no instruction begins there.
+fn targets_of(slots: &[Option<Insn>], slot: usize) -> Targets
+    requires { IsLinked slots.now }
+{
+    if slot >= slots.len() {
+        return NOWHERE;
+    }
+    let Some(insn) = instruction(slots, slot) else {
+        return NOWHERE;
+    };
+    targets(slots, slot, insn)
+}
+
+const NOWHERE: Targets = Targets {
+    next: None,
+    jump: None,
+};

@@ -1,0 +1,145 @@
+//! A program in an order in which every jump goes forward.
+ghost use Rattle.std.specs.Prelude.{◌≡◌, ◌≤◌, ◌<◌, ℕ, List, Option, length, true, reverse, OnOk, IfOk, IfErr};
+ghost use Rattle.bq_insn.specs.declared.Insn.{Insn};
+ghost use Rattle.bq_insn.specs.Slots.{spread};
+ghost use Rattle.bq_insn.specs.Spelling.{is_well_formed};
+ghost use Rattle.bq_insn.specs.Laws.{AllFit};
+ghost use Rattle.bq_graph.specs.Edges.{IsStart};
+ghost use Rattle.bq_import.specs.Copies.{IsCopy};
+ghost use Rattle.bq_import.specs.Backward.{IsBuilt, IsFront, insns_of};
+ghost use Rattle.bq_import.specs.Faults.{IsDisorder, IsFull};
+ghost use Rattle.bq_import.specs.Search.{IsDone, IsLinked};
+ghost use Rattle.bq_import.specs.Searching.{IsDoneWith};
+
+use crate::backward::Backward;
+use crate::fault::Disorder;
+use crate::landings::landings;
+use crate::linked::check;
+use crate::search::Search;
+use bq_graph::edges::instruction;
+use bq_graph::layout::lay_out;
+use bq_insn::Insn;
+use std::alloc::{AllocError, Global};
+
+/// A program in order.
+#[derive(Drop)]
+pub struct Ordered {
+    /// Its instructions.
+    pub insns: Vec<Insn>,
+    /// For each of its slots the slot of the program as it was.
+    pub origins: Vec<usize>,
+}
+
+/// The program, beside so many maps, in an order in which each jump goes forward: a copy, by `IsCopy`, with the same runs,
+/// step for step (see `laws`).
+///
+/// An instruction may stand several times, where control comes to it from several sides: its original is told for each slot.
+/// Instructions that control never comes to are left out. A wide number that is the reference of a map is that reference.
+/// Where there is no such order the answer is a loop, by its two slots.
+pub fn order(alloc: Global, insns: &[Insn], maps: usize) -> Result<Ordered, Disorder>
+    requires whole { is_well_formed insns.now ≡ true }
+    requires numbers { AllFit insns.now }
+    requires few { maps ≤ 8 }
+    ensures copy { IfOk result (λ ordered. IsCopy maps (spread insns.now) (spread ordered.insns.items) ordered.origins.items) }
+    ensures well_formed { IfOk result (λ ordered. is_well_formed ordered.insns.items ≡ true) }
+    ensures numbers { IfOk result (λ ordered. AllFit ordered.insns.items) }
+    ensures disorder { IfErr result (IsDisorder (spread insns.now)) }
+{
+    let slots = lay_out(alloc, insns)?;
+    order_slots(alloc, slots.as_slice(), maps)
+}
+
+/// The same, of the program's slots.
+fn order_slots(alloc: Global, slots: &[Option<Insn>], maps: usize) -> Result<Ordered, Disorder>
+    requires program { (insns : List Insn) × (slots.now ≡ spread insns) × (is_well_formed insns ≡ true) × AllFit insns }
+    requires few { maps ≤ 8 }
+    ensures copy { IfOk result (λ ordered. IsCopy maps slots.now (spread ordered.insns.items) ordered.origins.items) }
+    ensures well_formed { IfOk result (λ ordered. is_well_formed ordered.insns.items ≡ true) }
+    ensures numbers { IfOk result (λ ordered. AllFit ordered.insns.items) }
+    ensures disorder { IfErr result (IsDisorder slots.now) }
+{
+    check(slots)?;
+    let landings = landings(alloc, slots)?;
+    let mut search = Search::new(alloc, slots)?;
+    search.run(slots, maps, landings.as_slice())?;
+    let ordered = turned(alloc, &search.copy)?;
+    Ok(ordered)
+}
+
+impl Search {
+    /// Puts all in place: what jumps lead to, from the last to the first, and then the first instruction in front.
+    fn run(&mut self, old: &[Option<Insn>], maps: usize, landings: &[bool]) -> Result<(), Disorder>
+        requires linked { IsLinked old.now }
+        requires few { maps ≤ 8 }
+        requires first { IsStart old.now 0 }
+        requires done { IsDoneWith maps old.now self.old }
+        ensures built { OnOk result (IsBuilt maps old.now self.new.copy.slots.items self.new.copy.origins.items) }
+        ensures front { OnOk result (IsFront self.new.copy.slots.items self.new.copy.origins.items 0) }
+        ensures err { IfErr result (IsDisorder old.now) }
+    {
+        for slot in (0..old.len()).rev() {
+            self.visit_landing(old, maps, landings, slot)?;
+        }
+        self.visit(old, maps, 0)?;
+        self.begin_with_first(old, maps)
+    }
+
+    /// Puts the slot in place, if a jump leads there.
+    fn visit_landing(
+        &mut self,
+        old: &[Option<Insn>],
+        maps: usize,
+        landings: &[bool],
+        slot: usize,
+    ) -> Result<(), Disorder>
+        requires inside { slot < length old.now }
+        requires linked { IsLinked old.now }
+        requires few { maps ≤ 8 }
+        requires done { IsDoneWith maps old.now self.old }
+        ensures ok { OnOk result (IsDoneWith maps old.now self.new) }
+        ensures err { IfErr result (IsDisorder old.now) }
+    {
+        if slot >= landings.len() || !landings[slot] {
+            return Ok(());
+        }
+        let Some(_) = instruction(old, slot) else {
+            return Ok(());
+        };
+        self.visit(old, maps, slot)
+    }
+
+    /// Puts the first instruction in front, once more if it stands elsewhere.
+    fn begin_with_first(&mut self, old: &[Option<Insn>], maps: usize) -> Result<(), Disorder>
+        requires linked { IsLinked old.now }
+        requires few { maps ≤ 8 }
+        requires first { IsStart old.now 0 }
+        requires at { IsDoneWith maps old.now self.old }
+        requires done { IsDone self.old.places.items 0 }
+        ensures built { OnOk result (IsBuilt maps old.now self.new.copy.slots.items self.new.copy.origins.items) }
+        ensures front { OnOk result (IsFront self.new.copy.slots.items self.new.copy.origins.items 0) }
+        ensures full { IfErr result IsFull }
+    {
+        let Some(_) = self.copy.missing_front(Some(0)) else {
+            return Ok(());
+        };
+        self.copy.place(old, maps, self.places.as_slice(), 0)?;
+        Ok(())
+    }
+}
+
+/// The copy from its start to its end.
+fn turned(alloc: Global, copy: &Backward) -> Result<Ordered, AllocError>
+    ensures insns { IfOk result (λ ordered. ordered.insns.items ≡ insns_of copy.now.slots.items) }
+    ensures origins { IfOk result (λ ordered. ordered.origins.items ≡ reverse copy.now.origins.items) }
+{
+    Ok(Ordered {
+        insns: copy
+            .slots
+            .iter()
+            .rev()
+            .copied()
+            .filter_map(|slot| slot)
+            .collect(alloc)?,
+        origins: copy.origins.iter().rev().copied().collect(alloc)?,
+    })
+}

@@ -1,0 +1,112 @@
+//! Putting an instruction in front, once everything to which control may go from it is in place.
+ghost use Rattle.std.specs.Prelude.{◌≡◌, ◌<◌, ◌≤◌, ◌+◌, ℕ, List, Option, pos, length, OnOk, IfErr, IfSome, IfNone, Some, None};
+ghost use Rattle.bq_insn.specs.declared.Insn.{Insn};
+ghost use Rattle.bq_maps.specs.Machine.{instruction_at};
+ghost use Rattle.bq_graph.specs.Edges.{IsStart};
+ghost use Rattle.bq_import.specs.Copies.{Stands};
+ghost use Rattle.bq_import.specs.Backward.{AreGood, IsBuilt, IsFront, IsLengthened};
+ghost use Rattle.bq_import.specs.Faults.{IsFull};
+ghost use Rattle.bq_import.specs.Search.{AreClosed, AreTargets, AreKnown, IsDone, IsLinked, IsReady, JumpsTo, place_at};
+
+use crate::backward::Backward;
+use crate::fault::Disorder;
+use crate::linked::targets;
+use bq_graph::edges::{Targets, instruction};
+use bq_insn::Insn;
+
+impl Backward {
+    /// What has to stand in front of the next instruction and does not.
+    pub fn missing_front(&self, next: Option<usize>) -> Option<usize>
+        requires { (maps : ℕ) × (old : List (Option Insn)) × IsBuilt maps old self.now.slots.items self.now.origins.items }
+        ensures some { IfSome result (λ n. next ≡ Some n) }
+        ensures none { IfNone result ((n : ℕ) → next ≡ Some n → IsFront self.now.slots.items self.now.origins.items n) }
+    {
+        let next = next?;
+        let Some(front) = self.front() else {
+            return Some(next);
+        };
+        if front == next { None } else { Some(next) }
+    }
+
+    /// How far it is from the next instruction to the copy of its target; 0 where there is no target.
+    fn distance(&self, places: &[Option<usize>], jump: Option<usize>) -> i16
+        requires short { length self.now.slots.items ≤ 4096 }
+        requires known { AreKnown self.now.slots.items self.now.origins.items places.now }
+        requires done { (to : ℕ) → jump ≡ Some to → IsDone places.now to }
+        ensures { IfSome jump (JumpsTo self.now.slots.items self.now.origins.items result) }
+    {
+        let Some(to) = jump else {
+            return 0;
+        };
+        let Some(place) = place_at(places, to) else {
+            unreachable!()
+        };
+        (self.slots.len() - place - 1) as i16
+    }
+
+    /// Puts a copy of the instruction in front, where what it goes on to stands there.
+    fn put(
+        &mut self,
+        old: &[Option<Insn>],
+        maps: usize,
+        places: &[Option<usize>],
+        slot: usize,
+        insn: Insn,
+        targets: Targets,
+    ) -> Result<(), Disorder>
+        requires built { IsBuilt maps old.now self.old.slots.items self.old.origins.items }
+        requires linked { IsLinked old.now }
+        requires known { AreKnown self.old.slots.items self.old.origins.items places.now }
+        requires few { maps ≤ 8 }
+        requires here { instruction_at old.now slot ≡ Some insn }
+        requires targets { AreTargets old.now slot insn targets }
+        requires ready { IsReady old.now places.now slot }
+        requires front { (n : ℕ) → targets.next ≡ Some n → IsFront self.old.slots.items self.old.origins.items n }
+        ensures ok { OnOk result (IsLengthened maps old.now self.old.slots.items self.old.origins.items self.new.slots.items self.new.origins.items slot) }
+        ensures full { IfErr result IsFull }
+    {
+        let distance = self.distance(places, targets.jump);
+        self.push(old, maps, slot, insn, distance)
+    }
+
+    /// Puts a copy of the instruction at the slot in front, and behind it copies of what it goes on to, where those do not
+    /// stand there.
+    pub fn place(
+        &mut self,
+        old: &[Option<Insn>],
+        maps: usize,
+        places: &[Option<usize>],
+        slot: usize,
+    ) -> Result<(), Disorder>
+        requires built { IsBuilt maps old.now self.old.slots.items self.old.origins.items }
+        requires linked { IsLinked old.now }
+        requires known { AreKnown self.old.slots.items self.old.origins.items places.now }
+        requires closed { AreClosed old.now places.now }
+        requires few { maps ≤ 8 }
+        requires start { IsStart old.now slot }
+        requires ready { IsReady old.now places.now slot }
+        ensures ok { OnOk result (IsLengthened maps old.now self.old.slots.items self.old.origins.items self.new.slots.items self.new.origins.items slot) }
+        ensures full { IfErr result IsFull }
+    {
+        let Some(insn) = instruction(old, slot) else {
+            unreachable!()
+        };
+        let targets = targets(old, slot, insn);
+        let Some(next) = self.missing_front(targets.next) else {
+            return self.put(old, maps, places, slot, insn, targets);
+        };
+        self.place(old, maps, places, next)?;
+        self.put(old, maps, places, slot, insn, targets)?;
+        Ok(())
+    }
+}
+
+/// Where the copy of a slot stands, if one does.
+pub fn place_at(places: &[Option<usize>], slot: usize) -> Option<usize>
+    ensures { result ≡ place_at places.now slot }
+{
+    if slot >= places.len() {
+        return None;
+    }
+    places[slot]
+}

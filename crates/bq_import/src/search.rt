@@ -1,0 +1,182 @@
+//! The search that puts each slot in place after all to which control may go from it, and finds a loop where that cannot be.
+ghost use Rattle.std.specs.Prelude.{◌≡◌, ◌<◌, ◌≤◌, ◌+◌, ℕ, [], true, false, Bool, List, Option, length, OnOk, IfOk, IfErr, IfSome, IfNone, Some, None, slice_index_or};
+ghost use Rattle.bq_insn.specs.declared.Insn.{Insn};
+ghost use Rattle.bq_maps.specs.Machine.{instruction_at};
+ghost use Rattle.bq_graph.specs.Edges.{IsEdge, IsStart};
+ghost use Rattle.bq_graph.specs.Passes.{LeadsOut, IsOf};
+ghost use Rattle.bq_import.specs.Backward.{IsFront};
+ghost use Rattle.bq_import.specs.Faults.{IsDisorder, IsFull};
+ghost use Rattle.bq_import.specs.Search.{IsDone, IsLinked, IsReady, IsTop, place_at, is_open};
+ghost use Rattle.bq_import.specs.Searching.{IsAt, WentOn, IsDoneWith};
+
+use crate::backward::Backward;
+use crate::fault::Disorder;
+use crate::linked::targets;
+use crate::putting::place_at;
+use bq_graph::edges::{Targets, instruction};
+use bq_insn::Insn;
+use std::alloc::{AllocError, Global};
+
+/// A copy that grows, with the places of what is copied, and the slots that were begun.
+#[derive(Drop)]
+pub struct Search {
+    pub copy: Backward,
+    /// The place of a copy of each slot, counted from the end.
+    pub places: Vec<Option<usize>>,
+    /// The slots that were begun.
+    pub opens: Vec<bool>,
+    /// The slots that were begun and are not done; control goes from each to the next one.
+    pub stack: Vec<usize>,
+}
+
+impl Search {
+    /// The search before its first slot.
+    pub fn new(alloc: Global, old: &[Option<Insn>]) -> Result<Search, AllocError>
+        ensures { IfOk result (λ search. (maps : ℕ) → IsDoneWith maps old.now search) }
+    {
+        Ok(Search {
+            copy: Backward::new(alloc),
+            places: no_places(alloc, old.len())?,
+            opens: none_open(alloc, old.len())?,
+            stack: Vec::new(alloc),
+        })
+    }
+
+    /// Puts the slot in place, and before it all to which control may go from it.
+    pub fn visit(&mut self, old: &[Option<Insn>], maps: usize, root: usize) -> Result<(), Disorder>
+        requires linked { IsLinked old.now }
+        requires few { maps ≤ 8 }
+        requires start { IsStart old.now root }
+        requires done { IsDoneWith maps old.now self.old }
+        ensures ok { OnOk result (IsDoneWith maps old.now self.new) }
+        ensures root { OnOk result (IsDone self.new.places.items root) }
+        ensures err { IfErr result (IsDisorder old.now) }
+    {
+        if self.is_open(root) {
+            return Ok(());
+        }
+        self.open(old, maps, root)?;
+        while let Some(slot) = self.stack.last().copied() {
+            self.advance(old, maps, slot)?;
+        }
+        Ok(())
+    }
+
+    /// One slot later: a slot to which control may go is begun, or the last one that was begun is put in place.
+    fn advance(&mut self, old: &[Option<Insn>], maps: usize, slot: usize) -> Result<(), Disorder>
+        requires linked { IsLinked old.now }
+        requires few { maps ≤ 8 }
+        requires at { IsAt maps old.now self.old }
+        requires top { IsTop self.old.stack.items slot }
+        ensures ok { OnOk result (WentOn maps old.now self.old self.new) }
+        ensures err { IfErr result (IsDisorder old.now) }
+    {
+        let Some(insn) = instruction(old, slot) else {
+            unreachable!()
+        };
+        let targets = targets(old, slot, insn);
+        let Some(to) = self.missing(targets) else {
+            return self.leave(old, maps, slot);
+        };
+        self.enter(old, maps, slot, to)
+    }
+
+    /// A target that is not in place: that of the jump first, so that the next instruction comes to stand in front.
+    fn missing(&self, targets: Targets) -> Option<usize>
+        ensures some { IfSome result (λ to. IsOf targets to × (place_at self.now.places.items to ≡ None)) }
+        ensures none { IfNone result ((to : ℕ) → IsOf targets to → IsDone self.now.places.items to) }
+    {
+        if let Some(to) = self.not_done(targets.jump) {
+            return Some(to);
+        }
+        self.not_done(targets.next)
+    }
+
+    /// The slot, where there is one that is not in place.
+    fn not_done(&self, to: Option<usize>) -> Option<usize>
+        ensures some { IfSome result (λ n. (to ≡ Some n) × (place_at self.now.places.items n ≡ None)) }
+        ensures none { IfNone result ((n : ℕ) → to ≡ Some n → IsDone self.now.places.items n) }
+    {
+        let to = to?;
+        match place_at(self.places.as_slice(), to) {
+            Some(_) => None,
+            None => Some(to),
+        }
+    }
+
+    /// Begins a slot to which control goes from the last one; where that was begun before, there is a loop.
+    fn enter(
+        &mut self,
+        old: &[Option<Insn>],
+        maps: usize,
+        from: usize,
+        to: usize,
+    ) -> Result<(), Disorder>
+        requires linked { IsLinked old.now }
+        requires at { IsAt maps old.now self.old }
+        requires top { IsTop self.old.stack.items from }
+        requires edge { IsEdge old.now from to }
+        requires new { place_at self.old.places.items to ≡ None }
+        ensures ok { OnOk result (WentOn maps old.now self.old self.new) }
+        ensures err { IfErr result (IsDisorder old.now) }
+    {
+        if self.is_open(to) {
+            return Err(Disorder::Loop { from, to });
+        }
+        self.open(old, maps, to)
+    }
+
+    /// Begins a slot.
+    fn open(&mut self, old: &[Option<Insn>], maps: usize, slot: usize) -> Result<(), Disorder>
+        requires at { IsAt maps old.now self.old }
+        requires start { IsStart old.now slot }
+        requires new { is_open self.old.opens.items slot ≡ false }
+        requires edge { (top : ℕ) → IsTop self.old.stack.items top → IsEdge old.now top slot }
+        ensures ok { OnOk result (WentOn maps old.now self.old self.new) }
+        ensures opened { OnOk result (is_open self.new.opens.items slot ≡ true) }
+        ensures full { IfErr result IsFull }
+    {
+        self.opens[slot] = true;
+        self.stack.push(slot)?;
+        Ok(())
+    }
+
+    /// Puts the last slot that was begun in place.
+    fn leave(&mut self, old: &[Option<Insn>], maps: usize, slot: usize) -> Result<(), Disorder>
+        requires linked { IsLinked old.now }
+        requires few { maps ≤ 8 }
+        requires at { IsAt maps old.now self.old }
+        requires top { IsTop self.old.stack.items slot }
+        requires ready { IsReady old.now self.old.places.items slot }
+        ensures ok { OnOk result (WentOn maps old.now self.old self.new) }
+        ensures full { IfErr result IsFull }
+    {
+        self.copy.place(old, maps, self.places.as_slice(), slot)?;
+        self.places[slot] = Some(self.copy.slots.len() - 1);
+        let _ = self.stack.pop();
+        Ok(())
+    }
+
+    fn is_open(&self, slot: usize) -> bool
+        ensures { result ≡ is_open self.now.opens.items slot }
+    {
+        if slot >= self.opens.len() {
+            return false;
+        }
+        self.opens[slot]
+    }
+}
+
+fn no_places(alloc: Global, count: usize) -> Result<Vec<Option<usize>>, AllocError>
+    ensures blank { IfOk result (λ list. (k : ℕ) → slice_index_or list.items k None ≡ None) }
+    ensures room { IfOk result (λ list. length list.items ≡ count) }
+{
+    vec![in alloc; None; count]
+}
+
+fn none_open(alloc: Global, count: usize) -> Result<Vec<bool>, AllocError>
+    ensures blank { IfOk result (λ list. (k : ℕ) → slice_index_or list.items k false ≡ false) }
+    ensures room { IfOk result (λ list. length list.items ≡ count) }
+{
+    vec![in alloc; false; count]
+}

@@ -1,0 +1,78 @@
+//! What a run changed of maps and counters, in words.
+use crate::inputs::Inputs;
+use bq_maps::{Call, Maps};
+use std::alloc::{AllocError, Global};
+
+/// The bytes of each map.
+pub fn copied(alloc: Global, maps: &Maps) -> Result<Vec<Vec<u8>>, AllocError> {
+    let mut all = Vec::new(alloc);
+    for number in 0..maps.shapes().len() {
+        all.push(Vec::from_slice(alloc, maps.contents(number))?)?;
+    }
+    Ok(all)
+}
+
+/// A line for each entry that differs from what it was.
+pub fn write_changes(
+    alloc: Global,
+    before: &[Vec<u8>],
+    inputs: &Inputs,
+    text: &mut String,
+) -> Result<(), AllocError> {
+    for (number, shape) in inputs.maps.shapes().iter().enumerate() {
+        if let Some(old) = before.get(number) {
+            let new = entries(&inputs.maps, number);
+            let size = usize::from(shape.value_size);
+            for entry in 0..usize::from(shape.entries) {
+                let at = entry.saturating_mul(size);
+                let was = part(old.as_slice(), at, size);
+                let is = part(new, at, size);
+                if was != is {
+                    let told = hex::encode(alloc, is)?;
+                    write!(text, "map {number} entry {entry}: {told}\n")?;
+                }
+            }
+        }
+    }
+    Ok(())
+}
+
+/// All bytes of a map, if there is one of that number.
+fn entries(maps: &Maps, number: usize) -> &[u8] {
+    if number < maps.shapes().len() {
+        maps.contents(number)
+    } else {
+        &[]
+    }
+}
+
+/// So many bytes from there on, as far as there are.
+fn part(bytes: &[u8], at: usize, count: usize) -> &[u8] {
+    match bytes.get(at..at.saturating_add(count)) {
+        Some(part) => part,
+        None => &[],
+    }
+}
+
+/// A line for each call of a counter.
+pub fn write_calls(calls: &[Call], text: &mut String) -> Result<(), AllocError> {
+    for call in calls {
+        match call {
+            Call::Add {
+                counter,
+                amount,
+                answer,
+            } => {
+                let after = answer.wrapping_add(*amount);
+                write!(
+                    text,
+                    "counter {counter}: {answer} and {amount} give {after}\n"
+                )?;
+            }
+            Call::Read { counter, answer } => {
+                write!(text, "counter {counter}: read {answer}\n")?;
+            }
+        }
+    }
+    Ok(())
+}

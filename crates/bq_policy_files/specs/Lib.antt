@@ -1,0 +1,7 @@
+pub mod Files
+pub mod Heads
+pub mod Marks
+pub mod Naming
+pub mod Settled
+pub mod Taking
+pub mod Words

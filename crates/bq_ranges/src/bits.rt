@@ -1,0 +1,32 @@
+//! What the bits of words say of their size.
+ghost use Rattle.std.specs.Prelude.{◌≡◌, ◌+◌, ◌*◌, ◌^◌, ◌≤◌, ℕ, bit_and};
+ghost use Rattle.bq_ranges.specs.Within.{Within};
+
+use crate::range::Range;
+
+/// The least number that has no bit unset below a set one, and is not below the word.
+pub fn ones(word: u64) -> u64
+    ensures ones { (k : ℕ) × (result + 1 ≡ 2 ^ k) × (2 ^ k ≤ 2 * word + 1) }
+    ensures above { word ≤ result }
+{
+    let zeros = word.leading_zeros();
+    if zeros == 0 {
+        return u64::MAX;
+    }
+    (1 << (64 - zeros)) - 1
+}
+
+/// The greatest number up to `most` that a word can leave of a mask, where the low bits of the mask are known not to be set.
+pub fn multiple_within(most: u64, mask: Range) -> u64
+    ensures below { result ≤ most }
+    ensures holds { (x y : ℕ) → Within mask y → bit_and x y ≤ most → bit_and x y ≤ result }
+{
+    if !mask.is_single() || mask.lo == 0 {
+        return most;
+    }
+    let zeros = mask.lo.trailing_zeros();
+    if mask.lo % (1 << zeros) != 0 {
+        return most;
+    }
+    most - most % (1 << zeros)
+}

@@ -1,0 +1,308 @@
+//! All tasks and processors of a simulation.
+ghost use Rattle.std.specs.Prelude.{◌≡◌, ◌<◌, IfOk, OnOk};
+ghost use Rattle.bq_agenda.specs.Dues.{IsDue, place_of};
+ghost use Rattle.bq_agenda.specs.Minima.{at_place, never, ChangesOnly};
+
+use crate::course::{Course, Stance};
+use crate::lane::Lane;
+use bq_agenda::{Agenda, Due};
+use std::alloc::{AllocError, Global};
+
+/// The latest instant: 2^48 - 1 nanoseconds.
+const LATEST: u64 = 281_474_976_710_655;
+
+/// A number that stands for no task or processor, a time that does not fit, or a phase that ended too early or too late:
+/// whoever keeps the roster lost count.
+#[derive(Clone, Copy, Debug, PartialEq, Eq, Drop)]
+pub struct Astray;
+
+/// How a simulation goes: when it ends, the times between ticks and between pulls, and what a change of processor costs.
+#[derive(Clone, Copy, Debug, PartialEq, Eq)]
+pub struct Pace {
+    pub end: u64,
+    pub tick: u64,
+    pub balance: u64,
+    pub migration_cost: u64,
+}
+
+/// Who runs where, how far each task has come, and what comes due until the end.
+#[derive(Drop)]
+pub struct Roster {
+    courses: Vec<Course>,
+    lanes: Vec<Lane>,
+    agenda: Agenda,
+    pace: Pace,
+}
+
+impl Roster {
+    /// So many processors that run nothing, and no task.
+    pub fn new(alloc: Global, processors: u8, pace: Pace) -> Result<Roster, AllocError> {
+        let mut lanes = Vec::with_capacity(alloc, usize::from(processors))?;
+        for _ in 0..processors {
+            lanes.push(Lane::new())?;
+        }
+        Ok(Roster {
+            courses: Vec::new(alloc),
+            lanes,
+            agenda: Agenda::new(alloc)?,
+            pace,
+        })
+    }
+
+    /// One more task.
+    pub fn add(&mut self, course: Course) -> Result<(), AllocError> {
+        self.courses.push(course)?;
+        Ok(())
+    }
+
+    /// How far a task has come.
+    pub fn course(&self, task: u16) -> Result<Course, Astray> {
+        self.courses.get(usize::from(task)).copied().ok_or(Astray)
+    }
+
+    /// A task has come so far.
+    pub fn set_course(&mut self, task: u16, course: Course) -> Result<(), Astray> {
+        *self.courses.get_mut(usize::from(task)).ok_or(Astray)? = course;
+        Ok(())
+    }
+
+    /// What runs at a processor.
+    pub fn lane(&self, processor: u8) -> Result<Lane, Astray> {
+        self.lanes
+            .get(usize::from(processor))
+            .copied()
+            .ok_or(Astray)
+    }
+
+    fn set_lane(&mut self, processor: u8, lane: Lane) -> Result<(), Astray> {
+        *self.lanes.get_mut(usize::from(processor)).ok_or(Astray)? = lane;
+        Ok(())
+    }
+
+    /// How many processors there are.
+    pub fn processors(&self) -> usize {
+        self.lanes.len()
+    }
+
+    /// What comes due first, and when.
+    pub fn first(&self) -> Result<Option<(u64, Due)>, Astray> {
+        match self.agenda.first() {
+            None => Ok(None),
+            Some((time, place)) => Ok(Some((time, Due::at(place).ok_or(Astray)?))),
+        }
+    }
+
+    /// This comes due then; what would come after the end never does.
+    pub fn plan(&mut self, due: Due, time: u64) -> Result<(), Astray>
+        ensures others { OnOk result (ChangesOnly (place_of due) self.old.agenda self.new.agenda) }
+        ensures courses { self.new.courses ≡ self.old.courses }
+    {
+        let place = place_of(due)?;
+        let is_seen = time <= self.pace.end && time <= LATEST;
+        self.agenda.set(place, is_seen.then_some(time));
+        Ok(())
+    }
+
+    /// This does not come due.
+    pub fn drop_plan(&mut self, due: Due) -> Result<(), Astray>
+        ensures due { OnOk result (at_place self.new.agenda (place_of due) ≡ never) }
+        ensures others { OnOk result (ChangesOnly (place_of due) self.old.agenda self.new.agenda) }
+        ensures courses { self.new.courses ≡ self.old.courses }
+    {
+        let place = place_of(due)?;
+        self.agenda.set(place, None);
+        Ok(())
+    }
+}
+
+/// The place of what comes due.
+fn place_of(due: Due) -> Result<u16, Astray>
+    ensures place { IfOk result (λ place. place ≡ place_of due) }
+    ensures few { IfOk result (λ place. place < 2048) }
+    ensures due { OnOk result (IsDue due) }
+{
+    let is_due = match due {
+        Due::End(processor) | Due::Tick(processor) | Due::Pull(processor) => processor < 64,
+        Due::Wake(task) => task < 1024,
+    };
+    if !is_due {
+        return Err(Astray);
+    }
+    Ok(due.place())
+}
+
+/// The next multiple of a time between two things, after an instant.
+fn next_after(now: u64, between: u64) -> Result<u64, Astray> {
+    if between == 0 {
+        return Err(Astray);
+    }
+    (now / between)
+        .saturating_add(1)
+        .checked_mul(between)
+        .ok_or(Astray)
+}
+
+impl Roster {
+    /// From now on this task runs at a processor, or none does.
+    pub fn switch(&mut self, processor: u8, run: Option<u16>, now: u64) -> Result<(), Astray> {
+        let lane = self.lane(processor)?;
+        if lane.run == run {
+            return Ok(());
+        }
+        self.charge(processor, now)?;
+        match run {
+            Some(task) => self.start(processor, task, now, lane.run.is_none()),
+            None => self.idle(processor, now),
+        }
+    }
+
+    /// The task that runs at a processor has run until now.
+    pub fn charge(&mut self, processor: u8, now: u64) -> Result<(), Astray> {
+        let mut lane = self.lane(processor)?;
+        if let Some(task) = lane.run {
+            let ran = now.checked_sub(lane.since).ok_or(Astray)?;
+            let mut course = self.course(task)?;
+            course.run_for(ran).ok_or(Astray)?;
+            self.set_course(task, course)?;
+        }
+        lane.since = now;
+        self.set_lane(processor, lane)
+    }
+
+    /// A task runs at a processor from now on.
+    fn start(&mut self, processor: u8, task: u16, now: u64, was_idle: bool) -> Result<(), Astray> {
+        let mut lane = self.lane(processor)?;
+        lane.run = Some(task);
+        lane.since = now;
+        self.set_lane(processor, lane)?;
+        let mut course = self.course(task)?;
+        course
+            .move_to(processor, self.pace.migration_cost)
+            .ok_or(Astray)?;
+        self.set_course(task, course)?;
+        if was_idle {
+            self.plan(Due::Tick(processor), next_after(now, self.pace.tick)?)?;
+        }
+        self.plan_end(processor, &course, now)
+    }
+
+    /// Nothing runs at a processor from now on: it does not tick, and looks at once for a task to pull.
+    fn idle(&mut self, processor: u8, now: u64) -> Result<(), Astray>
+        ensures tick { OnOk result (at_place self.new.agenda (place_of (Due.Tick processor)) ≡ never) }
+        ensures end { OnOk result (at_place self.new.agenda (place_of (Due.End processor)) ≡ never) }
+    {
+        let mut lane = self.lane(processor)?;
+        lane.run = None;
+        self.set_lane(processor, lane)?;
+        self.drop_plan(Due::End(processor))?;
+        self.drop_plan(Due::Tick(processor))?;
+        if self.processors() > 1 {
+            self.plan(Due::Pull(processor), now)?;
+        }
+        Ok(())
+    }
+
+    /// The phase of the task that runs at a processor ends when it has got what is left of it.
+    fn plan_end(&mut self, processor: u8, course: &Course, now: u64) -> Result<(), Astray> {
+        let left = course.due.checked_sub(course.got).ok_or(Astray)?;
+        self.plan(Due::End(processor), now.saturating_add(left))
+    }
+
+    /// The task that runs at a processor begins a phase of this length now.
+    pub fn begin_phase(
+        &mut self,
+        processor: u8,
+        task: u16,
+        length: u64,
+        now: u64,
+    ) -> Result<(), Astray> {
+        let mut course = self.course(task)?;
+        course.begin(length);
+        self.set_course(task, course)?;
+        self.plan_end(processor, &course, now)
+    }
+
+    /// The task that runs at a processor, where its phase has ended just now: it has got what it takes, no more and no
+    /// less.
+    pub fn ended(&mut self, processor: u8, now: u64) -> Result<(u16, Course), Astray>
+        ensures { IfOk result (λ ended. ended.1.got ≡ ended.1.due) }
+    {
+        self.charge(processor, now)?;
+        let task = self.lane(processor)?.run.ok_or(Astray)?;
+        let course = self.course(task)?;
+        if !course.is_done() {
+            return Err(Astray);
+        }
+        Ok((task, course))
+    }
+
+    /// A task that ran at a processor sleeps from now on; the next one runs there, or none.
+    pub fn leave(
+        &mut self,
+        processor: u8,
+        task: u16,
+        stance: Stance,
+        run: Option<u16>,
+        now: u64,
+    ) -> Result<(), Astray> {
+        let mut course = self.course(task)?;
+        course.stance = stance;
+        self.set_course(task, course)?;
+        let mut lane = self.lane(processor)?;
+        lane.size = lane.size.checked_sub(1).ok_or(Astray)?;
+        self.set_lane(processor, lane)?;
+        self.switch(processor, run, now)
+    }
+
+    /// So many tasks have entered the queue of a processor, where this one runs now.
+    pub fn enter(
+        &mut self,
+        processor: u8,
+        count: u32,
+        run: Option<u16>,
+        now: u64,
+    ) -> Result<(), Astray> {
+        let mut lane = self.lane(processor)?;
+        lane.size = lane.size.checked_add(count).ok_or(Astray)?;
+        self.set_lane(processor, lane)?;
+        self.switch(processor, run, now)
+    }
+
+    /// A task has gone from the queue of one processor to another.
+    pub fn pass(&mut self, from: u8, to: u8) -> Result<(), Astray> {
+        let mut source = self.lane(from)?;
+        source.size = source.size.checked_sub(1).ok_or(Astray)?;
+        self.set_lane(from, source)?;
+        let mut taker = self.lane(to)?;
+        taker.size = taker.size.checked_add(1).ok_or(Astray)?;
+        self.set_lane(to, taker)
+    }
+
+    /// The processor with the most tasks, the least number where several have, unless it has less than two.
+    pub fn largest(&self) -> Option<u8> {
+        let mut best: Option<u8> = None;
+        let mut size = 1;
+        for processor in 0..64 {
+            if let Some(lane) = self.lanes.get(usize::from(processor)) {
+                if lane.size > size {
+                    best = Some(processor);
+                    size = lane.size;
+                }
+            }
+        }
+        best
+    }
+
+    /// The next tick of a processor that has ticked.
+    pub fn plan_tick(&mut self, processor: u8, now: u64) -> Result<(), Astray> {
+        if self.lane(processor)?.run.is_none() {
+            return Ok(());
+        }
+        self.plan(Due::Tick(processor), next_after(now, self.pace.tick)?)
+    }
+
+    /// The next pull of a processor that has looked for a task.
+    pub fn plan_pull(&mut self, processor: u8, now: u64) -> Result<(), Astray> {
+        self.plan(Due::Pull(processor), next_after(now, self.pace.balance)?)
+    }
+}

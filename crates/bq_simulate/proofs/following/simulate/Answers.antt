@@ -1,0 +1,5 @@
+use Rattle.bq_simulate.proofs.Wholes.{simulation-of}
+use Rattle.bq_simulate.proofs.following.simulate.Goals as goal
+
+pub returns : goal.returns
+returns g c = simulation-of g.S.Sink.takes _ _ _ _ _ _ _ c.in_ok-driver.ensures c.in_ok-simulation.ensures c.in_ok-run.ensures

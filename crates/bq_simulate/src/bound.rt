@@ -1,0 +1,43 @@
+//! How many steps a simulation takes at most.
+
+use bq_actions::{Action, Workload};
+
+/// How many steps a simulation takes at most, as far as 64 bits count. At one instant each task does each of its actions at
+/// most once, since one of them takes time; a wake takes a step for each task that it comes to, and the end of a task one
+/// more. Each timer comes due at most once, each processor ticks at most once, and looks for a task once, and once more
+/// each time that it falls idle. There are as many instants as nanoseconds, and one more.
+pub fn most_steps(workload: &Workload) -> u64 {
+    let mut units: u64 = 0;
+    let mut tasks: u64 = 0;
+    for kind in &workload.tasks {
+        let count = u64::from(kind.count);
+        tasks = tasks.saturating_add(count);
+        units = units.saturating_add(count.saturating_mul(units_of(workload, &kind.actions)));
+    }
+    let processors = u64::from(workload.machine.size.processors());
+    let at_once = units
+        .saturating_mul(2)
+        .saturating_add(tasks)
+        .saturating_add(processors.saturating_mul(2));
+    workload
+        .machine
+        .duration
+        .saturating_add(1)
+        .saturating_mul(at_once)
+}
+
+/// How many steps one task takes at most for all of its actions.
+fn units_of(workload: &Workload, actions: &[Action]) -> u64 {
+    let mut units: u64 = 1;
+    for action in actions {
+        let more = match action {
+            Action::Wake(kind) => match workload.tasks.get(*kind) {
+                Some(kind) => u64::from(kind.count),
+                None => 1,
+            },
+            _ => 1,
+        };
+        units = units.saturating_add(more);
+    }
+    units
+}

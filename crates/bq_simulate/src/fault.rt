@@ -1,0 +1,48 @@
+//! Why a simulation does not come to its end.
+
+use crate::sound::Unsound;
+use bq_driver::DriveFault;
+use bq_roster::Astray;
+use std::alloc::AllocError;
+use thiserror::Error;
+
+/// Why a simulation does not come to its end. What the sink was told by then is the beginning of a trace.
+#[derive(Debug, Drop, Error)]
+pub enum SimulateFault {
+    /// A growth was refused.
+    #[error("out of memory")]
+    OutOfMemory,
+    /// The workload cannot be followed.
+    #[error("{0}")]
+    Unsound(Unsound),
+    /// The machine did not take what the loop gave it. That would be a fault of this program.
+    #[error("internal fault: {0}")]
+    Drive(DriveFault),
+    /// The loop lost count of its tasks. That would be a fault of this program.
+    #[error("internal fault: the loop lost count of its tasks")]
+    Astray,
+    /// The loop took more steps than its workload allows. That would be a fault of this program.
+    #[error("internal fault: the loop does not end")]
+    Endless,
+}
+
+impl From<AllocError> for SimulateFault {
+    fn from(_error: AllocError) -> SimulateFault {
+        SimulateFault::OutOfMemory
+    }
+}
+
+impl From<DriveFault> for SimulateFault {
+    fn from(error: DriveFault) -> SimulateFault {
+        match error {
+            DriveFault::OutOfMemory => SimulateFault::OutOfMemory,
+            other => SimulateFault::Drive(other),
+        }
+    }
+}
+
+impl From<Astray> for SimulateFault {
+    fn from(_error: Astray) -> SimulateFault {
+        SimulateFault::Astray
+    }
+}

@@ -1,0 +1,19 @@
+//! The loop of a simulation: tasks do what their workload says, and the machine decides when.
+//! Promises that what the sink is told is a trace from the opening machine on, each of whose events was done and none
+//! refused, with readings that never fall; so replaying that trace answers the same.
+//! Stands on a driven machine, on the roster of tasks and processors, and on the draws of each task.
+#![tactic(auto)]
+
+pub mod acting;
+pub mod bound;
+pub mod fault;
+pub mod following;
+pub mod opening;
+pub mod simulation;
+pub mod sound;
+pub mod tally;
+
+pub use fault::SimulateFault;
+pub use following::simulate;
+pub use sound::{Unsound, soundness};
+pub use tally::Tally;

@@ -1,0 +1,157 @@
+//! A simulation on its way.
+ghost use Rattle.std.specs.Prelude.{◌≡◌, ℕ, [], ◌∷◌, OnOk};
+ghost use Rattle.bq_parts.specs.declared.event.Event.TheVariants.{BeginWake, EndWake, Drain};
+ghost use Rattle.bq_driver.specs.Drives.{Drove, Went};
+
+use crate::fault::SimulateFault;
+use crate::tally::Tally;
+use bq_actions::{Length, Workload};
+use bq_agenda::Due;
+use bq_draws::Stream;
+use bq_driver::Driver;
+use bq_driver::calls::Moved;
+use bq_roster::{Astray, Roster, Stance};
+use bq_trace::Sink;
+use std::alloc::Global;
+
+/// A simulation on its way: its machine, its tasks and processors, the draws of each task, and the first task of each kind.
+#[derive(Drop)]
+pub struct Simulation {
+    pub(crate) driver: Driver,
+    pub(crate) roster: Roster,
+    pub(crate) streams: Vec<Stream>,
+    pub(crate) firsts: Vec<u16>,
+    pub(crate) tally: Tally,
+}
+
+impl Simulation {
+    /// What comes due at an instant is done.
+    pub(crate) fn meet<S: Sink>(
+        &mut self,
+        alloc: Global,
+        workload: &Workload,
+        due: Due,
+        now: u64,
+        sink: &mut S,
+    ) -> Result<(), SimulateFault>
+        ensures { OnOk result (Went S.takes sink.old self.old.driver sink.new self.new.driver) }
+    {
+        match due {
+            Due::End(processor) => self.act(alloc, workload, processor, now, sink),
+            Due::Wake(task) => self.wake_by_timer(alloc, task, now, sink),
+            Due::Tick(processor) => self.tick(alloc, processor, now, sink),
+            Due::Pull(processor) => self.pull(alloc, processor, now, sink),
+        }
+    }
+
+    /// A task's timer wakes it from the processor that it left last.
+    fn wake_by_timer<S: Sink>(
+        &mut self,
+        alloc: Global,
+        task: u16,
+        now: u64,
+        sink: &mut S,
+    ) -> Result<(), SimulateFault>
+        ensures { OnOk result (Went S.takes sink.old self.old.driver sink.new self.new.driver) }
+    {
+        self.roster.drop_plan(Due::Wake(task))?;
+        let course = self.roster.course(task)?;
+        if course.stance != Stance::Asleep {
+            return Err(SimulateFault::Astray);
+        }
+        self.wake(alloc, course.home, task, now, sink)
+    }
+
+    /// A task is woken from a processor: it is placed, and the processor on which it was placed takes it in at once.
+    pub(crate) fn wake<S: Sink>(
+        &mut self,
+        alloc: Global,
+        from: u8,
+        task: u16,
+        now: u64,
+        sink: &mut S,
+    ) -> Result<(), SimulateFault>
+        ensures { OnOk result ((to : ℕ) × Drove S.takes sink.old self.old.driver (BeginWake from task ∷ EndWake from now ∷ Drain to now ∷ []) sink.new self.new.driver) }
+    {
+        let mut course = self.roster.course(task)?;
+        course.wake();
+        self.roster.set_course(task, course)?;
+        let to = self.driver.wake(alloc, from, task, now, sink)?;
+        let entered = self.driver.drain(alloc, to, now, sink)?;
+        self.roster.enter(to, entered.count, entered.run, now)?;
+        Ok(())
+    }
+
+    /// A processor that runs something ticks.
+    fn tick<S: Sink>(
+        &mut self,
+        alloc: Global,
+        processor: u8,
+        now: u64,
+        sink: &mut S,
+    ) -> Result<(), SimulateFault>
+        ensures { OnOk result (Went S.takes sink.old self.old.driver sink.new self.new.driver) }
+    {
+        let run = self.driver.tick(alloc, processor, now, sink)?;
+        self.roster.switch(processor, run, now)?;
+        self.roster.plan_tick(processor, now)?;
+        Ok(())
+    }
+
+    /// A processor looks for a task in the queue of the one that has the most, if another has.
+    fn pull<S: Sink>(
+        &mut self,
+        alloc: Global,
+        processor: u8,
+        now: u64,
+        sink: &mut S,
+    ) -> Result<(), SimulateFault>
+        ensures { OnOk result (Went S.takes sink.old self.old.driver sink.new self.new.driver) }
+    {
+        self.roster.plan_pull(processor, now)?;
+        match self.roster.largest() {
+            Some(from) if from != processor => self.pull_from(alloc, processor, from, now, sink),
+            _ => Ok(()),
+        }
+    }
+
+    fn pull_from<S: Sink>(
+        &mut self,
+        alloc: Global,
+        processor: u8,
+        from: u8,
+        now: u64,
+        sink: &mut S,
+    ) -> Result<(), SimulateFault>
+        ensures { OnOk result (Went S.takes sink.old self.old.driver sink.new self.new.driver) }
+    {
+        let moved = self.driver.pull(alloc, processor, from, now, sink)?;
+        keep_pull(&mut self.roster, processor, from, moved, now)?;
+        Ok(())
+    }
+
+    /// The next length of a task.
+    pub(crate) fn draw(&mut self, task: u16, length: Length) -> Result<u64, Astray>
+        ensures { self.new.driver ≡ self.old.driver }
+    {
+        let stream = self.streams.get_mut(usize::from(task)).ok_or(Astray)?;
+        if !length.is_sound() {
+            return Err(Astray);
+        }
+        Ok(stream.draw(length))
+    }
+}
+
+/// What came of a pull is kept.
+fn keep_pull(
+    roster: &mut Roster,
+    processor: u8,
+    from: u8,
+    moved: Moved,
+    now: u64,
+) -> Result<(), Astray> {
+    if moved.task.is_some() {
+        roster.pass(from, processor)?;
+    }
+    roster.switch(processor, moved.run, now)
+}

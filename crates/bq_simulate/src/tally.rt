@@ -1,0 +1,12 @@
+//! What a simulation counts beside its trace.
+
+/// What a simulation counts beside its trace. Each count stops at its greatest value.
+#[derive(Clone, Copy, Debug, PartialEq, Eq)]
+pub struct Tally {
+    /// How many tasks there were.
+    pub tasks: u16,
+    /// How many run phases ended, each with just the processor time that it takes.
+    pub phases: u64,
+    /// How many wakes came to a task that did not wait, and did nothing.
+    pub missed: u64,
+}

@@ -1,0 +1,128 @@
+// Policies are asked at their hooks: what they answer, in how many steps, and which maps and counters they see.
+
+use bq_insn::decode::decode;
+use bq_maps::{Call, MapShape, Plain};
+use bq_policies::{Env, Hook, Hooks, Installed, Policy, Scratch, Version};
+use bq_verify::hook::context_length;
+use bq_verify::{Program, verify};
+use std::alloc::{AllocError, Global};
+use std::process::Abort;
+use std::test::Fail;
+
+/// `ldmap r1, 0`, looks entry 0 up, answers its value, and adds one to it.
+const COUNTS: [u8; 120] = [
+    0x62, 0x0a, 0xfc, 0xff, 0, 0, 0, 0, 0x18, 0x51, 0, 0, 0, 0, 0, 0, 0, 0, 0, 0, 0, 0, 0, 0, 0xbf,
+    0xa2, 0, 0, 0, 0, 0, 0, 0x07, 0x02, 0, 0, 0xfc, 0xff, 0xff, 0xff, 0x85, 0, 0, 0, 1, 0, 0, 0,
+    0x55, 0, 2, 0, 0, 0, 0, 0, 0xb7, 0, 0, 0, 2, 0, 0, 0, 0x95, 0, 0, 0, 0, 0, 0, 0, 0x79, 0x03, 0,
+    0, 0, 0, 0, 0, 0xbf, 0x34, 0, 0, 0, 0, 0, 0, 0x07, 0x04, 0, 0, 1, 0, 0, 0, 0x7b, 0x40, 0, 0, 0,
+    0, 0, 0, 0xbf, 0x30, 0, 0, 0, 0, 0, 0, 0x95, 0, 0, 0, 0, 0, 0, 0,
+];
+
+/// Adds 5 to counter 3, and answers 0.
+const ADDS: [u8; 40] = [
+    0xb7, 1, 0, 0, 3, 0, 0, 0, 0xb7, 2, 0, 0, 5, 0, 0, 0, 0x85, 0, 0, 0, 100, 0, 0, 0, 0xb7, 0, 0,
+    0, 0, 0, 0, 0, 0x95, 0, 0, 0, 0, 0, 0, 0,
+];
+
+/// The policy for the hook preempt, where the program is accepted.
+fn policy(alloc: Global, bytes: &[u8], shapes: &[MapShape]) -> Result<Option<Policy>, AllocError> {
+    let insns = match decode(alloc, bytes) {
+        Ok(insns) => insns,
+        Err(_) => return Ok(None),
+    };
+    let shapes = shapes.to_vec(alloc)?;
+    if shapes.len() > 8 {
+        return Ok(None);
+    }
+    let program = Program {
+        insns,
+        shapes,
+        hook: Hook::Preempt,
+        version: Version::First,
+    };
+    match verify(alloc, program) {
+        Ok(verified) => Ok(Some(Policy::new(alloc, verified)?)),
+        Err(_) => Ok(None),
+    }
+}
+
+/// What stands there answers on a context of zeros.
+fn ask(installed: &mut Installed, scratch: &mut Scratch, board: &mut Plain) -> Option<(u64, u32)> {
+    let context = [0; 160];
+    let length = {
+        let policy = installed.policy()?;
+        context_length(policy.hook(), policy.version())
+    };
+    if length != 56 {
+        return None;
+    }
+    let env = Env {
+        now: 0,
+        processor: 0,
+    };
+    let done = installed.ask(&context[..56], env, scratch, board);
+    Some((done.r0, done.steps))
+}
+
+#[test]
+fn maps_of_their_own(rt: HostRuntime) -> Result<(), Fail> {
+    let alloc = rt.alloc();
+    let Some(shape) = MapShape::new(8, 1) else {
+        panic!(&rt; "no shape");
+    };
+    let Some(counts) = policy(alloc, &COUNTS, &[shape])? else {
+        panic!(&rt; "not accepted");
+    };
+    let mut scratch = Scratch::new();
+    let mut board = Plain::new();
+    let mut first = Installed::new(alloc, Some(counts.clone()?), 1)?;
+    let mut second = Installed::new(alloc, Some(counts), 1)?;
+    assert_eq!(&rt; first.generation(), 1);
+    assert_eq!(&rt; ask(&mut first, &mut scratch, &mut board), Some((0, 12)));
+    assert_eq!(&rt; ask(&mut first, &mut scratch, &mut board), Some((1, 12)));
+    assert_eq!(&rt; ask(&mut second, &mut scratch, &mut board), Some((0, 12)));
+    assert_eq!(&rt; ask(&mut first, &mut scratch, &mut board), Some((2, 12)));
+    assert!(&rt; scratch.calls().is_empty());
+    Ok(())
+}
+
+#[test]
+fn counters_of_all(rt: HostRuntime) -> Result<(), Fail> {
+    let alloc = rt.alloc();
+    let Some(adds) = policy(alloc, &ADDS, &[])? else {
+        panic!(&rt; "not accepted");
+    };
+    let mut scratch = Scratch::new();
+    let mut board = Plain::new();
+    let mut installed = Installed::new(alloc, Some(adds), 1)?;
+    assert_eq!(&rt; ask(&mut installed, &mut scratch, &mut board), Some((0, 5)));
+    assert_eq!(&rt; ask(&mut installed, &mut scratch, &mut board), Some((0, 5)));
+    let second = Call::Add {
+        counter: 3,
+        amount: 5,
+        answer: 5,
+    };
+    assert_eq!(&rt; scratch.calls().len(), 1);
+    assert!(&rt; scratch.calls().first() == Some(&second));
+    assert_eq!(&rt; board.value(3), 10);
+    scratch.clear();
+    assert!(&rt; scratch.calls().is_empty());
+    Ok(())
+}
+
+#[test]
+fn three_hooks(rt: HostRuntime) -> Result<(), Fail> {
+    let alloc = rt.alloc();
+    let Some(adds) = policy(alloc, &ADDS, &[])? else {
+        panic!(&rt; "not accepted");
+    };
+    let mut hooks = Hooks::new();
+    assert_eq!(&rt; hooks.generation(Hook::Preempt), 0);
+    let hook = adds.hook();
+    hooks.install(hook, Installed::new(alloc, Some(adds), 7)?);
+    assert_eq!(&rt; hooks.generation(Hook::Preempt), 7);
+    assert_eq!(&rt; hooks.generation(Hook::Place), 0);
+    assert!(&rt; hooks.version(Hook::Preempt) == Some(Version::First));
+    assert!(&rt; hooks.version(Hook::Pull).is_none());
+    Ok(())
+}

@@ -1,0 +1,156 @@
+-- What the pass knows before a slot covers every run that comes there.
+use Rattle.std.proofs.Common.{◌≡◌, ◌≢◌, ℕ, zero, suc, ◌+◌, ◌^◌, ◌<◌, ◌≤◌, Bool, true, false, List, [], ◌∷◌, ◌++◌, Option, Some, None, Box, Global, length, refl, arith, sym, ap, ◌∙◌, subst, zero-le, ◌⊎◌, inl, inr, ℤ}
+use Rattle.std.specs.Prelude.{slice_index_or}
+use Rattle.std.proofs.lemmas.Bool.Decides.{eqb_tells}
+use Rattle.bq_insn.specs.declared.Insn.{Insn}
+use Rattle.bq_insn.specs.declared.Insn.TheVariants.{Alu, MovSx, Neg, End, Load, StoreImm, StoreReg, Imm64, MapRef, Goto, Goto32, Branch, Call, Exit}
+use Rattle.bq_maps.specs.declared.shape.MapShape.{MapShape}
+use Rattle.bq_maps.specs.declared.board.Call.{Call as Asked}
+use Rattle.bq_maps.specs.Counters.{answer_of}
+use Rattle.bq_maps.specs.Memory.{Setting, State, Region, InContext, InStack, InEntry, Writes, written}
+use Rattle.bq_maps.specs.Arrays.{HaveShapes}
+use Rattle.bq_maps.specs.Machine.{Asks, Chain, Does, Helps, IsSetting, LeadsTo, Step, Takes, called, listed, start}
+use Rattle.bq_graph.specs.Edges.{IsEdge, IsStart, Leaves}
+use Rattle.bq_graph.specs.Passes.{IsSound}
+use Rattle.bq_views.specs.declared.view.View.{View}
+use Rattle.bq_views.specs.Views.{Covers}
+use Rattle.bq_verify.specs.Control.{IsIn, IsKnown, LeadsOn, PassesOn, WaitsBoxed}
+use Rattle.bq_verify.specs.KnownAt.{CoversRuns, RestIsCovered}
+use Rattle.bq_verify.proofs.ChainLemmas.{no_step, one_step}
+use Rattle.bq_verify.proofs.PassLemmas.{moved, no_view}
+
+-- a write leaves the slot
+same_slot : (s : State) (region : Region) (offset : ℕ) (bytes : List ℕ) → (written s region offset bytes).slot ≡ s.slot
+same_slot s InContext offset bytes = refl
+same_slot s InStack offset bytes = refl
+same_slot s (InEntry m first) offset bytes = refl
+
+stored : (f : Setting) (s u : State) (address : ℕ) (bytes : List ℕ) → Writes f s address bytes u → u.slot ≡ s.slot
+stored f s u address bytes w = ap (λ (x : State). x.slot) w.after ∙ same_slot s w.region w.offset bytes
+
+-- a helper's call goes on to the next slot
+helped : (f : Setting) (h : ℤ) (s t : State) → Helps f h s t → t.slot ≡ s.slot + 1
+helped f h s t (inl (e, (m, shape, k, names, is))) = ap (λ (x : State). x.slot) is
+helped f h s t (inr (inl (e, (m, shape, k, from, value, names, from_is, long, reads, zero_is, inl (lt, u, writes, is))))) =
+    ap (λ (x : State). x.slot) is ∙ ap (λ n. n + 1) (stored f s u _ value writes)
+helped f h s t (inr (inl (e, (m, shape, k, from, value, names, from_is, long, reads, zero_is, inr (le, is))))) = ap (λ (x : State). x.slot) is
+helped f h s t (inr (inr (inl (e, is)))) = ap (λ (x : State). x.slot) is
+helped f h s t (inr (inr (inr (e, is)))) = ap (λ (x : State). x.slot) is
+
+-- what an instruction does, it does along an edge of the graph
+leaves_does : (f : Setting) (insn : Insn) (s t : State) → Does f insn s t → Leaves insn s.slot t.slot
+leaves_does f (Alu w o dst src) s t (a, b, left, right, target, is) = inl (refl, ap (λ (x : State). x.slot) is)
+leaves_does f (MovSx w bits dst src) s t (a, p, target, is) = inl (refl, ap (λ (x : State). x.slot) is)
+leaves_does f (Neg w dst) s t (a, p, target, is) = inl (refl, ap (λ (x : State). x.slot) is)
+leaves_does f (End order bits dst) s t (a, p, target, is) = inl (refl, ap (λ (x : State). x.slot) is)
+leaves_does f (Load size signed dst src off) s t (a, bytes, p, long, reads, target, is) = inl (refl, ap (λ (x : State). x.slot) is)
+leaves_does f (StoreImm size dst off imm) s t (a, u, p, writes, is) = inl (refl, ap (λ (x : State). x.slot) is ∙ ap (λ n. n + 1) (stored f s u _ _ writes))
+leaves_does f (StoreReg size dst off src) s t (a, v, u, p, q, writes, is) = inl (refl, ap (λ (x : State). x.slot) is ∙ ap (λ n. n + 1) (stored f s u _ _ writes))
+leaves_does f (Imm64 dst value) s t (target, is) = inl (refl, ap (λ (x : State). x.slot) is)
+leaves_does f (MapRef dst index) s t (m, i, there, target, is) = inl (refl, ap (λ (x : State). x.slot) is)
+leaves_does f (Goto off) s t (to, leads, is) = inr (off, refl, subst (LeadsTo s.slot off) (sym (ap (λ (x : State). x.slot) is)) leads)
+leaves_does f (Goto32 imm) s t (to, leads, is) = inr (imm, refl, subst (LeadsTo s.slot imm) (sym (ap (λ (x : State). x.slot) is)) leads)
+leaves_does f (Branch w c dst src off) s t (a, b, p, q, inl (is_taken, to, leads, is)) = inr (off, refl, subst (LeadsTo s.slot off) (sym (ap (λ (x : State). x.slot) is)) leads)
+leaves_does f (Branch w c dst src off) s t (a, b, p, q, inr (is_not, is)) = inl (refl, ap (λ (x : State). x.slot) is)
+leaves_does f (Call h) s t p = inl (refl, helped f h s t p)
+leaves_does f Exit s t p = absurd p
+
+leaves_takes : (f : Setting) (insn : Insn) (s : State) (c : Option Asked) (t : State) → Takes f insn s c t → Leaves insn s.slot t.slot
+leaves_takes f insn s None t p = leaves_does f insn s t p
+leaves_takes f (Call h) s (Some c) t p = inl (refl, ap (λ (x : State). x.slot) p.2)
+leaves_takes f insn s (Some c) t p = absurd p.0
+
+-- a step follows an edge
+edge_of : (f : Setting) (s : State) (c : Option Asked) (t : State) → Step f s c t → IsEdge f.slots s.slot t.slot
+edge_of f s c t step = record { insn = step.insn; here = step.here; leaves = leaves_takes f step.insn s c t step.takes }
+
+-- the first step of a chain, and the rest
+first_step : (f : Setting) (s : State) (n : ℕ) (calls : List Asked) (t : State) → Chain f s (suc n) calls t
+    → (c : Option Asked) × (u : State) × (rest : List Asked) × Step f s c u × Chain f u n rest t
+first_step f s zero calls t (before, c, u, (none, same), step, e) = (c, t, [], subst (λ (x : State). Step f x c t) same step, (refl, refl))
+first_step f s (suc n) calls t (before, c, u, chain, step, e) =
+    let h = first_step f s n before u chain in
+    (h.0, h.1, h.2 ++ listed c, h.3, (h.2, c, u, h.4, step, refl))
+
+no_call : (c : Asked) → None ≡ Some c → ⊥
+no_call c e = cc
+
+same_call : (c d : Asked) → Some c ≡ Some d → c ≡ d
+same_call c d e = cc
+
+no_both : (b : Bool) → b ≡ false → b ≡ true → ⊥
+no_both b p q = cc
+
+-- the state after a step from where a slot leads on
+after_one : (f : Setting) (L : Setting → State → Type 0) → length f.context < 2 ^ 16 → (s u : State) (c : Option Asked) → LeadsOn L f s → Step f s c u → IsEdge f.slots s.slot u.slot × L f u
+after_one f L small s u c (inl (answer, ends)) step = absurd (no_step f small s answer c u ends step)
+after_one f L small s u None (inr (inl (t, step', edge, known))) step =
+    let same = one_step f small s None None t u step' step (λ x y p q. absurd (no_call x p)) in
+    subst (λ (x : State). IsEdge f.slots s.slot x.slot × L f x) same.1 (edge, known)
+after_one f L small s u (Some c) (inr (inl (t, step', edge, known))) step =
+    let same = one_step f small s (Some c) None u t step step' (λ x y p q. absurd (no_call y q)) in
+    absurd (no_call c (sym same.0))
+after_one f L small s u None (inr (inr each)) step =
+    let e = each 0 (omega arith) in
+    let same = one_step f small s None (Some e.0) u e.1 step e.3 (λ x y p q. absurd (no_call x p)) in
+    absurd (no_call e.0 same.0)
+after_one f L small s u (Some c) (inr (inr each)) step =
+    let e = each (answer_of c) step.takes.1 in
+    let same = one_step f small s (Some e.0) (Some c) e.1 u e.3 step
+    (λ x y p q. ap answer_of (sym (same_call e.0 x p)) ∙ (e.2 ∙ ap answer_of (same_call c y q))) in
+    subst (λ (x : State). IsEdge f.slots s.slot x.slot × L f x) same.1 (record { insn = e.4.insn; here = e.4.here; leaves = e.4.leaves }, e.5)
+
+module _ (slots : List (Option Insn)) (shapes : List MapShape) (context_length : ℕ) (sound : IsSound slots) (small : context_length < 2 ^ 16) where
+  -- a chain goes forward
+  forward : (f : Setting) → IsSetting slots shapes context_length f → (s : State) (n : ℕ) (calls : List Asked) (t : State) → Chain f s n calls t → s.slot ≤ t.slot
+  forward f setting s zero calls t (none, same) = let p : t.slot ≡ s.slot = ap (λ (x : State). x.slot) same in omega (arith, p)
+  forward f setting s (suc n) calls t (before, c, u, chain, step, e) =
+      let edge : IsEdge slots u.slot t.slot = rw setting.slots_are at (edge_of f u c t step) in
+      omega (arith, forward f setting s n before u chain, (sound.forward u.slot t.slot edge).0)
+
+  -- a chain with a step goes on
+  farther : (f : Setting) → IsSetting slots shapes context_length f → (s : State) (n : ℕ) (calls : List Asked) (t : State) → Chain f s (suc n) calls t → s.slot < t.slot
+  farther f setting s n calls t (before, c, u, chain, step, e) =
+      let edge : IsEdge slots u.slot t.slot = rw setting.slots_are at (edge_of f u c t step) in
+      omega (arith, forward f setting s n before u chain, (sound.forward u.slot t.slot edge).0)
+
+  module _ (target : ℕ) (seen : View) (slot : ℕ) (K L : Setting → State → Type 0) where
+    at_state : slot < target → PassesOn slots shapes context_length slot K L → RestIsCovered slots shapes context_length target seen (slot + 1) L
+        → (f : Setting) (s : State) (b : Bool) → IsSetting slots shapes context_length f → slot ≤ s.slot → IsStart slots s.slot → K f s → ((b ≡ true) × (s.slot ≡ slot)) ⊎ ((b ≡ false) × (s.slot ≢ slot))
+        → (n : ℕ) (calls : List Asked) (t : State) → Chain f s n calls t → t.slot ≡ target → Covers f seen t
+    at_state before passes rest f s b setting le begins known (inr (e, other)) n calls t chain here =
+        rest f s setting (omega arith) begins ((passes f s setting begins known).0 other) n calls t chain here
+    at_state before passes rest f s b setting le begins known (inl (e, same)) zero calls t (none, is) here =
+        let p : t.slot ≡ s.slot = ap (λ (x : State). x.slot) is in absurd (omega (arith, p, same, here, before))
+    at_state before passes rest f s b setting le begins known (inl (e, same)) (suc n) calls t chain here =
+        let first = first_step f s n calls t chain in
+        let short : length f.context < 2 ^ 16 = subst (λ (n : ℕ). n < 2 ^ 16) (sym setting.context_long) small in
+        let next = after_one f L short s first.1 first.0 ((passes f s setting begins known).1 same) first.3 in
+        let edge : IsEdge slots s.slot first.1.slot = subst (λ (x : List (Option Insn)). IsEdge x s.slot first.1.slot) setting.slots_are next.0 in
+        let later = sound.forward s.slot first.1.slot edge in
+        rest f first.1 setting (omega (arith, later.0, same)) later.1 next.1 n first.2 t first.4 here
+
+    -- if the rest is covered after the pass of a slot, it is before
+    pub covered_before : slot < target → PassesOn slots shapes context_length slot K L → RestIsCovered slots shapes context_length target seen (slot + 1) L → RestIsCovered slots shapes context_length target seen slot K
+    covered_before before passes rest f s setting le begins known = at_state before passes rest f s _ setting le begins known (eqb_tells s.slot slot)
+
+  -- at the slot itself the view is what is known
+  pub covered_at : (target : ℕ) (pending after : List (Option (Box View Global))) (view seen : View) (live arrived : Bool)
+      → ((f : Setting) (s : State) → IsKnown pending view live target f s → IsKnown after seen arrived target f s) → slice_index_or after target None ≡ None
+      → RestIsCovered slots shapes context_length target seen target (IsKnown pending view live target)
+  covered_at target pending after view seen live arrived arrives empty f s setting le begins known (suc n) calls t chain here =
+      absurd (omega (arith, farther f setting s n calls t chain, here, le))
+  covered_at target pending after view seen live arrived arrives empty f s setting le begins known zero calls t (none, is) here =
+      let there : s.slot ≡ target = ap (λ (x : State). x.slot) (sym is) ∙ here in
+      subst (Covers f seen) (sym is) (is_seen (arrives f s known) there)
+    where
+      is_seen : IsKnown after seen arrived target f s → s.slot ≡ target → Covers f seen s
+      is_seen (inl waits) there = absurd (no_view f s (slice_index_or after target None) empty (moved f s after target there waits))
+      is_seen (inr (e, same, covers)) there = covers
+
+-- a view that covers the rest from the start covers the runs
+pub covers_runs : (slots : List (Option Insn)) (shapes : List MapShape) (context_length target : ℕ) (seen : View) (pending : List (Option (Box View Global))) (view : View)
+    → IsStart slots 0 → ((f : Setting) (maps : List (List ℕ)) → HaveShapes f.shapes maps → Covers f view (start maps))
+    → RestIsCovered slots shapes context_length target seen 0 (IsKnown pending view true 0) → CoversRuns slots shapes context_length target seen
+covers_runs slots shapes context_length target seen pending view first begins rest f maps setting have n calls t chain here =
+    rest f (start maps) setting zero-le first (inr (refl, refl, begins f maps (rw setting.shapes_are have))) n calls t chain here

@@ -1,0 +1,145 @@
+// What is known where control comes to a slot, of programs that are accepted and of others.
+
+ghost use Rattle.std.specs.Prelude.{◌≡◌, ◌≤◌, ◌<◌, ◌^◌, length, true, IfOk, IfSome};
+ghost use Rattle.bq_insn.specs.Slots.{spread};
+ghost use Rattle.bq_insn.specs.Spelling.{is_insn, is_well_formed};
+ghost use Rattle.std.specs.List.{list_all};
+ghost use Rattle.bq_views.specs.declared.view.View.{View as Knowledge};
+ghost use Rattle.bq_graph.specs.Edges.{IsStart};
+ghost use Rattle.bq_graph.specs.Passes.{IsSound};
+ghost use Rattle.bq_verify.specs.Accepted.{context_length_of};
+ghost use Rattle.bq_verify.specs.Control.{IsKnown, SparesFrame};
+ghost use Rattle.bq_verify.specs.KnownAt.{CoversRuns, RestIsCovered};
+
+use crate::hook::context_length;
+use crate::pass::{pass_slot, start};
+use crate::program::{Program, check_graph};
+use crate::refused::Refused;
+use crate::waiting::{arrive, nothing_waits};
+use bq_graph::layout::lay_out;
+use bq_insn::Insn;
+use bq_maps::shape::MapShape;
+use bq_views::view::View;
+use std::alloc::{AllocError, Global};
+
+/// What is known of registers and stack in every run that comes to the slot, before its instruction.
+///
+/// `None` where nothing is: the control graph has a fault, the pass of the verifier stops at a slot before, or none of its ways
+/// leads there. So of a program that `verify` refuses at a slot for what is not shown of the states, this tells what is known there.
+pub fn view_at(alloc: Global, program: &Program, slot: usize) -> Result<Option<View>, AllocError>
+    requires whole { is_well_formed program.now.insns.items ≡ true }
+    requires few { length program.now.shapes.items ≤ 8 }
+    ensures { IfOk result (λ known. IfSome known (CoversRuns (spread program.now.insns.items) program.now.shapes.items (context_length_of program.now.hook program.now.version) slot)) }
+{
+    known_in_slots(alloc, program, slot)
+}
+
+/// The same, of a program of some slots, but not too many.
+fn known_in_slots(alloc: Global, program: &Program, slot: usize) -> Result<Option<View>, AllocError>
+    requires registers { list_all is_insn program.now.insns.items ≡ true }
+    requires some { 0 < length (spread program.now.insns.items) }
+    requires short { length (spread program.now.insns.items) ≤ 4096 }
+    requires few { length program.now.shapes.items ≤ 8 }
+    ensures { IfOk result (λ known. IfSome known (CoversRuns (spread program.now.insns.items) program.now.shapes.items (context_length_of program.now.hook program.now.version) slot)) }
+{
+    let slots = lay_out(alloc, program.insns.as_slice())?;
+    if slot >= slots.len() {
+        return Ok(None);
+    }
+    match check_graph(alloc, slots.as_slice()) {
+        Err(Refused::OutOfMemory) => Err(AllocError),
+        Err(Refused::At { .. }) => Ok(None),
+        Ok(()) => {
+            let context = context_length(program.hook, program.version);
+            known_at(
+                alloc,
+                slots.as_slice(),
+                program.shapes.as_slice(),
+                context,
+                slot,
+            )
+        }
+    }
+}
+
+/// The same, of a program whose control graph has no fault.
+fn known_at(
+    alloc: Global,
+    slots: &[Option<Insn>],
+    shapes: &[MapShape],
+    context: usize,
+    slot: usize,
+) -> Result<Option<View>, AllocError>
+    requires sound { IsSound slots.now }
+    requires first { IsStart slots.now 0 }
+    requires short { length slots.now ≤ 4096 }
+    requires context { context < 2 ^ 16 }
+    requires few { length shapes.now ≤ 8 }
+    requires frame { SparesFrame slots.now }
+    requires inside { slot < length slots.now }
+    ensures { IfOk result (λ known. IfSome known (CoversRuns slots.now shapes.now context slot)) }
+{
+    let mut pending = nothing_waits(alloc, slots.len())?;
+    known_with(alloc, slots, shapes, context, slot, pending.as_mut_slice())
+}
+
+/// The same, where views wait in that list; none does so yet.
+fn known_with(
+    alloc: Global,
+    slots: &[Option<Insn>],
+    shapes: &[MapShape],
+    context: usize,
+    slot: usize,
+    pending: &mut [Option<Box<View>>],
+) -> Result<Option<View>, AllocError>
+    requires sound { IsSound slots.now }
+    requires first { IsStart slots.now 0 }
+    requires short { length slots.now ≤ 4096 }
+    requires context { context < 2 ^ 16 }
+    requires few { length shapes.now ≤ 8 }
+    requires frame { SparesFrame slots.now }
+    requires inside { slot < length slots.now }
+    requires room { length pending.old ≡ length slots.now }
+    ensures { IfOk result (λ known. IfSome known (CoversRuns slots.now shapes.now context slot)) }
+{
+    let mut view = start();
+    match pass_before(alloc, slots, shapes, context, slot, &mut view, pending) {
+        Ok(live) => {
+            if arrive(&mut view, live, pending, slot) {
+                Ok(Some(view))
+            } else {
+                Ok(None)
+            }
+        }
+        Err(Refused::OutOfMemory) => Err(AllocError),
+        Err(Refused::At { .. }) => Ok(None),
+    }
+}
+
+/// All slots before that one.
+fn pass_before(
+    alloc: Global,
+    slots: &[Option<Insn>],
+    shapes: &[MapShape],
+    context: usize,
+    until: usize,
+    view: &mut View,
+    pending: &mut [Option<Box<View>>],
+) -> Result<bool, Refused>
+    requires sound { IsSound slots.now }
+    requires room { length pending.old ≡ length slots.now }
+    requires short { length slots.now ≤ 4096 }
+    requires context { context < 2 ^ 16 }
+    requires few { length shapes.now ≤ 8 }
+    requires frame { SparesFrame slots.now }
+    requires inside { until < length slots.now }
+    ensures long { length pending.new ≡ length pending.old }
+    ensures covered { IfOk result (λ live. (seen : Knowledge) → RestIsCovered slots.now shapes.now context until seen until (IsKnown pending.new view.new live until)
+        → RestIsCovered slots.now shapes.now context until seen 0 (IsKnown pending.old view.old true 0)) }
+{
+    let mut live = true;
+    for slot in 0..until {
+        live = pass_slot(alloc, slots, shapes, context, slot, view, live, pending)?;
+    }
+    Ok(live)
+}

@@ -1,0 +1,60 @@
+-- What the values of a workload's keys stand for.
+use Rattle.std.specs.Prelude.{ℕ, length, ◌&&◌, ◌==◌, nat_le, nat_lt, ℤ, pos, negsuc, List, Option, Some, None, option_map, option_and_then, if◌then◌else◌, bit_and}
+use Rattle.toml.specs.Data.{Data, as_str, as_integer}
+use Rattle.bq_sizes.specs.declared.rule.Rule.{Rule}
+use Rattle.bq_sizes.specs.declared.size.Size.{Size}
+use Rattle.bq_sizes.specs.Sizes.{rule_of, size_numbered}
+use Rattle.bq_spans.specs.Durations.{duration_of}
+use Rattle.bq_spans.specs.Processors.{processors_of}
+
+-- a number from the least to the greatest
+abbrev pub within : ℕ → ℕ → ℕ → Option ℕ
+within least greatest n = if nat_le least n && nat_le n greatest then Some n else None
+
+-- a duration from the least to the greatest
+abbrev pub span_in : ℕ → ℕ → Data → Option ℕ
+span_in least greatest d = option_and_then (within least greatest) (option_and_then duration_of (as_str d))
+
+-- a whole number that is not negative
+abbrev pub whole : ℤ → Option ℕ
+whole (pos n) = Some n
+whole (negsuc n) = None
+
+-- a whole number from the least to the greatest
+abbrev pub number_in : ℕ → ℕ → Data → Option ℕ
+number_in least greatest d = option_and_then (within least greatest) (option_and_then whole (as_integer d))
+
+-- what is read of the value of a key, or the default where the key is absent
+abbrev pub or_default : {A : Type 0} → A → (Data → Option A) → Option Data → Option A
+or_default a read None = Some a
+or_default a read (Some d) = read d
+
+-- how often; for ever where the key is absent
+abbrev pub loops_of : Option Data → Option (Option ℕ)
+loops_of None = Some None
+loops_of (Some d) = option_map (λ n. Some n) (number_in 1 9223372036854775807 d)
+
+-- from -20 to 19
+abbrev pub nice_in : ℤ → Option ℤ
+nice_in (pos n) = if nat_le n 19 then Some (pos n) else None
+nice_in (negsuc n) = if nat_le n 19 then Some (negsuc n) else None
+
+abbrev pub nice_of : Data → Option ℤ
+nice_of d = option_and_then nice_in (as_integer d)
+
+-- a set of which one at least is among all
+abbrev pub some_of : ℕ → ℕ → Option ℕ
+some_of all mask = if bit_and mask all == 0 then None else Some mask
+
+abbrev pub mask_of : ℕ → Data → Option ℕ
+mask_of all d = option_and_then (some_of all) (option_and_then processors_of (as_str d))
+
+abbrev pub rule_in : Data → Option Rule
+rule_in d = option_and_then rule_of (as_str d)
+
+abbrev pub size_in : Data → Option Size
+size_in d = option_and_then size_numbered (number_in 1 64 d)
+
+-- a text with something in it
+abbrev pub name_of : Data → Option (List ℕ)
+name_of d = option_and_then (λ s. if nat_lt 0 (length s) then Some s else None) (as_str d)

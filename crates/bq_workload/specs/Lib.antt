@@ -1,0 +1,5 @@
+pub mod Tables
+pub mod Fields
+pub mod Lengths
+pub mod Actions
+pub mod Workloads

@@ -1,0 +1,123 @@
+//! The kinds of tasks of a workload.
+ghost use Rattle.std.specs.Prelude.{◌≡◌, IfOk};
+ghost use Rattle.toml.specs.View.{table_view};
+ghost use Rattle.bq_workload.specs.Workloads.{HasNumbers, IsKind, all_of};
+
+use crate::actions::take_time;
+use crate::blame::{Place, Trouble};
+use crate::doing::all_actions;
+use crate::fields::{loops, mask, name, nice, number_at, span_at};
+use crate::tables::all_known;
+use crate::why::{Range, Why};
+use bq_actions::TaskKind;
+use bq_actions::limits::{GREATEST_SLICE, LEAST_SLICE, LONGEST, MOST_TASKS};
+use bq_sizes::Size;
+use bq_spans::processors::bits;
+use std::alloc::Global;
+use toml::Table;
+
+/// The keys of a task.
+const TASK: &str = "name count nice cpus slice start loops run sleep do";
+
+/// 3 ms.
+const SLICE: u64 = 3_000_000;
+
+/// What is said of the processors of a machine: their bits, and how many they are.
+#[derive(Clone, Copy, Debug)]
+pub(crate) struct Processors {
+    pub(crate) all: u64,
+    pub(crate) number: u8,
+}
+
+impl Processors {
+    /// Those of a machine of this size.
+    pub(crate) fn of(size: Size) -> Processors
+        ensures { result.all ≡ all_of size }
+    {
+        let number = size.processors();
+        Processors {
+            all: bits(0, number - 1),
+            number,
+        }
+    }
+}
+
+/// The numbers of a kind.
+#[derive(Clone, Copy, Debug)]
+struct Numbers {
+    count: u16,
+    nice: i8,
+    mask: u64,
+    slice: u64,
+    start: u64,
+    loops: Option<u64>,
+}
+
+/// The numbers of a kind.
+fn all_numbers<'a>(table: &'a Table, processors: Processors) -> Result<Numbers, Why<'a>>
+    ensures { IfOk result (λ n. HasNumbers processors.all (table_view table.now) n.count n.nice n.mask n.slice n.start n.loops) }
+{
+    all_known(table, TASK)?;
+    let counts = Range {
+        least: 1,
+        greatest: u64::from(MOST_TASKS),
+    };
+    let slices = Range {
+        least: LEAST_SLICE,
+        greatest: GREATEST_SLICE,
+    };
+    let starts = Range {
+        least: 0,
+        greatest: LONGEST,
+    };
+    let count = number_at(table, "count", 1, counts)?;
+    let nice = nice(table)?;
+    let mask = mask(table, processors.all, processors.number)?;
+    let slice = span_at(table, "slice", SLICE, slices)?;
+    let start = span_at(table, "start", 0, starts)?;
+    let loops = loops(table)?;
+    Ok(Numbers {
+        count: count as u16,
+        nice,
+        mask,
+        slice,
+        start,
+        loops,
+    })
+}
+
+/// The kind that a table describes, by its number from 1. `names` are the names of all kinds.
+pub(crate) fn kind<'a>(
+    alloc: Global,
+    table: &'a Table,
+    number: usize,
+    names: &'a [String],
+    processors: Processors,
+) -> Result<TaskKind, Trouble<'a>>
+    ensures { IfOk result (IsKind names.now processors.all (table_view table.now)) }
+{
+    let called = name(table);
+    let place = Place::Task {
+        number,
+        name: called.ok(),
+    };
+    let name = place.says(called)?;
+    let numbers = place.says(all_numbers(table, processors))?;
+    let actions = all_actions(alloc, table, place, names)?;
+    if !take_time(actions.as_slice()) {
+        return Err(Trouble::At {
+            place,
+            why: Why::NoTime,
+        });
+    }
+    Ok(TaskKind {
+        name: String::from_str(alloc, name)?,
+        count: numbers.count,
+        nice: numbers.nice,
+        mask: numbers.mask,
+        slice: numbers.slice,
+        start: numbers.start,
+        loops: numbers.loops,
+        actions,
+    })
+}

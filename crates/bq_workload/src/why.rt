@@ -1,0 +1,185 @@
+//! What can be wrong with a table or a value.
+
+use bq_spans::duration;
+use std::fmt;
+use toml::Value;
+
+/// A stretch of numbers, both ends included.
+#[derive(Clone, Copy, Debug, PartialEq, Eq)]
+pub(crate) struct Range {
+    pub(crate) least: u64,
+    pub(crate) greatest: u64,
+}
+
+/// What a key takes.
+#[derive(Clone, Copy, Debug, PartialEq, Eq)]
+pub(crate) enum Wanted {
+    /// A duration in this range of nanoseconds.
+    Time(Range),
+    /// A whole number in this range.
+    Number(Range),
+    /// A length of a phase: a duration, or how it is drawn.
+    Length,
+    Nice,
+    Rule,
+    Size,
+    Processors,
+    /// A name of a task.
+    Name,
+    /// `true`, which is all that `wait` takes.
+    True,
+    Action,
+    Actions,
+    Table,
+    Tables,
+}
+
+/// What is wrong.
+#[derive(Clone, Copy, Debug)]
+pub(crate) enum Why<'a> {
+    /// Such a table has no such key, but these words, with blanks between them.
+    UnknownKey {
+        key: &'a str,
+        known: &'static str,
+    },
+    /// The key has to be there.
+    Missing(&'static str),
+    /// The value is not what its key takes.
+    NoSuch {
+        key: &'static str,
+        value: &'a Value,
+        wanted: Wanted,
+    },
+    /// An item of a list is not what it has to be.
+    NoItem {
+        value: &'a Value,
+        wanted: Wanted,
+    },
+    /// None of these tasks has the name.
+    UnknownTask {
+        name: &'a str,
+        names: &'a [String],
+    },
+    /// An earlier task has the name: the one of this number.
+    TwoOfName {
+        name: &'a str,
+        first: usize,
+    },
+    /// A `do` beside the keys that are short for one.
+    TwoForms,
+    /// Nothing in a `do` takes time.
+    NoTime,
+    /// None of the machine's processors, which are so many, is among those.
+    NoProcessor {
+        value: &'a Value,
+        processors: u8,
+    },
+    /// All kinds together have more tasks than there may be.
+    TooMany,
+}
+
+impl fmt::Display for Why<'_> {
+    fn fmt<W: fmt::Write>(&self, f: &mut fmt::Formatter<W>) -> fmt::Result {
+        match self {
+            Why::UnknownKey { key, known: _ } => write!(f, "unknown key {key:?}"),
+            Why::Missing(key) => write!(f, "{key} is missing"),
+            Why::NoSuch { key, value, wanted } => {
+                write!(f, "{key}: ")?;
+                misfit(f, value, wanted)
+            }
+            Why::NoItem { value, wanted } => misfit(f, value, wanted),
+            Why::UnknownTask { name, names: _ } => {
+                write!(f, "wake: no task has the name {name:?}")
+            }
+            Why::TwoOfName { name, first } => {
+                write!(f, "name: {name:?} is the name of task {first} too")
+            }
+            Why::TwoForms => f.write_str("do stands beside run or sleep, which are short for one"),
+            Why::NoTime => f.write_str("do: nothing in it takes time; let it run or sleep"),
+            Why::NoProcessor { value, processors } => {
+                write!(f, "cpus: ")?;
+                shown(f, value)?;
+                write!(
+                    f,
+                    " names none of the machine's processors, 0 to {}",
+                    processors.saturating_sub(1)
+                )
+            }
+            Why::TooMany => f.write_str("there are more than 1024 tasks in all"),
+        }
+    }
+}
+
+/// Says that a value is not what is wanted there.
+fn misfit<W: fmt::Write>(f: &mut fmt::Formatter<W>, value: &Value, wanted: &Wanted) -> fmt::Result {
+    shown(f, value)?;
+    match wanted {
+        Wanted::Time(range) => no_time(f, value, range),
+        Wanted::Length => match value {
+            Value::String(_) => no_time(
+                f,
+                value,
+                &Range {
+                    least: 1,
+                    greatest: bq_actions::limits::LONGEST,
+                },
+            ),
+            _ => f.write_str(
+                " is no length (a duration, { uniform = [LEAST, GREATEST] } or { exponential = MEAN })",
+            ),
+        },
+        Wanted::Number(range) => write!(
+            f,
+            " is no whole number from {} to {}",
+            range.least, range.greatest
+        ),
+        other => f.write_str(described(other)),
+    }
+}
+
+/// Says that a value is no duration, or none of a range.
+fn no_time<W: fmt::Write>(f: &mut fmt::Formatter<W>, value: &Value, range: &Range) -> fmt::Result {
+    let given = match value.as_str() {
+        Some(word) => duration(word.as_bytes()),
+        None => None,
+    };
+    match given {
+        Some(_) => write!(
+            f,
+            " is not from {} ns to {} ns",
+            range.least, range.greatest
+        ),
+        None => f.write_str(" is no duration (a whole number and ns, us, ms or s)"),
+    }
+}
+
+/// What a value is not, where the words are always the same.
+fn described(wanted: &Wanted) -> &'static str {
+    match wanted {
+        Wanted::Nice => " is no nice value (a whole number from -20 to 19)",
+        Wanted::Rule => " is no discipline (\"cfs\" or \"eevdf\")",
+        Wanted::Size => " is no number of processors (1, 2, 4, 8, 16, 32 or 64)",
+        Wanted::Processors =>
+            " is no list of processors (numbers from 0 to 63 and ranges, as \"0-2,5\")",
+        Wanted::Name => " is no name (a text with something in it)",
+        Wanted::True => " is not true, which is all that it takes",
+        Wanted::Action =>
+            " is no action (one of { run = LENGTH }, { sleep = LENGTH }, { wait = true } and { wake = TASK })",
+        Wanted::Actions => " is no list of actions",
+        Wanted::Table => " is no table",
+        _ => " is no list of tables ([[task]])",
+    }
+}
+
+/// Writes a value on one line.
+fn shown<W: fmt::Write>(f: &mut fmt::Formatter<W>, value: &Value) -> fmt::Result {
+    match value {
+        Value::String(text) => write!(f, "{:?}", text.as_str()),
+        Value::Integer(number) => write!(f, "{number}"),
+        Value::Boolean(truth) => write!(f, "{truth}"),
+        Value::Float(number) => write!(f, "{number}"),
+        Value::Datetime(_) => f.write_str("a date"),
+        Value::Array(_) => f.write_str("an array"),
+        Value::Table(_) => f.write_str("a table"),
+    }
+}

@@ -1,0 +1,173 @@
+//! Whole workloads.
+ghost use Rattle.std.specs.Prelude.{◌≡◌, ◌≤◌, Some, IfOk, sum_by, option_map};
+ghost use Rattle.std.specs.Result.{result_ok};
+ghost use Rattle.toml.specs.Data.{as_table};
+ghost use Rattle.toml.specs.View.{view, items_view, table_view};
+ghost use Rattle.bq_workload.specs.Workloads.{AreKinds, AreNames, Describes, IsMachine, tasks_of};
+
+use crate::actions;
+use crate::blame::{Place, Trouble};
+use crate::changes::Changes;
+use crate::fault::{Fault, meaning, syntax};
+use crate::fields::name;
+use crate::kinds::{Processors, kind};
+use crate::setup::{absent, setup};
+use crate::tables::{all_known, at};
+use crate::why::{Wanted, Why};
+use bq_actions::limits::MOST_TASKS;
+use bq_actions::{Setup, TaskKind, Workload};
+use std::alloc::Global;
+use toml::{Table, Value};
+
+/// The keys of a document.
+const DOCUMENT: &str = "machine task";
+
+/// The workload that a text describes, on its machine with these changes.
+pub fn read(alloc: Global, text: &str, changes: Changes) -> Result<Workload, Fault>
+    ensures { IfOk result (Describes text.now changes) }
+{
+    let document = match toml::table_from_str(alloc, text) {
+        Ok(document) => document,
+        Err(error) => return Err(syntax(alloc, text, &error)),
+    };
+    let (machine, tables) = match outline(&document) {
+        Ok(parts) => parts,
+        Err(trouble) => return Err(told(alloc, &trouble)),
+    };
+    let machine = changes.made(machine);
+    let names = match names(alloc, tables) {
+        Ok(names) => names,
+        Err(trouble) => return Err(told(alloc, &trouble)),
+    };
+    match kinds(
+        alloc,
+        tables,
+        names.as_slice(),
+        Processors::of(machine.size),
+    ) {
+        Ok(tasks) => Ok(Workload { machine, tasks }),
+        Err(trouble) => Err(told(alloc, &trouble)),
+    }
+}
+
+/// The fault that a trouble is told as.
+fn told(alloc: Global, trouble: &Trouble<'_>) -> Fault {
+    match trouble {
+        Trouble::OutOfMemory => Fault::OutOfMemory,
+        Trouble::At { place, why } => match meaning(alloc, place, why) {
+            Ok(fault) => fault,
+            Err(_) => Fault::OutOfMemory,
+        },
+    }
+}
+
+/// The machine of a document, and the tables of its tasks.
+fn outline(document: &Table) -> Result<(Setup, &[Value]), Trouble<'_>>
+    ensures machine { IfOk result (λ p. IsMachine (table_view document.now) p.0) }
+    ensures tasks { IfOk result (λ p. tasks_of (table_view document.now) ≡ Some (items_view p.1.now)) }
+{
+    Place::Document.says(all_known(document, DOCUMENT))?;
+    let machine = machine(document)?;
+    let tables = Place::Document.says(tables(document))?;
+    Ok((machine, tables))
+}
+
+/// The machine of a document.
+fn machine(document: &Table) -> Result<Setup, Trouble<'_>>
+    ensures { IfOk result (IsMachine (table_view document.now)) }
+{
+    match at(document, "machine") {
+        None => Ok(absent()),
+        Some(value) => {
+            let table = Place::Document.says(table_at("machine", value))?;
+            let setup = Place::Machine.says(setup(table))?;
+            Ok(setup)
+        }
+    }
+}
+
+/// The table that a value is.
+fn table_at<'a>(key: &'static str, value: &'a Value) -> Result<&'a Table, Why<'a>>
+    ensures { IfOk result (λ t. as_table (view value.now) ≡ Some (table_view t.now)) }
+{
+    match value.as_table() {
+        Some(table) => Ok(table),
+        None => Err(Why::NoSuch {
+            key,
+            value,
+            wanted: Wanted::Table,
+        }),
+    }
+}
+
+/// The tables of the tasks, at least one.
+fn tables(document: &Table) -> Result<&[Value], Why<'_>>
+    ensures { IfOk result (λ t. tasks_of (table_view document.now) ≡ Some (items_view t.now)) }
+{
+    let value = match at(document, "task") {
+        None => return Err(Why::Missing("[[task]]")),
+        Some(value) => value,
+    };
+    match value.as_array() {
+        None => Err(Why::NoSuch {
+            key: "task",
+            value,
+            wanted: Wanted::Tables,
+        }),
+        Some(tables) if tables.is_empty() => Err(Why::Missing("[[task]]")),
+        Some(tables) => Ok(tables.as_slice()),
+    }
+}
+
+/// The names of the tasks, of which no two are the same.
+fn names<'a>(alloc: Global, tables: &'a [Value]) -> Result<Vec<String>, Trouble<'a>>
+    ensures { IfOk result (λ v. AreNames (items_view tables.now) v.items) }
+{
+    let mut names = Vec::new(alloc);
+    for (index, value) in tables.iter().enumerate() {
+        let place = Place::Task {
+            number: index + 1,
+            name: None,
+        };
+        let table = place.says(table_at("task", value))?;
+        let name = place.says(name(table))?;
+        if let Some(first) = actions::place(names.as_slice(), name) {
+            return Err(Trouble::At {
+                place,
+                why: Why::TwoOfName {
+                    name,
+                    first: first + 1,
+                },
+            });
+        }
+        names.push(String::from_str(alloc, name)?)?;
+    }
+    Ok(names)
+}
+
+/// The kinds of tasks, which have at most 1,024 tasks together.
+fn kinds<'a>(
+    alloc: Global,
+    tables: &'a [Value],
+    names: &'a [String],
+    processors: Processors,
+) -> Result<Vec<TaskKind>, Trouble<'a>>
+    ensures kinds { IfOk result (λ v. AreKinds names.now processors.all (items_view tables.now) v.items) }
+    ensures few { IfOk result (λ v. sum_by (λ k. k.count) v.items ≤ 1024) }
+{
+    let mut kinds = Vec::new(alloc);
+    let mut tasks: u16 = 0;
+    for (index, value) in tables.iter().enumerate() {
+        let table = Place::Document.says(table_at("task", value))?;
+        let kind = kind(alloc, table, index + 1, names, processors)?;
+        tasks = match tasks.checked_add(kind.count) {
+            Some(tasks) if tasks <= MOST_TASKS => tasks,
+            _ => return Err(Trouble::At {
+                place: Place::Document,
+                why: Why::TooMany,
+            }),
+        };
+        kinds.push(kind)?;
+    }
+    Ok(kinds)
+}

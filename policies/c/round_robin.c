@@ -1,0 +1,19 @@
+/* hook: place
+ * maps: 8:1
+ * Each wake goes to the processor after the one of the wake before, whatever the loads are. Tasks wander; the loads
+ * even out over time and not at once. */
+#include "bqsim.h"
+
+u64 policy(const struct bq_place *ask)
+{
+    u32 entry = 0;
+    u64 *turn = bq_lookup(BQ_MAP(0), &entry);
+
+    if (!turn || ask->processors == 0)
+        return ask->own;
+    u64 next = *turn + 1;
+    if (next >= ask->processors)
+        next = 0;
+    *turn = next;
+    return next;
+}
