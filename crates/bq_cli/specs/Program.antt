@@ -26,6 +26,10 @@ par_app = with_rule (with_rule (with_rule (new_app (codes "par")) (needed_rule (
 abbrev pub replay_app : App
 replay_app = new_app (codes "replay")
 
+-- by its name alone: its options are taken elsewhere
+abbrev pub timeline_app : App
+timeline_app = new_app (codes "timeline")
+
 -- the program by its name, which tells its version
 abbrev pub named : App
 named = on_top (λ s. record s { has_version = true }) (new_app (codes "bqsim"))
@@ -36,7 +40,7 @@ with_programs = with_subcommand (with_subcommand (with_subcommand named asm_app.
 
 -- with all commands
 abbrev pub with_all : App
-with_all = with_subcommand (with_subcommand with_programs par_app.top) replay_app.top
+with_all = with_subcommand (with_subcommand (with_subcommand with_programs par_app.top) replay_app.top) timeline_app.top
 
 -- the words come without the program's name, and one of them has to be a command
 abbrev pub program : App

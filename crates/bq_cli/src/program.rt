@@ -2,7 +2,7 @@
 ghost use Rattle.std.specs.Prelude.{◌≡◌, IfOk, false};
 ghost use Rattle.clap.specs.Words.{app_of, rule_of, with_rule, with_subcommand};
 ghost use Rattle.clap.specs.declared.builder.command.Command.TheViews.{out-Command as fields_of};
-ghost use Rattle.bq_cli.specs.Program.{program, option_rule, needed_rule, asm_app, check_app, dis_app, par_app, replay_app, with_all, with_programs};
+ghost use Rattle.bq_cli.specs.Program.{program, option_rule, needed_rule, asm_app, check_app, dis_app, par_app, replay_app, timeline_app, with_all, with_programs};
 
 use clap::{Arg, Command};
 use std::alloc::{AllocError, Global};
@@ -97,6 +97,16 @@ fn replay_command<'a>(alloc: Global) -> Command<'a>
     )
 }
 
+/// The command by its name alone: its options are taken by whoever shows timelines.
+fn timeline_command<'a>(alloc: Global) -> Command<'a>
+    ensures app { app_of result ≡ timeline_app }
+    ensures local { (fields_of result).has_globals ≡ false }
+{
+    Command::new(alloc, "timeline").about(
+        "Reads a trace and shows its schedule in a form that people read",
+    )
+}
+
 /// A program with one command more.
 fn with_command<'a>(program: Command<'a>, command: Command<'a>) -> Result<Command<'a>, AllocError>
     requires local { (fields_of command).has_globals ≡ false }
@@ -122,7 +132,8 @@ fn with_all<'a>(alloc: Global) -> Result<Command<'a>, AllocError>
     ensures { IfOk result (λ c. app_of c ≡ with_all) }
 {
     let command = with_command(with_programs(alloc)?, par_command(alloc)?)?;
-    with_command(command, replay_command(alloc))
+    let command = with_command(command, replay_command(alloc))?;
+    with_command(command, timeline_command(alloc))
 }
 
 /// The program with its commands. The words come without its name.

@@ -31,7 +31,7 @@ fn ends_by_one_where_a_line_is_bad(rt: HostRuntime) {
 }
 
 /// What some words are told, and where in the text.
-const TOLD: [(&[&str], &str); 24] = [
+const TOLD: [(&[&str], &str); 25] = [
     (&[], "Usage: bqsim"),
     (&["--help"], "Usage: bqsim"),
     (&["help"], "Usage: bqsim"),
@@ -41,6 +41,7 @@ const TOLD: [(&[&str], &str); 24] = [
     (&["replay", "again"], "error: "),
     (&["--replay"], "error: "),
     (&["--help"], "check "),
+    (&["--help"], "timeline "),
     (&["check", "--help"], "Usage: bqsim check"),
     (&["asm", "--help"], "place, preempt or pull"),
     (&["asm", "--help"], "--maps <MAPS>"),

@@ -47,7 +47,7 @@ sum_run : (f : Task → ℕ) (q : List Task) (kept last : ℕ) (i : Option ℕ) 
 sum_run f q kept last None = refl
 sum_run f q kept last (Some i) = sum_started f i q (with_id i q) refl
 
-sum_decided : (f : Task → ℕ) (d : Discipline) (q : List Task) (kept : ℕ) (o : Option Task) (last : ℕ) (b : Bool) → (let p : Running = record { queue = q; kept = kept; current = o; last = last } in sum_over f (present_at (decided d p o b)) ≡ sum_over f (present_at p))
+pub sum_decided : (f : Task → ℕ) (d : Discipline) (q : List Task) (kept : ℕ) (o : Option Task) (last : ℕ) (b : Bool) → (let p : Running = record { queue = q; kept = kept; current = o; last = last } in sum_over f (present_at (decided d p o b)) ≡ sum_over f (present_at p))
 sum_decided f d q kept None last b = sum_run f q kept last (id_of (d.choice q))
 sum_decided f d q kept (Some u) last false = refl
 sum_decided f d q kept (Some u) last true = let i = next_of d u q in sum_exchanged f q kept last i u (with_id i q) refl

@@ -1,5 +1,6 @@
 pub mod Amounts
 pub mod Columns
+pub mod Extents
 pub mod Longest
 pub mod Objects
 pub mod Rows

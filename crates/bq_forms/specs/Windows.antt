@@ -5,10 +5,14 @@ use Rattle.std.specs.Int.{bit_at}
 use Rattle.bq_schedule.specs.declared.slice.Slice.{Slice}
 use Rattle.bq_forms.specs.declared.window.Window.{Window}
 
--- a processor is shown: its bit is set
-pub record ShowsProcessor (w : Window) (p : ℕ) : Type 0 where
+-- a processor is among some that are given by bits: its bit is set
+pub record IsIn (processors p : ℕ) : Type 0 where
   pub is_number : p < 64
-  pub is_chosen : bit_at w.processors p ≡ 1
+  pub is_chosen : bit_at processors p ≡ 1
+
+-- a processor is shown
+abbrev pub ShowsProcessor : Window → ℕ → Type 0
+ShowsProcessor w p = IsIn w.processors p
 
 -- a task is shown: it is named, or none is
 abbrev pub ShowsTask : Window → ℕ → Type 0

@@ -1,5 +1,5 @@
 //! Times as text.
-ghost use Rattle.std.specs.Prelude.{Some};
+ghost use Rattle.std.specs.Prelude.{◌≡◌, nat_lt, if◌then◌else◌, Some};
 ghost use Rattle.bq_forms.specs.Amounts.{thousandths, millis_text, micros_text, moment_text};
 
 use std::fmt;
@@ -59,7 +59,9 @@ pub enum Unit {
 
 impl Unit {
     /// The unit for moments that lie this far apart.
-    pub fn for_step(step: u64) -> Unit {
+    pub fn for_step(step: u64) -> Unit
+        ensures { result ≡ (if nat_lt step 1000 then Unit.Microseconds else Unit.Milliseconds) }
+    {
         if step < 1000 {
             Unit::Microseconds
         } else {

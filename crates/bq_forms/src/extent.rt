@@ -1,4 +1,6 @@
 //! The stretch of time that a picture is drawn over.
+ghost use Rattle.std.specs.Prelude.{◌≡◌, ◌-◌, IfSome};
+ghost use Rattle.bq_forms.specs.Extents.{IsInWindow};
 
 use crate::window::Window;
 use bq_schedule::Schedule;
@@ -13,7 +15,9 @@ pub struct Extent {
 
 impl Extent {
     /// That of a schedule in a window. `None` where no time passes.
-    pub fn of(schedule: &Schedule, window: &Window) -> Option<Extent> {
+    pub fn of(schedule: &Schedule, window: &Window) -> Option<Extent>
+        ensures { IfSome result (IsInWindow window.now) }
+    {
         let mut first = u64::MAX;
         let mut last = 0;
         for number in 0..64u8 {
@@ -31,7 +35,9 @@ impl Extent {
     }
 
     /// How long it is, in nanoseconds.
-    pub fn length(&self) -> u64 {
+    pub fn length(&self) -> u64
+        ensures { result ≡ self.now.to - self.now.from }
+    {
         self.to.saturating_sub(self.from)
     }
 }

@@ -16,8 +16,6 @@ pub mod rows;
 pub mod steps;
 pub mod summary;
 pub mod tables;
-#[cfg(test)]
-mod tests;
 pub mod timehist;
 pub mod window;
 

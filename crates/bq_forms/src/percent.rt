@@ -1,4 +1,6 @@
 //! Parts of a whole.
+ghost use Rattle.std.specs.Prelude.{◌≡◌, Some};
+ghost use Rattle.bq_forms.specs.Columns.{hundredths_of, percent_text};
 
 use std::fmt;
 
@@ -14,7 +16,9 @@ pub struct Percent {
 
 impl Percent {
     /// In hundredths of a percent.
-    fn hundredths(&self) -> u128 {
+    fn hundredths(&self) -> u128
+        ensures { result ≡ hundredths_of self.now.part self.now.whole }
+    {
         if self.whole == 0 {
             0
         } else {
@@ -24,6 +28,8 @@ impl Percent {
 }
 
 impl fmt::Display for Percent {
+    ghost output = { λ p. Some (percent_text p.part p.whole) };
+
     fn fmt<W: fmt::Write>(&self, f: &mut fmt::Formatter<W>) -> fmt::Result {
         let hundredths = self.hundredths();
         let whole = hundredths / 100;

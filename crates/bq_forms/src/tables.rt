@@ -1,6 +1,6 @@
 //! The tables of a report, of at most 80 columns.
-ghost use Rattle.std.specs.Prelude.{◌≡◌, ◌==◌, ◌++◌, [], OnOk, string_bytes, if◌then◌else◌};
-ghost use Rattle.bq_forms.specs.Columns.{task_columns, millis_column, latency_column, latency_columns, task_line, latency_line, hook_line};
+ghost use Rattle.std.specs.Prelude.{◌≡◌, ◌++◌, OnOk, string_bytes};
+ghost use Rattle.bq_forms.specs.Columns.{task_columns, millis_column, latency_column, latency_columns, task_line, latency_line, processor_line, hook_line_if, hook_lines, nearest};
 
 use crate::percent::Percent;
 use crate::percentiles::Percentiles;
@@ -28,8 +28,8 @@ pub fn write_task(text: &mut String, task: u16, name: &str) -> Result<(), AllocE
     write!(text, "{task:>5} {name:<14.14}")
 }
 
-/// A time in milliseconds, in 13 columns.
-fn write_millis(text: &mut String, time: u64) -> Result<(), AllocError>
+/// A time in milliseconds, in 13 columns: more where it is longer, with a space before it at all times.
+pub fn write_millis(text: &mut String, time: u64) -> Result<(), AllocError>
     ensures { OnOk result (string_bytes text.new ≡ string_bytes text.old ++ millis_column time) }
 {
     let thousandths = time / 1000;
@@ -37,10 +37,10 @@ fn write_millis(text: &mut String, time: u64) -> Result<(), AllocError>
     let tenths = thousandths / 100 % 10;
     let hundredths = thousandths / 10 % 10;
     let last = thousandths % 10;
-    write!(text, "{whole:>9}.{tenths}{hundredths}{last}")
+    write!(text, " {whole:>8}.{tenths}{hundredths}{last}")
 }
 
-/// A latency in microseconds, in 12 columns; `-` where there is none.
+/// A latency in microseconds, in 12 columns, so too; `-` where there is none.
 fn write_latency(text: &mut String, latency: Option<u64>) -> Result<(), AllocError>
     ensures { OnOk result (string_bytes text.new ≡ string_bytes text.old ++ latency_column latency) }
 {
@@ -50,14 +50,16 @@ fn write_latency(text: &mut String, latency: Option<u64>) -> Result<(), AllocErr
             let tenths = latency / 100 % 10;
             let hundredths = latency / 10 % 10;
             let last = latency % 10;
-            write!(text, "{whole:>8}.{tenths}{hundredths}{last}")
+            write!(text, " {whole:>7}.{tenths}{hundredths}{last}")
         }
         None => text.push_str("           -"),
     }
 }
 
 /// Parts of a nanosecond as the nearest number of nanoseconds. It stops at its type's greatest number.
-pub fn nanoseconds(parts: u128) -> u64 {
+pub fn nanoseconds(parts: u128) -> u64
+    ensures { result ≡ nearest parts }
+{
     u64::try_from(parts.saturating_add(PARTS / 2) / PARTS).unwrap_or(u64::MAX)
 }
 
@@ -79,7 +81,7 @@ pub fn write_task_line(
     let switches = figures.switches;
     let preemptions = figures.preemptions;
     let migrations = figures.migrations;
-    write!(text, "{switches:>9}{preemptions:>10}{migrations:>9}\n")
+    write!(text, " {switches:>8} {preemptions:>9} {migrations:>8}\n")
 }
 
 /// The line of a task's latencies, from wake to run.
@@ -93,7 +95,7 @@ pub fn write_latency_line(
     ensures { OnOk result (string_bytes text.new ≡ string_bytes text.old ++ latency_line task name.now wakes percentiles.now) }
 {
     write_task(text, task, name)?;
-    write!(text, "{wakes:>10}")?;
+    write!(text, " {wakes:>9}")?;
     write_latencies(text, percentiles)
 }
 
@@ -113,7 +115,9 @@ pub fn write_processor_line(
     text: &mut String,
     processor: u8,
     figures: &ProcessorFigures,
-) -> Result<(), AllocError> {
+) -> Result<(), AllocError>
+    ensures { OnOk result (string_bytes text.new ≡ string_bytes text.old ++ processor_line processor figures.now) }
+{
     let idle = figures.idle();
     let busy = Percent {
         part: figures.busy,
@@ -123,7 +127,7 @@ pub fn write_processor_line(
     write_millis(text, figures.busy)?;
     write_millis(text, idle)?;
     let switches = figures.switches;
-    write!(text, "{switches:>9}\n")
+    write!(text, " {switches:>8}\n")
 }
 
 /// The lines of a processor's hooks at which a policy was asked.
@@ -131,7 +135,9 @@ pub fn write_hook_lines(
     text: &mut String,
     processor: u8,
     figures: &ProcessorFigures,
-) -> Result<(), AllocError> {
+) -> Result<(), AllocError>
+    ensures { OnOk result (string_bytes text.new ≡ string_bytes text.old ++ hook_lines processor figures.now) }
+{
     write_hook_line(text, processor, "place", &figures.place)?;
     write_hook_line(text, processor, "preempt", &figures.preempt)?;
     write_hook_line(text, processor, "pull", &figures.pull)
@@ -144,8 +150,7 @@ fn write_hook_line(
     name: &str,
     figures: &HookFigures,
 ) -> Result<(), AllocError>
-    ensures { OnOk result (string_bytes text.new ≡ string_bytes text.old
-        ++ (if figures.now.asked == 0 then [] else hook_line processor name.now figures.now)) }
+    ensures { OnOk result (string_bytes text.new ≡ string_bytes text.old ++ hook_line_if processor name.now figures.now) }
 {
     if figures.asked == 0 {
         return Ok(());
@@ -155,6 +160,6 @@ fn write_hook_line(
     let steps = figures.steps;
     write!(
         text,
-        "{processor:>5} {name:<8.8}{asked:>13}{overruled:>11}{steps:>15}\n"
+        "{processor:>5} {name:<8.8} {asked:>12} {overruled:>10} {steps:>14}\n"
     )
 }

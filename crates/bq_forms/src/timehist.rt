@@ -1,6 +1,6 @@
 //! The runs as `perf sched timehist` lists them.
 ghost use Rattle.std.specs.Prelude.{◌≡◌, ◌++◌, ◌/◌, OnOk, string_bytes};
-ghost use Rattle.bq_forms.specs.Columns.{moment_columns, run_columns, thousandths_in};
+ghost use Rattle.bq_forms.specs.Columns.{moment_columns, run_columns, thousandths_cell};
 
 use crate::form::Form;
 use crate::names::Names;
@@ -106,16 +106,16 @@ fn write_named(text: &mut String, task: u16, names: &Names) -> Result<(), AllocE
     }
 }
 
-/// A time in milliseconds, in 11 columns.
+/// A time in milliseconds, in 11 columns: more where it is longer, with a space before it at all times.
 fn write_millis(text: &mut String, time: u64) -> Result<(), AllocError>
-    ensures { OnOk result (string_bytes text.new ≡ string_bytes text.old ++ thousandths_in 7 (time / 1000)) }
+    ensures { OnOk result (string_bytes text.new ≡ string_bytes text.old ++ thousandths_cell 6 (time / 1000)) }
 {
     let thousandths = time / 1000;
     let whole = thousandths / 1000;
     let tenths = thousandths / 100 % 10;
     let hundredths = thousandths / 10 % 10;
     let last = thousandths % 10;
-    write!(text, "{whole:>7}.{tenths}{hundredths}{last}")
+    write!(text, " {whole:>6}.{tenths}{hundredths}{last}")
 }
 
 impl Form for Timehist {

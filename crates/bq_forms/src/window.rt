@@ -1,7 +1,7 @@
 //! What is shown of a schedule.
-ghost use Rattle.std.specs.Prelude.{◌↔◌, IsTrue};
+ghost use Rattle.std.specs.Prelude.{◌≡◌, ◌-◌, ◌^◌, ◌↔◌, [], IsTrue};
 ghost use Rattle.std.specs.Option.{SomeIff};
-ghost use Rattle.bq_forms.specs.Windows.{ShowsProcessor, ShowsTask, Shows, ShowsPart, IsShownPart, part_of};
+ghost use Rattle.bq_forms.specs.Windows.{IsIn, ShowsProcessor, ShowsTask, Shows, ShowsPart, IsShownPart, part_of};
 
 use bq_schedule::Slice;
 use std::alloc::Global;
@@ -22,7 +22,10 @@ pub struct Window {
 
 impl Window {
     /// All of a schedule.
-    pub fn whole(alloc: Global) -> Window {
+    pub fn whole(alloc: Global) -> Window
+        ensures tasks { result.tasks.items ≡ [] }
+        ensures rest { (result.from ≡ 0) × (result.to ≡ 2 ^ 64 - 1) × (result.processors ≡ 2 ^ 64 - 1) }
+    {
         Window {
             from: 0,
             to: u64::MAX,
@@ -35,7 +38,7 @@ impl Window {
     pub fn shows_processor(&self, processor: u8) -> bool
         ensures { IsTrue result ↔ ShowsProcessor self.now processor }
     {
-        processor < 64 && (self.processors >> processor) % 2 == 1
+        is_in(self.processors, processor)
     }
 
     /// Whether a task is shown.
@@ -74,4 +77,11 @@ impl Window {
             None => None,
         }
     }
+}
+
+/// Whether a processor is among these, which are given by bits.
+pub fn is_in(processors: u64, processor: u8) -> bool
+    ensures { IsTrue result ↔ IsIn processors processor }
+{
+    processor < 64 && (processors >> processor) % 2 == 1
 }

@@ -9,12 +9,14 @@ ghost use Rattle.bq_disc.specs.Discipline.{left_at};
 ghost use Rattle.bq_disc.specs.Chains.{task_of, chain_behind, IsStraightBehind};
 ghost use Rattle.bq_disc.specs.OneProcessor.{charge, marked, start, switched, enter_all, entered, present_at};
 ghost use Rattle.bq_policies.specs.Programs.{at_hook, with_program, IsFor};
+ghost use Rattle.bq_policies.specs.Standing.{WasAnswered};
 ghost use Rattle.bq_parts.specs.Processors.{opening, load_of, size_of, count_of, HasEachOnce};
 ghost use Rattle.bq_parts.specs.Moves.{taken_from, without_task, with_pulled, started_if_idle};
 
 use crate::{Carried, Hook, Hooks, Inbox, Installed, Unlinked};
 use bq_disc::node::{self, Link};
 use bq_disc::{Entry, Node, RunQueue};
+use bq_policies::Done;
 use std::marker::Model;
 
 /// Clock readings count as at most this.
@@ -112,6 +114,14 @@ impl<Q: RunQueue> Cpu<Q> {
         ensures { result ≡ (at_hook hook self.now.programs).generation }
     {
         self.hooks.generation(hook)
+    }
+
+    /// What the policy at a hook answered when it was asked last: a run of it gives so, in so many steps. `None` where it was
+    /// not asked since it was installed.
+    pub fn answered(&self, hook: Hook) -> Option<Done>
+        ensures { WasAnswered (at_hook hook self.now.programs).policy result }
+    {
+        self.hooks.answered(hook)
     }
 
     /// How many tasks run or wait in the queue.

@@ -11,8 +11,6 @@ pub mod perfetto;
 pub mod scale;
 pub mod shapes;
 pub mod svg;
-#[cfg(test)]
-mod tests;
 
 pub use perfetto::Perfetto;
 pub use svg::Svg;

@@ -1,8 +1,11 @@
 -- What may stand at a hook: nothing, or a policy that was accepted for it, with maps of its shapes.
-use Rattle.std.specs.Prelude.{ℕ, List, Option, Some, None}
+use Rattle.std.specs.Prelude.{◌≡◌, ℕ, List, length, Option, Some, None}
 use Rattle.bq_maps.specs.Arrays.{HaveShapes}
 use Rattle.bq_verify.specs.declared.hook.Hook.{Hook}
 use Rattle.bq_verify.specs.Accepted.{Accepted, IsAccepted, context_length_of}
+use Rattle.bq_maps.specs.declared.board.Call.{Call as Asked}
+use Rattle.bq_interp.specs.declared.runs.Done.{Done}
+use Rattle.bq_policies.specs.Answers.{Answers, IsWithin}
 use Rattle.bq_policies.specs.Programs.{Program, Programs, at_hook, IsFor}
 
 -- the policy is within the limits of images, and safe within its budget
@@ -21,3 +24,21 @@ MayStand hook program = IsFor hook program.policy × IsEquipped program.policy p
 -- whatever stands at the hooks of a processor may stand there
 abbrev pub AreReady : Programs → Type 0
 AreReady programs = (hook : Hook) → MayStand hook (at_hook hook programs)
+
+-- a run of the policy on a context of its length gives that answer, in so many steps
+pub record HasAnswered (policy : Accepted) (done : Done) : Type 0 where
+  pub context : List ℕ
+  pub maps : List (List ℕ)
+  pub left : List (List ℕ)
+  pub now : ℕ
+  pub processor : ℕ
+  pub calls : List Asked
+  pub long : length context ≡ context_length_of policy.hook policy.version
+  pub answers : Answers policy context maps now processor done.r0 left done.steps calls
+  pub within : IsWithin policy done.steps calls
+
+-- what is remembered of a policy is an answer of that policy
+abbrev pub WasAnswered : Option Accepted → Option Done → Type 0
+WasAnswered policy None = Unit {0}
+WasAnswered None (Some done) = Unit {0}
+WasAnswered (Some policy) (Some done) = HasAnswered policy done

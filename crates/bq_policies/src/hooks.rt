@@ -5,6 +5,7 @@ ghost use Rattle.bq_maps.specs.Counters.{Through};
 ghost use Rattle.bq_verify.specs.Accepted.{context_length_of};
 ghost use Rattle.bq_maps.specs.Arrays.{HaveShapes};
 ghost use Rattle.bq_policies.specs.Answers.{Answers, IsWithin};
+ghost use Rattle.bq_policies.specs.Standing.{WasAnswered};
 ghost use Rattle.bq_policies.specs.Programs.{no_programs, at_hook, with_program, IsFor};
 
 use crate::{Hook, Installed, Scratch, Version};
@@ -75,6 +76,17 @@ impl Hooks {
             Hook::Place => self.place.version(),
             Hook::Preempt => self.preempt.version(),
             Hook::Pull => self.pull.version(),
+        }
+    }
+
+    /// What the policy at a hook answered when it was asked last; `None` where it was not asked since it was installed.
+    pub fn answered(&self, hook: Hook) -> Option<Done>
+        ensures { WasAnswered (at_hook hook self.now).policy result }
+    {
+        match hook {
+            Hook::Place => self.place.answered(),
+            Hook::Preempt => self.preempt.answered(),
+            Hook::Pull => self.pull.answered(),
         }
     }
 

@@ -5,7 +5,7 @@ ghost use Rattle.bq_maps.specs.Counters.{Through};
 ghost use Rattle.bq_verify.specs.Accepted.{context_length_of};
 ghost use Rattle.bq_maps.specs.Arrays.{HaveShapes};
 ghost use Rattle.bq_policies.specs.Answers.{Answers, IsWithin, fresh_maps};
-ghost use Rattle.bq_policies.specs.Standing.{IsEquipped};
+ghost use Rattle.bq_policies.specs.Standing.{IsEquipped, WasAnswered};
 ghost use Rattle.bq_policies.specs.Programs.{no_program};
 
 use crate::{Policy, Scratch};
@@ -15,22 +15,24 @@ use bq_verify::Version;
 use std::alloc::{AllocError, Global};
 use std::marker::Model;
 
-/// A policy or none, its generation, and the policy's own maps. The generation is 0 where nothing was installed yet.
+/// A policy or none, its generation, and the policy's own maps. The generation is 0 where nothing was installed yet. It also
+/// remembers what the policy answered last; contracts see no state in that.
 #[derive(Drop)]
 pub struct Installed {
     equipped: Option<Equipped>,
     generation: u64,
+    answered: Option<Done>,
 }
 
 impl Model for Installed {
     ghost use Rattle.bq_policies.specs.Programs.{Program, policy_in, maps_in};
-    ghost use Rattle.bq_policies.specs.Standing.{IsEquipped};
+    ghost use Rattle.bq_policies.specs.Standing.{IsEquipped, WasAnswered};
 
     ghost Value = { Program };
 
     ghost view = { λ i. record { policy = policy_in i.equipped; generation = i.generation; maps = maps_in i.equipped } };
 
-    ghost invariant = { λ i. IsEquipped (policy_in i.equipped) (maps_in i.equipped) };
+    ghost invariant = { λ i. IsEquipped (policy_in i.equipped) (maps_in i.equipped) × WasAnswered (policy_in i.equipped) i.answered };
 }
 
 impl Installed {
@@ -41,6 +43,7 @@ impl Installed {
         Installed {
             equipped: None,
             generation: 0,
+            answered: None,
         }
     }
 
@@ -59,6 +62,7 @@ impl Installed {
         Ok(Installed {
             equipped,
             generation,
+            answered: None,
         })
     }
 
@@ -98,6 +102,14 @@ impl Installed {
         }
     }
 
+    /// What the policy answered when it was asked last: a run of it on some context gives so, in so many steps. `None` where it
+    /// was not asked since it was installed.
+    pub fn answered(&self) -> Option<Done>
+        ensures { WasAnswered self.now.policy result }
+    {
+        self.answered
+    }
+
     /// What the policy answers on a context, and in how many steps. Its maps are then as it left them, and the list of
     /// the scratch space holds its calls of counters. It takes no memory, and ends within the policy's budget.
     pub fn ask<B: Board>(
@@ -118,7 +130,9 @@ impl Installed {
         let Some(equipped) = &mut self.equipped else {
             unreachable!()
         };
-        equipped.ask(context, env, scratch, board)
+        let done = equipped.ask(context, env, scratch, board);
+        self.answered = Some(done);
+        done
     }
 }
 

@@ -20,6 +20,3 @@ pub use figures::{HookFigures, ProcessorFigures, TaskFigures};
 pub use latencies::Latencies;
 pub use schedule::{PARTS, Schedule};
 pub use slice::Slice;
-
-#[cfg(test)]
-mod tests;

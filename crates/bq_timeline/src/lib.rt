@@ -8,13 +8,12 @@ pub mod command;
 pub mod faults;
 pub mod form_names;
 pub mod happenings;
+pub mod near;
 pub mod numbers;
 pub mod screen;
 pub mod settings;
 pub mod showing;
 pub mod shown;
-#[cfg(test)]
-mod tests;
 pub mod viewer;
 pub mod why_text;
 pub mod words_of;

@@ -2,12 +2,14 @@
 
 use crate::faults::why_bad;
 use crate::happenings::{Because, InWords};
+use crate::near::Near;
 use crate::settings::Settings;
 use crate::shown::Shown;
 use bq_core::{Event, Refusal, Reply};
 use bq_forms::Names;
 use bq_load::LoadFault;
 use bq_schedule::{Change, Schedule};
+use bq_sizes::Rule;
 use bq_trace::Machine;
 use std::alloc::{AllocError, Global};
 
@@ -17,6 +19,10 @@ pub struct Screen {
     names: Names,
     shown: Shown,
     has_notes: bool,
+    /// The bounds of the rule, once there is a machine, where the form shows them.
+    near: Option<Near>,
+    /// The processors that are shown, by bits.
+    processors: u64,
     /// What goes to the output, since it was cleared last.
     pub text: String,
     /// What goes to standard error.
@@ -27,7 +33,10 @@ impl Screen {
     /// Nothing is written yet.
     pub fn new(alloc: Global, settings: Settings) -> Screen {
         let has_notes = settings.form.has_notes();
+        let processors = settings.window.processors;
         Screen {
+            near: None,
+            processors,
             names: Names::new(alloc),
             shown: Shown::of(alloc, settings),
             has_notes,
@@ -45,8 +54,16 @@ impl Screen {
         }
     }
 
-    /// The machine is made.
-    pub fn begin(&mut self, schedule: &Schedule) -> Result<(), AllocError> {
+    /// The machine is made, under a rule.
+    pub fn begin(
+        &mut self,
+        alloc: Global,
+        rule: Rule,
+        schedule: &Schedule,
+    ) -> Result<(), AllocError> {
+        if let Shown::Report(_) = &self.shown {
+            self.near = Some(Near::new(alloc, rule, schedule.processors())?);
+        }
         self.shown.begin(schedule, &self.names, &mut self.text)
     }
 
@@ -59,6 +76,9 @@ impl Screen {
     pub fn comes(&mut self, event: &Event, machine: &Machine) {
         if let Shown::Why(form) = &mut self.shown {
             form.comes(event, machine);
+        }
+        if let Some(near) = &mut self.near {
+            near.comes(event, machine);
         }
     }
 
@@ -101,6 +121,9 @@ impl Screen {
                 &mut self.text,
             );
         }
+        if let Some(near) = &mut self.near {
+            near.answered(event, reply, machine, change);
+        }
         self.shown
             .take(change, schedule, &self.names, &mut self.text)
     }
@@ -138,6 +161,9 @@ impl Screen {
     /// The trace is over. So many lines were bad or refused.
     pub fn end(&mut self, schedule: &Schedule, troubles: u64) -> Result<(), AllocError> {
         self.shown.end(schedule, &self.names, &mut self.text)?;
+        if let Some(near) = &self.near {
+            near.write(self.processors, &mut self.text)?;
+        }
         for task in 0..1024u16 {
             if let Some(processor) = schedule.undrained(task) {
                 write!(

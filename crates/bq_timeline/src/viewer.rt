@@ -46,9 +46,9 @@ impl Viewer {
 impl Sink for Viewer {
     ghost takes = { λ old n news new. (new.schedule ≡ watched old.schedule news) × (new.troubles ≡ troubled old.troubles news) };
 
-    fn opened(&mut self, _number: u64, _rule: Rule, size: Size) -> Result<(), AllocError> {
+    fn opened(&mut self, _number: u64, rule: Rule, size: Size) -> Result<(), AllocError> {
         let schedule = Schedule::new(self.alloc, size.processors())?;
-        self.screen.begin(&schedule)?;
+        self.screen.begin(self.alloc, rule, &schedule)?;
         self.schedule = Some(schedule);
         Ok(())
     }

@@ -2,13 +2,12 @@
 
 use crate::happenings::InWords;
 use crate::words_of::{Ids, Lag, Virtual, Who};
-use bq_core::{By, Event, Reply};
-use bq_disc::Entity;
+use bq_core::{By, Event, Hook, Reply};
 use bq_forms::{Millis, Names, Window};
 use bq_schedule::Change;
 use bq_sizes::Rule;
 use bq_trace::{Machine, Seen};
-use bq_why::{Reason, Row, present, rows, why};
+use bq_why::{Reason, Row, answer, present, rows, why};
 use std::alloc::{AllocError, Global};
 
 /// How far ahead a task may be under CFS before it gives way, in virtual nanoseconds.
@@ -20,7 +19,57 @@ struct Choice {
     processor: u8,
     run: Option<u16>,
     by: By,
+    asked: Asked,
+}
+
+/// What came of asking a policy.
+#[derive(Clone, Copy)]
+struct Asked {
+    /// The instructions that it took, 0 where none was asked.
     steps: u32,
+    /// The number that it answered.
+    answer: Option<u64>,
+}
+
+impl Asked {
+    /// No policy was asked.
+    fn nobody() -> Asked {
+        Asked {
+            steps: 0,
+            answer: None,
+        }
+    }
+
+    /// The policy at a hook of a processor took so many steps.
+    fn at(machine: &Machine, processor: u8, hook: Hook, steps: u32) -> Asked {
+        let answer = match machine.seen(processor) {
+            Some(Seen::Cfs(cpu)) => answer(cpu, hook, steps),
+            Some(Seen::Eevdf(cpu)) => answer(cpu, hook, steps),
+            None => None,
+        };
+        Asked { steps, answer }
+    }
+
+    /// Adds what the policy at a hook answered.
+    fn write_answer(&self, text: &mut String, hook: &str) -> Result<(), AllocError> {
+        let steps = self.steps;
+        match self.answer {
+            Some(answer) => write!(text, "policy at {hook} answered {answer} ({steps} steps)\n"),
+            None => write!(text, "policy at {hook} answered so ({steps} steps)\n"),
+        }
+    }
+
+    /// Adds that the policy's answer is not permitted, where one was asked and the rule chose all the same.
+    fn write_overruled(&self, text: &mut String) -> Result<(), AllocError> {
+        let steps = self.steps;
+        match self.answer {
+            Some(answer) => write!(
+                text,
+                "policy's answer {answer} is not permitted ({steps} steps); "
+            ),
+            None => Ok(()),
+        }
+    }
 }
 
 /// The form `why`, of what is in its window.
@@ -33,7 +82,7 @@ pub struct Why {
 }
 
 /// The processor at which an event may choose, and its time.
-fn place_of(event: &Event) -> Option<(u8, u64)> {
+pub(crate) fn place_of(event: &Event) -> Option<(u8, u64)> {
     match event {
         Event::EndWake { processor, now }
         | Event::Drain { processor, now }
@@ -105,13 +154,16 @@ impl Why {
                 to,
                 by,
                 steps,
-            } => write_place(text, names, *task, *to, *by, *steps),
+            } => {
+                let asked = Asked::at(machine, processor, Hook::Place, *steps);
+                write_place(text, names, *task, *to, *by, &asked)
+            }
             Reply::Drained { run, by, steps, .. } | Reply::Ticked { run, by, steps } => {
                 let choice = Choice {
                     processor,
                     run: *run,
                     by: *by,
-                    steps: *steps,
+                    asked: Asked::at(machine, processor, Hook::Preempt, *steps),
                 };
                 self.write_choice(text, names, machine, &choice)
             }
@@ -126,7 +178,8 @@ impl Why {
                 by,
                 steps,
             } => {
-                write_pull(text, names, *task, *by, *steps)?;
+                let asked = Asked::at(machine, processor, Hook::Pull, *steps);
+                write_pull(text, names, *task, *by, &asked)?;
                 if self.was.is_none() {
                     self.write_start(text, names, machine, processor, *run)
                 } else {
@@ -173,7 +226,7 @@ impl Why {
             processor,
             run,
             by: By::Discipline,
-            steps: 0,
+            asked: Asked::nobody(),
         };
         self.write_choice(text, names, machine, &choice)
     }
@@ -199,14 +252,7 @@ impl Why {
             self.write_rows(text, names, rule, rows.as_slice(), choice.run)?;
         }
         let reason = why(rule, choice.by, self.was, choice.run, tasks.as_slice());
-        self.write_reason(
-            text,
-            names,
-            choice,
-            reason,
-            tasks.as_slice(),
-            rows.as_slice(),
-        )
+        self.write_reason(text, names, choice, reason, rows.as_slice())
     }
 
     /// Adds a line a task.
@@ -258,7 +304,6 @@ impl Why {
         names: &Names,
         choice: &Choice,
         reason: Reason,
-        tasks: &[Entity],
         rows: &[Row],
     ) -> Result<(), AllocError> {
         let Some(run) = choice.run else {
@@ -266,15 +311,11 @@ impl Why {
         };
         let who = Who { names, task: run };
         write!(text, "    {who} runs: ")?;
-        if choice.by == By::Discipline && choice.steps > 0 {
-            let steps = choice.steps;
-            write!(
-                text,
-                "policy's answer at preempt is not permitted ({steps} steps); "
-            )?;
+        if choice.by == By::Discipline {
+            choice.asked.write_overruled(text)?;
         }
         match reason {
-            Reason::Policy => self.write_policy(text, choice, tasks),
+            Reason::Policy => choice.asked.write_answer(text, "preempt"),
             Reason::EarliestDeadline => {
                 let eligible = Ids { names, rows };
                 write!(text, "the earliest deadline of the eligible {eligible}\n")
@@ -302,26 +343,6 @@ impl Why {
             Reason::Nobody | Reason::Other => text.push_str("not the rule's choice\n"),
         }
     }
-
-    /// Adds what the policy at preempt said. Where nobody else was there it can't be told from who runs.
-    fn write_policy(
-        &self,
-        text: &mut String,
-        choice: &Choice,
-        tasks: &[Entity],
-    ) -> Result<(), AllocError> {
-        let steps = choice.steps;
-        if self.was != choice.run {
-            write!(text, "policy at preempt answered 1 ({steps} steps)\n")
-        } else if tasks.len() > 1 {
-            write!(text, "policy at preempt answered 0 ({steps} steps)\n")
-        } else {
-            write!(
-                text,
-                "policy at preempt answered, and nobody else is there ({steps} steps)\n"
-            )
-        }
-    }
 }
 
 /// Adds where a woken task is placed, and why.
@@ -331,19 +352,14 @@ fn write_place(
     task: u16,
     to: u8,
     by: By,
-    steps: u32,
+    asked: &Asked,
 ) -> Result<(), AllocError> {
     let who = Who { names, task };
     write!(text, "    {who} is placed on {to}: ")?;
     match by {
-        By::Policy => write!(text, "policy at place answered {to} ({steps} steps)\n"),
+        By::Policy => asked.write_answer(text, "place"),
         By::Discipline => {
-            if steps > 0 {
-                write!(
-                    text,
-                    "policy's answer at place is not permitted ({steps} steps); "
-                )?;
-            }
+            asked.write_overruled(text)?;
             text.push_str("the least load in its mask, where it was last if that ties\n")
         }
     }
@@ -355,7 +371,7 @@ fn write_pull(
     names: &Names,
     task: Option<u16>,
     by: By,
-    steps: u32,
+    asked: &Asked,
 ) -> Result<(), AllocError> {
     match task {
         Some(task) => {
@@ -365,14 +381,9 @@ fn write_pull(
         None => text.push_str("    nothing is pulled: ")?,
     }
     match by {
-        By::Policy => write!(text, "policy at pull answered so ({steps} steps)\n"),
+        By::Policy => asked.write_answer(text, "pull"),
         By::Discipline => {
-            if steps > 0 {
-                write!(
-                    text,
-                    "policy's answer at pull is not permitted ({steps} steps); "
-                )?;
-            }
+            asked.write_overruled(text)?;
             match task {
                 Some(_) => text.push_str(
                     "two tasks more are there, and of those that may go it is last by v\n",

@@ -1,1 +1,2 @@
 pub mod FromTheBack
+pub mod AnsweredFacts

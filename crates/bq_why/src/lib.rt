@@ -4,12 +4,14 @@
 //! Stands on the definitions of the two disciplines.
 #![tactic(auto)]
 
+pub mod answers;
 pub mod choices;
 pub mod presence;
 pub mod reasons;
 pub mod table;
 pub mod totals;
 
+pub use answers::answer;
 pub use choices::choice;
 pub use presence::present;
 pub use reasons::{Reason, why};

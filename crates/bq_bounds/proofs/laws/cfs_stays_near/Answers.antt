@@ -1,0 +1,5 @@
+use Rattle.bq_bounds.proofs.Near.{cfs_stays_near}
+use Rattle.bq_bounds.proofs.laws.cfs_stays_near.Goals as goal
+
+pub returns : goal.returns
+returns c = cfs_stays_near

@@ -1,0 +1,5 @@
+use Rattle.bq_bounds.proofs.Near.{eevdf_stays_near}
+use Rattle.bq_bounds.proofs.laws.eevdf_stays_near.Goals as goal
+
+pub returns : goal.returns
+returns c = eevdf_stays_near

@@ -1,0 +1,24 @@
+-- One charge, as the laws of fairness see it.
+use Rattle.std.specs.Prelude.{ℕ, ◌+◌, ◌-◌, ◌^◌, min, List, Option, Some, None, find}
+use Rattle.std.specs.Option.{option_map}
+use Rattle.bq_weights.specs.VirtualTime.{vdelta_of, advance_of}
+use Rattle.bq_disc.specs.Tasks.{Task}
+use Rattle.bq_disc.specs.Queues.{follows}
+use Rattle.bq_sizes.specs.declared.rule.Rule.{Rule}
+use Rattle.bq_sizes.specs.declared.rule.Rule.TheVariants.{Cfs, Eevdf}
+use Rattle.bq_bounds.specs.declared.standing.Standing.{Standing}
+use Rattle.bq_bounds.specs.declared.charge.Charge.{Charge}
+
+-- the least v of those that wait in a queue, which stand by rising v
+abbrev pub least_waiting : List Task → Option ℕ
+least_waiting queue = option_map (λ (t : Task). t.v) (find (follows None) queue)
+
+-- How far a task of this v and weight comes beyond a base when it is charged for a rise of the clock; and how far it may, where so
+-- much is allowed beside what the clock has risen by since the discipline decided
+abbrev pub charge_from : ℕ → ℕ → ℕ → ℕ → ℕ → ℕ → Charge
+charge_from base allowance v weight rise since = record { difference = advance_of v rise weight - base; bound = min (allowance + vdelta_of since weight) (2 ^ 64 - 1) }
+
+-- under CFS beyond the least that waits, by the granularity; under EEVDF ahead of the mean
+abbrev pub charge_of : Rule → Standing → ℕ → ℕ → ℕ → Option Charge
+charge_of Cfs s rise since mean = option_map (λ least. charge_from least 1000000 s.v s.weight rise since) s.least
+charge_of Eevdf s rise since mean = Some (charge_from mean 0 s.v s.weight rise since)

@@ -1,0 +1,4 @@
+pub mod Charges
+pub mod Standings
+pub mod Watches
+pub mod Nearness

@@ -1,0 +1,58 @@
+//! One charge, as the laws of fairness see it.
+ghost use Rattle.std.specs.Prelude.{◌≡◌, ◌-◌, ◌^◌, min};
+ghost use Rattle.bq_weights.specs.VirtualTime.{IsWeight, vdelta_of};
+ghost use Rattle.bq_bounds.specs.Charges.{charge_of, charge_from};
+
+use crate::standing::Standing;
+use bq_sizes::Rule;
+use bq_weights::GREATEST;
+
+/// Under CFS a task gives way where it is further ahead than this, in virtual nanoseconds.
+const GRANULARITY: u64 = 1_000_000;
+
+/// How far the task that ran was beyond where its rule measures from when its time was charged, and how far it may be: virtual
+/// nanoseconds.
+#[derive(Clone, Copy, Debug, PartialEq, Eq)]
+pub struct Charge {
+    pub difference: u64,
+    pub bound: u64,
+}
+
+impl Standing {
+    /// The charge of a rise of the clock, which has risen so far since the discipline decided who runs. Under CFS it measures
+    /// from the least of those that wait, and there is none where none does; under EEVDF from the mean, as it is after the
+    /// charge.
+    pub fn charge(&self, rule: Rule, rise: u64, since: u64, mean: u64) -> Option<Charge>
+        ensures { result ≡ charge_of rule self.now rise since mean }
+    {
+        match rule {
+            Rule::Cfs => match self.least {
+                Some(least) => Some(self.charge_from(least, GRANULARITY, rise, since)),
+                None => None,
+            },
+            Rule::Eevdf => Some(self.charge_from(mean, 0, rise, since)),
+        }
+    }
+
+    /// The charge, measured from there, where so much is allowed beside what the rise since the decision takes.
+    fn charge_from(&self, base: u64, allowance: u64, rise: u64, since: u64) -> Charge
+        ensures { result ≡ charge_from base allowance self.now.v self.now.weight rise since }
+    {
+        let come = virtual_time(rise, self.weight);
+        let v = self.v.saturating_add(come).min(GREATEST);
+        let most = virtual_time(since, self.weight);
+        Charge {
+            difference: v.saturating_sub(base),
+            bound: allowance.saturating_add(most),
+        }
+    }
+}
+
+/// The virtual time that a time takes at a weight. It stops at its type's greatest number.
+fn virtual_time(time: u64, weight: u32) -> u64
+    requires { IsWeight weight }
+    ensures { result ≡ min (vdelta_of time weight) (2 ^ 64 - 1) }
+{
+    let whole = u128::from(time) * 1024 / u128::from(weight);
+    u64::try_from(whole).unwrap_or(u64::MAX)
+}

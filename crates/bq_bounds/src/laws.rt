@@ -1,0 +1,18 @@
+//! Laws of what is measured: each is the contract of a function that does nothing.
+ghost use Rattle.bq_bounds.specs.Nearness.{CfsStaysNear, EevdfStaysNear, KeepsTheGreatest};
+
+/// CFS: from a decision of the discipline on, as long as nothing comes or goes, the task that runs is beyond none that was there by
+/// more than 1,000,000 and what the rise of the clock since then takes at its weight.
+pub fn cfs_stays_near()
+    ensures { CfsStaysNear }
+{}
+
+/// EEVDF: so too it is ahead of the mean by no more than what that rise takes at its weight.
+pub fn eevdf_stays_near()
+    ensures { EevdfStaysNear }
+{}
+
+/// What is kept of some charges is one of them, and none has a greater difference.
+pub fn keeps_the_greatest()
+    ensures { KeepsTheGreatest }
+{}

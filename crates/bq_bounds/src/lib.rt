@@ -1,0 +1,17 @@
+//! How near a processor comes to the bounds of fairness, charge by charge.
+//! Promises that what is measured is exact, that the greatest is kept, and that no measure passes its bound (laws).
+//! Stands on bq_fair for what fairness is, and on the definitions of one processor.
+#![tactic(auto)]
+
+pub mod bounds;
+pub mod charge;
+pub mod laws;
+pub mod seen;
+pub mod standing;
+pub mod watch;
+
+pub use bounds::Bounds;
+pub use charge::Charge;
+pub use seen::how_it_stands;
+pub use standing::Standing;
+pub use watch::Watch;

@@ -1,0 +1,33 @@
+//! How a processor stands, as it is seen before an event.
+ghost use Rattle.std.specs.Prelude.{◌≡◌};
+ghost use Rattle.bq_bounds.specs.Charges.{least_waiting};
+ghost use Rattle.bq_bounds.specs.Standings.{IsStanding};
+
+use crate::standing::Standing;
+use bq_disc::RunQueue;
+use bq_parts::Cpu;
+
+/// How a processor stands; `None` where nothing runs. It takes a time in the logarithm of the tasks that wait.
+pub fn how_it_stands<Q: RunQueue>(cpu: &Cpu<Q>) -> Option<Standing>
+    ensures { IsStanding cpu.now.running.current cpu.now.running.queue result }
+{
+    let least = least_waiting(cpu);
+    match cpu.current() {
+        None => None,
+        Some(node) => {
+            let v = node.entity.v();
+            let weight = node.entity.weight();
+            Some(Standing { v, weight, least })
+        }
+    }
+}
+
+/// The least virtual runtime of those that wait.
+fn least_waiting<Q: RunQueue>(cpu: &Cpu<Q>) -> Option<u64>
+    ensures { result ≡ least_waiting cpu.now.running.queue }
+{
+    match cpu.after(None) {
+        None => None,
+        Some(node) => Some(node.entity.v()),
+    }
+}

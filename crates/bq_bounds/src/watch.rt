@@ -1,0 +1,148 @@
+//! The charges of one processor, as far as its discipline alone decides who runs there.
+ghost use Rattle.std.specs.Prelude.{◌≡◌};
+ghost use Rattle.bq_bounds.specs.Watches.{unwatched, risen, measured, decided, disturbed, charged, greater, watch_after, settled};
+
+use crate::charge::Charge;
+use crate::standing::Standing;
+use bq_parts::{By, Event, Reply};
+use bq_sizes::Rule;
+
+/// A processor as its charges come. Counts stop at their type's greatest number.
+#[derive(Clone, Copy, Debug, PartialEq, Eq)]
+pub struct Watch {
+    /// How far its clock has risen since its discipline decided who runs; `None` where a policy decided last, or a pull has
+    /// disturbed what the discipline saw.
+    pub since: Option<u64>,
+    /// How many charges were measured.
+    pub measured: u64,
+    /// How many were not.
+    pub left_out: u64,
+    /// Of those that were measured the first of greatest difference.
+    pub greatest: Option<Charge>,
+}
+
+impl Watch {
+    /// Nothing was decided yet.
+    pub fn new() -> Watch
+        ensures { result ≡ unwatched }
+    {
+        Watch {
+            since: None,
+            measured: 0,
+            left_out: 0,
+            greatest: None,
+        }
+    }
+
+    /// An event of the processor was answered, whose clock rose by so much; it stood so before, and this is its mean since
+    /// the charge.
+    pub fn take(
+        &mut self,
+        rule: Rule,
+        event: &Event,
+        reply: &Reply,
+        standing: Option<Standing>,
+        rise: u64,
+        mean: u64,
+    )
+        ensures { self.new ≡ watch_after rule event.now reply.now standing rise mean self.old }
+    {
+        self.rise(rise);
+        if let Some(standing) = standing {
+            self.charge(rule, &standing, rise, mean);
+        }
+        self.settle(event, reply, standing.is_some());
+    }
+
+    /// The clock has risen.
+    fn rise(&mut self, rise: u64)
+        ensures { self.new ≡ risen rise self.old }
+    {
+        if let Some(since) = self.since {
+            self.since = Some(since.saturating_add(rise));
+        }
+    }
+
+    /// The task that ran is charged.
+    fn charge(&mut self, rule: Rule, standing: &Standing, rise: u64, mean: u64)
+        ensures { self.new ≡ charged rule standing.now rise mean self.old.since self.old }
+    {
+        match self.since {
+            Some(since) => {
+                if let Some(charge) = standing.charge(rule, rise, since, mean) {
+                    self.measure(charge);
+                }
+            }
+            None => self.left_out = self.left_out.saturating_add(1),
+        }
+    }
+
+    /// One charge more.
+    pub fn measure(&mut self, charge: Charge)
+        ensures { self.new ≡ measured charge self.old }
+    {
+        self.measured = self.measured.saturating_add(1);
+        self.greatest = Some(greater(self.greatest, charge));
+    }
+
+    /// Who decided now, if anyone did; `was_busy` where a task ran before.
+    fn settle(&mut self, event: &Event, reply: &Reply, was_busy: bool)
+        ensures { self.new ≡ settled event.now reply.now was_busy self.old }
+    {
+        match (event, reply) {
+            (
+                Event::Tick { .. },
+                Reply::Ticked {
+                    run: _,
+                    by,
+                    steps: _,
+                },
+            ) => self.decide(*by),
+            (
+                Event::Drain { .. },
+                Reply::Drained {
+                    count: _,
+                    run: _,
+                    by,
+                    steps: _,
+                },
+            ) => self.decide(*by),
+            (Event::Block { .. }, Reply::Blocked { .. }) => self.decide(By::Discipline),
+            (Event::Pull { .. }, Reply::Pulled { task, .. }) => {
+                if !was_busy {
+                    self.decide(By::Discipline);
+                } else if task.is_some() {
+                    self.disturb();
+                }
+            }
+            _ => {}
+        }
+    }
+
+    /// It is decided who runs.
+    fn decide(&mut self, by: By)
+        ensures { self.new ≡ decided by self.old }
+    {
+        self.since = match by {
+            By::Discipline => Some(0),
+            By::Policy => None,
+        };
+    }
+
+    /// A task came or went that the discipline did not see when it decided.
+    pub fn disturb(&mut self)
+        ensures { self.new ≡ disturbed self.old }
+    {
+        self.since = None;
+    }
+}
+
+/// The one of greater difference; of equal ones the first.
+fn greater(first: Option<Charge>, second: Charge) -> Charge
+    ensures { result ≡ greater first second }
+{
+    match first {
+        Some(first) if first.difference >= second.difference => first,
+        _ => second,
+    }
+}

@@ -1,0 +1,279 @@
+//! Each form on a small trace, with its text worked out by hand.
+
+use bq_forms::{Csv, Form, Json, Map, Names, Report, Timehist, Window};
+use bq_parts::{By, Event, Refusal, Reply};
+use bq_schedule::Schedule;
+use std::alloc::{AllocError, Global};
+use std::test::Fail;
+
+/// One step of a trace.
+type Step = (Event, Result<Reply, Refusal>);
+
+/// Two tasks on two processors, by the clocks in milliseconds. Task 1 is placed on processor 0 at 0 and runs there from 0 to 2; at 2
+/// task 2, which was placed at 1, is put in its place and runs till 5, when it goes to sleep and task 1 runs again, till 6. There
+/// processor 1 pulls nothing, but a second task 3 is woken at 6 to processor 1, and runs there from 7 to 8.
+fn steps(alloc: Global) -> Result<Vec<Step>, AllocError> {
+    let mut steps = Vec::new(alloc);
+    for (task, nice) in [(1u16, 0i8), (2, 0), (3, 5)] {
+        let event = Event::Admit {
+            task,
+            nice,
+            mask: 3,
+            slice: 3_000_000,
+        };
+        steps.push((event, Ok(Reply::Admitted)))?;
+    }
+    steps.push(placed(0, 0, 1, 0))?;
+    steps.push(drained(0, 0, Some(1)))?;
+    steps.push(placed(1, 1_000_000, 2, 0))?;
+    steps.push(drained(0, 2_000_000, Some(2)))?;
+    steps.push((
+        Event::Block {
+            processor: 0,
+            now: 5_000_000,
+        },
+        Ok(Reply::Blocked {
+            task: 2,
+            run: Some(1),
+        }),
+    ))?;
+    steps.push(placed(0, 6_000_000, 3, 1))?;
+    steps.push(drained(1, 7_000_000, Some(3)))?;
+    steps.push((
+        Event::Tick {
+            processor: 1,
+            now: 8_000_000,
+        },
+        Ok(Reply::Ticked {
+            run: Some(3),
+            by: By::Policy,
+            steps: 4,
+        }),
+    ))?;
+    Ok(steps)
+}
+
+/// A wake at a processor's clock that placed a task.
+fn placed(processor: u8, now: u64, task: u16, to: u8) -> Step {
+    (
+        Event::EndWake { processor, now },
+        Ok(Reply::Placed {
+            task,
+            to,
+            by: By::Discipline,
+            steps: 0,
+        }),
+    )
+}
+
+/// A drain after which this task runs.
+fn drained(processor: u8, now: u64, run: Option<u16>) -> Step {
+    (
+        Event::Drain { processor, now },
+        Ok(Reply::Drained {
+            count: 1,
+            run,
+            by: By::Discipline,
+            steps: 0,
+        }),
+    )
+}
+
+/// What a form shows of the trace. Task 3 is named.
+fn shown<F: Form>(alloc: Global, mut form: F) -> Result<String, AllocError> {
+    let mut schedule = Schedule::new(alloc, 2)?;
+    let mut names = Names::new(alloc);
+    names.learn(b"# task 3 server")?;
+    let mut text = String::new(alloc);
+    form.begin(&schedule, &names, &mut text)?;
+    for (event, answer) in steps(alloc)? {
+        let change = schedule.take(&event, &answer);
+        form.take(&change, &schedule, &names, &mut text)?;
+    }
+    form.end(&schedule, &names, &mut text)?;
+    Ok(text)
+}
+
+/// The rows of the slices: each from a reading of the clock to the next.
+const CSV: &str = "processor,task,from,to\n\
+    0,1,0,2000000\n\
+    0,2,2000000,5000000\n\
+    0,1,5000000,6000000\n\
+    1,3,7000000,8000000\n";
+
+/// 24 columns leave 16 for 8 ms.
+const MAP: &str = concat!(
+    "        |0.000 ms\n",
+    "cpu 0   AAAABBBBBBAA....\n",
+    "cpu 1   ..............CC\n",
+    "\n",
+    "a column is 0.500 ms; . is idle\n",
+    "A  task 1\n",
+    "B  task 2\n",
+    "C  task 3  server\n",
+);
+
+/// 80 columns leave 72, of which 8 ms take 40.
+const WIDE_MAP: &str = concat!(
+    "        |0.000 ms           |4.000 ms\n",
+    "cpu 0   AAAAAAAAAABBBBBBBBBBBBBBBAAAAA..........\n",
+    "cpu 1   ...................................CCCCC\n",
+    "\n",
+    "a column is 0.200 ms; . is idle\n",
+    "A  task 1\n",
+    "B  task 2\n",
+    "C  task 3  server\n",
+);
+
+/// Till 5 ms tasks 1 and 2 share processor 0 in halves, since its clock is first read again after task 2 was placed there.
+const REPORT: &str = concat!(
+    " task name            nice       cpu ms      fair ms switches preempted migrated\n",
+    "    1                   0        3.000        3.500        2         1        0\n",
+    "    2                   0        3.000        2.500        1         0        0\n",
+    "    3 server            5        1.000        1.000        1         0        0\n",
+    "\n",
+    " task name               wakes      p50 us      p95 us      p99 us      max us\n",
+    "    1                        1       0.000       0.000       0.000       0.000\n",
+    "    2                        1    1000.000    1000.000    1000.000    1000.000\n",
+    "    3 server                 1    1000.000    1000.000    1000.000    1000.000\n",
+    "\n",
+    "  cpu  busy %      busy ms      idle ms switches\n",
+    "    0  100.00        6.000        0.000        3\n",
+    "    1   14.28        1.000        6.000        1\n",
+    "\n",
+    "  cpu hook            asked  overruled          steps\n",
+    "    1 preempt             1          0              4\n",
+);
+
+const TIMEHIST: &str = concat!(
+    "           time    cpu  task                  wait time  sch delay   run time\n",
+    "                                                 (msec)     (msec)     (msec)\n",
+    "--------------- ------  --------------------  ---------  ---------  ---------\n",
+    "       0.000000 [0000]  <idle>                awakened: 1 on cpu 0\n",
+    "       0.001000 [0001]  <idle>                awakened: 2 on cpu 0\n",
+    "       0.002000 [0000]      1                     0.000      0.000      2.000\n",
+    "       0.005000 [0000]      2                     1.000      1.000      3.000\n",
+    "       0.006000 [0000]      1                 awakened: 3 server on cpu 1\n",
+    "       0.006000 [0000]      1                     3.000      0.000      1.000  runs on\n",
+    "       0.008000 [0001]      3 server              1.000      1.000      1.000  runs on\n",
+);
+
+/// The keys of an object stand in their order as text.
+const JSON: &str = concat!(
+    "{\"tasks\":[\n",
+    "{\"counts\":{\"migrations\":0,\"preemptions\":1,\"switches\":2,\"wakes\":1},\"fair\":3500000,",
+    "\"latency\":{\"max\":0,\"p50\":0,\"p95\":0,\"p99\":0},\"name\":null,\"nice\":0,\"ran\":3000000,",
+    "\"task\":1,\"waited\":3000000,\"weight\":1024},\n",
+    "{\"counts\":{\"migrations\":0,\"preemptions\":0,\"switches\":1,\"wakes\":1},\"fair\":2500000,",
+    "\"latency\":{\"max\":1000000,\"p50\":1000000,\"p95\":1000000,\"p99\":1000000},\"name\":null,",
+    "\"nice\":0,\"ran\":3000000,\"task\":2,\"waited\":1000000,\"weight\":1024},\n",
+    "{\"counts\":{\"migrations\":0,\"preemptions\":0,\"switches\":1,\"wakes\":1},\"fair\":1000000,",
+    "\"latency\":{\"max\":1000000,\"p50\":1000000,\"p95\":1000000,\"p99\":1000000},\"name\":\"server\",",
+    "\"nice\":5,\"ran\":1000000,\"task\":3,\"waited\":1000000,\"weight\":335}\n",
+    "],\"processors\":[\n",
+    "{\"busy\":6000000,\"idle\":0,\"place\":{\"asked\":0,\"overruled\":0,\"steps\":0},",
+    "\"preempt\":{\"asked\":0,\"overruled\":0,\"steps\":0},\"processor\":0,",
+    "\"pull\":{\"asked\":0,\"overruled\":0,\"steps\":0},\"switches\":3},\n",
+    "{\"busy\":1000000,\"idle\":6000000,\"place\":{\"asked\":0,\"overruled\":0,\"steps\":0},",
+    "\"preempt\":{\"asked\":1,\"overruled\":0,\"steps\":4},\"processor\":1,",
+    "\"pull\":{\"asked\":0,\"overruled\":0,\"steps\":0},\"switches\":1}\n",
+    "]}\n",
+);
+
+#[test]
+fn forms(rt: HostRuntime) -> Result<(), Fail> {
+    let alloc = rt.alloc();
+    let csv = shown(alloc, Csv::new(alloc, Window::whole(alloc)))?;
+    assert_eq!(rt; csv.as_str(), CSV);
+    let map = shown(alloc, Map::new(alloc, Window::whole(alloc), 24))?;
+    assert_eq!(rt; map.as_str(), MAP);
+    let map = shown(alloc, Map::new(alloc, Window::whole(alloc), 80))?;
+    assert_eq!(rt; map.as_str(), WIDE_MAP);
+    let report = shown(alloc, Report::new(alloc, Window::whole(alloc)))?;
+    assert_eq!(rt; report.as_str(), REPORT);
+    let timehist = shown(alloc, Timehist::new(Window::whole(alloc)))?;
+    assert_eq!(rt; timehist.as_str(), TIMEHIST);
+    let json = shown(alloc, Json::new(alloc, Window::whole(alloc)))?;
+    assert_eq!(rt; json.as_str(), JSON);
+    Ok(())
+}
+
+/// From 1 ms to 5.5 ms at processor 0, task 1 alone.
+fn part(alloc: Global) -> Result<Window, AllocError> {
+    let mut window = Window::whole(alloc);
+    window.from = 1_000_000;
+    window.to = 5_500_000;
+    window.processors = 1;
+    window.tasks.push(1)?;
+    Ok(window)
+}
+
+#[test]
+fn windows(rt: HostRuntime) -> Result<(), Fail> {
+    let alloc = rt.alloc();
+    let csv = shown(alloc, Csv::new(alloc, part(alloc)?))?;
+    assert_eq!(rt;
+        csv.as_str(),
+        "processor,task,from,to\n0,1,1000000,2000000\n0,1,5000000,5500000\n"
+    );
+    let map = shown(alloc, Map::new(alloc, part(alloc)?, 17))?;
+    assert_eq!(rt;
+        map.as_str(),
+        "        |1.000 ms\ncpu 0   AA......A\n\na column is 0.500 ms; . is idle\nA  task 1\n"
+    );
+    Ok(())
+}
+
+/// Task 4 runs 1 ms at processor 0, is pulled by processor 1 and runs there: it has migrated once.
+#[test]
+fn migrations(rt: HostRuntime) -> Result<(), Fail> {
+    let alloc = rt.alloc();
+    let mut schedule = Schedule::new(alloc, 2)?;
+    let names = Names::new(alloc);
+    let mut text = String::new(alloc);
+    let mut form = Timehist::new(Window::whole(alloc));
+    let pull = Event::Pull {
+        processor: 1,
+        from: 0,
+        now: 3_000_000,
+    };
+    let pulled = Ok(Reply::Pulled {
+        task: Some(4),
+        run: Some(4),
+        by: By::Discipline,
+        steps: 0,
+    });
+    for (event, answer) in [
+        placed(0, 0, 4, 0),
+        drained(0, 0, Some(4)),
+        drained(0, 1_000_000, Some(5)),
+        (pull, pulled),
+    ] {
+        let change = schedule.take(&event, &answer);
+        form.take(&change, &schedule, &names, &mut text)?;
+    }
+    let lines = concat!(
+        "       0.000000 [0000]  <idle>                awakened: 4 on cpu 0\n",
+        "       0.001000 [0000]      4                     0.000      0.000      1.000\n",
+        "       0.003000 [0001]      4                 migrated: cpu 0 => 1\n",
+    );
+    assert_eq!(rt; text.as_str(), lines);
+    Ok(())
+}
+
+/// A comment names a task by its number; another comment, and a number that no task has, name none.
+#[test]
+fn names(rt: HostRuntime) -> Result<(), Fail> {
+    let alloc = rt.alloc();
+    let mut names = Names::new(alloc);
+    names.learn(b"#task 7 web server \r")?;
+    names.learn(b"# task 70000 none")?;
+    names.learn(b"# tasks 8 none")?;
+    names.learn(b"# task 9")?;
+    assert_eq!(rt; names.of(7), Some("web server"));
+    assert_eq!(rt; names.of(8), None);
+    assert_eq!(rt; names.of(9), None);
+    names.learn(b"  # task 7 other")?;
+    assert_eq!(rt; names.of(7), Some("other"));
+    Ok(())
+}

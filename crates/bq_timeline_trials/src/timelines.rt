@@ -1,0 +1,228 @@
+//! A choice shown, lines that are bad or refused, and the words of options. The values are worked by hand.
+
+use bq_timeline::faults::why_bad;
+use bq_timeline::numbers::{processors, tasks, time, width};
+use bq_timeline::{Settings, Words, show};
+use bq_trace::Counted;
+use std::alloc::Global;
+use std::str::from_utf8;
+use std::test::Fail;
+
+/// What is written for a trace in a form up to a time, what is noted, and whether no line was bad or refused.
+fn shown(
+    alloc: Global,
+    form: &str,
+    to: Option<&str>,
+    trace: &str,
+) -> Result<(String, String, bool), Fail> {
+    let to = match to {
+        Some(to) => Some(String::from_str(alloc, to)?),
+        None => None,
+    };
+    let words = Words {
+        file: None,
+        form: Some(String::from_str(alloc, form)?),
+        from: None,
+        to,
+        cpus: None,
+        tasks: None,
+        width: None,
+    };
+    let settings = Settings::of(alloc, &words)?;
+    let mut input = Counted::new(trace.as_bytes());
+    let mut output = Counted::new(Vec::new(alloc));
+    let outcome = show(alloc, settings, &mut input, &mut output)?;
+    let written = output.into_inner();
+    let text = String::from_str(alloc, from_utf8(written.as_slice())?)?;
+    Ok((text, outcome.notes, outcome.clean))
+}
+
+/// At 1 ms the v of `short` is 1 ms, that of `long` 0, and their mean 0.5 ms: `short` has the earlier deadline, 2 ms, and is not
+/// eligible. At 2 ms v is 1 ms for both.
+const EEVDF: &str =
+    "machine eevdf 1\n# task 1 long\n# task 2 short\nadmit 1 0 1 3000000\nadmit 2 0 1 1000000\n\
+wake 0 1 0\nwake 0 2 0\ndrain 0 0\ntick 0 1000000\ntick 0 2000000\n";
+
+#[test]
+fn the_earliest_deadline_is_passed_over(rt: HostRuntime) -> Result<(), Fail> {
+    let (text, notes, clean) = shown(rt.alloc(), "why", Some("1ms"), EEVDF)?;
+    assert_eq!(rt;
+        text.as_str(),
+        "0.000 ms  line 6: end 0\n    \
+long is placed on 0: the least load in its mask, where it was last if that ties\n\
+0.000 ms  line 7: end 0\n    \
+short is placed on 0: the least load in its mask, where it was last if that ties\n\
+0.000 ms  line 8: drain 0\n    mark 0.000\n      \
+task        weight          v   deadline        lag\n    \
+> short         1024      0.000      1.000     +0.000  eligible\n      \
+long          1024      0.000      3.000     +0.000  eligible\n    \
+short runs: the earliest deadline of the eligible {short, long}\n\
+1.000 ms  line 9: tick 0\n    mark 0.500\n      \
+task        weight          v   deadline        lag\n    \
+> long          1024      0.000      3.000     +0.500  eligible\n      \
+short         1024      1.000      2.000     -0.500  not eligible\n    \
+long runs: the earliest deadline of the eligible {long}\n"
+    );
+    assert_eq!(rt; notes.as_str(), "");
+    assert!(rt; clean);
+    Ok(())
+}
+
+/// Under CFS 1 runs for 2 ms while 2 waits at 0: at 1 ms it is not yet more than 1 ms ahead, at 2 ms it is.
+const CFS: &str =
+    "machine cfs 1\nadmit 1 0 1 1000000\nadmit 2 0 1 1000000\nwake 0 1 0\nwake 0 2 0\ndrain 0 0\n\
+tick 0 1000000\ntick 0 2000000\n";
+
+#[test]
+fn a_task_gives_way(rt: HostRuntime) -> Result<(), Fail> {
+    let (text, _, _) = shown(rt.alloc(), "why", None, CFS)?;
+    assert!(rt;
+        text.as_str()
+            .contains("    1 runs: least virtual runtime\n")
+    );
+    assert!(rt;
+        text.as_str().contains(
+            "    1 runs: 1.000 ms ahead of 2, and gives way only beyond 1.000 ms\n"
+        )
+    );
+    assert!(rt;
+        text.as_str()
+            .ends_with("    2 runs: 1 gives way: 2.000 ms ahead of 2\n")
+    );
+    Ok(())
+}
+
+#[test]
+fn lines_stand_in_their_places(rt: HostRuntime) -> Result<(), Fail> {
+    let trace =
+        "machine cfs 1\nblock 0 1\ntick 300 0\nadmit 1 0 1 1000000\nwake 0 1 5\nwake 0 9 5\nshow 4\n";
+    let (text, notes, clean) = shown(rt.alloc(), "timehist", None, trace)?;
+    assert!(rt;
+        text.as_str().contains(
+            "line 2: block 0: nothing runs there\nline 3: 300 does not fit a processor's number (0 to 255)\n"
+        )
+    );
+    assert!(rt;
+        text.as_str().contains(
+            "line 6: begin 0 9: no such task is admitted\nline 7: show 4: the machine has no such processor\n"
+        )
+    );
+    assert_eq!(rt;
+        notes.as_str(),
+        "task 1 was placed on processor 0, which was never drained after\nlines bad or refused: 4\n"
+    );
+    assert!(rt; !clean);
+    let (_, notes, clean) = shown(rt.alloc(), "csv", None, "machine cfs 1\ntick 0\n")?;
+    assert_eq!(rt;
+        notes.as_str(),
+        "line 2: tick takes 2 words after it\nlines bad or refused: 1\n"
+    );
+    assert!(rt; !clean);
+    Ok(())
+}
+
+/// Bad lines, and why.
+const BAD: [(&str, &str); 8] = [
+    ("tock 0 1", "tock is no command"),
+    ("machine lottery 1", "lottery is no rule (cfs or eevdf)"),
+    (
+        "machine cfs 3",
+        "3 is no number of processors (1, 2, 4, 8, 16, 32 or 64)",
+    ),
+    ("machine cfs 1", "the machine is made already"),
+    (
+        "admit 65536 0 1 1",
+        "65536 does not fit a task's number (0 to 65535)",
+    ),
+    (
+        "install 0 1 block none",
+        "block is no hook (place, preempt or pull)",
+    ),
+    ("counter 64", "64 does not fit a counter's number (0 to 63)"),
+    ("draw 1", "draw takes 0 words after it"),
+];
+
+#[test]
+fn bad_lines_say_why(rt: HostRuntime) -> Result<(), Fail> {
+    for (line, because) in BAD {
+        let text = why_bad(Some(line.as_bytes()), true).to_string(rt.alloc())?;
+        assert_eq!(rt; text.as_str(), because);
+    }
+    Ok(())
+}
+
+#[test]
+fn words_are_numbers(rt: HostRuntime) -> Result<(), Fail> {
+    assert!(rt; time("1500") == Some(1500));
+    assert!(rt; time("1.5ms") == Some(1_500_000));
+    assert!(rt; time("2s") == Some(2_000_000_000));
+    assert!(rt; time("0.0015us") == Some(1));
+    assert!(rt; time("1.").is_none());
+    assert!(rt; time("ms").is_none());
+    assert!(rt; time("1 ms").is_none());
+    assert!(rt; time("99999999999s").is_none());
+    assert!(rt; processors("0-3,8") == Some(271));
+    assert!(rt; processors("64").is_none());
+    assert!(rt; processors("0-").is_none());
+    assert!(rt; width("80") == Some(80));
+    assert!(rt; width("8").is_none());
+    let Some(named) = tasks(rt.alloc(), "1,4")? else {
+        return Err(Fail::from("tasks were refused"));
+    };
+    assert!(rt; named.as_slice() == [1, 4].as_slice());
+    assert!(rt; tasks(rt.alloc(), "1,,4")?.is_none());
+    Ok(())
+}
+
+/// Policies that answer 200 and 1 at `preempt` and 7 at `place`, each `mov64 r0, ..` and `exit`.
+const POLICIES: &str = concat!(
+    "machine cfs 1\nadmit 1 0 1 1000000\nadmit 2 0 1 1000000\ndraw\ninstall 0 1 preempt 425150490101000002000000b7000000c80000009500000000000000\n",
+    "wake 0 1 0\nwake 0 2 0\ndrain 0 0\ntick 0 1000000\ndraw\ninstall 0 2 preempt 425150490101000002000000b7000000010000009500000000000000\n",
+    "tick 0 1500000\ndraw\ninstall 0 3 place 425150490100000002000000b7000000070000009500000000000000\nblock 0 1600000\nwake 0 2 1700000\n",
+);
+
+#[test]
+fn what_policies_answered_is_shown(rt: HostRuntime) -> Result<(), Fail> {
+    let (text, _, clean) = shown(rt.alloc(), "why", None, POLICIES)?;
+    assert!(rt; clean, "{text}");
+    assert!(rt;
+        text.as_str().contains(
+            "    1 runs: policy's answer 200 is not permitted (2 steps); 1.000 ms ahead of 2, and gives way only beyond 1.000 ms\n"
+        ),
+        "{text}"
+    );
+    assert!(rt;
+        text.as_str()
+            .contains("    2 runs: policy at preempt answered 1 (2 steps)\n"),
+        "{text}"
+    );
+    assert!(rt;
+        text.as_str().contains(
+            "    2 is placed on 0: policy's answer 7 is not permitted (2 steps); the least load in its mask"
+        ),
+        "{text}"
+    );
+    Ok(())
+}
+
+/// Under CFS 1 runs for 2 ms while 2 waits, by two charges: the second takes it as far as it may. Under EEVDF `short` runs for 1 ms,
+/// which takes it 0.5 ms beyond the mean; `long` comes up to the mean after it. A policy that answers decides for the rule.
+#[test]
+fn bounds_stand_below_a_report(rt: HostRuntime) -> Result<(), Fail> {
+    let (text, _, _) = shown(rt.alloc(), "report", None, CFS)?;
+    assert!(rt;
+        text.as_str().ends_with(concat!(
+            "\n  cpu law                 charges left out  greatest ms   at most ms   of it\n",
+            "    0 beyond the least          2        0        2.000        2.000  100.00 %\n",
+        ),),
+        "{text}"
+    );
+    let (text, _, _) = shown(rt.alloc(), "report", None, EEVDF)?;
+    assert!(rt;
+        text.as_str().ends_with(
+            "    0 ahead of the mean         2        0        0.500        1.000   50.00 %\n"
+        ),
+        "{text}"
+    );
+    Ok(())
+}

@@ -1,0 +1,20 @@
+//! What policies answered.
+ghost use Rattle.std.specs.Prelude.{IfSome};
+ghost use Rattle.bq_policies.specs.Programs.{at_hook};
+ghost use Rattle.bq_policies.specs.Standing.{HasAnswered};
+
+use bq_core::{Cpu, Hook};
+use bq_disc::RunQueue;
+
+/// The number that the policy at a hook answered when it was asked last, if it took so many steps then: a run of the policy that
+/// stands there gives that number in so many.
+#[tactic(auto, using(crate::proofs::AnsweredFacts::answered_by))]
+pub fn answer<Q: RunQueue>(cpu: &Cpu<Q>, hook: Hook, steps: u32) -> Option<u64>
+    ensures { IfSome result (λ r0. IfSome (at_hook hook cpu.now.programs).policy
+        (λ policy. HasAnswered policy (record { r0 = r0; steps = steps }))) }
+{
+    match cpu.answered(hook) {
+        Some(done) if done.steps == steps => Some(done.r0),
+        _ => None,
+    }
+}

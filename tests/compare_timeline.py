@@ -1,0 +1,371 @@
+#!/usr/bin/env python3
+"""Compares the timelines of bqsim with those of the model, which is written from docs/ alone.
+
+    tests/compare_timeline.py BQSIM [TRACES [SEED]]      so many drawn traces (200 if left out)
+    tests/compare_timeline.py BQSIM --near [TRACES [SEED]]   drawn histories of the discipline alone, and how near they come
+
+BQSIM is the path of the program. Of each trace `csv` must have the model's slices, `json` its figures of tasks and
+processors (times, waits, latencies, fair times and counts, to the nanosecond), and `report` its table of bounds. The second
+form draws ticks, wakes and blocks at processors where no policy stands, and says how much of the bounds was reached.
+
+All this is run by hand, and is no part of the gate.
+"""
+import json
+import random
+import subprocess
+import sys
+
+sys.dont_write_bytecode = True
+
+from model import draw, images, scheduler
+from model.replies import Bad, cut, machine, said
+from model.scheduler import Eevdf, vdelta
+
+PARTS = 10**12
+
+
+class Figures:
+    """Those of a task."""
+
+    def __init__(self):
+        self.weight = self.nice = 0
+        self.place = self.since = self.woken = self.before = None
+        self.joined = self.settled = 0
+        self.ran = self.waited = 0
+        self.latencies = []
+        self.counts = dict.fromkeys(["wakes", "switches", "preemptions", "migrations"], 0)
+
+
+class Place:
+    """What is known of a processor beside the model's own state."""
+
+    def __init__(self):
+        self.first = None
+        self.weight = self.shared = self.busy = self.switches = 0
+        self.hooks = {hook: dict.fromkeys(["asked", "overruled", "steps"], 0) for hook in images.HOOKS}
+        self.since = None  # the rise of the clock since the discipline decided
+        self.measured = self.left_out = 0
+        self.greatest = None
+
+
+class Watched:
+    """A world, and what its events tell."""
+
+    def __init__(self, world):
+        self.world, self.slices, self.tasks = world, [], {}
+        self.places = [Place() for _ in world.processors]
+        self.ran = [None] * len(world.processors)
+
+    def task(self, number):
+        return self.tasks.setdefault(number, Figures())
+
+    # What each event tells
+
+    def answered(self, name, operands, reply, before):
+        if reply.startswith("refused"):
+            return
+        words = reply.split()
+        if name == "admit":
+            number, nice = operands[0], operands[1]
+            figures = self.task(number)
+            figures.nice, figures.weight = nice, scheduler.WEIGHTS[nice + 20]
+        if name not in ("end", "drain", "tick", "block", "pull"):
+            return
+        cpu = operands[0]
+        here = self.world.processors[cpu]
+        self.passes(cpu, before, here.last)
+        self.measures(name, cpu, operands, words, before)
+        if name == "end":
+            self.asked(cpu, "place", words[-3:])
+            self.places_task(int(words[1]), int(words[3]), here.last)
+        elif name in ("drain", "tick"):
+            self.asked(cpu, "preempt", words[-3:])
+            self.runs(cpu, here, "preempted")
+        elif name == "block":
+            self.leaves(int(words[1]))
+            self.runs(cpu, here, "blocked")
+        elif name == "pull":
+            self.asked(cpu, "pull", words[-3:])
+            if words[1] != "none":
+                figures = self.task(int(words[1]))
+                figures.waited += max(0, here.last - figures.since)
+                self.leaves(int(words[1]))
+                self.joins(int(words[1]), cpu, here.last)
+            self.runs(cpu, here, "preempted")
+
+    def passes(self, cpu, before, now):
+        place, time = self.places[cpu], now - before["last"]
+        place.first = now if place.first is None else place.first
+        if before["runs"] is None or time == 0:
+            return
+        self.slices.append((cpu, before["runs"], before["last"], now))
+        self.task(before["runs"]).ran += time
+        place.busy += time
+        if place.weight:
+            place.shared += time * PARTS // place.weight
+
+    def asked(self, cpu, hook, by):
+        """`by` is the end of a reply: `rule steps 7`."""
+        figures, steps = self.places[cpu].hooks[hook], int(by[2])
+        figures["asked"] += by[0] == "policy" or steps > 0
+        figures["overruled"] += by[0] == "rule" and steps > 0
+        figures["steps"] += steps
+
+    def leaves(self, number):
+        figures = self.task(number)
+        if figures.place is not None:
+            place = self.places[figures.place]
+            figures.settled += figures.weight * (place.shared - figures.joined)
+            place.weight -= figures.weight
+            figures.place = None
+
+    def joins(self, number, cpu, now):
+        figures, place = self.task(number), self.places[cpu]
+        figures.place, figures.since, figures.joined = cpu, now, place.shared
+        place.weight += figures.weight
+
+    def places_task(self, number, cpu, now):
+        self.joins(number, cpu, now)
+        figures = self.task(number)
+        figures.counts["wakes"] += 1
+        figures.woken = now
+
+    def runs(self, cpu, here, why):
+        was, now = self.ran[cpu], here.current.number if here.current else None
+        if was == now:
+            return
+        if was is not None and why == "preempted":
+            self.task(was).counts["preemptions"] += 1
+            self.task(was).since = here.last
+        self.ran[cpu] = now
+        if now is None:
+            return
+        figures = self.task(now)
+        figures.counts["switches"] += 1
+        figures.counts["migrations"] += figures.before not in (None, cpu)
+        figures.waited += max(0, here.last - figures.since)
+        if figures.woken is not None:
+            figures.latencies.append(max(0, here.last - figures.woken))
+        figures.woken, figures.before = None, cpu
+        self.places[cpu].switches += 1
+
+    # Bounds
+
+    def measures(self, name, cpu, operands, words, before):
+        """The charge of the task that ran: how far it came beyond the least that waited, or ahead of the mean."""
+        place, here = self.places[cpu], self.world.processors[cpu]
+        time = here.last - before["last"]
+        if place.since is not None:
+            place.since += time
+        if before["runs"] is not None:
+            if place.since is None:
+                place.left_out += 1
+            else:
+                come = min(before["v"] + vdelta(time, before["weight"]), scheduler.MOST_V)
+                most = vdelta(place.since, before["weight"])
+                if isinstance(here.rule, Eevdf):
+                    self.measure(place, max(0, come - here.mark), most)
+                elif before["waits"]:
+                    self.measure(place, max(0, come - min(before["waits"])), 1_000_000 + most)
+        if name in ("tick", "drain"):
+            place.since = 0 if words[-3] == "rule" else None
+        elif name == "block":
+            place.since = 0
+        elif name == "pull":
+            if before["runs"] is None:
+                place.since = 0
+            elif words[1] != "none":
+                place.since = None
+            if words[1] != "none" and isinstance(here.rule, Eevdf):
+                self.places[operands[1]].since = None
+
+    def measure(self, place, difference, bound):
+        assert difference <= bound, (difference, bound)
+        place.measured += 1
+        if place.greatest is None or difference > place.greatest[0]:
+            place.greatest = difference, bound
+
+    # Forms
+
+    def csv(self):
+        return "processor,task,from,to\n" + "".join(f"{','.join(map(str, each))}\n" for each in self.slices)
+
+    def json(self):
+        def rank(values, percent):
+            values = sorted(values)
+            return values[max(1, -(-percent * len(values) // 100)) - 1] if values else None
+
+        def fair(figures):
+            there = 0
+            if figures.place is not None:
+                there = figures.weight * (self.places[figures.place].shared - figures.joined)
+            return (figures.settled + there + PARTS // 2) // PARTS
+
+        tasks = [
+            {
+                "task": number, "name": None, "nice": figures.nice, "weight": figures.weight, "ran": figures.ran,
+                "fair": fair(figures), "waited": figures.waited, "counts": figures.counts,
+                "latency": {name: rank(figures.latencies, percent) for name, percent in [("p50", 50), ("p95", 95), ("p99", 99), ("max", 100)]},
+            }
+            for number, figures in sorted(self.tasks.items())
+        ]  # fmt: skip
+        processors = [
+            {
+                "processor": number, "busy": place.busy, "switches": place.switches, **place.hooks,
+                "idle": 0 if place.first is None else here.last - place.first - place.busy,
+            }
+            for number, (place, here) in enumerate(zip(self.places, self.world.processors))
+        ]  # fmt: skip
+        return {"tasks": tasks, "processors": processors}
+
+    def bounds(self):
+        """The rows of the table, as words."""
+
+        def millis(time):
+            return f"{time // 10**6}.{time // 1000 % 1000:03}"
+
+        rows = []
+        for number, (place, here) in enumerate(zip(self.places, self.world.processors)):
+            if place.greatest:
+                law = "ahead of the mean" if isinstance(here.rule, Eevdf) else "beyond the least"
+                difference, bound = place.greatest
+                part = difference * 10_000 // bound if bound else 0
+                counts = [place.measured, place.left_out, millis(difference), millis(bound), f"{part // 100}.{part % 100:02}"]
+                rows.append(f"{number} {law} {' '.join(map(str, counts))} %".split())
+        return rows
+
+
+def state(world, operands):
+    """A processor before an event."""
+    if not operands or operands[0] >= len(world.processors):
+        return None
+    here = world.processors[operands[0]]
+    current = here.current
+    return {
+        "last": here.last, "runs": current.number if current else None, "v": current.v if current else 0,
+        "weight": current.weight if current else 0, "waits": [task.v for task in here.queue],
+    }  # fmt: skip
+
+
+class Teller:
+    """Stands for a world, and tells each event and its reply."""
+
+    def __init__(self, watched):
+        self.watched = watched
+
+    def __getattr__(self, name):
+        world, watched = self.watched.world, self.watched
+
+        def event(*operands):
+            before = state(world, operands)
+            reply = getattr(world, name)(*operands)
+            watched.answered(name, operands, reply, before)
+            return reply
+
+        return event
+
+
+def watched(lines):
+    """What the model has of a trace; None where it has no machine."""
+    seen, begun = None, False
+    for line in lines:
+        try:
+            words = cut(line.removesuffix("\r"))
+            if not words:
+                continue
+            if begun:
+                if seen:
+                    said(Teller(seen), words)
+                continue
+            begun = True
+            seen = Watched(machine(words))
+        except Bad:
+            begun = True
+    return seen
+
+
+def timeline(program, form, text):
+    done = subprocess.run([*program, "--as", form], input=text, capture_output=True, text=True, timeout=600)
+    return done.stdout
+
+
+def table_of_bounds(report):
+    lines = report.splitlines()
+    heads = [at for at, line in enumerate(lines) if line.startswith("  cpu law ")]
+    return [line.split() for line in lines[heads[0] + 1 :]] if heads else []
+
+
+def compare(program, lines):
+    """The number of slices, which are alike; and the model's world."""
+    text, ours = "\n".join(lines) + "\n", watched(lines)
+    if not ours:
+        return 0, None
+    if timeline(program, "csv", text) != ours.csv():
+        raise SystemExit(leave(lines, "csv differs"))
+    theirs = json.loads(timeline(program, "json", text))
+    if theirs != ours.json():
+        for one, other in zip(ours.json()["tasks"] + ours.json()["processors"], theirs["tasks"] + theirs["processors"]):
+            if one != other:
+                raise SystemExit(leave(lines, f"json differs: the model has\n{one}\nthe program\n{other}"))
+        raise SystemExit(leave(lines, "json differs"))
+    rows = table_of_bounds(timeline(program, "report", text))
+    if rows != ours.bounds():
+        raise SystemExit(leave(lines, f"bounds differ: the model has\n{ours.bounds()}\nthe program\n{rows}"))
+    return len(ours.slices), ours
+
+
+def leave(lines, why):
+    with open("differs.trace", "w") as file:
+        file.write("\n".join(lines) + "\n")
+    return f"{why}\nthe trace is in differs.trace"
+
+
+def near_trace(dice):
+    """A history of one or two processors at which the discipline alone decides, with a rise that is nearly always the same."""
+    rule, size = dice.choice(["cfs", "eevdf"]), dice.choice([1, 2])
+    lines, clock = [f"machine {rule} {size}"], [0] * size
+    count, rise = dice.randrange(2, 7), dice.choice([1_000_000, 4_000_000, 999_999])
+    for number in range(count):
+        lines.append(f"admit {number} {dice.choice([0, 0, 19, -20, dice.randrange(-20, 20)])} {2**size - 1} {dice.choice([100_000, 3_000_000])}")
+        lines.append(f"wake 0 {number} 0")
+    for cpu in range(size):
+        lines.append(f"drain {cpu} 0")
+    for _ in range(300):
+        cpu = dice.randrange(size)
+        clock[cpu] += rise if dice.random() < 0.9 else dice.randrange(rise)
+        what = dice.random()
+        if what < 0.8:
+            lines.append(f"tick {cpu} {clock[cpu]}")
+        elif what < 0.88:
+            lines.append(f"block {cpu} {clock[cpu]}")
+        elif what < 0.94:
+            lines.append(f"wake {cpu} {dice.randrange(count)} {clock[cpu]}")
+        elif size > 1 and what < 0.96:
+            lines.append(f"pull {cpu} {1 - cpu} {clock[cpu]}")
+        else:
+            lines.append(f"drain {cpu} {clock[cpu]}")
+    return lines
+
+
+def main(program, *words):
+    program = program.split()
+    near = bool(words) and words[0] == "--near"
+    count, seed = (list(map(int, words[near:])) + [200, 1][len(words[near:]) :])[:2]
+    slices, nearest = 0, {}
+    for number in range(seed, seed + count):
+        dice = random.Random(number)
+        lines = near_trace(dice) if near else draw.trace(dice, [draw.image(dice, hook)[0] for hook in images.HOOKS * 3])
+        alike, seen = compare(program, lines)
+        slices += alike
+        for place, here in zip(seen.places, seen.world.processors) if seen else []:
+            if place.greatest and place.greatest[1]:
+                name = type(here.rule).__name__
+                part = place.greatest[0] / place.greatest[1]
+                nearest[name] = max(nearest.get(name, (0, 0)), (part, number))
+    print(f"{count} traces, {slices} slices alike")
+    for name, (part, number) in sorted(nearest.items()):
+        print(f"{name}: {part:.6f} of the bound, in trace {number}")
+
+
+if __name__ == "__main__":
+    main(*sys.argv[1:])
