@@ -1,9 +1,11 @@
 #!/usr/bin/env python3
 """Runs `bqsim` with each of its calls failing in turn, and looks for a wrong answer in place of the error.
 
-    tests/fail_each_call.py BQSIM [TRACE]
+    tests/fail_each_call.py BQSIM [TRACE | par [TIMES]]
 
-BQSIM is the path of the program. With a TRACE it replays that one; else the runs are
+BQSIM is the path of the program. With a TRACE it replays that one. With `par` the runs are those of four threads under each
+rule, TIMES times over (once where it is left out), since each goes another way; which of the threads finds no memory is then
+left to the schedule. A run that takes over a minute is an error. Else the runs are
   - `replay` of tests/every_line.trace, which uses each line that a trace may have,
   - `replay` of examples/policies.trace, which installs images,
   - `asm` of a policy, `asm` with `--hook` and `--maps` of it, and `check` of the image that this writes.
@@ -23,6 +25,7 @@ import tempfile
 HERE = os.path.dirname(os.path.abspath(__file__))
 TOP = os.path.dirname(HERE)
 POLICY = os.path.join(TOP, "policies", "heaviest.s")
+PAR = ["par", "--processors", "4", "--ticks", "50"]
 IMAGE = ["asm", "--hook", "pull", "--maps", "8:2,16:4"]
 
 
@@ -34,6 +37,9 @@ def failing_library(folder):
 
 def runs(program, folder):
     """The words of each run, and the file that it reads."""
+    if sys.argv[2:3] == ["par"]:
+        times = int(sys.argv[3]) if len(sys.argv) == 4 else 1
+        return [(PAR + ["--rule", rule], os.devnull) for rule in ("cfs", "eevdf")] * times
     if len(sys.argv) == 3:
         return [(["replay"], sys.argv[2])]
     image = os.path.join(folder, "image")
@@ -74,7 +80,7 @@ def wrong_answers(words, run):
 
 
 def main():
-    if len(sys.argv) not in (2, 3):
+    if len(sys.argv) not in (2, 3, 4):
         sys.exit(__doc__)
     program = os.path.abspath(sys.argv[1])
     with tempfile.TemporaryDirectory() as folder:

@@ -6,7 +6,7 @@
  *     FAIL=nothing:N the Nth write takes nothing
  *     FAIL=short:N   the Nth read or write of several bytes moves one
  *
- * Where the call was reached, the file that FAILED names is made. */
+ * Where the call was reached, the file that FAILED names is made. Calls are counted over all threads. */
 #define _GNU_SOURCE
 #include <dlfcn.h>
 #include <errno.h>
@@ -25,7 +25,7 @@ static long left(const char *kind) {
 
 static int reached(const char *kind, long *count) {
     long wanted = left(kind);
-    if (!wanted || ++*count != wanted) return 0;
+    if (!wanted || __atomic_add_fetch(count, 1, __ATOMIC_SEQ_CST) != wanted) return 0;
     const char *note = getenv("FAILED");
     if (note) syscall(SYS_close, syscall(SYS_openat, AT_FDCWD, note, O_CREAT | O_WRONLY, 0600));
     return 1;

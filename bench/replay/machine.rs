@@ -1,4 +1,4 @@
-//! The same machine in plain Rust: CFS alone, and no policies. Shared by the generator and by the program that is
+//! The same machine in plain Rust: CFS alone, and no policies. Shared by the generator and by the programs that are
 //! measured beside bqsim.
 
 use std::collections::{BTreeMap, VecDeque};
@@ -36,7 +36,7 @@ pub struct Processor {
     pub mark: u64,
     last: u64,
     inbox: VecDeque<Task>,
-    hand: Option<(Task, Vec<u32>)>,
+    pub hand: Option<(Task, Vec<u32>)>,
 }
 
 pub enum Refusal {
@@ -75,12 +75,12 @@ pub struct Machine {
     pub seats: Vec<Seat>,
 }
 
-fn shift(mark: u64, rel: i64) -> u64 {
+pub fn shift(mark: u64, rel: i64) -> u64 {
     (mark as i128 + rel as i128).clamp(0, GREATEST as i128) as u64
 }
 
 impl Processor {
-    fn new() -> Processor {
+    pub fn new() -> Processor {
         Processor {
             queue: BTreeMap::new(),
             current: None,
@@ -95,7 +95,7 @@ impl Processor {
         self.queue.first_key_value().map(|(key, _)| key.0)
     }
 
-    fn charge(&mut self, now: u64) {
+    pub fn charge(&mut self, now: u64) {
         let at = self.last.max(now.min(LATEST));
         if let Some(task) = &mut self.current {
             task.v = (task.v + (at - self.last) * 1024 / task.weight).min(GREATEST);
@@ -107,13 +107,13 @@ impl Processor {
         }
     }
 
-    fn start(&mut self) {
+    pub fn start(&mut self) {
         if let Some((_, task)) = self.queue.pop_first() {
             self.current = Some(task);
         }
     }
 
-    fn decide(&mut self) {
+    pub fn decide(&mut self) {
         let Some(current) = &mut self.current else {
             self.start();
             return;

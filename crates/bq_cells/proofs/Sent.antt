@@ -27,7 +27,7 @@ use Rattle.bq_cells.specs.contracts.cells.NumberedCpu as Numbered
 use Rattle.bq_cells.specs.contracts.cells.NumberedInbox as NumberedInbox
 use Rattle.bq_cells.specs.contracts.cells.OneLobby as OneLobby
 use Rattle.bq_cells.specs.contracts.record.Record as Record
-use Rattle.bq_cells.specs.contracts.record.Calls as Calls
+use Rattle.bq_cells.specs.contracts.calls.Calls as Calls
 use Rattle.bq_cells.specs.contracts.law.Kept as Kept
 
 unlinked_send : IsSend (Option.the_row Unlinked.the_row)
@@ -59,7 +59,7 @@ result_send : IsSend (Result.the_row Reply.the_row Refusal.the_row)
 result_send = search (reply.the_send, refusal.the_send, sendable) depth 20
 
 calls_send : IsSend Calls.the_row
-calls_send = search (list.the_send, call.the_send, sendable) depth 40
+calls_send = search (crosses, list.the_send, call.the_send, sendable) depth 40
 
 -- a record
 pub record_send : IsSend Record.the_row

@@ -4,10 +4,12 @@
 //! Stands on bq_parts for the shares, on bq_core for the laws of worlds, and on bq_history for what a move is.
 #![tactic(auto)]
 
+pub mod calls;
 pub mod cells;
 pub mod law;
 pub mod record;
 
+pub use calls::{CallRooms, Calls};
 pub use cells::{NumberedCpu, NumberedInbox, OneLobby};
 pub use law::{CpuState, Kept, Part, Sched, WorldState};
-pub use record::{Calls, Record, room};
+pub use record::{Record, call_rooms, room};

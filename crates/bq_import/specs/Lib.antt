@@ -4,3 +4,5 @@ pub mod Backward
 pub mod Faults
 pub mod Search
 pub mod Searching
+pub mod Reasons
+pub mod Importing

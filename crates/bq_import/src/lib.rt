@@ -1,4 +1,7 @@
 //! Compiled programs: their instructions in an order in which every jump goes forward.
+//!
+//! `import` takes the bytes of a compiled program's text section and answers a copy of the program: each instruction goes on
+//! to copies of what it goes on to there. By `laws` a copy has the same runs, step for step, and the same budget.
 #![tactic(auto)]
 
 mod backward;
@@ -8,4 +11,11 @@ pub mod laws;
 mod linked;
 pub mod order;
 mod putting;
+pub mod reason;
 mod search;
+pub mod section;
+
+pub use fault::Disorder;
+pub use order::Ordered;
+pub use reason::Reason;
+pub use section::{ImportFault, import};

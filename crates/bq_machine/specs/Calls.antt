@@ -1,13 +1,10 @@
 -- What the calls of a machine answer.
-use Rattle.std.specs.Prelude.{◌≡◌, ◌⊎◌, ℕ, zero, suc, ◌+◌, List, [], ◌∷◌, Option, None, Some, Result, Ok}
+use Rattle.std.specs.Prelude.{◌≡◌, ◌⊎◌, ℕ, zero, suc, ◌+◌, List, [], ◌∷◌, Option, None, Some}
 use Rattle.bq_history.specs.declared.law.Receipt.{Receipt}
 use Rattle.bq_verify.specs.declared.hook.Hook.{Hook}
 use Rattle.bq_verify.specs.Accepted.{Accepted}
 use Rattle.bq_parts.specs.declared.event.Event.{Event}
 use Rattle.bq_parts.specs.declared.event.Event.TheVariants.{Install}
-use Rattle.bq_hooks.specs.declared.settled.By.{By}
-use Rattle.bq_parts.specs.declared.reply.Reply.{Reply}
-use Rattle.bq_parts.specs.declared.reply.Reply.TheVariants.{Placed}
 use Rattle.bq_parts.specs.declared.refusal.Refusal.{Refusal}
 use Rattle.bq_parts.specs.declared.refusal.Refusal.TheVariants as no
 use Rattle.bq_parts.specs.Refusals.{argument_refusal}
@@ -17,10 +14,6 @@ use Rattle.bq_cells.specs.declared.record.Record.{Record}
 -- of memory
 abbrev pub IsCallRefused : ℕ → Event → Refusal → Type 0
 IsCallRefused count event e = (argument_refusal count event ≡ Some e) ⊎ ((argument_refusal count event ≡ None) × (e ≡ no.OutOfMemory))
-
--- the task was placed
-abbrev pub IsPlaced : ℕ → Result Reply Refusal → Type 0
-IsPlaced task r = (to : ℕ) × (by : By) × (steps : ℕ) × (r ≡ Ok (Placed task to by steps))
 
 -- the receipts of installs of one thing at processors from c on, n of them
 abbrev pub AreInstalls : ℕ → ℕ → Hook → ℕ → Option Accepted → List (Receipt Record) → Type 0

@@ -7,10 +7,11 @@ ghost use Rattle.bq_parts.specs.World.{opening_world};
 ghost use Rattle.bq_cells.specs.Parts.{RecordStep, told_calls};
 
 use crate::clock::Clock;
-use crate::locks::{Machine, Seat};
+use crate::locks::Machine;
 use bq_closing::{Closed, Locks};
 use bq_counters::Naming as Counting;
 use bq_disc::RunQueue;
+use bq_recording::{Recorder, Seat};
 use bq_tie::Naming;
 
 impl<Q: RunQueue + Drop, K: Clock + Drop, N: Naming + Counting, const P: usize> Machine<
@@ -21,7 +22,7 @@ impl<Q: RunQueue + Drop, K: Clock + Drop, N: Naming + Counting, const P: usize> 
 > {
     /// Whether each seat of the machine stands there, once. It takes no lock and no memory.
     pub fn owns(&self, seats: &[Seat<N>]) -> bool
-        ensures { IsTrue result ↔ EachOnce self.now.history.callers seats.now }
+        ensures { IsTrue result ↔ EachOnce self.now.recorder.history.callers seats.now }
     {
         bq_history::owns(self.seats, seats)
     }
@@ -31,22 +32,25 @@ impl<Q: RunQueue + Drop, K: Clock + Drop, N: Naming + Counting, const P: usize> 
     /// Each receipt of each seat stands at its place, the places of each seat rise, and each place is that of just one
     /// receipt of just one seat. Each counter is the sum, modulo 2^64, of the adds that the history tells. No memory is taken.
     pub fn close(self, seats: Vec<Seat<N>>) -> Closed<Q, P>
-        requires { EachOnce self.history.callers seats.items }
+        requires { EachOnce self.recorder.history.callers seats.items }
         ensures history { Leaves (RecordStep Q.R.discipline) (opening_world P) result.history result.core }
         ensures receipts { AreReceiptsOf result.history seats.items }
         ensures counters { AreSumsOf (calls_in told_calls result.history) result.counters }
     {
         let Machine {
             clock: _,
-            history,
-            counters,
+            recorder,
             cpus,
             inboxes,
             lobby,
-            journal,
             room,
             seats: _,
         } = self;
+        let Recorder {
+            history,
+            counters,
+            journal,
+        } = recorder;
         let locks = Locks {
             history,
             counters,

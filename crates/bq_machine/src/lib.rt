@@ -1,7 +1,7 @@
 //! A scheduler that many threads call at once. Processors, inboxes and the lobby lie under locks of their own; what all
 //! calls did is one history, and each call gets a receipt for its place in it.
 //! Promises that each call records the event asked for, at a reading that the clock gave, and that the history is one of
-//! the world of bq_parts. Stands on bq_cells for the law and the cells, and on bq_seats for commits and counters.
+//! the world of bq_parts. Stands on bq_recording for what each event records under its locks, and on bq_closing for the end.
 #![tactic(auto)]
 
 pub mod clock;
@@ -18,10 +18,10 @@ pub use bq_cells::{Calls, CpuState, Kept, Part, Record, Sched, WorldState};
 pub use bq_closing::Closed;
 pub use bq_counters::{Naming as Counting, Unnamed};
 pub use bq_history::Receipt;
+pub use bq_recording::{Seat, Shared};
 pub use bq_tie::Naming;
 pub use clock::Clock;
 pub use loading_calls::{LoadReceipts, LoadRefused};
-pub use locks::{Machine, Seat, Shared};
+pub use locks::Machine;
 pub use opened::{Prepared, prepare};
 pub use waking_calls::WakeReceipts;
-

@@ -2,7 +2,6 @@
 ghost use Rattle.std.specs.Prelude.{◌≡◌, ◌∷◌, ◌++◌, ◌<◌, ◌≤◌, ◌+◌, ℕ, [], true, None, Ok, Option, IfOk, IfErr, OnErr, All, length, vec_len, vec_capacity};
 ghost use Rattle.std.specs.Option.{option_map};
 ghost use Rattle.bq_verify.specs.Accepted.{Accepted};
-ghost use Rattle.bq_policies.specs.Answers.{fresh_maps};
 ghost use Rattle.bq_seats.specs.Calls.{account_of};
 ghost use Rattle.bq_parts.specs.Refusals.{argument_refusal, is_for};
 ghost use Rattle.bq_parts.specs.declared.reply.Reply.TheVariants.{Drawn};
@@ -11,14 +10,14 @@ ghost use Rattle.bq_machine.specs.Calls.{AreInstalls};
 ghost use Rattle.bq_machine.specs.Loading.{IsPolicyOf, IsLoadRefused};
 
 use crate::clock::Clock;
-use crate::locks::{Caller, Machine, Place, Seat, need_own};
-use bq_alike::answer_again;
-use bq_cells::{Calls, NumberedCpu, Record, room};
+use crate::locks::Machine;
+use bq_cells::{Record, room};
 use bq_counters::Naming as Counting;
 use bq_disc::RunQueue;
-use bq_history::{Receipt, Slip};
+use bq_history::Receipt;
 use bq_load::{LoadFault, load};
-use bq_parts::{Event, Hook, Installed, Policy, Refusal, Reply};
+use bq_parts::{Event, Hook, Policy, Refusal};
+use bq_recording::{Caller, Seat, Spare, need_own, one_spare};
 use bq_tie::Naming;
 use std::alloc::{AllocError, Global};
 use std::sync::Wait;
@@ -42,19 +41,6 @@ pub struct LoadReceipts {
     pub installs: Vec<Receipt<Record>>,
 }
 
-/// What an install hands over, made before any lock is taken: the policy with its maps, and the policy once more for the
-/// record and for the receipt.
-#[derive(Drop)]
-pub(crate) struct Spare {
-    pub(crate) installed: Installed,
-    pub(crate) for_record: Option<Policy>,
-    pub(crate) for_receipt: Option<Policy>,
-    pub(crate) slip: Slip<Record>,
-    ghost record_is: { for_record ≡ installed.policy },
-    ghost receipt_is: { for_receipt ≡ installed.policy },
-    ghost fresh: { installed.maps ≡ fresh_maps installed.policy },
-}
-
 /// The policy of an image that is for the hook; none of no image.
 fn policy_of(alloc: Global, hook: Hook, image: Option<&[u8]>) -> Result<Option<Policy>, LoadRefused>
     ensures policy { IfOk result (λ p. IsPolicyOf (option_map (λ b. b.now) image.entry) p) }
@@ -75,34 +61,6 @@ fn policy_of(alloc: Global, hook: Hook, image: Option<&[u8]>) -> Result<Option<P
         Ok(policy) => Ok(Some(policy)),
         Err(_) => Err(LoadRefused::Refusal(Refusal::OutOfMemory)),
     }
-}
-
-/// The same policy once more, or none.
-fn again(policy: &Option<Policy>) -> Result<Option<Policy>, AllocError>
-    ensures { IfOk result (λ p. p ≡ policy.now) }
-{
-    match policy {
-        None => Ok(None),
-        Some(policy) => Ok(Some(policy.clone()?)),
-    }
-}
-
-/// What one install hands over.
-fn one_spare(alloc: Global, policy: &Option<Policy>) -> Result<Spare, AllocError>
-    ensures { IfOk result (λ s. s.installed.policy ≡ policy.now) }
-{
-    let installed = Installed::new(alloc, again(policy)?, 0)?;
-    let for_record = again(policy)?;
-    let for_receipt = again(policy)?;
-    let Ok(slip) = room(alloc) else {
-        return Err(AllocError);
-    };
-    Ok(Spare {
-        installed,
-        for_record,
-        for_receipt,
-        slip,
-    })
 }
 
 /// What so many installs hand over.
@@ -164,7 +122,7 @@ impl<Q: RunQueue + Drop, K: Clock + Drop, N: Naming + Counting, const P: usize> 
         ) else {
             return Err(LoadRefused::Refusal(Refusal::OutOfMemory));
         };
-        let (draw, generation) = self.draw_at(rt, &mut seat.working, slip);
+        let (draw, generation) = self.recorder.draw(rt, &mut seat.working, slip);
         self.install_all(
             rt,
             &mut seat.working,
@@ -175,39 +133,6 @@ impl<Q: RunQueue + Drop, K: Clock + Drop, N: Naming + Counting, const P: usize> 
             &mut installs,
         );
         Ok(LoadReceipts { draw, installs })
-    }
-
-    /// Commits that a number is drawn.
-    fn draw_at<R: Wait>(
-        &self,
-        rt: &R,
-        working: &mut Caller<N>,
-        mut slip: Slip<Record>,
-    ) -> (Receipt<Record>, u64)
-        requires tally { working.old.tally ≡ account_of told_calls working.old.caller.1 }
-        ensures caller { working.new.caller ≡ (working.old.caller.0, working.old.caller.1 ++ result.0 ∷ []) }
-        ensures tally { working.new.tally ≡ account_of told_calls working.new.caller.1 }
-        ensures event { result.0.entry.event ≡ Event.Draw }
-        ensures reply { result.0.entry.reply ≡ Ok (Drawn result.1) }
-    {
-        let mut guard = self.journal.lock(rt);
-        let journal = &mut *guard;
-        journal.need_room(rt);
-        let mut kept = journal.kept().again();
-        let generation = kept.drawn.saturating_add(1);
-        kept.drawn = generation;
-        slip.set(Record {
-            event: Event::Draw,
-            reply: Ok(Reply::Drawn { generation }),
-            calls: Calls::none(),
-        });
-        let entry = Record {
-            event: Event::Draw,
-            reply: Ok(Reply::Drawn { generation }),
-            calls: Calls::none(),
-        };
-        let receipt = working.commit(&self.history, journal, slip, entry, kept);
-        (receipt, generation)
     }
 
     /// Installs at each processor by rising number. The list of receipts has room for them.
@@ -261,61 +186,6 @@ impl<Q: RunQueue + Drop, K: Clock + Drop, N: Naming + Counting, const P: usize> 
         let mut guard = self.cpus[usize::from(processor)].lock(rt);
         let place = &mut *guard;
         need_own(rt, place.cell.content.number, processor);
-        self.install_at(rt, working, place, hook, spare)
-    }
-
-    /// Commits an install, under the lock of its processor. Whether the generation was drawn is read in the journal.
-    fn install_at<R: Wait>(
-        &self,
-        rt: &R,
-        working: &mut Caller<N>,
-        place: &mut Place<NumberedCpu<Q>, N>,
-        hook: Hook,
-        spare: Spare,
-    ) -> Receipt<Record>
-        requires tally { working.old.tally ≡ account_of told_calls working.old.caller.1 }
-        requires fits { argument_refusal self.now.history.about (Event.Install place.old.number hook spare.installed.generation spare.installed.policy) ≡ None }
-        ensures caller { working.new.caller ≡ (working.old.caller.0, working.old.caller.1 ++ result ∷ []) }
-        ensures tally { working.new.tally ≡ account_of told_calls working.new.caller.1 }
-        ensures event { result.entry.event ≡ Event.Install place.old.number hook spare.installed.generation spare.installed.policy }
-    {
-        let processor = place.cell.content.number;
-        let Spare {
-            installed,
-            for_record,
-            for_receipt,
-            mut slip,
-        } = spare;
-        let generation = installed.generation();
-        let mut guard = self.journal.lock(rt);
-        let journal = &mut *guard;
-        journal.need_room(rt);
-        let kept = journal.kept().again();
-        let reply = place
-            .cell
-            .content
-            .state
-            .replace(hook, kept.drawn, installed);
-        slip.set(Record {
-            event: Event::Install {
-                processor,
-                hook,
-                generation,
-                policy: for_record,
-            },
-            reply: answer_again(&reply),
-            calls: Calls::none(),
-        });
-        let entry = Record {
-            event: Event::Install {
-                processor,
-                hook,
-                generation,
-                policy: for_receipt,
-            },
-            reply,
-            calls: Calls::none(),
-        };
-        working.commit_one(&self.history, journal, &mut place.cell, slip, entry, kept)
+        self.recorder.install(rt, working, place, hook, spare)
     }
 }

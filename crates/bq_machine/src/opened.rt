@@ -4,13 +4,14 @@ ghost use Rattle.bq_seats.specs.Calls.{fresh};
 ghost use Rattle.bq_cells.specs.Opened.{ItemOf, cpu_items, inbox_items};
 
 use crate::clock::Clock;
-use crate::locks::{Machine, Place, Seat, Shared};
+use crate::locks::Machine;
 use bq_cells::{Kept, NumberedCpu, NumberedInbox, OneLobby, Part, Record, Sched, WorldState};
 use bq_closing::Room;
 use bq_counters::{Naming as Counting, Unnamed};
 use bq_disc::RunQueue;
 use bq_history::{Item, Journal, Locked, Opened, Setup, open};
 use bq_parts::{Cpu, Inbox, Loads, Lobby, Scratch};
+use bq_recording::{Place, Recorder, Seat, Shared};
 use bq_seats::seats;
 use bq_tie::{Holder, Naming};
 use std::alloc::{AllocError, Global};
@@ -131,7 +132,7 @@ impl<Q: RunQueue + Drop, K: Clock + Drop, N: Naming + Counting, const P: usize> 
         requires counters { unnamed.0 ≡ N.counters }
         requires counts { (prepared.1.about ≡ P) × (prepared.1.callers ≡ seat_count) × (unnamed.1 ≡ seat_count) }
         ensures seats { IfOk result (λ r. r.1.items ≡ fresh 0 seat_count) }
-        ensures about { IfOk result (λ r. (r.0.history.about ≡ P) × (r.0.history.callers ≡ seat_count)) }
+        ensures about { IfOk result (λ r. (r.0.recorder.history.about ≡ P) × (r.0.recorder.history.callers ≡ seat_count)) }
     {
         let queues = no_tasks(alloc, P)?;
         Machine::with_queues(alloc, clock, queues, prepared, unnamed, seat_count)
@@ -153,7 +154,7 @@ impl<Q: RunQueue + Drop, K: Clock + Drop, N: Naming + Counting, const P: usize> 
         requires many { length queues.items ≡ P }
         requires empty { All (λ q. (Q.members q ≡ []) × (Q.kept_mark q ≡ 2 ^ 32)) queues.items }
         ensures seats { IfOk result (λ r. r.1.items ≡ fresh 0 seat_count) }
-        ensures about { IfOk result (λ r. (r.0.history.about ≡ P) × (r.0.history.callers ≡ seat_count)) }
+        ensures about { IfOk result (λ r. (r.0.recorder.history.about ≡ P) × (r.0.recorder.history.callers ≡ seat_count)) }
     {
         let room = Room::new(alloc)?;
         let (history, mut all) = prepared.named::<N>();
@@ -170,14 +171,17 @@ impl<Q: RunQueue + Drop, K: Clock + Drop, N: Naming + Counting, const P: usize> 
         let cpu_locks = cpu_locks(alloc, &history, &mut all, queues)?;
         let inbox_locks = inbox_locks(alloc, &history, &mut all, P as u8)?;
         let seats = seats(alloc, &history, &mut all, &counters, account, seat_count)?;
-        let machine = Machine {
-            clock,
+        let recorder = Recorder {
             history,
             counters,
+            journal: Mutex::new(journal),
+        };
+        let machine = Machine {
+            clock,
+            recorder,
             cpus: cpu_locks,
             inboxes: inbox_locks,
             lobby: Mutex::new(lobby),
-            journal: Mutex::new(journal),
             room: Mutex::new(room),
             seats: seat_count,
         };

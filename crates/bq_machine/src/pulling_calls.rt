@@ -6,13 +6,13 @@ ghost use Rattle.bq_cells.specs.Parts.{told_calls};
 ghost use Rattle.bq_machine.specs.Calls.{IsCallRefused};
 
 use crate::clock::Clock;
-use crate::locks::{Caller, Machine, Place, Seat, need_own};
-use bq_alike::answer_again;
-use bq_cells::{Calls, NumberedCpu, Record, room};
+use crate::locks::Machine;
+use bq_cells::{CallRooms, Record, call_rooms, room};
 use bq_counters::Naming as Counting;
 use bq_disc::RunQueue;
-use bq_history::{Receipt, Slip, look_at_both};
+use bq_history::{Receipt, Slip};
 use bq_parts::{Event, Refusal};
+use bq_recording::{Caller, Seat, need_own};
 use bq_tie::Naming;
 use std::alloc::Global;
 use std::sync::Wait;
@@ -49,11 +49,12 @@ impl<Q: RunQueue + Drop, K: Clock + Drop, N: Naming + Counting, const P: usize> 
             return Err(Refusal::SameProcessor);
         }
         let slip = room(alloc)?;
+        let rooms = call_rooms(alloc)?;
         let now = self.clock.now(processor);
         if processor < from {
-            return Ok(self.pull_upward(rt, &mut seat.working, processor, from, now, slip));
+            return Ok(self.pull_upward(rt, &mut seat.working, processor, from, now, slip, rooms));
         }
-        Ok(self.pull_downward(rt, &mut seat.working, processor, from, now, slip))
+        Ok(self.pull_downward(rt, &mut seat.working, processor, from, now, slip, rooms))
     }
 
     /// Locks the puller first, whose number is the lesser.
@@ -65,6 +66,7 @@ impl<Q: RunQueue + Drop, K: Clock + Drop, N: Naming + Counting, const P: usize> 
         from: u8,
         now: u64,
         slip: Slip<Record>,
+        rooms: CallRooms,
     ) -> Receipt<Record>
         requires tally { working.old.tally ≡ account_of told_calls working.old.caller.1 }
         requires inside { processor < P }
@@ -80,7 +82,8 @@ impl<Q: RunQueue + Drop, K: Clock + Drop, N: Naming + Counting, const P: usize> 
         let mut source_guard = self.cpus[usize::from(from)].lock(rt);
         let source = &mut *source_guard;
         need_own(rt, source.cell.content.number, from);
-        self.pull_at(rt, working, place, source, now, slip)
+        self.recorder
+            .pull(rt, working, place, source, now, slip, rooms)
     }
 
     /// Locks the source first, whose number is the lesser.
@@ -92,6 +95,7 @@ impl<Q: RunQueue + Drop, K: Clock + Drop, N: Naming + Counting, const P: usize> 
         from: u8,
         now: u64,
         slip: Slip<Record>,
+        rooms: CallRooms,
     ) -> Receipt<Record>
         requires tally { working.old.tally ≡ account_of told_calls working.old.caller.1 }
         requires inside { processor < P }
@@ -107,72 +111,7 @@ impl<Q: RunQueue + Drop, K: Clock + Drop, N: Naming + Counting, const P: usize> 
         let mut guard = self.cpus[usize::from(processor)].lock(rt);
         let place = &mut *guard;
         need_own(rt, place.cell.content.number, processor);
-        self.pull_at(rt, working, place, source, now, slip)
-    }
-
-    /// Commits a pull, under the locks of both processors.
-    fn pull_at<R: Wait>(
-        &self,
-        rt: &R,
-        working: &mut Caller<N>,
-        place: &mut Place<NumberedCpu<Q>, N>,
-        source: &mut Place<NumberedCpu<Q>, N>,
-        now: u64,
-        mut slip: Slip<Record>,
-    ) -> Receipt<Record>
-        requires tally { working.old.tally ≡ account_of told_calls working.old.caller.1 }
-        requires apart { place.old.number ≢ source.old.number }
-        ensures caller { working.new.caller ≡ (working.old.caller.0, working.old.caller.1 ++ result ∷ []) }
-        ensures tally { working.new.tally ≡ account_of told_calls working.new.caller.1 }
-        ensures event { result.entry.event ≡ Event.Pull place.old.number source.old.number now }
-    {
-        look_at_both(&self.history, place, source);
-        let processor = place.cell.content.number;
-        let from = source.cell.content.number;
-        let content = &mut place.cell.content;
-        content.scratch.clear();
-        let mut desk = working.sit(&self.counters);
-        let reply = content.state.pull(
-            &mut source.cell.content.state,
-            processor,
-            from,
-            now,
-            &mut content.scratch,
-            &mut desk,
-        );
-        working.stand(desk);
-        let mut guard = self.journal.lock(rt);
-        let journal = &mut *guard;
-        journal.need_room(rt);
-        let mut kept = journal.kept().again();
-        kept.pull(processor, from, &reply);
-        let reply = Ok(reply);
-        slip.set(Record {
-            event: Event::Pull {
-                processor,
-                from,
-                now,
-            },
-            reply: answer_again(&reply),
-            calls: Calls::of(content.scratch.calls()),
-        });
-        let entry = Record {
-            event: Event::Pull {
-                processor,
-                from,
-                now,
-            },
-            reply,
-            calls: Calls::of(content.scratch.calls()),
-        };
-        working.commit_two(
-            &self.history,
-            journal,
-            &mut place.cell,
-            &mut source.cell,
-            slip,
-            entry,
-            kept,
-        )
+        self.recorder
+            .pull(rt, working, place, source, now, slip, rooms)
     }
 }

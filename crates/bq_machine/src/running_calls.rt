@@ -5,13 +5,13 @@ ghost use Rattle.bq_cells.specs.Parts.{told_calls};
 ghost use Rattle.bq_machine.specs.Calls.{IsCallRefused};
 
 use crate::clock::Clock;
-use crate::locks::{Caller, Machine, Place, Seat, need_own};
-use bq_alike::answer_again;
-use bq_cells::{Calls, NumberedCpu, NumberedInbox, OneLobby, Record, room};
+use crate::locks::Machine;
+use bq_cells::{Record, call_rooms, room};
 use bq_counters::Naming as Counting;
 use bq_disc::RunQueue;
-use bq_history::{Receipt, Slip, look_at_both};
+use bq_history::Receipt;
 use bq_parts::{Event, Refusal};
+use bq_recording::{Seat, need_own};
 use bq_tie::Naming;
 use std::alloc::Global;
 use std::sync::Wait;
@@ -43,10 +43,15 @@ impl<Q: RunQueue + Drop, K: Clock + Drop, N: Naming + Counting, const P: usize> 
             return Err(Refusal::NoProcessor);
         }
         let slip = room(alloc)?;
+        let rooms = call_rooms(alloc)?;
         let mut guard = self.cpus[index].lock(rt);
         let place = &mut *guard;
         need_own(rt, place.cell.content.number, processor);
-        Ok(self.tick_at(rt, &mut seat.working, place, slip))
+        let now = self.clock.now(processor);
+        Ok(
+            self.recorder
+                .tick(rt, &mut seat.working, place, now, slip, rooms),
+        )
     }
 
     /// All tasks of a processor's inbox enter, and it is decided who runs. It takes memory for the record.
@@ -70,6 +75,7 @@ impl<Q: RunQueue + Drop, K: Clock + Drop, N: Naming + Counting, const P: usize> 
             return Err(Refusal::NoProcessor);
         }
         let slip = room(alloc)?;
+        let rooms = call_rooms(alloc)?;
         let mut guard = self.cpus[index].lock(rt);
         let place = &mut *guard;
         need_own(rt, place.cell.content.number, processor);
@@ -77,7 +83,10 @@ impl<Q: RunQueue + Drop, K: Clock + Drop, N: Naming + Counting, const P: usize> 
         let mut inbox_guard = self.inboxes[index].lock(rt);
         let inbox = &mut *inbox_guard;
         need_own(rt, inbox.cell.content.number, processor);
-        Ok(self.drain_at(rt, &mut seat.working, place, inbox, now, slip))
+        Ok(
+            self.recorder
+                .drain(rt, &mut seat.working, place, inbox, now, slip, rooms),
+        )
     }
 
     /// The running task of a processor goes to the lobby, and the queue's choice runs. It takes memory for the record.
@@ -108,150 +117,9 @@ impl<Q: RunQueue + Drop, K: Clock + Drop, N: Naming + Counting, const P: usize> 
         let now = self.clock.now(processor);
         let mut lobby_guard = self.lobby.lock(rt);
         let lobby = &mut *lobby_guard;
-        Ok(self.block_at(rt, &mut seat.working, place, lobby, now, slip))
-    }
-
-    /// Commits a tick, under the lock of its processor.
-    fn tick_at<R: Wait>(
-        &self,
-        rt: &R,
-        working: &mut Caller<N>,
-        place: &mut Place<NumberedCpu<Q>, N>,
-        mut slip: Slip<Record>,
-    ) -> Receipt<Record>
-        requires tally { working.old.tally ≡ account_of told_calls working.old.caller.1 }
-        ensures caller { working.new.caller ≡ (working.old.caller.0, working.old.caller.1 ++ result ∷ []) }
-        ensures tally { working.new.tally ≡ account_of told_calls working.new.caller.1 }
-        ensures event { (now : ℕ) × K.gives place.old.number now × (result.entry.event ≡ Event.Tick place.old.number now) }
-    {
-        place.look(&self.history);
-        let processor = place.cell.content.number;
-        let now = self.clock.now(processor);
-        let content = &mut place.cell.content;
-        content.scratch.clear();
-        let mut desk = working.sit(&self.counters);
-        let reply = content
-            .state
-            .tick(processor, now, &mut content.scratch, &mut desk);
-        working.stand(desk);
-        let reply = Ok(reply);
-        slip.set(Record {
-            event: Event::Tick { processor, now },
-            reply: answer_again(&reply),
-            calls: Calls::of(content.scratch.calls()),
-        });
-        let entry = Record {
-            event: Event::Tick { processor, now },
-            reply,
-            calls: Calls::of(content.scratch.calls()),
-        };
-        let mut guard = self.journal.lock(rt);
-        let journal = &mut *guard;
-        journal.need_room(rt);
-        let kept = journal.kept().again();
-        working.commit_one(&self.history, journal, &mut place.cell, slip, entry, kept)
-    }
-
-    /// Commits a drain, under the locks of its processor and of its inbox.
-    fn drain_at<R: Wait>(
-        &self,
-        rt: &R,
-        working: &mut Caller<N>,
-        place: &mut Place<NumberedCpu<Q>, N>,
-        inbox: &mut Place<NumberedInbox, N>,
-        now: u64,
-        mut slip: Slip<Record>,
-    ) -> Receipt<Record>
-        requires tally { working.old.tally ≡ account_of told_calls working.old.caller.1 }
-        requires own { inbox.old.number ≡ place.old.number }
-        ensures caller { working.new.caller ≡ (working.old.caller.0, working.old.caller.1 ++ result ∷ []) }
-        ensures tally { working.new.tally ≡ account_of told_calls working.new.caller.1 }
-        ensures event { result.entry.event ≡ Event.Drain place.old.number now }
-    {
-        look_at_both(&self.history, place, inbox);
-        let processor = place.cell.content.number;
-        let content = &mut place.cell.content;
-        content.scratch.clear();
-        let mut desk = working.sit(&self.counters);
-        let reply = content.state.drain(
-            &mut inbox.cell.content.state,
-            processor,
-            now,
-            &mut content.scratch,
-            &mut desk,
-        );
-        working.stand(desk);
-        let reply = Ok(reply);
-        slip.set(Record {
-            event: Event::Drain { processor, now },
-            reply: answer_again(&reply),
-            calls: Calls::of(content.scratch.calls()),
-        });
-        let entry = Record {
-            event: Event::Drain { processor, now },
-            reply,
-            calls: Calls::of(content.scratch.calls()),
-        };
-        let mut guard = self.journal.lock(rt);
-        let journal = &mut *guard;
-        journal.need_room(rt);
-        let kept = journal.kept().again();
-        working.commit_two(
-            &self.history,
-            journal,
-            &mut place.cell,
-            &mut inbox.cell,
-            slip,
-            entry,
-            kept,
-        )
-    }
-
-    /// Commits a block, under the locks of its processor and of the lobby.
-    fn block_at<R: Wait>(
-        &self,
-        rt: &R,
-        working: &mut Caller<N>,
-        place: &mut Place<NumberedCpu<Q>, N>,
-        lobby: &mut Place<OneLobby, N>,
-        now: u64,
-        mut slip: Slip<Record>,
-    ) -> Receipt<Record>
-        requires tally { working.old.tally ≡ account_of told_calls working.old.caller.1 }
-        ensures caller { working.new.caller ≡ (working.old.caller.0, working.old.caller.1 ++ result ∷ []) }
-        ensures tally { working.new.tally ≡ account_of told_calls working.new.caller.1 }
-        ensures event { result.entry.event ≡ Event.Block place.old.number now }
-    {
-        place.look(&self.history);
-        let processor = place.cell.content.number;
-        let reply = place
-            .cell
-            .content
-            .state
-            .block(&mut lobby.cell.content.state, processor, now);
-        slip.set(Record {
-            event: Event::Block { processor, now },
-            reply: answer_again(&reply),
-            calls: Calls::none(),
-        });
-        let entry = Record {
-            event: Event::Block { processor, now },
-            reply,
-            calls: Calls::none(),
-        };
-        let mut guard = self.journal.lock(rt);
-        let journal = &mut *guard;
-        journal.need_room(rt);
-        let mut kept = journal.kept().again();
-        kept.block(processor, &entry.reply);
-        working.commit_two(
-            &self.history,
-            journal,
-            &mut place.cell,
-            &mut lobby.cell,
-            slip,
-            entry,
-            kept,
+        Ok(
+            self.recorder
+                .block(rt, &mut seat.working, place, lobby, now, slip),
         )
     }
 }

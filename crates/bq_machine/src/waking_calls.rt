@@ -6,16 +6,17 @@ ghost use Rattle.bq_seats.specs.Calls.{account_of};
 ghost use Rattle.bq_parts.specs.Refusals.{argument_refusal};
 ghost use Rattle.bq_parts.specs.declared.refusal.Refusal.TheVariants as no;
 ghost use Rattle.bq_cells.specs.Parts.{cpu_part, told_calls};
-ghost use Rattle.bq_machine.specs.Calls.{IsCallRefused, IsPlaced};
+ghost use Rattle.bq_recording.specs.Placing.{IsPlaced};
+ghost use Rattle.bq_machine.specs.Calls.{IsCallRefused};
 
 use crate::clock::Clock;
-use crate::locks::{Caller, CpuCell, Machine, Place, Seat, need_own};
-use bq_alike::answer_again;
-use bq_cells::{Calls, OneLobby, Record, room};
+use crate::locks::Machine;
+use bq_cells::{Record, call_rooms, room};
 use bq_counters::Naming as Counting;
 use bq_disc::RunQueue;
 use bq_history::{Receipt, Slip};
-use bq_parts::{Event, Placement, Refusal, Reply};
+use bq_parts::{Event, Refusal};
+use bq_recording::{Caller, CpuCell, Seat, need_own};
 use bq_tie::Naming;
 use std::alloc::Global;
 use std::sync::Wait;
@@ -65,6 +66,7 @@ impl<Q: RunQueue + Drop, K: Clock + Drop, N: Naming + Counting, const P: usize> 
         }
         let first = room(alloc)?;
         let second = room(alloc)?;
+        let rooms = call_rooms(alloc)?;
         let mut guard = self.cpus[index].lock(rt);
         let place = &mut *guard;
         need_own(rt, place.cell.content.number, processor);
@@ -72,7 +74,17 @@ impl<Q: RunQueue + Drop, K: Clock + Drop, N: Naming + Counting, const P: usize> 
         if begin.entry.reply.is_err() {
             return Ok(WakeReceipts { begin, end: None });
         }
-        let end = self.end_at(rt, &mut seat.working, &mut place.cell, task, second);
+        let now = self.clock.now(processor);
+        let end = self.recorder.end_wake(
+            rt,
+            &mut seat.working,
+            &mut place.cell,
+            &self.inboxes,
+            task,
+            now,
+            second,
+            rooms,
+        );
         Ok(WakeReceipts {
             begin,
             end: Some(end),
@@ -103,141 +115,7 @@ impl<Q: RunQueue + Drop, K: Clock + Drop, N: Naming + Counting, const P: usize> 
     {
         let mut guard = self.lobby.lock(rt);
         let lobby = &mut *guard;
-        self.begin_at(rt, working, cell, lobby, task, slip)
-    }
-
-    /// Commits that a wake began, under the locks of its processor and of the lobby. The loads are those that the journal
-    /// keeps.
-    fn begin_at<R: Wait>(
-        &self,
-        rt: &R,
-        working: &mut Caller<N>,
-        cell: &mut CpuCell<Q, N>,
-        lobby: &mut Place<OneLobby, N>,
-        task: u16,
-        mut slip: Slip<Record>,
-    ) -> Receipt<Record>
-        requires seat { task < 1024 }
-        requires tally { working.old.tally ≡ account_of told_calls working.old.caller.1 }
-        requires says { cell.old.holder ≡ part_item (cpu_part cell.old.content.number cell.old.content.state) ∷ [] }
-        requires rests { cell.old.content.state.hand ≡ None }
-        ensures caller { working.new.caller ≡ (working.old.caller.0, working.old.caller.1 ++ result ∷ []) }
-        ensures tally { working.new.tally ≡ account_of told_calls working.new.caller.1 }
-        ensures event { result.entry.event ≡ Event.BeginWake cell.old.content.number task }
-        ensures says { cell.new.holder ≡ part_item (cpu_part cell.new.content.number cell.new.content.state) ∷ [] }
-        ensures number { cell.new.content.number ≡ cell.old.content.number }
-        ensures hand { OnOk result.entry.reply (option_map (λ c. c.task.id) cell.new.content.state.hand ≡ Some task) }
-        ensures rests { OnErr result.entry.reply (cell.new.content.state.hand ≡ None) }
-        ensures begun { IfErr result.entry.reply (λ e. (e ≡ no.NoTask) ⊎ (e ≡ no.NotBlocked)) }
-    {
-        lobby.look(&self.history);
-        let processor = cell.content.number;
-        let mut guard = self.journal.lock(rt);
-        let journal = &mut *guard;
-        journal.need_room(rt);
-        let kept = journal.kept().again();
-        let reply = cell
-            .content
-            .state
-            .begin_wake(&mut lobby.cell.content.state, task, &kept.loads);
-        slip.set(Record {
-            event: Event::BeginWake { processor, task },
-            reply: answer_again(&reply),
-            calls: Calls::none(),
-        });
-        let entry = Record {
-            event: Event::BeginWake { processor, task },
-            reply,
-            calls: Calls::none(),
-        };
-        working.commit_two(
-            &self.history,
-            journal,
-            cell,
-            &mut lobby.cell,
-            slip,
-            entry,
-            kept,
-        )
-    }
-
-    /// Commits where the task in the hand goes, under the lock of its processor; the lock of the inbox that is chosen is
-    /// taken here.
-    fn end_at<R: Wait>(
-        &self,
-        rt: &R,
-        working: &mut Caller<N>,
-        cell: &mut CpuCell<Q, N>,
-        task: u16,
-        mut slip: Slip<Record>,
-    ) -> Receipt<Record>
-        requires tally { working.old.tally ≡ account_of told_calls working.old.caller.1 }
-        requires says { cell.old.holder ≡ part_item (cpu_part cell.old.content.number cell.old.content.state) ∷ [] }
-        requires hand { option_map (λ c. c.task.id) cell.old.content.state.hand ≡ Some task }
-        ensures caller { working.new.caller ≡ (working.old.caller.0, working.old.caller.1 ++ result ∷ []) }
-        ensures tally { working.new.tally ≡ account_of told_calls working.new.caller.1 }
-        ensures event { (now : ℕ) × K.gives cell.old.content.number now × (result.entry.event ≡ Event.EndWake cell.old.content.number now) }
-        ensures placed { IsPlaced task result.entry.reply }
-        ensures says { cell.new.holder ≡ part_item (cpu_part cell.new.content.number cell.new.content.state) ∷ [] }
-        ensures rests { cell.new.content.state.hand ≡ None }
-    {
-        cell.look(&self.history);
-        let processor = cell.content.number;
-        let now = self.clock.now(processor);
-        let content = &mut cell.content;
-        content.scratch.clear();
-        let mut desk = working.sit(&self.counters);
-        let Some(placement) = content.state.end_wake(
-            processor,
-            self.cpus.len(),
-            now,
-            &mut content.scratch,
-            &mut desk,
-        )
-        else {
-            unreachable!()
-        };
-        working.stand(desk);
-        let Placement {
-            task: woken,
-            to,
-            by,
-            steps,
-        } = placement;
-        let mut guard = self.inboxes[usize::from(to)].lock(rt);
-        let inbox = &mut *guard;
-        need_own(rt, inbox.cell.content.number, to);
-        inbox.look(&self.history);
-        inbox.cell.content.state.push(woken);
-        let reply = Ok(Reply::Placed {
-            task,
-            to,
-            by,
-            steps,
-        });
-        slip.set(Record {
-            event: Event::EndWake { processor, now },
-            reply: answer_again(&reply),
-            calls: Calls::of(content.scratch.calls()),
-        });
-        let entry = Record {
-            event: Event::EndWake { processor, now },
-            reply,
-            calls: Calls::of(content.scratch.calls()),
-        };
-        let mut guard = self.journal.lock(rt);
-        let journal = &mut *guard;
-        journal.need_room(rt);
-        let mut kept = journal.kept().again();
-        kept.one_more(to);
-        working.commit_two(
-            &self.history,
-            journal,
-            cell,
-            &mut inbox.cell,
-            slip,
-            entry,
-            kept,
-        )
+        self.recorder
+            .begin_wake(rt, working, cell, lobby, task, slip)
     }
 }

@@ -29,6 +29,7 @@ use Rattle.bq_parts.specs.contracts.inbox.Inbox as Inbox
 use Rattle.bq_closing.specs.contracts.room.Room as Room
 use Rattle.bq_closing.proofs.Sent.{room_send}
 use Rattle.bq_cells.proofs.Sent.{cpu_send, numbered_send, inbox_send, lobby_send, record_send, kept_send}
+use Rattle.bq_recording.specs.contracts.recorder.Recorder as Recorder
 use Rattle.bq_machine.specs.contracts.locks.Machine as Machine
 use Rattle.bq_machine.specs.declared.clock.Clock as Clock
 
@@ -37,6 +38,18 @@ mutex_sync T s = search crosses
 
 tasks_send : IsSend Inbox.the_row
 tasks_send = search (crosses, knot.crosses, sendable) depth 60 fits 20000
+
+-- what all callers share beside the locks of the parts
+recorder_sync : (Q N R : RattleType) (n : Naming.Ghosts N.Denot) (m : Counting.Ghosts N.Denot) (g : Queue.Ghosts Q.Denot R.Denot) (h : Rule.Ghosts R.Denot) → IsSync (Recorder.the_row Q N R n m g h)
+recorder_sync Q N R n m g h =
+    let journals = Journal.the_row Record.the_row Part.the_row Kept.the_row N n in
+    declared_sync (Recorder.the_type Q N R n m g h) (
+      search (owner.the_sync, sendable),
+      (
+        search (counters.the_sync, sendable),
+        (mutex_sync journals (journal_send Record.the_row Part.the_row Kept.the_row N n record_send kept_send), tt),
+      ),
+    )
 
 -- a machine may be shared
 pub machine_sync : (Q K N P R : RattleType) (k : Clock.Ghosts K.Denot) (n : Naming.Ghosts N.Denot) (m : Counting.Ghosts N.Denot) (g : Queue.Ghosts Q.Denot R.Denot) (h : Rule.Ghosts R.Denot) → IsSend Q → IsSync K → IsSync (Machine.the_row Q K N P R g h k n m)
@@ -47,26 +60,19 @@ machine_sync Q K N P R k n m g h s y =
     let inbox = Locked.the_row NumberedInbox.the_row Record.the_row Part.the_row Kept.the_row N inbox_part.ghosts n in
     let lobby = Locked.the_row OneLobby.the_row Record.the_row Part.the_row Kept.the_row N lobby_part.ghosts n in
     let room = Room.the_row Q P R g h in
-    let journals = Journal.the_row Record.the_row Part.the_row Kept.the_row N n in
     declared_sync (Machine.the_type Q K N P R g h k n m) (
       as_row_sync (row_field K) y,
       (
-        search (owner.the_sync, sendable),
+        recorder_sync Q N R n m g h,
         (
-          search (counters.the_sync, sendable),
+          Vec-sync (Mutex.the_row place) (mutex_sync place (locked.the_send cpu Record.the_row Part.the_row Kept.the_row N a n (numbered_send Q R g h s))),
           (
-            Vec-sync (Mutex.the_row place) (mutex_sync place (locked.the_send cpu Record.the_row Part.the_row Kept.the_row N a n (numbered_send Q R g h s))),
+            Vec-sync (Mutex.the_row inbox) (mutex_sync inbox (locked.the_send NumberedInbox.the_row Record.the_row Part.the_row Kept.the_row N inbox_part.ghosts n inbox_send)),
             (
-              Vec-sync (Mutex.the_row inbox) (mutex_sync inbox (locked.the_send NumberedInbox.the_row Record.the_row Part.the_row Kept.the_row N inbox_part.ghosts n inbox_send)),
+              mutex_sync lobby (locked.the_send OneLobby.the_row Record.the_row Part.the_row Kept.the_row N lobby_part.ghosts n lobby_send),
               (
-                mutex_sync lobby (locked.the_send OneLobby.the_row Record.the_row Part.the_row Kept.the_row N lobby_part.ghosts n lobby_send),
-                (
-                  mutex_sync journals (journal_send Record.the_row Part.the_row Kept.the_row N n record_send kept_send),
-                  (
-                    mutex_sync room (room_send Q P R g h (numbered_send Q R g h s) inbox_send (cpu_send Q R g h s) tasks_send),
-                    (search sendable, tt),
-                  ),
-                ),
+                mutex_sync room (room_send Q P R g h (numbered_send Q R g h s) inbox_send (cpu_send Q R g h s) tasks_send),
+                (search sendable, tt),
               ),
             ),
           ),

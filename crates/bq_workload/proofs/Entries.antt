@@ -1,12 +1,15 @@
 -- The entries of a table as members.
 use Rattle.std.proofs.Common.{◌≡◌, ◌≢◌, ℕ, ◌+◌, ◌<◌, List, [], ◌∷◌, ◌++◌, length, get_or, drop, option_and_then, ◌∙◌, Some, None, string_bytes, String, Global, slice_get, refl, ap, sym, arith}
 use Rattle.toml.specs.declared.value.Value.{Value}
+use Rattle.toml.specs.Data.{Members, as_table}
 use Rattle.toml.specs.View.{view, items_view, members_view}
 use Rattle.toml.proofs.Views.{Entry, items_view-drop}
 use Rattle.bq_actions.specs.declared.action.Action.{Action}
 use Rattle.bq_workload.specs.Actions.{action_of, actions_of}
 use Rattle.bq_workload.specs.Lengths.{ends_of}
+use Rattle.bq_actions.specs.declared.workload.TaskKind.{TaskKind}
 use Rattle.bq_workload.specs.Tables.{only_of}
+use Rattle.bq_workload.specs.Workloads.{AreKinds, AreNames, IsKind, name_in}
 
 -- where there is no one entry
 pub only-none : (es : List Entry) → length es ≢ 1 → None ≡ only_of (members_view es)
@@ -37,3 +40,16 @@ pub actions-none : (names : List (String Global)) (acts : List Action) (vs : Lis
 actions-none names acts vs i v h e f =
     ap (actions_of names acts) (items_view-drop vs i v h)
     ∙ ap (option_and_then (λ (b : Action). actions_of names (acts ++ b ∷ []) (items_view (drop (i + 1) vs)))) (ap (λ (w : Value). action_of names (view w)) (sym e) ∙ sym f)
+
+-- one more kind, and one more name
+pub AreKinds-more : (names : List (String Global)) (all : ℕ) (vs : List Value) (ks : List TaskKind) (v : Value) (k : TaskKind) → AreKinds names all (items_view vs) ks → (ms : Members) → as_table (view v) ≡ Some ms → IsKind names all ms k → AreKinds names all (items_view (vs ++ v ∷ [])) (ks ++ k ∷ [])
+AreKinds-more names all [] [] v k h ms t d = ((ms, t, d), tt)
+AreKinds-more names all [] (l ∷ ks) v k h ms t d = absurd h
+AreKinds-more names all (w ∷ vs) [] v k h ms t d = absurd h
+AreKinds-more names all (w ∷ vs) (l ∷ ks) v k h ms t d = (h.0, AreKinds-more names all vs ks v k h.1 ms t d)
+
+pub AreNames-more : (vs : List Value) (ns : List (String Global)) (v : Value) (n : String Global) → AreNames (items_view vs) ns → name_in (view v) ≡ Some (string_bytes n) → AreNames (items_view (vs ++ v ∷ [])) (ns ++ n ∷ [])
+AreNames-more [] [] v n h e = (e, tt)
+AreNames-more [] (m ∷ ns) v n h e = absurd h
+AreNames-more (w ∷ vs) [] v n h e = absurd h
+AreNames-more (w ∷ vs) (m ∷ ns) v n h e = (h.0, AreNames-more vs ns v n h.1 e)

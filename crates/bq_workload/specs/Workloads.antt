@@ -1,15 +1,20 @@
 -- What a document says of a machine and of its tasks.
-use Rattle.std.specs.Prelude.{◌≡◌, ℕ, ℤ, pos, true, List, [], ◌∷◌, Option, Some, None, unwrap_or, option_map, option_and_then, codes, String, string_bytes}
+use Rattle.std.specs.Prelude.{◌≡◌, ℕ, ◌-◌, ◌^◌, ◌≤◌, ℤ, pos, true, List, [], ◌∷◌, sum_by, Option, Some, None, unwrap_or, option_map, option_and_then, codes, String, string_bytes}
 use Rattle.std.specs.List.{list_any}
+use Rattle.std.specs.Option.{IsSomeAnd}
 use Rattle.std.specs.declared.alloc.Global.{Global}
-use Rattle.toml.specs.Data.{Data, Members, get_member, as_array}
+use Rattle.toml.specs.Data.{Data, Items, no_items, item, Members, no_members, get_member, as_array, as_table}
+use Rattle.toml.specs.Parse.{parse_document}
+use Rattle.bq_sizes.specs.Sizes.{processors_in}
 use Rattle.bq_sizes.specs.declared.rule.Rule.TheVariants.{Cfs}
+use Rattle.bq_sizes.specs.declared.size.Size.{Size}
 use Rattle.bq_sizes.specs.declared.size.Size.TheVariants.{One}
 use Rattle.bq_actions.specs.Lengths.{longest, takes_time}
 use Rattle.bq_actions.specs.declared.action.Action.{Action}
 use Rattle.bq_actions.specs.declared.action.Action.TheVariants.{Run, Sleep}
 use Rattle.bq_actions.specs.declared.setup.Setup.{Setup}
 use Rattle.bq_actions.specs.declared.workload.TaskKind.{TaskKind}
+use Rattle.bq_actions.specs.declared.workload.Workload.{Workload}
 use Rattle.bq_workload.specs.declared.changes.Changes.{Changes}
 use Rattle.bq_workload.specs.Fields.{or_default, span_in, number_in, rule_in, size_in, loops_of, nice_of, mask_of, name_of}
 use Rattle.bq_workload.specs.Lengths.{length_of}
@@ -65,3 +70,50 @@ pub record IsKind (names : List (String Global)) (all : ℕ) (ms : Members) (k :
   pub numbers : HasNumbers all ms k.count k.nice k.mask k.slice k.start k.loops
   pub actions : doing names (get_member (codes "do") ms) (get_member (codes "run") ms) (get_member (codes "sleep") ms) ≡ Some k.actions.items
   pub takes_time : list_any takes_time k.actions.items ≡ true
+
+-- each table describes its kind
+abbrev pub AreKinds : List (String Global) → ℕ → Items → List TaskKind → Type 0
+AreKinds names all no_items [] = Unit {0}
+AreKinds names all (item d ds) (k ∷ ks) = ((ms : Members) × (as_table d ≡ Some ms) × IsKind names all ms k) × AreKinds names all ds ks
+AreKinds names all other kinds = ⊥
+
+-- the name that a task's table has
+abbrev pub name_in : Data → Option (List ℕ)
+name_in d = option_and_then (λ ms. option_and_then name_of (get_member (codes "name") ms)) (as_table d)
+
+-- each table has its name
+abbrev pub AreNames : Items → List (String Global) → Type 0
+AreNames no_items [] = Unit {0}
+AreNames (item d ds) (name ∷ names) = (name_in d ≡ Some (string_bytes name)) × AreNames ds names
+AreNames other names = ⊥
+
+-- the table of the machine; one without entries where the document has none
+abbrev pub machine_table : Option Data → Option Members
+machine_table None = Some no_members
+machine_table (Some d) = as_table d
+
+abbrev pub IsMachine : Members → Setup → Type 0
+IsMachine document s = IsSomeAnd (machine_table (get_member (codes "machine") document)) (λ ms. IsSetup ms s)
+
+-- the tables of the tasks
+abbrev pub tasks_of : Members → Option Items
+tasks_of document = option_and_then as_array (get_member (codes "task") document)
+
+-- the bits of all processors of a machine
+abbrev pub all_of : Size → ℕ
+all_of size = 2 ^ processors_in size - 1
+
+-- the tasks that a document describes, on a machine of this size
+abbrev pub HasTasks : Size → Members → List TaskKind → Type 0
+HasTasks size document kinds =
+    (items : Items) × (names : List (String Global)) × (tasks_of document ≡ Some items) × AreNames items names × AreKinds names (all_of size) items kinds
+
+-- the workload that a document describes, on its machine with what is put in its place
+pub record IsWorkload (c : Changes) (document : Members) (w : Workload) : Type 0 where
+  pub machine : (s : Setup) × IsMachine document s × (w.machine ≡ changed_by c s)
+  pub tasks : HasTasks w.machine.size document w.tasks.items
+  pub few : sum_by (λ k. k.count) w.tasks.items ≤ 1024
+
+-- the workload that a text describes
+abbrev pub Describes : List ℕ → Changes → Workload → Type 0
+Describes text c w = (document : Members) × (parse_document text ≡ Some document) × IsWorkload c document w

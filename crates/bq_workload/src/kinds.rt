@@ -1,7 +1,7 @@
 //! The kinds of tasks of a workload.
-ghost use Rattle.std.specs.Prelude.{IfOk};
+ghost use Rattle.std.specs.Prelude.{◌≡◌, IfOk};
 ghost use Rattle.toml.specs.View.{table_view};
-ghost use Rattle.bq_workload.specs.Workloads.{HasNumbers, IsKind};
+ghost use Rattle.bq_workload.specs.Workloads.{HasNumbers, IsKind, all_of};
 
 use crate::actions::take_time;
 use crate::blame::{Place, Trouble};
@@ -31,7 +31,9 @@ pub(crate) struct Processors {
 
 impl Processors {
     /// Those of a machine of this size.
-    pub(crate) fn of(size: Size) -> Processors {
+    pub(crate) fn of(size: Size) -> Processors
+        ensures { result.all ≡ all_of size }
+    {
         let number = size.processors();
         Processors {
             all: bits(0, number - 1),

@@ -1,5 +1,6 @@
 //! The machine of a workload.
 ghost use Rattle.std.specs.Prelude.{IfOk};
+ghost use Rattle.toml.specs.Data.{no_members};
 ghost use Rattle.toml.specs.View.{table_view};
 ghost use Rattle.bq_workload.specs.Workloads.{IsSetup};
 
@@ -15,7 +16,7 @@ use toml::Table;
 const MACHINE: &str = "discipline processors duration tick balance migration_cost seed";
 
 /// The machine of a text that says nothing of it: one processor under CFS for 100 ms, with a tick each 4 ms.
-pub(crate) const DEFAULT: Setup = Setup {
+const DEFAULT: Setup = Setup {
     rule: Rule::Cfs,
     size: Size::One,
     duration: 100_000_000,
@@ -24,6 +25,13 @@ pub(crate) const DEFAULT: Setup = Setup {
     migration_cost: 0,
     seed: 1,
 };
+
+/// The machine of a document that says nothing of one.
+pub(crate) fn absent() -> Setup
+    ensures { IsSetup no_members result }
+{
+    DEFAULT
+}
 
 /// The machine that a table describes.
 pub(crate) fn setup(table: &Table) -> Result<Setup, Why<'_>>

@@ -1,4 +1,9 @@
 //! Whole workloads.
+ghost use Rattle.std.specs.Prelude.{◌≡◌, ◌≤◌, Some, IfOk, sum_by, option_map};
+ghost use Rattle.std.specs.Result.{result_ok};
+ghost use Rattle.toml.specs.Data.{as_table};
+ghost use Rattle.toml.specs.View.{view, items_view, table_view};
+ghost use Rattle.bq_workload.specs.Workloads.{AreKinds, AreNames, Describes, IsMachine, tasks_of};
 
 use crate::actions;
 use crate::blame::{Place, Trouble};
@@ -6,7 +11,7 @@ use crate::changes::Changes;
 use crate::fault::{Fault, meaning, syntax};
 use crate::fields::name;
 use crate::kinds::{Processors, kind};
-use crate::setup::{DEFAULT, setup};
+use crate::setup::{absent, setup};
 use crate::tables::{all_known, at};
 use crate::why::{Wanted, Why};
 use bq_actions::limits::MOST_TASKS;
@@ -18,7 +23,9 @@ use toml::{Table, Value};
 const DOCUMENT: &str = "machine task";
 
 /// The workload that a text describes, on its machine with these changes.
-pub fn read(alloc: Global, text: &str, changes: Changes) -> Result<Workload, Fault> {
+pub fn read(alloc: Global, text: &str, changes: Changes) -> Result<Workload, Fault>
+    ensures { IfOk result (Describes text.now changes) }
+{
     let document = match toml::table_from_str(alloc, text) {
         Ok(document) => document,
         Err(error) => return Err(syntax(alloc, text, &error)),
@@ -55,21 +62,34 @@ fn told(alloc: Global, trouble: &Trouble<'_>) -> Fault {
 }
 
 /// The machine of a document, and the tables of its tasks.
-fn outline(document: &Table) -> Result<(Setup, &[Value]), Trouble<'_>> {
+fn outline(document: &Table) -> Result<(Setup, &[Value]), Trouble<'_>>
+    ensures machine { IfOk result (λ p. IsMachine (table_view document.now) p.0) }
+    ensures tasks { IfOk result (λ p. tasks_of (table_view document.now) ≡ Some (items_view p.1.now)) }
+{
     Place::Document.says(all_known(document, DOCUMENT))?;
-    let machine = match at(document, "machine") {
-        None => DEFAULT,
-        Some(value) => {
-            let table = Place::Document.says(table_at("machine", value))?;
-            Place::Machine.says(setup(table))?
-        }
-    };
+    let machine = machine(document)?;
     let tables = Place::Document.says(tables(document))?;
     Ok((machine, tables))
 }
 
+/// The machine of a document.
+fn machine(document: &Table) -> Result<Setup, Trouble<'_>>
+    ensures { IfOk result (IsMachine (table_view document.now)) }
+{
+    match at(document, "machine") {
+        None => Ok(absent()),
+        Some(value) => {
+            let table = Place::Document.says(table_at("machine", value))?;
+            let setup = Place::Machine.says(setup(table))?;
+            Ok(setup)
+        }
+    }
+}
+
 /// The table that a value is.
-fn table_at<'a>(key: &'static str, value: &'a Value) -> Result<&'a Table, Why<'a>> {
+fn table_at<'a>(key: &'static str, value: &'a Value) -> Result<&'a Table, Why<'a>>
+    ensures { IfOk result (λ t. as_table (view value.now) ≡ Some (table_view t.now)) }
+{
     match value.as_table() {
         Some(table) => Ok(table),
         None => Err(Why::NoSuch {
@@ -81,7 +101,9 @@ fn table_at<'a>(key: &'static str, value: &'a Value) -> Result<&'a Table, Why<'a
 }
 
 /// The tables of the tasks, at least one.
-fn tables(document: &Table) -> Result<&[Value], Why<'_>> {
+fn tables(document: &Table) -> Result<&[Value], Why<'_>>
+    ensures { IfOk result (λ t. tasks_of (table_view document.now) ≡ Some (items_view t.now)) }
+{
     let value = match at(document, "task") {
         None => return Err(Why::Missing("[[task]]")),
         Some(value) => value,
@@ -98,7 +120,9 @@ fn tables(document: &Table) -> Result<&[Value], Why<'_>> {
 }
 
 /// The names of the tasks, of which no two are the same.
-fn names<'a>(alloc: Global, tables: &'a [Value]) -> Result<Vec<String>, Trouble<'a>> {
+fn names<'a>(alloc: Global, tables: &'a [Value]) -> Result<Vec<String>, Trouble<'a>>
+    ensures { IfOk result (λ v. AreNames (items_view tables.now) v.items) }
+{
     let mut names = Vec::new(alloc);
     for (index, value) in tables.iter().enumerate() {
         let place = Place::Task {
@@ -127,7 +151,10 @@ fn kinds<'a>(
     tables: &'a [Value],
     names: &'a [String],
     processors: Processors,
-) -> Result<Vec<TaskKind>, Trouble<'a>> {
+) -> Result<Vec<TaskKind>, Trouble<'a>>
+    ensures kinds { IfOk result (λ v. AreKinds names.now processors.all (items_view tables.now) v.items) }
+    ensures few { IfOk result (λ v. sum_by (λ k. k.count) v.items ≤ 1024) }
+{
     let mut kinds = Vec::new(alloc);
     let mut tasks: u16 = 0;
     for (index, value) in tables.iter().enumerate() {

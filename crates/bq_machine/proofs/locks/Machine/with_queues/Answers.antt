@@ -1,4 +1,4 @@
-use Rattle.std.proofs.Common.{◌≡◌, ◌++◌, ◌∷◌, [], List, ℕ, replicate, map, ap, sym, ◌∙◌}
+use Rattle.std.proofs.Common.{◌≡◌, ◌++◌, ◌∷◌, [], List, ℕ, replicate, map, ap, sym, ◌∙◌, arith}
 use Rattle.bq_tie.specs.Whole.{first_of, others_of}
 use Rattle.bq_history.specs.Items.{part_item, callers_from, journal_item}
 use Rattle.bq_parts.specs.World.{opening_world}
@@ -54,5 +54,15 @@ invariant_of-machine g c =
       one_each = c.in_ok-inbox_locks.ensures.locks;
       few = c.requires.few;
       seated = sym callers;
+    }
+
+pub invariant_of-recorder : goal.invariant_of-recorder
+invariant_of-recorder g c =
+    let p = c.args.prepared.1 in
+    let of : c.named-history.result.0 ≡ p = c.named-history.ensures.0 in
+    let callers : c.named-history.result.0.callers ≡ c.args.seat_count = ap (λ s. s.callers) of ∙ c.requires.counts.1 in
+    let about : c.named-history.result.0.about ≡ g.row.P = ap (λ s. s.about) of ∙ c.requires.counts.0 in
+    record {
+      few = omega (arith, about, c.requires.few);
       same = c.named-counters.ensures.0 ∙ c.requires.counts.2 ∙ sym callers;
     }

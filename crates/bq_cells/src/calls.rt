@@ -1,0 +1,93 @@
+//! The calls of counters of one event.
+ghost use Rattle.std.specs.Prelude.{◌≡◌, ◌≤◌, [], length};
+
+use arrayvec::ArrayVec;
+use bq_maps::Call;
+use std::alloc::{AllocError, Global};
+use std::marker::Model;
+
+/// The calls of counters of one event, at most 16. They stand apart, so that an event without calls takes no room for
+/// them. Contracts see the list.
+#[derive(Drop)]
+pub struct Calls {
+    list: Option<Box<ArrayVec<Call, 16>>>,
+}
+
+impl Model for Calls {
+    ghost use Rattle.std.specs.Prelude.{List};
+    ghost use Rattle.bq_maps.specs.declared.board.Call.{Call as Asked};
+    ghost use Rattle.bq_cells.specs.Listed.{listed};
+
+    ghost Value = { List Asked };
+
+    ghost view = { λ c. listed c.list (λ b. b.value.items) };
+}
+
+impl Calls {
+    ghost use Rattle.std.specs.Prelude.{◌↔◌, IsTrue};
+
+    /// No call.
+    pub fn none() -> Calls
+        ensures { result ≡ [] }
+    {
+        Calls { list: None }
+    }
+
+    /// The calls, in order.
+    pub fn as_slice(&self) -> &[Call]
+        ensures { result.now ≡ self.now }
+    {
+        match &self.list {
+            None => &[],
+            Some(list) => list.as_slice(),
+        }
+    }
+
+    /// Whether these are the same calls, with the same answers.
+    pub fn is_same(&self, other: &Calls) -> bool
+        ensures { IsTrue result ↔ (self.now ≡ other.now) }
+    {
+        self.as_slice() == other.as_slice()
+    }
+}
+
+/// Room for the calls of one event, once for its record and once for its receipt. It is made before any lock is taken.
+#[derive(Drop)]
+pub struct CallRooms {
+    record: Box<ArrayVec<Call, 16>>,
+    receipt: Box<ArrayVec<Call, 16>>,
+}
+
+impl CallRooms {
+    /// Rooms in which nothing stands.
+    pub fn new(alloc: Global) -> Result<CallRooms, AllocError> {
+        let record = Box::new(alloc, ArrayVec::new())?;
+        let receipt = Box::new(alloc, ArrayVec::new())?;
+        Ok(CallRooms { record, receipt })
+    }
+
+    /// These calls, for the record and for the receipt.
+    pub fn hold(self, calls: &[Call]) -> (Calls, Calls)
+        requires { length calls.now ≤ 16 }
+        ensures record { result.0 ≡ calls.now }
+        ensures receipt { result.1 ≡ calls.now }
+    {
+        if calls.is_empty() {
+            return (Calls::none(), Calls::none());
+        }
+        let CallRooms { record, receipt } = self;
+        (filled(record, calls), filled(receipt, calls))
+    }
+}
+
+fn filled(room: Box<ArrayVec<Call, 16>>, calls: &[Call]) -> Calls
+    requires { length calls.now ≤ 16 }
+    ensures { result ≡ calls.now }
+{
+    let mut list = room;
+    list.clear();
+    if list.try_extend_from_slice(calls).is_err() {
+        unreachable!();
+    }
+    Calls { list: Some(list) }
+}

@@ -1,0 +1,97 @@
+//! What helps against each cause, in one sentence.
+use crate::names::Surroundings;
+use crate::needs::known_of;
+use crate::operands::{bit, read};
+use bq_insn::Insn;
+use bq_verify::{Cause, Hook, Version};
+use bq_views::view::{Kind, View};
+
+/// What helps where something is wrong with the control graph.
+pub(crate) fn graph_advice(cause: Cause) -> &'static str {
+    match cause {
+        Cause::Jump => {
+            "jump to a later label, and write a loop out as often as it may run; a wide instruction (lddw, ldmap) counts as two slots in a jump's number"
+        }
+        Cause::NoExit => "end with exit, or jump to one",
+        Cause::Unreached => "take the instruction out, or let a branch lead to it",
+        Cause::Helper => {
+            "call by number: 1 looks an entry up, 2 writes one, 5 is the time, 8 the processor, 100 adds to a counter, 101 reads one"
+        }
+        Cause::Frame => "copy it first: mov64 r2, r10, and change r2",
+        Cause::Counters => "call counters on fewer ways, or add larger amounts at once",
+        _ => "see docs/VERIFIER.md",
+    }
+}
+
+/// What helps where something is not shown of the states.
+pub(crate) fn state_advice(
+    around: Surroundings<'_>,
+    view: &View,
+    insn: Insn,
+    cause: Cause,
+) -> &'static str {
+    match cause {
+        Cause::Unset => unset_advice(view, insn),
+        Cause::Access => access_advice(around, view, insn),
+        Cause::PointerUse => match insn {
+            Insn::StoreReg { .. } => "store it by stxdw at r10 - 8, r10 - 16 or so on",
+            Insn::Branch { .. } => {
+                "compare a look-up's answer with the number 0 at once: jeq64 r0, 0, label"
+            }
+            _ => {
+                "do arithmetic on numbers, and add the result to the pointer by add64; for a shift write lsh64 or rsh64, not div64 or mul64 of a pointer"
+            }
+        },
+        Cause::Argument => match insn {
+            Insn::MapRef { .. } => {
+                "say the maps: a line ;@ maps 8:1 in the text's head, or --maps 8:1"
+            }
+            _ => {
+                "before a look-up: stw [r10-4], 0, ldmap r1, 0, mov64 r2, r10, add64 r2, -4; a call leaves r1 to r5 unset, so set them again before the next"
+            }
+        },
+        _ => {
+            "set r0 to a number on each way to the exit; a pointer is no answer, what it points to may be loaded"
+        }
+    }
+}
+
+/// A call leaves r1 to r5 unset, which is the usual slip.
+fn unset_advice(view: &View, insn: Insn) -> &'static str {
+    for register in 1..6u8 {
+        if read(insn) & bit(register) != 0 && known_of(view, register).is_none() {
+            return "set it on each way before; a call leaves r1 to r5 unset, so keep what is needed later in r6 to r9, as by mov64 r6, r1 at the begin";
+        }
+    }
+    "set it on each way that leads here, as by mov64 before the first branch"
+}
+
+fn access_advice(around: Surroundings<'_>, view: &View, insn: Insn) -> &'static str {
+    let register = match insn {
+        Insn::Load { src, .. } => src,
+        Insn::StoreImm { dst, .. } | Insn::StoreReg { dst, .. } => dst,
+        _ => 0,
+    };
+    let Some(known) = known_of(view, register) else {
+        return "set the register on each way that leads here";
+    };
+    match known.kind {
+        Kind::Context => match (around.hook, around.version) {
+            (Hook::Place, Version::First) => {
+                "a smaller mask or a test (jgt64) before the address is made, or format 2, whose context has 296 bytes; docs/CONTEXTS.md has the fields"
+            }
+            _ => {
+                "a smaller mask or a test (jgt64) before the address is made; docs/CONTEXTS.md has the fields of each hook"
+            }
+        },
+        Kind::Stack => {
+            "write the bytes first on each way, at the same distance from r10; the stack is the 512 bytes below r10"
+        }
+        Kind::Entry(_) => "a smaller offset or mask, or a map of larger values",
+        Kind::EntryOrNull(_) => {
+            "test it first: jeq64 r0, 0, label, and use it on the other side"
+        }
+        Kind::Number => "use a pointer: r1 at the begin is the context, r10 the stack's end",
+        Kind::Map(_) => "look an entry up first, by helper 1",
+    }
+}

@@ -1,0 +1,22 @@
+//! What the verifier knows and misses, in words: for a program that it accepts its numbers, for one that it refuses the line, the
+//! need that is not met, what is known there, where that came from, and what helps.
+//!
+//! What is printed of registers and stack is what `view_at` knows, which covers every run that comes to the slot.
+#![tactic(auto)]
+
+mod advice;
+mod explanation;
+mod known;
+mod limits;
+mod names;
+mod needs;
+mod operands;
+mod pass_needs;
+mod program_words;
+mod summary;
+mod trail;
+mod view_words;
+
+pub use explanation::{Explained, explain};
+pub use known::range_text;
+pub use limits::Limits;

@@ -1,0 +1,38 @@
+//! Instructions and their places in words.
+use bq_asm::listing;
+use bq_insn::Insn;
+use std::alloc::{AllocError, Global};
+
+/// The canonical text of one instruction, without a line's end.
+pub(crate) fn instruction_text(alloc: Global, insn: Insn) -> Result<String, AllocError> {
+    let text = listing(alloc, &[insn])?;
+    match text.as_str().strip_suffix("\n") {
+        Some(line) => String::from_str(alloc, line),
+        None => Ok(text),
+    }
+}
+
+/// The line of the text where the instruction of that index stands, if there is a text, and its slot.
+pub(crate) fn place_of(
+    alloc: Global,
+    lines: &[usize],
+    index: usize,
+    slot: usize,
+) -> Result<String, AllocError> {
+    match lines.get(index) {
+        Some(line) => format!(in alloc; "line {line}, slot {slot}"),
+        None => format!(in alloc; "slot {slot}"),
+    }
+}
+
+/// The index of the instruction that begins at the slot.
+pub(crate) fn index_at(insns: &[Insn], slot: usize) -> Option<usize> {
+    let mut at: usize = 0;
+    for (index, insn) in insns.iter().enumerate() {
+        if at == slot {
+            return Some(index);
+        }
+        at = at.saturating_add(insn.slots());
+    }
+    None
+}

@@ -1,0 +1,87 @@
+//! What is said of a program that is accepted.
+use crate::names::{hook_word, version_number};
+use bq_insn::Insn;
+use bq_maps::shape::MapShape;
+use bq_verify::{Hook, Verified, Version};
+use std::alloc::{AllocError, Global};
+
+/// The helpers that there are, by their numbers.
+const HELPERS: [i32; 6] = [1, 2, 5, 8, 100, 101];
+
+/// The one line on an accepted program: its hook, budget, version, maps, helpers, calls of counters and slots.
+pub(crate) fn summary(
+    alloc: Global,
+    verified: &Verified,
+    insns: &[Insn],
+) -> Result<String, AllocError> {
+    let hook = hook_word(verified.hook());
+    let budget = verified.budget();
+    let version = version_number(verified.version());
+    let mut text = format!(in alloc;
+        "accepted {hook} budget {budget} of 4096, version {version}, maps "
+    )?;
+    write_maps(verified.shapes(), &mut text)?;
+    text.push_str(", helpers ")?;
+    write_helpers(insns, &mut text)?;
+    let counters = counter_calls(insns);
+    let slots = verified.slots().len();
+    write!(text, ", counters {counters}, slots {slots}\n")?;
+    Ok(text)
+}
+
+/// The shapes of the maps, as `--maps` takes them.
+pub(crate) fn write_maps(shapes: &[MapShape], text: &mut String) -> Result<(), AllocError> {
+    if shapes.is_empty() {
+        return text.push_str("none");
+    }
+    for (number, shape) in shapes.iter().enumerate() {
+        if number > 0 {
+            text.push_str(",")?;
+        }
+        let size = shape.value_size;
+        let entries = shape.entries;
+        write!(text, "{size}:{entries}")?;
+    }
+    Ok(())
+}
+
+fn write_helpers(insns: &[Insn], text: &mut String) -> Result<(), AllocError> {
+    let mut some = false;
+    for number in HELPERS {
+        if calls(insns, number) {
+            if some {
+                text.push_str(",")?;
+            }
+            write!(text, "{number}")?;
+            some = true;
+        }
+    }
+    if some {
+        return Ok(());
+    }
+    text.push_str("none")
+}
+
+fn calls(insns: &[Insn], number: i32) -> bool {
+    for insn in insns {
+        if let Insn::Call { helper } = insn {
+            if *helper == number {
+                return true;
+            }
+        }
+    }
+    false
+}
+
+/// How many of the instructions call a counter.
+fn counter_calls(insns: &[Insn]) -> usize {
+    let mut count: usize = 0;
+    for insn in insns {
+        if let Insn::Call { helper } = insn {
+            if *helper == 100 || *helper == 101 {
+                count = count.saturating_add(1);
+            }
+        }
+    }
+    count
+}

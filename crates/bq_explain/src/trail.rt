@@ -1,0 +1,104 @@
+//! Where a register's value comes from: the instructions before that made it.
+ghost use Rattle.std.specs.Prelude.{◌≡◌, ◌≤◌, length, true};
+ghost use Rattle.bq_insn.specs.Spelling.{is_well_formed};
+
+use crate::known::known_text;
+use crate::needs::known_of;
+use crate::operands::{Registers, bit, read, written};
+use crate::program_words::{instruction_text, place_of};
+use bq_insn::Insn;
+use bq_verify::{Program, view_at};
+use std::alloc::{AllocError, Global};
+
+/// The most instructions that are listed.
+const STEPS: usize = 6;
+
+/// An instruction on the trail: its index, and its slot.
+#[derive(Clone, Copy)]
+struct Made {
+    index: usize,
+    slot: usize,
+    insn: Insn,
+}
+
+/// The instructions before that index which wrote the registers, or what these were made from; the last ones first.
+fn trail(
+    alloc: Global,
+    insns: &[Insn],
+    until: usize,
+    registers: Registers,
+) -> Result<Vec<Made>, AllocError> {
+    let before = placed(alloc, insns, until)?;
+    let mut wanted = registers;
+    let mut found = Vec::new(alloc);
+    for made in before.iter().rev() {
+        if let Some(register) = written(made.insn) {
+            if wanted & bit(register) != 0 && found.len() < STEPS {
+                found.push(*made)?;
+                wanted = (wanted & !bit(register)) | read(made.insn);
+            }
+        }
+    }
+    Ok(found)
+}
+
+/// The instructions before that index, each with its slot.
+fn placed(alloc: Global, insns: &[Insn], until: usize) -> Result<Vec<Made>, AllocError> {
+    let mut before = Vec::new(alloc);
+    let mut slot: usize = 0;
+    for (index, insn) in insns.iter().enumerate() {
+        if index < until {
+            before.push(Made {
+                index,
+                slot,
+                insn: *insn,
+            })?;
+        }
+        slot = slot.saturating_add(insn.slots());
+    }
+    Ok(before)
+}
+
+/// One line for each instruction that made the registers, in the program's order.
+pub(crate) fn write_trail(
+    alloc: Global,
+    program: &Program,
+    lines: &[usize],
+    until: usize,
+    registers: Registers,
+    text: &mut String,
+) -> Result<(), AllocError>
+    requires whole { is_well_formed program.now.insns.items ≡ true }
+    requires few { length program.now.shapes.items ≤ 8 }
+{
+    let found = trail(alloc, program.insns.as_slice(), until, registers)?;
+    for made in found.iter().rev() {
+        let place = place_of(alloc, lines, made.index, made.slot)?;
+        let said = instruction_text(alloc, made.insn)?;
+        write!(text, "  made at {place}:  {said}")?;
+        write_outcome(alloc, program, made, text)?;
+        text.push_str("\n")?;
+    }
+    Ok(())
+}
+
+/// What the register is known to be at the next slot.
+fn write_outcome(
+    alloc: Global,
+    program: &Program,
+    made: &Made,
+    text: &mut String,
+) -> Result<(), AllocError>
+    requires whole { is_well_formed program.now.insns.items ≡ true }
+    requires few { length program.now.shapes.items ≤ 8 }
+{
+    let next = made.slot.saturating_add(made.insn.slots());
+    let (Some(register), Some(view)) = (written(made.insn), view_at(alloc, program, next)?) else {
+        return Ok(());
+    };
+    if let Some(known) = known_of(&view, register) {
+        let told = known_text(alloc, &known)?;
+        write!(text, "    r{register} then is {told}")?;
+    }
+    Ok(())
+}

@@ -1,0 +1,101 @@
+//! Why compiled code is no program here, in words: what stands there, and what to write in its place.
+ghost use Rattle.std.specs.Prelude.{◌≡◌};
+ghost use Rattle.bq_import.specs.Reasons.{opcode_reason, reason_of, source_reason};
+
+use bq_insn::fault::Cause;
+use std::fmt;
+
+/// What stands at a slot that is no instruction here, or needs what only a linker has.
+#[derive(Clone, Copy, Debug, PartialEq, Eq)]
+pub enum Reason {
+    /// The length is 0, no multiple of 8, or too great.
+    Length,
+    /// A call of a function of the same program.
+    Function,
+    /// A call of a function of the kernel.
+    Kernel,
+    /// A call of what a register holds.
+    Register,
+    /// An atomic operation.
+    Atomic,
+    /// The address of something by its section: a global, a table of constants, a map.
+    Address,
+    /// A number of 64 bits that the loader is to fill in.
+    Filled,
+    /// Another opcode that there is not.
+    Opcode,
+    /// A field that is out of range.
+    Field,
+}
+
+/// Why the bytes at a slot are not decoded, by the cause, the opcode and the number in the source register's field.
+pub(crate) fn reason_of(cause: Cause, opcode: u8, source: u8) -> Reason
+    ensures { result ≡ reason_of cause opcode source }
+{
+    match cause {
+        Cause::Length => Reason::Length,
+        Cause::Opcode => opcode_reason(opcode),
+        Cause::Offset => source_reason(opcode, source),
+        _ => Reason::Field,
+    }
+}
+
+/// Why an opcode is refused.
+fn opcode_reason(opcode: u8) -> Reason
+    ensures { result ≡ opcode_reason opcode }
+{
+    match opcode {
+        0x8d => Reason::Register,
+        0xc3 | 0xdb => Reason::Atomic,
+        _ => Reason::Opcode,
+    }
+}
+
+/// Why a kind of call or of a wide number is refused, which its source field names.
+fn source_reason(opcode: u8, source: u8) -> Reason
+    ensures { result ≡ source_reason opcode source }
+{
+    match (opcode, source) {
+        (0x85, 1) => Reason::Function,
+        (0x85, _) => Reason::Kernel,
+        (0x18, _) => Reason::Filled,
+        _ => Reason::Field,
+    }
+}
+
+impl fmt::Display for Reason {
+    fn fmt<W: fmt::Write>(&self, f: &mut fmt::Formatter<W>) -> fmt::Result {
+        match self {
+            Reason::Length => write!(f, "the bytes are no program: 8 to 32768 of them, in eights"),
+            Reason::Function => write!(
+                f,
+                "a call of a function; put BQ_INLINE before it, so that it is copied in"
+            ),
+            Reason::Kernel => write!(
+                f,
+                "a call of the kernel's; the helpers are those of bqsim.h"
+            ),
+            Reason::Register => write!(
+                f,
+                "a call through a register; call helpers by their names of bqsim.h"
+            ),
+            Reason::Atomic => write!(
+                f,
+                "an atomic operation; write a plain one, or use a counter"
+            ),
+            Reason::Address => write!(
+                f,
+                "an address that a linker fills in: a global, a table of constants, or a map of a section; for a map write BQ_MAP(k), in place of the others an entry of a map, or tests"
+            ),
+            Reason::Filled => write!(
+                f,
+                "a number that a loader fills in; for a map write BQ_MAP(k)"
+            ),
+            Reason::Opcode => write!(
+                f,
+                "an instruction that there is not here; compile with -mcpu=v4 or below"
+            ),
+            Reason::Field => write!(f, "a field of the instruction is out of range"),
+        }
+    }
+}

@@ -1,0 +1,92 @@
+//! What the words after `import` ask for.
+
+use bq_policy_files::{hook_of, version_of};
+use bq_program::{Form, Hook, ImageForm, Options, OptionsFault, Version};
+use std::alloc::{AllocError, Global};
+use thiserror::Error;
+
+/// The words after `import`.
+#[derive(Debug, Drop)]
+pub struct Words {
+    /// The file; standard input without it, or as `-`.
+    pub file: Option<String>,
+    pub hook: String,
+    pub maps: Option<String>,
+    pub format: Option<String>,
+}
+
+/// Why the words are refused.
+#[derive(Clone, Copy, Debug, PartialEq, Eq, Error)]
+pub enum SettingsFault {
+    #[error("--hook is place, preempt or pull")]
+    Hook,
+    #[error("--maps is the value size and the entries of each map, at most 8, as in 8:1,16:64")]
+    Maps,
+    #[error("--format is 1 or 2")]
+    Format,
+    #[error("out of memory")]
+    OutOfMemory,
+}
+
+impl From<AllocError> for SettingsFault {
+    fn from(_e: AllocError) -> SettingsFault {
+        SettingsFault::OutOfMemory
+    }
+}
+
+/// What a compiled program is for.
+#[derive(Debug, Drop)]
+pub struct Settings {
+    /// Its hook, maps and format.
+    pub form: ImageForm,
+    /// The text that names the maps, if there are some.
+    pub maps: Option<String>,
+}
+
+impl Settings {
+    /// What the words ask for.
+    pub fn of(alloc: Global, words: &Words) -> Result<Settings, SettingsFault> {
+        let hook = hook_in(words)?;
+        let format = format_in(words)?;
+        let options = Options {
+            hook: Some(hook),
+            maps: copy_of(alloc, &words.maps)?,
+            format,
+        };
+        let maps = copy_of(alloc, &words.maps)?;
+        match options.form(alloc) {
+            Ok(Form::Image(form)) => Ok(Settings { form, maps }),
+            Ok(Form::Program) => Err(SettingsFault::Hook),
+            Err(OptionsFault::Maps) => Err(SettingsFault::Maps),
+            Err(OptionsFault::Format) => Err(SettingsFault::Format),
+            Err(OptionsFault::OutOfMemory) => Err(SettingsFault::OutOfMemory),
+        }
+    }
+}
+
+/// The hook that the words name.
+fn hook_in(words: &Words) -> Result<Hook, SettingsFault> {
+    match hook_of(words.hook.as_bytes()) {
+        Some(hook) => Ok(hook),
+        None => Err(SettingsFault::Hook),
+    }
+}
+
+/// The format that the words name, if they do.
+fn format_in(words: &Words) -> Result<Option<Version>, SettingsFault> {
+    let Some(word) = &words.format else {
+        return Ok(None);
+    };
+    match version_of(word.as_bytes()) {
+        Some(version) => Ok(Some(version)),
+        None => Err(SettingsFault::Format),
+    }
+}
+
+/// The same text once more, if there is one.
+fn copy_of(alloc: Global, text: &Option<String>) -> Result<Option<String>, AllocError> {
+    match text {
+        None => Ok(None),
+        Some(text) => Ok(Some(String::from_str(alloc, text.as_str())?)),
+    }
+}

@@ -1,0 +1,91 @@
+//! The text of a compiled program.
+ghost use Rattle.std.specs.Prelude.{◌≡◌, ◌++◌, ◌⊎◌, ℕ, IfOk, List, length};
+ghost use Rattle.std.specs.String.{string_bytes};
+ghost use Rattle.bq_asm.specs.Text.{listing_text};
+ghost use Rattle.bq_import_command.specs.Text.{IsTextOf};
+
+use crate::settings::Settings;
+use bq_asm::listing;
+use bq_import::{ImportFault, import};
+use bq_program::{Version, hook_word};
+use std::alloc::{AllocError, AllocFailed, Global};
+use thiserror::Error;
+
+/// Why there is no text.
+#[derive(Clone, Copy, Debug, PartialEq, Eq, Error)]
+pub enum Refusal {
+    /// The input begins as hex and is none.
+    #[error("the hex has a half byte at its end")]
+    Hex,
+    /// The program is not imported.
+    #[error("{0}")]
+    Import(ImportFault),
+    #[error("out of memory")]
+    OutOfMemory,
+}
+
+impl From<AllocError> for Refusal {
+    fn from(_e: AllocError) -> Refusal {
+        Refusal::OutOfMemory
+    }
+}
+
+impl<T: Drop> From<AllocFailed<T>> for Refusal {
+    fn from(_e: AllocFailed<T>) -> Refusal {
+        Refusal::OutOfMemory
+    }
+}
+
+/// The text of the program whose text section this is, as bytes, or as hex where it has digits and blanks alone.
+pub fn imported(alloc: Global, settings: &Settings, input: &[u8]) -> Result<String, Refusal> {
+    if input.iter().all(|byte| is_hex(*byte)) {
+        let digits: Vec<u8> = input
+            .iter()
+            .copied()
+            .filter(|byte| !is_blank(*byte))
+            .collect(alloc)?;
+        return match hex::decode(alloc, digits.as_slice()) {
+            Ok(bytes) => imported_bytes(alloc, settings, bytes.as_slice()),
+            Err(hex::FromHexError::OutOfMemory) => Err(Refusal::OutOfMemory),
+            Err(_) => Err(Refusal::Hex),
+        };
+    }
+    imported_bytes(alloc, settings, input)
+}
+
+/// The text of the program that the bytes spell: marks, and the listing of a copy of it in which every jump goes forward.
+fn imported_bytes(alloc: Global, settings: &Settings, bytes: &[u8]) -> Result<String, Refusal>
+    ensures { IfOk result (λ text. IsTextOf (length settings.now.form.shapes.items) bytes.now (string_bytes text)) }
+{
+    let ordered = match import(alloc, bytes, settings.form.shapes.len()) {
+        Ok(ordered) => ordered,
+        Err(fault) => return Err(Refusal::Import(fault)),
+    };
+    let marks = marks(alloc, settings)?;
+    let listing = listing(alloc, ordered.insns.as_slice())?;
+    let text = format!(in alloc; "{marks}{listing}")?;
+    Ok(text)
+}
+
+/// The lines that say what the program is for: comments to the assembler.
+fn marks(alloc: Global, settings: &Settings) -> Result<String, AllocError> {
+    let hook = hook_word(settings.form.hook);
+    let mut text = format!(in alloc; ";@ hook {hook}\n")?;
+    if let Some(maps) = &settings.maps {
+        write!(text, ";@ maps {maps}\n")?;
+    }
+    if settings.form.version == Version::Second {
+        write!(text, ";@ format 2\n")?;
+    }
+    Ok(text)
+}
+
+/// A digit of hex, or a blank.
+fn is_hex(byte: u8) -> bool {
+    byte.is_ascii_hexdigit() || is_blank(byte)
+}
+
+/// A space, a tab, or a part of a line's end.
+fn is_blank(byte: u8) -> bool {
+    byte == b' ' || byte == b'\t' || byte == b'\r' || byte == b'\n'
+}

@@ -1,0 +1,35 @@
+use Rattle.std.proofs.Common.{◌≡◌, ◌∙◌, ap, sym}
+use Rattle.bq_cells.specs.Parts.{cpu_part, lobby_part}
+use Rattle.bq_cells.proofs.Looked.{Seen, seen_seated}
+use Rattle.bq_cells.proofs.CallSteps.{block_moves}
+use Rattle.bq_seats.specs.Calls.{ahead}
+use Rattle.bq_cells.specs.Parts.{told_calls}
+use Rattle.bq_recording.proofs.recorder.Recorder.block.Goals as goal
+
+pub block-reply-requires : goal.block-reply-requires
+block-reply-requires g c =
+    let d = g.Q.R.Rule.discipline in
+    let n = c.args.self.now.history.about in
+    let own = c.place.inside.cell.content in
+    let here = c.place.view_is ∙ c.look.ensures.same in
+    let seen : Seen d n own.number own.state = rw here c.look.ensures.world in
+    seen_seated d n own.number own.state seen
+
+pub commit_two-requires-clause-moves : goal.commit_two-requires-clause-moves
+commit_two-requires-clause-moves g c =
+    let d = g.Q.R.Rule.discipline in
+    let n = c.args.self.now.history.about in
+    let own = c.place.inside.cell.content in
+    let hall = c.lobby.inside.cell.content.state in
+    let b = c.block-reply in
+    let k = c.deref_mut-journal.result.now.1 in (
+      cpu_part own.number own.state,
+      lobby_part hall,
+      c.place.invariant.0,
+      c.lobby.invariant.0,
+      rw (c.block.ensures, c.again-kept.ensures, c.kept.ensures, c.none-2.ensures)
+          (block_moves d n own.number c.args.now own.state b.new.self hall b.new.lobby k b.result b.ensures.share),
+    )
+
+pub commit_two-requires-clause-told : goal.commit_two-requires-clause-told
+commit_two-requires-clause-told g c = c.requires.tally ∙ ap (λ l. ahead told_calls c.args.working.now.caller.1 l) (sym c.none-2.ensures)

@@ -1,0 +1,40 @@
+use Rattle.std.proofs.Common.{◌≡◌, ℕ, List, None, ap, subst, sym, ◌∙◌}
+use Rattle.bq_policies.specs.Answers.{fresh_maps}
+use Rattle.bq_policies.specs.Programs.{Program}
+use Rattle.bq_parts.specs.declared.event.Event.TheVariants.{Install}
+use Rattle.bq_parts.specs.Refusals.{argument_refusal}
+use Rattle.bq_parts.specs.Shares.{Installs}
+use Rattle.bq_core.proofs.Installs.{install_suits}
+use Rattle.bq_cells.specs.Parts.{cpu_part}
+use Rattle.bq_cells.proofs.CallSteps.{install_moves}
+use Rattle.bq_seats.specs.Calls.{ahead}
+use Rattle.bq_cells.specs.Parts.{told_calls}
+use Rattle.bq_recording.proofs.recorder.Recorder.install.Goals as goal
+
+pub replace-reply-requires : goal.replace-reply-requires
+replace-reply-requires g c =
+    let i = c.args.spare.installed in
+    install_suits c.args.self.now.history.about c.args.place.now.number i.generation c.args.hook i.policy c.requires.fits
+
+pub commit_one-requires-clause-moves : goal.commit_one-requires-clause-moves
+commit_one-requires-clause-moves g c =
+    let d = g.Q.R.Rule.discipline in
+    let n = c.args.self.now.history.about in
+    let h = c.args.hook in
+    let i = c.args.spare.installed in
+    let own = c.place.inside.cell.content in
+    let k = c.deref_mut-journal.result.now.1 in
+    let r = c.replace-reply.result in
+    let q = c.replace-reply.new.self in
+    let fits : argument_refusal n (Install own.number h i.generation i.policy) ≡ None = rw c.place.view_is c.requires.fits in
+    let whole : i ≡ record { policy = i.policy; generation = i.generation; maps = fresh_maps i.policy } = ap (λ (m : List (List ℕ)). record { policy = i.policy; generation = i.generation; maps = m }) c.args.spare.fresh in
+    let had : Installs h k.drawn own.state i r q = rw (c.again-kept.ensures, c.kept.ensures) at c.replace-reply.ensures.share in
+    let share = subst (λ (x : Program). Installs h k.drawn own.state x r q) whole had in (
+      cpu_part own.number own.state,
+      c.place.invariant.0,
+      rw (c.again-kept.ensures, c.kept.ensures, c.none-2.ensures, c.generation-generation.ensures.value, c.args.spare.receipt_is)
+          (install_moves d n own.number i.generation h i.policy own.state q k r fits share),
+    )
+
+pub commit_one-requires-clause-told : goal.commit_one-requires-clause-told
+commit_one-requires-clause-told g c = c.requires.tally ∙ ap (λ l. ahead told_calls c.args.working.now.caller.1 l) (sym c.none-2.ensures)

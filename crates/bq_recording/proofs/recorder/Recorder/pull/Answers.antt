@@ -1,0 +1,73 @@
+use Rattle.std.proofs.Common.{◌≡◌, ◌≢◌, ℕ, ◌<◌, ap, sym, ◌∙◌, arith}
+use Rattle.bq_parts.specs.Choices.{policies}
+use Rattle.bq_parts.specs.Shares.{Pulls}
+use Rattle.bq_cells.specs.Parts.{cpu_part}
+use Rattle.bq_cells.proofs.Reached.{reached_sound}
+use Rattle.bq_cells.proofs.Looked.{SeenTwo, two_once, two_seated}
+use Rattle.bq_cells.proofs.PullSteps.{pull_moves}
+use Rattle.bq_recording.proofs.Told.{told_of}
+use Rattle.bq_recording.proofs.recorder.Recorder.pull.Goals as goal
+
+pub pull-reply-requires-clause-inside : goal.pull-reply-requires-clause-inside
+pull-reply-requires-clause-inside g c =
+    let d = g.Q.R.Rule.discipline in
+    let n = c.args.self.now.history.about in
+    let own = c.place.inside.cell.content in
+    let here = c.place.view_is ∙ c.look_at_both.ensures.a in
+    let k = c.look_at_both.ensures.world in
+    let s = reached_sound d n k.0 k.1 in
+    let same : own.number ≡ c.args.place.now.number = ap (λ x. x.number) here in
+    omega (arith, k.2.0, s.many, same, c.args.self.now.few)
+
+pub pull-reply-requires-clause-once : goal.pull-reply-requires-clause-once
+pull-reply-requires-clause-once g c =
+    let d = g.Q.R.Rule.discipline in
+    let n = c.args.self.now.history.about in
+    let own = c.place.inside.cell.content in
+    let other = c.source.inside.cell.content in
+    let here = c.place.view_is ∙ c.look_at_both.ensures.a in
+    let there = c.source.view_is ∙ c.look_at_both.ensures.b in
+    let apart : own.number ≢ other.number = rw (here, there) c.requires.apart in
+    let seen : SeenTwo d n own.number other.number own.state other.state apart = rw (here, there) c.look_at_both.ensures.world in
+    two_once d n own.number other.number own.state other.state apart seen
+
+pub pull-reply-requires-clause-seated : goal.pull-reply-requires-clause-seated
+pull-reply-requires-clause-seated g c =
+    let d = g.Q.R.Rule.discipline in
+    let n = c.args.self.now.history.about in
+    let own = c.place.inside.cell.content in
+    let other = c.source.inside.cell.content in
+    let here = c.place.view_is ∙ c.look_at_both.ensures.a in
+    let there = c.source.view_is ∙ c.look_at_both.ensures.b in
+    let apart : own.number ≢ other.number = rw (here, there) c.requires.apart in
+    let seen : SeenTwo d n own.number other.number own.state other.state apart = rw (here, there) c.look_at_both.ensures.world in
+    two_seated d n own.number other.number own.state other.state apart seen
+
+pub commit_two-requires-clause-moves : goal.commit_two-requires-clause-moves
+commit_two-requires-clause-moves g c =
+    let d = g.Q.R.Rule.discipline in
+    let n = c.args.self.now.history.about in
+    let own = c.place.inside.cell.content in
+    let other = c.source.inside.cell.content in
+    let here = c.place.view_is ∙ c.look_at_both.ensures.a in
+    let there = c.source.view_is ∙ c.look_at_both.ensures.b in
+    let apart : own.number ≢ other.number = rw (here, there) c.requires.apart in
+    let k = c.deref_mut-journal.result.now.1 in
+    let t = c.pull-reply in
+    let calls : c.hold-for_record.result.1 ≡ t.new.scratch = c.hold-for_record.ensures.receipt ∙ c.calls.ensures.value in
+    let share : Pulls (policies d) own.number other.number c.args.now own.state other.state c.hold-for_record.result.1 t.result t.new.self t.new.source = rw calls t.ensures.share in (
+      cpu_part own.number own.state,
+      cpu_part other.number other.state,
+      c.place.invariant.0,
+      c.source.invariant.0,
+      rw (c.pull.ensures, c.again-kept.ensures, c.kept.ensures)
+          (pull_moves d n own.number other.number c.args.now own.state t.new.self other.state t.new.source c.hold-for_record.result.1 k t.result apart share),
+    )
+
+pub commit_two-requires-clause-told : goal.commit_two-requires-clause-told
+commit_two-requires-clause-told g c =
+    let t = c.pull-reply in
+    let calls : c.hold-for_record.result.1 ≡ t.new.scratch = c.hold-for_record.ensures.receipt ∙ c.calls.ensures.value in
+    told_of (λ x. x.tally) c.sit-desk.result t.new.board c.args.working.now.caller.1 c.stand.new.self.caller.1 t.new.scratch c.hold-for_record.result.1 c.stand.new.self.tally
+    (c.sit-desk.ensures.desk ∙ c.requires.tally) t.ensures.board c.stand.ensures.tally
+    (ap (λ x. x.1) (c.stand.ensures.caller ∙ c.sit-desk.ensures.caller)) calls

@@ -1,0 +1,15 @@
+//! How an event of the world comes into the history that many callers share: under the locks of the parts that it touches,
+//! its share is done, and its record and its receipt are made.
+//! Promises that each call records the event that it is asked for, and that the seat's receipts grow by just its own.
+//! Stands on bq_cells for the law and the cells, and on bq_seats for commits and counters.
+#![tactic(auto)]
+
+pub mod loading;
+mod lobby;
+mod pulling;
+pub mod recorder;
+mod running;
+mod waking;
+
+pub use loading::{Spare, one_spare};
+pub use recorder::{Caller, CpuCell, Place, Recorder, Seat, Shared, need_own};

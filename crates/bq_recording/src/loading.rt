@@ -1,0 +1,149 @@
+//! Numbers that are drawn for loads, and what is installed at a processor.
+ghost use Rattle.std.specs.Prelude.{◌≡◌, ◌∷◌, ◌++◌, ◌+◌, [], None, Ok, IfOk};
+ghost use Rattle.bq_policies.specs.Answers.{fresh_maps};
+ghost use Rattle.bq_seats.specs.Calls.{account_of};
+ghost use Rattle.bq_parts.specs.Refusals.{argument_refusal};
+ghost use Rattle.bq_parts.specs.declared.reply.Reply.TheVariants.{Drawn};
+ghost use Rattle.bq_cells.specs.Parts.{told_calls};
+
+use crate::recorder::{Caller, Place, Recorder};
+use bq_alike::answer_again;
+use bq_cells::{Calls, NumberedCpu, Record, room};
+use bq_counters::Naming as Counting;
+use bq_disc::RunQueue;
+use bq_history::{Receipt, Slip};
+use bq_parts::{Event, Hook, Installed, Policy, Reply};
+use bq_tie::Naming;
+use std::alloc::{AllocError, Global};
+use std::sync::Wait;
+
+/// What an install hands over, made before any lock is taken: the policy with its maps, and the policy once more for the
+/// record and for the receipt.
+#[derive(Drop)]
+pub struct Spare {
+    pub installed: Installed,
+    pub for_record: Option<Policy>,
+    pub for_receipt: Option<Policy>,
+    pub slip: Slip<Record>,
+    pub ghost record_is: { for_record ≡ installed.policy },
+    pub ghost receipt_is: { for_receipt ≡ installed.policy },
+    pub ghost fresh: { installed.maps ≡ fresh_maps installed.policy },
+}
+
+/// The same policy once more, or none.
+fn again(policy: &Option<Policy>) -> Result<Option<Policy>, AllocError>
+    ensures { IfOk result (λ p. p ≡ policy.now) }
+{
+    match policy {
+        None => Ok(None),
+        Some(policy) => Ok(Some(policy.clone()?)),
+    }
+}
+
+/// What one install hands over.
+pub fn one_spare(alloc: Global, policy: &Option<Policy>) -> Result<Spare, AllocError>
+    ensures { IfOk result (λ s. s.installed.policy ≡ policy.now) }
+{
+    let installed = Installed::new(alloc, again(policy)?, 0)?;
+    let for_record = again(policy)?;
+    let for_receipt = again(policy)?;
+    let Ok(slip) = room(alloc) else {
+        return Err(AllocError);
+    };
+    Ok(Spare {
+        installed,
+        for_record,
+        for_receipt,
+        slip,
+    })
+}
+
+impl<Q: RunQueue + Drop, N: Naming + Counting> Recorder<Q, N> {
+    /// Commits that a number is drawn.
+    pub fn draw<R: Wait>(
+        &self,
+        rt: &R,
+        working: &mut Caller<N>,
+        mut slip: Slip<Record>,
+    ) -> (Receipt<Record>, u64)
+        requires tally { working.old.tally ≡ account_of told_calls working.old.caller.1 }
+        ensures caller { working.new.caller ≡ (working.old.caller.0, working.old.caller.1 ++ result.0 ∷ []) }
+        ensures tally { working.new.tally ≡ account_of told_calls working.new.caller.1 }
+        ensures event { result.0.entry.event ≡ Event.Draw }
+        ensures reply { result.0.entry.reply ≡ Ok (Drawn result.1) }
+    {
+        let mut guard = self.journal.lock(rt);
+        let journal = &mut *guard;
+        journal.need_room(rt);
+        let mut kept = journal.kept().again();
+        let generation = kept.drawn.saturating_add(1);
+        kept.drawn = generation;
+        slip.set(Record {
+            event: Event::Draw,
+            reply: Ok(Reply::Drawn { generation }),
+            calls: Calls::none(),
+        });
+        let entry = Record {
+            event: Event::Draw,
+            reply: Ok(Reply::Drawn { generation }),
+            calls: Calls::none(),
+        };
+        let receipt = working.commit(&self.history, journal, slip, entry, kept);
+        (receipt, generation)
+    }
+
+    /// Commits an install, under the lock of its processor. Whether the generation was drawn is read in the journal.
+    pub fn install<R: Wait>(
+        &self,
+        rt: &R,
+        working: &mut Caller<N>,
+        place: &mut Place<NumberedCpu<Q>, N>,
+        hook: Hook,
+        spare: Spare,
+    ) -> Receipt<Record>
+        requires tally { working.old.tally ≡ account_of told_calls working.old.caller.1 }
+        requires fits { argument_refusal self.now.history.about (Event.Install place.old.number hook spare.installed.generation spare.installed.policy) ≡ None }
+        ensures caller { working.new.caller ≡ (working.old.caller.0, working.old.caller.1 ++ result ∷ []) }
+        ensures tally { working.new.tally ≡ account_of told_calls working.new.caller.1 }
+        ensures event { result.entry.event ≡ Event.Install place.old.number hook spare.installed.generation spare.installed.policy }
+    {
+        let processor = place.cell.content.number;
+        let Spare {
+            installed,
+            for_record,
+            for_receipt,
+            mut slip,
+        } = spare;
+        let generation = installed.generation();
+        let mut guard = self.journal.lock(rt);
+        let journal = &mut *guard;
+        journal.need_room(rt);
+        let kept = journal.kept().again();
+        let reply = place
+            .cell
+            .content
+            .state
+            .replace(hook, kept.drawn, installed);
+        slip.set(Record {
+            event: Event::Install {
+                processor,
+                hook,
+                generation,
+                policy: for_record,
+            },
+            reply: answer_again(&reply),
+            calls: Calls::none(),
+        });
+        let entry = Record {
+            event: Event::Install {
+                processor,
+                hook,
+                generation,
+                policy: for_receipt,
+            },
+            reply,
+            calls: Calls::none(),
+        };
+        working.commit_one(&self.history, journal, &mut place.cell, slip, entry, kept)
+    }
+}

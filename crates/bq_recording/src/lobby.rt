@@ -1,0 +1,99 @@
+//! Events of the lobby alone: tasks come to the machine, and leave it.
+ghost use Rattle.std.specs.Prelude.{◌≡◌, ◌∷◌, ◌++◌, [], None};
+ghost use Rattle.bq_seats.specs.Calls.{account_of};
+ghost use Rattle.bq_parts.specs.Refusals.{argument_refusal};
+ghost use Rattle.bq_parts.specs.Moves.{admitted};
+ghost use Rattle.bq_cells.specs.Parts.{told_calls};
+
+use crate::recorder::{Caller, Place, Recorder};
+use bq_alike::answer_again;
+use bq_cells::{Calls, OneLobby, Record};
+use bq_counters::Naming as Counting;
+use bq_disc::RunQueue;
+use bq_history::{Receipt, Slip};
+use bq_parts::{Event, Unlinked};
+use bq_tie::Naming;
+use std::sync::Wait;
+
+impl<Q: RunQueue + Drop, N: Naming + Counting> Recorder<Q, N> {
+    /// Commits an admission, under the lock of the lobby.
+    pub fn admit<R: Wait>(
+        &self,
+        rt: &R,
+        working: &mut Caller<N>,
+        place: &mut Place<OneLobby, N>,
+        task: u16,
+        nice: i8,
+        mask: u64,
+        slice: u64,
+        new: Unlinked,
+        mut slip: Slip<Record>,
+    ) -> Receipt<Record>
+        requires tally { working.old.tally ≡ account_of told_calls working.old.caller.1 }
+        requires fits { argument_refusal self.now.history.about (Event.Admit task nice mask slice) ≡ None }
+        requires new { new ≡ admitted self.now.history.about task nice mask slice }
+        ensures caller { working.new.caller ≡ (working.old.caller.0, working.old.caller.1 ++ result ∷ []) }
+        ensures tally { working.new.tally ≡ account_of told_calls working.new.caller.1 }
+        ensures event { result.entry.event ≡ Event.Admit task nice mask slice }
+    {
+        let reply = place.cell.content.state.admit(task, new);
+        slip.set(Record {
+            event: Event::Admit {
+                task,
+                nice,
+                mask,
+                slice,
+            },
+            reply: answer_again(&reply),
+            calls: Calls::none(),
+        });
+        let entry = Record {
+            event: Event::Admit {
+                task,
+                nice,
+                mask,
+                slice,
+            },
+            reply,
+            calls: Calls::none(),
+        };
+        let mut guard = self.journal.lock(rt);
+        let journal = &mut *guard;
+        journal.need_room(rt);
+        let kept = journal.kept().again();
+        working.commit_one(&self.history, journal, &mut place.cell, slip, entry, kept)
+    }
+
+    /// Commits that a task leaves, under the lock of the lobby.
+    pub fn retire<R: Wait>(
+        &self,
+        rt: &R,
+        working: &mut Caller<N>,
+        place: &mut Place<OneLobby, N>,
+        task: u16,
+        mut slip: Slip<Record>,
+    ) -> Receipt<Record>
+        requires tally { working.old.tally ≡ account_of told_calls working.old.caller.1 }
+        requires fits { argument_refusal self.now.history.about (Event.Retire task) ≡ None }
+        ensures caller { working.new.caller ≡ (working.old.caller.0, working.old.caller.1 ++ result ∷ []) }
+        ensures tally { working.new.tally ≡ account_of told_calls working.new.caller.1 }
+        ensures event { result.entry.event ≡ Event.Retire task }
+    {
+        let reply = place.cell.content.state.retire(task);
+        slip.set(Record {
+            event: Event::Retire { task },
+            reply: answer_again(&reply),
+            calls: Calls::none(),
+        });
+        let entry = Record {
+            event: Event::Retire { task },
+            reply,
+            calls: Calls::none(),
+        };
+        let mut guard = self.journal.lock(rt);
+        let journal = &mut *guard;
+        journal.need_room(rt);
+        let kept = journal.kept().again();
+        working.commit_one(&self.history, journal, &mut place.cell, slip, entry, kept)
+    }
+}

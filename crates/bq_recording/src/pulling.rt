@@ -1,0 +1,84 @@
+//! A processor takes a task from the queue of another.
+ghost use Rattle.std.specs.Prelude.{◌≡◌, ◌≢◌, ◌∷◌, ◌++◌, []};
+ghost use Rattle.bq_seats.specs.Calls.{account_of};
+ghost use Rattle.bq_cells.specs.Parts.{told_calls};
+
+use crate::recorder::{Caller, Place, Recorder};
+use bq_alike::answer_again;
+use bq_cells::{CallRooms, NumberedCpu, Record};
+use bq_counters::Naming as Counting;
+use bq_disc::RunQueue;
+use bq_history::{Receipt, Slip, look_at_both};
+use bq_parts::Event;
+use bq_tie::Naming;
+use std::sync::Wait;
+
+impl<Q: RunQueue + Drop, N: Naming + Counting> Recorder<Q, N> {
+    /// Commits a pull, under the locks of both processors.
+    pub fn pull<R: Wait>(
+        &self,
+        rt: &R,
+        working: &mut Caller<N>,
+        place: &mut Place<NumberedCpu<Q>, N>,
+        source: &mut Place<NumberedCpu<Q>, N>,
+        now: u64,
+        mut slip: Slip<Record>,
+        rooms: CallRooms,
+    ) -> Receipt<Record>
+        requires tally { working.old.tally ≡ account_of told_calls working.old.caller.1 }
+        requires apart { place.old.number ≢ source.old.number }
+        ensures caller { working.new.caller ≡ (working.old.caller.0, working.old.caller.1 ++ result ∷ []) }
+        ensures tally { working.new.tally ≡ account_of told_calls working.new.caller.1 }
+        ensures event { result.entry.event ≡ Event.Pull place.old.number source.old.number now }
+    {
+        look_at_both(&self.history, place, source);
+        let processor = place.cell.content.number;
+        let from = source.cell.content.number;
+        let content = &mut place.cell.content;
+        content.scratch.clear();
+        let mut desk = working.sit(&self.counters);
+        let reply = content.state.pull(
+            &mut source.cell.content.state,
+            processor,
+            from,
+            now,
+            &mut content.scratch,
+            &mut desk,
+        );
+        working.stand(desk);
+        let mut guard = self.journal.lock(rt);
+        let journal = &mut *guard;
+        journal.need_room(rt);
+        let mut kept = journal.kept().again();
+        kept.pull(processor, from, &reply);
+        let reply = Ok(reply);
+        let (for_record, for_receipt) = rooms.hold(content.scratch.calls());
+        slip.set(Record {
+            event: Event::Pull {
+                processor,
+                from,
+                now,
+            },
+            reply: answer_again(&reply),
+            calls: for_record,
+        });
+        let entry = Record {
+            event: Event::Pull {
+                processor,
+                from,
+                now,
+            },
+            reply,
+            calls: for_receipt,
+        };
+        working.commit_two(
+            &self.history,
+            journal,
+            &mut place.cell,
+            &mut source.cell,
+            slip,
+            entry,
+            kept,
+        )
+    }
+}

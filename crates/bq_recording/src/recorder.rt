@@ -1,0 +1,46 @@
+//! What all callers share beside the locks of the world's parts.
+ghost use Rattle.std.specs.Prelude.{◌≡◌, ◌≤◌};
+
+use bq_cells::{Kept, NumberedCpu, Part, Record, Sched, WorldState};
+use bq_counters::{Counters, Naming as Counting};
+use bq_disc::RunQueue;
+use bq_history::{Cell, History, Journal, Locked};
+use bq_seats::Working;
+use bq_tie::Naming;
+use std::sync::{Mutex, Wait};
+
+/// A caller's end of a machine. Contracts see it as its number and its receipts, in order.
+pub type Seat<N> = bq_seats::Seat<Record, Part, Kept, N>;
+
+/// What a seat has while an event is under way.
+pub type Caller<N> = Working<Record, Part, Kept, N>;
+
+/// The history, as all callers share it.
+pub type Shared<Q, N> = History<Record, WorldState, Part, Kept, u64, Sched<Q>, N>;
+
+/// What lies under a lock.
+pub type Place<A, N> = Locked<A, Record, Part, Kept, N>;
+
+/// A processor whose lock is held: its hand may be full.
+pub type CpuCell<Q, N> = Cell<NumberedCpu<Q>, Record, Part, Kept, N>;
+
+/// The history with its journal, and the counters. Each event of a machine is recorded by one call here, under the locks of
+/// all parts that it touches; the call takes the journal's lock last.
+#[derive(Drop)]
+pub struct Recorder<Q: RunQueue + Drop, N: Naming + Counting> {
+    pub history: Shared<Q, N>,
+    pub counters: Counters<N>,
+    pub journal: Mutex<Journal<Record, Part, Kept, N>>,
+    pub ghost few: { history.about ≤ 64 },
+    pub ghost same: { counters ≡ history.callers },
+}
+
+/// Waits for ever where a lock holds another's content.
+pub fn need_own<R: Wait>(rt: &R, number: u8, wanted: u8)
+    ensures { number ≡ wanted }
+{
+    if number != wanted {
+        for _ in rt.forever() {}
+        unreachable!()
+    }
+}

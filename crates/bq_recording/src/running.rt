@@ -1,0 +1,164 @@
+//! Events of one processor: its clock ticks, its inbox's tasks enter, and its running task goes to sleep.
+ghost use Rattle.std.specs.Prelude.{◌≡◌, ◌∷◌, ◌++◌, []};
+ghost use Rattle.bq_seats.specs.Calls.{account_of};
+ghost use Rattle.bq_cells.specs.Parts.{told_calls};
+
+use crate::recorder::{Caller, Place, Recorder};
+use bq_alike::answer_again;
+use bq_cells::{CallRooms, Calls, NumberedCpu, NumberedInbox, OneLobby, Record};
+use bq_counters::Naming as Counting;
+use bq_disc::RunQueue;
+use bq_history::{Receipt, Slip, look_at_both};
+use bq_parts::Event;
+use bq_tie::Naming;
+use std::sync::Wait;
+
+impl<Q: RunQueue + Drop, N: Naming + Counting> Recorder<Q, N> {
+    /// Commits a tick, under the lock of its processor.
+    pub fn tick<R: Wait>(
+        &self,
+        rt: &R,
+        working: &mut Caller<N>,
+        place: &mut Place<NumberedCpu<Q>, N>,
+        now: u64,
+        mut slip: Slip<Record>,
+        rooms: CallRooms,
+    ) -> Receipt<Record>
+        requires tally { working.old.tally ≡ account_of told_calls working.old.caller.1 }
+        ensures caller { working.new.caller ≡ (working.old.caller.0, working.old.caller.1 ++ result ∷ []) }
+        ensures tally { working.new.tally ≡ account_of told_calls working.new.caller.1 }
+        ensures event { result.entry.event ≡ Event.Tick place.old.number now }
+    {
+        place.look(&self.history);
+        let processor = place.cell.content.number;
+        let content = &mut place.cell.content;
+        content.scratch.clear();
+        let mut desk = working.sit(&self.counters);
+        let reply = content
+            .state
+            .tick(processor, now, &mut content.scratch, &mut desk);
+        working.stand(desk);
+        let reply = Ok(reply);
+        let (for_record, for_receipt) = rooms.hold(content.scratch.calls());
+        slip.set(Record {
+            event: Event::Tick { processor, now },
+            reply: answer_again(&reply),
+            calls: for_record,
+        });
+        let entry = Record {
+            event: Event::Tick { processor, now },
+            reply,
+            calls: for_receipt,
+        };
+        let mut guard = self.journal.lock(rt);
+        let journal = &mut *guard;
+        journal.need_room(rt);
+        let kept = journal.kept().again();
+        working.commit_one(&self.history, journal, &mut place.cell, slip, entry, kept)
+    }
+
+    /// Commits a drain, under the locks of its processor and of its inbox.
+    pub fn drain<R: Wait>(
+        &self,
+        rt: &R,
+        working: &mut Caller<N>,
+        place: &mut Place<NumberedCpu<Q>, N>,
+        inbox: &mut Place<NumberedInbox, N>,
+        now: u64,
+        mut slip: Slip<Record>,
+        rooms: CallRooms,
+    ) -> Receipt<Record>
+        requires tally { working.old.tally ≡ account_of told_calls working.old.caller.1 }
+        requires own { inbox.old.number ≡ place.old.number }
+        ensures caller { working.new.caller ≡ (working.old.caller.0, working.old.caller.1 ++ result ∷ []) }
+        ensures tally { working.new.tally ≡ account_of told_calls working.new.caller.1 }
+        ensures event { result.entry.event ≡ Event.Drain place.old.number now }
+    {
+        look_at_both(&self.history, place, inbox);
+        let processor = place.cell.content.number;
+        let content = &mut place.cell.content;
+        content.scratch.clear();
+        let mut desk = working.sit(&self.counters);
+        let reply = content.state.drain(
+            &mut inbox.cell.content.state,
+            processor,
+            now,
+            &mut content.scratch,
+            &mut desk,
+        );
+        working.stand(desk);
+        let reply = Ok(reply);
+        let (for_record, for_receipt) = rooms.hold(content.scratch.calls());
+        slip.set(Record {
+            event: Event::Drain { processor, now },
+            reply: answer_again(&reply),
+            calls: for_record,
+        });
+        let entry = Record {
+            event: Event::Drain { processor, now },
+            reply,
+            calls: for_receipt,
+        };
+        let mut guard = self.journal.lock(rt);
+        let journal = &mut *guard;
+        journal.need_room(rt);
+        let kept = journal.kept().again();
+        working.commit_two(
+            &self.history,
+            journal,
+            &mut place.cell,
+            &mut inbox.cell,
+            slip,
+            entry,
+            kept,
+        )
+    }
+
+    /// Commits a block, under the locks of its processor and of the lobby.
+    pub fn block<R: Wait>(
+        &self,
+        rt: &R,
+        working: &mut Caller<N>,
+        place: &mut Place<NumberedCpu<Q>, N>,
+        lobby: &mut Place<OneLobby, N>,
+        now: u64,
+        mut slip: Slip<Record>,
+    ) -> Receipt<Record>
+        requires tally { working.old.tally ≡ account_of told_calls working.old.caller.1 }
+        ensures caller { working.new.caller ≡ (working.old.caller.0, working.old.caller.1 ++ result ∷ []) }
+        ensures tally { working.new.tally ≡ account_of told_calls working.new.caller.1 }
+        ensures event { result.entry.event ≡ Event.Block place.old.number now }
+    {
+        place.look(&self.history);
+        let processor = place.cell.content.number;
+        let reply = place
+            .cell
+            .content
+            .state
+            .block(&mut lobby.cell.content.state, processor, now);
+        slip.set(Record {
+            event: Event::Block { processor, now },
+            reply: answer_again(&reply),
+            calls: Calls::none(),
+        });
+        let entry = Record {
+            event: Event::Block { processor, now },
+            reply,
+            calls: Calls::none(),
+        };
+        let mut guard = self.journal.lock(rt);
+        let journal = &mut *guard;
+        journal.need_room(rt);
+        let mut kept = journal.kept().again();
+        kept.block(processor, &entry.reply);
+        working.commit_two(
+            &self.history,
+            journal,
+            &mut place.cell,
+            &mut lobby.cell,
+            slip,
+            entry,
+            kept,
+        )
+    }
+}

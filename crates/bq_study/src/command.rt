@@ -1,0 +1,155 @@
+//! The words after `simulate`.
+
+use bq_timeline::{Words, WordsFault};
+use clap::error::ErrorKind;
+use clap::{Arg, ArgMatches, Command};
+use std::alloc::{AllocError, Global};
+
+/// The words of the options, as they were given.
+#[derive(Debug, Drop)]
+pub struct StudyWords {
+    pub discipline: Option<String>,
+    pub processors: Option<String>,
+    pub duration: Option<String>,
+    pub seed: Option<String>,
+    /// Files of policies, or `none`.
+    pub place: Option<String>,
+    pub preempt: Option<String>,
+    pub pull: Option<String>,
+    /// How it is shown, and the file of the workload.
+    pub shown: Words,
+}
+
+/// Reads the words after `simulate`.
+pub fn study_words<'a>(alloc: Global, given: &'a [&'a str]) -> Result<StudyWords, WordsFault> {
+    let command = command(alloc)?;
+    match command.try_get_matches_from(given) {
+        Ok(matches) => Ok(found(alloc, &matches)?),
+        Err(error) => Err(refusal(alloc, &error)),
+    }
+}
+
+/// The words that were found.
+fn found(alloc: Global, matches: &ArgMatches<'_>) -> Result<StudyWords, AllocError> {
+    let discipline = word(alloc, matches, "discipline")?;
+    let processors = word(alloc, matches, "processors")?;
+    let duration = word(alloc, matches, "duration")?;
+    let seed = word(alloc, matches, "seed")?;
+    let place = word(alloc, matches, "place")?;
+    let preempt = word(alloc, matches, "preempt")?;
+    let pull = word(alloc, matches, "pull")?;
+    let shown = shown_words(alloc, matches)?;
+    Ok(StudyWords {
+        discipline,
+        processors,
+        duration,
+        seed,
+        place,
+        preempt,
+        pull,
+        shown,
+    })
+}
+
+/// The words that say how it is shown.
+fn shown_words(alloc: Global, matches: &ArgMatches<'_>) -> Result<Words, AllocError> {
+    let file = word(alloc, matches, "file")?;
+    let form = word(alloc, matches, "as")?;
+    let from = word(alloc, matches, "from")?;
+    let to = word(alloc, matches, "to")?;
+    let cpus = word(alloc, matches, "cpus")?;
+    let tasks = word(alloc, matches, "tasks")?;
+    let width = word(alloc, matches, "width")?;
+    Ok(Words {
+        file,
+        form,
+        from,
+        to,
+        cpus,
+        tasks,
+        width,
+    })
+}
+
+fn word(
+    alloc: Global,
+    matches: &ArgMatches<'_>,
+    option: &str,
+) -> Result<Option<String>, AllocError> {
+    match matches.get_str(option) {
+        None => Ok(None),
+        Some(word) => Ok(Some(String::from_str(alloc, word)?)),
+    }
+}
+
+/// The fault of words that clap refuses, with its text.
+fn refusal(alloc: Global, error: &clap::Error) -> WordsFault {
+    if error.kind() == ErrorKind::OutOfMemory {
+        return WordsFault::OutOfMemory;
+    }
+    match error.to_string(alloc) {
+        Ok(text) => WordsFault::Words(text),
+        Err(_) => WordsFault::OutOfMemory,
+    }
+}
+
+/// The options, as clap takes them. The words come without the program's name and `simulate`.
+fn command<'a>(alloc: Global) -> Result<Command<'a>, AllocError> {
+    let command = Command::new(alloc, "simulate").about(
+        "Runs a workload and shows its schedule, or writes it as a trace",
+    );
+    let file = Arg::new(alloc, "file")
+        .value_name("FILE")
+        .help("The workload; standard input without it, or as -");
+    let command = command.arg(file)?;
+    let command = machine_options(alloc, command)?;
+    let command = policy_options(alloc, command)?;
+    let command = shown_options(alloc, command)?;
+    let command = command.bin_name("bqsim simulate")?;
+    Ok(command.no_binary_name(true))
+}
+
+/// What stands in the place of the workload's own machine.
+fn machine_options<'a>(alloc: Global, command: Command<'a>) -> Result<Command<'a>, AllocError> {
+    let discipline = option(alloc, "discipline", "RULE").help("cfs or eevdf");
+    let command = command.arg(discipline)?;
+    let processors = option(alloc, "processors", "P").help("1, 2, 4, 8, 16, 32 or 64");
+    let command = command.arg(processors)?;
+    let duration = option(alloc, "duration", "TIME").help("How long it runs, as 500us or 2s");
+    let command = command.arg(duration)?;
+    let seed = option(alloc, "seed", "N").help("Of the draws");
+    command.arg(seed)
+}
+
+/// What stands at the hooks.
+fn policy_options<'a>(alloc: Global, command: Command<'a>) -> Result<Command<'a>, AllocError> {
+    let place = option(alloc, "place", "POLICY").help("An image, or its hex, at every processor");
+    let command = command.arg(place)?;
+    let preempt = option(alloc, "preempt", "POLICY").help("The same");
+    let command = command.arg(preempt)?;
+    let pull = option(alloc, "pull", "POLICY").help("The same");
+    command.arg(pull)
+}
+
+/// How it is shown.
+fn shown_options<'a>(alloc: Global, command: Command<'a>) -> Result<Command<'a>, AllocError> {
+    let form = option(alloc, "as", "FORM").help(
+        "report (without it), trace, map, timehist, why, svg, perfetto, csv or json",
+    );
+    let command = command.arg(form)?;
+    let from = option(alloc, "from", "TIME").help("Shows what is from then on: 1500, 1.5ms, 2s");
+    let command = command.arg(from)?;
+    let to = option(alloc, "to", "TIME").help("Shows what is up to then");
+    let command = command.arg(to)?;
+    let cpus = option(alloc, "cpus", "LIST").help("Shows these processors alone, as in 0-3,8");
+    let command = command.arg(cpus)?;
+    let tasks = option(alloc, "tasks", "LIST").help("Shows these tasks alone, as in 1,4");
+    let command = command.arg(tasks)?;
+    let width = option(alloc, "width", "COLUMNS").help("How wide a map is, 80 without it");
+    command.arg(width)
+}
+
+/// An option that takes one value.
+fn option<'a>(alloc: Global, name: &'a str, value: &'a str) -> Arg<'a> {
+    Arg::new(alloc, name).long(name).value_name(value)
+}

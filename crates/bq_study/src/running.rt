@@ -1,0 +1,61 @@
+//! One run of a workload, and what is written of it.
+
+use crate::asked::Asked;
+use crate::names::tell_names;
+use crate::policies::Policies;
+use crate::trace_text::TraceText;
+use bq_actions::Workload;
+use bq_simulate::{SimulateFault, simulate};
+use bq_timeline::Settings;
+use bq_timeline::viewer::Viewer;
+use std::alloc::Global;
+
+/// What is written of a run: to the output, and to standard error.
+#[derive(Drop)]
+pub struct Written {
+    pub text: String,
+    pub notes: String,
+}
+
+/// Runs a workload with these policies at all processors; what is written of it, as it was asked for.
+pub fn run_as(
+    alloc: Global,
+    workload: &Workload,
+    policies: &Policies,
+    asked: Asked,
+) -> Result<Written, SimulateFault> {
+    match asked {
+        Asked::Trace => as_trace(alloc, workload, policies),
+        Asked::Timeline(settings) => as_timeline(alloc, workload, policies, settings),
+    }
+}
+
+fn as_trace(
+    alloc: Global,
+    workload: &Workload,
+    policies: &Policies,
+) -> Result<Written, SimulateFault> {
+    let mut sink = TraceText::new(alloc, policies);
+    tell_names(alloc, workload, &mut sink)?;
+    simulate(alloc, workload, policies.loaded.as_slice(), &mut sink)?;
+    Ok(Written {
+        text: sink.text,
+        notes: String::new(alloc),
+    })
+}
+
+fn as_timeline(
+    alloc: Global,
+    workload: &Workload,
+    policies: &Policies,
+    settings: Settings,
+) -> Result<Written, SimulateFault> {
+    let mut viewer = Viewer::new(alloc, settings);
+    tell_names(alloc, workload, &mut viewer)?;
+    simulate(alloc, workload, policies.loaded.as_slice(), &mut viewer)?;
+    viewer.end()?;
+    Ok(Written {
+        text: viewer.screen.text.clone()?,
+        notes: viewer.screen.notes.clone()?,
+    })
+}
