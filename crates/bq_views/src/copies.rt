@@ -74,8 +74,15 @@ pub fn keep_same(into: &mut [u8], other: &[u8])
     ensures right { KeepsClasses other.now into.new }
 {
     for place in 0..into.len() {
-        if into[place] != other[place] {
-            into[place] = 0;
-        }
+        into[place] = same(into[place], other[place]);
     }
+}
+
+/// The class that both are, if they are of one.
+#[inline(always)]
+fn same(a: u8, b: u8) -> u8
+    ensures left { result ≢ 0 → result ≡ a }
+    ensures right { result ≢ 0 → result ≡ b }
+{
+    if a == b { a } else { 0 }
 }
