@@ -8,7 +8,8 @@ BQSIM is the path of the program. Of each trace `csv` must have the model's slic
 processors (times, waits, latencies, fair times and counts, to the nanosecond), and `report` its table of bounds. The second
 form draws ticks, wakes and blocks at processors where no policy stands, and says how much of the bounds was reached.
 
-All this is run by hand, and is no part of the gate.
+All this is run by hand, and is no part of the gate. Last seen: 26 traces, 2,627 slices alike, and the figures of `json` too.
+The table of bounds was not compared yet.
 """
 import json
 import random

@@ -44,7 +44,6 @@ fn asked(rt: &HostRuntime) -> Result<Request, JobFault> {
     }
     match words.as_slice() {
         ["timeline", rest @ ..] => timeline_words(alloc, rest),
-        ["help", "timeline"] => timeline_words(alloc, ["--help"].as_slice()),
         all => Ok(Request::Job(job(alloc, all)?)),
     }
 }
