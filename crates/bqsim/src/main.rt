@@ -4,10 +4,14 @@
 use bq_cli::asked::{Job, JobFault};
 use bq_cli::status::{OUT_OF_MEMORY, REFUSED};
 use bq_cli::{Counted, exit_status, job, perform};
+use bq_complaints::complaint;
+use bq_policy_desk::{PolicyRequest, do_policy, input_bytes, policy_request};
 use bq_timeline::{Settings, SettingsFault, Words, WordsFault, show, words};
 use std::alloc::Global;
-use std::io::{ErrorKind, Read};
+use std::io::{ErrorKind, IsTerminal, Read};
 use std::process::ExitCode;
+use std::sync::Wait;
+use std::thread::Threads;
 use std::{env, fs};
 
 /// The exit status where the trace's file can't be opened.
@@ -18,6 +22,7 @@ const UNREADABLE: u8 = 4;
 enum Request {
     Job(Job),
     Timeline(Words),
+    Policy(PolicyRequest),
 }
 
 /// What the words after the program's name ask for. A word that is no text is refused.
@@ -41,6 +46,9 @@ fn asked(rt: &HostRuntime) -> Result<Request, JobFault> {
     let mut words = Vec::new(alloc);
     for word in &given {
         words.push(word.as_str())?;
+    }
+    if let Some(request) = policy_request(alloc, words.as_slice())? {
+        return Ok(Request::Policy(request));
     }
     match words.as_slice() {
         ["timeline", rest @ ..] => timeline_words(alloc, rest),
@@ -111,14 +119,44 @@ fn main(rt: HostRuntime) -> ExitCode {
             ExitCode::from(OUT_OF_MEMORY)
         }
         Ok(Request::Timeline(words)) => timeline(&rt, &words),
-        Ok(Request::Job(job)) => {
-            let mut input = Counted::new(rt.stdin());
-            let mut output = Counted::new(rt.stdout());
-            let outcome = perform(&rt, rt.alloc(), &job, &mut input, &mut output);
-            if let Err(fault) = &outcome {
-                let _ = eprintln!(rt; "bqsim: {fault}");
-            }
-            ExitCode::from(exit_status(&outcome))
+        Ok(Request::Policy(request)) => do_policy(&rt, &request),
+        Ok(Request::Job(job)) => match &job {
+            Job::Asm(_) => assemble(&rt, &rt, &job),
+            _ => do_job(&rt, &rt, &job, rt.stdin()),
+        },
+    }
+}
+
+/// Does a job on what is read.
+fn do_job<T: Threads + Wait + Sync, R: Read + Drop>(
+    rt: &HostRuntime,
+    threads: &T,
+    job: &Job,
+    reader: R,
+) -> ExitCode {
+    if let Job::Replay = job {
+        if rt.stdin().is_terminal() {
+            let _ = eprintln!(rt; "bqsim: waiting for a trace on standard input; Ctrl-D ends it");
         }
     }
+    let mut input = Counted::new(reader);
+    let mut output = Counted::new(rt.stdout());
+    let outcome = perform(threads, rt.alloc(), job, &mut input, &mut output);
+    if let Err(fault) = &outcome {
+        let _ = eprintln!(rt; "bqsim: {fault}");
+    }
+    ExitCode::from(exit_status(&outcome))
+}
+
+/// Assembles standard input, and says beside the answer what is wrong with it.
+fn assemble<T: Threads + Wait + Sync>(rt: &HostRuntime, threads: &T, job: &Job) -> ExitCode {
+    let text = match input_bytes(rt) {
+        Ok(text) => text,
+        Err(code) => return code,
+    };
+    let code = do_job(rt, threads, job, text.as_slice());
+    if let Ok(Some(why)) = complaint(rt.alloc(), text.as_slice()) {
+        let _ = eprint!(rt; "bqsim: {why}");
+    }
+    code
 }
