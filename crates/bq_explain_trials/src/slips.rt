@@ -1,0 +1,172 @@
+// The usual slips: the text of a policy, and what is said of it. The slots, lines and numbers were counted by hand.
+
+use bq_complaints::complaint;
+use bq_explain::{Limits, explain};
+use bq_policy_files::{Head, read_policy};
+use std::test::Fail;
+
+/// What a policy's text is, and what its explanation says: the first line, and words of the others.
+const REFUSED: [(&str, &str, &str, &str); 13] = [
+    // r1 after a call
+    (
+        ";@ hook preempt\ncall 5\nldxw r0, [r1+48]\nexit\n",
+        "refused L8 V4 1\n",
+        "line 3, slot 1:  ldxw r0, [r1+48]",
+        "keep what is needed later in r6 to r9",
+    ),
+    // a look-up without its test
+    (
+        ";@ hook preempt\n;@ maps 8:1\nstw [r10-4], 0\nldmap r1, 0\nmov64 r2, r10\nadd64 r2, -4\ncall 1\nldxdw r0, [r0+0]\nexit\n",
+        "refused L8 V5 6\n",
+        "the answer of a look-up is 0 where there is no such entry",
+        "test it first: jeq64 r0, 0, label",
+    ),
+    // a mask too wide: 40 + 124 + 4 is above 104
+    (
+        ";@ hook place\nldxw r2, [r1+0]\nand64 r2, 31\nlsh64 r2, 2\nadd64 r1, r2\nldxw r0, [r1+40]\nexit\n",
+        "refused L8 V5 4\n",
+        "reads 4 bytes at context + 40..164; the context of place, version 1, has 104 bytes",
+        "a smaller mask or a test",
+    ),
+    // r0 unset on one path
+    (
+        ";@ hook preempt\nldxw r2, [r1+48]\njeq64 r2, 0, end\nmov64 r0, 1\nend:\nexit\n",
+        "refused L8 V9 3\n",
+        "r0, the answer, is not set on each way that leads here",
+        "set r0 to a number on each way",
+    ),
+    // a loop
+    (
+        ";@ hook preempt\nmov64 r0, 0\nagain:\nadd64 r0, 1\njlt64 r0, 4, again\nexit\n",
+        "refused L8 V1 2\n",
+        "line 5, slot 2:  jlt64 r0, 4, -2",
+        "write a loop out as often as it may run",
+    ),
+    // an unknown helper
+    (
+        ";@ hook preempt\ncall 3\nexit\n",
+        "refused L8 V7 0\n",
+        "calls a helper that there is not",
+        "call by number: 1 looks an entry up",
+    ),
+    // a wide instruction takes two slots, so slot 2 stands on line 3
+    (
+        ";@ hook preempt\nlddw r0, 1\nldxw r0, [r2+0]\nexit\n",
+        "refused L8 V4 2\n",
+        "line 3, slot 2:  ldxw r0, [r2+0]",
+        "set it on each way",
+    ),
+    // a pointer stored by halves
+    (
+        ";@ hook preempt\nmov64 r0, 0\nstxw [r10-4], r1\nexit\n",
+        "refused L8 V6 1\n",
+        "a pointer is stored whole by stxdw",
+        "store it by stxdw at r10 - 8",
+    ),
+    // maps forgotten
+    (
+        ";@ hook preempt\nmov64 r0, 0\nldmap r1, 0\nexit\n",
+        "refused L8 V8 1\n",
+        "names map 0; the program has 0 maps",
+        "say the maps: a line ;@ maps 8:1",
+    ),
+    // the context of another hook: that of preempt has 56 bytes
+    (
+        ";@ hook preempt\nldxw r0, [r1+100]\nexit\n",
+        "refused L8 V5 0\n",
+        "the context of preempt, version 1, has 56 bytes",
+        "docs/CONTEXTS.md has the fields of each hook",
+    ),
+    // format 1 beyond 16 processors: the load of processor 16 is at byte 104
+    (
+        ";@ hook place\nldxw r0, [r1+104]\nexit\n",
+        "refused L8 V5 0\n",
+        "reads 4 bytes at context + 104; the context of place, version 1, has 104 bytes",
+        "or format 2, whose context has 296 bytes",
+    ),
+    // a result that is a pointer
+    (
+        ";@ hook preempt\nmov64 r0, r1\nexit\n",
+        "refused L8 V9 1\n",
+        "r0, the answer, is context; an answer is a number",
+        "a pointer is no answer",
+    ),
+    // division where a shift was meant, of the pointer
+    (
+        ";@ hook preempt\nmov64 r0, 0\ndiv64 r1, 4\nexit\n",
+        "refused L8 V6 1\n",
+        "works on r1, which is context",
+        "for a shift write lsh64 or rsh64",
+    ),
+];
+
+#[test]
+fn refusals_say_what_helps(rt: HostRuntime) -> Result<(), Fail> {
+    let nothing = Head::nothing();
+    for (text, first, need, help) in REFUSED {
+        let Ok(policy) = read_policy(rt.alloc(), text.as_bytes(), &nothing) else {
+            return Err(Fail::from("the text is no policy"));
+        };
+        let said = explain(rt.alloc(), &policy, &Limits::none())?;
+        let said = said.text.as_str();
+        assert!(rt; said.starts_with(first), "{text}: {said}");
+        assert!(rt; said.contains(need), "{text}: {said}");
+        assert!(rt; said.contains(help), "{text}: {said}");
+    }
+    Ok(())
+}
+
+/// Texts that do not assemble, and what is said of them.
+const COMPLAINED: [(&str, &str); 6] = [
+    (
+        "mov r0, 1\nexit\n",
+        "line 1: unknown word \"mov\", did you mean \"mov64\"?\n",
+    ),
+    (
+        "mov64 r0, 1 // one\nexit\n",
+        "line 1: \"//\" begins no comment here: a comment begins with ;\n",
+    ),
+    (
+        "# one\nexit\n",
+        "line 1: \"#\" begins no comment here: a comment begins with ;\n",
+    ),
+    (
+        "mov64 r0, 0\nldxw r0, [r1 + 4]\nexit\n",
+        "line 2: [r1 + 4]: no blank inside brackets\n",
+    ),
+    (
+        "call lookup\nexit\n",
+        "helpers go by their numbers: 1 looks an entry up",
+    ),
+    (
+        "ja end\n",
+        "line 1: \"ja end\" jumps to a label that is set nowhere",
+    ),
+];
+
+#[test]
+fn complaints_name_what_is_wrong(rt: HostRuntime) -> Result<(), Fail> {
+    for (text, told) in COMPLAINED {
+        match complaint(rt.alloc(), text.as_bytes())? {
+            Some(said) => assert!(rt; said.as_str().contains(told), "{text}: {said}"),
+            None => return Err(Fail::from("nothing was said")),
+        }
+    }
+    Ok(())
+}
+
+// the example of a policy that is accepted: two loads, a branch, two answers
+#[test]
+fn accepted_tells_all(rt: HostRuntime) -> Result<(), Fail> {
+    let text = ";@ hook place\n;@ maps 8:1\nldxw r0, [r1+28]\ncall 8\nexit\n";
+    let Ok(policy) = read_policy(rt.alloc(), text.as_bytes(), &Head::nothing()) else {
+        return Err(Fail::from("the text is no policy"));
+    };
+    let said = explain(rt.alloc(), &policy, &Limits::none())?;
+    assert!(rt; said.accepted);
+    assert_eq!(rt;
+        said.text.as_str(),
+        "accepted place budget 3 of 4096, version 1, maps 8:1, helpers 8, counters 0, slots 3\n"
+    );
+    Ok(())
+}
