@@ -1,0 +1,33 @@
+//! What an image lacks, in words.
+use bq_insn::fault::Cause as Spelling;
+use bq_load::LoadFault;
+
+/// What is wrong with the bytes of an image.
+pub(crate) fn image_words(fault: LoadFault) -> &'static str {
+    match fault {
+        LoadFault::Magic => "the bytes do not begin with the letters BQPI: this is no image",
+        LoadFault::Version => "the version, byte 4, is neither 1 nor 2",
+        LoadFault::Hook => "the hook, byte 5, is not 0 (place), 1 (preempt) or 2 (pull)",
+        LoadFault::Shape => {
+            "there are more than 8 maps, or one whose value size is not 8 to 256 in eights, or whose entries are not 1 to 256"
+        }
+        LoadFault::Cut => "the bytes end before the image does",
+        LoadFault::Rest => "bytes stand after the program",
+        LoadFault::Decode { .. } => "the program's bytes are no instructions",
+        LoadFault::Refused { .. } => "the program is not shown to be safe",
+        LoadFault::OutOfMemory => "out of memory",
+    }
+}
+
+/// What is wrong with the bytes of an instruction.
+pub(crate) fn spelling_words(cause: Spelling) -> &'static str {
+    match cause {
+        Spelling::Length => "a program has 1 to 4096 slots of 8 bytes",
+        Spelling::Opcode => "the first byte names no instruction of the groups that there are",
+        Spelling::Register => "a register is not one of r0 to r10",
+        Spelling::Field => "a field that the instruction does not use is not 0",
+        Spelling::Offset => "the offset is none that the instruction has",
+        Spelling::Imm => "the immediate is none that the instruction has",
+        Spelling::WideCut => "a wide instruction has no second slot, or a wrong one",
+    }
+}
