@@ -150,7 +150,7 @@ def judged(bqsim, room, drawn, level, cpu):
 
 
 def main():
-    bqsim = sys.argv[1]
+    bqsim = os.path.abspath(sys.argv[1])
     count = int(sys.argv[2]) if len(sys.argv) > 2 else 200
     seed = int(sys.argv[3]) if len(sys.argv) > 3 else 1
     with tempfile.TemporaryDirectory() as folder:
