@@ -1,7 +1,7 @@
 //! Words that the program takes and words that it refuses, and a job that is done.
 
-use crate::asked::{Job, JobFault};
-use crate::{Counted, exit_status, job, perform};
+use bq_cli::asked::{Job, JobFault};
+use bq_cli::{Counted, exit_status, job, perform};
 use std::str::from_utf8;
 use std::test::Fail;
 
