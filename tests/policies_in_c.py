@@ -1,7 +1,7 @@
 #!/usr/bin/env python3
-"""Compiles C policies of everyday shapes, brings them into order by `bqsim_import`, and asks `bqsim check` of each.
+"""Compiles C policies of everyday shapes, brings them into order by `bqsim import`, and asks `bqsim check` of each.
 
-    tests/policies_in_c.py BQSIM IMPORT [COUNT [SEED]]   so many drawn policies (200 if left out), at -O2 and -O1, for v3 and v4
+    tests/policies_in_c.py BQSIM [COUNT [SEED]]   so many drawn policies (200 if left out), at -O2 and -O1, for v3 and v4
 
 Needs clang and llvm-objcopy for BPF: CLANG and OBJCOPY name them (clang-19 and llvm-objcopy-19 if they do not). It prints for
 each way to compile how many were imported and accepted, and the causes of the rest. Nothing here decides whether a program
@@ -130,7 +130,7 @@ def run(words, **more):
     return subprocess.run(words, capture_output=True, **more)
 
 
-def judged(bqsim, importing, room, drawn, level, cpu):
+def judged(bqsim, room, drawn, level, cpu):
     """What comes of one policy, compiled one way."""
     source, code, section = room / 'p.c', room / 'p.o', room / 'p.text'
     source.write_text(drawn.text())
@@ -139,7 +139,7 @@ def judged(bqsim, importing, room, drawn, level, cpu):
         return 'not compiled: ' + built.stderr.decode().splitlines()[0]
     run([OBJCOPY, '-O', 'binary', '--only-section=.text', code, section])
     options = ['--hook', drawn.hook] + (['--maps', ','.join(drawn.maps)] if drawn.maps else [])
-    text = run([importing, *options, section])
+    text = run([bqsim, 'import', *options, section])
     if text.returncode:
         return 'not imported: ' + text.stderr.decode().split(': ', 1)[-1].split(';')[0].strip()
     image = run([bqsim, 'asm', *options], input=text.stdout)
@@ -150,14 +150,14 @@ def judged(bqsim, importing, room, drawn, level, cpu):
 
 
 def main():
-    bqsim, importing = sys.argv[1:3]
-    count = int(sys.argv[3]) if len(sys.argv) > 3 else 200
-    seed = int(sys.argv[4]) if len(sys.argv) > 4 else 1
+    bqsim = os.path.abspath(sys.argv[1])
+    count = int(sys.argv[2]) if len(sys.argv) > 2 else 200
+    seed = int(sys.argv[3]) if len(sys.argv) > 3 else 1
     with tempfile.TemporaryDirectory() as folder:
         for level, cpu in WAYS:
             fates, shown = collections.Counter(), {}
             for k in range(count):
-                fate = judged(bqsim, importing, pathlib.Path(folder), Drawn(random.Random(f'{seed} {k}')), level, cpu)
+                fate = judged(bqsim, pathlib.Path(folder), Drawn(random.Random(f'{seed} {k}')), level, cpu)
                 fates[fate] += 1
                 shown.setdefault(fate, k)
             print(f'{level} {cpu}: {fates["accepted"]} of {count} accepted')

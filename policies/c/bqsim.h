@@ -87,21 +87,28 @@ _Static_assert(sizeof(struct bq_pull) == 160, "pull");
 /* Map k of those that --maps names. It is a number that `bqsim import` knows. */
 #define BQ_MAP(k) ((void *)(0x400000000000ull + (k)))
 
+/* The helpers. Compiled for the machine itself, as to test a policy alone, they are functions that the test brings. */
+#ifdef __bpf__
+#define BQ_HELPER(type, name, number, ...) static type (*const name)(__VA_ARGS__) = (void *)number
+#else
+#define BQ_HELPER(type, name, number, ...) extern type name(__VA_ARGS__)
+#endif
+
 /* The entry of a map with that number, or 0 where there is none: test it before you use it. The number is a u32. */
-static void *(*const bq_lookup)(const void *map, const void *number) = (void *)1;
+BQ_HELPER(void *, bq_lookup, 1, const void *map, const void *number);
 
 /* Writes an entry; the flags are 0. Answers 0, or -1 where there is no such entry. */
-static u64 (*const bq_update)(const void *map, const void *number, const void *value, u64 flags) = (void *)2;
+BQ_HELPER(u64, bq_update, 2, const void *map, const void *number, const void *value, u64 flags);
 
 /* The last reading of the processor's clock, in nanoseconds. */
-static u64 (*const bq_clock)(void) = (void *)5;
+BQ_HELPER(u64, bq_clock, 5, void);
 
 /* The number of the processor that asks. */
-static u64 (*const bq_processor)(void) = (void *)8;
+BQ_HELPER(u64, bq_processor, 8, void);
 
 /* Adds to one of the machine's 64 counters, and answers what it was. At most 16 calls of counters on a path. */
-static u64 (*const bq_counter_add)(u64 counter, u64 amount) = (void *)100;
-static u64 (*const bq_counter_read)(u64 counter) = (void *)101;
+BQ_HELPER(u64, bq_counter_add, 100, u64 counter, u64 amount);
+BQ_HELPER(u64, bq_counter_read, 101, u64 counter);
 
 /* Keeps the compiler from forgetting that a value was tested: write it between the test and the use. */
 #define bq_keep(value) __asm__ volatile("" : "+r"(value))

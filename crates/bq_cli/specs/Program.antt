@@ -27,8 +27,8 @@ abbrev pub replay_app : App
 replay_app = new_app (codes "replay")
 
 -- by its name alone: its options are taken elsewhere
-abbrev pub timeline_app : App
-timeline_app = new_app (codes "timeline")
+abbrev pub named_app : Text → App
+named_app name = new_app name
 
 -- the program by its name, which tells its version
 abbrev pub named : App
@@ -38,9 +38,13 @@ named = on_top (λ s. record s { has_version = true }) (new_app (codes "bqsim"))
 abbrev pub with_programs : App
 with_programs = with_subcommand (with_subcommand (with_subcommand named asm_app.top) check_app.top) dis_app.top
 
--- with all commands
+-- with the commands of worlds
+abbrev pub with_worlds : App
+with_worlds = with_subcommand (with_subcommand with_programs par_app.top) replay_app.top
+
+-- with those whose options are taken elsewhere
 abbrev pub with_all : App
-with_all = with_subcommand (with_subcommand (with_subcommand with_programs par_app.top) replay_app.top) timeline_app.top
+with_all = with_subcommand (with_subcommand (with_subcommand (with_subcommand with_worlds (named_app (codes "timeline")).top) (named_app (codes "simulate")).top) (named_app (codes "run")).top) (named_app (codes "import")).top
 
 -- the words come without the program's name, and one of them has to be a command
 abbrev pub program : App

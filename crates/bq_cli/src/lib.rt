@@ -6,13 +6,9 @@
 pub mod asked;
 mod asm_words;
 pub mod commands;
-#[cfg(test)]
-mod image_tests;
 mod par_words;
 pub mod program;
 pub mod status;
-#[cfg(test)]
-mod tests;
 pub mod whole;
 pub mod words;
 

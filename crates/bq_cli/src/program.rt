@@ -2,7 +2,7 @@
 ghost use Rattle.std.specs.Prelude.{◌≡◌, IfOk, false};
 ghost use Rattle.clap.specs.Words.{app_of, rule_of, with_rule, with_subcommand};
 ghost use Rattle.clap.specs.declared.builder.command.Command.TheViews.{out-Command as fields_of};
-ghost use Rattle.bq_cli.specs.Program.{program, option_rule, needed_rule, asm_app, check_app, dis_app, par_app, replay_app, timeline_app, with_all, with_programs};
+ghost use Rattle.bq_cli.specs.Program.{program, option_rule, needed_rule, asm_app, check_app, dis_app, par_app, replay_app, named_app, with_all, with_programs, with_worlds};
 
 use clap::{Arg, Command};
 use std::alloc::{AllocError, Global};
@@ -97,14 +97,12 @@ fn replay_command<'a>(alloc: Global) -> Command<'a>
     )
 }
 
-/// The command by its name alone: its options are taken by whoever shows timelines.
-fn timeline_command<'a>(alloc: Global) -> Command<'a>
-    ensures app { app_of result ≡ timeline_app }
+/// A command by its name alone: whoever does it takes its options.
+fn named_command<'a>(alloc: Global, name: &'a str, about: &'a str) -> Command<'a>
+    ensures app { app_of result ≡ named_app name.entry.now }
     ensures local { (fields_of result).has_globals ≡ false }
 {
-    Command::new(alloc, "timeline").about(
-        "Reads a trace and shows its schedule in a form that people read",
-    )
+    Command::new(alloc, name).about(about)
 }
 
 /// A program with one command more.
@@ -127,13 +125,38 @@ fn with_programs<'a>(alloc: Global) -> Result<Command<'a>, AllocError>
     with_command(command, dis_command(alloc))
 }
 
+/// The program with the commands of worlds.
+fn with_worlds<'a>(alloc: Global) -> Result<Command<'a>, AllocError>
+    ensures { IfOk result (λ c. app_of c ≡ with_worlds) }
+{
+    let command = with_command(with_programs(alloc)?, par_command(alloc)?)?;
+    with_command(command, replay_command(alloc))
+}
+
 /// The program with all its commands.
 fn with_all<'a>(alloc: Global) -> Result<Command<'a>, AllocError>
     ensures { IfOk result (λ c. app_of c ≡ with_all) }
 {
-    let command = with_command(with_programs(alloc)?, par_command(alloc)?)?;
-    let command = with_command(command, replay_command(alloc))?;
-    with_command(command, timeline_command(alloc))
+    let timeline = named_command(
+        alloc,
+        "timeline",
+        "Reads a trace and shows its schedule in a form that people read",
+    );
+    let command = with_command(with_worlds(alloc)?, timeline)?;
+    let simulate = named_command(
+        alloc,
+        "simulate",
+        "Runs a workload and shows its schedule, or writes it as a trace",
+    );
+    let command = with_command(command, simulate)?;
+    let run = named_command(alloc, "run", "Runs a policy once and says what it answers");
+    let command = with_command(command, run)?;
+    let import = named_command(
+        alloc,
+        "import",
+        "Reads the text section of a compiled program and writes it as an assembler text",
+    );
+    with_command(command, import)
 }
 
 /// The program with its commands. The words come without its name.

@@ -68,7 +68,7 @@ fn refusal(alloc: Global, error: &clap::Error) -> JobFault
 /// The fault of words with no command.
 fn no_command(alloc: Global) -> JobFault {
     match format!(in alloc;
-        "error: a command is needed: asm, check, dis, par, replay or timeline\n"
+        "error: a command is needed: asm, check, dis, import, par, replay, run, simulate or timeline\n"
     ) {
         Ok(text) => JobFault::Words(text),
         Err(_) => JobFault::OutOfMemory,

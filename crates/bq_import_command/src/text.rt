@@ -1,13 +1,15 @@
 //! The text of a compiled program.
 ghost use Rattle.std.specs.Prelude.{◌≡◌, ◌++◌, ◌⊎◌, ℕ, IfOk, List, length};
+ghost use Rattle.std.specs.List.{list_all};
 ghost use Rattle.std.specs.String.{string_bytes};
 ghost use Rattle.bq_asm.specs.Text.{listing_text};
-ghost use Rattle.bq_import_command.specs.Text.{IsTextOf};
+ghost use Rattle.bq_program.specs.HexText.{is_blank};
+ghost use Rattle.bq_import_command.specs.Text.{IsSection, IsTextOf, is_hex_byte};
 
 use crate::settings::Settings;
 use bq_asm::listing;
 use bq_import::{ImportFault, import};
-use bq_program::{Version, hook_word};
+use bq_program::{Version, bytes_of, hook_word};
 use std::alloc::{AllocError, AllocFailed, Global};
 use thiserror::Error;
 
@@ -36,21 +38,18 @@ impl<T: Drop> From<AllocFailed<T>> for Refusal {
     }
 }
 
-/// The text of the program whose text section this is, as bytes, or as hex where it has digits and blanks alone.
-pub fn imported(alloc: Global, settings: &Settings, input: &[u8]) -> Result<String, Refusal> {
-    if input.iter().all(|byte| is_hex(*byte)) {
-        let digits: Vec<u8> = input
-            .iter()
-            .copied()
-            .filter(|byte| !is_blank(*byte))
-            .collect(alloc)?;
-        return match hex::decode(alloc, digits.as_slice()) {
-            Ok(bytes) => imported_bytes(alloc, settings, bytes.as_slice()),
-            Err(hex::FromHexError::OutOfMemory) => Err(Refusal::OutOfMemory),
-            Err(_) => Err(Refusal::Hex),
-        };
+/// The text of the program whose text section this is, as bytes, or as hex where it has digits and blanks alone: marks, and
+/// the listing of a copy of it in which every jump goes forward.
+pub fn imported(alloc: Global, settings: &Settings, input: &[u8]) -> Result<String, Refusal>
+    ensures { IfOk result (λ text. (bytes : List ℕ) × IsSection input.now bytes × IsTextOf (length settings.now.form.shapes.items) bytes (string_bytes text)) }
+{
+    if !is_hex(input) {
+        return imported_bytes(alloc, settings, input);
     }
-    imported_bytes(alloc, settings, input)
+    match bytes_of(alloc, input)? {
+        Some(bytes) => imported_bytes(alloc, settings, bytes.as_slice()),
+        None => Err(Refusal::Hex),
+    }
 }
 
 /// The text of the program that the bytes spell: marks, and the listing of a copy of it in which every jump goes forward.
@@ -80,12 +79,23 @@ fn marks(alloc: Global, settings: &Settings) -> Result<String, AllocError> {
     Ok(text)
 }
 
+/// Whether all bytes are digits of hex or blanks.
+fn is_hex(input: &[u8]) -> bool
+    ensures { result ≡ list_all is_hex_byte input.now }
+{
+    input.iter().all(|byte| is_hex_byte(*byte))
+}
+
 /// A digit of hex, or a blank.
-fn is_hex(byte: u8) -> bool {
+fn is_hex_byte(byte: u8) -> bool
+    ensures { result ≡ is_hex_byte byte }
+{
     byte.is_ascii_hexdigit() || is_blank(byte)
 }
 
 /// A space, a tab, or a part of a line's end.
-fn is_blank(byte: u8) -> bool {
+fn is_blank(byte: u8) -> bool
+    ensures { result ≡ is_blank byte }
+{
     byte == b' ' || byte == b'\t' || byte == b'\r' || byte == b'\n'
 }

@@ -5,6 +5,7 @@ use bq_insn::fault::Cause as Code;
 use bq_load::{Hook, ImageReader, LoadFault, Version, load, read_image, write_image};
 use bq_verify::Cause;
 use std::alloc::{AllocError, Global};
+use std::process::Abort;
 use std::test::Fail;
 
 /// Preempt, no maps: mov64 r0, 0; exit.
@@ -14,7 +15,7 @@ const ZERO: [u8; 28] = [
 ];
 
 /// Preempt, one map of 8 bytes and 1 entry: answers the old value of its entry and adds one to it, or answers 2.
-const COUNTING: [u8; 136] = [
+pub const COUNTING: [u8; 136] = [
     0x42, 0x51, 0x50, 0x49, 1, 1, 1, 0, 8, 0, 1, 0, 15, 0, 0, 0, //
     0x62, 0x0a, 0xfc, 0xff, 0, 0, 0, 0, // stw [r10-4], 0
     0x18, 0x51, 0, 0, 0, 0, 0, 0, // ldmap r1, 0
@@ -75,20 +76,56 @@ fn moves(
     Ok(image)
 }
 
+/// Each image has its answer.
+fn answers(
+    rt: &impl Abort,
+    alloc: Global,
+    cases: &[(&[u8], Result<u32, LoadFault>)],
+) -> Result<(), Fail> {
+    for (number, (image, answer)) in cases.iter().enumerate() {
+        assert_eq!(rt; budget(alloc, image), *answer, "image {number}");
+    }
+    Ok(())
+}
+
+/// The image with each of these bytes changed has its answer.
+fn changes(
+    rt: &impl Abort,
+    alloc: Global,
+    image: &[u8],
+    cases: &[(usize, u8, Result<u32, LoadFault>)],
+) -> Result<(), Fail> {
+    for (at, byte, answer) in cases {
+        let image = changed(alloc, image, *at, *byte)?;
+        assert_eq!(rt;
+            budget(alloc, image.as_slice()),
+            *answer,
+            "byte {at} to {byte}"
+        );
+    }
+    Ok(())
+}
+
 #[test]
 fn images_load_or_are_refused(rt: HostRuntime) -> Result<(), Fail> {
-    let alloc = rt.alloc();
-    assert_eq!(rt; budget(alloc, &ZERO), Ok(2));
-    assert_eq!(rt; budget(alloc, &COUNTING), Ok(12));
-    assert_eq!(rt; budget(alloc, &ADDING), Ok(5));
-    let out_of_range = changed(alloc, &ADDING, 16, 64)?;
-    assert_eq!(rt;
-        budget(alloc, out_of_range.as_slice()),
-        refused(2, Cause::Argument)
-    );
-    assert_eq!(rt; budget(alloc, &ZERO[..27]), Err(LoadFault::Cut));
-    assert_eq!(rt; budget(alloc, &[]), Err(LoadFault::Cut));
-    let changes = [
+    let mut long = Vec::from_slice(rt.alloc(), &ZERO)?;
+    long.push(0)?;
+    let cases: [(&[u8], Result<u32, LoadFault>); 6] = [
+        (&ZERO, Ok(2)),
+        (&COUNTING, Ok(12)),
+        (&ADDING, Ok(5)),
+        (&ZERO[..27], Err(LoadFault::Cut)),
+        (&[], Err(LoadFault::Cut)),
+        (long.as_slice(), Err(LoadFault::Rest)),
+    ];
+    answers(&rt, rt.alloc(), cases.as_slice())?;
+    let out_of_range = [(16, 64, refused(2, Cause::Argument))];
+    changes(&rt, rt.alloc(), &ADDING, out_of_range.as_slice())
+}
+
+#[test]
+fn changes_of_a_header_are_refused(rt: HostRuntime) -> Result<(), Fail> {
+    let cases = [
         (0, 0, Err(LoadFault::Magic)),
         (4, 0, Err(LoadFault::Version)),
         (4, 2, Ok(2)),
@@ -105,18 +142,7 @@ fn images_load_or_are_refused(rt: HostRuntime) -> Result<(), Fail> {
         (24, 1, refused_code(1, Code::Field)),
         (20, 0, refused_code(1, Code::Opcode)),
     ];
-    for (at, byte, answer) in &changes {
-        let image = changed(alloc, &ZERO, *at, *byte)?;
-        assert_eq!(rt;
-            budget(alloc, image.as_slice()),
-            *answer,
-            "byte {at} to {byte}"
-        );
-    }
-    let mut long = Vec::from_slice(alloc, &ZERO)?;
-    long.push(0)?;
-    assert_eq!(rt; budget(alloc, long.as_slice()), Err(LoadFault::Rest));
-    Ok(())
+    changes(&rt, rt.alloc(), &ZERO, cases.as_slice())
 }
 
 fn refused_code(slot: usize, cause: Code) -> Result<u32, LoadFault> {
@@ -137,7 +163,7 @@ fn changes_of_a_program_are_refused(rt: HostRuntime) -> Result<(), Fail> {
             "cut after {end}"
         );
     }
-    let changes = [
+    let cases = [
         (28, 0x01, refused(1, Cause::Argument)),
         (52, 0xf8, refused(5, Cause::Argument)),
         (66, 0x01, refused(9, Cause::Unreached)),
@@ -149,43 +175,31 @@ fn changes_of_a_program_are_refused(rt: HostRuntime) -> Result<(), Fail> {
         (10, 0, Err(LoadFault::Shape)),
         (11, 1, Err(LoadFault::Shape)),
     ];
-    for (at, byte, answer) in &changes {
-        let image = changed(alloc, &COUNTING, *at, *byte)?;
-        assert_eq!(rt;
-            budget(alloc, image.as_slice()),
-            *answer,
-            "byte {at} to {byte}"
-        );
-    }
-    Ok(())
+    changes(&rt, alloc, &COUNTING, cases.as_slice())
 }
+
+const EXIT: [u8; 8] = [0x95, 0, 0, 0, 0, 0, 0, 0];
 
 #[test]
 fn lengths_are_judged_after_the_end(rt: HostRuntime) -> Result<(), Fail> {
-    let alloc = rt.alloc();
-    let none = moves(alloc, 1, 1, 0, 0)?;
-    assert_eq!(rt;
-        budget(alloc, none.as_slice()),
-        refused_code(0, Code::Length)
-    );
-    let missing = moves(alloc, 1, 1, 5000, 0)?;
-    assert_eq!(rt; budget(alloc, missing.as_slice()), Err(LoadFault::Cut));
-    let mut long = moves(alloc, 1, 1, 5000, 5000)?;
-    assert_eq!(rt;
-        budget(alloc, long.as_slice()),
-        refused_code(0, Code::Length)
-    );
-    long.push(0)?;
-    assert_eq!(rt; budget(alloc, long.as_slice()), Err(LoadFault::Rest));
-    let mut greatest = moves(alloc, 1, 1, 4096, 4095)?;
-    greatest.extend_from_slice(&[0x95, 0, 0, 0, 0, 0, 0, 0])?;
-    assert_eq!(rt; budget(alloc, greatest.as_slice()), Ok(4096));
-    let mut greater = moves(alloc, 1, 1, 4097, 4096)?;
-    greater.extend_from_slice(&[0x95, 0, 0, 0, 0, 0, 0, 0])?;
-    assert_eq!(rt;
-        budget(alloc, greater.as_slice()),
-        refused_code(0, Code::Length)
-    );
+    // slots that the header tells, moves that there are, what stands behind them
+    let cases: [(u16, u16, &[u8], Result<u32, LoadFault>); 6] = [
+        (0, 0, &[], refused_code(0, Code::Length)),
+        (5000, 0, &[], Err(LoadFault::Cut)),
+        (5000, 5000, &[], refused_code(0, Code::Length)),
+        (5000, 5000, &[0], Err(LoadFault::Rest)),
+        (4096, 4095, &EXIT, Ok(4096)),
+        (4097, 4096, &EXIT, refused_code(0, Code::Length)),
+    ];
+    for (slots, count, rest, answer) in &cases {
+        let mut image = moves(rt.alloc(), 1, 1, *slots, *count)?;
+        image.extend_from_slice(rest)?;
+        assert_eq!(rt;
+            budget(rt.alloc(), image.as_slice()),
+            *answer,
+            "{slots} and {count}"
+        );
+    }
     Ok(())
 }
 
@@ -267,30 +281,48 @@ fn pieces_are_one_image(rt: HostRuntime) -> Result<(), Fail> {
     Ok(())
 }
 
+/// A reader answers each piece, and ends by that fault.
+fn ends_by(
+    rt: &impl Abort,
+    alloc: Global,
+    pieces: &[(&[u8], Result<(), LoadFault>)],
+    fault: LoadFault,
+) {
+    let mut reader = ImageReader::new(alloc);
+    for (piece, answer) in pieces {
+        assert_eq!(rt; reader.feed(piece), *answer);
+    }
+    assert_eq!(rt; reader.finish().err(), Some(fault));
+}
+
 #[test]
 fn faults_come_with_the_byte_that_makes_them(rt: HostRuntime) {
-    let mut letters = ImageReader::new(rt.alloc());
-    assert_eq!(rt; letters.feed(&[0x00]), Ok(()));
-    assert_eq!(rt; letters.feed(&[0x51]), Ok(()));
-    assert_eq!(rt; letters.feed(&[0x50]), Ok(()));
-    assert_eq!(rt; letters.feed(&[0x49]), Err(LoadFault::Magic));
-    assert_eq!(rt; letters.feed(&[0x42]), Err(LoadFault::Magic));
-    assert_eq!(rt; letters.finish().err(), Some(LoadFault::Magic));
+    let letters: [(&[u8], Result<(), LoadFault>); 5] = [
+        (&[0x00], Ok(())),
+        (&[0x51], Ok(())),
+        (&[0x50], Ok(())),
+        (&[0x49], Err(LoadFault::Magic)),
+        (&[0x42], Err(LoadFault::Magic)),
+    ];
+    ends_by(&rt, rt.alloc(), letters.as_slice(), LoadFault::Magic);
+    let past: [(&[u8], Result<(), LoadFault>); 4] = [
+        (&ZERO, Ok(())),
+        (&[], Ok(())),
+        (&[0], Err(LoadFault::Rest)),
+        (&[], Err(LoadFault::Rest)),
+    ];
+    ends_by(&rt, rt.alloc(), past.as_slice(), LoadFault::Rest);
+    let cut: [(&[u8], Result<(), LoadFault>); 1] = [(&ZERO[..27], Ok(()))];
+    ends_by(&rt, rt.alloc(), cut.as_slice(), LoadFault::Cut);
+    ends_by(&rt, rt.alloc(), &[], LoadFault::Cut);
+}
 
+#[test]
+fn a_load_past_the_end_is_refused(rt: HostRuntime) {
     let mut past = ImageReader::new(rt.alloc());
     assert_eq!(rt; past.feed(&ZERO), Ok(()));
-    assert_eq!(rt; past.feed(&[]), Ok(()));
     assert_eq!(rt; past.feed(&[0]), Err(LoadFault::Rest));
-    assert_eq!(rt; past.feed(&[]), Err(LoadFault::Rest));
     assert_eq!(rt; past.finish_load().err(), Some(LoadFault::Rest));
-
-    let mut cut = ImageReader::new(rt.alloc());
-    assert_eq!(rt; cut.feed(&ZERO[..27]), Ok(()));
-    assert_eq!(rt; cut.finish().err(), Some(LoadFault::Cut));
-    assert_eq!(rt;
-        ImageReader::new(rt.alloc()).finish().err(),
-        Some(LoadFault::Cut)
-    );
 }
 
 #[test]

@@ -1,8 +1,7 @@
 // Programs run on two stacks of different bytes: what register 0 is at the EXIT, and how many instructions it took.
 // The values are worked by hand from RFC 9669.
 
-use bq_insn::encode::well_formed;
-use bq_insn::{Bits, Condition, Insn, Operation, Order, Size, Source, Width};
+use bq_asm::assemble;
 use bq_interp::env::Env;
 use bq_interp::runs::{Ran, run};
 use bq_interp::stack::Stack;
@@ -13,93 +12,20 @@ use std::alloc::{AllocError, Global};
 use std::process::Abort;
 use std::test::Fail;
 
-fn alu(width: Width, op: Operation, dst: u8, src: Source) -> Insn {
-    Insn::Alu {
-        width,
-        op,
-        dst,
-        src,
-    }
-}
-
-fn mov(dst: u8, imm: i32) -> Insn {
-    alu(Width::W64, Operation::Mov, dst, Source::Imm(imm))
-}
-
-fn copy(dst: u8, src: u8) -> Insn {
-    alu(Width::W64, Operation::Mov, dst, Source::Reg(src))
-}
-
-fn add(dst: u8, imm: i32) -> Insn {
-    alu(Width::W64, Operation::Add, dst, Source::Imm(imm))
-}
-
-fn lddw(dst: u8, value: u64) -> Insn {
-    Insn::Imm64 { dst, value }
-}
-
-fn load(size: Size, signed: bool, dst: u8, src: u8, off: i16) -> Insn {
-    Insn::Load {
-        size,
-        signed,
-        dst,
-        src,
-        off,
-    }
-}
-
-fn set(size: Size, dst: u8, off: i16, imm: i32) -> Insn {
-    Insn::StoreImm {
-        size,
-        dst,
-        off,
-        imm,
-    }
-}
-
-fn store(size: Size, dst: u8, off: i16, src: u8) -> Insn {
-    Insn::StoreReg {
-        size,
-        dst,
-        off,
-        src,
-    }
-}
-
-fn branch(width: Width, cond: Condition, dst: u8, src: Source, off: i16) -> Insn {
-    Insn::Branch {
-        width,
-        cond,
-        dst,
-        src,
-        off,
-    }
-}
-
-fn call(helper: i32) -> Insn {
-    Insn::Call { helper }
-}
-
-/// The program for the hook preempt, where it is accepted.
-fn accept(
-    alloc: Global,
-    insns: &[Insn],
-    shapes: &[MapShape],
-) -> Result<Option<Verified>, AllocError> {
-    let insns = insns.to_vec(alloc)?;
-    let shapes = shapes.to_vec(alloc)?;
-    if !well_formed(insns.as_slice()) || shapes.len() > 8 {
-        return Ok(None);
-    }
+/// The program for the hook preempt, which is accepted beside a map of two entries of 8 bytes.
+fn accepted(alloc: Global, text: &str) -> Result<Verified, Fail> {
+    let shape = MapShape::new(8, 2).ok_or("no shape")?;
+    let mut shapes = Vec::new(alloc);
+    shapes.push(shape)?;
     let program = Program {
-        insns,
+        insns: assemble(alloc, text)?,
         shapes,
         hook: Hook::Preempt,
         version: Version::First,
     };
     match verify(alloc, program) {
-        Ok(verified) => Ok(Some(verified)),
-        Err(_refused) => Ok(None),
+        Ok(verified) => Ok(verified),
+        Err(_refused) => Err(Fail::from("not accepted")),
     }
 }
 
@@ -135,269 +61,183 @@ fn run_on(
 }
 
 /// The program's answer and steps, on a stack of that byte.
-fn ran(
-    alloc: Global,
-    insns: &[Insn],
-    shapes: &[MapShape],
-    byte: u8,
-) -> Result<Option<(u64, u32)>, AllocError> {
-    let Some(verified) = accept(alloc, insns, shapes)? else {
-        return Ok(None);
-    };
+fn ran(alloc: Global, verified: &Verified, byte: u8) -> Result<Option<(u64, u32)>, AllocError> {
     let mut board = Plain::new();
     let mut stack = Stack::from_bytes([byte; 512]);
-    match run_on(alloc, &verified, &mut board, &mut stack)? {
+    match run_on(alloc, verified, &mut board, &mut stack)? {
         Some(done) => Ok(Some((done.r0, done.steps))),
         None => Ok(None),
     }
 }
 
 /// The program answers that in so many steps, on two stacks of different bytes.
-fn expect(rt: &impl Abort, alloc: Global, insns: &[Insn], r0: u64, steps: u32) -> Result<(), Fail> {
-    assert_eq!(rt; ran(alloc, insns, &[], 0x00)?, Some((r0, steps)));
-    assert_eq!(rt; ran(alloc, insns, &[], 0xa5)?, Some((r0, steps)));
+fn expect(rt: &impl Abort, alloc: Global, text: &str, r0: u64, steps: u32) -> Result<(), Fail> {
+    let verified = accepted(alloc, text)?;
+    for byte in [0x00, 0xa5] {
+        let ran = ran(alloc, &verified, byte)?;
+        assert_eq!(rt; ran, Some((r0, steps)), "{text}");
+    }
+    Ok(())
+}
+
+/// A program without its exit, what it answers, and in how many steps.
+type Row = (&'static str, u64, u32);
+
+const ARITHMETIC: [Row; 12] = [
+    ("mov64 r0, 7\nmov64 r2, 0\ndiv64 r0, r2", 0, 4),
+    (
+        "lddw r0, 0xffffffff00000007\nmov64 r2, 0\nmod32 r0, r2",
+        7,
+        4,
+    ),
+    ("mov64 r0, 5\ndiv64 r0, -1", 0, 3),
+    ("lddw r0, 0x80000000\narsh32 r0, 33", 0xc000_0000, 3),
+    ("lddw r0, 0x1122334455667788\nbe32 r0", 0x8877_6655, 3),
+    (
+        "lddw r0, 0x8000000000000000\nsdiv64 r0, -1",
+        0x8000_0000_0000_0000,
+        3,
+    ),
+    ("lddw r0, 0x8000000000000000\nsmod64 r0, -1", 0, 3),
+    ("mov64 r0, -13\nsmod64 r0, 3", 0xffff_ffff_ffff_ffff, 3),
+    ("mov64 r0, 9\nlsh64 r0, 64", 9, 3),
+    ("mov64 r2, 0x80\nmovsx32_8 r0, r2", 0xffff_ff80, 3),
+    ("lddw r0, 0x1234567890abcdef\nswap16 r0", 0xefcd, 3),
+    ("mov64 r0, 1\nneg32 r0", 0xffff_ffff, 3),
+];
+
+/// Of loads and stores, jumps, and helpers.
+const OTHERS: [Row; 9] = [
+    (
+        "stdw [r10-8], -1\nstb [r10-5], 0\nldxdw r0, [r10-8]",
+        0xffff_ffff_00ff_ffff,
+        4,
+    ),
+    ("ldxw r0, [r1+52]", 0xa1b2_c3d4, 2),
+    ("ldxsh r0, [r1+0]", 0xffff_ffff_ffff_fffe, 2),
+    (
+        "mov64 r2, -2\nstxh [r10-2], r2\nldxh r0, [r10-2]",
+        0xfffe,
+        4,
+    ),
+    ("mov64 r0, 0\njeq64 r0, 0, +1\nmov64 r0, 1", 0, 3),
+    ("mov64 r0, 3\nja32 +0\nja +0", 3, 4),
+    (
+        "mov64 r0, 5\nlddw r2, 0xffffffff\njslt32 r2, 0, +1\nmov64 r0, 6",
+        5,
+        4,
+    ),
+    ("call 5", 0x1_2345_6789, 2),
+    ("call 8", 7, 2),
+];
+
+fn answers(rt: &impl Abort, alloc: Global, rows: &[Row]) -> Result<(), Fail> {
+    for (text, r0, steps) in rows {
+        let text = format!(in alloc; "{text}\nexit\n")?;
+        expect(rt, alloc, text.as_str(), *r0, *steps)?;
+    }
     Ok(())
 }
 
 #[test]
 fn arithmetic(rt: HostRuntime) -> Result<(), Fail> {
-    let alloc = rt.alloc();
-    let exit = Insn::Exit;
-    let by_zero = alu(Width::W64, Operation::Div, 0, Source::Reg(2));
-    expect(&rt, alloc, &[mov(0, 7), mov(2, 0), by_zero, exit], 0, 4)?;
-    let low = lddw(0, 0xffff_ffff_0000_0007);
-    let rest = alu(Width::W32, Operation::Rem, 0, Source::Reg(2));
-    expect(&rt, alloc, &[low, mov(2, 0), rest, exit], 7, 4)?;
-    let by_most = alu(Width::W64, Operation::Div, 0, Source::Imm(-1));
-    expect(&rt, alloc, &[mov(0, 5), by_most, exit], 0, 3)?;
-    let shift = alu(Width::W32, Operation::Arsh, 0, Source::Imm(33));
-    expect(
-        &rt,
-        alloc,
-        &[lddw(0, 0x8000_0000), shift, exit],
-        0xc000_0000,
-        3,
-    )?;
-    let big = Insn::End {
-        kind: Order::Big,
-        bits: Bits::B32,
-        dst: 0,
-    };
-    expect(
-        &rt,
-        alloc,
-        &[lddw(0, 0x1122_3344_5566_7788), big, exit],
-        0x8877_6655,
-        3,
-    )
+    answers(&rt, rt.alloc(), ARITHMETIC.as_slice())
 }
 
 #[test]
-fn signed_division(rt: HostRuntime) -> Result<(), Fail> {
-    let alloc = rt.alloc();
-    let exit = Insn::Exit;
-    let least = lddw(0, 0x8000_0000_0000_0000);
-    let quotient = alu(Width::W64, Operation::Sdiv, 0, Source::Imm(-1));
-    let rest = alu(Width::W64, Operation::Srem, 0, Source::Imm(-1));
-    expect(
-        &rt,
-        alloc,
-        &[least, quotient, exit],
-        0x8000_0000_0000_0000,
-        3,
-    )?;
-    expect(&rt, alloc, &[least, rest, exit], 0, 3)?;
-    let by_three = alu(Width::W64, Operation::Srem, 0, Source::Imm(3));
-    expect(
-        &rt,
-        alloc,
-        &[mov(0, -13), by_three, exit],
-        0xffff_ffff_ffff_ffff,
-        3,
-    )
-}
-
-#[test]
-fn other_words(rt: HostRuntime) -> Result<(), Fail> {
-    let alloc = rt.alloc();
-    let exit = Insn::Exit;
-    let shift = alu(Width::W64, Operation::Lsh, 0, Source::Imm(64));
-    expect(&rt, alloc, &[mov(0, 9), shift, exit], 9, 3)?;
-    let extend = Insn::MovSx {
-        width: Width::W32,
-        bits: Bits::B8,
-        dst: 0,
-        src: 2,
-    };
-    expect(&rt, alloc, &[mov(2, 0x80), extend, exit], 0xffff_ff80, 3)?;
-    let swap = Insn::End {
-        kind: Order::Swapped,
-        bits: Bits::B16,
-        dst: 0,
-    };
-    expect(
-        &rt,
-        alloc,
-        &[lddw(0, 0x1234_5678_90ab_cdef), swap, exit],
-        0xefcd,
-        3,
-    )?;
-    let negate = Insn::Neg {
-        width: Width::W32,
-        dst: 0,
-    };
-    expect(&rt, alloc, &[mov(0, 1), negate, exit], 0xffff_ffff, 3)
-}
-
-#[test]
-fn loads_and_stores(rt: HostRuntime) -> Result<(), Fail> {
-    let alloc = rt.alloc();
-    let exit = Insn::Exit;
-    let whole = set(Size::Double, 10, -8, -1);
-    let hole = set(Size::Byte, 10, -5, 0);
-    let back = load(Size::Double, false, 0, 10, -8);
-    expect(
-        &rt,
-        alloc,
-        &[whole, hole, back, exit],
-        0xffff_ffff_00ff_ffff,
-        4,
-    )?;
-    let last = load(Size::Word, false, 0, 1, 52);
-    expect(&rt, alloc, &[last, exit], 0xa1b2_c3d4, 2)?;
-    let signed = load(Size::Half, true, 0, 1, 0);
-    expect(&rt, alloc, &[signed, exit], 0xffff_ffff_ffff_fffe, 2)?;
-    let half = store(Size::Half, 10, -2, 2);
-    let read = load(Size::Half, false, 0, 10, -2);
-    expect(&rt, alloc, &[mov(2, -2), half, read, exit], 0xfffe, 4)
-}
-
-#[test]
-fn jumps(rt: HostRuntime) -> Result<(), Fail> {
-    let alloc = rt.alloc();
-    let exit = Insn::Exit;
-    let equal = branch(Width::W64, Condition::Equal, 0, Source::Imm(0), 1);
-    expect(&rt, alloc, &[mov(0, 0), equal, mov(0, 1), exit], 0, 3)?;
-    let far = Insn::Goto32 { imm: 0 };
-    let near = Insn::Goto { off: 0 };
-    expect(&rt, alloc, &[mov(0, 3), far, near, exit], 3, 4)?;
-    let less = branch(Width::W32, Condition::SignedLess, 2, Source::Imm(0), 1);
-    let low = lddw(2, 0xffff_ffff);
-    expect(&rt, alloc, &[mov(0, 5), low, less, mov(0, 6), exit], 5, 4)
-}
-
-#[test]
-fn helpers(rt: HostRuntime) -> Result<(), Fail> {
-    let alloc = rt.alloc();
-    let exit = Insn::Exit;
-    expect(&rt, alloc, &[call(5), exit], 0x1_2345_6789, 2)?;
-    expect(&rt, alloc, &[call(8), exit], 7, 2)
+fn other_instructions(rt: HostRuntime) -> Result<(), Fail> {
+    answers(&rt, rt.alloc(), OTHERS.as_slice())
 }
 
 /// A value is written into entry 1 of a map, and read there by its address.
+const ENTRIES: &str = "stw [r10-4], 1
+stdw [r10-16], 77
+ldmap r1, 0
+mov64 r2, r10
+add64 r2, -4
+mov64 r3, r10
+add64 r3, -16
+mov64 r4, 0
+call 2
+ldmap r1, 0
+mov64 r2, r10
+add64 r2, -4
+call 1
+jne64 r0, 0, +2
+mov64 r0, 0
+exit
+ldxdw r0, [r0+0]
+exit
+";
+
 #[test]
 fn entries(rt: HostRuntime) -> Result<(), Fail> {
-    let alloc = rt.alloc();
-    let Some(shape) = MapShape::new(8, 2) else {
-        panic!(&rt; "not accepted");
-    };
-    let reference = Insn::MapRef { dst: 1, index: 0 };
-    let found = branch(Width::W64, Condition::NotEqual, 0, Source::Imm(0), 2);
-    let program = [
-        set(Size::Word, 10, -4, 1),
-        set(Size::Double, 10, -16, 77),
-        reference,
-        copy(2, 10),
-        add(2, -4),
-        copy(3, 10),
-        add(3, -16),
-        mov(4, 0),
-        call(2),
-        reference,
-        copy(2, 10),
-        add(2, -4),
-        call(1),
-        found,
-        mov(0, 0),
-        Insn::Exit,
-        load(Size::Double, false, 0, 0, 0),
-        Insn::Exit,
-    ];
-    assert_eq!(&rt; ran(alloc, &program, &[shape], 0x00)?, Some((77, 16)));
-    assert_eq!(&rt; ran(alloc, &program, &[shape], 0xa5)?, Some((77, 16)));
-    Ok(())
+    expect(&rt, rt.alloc(), ENTRIES, 77, 16)
+}
+
+/// A beginning, a text that stands so often, and an end.
+fn repeated(
+    alloc: Global,
+    begin: &str,
+    times: u32,
+    text: &str,
+    end: &str,
+) -> Result<String, AllocError> {
+    let mut all = String::from_str(alloc, begin)?;
+    for _ in 0..times {
+        all.push_str(text)?;
+    }
+    all.push_str(end)?;
+    Ok(all)
 }
 
 /// A program of many paths: 2,047 branches that are all taken.
-fn pairs(alloc: Global) -> Result<Vec<Insn>, AllocError> {
-    let mut insns = Vec::new(alloc);
-    insns.push(mov(0, 0))?;
-    for _ in 0..2047 {
-        insns.push(branch(Width::W64, Condition::Equal, 0, Source::Imm(0), 1))?;
-        insns.push(add(0, 1))?;
-    }
-    insns.push(Insn::Exit)?;
-    Ok(insns)
-}
-
 #[test]
 fn branches_taken(rt: HostRuntime) -> Result<(), Fail> {
-    let alloc = rt.alloc();
-    let insns = pairs(alloc)?;
-    let Some(verified) = accept(alloc, insns.as_slice(), &[])? else {
-        panic!(&rt; "not accepted");
-    };
-    assert_eq!(&rt; verified.budget(), 4096);
-    expect(&rt, alloc, insns.as_slice(), 0, 2049)
+    let pair = "jeq64 r0, 0, +1\nadd64 r0, 1\n";
+    let text = repeated(rt.alloc(), "mov64 r0, 0\n", 2047, pair, "exit\n")?;
+    let verified = accepted(rt.alloc(), text.as_str())?;
+    assert_eq!(rt; verified.budget(), 4096);
+    expect(&rt, rt.alloc(), text.as_str(), 0, 2049)
 }
 
-/// Sixteen times five onto counter 3, then its last answer is dropped.
-fn sixteen_adds(alloc: Global) -> Result<Vec<Insn>, AllocError> {
-    let mut insns = Vec::new(alloc);
-    for _ in 0..16 {
-        insns.push(mov(1, 3))?;
-        insns.push(mov(2, 5))?;
-        insns.push(call(100))?;
+/// Whether these are so many adds of 5 to counter 3, from 0 on.
+fn adds_in_turn(calls: &[Call]) -> bool {
+    let mut before = 0u64;
+    for made in calls {
+        let add = Call::Add {
+            counter: 3,
+            amount: 5,
+            answer: before,
+        };
+        if *made != add {
+            return false;
+        }
+        before = before.wrapping_add(5);
     }
-    insns.push(mov(0, 0))?;
-    insns.push(Insn::Exit)?;
-    Ok(insns)
+    true
 }
 
+/// Sixteen times five onto counter 3, which is read then.
 #[test]
 fn counters(rt: HostRuntime) -> Result<(), Fail> {
     let alloc = rt.alloc();
-    let insns = sixteen_adds(alloc)?;
-    let Some(adds) = accept(alloc, insns.as_slice(), &[])? else {
-        panic!(&rt; "not accepted");
-    };
-    let Some(reads) = accept(alloc, &[mov(1, 3), call(101), Insn::Exit], &[])? else {
-        panic!(&rt; "not accepted");
-    };
+    let add = "mov64 r1, 3\nmov64 r2, 5\ncall 100\n";
+    let text = repeated(alloc, "", 16, add, "mov64 r0, 0\nexit\n")?;
+    let adds = accepted(alloc, text.as_str())?;
     assert_eq!(&rt; adds.budget(), 50);
     let mut board = Plain::new();
     let mut stack = Stack::new();
     let Some(done) = run_on(alloc, &adds, &mut board, &mut stack)? else {
-        panic!(&rt; "not accepted");
+        panic!(&rt; "not run");
     };
     assert_eq!(&rt; done.steps, 50);
     assert_eq!(&rt; done.calls.len(), 16);
-    let mut before = 0u64;
-    for made in done.calls.as_slice() {
-        assert_eq!(&rt;
-            *made,
-            Call::Add {
-                counter: 3,
-                amount: 5,
-                answer: before
-            }
-        );
-        before = before.wrapping_add(5);
-    }
+    assert!(&rt; adds_in_turn(done.calls.as_slice()));
+    let reads = accepted(alloc, "mov64 r1, 3\ncall 101\nexit\n")?;
     let Some(last) = run_on(alloc, &reads, &mut board, &mut stack)? else {
-        panic!(&rt; "not accepted");
+        panic!(&rt; "not run");
     };
-    assert_eq!(&rt; last.r0, 80);
-    assert_eq!(&rt; last.steps, 3);
+    assert_eq!(&rt; (last.r0, last.steps), (80, 3));
     Ok(())
 }

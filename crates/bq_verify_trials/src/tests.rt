@@ -1,15 +1,12 @@
 // Programs of the hook preempt, whose context has 56 bytes, with their budgets, or with the slot and the cause of the
 // refusal. Most read a byte of the context at a place in `r2`, which has to be 0 to 55.
 
-use bq_asm::assemble;
+use crate::judging::{Trial, Verdict, at, expect};
 use bq_maps::MapShape;
-use bq_verify::{Cause, Hook, Program, Refused, Verified, Version, verify};
+use bq_verify::Cause;
 use std::alloc::Global;
 use std::process::Abort;
 use std::test::Fail;
-
-/// The beginning of a program, and what is answered to it.
-type Trial = (&'static str, Result<u32, Refused>);
 
 const BYTE_OF_CONTEXT: &str = "add64 r1, r2
 ldxb r0, [r1+0]
@@ -19,31 +16,19 @@ mov64 r0, 0
 exit
 ";
 
-fn access(slot: usize) -> Result<u32, Refused> {
-    Err(Refused::At {
-        slot,
-        cause: Cause::Access,
-    })
+const OUT: &str = "out:
+mov64 r0, 0
+exit
+";
+
+fn access(slot: usize) -> Verdict {
+    at(slot, Cause::Access)
 }
 
 /// Each program, of such a beginning and that end, has its answer beside two maps of one entry of 16 bytes each.
-fn expect(rt: &impl Abort, alloc: Global, trials: &[Trial], end: &str) -> Result<(), Fail> {
-    for (beginning, answer) in trials {
-        let text = format!(in alloc; "{beginning}\n{end}")?;
-        let shape = MapShape::new(16, 1).ok_or("shape")?;
-        let program = Program {
-            insns: assemble(alloc, text.as_str())?,
-            shapes: [shape, shape].to_vec(alloc)?,
-            hook: Hook::Preempt,
-            version: Version::First,
-        };
-        let budget = match verify(alloc, program) {
-            Ok(verified) => Ok(verified.budget()),
-            Err(refused) => Err(refused),
-        };
-        assert_eq!(rt; budget, *answer, "{beginning}");
-    }
-    Ok(())
+fn follows(rt: &impl Abort, alloc: Global, trials: &[Trial], end: &str) -> Result<(), Fail> {
+    let shape = MapShape::new(16, 1).ok_or("shape")?;
+    expect(rt, alloc, &[shape, shape], trials, end)
 }
 
 #[test]
@@ -106,7 +91,7 @@ fn tests_of_numbers(rt: HostRuntime) -> Result<(), Fail> {
             access(3),
         ),
     ];
-    expect(&rt, rt.alloc(), trials.as_slice(), BYTE_OF_CONTEXT)
+    follows(&rt, rt.alloc(), trials.as_slice(), BYTE_OF_CONTEXT)
 }
 
 #[test]
@@ -193,7 +178,7 @@ fn bits_and_signs(rt: HostRuntime) -> Result<(), Fail> {
             access(5),
         ),
     ];
-    expect(&rt, rt.alloc(), trials.as_slice(), BYTE_OF_CONTEXT)
+    follows(&rt, rt.alloc(), trials.as_slice(), BYTE_OF_CONTEXT)
 }
 
 #[test]
@@ -254,18 +239,10 @@ fn pointers(rt: HostRuntime) -> Result<(), Fail> {
              jeq64 r6, 0, out\n\
              ldxdw r0, [r6+8]\n\
              exit",
-            Err(Refused::At {
-                slot: 14,
-                cause: Cause::Unset,
-            }),
+            at(14, Cause::Unset),
         ),
     ];
-    expect(
-        &rt,
-        rt.alloc(),
-        trials.as_slice(),
-        "out:\nmov64 r0, 0\nexit\n",
-    )
+    follows(&rt, rt.alloc(), trials.as_slice(), OUT)
 }
 
 #[test]
@@ -346,7 +323,7 @@ fn copies(rt: HostRuntime) -> Result<(), Fail> {
             Ok(7),
         ),
     ];
-    expect(&rt, rt.alloc(), trials.as_slice(), BYTE_OF_CONTEXT)
+    follows(&rt, rt.alloc(), trials.as_slice(), BYTE_OF_CONTEXT)
 }
 
 #[test]
@@ -383,10 +360,5 @@ fn copies_of_answers(rt: HostRuntime) -> Result<(), Fail> {
             access(13),
         ),
     ];
-    expect(
-        &rt,
-        rt.alloc(),
-        trials.as_slice(),
-        "out:\nmov64 r0, 0\nexit\n",
-    )
+    follows(&rt, rt.alloc(), trials.as_slice(), OUT)
 }

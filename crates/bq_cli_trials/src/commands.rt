@@ -1,7 +1,7 @@
 //! Words that the program takes and words that it refuses, and a job that is done.
 
-use crate::asked::{Job, JobFault};
-use crate::{Counted, exit_status, job, perform};
+use bq_cli::asked::{Job, JobFault};
+use bq_cli::{Counted, exit_status, job, perform};
 use std::str::from_utf8;
 use std::test::Fail;
 
@@ -31,7 +31,7 @@ fn ends_by_one_where_a_line_is_bad(rt: HostRuntime) {
 }
 
 /// What some words are told, and where in the text.
-const TOLD: [(&[&str], &str); 25] = [
+const TOLD: [(&[&str], &str); 28] = [
     (&[], "Usage: bqsim"),
     (&["--help"], "Usage: bqsim"),
     (&["help"], "Usage: bqsim"),
@@ -42,6 +42,9 @@ const TOLD: [(&[&str], &str); 25] = [
     (&["--replay"], "error: "),
     (&["--help"], "check "),
     (&["--help"], "timeline "),
+    (&["--help"], "simulate "),
+    (&["--help"], "run "),
+    (&["--help"], "import "),
     (&["check", "--help"], "Usage: bqsim check"),
     (&["asm", "--help"], "place, preempt or pull"),
     (&["asm", "--help"], "--maps <MAPS>"),

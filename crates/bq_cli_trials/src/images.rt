@@ -1,8 +1,8 @@
 //! Images that are assembled and checked: words, what is read, and what is written. The values are worked by hand from the
 //! format, the rules of the verifier and the grammar of `--maps`.
 
-use crate::asked::Job;
-use crate::{Counted, exit_status, job, perform};
+use bq_cli::asked::Job;
+use bq_cli::{Counted, exit_status, job, perform};
 use std::alloc::Global;
 use std::process::Abort;
 use std::str::from_utf8;
@@ -106,97 +106,69 @@ fn images_are_assembled(rt: HostRuntime) -> Result<(), Fail> {
 }
 
 /// Options that are refused, and the line that says so.
-const REFUSED: [(&[&str], &str); 24] = [
+const REFUSED: [(&[&str], &str); 5] = [
     (&["asm", "--maps", "8:1"], "refused maps\n"),
     (&["asm", "--format", "1"], "refused format\n"),
     (&["asm", "--format", "2"], "refused format\n"),
     (&["asm", "--maps", "8:1", "--format", "2"], "refused maps\n"),
     (&["asm", "--maps", "x", "--format", "2"], "refused maps\n"),
-    (&["asm", "--hook", "pull", "--maps", ""], "refused maps\n"),
-    (&["asm", "--hook", "pull", "--maps", "8"], "refused maps\n"),
-    (&["asm", "--hook", "pull", "--maps", "8:"], "refused maps\n"),
-    (&["asm", "--hook", "pull", "--maps", ":2"], "refused maps\n"),
-    (
-        &["asm", "--hook", "pull", "--maps", "8:2,"],
-        "refused maps\n",
-    ),
-    (
-        &["asm", "--hook", "pull", "--maps", ",8:2"],
-        "refused maps\n",
-    ),
-    (
-        &["asm", "--hook", "pull", "--maps", "8:2,,8:2"],
-        "refused maps\n",
-    ),
-    (
-        &["asm", "--hook", "pull", "--maps", "8:2:1"],
-        "refused maps\n",
-    ),
-    (
-        &["asm", "--hook", "pull", "--maps", " 8:2"],
-        "refused maps\n",
-    ),
-    (
-        &["asm", "--hook", "pull", "--maps", "+8:2"],
-        "refused maps\n",
-    ),
-    (
-        &["asm", "--hook", "pull", "--maps", "0x8:2"],
-        "refused maps\n",
-    ),
-    (
-        &["asm", "--hook", "pull", "--maps", "12:1"],
-        "refused maps\n",
-    ),
-    (
-        &["asm", "--hook", "pull", "--maps", "8:0"],
-        "refused maps\n",
-    ),
-    (
-        &["asm", "--hook", "pull", "--maps", "264:1"],
-        "refused maps\n",
-    ),
-    (
-        &["asm", "--hook", "pull", "--maps", "8:257"],
-        "refused maps\n",
-    ),
-    (
-        &["asm", "--hook", "pull", "--maps", "65544:1"],
-        "refused maps\n",
-    ),
-    (
-        &["asm", "--hook", "pull", "--maps", "8:65537"],
-        "refused maps\n",
-    ),
-    (
-        &["asm", "--hook", "pull", "--maps", "8:99999999999999999999"],
-        "refused maps\n",
-    ),
-    (
-        &[
-            "asm",
-            "--hook",
-            "pull",
-            "--maps",
-            "8:1,8:1,8:1,8:1,8:1,8:1,8:1,8:1,8:1",
-        ],
-        "refused maps\n",
-    ),
 ];
+
+/// Maps that are refused beside a hook.
+const NO_MAPS: [&str; 19] = [
+    "",
+    "8",
+    "8:",
+    ":2",
+    "8:2,",
+    ",8:2",
+    "8:2,,8:2",
+    "8:2:1",
+    " 8:2",
+    "+8:2",
+    "0x8:2",
+    "12:1",
+    "8:0",
+    "264:1",
+    "8:257",
+    "65544:1",
+    "8:65537",
+    "8:99999999999999999999",
+    "8:1,8:1,8:1,8:1,8:1,8:1,8:1,8:1,8:1",
+];
+
+/// What is written, with nothing read.
+fn writes_unread<R: Threads + Wait + Sync>(
+    rt: &R,
+    alloc: Global,
+    words: &[&str],
+) -> Result<(String, u8), Fail> {
+    let Ok(job) = job(alloc, words) else {
+        return Err(Fail::from("the words were refused"));
+    };
+    let mut input = Counted::new(b"exit".as_slice());
+    let mut output = Counted::new(Vec::new(alloc));
+    let outcome = perform(rt, alloc, &job, &mut input, &mut output);
+    if input.into_inner() != b"exit".as_slice() {
+        return Err(Fail::from("the text was read"));
+    }
+    let written = output.into_inner();
+    Ok((
+        String::from_str(alloc, from_utf8(written.as_slice())?)?,
+        exit_status(&outcome),
+    ))
+}
 
 #[test]
 fn options_are_refused_before_the_text_is_read(rt: HostRuntime) -> Result<(), Fail> {
     for (words, line) in REFUSED {
-        let Ok(job) = job(rt.alloc(), words) else {
-            return Err(Fail::from("the words were refused"));
-        };
-        let mut input = Counted::new(b"exit".as_slice());
-        let mut output = Counted::new(Vec::new(rt.alloc()));
-        let outcome = perform(&rt, rt.alloc(), &job, &mut input, &mut output);
-        let written = output.into_inner();
-        assert_eq!(rt; from_utf8(written.as_slice())?, line);
-        assert_eq!(rt; exit_status(&outcome), 1);
-        assert_eq!(rt; input.into_inner(), b"exit".as_slice());
+        let done = writes_unread(&rt, rt.alloc(), words)?;
+        writes(&rt, &done, line, 1);
+    }
+    for maps in NO_MAPS {
+        let words = ["asm", "--hook", "pull", "--maps", maps];
+        let done = writes_unread(&rt, rt.alloc(), &words)?;
+        writes(&rt, &done, "refused maps\n", 1);
     }
     Ok(())
 }
@@ -221,7 +193,7 @@ fn eight_maps_are_taken(rt: HostRuntime) -> Result<(), Fail> {
 }
 
 /// A hex text, and what `check` writes.
-const CHECKED: [(&str, &str, u8); 13] = [
+const CHECKED: [(&str, &str, u8); 16] = [
     (ZERO, "accepted preempt budget 2\n", 0),
     (COUNTING, "accepted preempt budget 12\n", 0),
     (
@@ -269,6 +241,18 @@ const CHECKED: [(&str, &str, u8); 13] = [
     ),
     ("425150490101000000000000", "refused L7 I1 0\n", 1),
     ("4251504g", "refused hex\n", 1),
+    // version 3, 5,000 slots and none of them, a field that has to be 0
+    (
+        "425150490301000002000000b7000000000000009500000000000000",
+        "refused L2\n",
+        1,
+    ),
+    ("425150490101000088130000", "refused L5\n", 1),
+    (
+        "425150490101000002000000b7000000000000009500000001000000",
+        "refused L7 I4 1\n",
+        1,
+    ),
 ];
 
 #[test]
@@ -277,27 +261,6 @@ fn images_are_checked(rt: HostRuntime) -> Result<(), Fail> {
         let known = done(&rt, rt.alloc(), &["check"], hex.as_bytes())?;
         writes(&rt, &known, line, status);
     }
-    let unknown = done(
-        &rt,
-        rt.alloc(),
-        &["check"],
-        b"425150490301000002000000b7000000000000009500000000000000".as_slice(),
-    )?;
-    writes(&rt, &unknown, "refused L2\n", 1);
-    let header = done(
-        &rt,
-        rt.alloc(),
-        &["check"],
-        b"425150490101000088130000".as_slice(),
-    )?;
-    writes(&rt, &header, "refused L5\n", 1);
-    let field = done(
-        &rt,
-        rt.alloc(),
-        &["check"],
-        b"425150490101000002000000b7000000000000009500000001000000".as_slice(),
-    )?;
-    writes(&rt, &field, "refused L7 I4 1\n", 1);
     Ok(())
 }
 

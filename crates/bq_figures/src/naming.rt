@@ -1,0 +1,57 @@
+//! The figures of a report by their names.
+
+use bq_parts::Hook;
+
+/// A figure of a task. Times are nanoseconds.
+#[derive(Clone, Copy, Debug, PartialEq, Eq)]
+pub enum TaskFigure {
+    /// The time that it ran.
+    Ran,
+    /// Its fair time.
+    Fair,
+    /// The time that it waited.
+    Waited,
+    /// How often it began to run.
+    Switches,
+    /// How often another task was put in its place.
+    Preemptions,
+    /// How often it began to run at another processor than before.
+    Migrations,
+    /// How often it was woken.
+    Wakes,
+}
+
+/// A figure of a processor. Times are nanoseconds.
+#[derive(Clone, Copy, Debug, PartialEq, Eq)]
+pub enum ProcessorFigure {
+    /// The time in which a task ran.
+    Busy,
+    /// The time in which none ran.
+    Idle,
+    /// How often a task began to run.
+    Switches,
+}
+
+/// A figure of a hook at a processor.
+#[derive(Clone, Copy, Debug, PartialEq, Eq)]
+pub enum HookFigure {
+    /// How often a policy was asked.
+    Asked,
+    /// How often its answer was not permitted.
+    Overruled,
+    /// The instructions that it took together.
+    Steps,
+}
+
+/// A figure of a report.
+#[derive(Clone, Copy, Debug, PartialEq, Eq)]
+pub enum Figure {
+    /// A figure of a task.
+    Task(u16, TaskFigure),
+    /// What so many percent of a task's latencies from wake to run do not exceed, by nearest rank, in nanoseconds.
+    Latency(u16, u8),
+    /// A figure of a processor.
+    Processor(u8, ProcessorFigure),
+    /// A figure of a hook at a processor.
+    Hook(u8, Hook, HookFigure),
+}

@@ -1,0 +1,167 @@
+// Programs as the bytes of a text section, with their texts: orders, distances and slots were worked out by hand.
+
+use bq_import_command::{Settings, Words, imported};
+use bq_policy_files::{Head, read_policy};
+use std::alloc::Global;
+use std::test::Fail;
+
+/// The bytes of a program in hex, an instruction a line, and its text after the line that names the hook.
+const IMPORTED: [(&str, &str); 7] = [
+    // the exit at slot 3 is shared: slot 5 jumps back to it. It comes to stand behind both that go on to it, and a jump to
+    // what follows goes no slot on
+    (
+        "6112040000000000\n1602020000000000\nb400000001000000\n9500000000000000\nb400000000000000\n0500fdff00000000",
+        "ldxw r2, [r1+4]\njeq32 r2, 0, +2\nmov32 r0, 1\nexit\nmov32 r0, 0\nja +0\nexit\n",
+    ),
+    // two jumps back to one exit, at slots 6 and 8: slot 4 has it behind itself, the jumps share the last one
+    (
+        "6112040000000000\n1602030000000000\n1602040001000000\nb400000001000000\n9500000000000000\nb400000000000000\n0500fdff00000000\nb400000002000000\n0500fbff00000000",
+        "ldxw r2, [r1+4]\njeq32 r2, 0, +3\njeq32 r2, 1, +4\nmov32 r0, 1\nexit\nmov32 r0, 0\nja +2\nmov32 r0, 2\nja +0\nexit\n",
+    ),
+    // a jump over what control never comes to
+    (
+        "b400000001000000\n0500010000000000\nb400000000000000\n9500000000000000",
+        "mov32 r0, 1\nja +0\nexit\n",
+    ),
+    // all is in order
+    (
+        "6112040000000000\nb400000000000000\n1602010000000000\nb400000001000000\n9500000000000000",
+        "ldxw r2, [r1+4]\nmov32 r0, 0\njeq32 r2, 0, +1\nmov32 r0, 1\nexit\n",
+    ),
+    // the references of both maps
+    (
+        "1801000000000000\n0000000000400000\n1801000001000000\n0000000000400000\nb400000000000000\n9500000000000000",
+        "ldmap r1, 0\nldmap r1, 1\nmov32 r0, 0\nexit\n",
+    ),
+    // one more than the last reference is a number: 0x400000000002
+    (
+        "1800000002000000\n0000000000400000\n9500000000000000",
+        "lddw r0, 70368744177666\nexit\n",
+    ),
+    // the least numbers that take a wide load, above and below 0: 2147483648 and -2147483649
+    (
+        "1800000000000080\n0000000000000000\n18010000ffffff7f\n00000000ffffffff\n9500000000000000",
+        "lddw r0, 2147483648\nlddw r1, 18446744071562067967\nexit\n",
+    ),
+];
+
+/// The bytes of a program that is refused, and why.
+const REFUSED: [(&str, &str); 15] = [
+    // r0 counts to 4
+    (
+        "b400000000000000\n0400000001000000\n5600feff04000000\n9500000000000000",
+        "slots 2 and 1: a loop, by the jump from 2 to 1; unroll it",
+    ),
+    // a jump to itself
+    (
+        "0500ffff00000000",
+        "slots 0 and 0: a loop, by the jump from 0 to 0; unroll it",
+    ),
+    (
+        "b400000000000000\n0500010000000000\n9500000000000000",
+        "slot 1: a jump out of the program",
+    ),
+    // into the second slot of a wide load
+    (
+        "0500010000000000\n1801000000000000\n0000000000400000\n9500000000000000",
+        "slot 0: a jump out of the program",
+    ),
+    (
+        "b400000000000000",
+        "slot 0: control goes on past the end; end the function with a return",
+    ),
+    // a call within the program, which has 1 in the source's field
+    (
+        "85100000ffffffff\n9500000000000000",
+        "slot 0: a call of a function; put BQ_INLINE before it, so that it is copied in",
+    ),
+    // a call of the kernel's, which has 2
+    (
+        "b400000000000000\n8520000001000000\n9500000000000000",
+        "slot 1: a call of the kernel's; the helpers are those of bqsim.h",
+    ),
+    (
+        "8d01000000000000\n9500000000000000",
+        "slot 0: a call through a register; call helpers by their names of bqsim.h",
+    ),
+    // an address that is still 0, as that of a global
+    (
+        "b400000000000000\n1801000000000000\n0000000000000000\n9500000000000000",
+        "slot 1: an address that a linker fills in: a global, a table of constants, or a map of a section; for a map write BQ_MAP(k), in place of the others an entry of a map, or tests",
+    ),
+    // the distance of a global from its section's start, behind a wide load: slot 2
+    (
+        "1801000000000000\n0000000000400000\n1802000008000000\n0000000000000000\n9500000000000000",
+        "slot 2: an address that a linker fills in: a global, a table of constants, or a map of a section; for a map write BQ_MAP(k), in place of the others an entry of a map, or tests",
+    ),
+    // a map by a number of a file, which has 1 in the source's field
+    (
+        "1811000003000000\n0000000000000000\n9500000000000000",
+        "slot 0: a number that a loader fills in; for a map write BQ_MAP(k)",
+    ),
+    (
+        "db21000000000000\n9500000000000000",
+        "slot 0: an atomic operation; write a plain one, or use a counter",
+    ),
+    (
+        "e700000000000000\n9500000000000000",
+        "slot 0: an instruction that there is not here; compile with -mcpu=v4 or below",
+    ),
+    (
+        "9500",
+        "slot 0: the bytes are no program: 8 to 32768 of them, in eights",
+    ),
+    ("950", "the hex has a half byte at its end"),
+];
+
+/// A program beside two maps, of the hook preempt.
+fn settings(alloc: Global) -> Result<Settings, Fail> {
+    let words = Words {
+        file: None,
+        hook: String::from_str(alloc, "preempt")?,
+        maps: Some(String::from_str(alloc, "8:1,16:4")?),
+        format: Some(String::from_str(alloc, "2")?),
+    };
+    Ok(Settings::of(alloc, &words)?)
+}
+
+#[test]
+fn programs_in_order(rt: HostRuntime) -> Result<(), Fail> {
+    let alloc = rt.alloc();
+    let settings = settings(alloc)?;
+    for (hex, listing) in IMPORTED {
+        let text = imported(alloc, &settings, hex.as_bytes())?;
+        let wanted = format!(in alloc;
+            ";@ hook preempt\n;@ maps 8:1,16:4\n;@ format 2\n{listing}"
+        )?;
+        assert_eq!(rt; text.as_str(), wanted.as_str(), "{hex}");
+        let policy = read_policy(alloc, text.as_bytes(), &Head::nothing());
+        assert!(rt; policy.is_ok(), "{hex}: it does not assemble");
+    }
+    Ok(())
+}
+
+#[test]
+fn refusals_in_words(rt: HostRuntime) -> Result<(), Fail> {
+    let alloc = rt.alloc();
+    let settings = settings(alloc)?;
+    for (hex, words) in REFUSED {
+        let Err(refusal) = imported(alloc, &settings, hex.as_bytes()) else {
+            return Err(Fail::from("it was imported"));
+        };
+        let said = format!(in alloc; "{refusal}")?;
+        assert_eq!(rt; said.as_str(), words, "{hex}");
+    }
+    Ok(())
+}
+
+// two instructions as bytes, whose text is that of their hex
+#[test]
+fn bytes_as_they_are(rt: HostRuntime) -> Result<(), Fail> {
+    let alloc = rt.alloc();
+    let bytes = [0xb4, 0, 0, 0, 1, 0, 0, 0, 0x95, 0, 0, 0, 0, 0, 0, 0];
+    let text = imported(alloc, &settings(alloc)?, bytes.as_slice())?;
+    let wanted = ";@ hook preempt\n;@ maps 8:1,16:4\n;@ format 2\nmov32 r0, 1\nexit\n";
+    assert_eq!(rt; text.as_str(), wanted);
+    Ok(())
+}

@@ -1,0 +1,26 @@
+-- The mean and the standard deviation of some whole numbers, in whole thousandths.
+use Rattle.std.specs.Prelude.{ℕ, ◌+◌, ◌-◌, ◌*◌, ◌^◌, ◌<◌, ◌≤◌, ◌⊎◌, List, length, sum, sum_by}
+
+-- the mean: so many thousandths, and not one more
+abbrev pub IsMean : List ℕ → ℕ → Type 0
+IsMean xs mean = (mean * length xs ≤ sum xs * 1000) × (sum xs * 1000 < (mean + 1) * length xs)
+
+abbrev pub squares : List ℕ → ℕ
+squares xs = sum_by (λ x. x * x) xs
+
+-- as many times as there are numbers the sum of their squared differences from the mean: n Σx² - (Σx)²
+abbrev pub spread : List ℕ → ℕ
+spread xs = length xs * squares xs - sum xs * sum xs
+
+-- the root of a ratio in thousandths: so many of them, and not one more
+abbrev pub IsRoot : ℕ → ℕ → ℕ → Type 0
+IsRoot above below root = (root * root * below ≤ above * 1000000) × (above * 1000000 < (root + 1) * (root + 1) * below)
+
+-- the sample's standard deviation: the root of the sum of the squared differences from the mean over one less than there are
+-- numbers
+abbrev pub IsDeviation : List ℕ → ℕ → Type 0
+IsDeviation xs deviation = IsRoot (spread xs) (length xs * (length xs - 1)) deviation
+
+-- too great for the arithmetic of 128 bits
+abbrev pub IsTooGreat : List ℕ → Type 0
+IsTooGreat xs = (2 ^ 128 ≤ length xs * squares xs * 1000000) ⊎ (2 ^ 128 ≤ sum xs * sum xs)

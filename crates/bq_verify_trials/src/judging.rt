@@ -1,0 +1,67 @@
+// What the verifier answers to programs that are given as texts.
+
+use bq_asm::assemble;
+use bq_insn::Insn;
+use bq_insn::encode::well_formed;
+use bq_maps::MapShape;
+use bq_verify::{Cause, Hook, Program, Refused, Verified, Version, verify};
+use std::alloc::{AllocError, Global};
+use std::process::Abort;
+use std::test::Fail;
+
+/// The budget of an accepted program, or why it is refused.
+pub type Verdict = Result<u32, Refused>;
+
+/// The beginning of a program, and what is answered to it.
+pub type Trial = (&'static str, Verdict);
+
+/// The refusal of a slot.
+pub fn at(slot: usize, cause: Cause) -> Verdict {
+    Err(Refused::At { slot, cause })
+}
+
+/// What is answered to a program.
+pub fn verdict(
+    alloc: Global,
+    insns: Vec<Insn>,
+    shapes: &[MapShape],
+    hook: Hook,
+    version: Version,
+) -> Result<Verdict, AllocError> {
+    let shapes = shapes.to_vec(alloc)?;
+    if !well_formed(insns.as_slice()) || shapes.len() > 8 {
+        return Ok(Err(Refused::OutOfMemory));
+    }
+    let program = Program {
+        insns,
+        shapes,
+        hook,
+        version,
+    };
+    match verify(alloc, program) {
+        Ok(verified) => Ok(Ok(verified.budget())),
+        Err(refused) => Ok(Err(refused)),
+    }
+}
+
+/// What is answered to a program of the hook preempt, whose context has 56 bytes.
+pub fn judge(alloc: Global, text: &str, shapes: &[MapShape]) -> Result<Verdict, Fail> {
+    let insns = assemble(alloc, text)?;
+    Ok(verdict(alloc, insns, shapes, Hook::Preempt, Version::First)?)
+}
+
+/// Each program, of such a beginning and that end, has its answer beside these maps.
+pub fn expect(
+    rt: &impl Abort,
+    alloc: Global,
+    shapes: &[MapShape],
+    trials: &[Trial],
+    end: &str,
+) -> Result<(), Fail> {
+    for (beginning, answer) in trials {
+        let text = format!(in alloc; "{beginning}\n{end}")?;
+        let verdict = judge(alloc, text.as_str(), shapes)?;
+        assert_eq!(rt; verdict, *answer, "{beginning}");
+    }
+    Ok(())
+}

@@ -1,0 +1,192 @@
+// Texts that are no workload, and what is said of them. What is said was written from docs/WORKLOADS.md by hand; the places of
+// what is no TOML are those that Python's tomllib names.
+
+use bq_workload::{Changes, read};
+use std::test::Fail;
+
+/// A text, and what is said of it after the name of its file.
+const REFUSED: [(&str, &str); 32] = [
+    // no task
+    ("", ": [[task]] is missing"),
+    // no task beside a machine
+    ("[machine]\nprocessors = 2\n", ": [[task]] is missing"),
+    // a key of the document
+    (
+        "[[tsk]]\nname = \"a\"\n",
+        ": unknown key \"tsk\", did you mean \"task\"?",
+    ),
+    // a key that is near none
+    (
+        "[machine]\ncolour = 1\n[[task]]\nname = \"a\"\nrun = \"1ms\"\n",
+        ": machine: unknown key \"colour\"",
+    ),
+    // a key of a task
+    (
+        "[[task]]\nname = \"batch\"\nnise = 5\nrun = \"1ms\"\n",
+        ": task 1 (batch): unknown key \"nise\", did you mean \"nice\"?",
+    ),
+    // no name
+    ("[[task]]\nrun = \"1ms\"\n", ": task 1: name is missing"),
+    // an empty name
+    (
+        "[[task]]\nname = \"\"\nrun = \"1ms\"\n",
+        ": task 1: name: \"\" is no name (a text with something in it)",
+    ),
+    // two of a name
+    (
+        "[[task]]\nname = \"a\"\nrun = \"1ms\"\n[[task]]\nname = \"a\"\nrun = \"1ms\"\n",
+        ": task 2: name: \"a\" is the name of task 1 too",
+    ),
+    // no list of tasks
+    ("task = 5\n", ": task: 5 is no list of tables ([[task]])"),
+    // no table of the machine
+    (
+        "machine = 5\n[[task]]\nname = \"a\"\nrun = \"1ms\"\n",
+        ": machine: 5 is no table",
+    ),
+    // a unit that there is not
+    (
+        "[[task]]\nname = \"a\"\nrun = \"1ms\"\n[[task]]\nname = \"server\"\ndo = [{ run = \"2mss\" }]\n",
+        ": task 2 (server): do 1: run: \"2mss\" is no duration (a whole number and ns, us, ms or s)",
+    ),
+    // a fraction
+    (
+        "[[task]]\nname = \"a\"\nrun = \"1.5ms\"\n",
+        ": task 1 (a): run: \"1.5ms\" is no duration (a whole number and ns, us, ms or s)",
+    ),
+    // no time
+    (
+        "[[task]]\nname = \"a\"\nrun = \"0ns\"\n",
+        ": task 1 (a): run: \"0ns\" is not from 1 ns to 281474976710655 ns",
+    ),
+    // a number for a length
+    (
+        "[[task]]\nname = \"a\"\nrun = 5\n",
+        ": task 1 (a): run: 5 is no length (a duration, { uniform = [LEAST, GREATEST] } or { exponential = MEAN })",
+    ),
+    // a range that runs backwards
+    (
+        "[[task]]\nname = \"a\"\nrun = { uniform = [\"2ms\", \"1ms\"] }\n",
+        ": task 1 (a): run: a table is no length (a duration, { uniform = [LEAST, GREATEST] } or { exponential = MEAN })",
+    ),
+    // a nice value
+    (
+        "[[task]]\nname = \"a\"\nnice = 20\nrun = \"1ms\"\n",
+        ": task 1 (a): nice: 20 is no nice value (a whole number from -20 to 19)",
+    ),
+    // a mask without a processor
+    (
+        "[machine]\nprocessors = 2\n[[task]]\nname = \"a\"\ncpus = \"4\"\nrun = \"1ms\"\n",
+        ": task 1 (a): cpus: \"4\" names none of the machine's processors, 0 to 1",
+    ),
+    // a mask that runs backwards
+    (
+        "[[task]]\nname = \"a\"\ncpus = \"3-1\"\nrun = \"1ms\"\n",
+        ": task 1 (a): cpus: \"3-1\" is no list of processors (numbers from 0 to 63 and ranges, as \"0-2,5\")",
+    ),
+    // more tasks than there may be
+    (
+        "[[task]]\nname = \"a\"\ncount = 1000\nrun = \"1ms\"\n[[task]]\nname = \"b\"\ncount = 25\nrun = \"1ms\"\n",
+        ": there are more than 1024 tasks in all",
+    ),
+    // no task of a kind
+    (
+        "[[task]]\nname = \"a\"\ncount = 0\nrun = \"1ms\"\n",
+        ": task 1 (a): count: 0 is no whole number from 1 to 1024",
+    ),
+    // a slice
+    (
+        "[[task]]\nname = \"a\"\nslice = \"1us\"\nrun = \"1ms\"\n",
+        ": task 1 (a): slice: \"1us\" is not from 100000 ns to 100000000 ns",
+    ),
+    // a date
+    (
+        "[[task]]\nname = \"a\"\nstart = 2020-01-01\nrun = \"1ms\"\n",
+        ": task 1 (a): start: a date is no duration (a whole number and ns, us, ms or s)",
+    ),
+    // nothing to do
+    (
+        "[[task]]\nname = \"a\"\n",
+        ": task 1 (a): do (or run) is missing",
+    ),
+    // do beside run
+    (
+        "[[task]]\nname = \"a\"\ndo = [{ run = \"1ms\" }]\nrun = \"1ms\"\n",
+        ": task 1 (a): do stands beside run or sleep, which are short for one",
+    ),
+    // a do that takes no time
+    (
+        "[[task]]\nname = \"a\"\ndo = [{ wait = true }]\n",
+        ": task 1 (a): do: nothing in it takes time; let it run or sleep",
+    ),
+    // an action
+    (
+        "[[task]]\nname = \"a\"\ndo = [{ run = \"1ms\" }, { slep = \"1ms\" }]\n",
+        ": task 1 (a): do 2: unknown key \"slep\", did you mean \"sleep\"?",
+    ),
+    // two actions in one table
+    (
+        "[[task]]\nname = \"a\"\ndo = [{ run = \"1ms\", sleep = \"1ms\" }]\n",
+        ": task 1 (a): do 1: a table is no action (one of { run = LENGTH }, { sleep = LENGTH }, { wait = true } and { wake = TASK })",
+    ),
+    // a wait that is none
+    (
+        "[[task]]\nname = \"a\"\ndo = [{ wait = false }, { run = \"1ms\" }]\n",
+        ": task 1 (a): do 1: wait: false is not true, which is all that it takes",
+    ),
+    // a wake of no one
+    (
+        "[[task]]\nname = \"a\"\ndo = [{ wake = \"wroker\" }, { run = \"1ms\" }]\n[[task]]\nname = \"worker\"\nrun = \"1ms\"\n",
+        ": task 1 (a): do 1: wake: no task has the name \"wroker\", did you mean \"worker\"?",
+    ),
+    // three processors
+    (
+        "[machine]\nprocessors = 3\n[[task]]\nname = \"a\"\nrun = \"1ms\"\n",
+        ": machine: processors: 3 is no number of processors (1, 2, 4, 8, 16, 32 or 64)",
+    ),
+    // a discipline
+    (
+        "[machine]\ndiscipline = \"cfq\"\n[[task]]\nname = \"a\"\nrun = \"1ms\"\n",
+        ": machine: discipline: \"cfq\" is no discipline (\"cfs\" or \"eevdf\")",
+    ),
+    // a seed below 0
+    (
+        "[machine]\nseed = -1\n[[task]]\nname = \"a\"\nrun = \"1ms\"\n",
+        ": machine: seed: -1 is no whole number from 0 to 9223372036854775807",
+    ),
+];
+
+#[test]
+fn what_is_wrong_is_named(rt: HostRuntime) -> Result<(), Fail> {
+    for (text, told) in REFUSED {
+        match read(rt.alloc(), text, Changes::NONE) {
+            Ok(_) => return Err(Fail::from("the text was taken")),
+            Err(fault) => {
+                let said = format!(in rt.alloc(); "{fault}")?;
+                assert_eq!(rt; said.as_str(), told, "{text}");
+            }
+        }
+    }
+    Ok(())
+}
+
+/// Texts that are no TOML, and where: the line and the column, which counts characters.
+const NO_TOML: [(&str, &str); 3] = [
+    ("[[task]]\nname = \"a\" nice = 5\n", ":2:12: "),
+    ("[[task]]\nname = \"\u{e4}\" 5\n", ":2:12: "),
+    ("[[task]]\nname = \"a\"\nname = \"b\"\n", ":3:1: "),
+];
+
+#[test]
+fn no_toml_is_named_by_line_and_column(rt: HostRuntime) -> Result<(), Fail> {
+    for (text, place) in NO_TOML {
+        match read(rt.alloc(), text, Changes::NONE) {
+            Ok(_) => return Err(Fail::from("the text was taken")),
+            Err(fault) => {
+                let said = format!(in rt.alloc(); "{fault}")?;
+                assert!(rt; said.as_str().starts_with(place), "{text}: {said}");
+            }
+        }
+    }
+    Ok(())
+}

@@ -1,0 +1,88 @@
+//! What the words after the program's name ask for.
+
+use bq_cli::asked::{Job, JobFault};
+use bq_cli::job;
+use bq_policy_desk::{PolicyRequest, policy_request};
+use bq_study::{StudyWords, study_words};
+use bq_timeline::{Words, words};
+use std::alloc::Global;
+use std::env;
+use std::io::ErrorKind;
+
+/// What the program is asked to do.
+#[derive(Drop)]
+pub(crate) enum Request {
+    Job(Job),
+    Timeline(Words),
+    Simulate(StudyWords),
+    Import(bq_import_command::Words),
+    Policy(PolicyRequest),
+}
+
+/// What the words after the program's name ask for. A word that is no text is refused.
+pub(crate) fn asked(rt: &HostRuntime) -> Result<Request, JobFault> {
+    let alloc = rt.alloc();
+    let mut given = Vec::new(alloc);
+    match env::args(rt) {
+        Ok(args) => {
+            for arg in args.skip(1) {
+                given.push(arg)?;
+            }
+        }
+        Err(error) => {
+            if error.kind() == ErrorKind::OutOfMemory {
+                return Err(JobFault::OutOfMemory);
+            }
+            let text = String::from_str(alloc, "error: a word is no UTF-8 text\n")?;
+            return Err(JobFault::Words(text));
+        }
+    }
+    let mut words = Vec::new(alloc);
+    for word in &given {
+        words.push(word.as_str())?;
+    }
+    request_of(alloc, words.as_slice())
+}
+
+/// What the words ask for. `help` before a command's name asks what `--help` after it does.
+fn request_of<'a>(alloc: Global, words: &'a [&'a str]) -> Result<Request, JobFault> {
+    if let Some(request) = policy_request(alloc, words)? {
+        return Ok(Request::Policy(request));
+    }
+    match words {
+        ["timeline", rest @ ..] => timeline_words(alloc, rest),
+        ["simulate", rest @ ..] => simulate_words(alloc, rest),
+        ["import", rest @ ..] => import_words(alloc, rest),
+        ["help", "timeline"] => timeline_words(alloc, &["--help"]),
+        ["help", "simulate"] => simulate_words(alloc, &["--help"]),
+        ["help", "import"] => import_words(alloc, &["--help"]),
+        all => Ok(Request::Job(job(alloc, all)?)),
+    }
+}
+
+/// What the words after `timeline` ask for.
+fn timeline_words<'a>(alloc: Global, given: &'a [&'a str]) -> Result<Request, JobFault> {
+    match words(alloc, given) {
+        Ok(words) => Ok(Request::Timeline(words)),
+        Err(bq_timeline::WordsFault::Words(text)) => Err(JobFault::Words(text)),
+        Err(bq_timeline::WordsFault::OutOfMemory) => Err(JobFault::OutOfMemory),
+    }
+}
+
+/// What the words after `simulate` ask for.
+fn simulate_words<'a>(alloc: Global, given: &'a [&'a str]) -> Result<Request, JobFault> {
+    match study_words(alloc, given) {
+        Ok(words) => Ok(Request::Simulate(words)),
+        Err(bq_timeline::WordsFault::Words(text)) => Err(JobFault::Words(text)),
+        Err(bq_timeline::WordsFault::OutOfMemory) => Err(JobFault::OutOfMemory),
+    }
+}
+
+/// What the words after `import` ask for.
+fn import_words<'a>(alloc: Global, given: &'a [&'a str]) -> Result<Request, JobFault> {
+    match bq_import_command::words(alloc, given) {
+        Ok(words) => Ok(Request::Import(words)),
+        Err(bq_import_command::WordsFault::Words(text)) => Err(JobFault::Words(text)),
+        Err(bq_import_command::WordsFault::OutOfMemory) => Err(JobFault::OutOfMemory),
+    }
+}

@@ -1,0 +1,104 @@
+//! `bqsim simulate`.
+
+use crate::inputs::{name_of, whole_file, whole_input};
+use crate::outputs::{out_of_memory, write_out};
+use bq_actions::Workload;
+use bq_cli::status::REFUSED;
+use bq_core::Hook;
+use bq_simulate::SimulateFault;
+use bq_study::{Asked, AskedFault, Policies, PolicyFault, StudyWords, asked_changes, run_as};
+use bq_timeline::SettingsFault;
+use bq_workload::{Changes, Fault, read};
+use std::process::ExitCode;
+use std::str::from_utf8;
+
+/// The exit status of a workload or a policy that is none.
+const BAD_INPUT: u8 = 1;
+
+/// Runs a workload, from the file that the words name or from standard input, and shows it as they ask.
+pub(crate) fn simulate(rt: &HostRuntime, words: &StudyWords) -> ExitCode {
+    match simulated(rt, words) {
+        Ok(code) => code,
+        Err(code) => code,
+    }
+}
+
+/// The same, where the error is the exit status of what was refused.
+fn simulated(rt: &HostRuntime, words: &StudyWords) -> Result<ExitCode, ExitCode> {
+    let asked = Asked::of(rt.alloc(), words).map_err(|fault| refused(rt, fault))?;
+    let changes = asked_changes(words).map_err(|fault| refused(rt, fault))?;
+    let workload = workload(rt, words, changes)?;
+    let policies = policies(rt, words)?;
+    match run_as(rt.alloc(), &workload, &policies, asked) {
+        Ok(written) => {
+            let notes = written.notes;
+            let _ = eprint!(rt; "{notes}");
+            Ok(write_out(rt, written.text.as_str()))
+        }
+        Err(SimulateFault::OutOfMemory) => Err(out_of_memory(rt)),
+        Err(fault) => {
+            let _ = eprintln!(rt; "bqsim: {fault}");
+            Err(ExitCode::from(BAD_INPUT))
+        }
+    }
+}
+
+/// Says what is wrong with the words.
+fn refused(rt: &HostRuntime, fault: AskedFault) -> ExitCode {
+    if fault == AskedFault::Settings(SettingsFault::OutOfMemory) {
+        return out_of_memory(rt);
+    }
+    let _ = eprintln!(rt; "error: {fault}");
+    ExitCode::from(REFUSED)
+}
+
+/// The workload of the file that the words name.
+fn workload(rt: &HostRuntime, words: &StudyWords, changes: Changes) -> Result<Workload, ExitCode> {
+    let name = name_of(&words.shown.file);
+    let bytes = whole_input(rt, &words.shown.file)?;
+    let Ok(text) = from_utf8(bytes.as_slice()) else {
+        let _ = eprintln!(rt; "{name}: no UTF-8 text");
+        return Err(ExitCode::from(BAD_INPUT));
+    };
+    match read(rt.alloc(), text, changes) {
+        Ok(workload) => Ok(workload),
+        Err(Fault::OutOfMemory) => Err(out_of_memory(rt)),
+        Err(fault) => {
+            let _ = eprintln!(rt; "{name}{fault}");
+            Err(ExitCode::from(BAD_INPUT))
+        }
+    }
+}
+
+/// The policies that the words put at the hooks.
+fn policies(rt: &HostRuntime, words: &StudyWords) -> Result<Policies, ExitCode> {
+    let mut policies = Policies::new(rt.alloc());
+    add(rt, &mut policies, Hook::Place, &words.place)?;
+    add(rt, &mut policies, Hook::Preempt, &words.preempt)?;
+    add(rt, &mut policies, Hook::Pull, &words.pull)?;
+    Ok(policies)
+}
+
+/// Adds the policy of a file, unless there is none or it is called `none`.
+fn add(
+    rt: &HostRuntime,
+    policies: &mut Policies,
+    hook: Hook,
+    file: &Option<String>,
+) -> Result<(), ExitCode> {
+    let Some(path) = file else {
+        return Ok(());
+    };
+    if path.as_str() == "none" {
+        return Ok(());
+    }
+    let bytes = whole_file(rt, path.as_str())?;
+    match policies.add(rt.alloc(), hook, bytes.as_slice()) {
+        Ok(()) => Ok(()),
+        Err(PolicyFault::OutOfMemory) => Err(out_of_memory(rt)),
+        Err(fault) => {
+            let _ = eprintln!(rt; "{path}: {fault}");
+            Err(ExitCode::from(BAD_INPUT))
+        }
+    }
+}

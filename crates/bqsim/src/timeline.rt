@@ -1,0 +1,50 @@
+//! `bqsim timeline`.
+
+use crate::inputs::{UNREADABLE, file_named};
+use crate::outputs::out_of_memory;
+use bq_cli::status::REFUSED;
+use bq_cli::{Counted, exit_status};
+use bq_timeline::{Settings, SettingsFault, Words, show};
+use std::fs;
+use std::io::Read;
+use std::process::ExitCode;
+
+/// Shows the timeline of a trace, from the file that the words name or from standard input.
+pub(crate) fn timeline(rt: &HostRuntime, words: &Words) -> ExitCode {
+    let settings = match Settings::of(rt.alloc(), words) {
+        Ok(settings) => settings,
+        Err(SettingsFault::OutOfMemory) => return out_of_memory(rt),
+        Err(fault) => {
+            let _ = eprintln!(rt; "error: {fault}");
+            return ExitCode::from(REFUSED);
+        }
+    };
+    match file_named(&words.file) {
+        Some(path) => match fs::open(rt, path) {
+            Ok(file) => show_from(rt, settings, file),
+            Err(error) => {
+                let _ = eprintln!(rt; "bqsim: {path}: {error}");
+                ExitCode::from(UNREADABLE)
+            }
+        },
+        None => show_from(rt, settings, rt.stdin()),
+    }
+}
+
+/// Shows the timeline of what is read.
+fn show_from<R: Read + Drop>(rt: &HostRuntime, settings: Settings, reader: R) -> ExitCode {
+    let mut input = Counted::new(reader);
+    let mut output = Counted::new(rt.stdout());
+    let outcome = match show(rt.alloc(), settings, &mut input, &mut output) {
+        Ok(outcome) => {
+            let notes = outcome.notes;
+            let _ = eprint!(rt; "{notes}");
+            Ok(outcome.clean)
+        }
+        Err(fault) => {
+            let _ = eprintln!(rt; "bqsim: {fault}");
+            Err(fault)
+        }
+    };
+    ExitCode::from(exit_status(&outcome))
+}
