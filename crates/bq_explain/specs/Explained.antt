@@ -1,24 +1,10 @@
 -- What an explanation says of a policy.
-use Rattle.std.specs.Prelude.{◌≡◌, ℕ, Bool, true, false, ◌≤◌, List, Option, Some, None}
-use Rattle.bq_insn.specs.Slots.{spread}
-use Rattle.bq_graph.specs.Faults.{IsFaultless}
-use Rattle.bq_graph.specs.Paths.{IsGreatest, PathOut}
-use Rattle.bq_maps.specs.Machine.{Safe}
-use Rattle.bq_verify.specs.Accepted.{context_length_of}
+use Rattle.std.specs.Prelude.{◌≡◌, Bool}
 use Rattle.bq_policy_files.specs.declared.policy.Policy.{Policy}
+use Rattle.bq_explain.specs.declared.limits.Limits.{Limits}
+use Rattle.bq_explain.specs.declared.verdict.Verdict.{Verdict}
+use Rattle.bq_explain.specs.Verdicts.{IsVerdict, is_accepted}
 
--- without a limit each budget is within it
-abbrev pub IsWithin : ℕ → Option ℕ → Type 0
-IsWithin budget None = Unit {0}
-IsWithin budget (Some most) = budget ≤ most
-
--- the program is safe within its budget, which is the longest path and within the limit
-pub record IsAcceptedPolicy (p : Policy) (steps : Option ℕ) : Type 0 where
-  pub budget : ℕ
-  pub safe : Safe (spread p.insns.items) p.shapes.items (context_length_of p.hook p.version) budget
-  pub longest : IsGreatest (PathOut (spread p.insns.items) 0) budget
-  pub within : IsWithin budget steps
-
--- what is accepted is safe
-abbrev pub AcceptsSafe : Policy → Option ℕ → Bool → Type 0
-AcceptsSafe p steps accepted = accepted ≡ true → IsAcceptedPolicy p steps
+-- it is accepted just where that is the verdict
+abbrev pub Explains : Policy → Limits → Bool → Type 0
+Explains p l accepted = (verdict : Verdict) × IsVerdict p l verdict × (accepted ≡ is_accepted verdict)

@@ -1,6 +1,6 @@
 //! A policy's verdict with its explanation.
 ghost use Rattle.std.specs.Prelude.{◌≡◌, IfOk, false};
-ghost use Rattle.bq_explain.specs.Explained.{AcceptsSafe};
+ghost use Rattle.bq_explain.specs.Explained.{Explains};
 
 use crate::advice::{graph_advice, state_advice};
 use crate::limits::Limits;
@@ -11,11 +11,12 @@ use crate::pass_needs::graph_words;
 use crate::program_words::{index_at, instruction_text, place_of};
 use crate::summary::summary;
 use crate::trail::write_trail;
+use crate::verdict::{Verdict, judge, program_of, verdict_line};
 use crate::view_words::write_view;
 use bq_insn::Insn;
 use bq_policy_files::Policy;
 use bq_verify::hook::context_length;
-use bq_verify::{Cause, Program, Refused, verify, view_at};
+use bq_verify::{Cause, view_at};
 use std::alloc::{AllocError, Global};
 
 /// What is said of a policy.
@@ -29,72 +30,34 @@ pub struct Explained {
 
 /// The verdict on a policy, and what explains it.
 pub fn explain(alloc: Global, policy: &Policy, limits: &Limits) -> Result<Explained, AllocError>
-    ensures { IfOk result (λ e. AcceptsSafe policy.now limits.now.steps e.accepted) }
+    ensures { IfOk result (λ e. Explains policy.now limits.now e.accepted) }
 {
-    let program = program_of(alloc, policy)?;
-    match verify(alloc, program) {
-        Ok(verified) => {
-            let budget = verified.budget();
-            if !limits.allows_steps(budget) {
-                return over_steps(alloc, budget, limits);
-            }
-            if let Some(helper) = limits.forbidden(policy.insns.as_slice()) {
-                return refused(format!(in alloc; "refused limit helper {helper}\n")?);
-            }
-            let text = summary(alloc, &verified, policy.insns.as_slice())?;
-            Ok(Explained {
-                text,
-                accepted: true,
-            })
+    let verdict = judge(alloc, policy, limits)?;
+    let text = match verdict {
+        Verdict::Accepted { budget } => summary(alloc, policy, budget)?,
+        Verdict::OverSteps { .. } | Verdict::Forbidden { .. } => {
+            verdict_line(alloc, policy.hook, verdict)?
         }
-        Err(Refused::OutOfMemory) => Err(AllocError),
-        Err(Refused::At { slot, cause }) => explain_refusal(alloc, policy, slot, cause),
-    }
-}
-
-/// The program of a policy, to be handed to the verifier.
-fn program_of(alloc: Global, policy: &Policy) -> Result<Program, AllocError>
-    ensures insns { IfOk result (λ program. program.insns.items ≡ policy.now.insns.items) }
-    ensures shapes { IfOk result (λ program. program.shapes.items ≡ policy.now.shapes.items) }
-    ensures hook { IfOk result (λ program. program.hook ≡ policy.now.hook) }
-    ensures version { IfOk result (λ program. program.version ≡ policy.now.version) }
-{
-    Ok(Program {
-        insns: Vec::from_slice(alloc, policy.insns.as_slice())?,
-        shapes: Vec::from_slice(alloc, policy.shapes.as_slice())?,
-        hook: policy.hook,
-        version: policy.version,
-    })
-}
-
-/// A policy that is not accepted, with this text.
-fn refused(text: String) -> Result<Explained, AllocError>
-    ensures { IfOk result (λ e. e.accepted ≡ false) }
-{
+        Verdict::Refused { slot, cause } => {
+            let line = verdict_line(alloc, policy.hook, verdict)?;
+            with_reasons(alloc, line, policy, slot, cause)?
+        }
+    };
     Ok(Explained {
         text,
-        accepted: false,
+        accepted: verdict.is_accepted(),
     })
 }
 
-fn over_steps(alloc: Global, budget: u32, limits: &Limits) -> Result<Explained, AllocError>
-    ensures { IfOk result (λ e. e.accepted ≡ false) }
-{
-    let most = limits.steps.unwrap_or(0);
-    refused(format!(in alloc; "refused limit steps {budget} of {most}\n")?)
-}
-
-/// Why the verifier refuses the program at that slot.
-fn explain_refusal(
+/// The line of a refusal with why the verifier refuses the program at that slot.
+fn with_reasons(
     alloc: Global,
+    line: String,
     policy: &Policy,
     slot: usize,
     cause: Cause,
-) -> Result<Explained, AllocError>
-    ensures { IfOk result (λ e. e.accepted ≡ false) }
-{
-    let number = cause_number(cause);
-    let mut text = format!(in alloc; "refused L8 V{number} {slot}\n")?;
+) -> Result<String, AllocError> {
+    let mut text = line;
     let insns = policy.insns.as_slice();
     if let Some(index) = index_at(insns, slot) {
         if let Some(insn) = insns.get(index) {
@@ -104,7 +67,7 @@ fn explain_refusal(
             write_reasons(alloc, policy, (index, slot), *insn, cause, &mut text)?;
         }
     }
-    refused(text)
+    Ok(text)
 }
 
 /// What the instruction needs and has not, what is known there, and what helps.
@@ -138,21 +101,4 @@ fn write_reasons(
     let help = state_advice(around, &view, insn, cause);
     write!(text, "  helps: {help}\n")?;
     Ok(())
-}
-
-/// The number by which a cause is named.
-fn cause_number(cause: Cause) -> u8 {
-    match cause {
-        Cause::Jump => 1,
-        Cause::NoExit => 2,
-        Cause::Unreached => 3,
-        Cause::Unset => 4,
-        Cause::Access => 5,
-        Cause::PointerUse => 6,
-        Cause::Helper => 7,
-        Cause::Argument => 8,
-        Cause::Answer => 9,
-        Cause::Frame => 10,
-        Cause::Counters => 11,
-    }
 }

@@ -15,8 +15,10 @@ mod pass_needs;
 mod program_words;
 mod summary;
 mod trail;
+mod verdict;
 mod view_words;
 
 pub use explanation::{Explained, explain};
 pub use known::range_text;
 pub use limits::Limits;
+pub use verdict::{Verdict, judge, verdict_line};

@@ -2,31 +2,36 @@
 use crate::names::{hook_word, version_number};
 use bq_insn::Insn;
 use bq_maps::shape::MapShape;
-use bq_verify::{Hook, Verified, Version};
+use bq_policy_files::Policy;
 use std::alloc::{AllocError, Global};
 
 /// The helpers that there are, by their numbers.
 const HELPERS: [i32; 6] = [1, 2, 5, 8, 100, 101];
 
 /// The one line on an accepted program: its hook, budget, version, maps, helpers, calls of counters and slots.
-pub(crate) fn summary(
-    alloc: Global,
-    verified: &Verified,
-    insns: &[Insn],
-) -> Result<String, AllocError> {
-    let hook = hook_word(verified.hook());
-    let budget = verified.budget();
-    let version = version_number(verified.version());
+pub(crate) fn summary(alloc: Global, policy: &Policy, budget: u32) -> Result<String, AllocError> {
+    let hook = hook_word(policy.hook);
+    let version = version_number(policy.version);
+    let insns = policy.insns.as_slice();
     let mut text = format!(in alloc;
         "accepted {hook} budget {budget} of 4096, version {version}, maps "
     )?;
-    write_maps(verified.shapes(), &mut text)?;
+    write_maps(policy.shapes.as_slice(), &mut text)?;
     text.push_str(", helpers ")?;
     write_helpers(insns, &mut text)?;
     let counters = counter_calls(insns);
-    let slots = verified.slots().len();
+    let slots = slot_count(insns);
     write!(text, ", counters {counters}, slots {slots}\n")?;
     Ok(text)
+}
+
+/// How many slots the instructions take.
+fn slot_count(insns: &[Insn]) -> usize {
+    let mut count: usize = 0;
+    for insn in insns {
+        count = count.saturating_add(insn.slots());
+    }
+    count
 }
 
 /// The shapes of the maps, as `--maps` takes them.

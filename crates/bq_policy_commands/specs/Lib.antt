@@ -1,0 +1,6 @@
+pub mod Checking
+pub mod Limiting
+pub mod Listing
+pub mod Refusing
+pub mod Running
+pub mod Saying

@@ -1,17 +1,12 @@
 //! What a command answers.
-use std::alloc::{AllocError, Global};
 
-/// What a command answers: its text, and whether it did what was asked.
-#[derive(Drop)]
-pub struct Answered {
-    pub text: String,
-    pub accepted: bool,
-}
-
-/// An answer that refuses words.
-pub fn wrong(alloc: Global, why: &str) -> Result<Answered, AllocError> {
-    Ok(Answered {
-        text: format!(in alloc; "refused words\n  {why}\n")?,
-        accepted: false,
-    })
+/// What a command answers, with its line ends.
+#[derive(Debug, Drop)]
+pub enum Answered {
+    /// It did what was asked; the text is what came of it.
+    Done(String),
+    /// The policy is refused; the text says why.
+    Refused(String),
+    /// The words are refused; the text says why.
+    Words(String),
 }

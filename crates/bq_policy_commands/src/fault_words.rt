@@ -1,50 +1,94 @@
-//! Why a file is no policy, in words.
+//! Why a file is no policy: the line that refuses it, and what is wrong in words.
+ghost use Rattle.std.specs.Prelude.{◌≡◌, ◌≢◌, IfOk, OnOk, string_bytes};
+ghost use Rattle.bq_policy_commands.specs.Refusing.{fault_line};
+ghost use Rattle.bq_program.specs.Asm.{asm_number};
+ghost use Rattle.bq_policy_files.specs.Marks.{key_word};
+ghost use Rattle.bq_policy_files.specs.declared.fault.PolicyFault.TheVariants.{OutOfMemory};
+
 use crate::image_words::{image_words, spelling_words};
 use bq_asm::Cause;
+use bq_complaints::complaint;
 use bq_load::LoadFault;
 use bq_policy_files::{HeadCause, Key, PolicyFault};
 use std::alloc::{AllocError, Global};
 
-/// The line that refuses the file, and one that says what is wrong.
-pub fn fault_text(alloc: Global, fault: PolicyFault) -> Result<String, AllocError> {
+/// The line that refuses the file. Want of memory is handed on as such.
+pub fn fault_line(alloc: Global, fault: PolicyFault) -> Result<String, AllocError>
+    ensures line { IfOk result (λ text. string_bytes text ≡ fault_line fault) }
+    ensures other { OnOk result (fault ≢ OutOfMemory) }
+{
     match fault {
-        PolicyFault::Text => String::from_str(alloc, "refused text\n  the file is no UTF-8 text\n"),
-        PolicyFault::Hex => String::from_str(
-            alloc,
-            "refused hex\n  the file begins as hex does, and is none\n",
-        ),
-        PolicyFault::Head { line, cause } => {
-            let why = head_words(cause);
-            format!(in alloc; "refused head {line}\n  line {line}: {why}\n")
-        }
+        PolicyFault::Text => String::from_str(alloc, "refused text\n"),
+        PolicyFault::Hex => String::from_str(alloc, "refused hex\n"),
+        PolicyFault::Head { line, .. } => format!(in alloc; "refused head {line}\n"),
         PolicyFault::Assembly { line, cause } => {
             let number = cause_number(cause);
-            let why = cause_words(cause);
-            format!(in alloc; "refused A{number} {line}\n  line {line}: {why}\n")
+            let named = format!(in alloc; "A{number} {line}")?;
+            format!(in alloc; "refused {named}\n")
         }
         PolicyFault::Image(fault) => {
-            let number = fault_number(fault);
-            let why = image_words(fault);
-            format!(in alloc; "refused L{number}\n  {why}\n")
+            let named = bq_program::fault_text(alloc, fault)?;
+            format!(in alloc; "refused {named}\n")
         }
         PolicyFault::Program { slot, cause } => {
-            let number = spelling_number(cause);
-            let why = spelling_words(cause);
-            format!(in alloc; "refused L7 I{number} {slot}\n  slot {slot}: {why}\n")
+            let named = bq_program::fault_text(alloc, LoadFault::Decode { slot, cause })?;
+            format!(in alloc; "refused {named}\n")
         }
         PolicyFault::Disagrees(key) => {
             let key = key_word(key);
-            format!(in alloc; "refused {key}\n  --{key} says another {key} than the file\n")
+            format!(in alloc; "refused {key}\n")
+        }
+        PolicyFault::NoHook => String::from_str(alloc, "refused hook\n"),
+        PolicyFault::OutOfMemory => Err(AllocError),
+    }
+}
+
+/// What is wrong with the file of these bytes, by its line or slot where it has one.
+pub fn fault_reason(alloc: Global, bytes: &[u8], fault: PolicyFault) -> Result<String, AllocError> {
+    match fault {
+        PolicyFault::Text => String::from_str(alloc, "the file is no UTF-8 text"),
+        PolicyFault::Hex => String::from_str(alloc, "the file begins as hex does, and is none"),
+        PolicyFault::Head { line, cause } => {
+            let why = head_words(cause);
+            format!(in alloc; "line {line}: {why}")
+        }
+        PolicyFault::Assembly { line, cause } => assembly_reason(alloc, bytes, line, cause),
+        PolicyFault::Image(fault) => String::from_str(alloc, image_words(fault)),
+        PolicyFault::Program { slot, cause } => {
+            let why = spelling_words(cause);
+            format!(in alloc; "slot {slot}: {why}")
+        }
+        PolicyFault::Disagrees(key) => {
+            let key = key_word(key);
+            format!(in alloc; "--{key} says another {key} than the file")
         }
         PolicyFault::NoHook => String::from_str(
             alloc,
-            "refused hook\n  the hook is not said: write a line ;@ hook place in the text's head, or give --hook place\n",
+            "the hook is not said: write a line ;@ hook place in the text's head, or give --hook place",
         ),
         PolicyFault::OutOfMemory => Err(AllocError),
     }
 }
 
-fn key_word(key: Key) -> &'static str {
+/// What is wrong with a text that the assembler refuses there.
+fn assembly_reason(
+    alloc: Global,
+    bytes: &[u8],
+    line: usize,
+    cause: Cause,
+) -> Result<String, AllocError> {
+    match complaint(alloc, bytes)? {
+        Some(said) => String::from_str(alloc, said.as_str().trim_end()),
+        None => {
+            let number = cause_number(cause);
+            format!(in alloc; "line {line}: the assembler refuses it by A{number}")
+        }
+    }
+}
+
+fn key_word(key: Key) -> &'static str
+    ensures { result.now ≡ key_word key }
+{
     match key {
         Key::Hook => "hook",
         Key::Maps => "maps",
@@ -66,48 +110,15 @@ fn head_words(cause: HeadCause) -> &'static str {
     }
 }
 
-fn cause_number(cause: Cause) -> u8 {
+/// The number of a cause, after the letter A.
+fn cause_number(cause: Cause) -> u8
+    ensures { result ≡ asm_number cause }
+{
     match cause {
         Cause::Word => 1,
         Cause::Number => 2,
         Cause::LabelTwice => 3,
         Cause::LabelMissing => 4,
         Cause::Slots => 5,
-    }
-}
-
-fn cause_words(cause: Cause) -> &'static str {
-    match cause {
-        Cause::Word =>
-            "an unknown word, or operands of another form or number; bqsim asm tells which",
-        Cause::Number => "a number that is out of its range",
-        Cause::LabelTwice => "the label was set before",
-        Cause::LabelMissing => "the label is set nowhere",
-        Cause::Slots => "the program has no instruction, or more than 4096 slots",
-    }
-}
-
-fn fault_number(fault: LoadFault) -> u8 {
-    match fault {
-        LoadFault::Magic => 1,
-        LoadFault::Version => 2,
-        LoadFault::Hook => 3,
-        LoadFault::Shape => 4,
-        LoadFault::Cut => 5,
-        LoadFault::Rest => 6,
-        LoadFault::Decode { .. } => 7,
-        _ => 8,
-    }
-}
-
-fn spelling_number(cause: bq_insn::fault::Cause) -> u8 {
-    match cause {
-        bq_insn::fault::Cause::Length => 1,
-        bq_insn::fault::Cause::Opcode => 2,
-        bq_insn::fault::Cause::Register => 3,
-        bq_insn::fault::Cause::Field => 4,
-        bq_insn::fault::Cause::Offset => 5,
-        bq_insn::fault::Cause::Imm => 6,
-        bq_insn::fault::Cause::WideCut => 7,
     }
 }

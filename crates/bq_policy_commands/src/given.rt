@@ -1,50 +1,95 @@
 //! What the words of a command say of a policy.
-use crate::found::Found;
+ghost use Rattle.std.specs.Prelude.{◌≡◌, IfOk, Some};
+ghost use Rattle.bq_policy_commands.specs.Saying.{IsHeadWord, SaysHead, option_bytes};
+ghost use Rattle.bq_policy_files.specs.Heads.{Names};
+ghost use Rattle.bq_policy_files.specs.Marks.{hook_of, version_of};
+
+use crate::words::PolicyWords;
+use bq_load::{Hook, Version};
+use bq_maps::shape::MapShape;
 use bq_policy_files::{Head, hook_of, version_of};
 use bq_program::shapes_of;
 use std::alloc::{AllocError, Global};
+use thiserror::Error;
 
-/// What the words say, or what is wrong with them.
-#[derive(Drop)]
-pub enum Given {
-    Head(Head),
-    Wrong(String),
+/// Why words say nothing that a command can do.
+#[derive(Debug, Drop, Error)]
+pub enum WordsFault {
+    /// What is wrong, in words.
+    #[error("{0}")]
+    Words(String),
+    #[error("out of memory")]
+    OutOfMemory,
+}
+
+impl From<AllocError> for WordsFault {
+    ghost use Rattle.bq_policy_commands.specs.declared.given.WordsFault.TheVariants.{OutOfMemory};
+
+    ghost from_gives = { λ _ e. e ≡ OutOfMemory };
+
+    fn from(_e: AllocError) -> WordsFault {
+        WordsFault::OutOfMemory
+    }
+}
+
+/// The fault of words, with the text that says what is wrong, if there is memory for it.
+pub(crate) fn words_fault(text: Result<String, AllocError>) -> WordsFault {
+    match text {
+        Ok(text) => WordsFault::Words(text),
+        Err(_) => WordsFault::OutOfMemory,
+    }
 }
 
 /// What the words say beside the file.
-pub fn said_by(alloc: Global, words: &Found) -> Result<Given, AllocError> {
-    let mut head = Head::nothing();
-    if let Some(word) = words.value("--hook") {
-        head.hook = hook_of(word.as_bytes());
-        if head.hook.is_none() {
-            return Ok(Given::Wrong(format!(in alloc;
-                "there is no hook {word}; hooks are place, preempt and pull"
-            )?));
-        }
-    }
-    if let Some(word) = words.value("--format") {
-        head.format = version_of(word.as_bytes());
-        if head.format.is_none() {
-            return Ok(Given::Wrong(format!(in alloc;
-                "there is no format {word}; formats are 1 and 2"
-            )?));
-        }
-    }
-    match words.value("--maps") {
-        None => Ok(Given::Head(head)),
-        Some(word) => with_maps(alloc, head, word),
+pub fn said_by(alloc: Global, words: &PolicyWords) -> Result<Head, WordsFault>
+    ensures { IfOk result (SaysHead words.now) }
+{
+    let hook = hook_in(alloc, &words.hook)?;
+    let maps = maps_in(alloc, &words.maps)?;
+    let format = format_in(alloc, &words.format)?;
+    Ok(Head { hook, maps, format })
+}
+
+/// The hook that a word names, if there is a word.
+fn hook_in(alloc: Global, word: &Option<String>) -> Result<Option<Hook>, WordsFault>
+    ensures { IfOk result (IsHeadWord (λ bytes hook. hook_of bytes ≡ Some hook) (option_bytes word.now)) }
+{
+    let Some(word) = word else {
+        return Ok(None);
+    };
+    match hook_of(word.as_bytes()) {
+        Some(hook) => Ok(Some(hook)),
+        None => Err(words_fault(format!(in alloc;
+            "--hook {word}: there is no such hook; hooks are place, preempt and pull"
+        ))),
     }
 }
 
-/// The same with the maps that the text names.
-fn with_maps(alloc: Global, head: Head, text: &str) -> Result<Given, AllocError> {
+/// The version that a word names, if there is a word.
+fn format_in(alloc: Global, word: &Option<String>) -> Result<Option<Version>, WordsFault>
+    ensures { IfOk result (IsHeadWord (λ bytes version. version_of bytes ≡ Some version) (option_bytes word.now)) }
+{
+    let Some(word) = word else {
+        return Ok(None);
+    };
+    match version_of(word.as_bytes()) {
+        Some(version) => Ok(Some(version)),
+        None => Err(words_fault(format!(in alloc;
+            "--format {word}: there is no such format; formats are 1 and 2"
+        ))),
+    }
+}
+
+/// The shapes of maps that a text names, if there is a text.
+fn maps_in(alloc: Global, text: &Option<String>) -> Result<Option<Vec<MapShape>>, WordsFault>
+    ensures { IfOk result (IsHeadWord Names (option_bytes text.now)) }
+{
+    let Some(text) = text else {
+        return Ok(None);
+    };
     match shapes_of(alloc, text.as_bytes())? {
-        Some(shapes) => Ok(Given::Head(Head {
-            hook: head.hook,
-            maps: Some(shapes),
-            format: head.format,
-        })),
-        None => Ok(Given::Wrong(maps_fault(alloc, text)?)),
+        Some(shapes) => Ok(Some(shapes)),
+        None => Err(words_fault(maps_fault(alloc, text.as_str()))),
     }
 }
 
@@ -53,9 +98,9 @@ fn maps_fault(alloc: Global, text: &str) -> Result<String, AllocError> {
     for part in text.split(',') {
         if shapes_of(alloc, part.as_bytes())?.is_none() {
             return format!(in alloc;
-                "the map {part}: a map is its value size, 8 to 256 in eights, a colon, and its entries, 1 to 256, as 8:2"
+                "--maps {text}: the map {part}: a map is its value size, 8 to 256 in eights, a colon, and its entries, 1 to 256, as 8:2"
             );
         }
     }
-    String::from_str(alloc, "a policy has 8 maps at most")
+    format!(in alloc; "--maps {text}: a policy has 8 maps at most")
 }

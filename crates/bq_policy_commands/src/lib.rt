@@ -1,17 +1,29 @@
-//! What commands on a policy's file answer: their words, `run`, `dis` of images, and why a file is no policy.
+//! What `check`, `run` and `dis` answer to a policy's file, and why a file is none.
+//!
+//! A command's words come as text, its file as bytes, and its answer goes back as text. So what a command does is a function of
+//! both, with a contract: the verdict, the one run, the listing.
 #![tactic(auto)]
 
 mod answered;
+mod checking;
 mod fault_words;
-mod found;
 mod given;
 mod image_words;
+mod json_text;
+mod limits;
 mod listing;
+mod named;
+mod policy_marks;
 mod running;
+mod word_text;
+mod words;
 
-pub use answered::{Answered, wrong};
-pub use fault_words::fault_text;
-pub use found::{Found, Parsed, parse};
-pub use given::{Given, said_by};
+pub use answered::Answered;
+pub use checking::check;
+pub use fault_words::{fault_line, fault_reason};
+pub use given::{WordsFault, said_by};
+pub use limits::limits_of;
 pub use listing::list;
+pub use policy_marks::marks;
 pub use running::run;
+pub use words::{CheckWords, ListWords, PolicyWords, RunWords};

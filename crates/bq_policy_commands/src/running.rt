@@ -1,34 +1,62 @@
 //! `run` of a policy's file.
-use crate::answered::{Answered, wrong};
-use crate::fault_words::fault_text;
-use crate::found::Found;
-use crate::given::{Given, said_by};
+ghost use Rattle.std.specs.Prelude.{◌≡◌, IfOk, string_bytes};
+ghost use Rattle.bq_policy_commands.specs.Running.{HasClock, IsNumberOrZero, RunsFile, RunsOn, RunsPolicy, RunsProgram, RunsTo, TellsRun, TellsVerdict};
+ghost use Rattle.bq_policy_commands.specs.Saying.{option_bytes};
+
+use crate::answered::Answered;
+use crate::given::{WordsFault, said_by, words_fault};
+use crate::listing::refused_file;
+use crate::word_text::word_text;
+use crate::words::RunWords;
+use bq_explain::{Verdict, verdict_line};
 use bq_interp::Env;
 use bq_one_run::{
-    InputFault, Inputs, OneRun, Word, copied, inputs_of, run_once, word_on, write_calls,
-    write_changes,
+    InputFault, Inputs, OneRun, copied, inputs_of, run_once, write_calls, write_changes,
 };
-use bq_policy_files::{Policy, PolicyFault, read_policy};
-use bq_verify::{Hook, Program, Refused, Verified, verify};
+use bq_policy_files::{Head, Policy, read_policy};
+use bq_verify::{Program, Refused, Verified, verify};
 use std::alloc::{AllocError, Global};
 
-/// The one run of the policy whose file has these bytes, or why there is none.
-pub fn run(alloc: Global, words: &Found, bytes: &[u8]) -> Result<Answered, AllocError> {
-    let head = match said_by(alloc, words)? {
-        Given::Head(head) => head,
-        Given::Wrong(why) => return wrong(alloc, why.as_str()),
-    };
-    match read_policy(alloc, bytes, &head) {
-        Ok(policy) => run_policy(alloc, words, &policy),
-        Err(PolicyFault::OutOfMemory) => Err(AllocError),
-        Err(fault) => Ok(Answered {
-            text: fault_text(alloc, fault)?,
-            accepted: false,
-        }),
+impl From<InputFault> for WordsFault {
+    fn from(fault: InputFault) -> WordsFault {
+        match fault {
+            InputFault::Words(why) => WordsFault::Words(why),
+            InputFault::OutOfMemory => WordsFault::OutOfMemory,
+        }
     }
 }
 
-fn run_policy(alloc: Global, words: &Found, policy: &Policy) -> Result<Answered, AllocError> {
+/// The one run of the policy whose file has these bytes, on the inputs that the words name, or why there is none.
+pub fn run(alloc: Global, words: &RunWords, bytes: &[u8]) -> Result<Answered, AllocError>
+    ensures { IfOk result (RunsTo words.now bytes.now) }
+{
+    match said_by(alloc, &words.policy) {
+        Ok(head) => run_file(alloc, words, bytes, &head),
+        Err(WordsFault::Words(why)) => Ok(Answered::Words(why)),
+        Err(WordsFault::OutOfMemory) => Err(AllocError),
+    }
+}
+
+fn run_file(
+    alloc: Global,
+    words: &RunWords,
+    bytes: &[u8],
+    head: &Head,
+) -> Result<Answered, AllocError>
+    ensures { IfOk result (RunsFile words.now bytes.now head.now) }
+{
+    match read_policy(alloc, bytes, head) {
+        Ok(policy) => run_policy(alloc, words, &policy),
+        Err(fault) => {
+            let text = refused_file(alloc, &words.policy.file, bytes, fault)?;
+            Ok(Answered::Refused(text))
+        }
+    }
+}
+
+fn run_policy(alloc: Global, words: &RunWords, policy: &Policy) -> Result<Answered, AllocError>
+    ensures { IfOk result (RunsPolicy words.now policy.now) }
+{
     let program = Program {
         insns: Vec::from_slice(alloc, policy.insns.as_slice())?,
         shapes: Vec::from_slice(alloc, policy.shapes.as_slice())?,
@@ -36,103 +64,119 @@ fn run_policy(alloc: Global, words: &Found, policy: &Policy) -> Result<Answered,
         version: policy.version,
     };
     match verify(alloc, program) {
-        Ok(verified) => match inputs_named(alloc, words, &verified) {
-            Ok(inputs) => run_on(alloc, &verified, inputs),
-            Err(InputFault::Words(why)) => wrong(alloc, why.as_str()),
-            Err(InputFault::OutOfMemory) => Err(AllocError),
-        },
+        Ok(verified) => run_verified(alloc, words, &verified),
         Err(Refused::OutOfMemory) => Err(AllocError),
-        Err(Refused::At { slot, .. }) => Ok(Answered {
-            text: format!(in alloc;
-                "refused L8 at slot {slot}
-  the program is not accepted; check --explain says why
-"
-            )?,
-            accepted: false,
-        }),
+        Err(Refused::At { slot, cause }) => {
+            let text = unaccepted_text(alloc, policy, Verdict::Refused { slot, cause })?;
+            Ok(Answered::Refused(text))
+        }
+    }
+}
+
+/// The line that tells the verdict on a policy that is not accepted, and what tells more.
+fn unaccepted_text(alloc: Global, policy: &Policy, verdict: Verdict) -> Result<String, AllocError>
+    ensures { IfOk result (λ text. TellsVerdict policy.now.hook verdict (string_bytes text)) }
+{
+    let line = verdict_line(alloc, policy.hook, verdict)?;
+    format!(in alloc; "{line}the program is not accepted; check --explain says why\n")
+}
+
+/// The run of a program that is accepted.
+fn run_verified(
+    alloc: Global,
+    words: &RunWords,
+    verified: &Verified,
+) -> Result<Answered, AllocError>
+    ensures { IfOk result (RunsProgram words.now verified.now) }
+{
+    match inputs_named(alloc, words, verified) {
+        Ok(inputs) => run_on(alloc, verified, inputs),
+        Err(WordsFault::Words(why)) => Ok(Answered::Words(why)),
+        Err(WordsFault::OutOfMemory) => Err(AllocError),
     }
 }
 
 /// The inputs that the words name; all others are 0.
-fn inputs_named(alloc: Global, words: &Found, verified: &Verified) -> Result<Inputs, InputFault> {
-    let now = number(alloc, "time", words.value("--time"))?;
-    let processor = number(alloc, "processor", words.value("--processor"))?;
-    let Ok(processor) = u32::try_from(processor) else {
-        return Err(InputFault::Words(String::from_str(
-            alloc,
-            "--processor is a number below 4294967296",
-        )?));
-    };
-    let mut inputs = inputs_of(alloc, verified, Env { now, processor })?;
-    if let Some(text) = words.value("--ctx") {
-        inputs.set_context(alloc, text)?;
+fn inputs_named(alloc: Global, words: &RunWords, verified: &Verified) -> Result<Inputs, WordsFault>
+    ensures { IfOk result (HasClock words.now) }
+{
+    let env = env_named(alloc, words)?;
+    let mut inputs = inputs_of(alloc, verified, env)?;
+    if let Some(text) = &words.context {
+        inputs.set_context(alloc, text.as_str())?;
     }
-    if let Some(text) = words.value("--set") {
-        inputs.set_fields(alloc, verified.hook(), verified.version(), text)?;
+    for text in &words.fields {
+        inputs.set_fields(alloc, verified.hook(), verified.version(), text.as_str())?;
     }
-    if let Some(text) = words.value("--map") {
-        inputs.set_entry(alloc, text)?;
+    for text in &words.entries {
+        inputs.set_entry(alloc, text.as_str())?;
     }
-    if let Some(text) = words.value("--counter") {
-        inputs.set_counter(alloc, text)?;
+    for text in &words.counters {
+        inputs.set_counter(alloc, text.as_str())?;
     }
+    inputs.env = env;
     Ok(inputs)
 }
 
-fn number(alloc: Global, option: &str, word: Option<&str>) -> Result<u64, InputFault> {
-    match word {
-        None => Ok(0),
-        Some(word) => match word.parse::<u64>() {
-            Ok(number) => Ok(number),
-            Err(_) => {
-                let text = format!(in alloc; "--{option} {word} is no number")?;
-                Err(InputFault::Words(text))
-            }
-        },
+/// The time and the processor.
+fn env_named(alloc: Global, words: &RunWords) -> Result<Env, WordsFault>
+    ensures now { IfOk result (λ env. IsNumberOrZero (option_bytes words.now.time) env.now) }
+    ensures processor { IfOk result (λ env. IsNumberOrZero (option_bytes words.now.processor) env.processor) }
+{
+    let now = number(alloc, "time", &words.time)?;
+    let processor = number(alloc, "processor", &words.processor)?;
+    match u32::try_from(processor) {
+        Ok(processor) => Ok(Env { now, processor }),
+        Err(_) => Err(words_fault(String::from_str(
+            alloc,
+            "--processor is a number below 4294967296",
+        ))),
     }
 }
 
-fn run_on(alloc: Global, verified: &Verified, inputs: Inputs) -> Result<Answered, AllocError> {
+fn number(alloc: Global, option: &str, word: &Option<String>) -> Result<u64, WordsFault>
+    ensures { IfOk result (IsNumberOrZero (option_bytes word.now)) }
+{
+    let Some(word) = word else {
+        return Ok(0);
+    };
+    match word.as_str().parse::<u64>() {
+        Ok(number) => Ok(number),
+        Err(_) => Err(words_fault(format!(in alloc; "--{option} {word} is no number"))),
+    }
+}
+
+fn run_on(alloc: Global, verified: &Verified, inputs: Inputs) -> Result<Answered, AllocError>
+    ensures { IfOk result (RunsOn verified.now inputs) }
+{
     let mut inputs = inputs;
     let before = copied(alloc, &inputs.maps)?;
     let Some(ran) = run_once(verified, &mut inputs) else {
-        return wrong(alloc, "the inputs are not those of the hook");
+        return Ok(Answered::Words(String::from_str(
+            alloc,
+            "the inputs are not those of the hook",
+        )?));
     };
-    let mut text = answer_line(alloc, verified, &inputs, &ran)?;
-    write_changes(alloc, before.as_slice(), &inputs, &mut text)?;
-    write_calls(ran.calls.as_slice(), &mut text)?;
-    Ok(Answered {
-        text,
-        accepted: true,
-    })
+    let text = told(alloc, verified, before.as_slice(), &inputs, &ran)?;
+    Ok(Answered::Done(text))
 }
 
-/// What the run answered, what the rule says of that, and how many instructions it took.
-fn answer_line(
+/// What the run answered, what the rule says of that, how many instructions it took, and what it changed.
+fn told(
     alloc: Global,
     verified: &Verified,
+    before: &[Vec<u8>],
     inputs: &Inputs,
     ran: &OneRun,
-) -> Result<String, AllocError> {
+) -> Result<String, AllocError>
+    ensures { IfOk result (λ text. TellsRun ran.now.r0 (string_bytes text)) }
+{
     let r0 = ran.r0;
     let steps = ran.steps;
     let budget = verified.budget();
-    let word = word_on(verified.hook(), inputs.context.as_slice(), r0);
-    let told = word_text(verified.hook(), word);
-    format!(in alloc; "r0 {r0} (0x{r0:x})  {told}  steps {steps} of {budget}\n")
-}
-
-/// The rule's word on an answer.
-fn word_text(hook: Hook, word: Word) -> &'static str {
-    match (hook, word) {
-        (Hook::Place, Word::Permitted) => "permitted: a processor of the machine, in the mask",
-        (Hook::Place, _) => "not permitted: no processor of the machine that is in the mask",
-        (Hook::Preempt, Word::Permitted) => "permitted: 0 stays, 1 gives way",
-        (Hook::Preempt, _) => "not permitted: an answer is 0 or 1",
-        (Hook::Pull, Word::Permitted) => "permitted: none, or a movable task that is shown",
-        (Hook::Pull, Word::NotShown) => {
-            "permitted only if it is a movable task that the context does not show"
-        }
-        (Hook::Pull, Word::NotPermitted) => "not permitted: no movable task",
-    }
+    let word = word_text(alloc, verified.hook(), inputs.context.as_slice(), r0)?;
+    let mut changes = String::new(alloc);
+    write_changes(alloc, before, inputs, &mut changes)?;
+    write_calls(ran.calls.as_slice(), &mut changes)?;
+    format!(in alloc; "r0 {r0} (0x{r0:x})  {word}  steps {steps} of {budget}\n{changes}")
 }

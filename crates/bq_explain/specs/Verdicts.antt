@@ -1,0 +1,65 @@
+-- What is answered to a policy under limits, and how it is told.
+use Rattle.std.specs.Prelude.{◌≡◌, ℕ, ℤ, ◌<◌, ◌≤◌, Bool, true, false, List, ◌++◌, Option, Some, None, option_map, codes, All, Contains}
+use Rattle.std.specs.Fmt.{decimal, signed_decimal}
+use Rattle.bq_insn.specs.declared.Insn.{Insn}
+use Rattle.bq_insn.specs.declared.Insn.TheVariants.{Call}
+use Rattle.bq_insn.specs.Slots.{spread}
+use Rattle.bq_graph.specs.Paths.{IsGreatest, PathOut}
+use Rattle.bq_maps.specs.Machine.{Safe}
+use Rattle.bq_load.specs.declared.fault.LoadFault.TheVariants as load
+use Rattle.bq_program.specs.Check.{fault_text, hook_word}
+use Rattle.bq_verify.specs.Accepted.{context_length_of}
+use Rattle.bq_verify.specs.Refusals.{IsRefusal}
+use Rattle.bq_verify.specs.declared.hook.Hook.{Hook}
+use Rattle.bq_verify.specs.declared.refused.Refused.TheVariants as refused
+use Rattle.bq_policy_files.specs.declared.policy.Policy.{Policy}
+use Rattle.bq_explain.specs.declared.limits.Limits.{Limits}
+use Rattle.bq_explain.specs.declared.verdict.Verdict.{Verdict}
+use Rattle.bq_explain.specs.declared.verdict.Verdict.TheVariants.{Accepted, OverSteps, Forbidden, Refused}
+
+-- the program is safe within its budget, which is the longest path
+pub record IsSafePolicy (p : Policy) (budget : ℕ) : Type 0 where
+  pub safe : Safe (spread p.insns.items) p.shapes.items (context_length_of p.hook p.version) budget
+  pub longest : IsGreatest (PathOut (spread p.insns.items) 0) budget
+
+-- without a limit each budget is within it
+abbrev pub IsWithin : ℕ → Option ℕ → Type 0
+IsWithin budget None = Unit {0}
+IsWithin budget (Some most) = budget ≤ most
+
+-- the helpers that may be called; without a list all of them
+abbrev pub allowed : Limits → Option (List ℤ)
+allowed l = option_map (λ helpers. helpers.items) l.helpers
+
+-- the instruction calls no helper beside those
+abbrev pub CallsNoOther : Option (List ℤ) → Insn → Type 0
+CallsNoOther (Some helpers) (Call helper) = Contains helpers helper
+CallsNoOther helpers insn = Unit {0}
+
+-- the instruction calls that helper, which is none of those
+pub record IsBeside (helpers : List ℤ) (insn : Insn) (helper : ℤ) : Type 0 where
+  pub calls : insn ≡ Call helper
+  pub beside : ¬ (Contains helpers helper)
+
+-- one of the instructions calls that helper, which may not be called
+pub record IsCalledAgainst (helpers : Option (List ℤ)) (insns : List Insn) (helper : ℤ) : Type 0 where
+  pub called : Contains insns (Call helper)
+  pub against : ¬ (CallsNoOther helpers (Call helper))
+
+-- the verifier's answer, or what is beyond the limits of a program that is safe
+abbrev pub IsVerdict : Policy → Limits → Verdict → Type 0
+IsVerdict p l (Accepted budget) = IsSafePolicy p budget × IsWithin budget l.steps × All (CallsNoOther (allowed l)) p.insns.items
+IsVerdict p l (OverSteps budget most) = IsSafePolicy p budget × (l.steps ≡ Some most) × (most < budget)
+IsVerdict p l (Forbidden helper) = (budget : ℕ) × IsSafePolicy p budget × IsWithin budget l.steps × IsCalledAgainst (allowed l) p.insns.items helper
+IsVerdict p l (Refused slot cause) = IsRefusal (spread p.insns.items) (refused.At slot cause)
+
+abbrev pub is_accepted : Verdict → Bool
+is_accepted (Accepted budget) = true
+is_accepted other = false
+
+-- the line that tells a verdict
+abbrev pub verdict_line : Hook → Verdict → List ℕ
+verdict_line hook (Accepted budget) = codes "accepted " ++ (hook_word hook ++ (codes " budget " ++ (decimal budget ++ codes "\n")))
+verdict_line hook (OverSteps budget most) = codes "refused limit steps " ++ (decimal budget ++ (codes " of " ++ (decimal most ++ codes "\n")))
+verdict_line hook (Forbidden helper) = codes "refused limit helper " ++ (signed_decimal helper ++ codes "\n")
+verdict_line hook (Refused slot cause) = codes "refused " ++ (fault_text (load.Refused slot cause) ++ codes "\n")

@@ -1,0 +1,98 @@
+//! What the verifier and a keeper's limits answer to a policy.
+ghost use Rattle.std.specs.Prelude.{◌≡◌, IfOk};
+ghost use Rattle.std.specs.String.{string_bytes};
+ghost use Rattle.bq_explain.specs.Verdicts.{IsSafePolicy, IsVerdict, is_accepted, verdict_line};
+
+use crate::limits::Limits;
+use bq_load::LoadFault;
+use bq_policy_files::Policy;
+use bq_program::{fault_text, hook_word};
+use bq_verify::{Cause, Hook, Program, Refused, verify};
+use std::alloc::{AllocError, Global};
+
+/// The answer to a policy under limits.
+#[derive(Clone, Copy, Debug)]
+pub enum Verdict {
+    /// It is safe, and its runs of at most so many instructions are within the limits.
+    Accepted { budget: u32 },
+    /// Its runs take up to `budget` instructions, where `most` are allowed.
+    OverSteps { budget: u32, most: u32 },
+    /// It calls a helper that is not allowed.
+    Forbidden { helper: i32 },
+    /// It is not shown to be safe: the slot that is named, and the cause.
+    Refused { slot: usize, cause: Cause },
+}
+
+impl Verdict {
+    ghost use Rattle.bq_explain.specs.Verdicts.{is_accepted};
+
+    /// Whether the policy may run.
+    pub fn is_accepted(self) -> bool
+        ensures { result ≡ is_accepted self }
+    {
+        matches!(self, Verdict::Accepted { .. })
+    }
+}
+
+/// The verdict on a policy. The verifier is asked first, then the limit of steps, then the helpers.
+pub fn judge(alloc: Global, policy: &Policy, limits: &Limits) -> Result<Verdict, AllocError>
+    ensures { IfOk result (IsVerdict policy.now limits.now) }
+{
+    let program = program_of(alloc, policy)?;
+    match verify(alloc, program) {
+        Ok(verified) => Ok(limited(policy, limits, verified.budget())),
+        Err(Refused::OutOfMemory) => Err(AllocError),
+        Err(Refused::At { slot, cause }) => Ok(Verdict::Refused { slot, cause }),
+    }
+}
+
+/// The verdict on a policy that is safe within this budget.
+fn limited(policy: &Policy, limits: &Limits, budget: u32) -> Verdict
+    requires { IsSafePolicy policy.now budget }
+    ensures { IsVerdict policy.now limits.now result }
+{
+    if let Some(most) = limits.steps {
+        if most < budget {
+            return Verdict::OverSteps { budget, most };
+        }
+    }
+    match limits.forbidden(policy.insns.as_slice()) {
+        Some(helper) => Verdict::Forbidden { helper },
+        None => Verdict::Accepted { budget },
+    }
+}
+
+/// The program of a policy, to be handed to the verifier.
+pub(crate) fn program_of(alloc: Global, policy: &Policy) -> Result<Program, AllocError>
+    ensures insns { IfOk result (λ program. program.insns.items ≡ policy.now.insns.items) }
+    ensures shapes { IfOk result (λ program. program.shapes.items ≡ policy.now.shapes.items) }
+    ensures hook { IfOk result (λ program. program.hook ≡ policy.now.hook) }
+    ensures version { IfOk result (λ program. program.version ≡ policy.now.version) }
+{
+    Ok(Program {
+        insns: Vec::from_slice(alloc, policy.insns.as_slice())?,
+        shapes: Vec::from_slice(alloc, policy.shapes.as_slice())?,
+        hook: policy.hook,
+        version: policy.version,
+    })
+}
+
+/// The line that tells a verdict, as `check` tells it of a policy of that hook.
+pub fn verdict_line(alloc: Global, hook: Hook, verdict: Verdict) -> Result<String, AllocError>
+    ensures { IfOk result (λ text. string_bytes text ≡ verdict_line hook verdict) }
+{
+    match verdict {
+        Verdict::Accepted { budget } => {
+            let hook = hook_word(hook);
+            format!(in alloc; "accepted {hook} budget {budget}\n")
+        }
+        Verdict::OverSteps { budget, most } => {
+            format!(in alloc; "refused limit steps {budget} of {most}\n")
+        }
+        Verdict::Forbidden { helper } => format!(in alloc; "refused limit helper {helper}\n"),
+        Verdict::Refused { slot, cause } => {
+            let named = fault_text(alloc, LoadFault::Refused { slot, cause })?;
+            format!(in alloc; "refused {named}\n")
+        }
+    }
+}

@@ -1,0 +1,27 @@
+use Rattle.std.proofs.Common.{◌≡◌, ◌∙◌, ap, true, false}
+use Rattle.bq_policy_commands.specs.Checking.{answered}
+use Rattle.bq_policy_commands.proofs.checking.check_policy.Goals.{then-words-via-then-words, then-words-via-else-words+then-words-2}
+use Rattle.bq_policy_commands.proofs.checking.check_policy.Goals as goal
+
+pub returns-then-words : goal.returns-then-words
+returns-then-words c =
+    let e = c.in_ok-explained.ensures in
+    record {
+      verdict = e.0;
+      is_verdict = e.1;
+      text = c.in_ok-text-2.text;
+      is = c.answered.ensures ∙ ap (λ accepted. answered accepted c.in_ok-text-2.text) e.2;
+      told = λ plain bare. elim c.then-words.branch [
+        | then-words-via-then-words w ↦ let set : c.args.words.now.is_explained ≡ true = w.if-words.true in absurd (cc)
+        | then-words-via-else-words+then-words-2 w ↦ let set : c.args.words.now.is_json ≡ true = w.if-words-2.true in absurd (cc)
+      ];
+    }
+
+pub returns : goal.returns
+returns c = record {
+  verdict = c.in_ok-verdict.verdict;
+  is_verdict = c.in_ok-verdict.ensures;
+  text = c.in_ok-line.line;
+  is = c.answered-2.ensures ∙ ap (λ accepted. answered accepted c.in_ok-line.line) c.is_accepted.ensures;
+  told = λ plain bare. c.in_ok-line.ensures;
+}

@@ -1,0 +1,63 @@
+-- What `check` answers to a file.
+use Rattle.std.specs.Prelude.{◌≡◌, ◌≢◌, ℕ, Bool, true, false, List, ◌⊎◌, String, string_bytes}
+use Rattle.std.specs.declared.alloc.Global.{Global}
+use Rattle.bq_explain.specs.declared.limits.Limits.{Limits}
+use Rattle.bq_explain.specs.declared.verdict.Verdict.{Verdict}
+use Rattle.bq_explain.specs.Verdicts.{IsVerdict, is_accepted, verdict_line}
+use Rattle.bq_policy_files.specs.declared.fault.PolicyFault.{PolicyFault}
+use Rattle.bq_policy_files.specs.declared.fault.PolicyFault.TheVariants as fault
+use Rattle.bq_policy_files.specs.declared.head.Head.{Head}
+use Rattle.bq_policy_files.specs.declared.policy.Policy.{Policy}
+use Rattle.bq_policy_files.specs.Files.{IsPolicy, IsPolicyFault}
+use Rattle.bq_policy_commands.specs.declared.answered.Answered.{Answered}
+use Rattle.bq_policy_commands.specs.declared.answered.Answered.TheVariants.{Done, Refused}
+use Rattle.bq_policy_commands.specs.declared.words.CheckWords.{CheckWords}
+use Rattle.bq_policy_commands.specs.Limiting.{HasLimits}
+use Rattle.bq_policy_commands.specs.Refusing.{fault_line}
+use Rattle.bq_policy_commands.specs.Saying.{IsWordsFault, SaysHead}
+
+-- neither explained nor as JSON the answer is this line alone
+abbrev pub IsTold : CheckWords → List ℕ → List ℕ → Type 0
+IsTold w line text = w.is_explained ≡ false → w.is_json ≡ false → text ≡ line
+
+abbrev pub answered : Bool → String Global → Answered
+answered true text = Done text
+answered false text = Refused text
+
+-- it is done where the verdict accepts the policy, else refused, by the line that tells the verdict
+pub record TellsVerdict (w : CheckWords) (p : Policy) (l : Limits) (answer : Answered) : Type 0 where
+  pub verdict : Verdict
+  pub is_verdict : IsVerdict p l verdict
+  pub text : String Global
+  pub is : answer ≡ answered (is_accepted verdict) text
+  pub told : IsTold w (verdict_line p.hook verdict) (string_bytes text)
+
+-- the file is no policy, for this fault, by the line that names it
+pub record TellsFault (w : CheckWords) (bytes : List ℕ) (h : Head) (answer : Answered) : Type 0 where
+  pub named : PolicyFault
+  pub is_fault : IsPolicyFault bytes h named
+  pub other : named ≢ fault.OutOfMemory
+  pub text : String Global
+  pub is : answer ≡ Refused text
+  pub told : IsTold w (fault_line named) (string_bytes text)
+
+-- the file is this policy, and its verdict is told
+pub record TellsPolicy (w : CheckWords) (bytes : List ℕ) (h : Head) (l : Limits) (answer : Answered) : Type 0 where
+  pub policy : Policy
+  pub is_policy : IsPolicy bytes h policy
+  pub tells : TellsVerdict w policy l answer
+
+abbrev pub ChecksFile : CheckWords → List ℕ → Head → Limits → Answered → Type 0
+ChecksFile w bytes h l answer = TellsFault w bytes h answer ⊎ TellsPolicy w bytes h l answer
+
+-- by the head and the limits that the words say
+pub record ChecksAsked (w : CheckWords) (bytes : List ℕ) (answer : Answered) : Type 0 where
+  pub head : Head
+  pub says : SaysHead w.policy head
+  pub limits : Limits
+  pub has : HasLimits w limits
+  pub checks : ChecksFile w bytes head limits answer
+
+-- words that say none are refused
+abbrev pub ChecksTo : CheckWords → List ℕ → Answered → Type 0
+ChecksTo w bytes answer = IsWordsFault answer ⊎ ChecksAsked w bytes answer

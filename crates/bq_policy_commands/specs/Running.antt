@@ -1,0 +1,93 @@
+-- What `run` answers to a policy's file.
+use Rattle.std.specs.Prelude.{◌≡◌, ℕ, List, ◌++◌, ◌⊎◌, Option, Some, None, String, codes, string_bytes}
+use Rattle.std.specs.declared.alloc.Global.{Global}
+use Rattle.std.specs.Fmt.{decimal}
+use Rattle.bq_insn.specs.Slots.{spread}
+use Rattle.bq_maps.specs.declared.board.Call.{Call as Asked}
+use Rattle.bq_explain.specs.declared.verdict.Verdict.{Verdict}
+use Rattle.bq_explain.specs.declared.verdict.Verdict.TheVariants as verdict
+use Rattle.bq_explain.specs.Verdicts.{verdict_line}
+use Rattle.bq_one_run.specs.declared.inputs.Inputs.{Inputs}
+use Rattle.bq_one_run.specs.Runs.{IsRun}
+use Rattle.bq_graph.specs.declared.cause.Cause.{Cause}
+use Rattle.bq_verify.specs.Accepted.{Accepted}
+use Rattle.bq_verify.specs.Refusals.{IsRefusal}
+use Rattle.bq_verify.specs.declared.hook.Hook.{Hook}
+use Rattle.bq_verify.specs.declared.refused.Refused.TheVariants as refused
+use Rattle.bq_policy_files.specs.declared.head.Head.{Head}
+use Rattle.bq_policy_files.specs.declared.policy.Policy.{Policy}
+use Rattle.bq_policy_files.specs.Files.{IsPolicy}
+use Rattle.bq_policy_commands.specs.declared.answered.Answered.{Answered}
+use Rattle.bq_policy_commands.specs.declared.answered.Answered.TheVariants.{Done, Refused}
+use Rattle.bq_policy_commands.specs.declared.words.RunWords.{RunWords}
+use Rattle.bq_policy_commands.specs.Limiting.{IsNumber}
+use Rattle.bq_policy_commands.specs.Refusing.{IsRefusedFile}
+use Rattle.bq_policy_commands.specs.Saying.{IsWordsFault, SaysHead, option_bytes}
+
+-- without a word the number is 0
+abbrev pub IsNumberOrZero : Option (List ℕ) → ℕ → Type 0
+IsNumberOrZero None n = n ≡ 0
+IsNumberOrZero (Some word) n = IsNumber word n
+
+-- the time and the processor are those that the words name
+pub record HasClock (w : RunWords) (inputs : Inputs) : Type 0 where
+  pub now : IsNumberOrZero (option_bytes w.time) inputs.env.now
+  pub processor : IsNumberOrZero (option_bytes w.processor) inputs.env.processor
+
+-- the text begins with the answer
+abbrev pub TellsRun : ℕ → List ℕ → Type 0
+TellsRun answer text = (rest : List ℕ) × (text ≡ codes "r0 " ++ (decimal answer ++ rest))
+
+-- the one run of the program on those inputs, and its answer is told
+pub record HasRun (program : Accepted) (inputs : Inputs) (told_as : Answered) : Type 0 where
+  pub steps : ℕ
+  pub calls : List Asked
+  pub answer : ℕ
+  pub after : List (List ℕ)
+  pub run : IsRun program inputs.context.items inputs.env.now inputs.env.processor inputs.maps.bytes steps calls answer after
+  pub text : String Global
+  pub is : told_as ≡ Done text
+  pub told : TellsRun answer (string_bytes text)
+
+abbrev pub RunsOn : Accepted → Inputs → Answered → Type 0
+RunsOn program inputs told_as = IsWordsFault told_as ⊎ HasRun program inputs told_as
+
+-- on inputs that the words name
+abbrev pub RunsProgram : RunWords → Accepted → Answered → Type 0
+RunsProgram w program told_as = IsWordsFault told_as ⊎ ((inputs : Inputs) × HasClock w inputs × RunsOn program inputs told_as)
+
+-- the program is that of the policy
+pub record IsProgramOf (p : Policy) (program : Accepted) : Type 0 where
+  pub slots : program.slots ≡ spread p.insns.items
+  pub shapes : program.shapes ≡ p.shapes.items
+  pub hook : program.hook ≡ p.hook
+  pub version : program.version ≡ p.version
+
+-- the text begins with the line that tells the verdict
+abbrev pub TellsVerdict : Hook → Verdict → List ℕ → Type 0
+TellsVerdict hook named text = (reason : List ℕ) × (text ≡ verdict_line hook named ++ reason)
+
+-- the verifier refuses the policy, and the text begins with the line that says so
+pub record IsUnaccepted (p : Policy) (told_as : Answered) : Type 0 where
+  pub slot : ℕ
+  pub cause : Cause
+  pub refusal : IsRefusal (spread p.insns.items) (refused.At slot cause)
+  pub text : String Global
+  pub is : told_as ≡ Refused text
+  pub told : TellsVerdict p.hook (verdict.Refused slot cause) (string_bytes text)
+
+-- the policy's program is accepted, and runs
+pub record RunsAccepted (w : RunWords) (p : Policy) (told_as : Answered) : Type 0 where
+  pub program : Accepted
+  pub of : IsProgramOf p program
+  pub runs : RunsProgram w program told_as
+
+abbrev pub RunsPolicy : RunWords → Policy → Answered → Type 0
+RunsPolicy w p told_as = IsUnaccepted p told_as ⊎ RunsAccepted w p told_as
+
+abbrev pub RunsFile : RunWords → List ℕ → Head → Answered → Type 0
+RunsFile w bytes h told_as = IsRefusedFile bytes h told_as ⊎ ((p : Policy) × IsPolicy bytes h p × RunsPolicy w p told_as)
+
+-- by the head that the words say; words that say none are refused
+abbrev pub RunsTo : RunWords → List ℕ → Answered → Type 0
+RunsTo w bytes told_as = IsWordsFault told_as ⊎ ((h : Head) × SaysHead w.policy h × RunsFile w bytes h told_as)

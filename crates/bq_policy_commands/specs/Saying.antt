@@ -1,0 +1,29 @@
+-- What the words of a command say of a policy.
+use Rattle.std.specs.Prelude.{◌≡◌, ℕ, List, Option, Some, None, option_map, String, string_bytes}
+use Rattle.std.specs.declared.alloc.Global.{Global}
+use Rattle.bq_policy_files.specs.declared.head.Head.{Head}
+use Rattle.bq_policy_files.specs.Heads.{Names}
+use Rattle.bq_policy_files.specs.Marks.{hook_of, version_of}
+use Rattle.bq_policy_commands.specs.declared.answered.Answered.{Answered}
+use Rattle.bq_policy_commands.specs.declared.answered.Answered.TheVariants.{Words}
+use Rattle.bq_policy_commands.specs.declared.words.PolicyWords.{PolicyWords}
+
+-- the bytes of a word, if there is one
+abbrev pub option_bytes : Option (String Global) → Option (List ℕ)
+option_bytes word = option_map (λ w. string_bytes w) word
+
+-- without a word nothing is said; a word stands for its value
+abbrev pub IsHeadWord : {A : Type 0} → (List ℕ → A → Type 0) → Option (List ℕ) → Option A → Type 0
+IsHeadWord P None None = Unit {0}
+IsHeadWord P (Some word) (Some value) = P word value
+IsHeadWord P word value = ⊥
+
+-- each word says its part of the head
+pub record SaysHead (w : PolicyWords) (h : Head) : Type 0 where
+  pub hook : IsHeadWord (λ word hook. hook_of word ≡ Some hook) (option_bytes w.hook) h.hook
+  pub maps : IsHeadWord Names (option_bytes w.maps) h.maps
+  pub format : IsHeadWord (λ word version. version_of word ≡ Some version) (option_bytes w.format) h.format
+
+-- the words are refused
+abbrev pub IsWordsFault : Answered → Type 0
+IsWordsFault answer = (why : String Global) × (answer ≡ Words why)

@@ -1,0 +1,61 @@
+//! A keeper's own limits from the words of a command.
+ghost use Rattle.std.specs.Prelude.{◌≡◌, IfOk};
+ghost use Rattle.bq_policy_commands.specs.Saying.{IsHeadWord, option_bytes};
+ghost use Rattle.bq_policy_commands.specs.Limiting.{HasLimits, IsNumber};
+
+use crate::given::{WordsFault, words_fault};
+use crate::words::CheckWords;
+use bq_explain::Limits;
+use std::alloc::{AllocError, Global};
+
+/// The limits that the words set.
+pub fn limits_of(alloc: Global, words: &CheckWords) -> Result<Limits, WordsFault>
+    ensures { IfOk result (HasLimits words.now) }
+{
+    let steps = steps_in(alloc, &words.max_steps)?;
+    let helpers = helpers_in(alloc, &words.helpers)?;
+    Ok(Limits { steps, helpers })
+}
+
+/// The most instructions of a run, if there is a word of it.
+fn steps_in(alloc: Global, word: &Option<String>) -> Result<Option<u32>, WordsFault>
+    ensures { IfOk result (IsHeadWord IsNumber (option_bytes word.now)) }
+{
+    let Some(word) = word else {
+        return Ok(None);
+    };
+    match word.as_str().parse::<u32>() {
+        Ok(steps) => Ok(Some(steps)),
+        Err(_) => Err(words_fault(format!(in alloc;
+            "--max-steps {word}: a limit is a number of instructions, as 100"
+        ))),
+    }
+}
+
+/// The helpers that may be called, if there is a word of them: numbers with commas between.
+fn helpers_in(alloc: Global, word: &Option<String>) -> Result<Option<Vec<i32>>, WordsFault> {
+    let Some(word) = word else {
+        return Ok(None);
+    };
+    match numbers_of(alloc, word.as_str())? {
+        Some(numbers) => Ok(Some(numbers)),
+        None => Err(words_fault(format!(in alloc;
+            "--helpers {word}: helpers are numbers with commas between, as 1,2,5,8"
+        ))),
+    }
+}
+
+/// The numbers of a text with commas between; none of an empty text.
+fn numbers_of(alloc: Global, text: &str) -> Result<Option<Vec<i32>>, AllocError> {
+    let mut numbers = Vec::new(alloc);
+    if text.is_empty() {
+        return Ok(Some(numbers));
+    }
+    for part in text.split(',') {
+        match part.parse::<i32>() {
+            Ok(number) => numbers.push(number)?,
+            Err(_) => return Ok(None),
+        }
+    }
+    Ok(Some(numbers))
+}

@@ -1,0 +1,54 @@
+//! The words after a command, as they were given.
+
+/// The words that name a policy: its file, and what is said beside it.
+#[derive(Debug, Drop)]
+pub struct PolicyWords {
+    /// The file; standard input without it, or as `-`.
+    pub file: Option<String>,
+    /// The choice that the program makes.
+    pub hook: Option<String>,
+    /// The shapes of its maps.
+    pub maps: Option<String>,
+    /// The version of its image.
+    pub format: Option<String>,
+}
+
+/// The words after `check`.
+#[derive(Debug, Drop)]
+pub struct CheckWords {
+    pub policy: PolicyWords,
+    /// Whether a refusal is explained, and an accepted policy told in full.
+    pub is_explained: bool,
+    /// Whether the answer is JSON.
+    pub is_json: bool,
+    /// The most instructions of a run.
+    pub max_steps: Option<String>,
+    /// The helpers that may be called.
+    pub helpers: Option<String>,
+}
+
+/// The words after `run`.
+#[derive(Debug, Drop)]
+pub struct RunWords {
+    pub policy: PolicyWords,
+    /// The bytes of the context, in hex.
+    pub context: Option<String>,
+    /// Fields of the context by their names, as `task=3,mask=0x6`.
+    pub fields: Vec<String>,
+    /// Entries of maps, as `0:0=0a00`.
+    pub entries: Vec<String>,
+    /// Counters, as `3=10`.
+    pub counters: Vec<String>,
+    /// The time in nanoseconds.
+    pub time: Option<String>,
+    /// The processor that asks.
+    pub processor: Option<String>,
+}
+
+/// The words after `dis`.
+#[derive(Debug, Drop)]
+pub struct ListWords {
+    pub policy: PolicyWords,
+    /// Whether each instruction has its slot and its bytes beside it.
+    pub has_slots: bool,
+}
