@@ -4,12 +4,10 @@
     tests/simulate_forms.py BQSIM
 
 BQSIM is the path of the program. Each workload of workloads/ is run under both disciplines. Its trace has to be answered by
-`replay` with no line bad or refused, and each form of the run has to be that of `timeline` on the trace, byte for byte. In `why`
-a run counts its lines from the machine on, and a trace from the lines that name the tasks, so there the numbers are shifted by
-as many. This is run by hand, and is no part of the gate. Last seen: 9 workloads, 144 forms alike.
+`replay` with no line bad or refused, and each form of the run has to be that of `timeline` on the trace, byte for byte. This is
+run by hand, and is no part of the gate.
 """
 import pathlib
-import re
 import subprocess
 import sys
 
@@ -23,10 +21,6 @@ def run(program, *words, text=None):
     return done.stdout
 
 
-def shifted(text, lines):
-    return re.sub(r"  line (\d+):", lambda found: f"  line {int(found[1]) + lines}:", text)
-
-
 def main(program):
     workloads = sorted((pathlib.Path(__file__).parent.parent / "workloads").glob("*.toml"))
     alike = 0
@@ -37,12 +31,8 @@ def main(program):
             answers = run(program, "replay", text=trace).splitlines()
             if bad := [line for line in answers if line.startswith(("bad", "refused"))]:
                 sys.exit(f"{workload.name} {rule}: {bad[0]}")
-            names = sum(line.startswith("#") for line in trace.splitlines())
             for form in FORMS:
-                told = run(program, *ours, "--as", form)
-                if form == "why":
-                    told = shifted(told, names)
-                if told != run(program, "timeline", "--as", form, text=trace):
+                if run(program, *ours, "--as", form) != run(program, "timeline", "--as", form, text=trace):
                     sys.exit(f"{workload.name} {rule}: {form} differs")
                 alike += 1
     print(f"{len(workloads)} workloads, {alike} forms alike")

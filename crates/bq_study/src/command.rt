@@ -123,7 +123,9 @@ fn machine_options<'a>(alloc: Global, command: Command<'a>) -> Result<Command<'a
 
 /// What stands at the hooks.
 fn policy_options<'a>(alloc: Global, command: Command<'a>) -> Result<Command<'a>, AllocError> {
-    let place = option(alloc, "place", "POLICY").help("An image, or its hex, at every processor");
+    let place = option(alloc, "place", "POLICY").help(
+        "A policy's file: an image, its hex, or assembler text with its head; at every processor",
+    );
     let command = command.arg(place)?;
     let preempt = option(alloc, "preempt", "POLICY").help("The same");
     let command = command.arg(preempt)?;

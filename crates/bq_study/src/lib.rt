@@ -5,6 +5,7 @@
 pub mod asked;
 pub mod command;
 pub mod event_line;
+pub mod later;
 pub mod names;
 pub mod policies;
 pub mod running;

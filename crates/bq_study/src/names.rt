@@ -5,12 +5,12 @@ use bq_trace::Sink;
 use std::alloc::{AllocError, Global};
 
 /// Tells a sink the name of each task, by the comment that names one in a trace. The tasks of a kind are numbered from 0, where
-/// it has several.
+/// it has several. How many lines of a trace that takes.
 pub fn tell_names<S: Sink>(
     alloc: Global,
     workload: &Workload,
     sink: &mut S,
-) -> Result<(), AllocError> {
+) -> Result<u64, AllocError> {
     let mut task: u32 = 0;
     for kind in &workload.tasks {
         let name = kind.name.as_str();
@@ -24,5 +24,5 @@ pub fn tell_names<S: Sink>(
             task = task.saturating_add(1);
         }
     }
-    Ok(())
+    Ok(u64::from(task))
 }

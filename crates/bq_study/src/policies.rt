@@ -1,17 +1,22 @@
 //! The policies that stand at the hooks of all processors.
 
 use bq_core::{Hook, Policy};
-use bq_load::{LoadFault, load};
+use bq_insn::encode::encode;
+use bq_load::{Image, LoadFault, load, write_image};
+use bq_policy_commands::fault_reason;
+use bq_policy_files::{Head, read_policy};
 use std::alloc::{AllocError, AllocFailed, Global};
 use thiserror::Error;
 
 /// Why a file is no policy for a hook.
-#[derive(Clone, Copy, Debug, Error)]
+#[derive(Debug, Drop, Error)]
 pub enum PolicyFault {
-    #[error("neither an image nor its hex")]
-    Hex,
+    /// It is no policy: why, in words.
     #[error("{0}")]
-    Image(LoadFault),
+    File(String),
+    /// Its program is not accepted.
+    #[error("{0}; check --explain says more")]
+    Program(LoadFault),
     #[error("the policy is for another hook")]
     Hook,
     #[error("out of memory")]
@@ -34,18 +39,21 @@ impl Policies {
         }
     }
 
-    /// Takes what a file holds: an image, or its hex, whose policy is for this hook.
+    /// Takes the policy for this hook that a file holds: an image, the hex of one, or an assembler text whose head says what
+    /// it leaves out. No policy was taken for the hook before.
     pub fn add(&mut self, alloc: Global, hook: Hook, file: &[u8]) -> Result<(), PolicyFault> {
-        let image = image_of(alloc, file)?;
+        let mut asked = Head::nothing();
+        asked.hook = Some(hook);
+        let image = match read_policy(alloc, file, &asked) {
+            Ok(policy) => image_of(alloc, &policy)?,
+            Err(fault) => return Err(told(alloc, file, fault)),
+        };
         let program = match load(alloc, image.as_slice()) {
             Ok(program) => program,
             Err(LoadFault::OutOfMemory) => return Err(PolicyFault::OutOfMemory),
-            Err(fault) => return Err(PolicyFault::Image(fault)),
+            Err(fault) => return Err(PolicyFault::Program(fault)),
         };
         let policy = Policy::new(alloc, program)?;
-        if policy.hook() != hook {
-            return Err(PolicyFault::Hook);
-        }
         self.images.push((hook, image))?;
         self.loaded.push(policy)?;
         Ok(())
@@ -74,20 +82,28 @@ impl<T: Drop> From<AllocFailed<T>> for PolicyFault {
     }
 }
 
-/// The bytes of an image, from the bytes themselves or from their hex.
-fn image_of(alloc: Global, file: &[u8]) -> Result<Vec<u8>, PolicyFault> {
-    if file.starts_with(b"BQPI") {
-        return Ok(file.to_vec(alloc)?);
+/// Why the file is no policy for the hook, in words.
+fn told(alloc: Global, file: &[u8], fault: bq_policy_files::PolicyFault) -> PolicyFault {
+    if let bq_policy_files::PolicyFault::Disagrees(_) = fault {
+        return PolicyFault::Hook;
     }
-    let mut digits = Vec::new(alloc);
-    for byte in file {
-        if !byte.is_ascii_whitespace() {
-            digits.push(*byte)?;
-        }
+    match fault_reason(alloc, file, fault) {
+        Ok(why) => PolicyFault::File(why),
+        Err(_) => PolicyFault::OutOfMemory,
     }
-    match hex::decode(alloc, digits.as_slice()) {
-        Ok(bytes) => Ok(bytes),
-        Err(hex::FromHexError::OutOfMemory) => Err(PolicyFault::OutOfMemory),
-        Err(_) => Err(PolicyFault::Hex),
-    }
+}
+
+/// The bytes of the image of a policy.
+fn image_of(alloc: Global, policy: &bq_policy_files::Policy) -> Result<Vec<u8>, AllocError> {
+    let mut program = Vec::new(alloc);
+    encode(policy.insns.as_slice(), &mut program)?;
+    let image = Image {
+        version: policy.version,
+        hook: policy.hook,
+        shapes: Vec::from_slice(alloc, policy.shapes.as_slice())?,
+        program,
+    };
+    let mut bytes = Vec::new(alloc);
+    write_image(&image, &mut bytes)?;
+    Ok(bytes)
 }

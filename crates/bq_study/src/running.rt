@@ -1,6 +1,7 @@
 //! One run of a workload, and what is written of it.
 
 use crate::asked::Asked;
+use crate::later::Later;
 use crate::names::tell_names;
 use crate::policies::Policies;
 use crate::trace_text::TraceText;
@@ -51,11 +52,12 @@ fn as_timeline(
     settings: Settings,
 ) -> Result<Written, SimulateFault> {
     let mut viewer = Viewer::new(alloc, settings);
-    tell_names(alloc, workload, &mut viewer)?;
-    simulate(alloc, workload, policies.loaded.as_slice(), &mut viewer)?;
-    viewer.end()?;
+    let above = tell_names(alloc, workload, &mut viewer)?;
+    let mut later = Later { viewer, above };
+    simulate(alloc, workload, policies.loaded.as_slice(), &mut later)?;
+    later.viewer.end()?;
     Ok(Written {
-        text: viewer.screen.text.clone()?,
-        notes: viewer.screen.notes.clone()?,
+        text: later.viewer.screen.text.clone()?,
+        notes: later.viewer.screen.notes.clone()?,
     })
 }
