@@ -1,0 +1,4 @@
+pub mod Asked
+pub mod Program
+pub mod Requests
+pub mod Status
