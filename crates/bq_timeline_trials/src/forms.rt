@@ -1,98 +1,10 @@
 //! Each form on a small trace, with its text worked out by hand.
 
+use crate::steps::{drained, placed, pulled, shows};
 use bq_forms::{Csv, Form, Json, Map, Names, Report, Timehist, Window};
-use bq_parts::{By, Event, Refusal, Reply};
 use bq_schedule::Schedule;
 use std::alloc::{AllocError, Global};
 use std::test::Fail;
-
-/// One step of a trace.
-type Step = (Event, Result<Reply, Refusal>);
-
-/// Two tasks on two processors, by the clocks in milliseconds. Task 1 is placed on processor 0 at 0 and runs there from 0 to 2; at 2
-/// task 2, which was placed at 1, is put in its place and runs till 5, when it goes to sleep and task 1 runs again, till 6. There
-/// processor 1 pulls nothing, but a second task 3 is woken at 6 to processor 1, and runs there from 7 to 8.
-fn steps(alloc: Global) -> Result<Vec<Step>, AllocError> {
-    let mut steps = Vec::new(alloc);
-    for (task, nice) in [(1u16, 0i8), (2, 0), (3, 5)] {
-        let event = Event::Admit {
-            task,
-            nice,
-            mask: 3,
-            slice: 3_000_000,
-        };
-        steps.push((event, Ok(Reply::Admitted)))?;
-    }
-    steps.push(placed(0, 0, 1, 0))?;
-    steps.push(drained(0, 0, Some(1)))?;
-    steps.push(placed(1, 1_000_000, 2, 0))?;
-    steps.push(drained(0, 2_000_000, Some(2)))?;
-    steps.push((
-        Event::Block {
-            processor: 0,
-            now: 5_000_000,
-        },
-        Ok(Reply::Blocked {
-            task: 2,
-            run: Some(1),
-        }),
-    ))?;
-    steps.push(placed(0, 6_000_000, 3, 1))?;
-    steps.push(drained(1, 7_000_000, Some(3)))?;
-    steps.push((
-        Event::Tick {
-            processor: 1,
-            now: 8_000_000,
-        },
-        Ok(Reply::Ticked {
-            run: Some(3),
-            by: By::Policy,
-            steps: 4,
-        }),
-    ))?;
-    Ok(steps)
-}
-
-/// A wake at a processor's clock that placed a task.
-fn placed(processor: u8, now: u64, task: u16, to: u8) -> Step {
-    (
-        Event::EndWake { processor, now },
-        Ok(Reply::Placed {
-            task,
-            to,
-            by: By::Discipline,
-            steps: 0,
-        }),
-    )
-}
-
-/// A drain after which this task runs.
-fn drained(processor: u8, now: u64, run: Option<u16>) -> Step {
-    (
-        Event::Drain { processor, now },
-        Ok(Reply::Drained {
-            count: 1,
-            run,
-            by: By::Discipline,
-            steps: 0,
-        }),
-    )
-}
-
-/// What a form shows of the trace. Task 3 is named.
-fn shown<F: Form>(alloc: Global, mut form: F) -> Result<String, AllocError> {
-    let mut schedule = Schedule::new(alloc, 2)?;
-    let mut names = Names::new(alloc);
-    names.learn(b"# task 3 server")?;
-    let mut text = String::new(alloc);
-    form.begin(&schedule, &names, &mut text)?;
-    for (event, answer) in steps(alloc)? {
-        let change = schedule.take(&event, &answer);
-        form.take(&change, &schedule, &names, &mut text)?;
-    }
-    form.end(&schedule, &names, &mut text)?;
-    Ok(text)
-}
 
 /// The rows of the slices: each from a reading of the clock to the next.
 const CSV: &str = "processor,task,from,to\n\
@@ -181,21 +93,29 @@ const JSON: &str = concat!(
 );
 
 #[test]
-fn forms(rt: HostRuntime) -> Result<(), Fail> {
+fn lists(rt: HostRuntime) -> Result<(), Fail> {
     let alloc = rt.alloc();
-    let csv = shown(alloc, Csv::new(alloc, Window::whole(alloc)))?;
-    assert_eq!(rt; csv.as_str(), CSV);
-    let map = shown(alloc, Map::new(alloc, Window::whole(alloc), 24))?;
-    assert_eq!(rt; map.as_str(), MAP);
-    let map = shown(alloc, Map::new(alloc, Window::whole(alloc), 80))?;
-    assert_eq!(rt; map.as_str(), WIDE_MAP);
-    let report = shown(alloc, Report::new(alloc, Window::whole(alloc)))?;
-    assert_eq!(rt; report.as_str(), REPORT);
-    let timehist = shown(alloc, Timehist::new(Window::whole(alloc)))?;
-    assert_eq!(rt; timehist.as_str(), TIMEHIST);
-    let json = shown(alloc, Json::new(alloc, Window::whole(alloc)))?;
-    assert_eq!(rt; json.as_str(), JSON);
-    Ok(())
+    shows(&rt, alloc, Csv::new(alloc, Window::whole(alloc)), CSV)?;
+    shows(&rt, alloc, Timehist::new(Window::whole(alloc)), TIMEHIST)
+}
+
+#[test]
+fn maps(rt: HostRuntime) -> Result<(), Fail> {
+    let alloc = rt.alloc();
+    shows(&rt, alloc, Map::new(alloc, Window::whole(alloc), 24), MAP)?;
+    shows(
+        &rt,
+        alloc,
+        Map::new(alloc, Window::whole(alloc), 80),
+        WIDE_MAP,
+    )
+}
+
+#[test]
+fn figures(rt: HostRuntime) -> Result<(), Fail> {
+    let alloc = rt.alloc();
+    shows(&rt, alloc, Report::new(alloc, Window::whole(alloc)), REPORT)?;
+    shows(&rt, alloc, Json::new(alloc, Window::whole(alloc)), JSON)
 }
 
 /// From 1 ms to 5.5 ms at processor 0, task 1 alone.
@@ -211,17 +131,18 @@ fn part(alloc: Global) -> Result<Window, AllocError> {
 #[test]
 fn windows(rt: HostRuntime) -> Result<(), Fail> {
     let alloc = rt.alloc();
-    let csv = shown(alloc, Csv::new(alloc, part(alloc)?))?;
-    assert_eq!(rt;
-        csv.as_str(),
-        "processor,task,from,to\n0,1,1000000,2000000\n0,1,5000000,5500000\n"
-    );
-    let map = shown(alloc, Map::new(alloc, part(alloc)?, 17))?;
-    assert_eq!(rt;
-        map.as_str(),
-        "        |1.000 ms\ncpu 0   AA......A\n\na column is 0.500 ms; . is idle\nA  task 1\n"
-    );
-    Ok(())
+    shows(
+        &rt,
+        alloc,
+        Csv::new(alloc, part(alloc)?),
+        "processor,task,from,to\n0,1,1000000,2000000\n0,1,5000000,5500000\n",
+    )?;
+    shows(
+        &rt,
+        alloc,
+        Map::new(alloc, part(alloc)?, 17),
+        "        |1.000 ms\ncpu 0   AA......A\n\na column is 0.500 ms; . is idle\nA  task 1\n",
+    )
 }
 
 /// Task 4 runs 1 ms at processor 0, is pulled by processor 1 and runs there: it has migrated once.
@@ -232,48 +153,39 @@ fn migrations(rt: HostRuntime) -> Result<(), Fail> {
     let names = Names::new(alloc);
     let mut text = String::new(alloc);
     let mut form = Timehist::new(Window::whole(alloc));
-    let pull = Event::Pull {
-        processor: 1,
-        from: 0,
-        now: 3_000_000,
-    };
-    let pulled = Ok(Reply::Pulled {
-        task: Some(4),
-        run: Some(4),
-        by: By::Discipline,
-        steps: 0,
-    });
     for (event, answer) in [
         placed(0, 0, 4, 0),
-        drained(0, 0, Some(4)),
-        drained(0, 1_000_000, Some(5)),
-        (pull, pulled),
+        drained(0, 0, 1, Some(4)),
+        drained(0, 1_000_000, 1, Some(5)),
+        pulled(1, 0, 3_000_000, 4),
     ] {
         let change = schedule.take(&event, &answer);
         form.take(&change, &schedule, &names, &mut text)?;
     }
-    let lines = concat!(
-        "       0.000000 [0000]  <idle>                awakened: 4 on cpu 0\n",
-        "       0.001000 [0000]      4                     0.000      0.000      1.000\n",
-        "       0.003000 [0001]      4                 migrated: cpu 0 => 1\n",
-    );
-    assert_eq!(rt; text.as_str(), lines);
+    assert_eq!(rt; text.as_str(), MIGRATED);
     Ok(())
 }
+
+const MIGRATED: &str = concat!(
+    "       0.000000 [0000]  <idle>                awakened: 4 on cpu 0\n",
+    "       0.001000 [0000]      4                     0.000      0.000      1.000\n",
+    "       0.003000 [0001]      4                 migrated: cpu 0 => 1\n",
+);
 
 /// A comment names a task by its number; another comment, and a number that no task has, name none.
 #[test]
 fn names(rt: HostRuntime) -> Result<(), Fail> {
-    let alloc = rt.alloc();
-    let mut names = Names::new(alloc);
-    names.learn(b"#task 7 web server \r")?;
-    names.learn(b"# task 70000 none")?;
-    names.learn(b"# tasks 8 none")?;
-    names.learn(b"# task 9")?;
-    assert_eq!(rt; names.of(7), Some("web server"));
-    assert_eq!(rt; names.of(8), None);
-    assert_eq!(rt; names.of(9), None);
-    names.learn(b"  # task 7 other")?;
-    assert_eq!(rt; names.of(7), Some("other"));
+    let mut names = Names::new(rt.alloc());
+    let comments: [(&[u8], u16, Option<&str>); 5] = [
+        (b"#task 7 web server \r", 7, Some("web server")),
+        (b"# task 70000 none", 7, Some("web server")),
+        (b"# tasks 8 none", 8, None),
+        (b"# task 9", 9, None),
+        (b"  # task 7 other", 7, Some("other")),
+    ];
+    for (comment, task, name) in comments {
+        names.learn(comment)?;
+        assert_eq!(rt; names.of(task), name);
+    }
     Ok(())
 }

@@ -3,10 +3,14 @@
 #![tactic(auto)]
 
 #[cfg(test)]
+mod facts;
+#[cfg(test)]
 mod forms;
 #[cfg(test)]
 mod pictures;
 #[cfg(test)]
 mod schedules;
+#[cfg(test)]
+mod steps;
 #[cfg(test)]
 mod timelines;

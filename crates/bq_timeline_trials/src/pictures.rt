@@ -1,98 +1,16 @@
 //! The pictures of a small trace.
 
-use bq_forms::{Form, Names, Window};
-use bq_parts::{By, Event, Refusal, Reply};
+use crate::steps::{shown, three_tasks};
+use bq_forms::{Form, Window};
+use bq_parts::By;
 use bq_pictures::{Perfetto, Svg};
-use bq_schedule::Schedule;
 use std::alloc::{AllocError, Global};
 use std::test::Fail;
 
-/// One step of a trace.
-type Step = (Event, Result<Reply, Refusal>);
-
-/// Task 1 runs at processor 0 from 0 to 2 ms; task 2, woken by processor 1 at 1 ms, is put in its place, and sleeps at 5 ms. Task
-/// 1 runs again, and at 6 ms its processor wakes task 3 to processor 1, where it runs from 7 to 8 ms: there a policy is asked in
-/// vain.
-fn steps(alloc: Global) -> Result<Vec<Step>, AllocError> {
-    let mut steps = Vec::new(alloc);
-    for (task, nice) in [(1u16, 0i8), (2, 0), (3, 5)] {
-        let event = Event::Admit {
-            task,
-            nice,
-            mask: 3,
-            slice: 3_000_000,
-        };
-        steps.push((event, Ok(Reply::Admitted)))?;
-    }
-    steps.push(placed(0, 0, 1, 0))?;
-    steps.push(drained(0, 0, Some(1)))?;
-    steps.push(placed(1, 1_000_000, 2, 0))?;
-    steps.push(drained(0, 2_000_000, Some(2)))?;
-    steps.push((
-        Event::Block {
-            processor: 0,
-            now: 5_000_000,
-        },
-        Ok(Reply::Blocked {
-            task: 2,
-            run: Some(1),
-        }),
-    ))?;
-    steps.push(placed(0, 6_000_000, 3, 1))?;
-    steps.push(drained(1, 7_000_000, Some(3)))?;
-    steps.push((
-        Event::Tick {
-            processor: 1,
-            now: 8_000_000,
-        },
-        Ok(Reply::Ticked {
-            run: Some(3),
-            by: By::Discipline,
-            steps: 4,
-        }),
-    ))?;
-    Ok(steps)
-}
-
-/// A wake at a processor's clock that placed a task.
-fn placed(processor: u8, now: u64, task: u16, to: u8) -> Step {
-    (
-        Event::EndWake { processor, now },
-        Ok(Reply::Placed {
-            task,
-            to,
-            by: By::Discipline,
-            steps: 0,
-        }),
-    )
-}
-
-/// A drain after which this task runs.
-fn drained(processor: u8, now: u64, run: Option<u16>) -> Step {
-    (
-        Event::Drain { processor, now },
-        Ok(Reply::Drained {
-            count: 1,
-            run,
-            by: By::Discipline,
-            steps: 0,
-        }),
-    )
-}
-
-/// What a form shows of the trace. Task 3 is named.
-fn shown<F: Form>(alloc: Global, mut form: F) -> Result<String, AllocError> {
-    let mut schedule = Schedule::new(alloc, 2)?;
-    let mut names = Names::new(alloc);
-    names.learn(b"# task 3 <server> \"a&b\"")?;
-    let mut text = String::new(alloc);
-    form.begin(&schedule, &names, &mut text)?;
-    for (event, answer) in steps(alloc)? {
-        let change = schedule.take(&event, &answer);
-        form.take(&change, &schedule, &names, &mut text)?;
-    }
-    form.end(&schedule, &names, &mut text)?;
-    Ok(text)
+/// What a form shows of the three tasks, where a policy is asked in vain at the end.
+fn drawn<F: Form>(alloc: Global, form: F) -> Result<String, AllocError> {
+    let steps = three_tasks(alloc, By::Discipline)?;
+    shown(alloc, form, steps, b"# task 3 <server> \"a&b\"")
 }
 
 /// The events: the runs with the ends of their flows, and in between what happens while nothing runs there.
@@ -124,7 +42,7 @@ const EVENTS: &str = concat!(
 #[test]
 fn perfetto(rt: HostRuntime) -> Result<(), Fail> {
     let alloc = rt.alloc();
-    let text = shown(alloc, Perfetto::new(alloc, Window::whole(alloc)))?;
+    let text = drawn(alloc, Perfetto::new(alloc, Window::whole(alloc)))?;
     assert_eq!(rt; text.as_str(), EVENTS);
     Ok(())
 }
@@ -166,7 +84,7 @@ const PICTURE: &str = concat!(
 #[test]
 fn svg(rt: HostRuntime) -> Result<(), Fail> {
     let alloc = rt.alloc();
-    let text = shown(alloc, Svg::new(alloc, Window::whole(alloc)))?;
+    let text = drawn(alloc, Svg::new(alloc, Window::whole(alloc)))?;
     let picture = text
         .as_str()
         .find("<text class=\"title\"")

@@ -5,6 +5,7 @@ use bq_timeline::numbers::{processors, tasks, time, width};
 use bq_timeline::{Settings, Words, show};
 use bq_trace::Counted;
 use std::alloc::Global;
+use std::process::Abort;
 use std::str::from_utf8;
 use std::test::Fail;
 
@@ -35,6 +36,36 @@ fn shown(
     let written = output.into_inner();
     let text = String::from_str(alloc, from_utf8(written.as_slice())?)?;
     Ok((text, outcome.notes, outcome.clean))
+}
+
+/// The form of a trace up to its end has these parts.
+fn has(
+    rt: &impl Abort,
+    alloc: Global,
+    form: &str,
+    trace: &str,
+    parts: &[&str],
+) -> Result<(), Fail> {
+    let (text, _, _) = shown(alloc, form, None, trace)?;
+    for part in parts {
+        assert!(rt; text.as_str().contains(part), "{part} in {text}");
+    }
+    Ok(())
+}
+
+/// So it ends.
+fn ends(rt: &impl Abort, alloc: Global, form: &str, trace: &str, end: &str) -> Result<(), Fail> {
+    let (text, _, _) = shown(alloc, form, None, trace)?;
+    assert!(rt; text.as_str().ends_with(end), "{text}");
+    Ok(())
+}
+
+/// What is noted of a trace that is not clean.
+fn notes(rt: &impl Abort, alloc: Global, form: &str, trace: &str, text: &str) -> Result<(), Fail> {
+    let (_, notes, clean) = shown(alloc, form, None, trace)?;
+    assert_eq!(rt; notes.as_str(), text);
+    assert!(rt; !clean);
+    Ok(())
 }
 
 /// At 1 ms the v of `short` is 1 ms, that of `long` 0, and their mean 0.5 ms: `short` has the earlier deadline, 2 ms, and is not
@@ -75,50 +106,31 @@ tick 0 1000000\ntick 0 2000000\n";
 
 #[test]
 fn a_task_gives_way(rt: HostRuntime) -> Result<(), Fail> {
-    let (text, _, _) = shown(rt.alloc(), "why", None, CFS)?;
-    assert!(rt;
-        text.as_str()
-            .contains("    1 runs: least virtual runtime\n")
-    );
-    assert!(rt;
-        text.as_str().contains(
-            "    1 runs: 1.000 ms ahead of 2, and gives way only beyond 1.000 ms\n"
-        )
-    );
-    assert!(rt;
-        text.as_str()
-            .ends_with("    2 runs: 1 gives way: 2.000 ms ahead of 2\n")
-    );
-    Ok(())
+    let parts = [
+        "    1 runs: least virtual runtime\n",
+        "    1 runs: 1.000 ms ahead of 2, and gives way only beyond 1.000 ms\n",
+    ];
+    has(&rt, rt.alloc(), "why", CFS, &parts)?;
+    let end = "    2 runs: 1 gives way: 2.000 ms ahead of 2\n";
+    ends(&rt, rt.alloc(), "why", CFS, end)
 }
+
+/// Line 3 is bad; lines 2, 6 and 7 are refused.
+const FAULTY: &str =
+    "machine cfs 1\nblock 0 1\ntick 300 0\nadmit 1 0 1 1000000\nwake 0 1 5\nwake 0 9 5\nshow 4\n";
 
 #[test]
 fn lines_stand_in_their_places(rt: HostRuntime) -> Result<(), Fail> {
-    let trace =
-        "machine cfs 1\nblock 0 1\ntick 300 0\nadmit 1 0 1 1000000\nwake 0 1 5\nwake 0 9 5\nshow 4\n";
-    let (text, notes, clean) = shown(rt.alloc(), "timehist", None, trace)?;
-    assert!(rt;
-        text.as_str().contains(
-            "line 2: block 0: nothing runs there\nline 3: 300 does not fit a processor's number (0 to 255)\n"
-        )
-    );
-    assert!(rt;
-        text.as_str().contains(
-            "line 6: begin 0 9: no such task is admitted\nline 7: show 4: the machine has no such processor\n"
-        )
-    );
-    assert_eq!(rt;
-        notes.as_str(),
-        "task 1 was placed on processor 0, which was never drained after\nlines bad or refused: 4\n"
-    );
-    assert!(rt; !clean);
-    let (_, notes, clean) = shown(rt.alloc(), "csv", None, "machine cfs 1\ntick 0\n")?;
-    assert_eq!(rt;
-        notes.as_str(),
-        "line 2: tick takes 2 words after it\nlines bad or refused: 1\n"
-    );
-    assert!(rt; !clean);
-    Ok(())
+    let parts = [
+        "line 2: block 0: nothing runs there\nline 3: 300 does not fit a processor's number (0 to 255)\n",
+        "line 6: begin 0 9: no such task is admitted\nline 7: show 4: the machine has no such processor\n",
+    ];
+    has(&rt, rt.alloc(), "timehist", FAULTY, &parts)?;
+    let told =
+        "task 1 was placed on processor 0, which was never drained after\nlines bad or refused: 4\n";
+    notes(&rt, rt.alloc(), "timehist", FAULTY, told)?;
+    let told = "line 2: tick takes 2 words after it\nlines bad or refused: 1\n";
+    notes(&rt, rt.alloc(), "csv", "machine cfs 1\ntick 0\n", told)
 }
 
 /// Bad lines, and why.
@@ -151,21 +163,33 @@ fn bad_lines_say_why(rt: HostRuntime) -> Result<(), Fail> {
     Ok(())
 }
 
+/// Lengths of time in nanoseconds.
+const TIMES: [(&str, Option<u64>); 8] = [
+    ("1500", Some(1500)),
+    ("1.5ms", Some(1_500_000)),
+    ("2s", Some(2_000_000_000)),
+    ("0.0015us", Some(1)),
+    ("1.", None),
+    ("ms", None),
+    ("1 ms", None),
+    ("99999999999s", None),
+];
+
 #[test]
-fn words_are_numbers(rt: HostRuntime) -> Result<(), Fail> {
-    assert!(rt; time("1500") == Some(1500));
-    assert!(rt; time("1.5ms") == Some(1_500_000));
-    assert!(rt; time("2s") == Some(2_000_000_000));
-    assert!(rt; time("0.0015us") == Some(1));
-    assert!(rt; time("1.").is_none());
-    assert!(rt; time("ms").is_none());
-    assert!(rt; time("1 ms").is_none());
-    assert!(rt; time("99999999999s").is_none());
-    assert!(rt; processors("0-3,8") == Some(271));
-    assert!(rt; processors("64").is_none());
-    assert!(rt; processors("0-").is_none());
-    assert!(rt; width("80") == Some(80));
-    assert!(rt; width("8").is_none());
+fn words_are_times(rt: HostRuntime) {
+    for (word, nanoseconds) in TIMES {
+        assert!(rt; time(word) == nanoseconds, "{word}");
+    }
+}
+
+#[test]
+fn words_are_sets_and_widths(rt: HostRuntime) -> Result<(), Fail> {
+    for (word, set) in [("0-3,8", Some(271)), ("64", None), ("0-", None)] {
+        assert!(rt; processors(word) == set, "{word}");
+    }
+    for (word, columns) in [("80", Some(80)), ("8", None)] {
+        assert!(rt; width(word) == columns, "{word}");
+    }
     let Some(named) = tasks(rt.alloc(), "1,4")? else {
         return Err(Fail::from("tasks were refused"));
     };
@@ -185,44 +209,24 @@ const POLICIES: &str = concat!(
 fn what_policies_answered_is_shown(rt: HostRuntime) -> Result<(), Fail> {
     let (text, _, clean) = shown(rt.alloc(), "why", None, POLICIES)?;
     assert!(rt; clean, "{text}");
-    assert!(rt;
-        text.as_str().contains(
-            "    1 runs: policy's answer 200 is not permitted (2 steps); 1.000 ms ahead of 2, and gives way only beyond 1.000 ms\n"
-        ),
-        "{text}"
-    );
-    assert!(rt;
-        text.as_str()
-            .contains("    2 runs: policy at preempt answered 1 (2 steps)\n"),
-        "{text}"
-    );
-    assert!(rt;
-        text.as_str().contains(
-            "    2 is placed on 0: policy's answer 7 is not permitted (2 steps); the least load in its mask"
-        ),
-        "{text}"
-    );
-    Ok(())
+    let parts = [
+        "    1 runs: policy's answer 200 is not permitted (2 steps); 1.000 ms ahead of 2, and gives way only beyond 1.000 ms\n",
+        "    2 runs: policy at preempt answered 1 (2 steps)\n",
+        "    2 is placed on 0: policy's answer 7 is not permitted (2 steps); the least load in its mask",
+    ];
+    has(&rt, rt.alloc(), "why", POLICIES, &parts)
 }
 
 /// Under CFS 1 runs for 2 ms while 2 waits, by two charges: the second takes it as far as it may. Under EEVDF `short` runs for 1 ms,
 /// which takes it 0.5 ms beyond the mean; `long` comes up to the mean after it. A policy that answers decides for the rule.
 #[test]
 fn bounds_stand_below_a_report(rt: HostRuntime) -> Result<(), Fail> {
-    let (text, _, _) = shown(rt.alloc(), "report", None, CFS)?;
-    assert!(rt;
-        text.as_str().ends_with(concat!(
-            "\n  cpu law                 charges left out  greatest ms   at most ms   of it\n",
-            "    0 beyond the least          2        0        2.000        2.000  100.00 %\n",
-        ),),
-        "{text}"
+    let under_cfs = concat!(
+        "\n  cpu law                 charges left out  greatest ms   at most ms   of it\n",
+        "    0 beyond the least          2        0        2.000        2.000  100.00 %\n",
     );
-    let (text, _, _) = shown(rt.alloc(), "report", None, EEVDF)?;
-    assert!(rt;
-        text.as_str().ends_with(
-            "    0 ahead of the mean         2        0        0.500        1.000   50.00 %\n"
-        ),
-        "{text}"
-    );
-    Ok(())
+    ends(&rt, rt.alloc(), "report", CFS, under_cfs)?;
+    let under_eevdf =
+        "    0 ahead of the mean         2        0        0.500        1.000   50.00 %\n";
+    ends(&rt, rt.alloc(), "report", EEVDF, under_eevdf)
 }

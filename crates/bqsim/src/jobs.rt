@@ -1,9 +1,9 @@
 //! The jobs of bq_cli: `asm`, `check`, `dis`, `par` and `replay`.
 
+use crate::inputs::standard_input;
 use bq_cli::asked::Job;
 use bq_cli::{Counted, exit_status, perform};
 use bq_complaints::complaint;
-use bq_policy_desk::input_bytes;
 use std::io::{IsTerminal, Read};
 use std::process::ExitCode;
 use std::sync::Wait;
@@ -44,7 +44,7 @@ fn work_on<T: Threads + Wait + Sync, R: Read + Drop>(
 
 /// Assembles standard input, and says beside the answer what is wrong with it.
 fn assemble<T: Threads + Wait + Sync>(rt: &HostRuntime, threads: &T, job: &Job) -> ExitCode {
-    let text = match input_bytes(rt) {
+    let text = match standard_input(rt) {
         Ok(text) => text,
         Err(code) => return code,
     };

@@ -1,6 +1,6 @@
 //! `bqsim timeline`.
 
-use crate::inputs::{UNREADABLE, file_named};
+use crate::inputs::{file_named, unread};
 use crate::outputs::out_of_memory;
 use bq_cli::status::REFUSED;
 use bq_cli::{Counted, exit_status};
@@ -22,10 +22,7 @@ pub(crate) fn timeline(rt: &HostRuntime, words: &Words) -> ExitCode {
     match file_named(&words.file) {
         Some(path) => match fs::open(rt, path) {
             Ok(file) => show_from(rt, settings, file),
-            Err(error) => {
-                let _ = eprintln!(rt; "bqsim: {path}: {error}");
-                ExitCode::from(UNREADABLE)
-            }
+            Err(error) => unread(rt, path, &error),
         },
         None => show_from(rt, settings, rt.stdin()),
     }
