@@ -1,14 +1,11 @@
--- What words ask of a policy.
+-- The words of a command, as clap found them.
 use Rattle.std.specs.Prelude.{◌≡◌, ◌↔◌, ℕ, Bool, IsTrue, List, Some, codes}
-use Rattle.clap.specs.Words.{Row, Text, first_of, subcommand_of}
+use Rattle.clap.specs.Words.{Row, Text, first_of}
 use Rattle.bq_policy_commands.specs.Saying.{option_bytes}
 use Rattle.bq_policy_commands.specs.declared.words.CheckWords.{CheckWords}
 use Rattle.bq_policy_commands.specs.declared.words.ListWords.{ListWords}
 use Rattle.bq_policy_commands.specs.declared.words.PolicyWords.{PolicyWords}
 use Rattle.bq_policy_commands.specs.declared.words.RunWords.{RunWords}
-use Rattle.bq_policy_desk.specs.declared.asking.Asked.{Asked}
-use Rattle.bq_policy_desk.specs.declared.asking.Asked.TheVariants as asked
-use Rattle.bq_policy_desk.specs.Program.{program}
 
 -- a flag that stands among the words
 abbrev pub IsSet : Text → List Row → Bool → Type 0
@@ -37,10 +34,3 @@ pub record AreRunWords (rows : List Row) (w : RunWords) : Type 0 where
 pub record AreListWords (rows : List Row) (w : ListWords) : Type 0 where
   pub policy : ArePolicyWords rows w.policy
   pub slots : IsSet (codes "slots") rows w.has_slots
-
--- the command and its options are those that clap finds in the words; else a text tells why there is none
-abbrev pub IsAsked : List Text → Asked → Type 0
-IsAsked words (asked.Text text) = Unit {0}
-IsAsked words (asked.Check w) = (rows : List Row) × (subcommand_of program words ≡ Some (codes "check", rows)) × AreCheckWords rows w
-IsAsked words (asked.Run w) = (rows : List Row) × (subcommand_of program words ≡ Some (codes "run", rows)) × AreRunWords rows w
-IsAsked words (asked.List w) = (rows : List Row) × (subcommand_of program words ≡ Some (codes "dis", rows)) × AreListWords rows w

@@ -1,4 +1,2 @@
 pub mod Asked
-pub mod Program
-pub mod Requests
 pub mod Status

@@ -1,7 +1,7 @@
 //! What words ask of a policy.
-ghost use Rattle.std.specs.Prelude.{IfOk, map};
+ghost use Rattle.std.specs.Prelude.{IfOk};
 ghost use Rattle.clap.specs.Words.{found_of, rows_of};
-ghost use Rattle.bq_policy_desk.specs.Asked.{AreCheckWords, AreListWords, ArePolicyWords, AreRunWords, IsAsked};
+ghost use Rattle.bq_policy_desk.specs.Asked.{AreCheckWords, AreListWords, ArePolicyWords, AreRunWords};
 
 use crate::commands::program;
 use crate::found::{is_set, list, word};
@@ -11,8 +11,8 @@ use clap::error::ErrorKind;
 use std::alloc::{AllocError, Global};
 
 /// What words ask of a policy.
-#[derive(Debug, Drop)]
-pub enum Asked {
+#[derive(Drop)]
+pub(crate) enum Asked {
     Check(CheckWords),
     Run(RunWords),
     List(ListWords),
@@ -21,9 +21,7 @@ pub enum Asked {
 }
 
 /// Reads the words after the program's name.
-pub fn asked<'a>(alloc: Global, words: &'a [&'a str]) -> Result<Asked, AllocError>
-    ensures { IfOk result (IsAsked (map (λ w. w.now) words.entry.now)) }
-{
+pub(crate) fn read_words<'a>(alloc: Global, words: &'a [&'a str]) -> Result<Asked, AllocError> {
     let command = program(alloc)?;
     let matches = match command.try_get_matches_from(words) {
         Ok(matches) => matches,

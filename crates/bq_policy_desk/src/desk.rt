@@ -1,11 +1,11 @@
 //! What is done for a request: its file read, its answer written.
 use crate::asking::Asked;
 use crate::request::PolicyRequest;
-use crate::status::{UNREADABLE, exit_status};
+use crate::status::{OUT_OF_MEMORY, UNREADABLE, exit_status};
 use bq_policy_commands::{Answered, PolicyWords, check, list, run};
 use std::alloc::{AllocError, Global};
 use std::fs;
-use std::io::{IsTerminal, Read, Write};
+use std::io::{Error, ErrorKind, IsTerminal, Read, Write};
 use std::process::ExitCode;
 
 /// Does what is asked of the policy.
@@ -39,23 +39,17 @@ fn answer(alloc: Global, asked: &Asked, bytes: &[u8]) -> Result<Answered, AllocE
 
 /// The bytes of the file that the words name, or of standard input.
 fn policy_bytes(rt: &HostRuntime, words: &PolicyWords) -> Result<Vec<u8>, ExitCode> {
-    let Some(path) = &words.file else {
-        return input_bytes(rt);
-    };
-    if path.as_str() == "-" {
-        return input_bytes(rt);
-    }
-    match fs::read(rt, path.as_str()) {
-        Ok(bytes) => Ok(bytes),
-        Err(error) => {
-            let _ = eprintln!(rt; "bqsim: {path}: a read failed: {error}");
-            Err(ExitCode::from(UNREADABLE))
+    match &words.file {
+        Some(path) if path.as_str() != "-" => {
+            let path = path.as_str();
+            fs::read(rt, path).map_err(|error| unread(rt, path, &error))
         }
+        _ => input_bytes(rt),
     }
 }
 
 /// All bytes of standard input. On a terminal it says that it waits.
-pub fn input_bytes(rt: &HostRuntime) -> Result<Vec<u8>, ExitCode> {
+fn input_bytes(rt: &HostRuntime) -> Result<Vec<u8>, ExitCode> {
     let mut input = rt.stdin();
     if input.is_terminal() {
         let _ = eprintln!(rt; "bqsim: waiting for standard input; Ctrl-D ends it");
@@ -63,11 +57,18 @@ pub fn input_bytes(rt: &HostRuntime) -> Result<Vec<u8>, ExitCode> {
     let mut bytes = Vec::new(rt.alloc());
     match input.read_to_end(&mut bytes) {
         Ok(_) => Ok(bytes),
-        Err(error) => {
-            let _ = eprintln!(rt; "bqsim: a read failed: {error}");
-            Err(ExitCode::from(UNREADABLE))
-        }
+        Err(error) => Err(unread(rt, "standard input", &error)),
     }
+}
+
+/// Says why a read failed.
+fn unread(rt: &HostRuntime, name: &str, error: &Error) -> ExitCode {
+    if error.kind() == ErrorKind::OutOfMemory {
+        let _ = eprintln!(rt; "bqsim: out of memory");
+        return ExitCode::from(OUT_OF_MEMORY);
+    }
+    let _ = eprintln!(rt; "bqsim: {name}: {error}");
+    ExitCode::from(UNREADABLE)
 }
 
 /// Writes the answer: on standard output what was done and what is refused, on standard error what is wrong with the words.

@@ -1,7 +1,8 @@
 //! `check`, `run` and `dis` of a policy's file: from the words and the file to the answer on standard output.
 //!
-//! What the words ask for is what clap finds in them, and what is answered is the answer of `bq_policy_commands` to the bytes
-//! that were read. `check` and `dis` without a word more are not taken here: they answer the hex on standard input as ever.
+//! The words of a command are by contract the values that clap found for its options, and what is answered is the answer of
+//! `bq_policy_commands` to the bytes that were read. `check` and `dis` without a word more are not taken here: they answer the
+//! hex on standard input as ever.
 #![tactic(auto)]
 
 mod asking;
@@ -11,8 +12,6 @@ mod found;
 mod request;
 mod status;
 
-pub use asking::{Asked, asked};
-pub use commands::program;
-pub use desk::{do_policy, input_bytes};
+pub use desk::do_policy;
 pub use request::{PolicyRequest, policy_request};
 pub use status::exit_status;

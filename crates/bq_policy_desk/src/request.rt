@@ -1,8 +1,6 @@
 //! Which words are for this desk.
-ghost use Rattle.std.specs.Prelude.{◌≡◌, IfOk, map, is_some};
-ghost use Rattle.bq_policy_desk.specs.Requests.{is_request};
 
-use crate::asking::{Asked, asked};
+use crate::asking::{Asked, read_words};
 use std::alloc::{AllocError, Global};
 
 /// What is asked of a policy.
@@ -15,21 +13,17 @@ pub struct PolicyRequest {
 pub fn policy_request<'a>(
     alloc: Global,
     words: &'a [&'a str],
-) -> Result<Option<PolicyRequest>, AllocError>
-    ensures { IfOk result (λ request. is_some request ≡ is_request (map (λ w. w.now) words.entry.now)) }
-{
+) -> Result<Option<PolicyRequest>, AllocError> {
     if !is_request(words) {
         return Ok(None);
     }
     Ok(Some(PolicyRequest {
-        asked: asked(alloc, words)?,
+        asked: read_words(alloc, words)?,
     }))
 }
 
 /// Whether the words are for this desk.
-fn is_request(words: &[&str]) -> bool
-    ensures { result ≡ is_request (map (λ w. w.now) words.now) }
-{
+fn is_request(words: &[&str]) -> bool {
     match words {
         ["run", ..] | ["check", _, ..] | ["dis", _, ..] => true,
         ["help", "run" | "check" | "dis"] => true,

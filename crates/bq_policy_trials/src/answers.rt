@@ -1,6 +1,8 @@
 // Files, words and answers. The numbers were counted by hand.
 
-use bq_policy_commands::{Answered, CheckWords, ListWords, PolicyWords, RunWords, check, list, run};
+use bq_policy_commands::{
+    Answered, CheckWords, ListWords, PolicyWords, RunWords, check, list, run,
+};
 use std::alloc::{AllocError, Global};
 use std::test::Fail;
 
@@ -8,8 +10,7 @@ use std::test::Fail;
 const KEEP_HOME: &str = ";@ hook place\nldxw r0, [r1+28]\nexit\n";
 
 /// Adds 1 to counter 0, and answers 1.
-const COUNTS: &str =
-    ";@ hook preempt\nmov64 r1, 0\nmov64 r2, 1\ncall 100\nmov64 r0, 1\nexit\n";
+const COUNTS: &str = ";@ hook preempt\nmov64 r1, 0\nmov64 r2, 1\ncall 100\nmov64 r0, 1\nexit\n";
 
 /// Adds the processor to the first byte of entry 1 of map 0, and answers 0.
 const KEEPS: &str =
@@ -51,7 +52,14 @@ fn told(alloc: Global, answer: Answered) -> Result<String, AllocError> {
 /// The policy, the words for hook, limit of steps, helpers, a letter for the form, and what is told.
 const CHECKED: [(&str, &str, &str, &str, &str, &str); 11] = [
     (KEEP_HOME, "", "", "", "", "D accepted place budget 2\n"),
-    (KEEP_HOME, "place", "2", "", "", "D accepted place budget 2\n"),
+    (
+        KEEP_HOME,
+        "place",
+        "2",
+        "",
+        "",
+        "D accepted place budget 2\n",
+    ),
     (KEEP_HOME, "", "1", "", "", "R refused limit steps 2 of 1\n"),
     (KEEP_HOME, "pull", "", "", "", "R refused hook\n"),
     (
@@ -70,7 +78,14 @@ const CHECKED: [(&str, &str, &str, &str, &str, &str); 11] = [
         "",
         "W --hook Place: there is no such hook; hooks are place, preempt and pull",
     ),
-    (COUNTS, "", "", "1,2,5,8", "", "R refused limit helper 100\n"),
+    (
+        COUNTS,
+        "",
+        "",
+        "1,2,5,8",
+        "",
+        "R refused limit helper 100\n",
+    ),
     (COUNTS, "", "", "100", "", "D accepted preempt budget 5\n"),
     (
         "mov r0, 1\nexit\n",
@@ -186,6 +201,9 @@ fn listings_are_policies_again(rt: HostRuntime) -> Result<(), Fail> {
         has_slots: false,
     };
     let answer = told(alloc, list(alloc, &words, KEEP_HOME.as_bytes())?)?;
-    assert_eq!(rt; answer.as_str(), "D ;@ hook place\nldxw r0, [r1+28]\nexit\n");
+    assert_eq!(rt;
+        answer.as_str(),
+        "D ;@ hook place\nldxw r0, [r1+28]\nexit\n"
+    );
     Ok(())
 }
