@@ -1,67 +1,55 @@
-//! From the words after `check` to the answer on standard output.
-
-use bq_explain::{Limits, explain};
-use bq_policy_files::{Head, PolicyFault, read_policy};
+//! What is done for a request: its file read, its answer written.
+use crate::asking::Asked;
+use crate::request::PolicyRequest;
+use crate::status::{OUT_OF_MEMORY, UNREADABLE, exit_status};
+use bq_policy_commands::{Answered, PolicyWords, check, list, run};
 use std::alloc::{AllocError, Global};
 use std::fs;
-use std::io::{IsTerminal, Read, Write};
+use std::io::{Error, ErrorKind, IsTerminal, Read, Write};
 use std::process::ExitCode;
-
-/// The exit status where memory was wanted.
-const OUT_OF_MEMORY: u8 = 3;
-
-/// The exit status where a file can't be read, or the answer not be written.
-const UNREADABLE: u8 = 4;
-
-/// A policy that is to be explained: the path of its file.
-#[derive(Drop)]
-pub struct PolicyRequest {
-    path: String,
-}
-
-/// What the words ask for, if they are `check --explain FILE`.
-pub fn policy_request(alloc: Global, words: &[&str]) -> Result<Option<PolicyRequest>, AllocError> {
-    match words {
-        ["check", "--explain", path] => Ok(Some(PolicyRequest {
-            path: String::from_str(alloc, path)?,
-        })),
-        _ => Ok(None),
-    }
-}
 
 /// Does what is asked of the policy.
 pub fn do_policy(rt: &HostRuntime, request: &PolicyRequest) -> ExitCode {
-    let path = request.path.as_str();
-    let bytes = match fs::read(rt, path) {
-        Ok(bytes) => bytes,
-        Err(error) => {
-            let _ = eprintln!(rt; "bqsim: {path}: a read failed: {error}");
-            return ExitCode::from(UNREADABLE);
+    let words = match &request.asked {
+        Asked::Check(words) => &words.policy,
+        Asked::Run(words) => &words.policy,
+        Asked::List(words) => &words.policy,
+        Asked::Text(text) => {
+            let _ = eprint!(rt; "{text}");
+            return ExitCode::from(2);
         }
     };
-    match answer(rt.alloc(), bytes.as_slice()) {
-        Ok((text, accepted)) => told(rt, text.as_str(), accepted),
-        Err(_) => {
-            let _ = eprintln!(rt; "bqsim: out of memory");
-            ExitCode::from(OUT_OF_MEMORY)
-        }
+    let bytes = match policy_bytes(rt, words) {
+        Ok(bytes) => bytes,
+        Err(code) => return code,
+    };
+    let answer = answer(rt.alloc(), &request.asked, bytes.as_slice());
+    written(rt, &answer)
+}
+
+/// The answer to the bytes of a policy's file.
+fn answer(alloc: Global, asked: &Asked, bytes: &[u8]) -> Result<Answered, AllocError> {
+    match asked {
+        Asked::Check(words) => check(alloc, words, bytes),
+        Asked::Run(words) => run(alloc, words, bytes),
+        Asked::List(words) => list(alloc, words, bytes),
+        Asked::Text(text) => Ok(Answered::Words(String::from_str(alloc, text.as_str())?)),
     }
 }
 
-/// The explanation of the policy whose file has these bytes, and whether it is accepted.
-fn answer(alloc: Global, bytes: &[u8]) -> Result<(String, bool), AllocError> {
-    match read_policy(alloc, bytes, &Head::nothing()) {
-        Ok(policy) => {
-            let explained = explain(alloc, &policy, &Limits::none())?;
-            Ok((explained.text, explained.accepted))
+/// The bytes of the file that the words name, or of standard input.
+fn policy_bytes(rt: &HostRuntime, words: &PolicyWords) -> Result<Vec<u8>, ExitCode> {
+    match &words.file {
+        Some(path) if path.as_str() != "-" => {
+            let path = path.as_str();
+            fs::read(rt, path).map_err(|error| unread(rt, path, &error))
         }
-        Err(PolicyFault::OutOfMemory) => Err(AllocError),
-        Err(fault) => Ok((format!(in alloc; "refused: {fault}\n")?, false)),
+        _ => input_bytes(rt),
     }
 }
 
 /// All bytes of standard input. On a terminal it says that it waits.
-pub fn input_bytes(rt: &HostRuntime) -> Result<Vec<u8>, ExitCode> {
+fn input_bytes(rt: &HostRuntime) -> Result<Vec<u8>, ExitCode> {
     let mut input = rt.stdin();
     if input.is_terminal() {
         let _ = eprintln!(rt; "bqsim: waiting for standard input; Ctrl-D ends it");
@@ -69,19 +57,36 @@ pub fn input_bytes(rt: &HostRuntime) -> Result<Vec<u8>, ExitCode> {
     let mut bytes = Vec::new(rt.alloc());
     match input.read_to_end(&mut bytes) {
         Ok(_) => Ok(bytes),
-        Err(error) => {
-            let _ = eprintln!(rt; "bqsim: a read failed: {error}");
-            Err(ExitCode::from(UNREADABLE))
-        }
+        Err(error) => Err(unread(rt, "standard input", &error)),
     }
 }
 
-/// Writes the answer; the exit status is 1 where it refuses.
-fn told(rt: &HostRuntime, text: &str, accepted: bool) -> ExitCode {
-    let mut output = rt.stdout();
-    if output.write_all(text.as_bytes()).is_err() {
-        let _ = eprintln!(rt; "bqsim: a write failed");
-        return ExitCode::from(UNREADABLE);
+/// Says why a read failed.
+fn unread(rt: &HostRuntime, name: &str, error: &Error) -> ExitCode {
+    if error.kind() == ErrorKind::OutOfMemory {
+        let _ = eprintln!(rt; "bqsim: out of memory");
+        return ExitCode::from(OUT_OF_MEMORY);
     }
-    ExitCode::from(if accepted { 0 } else { 1 })
+    let _ = eprintln!(rt; "bqsim: {name}: {error}");
+    ExitCode::from(UNREADABLE)
+}
+
+/// Writes the answer: on standard output what was done and what is refused, on standard error what is wrong with the words.
+fn written(rt: &HostRuntime, answer: &Result<Answered, AllocError>) -> ExitCode {
+    match answer {
+        Ok(Answered::Done(text) | Answered::Refused(text)) => {
+            let mut output = rt.stdout();
+            if output.write_all(text.as_bytes()).is_err() {
+                let _ = eprintln!(rt; "bqsim: a write failed");
+                return ExitCode::from(UNREADABLE);
+            }
+        }
+        Ok(Answered::Words(why)) => {
+            let _ = eprintln!(rt; "error: {why}");
+        }
+        Err(_) => {
+            let _ = eprintln!(rt; "bqsim: out of memory");
+        }
+    }
+    ExitCode::from(exit_status(answer))
 }

@@ -1,0 +1,36 @@
+-- The words of a command, as clap found them.
+use Rattle.std.specs.Prelude.{◌≡◌, ◌↔◌, ℕ, Bool, IsTrue, List, Some, codes}
+use Rattle.clap.specs.Words.{Row, Text, first_of}
+use Rattle.bq_policy_commands.specs.Saying.{option_bytes}
+use Rattle.bq_policy_commands.specs.declared.words.CheckWords.{CheckWords}
+use Rattle.bq_policy_commands.specs.declared.words.ListWords.{ListWords}
+use Rattle.bq_policy_commands.specs.declared.words.PolicyWords.{PolicyWords}
+use Rattle.bq_policy_commands.specs.declared.words.RunWords.{RunWords}
+
+-- a flag that stands among the words
+abbrev pub IsSet : Text → List Row → Bool → Type 0
+IsSet flag rows set = IsTrue set ↔ (first_of flag rows ≡ Some (codes "true"))
+
+-- the values that were found
+pub record ArePolicyWords (rows : List Row) (w : PolicyWords) : Type 0 where
+  pub file : option_bytes w.file ≡ first_of (codes "file") rows
+  pub hook : option_bytes w.hook ≡ first_of (codes "hook") rows
+  pub maps : option_bytes w.maps ≡ first_of (codes "maps") rows
+  pub format : option_bytes w.format ≡ first_of (codes "format") rows
+
+pub record AreCheckWords (rows : List Row) (w : CheckWords) : Type 0 where
+  pub policy : ArePolicyWords rows w.policy
+  pub explained : IsSet (codes "explain") rows w.is_explained
+  pub json : IsSet (codes "json") rows w.is_json
+  pub steps : option_bytes w.max_steps ≡ first_of (codes "max-steps") rows
+  pub helpers : option_bytes w.helpers ≡ first_of (codes "helpers") rows
+
+pub record AreRunWords (rows : List Row) (w : RunWords) : Type 0 where
+  pub policy : ArePolicyWords rows w.policy
+  pub context : option_bytes w.context ≡ first_of (codes "ctx") rows
+  pub time : option_bytes w.time ≡ first_of (codes "time") rows
+  pub processor : option_bytes w.processor ≡ first_of (codes "processor") rows
+
+pub record AreListWords (rows : List Row) (w : ListWords) : Type 0 where
+  pub policy : ArePolicyWords rows w.policy
+  pub slots : IsSet (codes "slots") rows w.has_slots

@@ -1,0 +1,11 @@
+-- The exit statuses.
+use Rattle.std.specs.Prelude.{ℕ, Result, Ok, Err}
+use Rattle.std.specs.declared.alloc.AllocError.{AllocError}
+use Rattle.bq_policy_commands.specs.declared.answered.Answered.{Answered}
+use Rattle.bq_policy_commands.specs.declared.answered.Answered.TheVariants.{Done, Refused, Words}
+
+abbrev pub status_of : Result Answered AllocError → ℕ
+status_of (Ok (Done text)) = 0
+status_of (Ok (Refused text)) = 1
+status_of (Ok (Words text)) = 2
+status_of (Err e) = 3

@@ -1,0 +1,110 @@
+//! What words ask of a policy.
+ghost use Rattle.std.specs.Prelude.{IfOk};
+ghost use Rattle.clap.specs.Words.{found_of, rows_of};
+ghost use Rattle.bq_policy_desk.specs.Asked.{AreCheckWords, AreListWords, ArePolicyWords, AreRunWords};
+
+use crate::commands::program;
+use crate::found::{is_set, list, word};
+use bq_policy_commands::{CheckWords, ListWords, PolicyWords, RunWords};
+use clap::ArgMatches;
+use clap::error::ErrorKind;
+use std::alloc::{AllocError, Global};
+
+/// What words ask of a policy.
+#[derive(Drop)]
+pub(crate) enum Asked {
+    Check(CheckWords),
+    Run(RunWords),
+    List(ListWords),
+    /// The words are refused, or they ask for help: the text that says so.
+    Text(String),
+}
+
+/// Reads the words after the program's name.
+pub(crate) fn read_words<'a>(alloc: Global, words: &'a [&'a str]) -> Result<Asked, AllocError> {
+    let command = program(alloc)?;
+    let matches = match command.try_get_matches_from(words) {
+        Ok(matches) => matches,
+        Err(error) => return Ok(Asked::Text(refusal(alloc, &error)?)),
+    };
+    if let Some(matches) = matches.subcommand_matches("check") {
+        return Ok(Asked::Check(check_words(alloc, matches)?));
+    }
+    if let Some(matches) = matches.subcommand_matches("run") {
+        return Ok(Asked::Run(run_words(alloc, matches)?));
+    }
+    if let Some(matches) = matches.subcommand_matches("dis") {
+        return Ok(Asked::List(list_words(alloc, matches)?));
+    }
+    Ok(Asked::Text(String::from_str(alloc, "error: a command is needed: check, run or dis\n")?))
+}
+
+/// The text of words that clap refuses.
+fn refusal(alloc: Global, error: &clap::Error) -> Result<String, AllocError> {
+    if error.kind() == ErrorKind::OutOfMemory {
+        return Err(AllocError);
+    }
+    error.to_string(alloc)
+}
+
+/// The words that name a policy.
+fn policy_words(alloc: Global, matches: &ArgMatches<'_>) -> Result<PolicyWords, AllocError>
+    ensures { IfOk result (ArePolicyWords (rows_of (found_of matches.now))) }
+{
+    let file = word(alloc, matches, "file")?;
+    let hook = word(alloc, matches, "hook")?;
+    let maps = word(alloc, matches, "maps")?;
+    let format = word(alloc, matches, "format")?;
+    Ok(PolicyWords {
+        file,
+        hook,
+        maps,
+        format,
+    })
+}
+
+fn check_words(alloc: Global, matches: &ArgMatches<'_>) -> Result<CheckWords, AllocError>
+    ensures { IfOk result (AreCheckWords (rows_of (found_of matches.now))) }
+{
+    let policy = policy_words(alloc, matches)?;
+    let max_steps = word(alloc, matches, "max-steps")?;
+    let helpers = word(alloc, matches, "helpers")?;
+    Ok(CheckWords {
+        policy,
+        is_explained: is_set(matches, "explain"),
+        is_json: is_set(matches, "json"),
+        max_steps,
+        helpers,
+    })
+}
+
+fn run_words(alloc: Global, matches: &ArgMatches<'_>) -> Result<RunWords, AllocError>
+    ensures { IfOk result (AreRunWords (rows_of (found_of matches.now))) }
+{
+    let policy = policy_words(alloc, matches)?;
+    let context = word(alloc, matches, "ctx")?;
+    let fields = list(alloc, matches, "set")?;
+    let entries = list(alloc, matches, "map")?;
+    let counters = list(alloc, matches, "counter")?;
+    let time = word(alloc, matches, "time")?;
+    let processor = word(alloc, matches, "processor")?;
+    Ok(RunWords {
+        policy,
+        context,
+        fields,
+        entries,
+        counters,
+        time,
+        processor,
+    })
+}
+
+fn list_words(alloc: Global, matches: &ArgMatches<'_>) -> Result<ListWords, AllocError>
+    ensures { IfOk result (AreListWords (rows_of (found_of matches.now))) }
+{
+    let policy = policy_words(alloc, matches)?;
+    Ok(ListWords {
+        policy,
+        has_slots: is_set(matches, "slots"),
+    })
+}

@@ -1,0 +1,54 @@
+//! What clap found for an option.
+ghost use Rattle.std.specs.Prelude.{◌≡◌, ◌↔◌, ℕ, List, IsTrue, Some, IfOk, codes, option_map, string_bytes};
+ghost use Rattle.std.specs.Borrow.{Bor};
+ghost use Rattle.clap.specs.Words.{first_of, found_of, rows_of};
+ghost use Rattle.bq_policy_commands.specs.Saying.{option_bytes};
+
+use clap::ArgMatches;
+use std::alloc::{AllocError, Global};
+
+/// The first value of an option, if it has one.
+fn value<'a>(matches: &ArgMatches<'a>, option: &str) -> Option<&'a str>
+    ensures { option_map (λ (w : Bor (List ℕ)). w.now) result ≡ first_of option.now (rows_of (found_of matches.now)) }
+{
+    matches.get_str(option)
+}
+
+/// A text of its own with an option's value, if it has one.
+pub(crate) fn word(
+    alloc: Global,
+    matches: &ArgMatches<'_>,
+    option: &str,
+) -> Result<Option<String>, AllocError>
+    ensures { IfOk result (λ text. option_bytes text ≡ first_of option.now (rows_of (found_of matches.now))) }
+{
+    match value(matches, option) {
+        None => Ok(None),
+        Some(word) => Ok(Some(String::from_str(alloc, word)?)),
+    }
+}
+
+/// Whether a flag stands among the words.
+pub(crate) fn is_set(matches: &ArgMatches<'_>, flag: &str) -> bool
+    ensures { IsTrue result ↔ (first_of flag.now (rows_of (found_of matches.now)) ≡ Some (codes "true")) }
+{
+    match value(matches, flag) {
+        Some(word) => word == "true",
+        None => false,
+    }
+}
+
+/// Texts of their own with the values of an option that may stand several times.
+pub(crate) fn list(
+    alloc: Global,
+    matches: &ArgMatches<'_>,
+    option: &str,
+) -> Result<Vec<String>, AllocError> {
+    let mut list = Vec::new(alloc);
+    if let Some(words) = matches.get_strs(option) {
+        for word in words {
+            list.push(String::from_str(alloc, *word)?)?;
+        }
+    }
+    Ok(list)
+}

@@ -1,0 +1,24 @@
+//! How a command on a policy ends.
+ghost use Rattle.std.specs.Prelude.{◌≡◌};
+ghost use Rattle.bq_policy_desk.specs.Status.{status_of};
+
+use bq_policy_commands::Answered;
+use std::alloc::AllocError;
+
+/// The exit status where memory was wanted.
+pub(crate) const OUT_OF_MEMORY: u8 = 3;
+
+/// The exit status where a file can't be read, or the answer not be written.
+pub(crate) const UNREADABLE: u8 = 4;
+
+/// The exit status of an answer: 0 where it is done, 1 where the policy is refused, 2 where the words are, 3 where memory was wanted.
+pub fn exit_status(answer: &Result<Answered, AllocError>) -> u8
+    ensures { result ≡ status_of answer.now }
+{
+    match answer {
+        Ok(Answered::Done(_)) => 0,
+        Ok(Answered::Refused(_)) => 1,
+        Ok(Answered::Words(_)) => 2,
+        Err(_) => OUT_OF_MEMORY,
+    }
+}

@@ -1,0 +1,209 @@
+// Files, words and answers. The numbers were counted by hand.
+
+use bq_policy_commands::{
+    Answered, CheckWords, ListWords, PolicyWords, RunWords, check, list, run,
+};
+use std::alloc::{AllocError, Global};
+use std::test::Fail;
+
+/// The policy that answers the processor which the task last left.
+const KEEP_HOME: &str = ";@ hook place\nldxw r0, [r1+28]\nexit\n";
+
+/// Adds 1 to counter 0, and answers 1.
+const COUNTS: &str = ";@ hook preempt\nmov64 r1, 0\nmov64 r2, 1\ncall 100\nmov64 r0, 1\nexit\n";
+
+/// Adds the processor to the first byte of entry 1 of map 0, and answers 0.
+const KEEPS: &str =
+    ";@ hook preempt\n;@ maps 8:2\ncall 8\nmov64 r6, r0\nstw [r10-4], 1\nldmap r1, 0\nmov64 r2, r10\nadd64 r2, -4\ncall 1\njeq64 r0, 0, end\nstxb [r0+0], r6\nend:\nmov64 r0, 0\nexit\n";
+
+fn text_of(alloc: Global, word: &str) -> Result<Option<String>, AllocError> {
+    if word.is_empty() {
+        return Ok(None);
+    }
+    Ok(Some(String::from_str(alloc, word)?))
+}
+
+fn words_of(alloc: Global, word: &str) -> Result<Vec<String>, AllocError> {
+    let mut words = Vec::new(alloc);
+    if let Some(word) = text_of(alloc, word)? {
+        words.push(word)?;
+    }
+    Ok(words)
+}
+
+fn policy_words(alloc: Global, file: &str, hook: &str) -> Result<PolicyWords, AllocError> {
+    Ok(PolicyWords {
+        file: text_of(alloc, file)?,
+        hook: text_of(alloc, hook)?,
+        maps: None,
+        format: None,
+    })
+}
+
+/// The text of an answer, after a letter that tells its kind.
+fn told(alloc: Global, answer: Answered) -> Result<String, AllocError> {
+    match answer {
+        Answered::Done(text) => format!(in alloc; "D {text}"),
+        Answered::Refused(text) => format!(in alloc; "R {text}"),
+        Answered::Words(text) => format!(in alloc; "W {text}"),
+    }
+}
+
+/// The policy, the words for hook, limit of steps, helpers, a letter for the form, and what is told.
+const CHECKED: [(&str, &str, &str, &str, &str, &str); 11] = [
+    (KEEP_HOME, "", "", "", "", "D accepted place budget 2\n"),
+    (
+        KEEP_HOME,
+        "place",
+        "2",
+        "",
+        "",
+        "D accepted place budget 2\n",
+    ),
+    (KEEP_HOME, "", "1", "", "", "R refused limit steps 2 of 1\n"),
+    (KEEP_HOME, "pull", "", "", "", "R refused hook\n"),
+    (
+        KEEP_HOME,
+        "pull",
+        "",
+        "",
+        "e",
+        "R refused hook\np.s: --hook says another hook than the file\n",
+    ),
+    (
+        KEEP_HOME,
+        "Place",
+        "",
+        "",
+        "",
+        "W --hook Place: there is no such hook; hooks are place, preempt and pull",
+    ),
+    (
+        COUNTS,
+        "",
+        "",
+        "1,2,5,8",
+        "",
+        "R refused limit helper 100\n",
+    ),
+    (COUNTS, "", "", "100", "", "D accepted preempt budget 5\n"),
+    (
+        "mov r0, 1\nexit\n",
+        "pull",
+        "",
+        "",
+        "e",
+        "R refused A1 1\np.s line 1: unknown word \"mov\", did you mean \"mov64\"?\n",
+    ),
+    (
+        ";@ hook preempt\nexit\n",
+        "",
+        "",
+        "",
+        "j",
+        "R {\"file\":\"p.s\",\"accepted\":false,\"answer\":\"refused L8 V9 0\",",
+    ),
+    (
+        ";@ hook preempt\nmov64 r0, 1\nldxw r0, [r1+56]\nexit\n",
+        "",
+        "",
+        "",
+        "e",
+        "R refused L8 V5 1\np.s line 3, slot 1:  ldxw r0, [r1+56]\n",
+    ),
+];
+
+#[test]
+fn checks_say_what_is_wrong(rt: HostRuntime) -> Result<(), Fail> {
+    let alloc = rt.alloc();
+    for (policy, hook, steps, helpers, form, wanted) in CHECKED {
+        let words = CheckWords {
+            policy: policy_words(alloc, "p.s", hook)?,
+            is_explained: form == "e",
+            is_json: form == "j",
+            max_steps: text_of(alloc, steps)?,
+            helpers: text_of(alloc, helpers)?,
+        };
+        let answer = told(alloc, check(alloc, &words, policy.as_bytes())?)?;
+        assert!(rt; answer.as_str().starts_with(wanted), "{policy}: {answer}");
+    }
+    Ok(())
+}
+
+/// The policy, its fields, an entry, a counter, the processor, and what is told.
+const RUN: [(&str, &str, &str, &str, &str, &str); 5] = [
+    (
+        KEEP_HOME,
+        "task=3,mask=0x6,processors=4,previous=1",
+        "",
+        "",
+        "",
+        "D r0 1 (0x1)  permitted: processor 1 is in mask 0x6  steps 2 of 2\n",
+    ),
+    (
+        KEEP_HOME,
+        "mask=0x6,processors=4,previous=3",
+        "",
+        "",
+        "",
+        "D r0 3 (0x3)  not permitted: processor 3 is not in mask 0x6  steps 2 of 2\n",
+    ),
+    (
+        COUNTS,
+        "",
+        "",
+        "0=41",
+        "",
+        "D r0 1 (0x1)  permitted: 0 stays, 1 gives way  steps 5 of 5\ncounter 0: 41 and 1 give 42\n",
+    ),
+    (
+        KEEPS,
+        "",
+        "0:1=ff01",
+        "",
+        "7",
+        "D r0 0 (0x0)  permitted: 0 stays, 1 gives way  steps 11 of 11\nmap 0 entry 1: 0701000000000000\n",
+    ),
+    (
+        KEEP_HOME,
+        "prev=1",
+        "",
+        "",
+        "",
+        "W --set prev=1: there is no field prev; the fields are task, weight, mask, slice, waker, previous, processors, own",
+    ),
+];
+
+#[test]
+fn runs_tell_what_came_of_them(rt: HostRuntime) -> Result<(), Fail> {
+    let alloc = rt.alloc();
+    for (policy, fields, entry, counter, processor, wanted) in RUN {
+        let words = RunWords {
+            policy: policy_words(alloc, "", "")?,
+            context: None,
+            fields: words_of(alloc, fields)?,
+            entries: words_of(alloc, entry)?,
+            counters: words_of(alloc, counter)?,
+            time: None,
+            processor: text_of(alloc, processor)?,
+        };
+        let answer = told(alloc, run(alloc, &words, policy.as_bytes())?)?;
+        assert!(rt; answer.as_str().starts_with(wanted), "{policy}: {answer}");
+    }
+    Ok(())
+}
+
+#[test]
+fn listings_are_policies_again(rt: HostRuntime) -> Result<(), Fail> {
+    let alloc = rt.alloc();
+    let words = ListWords {
+        policy: policy_words(alloc, "-", "")?,
+        has_slots: false,
+    };
+    let answer = told(alloc, list(alloc, &words, KEEP_HOME.as_bytes())?)?;
+    assert_eq!(rt;
+        answer.as_str(),
+        "D ;@ hook place\nldxw r0, [r1+28]\nexit\n"
+    );
+    Ok(())
+}
