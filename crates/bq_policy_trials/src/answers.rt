@@ -101,7 +101,7 @@ const CHECKED: [(&str, &str, &str, &str, &str, &str); 11] = [
         "",
         "",
         "j",
-        "R {\"file\":\"p.s\",\"accepted\":false,\"answer\":\"refused L8 V9 0\",",
+        "R {\"accepted\":false,\"answer\":\"refused L8 V9 0\",\"explanation\":[\"p.s line 2, slot 0:  exit\",",
     ),
     (
         ";@ hook preempt\nmov64 r0, 1\nldxw r0, [r1+56]\nexit\n",
