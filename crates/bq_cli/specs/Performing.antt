@@ -84,7 +84,7 @@ AsmPerformsInPart o from to old new = BreaksOffInForm o from to old new ⊎ (Ref
 
 -- The line says what a history of the scheduler that was asked for has.
 abbrev pub IsParLine : Parallel → List ℕ → Type 0
-IsParLine p line = (s : Summary) × IsSummary (discipline_of p.rule) (processors_in p.size) s × (line ≡ summary_line s)
+IsParLine p line = (s : Summary) × IsSummary (discipline_of p.rule) (processors_in p.size) p.ticks s × (line ≡ summary_line s)
 
 -- The writer got the line.
 abbrev pub WritesPar : Parallel → Option (List ℕ) → Option (List ℕ) → Type 0

@@ -1,25 +1,41 @@
 -- What is said of a parallel run.
-use Rattle.std.specs.Prelude.{◌≡◌, ℕ, List, ◌++◌, length, codes}
+use Rattle.std.specs.Prelude.{◌≡◌, ℕ, ◌*◌, List, ◌++◌, length, codes}
 use Rattle.std.specs.Fmt.{decimal}
 use Rattle.bq_disc.specs.Discipline.{Discipline}
 use Rattle.bq_cfs.specs.Cfs.{cfs}
 use Rattle.bq_eevdf.specs.Eevdf.{eevdf}
-use Rattle.bq_history.specs.History.{Leaves}
+use Rattle.bq_tie.specs.Whole.{total, Each}
+use Rattle.bq_history.specs.History.{Leaves, AreReceiptsOf}
+use Rattle.bq_history.specs.declared.law.Receipt.{Receipt}
 use Rattle.bq_parts.specs.World.{World, opening_world}
 use Rattle.bq_cells.specs.Parts.{RecordStep}
 use Rattle.bq_cells.specs.declared.record.Record.{Record}
 use Rattle.bq_sizes.specs.declared.rule.Rule.{Rule}
 use Rattle.bq_sizes.specs.declared.rule.Rule.TheVariants.{Cfs, Eevdf}
+use Rattle.bq_par.specs.Ticks.{ticks_in, ticks_of}
 use Rattle.bq_par.specs.declared.summary.Summary.{Summary}
 
 abbrev pub discipline_of : Rule → Discipline
 discipline_of Cfs = cfs
 discipline_of Eevdf = eevdf
 
--- some history of so many processors under the discipline is as long as it is said to be
-abbrev pub IsSummary : Discipline → ℕ → Summary → Type 0
-IsSummary d processors s =
-    (log : List Record) × (w : World) × Leaves (RecordStep d) (opening_world processors) log w × (s.events ≡ length log)
+-- Some history of so many processors under the discipline, each asked for so many ticks, has these numbers
+pub record IsSummary (d : Discipline) (processors ticks : ℕ) (s : Summary) : Type 0 where
+  pub log : List Record
+  pub world : World
+  pub callers : List (ℕ × List (Receipt Record))
+  -- each record is a step of the scheduler
+  pub leaves : Leaves (RecordStep d) (opening_world processors) log world
+  -- the receipts of the callers share the records out, each at its place
+  pub receipts : AreReceiptsOf log callers
+  -- there is a caller for each processor, and each has receipts for just the ticks that were asked for
+  pub many : length callers ≡ processors
+  pub each : Each (λ (c : ℕ × List (Receipt Record)). ticks_of c.1 ≡ ticks) callers
+  -- the line says how long the history is, how many of its records are ticks, and how many receipts stand in it: all
+  pub events : s.events ≡ length log
+  pub ticked : s.ticks ≡ ticks_in log
+  pub asked : s.ticks ≡ processors * ticks
+  pub confirmed : s.confirmed ≡ total (λ (c : ℕ × List (Receipt Record)). length c.1) callers
 
 -- the line that says so
 abbrev pub summary_line : Summary → List ℕ

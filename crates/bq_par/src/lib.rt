@@ -1,5 +1,6 @@
 //! Processors that run by threads of their own, each with a seat of one locked machine, and what their one history is.
-//! Promises that the history is one of this scheduler, and that it has a place for each answer given.
+//! Promises that the history is one of this scheduler, that it has a place for each answer given, and that each processor
+//! ticked as often as was asked for.
 #![tactic(auto)]
 
 mod metronome;
@@ -9,5 +10,4 @@ mod summary;
 
 pub use metronome::Metronome;
 pub use runs::run;
-pub use shift::{Done, Shift, drive};
 pub use summary::Summary;

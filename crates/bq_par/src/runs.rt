@@ -1,17 +1,19 @@
 //! The runs, by rule and number of processors.
-ghost use Rattle.std.specs.Prelude.{◌≡◌, ◌≤◌, IfOk};
+ghost use Rattle.std.specs.Prelude.{◌≡◌, ◌<◌, ◌≤◌, [], IfOk};
 ghost use Rattle.bq_cfs.specs.Cfs.{cfs};
 ghost use Rattle.bq_eevdf.specs.Eevdf.{eevdf};
 ghost use Rattle.bq_sizes.specs.Sizes.{processors_in};
 ghost use Rattle.bq_par.specs.Summaries.{IsSummary, discipline_of};
+ghost use Rattle.bq_par.specs.Ticks.{ticks_of};
 
 use crate::metronome::Metronome;
-use crate::shift::{drive, shifts};
+use crate::shift::{Done, drive};
 use crate::summary::{Summary, finish};
 use bq_cfs::CfsQueue;
 use bq_counters::Naming as Counting;
 use bq_eevdf::EevdfQueue;
-use bq_machine::{Machine, Prepared, Unnamed, prepare};
+use bq_machine::{Machine, Prepared, Seat, Unnamed, prepare};
+use bq_parts::Refusal;
 use bq_sizes::{Rule, Size};
 use bq_tie::Naming;
 use std::alloc::{AllocError, Global};
@@ -20,8 +22,8 @@ use std::sync::Wait;
 use std::thread::{Threads, map_vec};
 
 /// Runs so many processors under a rule, each by a thread of its own (where none can be made, in turn): its task, whose id
-/// is its number, is admitted, woken and drained there, and then it ticks so often. Answers how long their one history is.
-/// Want of memory is the only error.
+/// is its number, is admitted, woken and drained there, and then it ticks so often. Answers how long their one history is,
+/// how many of its events are ticks, and how many receipts stand in it, which is all. Want of memory is the only error.
 pub fn run<T: Threads + Wait + Sync>(
     rt: &T,
     alloc: Global,
@@ -29,7 +31,7 @@ pub fn run<T: Threads + Wait + Sync>(
     size: Size,
     ticks: u32,
 ) -> Result<Summary, AllocError>
-    ensures { IfOk result (IsSummary (discipline_of rule) (processors_in size)) }
+    ensures { IfOk result (IsSummary (discipline_of rule) (processors_in size) ticks) }
 {
     match rule {
         Rule::Cfs => on_cfs(rt, alloc, size, ticks),
@@ -43,7 +45,7 @@ fn on_cfs<T: Threads + Wait + Sync>(
     size: Size,
     ticks: u32,
 ) -> Result<Summary, AllocError>
-    ensures { IfOk result (IsSummary cfs (processors_in size)) }
+    ensures { IfOk result (IsSummary cfs (processors_in size) ticks) }
 {
     let processors = u64::from(size.processors());
     let (prepared, unnamed) = prepare::<CfsQueue>(alloc, processors, processors)?;
@@ -56,7 +58,7 @@ fn on_eevdf<T: Threads + Wait + Sync>(
     size: Size,
     ticks: u32,
 ) -> Result<Summary, AllocError>
-    ensures { IfOk result (IsSummary eevdf (processors_in size)) }
+    ensures { IfOk result (IsSummary eevdf (processors_in size) ticks) }
 {
     let processors = u64::from(size.processors());
     let (prepared, unnamed) = prepare::<EevdfQueue>(alloc, processors, processors)?;
@@ -74,7 +76,7 @@ fn sized_cfs<N: Naming + Counting + Send + Sync, T: Threads + Wait + Sync>(
     requires name { prepared.0 ≡ N.table }
     requires counters { unnamed.0 ≡ N.counters }
     requires counts { (prepared.1.about ≡ processors_in size) × (prepared.1.callers ≡ processors_in size) × (unnamed.1 ≡ processors_in size) }
-    ensures { IfOk result (IsSummary cfs (processors_in size)) }
+    ensures { IfOk result (IsSummary cfs (processors_in size) ticks) }
 {
     match size {
         Size::One => run_cfs::<N, T, 1>(rt, alloc, prepared, unnamed, ticks),
@@ -98,7 +100,7 @@ fn sized_eevdf<N: Naming + Counting + Send + Sync, T: Threads + Wait + Sync>(
     requires name { prepared.0 ≡ N.table }
     requires counters { unnamed.0 ≡ N.counters }
     requires counts { (prepared.1.about ≡ processors_in size) × (prepared.1.callers ≡ processors_in size) × (unnamed.1 ≡ processors_in size) }
-    ensures { IfOk result (IsSummary eevdf (processors_in size)) }
+    ensures { IfOk result (IsSummary eevdf (processors_in size) ticks) }
 {
     match size {
         Size::One => run_eevdf::<N, T, 1>(rt, alloc, prepared, unnamed, ticks),
@@ -122,16 +124,23 @@ fn run_cfs<N: Naming + Counting + Send + Sync, T: Threads + Wait + Sync, const P
     requires name { prepared.0 ≡ N.table }
     requires counters { unnamed.0 ≡ N.counters }
     requires counts { (prepared.1.about ≡ P) × (prepared.1.callers ≡ P) × (unnamed.1 ≡ P) }
-    ensures { IfOk result (IsSummary cfs P) }
+    ensures { IfOk result (IsSummary cfs P ticks) }
 {
     let clock = Metronome::new(alloc, P as u8)?;
     let (machine, seats) = Machine::<CfsQueue, Metronome, N, P>::new(
         alloc, clock, prepared, unnamed, P as u64,
     )?;
-    let shifts = shifts(alloc, seats)?;
     let shared = &machine;
-    let done = map_vec(rt, shifts, &|shift| drive(rt, alloc, shared, shift, ticks))?;
-    finish(alloc, machine, done)
+    let done = map_vec(
+        rt,
+        seats,
+        &|seat: Seat<N>| -> Result<Done<N>, Refusal>
+            requires number { seat.0 < 256 }
+            requires fresh { seat.1 ≡ [] }
+            ensures { IfOk result (λ d. ticks_of d.seat.1 ≡ ticks) }
+        { drive(rt, alloc, shared, seat, ticks) },
+    )?;
+    finish(alloc, machine, done, ticks)
 }
 
 fn run_eevdf<N: Naming + Counting + Send + Sync, T: Threads + Wait + Sync, const P: usize>(
@@ -145,14 +154,21 @@ fn run_eevdf<N: Naming + Counting + Send + Sync, T: Threads + Wait + Sync, const
     requires name { prepared.0 ≡ N.table }
     requires counters { unnamed.0 ≡ N.counters }
     requires counts { (prepared.1.about ≡ P) × (prepared.1.callers ≡ P) × (unnamed.1 ≡ P) }
-    ensures { IfOk result (IsSummary eevdf P) }
+    ensures { IfOk result (IsSummary eevdf P ticks) }
 {
     let clock = Metronome::new(alloc, P as u8)?;
     let (machine, seats) = Machine::<EevdfQueue, Metronome, N, P>::new(
         alloc, clock, prepared, unnamed, P as u64,
     )?;
-    let shifts = shifts(alloc, seats)?;
     let shared = &machine;
-    let done = map_vec(rt, shifts, &|shift| drive(rt, alloc, shared, shift, ticks))?;
-    finish(alloc, machine, done)
+    let done = map_vec(
+        rt,
+        seats,
+        &|seat: Seat<N>| -> Result<Done<N>, Refusal>
+            requires number { seat.0 < 256 }
+            requires fresh { seat.1 ≡ [] }
+            ensures { IfOk result (λ d. ticks_of d.seat.1 ≡ ticks) }
+        { drive(rt, alloc, shared, seat, ticks) },
+    )?;
+    finish(alloc, machine, done, ticks)
 }

@@ -1,82 +1,99 @@
 //! What one thread does: it admits the task of its processor, wakes it there, and lets the processor tick.
-ghost use Rattle.std.specs.Prelude.{◌≡◌, ◌++◌, ◌∷◌, [], OnOk};
+ghost use Rattle.std.specs.Prelude.{◌≡◌, ◌+◌, ◌<◌, ◌++◌, ◌∷◌, [], IfOk, IfSome, OnOk};
+ghost use Rattle.std.specs.Option.{option_to_list};
+ghost use Rattle.bq_par.specs.Ticks.{one_tick, ticks_of};
 
 use bq_counters::Naming as Counting;
 use bq_disc::RunQueue;
-use bq_history::Receipt;
-use bq_machine::{Clock, Machine, Record, Seat};
+use bq_history::{Numbered, Receipt};
+use bq_machine::{Clock, Machine, Record, Seat, WakeReceipts};
 use bq_parts::Refusal;
 use bq_tie::Naming;
-use std::alloc::{AllocError, Global};
+use std::alloc::Global;
 use std::sync::Wait;
 
 /// The slice of each task, in nanoseconds.
 const SLICE: u64 = 3_000_000;
 
-/// A processor, and the seat of the thread that drives it.
-#[derive(Drop)]
-pub struct Shift<N: Naming + Counting> {
-    pub processor: u8,
-    pub seat: Seat<N>,
-}
-
-/// A seat, and all receipts that it got.
+/// A seat that has come back, and all receipts that it got.
 #[derive(Drop)]
 pub struct Done<N: Naming + Counting> {
     pub seat: Seat<N>,
     pub receipts: Vec<Receipt<Record>>,
+    ghost held: { seat.1 ≡ receipts.items },
 }
 
-/// The shifts of seats that have called nothing: the first drives processor 0, and so on.
-pub fn shifts<N: Naming + Counting>(
-    alloc: Global,
-    seats: Vec<Seat<N>>,
-) -> Result<Vec<Shift<N>>, AllocError> {
-    let mut shifts = Vec::with_capacity(alloc, seats.len())?;
-    let mut processor = 0u8;
-    for seat in seats {
-        shifts.push(Shift { processor, seat })?;
-        processor = processor.saturating_add(1);
-    }
-    Ok(shifts)
-}
-
-/// Drives a processor: its task, whose id is the processor's number, is admitted, woken and drained there, and then the
-/// processor ticks so often. The only error is want of memory.
+/// Drives the processor of a seat's number: its task, whose id is that number too, is admitted, woken and drained there, and
+/// then the processor ticks so often. The only error is want of memory.
 pub fn drive<Q: RunQueue + Drop, K: Clock + Drop, N: Naming + Counting, R: Wait, const P: usize>(
     rt: &R,
     alloc: Global,
     machine: &Machine<Q, K, N, P>,
-    shift: Shift<N>,
+    seat: Seat<N>,
     ticks: u32,
-) -> Result<Done<N>, Refusal> {
-    let Shift {
-        processor,
-        mut seat,
-    } = shift;
+) -> Result<Done<N>, Refusal>
+    requires number { seat.0 < 256 }
+    requires fresh { seat.1 ≡ [] }
+    ensures { IfOk result (λ d. ticks_of d.seat.1 ≡ ticks) }
+{
+    let mut seat = seat;
+    let processor = seat.number() as u8;
     let Ok(mut receipts) = Vec::with_capacity(alloc, ticks as usize + 4) else {
         return Err(Refusal::OutOfMemory);
     };
-    let task = u16::from(processor);
-    let admitted = machine.admit(rt, alloc, &mut seat, task, 0, u64::MAX, SLICE)?;
-    keep(&mut receipts, admitted)?;
-    let woken = machine.wake(rt, alloc, &mut seat, processor, task)?;
-    keep(&mut receipts, woken.begin)?;
-    if let Some(end) = woken.end {
-        keep(&mut receipts, end)?;
-    }
-    let drained = machine.drain(rt, alloc, &mut seat, processor)?;
-    keep(&mut receipts, drained)?;
-    for _ in 0..ticks {
+    start(rt, alloc, machine, &mut seat, &mut receipts, processor)?;
+    'ticks: for _ in 0..ticks {
         let ticked = machine.tick(rt, alloc, &mut seat, processor)?;
         keep(&mut receipts, ticked)?;
     }
     Ok(Done { seat, receipts })
 }
 
-/// One receipt more.
-fn keep(receipts: &mut Vec<Receipt<Record>>, receipt: Receipt<Record>) -> Result<(), Refusal>
-    ensures { OnOk result (receipts.new.items ≡ receipts.old.items ++ receipt ∷ []) }
+/// Admits the task whose id is a processor's number, wakes it there and drains it.
+fn start<Q: RunQueue + Drop, K: Clock + Drop, N: Naming + Counting, R: Wait, const P: usize>(
+    rt: &R,
+    alloc: Global,
+    machine: &Machine<Q, K, N, P>,
+    seat: &mut Seat<N>,
+    receipts: &mut Vec<Receipt<Record>>,
+    processor: u8,
+) -> Result<(), Refusal>
+    requires { seat.old.1 ≡ receipts.old.items }
+    ensures held { OnOk result (seat.new.1 ≡ receipts.new.items) }
+    ensures ticks { OnOk result (ticks_of receipts.new.items ≡ ticks_of receipts.old.items) }
 {
-    receipts.push(receipt).map_err(|_| Refusal::OutOfMemory)
+    let task = u16::from(processor);
+    let admitted = machine.admit(rt, alloc, seat, task, 0, u64::MAX, SLICE)?;
+    keep(receipts, admitted)?;
+    let woken = machine.wake(rt, alloc, seat, processor, task)?;
+    keep_wake(receipts, woken)?;
+    let drained = machine.drain(rt, alloc, seat, processor)?;
+    keep(receipts, drained)
+}
+
+/// The receipts of a wake more.
+fn keep_wake(receipts: &mut Vec<Receipt<Record>>, woken: WakeReceipts) -> Result<(), Refusal>
+    requires begin { one_tick woken.begin.entry ≡ 0 }
+    requires end { IfSome woken.end (λ r. one_tick r.entry ≡ 0) }
+    ensures items { OnOk result (receipts.new.items ≡ (receipts.old.items ++ woken.begin ∷ []) ++ option_to_list woken.end) }
+    ensures ticks { OnOk result (ticks_of receipts.new.items ≡ ticks_of receipts.old.items) }
+{
+    let WakeReceipts { begin, end } = woken;
+    keep(receipts, begin)?;
+    match end {
+        Some(end) => keep(receipts, end),
+        None => Ok(()),
+    }
+}
+
+/// One receipt more.
+#[tactic(auto, using(bq_tie::proofs::Moves::total_snoc))]
+fn keep(receipts: &mut Vec<Receipt<Record>>, receipt: Receipt<Record>) -> Result<(), Refusal>
+    ensures items { OnOk result (receipts.new.items ≡ receipts.old.items ++ receipt ∷ []) }
+    ensures ticks { OnOk result (ticks_of receipts.new.items ≡ ticks_of receipts.old.items + one_tick receipt.entry) }
+{
+    let Ok(()) = receipts.push(receipt) else {
+        return Err(Refusal::OutOfMemory);
+    };
+    Ok(())
 }

@@ -1,6 +1,10 @@
 //! What is said of a parallel run, once all seats have come back.
-ghost use Rattle.std.specs.Prelude.{◌≡◌, IfOk, string_bytes};
+ghost use Rattle.std.specs.Prelude.{◌≡◌, ◌<◌, ◌≤◌, ◌^◌, IfOk, map, length, vec_len, slice_get, string_bytes};
+ghost use Rattle.std.specs.List.{All, sum_by};
+ghost use Rattle.bq_tie.specs.Whole.{Each};
+ghost use Rattle.bq_history.specs.History.{Stands};
 ghost use Rattle.bq_par.specs.Summaries.{IsSummary, summary_line};
+ghost use Rattle.bq_par.specs.Ticks.{one_tick, ticks_in, ticks_of, told};
 
 use crate::shift::Done;
 use bq_closing::Closed;
@@ -39,17 +43,22 @@ impl Summary {
 struct ReturnedSeats<N: Naming + Counting> {
     seats: Vec<Seat<N>>,
     lists: Vec<Vec<Receipt<Record>>>,
+    ghost same: { map (λ l. l.items) lists.items ≡ map (λ s. s.1) seats.items },
 }
 
-/// Ends a machine whose seats have come back, and says what its history is. Want of memory is the only error.
+/// Ends a machine whose seats have come back, each with receipts for so many ticks, and says what its history is. Want of
+/// memory is the only error.
 pub fn finish<Q: RunQueue + Drop, K: Clock + Drop, N: Naming + Counting, const P: usize>(
     alloc: Global,
     machine: Machine<Q, K, N, P>,
     done: Vec<Result<Done<N>, Refusal>>,
+    ticks: u32,
 ) -> Result<Summary, AllocError>
-    ensures { IfOk result (IsSummary Q.R.discipline P) }
+    requires many { vec_len done ≡ P }
+    requires ticked { All (λ r. IfOk r (λ d. ticks_of d.seat.1 ≡ ticks)) done.items }
+    ensures { IfOk result (IsSummary Q.R.discipline P ticks) }
 {
-    let ReturnedSeats { seats, lists } = returned(alloc, done)?;
+    let ReturnedSeats { seats, lists } = returned(alloc, done, ticks)?;
     // Each thread has given its seat back, so they are all there.
     if !machine.owns(&seats) {
         return Err(AllocError);
@@ -57,19 +66,25 @@ pub fn finish<Q: RunQueue + Drop, K: Clock + Drop, N: Naming + Counting, const P
     let closed = machine.close(seats);
     Ok(Summary {
         events: closed.len(),
-        ticks: ticks_in(&closed),
-        confirmed: confirmed_in(&closed, &lists),
+        ticks: ticks_among(&closed),
+        confirmed: confirmed_among(&closed, &lists),
     })
 }
 
-/// The seats and the receipts of all threads. A thread that wanted memory is an error.
+/// The seats and the receipts of all threads, each with receipts for so many ticks. A thread that wanted memory is an error.
 fn returned<N: Naming + Counting>(
     alloc: Global,
     done: Vec<Result<Done<N>, Refusal>>,
-) -> Result<ReturnedSeats<N>, AllocError> {
+    ticks: u32,
+) -> Result<ReturnedSeats<N>, AllocError>
+    requires { All (λ r. IfOk r (λ d. ticks_of d.seat.1 ≡ ticks)) done.items }
+    ensures many { IfOk result (λ r. length r.seats.items ≡ vec_len done) }
+    ensures ticked { IfOk result (λ r. Each (λ s. ticks_of s.1 ≡ ticks) r.seats.items) }
+{
+    let mut done = done;
     let mut seats = Vec::with_capacity(alloc, done.len())?;
     let mut lists = Vec::with_capacity(alloc, done.len())?;
-    for one in done {
+    while let Some(one) = done.pop() {
         let Ok(Done { seat, receipts }) = one else {
             return Err(AllocError);
         };
@@ -80,28 +95,59 @@ fn returned<N: Naming + Counting>(
 }
 
 /// How many events of a history are ticks.
-fn ticks_in<Q: RunQueue + Drop, const P: usize>(closed: &Closed<Q, P>) -> u64 {
-    let mut ticks = 0u64;
+fn ticks_among<Q: RunQueue + Drop, const P: usize>(closed: &Closed<Q, P>) -> u64
+    ensures { result ≡ ticks_in closed.now.history }
+{
+    let mut ticks = 0;
     for place in 0..closed.len() {
-        if let Some((Event::Tick { .. }, _, _)) = closed.logged(place) {
-            ticks = ticks.saturating_add(1);
-        }
+        ticks += ticks_at(closed, place);
     }
     ticks
 }
 
-/// How many receipts stand in a history at their places.
-fn confirmed_in<Q: RunQueue + Drop, const P: usize>(
+/// How many ticks a history has at a place: 1 or 0.
+fn ticks_at<Q: RunQueue + Drop, const P: usize>(closed: &Closed<Q, P>, place: u64) -> u64
+    ensures is { result ≡ told one_tick (slice_get closed.now.history place) }
+    ensures few { result ≤ 1 }
+{
+    match closed.history.logged(place) {
+        Some(
+            Record {
+                event: Event::Tick { .. },
+                ..
+            },
+        ) => 1,
+        _ => 0,
+    }
+}
+
+/// How many receipts of all lists stand in a history at their places.
+fn confirmed_among<Q: RunQueue + Drop, const P: usize>(
     closed: &Closed<Q, P>,
     lists: &[Vec<Receipt<Record>>],
-) -> u64 {
-    let mut confirmed = 0u64;
+) -> u64
+    requires stand { All (λ l. All (Stands closed.now.history) l.items) lists.now }
+    requires few { sum_by (λ l. length l.items) lists.now < 2 ^ 64 }
+    ensures { result ≡ sum_by (λ l. length l.items) lists.now }
+{
+    let mut confirmed = 0;
     for list in lists {
-        for receipt in list {
-            if closed.confirms(receipt) {
-                confirmed = confirmed.saturating_add(1);
-            }
-        }
+        confirmed += confirmed_in(closed, list);
+    }
+    confirmed
+}
+
+/// How many receipts of one list do.
+fn confirmed_in<Q: RunQueue + Drop, const P: usize>(
+    closed: &Closed<Q, P>,
+    list: &[Receipt<Record>],
+) -> u64
+    requires { All (Stands closed.now.history) list.now }
+    ensures { result ≡ length list.now }
+{
+    let mut confirmed = 0;
+    for receipt in list {
+        confirmed += u64::from(closed.confirms(receipt));
     }
     confirmed
 }

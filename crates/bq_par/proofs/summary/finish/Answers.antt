@@ -1,8 +1,44 @@
-use Rattle.std.proofs.Common.{◌≡◌, rules, arith, true, subst}
-use Rattle.bq_history.specs.History.{EachOnce}
+use Rattle.std.proofs.Common.{◌≡◌, ◌*◌, ℕ, length, rules, arith, sym, ap, ◌∙◌}
+use Rattle.std.specs.List.{sum_by}
+use Rattle.bq_history.specs.History.{EachOnce, Stands, IsRising}
+use Rattle.bq_par.specs.Ticks.{one_tick, ticks_of}
+use Rattle.bq_par.proofs.Counts.{all_items, same_many, total_times}
 use Rattle.bq_par.proofs.summary.finish.Goals as goal
 
 pub close-closed-requires : goal.close-closed-requires
 close-closed-requires g c =
     let owned : EachOnce c.args.machine.recorder.history.callers c.in_ok-seats.field-0.seats.items = rw (← c.deref.ensures.value) (c.owns.ensures.0 c.if-not-owns.false) in
     (search rules, (omega arith, owned))
+
+pub confirmed_among-requires : goal.confirmed_among-requires
+confirmed_among-requires g c =
+    let back = c.in_ok-seats.field-0 in
+    let r = c.close-closed.ensures.receipts in
+    let log = c.close-closed.result.history in
+    let many = same_many (λ s. s.1) (λ v. v.items) back.seats.items back.lists.items back.same in (
+      search rules,
+      (
+        rw c.deref-2.ensures.value (all_items (λ s. s.1) (λ v. v.items) (Stands log) (λ s. IsRising 0 s.1) back.seats.items back.lists.items back.same r.stand),
+        rw c.deref-2.ensures.value (omega (arith, many, r.many, c.len.ensures, c.len.type_inv)),
+      ),
+    )
+
+pub returns : goal.returns
+returns g c =
+    let back = c.in_ok-seats.field-0 in
+    let said = c.in_ok-seats.ensures in
+    let r = c.close-closed.ensures.receipts in
+    let many : length back.seats.items ≡ g.row.P = said.many ∙ c.requires.many in
+    record {
+      log = c.close-closed.result.history;
+      world = c.close-closed.result.core;
+      callers = back.seats.items;
+      leaves = c.close-closed.ensures.history;
+      receipts = r;
+      many = many;
+      each = said.ticked;
+      events = c.len.ensures;
+      ticked = c.ticks_among.ensures;
+      asked = c.ticks_among.ensures ∙ (sym (r.counts one_tick) ∙ (total_times (λ s. ticks_of s.1) c.args.ticks back.seats.items said.ticked ∙ ap (λ (n : ℕ). n * c.args.ticks) many));
+      confirmed = c.confirmed_among.ensures ∙ (ap (λ vs. sum_by (λ v. length v.items) vs) c.deref-2.ensures.value ∙ same_many (λ s. s.1) (λ v. v.items) back.seats.items back.lists.items back.same);
+    }

@@ -1,0 +1,91 @@
+-- Sums and lists of what the threads of a run bring back.
+use Rattle.std.proofs.Common.{◌≡◌, ℕ, zero, suc, ◌+◌, ◌*◌, ◌<◌, List, [], ◌∷◌, ◌++◌, map, length, take, add-one, refl, sym, ap, ◌∙◌, subst, arith}
+use Rattle.std.specs.Prelude.{slice_get}
+use Rattle.std.specs.List.{All, sum_by}
+use Rattle.std.proofs.lemmas.List.{map_push}
+use Rattle.std.proofs.lemmas.List.Sums.{sum_by-cons}
+use Rattle.bq_tie.specs.Whole.{total, Each}
+use Rattle.bq_history.specs.declared.law.Receipt.{Receipt}
+use Rattle.bq_seats.specs.Calls.{fresh}
+use Rattle.bq_par.specs.Ticks.{told}
+
+module _ {A : Type 0} where
+  -- one sum, in two words
+  pub total_sum : (f : A → ℕ) (xs : List A) → total f xs ≡ sum_by f xs
+  total_sum f [] = refl
+  total_sum f (x ∷ xs) = ap (λ n. f x + n) (total_sum f xs) ∙ sym (sum_by-cons f x xs)
+
+  -- one more item of a list
+  pub total_next : (f : A → ℕ) (xs : List A) (i : ℕ) → total f (take (i + 1) xs) ≡ total f (take i xs) + told f (slice_get xs i)
+  total_next f xs i = rw add-one (next xs i)
+    where
+      next : (ys : List A) (k : ℕ) → total f (take (suc k) ys) ≡ total f (take k ys) + told f (slice_get ys k)
+      next [] zero = refl
+      next [] (suc k) = refl
+      next (y ∷ ys) zero = omega arith
+      next (y ∷ ys) (suc k) = let h = next ys k in omega (arith, h)
+
+  -- as often the same number
+  pub total_times : (f : A → ℕ) (n : ℕ) (xs : List A) → Each (λ x. f x ≡ n) xs → total f xs ≡ length xs * n
+  total_times f n [] each = omega arith
+  total_times f n (x ∷ xs) (first, rest) = let h = total_times f n xs rest in omega (arith, first, h)
+
+  -- what each has, the one at each place has
+  pub each_at : (P : A → Type 0) (xs : List A) → Each P xs → All P xs
+  each_at P [] each k d lt = absurd (omega arith)
+  each_at P (x ∷ xs) (first, rest) zero d lt = first
+  each_at P (x ∷ xs) (first, rest) (suc k) d lt = each_at P xs rest k d (omega arith)
+
+-- one more on either side
+pub same_more : {A B C : Type 0} (f : A → C) (g : B → C) (xs : List A) (ys : List B) (x : A) (y : B) → map g ys ≡ map f xs → g y ≡ f x → map g (ys ++ y ∷ []) ≡ map f (xs ++ x ∷ [])
+same_more f g xs ys x y e here = map_push g ys y ∙ (ap (λ zs. zs ++ g y ∷ []) e ∙ (ap (λ z. map f xs ++ z ∷ []) here ∙ sym (map_push f xs x)))
+
+module _ {A B X : Type 0} (f : A → List X) (g : B → List X) where
+  -- what is so of all items of the lists of the one is so of those of the other
+  same_items : (P : X → Type 0) (Q : A → Type 0) (xs : List A) (ys : List B) → map g ys ≡ map f xs → Each (λ x. Each P (f x) × Q x) xs → Each (λ y. All P (g y)) ys
+  same_items P Q [] [] e each = tt
+  same_items P Q [] (y ∷ ys) e each = absurd (cc)
+  same_items P Q (x ∷ xs) [] e each = absurd (cc)
+  same_items P Q (x ∷ xs) (y ∷ ys) e (first, rest) =
+      let head : g y ≡ f x = cc in
+      let tail : map g ys ≡ map f xs = cc in
+      (rw head (each_at P (f x) first.0), same_items P Q xs ys tail rest)
+
+  -- the same, at each place
+  pub all_items : (P : X → Type 0) (Q : A → Type 0) (xs : List A) (ys : List B) → map g ys ≡ map f xs → Each (λ x. Each P (f x) × Q x) xs → All (λ y. All P (g y)) ys
+  all_items P Q xs ys e each = each_at (λ y. All P (g y)) ys (same_items P Q xs ys e each)
+
+  -- they have as many items
+  pub same_many : (xs : List A) (ys : List B) → map g ys ≡ map f xs → sum_by (λ y. length (g y)) ys ≡ total (λ x. length (f x)) xs
+  same_many xs ys e = sym (total_sum (λ y. length (g y)) ys) ∙ many xs ys e
+    where
+      many : (vs : List A) (ws : List B) → map g ws ≡ map f vs → total (λ y. length (g y)) ws ≡ total (λ x. length (f x)) vs
+      many [] [] e = refl
+      many [] (w ∷ ws) e = absurd (cc)
+      many (v ∷ vs) [] e = absurd (cc)
+      many (v ∷ vs) (w ∷ ws) e =
+          let head : g w ≡ f v = cc in
+          let tail : map g ws ≡ map f vs = cc in
+          let rest = many vs ws tail in
+          let here = ap (λ l. length l) head in
+          omega (arith, here, rest)
+
+-- so many seats
+pub fresh_many : (R : Type 0) (s n : ℕ) → let l : List (ℕ × List (Receipt R)) = fresh s n in length l ≡ n
+fresh_many R s zero = refl
+fresh_many R s (suc n) = ap suc (fresh_many R (s + 1) n)
+
+-- their numbers are below that, and none has a receipt
+pub fresh_none : (R : Type 0) (s n : ℕ) → Each (λ (c : ℕ × List (Receipt R)). (c.0 < s + n) × (c.1 ≡ [])) (fresh s n)
+fresh_none R s zero = tt
+fresh_none R s (suc n) =
+    let low : s < s + suc n = omega arith in
+    let more : s + 1 + n ≡ s + suc n = omega arith in
+    ((low, refl), subst (λ (k : ℕ). Each (λ (c : ℕ × List (Receipt R)). (c.0 < k) × (c.1 ≡ [])) (fresh (s + 1) n)) more (fresh_none R (s + 1) n))
+
+-- so each of them
+pub fresh_at : (R : Type 0) (n : ℕ) (js : List (ℕ × List (Receipt R))) → js ≡ fresh 0 n → All (λ (c : ℕ × List (Receipt R)). (c.0 < n) × (c.1 ≡ [])) js
+fresh_at R n js e =
+    let zero_more : 0 + n ≡ n = omega arith in
+    let each = subst (λ (k : ℕ). Each (λ (c : ℕ × List (Receipt R)). (c.0 < k) × (c.1 ≡ [])) (fresh 0 n)) zero_more (fresh_none R 0 n) in
+    rw e (each_at (λ (c : ℕ × List (Receipt R)). (c.0 < n) × (c.1 ≡ [])) (fresh 0 n) each)

@@ -1,0 +1,9 @@
+use Rattle.std.proofs.Common.{◌≡◌}
+use Rattle.bq_par.specs.Ticks.{ticks_of}
+use Rattle.bq_par.proofs.shift.drive.Given as goal
+
+abbrev pub invariant-ticks : goal.invariant-ticks
+invariant-ticks g l = record {
+  held : l.seat.1 ≡ l.receipts.items;
+  ticked : ticks_of l.receipts.items ≡ l.counter;
+}

@@ -1,0 +1,28 @@
+-- Ticks among what a history tells.
+use Rattle.std.specs.Prelude.{ℕ, List, Option, None, Some}
+use Rattle.bq_tie.specs.Whole.{total}
+use Rattle.bq_history.specs.declared.law.Receipt.{Receipt}
+use Rattle.bq_parts.specs.declared.event.Event.{Event}
+use Rattle.bq_parts.specs.declared.event.Event.TheVariants.{Tick}
+use Rattle.bq_cells.specs.declared.record.Record.{Record}
+
+-- 1 for a tick, and 0 for another event
+abbrev pub tick_of : Event → ℕ
+tick_of (Tick c now) = 1
+tick_of e = 0
+
+abbrev pub one_tick : Record → ℕ
+one_tick r = tick_of r.event
+
+-- how many of the records are of ticks
+abbrev pub ticks_in : List Record → ℕ
+ticks_in log = total one_tick log
+
+-- how many of the receipts are for ticks
+abbrev pub ticks_of : List (Receipt Record) → ℕ
+ticks_of l = total (λ (x : Receipt Record). one_tick x.entry) l
+
+-- what is told of an item, and 0 of none
+abbrev pub told : {A : Type 0} → (A → ℕ) → Option A → ℕ
+told f None = 0
+told f (Some x) = f x
