@@ -3,7 +3,10 @@ ghost use Rattle.std.specs.Prelude.{◌≡◌};
 
 use bq_cfs::CfsQueue;
 use bq_load::LoadFault;
-use bq_machine::{Clock, Counting, LoadRefused, Machine, Naming, Prepared, Unnamed, prepare};
+use bq_machine::{
+    Clock, Closed, Counting, LoadRefused, Machine, Naming, Prepared, Receipt, Record, Seat,
+    Unnamed, prepare,
+};
 use bq_parts::{By, Hook, Refusal, Reply};
 use std::alloc::Global;
 use std::marker::Brand;
@@ -28,6 +31,98 @@ impl Clock for Steady {
     }
 }
 
+/// A machine of two processors under CFS, by one thread.
+type Single<N> = Machine<CfsQueue, Steady, N, 2>;
+
+/// Nothing runs on an opening machine, and so nothing is blocked there.
+fn is_idle(receipt: &Receipt<Record>) -> bool {
+    receipt.place == 0 && matches!(receipt.entry.reply, Err(Refusal::Idle))
+}
+
+/// An opening machine has nothing to pull.
+fn is_pull_of_none(receipt: &Receipt<Record>) -> bool {
+    let reply = &receipt.entry.reply;
+    receipt.place == 1
+        && matches!(
+            reply,
+            Ok(Reply::Pulled {
+                task: None,
+                run: None,
+                by: By::Discipline,
+                steps: 0
+            })
+        )
+}
+
+/// Whether calls with wrong arguments are refused for them.
+fn refuses<N: Naming + Counting, R: Wait>(
+    rt: &R,
+    alloc: Global,
+    machine: &Single<N>,
+    seat: &mut Seat<N>,
+) -> bool {
+    let tick = machine.tick(rt, alloc, seat, 2);
+    let pull = machine.pull(rt, alloc, seat, 0, 0);
+    matches!(tick, Err(Refusal::NoProcessor)) && matches!(pull, Err(Refusal::SameProcessor))
+}
+
+/// Whether an image, or none, is loaded by three events from this place on, under this number.
+fn loads<N: Naming + Counting, R: Wait>(
+    rt: &R,
+    alloc: Global,
+    machine: &Single<N>,
+    seat: &mut Seat<N>,
+    image: Option<&[u8]>,
+    place: u64,
+    number: u64,
+) -> bool {
+    match machine.load_all(rt, alloc, seat, Hook::Preempt, image) {
+        Ok(loaded) => {
+            let drawn = &loaded.draw;
+            let numbered =
+                matches!(drawn.entry.reply, Ok(Reply::Drawn { generation }) if generation == number);
+            drawn.place == place && numbered && loaded.installs.len() == 2
+        }
+        Err(_) => false,
+    }
+}
+
+/// Whether an image that is cut short is refused for that.
+fn refuses_the_cut<N: Naming + Counting, R: Wait>(
+    rt: &R,
+    alloc: Global,
+    machine: &Single<N>,
+    seat: &mut Seat<N>,
+) -> bool {
+    let cut = machine.load_all(rt, alloc, seat, Hook::Preempt, Some(&ZERO[..27]));
+    matches!(cut, Err(LoadRefused::Fault(LoadFault::Cut)))
+}
+
+/// Whether the calls without receipts, and the loads, answer as they should.
+fn answers<N: Naming + Counting, R: Wait>(
+    rt: &R,
+    alloc: Global,
+    machine: &Single<N>,
+    seat: &mut Seat<N>,
+) -> bool {
+    refuses(rt, alloc, machine, seat)
+        && loads(rt, alloc, machine, seat, Some(&ZERO), 2, 1)
+        && loads(rt, alloc, machine, seat, None, 5, 2)
+        && refuses_the_cut(rt, alloc, machine, seat)
+        && machine.counter(seat, 3) == 0
+}
+
+/// Whether the end has both receipts, among eight, and not the first one with another reply.
+fn has_both(
+    closed: &Closed<CfsQueue, 2>,
+    mut idle: Receipt<Record>,
+    pulled: Receipt<Record>,
+) -> bool {
+    let stands = closed.len() == 8 && closed.confirms(&idle) && closed.confirms(&pulled);
+    idle.entry.reply = Ok(Reply::Retired);
+    stands && !closed.confirms(&idle)
+}
+
 fn rows<N: Naming + Counting, R: Wait>(
     rt: &R,
     alloc: Global,
@@ -38,62 +133,25 @@ fn rows<N: Naming + Counting, R: Wait>(
     requires counters { unnamed.0 ≡ N.counters }
     requires counts { (prepared.1.about ≡ 2) × (prepared.1.callers ≡ 1) × (unnamed.1 ≡ 1) }
 {
-    let (machine, mut seats) = Machine::<CfsQueue, Steady, N, 2>::new(
-        alloc, Steady, prepared, unnamed, 1,
-    )?;
+    let (machine, mut seats) = Single::<N>::new(alloc, Steady, prepared, unnamed, 1)?;
     let Some(mut seat) = seats.pop() else {
         return Ok(false);
     };
-    let Ok(mut idle) = machine.block(rt, alloc, &mut seat, 0) else {
+    let (Ok(idle), Ok(pulled)) = (
+        machine.block(rt, alloc, &mut seat, 0),
+        machine.pull(rt, alloc, &mut seat, 1, 0),
+    ) else {
         return Ok(false);
     };
-    let idles = idle.place == 0 && matches!(idle.entry.reply, Err(Refusal::Idle));
-    let beyond = matches!(
-        machine.tick(rt, alloc, &mut seat, 2),
-        Err(Refusal::NoProcessor)
-    );
-    let same = matches!(
-        machine.pull(rt, alloc, &mut seat, 0, 0),
-        Err(Refusal::SameProcessor)
-    );
-    let Ok(pulled) = machine.pull(rt, alloc, &mut seat, 1, 0) else {
-        return Ok(false);
-    };
-    let pulls = pulled.place == 1
-        && matches!(
-            pulled.entry.reply,
-            Ok(Reply::Pulled {
-                task: None,
-                run: None,
-                by: By::Discipline,
-                steps: 0
-            })
-        );
-    let Ok(loaded) = machine.load_all(rt, alloc, &mut seat, Hook::Preempt, Some(&ZERO)) else {
-        return Ok(false);
-    };
-    let loads = loaded.draw.place == 2
-        && matches!(loaded.draw.entry.reply, Ok(Reply::Drawn { generation: 1 }))
-        && loaded.installs.len() == 2;
-    let Ok(taken) = machine.load_all(rt, alloc, &mut seat, Hook::Preempt, None) else {
-        return Ok(false);
-    };
-    let takes = taken.draw.place == 5
-        && matches!(taken.draw.entry.reply, Ok(Reply::Drawn { generation: 2 }));
-    let cut = matches!(
-        machine.load_all(rt, alloc, &mut seat, Hook::Preempt, Some(&ZERO[..27])),
-        Err(LoadRefused::Fault(LoadFault::Cut))
-    );
-    let counts = machine.counter(&mut seat, 3) == 0;
+    let well = is_idle(&idle)
+        && is_pull_of_none(&pulled)
+        && answers(rt, alloc, &machine, &mut seat);
     seats.push(seat)?;
     if !machine.owns(&seats) {
         return Ok(false);
     }
     let closed = machine.close(seats);
-    let stands = closed.len() == 8 && closed.confirms(&idle) && closed.confirms(&pulled);
-    idle.entry.reply = Ok(Reply::Retired);
-    let differs = !closed.confirms(&idle);
-    Ok(idles && beyond && same && pulls && loads && takes && cut && counts && stands && differs)
+    Ok(well && has_both(&closed, idle, pulled))
 }
 
 #[test]
