@@ -88,6 +88,11 @@ def marks(image):
     return f";@ hook {image.hook}\n" + (f";@ maps {maps}\n" if maps else "") + (f";@ format {image.version}\n" if image.version == 2 else "")
 
 
+def bare(text):
+    """The text without the marks that one of policies/ has."""
+    return "".join(line for line in text.splitlines(True) if not line.startswith(";@"))
+
+
 def words(given):
     shown, entries, counters, time, processor = given
     options = ["--ctx", shown.hex(), "--time", str(time), "--processor", str(processor)]
@@ -114,7 +119,7 @@ def told(output):
 def compare_run(bqsim, draw, image, text, number):
     given = inputs(draw, image)
     as_text = number % 2 == 1
-    said = marks(image) + text if as_text else image.spelled().hex()
+    said = marks(image) + bare(text) if as_text else image.spelled().hex()
     answer = answered(bqsim, ["run", *words(given)], said)
     wanted = expected(image, given)
     if answer.returncode != 0 or told(answer.stdout) != wanted:

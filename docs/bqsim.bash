@@ -1,0 +1,28 @@
+# Completion of bqsim for bash: source this file. tests/pages.py makes it of the program's help.
+_bqsim() {
+    local word=${COMP_WORDS[COMP_CWORD]} words
+    if [ "$COMP_CWORD" -eq 1 ]; then
+        mapfile -t COMPREPLY < <(compgen -W "asm check dis import par replay run simulate timeline help --help --version" -- "$word")
+        return
+    fi
+    case ${COMP_WORDS[1]} in
+        asm) words="--hook --maps --format --help" ;;
+        check) words="--hook --maps --format --explain --json --max-steps --helpers --help" ;;
+        dis) words="--hook --maps --format --slots --help" ;;
+        import) words="--hook --maps --format --help" ;;
+        par) words="--rule --processors --ticks --help" ;;
+        replay) words="--help" ;;
+        run) words="--hook --maps --format --ctx --set --map --time --processor --counter --help" ;;
+        simulate) words="--discipline --processors --duration --seed --place --preempt --pull --as --from --to --cpus --tasks --width --help" ;;
+        timeline) words="--as --from --to --cpus --tasks --width --help" ;;
+        help) words="asm check dis import par replay run simulate timeline" ;;
+        *) words="" ;;
+    esac
+    mapfile -t COMPREPLY < <(compgen -W "$words" -- "$word")
+    case ${COMP_WORDS[1]} in
+        check|dis|import|run|simulate|timeline)
+            [[ $word == -* ]] || mapfile -t -O "${#COMPREPLY[@]}" COMPREPLY < <(compgen -f -- "$word")
+            ;;
+    esac
+}
+complete -o filenames -F _bqsim bqsim
