@@ -65,3 +65,29 @@ pub fn expect(
     }
     Ok(())
 }
+
+/// What reads a byte of the context at `r2`, which has to be 0 to 55, and the way out.
+pub const BYTE_OF_CONTEXT: &str = "add64 r1, r2
+ldxb r0, [r1+0]
+exit
+out:
+mov64 r0, 0
+exit
+";
+
+/// The way out alone.
+pub const OUT: &str = "out:
+mov64 r0, 0
+exit
+";
+
+/// The refusal of an access.
+pub fn access(slot: usize) -> Verdict {
+    at(slot, Cause::Access)
+}
+
+/// Each program, of such a beginning and that end, has its answer beside two maps of one entry of 16 bytes each.
+pub fn follows(rt: &impl Abort, alloc: Global, trials: &[Trial], end: &str) -> Result<(), Fail> {
+    let shape = MapShape::new(16, 1).ok_or("shape")?;
+    expect(rt, alloc, &[shape, shape], trials, end)
+}

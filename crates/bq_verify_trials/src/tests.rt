@@ -1,35 +1,9 @@
 // Programs of the hook preempt, whose context has 56 bytes, with their budgets, or with the slot and the cause of the
 // refusal. Most read a byte of the context at a place in `r2`, which has to be 0 to 55.
 
-use crate::judging::{Trial, Verdict, at, expect};
-use bq_maps::MapShape;
+use crate::judging::{BYTE_OF_CONTEXT, OUT, access, at, follows};
 use bq_verify::Cause;
-use std::alloc::Global;
-use std::process::Abort;
 use std::test::Fail;
-
-const BYTE_OF_CONTEXT: &str = "add64 r1, r2
-ldxb r0, [r1+0]
-exit
-out:
-mov64 r0, 0
-exit
-";
-
-const OUT: &str = "out:
-mov64 r0, 0
-exit
-";
-
-fn access(slot: usize) -> Verdict {
-    at(slot, Cause::Access)
-}
-
-/// Each program, of such a beginning and that end, has its answer beside two maps of one entry of 16 bytes each.
-fn follows(rt: &impl Abort, alloc: Global, trials: &[Trial], end: &str) -> Result<(), Fail> {
-    let shape = MapShape::new(16, 1).ok_or("shape")?;
-    expect(rt, alloc, &[shape, shape], trials, end)
-}
 
 #[test]
 fn tests_of_numbers(rt: HostRuntime) -> Result<(), Fail> {
@@ -240,124 +214,6 @@ fn pointers(rt: HostRuntime) -> Result<(), Fail> {
              ldxdw r0, [r6+8]\n\
              exit",
             at(14, Cause::Unset),
-        ),
-    ];
-    follows(&rt, rt.alloc(), trials.as_slice(), OUT)
-}
-
-#[test]
-fn copies(rt: HostRuntime) -> Result<(), Fail> {
-    let trials = [
-        // what is told of a register is told of its copy
-        (
-            "ldxw r3, [r1+0]\n\
-             mov64 r2, r3\n\
-             jgt64 r3, 55, out",
-            Ok(6),
-        ),
-        (
-            "ldxw r3, [r1+0]\n\
-             mov64 r2, r3\n\
-             jgt64 r3, 56, out",
-            access(4),
-        ),
-        // and of what it is a copy of; the copy of the low half of a word below 2^32 is a copy of the word
-        (
-            "ldxw r2, [r1+0]\n\
-             mov32 r3, r2\n\
-             jgt32 r3, 55, out",
-            Ok(6),
-        ),
-        // of a longer word it is not
-        (
-            "ldxdw r2, [r1+0]\n\
-             mov32 r3, r2\n\
-             jgt32 r3, 55, out",
-            access(4),
-        ),
-        // the least of a number and 7
-        (
-            "ldxw r3, [r1+0]\n\
-             mov32 r2, r3\n\
-             jlt32 r3, 7, least\n\
-             mov32 r2, 7\n\
-             least:\n\
-             jeq64 r2, 9, out",
-            Ok(8),
-        ),
-        // a copy that is written is none
-        (
-            "ldxw r3, [r1+0]\n\
-             mov64 r2, r3\n\
-             add64 r2, 1\n\
-             jgt64 r3, 54, out",
-            access(5),
-        ),
-        // nor is one of a register that is written
-        (
-            "ldxw r3, [r1+0]\n\
-             mov64 r2, r3\n\
-             mov64 r3, 0\n\
-             jgt64 r3, 55, out",
-            access(5),
-        ),
-        // the right operand of a comparison
-        (
-            "ldxw r2, [r1+0]\n\
-             mov64 r3, 55\n\
-             jlt64 r3, r2, out",
-            Ok(6),
-        ),
-        (
-            "ldxw r2, [r1+0]\n\
-             mov64 r3, 56\n\
-             jlt64 r3, r2, out",
-            access(4),
-        ),
-        // and its copies
-        (
-            "ldxw r4, [r1+0]\n\
-             mov64 r2, r4\n\
-             mov64 r3, 55\n\
-             jlt64 r3, r4, out",
-            Ok(7),
-        ),
-    ];
-    follows(&rt, rt.alloc(), trials.as_slice(), BYTE_OF_CONTEXT)
-}
-
-#[test]
-fn copies_of_answers(rt: HostRuntime) -> Result<(), Fail> {
-    let trials = [
-        // the test of a look-up's answer is one of its copy
-        (
-            "stw [r10-4], 0\n\
-             ldmap r1, 0\n\
-             mov64 r2, r10\n\
-             add64 r2, -4\n\
-             call 1\n\
-             mov64 r6, r0\n\
-             jeq64 r0, 0, out\n\
-             ldxdw r0, [r6+8]\n\
-             exit",
-            Ok(9),
-        ),
-        // of another answer it is not
-        (
-            "stw [r10-4], 0\n\
-             ldmap r1, 0\n\
-             mov64 r2, r10\n\
-             add64 r2, -4\n\
-             call 1\n\
-             mov64 r6, r0\n\
-             ldmap r1, 0\n\
-             mov64 r2, r10\n\
-             add64 r2, -4\n\
-             call 1\n\
-             jeq64 r0, 0, out\n\
-             ldxdw r0, [r6+8]\n\
-             exit",
-            access(13),
         ),
     ];
     follows(&rt, rt.alloc(), trials.as_slice(), OUT)

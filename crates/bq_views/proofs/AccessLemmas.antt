@@ -15,6 +15,7 @@ use Rattle.bq_maps.specs.Arrays.{HaveShapes}
 use Rattle.bq_maps.specs.Machine.{loaded, Does, address_of, put}
 use Rattle.bq_ranges.specs.Within.{Within}
 use Rattle.bq_ranges.specs.declared.range.Range.{Range}
+use Rattle.bq_views.specs.Copies.{HasWord}
 use Rattle.bq_views.specs.declared.view.View.{View}
 use Rattle.bq_views.specs.declared.view.Known.{Known}
 use Rattle.bq_views.specs.declared.view.Kind.{Kind}
@@ -155,8 +156,20 @@ load_gives shapes context_length view size signed dst src off kind at numbers fi
 pub number_of_word : (n : ℕ) → n < 2 ^ 64 → number_of (bytes_low_first 0 8 n) ≡ n
 number_of_word n small = omega arith
 
+-- a word that is kept in a slot is there
+kept_word : (shapes : List MapShape) (k : Known) (s : State) (slot : ℕ) → (keeps : Keeps shapes (Some k) s.stack slot) → HasWord s (11 + slot) keeps.0
+kept_word shapes k s slot keeps = (
+  λ lt. absurd (let no : ⊥ = omega (arith, lt) in no),
+  λ j is.
+      let same : slot ≡ j = omega (arith, is) in
+      let d = keeps.1 in (
+        omega (arith, d.word_is),
+        subst (λ (m : ℕ). (i : ℕ) → i < 8 → s.stack (8 * m + i) ≡ Some (byte_of i keeps.0)) same keeps.2,
+      ),
+)
+
 -- a load of a word that was stored whole
-pub kept_gives : (shapes : List MapShape) (context_length : ℕ) (view : View) (dst src : ℕ) (off : ℤ) (at : Range) (slot : ℕ) (k : Known) → FindsPlace shapes context_length view src off Double Stack at → at.lo ≡ at.hi → at.lo ≡ 8 * slot → slice_index_or view.kept slot None ≡ Some k → dst < 10 → (f : Setting) (s : State) → Suits shapes context_length f → Covers f view s → (n : ℕ) × Does f (Load Double false dst src off) s (put s 1 dst n) × Describes f.shapes k n
+pub kept_gives : (shapes : List MapShape) (context_length : ℕ) (view : View) (dst src : ℕ) (off : ℤ) (at : Range) (slot : ℕ) (k : Known) → FindsPlace shapes context_length view src off Double Stack at → at.lo ≡ at.hi → at.lo ≡ 8 * slot → slice_index_or view.kept slot None ≡ Some k → dst < 10 → (f : Setting) (s : State) → Suits shapes context_length f → Covers f view s → (n : ℕ) × Does f (Load Double false dst src off) s (put s 1 dst n) × Describes f.shapes k n × HasWord s (11 + slot) n
 kept_gives shapes context_length view dst src off at slot k finds single here there target f s suits covers =
     let found = finds f s suits covers in
     let same : found.2 ≡ 8 * slot = omega (arith, found.6) in
@@ -169,13 +182,15 @@ kept_gives shapes context_length view dst src off at slot k finds single here th
       n,
       (found.0, bytes, found.3, refl, record { region = InStack; offset = found.2; good = stack; set = λ i h. rw same (keeps.2 i h ∙ ap Some (sym (low_at 0 8 n i h ∙ ap (λ (x : ℕ). byte_of x n) (omega arith)))) }, target, rw is refl),
       keeps.1,
+      kept_word f.shapes k s slot keeps,
     )
 
-pub kept_load : (shapes : List MapShape) (context_length : ℕ) (view : View) (size : Size) (signed : Bool) (dst src : ℕ) (off : ℤ) (kind : Kind) (at : Range) (k : Known) → FindsPlace shapes context_length view src off size kind at → (kind ≡ Stack) × (size ≡ Double) × (signed ≡ false) × (at.lo ≡ at.hi) × (slot : ℕ) × (at.lo ≡ 8 * slot) × (slice_index_or view.kept slot None ≡ Some k) → dst < 10 → (f : Setting) (s : State) → Suits shapes context_length f → Covers f view s → (n : ℕ) × Does f (Load size signed dst src off) s (put s 1 dst n) × Describes f.shapes k n
-kept_load shapes context_length view size signed dst src off kind at k finds (stack, double, plain, single, slot, here, there) target f s suits covers =
+pub kept_load : (shapes : List MapShape) (context_length : ℕ) (view : View) (size : Size) (signed : Bool) (dst src : ℕ) (off : ℤ) (kind : Kind) (at : Range) (k : Known) → FindsPlace shapes context_length view src off size kind at → (kind ≡ Stack) × (size ≡ Double) × (signed ≡ false) × (at.lo ≡ at.hi) × (slot : ℕ) × (slot < 64) × (at.lo ≡ 8 * slot) × (slice_index_or view.kept slot None ≡ Some k) → dst < 10 → (f : Setting) (s : State) → Suits shapes context_length f → Covers f view s → (n : ℕ) × Does f (Load size signed dst src off) s (put s 1 dst n) × Describes f.shapes k n × ((place : ℕ) → at.lo ≡ 8 * place → HasWord s (11 + place) n)
+kept_load shapes context_length view size signed dst src off kind at k finds (stack, double, plain, single, slot, inside, here, there) target f s suits covers =
     let finds' : FindsPlace shapes context_length view src off Double Stack at = subst (λ (z : Size). FindsPlace shapes context_length view src off z Stack at) double (subst (λ (x : Kind). FindsPlace shapes context_length view src off size x at) stack finds) in
     let given = kept_gives shapes context_length view dst src off at slot k finds' single here there target f s suits covers in (
       given.0,
       subst (λ (z : Size). Does f (Load z signed dst src off) s (put s 1 dst given.0)) (sym double) (subst (λ (b : Bool). Does f (Load Double b dst src off) s (put s 1 dst given.0)) (sym plain) given.1),
       given.2,
+      λ place is. let same : slot ≡ place = omega (arith, here, is) in subst (λ (p : ℕ). HasWord s (11 + p) given.0) same given.3,
     )

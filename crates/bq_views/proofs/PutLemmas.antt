@@ -1,8 +1,8 @@
 -- Instructions that give a register a value.
 use Rattle.bq_ranges.specs.declared.range.Range.{Range}
 use Rattle.bq_views.specs.declared.view.Kind.TheVariants.{Map}
-use Rattle.std.proofs.Common.{sym, zero-le, ◌≡◌, ◌≢◌, ℕ, ◌<◌, Bool, true, false, List, Option, Some, None, length, get_or, set, refl, arith, get_or-set_same, get_or-set_other, ◌⊎◌, inl, inr, cond}
-use Rattle.std.specs.Prelude.{slice_index_or}
+use Rattle.std.proofs.Common.{sym, zero-le, ◌≡◌, ◌≢◌, ℕ, ◌+◌, ◌<◌, Bool, true, false, List, Option, Some, None, length, get_or, set, refl, arith, get_or-set_same, get_or-set_other, ◌⊎◌, inl, inr, cond}
+use Rattle.std.specs.Prelude.{slice_index_or, slice_set}
 use Rattle.std.proofs.lemmas.Bool.Decides.{eqb_tells}
 use Rattle.bq_insn.specs.declared.Insn.{Insn}
 use Rattle.bq_insn.specs.Slots.{slots_of}
@@ -13,7 +13,8 @@ use Rattle.bq_maps.specs.Memory.{Setting, State, reference}
 use Rattle.bq_maps.specs.Machine.{Does, put, IsLeft}
 use Rattle.bq_views.specs.declared.view.Known.{Known}
 use Rattle.bq_views.specs.declared.view.View.{View}
-use Rattle.bq_views.proofs.CopyLemmas.{copies_learnt, copies_put}
+use Rattle.bq_views.proofs.CopyLemmas.{copies_learnt, copies_put, copies_same, loaded_copy, put_here, put_same}
+use Rattle.bq_views.specs.Copies.{AreCopies, HasWord}
 use Rattle.bq_views.specs.Views.{Describes, Holds, Covers, Suits, Carries, knowing}
 
 pub left_from_set : (o : Operation) (v : Option ℕ) (a : ℕ) → v ≡ Some a → IsLeft o v a
@@ -33,11 +34,31 @@ covers_put f v s slots dst n k lt covers d = record {
   copies = copies_put v.classes s slots dst n covers.copies;
 }
 
+-- a register that is written with what it holds
+pub covers_same : (f : Setting) (v : View) (s : State) (slots dst n : ℕ) → s.register dst ≡ Some n → Covers f v s → Covers f v (put s slots dst n)
+covers_same f v s slots dst n is covers = record {
+  registers = λ r. rw (put_same s slots dst n is r) (covers.registers r);
+  set = covers.set;
+  kept = covers.kept;
+  maps = covers.maps;
+  copies = copies_same v.classes s slots dst n is covers.copies;
+}
+
 -- an instruction that gives a register such a word carries the view on
 pub carries_put : (shapes : List MapShape) (context_length : ℕ) (insn : Insn) (v : View) (dst : ℕ) (k : Known) → dst < length v.registers → ((f : Setting) (s : State) → Suits shapes context_length f → Covers f v s → (n : ℕ) × Does f insn s (put s (slots_of insn) dst n) × Describes f.shapes k n) → Carries shapes context_length insn v (knowing v dst k)
 carries_put shapes context_length insn v dst k lt gives f s suits covers =
     let given = gives f s suits covers in
     (put s (slots_of insn) dst given.0, given.1, covers_put f v s (slots_of insn) dst given.0 k lt covers given.2, refl)
+
+-- the same, where the register is a copy of a slot then
+pub carries_linked : (shapes : List MapShape) (context_length : ℕ) (insn : Insn) (v : View) (dst slot : ℕ) (k : Known) (classes : List ℕ) → dst < length v.registers → dst < 11 → ((f : Setting) (s : State) → Suits shapes context_length f → Covers f v s → (n : ℕ) × Does f insn s (put s (slots_of insn) dst n) × Describes f.shapes k n × HasWord s (11 + slot) n) → ((t : State) (n : ℕ) → AreCopies (slice_set v.classes dst 0) t → HasWord t (11 + slot) n → ((m : ℕ) → HasWord t (11 + slot) m → HasWord t dst m) → AreCopies classes t) → Carries shapes context_length insn v (record (knowing v dst k) { classes = classes })
+carries_linked shapes context_length insn v dst slot k classes lt low gives linked f s suits covers =
+    let given = gives f s suits covers in
+    let t : State = put s (slots_of insn) dst given.0 in
+    let put_covers : Covers f (knowing v dst k) t = covers_put f v s (slots_of insn) dst given.0 k lt covers given.2 in
+    let there : HasWord t (11 + slot) given.0 = (λ below. absurd (let no : ⊥ = omega (arith, below) in no), given.3.1) in
+    let copies = linked t given.0 put_covers.copies there (λ m has. loaded_copy t dst slot given.0 m low (put_here s (slots_of insn) dst given.0) there has) in
+    (t, given.1, record { registers = put_covers.registers; set = put_covers.set; kept = put_covers.kept; maps = put_covers.maps; copies = copies }, refl)
 
 -- a register that is known has such a word
 pub found_at : (f : Setting) (v : View) (s : State) (r : ℕ) (k : Known) → Some k ≡ slice_index_or v.registers r None → Covers f v s → (n : ℕ) × (s.register r ≡ Some n) × Describes f.shapes k n

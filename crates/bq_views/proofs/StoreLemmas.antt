@@ -66,11 +66,12 @@ inside stack at bytes i lt (inl (le, lt', e)) = e ∙ ap (λ (x : ℕ). Some (sl
 inside stack at bytes i lt (inr (inl below, e)) = absurd (omega arith)
 inside stack at bytes i lt (inr (inr past, e)) = absurd (omega arith)
 
--- a word that is stored whole in a slot is kept there
+-- the bytes of a word that is stored whole in a slot
+pub stored_bytes : (stack : ℕ → Option ℕ) (j v : ℕ) (bytes : List ℕ) → bytes ≡ bytes_low_first 0 8 v → length bytes ≡ 8 → (i : ℕ) → i < 8 → stack_with stack (8 * j) bytes (8 * j + i) ≡ Some (byte_of i v)
+stored_bytes stack j v bytes is long i lt =
+    inside stack (8 * j) bytes i (omega arith) (stack_cases stack (8 * j) bytes (8 * j + i))
+    ∙ ap Some (ap (λ (x : List ℕ). slice_index x i) is ∙ (low_at 0 8 v i lt ∙ ap (λ (x : ℕ). byte_of x v) (omega arith)))
+
+-- such a word is kept there
 pub Keeps-stored : (shapes : List MapShape) (k : Known) (stack : ℕ → Option ℕ) (j v : ℕ) (bytes : List ℕ) → bytes ≡ bytes_low_first 0 8 v → length bytes ≡ 8 → Describes shapes k v → Keeps shapes (Some k) (stack_with stack (8 * j) bytes) j
-Keeps-stored shapes k stack j v bytes is long d = (
-  v,
-  d,
-  λ i lt. inside stack (8 * j) bytes i (omega arith) (stack_cases stack (8 * j) bytes (8 * j + i))
-      ∙ ap Some (ap (λ (x : List ℕ). slice_index x i) is ∙ (low_at 0 8 v i lt ∙ ap (λ (x : ℕ). byte_of x v) (omega arith))),
-)
+Keeps-stored shapes k stack j v bytes is long d = (v, d, stored_bytes stack j v bytes is long)

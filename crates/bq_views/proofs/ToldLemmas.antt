@@ -1,7 +1,7 @@
 -- What a branch tells of one place is right of its copies.
 use Rattle.std.proofs.Common.{◌≡◌, ◌≢◌, ℕ, ◌+◌, ◌*◌, ◌^◌, ◌<◌, ◌≤◌, Bool, true, false, List, [], ◌∷◌, Option, Some, None, length, get_or, set, refl, sym, subst, ap, arith, ◌∙◌, get_or-set_same, get_or-set_other, ◌⊎◌, inl, inr}
 use Rattle.std.specs.Prelude.{slice_index, slice_index_or, slice_set}
-use Rattle.std.specs.Int.{byte_at as byte_of, bytes_low_first}
+use Rattle.std.specs.Int.{byte_at as byte_of}
 use Rattle.std.proofs.lemmas.Bool.{cases_lt}
 use Rattle.std.proofs.lemmas.Bool.Decides.{eqb_tells}
 use Rattle.std.proofs.lemmas.List.{get_or_past, get_or_read}
@@ -14,7 +14,6 @@ use Rattle.bq_views.specs.Standing.{Standing, Stands, NoPointer, Fact, Never, At
 use Rattle.bq_views.specs.Told.{HasLearnt, IsLasting, IsLastingWord, IsSharper}
 use Rattle.bq_views.specs.Views.{Covers, Describes, Holds, Keeps}
 use Rattle.bq_views.proofs.AccessLemmas.{number_of_word}
-use Rattle.bq_views.proofs.MergeLemmas.{some_same}
 use Rattle.bq_views.proofs.PutLemmas.{learn_at}
 use Rattle.bq_views.proofs.WordLemmas.{word_fits}
 

@@ -6,6 +6,7 @@ use Rattle.bq_insn.specs.declared.Source.{Source}
 use Rattle.bq_insn.specs.declared.Width.{Width}
 use Rattle.bq_views.specs.Ready.{IsNullCheck}
 use Rattle.bq_views.specs.Standing.{Pointer, Stands}
+use Rattle.bq_views.specs.declared.view.Kind.{Kind}
 use Rattle.bq_views.specs.declared.view.Kind.TheVariants.{Number, Entry, EntryOrNull}
 use Rattle.bq_views.specs.declared.view.Known.{Known}
 
@@ -14,9 +15,13 @@ abbrev pub is_found : Condition → Bool → Bool
 is_found Equal goes = not goes
 is_found c goes = goes
 
+-- the answer of a look-up in that map, which may be 0 or was found
+abbrev pub IsAnswerOf : ℕ → Kind → Type 0
+IsAnswerOf map kind = (kind ≡ EntryOrNull map) ⊎ (kind ≡ Entry map)
+
 -- the words may be compared so: two numbers, or a look-up's answer with 0 from the instruction, for equality and in 64 bits
 abbrev pub IsCompared : Width → Condition → Known → Source → Known → Type 0
-IsCompared w c left src right = ((left.kind ≡ Number) × (right.kind ≡ Number)) ⊎ ((m : ℕ) × (left.kind ≡ EntryOrNull m) × IsNullCheck w c src)
+IsCompared w c left src right = ((left.kind ≡ Number) × (right.kind ≡ Number)) ⊎ ((m : ℕ) × IsAnswerOf m left.kind × (left.offset.hi ≡ 0) × IsNullCheck w c src)
 
 -- the word on a side of such a test
 pub record IsTested (map : ℕ) (found : Bool) (side : Option Known) : Type 0 where

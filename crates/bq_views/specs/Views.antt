@@ -4,6 +4,7 @@ use Rattle.std.specs.Int.{byte_at}
 use Rattle.bq_insn.specs.declared.Insn.{Insn}
 use Rattle.bq_insn.specs.Slots.{slots_of}
 use Rattle.bq_insn.specs.declared.Size.{Size}
+use Rattle.bq_insn.specs.declared.Size.TheVariants.{Double}
 use Rattle.bq_insn.specs.Meaning.{byte_count}
 use Rattle.bq_graph.specs.Edges.{Leaves}
 use Rattle.bq_maps.specs.declared.shape.MapShape.{MapShape}
@@ -15,7 +16,7 @@ use Rattle.bq_maps.specs.Machine.{Does, IsOperand, Asks, called, address_of, low
 use Rattle.bq_insn.specs.declared.Source.{Source}
 use Rattle.bq_ranges.specs.Within.{Within}
 use Rattle.bq_ranges.specs.declared.range.Range.{Range}
-use Rattle.bq_views.specs.Copies.{AreCopies}
+use Rattle.bq_views.specs.Copies.{AreCopies, HasWord}
 use Rattle.bq_views.specs.declared.view.Kind.{Kind}
 use Rattle.bq_views.specs.declared.view.Kind.TheVariants.{Number, Context, Stack, Entry, EntryOrNull, Map}
 use Rattle.bq_views.specs.declared.view.Known.{Known}
@@ -148,11 +149,15 @@ FindsPlace shapes context_length view r off size kind at =
 abbrev pub keeping : View → ℕ → Known → View
 keeping v slot k = record v { kept = slice_set v.kept slot (Some k) }
 
--- from every state of the old view the low bytes of such a word can be written there, which leads to a state of the new one
-abbrev pub Stores : List MapShape → ℕ → ℕ → ℤ → Size → Known → View → View → Type 0
-Stores shapes context_length dst off size k old new =
+-- the eight bytes of that slot of the stack
+abbrev pub IsWholeSlot : Range → Size → ℕ → Type 0
+IsWholeSlot at size slot = (slot < 64) × (size ≡ Double) × (at.lo ≡ 8 * slot) × (at.hi ≡ 8 * slot)
+
+-- from every state of the old view the low bytes of such a word can be written there, which leads to a state of the new one, where the slot, if there is one, has the word
+abbrev pub Stores : List MapShape → ℕ → ℕ → ℤ → Size → Known → View → View → Option ℕ → Type 0
+Stores shapes context_length dst off size k old new slot =
     (f : Setting) (s : State) (v : ℕ) → Suits shapes context_length f → Covers f old s → Describes f.shapes k v
-    → (a : ℕ) × (u : State) × (s.register dst ≡ Some a) × Writes f s (address_of a off) (low_bytes size v) u × Covers f new (next u) × (u.slot ≡ s.slot)
+    → (a : ℕ) × (u : State) × (s.register dst ≡ Some a) × Writes f s (address_of a off) (low_bytes size v) u × Covers f new (next u) × (u.slot ≡ s.slot) × (u.register ≡ s.register) × ((n : ℕ) → slot ≡ Some n → HasWord u (11 + n) v)
 
 -- control only goes on to the next instruction
 abbrev pub IsStraight : Insn → Type 0

@@ -120,6 +120,9 @@ fn copy(view: &mut View, width: Width, dst: u8, src: Source) -> Result<(), Doubt
     let Some(right) = operand(view, src) else {
         return Err(Doubt::Unset);
     };
+    if src == Source::Reg(dst) && is_whole(width, right) {
+        return Ok(());
+    }
     let Some(word) = copied(width, right) else {
         return Err(Doubt::PointerUse);
     };

@@ -10,6 +10,7 @@ ghost use Rattle.bq_views.specs.Standing.{IsGiven};
 ghost use Rattle.bq_views.specs.Ready.{IsReadable};
 ghost use Rattle.bq_views.specs.Views.{Carries};
 
+use crate::copies::link;
 use crate::places::{Location, is_readable, locate};
 use crate::registers::learn;
 use crate::view::{Doubt, Kind, Known, View};
@@ -17,7 +18,7 @@ use bq_insn::{Bits, Insn, Size, Width};
 use bq_maps::shape::MapShape;
 use bq_ranges::{Range, moves};
 
-/// A load.
+/// A load; of a slot of the stack whose word is known the register is a copy then.
 pub fn load(
     view: &mut View,
     shapes: &[MapShape],
@@ -37,6 +38,8 @@ pub fn load(
     let found = locate(view, shapes, context, size, src, off)?;
     if let Some(word) = kept_at(view, found, size, signed) {
         learn(view, dst, word);
+        let slot = found.at.lo as usize / 8;
+        link(&mut view.classes, usize::from(dst), 11 + slot);
         return Ok(());
     }
     if !is_readable(view, found.kind, found.at, size) {
@@ -55,7 +58,7 @@ pub fn load(
 
 /// The word that is kept where a load of eight bytes reads, if one is.
 fn kept_at(view: &View, place: Location, size: Size, signed: bool) -> Option<Known>
-    ensures { IfSome result (λ word. (place.kind ≡ Kind.Stack) × (size ≡ Size.Double) × (signed ≡ false) × (place.at.lo ≡ place.at.hi) × (slot : ℕ) × (place.at.lo ≡ 8 * slot) × (slice_index_or view.now.kept slot None ≡ Some word)) }
+    ensures { IfSome result (λ word. (place.kind ≡ Kind.Stack) × (size ≡ Size.Double) × (signed ≡ false) × (place.at.lo ≡ place.at.hi) × (slot : ℕ) × (slot < 64) × (place.at.lo ≡ 8 * slot) × (slice_index_or view.now.kept slot None ≡ Some word)) }
 {
     if place.kind != Kind::Stack || size != Size::Double || signed {
         return None;

@@ -80,6 +80,21 @@ fn outcome(
             }
             null_check(map, width, cond, left, right, goes)
         }
+        (Kind::Entry(_), Kind::Number) => found_check(width, cond, left, src),
+        _ => None,
+    }
+}
+
+/// An answer of a look-up that was found, on a side of one more test: it stays what it is.
+fn found_check(width: Width, cond: Condition, left: Known, src: Source) -> Option<Option<Known>>
+    ensures compared { IfSome result (λ _. (left.offset.hi ≡ 0) × IsNullCheck width cond src) }
+    ensures same { IfSome result (λ side. side ≡ Some left) }
+{
+    if left.offset.hi > 0 {
+        return None;
+    }
+    match (width, cond, src) {
+        (Width::W64, Condition::Equal | Condition::NotEqual, Source::Imm(0)) => Some(Some(left)),
         _ => None,
     }
 }

@@ -1,5 +1,4 @@
-use Rattle.std.proofs.Common.{◌≡◌, ℕ, Some, refl, sym, subst, arith, length, ◌<◌}
-use Rattle.bq_insn.specs.declared.Insn.TheVariants.{Alu}
+use Rattle.std.proofs.Common.{rules, ◌≡◌, ℕ, Some, refl, sym, subst, arith, length, ◌<◌}
 use Rattle.bq_insn.specs.declared.Operation.TheVariants.{Mov}
 use Rattle.bq_insn.specs.Meaning.{alu_result, word_of}
 use Rattle.bq_views.specs.declared.view.Known.{Known}
@@ -11,7 +10,7 @@ use Rattle.bq_maps.specs.Machine.{IsOperand, put}
 use Rattle.bq_views.specs.Views.{Covers, knowing}
 use Rattle.bq_views.proofs.CopyLemmas.{put_here, put_there}
 use Rattle.bq_views.proofs.StandingLemmas.{knowing_made, made_classes}
-use Rattle.bq_views.proofs.PutLemmas.{covers_put}
+use Rattle.bq_views.proofs.PutLemmas.{covers_put, covers_same}
 use Rattle.bq_views.proofs.alu.copy.Goals as goal
 
 pub returns-clause-carries : goal.returns-clause-carries
@@ -47,3 +46,15 @@ returns-clause-exact c = λ i is whole.
     let stands : Stands (Exact (word_of i)) (Some c.in-Some-copied.word) = subst (λ (k : Known). Stands (Exact (word_of i)) (Some k)) (sym same) word in
     made_classes (Exact (word_of i)) c.args.view.now c.learn.new.view c.args.dst c.link_copy.new.classes
     (subst (λ (v : View). IsMade (Exact (word_of i)) c.args.view.now v c.args.dst) (sym c.learn.ensures) (knowing_made (Exact (word_of i)) c.args.view.now c.args.dst c.in-Some-copied.word there stands))
+
+pub returns-then-is_whole-clause-carries : goal.returns-then-is_whole-clause-carries
+returns-then-is_whole-clause-carries c = λ shapes context_length f s suits covers.
+    let right = c.in-Some.ensures.finds f s covers in
+    let itself : c.args.src ≡ Reg c.args.dst = search rules in
+    let whole = c.is_whole.ensures c.if-is_whole.true f.shapes right.0 right.2 in
+    let here : IsOperand s (Reg c.args.dst) right.0 = subst (λ (x : Source). IsOperand s x right.0) itself right.1 in (
+      put s 1 c.args.dst (alu_result c.args.width Mov 0 right.0),
+      (0, right.0, tt, right.1, c.requires, refl),
+      rw whole (covers_same f c.args.view.now s 1 c.args.dst right.0 here covers),
+      refl,
+    )

@@ -1,5 +1,4 @@
-use Rattle.std.proofs.Common.{◌≡◌, ◌≢◌, ◌<◌, ◌∙◌, ap, Some, ℕ, subst, sym, arith, rules}
-use Rattle.bq_insn.specs.declared.Source.TheVariants.{Reg}
+use Rattle.std.proofs.Common.{◌≡◌, ◌<◌, ◌∙◌, ap, Some, ℕ, subst, sym, arith, rules}
 use Rattle.bq_views.proofs.CopyLemmas.{register_copy, register_word}
 use Rattle.bq_views.proofs.alu.link_copy.Goals as goal
 

@@ -1,4 +1,4 @@
-use Rattle.std.proofs.Common.{◌≡◌, ◌≢◌, ◌<◌, ◌≤◌, ℕ, slice_index}
+use Rattle.std.proofs.Common.{◌≡◌, ◌≢◌, ◌<◌, ℕ, slice_index}
 use Rattle.bq_views.proofs.copies.keep_same.Given as goal
 
 abbrev pub invariant-loop-place : goal.invariant-loop-place

@@ -1,12 +1,13 @@
-use Rattle.std.proofs.Common.{◌≡◌, ◌<◌, ℤ, false, true, length, subst, sym, ◌∙◌, arith, rules}
+use Rattle.std.proofs.Common.{◌≡◌, ◌<◌, ◌*◌, ◌/◌, ℕ, ℤ, false, true, length, subst, sym, ◌∙◌, arith, rules}
 use mir.Syntax.{w16}
 use mir.Val.{SFits, to_z, of_z}
 use Rattle.std.proofs.lemmas.Int.{ints}
+use Rattle.bq_views.specs.Copies.{HasWord}
 use Rattle.bq_views.specs.Views.{FindsPlace}
 use Rattle.bq_insn.specs.declared.Insn.TheVariants.{Load}
 use Rattle.bq_views.specs.Ready.{IsPlaced}
 use Rattle.bq_views.proofs.PlaceLemmas.{stack_inside}
-use Rattle.bq_views.proofs.PutLemmas.{carries_put}
+use Rattle.bq_views.proofs.PutLemmas.{carries_linked, carries_put}
 use Rattle.bq_views.proofs.AccessLemmas.{load_gives, kept_load}
 use Rattle.bq_views.proofs.loads.load.Goals as goal
 
@@ -16,10 +17,16 @@ returns-in-Some-clause-carries c =
     let same : to_z w16 (of_z w16 c.args.off) ≡ c.args.off = omega (arith, ints) in
     let finds = subst (λ (off : ℤ). FindsPlace c.args.shapes.now c.args.context c.args.view.now c.args.src off c.args.size c.in_ok-found.found.kind c.in_ok-found.found.at) same c.in_ok-found.ensures.finds in
     let there : c.args.dst < length c.args.view.now.registers = omega (arith, c.requires.below) in
+    let slot : ℕ = c.in_ok-found.found.at.lo / 8 in
+    let to : c.from.result ≡ c.args.dst = search rules in
+    let first : c.in_ok-found.found.at.lo ≡ 8 * slot = omega (arith, c.in-Some.ensures.6) in
+    let gives = kept_load c.args.shapes.now c.args.context c.args.view.now c.args.size c.args.signed c.args.dst c.args.src c.args.off c.in_ok-found.found.kind c.in_ok-found.found.at c.in-Some.word
+    finds c.in-Some.ensures c.requires.below in
+    let linked = rw c.learn.ensures at c.link.ensures in
     rw c.learn.ensures
-    (carries_put c.args.shapes.now c.args.context (Load c.args.size c.args.signed c.args.dst c.args.src c.args.off) c.args.view.now c.args.dst c.in-Some.word there
-    (kept_load c.args.shapes.now c.args.context c.args.view.now c.args.size c.args.signed c.args.dst c.args.src c.args.off c.in_ok-found.found.kind c.in_ok-found.found.at c.in-Some.word
-    finds c.in-Some.ensures c.requires.below))
+    (carries_linked c.args.shapes.now c.args.context (Load c.args.size c.args.signed c.args.dst c.args.src c.args.off) c.args.view.now c.args.dst slot c.in-Some.word c.link.new.classes there (omega (arith, c.requires.below))
+    (λ f s suits covers. let given = gives f s suits covers in (given.0, given.1, given.2, given.3 slot first))
+    (λ t n copies has copy. linked t n copies has (λ m h. subst (λ (p : ℕ). HasWord t p m) (sym to) (copy m h))))
 
 pub returns-clause-carries : goal.returns-clause-carries
 returns-clause-carries c =

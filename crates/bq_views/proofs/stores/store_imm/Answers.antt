@@ -17,8 +17,8 @@ returns-clause-carries c =
     let same : to_z w16 (of_z w16 c.args.off) ≡ c.args.off = omega (arith, ints) in
     let word : Known = record { kind = Number; offset = c.single.result } in
     let is : c.word_of_imm.result ≡ word_of c.args.imm = search rules in
-    let stores = subst (λ (off : ℤ). Stores c.args.shapes.now c.args.context c.args.dst off c.args.size word c.args.view.now c.store.new.view) same c.in_ok-store.ensures.stores in
-    carries_imm c.args.shapes.now c.args.context c.args.dst c.args.off c.args.imm c.args.size word c.args.view.now c.store.new.view (λ f. number_is f.shapes c.single.result (word_of c.args.imm) (omega (arith, is, c.single.ensures.lo), omega (arith, is, c.single.ensures.hi))) stores
+    let stores = subst (λ (off : ℤ). Stores c.args.shapes.now c.args.context c.args.dst off c.args.size word c.args.view.now c.store.new.view c.in_ok-store.field-0) same c.in_ok-store.ensures.stores in
+    carries_imm c.args.shapes.now c.args.context c.args.dst c.args.off c.args.imm c.args.size word c.args.view.now c.store.new.view c.in_ok-store.field-0 (λ f. number_is f.shapes c.single.result (word_of c.args.imm) (omega (arith, is, c.single.ensures.lo), omega (arith, is, c.single.ensures.hi))) stores
 
 pub returns-in_err-store-clause-accepts : goal.returns-in_err-store-clause-accepts
 returns-in_err-store-clause-accepts c = λ place placed.

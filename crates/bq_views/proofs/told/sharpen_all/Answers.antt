@@ -1,6 +1,5 @@
-use Rattle.std.proofs.Common.{◌≡◌, ◌≢◌, ◌+◌, ◌<◌, ℕ, Option, None, length, slice_index, slice_index_or, arith, refl, ◌∙◌}
+use Rattle.std.proofs.Common.{◌≡◌, ◌≢◌, ◌+◌, ◌<◌, length, slice_index, arith}
 use Rattle.std.proofs.lemmas.Grind.{common_steps}
-use Rattle.bq_views.specs.declared.view.Known.{Known}
 use Rattle.bq_views.specs.Standing.{Stands}
 use Rattle.bq_views.specs.Told.{IsLastingWord, IsSharper}
 use Rattle.bq_views.proofs.ToldLemmas.{set_each}

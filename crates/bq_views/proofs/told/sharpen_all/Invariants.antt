@@ -1,4 +1,4 @@
-use Rattle.std.proofs.Common.{◌≡◌, ◌≢◌, ◌+◌, ◌<◌, ◌≤◌, ℕ, None, slice_index, slice_index_or}
+use Rattle.std.proofs.Common.{◌≡◌, ◌≢◌, ◌+◌, ◌≤◌, ℕ, None, slice_index, slice_index_or}
 use Rattle.bq_views.specs.Told.{IsLastingWord, IsSharper}
 use Rattle.bq_views.specs.Standing.{Standing, Stands}
 use Rattle.bq_views.proofs.told.sharpen_all.Given as goal
