@@ -7,6 +7,7 @@ pub mod Text
 pub mod Lines
 pub mod Words
 pub mod Assembly
+pub mod Causes
 pub mod Faults
 pub mod Jumps
 pub mod Draft

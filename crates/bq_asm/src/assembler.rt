@@ -15,6 +15,13 @@ use std::alloc::Global;
 ///
 /// An instruction stands on a line of its own: a first word, and operands between spaces, tabs or commas. A `;`
 /// begins a comment. One word that ends with `:` sets a label, which a jump's target may name before or after it.
+///
+/// # Example
+///
+/// ```
+/// let insns = assemble(alloc, "mov64 r0, 1 ; gives way\nexit\n")?;
+/// assert_eq!(rt; insns.len(), 2);
+/// ```
 pub fn assemble(alloc: Global, text: &str) -> Result<Vec<Insn>, AsmFault>
     ensures assembles { IfOk result (λ insns. Assembles text.now insns.items) }
     ensures well_formed { IfOk result (λ insns. is_well_formed insns.items ≡ true) }

@@ -1,5 +1,6 @@
 //! Why a text is refused.
 ghost use Rattle.std.specs.Prelude.{◌≡◌};
+ghost use Rattle.bq_asm.specs.Causes.{cause_number};
 
 use std::alloc::{AllocError, AllocFailed};
 use thiserror::Error;
@@ -18,6 +19,21 @@ pub enum Cause {
     LabelMissing,
     /// A5: the instruction ends past slot 4096; at line 0, the text has no instruction.
     Slots,
+}
+
+impl Cause {
+    /// The number by which it is named, after the letter A.
+    pub fn number(self) -> u8
+        ensures { result ≡ cause_number self }
+    {
+        match self {
+            Cause::Word => 1,
+            Cause::Number => 2,
+            Cause::LabelTwice => 3,
+            Cause::LabelMissing => 4,
+            Cause::Slots => 5,
+        }
+    }
 }
 
 /// Why a text is refused.

@@ -73,6 +73,22 @@ impl<Q: RunQueue, const P: usize> Core<Q, P> {
 
     /// One event. What policies ask of the counters goes through the board. A refusal leaves the world as it was, and the
     /// board. Only Admit and Install may be refused for want of memory.
+    ///
+    /// # Example
+    ///
+    /// ```
+    /// let mut core = Core::<CfsQueue, 1>::new(alloc)?;
+    /// let mut board = Plain::new();
+    /// let admit = Event::Admit {
+    ///     task: 1,
+    ///     nice: 0,
+    ///     mask: 1,
+    ///     slice: 3_000_000,
+    /// };
+    /// let Ok(Reply::Admitted) = core.step(alloc, admit, &mut board) else {
+    ///     return Err(Fail::from("not admitted"));
+    /// };
+    /// ```
     pub fn step<B: Board>(
         &mut self,
         alloc: Global,

@@ -7,7 +7,8 @@ use Rattle.bq_insn.specs.Slots.{spread}
 use Rattle.bq_graph.specs.Paths.{IsGreatest, PathOut}
 use Rattle.bq_maps.specs.Machine.{Safe}
 use Rattle.bq_load.specs.declared.fault.LoadFault.TheVariants as load
-use Rattle.bq_program.specs.Check.{fault_text, hook_word}
+use Rattle.bq_load.specs.Naming.{fault_text}
+use Rattle.bq_verify.specs.Names.{hook_word}
 use Rattle.bq_verify.specs.Accepted.{context_length_of}
 use Rattle.bq_verify.specs.Refusals.{IsRefusal}
 use Rattle.bq_verify.specs.declared.hook.Hook.{Hook}

@@ -1,6 +1,6 @@
 //! What an instruction needs and has not, in words, for causes of what is known of the states.
 use crate::known::{known_text, pointer_text, stack_text};
-use crate::names::{Surroundings, hook_word, version_number};
+use crate::names::Surroundings;
 use crate::operands::{bit, read};
 use bq_insn::{Insn, Size};
 use bq_ranges::Range;
@@ -154,8 +154,8 @@ fn context_reason(
     if access.verb == "writes" {
         return String::from_str(alloc, "the context is only read");
     }
-    let hook = hook_word(around.hook);
-    let version = version_number(around.version);
+    let hook = around.hook.word();
+    let version = around.version.number();
     let length = around.context;
     format!(in alloc; "the context of {hook}, version {version}, has {length} bytes")
 }

@@ -1,5 +1,4 @@
 //! What is said of a program that is accepted.
-use crate::names::{hook_word, version_number};
 use bq_insn::Insn;
 use bq_maps::shape::MapShape;
 use bq_policy_files::Policy;
@@ -10,8 +9,8 @@ const HELPERS: [i32; 6] = [1, 2, 5, 8, 100, 101];
 
 /// The one line on an accepted program: its hook, budget, version, maps, helpers, calls of counters and slots.
 pub(crate) fn summary(alloc: Global, policy: &Policy, budget: u32) -> Result<String, AllocError> {
-    let hook = hook_word(policy.hook);
-    let version = version_number(policy.version);
+    let hook = policy.hook.word();
+    let version = policy.version.number();
     let insns = policy.insns.as_slice();
     let mut text = format!(in alloc;
         "accepted {hook} budget {budget} of 4096, version {version}, maps "

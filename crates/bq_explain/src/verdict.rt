@@ -6,7 +6,7 @@ ghost use Rattle.bq_explain.specs.Verdicts.{IsSafePolicy, IsVerdict, is_accepted
 use crate::limits::Limits;
 use bq_load::LoadFault;
 use bq_policy_files::Policy;
-use bq_program::{fault_text, hook_word};
+use bq_program::fault_text;
 use bq_verify::{Cause, Hook, Program, Refused, verify};
 use std::alloc::{AllocError, Global};
 
@@ -83,7 +83,7 @@ pub fn verdict_line(alloc: Global, hook: Hook, verdict: Verdict) -> Result<Strin
 {
     match verdict {
         Verdict::Accepted { budget } => {
-            let hook = hook_word(hook);
+            let hook = hook.word();
             format!(in alloc; "accepted {hook} budget {budget}\n")
         }
         Verdict::OverSteps { budget, most } => {

@@ -1,6 +1,5 @@
 //! What the words after `import` ask for.
 
-use bq_policy_files::{hook_of, version_of};
 use bq_program::{Form, Hook, ImageForm, Options, OptionsFault, Version};
 use std::alloc::{AllocError, Global};
 use thiserror::Error;
@@ -66,7 +65,7 @@ impl Settings {
 
 /// The hook that the words name.
 fn hook_in(words: &Words) -> Result<Hook, SettingsFault> {
-    match hook_of(words.hook.as_bytes()) {
+    match Hook::of_word(words.hook.as_bytes()) {
         Some(hook) => Ok(hook),
         None => Err(SettingsFault::Hook),
     }
@@ -77,7 +76,7 @@ fn format_in(words: &Words) -> Result<Option<Version>, SettingsFault> {
     let Some(word) = &words.format else {
         return Ok(None);
     };
-    match version_of(word.as_bytes()) {
+    match Version::of_word(word.as_bytes()) {
         Some(version) => Ok(Some(version)),
         None => Err(SettingsFault::Format),
     }

@@ -9,7 +9,7 @@ ghost use Rattle.bq_import_command.specs.Text.{IsSection, IsTextOf, is_hex_byte}
 use crate::settings::Settings;
 use bq_asm::listing;
 use bq_import::{ImportFault, import};
-use bq_program::{Version, bytes_of, hook_word};
+use bq_program::{Version, bytes_of};
 use std::alloc::{AllocError, AllocFailed, Global};
 use thiserror::Error;
 
@@ -68,7 +68,7 @@ fn imported_bytes(alloc: Global, settings: &Settings, bytes: &[u8]) -> Result<St
 
 /// The lines that say what the program is for: comments to the assembler.
 fn marks(alloc: Global, settings: &Settings) -> Result<String, AllocError> {
-    let hook = hook_word(settings.form.hook);
+    let hook = settings.form.hook.word();
     let mut text = format!(in alloc; ";@ hook {hook}\n")?;
     if let Some(maps) = &settings.maps {
         write!(text, ";@ maps {maps}\n")?;

@@ -1,5 +1,6 @@
 //! Why bytes are no program.
 ghost use Rattle.std.specs.Prelude.{◌≡◌};
+ghost use Rattle.bq_insn.specs.Causes.{cause_number};
 
 use std::alloc::AllocFailed;
 use thiserror::Error;
@@ -23,6 +24,23 @@ pub enum Cause {
     Imm,
     /// A wide instruction stands in the last slot (section 3.2).
     WideCut,
+}
+
+impl Cause {
+    /// The number by which it is named, after the letter I.
+    pub fn number(self) -> u8
+        ensures { result ≡ cause_number self }
+    {
+        match self {
+            Cause::Length => 1,
+            Cause::Opcode => 2,
+            Cause::Register => 3,
+            Cause::Field => 4,
+            Cause::Offset => 5,
+            Cause::Imm => 6,
+            Cause::WideCut => 7,
+        }
+    }
 }
 
 /// Why bytes are refused.

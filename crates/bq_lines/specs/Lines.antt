@@ -3,8 +3,8 @@ use Rattle.std.specs.Prelude.{ℕ, not, ◌||◌, nat_lt, List, [], ◌∷◌, l
 use Rattle.std.specs.List.{list_all, starts_with}
 use Rattle.std.specs.Str.{bytes_eq}
 use Rattle.bq_parts.specs.declared.event.Event.TheVariants.{Admit, Retire, Draw, Install, BeginWake, EndWake, Drain, Tick, Block, Pull}
+use Rattle.bq_verify.specs.Names.{hook_of}
 use Rattle.bq_verify.specs.declared.hook.Hook.{Hook}
-use Rattle.bq_verify.specs.declared.hook.Hook.TheVariants as hooks
 use Rattle.bq_lines.specs.Words.{words, is_allowed}
 use Rattle.bq_lines.specs.Numbers.{decimal_of, processor_of, task_of, mask_of, nice_of}
 use Rattle.bq_sizes.specs.declared.size.Size.{Size}
@@ -17,13 +17,6 @@ use Rattle.bq_lines.specs.declared.command.Reading.TheVariants.{Skipped, Bad, Sa
 -- the size that a word names
 abbrev pub size_of : List ℕ → Option Size
 size_of word = option_and_then size_numbered (processor_of word)
-
-abbrev pub hook_of : List ℕ → Option Hook
-hook_of word =
-    if bytes_eq word (codes "place") then Some hooks.Place
-    else if bytes_eq word (codes "preempt") then Some hooks.Preempt
-    else if bytes_eq word (codes "pull") then Some hooks.Pull
-    else None
 
 -- the words after a command's name
 abbrev pub machine_of : List (List ℕ) → Option Command

@@ -3,7 +3,7 @@ ghost use Rattle.std.specs.Prelude.{◌≡◌, ◌∷◌, ℕ, List, IfOk};
 ghost use Rattle.std.specs.Borrow.{Bor};
 ghost use Rattle.std.specs.Option.{option_map};
 ghost use Rattle.bq_lines.specs.Words.{words};
-ghost use Rattle.bq_lines.specs.Lines.{hook_of, machine_of, admit_of, retire_of, draw_of, install_words, install_of, begin_of, end_of, wake_of, drain_of, tick_of, block_of, pull_of, show_of, counter_of, plain_command_of, reading_of_words, reading_of, reading_heard};
+ghost use Rattle.bq_lines.specs.Lines.{machine_of, admit_of, retire_of, draw_of, install_words, install_of, begin_of, end_of, wake_of, drain_of, tick_of, block_of, pull_of, show_of, counter_of, plain_command_of, reading_of_words, reading_of, reading_heard};
 
 use crate::command::{Command, Reading};
 use crate::image::HexWord;
@@ -93,20 +93,6 @@ fn command(name: &[u8], operands: &[u8]) -> Option<Command>
     }
 }
 
-fn hook(word: &[u8]) -> Option<Hook>
-    ensures { result ≡ hook_of word.now }
-{
-    if word == b"place".as_slice() {
-        Some(Hook::Place)
-    } else if word == b"preempt".as_slice() {
-        Some(Hook::Preempt)
-    } else if word == b"pull".as_slice() {
-        Some(Hook::Pull)
-    } else {
-        None
-    }
-}
-
 fn machine(operands: &[u8]) -> Option<Command>
     ensures { result ≡ machine_of (words operands.now) }
 {
@@ -165,7 +151,7 @@ fn install_words(operands: &[u8]) -> Option<(u8, u64, Hook, &[u8])>
     end_of_words(rest)?;
     let processor = numbers::processor(first)?;
     let generation = numbers::decimal(second)?;
-    let hook = hook(third)?;
+    let hook = Hook::of_word(third)?;
     Some((processor, generation, hook, image))
 }
 

@@ -1,4 +1,8 @@
--- How a fault of the program, and a refusal of the verifier, are named as faults of the image.
+-- How a fault of the program, and a refusal of the verifier, are named as faults of the image, and how those are named.
+use Rattle.std.specs.Prelude.{ℕ, List, [], ◌++◌, codes}
+use Rattle.std.specs.Fmt.{decimal}
+use Rattle.bq_insn.specs.Causes.{cause_number as program_number}
+use Rattle.bq_graph.specs.Causes.{cause_number as refusal_number}
 use Rattle.bq_insn.specs.declared.fault.DecodeFault.{DecodeFault}
 use Rattle.bq_insn.specs.declared.fault.DecodeFault.TheVariants as program
 use Rattle.bq_verify.specs.declared.refused.Refused.{Refused}
@@ -13,3 +17,16 @@ of_program program.OutOfMemory = fault.OutOfMemory
 abbrev pub of_refusal : Refused → LoadFault
 of_refusal (refused.At slot cause) = fault.Refused slot cause
 of_refusal refused.OutOfMemory = fault.OutOfMemory
+
+-- why an image doesn't load: its number after the letter L, and where the fault is the program's, that and its slot.
+-- Want of memory has no name: it is none of the image
+abbrev pub fault_text : LoadFault → List ℕ
+fault_text fault.Magic = codes "L1"
+fault_text fault.Version = codes "L2"
+fault_text fault.Hook = codes "L3"
+fault_text fault.Shape = codes "L4"
+fault_text fault.Cut = codes "L5"
+fault_text fault.Rest = codes "L6"
+fault_text (fault.Decode slot cause) = codes "L7 I" ++ (decimal (program_number cause) ++ (codes " " ++ decimal slot))
+fault_text (fault.Refused slot cause) = codes "L8 V" ++ (decimal (refusal_number cause) ++ (codes " " ++ decimal slot))
+fault_text fault.OutOfMemory = []

@@ -11,6 +11,7 @@ pub mod image;
 mod judging;
 pub mod laws;
 pub mod loading;
+mod naming;
 pub mod reader;
 pub mod writing;
 
@@ -18,5 +19,6 @@ pub use bq_verify::{Hook, Version};
 pub use fault::LoadFault;
 pub use image::{Image, read_image};
 pub use loading::load;
+pub use naming::Numbered;
 pub use reader::ImageReader;
 pub use writing::write_image;

@@ -15,6 +15,18 @@ use std::alloc::Global;
 /// Else, in this order: the first fault of the bytes from left to right, the first fault of the program (its length, or
 /// the least slot and there the least cause), or what the verifier refuses. Faults of the bytes are decided before any
 /// memory is asked for; after that `OutOfMemory` may be answered in place of any other fault.
+///
+/// # Example
+///
+/// ```
+/// let image = [
+///     0x42, 0x51, 0x50, 0x49, 1, 1, 0, 0, 2, 0, 0, 0, // BQPI, version 1, preempt, no maps, 2 slots
+///     0xb7, 0, 0, 0, 1, 0, 0, 0, // mov64 r0, 1
+///     0x95, 0, 0, 0, 0, 0, 0, 0, // exit
+/// ];
+/// let verified = load(alloc, &image)?;
+/// assert_eq!(rt; verified.hook(), Hook::Preempt);
+/// ```
 pub fn load(alloc: Global, bytes: &[u8]) -> Result<Verified, LoadFault>
     ensures loaded { IfOk result (Loads bytes.now) }
     ensures unloaded { IfErr result (IsUnloaded bytes.now) }

@@ -3,7 +3,6 @@ ghost use Rattle.std.specs.Prelude.{◌≡◌, IfOk, string_bytes};
 ghost use Rattle.bq_pictures.specs.Events.{run_event};
 
 use bq_forms::{Form, Label, Micros, Names, Window};
-use bq_parts::Hook;
 use bq_schedule::{Change, Decision, Reading, Schedule, Slice, Start, Wake};
 use serde_json::{Value, json};
 use std::alloc::{AllocError, Global};
@@ -191,7 +190,7 @@ impl Perfetto {
         if !decision.was_overruled() || !self.shows_moment(reading) {
             return Ok(());
         }
-        let hook = hook_name(decision.hook);
+        let hook = decision.hook.word();
         let steps = decision.steps;
         let processor = reading.processor;
         let at = Micros(reading.to);
@@ -244,14 +243,6 @@ fn event_text(alloc: Global, run: &Slice, name: &str, args: &str) -> Result<Stri
     format!(in alloc;
         ",\n{{\"ph\":\"X\",\"cat\":\"run\",\"name\":{name},\"pid\":0,\"tid\":{processor},\"ts\":{from},\"dur\":{length},\"args\":{args}}}"
     )
-}
-
-fn hook_name(hook: Hook) -> &'static str {
-    match hook {
-        Hook::Place => "place",
-        Hook::Preempt => "preempt",
-        Hook::Pull => "pull",
-    }
 }
 
 impl Form for Perfetto {

@@ -4,7 +4,7 @@ use Rattle.std.specs.declared.alloc.Global.{Global}
 use Rattle.std.specs.Fmt.{decimal}
 use Rattle.bq_asm.specs.Text.{listing_text}
 use Rattle.bq_maps.specs.declared.shape.MapShape.{MapShape}
-use Rattle.bq_program.specs.Check.{hook_word}
+use Rattle.bq_verify.specs.Names.{hook_word}
 use Rattle.bq_verify.specs.declared.hook.Version.{Version}
 use Rattle.bq_verify.specs.declared.hook.Version.TheVariants.{First, Second}
 use Rattle.bq_policy_files.specs.declared.head.Head.{Head}

@@ -3,8 +3,8 @@ use Rattle.std.specs.Prelude.{◌≡◌, ◌≢◌, ℕ, List, [], ◌++◌, Str
 use Rattle.std.specs.declared.alloc.Global.{Global}
 use Rattle.std.specs.Fmt.{decimal}
 use Rattle.bq_load.specs.declared.fault.LoadFault.TheVariants as load
-use Rattle.bq_program.specs.Asm.{asm_number}
-use Rattle.bq_program.specs.Check.{fault_text}
+use Rattle.bq_asm.specs.Causes.{cause_number}
+use Rattle.bq_load.specs.Naming.{fault_text}
 use Rattle.bq_program.specs.Refusals.{refusal, cause_and_place}
 use Rattle.bq_policy_files.specs.declared.fault.PolicyFault.{PolicyFault}
 use Rattle.bq_policy_files.specs.declared.fault.PolicyFault.TheVariants as fault
@@ -19,7 +19,7 @@ abbrev pub fault_line : PolicyFault → List ℕ
 fault_line fault.Text = refusal (codes "text")
 fault_line fault.Hex = refusal (codes "hex")
 fault_line (fault.Head line cause) = refusal (codes "head " ++ decimal line)
-fault_line (fault.Assembly line cause) = refusal (cause_and_place (codes "A") (asm_number cause) line)
+fault_line (fault.Assembly line cause) = refusal (cause_and_place (codes "A") (cause_number cause) line)
 fault_line (fault.Image named) = refusal (fault_text named)
 fault_line (fault.Program slot cause) = refusal (fault_text (load.Decode slot cause))
 fault_line (fault.Disagrees key) = refusal (key_word key)

@@ -1,7 +1,6 @@
 //! Why a file is no policy: the line that refuses it, and what is wrong in words.
 ghost use Rattle.std.specs.Prelude.{◌≡◌, ◌≢◌, IfOk, OnOk, string_bytes};
 ghost use Rattle.bq_policy_commands.specs.Refusing.{fault_line};
-ghost use Rattle.bq_program.specs.Asm.{asm_number};
 ghost use Rattle.bq_policy_files.specs.Marks.{key_word};
 ghost use Rattle.bq_policy_files.specs.declared.fault.PolicyFault.TheVariants.{OutOfMemory};
 
@@ -22,7 +21,7 @@ pub fn fault_line(alloc: Global, fault: PolicyFault) -> Result<String, AllocErro
         PolicyFault::Hex => String::from_str(alloc, "refused hex\n"),
         PolicyFault::Head { line, .. } => format!(in alloc; "refused head {line}\n"),
         PolicyFault::Assembly { line, cause } => {
-            let number = cause_number(cause);
+            let number = cause.number();
             let named = format!(in alloc; "A{number} {line}")?;
             format!(in alloc; "refused {named}\n")
         }
@@ -80,7 +79,7 @@ fn assembly_reason(
     match complaint(alloc, bytes)? {
         Some(said) => String::from_str(alloc, said.as_str().trim_end()),
         None => {
-            let number = cause_number(cause);
+            let number = cause.number();
             format!(in alloc; "line {line}: the assembler refuses it by A{number}")
         }
     }
@@ -107,18 +106,5 @@ fn head_words(cause: HeadCause) -> &'static str {
         }
         HeadCause::Value(Key::Format) => "formats are 1 and 2",
         HeadCause::Twice(_) => "this was said in a line before",
-    }
-}
-
-/// The number of a cause, after the letter A.
-fn cause_number(cause: Cause) -> u8
-    ensures { result ≡ asm_number cause }
-{
-    match cause {
-        Cause::Word => 1,
-        Cause::Number => 2,
-        Cause::LabelTwice => 3,
-        Cause::LabelMissing => 4,
-        Cause::Slots => 5,
     }
 }

@@ -2,12 +2,12 @@
 ghost use Rattle.std.specs.Prelude.{◌≡◌, IfOk, Some};
 ghost use Rattle.bq_policy_commands.specs.Saying.{IsHeadWord, SaysHead, option_bytes};
 ghost use Rattle.bq_policy_files.specs.Heads.{Names};
-ghost use Rattle.bq_policy_files.specs.Marks.{hook_of, version_of};
+ghost use Rattle.bq_verify.specs.Names.{hook_of, version_of};
 
 use crate::words::PolicyWords;
 use bq_load::{Hook, Version};
 use bq_maps::shape::MapShape;
-use bq_policy_files::{Head, hook_of, version_of};
+use bq_policy_files::Head;
 use bq_program::shapes_of;
 use std::alloc::{AllocError, Global};
 use thiserror::Error;
@@ -57,7 +57,7 @@ fn hook_in(alloc: Global, word: &Option<String>) -> Result<Option<Hook>, WordsFa
     let Some(word) = word else {
         return Ok(None);
     };
-    match hook_of(word.as_bytes()) {
+    match Hook::of_word(word.as_bytes()) {
         Some(hook) => Ok(Some(hook)),
         None => Err(words_fault(format!(in alloc;
             "--hook {word}: there is no such hook; hooks are place, preempt and pull"
@@ -72,7 +72,7 @@ fn format_in(alloc: Global, word: &Option<String>) -> Result<Option<Version>, Wo
     let Some(word) = word else {
         return Ok(None);
     };
-    match version_of(word.as_bytes()) {
+    match Version::of_word(word.as_bytes()) {
         Some(version) => Ok(Some(version)),
         None => Err(words_fault(format!(in alloc;
             "--format {word}: there is no such format; formats are 1 and 2"

@@ -5,14 +5,13 @@ ghost use Rattle.bq_policy_commands.specs.Listing.{AreMarks, format_mark, more_m
 use bq_load::Version;
 use bq_maps::shape::MapShape;
 use bq_policy_files::Policy;
-use bq_program::hook_word;
 use std::alloc::{AllocError, Global};
 
 /// The lines that say the hook of a policy, its maps if it has some, and its version if that is not the first.
 pub fn marks(alloc: Global, policy: &Policy) -> Result<String, AllocError>
     ensures { IfOk result (λ text. AreMarks policy.now (string_bytes text)) }
 {
-    let hook = hook_word(policy.hook);
+    let hook = policy.hook.word();
     let maps = maps_mark(alloc, policy.shapes.as_slice())?;
     let format = format_mark(policy.version);
     format!(in alloc; ";@ hook {hook}\n{maps}{format}")

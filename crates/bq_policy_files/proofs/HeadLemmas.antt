@@ -8,7 +8,8 @@ use Rattle.std.proofs.lemmas.Grind.{flat_map-append}
 use Rattle.bq_policy_files.specs.declared.head.Head.{Head}
 use Rattle.bq_policy_files.specs.declared.mark.Key.{Key}
 use Rattle.bq_policy_files.specs.declared.mark.Key.TheVariants as key
-use Rattle.bq_policy_files.specs.Marks.{are_known, hook_of, key_word, mark_words, value_in, values, version_of}
+use Rattle.bq_policy_files.specs.Marks.{are_known, key_word, mark_words, value_in, values}
+use Rattle.bq_verify.specs.Names.{hook_of, version_of}
 use Rattle.std.specs.Str.Lines.{lines}
 use Rattle.std.proofs.lemmas.List.{length-map, map-append}
 use Rattle.bq_policy_files.specs.declared.fault.HeadFault.{HeadFault}

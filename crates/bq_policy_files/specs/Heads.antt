@@ -14,7 +14,8 @@ use Rattle.bq_policy_files.specs.declared.fault.HeadCause.{HeadCause}
 use Rattle.bq_policy_files.specs.declared.fault.HeadCause.TheVariants as cause
 use Rattle.bq_policy_files.specs.declared.fault.HeadFault.{HeadFault}
 use Rattle.bq_policy_files.specs.declared.fault.HeadFault.TheVariants.{At, OutOfMemory}
-use Rattle.bq_policy_files.specs.Marks.{are_known, hook_of, key_word, mark_words, values, version_of}
+use Rattle.bq_policy_files.specs.Marks.{are_known, key_word, mark_words, values}
+use Rattle.bq_verify.specs.Names.{hook_of, version_of}
 
 -- what one line is
 abbrev pub IsMark : List ℕ → Mark → Type 0

@@ -3,10 +3,6 @@ use Rattle.std.specs.Prelude.{◌≡◌, ℕ, Bool, true, false, ◌||◌, List,
 use Rattle.std.specs.List.{starts_with, flat_map}
 use Rattle.std.specs.Prelude.{nat_eq}
 use Rattle.std.specs.Str.{bytes_eq}
-use Rattle.bq_verify.specs.declared.hook.Hook.{Hook}
-use Rattle.bq_verify.specs.declared.hook.Hook.TheVariants as hooks
-use Rattle.bq_verify.specs.declared.hook.Version.{Version}
-use Rattle.bq_verify.specs.declared.hook.Version.TheVariants as versions
 use Rattle.bq_policy_files.specs.declared.mark.Key.{Key}
 use Rattle.bq_policy_files.specs.declared.mark.Key.TheVariants as key
 use Rattle.bq_policy_files.specs.Words.{words}
@@ -37,18 +33,3 @@ abbrev pub are_known : Option (List (List ℕ)) → Bool
 are_known None = true
 are_known (Some (word ∷ value ∷ [])) = is_key word
 are_known (Some other) = false
-
--- the hook of that name
-abbrev pub hook_of : List ℕ → Option Hook
-hook_of word =
-    if bytes_eq word (codes "place") then Some hooks.Place
-    else if bytes_eq word (codes "preempt") then Some hooks.Preempt
-    else if bytes_eq word (codes "pull") then Some hooks.Pull
-    else None
-
--- the version of that number
-abbrev pub version_of : List ℕ → Option Version
-version_of word =
-    if bytes_eq word (codes "1") then Some versions.First
-    else if bytes_eq word (codes "2") then Some versions.Second
-    else None

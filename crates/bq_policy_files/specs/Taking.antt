@@ -12,7 +12,7 @@ use Rattle.bq_policy_files.specs.declared.fault.HeadCause.TheVariants as cause
 use Rattle.bq_policy_files.specs.declared.fault.HeadCause.{HeadCause}
 use Rattle.bq_policy_files.specs.declared.fault.HeadFault.{HeadFault}
 use Rattle.bq_policy_files.specs.declared.fault.HeadFault.TheVariants.{At, OutOfMemory}
-use Rattle.bq_policy_files.specs.Marks.{hook_of, version_of}
+use Rattle.bq_verify.specs.Names.{hook_of, version_of}
 use Rattle.bq_policy_files.specs.Heads.{HasKey, IsBadLine, IsNoValue, Names}
 
 -- nothing was said of the key, and then the value is, and nothing else

@@ -3,7 +3,7 @@ ghost use Rattle.std.specs.Prelude.{◌≤◌, length};
 ghost use Rattle.std.specs.Option.{ForSome};
 
 use crate::fault::{HeadCause, HeadFault, refusal};
-use crate::mark::{Key, Mark, hook_of, mark_of, version_of};
+use crate::mark::{Key, Mark, mark_of};
 use bq_load::{Hook, Version};
 use bq_maps::shape::MapShape;
 use bq_program::shapes_of;
@@ -81,7 +81,7 @@ impl Head {
         if self.hook.is_some() {
             return Err(refusal(number, HeadCause::Twice(Key::Hook)));
         }
-        let Some(hook) = hook_of(value) else {
+        let Some(hook) = Hook::of_word(value) else {
             return Err(refusal(number, HeadCause::Value(Key::Hook)));
         };
         self.hook = Some(hook);
@@ -109,7 +109,7 @@ impl Head {
         if self.format.is_some() {
             return Err(refusal(number, HeadCause::Twice(Key::Format)));
         }
-        let Some(version) = version_of(value) else {
+        let Some(version) = Version::of_word(value) else {
             return Err(refusal(number, HeadCause::Value(Key::Format)));
         };
         self.format = Some(version);

@@ -16,6 +16,6 @@ mod words;
 pub use fault::{HeadCause, HeadFault, PolicyFault};
 pub use head::Head;
 pub use kind::{Kind, kind_of};
-pub use mark::{Key, hook_of, version_of};
+pub use mark::Key;
 pub use policy::Policy;
 pub use reading::{read_head, read_policy};

@@ -2,11 +2,10 @@
 ghost use Rattle.std.specs.Prelude.{◌≡◌, MatchOption, false};
 ghost use Rattle.std.specs.Str.{bytes_eq};
 ghost use Rattle.bq_policy_files.specs.Heads.{IsMark};
-ghost use Rattle.bq_policy_files.specs.Marks.{hook_of, is_key, key_word, mark_words, version_of};
+ghost use Rattle.bq_policy_files.specs.Marks.{is_key, key_word, mark_words};
 ghost use Rattle.bq_policy_files.specs.Words.{words};
 
 use crate::words::next_word;
-use bq_load::{Hook, Version};
 
 /// What a mark may speak of.
 #[derive(Clone, Copy, Debug, PartialEq, Eq)]
@@ -59,34 +58,6 @@ fn key_of(word: &[u8]) -> Option<Key>
         Some(Key::Maps)
     } else if word == b"format".as_slice() {
         Some(Key::Format)
-    } else {
-        None
-    }
-}
-
-/// The hook of that name.
-pub fn hook_of(word: &[u8]) -> Option<Hook>
-    ensures { result ≡ hook_of word.now }
-{
-    if word == b"place".as_slice() {
-        Some(Hook::Place)
-    } else if word == b"preempt".as_slice() {
-        Some(Hook::Preempt)
-    } else if word == b"pull".as_slice() {
-        Some(Hook::Pull)
-    } else {
-        None
-    }
-}
-
-/// The version of that number.
-pub fn version_of(word: &[u8]) -> Option<Version>
-    ensures { result ≡ version_of word.now }
-{
-    if word == b"1".as_slice() {
-        Some(Version::First)
-    } else if word == b"2".as_slice() {
-        Some(Version::Second)
     } else {
         None
     }

@@ -9,7 +9,8 @@ use Rattle.bq_load.specs.Answers.{IsUnloaded}
 use Rattle.bq_program.specs.declared.answer.Answer.{Answer}
 use Rattle.bq_program.specs.Refusals.{refusal}
 use Rattle.bq_program.specs.HexText.{SpellsBytes}
-use Rattle.bq_program.specs.Check.{CheckWrites, fault_text}
+use Rattle.bq_load.specs.Naming.{fault_text}
+use Rattle.bq_program.specs.Check.{CheckWrites}
 
 pub refuses_fault : (text bytes reason : List ℕ) (f : LoadFault) (r : Result Answer AllocError) → SpellsBytes text bytes → IsUnloaded bytes f → f ≢ fault.OutOfMemory → reason ≡ fault_text f
     → IfOk r (λ a. string_bytes a.text ≡ refusal reason) → IfOk r (λ a. a.accepted ≡ false) → IfOk r (λ a. CheckWrites text a.accepted (string_bytes a.text))

@@ -22,8 +22,10 @@ use Rattle.bq_program.specs.declared.form.Form.TheVariants.{Program, Image}
 use Rattle.bq_program.specs.Forms.{SpellsForm}
 use Rattle.bq_program.specs.HexText.{IsNoHex}
 use Rattle.bq_program.specs.Refusals.{refusal, cause_and_place}
-use Rattle.bq_program.specs.Asm.{asm_number, IsAssembled, IsNoText, IsFaultyText}
-use Rattle.bq_program.specs.Dis.{dis_number, IsListed, IsFaultyProgram}
+use Rattle.bq_asm.specs.Causes.{cause_number as asm_number}
+use Rattle.bq_insn.specs.Causes.{cause_number as dis_number}
+use Rattle.bq_program.specs.Asm.{IsAssembled, IsNoText, IsFaultyText}
+use Rattle.bq_program.specs.Dis.{IsListed, IsFaultyProgram}
 use Rattle.bq_program.specs.Laws.{OneAssembly, OneListing}
 
 assembled_or_refused : (form : Form) (text x y : List ℕ) → IsAssembled form text x → IsNoText text y ⊎ IsFaultyText text y → ⊥

@@ -2,7 +2,7 @@
 use Rattle.std.specs.Prelude.{◌≡◌, ℕ, Bool, true, false, List, ◌⊎◌, codes}
 use Rattle.bq_insn.specs.declared.Insn.{Insn}
 use Rattle.bq_insn.specs.declared.fault.Cause.{Cause}
-use Rattle.bq_insn.specs.declared.fault.Cause.TheVariants.{Length, Opcode, Register, Field, Offset, Imm, WideCut}
+use Rattle.bq_insn.specs.Causes.{cause_number}
 use Rattle.bq_insn.specs.declared.fault.DecodeFault.TheVariants.{At}
 use Rattle.bq_insn.specs.Spelling.{spelling, is_well_formed}
 use Rattle.bq_insn.specs.Laws.{AllFit}
@@ -10,16 +10,6 @@ use Rattle.bq_insn.specs.Faults.{IsFault}
 use Rattle.bq_asm.specs.Text.{listing_text}
 use Rattle.bq_program.specs.HexText.{SpellsBytes, IsNoHex}
 use Rattle.bq_program.specs.Refusals.{refusal, cause_and_place}
-
--- the number of a cause, after the letter I
-abbrev pub dis_number : Cause → ℕ
-dis_number Length = 1
-dis_number Opcode = 2
-dis_number Register = 3
-dis_number Field = 4
-dis_number Offset = 5
-dis_number Imm = 6
-dis_number WideCut = 7
 
 -- the bytes are those of a program: its listing
 abbrev pub IsListed : List ℕ → List ℕ → Type 0
@@ -30,7 +20,7 @@ IsListed text written =
 abbrev pub IsFaultyProgram : List ℕ → List ℕ → Type 0
 IsFaultyProgram text written =
     (bytes : List ℕ) × SpellsBytes text bytes × (slot : ℕ) × (cause : Cause) × IsFault bytes (At slot cause)
-    × (written ≡ refusal (cause_and_place (codes "I") (dis_number cause) slot))
+    × (written ≡ refusal (cause_and_place (codes "I") (cause_number cause) slot))
 
 -- what is written for a text that is accepted, or for one that is not
 abbrev pub DisWrites : List ℕ → Bool → List ℕ → Type 0

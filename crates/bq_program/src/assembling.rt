@@ -1,7 +1,7 @@
 //! From an assembler text to the hex of its program, or of an image with it.
 ghost use Rattle.std.specs.Prelude.{◌≡◌, IfOk};
 ghost use Rattle.std.specs.String.{string_bytes};
-ghost use Rattle.bq_program.specs.Asm.{AsmWrites, asm_number};
+ghost use Rattle.bq_program.specs.Asm.{AsmWrites};
 
 use crate::Answer;
 use crate::form::Form;
@@ -24,22 +24,9 @@ pub fn assembled(alloc: Global, form: &Form, text: &[u8]) -> Result<Answer, Allo
         }
         Err(AsmFault::OutOfMemory) => Err(AllocError),
         Err(AsmFault::At { line, cause }) => {
-            let number = number_of(cause);
+            let number = cause.number();
             let reason = format!(in alloc; "A{number} {line}")?;
             Answer::refused(alloc, reason.as_str())
         }
-    }
-}
-
-/// The number by which a cause is named.
-fn number_of(cause: Cause) -> u8
-    ensures { result ≡ asm_number cause }
-{
-    match cause {
-        Cause::Word => 1,
-        Cause::Number => 2,
-        Cause::LabelTwice => 3,
-        Cause::LabelMissing => 4,
-        Cause::Slots => 5,
     }
 }

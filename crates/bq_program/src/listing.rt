@@ -1,7 +1,7 @@
 //! From hex to the listing of a program.
 ghost use Rattle.std.specs.Prelude.{◌≡◌, IfOk};
 ghost use Rattle.std.specs.String.{string_bytes};
-ghost use Rattle.bq_program.specs.Dis.{DisWrites, dis_number};
+ghost use Rattle.bq_program.specs.Dis.{DisWrites};
 
 use crate::Answer;
 use crate::hex_text::bytes_of;
@@ -22,24 +22,9 @@ pub fn disassembled(alloc: Global, hex: &[u8]) -> Result<Answer, AllocError>
         Ok(insns) => Ok(Answer::accepted(listing(alloc, insns.as_slice())?)),
         Err(DecodeFault::OutOfMemory) => Err(AllocError),
         Err(DecodeFault::At { slot, cause }) => {
-            let number = number_of(cause);
+            let number = cause.number();
             let reason = format!(in alloc; "I{number} {slot}")?;
             Answer::refused(alloc, reason.as_str())
         }
-    }
-}
-
-/// The number by which a cause is named.
-pub(crate) fn number_of(cause: Cause) -> u8
-    ensures { result ≡ dis_number cause }
-{
-    match cause {
-        Cause::Length => 1,
-        Cause::Opcode => 2,
-        Cause::Register => 3,
-        Cause::Field => 4,
-        Cause::Offset => 5,
-        Cause::Imm => 6,
-        Cause::WideCut => 7,
     }
 }

@@ -1,6 +1,6 @@
 //! Events as lines of a trace.
 
-use bq_core::{Event, Hook};
+use bq_core::Event;
 use std::fmt;
 
 /// An event as the line of a trace that asks for it. An install is written without its image, and so is no line of its own.
@@ -24,7 +24,7 @@ impl fmt::Display for EventLine<'_> {
                 generation,
                 policy: _,
             } => {
-                let hook = hook_word(*hook);
+                let hook = hook.word();
                 write!(f, "install {processor} {generation} {hook}")
             }
             Event::BeginWake { processor, task } => write!(f, "begin {processor} {task}"),
@@ -38,14 +38,5 @@ impl fmt::Display for EventLine<'_> {
                 now,
             } => write!(f, "pull {processor} {from} {now}"),
         }
-    }
-}
-
-/// The word of a hook.
-pub(crate) fn hook_word(hook: Hook) -> &'static str {
-    match hook {
-        Hook::Place => "place",
-        Hook::Preempt => "preempt",
-        Hook::Pull => "pull",
     }
 }

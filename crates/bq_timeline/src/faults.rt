@@ -1,5 +1,6 @@
 //! Why a line is bad.
 
+use bq_core::Hook;
 use bq_lines::numbers;
 use bq_lines::words::{is_allowed_line, next_word};
 use bq_sizes::{Rule, Size};
@@ -35,11 +36,7 @@ impl Kind {
             Kind::Nice => numbers::nice(word).is_some(),
             Kind::Mask => numbers::mask(word).is_some(),
             Kind::Time | Kind::Generation | Kind::Slice => numbers::decimal(word).is_some(),
-            Kind::Hook => {
-                word == b"place".as_slice()
-                    || word == b"preempt".as_slice()
-                    || word == b"pull".as_slice()
-            }
+            Kind::Hook => Hook::of_word(word).is_some(),
             Kind::Image => true,
             Kind::Counter => numbers::processor(word).is_some_and(|counter| counter < 64),
         }

@@ -7,7 +7,6 @@
 pub mod command;
 pub mod faults;
 pub mod form_names;
-pub mod happenings;
 pub mod near;
 pub mod numbers;
 pub mod screen;
@@ -15,8 +14,6 @@ pub mod settings;
 pub mod showing;
 pub mod shown;
 pub mod viewer;
-pub mod why_text;
-pub mod words_of;
 
 pub use command::{WordsFault, words};
 pub use settings::{Settings, SettingsFault, Words};

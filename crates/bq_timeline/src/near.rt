@@ -1,6 +1,5 @@
 //! How near each processor came to the bounds of its rule: a table below the report.
 
-use crate::why_text::place_of;
 use bq_bounds::{Bounds, Charge, Standing, Watch, how_it_stands};
 use bq_core::{Event, Reply};
 use bq_forms::percent::Percent;
@@ -9,6 +8,7 @@ use bq_forms::window::is_in;
 use bq_schedule::Change;
 use bq_sizes::Rule;
 use bq_trace::{Machine, Seen};
+use bq_why::place_of;
 use std::alloc::{AllocError, Global};
 
 /// Above the lines of the bounds.

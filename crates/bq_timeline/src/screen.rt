@@ -1,7 +1,6 @@
 //! What is written of a trace: the form, with notes on its lines where a person reads it, and what goes to standard error.
 
 use crate::faults::why_bad;
-use crate::happenings::{Because, InWords};
 use crate::near::Near;
 use crate::settings::Settings;
 use crate::shown::Shown;
@@ -11,6 +10,7 @@ use bq_load::LoadFault;
 use bq_schedule::{Change, Schedule};
 use bq_sizes::Rule;
 use bq_trace::Machine;
+use bq_why::{Because, InWords};
 use std::alloc::{AllocError, Global};
 
 /// What is written of a trace, as far as it has come.

@@ -2,10 +2,10 @@
 
 use crate::form_names::FormName;
 use crate::settings::Settings;
-use crate::why_text::Why;
 use bq_forms::{Csv, Form, Json, Map, Names, Report, Timehist};
 use bq_pictures::{Perfetto, Svg};
 use bq_schedule::{Change, Schedule};
+use bq_why::Why;
 use std::alloc::{AllocError, Global};
 
 /// A form of one of the names.

@@ -12,6 +12,19 @@ use std::io::Write;
 use std::marker::Model;
 
 /// A replay of the pieces so far. Contracts see where it stands.
+///
+/// # Example
+///
+/// ```
+/// let mut answers = Counted::new(Vec::new(alloc));
+/// let session = Session::new(alloc);
+/// let session = session.feed(b"machine cfs 1\nadmit 1 0 1 ", &mut answers)?;
+/// let session = session.feed(b"3000000\n", &mut answers)?;
+/// let is_clean = session.finish(&mut answers)?;
+/// let answers = answers.into_inner();
+/// assert_eq!(rt; answers.as_slice(), b"admitted\n".as_slice());
+/// assert_eq!(rt; is_clean, true);
+/// ```
 #[derive(Drop)]
 pub struct Session {
     alloc: Global,

@@ -1,7 +1,8 @@
-// Where a policy is asked, and how long its context is.
+// Where a policy is asked, how that is named, and how long its context is.
 
 ghost use Rattle.std.specs.Prelude.{◌≡◌};
 ghost use Rattle.bq_verify.specs.Accepted.{context_length_of};
+ghost use Rattle.bq_verify.specs.Names.{hook_of, hook_word, version_number, version_of};
 
 /// The choice that a policy makes.
 #[derive(Clone, Copy, Debug, PartialEq, Eq)]
@@ -14,6 +15,34 @@ pub enum Hook {
     Pull,
 }
 
+impl Hook {
+    /// The word that names it in traces, options and marks: `place`, `preempt` or `pull`.
+    pub fn word(self) -> &'static str
+        ensures { result.now ≡ hook_word self }
+    {
+        match self {
+            Hook::Place => "place",
+            Hook::Preempt => "preempt",
+            Hook::Pull => "pull",
+        }
+    }
+
+    /// The hook that a word names, if it names one.
+    pub fn of_word(word: &[u8]) -> Option<Hook>
+        ensures { result ≡ hook_of word.now }
+    {
+        if word == b"place".as_slice() {
+            Some(Hook::Place)
+        } else if word == b"preempt".as_slice() {
+            Some(Hook::Preempt)
+        } else if word == b"pull".as_slice() {
+            Some(Hook::Pull)
+        } else {
+            None
+        }
+    }
+}
+
 /// The version of an image.
 #[derive(Clone, Copy, Debug, PartialEq, Eq)]
 pub enum Version {
@@ -21,6 +50,31 @@ pub enum Version {
     First,
     /// The context of a placement has 296 bytes.
     Second,
+}
+
+impl Version {
+    /// Its number: 1 or 2.
+    pub fn number(self) -> u8
+        ensures { result ≡ version_number self }
+    {
+        match self {
+            Version::First => 1,
+            Version::Second => 2,
+        }
+    }
+
+    /// The version that a word names by its number, if it names one.
+    pub fn of_word(word: &[u8]) -> Option<Version>
+        ensures { result ≡ version_of word.now }
+    {
+        if word == b"1".as_slice() {
+            Some(Version::First)
+        } else if word == b"2".as_slice() {
+            Some(Version::Second)
+        } else {
+            None
+        }
+    }
 }
 
 /// How many bytes the context of a hook has.

@@ -84,6 +84,19 @@ fn heights_of(alloc: Global, slots: &[Option<Insn>]) -> Result<Vec<u32>, AllocEr
 /// budget is the number of instructions on the longest path to an EXIT. `OutOfMemory` is answered where a growth
 /// was refused; no other refusal is answered to a straight program, in which each instruction finds what it needs
 /// on every path (`IsStraightProgram`).
+///
+/// # Example
+///
+/// ```
+/// let program = Program {
+///     insns: assemble(alloc, "mov64 r0, 1\nexit\n")?,
+///     shapes: Vec::new(alloc),
+///     hook: Hook::Preempt,
+///     version: Version::First,
+/// };
+/// let verified = verify(alloc, program)?;
+/// assert_eq!(rt; verified.budget(), 2);
+/// ```
 pub fn verify(alloc: Global, program: Program) -> Result<Verified, Refused>
     requires whole { is_well_formed program.insns.items ≡ true }
     requires few { length program.shapes.items ≤ 8 }

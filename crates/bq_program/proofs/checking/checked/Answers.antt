@@ -1,6 +1,6 @@
 use Rattle.std.proofs.Common.{◌≡◌, rules}
 use Rattle.bq_load.specs.Answers.{IsUnloaded}
-use Rattle.bq_program.specs.Check.{fault_text}
+use Rattle.bq_load.specs.Naming.{fault_text}
 use Rattle.bq_program.specs.HexText.{SpellsBytes}
 use Rattle.bq_program.proofs.CheckLemmas.{refuses_fault}
 use Rattle.bq_program.proofs.checking.checked.Goals as goal

@@ -1,7 +1,7 @@
 //! Tasks, virtual times and lags as text.
 
+use crate::table::Row;
 use bq_forms::{Millis, Names};
-use bq_why::Row;
 use std::fmt;
 
 /// Virtual time begins here.

@@ -1,6 +1,6 @@
 //! Events and refusals in words.
 
-use bq_core::{Event, Hook, Refusal};
+use bq_core::{Event, Refusal};
 use std::fmt;
 
 /// An event, as the trace names it, without its time.
@@ -18,7 +18,7 @@ impl fmt::Display for InWords<'_> {
                 hook,
                 ..
             } => {
-                let hook = hook_word(*hook);
+                let hook = hook.word();
                 write!(f, "install {processor} {hook}")
             }
             Event::BeginWake { processor, task } => write!(f, "begin {processor} {task}"),
@@ -32,15 +32,6 @@ impl fmt::Display for InWords<'_> {
                 ..
             } => write!(f, "pull {processor} {from}"),
         }
-    }
-}
-
-/// The word of a hook.
-pub fn hook_word(hook: Hook) -> &'static str {
-    match hook {
-        Hook::Place => "place",
-        Hook::Preempt => "preempt",
-        Hook::Pull => "pull",
     }
 }
 

@@ -1,13 +1,16 @@
 //! The form `why`: at each choice the tasks that were there, and why the one that runs was chosen.
 
+use crate::answers::answer;
 use crate::happenings::InWords;
+use crate::presence::present;
+use crate::reasons::{Reason, why};
+use crate::table::{Row, rows};
 use crate::words_of::{Ids, Lag, Virtual, Who};
 use bq_core::{By, Event, Hook, Reply};
 use bq_forms::{Millis, Names, Window};
 use bq_schedule::Change;
 use bq_sizes::Rule;
 use bq_trace::{Machine, Seen};
-use bq_why::{Reason, Row, answer, present, rows, why};
 use std::alloc::{AllocError, Global};
 
 /// How far ahead a task may be under CFS before it gives way, in virtual nanoseconds.
@@ -82,7 +85,7 @@ pub struct Why {
 }
 
 /// The processor at which an event may choose, and its time.
-pub(crate) fn place_of(event: &Event) -> Option<(u8, u64)> {
+pub fn place_of(event: &Event) -> Option<(u8, u64)> {
     match event {
         Event::EndWake { processor, now }
         | Event::Drain { processor, now }

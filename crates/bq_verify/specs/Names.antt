@@ -1,0 +1,33 @@
+-- The words by which hooks and versions are named: in traces, options, marks and answers alike.
+use Rattle.std.specs.Prelude.{ℕ, List, Option, Some, None, if◌then◌else◌, codes}
+use Rattle.std.specs.Str.{bytes_eq}
+use Rattle.bq_verify.specs.declared.hook.Hook.{Hook}
+use Rattle.bq_verify.specs.declared.hook.Hook.TheVariants as hooks
+use Rattle.bq_verify.specs.declared.hook.Version.{Version}
+use Rattle.bq_verify.specs.declared.hook.Version.TheVariants as versions
+
+-- the word of a hook
+abbrev pub hook_word : Hook → List ℕ
+hook_word hooks.Place = codes "place"
+hook_word hooks.Preempt = codes "preempt"
+hook_word hooks.Pull = codes "pull"
+
+-- the hook of that word
+abbrev pub hook_of : List ℕ → Option Hook
+hook_of word =
+    if bytes_eq word (codes "place") then Some hooks.Place
+    else if bytes_eq word (codes "preempt") then Some hooks.Preempt
+    else if bytes_eq word (codes "pull") then Some hooks.Pull
+    else None
+
+-- the number of a version
+abbrev pub version_number : Version → ℕ
+version_number versions.First = 1
+version_number versions.Second = 2
+
+-- the version that a word names by its number
+abbrev pub version_of : List ℕ → Option Version
+version_of word =
+    if bytes_eq word (codes "1") then Some versions.First
+    else if bytes_eq word (codes "2") then Some versions.Second
+    else None
