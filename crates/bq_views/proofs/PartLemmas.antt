@@ -1,14 +1,14 @@
 -- Numbers in a few bytes of the stack.
-use Rattle.std.proofs.Common.{◌≡◌, ◌≢◌, ℕ, zero, suc, ◌+◌, ◌*◌, ◌^◌, ◌<◌, ◌≤◌, Bool, true, false, List, [], ◌∷◌, Option, Some, None, length, get_or, set, refl, sym, ap, subst, arith, ◌∙◌, ◌⊎◌, inl, inr, get_or-set_same, get_or-set_other}
-use Rattle.std.specs.Prelude.{slice_index, slice_index_or}
+use Rattle.std.proofs.Common.{◌≡◌, ◌≢◌, ℕ, zero, suc, ◌+◌, ◌^◌, ◌<◌, ◌≤◌, Bool, true, false, List, [], ◌∷◌, Option, Some, None, length, get_or, set, refl, sym, ap, subst, arith, ◌∙◌, ◌⊎◌, inl, inr, get_or-set_same, get_or-set_other}
+use Rattle.std.specs.Prelude.{slice_index}
 use Rattle.std.proofs.lemmas.Bool.{cases_lt}
 use Rattle.std.proofs.lemmas.Bool.Decides.{eqb_tells}
 use Rattle.std.proofs.lemmas.List.{get_or_past, get_or_read}
 use Rattle.bq_insn.specs.declared.Size.{Size}
 use Rattle.bq_insn.specs.declared.Size.TheVariants.{Byte, Half, Word, Double}
 use Rattle.bq_insn.specs.Meaning.{byte_count}
-use Rattle.bq_maps.specs.Memory.{Setting, State, Region, InContext, InStack, InEntry, Reads, byte_at, number_of, stack_with}
-use Rattle.bq_maps.specs.Machine.{low_bytes, loaded}
+use Rattle.bq_maps.specs.Memory.{Setting, State, Region, Reads, byte_at, number_of, stack_with}
+use Rattle.bq_maps.specs.Machine.{low_bytes}
 use Rattle.bq_ranges.specs.declared.range.Range.{Range}
 use Rattle.bq_ranges.specs.Within.{Within}
 use Rattle.bq_views.specs.declared.view.Kind.{Kind}
@@ -80,9 +80,9 @@ parts_kept stack parts i p there has have j = part_at stack parts i j p _ there 
 pub part_wider : (a b : Part) → b.first ≡ a.first → b.size ≡ a.size → ((x : ℕ) → Within a.range x → Within b.range x) → AllowsPart (Some a) (Some b)
 part_wider a b place same wide = record {
   has = λ stack h. (
-      h.0,
-      subst (λ (n : ℕ). HasBytes stack n (byte_count b.size) h.0) (sym place) (subst (λ (z : Size). HasBytes stack a.first (byte_count z) h.0) (sym same) h.1),
-      wide _ h.2,
+    h.0,
+    subst (λ (n : ℕ). HasBytes stack n (byte_count b.size) h.0) (sym place) (subst (λ (z : Size). HasBytes stack a.first (byte_count z) h.0) (sym same) h.1),
+    wide _ h.2,
   );
 }
 

@@ -1,4 +1,4 @@
-use Rattle.std.proofs.Common.{◌≡◌, ◌<◌, Option, Some, length, subst, arith, rules}
+use Rattle.std.proofs.Common.{◌≡◌, ◌<◌, Option, length, subst, arith, rules}
 use Rattle.bq_views.specs.declared.view.Part.{Part}
 use Rattle.bq_views.specs.Parts.{HasPart}
 use Rattle.bq_views.proofs.PartLemmas.{part_known, part_number}
