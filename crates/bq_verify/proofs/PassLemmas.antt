@@ -31,7 +31,7 @@ use Rattle.bq_views.proofs.PutLemmas.{covers_learn, found_at}
 use Rattle.bq_verify.proofs.ChainLemmas.{goes_well}
 
 pub Covers-at : (f : Setting) (v : View) (s : State) (slot : ℕ) → Covers f v s → Covers f v (record s { slot = slot })
-Covers-at f v s slot covers = record { registers = covers.registers; set = covers.set; kept = covers.kept; maps = covers.maps; copies = covers.copies }
+Covers-at f v s slot covers = record { registers = covers.registers; set = covers.set; kept = covers.kept; parts = covers.parts; maps = covers.maps; copies = covers.copies }
 
 pub suits : (slots : List (Option Insn)) (shapes : List MapShape) (context_length : ℕ) (f : Setting) → IsSetting slots shapes context_length f → Suits shapes context_length f
 suits slots shapes context_length f setting = record {

@@ -21,7 +21,7 @@ use bq_insn::Insn;
 use bq_maps::shape::MapShape;
 use bq_ranges::Range;
 use bq_views::registers::learn;
-use bq_views::view::{Kind, Known, View};
+use bq_views::view::{Kind, Known, Part, View};
 use std::alloc::Global;
 
 /// Whether the program is safe within the height of its first slot.
@@ -160,11 +160,18 @@ fn blank() -> View
         registers: nothing(),
         set: unset(),
         kept: nothing(),
+        parts: no_parts(),
         classes: no_copies(),
     }
 }
 
 fn nothing<const N: usize>() -> [Option<Known>; N]
+    ensures { (k : ℕ) → slice_index_or result k None ≡ None }
+{
+    [None; N]
+}
+
+fn no_parts<const N: usize>() -> [Option<Part>; N]
     ensures { (k : ℕ) → slice_index_or result k None ≡ None }
 {
     [None; N]

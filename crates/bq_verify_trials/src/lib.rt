@@ -9,6 +9,8 @@ mod judging;
 #[cfg(test)]
 mod maps;
 #[cfg(test)]
+mod parts;
+#[cfg(test)]
 mod ranges;
 #[cfg(test)]
 mod tests;

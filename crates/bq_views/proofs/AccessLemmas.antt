@@ -110,7 +110,7 @@ place_gives shapes context_length view size src off base bound at known bounds s
     (found.0, region.0, o, found.1, good, region.2, within)
 
 -- a read of a place whose bytes are set
-pub reads_place : (shapes : List MapShape) (context_length : ℕ) (view : View) (size : Size) (src : ℕ) (off : ℤ) (kind : Kind) (at : Range) → FindsPlace shapes context_length view src off size kind at → (kind ≡ Stack → (o i : ℕ) → Within at o → i < byte_count size → slice_index_or view.set (o + i) false ≡ true) → (f : Setting) (s : State) → Suits shapes context_length f → Covers f view s → (word : ℕ) × (bytes : List ℕ) × (s.register src ≡ Some word) × (length bytes ≡ byte_count size) × Reads f s (address_of word off) bytes × (number_of bytes < 256 ^ byte_count size)
+pub reads_place : (shapes : List MapShape) (context_length : ℕ) (view : View) (size : Size) (src : ℕ) (off : ℤ) (kind : Kind) (at : Range) → FindsPlace shapes context_length view src off size kind at → (kind ≡ Stack → (o i : ℕ) → Within at o → i < byte_count size → slice_index_or view.set (o + i) false ≡ true) → (f : Setting) (s : State) → Suits shapes context_length f → Covers f view s → (word : ℕ) × (bytes : List ℕ) × (s.register src ≡ Some word) × (length bytes ≡ byte_count size) × (r : Reads f s (address_of word off) bytes) × (number_of bytes < 256 ^ byte_count size) × IsOfKind kind r.region × Within at r.offset
 reads_place shapes context_length view size src off kind at finds set f s suits covers =
     let found = finds f s suits covers in
     let good = found.4 in
@@ -122,6 +122,8 @@ reads_place shapes context_length view size src off kind at finds set f s suits 
       bytes.1,
       record { region = found.1; offset = found.2; good = rw bytes.1 good; set = λ i h. bytes.2 i (rw bytes.1 at h) },
       bytes.3,
+      found.5,
+      found.6,
     )
 
 -- a read by a pointer that stays inside its region
@@ -147,10 +149,10 @@ reads_gives shapes context_length view count src off base bound at known bounds 
     )
 
 -- a load of a place whose bytes are set
-pub load_gives : (shapes : List MapShape) (context_length : ℕ) (view : View) (size : Size) (signed : Bool) (dst src : ℕ) (off : ℤ) (kind : Kind) (at numbers : Range) → FindsPlace shapes context_length view src off size kind at → (kind ≡ Stack → (o i : ℕ) → Within at o → i < byte_count size → slice_index_or view.set (o + i) false ≡ true) → ((x : ℕ) → x < 256 ^ byte_count size → Within numbers (loaded size signed x)) → dst < 10 → (f : Setting) (s : State) → Suits shapes context_length f → Covers f view s → (n : ℕ) × Does f (Load size signed dst src off) s (put s 1 dst n) × Describes f.shapes (record { kind = Number; offset = numbers }) n
+pub load_gives : (shapes : List MapShape) (context_length : ℕ) (view : View) (size : Size) (signed : Bool) (dst src : ℕ) (off : ℤ) (kind : Kind) (at numbers : Range) → FindsPlace shapes context_length view src off size kind at → (kind ≡ Stack → (o i : ℕ) → Within at o → i < byte_count size → slice_index_or view.set (o + i) false ≡ true) → ((f : Setting) (s : State) (word : ℕ) (bytes : List ℕ) (r : Reads f s (address_of word off) bytes) → Covers f view s → length bytes ≡ byte_count size → number_of bytes < 256 ^ byte_count size → IsOfKind kind r.region → Within at r.offset → Within numbers (loaded size signed (number_of bytes))) → dst < 10 → (f : Setting) (s : State) → Suits shapes context_length f → Covers f view s → (n : ℕ) × Does f (Load size signed dst src off) s (put s 1 dst n) × Describes f.shapes (record { kind = Number; offset = numbers }) n
 load_gives shapes context_length view size signed dst src off kind at numbers finds set fits target f s suits covers =
     let read = reads_place shapes context_length view size src off kind at finds set f s suits covers in
-    (loaded size signed (number_of read.1), (read.0, read.1, read.2, read.3, read.4, target, refl), number_is f.shapes numbers _ (fits _ read.5))
+    (loaded size signed (number_of read.1), (read.0, read.1, read.2, read.3, read.4, target, refl), number_is f.shapes numbers _ (fits f s read.0 read.1 read.4 covers read.3 read.5 read.6 read.7))
 
 -- the number of its own eight bytes
 pub number_of_word : (n : ℕ) → n < 2 ^ 64 → number_of (bytes_low_first 0 8 n) ≡ n

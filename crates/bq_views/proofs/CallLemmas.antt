@@ -65,6 +65,7 @@ covers_called f v s cleared parts answer k lt clears first covers d = record {
   registers = λ r. called_at f.shapes v.registers cleared s.register answer k r _ _ lt clears (covers.registers r) d (eqb_tells r 0) (leb_tells (suc r) 6);
   set = covers.set;
   kept = covers.kept;
+  parts = covers.parts;
   maps = covers.maps;
   copies = copies_called v.classes parts s answer first covers.copies;
 }
@@ -102,7 +103,7 @@ entry_written f v s m k shape value known there long small covers =
     let after = covers_entry f v s m first (entry_address shape m k) (length value) 0 value good refl small covers in (
       written s (InEntry m first) 0 value,
       record { region = InEntry m first; offset = 0; writable = tt; good = good; after = refl },
-      record { registers = after.registers; set = after.set; kept = after.kept; maps = after.maps; copies = after.copies },
+      record { registers = after.registers; set = after.set; kept = after.kept; parts = after.parts; maps = after.maps; copies = after.copies },
       refl,
     )
   where

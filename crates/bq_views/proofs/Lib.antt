@@ -9,4 +9,5 @@ pub mod StoreLemmas
 pub mod WriteLemmas
 pub mod CounterLemmas
 pub mod CopyLemmas
+pub mod PartLemmas
 pub mod ToldLemmas

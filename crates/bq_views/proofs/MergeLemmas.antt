@@ -10,6 +10,7 @@ use Rattle.std.proofs.lemmas.Bool.{cases_lt}
 use Rattle.std.proofs.lemmas.List.{get_or_read}
 use Rattle.bq_views.specs.Standing.{Standing, NoPointer, Stands, Fact, Never, AtRegister, IsSetAt, IsPlainAt, Has}
 use Rattle.bq_views.specs.Copies.{KeepsClasses}
+use Rattle.bq_views.specs.Parts.{AllowsPart}
 use Rattle.bq_views.proofs.CopyLemmas.{copies_kept}
 use Rattle.bq_views.specs.Views.{Holds, Keeps, Covers, Allows}
 
@@ -28,11 +29,12 @@ Keeps-more shapes None (Some b) stack j more h = absurd more
 Keeps-more shapes (Some a) (Some b) stack j more h = (h.0, more shapes h.0 h.1, h.2)
 
 -- a view that allows more covers no less
-pub Covers-more : (f : Setting) (s : State) (v w : View) → ((k : ℕ) → Allows (slice_index_or v.registers k None) (slice_index_or w.registers k None)) → ((k : ℕ) → slice_index_or w.set k false ≡ true → slice_index_or v.set k false ≡ true) → ((k : ℕ) → Allows (slice_index_or v.kept k None) (slice_index_or w.kept k None)) → KeepsClasses v.classes w.classes → Covers f v s → Covers f w s
-Covers-more f s v w registers set kept classes covers = record {
+pub Covers-more : (f : Setting) (s : State) (v w : View) → ((k : ℕ) → Allows (slice_index_or v.registers k None) (slice_index_or w.registers k None)) → ((k : ℕ) → slice_index_or w.set k false ≡ true → slice_index_or v.set k false ≡ true) → ((k : ℕ) → Allows (slice_index_or v.kept k None) (slice_index_or w.kept k None)) → ((k : ℕ) → AllowsPart (slice_index_or v.parts k None) (slice_index_or w.parts k None)) → KeepsClasses v.classes w.classes → Covers f v s → Covers f w s
+Covers-more f s v w registers set kept parts classes covers = record {
   registers = λ r. Holds-more f.shapes _ _ (s.register r) (registers r) (covers.registers r);
   set = λ i h. covers.set i (set i h);
   kept = λ j. Keeps-more f.shapes _ _ s.stack j (kept j) (covers.kept j);
+  parts = λ k. (parts k).has s.stack (covers.parts k);
   maps = covers.maps;
   copies = copies_kept v.classes w.classes s classes covers.copies;
 }

@@ -30,6 +30,7 @@ covers_put f v s slots dst n k lt covers d = record {
   registers = λ r. put_at f.shapes v.registers s.register dst n k r _ lt (covers.registers r) d (eqb_tells r dst);
   set = covers.set;
   kept = covers.kept;
+  parts = covers.parts;
   maps = covers.maps;
   copies = copies_put v.classes s slots dst n covers.copies;
 }
@@ -40,6 +41,7 @@ covers_same f v s slots dst n is covers = record {
   registers = λ r. rw (put_same s slots dst n is r) (covers.registers r);
   set = covers.set;
   kept = covers.kept;
+  parts = covers.parts;
   maps = covers.maps;
   copies = copies_same v.classes s slots dst n is covers.copies;
 }
@@ -58,7 +60,7 @@ carries_linked shapes context_length insn v dst slot k classes lt low gives link
     let put_covers : Covers f (knowing v dst k) t = covers_put f v s (slots_of insn) dst given.0 k lt covers given.2 in
     let there : HasWord t (11 + slot) given.0 = (λ below. absurd (let no : ⊥ = omega (arith, below) in no), given.3.1) in
     let copies = linked t given.0 put_covers.copies there (λ m has. loaded_copy t dst slot given.0 m low (put_here s (slots_of insn) dst given.0) there has) in
-    (t, given.1, record { registers = put_covers.registers; set = put_covers.set; kept = put_covers.kept; maps = put_covers.maps; copies = copies }, refl)
+    (t, given.1, record { registers = put_covers.registers; set = put_covers.set; kept = put_covers.kept; parts = put_covers.parts; maps = put_covers.maps; copies = copies }, refl)
 
 -- a register that is known has such a word
 pub found_at : (f : Setting) (v : View) (s : State) (r : ℕ) (k : Known) → Some k ≡ slice_index_or v.registers r None → Covers f v s → (n : ℕ) × (s.register r ≡ Some n) × Describes f.shapes k n
@@ -75,6 +77,7 @@ covers_learn f v s dst n k lt is covers d = record {
   registers = λ r. learn_at f.shapes v.registers s.register dst n k r _ lt is (covers.registers r) d (eqb_tells r dst);
   set = covers.set;
   kept = covers.kept;
+  parts = covers.parts;
   maps = covers.maps;
   copies = copies_learnt v.classes s dst covers.copies;
 }

@@ -9,6 +9,7 @@ use Rattle.bq_maps.specs.Machine.{next}
 use Rattle.bq_views.specs.declared.view.View.{View}
 use Rattle.bq_views.specs.declared.view.Known.{Known}
 use Rattle.bq_views.specs.Copies.{AreCopies}
+use Rattle.bq_views.specs.Parts.{Outlives}
 use Rattle.bq_views.specs.Views.{Describes, Keeps, Covers, Marks, Forgets}
 
 stack_tests : (stack : ℕ → Option ℕ) (at : ℕ) (bytes : List ℕ) (i : ℕ) (b c : Bool) → ((b ≡ true) × (at ≤ i)) ⊎ ((b ≡ false) × (i < at)) → ((c ≡ true) × (suc i ≤ at + length bytes)) ⊎ ((c ≡ false) × (at + length bytes < suc i)) → ((at ≤ i) × (i < at + length bytes) × (cond (b && c) (Some (slice_index bytes (i - at))) (stack i) ≡ Some (slice_index bytes (i - at)))) ⊎ (((i < at) ⊎ (at + length bytes ≤ i)) × (cond (b && c) (Some (slice_index bytes (i - at))) (stack i) ≡ stack i))
@@ -26,7 +27,8 @@ set_after v s at i bytes stack small old (inl (le, lt)) (inr (inl below, e)) = a
 set_after v s at i bytes stack small old (inl (le, lt)) (inr (inr past, e)) = absurd (omega arith)
 set_after v s at i bytes stack small old (inr was) (inr (apart, e)) = let known = old was in (known.0, rw e known.1, known.2)
 
-outside : (stack : ℕ → Option ℕ) (at : ℕ) (bytes : List ℕ) (i : ℕ) → (i < at) ⊎ (at + length bytes ≤ i) → ((at ≤ i) × (i < at + length bytes) × (stack_with stack at bytes i ≡ Some (slice_index bytes (i - at)))) ⊎ (((i < at) ⊎ (at + length bytes ≤ i)) × (stack_with stack at bytes i ≡ stack i)) → stack_with stack at bytes i ≡ stack i
+-- a byte that the write does not touch
+pub outside : (stack : ℕ → Option ℕ) (at : ℕ) (bytes : List ℕ) (i : ℕ) → (i < at) ⊎ (at + length bytes ≤ i) → ((at ≤ i) × (i < at + length bytes) × (stack_with stack at bytes i ≡ Some (slice_index bytes (i - at)))) ⊎ (((i < at) ⊎ (at + length bytes ≤ i)) × (stack_with stack at bytes i ≡ stack i)) → stack_with stack at bytes i ≡ stack i
 outside stack at bytes i (inl below) (inl (le, lt, e)) = absurd (omega arith)
 outside stack at bytes i (inr past) (inl (le, lt, e)) = absurd (omega arith)
 outside stack at bytes i apart (inr (apart', e)) = e
@@ -47,11 +49,12 @@ kept_after shapes old new stack at bytes j h (inl e) = rw e tt
 kept_after shapes old new stack at bytes j h (inr (e, apart)) = rw e (Keeps-apart shapes old stack at bytes j apart h)
 
 -- the view after a write of bytes on the stack
-pub covers_written : (f : Setting) (v w : View) (s : State) (at : ℕ) (bytes : List ℕ) → ((k : ℕ) → k < length bytes → slice_index bytes k < 256) → w.registers ≡ v.registers → Marks v.set w.set at (at + length bytes) → Forgets v.kept w.kept at (at + length bytes) → AreCopies w.classes (next (written s InStack at bytes)) → Covers f v s → Covers f w (next (written s InStack at bytes))
-covers_written f v w s at bytes small same marks forgets copies covers = record {
+pub covers_written : (f : Setting) (v w : View) (s : State) (at : ℕ) (bytes : List ℕ) → ((k : ℕ) → k < length bytes → slice_index bytes k < 256) → w.registers ≡ v.registers → Marks v.set w.set at (at + length bytes) → Forgets v.kept w.kept at (at + length bytes) → ((j : ℕ) → Outlives at (at + length bytes) (slice_index_or v.parts j None) (slice_index_or w.parts j None)) → AreCopies w.classes (next (written s InStack at bytes)) → Covers f v s → Covers f w (next (written s InStack at bytes))
+covers_written f v w s at bytes small same marks forgets parts copies covers = record {
   registers = λ r. rw same (covers.registers r);
   set = λ i h. set_after v s at i bytes _ small (covers.set i) (marks i h) (stack_cases s.stack at bytes i);
   kept = λ j. kept_after f.shapes _ _ s.stack at bytes j (covers.kept j) (forgets j);
+  parts = λ j. (parts j).has s.stack at bytes (omega arith) (omega arith) (covers.parts j);
   maps = covers.maps;
   copies = copies;
 }
@@ -61,7 +64,8 @@ low_at a zero v i lt = absurd (omega arith)
 low_at a (suc n) v zero lt = ap (λ (x : ℕ). byte_of x v) (omega arith)
 low_at a (suc n) v (suc i) lt = low_at (suc a) n v i (omega arith) ∙ ap (λ (x : ℕ). byte_of x v) (omega arith)
 
-inside : (stack : ℕ → Option ℕ) (at : ℕ) (bytes : List ℕ) (i : ℕ) → i < length bytes → ((at ≤ at + i) × (at + i < at + length bytes) × (stack_with stack at bytes (at + i) ≡ Some (slice_index bytes (at + i - at)))) ⊎ (((at + i < at) ⊎ (at + length bytes ≤ at + i)) × (stack_with stack at bytes (at + i) ≡ stack (at + i))) → stack_with stack at bytes (at + i) ≡ Some (slice_index bytes i)
+-- a byte that is written
+pub inside : (stack : ℕ → Option ℕ) (at : ℕ) (bytes : List ℕ) (i : ℕ) → i < length bytes → ((at ≤ at + i) × (at + i < at + length bytes) × (stack_with stack at bytes (at + i) ≡ Some (slice_index bytes (at + i - at)))) ⊎ (((at + i < at) ⊎ (at + length bytes ≤ at + i)) × (stack_with stack at bytes (at + i) ≡ stack (at + i))) → stack_with stack at bytes (at + i) ≡ Some (slice_index bytes i)
 inside stack at bytes i lt (inl (le, lt', e)) = e ∙ ap (λ (x : ℕ). Some (slice_index bytes x)) (omega arith)
 inside stack at bytes i lt (inr (inl below, e)) = absurd (omega arith)
 inside stack at bytes i lt (inr (inr past, e)) = absurd (omega arith)

@@ -64,6 +64,7 @@ module _ (f : Setting) (v : View) (s : State) (told : Known) (register n : ℕ) 
     registers = λ r. each r covers.registers;
     set = covers.set;
     kept = covers.kept;
+    parts = covers.parts;
     maps = covers.maps;
     copies = covers.copies;
   }
@@ -80,6 +81,7 @@ module _ (f : Setting) (v : View) (s : State) (told : Known) (register n : ℕ) 
     registers = λ r. register_at r _ (eqb_tells (slice_index v.classes (0 + r)) class) (cases_lt r 11);
     set = covers.set;
     kept = λ j. slot_at j _ (eqb_tells (slice_index v.classes (11 + j)) class);
+    parts = covers.parts;
     maps = covers.maps;
     copies = covers.copies;
   }
@@ -119,6 +121,7 @@ covers_left f v s dst n left there is covers d = record {
   registers = λ r. learn_at f.shapes v.registers s.register dst n left r _ there is (covers.registers r) d (eqb_tells r dst);
   set = covers.set;
   kept = covers.kept;
+  parts = covers.parts;
   maps = covers.maps;
   copies = covers.copies;
 }

@@ -23,6 +23,7 @@ use Rattle.bq_views.specs.declared.view.Known.{Known}
 use Rattle.bq_views.specs.Views.{Covers, Describes, Keeps, Forgets, Marks, IsOfKind, FindsPlace, IsWholeSlot, Stores, Carries, keeping}
 use Rattle.bq_views.proofs.StoreLemmas.{covers_written, low_at, stored_bytes}
 use Rattle.bq_views.specs.Copies.{AreCopies, HasWord, PartsSlots}
+use Rattle.bq_views.specs.Parts.{Outlives}
 use Rattle.bq_views.proofs.CopyLemmas.{copies_written, parts_less}
 use Rattle.bq_views.proofs.AccessLemmas.{entry_inside}
 
@@ -63,11 +64,12 @@ forgets_less old new from to o e low high forgets j = at (forgets j)
     at (inr (same, inr above)) = inr (same, inr (omega arith))
 
 -- bytes written at one place of the range
-pub covers_over : (f : Setting) (v w : View) (s : State) (at : Range) (n o : ℕ) (bytes : List ℕ) → w.registers ≡ v.registers → Marks v.set w.set o (o + n) → Forgets v.kept w.kept at.lo (at.hi + n) → PartsSlots v.classes w.classes at.lo (at.hi + n) → Covers f v s → Within at o → length bytes ≡ n → ((k : ℕ) → k < length bytes → slice_index bytes k < 256) → Covers f w (next (written s InStack o bytes))
-covers_over f v w s at n o bytes same marks forgets parts covers within long small =
+pub covers_over : (f : Setting) (v w : View) (s : State) (at : Range) (n o : ℕ) (bytes : List ℕ) → w.registers ≡ v.registers → Marks v.set w.set o (o + n) → Forgets v.kept w.kept at.lo (at.hi + n) → ((j : ℕ) → Outlives at.lo (at.hi + n) (slice_index_or v.parts j None) (slice_index_or w.parts j None)) → PartsSlots v.classes w.classes at.lo (at.hi + n) → Covers f v s → Within at o → length bytes ≡ n → ((k : ℕ) → k < length bytes → slice_index bytes k < 256) → Covers f w (next (written s InStack o bytes))
+covers_over f v w s at n o bytes same marks forgets outlive parts covers within long small =
     covers_written f v w s o bytes small same
     (subst (λ (m : ℕ). Marks v.set w.set o (o + m)) (sym long) marks)
     (forgets_less v.kept w.kept at.lo (at.hi + n) o (o + length bytes) within.0 (omega (arith, within.1, long)) forgets)
+    (λ j. record { has = λ stack p written low high. (outlive j).has stack p written (omega (arith, within.0, low)) (omega (arith, within.1, long, high)) })
     (copies_written v.classes w.classes s o bytes (parts_less v.classes w.classes at.lo (at.hi + n) o (o + length bytes) within.0 (omega (arith, within.1, long)) parts) covers.copies)
     covers
 
@@ -83,6 +85,7 @@ covers_keeping f w t j k there keeps covers = record {
   registers = covers.registers;
   set = covers.set;
   kept = λ i. keeps_at f w t j i k _ there keeps covers (eqb_tells i j);
+  parts = covers.parts;
   maps = covers.maps;
   copies = covers.copies;
 }
@@ -97,6 +100,7 @@ covers_entry f v s m first address n o bytes good long small covers =
       registers = covers.registers;
       set = covers.set;
       kept = covers.kept;
+      parts = covers.parts;
       copies = covers.copies;
       maps = have_overwritten f.shapes s.maps m (first + o) bytes covers.maps there (omega (arith, good.inside, long, inside)) small;
     }
@@ -156,7 +160,7 @@ carries_imm shapes context_length dst off imm size k old new slot word stores f 
 
 -- a view with other classes, which are right
 pub covers_classes : (f : Setting) (v : View) (t : State) (classes : List ℕ) → AreCopies classes t → Covers f v t → Covers f (record v { classes = classes }) t
-covers_classes f v t classes copies covers = record { registers = covers.registers; set = covers.set; kept = covers.kept; maps = covers.maps; copies = copies }
+covers_classes f v t classes copies covers = record { registers = covers.registers; set = covers.set; kept = covers.kept; parts = covers.parts; maps = covers.maps; copies = copies }
 
 pub carries_reg : (shapes : List MapShape) (context_length dst src : ℕ) (off : ℤ) (size : Size) (k : Known) (old new : View) (slot : Option ℕ) (classes : List ℕ) → ((f : Setting) (s : State) → Covers f old s → (v : ℕ) × (s.register src ≡ Some v) × Describes f.shapes k v) → Stores shapes context_length dst off size k old new slot → ((t : State) (v : ℕ) → AreCopies new.classes t → t.register src ≡ Some v → ((n : ℕ) → slot ≡ Some n → HasWord t (11 + n) v) → AreCopies classes t) → Carries shapes context_length (StoreReg size dst off src) old (record new { classes = classes })
 carries_reg shapes context_length dst src off size k old new slot classes word stores linked f s suits covers =

@@ -1,4 +1,5 @@
 pub mod Copies
+pub mod Parts
 pub mod Views
 pub mod Standing
 pub mod Ready

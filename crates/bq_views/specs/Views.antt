@@ -17,6 +17,7 @@ use Rattle.bq_insn.specs.declared.Source.{Source}
 use Rattle.bq_ranges.specs.Within.{Within}
 use Rattle.bq_ranges.specs.declared.range.Range.{Range}
 use Rattle.bq_views.specs.Copies.{AreCopies, HasWord}
+use Rattle.bq_views.specs.Parts.{HaveParts}
 use Rattle.bq_views.specs.declared.view.Kind.{Kind}
 use Rattle.bq_views.specs.declared.view.Kind.TheVariants.{Number, Context, Stack, Entry, EntryOrNull, Map}
 use Rattle.bq_views.specs.declared.view.Known.{Known}
@@ -61,6 +62,7 @@ pub record Covers (f : Setting) (v : View) (s : State) : Type 0 where
   pub registers : (r : ℕ) → Holds f.shapes (slice_index_or v.registers r None) (s.register r)
   pub set : (i : ℕ) → slice_index_or v.set i false ≡ true → (b : ℕ) × (s.stack i ≡ Some b) × (b < 256)
   pub kept : (j : ℕ) → Keeps f.shapes (slice_index_or v.kept j None) s.stack j
+  pub parts : HaveParts s.stack v.parts
   pub maps : HaveShapes f.shapes s.maps
   pub copies : AreCopies v.classes s
 

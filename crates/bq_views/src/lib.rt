@@ -13,6 +13,7 @@ pub mod counters;
 mod loads;
 pub mod merge;
 mod moves;
+mod parts;
 mod places;
 pub mod registers;
 pub mod sides;

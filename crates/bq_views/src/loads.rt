@@ -1,16 +1,19 @@
 // Loads.
 
-ghost use Rattle.std.specs.Prelude.{Some, ◌≡◌, ◌^◌, ◌<◌, ℕ, IsOk, IfSome, OnOk, false, slice_index_or, IfErr, ◌*◌, None};
+ghost use Rattle.std.specs.Prelude.{Some, List, Option, ◌≡◌, ◌≢◌, ◌^◌, ◌<◌, ℕ, IsOk, IfSome, OnOk, false, slice_index_or, IfErr, ◌*◌, None};
 ghost use Rattle.bq_insn.specs.Meaning.{byte_count};
 ghost use Rattle.bq_maps.specs.Machine.{loaded, bits_of as bits_in};
 ghost use Rattle.bq_ranges.specs.Within.{Within};
 ghost use Rattle.bq_insn.specs.declared.Insn.{Insn};
+ghost use Rattle.bq_maps.specs.Memory.{number_of};
+ghost use Rattle.bq_views.specs.Parts.{HasBytes, HaveParts};
 ghost use Rattle.bq_views.specs.Doubts.{MayDoubt};
 ghost use Rattle.bq_views.specs.Standing.{IsGiven};
 ghost use Rattle.bq_views.specs.Ready.{IsReadable};
 ghost use Rattle.bq_views.specs.Views.{Carries};
 
 use crate::copies::link;
+use crate::parts::{numbers, numbers_at};
 use crate::places::{Location, is_readable, locate};
 use crate::registers::learn;
 use crate::view::{Doubt, Kind, Known, View};
@@ -50,7 +53,7 @@ pub fn load(
         dst,
         Known {
             kind: Kind::Number,
-            offset: loads(size, signed),
+            offset: loads(reads_at(view, found, size), size, signed),
         },
     );
     Ok(())
@@ -77,32 +80,25 @@ fn kept_in(view: &View, slot: usize) -> Option<Known>
     view.kept[slot]
 }
 
-/// The numbers that a load of so many bytes gives.
-fn loads(size: Size, signed: bool) -> Range
-    ensures { (x : ℕ) → x < 256 ^ byte_count size → Within result (loaded size signed x) }
+/// The numbers that a read of so many bytes gives there.
+fn reads_at(view: &View, place: Location, size: Size) -> Range
+    ensures any { (x : ℕ) → place.kind ≢ Kind.Stack → x < 256 ^ byte_count size → Within result x }
+    ensures stack { (stack : ℕ → Option ℕ) (o : ℕ) (bytes : List ℕ) → place.kind ≡ Kind.Stack → HaveParts stack view.now.parts → Within place.at o → HasBytes stack o (byte_count size) bytes → number_of bytes < 256 ^ byte_count size → Within result (number_of bytes) }
 {
-    if signed {
-        return moves::extend(Width::W64, bits_of(size), numbers(size));
+    if place.kind != Kind::Stack {
+        return numbers(size);
     }
-    numbers(size)
+    numbers_at(&view.parts, place.at, size)
 }
 
-/// The numbers of so many bytes.
-fn numbers(size: Size) -> Range
-    ensures { (x : ℕ) → x < 256 ^ byte_count size → Within result x }
+/// What a load makes of such numbers.
+fn loads(numbers: Range, size: Size, signed: bool) -> Range
+    ensures { (x : ℕ) → Within numbers x → Within result (loaded size signed x) }
 {
-    match size {
-        Size::Byte => Range { lo: 0, hi: 0xff },
-        Size::Half => Range { lo: 0, hi: 0xffff },
-        Size::Word => Range {
-            lo: 0,
-            hi: 0xffff_ffff,
-        },
-        Size::Double => Range {
-            lo: 0,
-            hi: u64::MAX,
-        },
+    if signed {
+        return moves::extend(Width::W64, bits_of(size), numbers);
     }
+    numbers
 }
 
 /// How many bits so many bytes have.

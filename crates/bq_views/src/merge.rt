@@ -6,6 +6,7 @@ ghost use Rattle.bq_views.specs.Standing.{Fact, Has, Standing, Stands};
 ghost use Rattle.bq_views.specs.Views.{Allows, Covers};
 
 use crate::copies::keep_same;
+use crate::parts::join_parts;
 use crate::view::{Kind, Known, View};
 
 /// What both say.
@@ -75,5 +76,6 @@ pub fn merge(into: &mut View, other: &View)
     join_all(&mut into.registers, &other.registers);
     keep_common(&mut into.set, &other.set);
     join_all(&mut into.kept, &other.kept);
+    join_parts(&mut into.parts, &other.parts);
     keep_same(&mut into.classes, &other.classes);
 }

@@ -13,6 +13,7 @@ ghost use Rattle.bq_views.specs.Standing.{IsStoredAt, Scalar, StandsAt};
 ghost use Rattle.bq_views.specs.Views.{Carries, Covers, Describes, Forgets, IsWholeSlot, Marks, Stores, keeping};
 
 use crate::copies::{link, part_slots};
+use crate::parts::{forget_parts, store_part};
 use crate::places::{locate, stays};
 use crate::registers::known;
 use crate::view::{Doubt, Kind, Known, View};
@@ -124,7 +125,8 @@ fn store(
     }
 }
 
-/// A store on the stack; a word of eight bytes at a multiple of eight is kept whole, in the slot that is answered.
+/// A store on the stack; a word of eight bytes at a multiple of eight is kept whole, in the slot that is answered, and of
+/// another number the bytes that are stored.
 fn store_on_stack(
     view: &mut View,
     at: Range,
@@ -149,6 +151,7 @@ fn store_on_stack(
         return Err(Doubt::PointerUse);
     }
     overwrite(view, at, size);
+    store_part(&mut view.parts, at, size, word.offset);
     Ok(None)
 }
 
@@ -162,6 +165,7 @@ fn overwrite(view: &mut View, at: Range, size: Size)
     let from = at.lo as usize;
     let to = at.hi as usize + size.bytes();
     forget(&mut view.kept, from, to);
+    forget_parts(&mut view.parts, from, to);
     part_slots(&mut view.classes, from, to);
     if !at.is_single() {
         return;

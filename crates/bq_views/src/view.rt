@@ -1,5 +1,6 @@
 // What is known of a state when the control flow comes to a slot.
 
+use bq_insn::Size;
 use bq_ranges::Range;
 
 /// What a word counts from.
@@ -27,6 +28,16 @@ pub struct Known {
     pub offset: Range,
 }
 
+/// Some bytes of the stack: the number that is stored in them, its low byte first, is of the range.
+#[derive(Clone, Copy, Debug)]
+pub struct Part {
+    /// Where the first of them is, in bytes above the stack's lowest one.
+    pub first: u16,
+    /// How many they are.
+    pub size: Size,
+    pub range: Range,
+}
+
 /// What is known of registers and stack; of the rest nothing is.
 #[derive(Clone, Copy)]
 pub struct View {
@@ -36,6 +47,8 @@ pub struct View {
     pub set: [bool; 512],
     /// The word that was stored whole in each slot of eight bytes of the stack, where one is known.
     pub kept: [Option<Known>; 64],
+    /// Numbers that were stored in a few bytes, the last one for each remainder of the word's place by 32 bytes.
+    pub parts: [Option<Part>; 8],
     /// Of which class each place is: the registers, and then these slots. Places of one class other than 0 hold the same
     /// word.
     pub classes: [u8; 75],

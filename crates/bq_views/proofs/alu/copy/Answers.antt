@@ -31,7 +31,7 @@ returns-clause-carries c = λ shapes context_length f s suits covers.
     }) in (
       put s 1 c.args.dst value,
       (0, right.0, tt, right.1, c.requires, refl),
-      record { registers = learnt.registers; set = learnt.set; kept = learnt.kept; maps = learnt.maps; copies = copies },
+      record { registers = learnt.registers; set = learnt.set; kept = learnt.kept; parts = learnt.parts; maps = learnt.maps; copies = copies },
       refl,
     )
 

@@ -6,6 +6,7 @@ use Rattle.bq_views.specs.Copies.{HasWord}
 use Rattle.bq_views.specs.Views.{FindsPlace}
 use Rattle.bq_insn.specs.declared.Insn.TheVariants.{Load}
 use Rattle.bq_views.specs.Ready.{IsPlaced}
+use Rattle.bq_views.proofs.PartLemmas.{read_numbers}
 use Rattle.bq_views.proofs.PlaceLemmas.{stack_inside}
 use Rattle.bq_views.proofs.PutLemmas.{carries_linked, carries_put}
 use Rattle.bq_views.proofs.AccessLemmas.{load_gives, kept_load}
@@ -37,7 +38,8 @@ returns-clause-carries c =
     rw c.learn-2.ensures
     (carries_put c.args.shapes.now c.args.context (Load c.args.size c.args.signed c.args.dst c.args.src c.args.off) c.args.view.now c.args.dst _ there
     (load_gives c.args.shapes.now c.args.context c.args.view.now c.args.size c.args.signed c.args.dst c.args.src c.args.off c.in_ok-found.found.kind c.in_ok-found.found.at c.loads.result
-    finds (search rules) c.loads.ensures c.requires.below))
+    finds (search rules)
+    (λ f s word bytes r covers long small is within. c.loads.ensures _ (read_numbers c.in_ok-found.found.kind c.in_ok-found.found.at c.reads_at.result c.args.size f s _ bytes c.args.view.now.parts r c.reads_at.ensures.any c.reads_at.ensures.stack covers.parts long small is within)) c.requires.below))
 
 pub returns-in_err-found-clause-accepts : goal.returns-in_err-found-clause-accepts
 returns-in_err-found-clause-accepts c = λ ready.

@@ -1,8 +1,7 @@
 use Rattle.bq_views.proofs.loads.loads.Goals as goal
 
 pub returns-then-signed : goal.returns-then-signed
-returns-then-signed c = λ x small.
-    rw (c.if-signed.true, ← c.bits_of.ensures) (c.extend.ensures.holds x (c.numbers.ensures x small))
+returns-then-signed c = λ x within. rw (c.if-signed.true, ← c.bits_of.ensures) (c.extend.ensures.holds x within)
 
 pub returns : goal.returns
-returns c = λ x small. rw c.if-signed.false (c.numbers-2.ensures x small)
+returns c = λ x within. rw c.if-signed.false within

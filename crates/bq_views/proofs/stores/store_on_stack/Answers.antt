@@ -6,6 +6,9 @@ use Rattle.std.specs.Int.{bytes_low_first}
 use Rattle.bq_insn.specs.Meaning.{byte_count}
 use Rattle.bq_insn.specs.declared.Size.{Size}
 use Rattle.bq_insn.specs.declared.Size.TheVariants.{Double}
+use Rattle.bq_views.specs.declared.view.Kind.TheVariants.{Number}
+use Rattle.bq_views.proofs.WordLemmas.{number_within}
+use Rattle.bq_views.proofs.PartLemmas.{covers_parts, has_written}
 use Rattle.bq_views.specs.Views.{Keeps}
 use Rattle.bq_maps.specs.Memory.{InStack, stack_with, written}
 use Rattle.bq_maps.specs.Machine.{low_bytes, next}
@@ -28,4 +31,9 @@ returns-then-at-eq0-clause-covers c = λ f s o v covers within d.
 
 pub returns-clause-covers : goal.returns-clause-covers
 returns-clause-covers c = λ f s o v covers within d.
-    c.overwrite-2.ensures.covers f s o (low_bytes c.args.size v) covers within (low_long c.args.size v) (λ k lt. low_small c.args.size v k)
+    let long = low_long c.args.size v in
+    let after = c.overwrite-2.ensures.covers f s o (low_bytes c.args.size v) covers within long (λ k lt. low_small c.args.size v k) in
+    let number : c.args.word.kind ≡ Number = search rules in
+    let has = has_written s.stack o (byte_count c.args.size) (low_bytes c.args.size v) long in
+    let parts = c.store_part.ensures (stack_with s.stack o (low_bytes c.args.size v)) o v within (number_within f.shapes c.args.word v number d) has after.parts in
+    covers_parts f c.overwrite-2.new.view (next (written s InStack o (low_bytes c.args.size v))) c.store_part.new.parts parts after
