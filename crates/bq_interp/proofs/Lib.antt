@@ -10,3 +10,4 @@ pub mod OneRunLemmas
 pub mod PlaceLemmas
 pub mod PerformLemmas
 pub mod RunningLemmas
+pub mod MomentLemmas

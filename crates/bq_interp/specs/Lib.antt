@@ -3,3 +3,4 @@ pub mod Steps
 pub mod Chains
 pub mod Laws
 pub mod Positions
+pub mod Moments

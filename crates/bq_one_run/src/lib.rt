@@ -11,6 +11,7 @@ mod shapes;
 
 pub use changes::{copied, write_calls, write_changes};
 pub use inputs::Inputs;
-pub use one_run::{OneRun, run_once};
+pub use bq_interp::Moment;
+pub use one_run::{OneRun, run_often, run_once, trace_once};
 pub use permitted::{Word, word_on};
 pub use settings::{InputFault, inputs_of};
