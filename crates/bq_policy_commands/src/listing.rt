@@ -10,7 +10,6 @@ use crate::fault_words::{fault_line, fault_reason};
 use crate::given::{WordsFault, said_by};
 use crate::named::placed;
 use crate::policy_marks::marks;
-use crate::traces::line_of;
 use crate::words::ListWords;
 use bq_asm::listing;
 use bq_insn::Insn;
@@ -95,4 +94,13 @@ fn with_slots(alloc: Global, insns: &[Insn]) -> Result<String, AllocError>
         slot = next;
     }
     Ok(text)
+}
+
+/// The canonical text of one instruction, without a line's end.
+fn line_of(alloc: Global, insn: Insn) -> Result<String, AllocError> {
+    let text = listing(alloc, &[insn])?;
+    match text.as_str().strip_suffix("\n") {
+        Some(line) => String::from_str(alloc, line),
+        None => Ok(text),
+    }
 }

@@ -7,14 +7,13 @@ use crate::answered::Answered;
 use crate::given::{WordsFault, said_by, words_fault};
 use crate::listing::refused_file;
 use crate::repeats::runs_before;
-use crate::traces::write_steps;
+use crate::traces::executed_text;
 use crate::word_text::word_text;
 use crate::words::RunWords;
 use bq_explain::{Verdict, verdict_line};
 use bq_interp::Env;
 use bq_one_run::{
-    InputFault, Inputs, Moment, OneRun, copied, inputs_of, run_often, trace_once, write_calls,
-    write_changes,
+    InputFault, Inputs, OneRun, copied, inputs_of, run_often, trace_once, write_calls, write_changes,
 };
 use bq_policy_files::{Head, Policy, read_policy};
 use bq_verify::{Program, Refused, Verified, verify};
@@ -164,7 +163,7 @@ fn run_on(
     inputs: Inputs,
     before: u32,
 ) -> Result<Answered, AllocError>
-    ensures { IfOk result (RunsOn before verified.now inputs) }
+    ensures { IfOk result (RunsOn words.now.telling.is_traced before verified.now inputs) }
 {
     let mut inputs = inputs;
     let mut moments = Vec::new(alloc);
@@ -176,11 +175,9 @@ fn run_on(
             "the inputs are not those of the hook",
         )?));
     };
-    let mut steps = String::new(alloc);
-    if words.telling.is_traced {
-        write_steps(alloc, policy, moments.as_slice(), &mut steps)?;
-    }
-    let text = told(alloc, verified, first.as_slice(), &inputs, &ran, &steps)?;
+    let is_traced = words.telling.is_traced;
+    let executed = executed_text(alloc, is_traced, policy, verified, moments.as_slice())?;
+    let text = told(alloc, verified, first.as_slice(), &inputs, &ran, &executed)?;
     Ok(Answered::Done(text))
 }
 
@@ -193,14 +190,15 @@ fn told(
     ran: &OneRun,
     executed: &String,
 ) -> Result<String, AllocError>
-    ensures { IfOk result (λ text. TellsRun ran.now.r0 (string_bytes text)) }
+    ensures { IfOk result (λ text. TellsRun ran.now.r0 (string_bytes executed.now) (string_bytes text)) }
 {
     let r0 = ran.r0;
     let steps = ran.steps;
     let budget = verified.budget();
     let word = word_text(alloc, verified.hook(), inputs.context.as_slice(), r0)?;
+    let first = format!(in alloc; " (0x{r0:x})  {word}  steps {steps} of {budget}\n")?;
     let mut changes = String::new(alloc);
     write_changes(alloc, before, inputs, &mut changes)?;
     write_calls(ran.calls.as_slice(), &mut changes)?;
-    format!(in alloc; "r0 {r0} (0x{r0:x})  {word}  steps {steps} of {budget}\n{executed}{changes}")
+    format!(in alloc; "r0 {r0}{first}{executed}{changes}")
 }

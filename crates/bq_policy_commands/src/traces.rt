@@ -1,31 +1,110 @@
 //! The instructions of a run, one after another, in words.
+ghost use Rattle.std.specs.Prelude.{◌≡◌, ◌++◌, IfOk, string_bytes};
+ghost use Rattle.bq_policy_commands.specs.Tracing.{AreSteps, TellsSteps, changes_below, changes_to, slot_text, step_text};
+
 use bq_asm::listing;
 use bq_insn::Insn;
 use bq_one_run::Moment;
 use bq_policy_files::Policy;
+use bq_verify::Verified;
 use std::alloc::{AllocError, Global};
 
-/// A line for each instruction that the run executed: where it stands, itself, and the registers that it changed.
-pub(crate) fn write_steps(
+/// The instructions that the run executed, where that is asked for; else nothing.
+pub(crate) fn executed_text(
+    alloc: Global,
+    is_traced: bool,
+    policy: &Policy,
+    verified: &Verified,
+    moments: &[Moment],
+) -> Result<String, AllocError>
+    ensures { IfOk result (λ text. TellsSteps is_traced verified.now moments.now (string_bytes text)) }
+{
+    if is_traced {
+        steps_text(alloc, policy, verified, moments)
+    } else {
+        Ok(String::new(alloc))
+    }
+}
+
+/// For each instruction where it stands, itself, and a line for each register that it changed.
+fn steps_text(
     alloc: Global,
     policy: &Policy,
+    verified: &Verified,
     moments: &[Moment],
-    text: &mut String,
-) -> Result<(), AllocError> {
-    for (at, moment) in moments.iter().enumerate() {
+) -> Result<String, AllocError>
+    ensures { IfOk result (λ text. AreSteps verified.now moments.now (string_bytes text)) }
+{
+    let mut text = String::new(alloc);
+    let mut rest = moments;
+    while let [moment, after @ ..] = rest {
         let place = place_of(alloc, policy, moment.slot)?;
-        let said = said_at(alloc, policy, moment.slot)?;
-        let changes = match moments.get(at.saturating_add(1)) {
-            Some(next) => changes_of(alloc, moment, next)?,
-            None => String::new(alloc),
-        };
-        if changes.is_empty() {
-            write!(text, "{place:<20}{said}\n")?;
-        } else {
-            write!(text, "{place:<20}{said:<31}{changes}\n")?;
+        let step = step_text(alloc, verified, moment, after)?;
+        write!(text, "{place}{step}")?;
+        rest = after;
+    }
+    Ok(text)
+}
+
+/// One instruction with its slot, and what it changed.
+fn step_text(
+    alloc: Global,
+    verified: &Verified,
+    moment: &Moment,
+    after: &[Moment],
+) -> Result<String, AllocError>
+    ensures { IfOk result (λ text. string_bytes text ≡ step_text verified.now moment.now after.now) }
+{
+    let slot = moment.slot;
+    let said = slot_text(alloc, verified.at(slot).copied())?;
+    let changes = changes_to(alloc, moment, after)?;
+    format!(in alloc; "slot {slot}: {said}{changes}")
+}
+
+/// An instruction as it is listed, with the line's end.
+fn slot_text(alloc: Global, insn: Option<Insn>) -> Result<String, AllocError>
+    ensures { IfOk result (λ text. string_bytes text ≡ slot_text insn) }
+{
+    match insn {
+        Some(insn) => listing(alloc, &[insn]),
+        None => String::from_str(alloc, "\n"),
+    }
+}
+
+/// The registers that differ where the next instruction begins.
+fn changes_to(alloc: Global, moment: &Moment, after: &[Moment]) -> Result<String, AllocError>
+    ensures { IfOk result (λ text. string_bytes text ≡ changes_to moment.now after.now) }
+{
+    match after {
+        [] => Ok(String::new(alloc)),
+        [next, ..] => changes_text(alloc, moment, next),
+    }
+}
+
+/// The registers whose words differ, with the words that they have now.
+fn changes_text(alloc: Global, before: &Moment, now: &Moment) -> Result<String, AllocError>
+    ensures { IfOk result (λ text. string_bytes text ≡ changes_below 11 before.now.registers now.now.registers) }
+{
+    let mut text = String::new(alloc);
+    for register in 0..11usize {
+        let word = now.registers[register];
+        if before.registers[register] != word {
+            write!(text, "    r{register} = {word} (0x{word:x})\n")?;
         }
     }
-    Ok(())
+    Ok(text)
+}
+
+/// The line of the instruction at a slot and a comma, where the policy is a text.
+fn place_of(alloc: Global, policy: &Policy, slot: usize) -> Result<String, AllocError> {
+    let line = match index_at(policy.insns.as_slice(), slot) {
+        Some(index) => policy.lines.get(index),
+        None => None,
+    };
+    match line {
+        Some(line) => format!(in alloc; "line {line}, "),
+        None => Ok(String::new(alloc)),
+    }
 }
 
 /// The index of the instruction that begins at a slot.
@@ -38,50 +117,4 @@ fn index_at(insns: &[Insn], slot: usize) -> Option<usize> {
         begins = begins.saturating_add(insn.slots());
     }
     None
-}
-
-/// The line, where the policy is a text, and the slot.
-fn place_of(alloc: Global, policy: &Policy, slot: usize) -> Result<String, AllocError> {
-    let line = match index_at(policy.insns.as_slice(), slot) {
-        Some(index) => policy.lines.get(index),
-        None => None,
-    };
-    match line {
-        Some(line) => format!(in alloc; "line {line}, slot {slot}:"),
-        None => format!(in alloc; "slot {slot}:"),
-    }
-}
-
-/// The instruction at a slot, as it is listed.
-fn said_at(alloc: Global, policy: &Policy, slot: usize) -> Result<String, AllocError> {
-    let insns = policy.insns.as_slice();
-    let insn = match index_at(insns, slot) {
-        Some(index) => insns.get(index),
-        None => None,
-    };
-    match insn {
-        Some(insn) => line_of(alloc, *insn),
-        None => Ok(String::new(alloc)),
-    }
-}
-
-/// The canonical text of one instruction, without a line's end.
-pub(crate) fn line_of(alloc: Global, insn: Insn) -> Result<String, AllocError> {
-    let text = listing(alloc, &[insn])?;
-    match text.as_str().strip_suffix("\n") {
-        Some(line) => String::from_str(alloc, line),
-        None => Ok(text),
-    }
-}
-
-/// The registers whose words differ, with the words that they have now.
-fn changes_of(alloc: Global, before: &Moment, now: &Moment) -> Result<String, AllocError> {
-    let mut text = String::new(alloc);
-    for register in 0..11usize {
-        let word = now.registers[register];
-        if word != before.registers[register] {
-            write!(text, " r{register} = {word} (0x{word:x})")?;
-        }
-    }
-    Ok(text)
 }

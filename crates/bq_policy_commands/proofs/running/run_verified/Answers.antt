@@ -8,7 +8,7 @@ returns-in-Err-Words c = inl (_, refl)
 
 pub returns-in-Ok-2 : goal.returns-in-Ok-2
 returns-in-Ok-2 c =
-    IfOk-weaker c.run_on.result (RunsOn c.in-Ok.before c.args.verified.now c.in-Ok-2.inputs) (RunsProgram c.args.words.now c.args.verified.now)
+    IfOk-weaker c.run_on.result (RunsOn c.args.words.now.telling.is_traced c.in-Ok.before c.args.verified.now c.in-Ok-2.inputs) (RunsProgram c.args.words.now c.args.verified.now)
     (λ answer ran. inr (c.in-Ok.before, c.in-Ok.ensures, c.in-Ok-2.inputs, c.in-Ok-2.ensures, ran)) c.run_on.ensures
 
 pub returns-in-Err-2-Words : goal.returns-in-Err-2-Words
