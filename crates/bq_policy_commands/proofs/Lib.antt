@@ -1,1 +1,2 @@
 mod TraceLemmas
+mod RunLemmas
