@@ -18,7 +18,7 @@ one_more program moments rest after m told place step new split all steps news m
     let begun : AreSteps program (m ∷ after) (place ++ (step ++ more)) = (place, more, ap (λ (s : List ℕ). place ++ (s ++ more)) steps, h) in
     let whole : AreSteps program rest (place ++ (step ++ more)) = subst (λ (ms : List Moment). AreSteps program ms (place ++ (step ++ more))) (sym split) begun in
     let joined : new ++ more ≡ told ++ (place ++ (step ++ more)) =
-        ap (λ (n : List ℕ). n ++ more) news ∙ append_assoc told (place ++ step) more ∙ ap (λ (t : List ℕ). told ++ t) (append_assoc place step more) in
+    ap (λ (n : List ℕ). n ++ more) news ∙ append_assoc told (place ++ step) more ∙ ap (λ (t : List ℕ). told ++ t) (append_assoc place step more) in
     subst (λ (t : List ℕ). AreSteps program moments t) (sym joined) (all (place ++ (step ++ more)) whole)
 
 -- where nothing is left, what is told is all

@@ -13,7 +13,8 @@ use crate::words::RunWords;
 use bq_explain::{Verdict, verdict_line};
 use bq_interp::Env;
 use bq_one_run::{
-    InputFault, Inputs, OneRun, copied, inputs_of, run_often, trace_once, write_calls, write_changes,
+    InputFault, Inputs, OneRun, copied, inputs_of, run_often, trace_once, write_calls,
+    write_changes,
 };
 use bq_policy_files::{Head, Policy, read_policy};
 use bq_verify::{Program, Refused, Verified, verify};

@@ -14,5 +14,5 @@ returns c =
     let moments = when_some _ _ _ c.in_ok-ran.ensures.moments c.in-Some-Some.is-1 in
     let each = when_some _ _ _ c.in_ok-ran.ensures.each c.in-Some-Some.is-1 in
     let executed : TellsSteps c.args.words.now.telling.is_traced c.args.verified.now c.trace_once.new.moments.items (string_bytes c.in_ok-executed.executed) =
-        subst (λ (ms : List Moment). TellsSteps c.args.words.now.telling.is_traced c.args.verified.now ms (string_bytes c.in_ok-executed.executed)) c.as_slice.ensures.value c.in_ok-executed.ensures in
+    subst (λ (ms : List Moment). TellsSteps c.args.words.now.telling.is_traced c.args.verified.now ms (string_bytes c.in_ok-executed.executed)) c.as_slice.ensures.value c.in_ok-executed.ensures in
     inr (has_run c.args.words.now.telling.is_traced c.args.before c.args.verified.now c.args.inputs c.run_often-others.new.inputs c.trace_once.new.moments.items c.in-Some-Some.ran.steps c.in-Some-Some.ran.r0 c.in-Some-Some.ran.calls.items c.trace_once.new.inputs.maps.bytes c.in_ok-text.text (string_bytes c.in_ok-executed.executed) runs c.run_often-others.ensures.context c.run_often-others.ensures.env run moments each executed c.in_ok-text.ensures)

@@ -6,10 +6,10 @@ use Rattle.bq_policy_commands.proofs.running.run_verified.Goals as goal
 pub returns-in-Err-Words : goal.returns-in-Err-Words
 returns-in-Err-Words c = inl (_, refl)
 
-pub returns-in-Ok-2 : goal.returns-in-Ok-2
-returns-in-Ok-2 c =
-    IfOk-weaker c.run_on.result (RunsOn c.args.words.now.telling.is_traced c.in-Ok.before c.args.verified.now c.in-Ok-2.inputs) (RunsProgram c.args.words.now c.args.verified.now)
-    (λ answer ran. inr (c.in-Ok.before, c.in-Ok.ensures, c.in-Ok-2.inputs, c.in-Ok-2.ensures, ran)) c.run_on.ensures
+pub returns-in-Ok-inputs_named : goal.returns-in-Ok-inputs_named
+returns-in-Ok-inputs_named c =
+    IfOk-weaker c.run_on.result (RunsOn c.args.words.now.telling.is_traced c.in-Ok.before c.args.verified.now c.in-Ok-inputs_named.inputs) (RunsProgram c.args.words.now c.args.verified.now)
+    (λ answer ran. inr (c.in-Ok.before, c.in-Ok.ensures, c.in-Ok-inputs_named.inputs, c.in-Ok-inputs_named.ensures, ran)) c.run_on.ensures
 
-pub returns-in-Err-2-Words : goal.returns-in-Err-2-Words
-returns-in-Err-2-Words c = inl (_, refl)
+pub returns-in-Err-Words-inputs_named : goal.returns-in-Err-Words-inputs_named
+returns-in-Err-Words-inputs_named c = inl (_, refl)

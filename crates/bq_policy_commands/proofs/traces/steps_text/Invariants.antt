@@ -1,4 +1,4 @@
-use Rattle.std.proofs.Common.{◌≡◌, ◌++◌, ℕ, List, length}
+use Rattle.std.proofs.Common.{◌++◌, ℕ, List, length}
 use Rattle.std.specs.String.{string_bytes}
 use Rattle.bq_policy_commands.specs.Tracing.{AreSteps}
 use Rattle.bq_policy_commands.proofs.traces.steps_text.Given as goal
