@@ -1,5 +1,5 @@
 -- The one run of a policy on its inputs.
-use Rattle.std.specs.Prelude.{ℕ, ◌≤◌, List}
+use Rattle.std.specs.Prelude.{◌≡◌, ℕ, zero, suc, ◌≤◌, List}
 use Rattle.bq_maps.specs.declared.board.Call.{Call as Asked}
 use Rattle.bq_maps.specs.Machine.{RunFrom, start}
 use Rattle.bq_verify.specs.Accepted.{Accepted}
@@ -10,3 +10,12 @@ use Rattle.bq_interp.specs.Chains.{setting_of}
 pub record IsRun (program : Accepted) (context : List ℕ) (now processor : ℕ) (before : List (List ℕ)) (steps : ℕ) (calls : List Asked) (answer : ℕ) (after : List (List ℕ)) : Type 0 where
   pub runs : RunFrom (setting_of program context now processor) (start before) steps calls answer after
   pub within : steps ≤ program.budget
+
+-- a run leads from these maps to those
+abbrev pub LeadsFrom : Accepted → List ℕ → ℕ → ℕ → List (List ℕ) → List (List ℕ) → Type 0
+LeadsFrom program context now processor before after = (steps : ℕ) × (calls : List Asked) × (answer : ℕ) × IsRun program context now processor before steps calls answer after
+
+-- so many runs, one after another, lead there
+abbrev pub AreRuns : Accepted → List ℕ → ℕ → ℕ → ℕ → List (List ℕ) → List (List ℕ) → Type 0
+AreRuns program context now processor zero before after = after ≡ before
+AreRuns program context now processor (suc n) before after = (between : List (List ℕ)) × AreRuns program context now processor n before between × LeadsFrom program context now processor between after

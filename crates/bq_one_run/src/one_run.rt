@@ -1,12 +1,16 @@
-//! A run, and what came of it.
-ghost use Rattle.std.specs.Prelude.{◌≡◌, IfSome};
-ghost use Rattle.bq_one_run.specs.Runs.{IsRun};
+//! Runs, and what came of them.
+ghost use Rattle.std.specs.Prelude.{◌≡◌, [], length, IfOk, IfSome};
+ghost use Rattle.bq_interp.specs.Chains.{setting_of};
+ghost use Rattle.bq_interp.specs.Moments.{AreMoments};
+ghost use Rattle.bq_maps.specs.Machine.{start};
+ghost use Rattle.bq_one_run.specs.Runs.{AreRuns, IsRun};
 
 use crate::inputs::Inputs;
 use crate::shapes::same_shapes;
-use bq_interp::{Ran, Stack, run};
+use bq_interp::{Moment, Ran, Stack, run, run_traced};
 use bq_verify::Verified;
 use bq_verify::hook::context_length;
+use std::alloc::AllocError;
 
 /// What a run answered and took.
 pub type OneRun = Ran;
@@ -14,7 +18,9 @@ pub type OneRun = Ran;
 /// The one run of the program on the inputs, whose maps and counters it leaves as the run does. None where the context has
 /// not the length of the program's hook and version, or the maps are of other shapes.
 pub fn run_once(verified: &Verified, inputs: &mut Inputs) -> Option<OneRun>
-    ensures { IfSome result (λ r. IsRun verified.now inputs.old.context.items inputs.old.env.now inputs.old.env.processor inputs.old.maps.bytes r.steps r.calls.items r.r0 inputs.new.maps.bytes) }
+    ensures run { IfSome result (λ r. IsRun verified.now inputs.old.context.items inputs.old.env.now inputs.old.env.processor inputs.old.maps.bytes r.steps r.calls.items r.r0 inputs.new.maps.bytes) }
+    ensures context { inputs.new.context ≡ inputs.old.context }
+    ensures env { inputs.new.env ≡ inputs.old.env }
 {
     if inputs.context.len() != context_length(verified.hook(), verified.version()) {
         return None;
@@ -31,4 +37,50 @@ pub fn run_once(verified: &Verified, inputs: &mut Inputs) -> Option<OneRun>
         inputs.env,
         &mut inputs.board,
     ))
+}
+
+/// So many runs, one after another: each begins with the maps and counters that the one before it left. None where there is none.
+pub fn run_often(verified: &Verified, inputs: &mut Inputs, count: u32) -> Option<()>
+    ensures runs { IfSome result (λ _. AreRuns verified.now inputs.old.context.items inputs.old.env.now inputs.old.env.processor count inputs.old.maps.bytes inputs.new.maps.bytes) }
+    ensures context { inputs.new.context ≡ inputs.old.context }
+    ensures env { inputs.new.env ≡ inputs.old.env }
+{
+    let mut done: u32 = 0;
+    while done < count {
+        run_once(verified, inputs)?;
+        done += 1;
+    }
+    Some(())
+}
+
+/// The same as `run_once`, with what each instruction of the run began from, put into a list that is empty: as many as steps, and
+/// the machine's chain of as many steps comes to each.
+pub fn trace_once(
+    verified: &Verified,
+    inputs: &mut Inputs,
+    moments: &mut Vec<Moment>,
+) -> Result<Option<OneRun>, AllocError>
+    requires { moments.old.items ≡ [] }
+    ensures run { IfOk result (λ o. IfSome o (λ r. IsRun verified.now inputs.old.context.items inputs.old.env.now inputs.old.env.processor inputs.old.maps.bytes r.steps r.calls.items r.r0 inputs.new.maps.bytes)) }
+    ensures moments { IfOk result (λ o. IfSome o (λ r. AreMoments (setting_of verified.now inputs.old.context.items inputs.old.env.now inputs.old.env.processor) (start inputs.old.maps.bytes) 0 moments.new.items)) }
+    ensures each { IfOk result (λ o. IfSome o (λ r. length moments.new.items ≡ r.steps)) }
+{
+    if inputs.context.len() != context_length(verified.hook(), verified.version()) {
+        return Ok(None);
+    }
+    if !same_shapes(inputs.maps.shapes(), verified.shapes()) {
+        return Ok(None);
+    }
+    let mut stack = Stack::new();
+    let env = inputs.env;
+    let ran = run_traced(
+        verified,
+        inputs.context.as_slice(),
+        &mut inputs.maps,
+        &mut stack,
+        env,
+        &mut inputs.board,
+        moments,
+    )?;
+    Ok(Some(ran))
 }

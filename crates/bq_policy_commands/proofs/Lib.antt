@@ -1,0 +1,2 @@
+mod TraceLemmas
+mod RunLemmas

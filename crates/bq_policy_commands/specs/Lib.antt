@@ -4,3 +4,4 @@ pub mod Listing
 pub mod Refusing
 pub mod Running
 pub mod Saying
+pub mod Tracing

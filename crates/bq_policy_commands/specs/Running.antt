@@ -1,5 +1,5 @@
 -- What `run` answers to a policy's file.
-use Rattle.std.specs.Prelude.{◌≡◌, ℕ, List, ◌++◌, ◌⊎◌, Option, Some, None, String, codes, string_bytes}
+use Rattle.std.specs.Prelude.{◌≡◌, ℕ, ◌+◌, Bool, List, ◌++◌, length, ◌⊎◌, Option, Some, None, String, codes, string_bytes}
 use Rattle.std.specs.declared.alloc.Global.{Global}
 use Rattle.std.specs.Fmt.{decimal}
 use Rattle.bq_insn.specs.Slots.{spread}
@@ -8,7 +8,11 @@ use Rattle.bq_explain.specs.declared.verdict.Verdict.{Verdict}
 use Rattle.bq_explain.specs.declared.verdict.Verdict.TheVariants as verdict
 use Rattle.bq_explain.specs.Verdicts.{verdict_line}
 use Rattle.bq_one_run.specs.declared.inputs.Inputs.{Inputs}
-use Rattle.bq_one_run.specs.Runs.{IsRun}
+use Rattle.bq_maps.specs.Machine.{start}
+use Rattle.bq_interp.specs.declared.traced.Moment.{Moment}
+use Rattle.bq_interp.specs.Chains.{setting_of}
+use Rattle.bq_interp.specs.Moments.{AreMoments}
+use Rattle.bq_one_run.specs.Runs.{AreRuns, IsRun}
 use Rattle.bq_graph.specs.declared.cause.Cause.{Cause}
 use Rattle.bq_verify.specs.Accepted.{Accepted}
 use Rattle.bq_verify.specs.Refusals.{IsRefusal}
@@ -22,6 +26,7 @@ use Rattle.bq_policy_commands.specs.declared.answered.Answered.TheVariants.{Done
 use Rattle.bq_policy_commands.specs.declared.words.RunWords.{RunWords}
 use Rattle.bq_policy_commands.specs.Limiting.{IsNumber}
 use Rattle.bq_policy_commands.specs.Refusing.{IsRefusedFile}
+use Rattle.bq_policy_commands.specs.Tracing.{TellsSteps}
 use Rattle.bq_policy_commands.specs.Saying.{IsWordsFault, SaysHead, option_bytes}
 
 -- without a word the number is 0
@@ -34,27 +39,41 @@ pub record HasClock (w : RunWords) (inputs : Inputs) : Type 0 where
   pub now : IsNumberOrZero (option_bytes w.time) inputs.env.now
   pub processor : IsNumberOrZero (option_bytes w.processor) inputs.env.processor
 
--- the text begins with the answer
-abbrev pub TellsRun : ℕ → List ℕ → Type 0
-TellsRun answer text = (rest : List ℕ) × (text ≡ codes "r0 " ++ (decimal answer ++ rest))
+-- the text begins with the answer, and what is told of the steps stands after what ends that line, before what changed
+abbrev pub TellsRun : ℕ → List ℕ → List ℕ → Type 0
+TellsRun answer executed text = (first changes : List ℕ) × (text ≡ codes "r0 " ++ (decimal answer ++ (first ++ (executed ++ changes))))
 
--- the one run of the program on those inputs, and its answer is told
-pub record HasRun (program : Accepted) (inputs : Inputs) (told_as : Answered) : Type 0 where
+-- of so many runs as the word says, all but the last
+abbrev pub IsBefore : Option (List ℕ) → ℕ → Type 0
+IsBefore None n = n ≡ 0
+IsBefore (Some word) n = IsNumber word (n + 1)
+
+-- so many runs of the program on those inputs, one after another, lead to maps from which there is a run more, whose steps begin from
+-- these moments of the machine: its answer is told, and its steps where that is asked for
+pub record HasRun (traced : Bool) (others : ℕ) (program : Accepted) (inputs : Inputs) (told_as : Answered) : Type 0 where
   pub steps : ℕ
   pub calls : List Asked
   pub answer : ℕ
+  pub before : List (List ℕ)
   pub after : List (List ℕ)
-  pub run : IsRun program inputs.context.items inputs.env.now inputs.env.processor inputs.maps.bytes steps calls answer after
+  pub moments : List Moment
+  pub runs : AreRuns program inputs.context.items inputs.env.now inputs.env.processor others inputs.maps.bytes before
+  pub run : IsRun program inputs.context.items inputs.env.now inputs.env.processor before steps calls answer after
+  pub are : AreMoments (setting_of program inputs.context.items inputs.env.now inputs.env.processor) (start before) 0 moments
+  pub each : length moments ≡ steps
   pub text : String Global
   pub is : told_as ≡ Done text
-  pub told : TellsRun answer (string_bytes text)
+  pub executed : List ℕ
+  pub steps_told : TellsSteps traced program moments executed
+  pub told : TellsRun answer executed (string_bytes text)
 
-abbrev pub RunsOn : Accepted → Inputs → Answered → Type 0
-RunsOn program inputs told_as = IsWordsFault told_as ⊎ HasRun program inputs told_as
+abbrev pub RunsOn : Bool → ℕ → Accepted → Inputs → Answered → Type 0
+RunsOn traced others program inputs told_as = IsWordsFault told_as ⊎ HasRun traced others program inputs told_as
 
--- on inputs that the words name
+-- on inputs that the words name, after as many others as they name
 abbrev pub RunsProgram : RunWords → Accepted → Answered → Type 0
-RunsProgram w program told_as = IsWordsFault told_as ⊎ ((inputs : Inputs) × HasClock w inputs × RunsOn program inputs told_as)
+RunsProgram w program told_as =
+    IsWordsFault told_as ⊎ ((others : ℕ) × IsBefore (option_bytes w.telling.repeat) others × (inputs : Inputs) × HasClock w inputs × RunsOn w.telling.is_traced others program inputs told_as)
 
 -- the program is that of the policy
 pub record IsProgramOf (p : Policy) (program : Accepted) : Type 0 where

@@ -14,7 +14,9 @@ mod limits;
 mod listing;
 mod named;
 mod policy_marks;
+mod repeats;
 mod running;
+mod traces;
 mod word_text;
 mod words;
 
@@ -26,4 +28,4 @@ pub use limits::limits_of;
 pub use listing::list;
 pub use policy_marks::marks;
 pub use running::run;
-pub use words::{CheckWords, ListWords, PolicyWords, RunWords};
+pub use words::{CheckWords, ListWords, PolicyWords, RunWords, TellingWords};

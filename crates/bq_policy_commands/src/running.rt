@@ -6,12 +6,15 @@ ghost use Rattle.bq_policy_commands.specs.Saying.{option_bytes};
 use crate::answered::Answered;
 use crate::given::{WordsFault, said_by, words_fault};
 use crate::listing::refused_file;
+use crate::repeats::runs_before;
+use crate::traces::executed_text;
 use crate::word_text::word_text;
 use crate::words::RunWords;
 use bq_explain::{Verdict, verdict_line};
 use bq_interp::Env;
 use bq_one_run::{
-    InputFault, Inputs, OneRun, copied, inputs_of, run_once, write_calls, write_changes,
+    InputFault, Inputs, OneRun, copied, inputs_of, run_often, trace_once, write_calls,
+    write_changes,
 };
 use bq_policy_files::{Head, Policy, read_policy};
 use bq_verify::{Program, Refused, Verified, verify};
@@ -64,7 +67,7 @@ fn run_policy(alloc: Global, words: &RunWords, policy: &Policy) -> Result<Answer
         version: policy.version,
     };
     match verify(alloc, program) {
-        Ok(verified) => run_verified(alloc, words, &verified),
+        Ok(verified) => run_verified(alloc, words, policy, &verified),
         Err(Refused::OutOfMemory) => Err(AllocError),
         Err(Refused::At { slot, cause }) => {
             let text = unaccepted_text(alloc, policy, Verdict::Refused { slot, cause })?;
@@ -85,12 +88,18 @@ fn unaccepted_text(alloc: Global, policy: &Policy, verdict: Verdict) -> Result<S
 fn run_verified(
     alloc: Global,
     words: &RunWords,
+    policy: &Policy,
     verified: &Verified,
 ) -> Result<Answered, AllocError>
     ensures { IfOk result (RunsProgram words.now verified.now) }
 {
+    let before = match runs_before(alloc, &words.telling.repeat) {
+        Ok(before) => before,
+        Err(WordsFault::Words(why)) => return Ok(Answered::Words(why)),
+        Err(WordsFault::OutOfMemory) => return Err(AllocError),
+    };
     match inputs_named(alloc, words, verified) {
-        Ok(inputs) => run_on(alloc, verified, inputs),
+        Ok(inputs) => run_on(alloc, words, policy, verified, inputs, before),
         Err(WordsFault::Words(why)) => Ok(Answered::Words(why)),
         Err(WordsFault::OutOfMemory) => Err(AllocError),
     }
@@ -146,37 +155,51 @@ fn number(alloc: Global, option: &str, word: &Option<String>) -> Result<u64, Wor
     }
 }
 
-fn run_on(alloc: Global, verified: &Verified, inputs: Inputs) -> Result<Answered, AllocError>
-    ensures { IfOk result (RunsOn verified.now inputs) }
+/// The run after so many others on the same maps and counters.
+fn run_on(
+    alloc: Global,
+    words: &RunWords,
+    policy: &Policy,
+    verified: &Verified,
+    inputs: Inputs,
+    before: u32,
+) -> Result<Answered, AllocError>
+    ensures { IfOk result (RunsOn words.now.telling.is_traced before verified.now inputs) }
 {
     let mut inputs = inputs;
-    let before = copied(alloc, &inputs.maps)?;
-    let Some(ran) = run_once(verified, &mut inputs) else {
+    let mut moments = Vec::new(alloc);
+    let first = copied(alloc, &inputs.maps)?;
+    let others = run_often(verified, &mut inputs, before);
+    let (Some(()), Some(ran)) = (others, trace_once(verified, &mut inputs, &mut moments)?) else {
         return Ok(Answered::Words(String::from_str(
             alloc,
             "the inputs are not those of the hook",
         )?));
     };
-    let text = told(alloc, verified, before.as_slice(), &inputs, &ran)?;
+    let is_traced = words.telling.is_traced;
+    let executed = executed_text(alloc, is_traced, policy, verified, moments.as_slice())?;
+    let text = told(alloc, verified, first.as_slice(), &inputs, &ran, &executed)?;
     Ok(Answered::Done(text))
 }
 
-/// What the run answered, what the rule says of that, how many instructions it took, and what it changed.
+/// What the run answered, what the rule says of that, how many instructions it took, and which; and what changed.
 fn told(
     alloc: Global,
     verified: &Verified,
     before: &[Vec<u8>],
     inputs: &Inputs,
     ran: &OneRun,
+    executed: &String,
 ) -> Result<String, AllocError>
-    ensures { IfOk result (λ text. TellsRun ran.now.r0 (string_bytes text)) }
+    ensures { IfOk result (λ text. TellsRun ran.now.r0 (string_bytes executed.now) (string_bytes text)) }
 {
     let r0 = ran.r0;
     let steps = ran.steps;
     let budget = verified.budget();
     let word = word_text(alloc, verified.hook(), inputs.context.as_slice(), r0)?;
+    let first = format!(in alloc; " (0x{r0:x})  {word}  steps {steps} of {budget}\n")?;
     let mut changes = String::new(alloc);
     write_changes(alloc, before, inputs, &mut changes)?;
     write_calls(ran.calls.as_slice(), &mut changes)?;
-    format!(in alloc; "r0 {r0} (0x{r0:x})  {word}  steps {steps} of {budget}\n{changes}")
+    format!(in alloc; "r0 {r0}{first}{executed}{changes}")
 }

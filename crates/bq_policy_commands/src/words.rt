@@ -27,10 +27,20 @@ pub struct CheckWords {
     pub helpers: Option<String>,
 }
 
+/// Which run is told, and how.
+#[derive(Debug, Drop)]
+pub struct TellingWords {
+    /// Whether each instruction is told.
+    pub is_traced: bool,
+    /// How many runs there are, of which the last is told.
+    pub repeat: Option<String>,
+}
+
 /// The words after `run`.
 #[derive(Debug, Drop)]
 pub struct RunWords {
     pub policy: PolicyWords,
+    pub telling: TellingWords,
     /// The bytes of the context, in hex.
     pub context: Option<String>,
     /// Fields of the context by their names, as `task=3,mask=0x6`.

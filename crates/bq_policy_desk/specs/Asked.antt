@@ -6,6 +6,7 @@ use Rattle.bq_policy_commands.specs.declared.words.CheckWords.{CheckWords}
 use Rattle.bq_policy_commands.specs.declared.words.ListWords.{ListWords}
 use Rattle.bq_policy_commands.specs.declared.words.PolicyWords.{PolicyWords}
 use Rattle.bq_policy_commands.specs.declared.words.RunWords.{RunWords}
+use Rattle.bq_policy_commands.specs.declared.words.TellingWords.{TellingWords}
 
 -- a flag that stands among the words
 abbrev pub IsSet : Text → List Row → Bool → Type 0
@@ -25,8 +26,13 @@ pub record AreCheckWords (rows : List Row) (w : CheckWords) : Type 0 where
   pub steps : option_bytes w.max_steps ≡ first_of (codes "max-steps") rows
   pub helpers : option_bytes w.helpers ≡ first_of (codes "helpers") rows
 
+pub record AreTellingWords (rows : List Row) (w : TellingWords) : Type 0 where
+  pub traced : IsSet (codes "trace") rows w.is_traced
+  pub repeat : option_bytes w.repeat ≡ first_of (codes "repeat") rows
+
 pub record AreRunWords (rows : List Row) (w : RunWords) : Type 0 where
   pub policy : ArePolicyWords rows w.policy
+  pub telling : AreTellingWords rows w.telling
   pub context : option_bytes w.context ≡ first_of (codes "ctx") rows
   pub time : option_bytes w.time ≡ first_of (codes "time") rows
   pub processor : option_bytes w.processor ≡ first_of (codes "processor") rows

@@ -1,11 +1,11 @@
 //! What words ask of a policy.
 ghost use Rattle.std.specs.Prelude.{IfOk};
 ghost use Rattle.clap.specs.Words.{found_of, rows_of};
-ghost use Rattle.bq_policy_desk.specs.Asked.{AreCheckWords, AreListWords, ArePolicyWords, AreRunWords};
+ghost use Rattle.bq_policy_desk.specs.Asked.{AreCheckWords, AreListWords, ArePolicyWords, AreRunWords, AreTellingWords};
 
 use crate::commands::program;
 use crate::found::{is_set, list, word};
-use bq_policy_commands::{CheckWords, ListWords, PolicyWords, RunWords};
+use bq_policy_commands::{CheckWords, ListWords, PolicyWords, RunWords, TellingWords};
 use clap::ArgMatches;
 use clap::error::ErrorKind;
 use std::alloc::{AllocError, Global};
@@ -82,6 +82,7 @@ fn run_words(alloc: Global, matches: &ArgMatches<'_>) -> Result<RunWords, AllocE
     ensures { IfOk result (AreRunWords (rows_of (found_of matches.now))) }
 {
     let policy = policy_words(alloc, matches)?;
+    let telling = telling_words(alloc, matches)?;
     let context = word(alloc, matches, "ctx")?;
     let fields = list(alloc, matches, "set")?;
     let entries = list(alloc, matches, "map")?;
@@ -90,12 +91,24 @@ fn run_words(alloc: Global, matches: &ArgMatches<'_>) -> Result<RunWords, AllocE
     let processor = word(alloc, matches, "processor")?;
     Ok(RunWords {
         policy,
+        telling,
         context,
         fields,
         entries,
         counters,
         time,
         processor,
+    })
+}
+
+/// The words that say which run is told, and how.
+fn telling_words(alloc: Global, matches: &ArgMatches<'_>) -> Result<TellingWords, AllocError>
+    ensures { IfOk result (AreTellingWords (rows_of (found_of matches.now))) }
+{
+    let repeat = word(alloc, matches, "repeat")?;
+    Ok(TellingWords {
+        is_traced: is_set(matches, "trace"),
+        repeat,
     })
 }
 

@@ -90,7 +90,15 @@ fn run_command<'a>(alloc: Global) -> Result<Command<'a>, AllocError> {
     let processor = option(alloc, "processor", "P").help("The processor, which helper 8 answers");
     let command = command.arg(processor)?;
     let counters = list(alloc, "counter", "COUNTER").help("A counter before the run, as in 3=10");
-    command.arg(counters)
+    let command = command.arg(counters)?;
+    let trace = flag(alloc, "trace").help(
+        "Writes each instruction that the run executes, with its place and the registers that it changes",
+    );
+    let command = command.arg(trace)?;
+    let repeat = option(alloc, "repeat", "N").help(
+        "Runs the policy N times, each time on the maps and counters that the run before left, and tells the last run; the changes are those of all runs",
+    );
+    command.arg(repeat)
 }
 
 fn dis_command<'a>(alloc: Global) -> Result<Command<'a>, AllocError> {

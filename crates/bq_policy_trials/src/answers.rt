@@ -1,7 +1,7 @@
 // Files, words and answers. The numbers were counted by hand.
 
 use bq_policy_commands::{
-    Answered, CheckWords, ListWords, PolicyWords, RunWords, check, list, run,
+    Answered, CheckWords, ListWords, PolicyWords, RunWords, TellingWords, check, list, run,
 };
 use std::alloc::{AllocError, Global};
 use std::test::Fail;
@@ -130,11 +130,13 @@ fn checks_say_what_is_wrong(rt: HostRuntime) -> Result<(), Fail> {
     Ok(())
 }
 
-/// The policy, its fields, an entry, a counter, the processor, and what is told.
-const RUN: [(&str, &str, &str, &str, &str, &str); 5] = [
+/// The policy, its fields, an entry, a counter, the processor, a letter for the form, how often, and what is told.
+const RUN: [(&str, &str, &str, &str, &str, &str, &str, &str); 8] = [
     (
         KEEP_HOME,
         "task=3,mask=0x6,processors=4,previous=1",
+        "",
+        "",
         "",
         "",
         "",
@@ -146,6 +148,8 @@ const RUN: [(&str, &str, &str, &str, &str, &str); 5] = [
         "",
         "",
         "",
+        "",
+        "1",
         "D r0 3 (0x3)  not permitted: processor 3 is not in mask 0x6  steps 2 of 2\n",
     ),
     (
@@ -153,6 +157,8 @@ const RUN: [(&str, &str, &str, &str, &str, &str); 5] = [
         "",
         "",
         "0=41",
+        "",
+        "",
         "",
         "D r0 1 (0x1)  permitted: 0 stays, 1 gives way  steps 5 of 5\ncounter 0: 41 and 1 give 42\n",
     ),
@@ -162,6 +168,8 @@ const RUN: [(&str, &str, &str, &str, &str, &str); 5] = [
         "0:1=ff01",
         "",
         "7",
+        "",
+        "2",
         "D r0 0 (0x0)  permitted: 0 stays, 1 gives way  steps 11 of 11\nmap 0 entry 1: 0701000000000000\n",
     ),
     (
@@ -170,16 +178,54 @@ const RUN: [(&str, &str, &str, &str, &str, &str); 5] = [
         "",
         "",
         "",
+        "",
+        "",
         "W --set prev=1: there is no field prev; the fields are task, weight, mask, slice, waker, previous, processors, own",
+    ),
+    // Register 0 holds 0 before the run.
+    (
+        KEEP_HOME,
+        "mask=0x6,processors=4,previous=1",
+        "",
+        "",
+        "",
+        "t",
+        "",
+        "D r0 1 (0x1)  permitted: processor 1 is in mask 0x6  steps 2 of 2\nline 2, slot 0: ldxw r0, [r1+28]\n    r0 = 1 (0x1)\nline 3, slot 1: exit\n",
+    ),
+    // The third run finds 43, and its call leaves what registers 1 to 5 hold.
+    (
+        COUNTS,
+        "",
+        "",
+        "0=41",
+        "",
+        "t",
+        "3",
+        "D r0 1 (0x1)  permitted: 0 stays, 1 gives way  steps 5 of 5\nline 2, slot 0: mov64 r1, 0\n    r1 = 0 (0x0)\nline 3, slot 1: mov64 r2, 1\n    r2 = 1 (0x1)\nline 4, slot 2: call 100\n    r0 = 43 (0x2b)\nline 5, slot 3: mov64 r0, 1\n    r0 = 1 (0x1)\nline 6, slot 4: exit\ncounter 0: 43 and 1 give 44\n",
+    ),
+    (
+        COUNTS,
+        "",
+        "",
+        "",
+        "",
+        "",
+        "0",
+        "W --repeat 0: a number of runs is wanted, from 1 to 4294967295",
     ),
 ];
 
 #[test]
 fn runs_tell_what_came_of_them(rt: HostRuntime) -> Result<(), Fail> {
     let alloc = rt.alloc();
-    for (policy, fields, entry, counter, processor, wanted) in RUN {
+    for (policy, fields, entry, counter, processor, form, repeat, wanted) in RUN {
         let words = RunWords {
             policy: policy_words(alloc, "", "")?,
+            telling: TellingWords {
+                is_traced: form == "t",
+                repeat: text_of(alloc, repeat)?,
+            },
             context: None,
             fields: words_of(alloc, fields)?,
             entries: words_of(alloc, entry)?,

@@ -1,17 +1,18 @@
-use Rattle.std.proofs.Common.{inl, inr, refl}
+use Rattle.std.proofs.Common.{inl, inr, refl, string_bytes, List, subst}
+use Rattle.bq_interp.specs.declared.traced.Moment.{Moment}
+use Rattle.bq_policy_commands.specs.Tracing.{TellsSteps}
+use Rattle.bq_policy_commands.proofs.RunLemmas.{has_run, when_some}
 use Rattle.bq_policy_commands.proofs.running.run_on.Goals as goal
 
 pub returns-in_default : goal.returns-in_default
 returns-in_default c = inl (c.in_ok-from_str.field-0, refl)
 
 pub returns : goal.returns
-returns c = inr record {
-  steps = c.in-Some.ran.steps;
-  calls = c.in-Some.ran.calls.items;
-  answer = c.in-Some.ran.r0;
-  after = c.run_once.new.inputs.maps.bytes;
-  run = c.in-Some.ensures;
-  text = c.in_ok-text.text;
-  is = refl;
-  told = c.in_ok-text.ensures;
-}
+returns c =
+    let runs = when_some _ _ _ c.run_often-others.ensures.runs c.in-Some-Some.is-0 in
+    let run = when_some _ _ _ c.in_ok-ran.ensures.run c.in-Some-Some.is-1 in
+    let moments = when_some _ _ _ c.in_ok-ran.ensures.moments c.in-Some-Some.is-1 in
+    let each = when_some _ _ _ c.in_ok-ran.ensures.each c.in-Some-Some.is-1 in
+    let executed : TellsSteps c.args.words.now.telling.is_traced c.args.verified.now c.trace_once.new.moments.items (string_bytes c.in_ok-executed.executed) =
+    subst (λ (ms : List Moment). TellsSteps c.args.words.now.telling.is_traced c.args.verified.now ms (string_bytes c.in_ok-executed.executed)) c.as_slice.ensures.value c.in_ok-executed.ensures in
+    inr (has_run c.args.words.now.telling.is_traced c.args.before c.args.verified.now c.args.inputs c.run_often-others.new.inputs c.trace_once.new.moments.items c.in-Some-Some.ran.steps c.in-Some-Some.ran.r0 c.in-Some-Some.ran.calls.items c.trace_once.new.inputs.maps.bytes c.in_ok-text.text (string_bytes c.in_ok-executed.executed) runs c.run_often-others.ensures.context c.run_often-others.ensures.env run moments each executed c.in_ok-text.ensures)

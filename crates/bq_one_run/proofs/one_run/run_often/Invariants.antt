@@ -1,0 +1,14 @@
+use Rattle.std.proofs.Common.{◌≡◌, ◌≤◌, ◌-◌}
+use Rattle.bq_one_run.specs.Runs.{AreRuns}
+use Rattle.bq_one_run.proofs.one_run.run_often.Given as goal
+
+abbrev pub invariant-loop-done : goal.invariant-loop-done
+invariant-loop-done l = record {
+  within : l.done ≤ l.count;
+  runs : AreRuns l.verified l.initial.inputs.context.items l.initial.inputs.env.now l.initial.inputs.env.processor l.done l.initial.inputs.maps.bytes l.inputs.maps.bytes;
+  context : l.inputs.context ≡ l.initial.inputs.context;
+  env : l.inputs.env ≡ l.initial.inputs.env;
+}
+
+abbrev pub decreases-loop-done : goal.decreases-loop-done
+decreases-loop-done l = l.count - l.done
