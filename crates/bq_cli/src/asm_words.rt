@@ -32,6 +32,11 @@ pub(crate) fn value<'a>(matches: &ArgMatches<'a>, option: &str) -> Option<&'a st
     matches.get_str(option)
 }
 
+/// The values of `--hook`, as its refusal lists them.
+const HOOKS: &str = "place, preempt, pull";
+/// The values of `--format`, as its refusal lists them.
+const FORMATS: &str = "1, 2";
+
 /// The hook that a word names, if there is one.
 fn hook_in(alloc: Global, word: Option<&str>) -> Result<Option<Hook>, JobFault>
     ensures ok { IfOk result (λ named. option_map (λ h. hook_word h) named ≡ option_map (λ (w : Bor (List ℕ)). w.now) word.entry) }
@@ -42,7 +47,7 @@ fn hook_in(alloc: Global, word: Option<&str>) -> Result<Option<Hook>, JobFault>
         Some("place") => Ok(Some(Hook::Place)),
         Some("preempt") => Ok(Some(Hook::Preempt)),
         Some("pull") => Ok(Some(Hook::Pull)),
-        Some(other) => Err(refused(alloc, "hook", other)),
+        Some(other) => Err(refused(alloc, "hook", other, HOOKS)),
     }
 }
 
@@ -55,7 +60,7 @@ fn format_in(alloc: Global, word: Option<&str>) -> Result<Option<Version>, JobFa
         None => Ok(None),
         Some("1") => Ok(Some(Version::First)),
         Some("2") => Ok(Some(Version::Second)),
-        Some(other) => Err(refused(alloc, "format", other)),
+        Some(other) => Err(refused(alloc, "format", other, FORMATS)),
     }
 }
 
@@ -69,10 +74,10 @@ fn text_in(alloc: Global, word: Option<&str>) -> Result<Option<String>, AllocErr
     }
 }
 
-/// The fault of an option's value that is none of its words.
-pub(crate) fn refused(alloc: Global, option: &str, value: &str) -> JobFault {
+/// The fault of an option's value that is none of those that it takes, which are listed.
+pub(crate) fn refused(alloc: Global, option: &str, value: &str, taken: &str) -> JobFault {
     match format!(in alloc;
-        "error: invalid value '{value}' for '--{option}'\n\nFor more information, try '--help'.\n"
+        "error: invalid value '{value}' for '--{option}'\n  [possible values: {taken}]\n\nFor more information, try '--help'.\n"
     ) {
         Ok(text) => JobFault::Words(text),
         Err(_) => JobFault::OutOfMemory,

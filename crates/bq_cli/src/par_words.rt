@@ -17,6 +17,12 @@ use std::alloc::Global;
 
 /// How often a processor may tick.
 const MOST: u64 = 1_000_000;
+/// The values of `--rule`, as its refusal lists them.
+const RULES: &str = "cfs, eevdf";
+/// The values of `--processors`, as its refusal lists them.
+const SIZES: &str = "1, 2, 4, 8, 16, 32, 64";
+/// The values of `--ticks`, as its refusal lists them.
+const TICKS: &str = "0 to 1000000";
 
 /// The options of `par`. A value that names nothing is refused.
 pub(crate) fn parallel(alloc: Global, matches: &ArgMatches<'_>) -> Result<Parallel, JobFault>
@@ -35,11 +41,11 @@ fn rule_in(alloc: Global, word: Option<&str>) -> Result<Rule, JobFault>
     ensures taken { IfErr result (λ e. (r : Way) → option_and_then rule_of (option_map (λ (w : Bor (List ℕ)). w.now) word.entry) ≡ Some r → e ≡ JobFault.OutOfMemory) }
 {
     let Some(word) = word else {
-        return Err(refused(alloc, "rule", ""));
+        return Err(refused(alloc, "rule", "", RULES));
     };
     match Rule::of_word(word.as_bytes()) {
         Some(rule) => Ok(rule),
-        None => Err(refused(alloc, "rule", word)),
+        None => Err(refused(alloc, "rule", word, RULES)),
     }
 }
 
@@ -49,11 +55,11 @@ fn size_in(alloc: Global, word: Option<&str>) -> Result<Size, JobFault>
     ensures taken { IfErr result (λ e. (s : Many) → option_and_then processors_of (option_map (λ (w : Bor (List ℕ)). w.now) word.entry) ≡ Some s → e ≡ JobFault.OutOfMemory) }
 {
     let Some(word) = word else {
-        return Err(refused(alloc, "processors", ""));
+        return Err(refused(alloc, "processors", "", SIZES));
     };
     match size_named(word.as_bytes()) {
         Some(size) => Ok(size),
-        None => Err(refused(alloc, "processors", word)),
+        None => Err(refused(alloc, "processors", word, SIZES)),
     }
 }
 
@@ -70,11 +76,11 @@ fn ticks_in(alloc: Global, word: Option<&str>) -> Result<u32, JobFault>
     ensures taken { IfErr result (λ e. (n : ℕ) → option_and_then ticks_of (option_map (λ (w : Bor (List ℕ)). w.now) word.entry) ≡ Some n → e ≡ JobFault.OutOfMemory) }
 {
     let Some(word) = word else {
-        return Err(refused(alloc, "ticks", ""));
+        return Err(refused(alloc, "ticks", "", TICKS));
     };
     match ticks_named(word.as_bytes()) {
         Some(ticks) => Ok(ticks),
-        None => Err(refused(alloc, "ticks", word)),
+        None => Err(refused(alloc, "ticks", word, TICKS)),
     }
 }
 

@@ -52,6 +52,10 @@ const TOLD: [(&[&str], &str); 28] = [
         &["asm", "--hook", "tick"],
         "invalid value 'tick' for '--hook'",
     ),
+    (
+        &["asm", "--hook", "Place"],
+        "\n  [possible values: place, preempt, pull]\n",
+    ),
     (&["asm", "--hook"], "error: "),
     (
         &["asm", "--hook", "pull", "--format", "3"],
@@ -76,7 +80,7 @@ const TOLD: [(&[&str], &str); 28] = [
     ),
     (
         &["par", "--rule", "cfs", "--processors", "3", "--ticks", "10"],
-        "invalid value '3' for '--processors'",
+        "invalid value '3' for '--processors'\n  [possible values: 1, 2, 4, 8, 16, 32, 64]\n",
     ),
     (
         &[
