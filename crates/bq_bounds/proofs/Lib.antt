@@ -1,3 +1,5 @@
 pub mod Passes
 pub mod Near
 pub mod Greatest
+pub mod Owed
+pub mod FromTheBack

@@ -3,7 +3,6 @@ use Rattle.std.proofs.Common.{◌≡◌, ℕ, ◌+◌, ◌-◌, ◌*◌, ◌^◌
 use Rattle.std.proofs.lemmas.Nat.{le-div}
 use Rattle.std.proofs.lemmas.Bool.Decides.{nat_tests}
 use Rattle.std.proofs.Math.Nat.{mul-le-mul_left}
-use Rattle.bq_weights.specs.VirtualTime.{vdelta_of}
 use Rattle.bq_disc.specs.Tasks.{Task, present}
 use Rattle.bq_disc.specs.Totals.{total_weight, weighted_sum}
 use Rattle.bq_disc.specs.Discipline.{charged}
@@ -17,8 +16,8 @@ use Rattle.bq_fair.proofs.ListFacts.{of_some}
 use Rattle.bq_fair.proofs.CfsFair.{IsNearEach, runs_near_each}
 use Rattle.bq_fair.proofs.EligibleFacts.{IsEarliestOf, runs_earliest, earliest_is_eligible}
 use Rattle.bq_fair.proofs.SumFacts.{sum_decided, total_weight-sum, weighted_sum-sum}
-use Rattle.bq_bounds.specs.Nearness.{runs_on, CfsStaysNear, EevdfStaysNear}
-use Rattle.bq_bounds.proofs.Passes.{Ran, ran_at}
+use Rattle.bq_bounds.specs.Nearness.{CfsStaysNear, EevdfStaysNear}
+use Rattle.bq_bounds.proofs.Passes.{ran_at}
 
 some_same : (a b : Task) → Some a ≡ Some b → a ≡ b
 some_same a b e = cc
@@ -57,16 +56,16 @@ mean_at p a v now nows e low ends =
     subst P (sym e) (mean p.queue p.kept a p.last v now nows low ends)
 
 -- a decision keeps the weights and the sum
-weight_stays : (p : Running) → total_weight (present_at (stepped eevdf p Decide)) ≡ total_weight (present_at p)
+pub weight_stays : (p : Running) → total_weight (present_at (stepped eevdf p Decide)) ≡ total_weight (present_at p)
 weight_stays p = total_weight-sum (present_at (stepped eevdf p Decide)) ∙ sum_decided (λ (t : Task). t.weight) eevdf p.queue p.kept p.current p.last (own_preempt eevdf p.queue p.current) ∙ sym (total_weight-sum (present_at p))
 
-sum_stays : (p : Running) → weighted_sum (present_at (stepped eevdf p Decide)) ≡ weighted_sum (present_at p)
+pub sum_stays : (p : Running) → weighted_sum (present_at (stepped eevdf p Decide)) ≡ weighted_sum (present_at p)
 sum_stays p = weighted_sum-sum (present_at (stepped eevdf p Decide)) ∙ sum_decided (λ (t : Task). t.weight * t.v) eevdf p.queue p.kept p.current p.last (own_preempt eevdf p.queue p.current) ∙ sym (weighted_sum-sum (present_at p))
 
-at_most : (xs : List Task) (t : Task) → is_eligible xs t ≡ true → total_weight xs * t.v ≤ weighted_sum xs
+pub at_most : (xs : List Task) (t : Task) → is_eligible xs t ≡ true → total_weight xs * t.v ≤ weighted_sum xs
 at_most xs t h = grind (arith, nat_tests)
 
-kept_at_most : (W W' M M' v : ℕ) → W' ≡ W → M' ≡ M → W * v ≤ M → W' * v ≤ M'
+pub kept_at_most : (W W' M M' v : ℕ) → W' ≡ W → M' ≡ M → W * v ≤ M → W' * v ≤ M'
 kept_at_most W W' M M' v e f h = omega (arith, ap (λ n. n * v) e)
 
 pub eevdf_stays_near : EevdfStaysNear

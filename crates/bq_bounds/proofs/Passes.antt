@@ -11,7 +11,7 @@ use Rattle.bq_fair.proofs.PlaceFacts.{busy}
 use Rattle.bq_fair.proofs.SoundFacts.{vdelta_of-le}
 
 -- the virtual times of two rises are together no more than that of both
-vdelta_of-add : (x y w : ℕ) → 15 ≤ w → vdelta_of x w + vdelta_of y w ≤ vdelta_of (x + y) w
+pub vdelta_of-add : (x y w : ℕ) → 15 ≤ w → vdelta_of x w + vdelta_of y w ≤ vdelta_of (x + y) w
 vdelta_of-add x y w low =
     let a = x * 1024 / w in
     let b = y * 1024 / w in

@@ -2,3 +2,6 @@ pub mod Charges
 pub mod Standings
 pub mod Watches
 pub mod Nearness
+pub mod Lags
+pub mod LagWatches
+pub mod Owing

@@ -1,19 +1,23 @@
 //! All processors of a machine, watched.
-ghost use Rattle.std.specs.Prelude.{◌≡◌, IfOk, replicate, slice_get};
+ghost use Rattle.std.specs.Prelude.{◌≡◌, ◌≤◌, length, IfOk, replicate, slice_get};
+ghost use Rattle.bq_bounds.specs.LagWatches.{all_lags_after, source_forgotten, unasked};
 ghost use Rattle.bq_bounds.specs.Watches.{unwatched, source_disturbed, watches_after};
 
+use crate::lags::Lags;
 use crate::standing::Standing;
 use crate::watch::Watch;
+use bq_disc::Entity;
 use bq_parts::{Event, Reply};
 use bq_sizes::Rule;
 use std::alloc::{AllocError, Global};
 
-/// How near each processor of a machine comes to the bounds of its rule. It takes one answer at a time, each in a time that does
-/// not grow with anything.
+/// How near each processor of a machine comes to the bounds of its rule. It takes one answer at a time: what was charged in a time
+/// that does not grow with anything, and what tasks are owed in one that grows with how many are there.
 #[derive(Drop)]
 pub struct Bounds {
     pub rule: Rule,
     watches: Vec<Watch>,
+    lags: Vec<Lags>,
 }
 
 impl Bounds {
@@ -21,9 +25,15 @@ impl Bounds {
     pub fn new(alloc: Global, rule: Rule, processors: usize) -> Result<Bounds, AllocError>
         ensures rule { IfOk result (λ b. b.rule ≡ rule) }
         ensures watches { IfOk result (λ b. b.watches.items ≡ replicate processors unwatched) }
+        ensures lags { IfOk result (λ b. b.lags.items ≡ replicate processors unasked) }
     {
         let watches = vec![in alloc; Watch::new(); processors]?;
-        Ok(Bounds { rule, watches })
+        let lags = vec![in alloc; Lags::new(); processors]?;
+        Ok(Bounds {
+            rule,
+            watches,
+            lags,
+        })
     }
 
     /// An event of a processor was answered, whose clock rose by so much. Before it the processor stood so; this is its mean now.
@@ -38,6 +48,7 @@ impl Bounds {
     )
         ensures rule { self.new.rule ≡ self.old.rule }
         ensures watches { self.new.watches.items ≡ watches_after self.old.rule processor event.now reply.now standing rise mean self.old.watches.items }
+        ensures lags { self.new.lags ≡ self.old.lags }
     {
         if let Some(watch) = self.watches.get_mut(usize::from(processor)) {
             watch.take(self.rule, event, reply, standing, rise, mean);
@@ -49,6 +60,7 @@ impl Bounds {
     fn disturb_source(&mut self, event: &Event, reply: &Reply)
         ensures rule { self.new.rule ≡ self.old.rule }
         ensures watches { self.new.watches.items ≡ source_disturbed self.old.rule event.now reply.now self.old.watches.items }
+        ensures lags { self.new.lags ≡ self.old.lags }
     {
         if self.rule != Rule::Eevdf {
             return;
@@ -73,10 +85,56 @@ impl Bounds {
         }
     }
 
+    /// Under EEVDF: an event of a processor was answered, whose clock rose by so much; these are its tasks now.
+    pub fn owe(&mut self, processor: u8, event: &Event, reply: &Reply, rise: u64, tasks: &[Entity])
+        requires { length tasks.now ≤ 1024 }
+        ensures rule { self.new.rule ≡ self.old.rule }
+        ensures watches { self.new.watches ≡ self.old.watches }
+        ensures lags { self.new.lags.items ≡ all_lags_after processor event.now reply.now rise tasks.now self.old.lags.items }
+    {
+        if let Some(lags) = self.lags.get_mut(usize::from(processor)) {
+            lags.take(event, reply, rise, tasks);
+        }
+        self.forget_source(event, reply);
+    }
+
+    /// A task that is pulled is missed where it is taken from.
+    fn forget_source(&mut self, event: &Event, reply: &Reply)
+        ensures rule { self.new.rule ≡ self.old.rule }
+        ensures watches { self.new.watches ≡ self.old.watches }
+        ensures lags { self.new.lags.items ≡ source_forgotten event.now reply.now self.old.lags.items }
+    {
+        if let (
+            Event::Pull {
+                processor: _,
+                from,
+                now: _,
+            },
+            Reply::Pulled {
+                task: Some(_),
+                run: _,
+                by: _,
+                steps: _,
+            },
+        ) = (event, reply)
+        {
+            if let Some(lags) = self.lags.get_mut(usize::from(*from)) {
+                lags.forget();
+            }
+        }
+    }
+
     /// What was watched at a processor; `None` where it is not there.
     pub fn watch(&self, number: u8) -> Option<Watch>
         ensures { result ≡ slice_get self.now.watches.items number }
     {
         self.watches.get(usize::from(number)).copied()
+    }
+
+    /// What the tasks of a processor were owed; `None` where it is not there.
+    pub fn lags(&self, number: u8) -> Option<Lags>
+        ensures { result ≡ slice_get self.now.lags.items number }
+    {
+        self.lags.get(usize::from(number)).copied()
     }
 }

@@ -1,5 +1,6 @@
 //! Laws of what is measured: each is the contract of a function that does nothing.
 ghost use Rattle.bq_bounds.specs.Nearness.{CfsStaysNear, EevdfStaysNear, KeepsTheGreatest};
+ghost use Rattle.bq_bounds.specs.Owing.{EevdfOwesWithin};
 
 /// CFS: from a decision of the discipline on, as long as nothing comes or goes, the task that runs is beyond none that was there by
 /// more than 1,000,000 and what the rise of the clock since then takes at its weight.
@@ -15,4 +16,11 @@ pub fn eevdf_stays_near()
 /// What is kept of some charges is one of them, and none has a greater difference.
 pub fn keeps_the_greatest()
     ensures { KeepsTheGreatest }
+{}
+
+/// EEVDF: from a moment on at which the furthest task is ahead of the mean by some virtual time, as long as nothing comes or goes and
+/// the clock rises by at most r between two decisions, no task is owed more than n - 2 rises, its own share of one, and what that
+/// virtual time takes of the others.
+pub fn eevdf_owes_within()
+    ensures { EevdfOwesWithin }
 {}

@@ -5,13 +5,17 @@
 
 pub mod bounds;
 pub mod charge;
+pub mod lags;
 pub mod laws;
 pub mod seen;
 pub mod standing;
+pub mod stretch;
 pub mod watch;
 
 pub use bounds::Bounds;
 pub use charge::Charge;
+pub use lags::Lags;
 pub use seen::how_it_stands;
 pub use standing::Standing;
+pub use stretch::Stretch;
 pub use watch::Watch;

@@ -138,7 +138,7 @@ impl Watch {
 }
 
 /// The one of greater difference; of equal ones the first.
-fn greater(first: Option<Charge>, second: Charge) -> Charge
+pub(crate) fn greater(first: Option<Charge>, second: Charge) -> Charge
     ensures { result ≡ greater first second }
 {
     match first {

@@ -218,7 +218,8 @@ fn what_policies_answered_is_shown(rt: HostRuntime) -> Result<(), Fail> {
 }
 
 /// Under CFS 1 runs for 2 ms while 2 waits, by two charges: the second takes it as far as it may. Under EEVDF `short` runs for 1 ms,
-/// which takes it 0.5 ms beyond the mean; `long` comes up to the mean after it. A policy that answers decides for the rule.
+/// which takes it 0.5 ms beyond the mean, so that `long` is owed 0.5 ms: of two equal tasks one is owed half a rise at most. `long`
+/// comes up to the mean after it.
 #[test]
 fn bounds_stand_below_a_report(rt: HostRuntime) -> Result<(), Fail> {
     let under_cfs = concat!(
@@ -226,7 +227,9 @@ fn bounds_stand_below_a_report(rt: HostRuntime) -> Result<(), Fail> {
         "    0 beyond the least          2        0        2.000        2.000  100.00 %\n",
     );
     ends(&rt, rt.alloc(), "report", CFS, under_cfs)?;
-    let under_eevdf =
-        "    0 ahead of the mean         2        0        0.500        1.000   50.00 %\n";
+    let under_eevdf = concat!(
+        "    0 ahead of the mean         2        0        0.500        1.000   50.00 %\n",
+        "    0 owed to any task          2        2        0.500        0.500  100.00 %\n",
+    );
     ends(&rt, rt.alloc(), "report", EEVDF, under_eevdf)
 }

@@ -1,0 +1,78 @@
+-- The lags of a processor's tasks, event by event.
+use Rattle.std.specs.Prelude.{ℕ, zero, suc, List, Option, Some, None, slice_index_or, slice_set}
+use Rattle.bq_hooks.specs.declared.settled.By.{By}
+use Rattle.bq_hooks.specs.declared.settled.By.TheVariants as who
+use Rattle.bq_parts.specs.declared.event.Event.{Event}
+use Rattle.bq_parts.specs.declared.event.Event.TheVariants.{EndWake, Drain, Tick, Pull}
+use Rattle.bq_parts.specs.declared.reply.Reply.{Reply}
+use Rattle.bq_parts.specs.declared.reply.Reply.TheVariants.{Placed, Drained, Ticked, Pulled}
+use Rattle.bq_disc.specs.Tasks.{Task}
+use Rattle.bq_bounds.specs.declared.charge.Charge.{Charge}
+use Rattle.bq_bounds.specs.declared.stretch.Stretch.{Stretch}
+use Rattle.bq_bounds.specs.declared.lags.Course.{Course}
+use Rattle.bq_bounds.specs.declared.lags.Course.TheVariants.{Passes, Decides, Breaks}
+use Rattle.bq_bounds.specs.declared.lags.Lags.{Lags}
+use Rattle.bq_bounds.specs.Lags.{beginning, stretched, most_owed}
+use Rattle.bq_bounds.specs.Watches.{one_more, greater}
+
+abbrev pub unasked : Lags
+unasked = record { stretch = None; measured = 0; left_out = 0; greatest = None }
+
+abbrev pub course_by : By → Course
+course_by who.Discipline = Decides
+course_by who.Policy = Breaks
+
+-- a drain that brings nothing is a tick
+abbrev pub course_drained : ℕ → By → Course
+course_drained zero by = course_by by
+course_drained (suc n) by = Breaks
+
+-- what an event does to the tasks that are there
+abbrev pub course_of : Event → Reply → Course
+course_of (Tick cpu now) (Ticked run by steps) = course_by by
+course_of (Drain cpu now) (Drained count run by steps) = course_drained count by
+course_of (EndWake cpu now) (Placed task to by steps) = Passes
+course_of e r = Breaks
+
+-- the greatest of what any is owed
+abbrev pub owing : Option Charge → Lags → Lags
+owing None l = l
+owing (Some c) l = record l { measured = one_more l.measured; greatest = Some (greater l.greatest c) }
+
+abbrev pub forgotten : Lags → Lags
+forgotten l = record l { stretch = None }
+
+-- a stretch begins
+abbrev pub begun_anew : List Task → Lags → Lags
+begun_anew xs l = record l { stretch = Some (beginning xs); left_out = one_more l.left_out }
+
+-- where the discipline decides the clock's rise is counted from there
+abbrev pub decided_in : Course → Stretch → Stretch
+decided_in Decides s = record s { since = 0 }
+decided_in c s = s
+
+-- a stretch goes on
+abbrev pub gone_on : Course → ℕ → List Task → Stretch → Lags → Lags
+gone_on c rise xs s l = record (owing (most_owed (stretched rise s) xs) l) { stretch = Some (decided_in c (stretched rise s)) }
+
+-- the lags after an event, whose clock rose, with the tasks as they are then
+abbrev pub lags_by : Course → Option Stretch → ℕ → List Task → Lags → Lags
+lags_by c None rise xs l = begun_anew xs l
+lags_by Breaks (Some s) rise xs l = begun_anew xs l
+lags_by Passes (Some s) rise xs l = gone_on Passes rise xs s l
+lags_by Decides (Some s) rise xs l = gone_on Decides rise xs s l
+
+abbrev pub lags_after : Course → ℕ → List Task → Lags → Lags
+lags_after c rise xs l = lags_by c l.stretch rise xs l
+
+abbrev pub lags_of : List Lags → ℕ → Lags
+lags_of ls cpu = slice_index_or ls cpu unasked
+
+-- a task that is pulled is missed where it is taken from
+abbrev pub source_forgotten : Event → Reply → List Lags → List Lags
+source_forgotten (Pull cpu from now) (Pulled (Some id) run by steps) ls = slice_set ls from (forgotten (lags_of ls from))
+source_forgotten e r ls = ls
+
+-- all processors after an event of one of them
+abbrev pub all_lags_after : ℕ → Event → Reply → ℕ → List Task → List Lags → List Lags
+all_lags_after cpu e r rise xs ls = source_forgotten e r (slice_set ls cpu (lags_after (course_of e r) rise xs (lags_of ls cpu)))

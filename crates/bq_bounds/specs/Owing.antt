@@ -1,0 +1,29 @@
+-- EEVDF: no task is owed more than the bound that is shown beside it.
+use Rattle.std.specs.Prelude.{◌≡◌, ℕ, ◌≤◌, List, [], ◌∷◌, length, Some}
+use Rattle.bq_disc.specs.Tasks.{Task}
+use Rattle.bq_disc.specs.OneProcessor.{Running, present_at}
+use Rattle.bq_cfs.specs.Spread.{IsSound}
+use Rattle.bq_eevdf.specs.Eevdf.{eevdf}
+use Rattle.bq_fair.specs.Histories.{task_at}
+use Rattle.bq_fair.specs.Steps.{Step, Pass, Decide, Enter, Leave, Mark, after, DecidesWithin}
+use Rattle.bq_fair.specs.Work.{weight_at}
+use Rattle.bq_bounds.specs.Lags.{mean_at, furthest, owed, allowed}
+
+-- no task comes and none goes
+abbrev pub Keeps : Step → Type 0
+Keeps (Pass now) = Unit {0}
+Keeps Decide = Unit {0}
+Keeps (Enter t) = ⊥
+Keeps (Leave id) = ⊥
+Keeps Mark = Unit {0}
+
+abbrev pub KeepsAll : List Step → Type 0
+KeepsAll [] = Unit {0}
+KeepsAll (s ∷ ss) = Keeps s × KeepsAll ss
+
+-- From some moment on none comes or goes, and the clock rises by at most r between two decisions, which are the discipline's: then
+-- no task is owed more than what the furthest was ahead at that moment, n - 2 rises and its own share of one allow
+abbrev pub EevdfOwesWithin : Type 0
+EevdfOwesWithin =
+    (r : ℕ) (p : Running) (ss : List Step) (j : ℕ) (b : Task) → IsSound p → KeepsAll ss → DecidesWithin r eevdf 0 p ss →
+    (let q = after eevdf p ss in task_at j q ≡ Some b → owed (mean_at (present_at q)) b ≤ allowed (furthest (mean_at (present_at p)) (present_at p)) r (length (present_at q)) (weight_at q) b.weight)

@@ -1,0 +1,125 @@
+//! What the tasks of one processor are owed under EEVDF, as far as no task comes or goes.
+ghost use Rattle.std.specs.Prelude.{◌≡◌, ◌≤◌, length};
+ghost use Rattle.bq_bounds.specs.LagWatches.{course_by, course_of, forgotten, gone_on, lags_after, owing, unasked};
+
+use crate::charge::Charge;
+use crate::stretch::Stretch;
+use crate::watch::greater;
+use bq_disc::Entity;
+use bq_parts::{By, Event, Reply};
+
+/// What an event does to the tasks that are there.
+#[derive(Clone, Copy, Debug, PartialEq, Eq)]
+pub enum Course {
+    /// Time is charged, and nobody decides.
+    Passes,
+    /// Time is charged, and the discipline decides who runs.
+    Decides,
+    /// A task comes or goes, or a policy decides who runs.
+    Breaks,
+}
+
+/// The lags of a processor's tasks. Counts stop at their type's greatest number.
+#[derive(Clone, Copy, Debug, PartialEq, Eq)]
+pub struct Lags {
+    /// The stretch that goes on; `None` where none has begun, or a task was pulled from here since.
+    pub stretch: Option<Stretch>,
+    /// At how many readings of the clock they were measured.
+    pub measured: u64,
+    /// At how many a stretch began anew.
+    pub left_out: u64,
+    /// The first of the greatest of what any task was owed, and what it might be.
+    pub greatest: Option<Charge>,
+}
+
+impl Lags {
+    /// Nothing was asked yet.
+    pub fn new() -> Lags
+        ensures { result ≡ unasked }
+    {
+        Lags {
+            stretch: None,
+            measured: 0,
+            left_out: 0,
+            greatest: None,
+        }
+    }
+
+    /// An event of the processor was answered, whose clock rose by so much; these are its tasks now.
+    pub fn take(&mut self, event: &Event, reply: &Reply, rise: u64, tasks: &[Entity])
+        requires { length tasks.now ≤ 1024 }
+        ensures { self.new ≡ lags_after (course_of event.now reply.now) rise tasks.now self.old }
+    {
+        let course = course_of(event, reply);
+        match self.stretch {
+            Some(stretch) if course != Course::Breaks => self.go_on(stretch, course, rise, tasks),
+            _ => {
+                self.left_out = self.left_out.saturating_add(1);
+                self.stretch = Some(Stretch::begin(tasks));
+            }
+        }
+    }
+}
+
+impl Lags {
+    /// The stretch goes on: time is charged, and the discipline may decide.
+    fn go_on(&mut self, stretch: Stretch, course: Course, rise: u64, tasks: &[Entity])
+        requires { length tasks.now ≤ 1024 }
+        ensures { self.new ≡ gone_on course rise tasks.now stretch self.old }
+    {
+        let mut stretch = stretch;
+        stretch.rise(rise);
+        if let Some(lag) = stretch.most_owed(tasks) {
+            self.measured = self.measured.saturating_add(1);
+            self.greatest = Some(greater(self.greatest, lag));
+        }
+        if course == Course::Decides {
+            stretch.decide();
+        }
+        self.stretch = Some(stretch);
+    }
+
+    /// A task was pulled from here.
+    pub fn forget(&mut self)
+        ensures { self.new ≡ forgotten self.old }
+    {
+        self.stretch = None;
+    }
+}
+
+/// What an event does to the tasks that are there.
+fn course_of(event: &Event, reply: &Reply) -> Course
+    ensures { result ≡ course_of event.now reply.now }
+{
+    match (event, reply) {
+        (
+            Event::Tick { .. },
+            Reply::Ticked {
+                run: _,
+                by,
+                steps: _,
+            },
+        ) => course_by(*by),
+        (
+            Event::Drain { .. },
+            Reply::Drained {
+                count: 0,
+                run: _,
+                by,
+                steps: _,
+            },
+        ) => course_by(*by),
+        (Event::EndWake { .. }, Reply::Placed { .. }) => Course::Passes,
+        _ => Course::Breaks,
+    }
+}
+
+/// A decision, by who made it.
+fn course_by(by: By) -> Course
+    ensures { result ≡ course_by by }
+{
+    match by {
+        By::Discipline => Course::Decides,
+        By::Policy => Course::Breaks,
+    }
+}

@@ -1,0 +1,144 @@
+//! A stretch of events of one processor in which no task comes or goes, and what its tasks are owed in it.
+ghost use Rattle.std.specs.Prelude.{◌≡◌, ◌≤◌, ◌-◌, ◌^◌, length, min};
+ghost use Rattle.bq_weights.specs.VirtualTime.{IsWeight};
+ghost use Rattle.bq_disc.specs.Totals.{sums_of, HasBounds};
+ghost use Rattle.bq_bounds.specs.Lags.{allowed, beginning, furthest, lag_by, most_owed, stretched};
+
+use crate::charge::Charge;
+use crate::watch::greater;
+use bq_disc::{Entity, Totals};
+
+/// A stretch as it goes on. Under EEVDF no task gets further ahead of the mean in it than one was at its beginning, but for one
+/// rise of the clock between two decisions; so none is owed more than the others can be ahead by together.
+#[derive(Clone, Copy, Debug, PartialEq, Eq)]
+pub struct Stretch {
+    /// How far the furthest task was ahead of the mean at the beginning, in virtual nanoseconds.
+    pub ahead: u64,
+    /// How far the clock has risen since the discipline decided, or since the beginning.
+    pub since: u64,
+    /// The most that this has come to.
+    pub most: u64,
+}
+
+/// What some tasks have together, when what each is owed is asked.
+#[derive(Clone, Copy)]
+struct Group {
+    count: u32,
+    weight: u32,
+    mean: u64,
+}
+
+impl Stretch {
+    /// A stretch begins with these tasks.
+    pub fn begin(tasks: &[Entity]) -> Stretch
+        requires { length tasks.now ≤ 1024 }
+        ensures { result ≡ beginning tasks.now }
+    {
+        let mean = totals(tasks).mean().unwrap_or(0);
+        Stretch {
+            ahead: furthest(mean, tasks),
+            since: 0,
+            most: 0,
+        }
+    }
+
+    /// The clock has risen.
+    pub fn rise(&mut self, rise: u64)
+        ensures { self.new ≡ stretched rise self.old }
+    {
+        self.since = self.since.saturating_add(rise);
+        self.most = self.most.max(self.since);
+    }
+
+    /// The discipline decides who runs.
+    pub fn decide(&mut self)
+        ensures { self.new ≡ record self.old { since = 0 } }
+    {
+        self.since = 0;
+    }
+
+    /// What the task is owed that is owed most, of those that are there, and what it may be owed; of equal ones the first.
+    pub fn most_owed(&self, tasks: &[Entity]) -> Option<Charge>
+        requires { length tasks.now ≤ 1024 }
+        ensures { result ≡ most_owed self.now tasks.now }
+    {
+        let totals = totals(tasks);
+        let group = Group {
+            count: totals.count,
+            weight: totals.weight as u32,
+            mean: totals.mean().unwrap_or(0),
+        };
+        let mut best: Option<Charge> = None;
+        let mut at = tasks.len();
+        while at > 0 {
+            at -= 1;
+            let lag = self.lag(&group, &tasks[at]);
+            best = match best {
+                None => Some(lag),
+                Some(other) => Some(greater(Some(lag), other)),
+            };
+        }
+        best
+    }
+
+    /// What one of some tasks is owed, and what it may be.
+    fn lag(&self, group: &Group, task: &Entity) -> Charge
+        requires count { group.now.count ≤ 1024 }
+        requires least { 1 ≤ group.now.weight }
+        requires most { group.now.weight ≤ 2 ^ 27 }
+        ensures { result ≡ lag_by self.now group.now.mean group.now.count group.now.weight task.now }
+    {
+        let behind = group.mean.saturating_sub(task.v());
+        let owed = u128::from(task.weight()) * u128::from(behind) / 1024;
+        Charge {
+            difference: u64::try_from(owed).unwrap_or(u64::MAX),
+            bound: self.allowed(group, task.weight()),
+        }
+    }
+
+    /// What a task of this weight may be owed.
+    fn allowed(&self, group: &Group, weight: u32) -> u64
+        requires count { group.now.count ≤ 1024 }
+        requires weight { IsWeight weight }
+        requires least { 1 ≤ group.now.weight }
+        requires most { group.now.weight ≤ 2 ^ 27 }
+        ensures { result ≡ min (allowed self.now.ahead self.now.most group.now.count group.now.weight weight) (2 ^ 64 - 1) }
+    {
+        let whole = u128::from(group.weight);
+        let rises = u128::from(group.count.saturating_sub(2)) * u128::from(self.most);
+        let others = u128::from(group.weight.saturating_sub(weight))
+            * u128::from(self.ahead)
+            * whole;
+        let own = 1024 * u128::from(self.most) * u128::from(weight);
+        let together = rises + (others + own) / (1024 * whole);
+        u64::try_from(together).unwrap_or(u64::MAX)
+    }
+}
+
+/// What some tasks have together.
+fn totals(tasks: &[Entity]) -> Totals
+    requires { length tasks.now ≤ 1024 }
+    ensures sums { result ≡ sums_of tasks.now }
+    ensures bounds { HasBounds result }
+{
+    let mut totals = Totals::none();
+    let mut at = tasks.len();
+    while at > 0 {
+        at -= 1;
+        totals.add(&tasks[at]);
+    }
+    totals
+}
+
+/// The most that any of some tasks is ahead of a mean.
+fn furthest(mean: u64, tasks: &[Entity]) -> u64
+    ensures { result ≡ furthest mean tasks.now }
+{
+    let mut most = 0u64;
+    let mut at = tasks.len();
+    while at > 0 {
+        at -= 1;
+        most = tasks[at].v().saturating_sub(mean).max(most);
+    }
+    most
+}
