@@ -22,7 +22,7 @@ use std::marker::Model;
 /// let session = session.feed(b"3000000\n", &mut answers)?;
 /// let is_clean = session.finish(&mut answers)?;
 /// let answers = answers.into_inner();
-/// assert_eq!(rt; answers.as_slice(), b"admitted\n".as_slice());
+/// assert_eq!(rt; answers.as_slice(), b"admit ok\n".as_slice());
 /// assert_eq!(rt; is_clean, true);
 /// ```
 #[derive(Drop)]

@@ -112,7 +112,7 @@ fn a_trace_is_answered_in_pieces(rt: HostRuntime) -> Result<(), Fail> {
     let session = session.feed(b"3000000\n", &mut answers)?;
     let is_clean = session.finish(&mut answers)?;
     let answers = answers.into_inner();
-    assert_eq!(rt; answers.as_slice(), b"admitted\n".as_slice());
+    assert_eq!(rt; answers.as_slice(), b"admit ok\n".as_slice());
     assert_eq!(rt; is_clean, true);
     Ok(())
 }
