@@ -46,6 +46,9 @@ class Place:
         self.since = None  # the rise of the clock since the discipline decided
         self.measured = self.left_out = 0
         self.greatest = None
+        self.stretch = None  # of readings in which no task came or went: how far ahead at its beginning, the rise since a decision, the most
+        self.asked_lags = self.began = 0
+        self.owed = None
 
 
 class Watched:
@@ -75,6 +78,7 @@ class Watched:
         here = self.world.processors[cpu]
         self.passes(cpu, before, here.last)
         self.measures(name, cpu, operands, words, before)
+        self.lags(name, cpu, operands, words, before)
         if name == "end":
             self.asked(cpu, "place", words[-3:])
             self.places_task(int(words[1]), int(words[3]), here.last)
@@ -179,6 +183,34 @@ class Watched:
             if words[1] != "none" and isinstance(here.rule, Eevdf):
                 self.places[operands[1]].since = None
 
+    def lags(self, name, cpu, operands, words, before):
+        """What each task is owed after an event, and what it may be: by the rises since none came or went."""
+        place, here = self.places[cpu], self.world.processors[cpu]
+        if not isinstance(here.rule, Eevdf):
+            return
+        tasks = ([here.current] if here.current else []) + list(here.queue)
+        weight = sum(task.weight for task in tasks)
+        mean = sum(task.weight * task.v for task in tasks) // weight if tasks else 0
+        decides = words[-3] == "rule" and (name == "tick" or name == "drain" and words[1] == "0")
+        if place.stretch and (decides or name == "end"):
+            ahead, since, most = place.stretch
+            since += here.last - before["last"]
+            most = max(most, since)
+            place.stretch = ahead, 0 if decides else since, most
+            for task in tasks:
+                owed = task.weight * max(0, mean - task.v) // 1024
+                others = (weight - task.weight) * ahead
+                bound = max(0, len(tasks) - 2) * most + (others * weight + 1024 * most * task.weight) // (1024 * weight)
+                assert owed <= bound, (owed, bound)
+                if place.owed is None or owed > place.owed[0]:
+                    place.owed = owed, bound
+            place.asked_lags += bool(tasks)
+        else:
+            place.stretch = max([0] + [task.v - mean for task in tasks]), 0, 0
+            place.began += 1
+        if name == "pull" and words[1] != "none":
+            self.places[operands[1]].stretch = None
+
     def measure(self, place, difference, bound):
         assert difference <= bound, (difference, bound)
         place.measured += 1
@@ -226,12 +258,15 @@ class Watched:
 
         rows = []
         for number, (place, here) in enumerate(zip(self.places, self.world.processors)):
-            if place.greatest:
-                law = "ahead of the mean" if isinstance(here.rule, Eevdf) else "beyond the least"
-                difference, bound = place.greatest
-                part = difference * 10_000 // bound if bound else 0
-                counts = [place.measured, place.left_out, millis(difference), millis(bound), f"{part // 100}.{part % 100:02}"]
-                rows.append(f"{number} {law} {' '.join(map(str, counts))} %".split())
+            law = "ahead of the mean" if isinstance(here.rule, Eevdf) else "beyond the least"
+            charges = law, place.measured, place.left_out, place.greatest
+            lags = "owed to any task", place.asked_lags, place.began, place.owed
+            for law, measured, left_out, greatest in (charges, lags):
+                if greatest:
+                    difference, bound = greatest
+                    part = difference * 10_000 // bound if bound else 0
+                    counts = [measured, left_out, millis(difference), millis(bound), f"{part // 100}.{part % 100:02}"]
+                    rows.append(f"{number} {law} {' '.join(map(str, counts))} %".split())
         return rows
 
 
@@ -357,10 +392,11 @@ def main(program, *words):
         alike, seen = compare(program, lines)
         slices += alike
         for place, here in zip(seen.places, seen.world.processors) if seen else []:
-            if place.greatest and place.greatest[1]:
-                name = type(here.rule).__name__
-                part = place.greatest[0] / place.greatest[1]
-                nearest[name] = max(nearest.get(name, (0, 0)), (part, number))
+            name = type(here.rule).__name__
+            for law, greatest in (f"{name}, beyond or ahead", place.greatest), (f"{name}, owed", place.owed):
+                if greatest and greatest[1]:
+                    part = greatest[0] / greatest[1]
+                    nearest[law] = max(nearest.get(law, (0, 0)), (part, number))
     print(f"{count} traces, {slices} slices alike")
     for name, (part, number) in sorted(nearest.items()):
         print(f"{name}: {part:.6f} of the bound, in trace {number}")

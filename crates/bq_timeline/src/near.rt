@@ -1,6 +1,6 @@
 //! How near each processor came to the bounds of its rule: a table below the report.
 
-use bq_bounds::{Bounds, Charge, Standing, Watch, how_it_stands};
+use bq_bounds::{Bounds, Charge, Standing, how_it_stands};
 use bq_core::{Event, Reply};
 use bq_forms::percent::Percent;
 use bq_forms::tables::write_millis;
@@ -8,7 +8,7 @@ use bq_forms::window::is_in;
 use bq_schedule::Change;
 use bq_sizes::Rule;
 use bq_trace::{Machine, Seen};
-use bq_why::place_of;
+use bq_why::{place_of, present};
 use std::alloc::{AllocError, Global};
 
 /// Above the lines of the bounds.
@@ -17,6 +17,7 @@ const HEAD: &str = "  cpu law                 charges left out  greatest ms   at
 /// The charges of all processors, measured against the bounds of the rule as the trace comes.
 #[derive(Drop)]
 pub struct Near {
+    alloc: Global,
     bounds: Bounds,
     /// How the processor of the next event stands.
     standing: Option<Standing>,
@@ -26,6 +27,7 @@ impl Near {
     /// Nothing has happened at so many processors.
     pub fn new(alloc: Global, rule: Rule, processors: usize) -> Result<Near, AllocError> {
         Ok(Near {
+            alloc,
             bounds: Bounds::new(alloc, rule, processors)?,
             standing: None,
         })
@@ -43,60 +45,107 @@ impl Near {
         };
     }
 
-    /// Measures what an event charged.
-    pub fn answered(&mut self, event: &Event, reply: &Reply, machine: &Machine, change: &Change) {
+    /// Measures what an event charged, and what tasks are owed after it.
+    pub fn answered(
+        &mut self,
+        event: &Event,
+        reply: &Reply,
+        machine: &Machine,
+        change: &Change,
+    ) -> Result<(), AllocError> {
         let Some(reading) = change.reading else {
-            return;
+            return Ok(());
         };
-        let mean = match machine.seen(reading.processor) {
-            Some(Seen::Cfs(cpu)) => cpu.kept(),
-            Some(Seen::Eevdf(cpu)) => cpu.kept(),
-            None => return,
-        };
+        let processor = reading.processor;
         let rise = reading.to.saturating_sub(reading.from);
-        self.bounds
-            .take(reading.processor, event, reply, self.standing, rise, mean);
-    }
-
-    /// Adds a line for each of these processors at which a charge was measured; nothing where none was.
-    pub fn write(&self, processors: u64, text: &mut String) -> Result<(), AllocError> {
-        let mut has_head = false;
-        for number in 0..64u8 {
-            if let (true, Some(watch)) = (is_in(processors, number), self.bounds.watch(number)) {
-                if let Some(greatest) = watch.greatest {
-                    if !has_head {
-                        text.push_str("\n")?;
-                        text.push_str(HEAD)?;
-                        has_head = true;
-                    }
-                    self.write_line(number, &watch, &greatest, text)?;
-                }
+        let standing = self.standing;
+        match machine.seen(processor) {
+            Some(Seen::Cfs(cpu)) => {
+                self.bounds
+                    .take(processor, event, reply, standing, rise, cpu.kept());
             }
+            Some(Seen::Eevdf(cpu)) => {
+                self.bounds
+                    .take(processor, event, reply, standing, rise, cpu.kept());
+                let tasks = present(self.alloc, cpu)?;
+                self.bounds
+                    .owe(processor, event, reply, rise, tasks.as_slice());
+            }
+            None => {}
         }
         Ok(())
     }
 
-    /// The line of a processor.
-    fn write_line(
-        &self,
-        number: u8,
-        watch: &Watch,
-        greatest: &Charge,
-        text: &mut String,
-    ) -> Result<(), AllocError> {
+    /// Adds the lines of each of these processors at which a law was measured; nothing where none was.
+    pub fn write(&self, processors: u64, text: &mut String) -> Result<(), AllocError> {
+        let mut lines = String::new(self.alloc);
+        for number in 0..64u8 {
+            if is_in(processors, number) {
+                self.write_charges(number, &mut lines)?;
+                self.write_lags(number, &mut lines)?;
+            }
+        }
+        if lines.is_empty() {
+            return Ok(());
+        }
+        text.push_str("\n")?;
+        text.push_str(HEAD)?;
+        text.push_str(lines.as_str())
+    }
+
+    /// The line of what a processor charged.
+    fn write_charges(&self, number: u8, text: &mut String) -> Result<(), AllocError> {
         let law = match self.bounds.rule {
             Rule::Cfs => "beyond the least",
             Rule::Eevdf => "ahead of the mean",
         };
-        let measured = watch.measured;
-        let left_out = watch.left_out;
-        write!(text, "{number:>5} {law:<17} {measured:>9} {left_out:>8}")?;
-        write_millis(text, greatest.difference)?;
-        write_millis(text, greatest.bound)?;
-        let part = Percent {
-            part: greatest.difference,
-            whole: greatest.bound,
-        };
-        write!(text, "  {part} %\n")
+        match self.bounds.watch(number) {
+            Some(watch) => write_line(
+                number,
+                law,
+                watch.measured,
+                watch.left_out,
+                watch.greatest,
+                text,
+            ),
+            None => Ok(()),
+        }
     }
+
+    /// The line of what its tasks were owed.
+    fn write_lags(&self, number: u8, text: &mut String) -> Result<(), AllocError> {
+        match self.bounds.lags(number) {
+            Some(lags) => write_line(
+                number,
+                "owed to any task",
+                lags.measured,
+                lags.left_out,
+                lags.greatest,
+                text,
+            ),
+            None => Ok(()),
+        }
+    }
+}
+
+/// A line of the table; none where nothing was measured.
+fn write_line(
+    number: u8,
+    law: &str,
+    measured: u64,
+    left_out: u64,
+    greatest: Option<Charge>,
+    text: &mut String,
+) -> Result<(), AllocError> {
+    let Some(greatest) = greatest else {
+        return Ok(());
+    };
+    write!(text, "{number:>5} {law:<17} {measured:>9} {left_out:>8}")?;
+    write_millis(text, greatest.difference)?;
+    write_millis(text, greatest.bound)?;
+    let part = Percent {
+        part: greatest.difference,
+        whole: greatest.bound,
+    };
+    write!(text, "  {part} %\n")
 }

@@ -122,7 +122,7 @@ impl Screen {
             );
         }
         if let Some(near) = &mut self.near {
-            near.answered(event, reply, machine, change);
+            near.answered(event, reply, machine, change)?;
         }
         self.shown
             .take(change, schedule, &self.names, &mut self.text)

@@ -217,8 +217,18 @@ fn what_policies_answered_is_shown(rt: HostRuntime) -> Result<(), Fail> {
     has(&rt, rt.alloc(), "why", POLICIES, &parts)
 }
 
+/// 2 has the earliest deadline and runs for 1 ms; of three equal tasks each of the two others is owed a third of it. Then 1 runs, and
+/// goes at once: 2 is 0.5 ms ahead of the mean of 2 and 3. 3 runs for 0.1 ms, comes to 0.1 ms of virtual time where the mean is
+/// 0.55 ms, and may be owed the 0.5 ms and its share, half, of the rise.
+const LEAVES: &str = concat!(
+    "machine eevdf 1\nadmit 1 0 1 3000000\nadmit 2 0 1 1000000\nadmit 3 0 1 3000000\nwake 0 1 0\nwake 0 2 0\nwake 0 3 0\n",
+    "drain 0 0\ntick 0 1000000\nblock 0 1000000\ntick 0 1100000\n",
+);
+
 /// Under CFS 1 runs for 2 ms while 2 waits, by two charges: the second takes it as far as it may. Under EEVDF `short` runs for 1 ms,
-/// which takes it 0.5 ms beyond the mean; `long` comes up to the mean after it. A policy that answers decides for the rule.
+/// which takes it 0.5 ms beyond the mean, so that `long` is owed 0.5 ms: of two equal tasks one is owed half a rise at most. `long`
+/// comes up to the mean after it. Of what is owed each task that comes or goes begins a new measure: the first reading of the clock,
+/// the drain that brings the tasks, and the block.
 #[test]
 fn bounds_stand_below_a_report(rt: HostRuntime) -> Result<(), Fail> {
     let under_cfs = concat!(
@@ -226,7 +236,14 @@ fn bounds_stand_below_a_report(rt: HostRuntime) -> Result<(), Fail> {
         "    0 beyond the least          2        0        2.000        2.000  100.00 %\n",
     );
     ends(&rt, rt.alloc(), "report", CFS, under_cfs)?;
-    let under_eevdf =
-        "    0 ahead of the mean         2        0        0.500        1.000   50.00 %\n";
-    ends(&rt, rt.alloc(), "report", EEVDF, under_eevdf)
+    let under_eevdf = concat!(
+        "    0 ahead of the mean         2        0        0.500        1.000   50.00 %\n",
+        "    0 owed to any task          2        2        0.500        0.500  100.00 %\n",
+    );
+    ends(&rt, rt.alloc(), "report", EEVDF, under_eevdf)?;
+    let one_leaves = concat!(
+        "    0 ahead of the mean         3        0        0.666        1.000   66.66 %\n",
+        "    0 owed to any task          2        3        0.450        0.550   81.81 %\n",
+    );
+    ends(&rt, rt.alloc(), "report", LEAVES, one_leaves)
 }
