@@ -31,7 +31,7 @@ fn ends_by_one_where_a_line_is_bad(rt: HostRuntime) {
 }
 
 /// What some words are told, and where in the text.
-const TOLD: [(&[&str], &str); 28] = [
+const TOLD: [(&[&str], &str); 29] = [
     (&[], "Usage: bqsim"),
     (&["--help"], "Usage: bqsim"),
     (&["help"], "Usage: bqsim"),

@@ -111,12 +111,12 @@ fn parts_that_are_written(rt: HostRuntime) -> Result<(), Fail> {
              ldxw r2, [r10-4]",
             access(7),
         ),
-        // a number 32 bytes below is kept in their place
+        // a number 16 bytes below is kept in their place
         (
             "ldxw r3, [r1+0]\n\
              jgt64 r3, 55, out\n\
              stxw [r10-4], r3\n\
-             stw [r10-36], 0\n\
+             stw [r10-20], 0\n\
              ldxw r2, [r10-4]",
             access(6),
         ),

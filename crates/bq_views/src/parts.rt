@@ -13,7 +13,7 @@ use bq_ranges::Range;
 
 /// A number of the range was stored there: its low bytes are known.
 fn keep_part(parts: &mut [Option<Part>], first: u16, size: Size, word: Range)
-    requires { length parts.old ≡ 8 }
+    requires { length parts.old ≡ 4 }
     ensures { (stack : ℕ → Option ℕ) (v : ℕ) → Within word v → HasBytes stack first (byte_count size) (low_bytes size v) → HaveParts stack parts.old → HaveParts stack parts.new }
 {
     let range = low_of(size, word);
@@ -22,7 +22,7 @@ fn keep_part(parts: &mut [Option<Part>], first: u16, size: Size, word: Range)
 
 /// A number of the range was stored at an offset of the range: its low bytes are known if it is one place.
 pub fn store_part(parts: &mut [Option<Part>], at: Range, size: Size, word: Range)
-    requires room { length parts.old ≡ 8 }
+    requires room { length parts.old ≡ 4 }
     requires small { at.hi < 2 ^ 16 }
     ensures { (stack : ℕ → Option ℕ) (o v : ℕ) → Within at o → Within word v → HasBytes stack o (byte_count size) (low_bytes size v) → HaveParts stack parts.old → HaveParts stack parts.new }
 {
@@ -33,7 +33,7 @@ pub fn store_part(parts: &mut [Option<Part>], at: Range, size: Size, word: Range
 
 /// The numbers that a read of so many bytes at an offset of the range gives.
 pub fn numbers_at(parts: &[Option<Part>], at: Range, size: Size) -> Range
-    requires { length parts.now ≡ 8 }
+    requires { length parts.now ≡ 4 }
     ensures { (stack : ℕ → Option ℕ) (o : ℕ) (bytes : List ℕ) → HaveParts stack parts.now → Within at o → HasBytes stack o (byte_count size) bytes → number_of bytes < 256 ^ byte_count size → Within result (number_of bytes) }
 {
     if !at.is_single() || at.lo >= 512 {
@@ -103,9 +103,9 @@ fn join_part(a: Option<Part>, b: Option<Part>) -> Option<Part>
 
 /// Where a part is kept.
 fn place_of(first: u16) -> usize
-    ensures { result < 8 }
+    ensures { result < 4 }
 {
-    usize::from(first / 4 % 8)
+    usize::from(first / 4 % 4)
 }
 
 /// The low bytes of words of the range.

@@ -47,8 +47,8 @@ pub struct View {
     pub set: [bool; 512],
     /// The word that was stored whole in each slot of eight bytes of the stack, where one is known.
     pub kept: [Option<Known>; 64],
-    /// Numbers that were stored in a few bytes, the last one for each remainder of the word's place by 32 bytes.
-    pub parts: [Option<Part>; 8],
+    /// Numbers that were stored in a few bytes, the last one for each remainder of the word's place by 16 bytes.
+    pub parts: [Option<Part>; 4],
     /// Of which class each place is: the registers, and then these slots. Places of one class other than 0 hold the same
     /// word.
     pub classes: [u8; 75],
