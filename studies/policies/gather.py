@@ -21,7 +21,8 @@ FIGURES = ["latency", "worst_latency", "unfair", "switches", "migrations", "over
 def figures(answer):
     """The figures of one run, of the object that `--as json` writes."""
     tasks, processors = answer["tasks"], answer["processors"]
-    latencies = [task["latency"] for task in tasks if task["latency"]]
+    # a task that never ran after a wake has no latency: `unfair` tells of it
+    latencies = [task["latency"] for task in tasks if task["latency"]["p99"] is not None]
     hooks = [processor[hook] for processor in processors for hook in ("place", "preempt", "pull") if processor.get(hook)]
     return {
         "latency": statistics.fmean(it["p99"] for it in latencies) / 1e3 if latencies else 0.0,
@@ -78,7 +79,7 @@ def main():
     words = argparse.ArgumentParser(description=__doc__, formatter_class=argparse.RawDescriptionHelpFormatter)
     words.add_argument("folder", type=pathlib.Path)
     words.add_argument("--best", action="store_true")
-    words.add_argument("--by", choices=FIGURES, default="latency")
+    words.add_argument("--by", choices=FIGURES, default="unfair")
     said = words.parse_args()
     rows = gathered(said.folder)
     if said.best:
