@@ -7,7 +7,8 @@ BQSIM is the path of the program. A policy is drawn as for traces (tests/model/d
 entries of its maps, counters, the time and the processor. `bqsim run` gets the policy as an image's hex on standard input,
 and, every other time, as assembler text with its marks. tests/model/machine.py runs the same. Compared are r0, the number of
 instructions and the budget, the entries that changed, and the calls of counters in their order; and of a run that is repeated one
-to three times and traced, the slot of each instruction, its text as `bqsim dis` lists it, and after it each register that is set.
+to three times and traced, that it says how long a run takes, the slot of each instruction, its text as `bqsim dis` lists it, and
+after it each register that is set.
 `bqsim dis` lists the image, and `bqsim asm` with the options that the listing's marks name has to give the image back. It is run
 by hand.
 """
@@ -109,12 +110,13 @@ def bare(text):
 
 
 def words(given):
+    """The words of `run`. Each entry and each counter is named twice, and the last counts."""
     shown, entries, counters, time, processor = given
     options = ["--ctx", shown.hex(), "--time", str(time), "--processor", str(processor)]
     for (number, entry), value in entries.items():
-        options += ["--map", f"{number}:{entry}={value.hex()}"]
+        options += ["--map", f"{number}:{entry}=ffffffffffffffff", "--map", f"{number}:{entry}={value.hex()}"]
     for counter, value in counters.items():
-        options += ["--counter", f"{counter}={value}"]
+        options += ["--counter", f"{counter}=1", "--counter", f"{counter}={value}"]
     return options
 
 
@@ -187,6 +189,8 @@ def compare_trace(bqsim, image, given, said, often):
     answer = answered(bqsim, ["run", *options], said)
     numbers, lines = told(answer.stdout)
     steps, changes = steps_told(lines)
+    if not changes or not re.fullmatch(rf"{often} runs, \d+ ns a run", changes.pop()):
+        return f"run {options}\n{said}\n  answers {answer.stdout}{answer.stderr}  without how long a run takes"
     *wanted, begun = expected(image, given, often)
     wrong = wrong_step(steps, begun, slots_listed(bqsim, image))
     if answer.returncode != 0 or [numbers, changes] != wanted or wrong:

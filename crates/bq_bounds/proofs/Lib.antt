@@ -3,3 +3,4 @@ pub mod Near
 pub mod Greatest
 pub mod Owed
 pub mod FromTheBack
+pub mod Unseen

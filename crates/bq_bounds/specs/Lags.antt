@@ -25,9 +25,14 @@ owed mean t = t.weight * (mean - t.v) / 1024
 abbrev pub allowed : ℕ → ℕ → ℕ → ℕ → ℕ → ℕ
 allowed a r n W w = (n - 2) * r + ((W - w) * a * W + 1024 * r * w) / (1024 * W)
 
+-- the greatest weight of some tasks
+abbrev pub heaviest : List Task → ℕ
+heaviest [] = 0
+heaviest (t ∷ xs) = max t.weight (heaviest xs)
+
 -- a stretch in which none comes or goes begins with some tasks
 abbrev pub beginning : List Task → Stretch
-beginning xs = record { ahead = furthest (mean_at xs) xs; since = 0; most = 0 }
+beginning xs = record { ahead = furthest (mean_at xs) xs; heaviest = heaviest xs; since = 0; most = 0 }
 
 -- the clock has risen
 abbrev pub stretched : ℕ → Stretch → Stretch

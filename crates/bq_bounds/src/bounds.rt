@@ -1,8 +1,11 @@
 //! All processors of a machine, watched.
-ghost use Rattle.std.specs.Prelude.{◌≡◌, ◌≤◌, length, IfOk, replicate, slice_get};
-ghost use Rattle.bq_bounds.specs.LagWatches.{all_lags_after, source_forgotten, unasked};
+ghost use Rattle.std.specs.Prelude.{◌≡◌, ◌≤◌, length, IfOk, replicate, slice_get, List, IsTrue, false};
+ghost use Rattle.bq_disc.specs.Tasks.{Task};
+ghost use Rattle.bq_bounds.specs.Glances.{IsGlance};
+ghost use Rattle.bq_bounds.specs.LagWatches.{all_lags_after, lags_of, source_forgotten, unasked};
 ghost use Rattle.bq_bounds.specs.Watches.{unwatched, source_disturbed, watches_after};
 
+use crate::glance::Glance;
 use crate::lags::Lags;
 use crate::standing::Standing;
 use crate::watch::Watch;
@@ -12,7 +15,8 @@ use bq_sizes::Rule;
 use std::alloc::{AllocError, Global};
 
 /// How near each processor of a machine comes to the bounds of its rule. It takes one answer at a time: what was charged in a time
-/// that does not grow with anything, and what tasks are owed in one that grows with how many are there.
+/// that does not grow with anything, and what tasks are owed in one that grows with how many are there, where
+/// some task may be owed more than one was before.
 #[derive(Drop)]
 pub struct Bounds {
     pub rule: Rule,
@@ -96,6 +100,31 @@ impl Bounds {
             lags.take(event, reply, rise, tasks);
         }
         self.forget_source(event, reply);
+    }
+
+    /// The same by what is known of its tasks without a look at each, where that shows that none is owed more than one was before;
+    /// else nothing is done, and `owe` is to be asked. Whether it was done. It takes a time that does not grow with anything.
+    pub fn owe_unseen(
+        &mut self,
+        processor: u8,
+        event: &Event,
+        reply: &Reply,
+        rise: u64,
+        glance: Glance,
+    ) -> bool
+        ensures rule { self.new.rule ≡ self.old.rule }
+        ensures watches { self.new.watches ≡ self.old.watches }
+        ensures done { (xs : List Task) → IsTrue result → IsGlance glance (lags_of self.old.lags.items processor).stretch xs → self.new.lags.items ≡ all_lags_after processor event.now reply.now rise xs self.old.lags.items }
+        ensures left { result ≡ false → self.new.lags.items ≡ self.old.lags.items }
+    {
+        let Some(lags) = self.lags.get_mut(usize::from(processor)) else {
+            return false;
+        };
+        if !lags.take_unseen(event, reply, rise, glance) {
+            return false;
+        }
+        self.forget_source(event, reply);
+        true
     }
 
     /// A task that is pulled is missed where it is taken from.

@@ -1,8 +1,13 @@
 //! What the tasks of one processor are owed under EEVDF, as far as no task comes or goes.
-ghost use Rattle.std.specs.Prelude.{◌≡◌, ◌≤◌, length};
-ghost use Rattle.bq_bounds.specs.LagWatches.{course_by, course_of, forgotten, gone_on, lags_after, owing, unasked};
+ghost use Rattle.std.specs.Prelude.{◌≡◌, ◌≤◌, length, List, IsTrue, false, Some};
+ghost use Rattle.bq_disc.specs.Tasks.{Task};
+ghost use Rattle.bq_bounds.specs.Glances.{IsGlance};
+ghost use Rattle.bq_bounds.specs.Lags.{stretched};
+ghost use Rattle.bq_bounds.specs.Watches.{one_more};
+ghost use Rattle.bq_bounds.specs.LagWatches.{course_by, course_of, decided_in, forgotten, gone_on, lags_after, owing, unasked};
 
 use crate::charge::Charge;
+use crate::glance::Glance;
 use crate::stretch::Stretch;
 use crate::watch::greater;
 use bq_disc::Entity;
@@ -59,6 +64,23 @@ impl Lags {
             }
         }
     }
+
+    /// The same by what is known of the tasks without a look at each, where that shows that none is owed more than one was before;
+    /// else nothing is done. Whether it was done.
+    pub fn take_unseen(&mut self, event: &Event, reply: &Reply, rise: u64, glance: Glance) -> bool
+        ensures done { (xs : List Task) → IsTrue result → IsGlance glance self.old.stretch xs → self.new ≡ lags_after (course_of event.now reply.now) rise xs self.old }
+        ensures left { result ≡ false → self.new ≡ self.old }
+    {
+        let course = course_of(event, reply);
+        let (Some(stretch), Some(greatest)) = (self.stretch, self.greatest) else {
+            return false;
+        };
+        if course == Course::Breaks || stretch.at_most_owed(glance) > greatest.difference {
+            return false;
+        }
+        self.go_on_unseen(stretch, course, rise);
+        true
+    }
 }
 
 impl Lags {
@@ -73,6 +95,19 @@ impl Lags {
             self.measured = self.measured.saturating_add(1);
             self.greatest = Some(greater(self.greatest, lag));
         }
+        if course == Course::Decides {
+            stretch.decide();
+        }
+        self.stretch = Some(stretch);
+    }
+
+    /// The stretch goes on, and no task is owed more than one was before.
+    fn go_on_unseen(&mut self, stretch: Stretch, course: Course, rise: u64)
+        ensures { self.new ≡ record self.old { stretch = Some (decided_in course (stretched rise stretch)); measured = one_more self.old.measured } }
+    {
+        let mut stretch = stretch;
+        stretch.rise(rise);
+        self.measured = self.measured.saturating_add(1);
         if course == Course::Decides {
             stretch.decide();
         }

@@ -5,6 +5,7 @@
 
 pub mod bounds;
 pub mod charge;
+pub mod glance;
 pub mod lags;
 pub mod laws;
 pub mod seen;
@@ -14,6 +15,7 @@ pub mod watch;
 
 pub use bounds::Bounds;
 pub use charge::Charge;
+pub use glance::Glance;
 pub use lags::Lags;
 pub use seen::how_it_stands;
 pub use standing::Standing;

@@ -2,9 +2,11 @@
 ghost use Rattle.std.specs.Prelude.{◌≡◌, ◌≤◌, ◌-◌, ◌^◌, length, min};
 ghost use Rattle.bq_weights.specs.VirtualTime.{IsWeight};
 ghost use Rattle.bq_disc.specs.Totals.{sums_of, HasBounds};
-ghost use Rattle.bq_bounds.specs.Lags.{allowed, beginning, furthest, lag_by, most_owed, stretched};
+ghost use Rattle.bq_bounds.specs.Glances.{at_most_owed};
+ghost use Rattle.bq_bounds.specs.Lags.{allowed, beginning, furthest, heaviest, lag_by, most_owed, stretched};
 
 use crate::charge::Charge;
+use crate::glance::Glance;
 use crate::watch::greater;
 use bq_disc::{Entity, Totals};
 
@@ -14,6 +16,8 @@ use bq_disc::{Entity, Totals};
 pub struct Stretch {
     /// How far the furthest task was ahead of the mean at the beginning, in virtual nanoseconds.
     pub ahead: u64,
+    /// The greatest weight of its tasks.
+    pub heaviest: u32,
     /// How far the clock has risen since the discipline decided, or since the beginning.
     pub since: u64,
     /// The most that this has come to.
@@ -37,6 +41,7 @@ impl Stretch {
         let mean = totals(tasks).mean().unwrap_or(0);
         Stretch {
             ahead: furthest(mean, tasks),
+            heaviest: heaviest(tasks),
             since: 0,
             most: 0,
         }
@@ -79,6 +84,15 @@ impl Stretch {
             };
         }
         best
+    }
+
+    /// The most that any of its tasks can be owed, by what is known of them.
+    pub fn at_most_owed(&self, glance: Glance) -> u64
+        ensures { result ≡ min (at_most_owed glance self.now) (2 ^ 64 - 1) }
+    {
+        let behind = glance.mean.saturating_sub(glance.least);
+        let owed = u128::from(self.heaviest) * u128::from(behind) / 1024;
+        u64::try_from(owed).unwrap_or(u64::MAX)
     }
 
     /// What one of some tasks is owed, and what it may be.
@@ -139,6 +153,19 @@ fn furthest(mean: u64, tasks: &[Entity]) -> u64
     while at > 0 {
         at -= 1;
         most = tasks[at].v().saturating_sub(mean).max(most);
+    }
+    most
+}
+
+/// The greatest weight of some tasks.
+fn heaviest(tasks: &[Entity]) -> u32
+    ensures { result ≡ heaviest tasks.now }
+{
+    let mut most = 0u32;
+    let mut at = tasks.len();
+    while at > 0 {
+        at -= 1;
+        most = tasks[at].weight().max(most);
     }
     most
 }

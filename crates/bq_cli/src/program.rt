@@ -12,7 +12,7 @@ fn asm_command<'a>(alloc: Global) -> Result<Command<'a>, AllocError>
     ensures local { IfOk result (λ c. (fields_of c).has_globals ≡ false) }
 {
     let command = Command::new(alloc, "asm").about(
-        "Reads an assembler text from standard input and writes the hex of its program",
+        "Reads an assembler text, from the file that is named first or last or from standard input, and writes the hex of its program",
     );
     let hook = option(alloc, "hook", "HOOK").help(
         "Writes an image for this hook: place, preempt or pull",
@@ -93,7 +93,7 @@ fn replay_command<'a>(alloc: Global) -> Command<'a>
     ensures local { (fields_of result).has_globals ≡ false }
 {
     Command::new(alloc, "replay").about(
-        "Reads a trace from standard input and writes its reply lines to standard output",
+        "Reads a trace, from the file that is named or from standard input, and writes its reply lines to standard output",
     )
 }
 

@@ -3,6 +3,7 @@ use Rattle.std.specs.Prelude.{◌≡◌, ℕ, ◌<◌, ◌≤◌, ◌^◌, List,
 use Rattle.bq_parts.specs.declared.event.Event.{Event}
 use Rattle.bq_parts.specs.declared.event.Event.TheVariants.{EndWake, Drain, Tick, Block, Pull}
 use Rattle.bq_parts.specs.declared.reply.Reply.{Reply}
+use Rattle.bq_parts.specs.declared.reply.Reply.TheVariants.{Drained, Ticked, Blocked, Pulled}
 use Rattle.bq_sizes.specs.declared.rule.Rule.{Rule}
 use Rattle.bq_sizes.specs.declared.size.Size.{Size}
 use Rattle.bq_trace.specs.Counts.{one_more}
@@ -37,6 +38,28 @@ pub record Does (d : Driver) (event : Event) (reply : Reply) (told : Told) (e : 
   pub line : e.line ≡ one_more d.line
   pub rises : Rises d.now (reading_of event) e.now
   pub happens : Happens d.machine e.line event (Ok reply) told e.machine
+
+-- a sink is told of it
+abbrev pub Did : {S : Type 0} → (S → ℕ → News → S → Type 0) → S → Driver → Event → Reply → S → Driver → Type 0
+Did takes old d event reply new e = Gets takes old new (λ told. Does d event reply told e)
+
+-- who runs at the event's processor now, as an answer says
+abbrev pub runs_now : Reply → Option ℕ
+runs_now (Drained count run by steps) = run
+runs_now (Ticked run by steps) = run
+runs_now (Blocked task run) = run
+runs_now (Pulled task run by steps) = run
+runs_now reply = None
+
+-- how many tasks entered its queue
+abbrev pub count_entered : Reply → ℕ
+count_entered (Drained count run by steps) = count
+count_entered reply = 0
+
+-- the task that it took from another
+abbrev pub task_pulled : Reply → Option ℕ
+task_pulled (Pulled task run by steps) = task
+task_pulled reply = None
 
 -- some events are done one after another, and none is refused
 abbrev pub Drives : Driver → List Event → Told → Driver → Type 0

@@ -1,7 +1,8 @@
 //! The events by their answers.
 ghost use Rattle.std.specs.Prelude.{◌≡◌, ◌∷◌, [], IfOk, OnOk};
 ghost use Rattle.bq_parts.specs.declared.event.Event.TheVariants.{Admit, Draw, Install, BeginWake, EndWake, Drain, Tick, Block, Pull};
-ghost use Rattle.bq_driver.specs.Drives.{Drove};
+ghost use Rattle.bq_parts.specs.declared.reply.Reply.{Reply};
+ghost use Rattle.bq_driver.specs.Drives.{count_entered, Did, Drove, runs_now, task_pulled};
 
 use crate::driver::Driver;
 use crate::fault::DriveFault;
@@ -34,7 +35,7 @@ impl Driver {
         slice: u64,
         sink: &mut S,
     ) -> Result<(), DriveFault>
-        ensures { OnOk result (Drove S.takes sink.old self.old (Admit task nice mask slice ∷ []) sink.new self.new) }
+        ensures { OnOk result ((reply : Reply) × Did S.takes sink.old self.old (Admit task nice mask slice) reply sink.new self.new) }
     {
         let event = Event::Admit {
             task,
@@ -89,7 +90,7 @@ impl Driver {
         now: u64,
         sink: &mut S,
     ) -> Result<Entered, DriveFault>
-        ensures { OnOk result (Drove S.takes sink.old self.old (Drain processor now ∷ []) sink.new self.new) }
+        ensures { IfOk result (λ entered. (reply : Reply) × (runs_now reply ≡ entered.run) × (count_entered reply ≡ entered.count) × Did S.takes sink.old self.old (Drain processor now) reply sink.new self.new) }
     {
         match self.perform(alloc, Event::Drain { processor, now }, sink)? {
             Reply::Drained { count, run, .. } => Ok(Entered { count, run }),
@@ -105,7 +106,7 @@ impl Driver {
         now: u64,
         sink: &mut S,
     ) -> Result<Option<u16>, DriveFault>
-        ensures { OnOk result (Drove S.takes sink.old self.old (Tick processor now ∷ []) sink.new self.new) }
+        ensures { IfOk result (λ run. (reply : Reply) × (runs_now reply ≡ run) × Did S.takes sink.old self.old (Tick processor now) reply sink.new self.new) }
     {
         match self.perform(alloc, Event::Tick { processor, now }, sink)? {
             Reply::Ticked { run, .. } => Ok(run),
@@ -121,7 +122,7 @@ impl Driver {
         now: u64,
         sink: &mut S,
     ) -> Result<Option<u16>, DriveFault>
-        ensures { OnOk result (Drove S.takes sink.old self.old (Block processor now ∷ []) sink.new self.new) }
+        ensures { IfOk result (λ run. (reply : Reply) × (runs_now reply ≡ run) × Did S.takes sink.old self.old (Block processor now) reply sink.new self.new) }
     {
         match self.perform(alloc, Event::Block { processor, now }, sink)? {
             Reply::Blocked { run, .. } => Ok(run),
@@ -138,7 +139,7 @@ impl Driver {
         now: u64,
         sink: &mut S,
     ) -> Result<Moved, DriveFault>
-        ensures { OnOk result (Drove S.takes sink.old self.old (Pull processor from now ∷ []) sink.new self.new) }
+        ensures { IfOk result (λ moved. (reply : Reply) × (runs_now reply ≡ moved.run) × (task_pulled reply ≡ moved.task) × Did S.takes sink.old self.old (Pull processor from now) reply sink.new self.new) }
     {
         let event = Event::Pull {
             processor,

@@ -1,6 +1,5 @@
 //! A machine, and how far it was driven.
 ghost use Rattle.std.specs.Prelude.{◌≡◌, IfOk, OnOk};
-ghost use Rattle.bq_trace.specs.Bare.{bare};
 ghost use Rattle.bq_trace.specs.Machines.{opening_machine};
 ghost use Rattle.bq_driver.specs.Drives.{reading_of, Rises, Does, Drove, Starts};
 ghost use Rattle.bq_trace.specs.News.{Gets};
@@ -8,6 +7,7 @@ ghost use Rattle.bq_trace.specs.News.{Gets};
 use crate::fault::DriveFault;
 use bq_core::{Event, Refusal, Reply};
 use bq_sizes::{Rule, Size};
+use bq_trace::bare::bare;
 use bq_trace::{Machine, Sink};
 use std::alloc::Global;
 
@@ -91,66 +91,5 @@ fn reading_of(event: &Event) -> Option<u64>
         | Event::Block { now, .. }
         | Event::Pull { now, .. } => Some(*now),
         _ => None,
-    }
-}
-
-/// An event as it is told: without the policy that it brings.
-fn bare(event: &Event) -> Event
-    ensures { result ≡ bare event.now }
-{
-    match event {
-        Event::Admit {
-            task,
-            nice,
-            mask,
-            slice,
-        } => Event::Admit {
-            task: *task,
-            nice: *nice,
-            mask: *mask,
-            slice: *slice,
-        },
-        Event::Retire { task } => Event::Retire { task: *task },
-        Event::Draw => Event::Draw,
-        Event::Install {
-            processor,
-            hook,
-            generation,
-            policy: _,
-        } => Event::Install {
-            processor: *processor,
-            hook: *hook,
-            generation: *generation,
-            policy: None,
-        },
-        Event::BeginWake { processor, task } => Event::BeginWake {
-            processor: *processor,
-            task: *task,
-        },
-        Event::EndWake { processor, now } => Event::EndWake {
-            processor: *processor,
-            now: *now,
-        },
-        Event::Drain { processor, now } => Event::Drain {
-            processor: *processor,
-            now: *now,
-        },
-        Event::Tick { processor, now } => Event::Tick {
-            processor: *processor,
-            now: *now,
-        },
-        Event::Block { processor, now } => Event::Block {
-            processor: *processor,
-            now: *now,
-        },
-        Event::Pull {
-            processor,
-            from,
-            now,
-        } => Event::Pull {
-            processor: *processor,
-            from: *from,
-            now: *now,
-        },
     }
 }

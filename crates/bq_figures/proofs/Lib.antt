@@ -1,1 +1,2 @@
+mod RangeLemmas
 mod RowLemmas

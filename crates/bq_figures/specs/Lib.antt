@@ -1,3 +1,4 @@
+pub mod Report
 pub mod Rows
 pub mod Runs
 pub mod Values

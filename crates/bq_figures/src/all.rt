@@ -1,5 +1,6 @@
 //! All figures of a report.
-ghost use Rattle.std.specs.Prelude.{◌≡◌, ◌++◌, IfOk, OnOk};
+ghost use Rattle.std.specs.Prelude.{◌≡◌, IfOk};
+ghost use Rattle.bq_figures.specs.Report.{figures_of_processor, figures_of_report, figures_of_task};
 
 use crate::naming::{Figure, HookFigure, ProcessorFigure, TaskFigure};
 use bq_parts::Hook;
@@ -13,21 +14,22 @@ pub struct Extent {
 }
 
 /// The figures of each task, then those of each processor with those of its hooks.
-pub fn all_figures(alloc: Global, extent: Extent) -> Result<Vec<Figure>, AllocError> {
+pub fn all_figures(alloc: Global, extent: Extent) -> Result<Vec<Figure>, AllocError>
+    ensures { IfOk result (λ v. v.items ≡ figures_of_report extent) }
+{
     let mut figures = Vec::new(alloc);
-    for task in 0..extent.tasks {
+    'tasks: for task in 0..extent.tasks {
         figures.extend_from_slice(&task_figures(task))?;
     }
-    for processor in 0..extent.processors {
+    'processors: for processor in 0..extent.processors {
         figures.extend_from_slice(&processor_figures(processor))?;
-        figures.extend_from_slice(&hook_figures(processor, Hook::Place))?;
-        figures.extend_from_slice(&hook_figures(processor, Hook::Preempt))?;
-        figures.extend_from_slice(&hook_figures(processor, Hook::Pull))?;
     }
     Ok(figures)
 }
 
-fn task_figures(task: u16) -> [Figure; 11] {
+fn task_figures(task: u16) -> [Figure; 11]
+    ensures { result ≡ figures_of_task task }
+{
     [
         Figure::Task(task, TaskFigure::Ran),
         Figure::Task(task, TaskFigure::Fair),
@@ -43,18 +45,21 @@ fn task_figures(task: u16) -> [Figure; 11] {
     ]
 }
 
-fn processor_figures(processor: u8) -> [Figure; 3] {
+fn processor_figures(processor: u8) -> [Figure; 12]
+    ensures { result ≡ figures_of_processor processor }
+{
     [
         Figure::Processor(processor, ProcessorFigure::Busy),
         Figure::Processor(processor, ProcessorFigure::Idle),
         Figure::Processor(processor, ProcessorFigure::Switches),
-    ]
-}
-
-fn hook_figures(processor: u8, hook: Hook) -> [Figure; 3] {
-    [
-        Figure::Hook(processor, hook, HookFigure::Asked),
-        Figure::Hook(processor, hook, HookFigure::Overruled),
-        Figure::Hook(processor, hook, HookFigure::Steps),
+        Figure::Hook(processor, Hook::Place, HookFigure::Asked),
+        Figure::Hook(processor, Hook::Place, HookFigure::Overruled),
+        Figure::Hook(processor, Hook::Place, HookFigure::Steps),
+        Figure::Hook(processor, Hook::Preempt, HookFigure::Asked),
+        Figure::Hook(processor, Hook::Preempt, HookFigure::Overruled),
+        Figure::Hook(processor, Hook::Preempt, HookFigure::Steps),
+        Figure::Hook(processor, Hook::Pull, HookFigure::Asked),
+        Figure::Hook(processor, Hook::Pull, HookFigure::Overruled),
+        Figure::Hook(processor, Hook::Pull, HookFigure::Steps),
     ]
 }

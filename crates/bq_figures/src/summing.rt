@@ -15,8 +15,8 @@ pub struct Row {
     pub runs: usize,
     /// The mean of the values, if there are any.
     pub mean: Option<u128>,
-    /// Their standard deviation, if there are two at least. None too where they are beyond the arithmetic of 128 bits, which no
-    /// numbers below 2^49 are.
+    /// Their standard deviation, if there are two at least. None too where they are beyond the arithmetic of 128 bits, which no n
+    /// numbers below 2^54 / n are.
     pub deviation: Option<u128>,
 }
 

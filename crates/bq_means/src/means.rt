@@ -12,7 +12,7 @@ pub fn mean(numbers: &[u64]) -> u128
 }
 
 /// The sample's standard deviation of 2 to 65,536 numbers in thousandths, rounded down. None where they are too great to be
-/// squared and added in 128 bits: no 1,000 numbers below 2^49 are.
+/// squared and added in 128 bits: no n numbers below 2^54 / n are, so no 1,000 below 2^44.
 pub fn deviation(numbers: &[u64]) -> Option<u128>
     requires some { 2 ≤ length numbers.now }
     requires few { length numbers.now ≤ 65536 }

@@ -1,2 +1,5 @@
+pub mod Fields
+pub mod Naming
 pub mod Permitting
 pub mod Runs
+pub mod Words

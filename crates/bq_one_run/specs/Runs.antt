@@ -1,21 +1,32 @@
 -- The one run of a policy on its inputs.
 use Rattle.std.specs.Prelude.{◌≡◌, ℕ, zero, suc, ◌≤◌, List}
 use Rattle.bq_maps.specs.declared.board.Call.{Call as Asked}
+use Rattle.bq_maps.specs.Counters.{Counts, Through}
 use Rattle.bq_maps.specs.Machine.{RunFrom, start}
 use Rattle.bq_verify.specs.Accepted.{Accepted}
 use Rattle.bq_interp.specs.Chains.{setting_of}
+use Rattle.bq_one_run.specs.declared.inputs.Inputs.{Inputs}
+
+-- what a run finds, and what it leaves: the bytes of the maps, and the counters
+pub record Kept : Type 0 where
+  pub maps : List (List ℕ)
+  pub counters : List ℕ
+
+abbrev pub kept_in : Inputs → Kept
+kept_in inputs = record { maps = inputs.maps.bytes; counters = inputs.board }
 
 -- the machine's run from these maps, on that context, at that time and on that processor, gives this answer after so many instructions,
--- within the budget, and leaves these maps; its calls of counters are these
-pub record IsRun (program : Accepted) (context : List ℕ) (now processor : ℕ) (before : List (List ℕ)) (steps : ℕ) (calls : List Asked) (answer : ℕ) (after : List (List ℕ)) : Type 0 where
-  pub runs : RunFrom (setting_of program context now processor) (start before) steps calls answer after
+-- within the budget, and leaves these maps; its calls of counters are these, and lead from those counters to these
+pub record IsRun (program : Accepted) (context : List ℕ) (now processor : ℕ) (before : Kept) (steps : ℕ) (calls : List Asked) (answer : ℕ) (after : Kept) : Type 0 where
+  pub runs : RunFrom (setting_of program context now processor) (start before.maps) steps calls answer after.maps
+  pub counted : Through Counts before.counters calls after.counters
   pub within : steps ≤ program.budget
 
--- a run leads from these maps to those
-abbrev pub LeadsFrom : Accepted → List ℕ → ℕ → ℕ → List (List ℕ) → List (List ℕ) → Type 0
+-- a run leads from these maps and counters to those
+abbrev pub LeadsFrom : Accepted → List ℕ → ℕ → ℕ → Kept → Kept → Type 0
 LeadsFrom program context now processor before after = (steps : ℕ) × (calls : List Asked) × (answer : ℕ) × IsRun program context now processor before steps calls answer after
 
 -- so many runs, one after another, lead there
-abbrev pub AreRuns : Accepted → List ℕ → ℕ → ℕ → ℕ → List (List ℕ) → List (List ℕ) → Type 0
+abbrev pub AreRuns : Accepted → List ℕ → ℕ → ℕ → ℕ → Kept → Kept → Type 0
 AreRuns program context now processor zero before after = after ≡ before
-AreRuns program context now processor (suc n) before after = (between : List (List ℕ)) × AreRuns program context now processor n before between × LeadsFrom program context now processor between after
+AreRuns program context now processor (suc n) before after = (between : Kept) × AreRuns program context now processor n before between × LeadsFrom program context now processor between after

@@ -1,104 +1,194 @@
 //! The fields of contexts by their names, as docs/CONTEXTS.md lists them.
+ghost use Rattle.std.specs.Prelude.{◌≡◌, map, Some, IfSome};
+ghost use Rattle.std.specs.Bool.{OnTrue};
+ghost use Rattle.std.specs.List.{find};
+ghost use Rattle.std.specs.Str.{bytes_eq};
+ghost use Rattle.bq_one_run.specs.Fields.{GoesBy, GoesByName, HasNumber, IsField, IsNumbered, IsPasted, IsPut, IsSingle, bytes_in, fields_of, row_named, row_of};
+
+use crate::words::{cut, decimal};
+use bq_verify::hook::context_length;
 use bq_verify::{Hook, Version};
+
+/// How many bytes a field has: four, or eight.
+#[derive(Clone, Copy, Debug, PartialEq, Eq)]
+pub enum Width {
+    Four,
+    Eight,
+}
+
+impl Width {
+    /// The number of bytes.
+    fn bytes(self) -> usize
+        ensures { result ≡ bytes_in self }
+    {
+        match self {
+            Width::Four => 4,
+            Width::Eight => 8,
+        }
+    }
+}
 
 /// Where a field stands: its first byte, and how many it has.
 #[derive(Clone, Copy, Debug, PartialEq, Eq)]
 pub struct Field {
     pub at: usize,
-    pub bytes: usize,
+    pub width: Width,
 }
 
-/// A row of the table: the name, the first byte, the bytes, and for a field that stands several times how far apart and how often.
-type Row = (&'static str, usize, usize, usize, usize);
+/// A row of the table: the name, the first byte, the width, and for a field that stands several times how far apart and how often.
+type Row = (&'static str, usize, Width, usize, usize);
 
 const PLACE: [Row; 9] = [
-    ("task", 0, 4, 0, 1),
-    ("weight", 4, 4, 0, 1),
-    ("mask", 8, 8, 0, 1),
-    ("slice", 16, 8, 0, 1),
-    ("waker", 24, 4, 0, 1),
-    ("previous", 28, 4, 0, 1),
-    ("processors", 32, 4, 0, 1),
-    ("own", 36, 4, 0, 1),
-    ("load", 40, 4, 4, 64),
+    ("task", 0, Width::Four, 0, 1),
+    ("weight", 4, Width::Four, 0, 1),
+    ("mask", 8, Width::Eight, 0, 1),
+    ("slice", 16, Width::Eight, 0, 1),
+    ("waker", 24, Width::Four, 0, 1),
+    ("previous", 28, Width::Four, 0, 1),
+    ("processors", 32, Width::Four, 0, 1),
+    ("own", 36, Width::Four, 0, 1),
+    ("load", 40, Width::Four, 4, 64),
 ];
 
 const PREEMPT: [Row; 10] = [
-    ("processor", 0, 4, 0, 1),
-    ("queued", 4, 4, 0, 1),
-    ("task", 8, 4, 0, 1),
-    ("weight", 12, 4, 0, 1),
-    ("v", 16, 8, 0, 1),
-    ("deadline", 24, 8, 0, 1),
-    ("next", 32, 4, 0, 1),
-    ("next_weight", 36, 4, 0, 1),
-    ("next_v", 40, 8, 0, 1),
-    ("own", 48, 4, 0, 1),
+    ("processor", 0, Width::Four, 0, 1),
+    ("queued", 4, Width::Four, 0, 1),
+    ("task", 8, Width::Four, 0, 1),
+    ("weight", 12, Width::Four, 0, 1),
+    ("v", 16, Width::Eight, 0, 1),
+    ("deadline", 24, Width::Eight, 0, 1),
+    ("next", 32, Width::Four, 0, 1),
+    ("next_weight", 36, Width::Four, 0, 1),
+    ("next_v", 40, Width::Eight, 0, 1),
+    ("own", 48, Width::Four, 0, 1),
 ];
 
 const PULL: [Row; 10] = [
-    ("puller", 0, 4, 0, 1),
-    ("other", 4, 4, 0, 1),
-    ("size", 8, 4, 0, 1),
-    ("other_size", 12, 4, 0, 1),
-    ("movable", 16, 4, 0, 1),
-    ("shown", 20, 4, 0, 1),
-    ("own", 24, 4, 0, 1),
-    ("task", 32, 4, 16, 8),
-    ("weight", 36, 4, 16, 8),
-    ("v", 40, 8, 16, 8),
+    ("puller", 0, Width::Four, 0, 1),
+    ("other", 4, Width::Four, 0, 1),
+    ("size", 8, Width::Four, 0, 1),
+    ("other_size", 12, Width::Four, 0, 1),
+    ("movable", 16, Width::Four, 0, 1),
+    ("shown", 20, Width::Four, 0, 1),
+    ("own", 24, Width::Four, 0, 1),
+    ("task", 32, Width::Four, 16, 8),
+    ("weight", 36, Width::Four, 16, 8),
+    ("v", 40, Width::Eight, 16, 8),
 ];
 
-/// The field of that name, and of that number where it stands several times.
-pub(crate) fn field_named(
-    hook: Hook,
-    version: Version,
-    name: &str,
-    number: Option<usize>,
-) -> Option<Field> {
+/// The field of that name: of one that stands several times it has a dot and the number.
+pub(crate) fn field_named(hook: Hook, version: Version, name: &str) -> Option<Field>
+    ensures { IfSome result (IsField hook version name.now) }
+{
+    let field = field_by(hook, name)?;
+    let end = field.at.checked_add(field.width.bytes())?;
+    if end > context_length(hook, version) {
+        return None;
+    }
+    Some(field)
+}
+
+/// The same, wherever the context ends.
+fn field_by(hook: Hook, name: &str) -> Option<Field>
+    ensures { IfSome result (GoesBy hook name.now) }
+{
+    match cut(name, '.') {
+        None => by_name(hook, name),
+        Some((stem, digits)) => by_number(hook, stem, digits),
+    }
+}
+
+/// The field of that name, if it stands once.
+fn by_name(hook: Hook, name: &str) -> Option<Field>
+    ensures { IfSome result (GoesByName hook name.now) }
+{
+    let row = row_named(hook, name)?;
+    single(row)
+}
+
+/// The field of that name and that number, if there are several.
+fn by_number(hook: Hook, stem: &str, digits: &str) -> Option<Field>
+    ensures { IfSome result (HasNumber hook stem.now digits.now) }
+{
+    let row = row_named(hook, stem)?;
+    let number = decimal(digits)?;
+    numbered(row, number)
+}
+
+/// The table of a hook.
+fn rows(hook: Hook) -> &'static [Row]
+    ensures { map row_of result.now ≡ fields_of hook }
+{
     match hook {
-        Hook::Place => {
-            let found = row_field(PLACE.as_slice(), name, number)?;
-            let length = match version {
-                Version::First => 104,
-                Version::Second => 296,
-            };
-            if found.at < length { Some(found) } else { None }
-        }
-        Hook::Preempt => row_field(PREEMPT.as_slice(), name, number),
-        Hook::Pull => row_field(PULL.as_slice(), name, number),
+        Hook::Place => PLACE.as_slice(),
+        Hook::Preempt => PREEMPT.as_slice(),
+        Hook::Pull => PULL.as_slice(),
     }
 }
 
-fn row_field(rows: &[Row], name: &str, number: Option<usize>) -> Option<Field> {
-    for row in rows {
-        if row.0 == name {
-            return numbered(row, number);
-        }
-    }
-    None
+/// The row of that name of a hook, if there is one.
+fn row_named(hook: Hook, name: &str) -> Option<Row>
+    ensures { IfSome result (λ row. row_named (fields_of hook) name.now ≡ Some (row_of row)) }
+{
+    first_named(rows(hook), name)
 }
 
-/// A field that stands several times needs its number, and no other has one.
-fn numbered(row: &Row, number: Option<usize>) -> Option<Field> {
-    let bytes = row.2;
-    match number {
-        None => {
-            if row.4 == 1 {
-                Some(Field { at: row.1, bytes })
-            } else {
-                None
-            }
-        }
-        Some(number) => {
-            if row.4 > 1 && number < row.4 {
-                let at = row.1.saturating_add(number.saturating_mul(row.3));
-                Some(Field { at, bytes })
-            } else {
-                None
-            }
-        }
+/// The first row of that name, if there is one.
+fn first_named(rows: &[Row], name: &str) -> Option<Row>
+    ensures { result ≡ find (λ row. bytes_eq row.0.now name.now) rows.now }
+{
+    rows.iter().copied().find(|row| row.0 == name)
+}
+
+/// The field of a row, if it stands once.
+fn single(row: Row) -> Option<Field>
+    ensures { IfSome result (IsSingle (row_of row.entry)) }
+{
+    if row.4 != 1 {
+        return None;
     }
+    Some(Field {
+        at: row.1,
+        width: row.2,
+    })
+}
+
+/// The field of that number of a row, if it stands several times.
+fn numbered(row: Row, number: usize) -> Option<Field>
+    ensures { IfSome result (IsNumbered (row_of row.entry) number) }
+{
+    if row.4 < 2 || number >= row.4 {
+        return None;
+    }
+    let at = row.1.checked_add(number.checked_mul(row.3)?)?;
+    Some(Field { at, width: row.2 })
+}
+
+/// Puts a word into a field, and says whether it fits there.
+pub(crate) fn put(context: &mut [u8], field: Field, word: u64) -> bool
+    ensures { OnTrue result (IsPut field word context.old context.new) }
+{
+    match field.width {
+        Width::Four => match u32::try_from(word) {
+            Ok(word) => paste(context, field.at, &word.to_le_bytes()),
+            Err(_) => false,
+        },
+        Width::Eight => paste(context, field.at, &word.to_le_bytes()),
+    }
+}
+
+/// Puts bytes there, if there is room.
+fn paste(context: &mut [u8], at: usize, bytes: &[u8]) -> bool
+    ensures { OnTrue result (IsPasted at bytes.now context.old context.new) }
+{
+    let Some(end) = at.checked_add(bytes.len()) else {
+        return false;
+    };
+    if end > context.len() {
+        return false;
+    }
+    context[at..end].copy_from_slice(bytes);
+    true
 }
 
 /// The names of the fields of a hook, for a message.

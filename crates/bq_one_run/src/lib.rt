@@ -2,16 +2,21 @@
 #![tactic(auto)]
 
 mod changes;
+mod counters;
+mod entries;
+mod faults;
 mod fields;
 mod inputs;
 mod one_run;
 mod permitted;
 mod settings;
 mod shapes;
+mod words;
 
 pub use bq_interp::Moment;
 pub use changes::{copied, write_calls, write_changes};
-pub use inputs::Inputs;
+pub use faults::InputFault;
+pub use fields::{Field, Width};
+pub use inputs::{Inputs, inputs_of};
 pub use one_run::{OneRun, run_often, run_once, trace_once};
 pub use permitted::{Word, word_on};
-pub use settings::{InputFault, inputs_of};

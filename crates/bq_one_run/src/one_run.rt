@@ -3,7 +3,7 @@ ghost use Rattle.std.specs.Prelude.{◌≡◌, [], length, IfOk, IfSome};
 ghost use Rattle.bq_interp.specs.Chains.{setting_of};
 ghost use Rattle.bq_interp.specs.Moments.{AreMoments};
 ghost use Rattle.bq_maps.specs.Machine.{start};
-ghost use Rattle.bq_one_run.specs.Runs.{AreRuns, IsRun};
+ghost use Rattle.bq_one_run.specs.Runs.{AreRuns, IsRun, kept_in};
 
 use crate::inputs::Inputs;
 use crate::shapes::same_shapes;
@@ -18,7 +18,7 @@ pub type OneRun = Ran;
 /// The one run of the program on the inputs, whose maps and counters it leaves as the run does. None where the context has
 /// not the length of the program's hook and version, or the maps are of other shapes.
 pub fn run_once(verified: &Verified, inputs: &mut Inputs) -> Option<OneRun>
-    ensures run { IfSome result (λ r. IsRun verified.now inputs.old.context.items inputs.old.env.now inputs.old.env.processor inputs.old.maps.bytes r.steps r.calls.items r.r0 inputs.new.maps.bytes) }
+    ensures run { IfSome result (λ r. IsRun verified.now inputs.old.context.items inputs.old.env.now inputs.old.env.processor (kept_in inputs.old) r.steps r.calls.items r.r0 (kept_in inputs.new)) }
     ensures context { inputs.new.context ≡ inputs.old.context }
     ensures env { inputs.new.env ≡ inputs.old.env }
 {
@@ -41,7 +41,7 @@ pub fn run_once(verified: &Verified, inputs: &mut Inputs) -> Option<OneRun>
 
 /// So many runs, one after another: each begins with the maps and counters that the one before it left. None where there is none.
 pub fn run_often(verified: &Verified, inputs: &mut Inputs, count: u32) -> Option<()>
-    ensures runs { IfSome result (λ _. AreRuns verified.now inputs.old.context.items inputs.old.env.now inputs.old.env.processor count inputs.old.maps.bytes inputs.new.maps.bytes) }
+    ensures runs { IfSome result (λ _. AreRuns verified.now inputs.old.context.items inputs.old.env.now inputs.old.env.processor count (kept_in inputs.old) (kept_in inputs.new)) }
     ensures context { inputs.new.context ≡ inputs.old.context }
     ensures env { inputs.new.env ≡ inputs.old.env }
 {
@@ -61,7 +61,7 @@ pub fn trace_once(
     moments: &mut Vec<Moment>,
 ) -> Result<Option<OneRun>, AllocError>
     requires { moments.old.items ≡ [] }
-    ensures run { IfOk result (λ o. IfSome o (λ r. IsRun verified.now inputs.old.context.items inputs.old.env.now inputs.old.env.processor inputs.old.maps.bytes r.steps r.calls.items r.r0 inputs.new.maps.bytes)) }
+    ensures run { IfOk result (λ o. IfSome o (λ r. IsRun verified.now inputs.old.context.items inputs.old.env.now inputs.old.env.processor (kept_in inputs.old) r.steps r.calls.items r.r0 (kept_in inputs.new))) }
     ensures moments { IfOk result (λ o. IfSome o (λ r. AreMoments (setting_of verified.now inputs.old.context.items inputs.old.env.now inputs.old.env.processor) (start inputs.old.maps.bytes) 0 moments.new.items)) }
     ensures each { IfOk result (λ o. IfSome o (λ r. length moments.new.items ≡ r.steps)) }
 {

@@ -1,2 +1,3 @@
+mod DifferenceLemmas
 mod TraceLemmas
 mod RunLemmas

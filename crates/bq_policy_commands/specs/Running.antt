@@ -1,5 +1,5 @@
 -- What `run` answers to a policy's file.
-use Rattle.std.specs.Prelude.{◌≡◌, ℕ, ◌+◌, Bool, List, ◌++◌, length, ◌⊎◌, Option, Some, None, String, codes, string_bytes}
+use Rattle.std.specs.Prelude.{◌≡◌, ℕ, ◌+◌, Bool, List, ◌++◌, length, replicate, ◌⊎◌, Option, Some, None, String, codes, string_bytes}
 use Rattle.std.specs.declared.alloc.Global.{Global}
 use Rattle.std.specs.Fmt.{decimal}
 use Rattle.bq_insn.specs.Slots.{spread}
@@ -8,13 +8,16 @@ use Rattle.bq_explain.specs.declared.verdict.Verdict.{Verdict}
 use Rattle.bq_explain.specs.declared.verdict.Verdict.TheVariants as verdict
 use Rattle.bq_explain.specs.Verdicts.{verdict_line}
 use Rattle.bq_one_run.specs.declared.inputs.Inputs.{Inputs}
+use Rattle.bq_maps.specs.Arrays.{Arrays}
 use Rattle.bq_maps.specs.Machine.{start}
 use Rattle.bq_interp.specs.declared.traced.Moment.{Moment}
 use Rattle.bq_interp.specs.Chains.{setting_of}
 use Rattle.bq_interp.specs.Moments.{AreMoments}
-use Rattle.bq_one_run.specs.Runs.{AreRuns, IsRun}
+use Rattle.bq_one_run.specs.Naming.{BeginsWith, IsClean, SetsCounter, SetsEntry, SetsFields, TextsInTurn}
+use Rattle.bq_one_run.specs.Runs.{AreRuns, IsRun, Kept, kept_in}
+use Rattle.bq_one_run.specs.Words.{IsNumber}
 use Rattle.bq_graph.specs.declared.cause.Cause.{Cause}
-use Rattle.bq_verify.specs.Accepted.{Accepted}
+use Rattle.bq_verify.specs.Accepted.{Accepted, context_length_of}
 use Rattle.bq_verify.specs.Refusals.{IsRefusal}
 use Rattle.bq_verify.specs.declared.hook.Hook.{Hook}
 use Rattle.bq_verify.specs.declared.refused.Refused.TheVariants as refused
@@ -24,7 +27,6 @@ use Rattle.bq_policy_files.specs.Files.{IsPolicy}
 use Rattle.bq_policy_commands.specs.declared.answered.Answered.{Answered}
 use Rattle.bq_policy_commands.specs.declared.answered.Answered.TheVariants.{Done, Refused}
 use Rattle.bq_policy_commands.specs.declared.words.RunWords.{RunWords}
-use Rattle.bq_policy_commands.specs.Limiting.{IsNumber}
 use Rattle.bq_policy_commands.specs.Refusing.{IsRefusedFile}
 use Rattle.bq_policy_commands.specs.Tracing.{TellsSteps}
 use Rattle.bq_policy_commands.specs.Saying.{IsWordsFault, SaysHead, option_bytes}
@@ -39,6 +41,25 @@ pub record HasClock (w : RunWords) (inputs : Inputs) : Type 0 where
   pub now : IsNumberOrZero (option_bytes w.time) inputs.env.now
   pub processor : IsNumberOrZero (option_bytes w.processor) inputs.env.processor
 
+-- the context is all 0, or the bytes that a word names, with each field that words name in its turn
+pub record HasContext (w : RunWords) (program : Accepted) (context : List ℕ) : Type 0 where
+  pub first : List ℕ
+  pub begins : BeginsWith (option_bytes w.context) (context_length_of program.hook program.version) first
+  pub fields : TextsInTurn (SetsFields program.hook program.version) w.fields.items first context
+
+-- the maps are all 0, with each entry that words name in its turn
+pub record HasMaps (w : RunWords) (program : Accepted) (maps : Arrays) : Type 0 where
+  pub clean : Arrays
+  pub is_clean : IsClean program.shapes clean
+  pub entries : TextsInTurn SetsEntry w.entries.items clean maps
+
+-- the inputs are those that the words name
+pub record HasInputs (w : RunWords) (program : Accepted) (inputs : Inputs) : Type 0 where
+  pub clock : HasClock w inputs
+  pub context : HasContext w program inputs.context.items
+  pub maps : HasMaps w program inputs.maps
+  pub counters : TextsInTurn SetsCounter w.counters.items (replicate 64 0) inputs.board
+
 -- the text begins with the answer, and what is told of the steps stands after what ends that line, before what changed
 abbrev pub TellsRun : ℕ → List ℕ → List ℕ → Type 0
 TellsRun answer executed text = (first changes : List ℕ) × (text ≡ codes "r0 " ++ (decimal answer ++ (first ++ (executed ++ changes))))
@@ -48,18 +69,18 @@ abbrev pub IsBefore : Option (List ℕ) → ℕ → Type 0
 IsBefore None n = n ≡ 0
 IsBefore (Some word) n = IsNumber word (n + 1)
 
--- so many runs of the program on those inputs, one after another, lead to maps from which there is a run more, whose steps begin from
+-- so many runs of the program on those inputs, one after another, lead to maps and counters from which there is a run more, whose steps begin from
 -- these moments of the machine: its answer is told, and its steps where that is asked for
 pub record HasRun (traced : Bool) (others : ℕ) (program : Accepted) (inputs : Inputs) (told_as : Answered) : Type 0 where
   pub steps : ℕ
   pub calls : List Asked
   pub answer : ℕ
-  pub before : List (List ℕ)
-  pub after : List (List ℕ)
+  pub before : Kept
+  pub after : Kept
   pub moments : List Moment
-  pub runs : AreRuns program inputs.context.items inputs.env.now inputs.env.processor others inputs.maps.bytes before
+  pub runs : AreRuns program inputs.context.items inputs.env.now inputs.env.processor others (kept_in inputs) before
   pub run : IsRun program inputs.context.items inputs.env.now inputs.env.processor before steps calls answer after
-  pub are : AreMoments (setting_of program inputs.context.items inputs.env.now inputs.env.processor) (start before) 0 moments
+  pub are : AreMoments (setting_of program inputs.context.items inputs.env.now inputs.env.processor) (start before.maps) 0 moments
   pub each : length moments ≡ steps
   pub text : String Global
   pub is : told_as ≡ Done text
@@ -73,7 +94,7 @@ RunsOn traced others program inputs told_as = IsWordsFault told_as ⊎ HasRun tr
 -- on inputs that the words name, after as many others as they name
 abbrev pub RunsProgram : RunWords → Accepted → Answered → Type 0
 RunsProgram w program told_as =
-    IsWordsFault told_as ⊎ ((others : ℕ) × IsBefore (option_bytes w.telling.repeat) others × (inputs : Inputs) × HasClock w inputs × RunsOn w.telling.is_traced others program inputs told_as)
+    IsWordsFault told_as ⊎ ((others : ℕ) × IsBefore (option_bytes w.telling.repeat) others × (inputs : Inputs) × HasInputs w program inputs × RunsOn w.telling.is_traced others program inputs told_as)
 
 -- the program is that of the policy
 pub record IsProgramOf (p : Policy) (program : Accepted) : Type 0 where

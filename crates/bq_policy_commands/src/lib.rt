@@ -5,6 +5,7 @@
 #![tactic(auto)]
 
 mod answered;
+mod asm_head;
 mod checking;
 mod fault_words;
 mod given;
@@ -13,14 +14,17 @@ mod json_text;
 mod limits;
 mod listing;
 mod named;
+mod naming;
 mod policy_marks;
 mod repeats;
 mod running;
+mod timing;
 mod traces;
 mod word_text;
 mod words;
 
 pub use answered::Answered;
+pub use asm_head::{AsmRefusal, asm_refusal};
 pub use checking::check;
 pub use fault_words::{fault_line, fault_reason};
 pub use given::{WordsFault, said_by};

@@ -1,7 +1,8 @@
 //! A keeper's own limits from the words of a command.
 ghost use Rattle.std.specs.Prelude.{◌≡◌, IfOk};
 ghost use Rattle.bq_policy_commands.specs.Saying.{IsHeadWord, option_bytes};
-ghost use Rattle.bq_policy_commands.specs.Limiting.{HasLimits, IsNumber};
+ghost use Rattle.bq_policy_commands.specs.Limiting.{HasLimits};
+ghost use Rattle.bq_one_run.specs.Words.{IsNumber};
 
 use crate::given::{WordsFault, words_fault};
 use crate::words::CheckWords;

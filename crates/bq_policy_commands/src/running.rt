@@ -1,47 +1,43 @@
 //! `run` of a policy's file.
 ghost use Rattle.std.specs.Prelude.{◌≡◌, IfOk, string_bytes};
-ghost use Rattle.bq_policy_commands.specs.Running.{HasClock, IsNumberOrZero, RunsFile, RunsOn, RunsPolicy, RunsProgram, RunsTo, TellsRun, TellsVerdict};
-ghost use Rattle.bq_policy_commands.specs.Saying.{option_bytes};
+ghost use Rattle.bq_policy_commands.specs.Running.{RunsFile, RunsOn, RunsPolicy, RunsProgram, RunsTo, TellsRun, TellsVerdict};
 
 use crate::answered::Answered;
-use crate::given::{WordsFault, said_by, words_fault};
+use crate::given::{WordsFault, said_by};
 use crate::listing::refused_file;
+use crate::naming::inputs_named;
 use crate::repeats::runs_before;
+use crate::timing::time_line;
 use crate::traces::executed_text;
 use crate::word_text::word_text;
 use crate::words::RunWords;
 use bq_explain::{Verdict, verdict_line};
-use bq_interp::Env;
-use bq_one_run::{
-    InputFault, Inputs, OneRun, copied, inputs_of, run_often, trace_once, write_calls,
-    write_changes,
-};
+use bq_one_run::{Inputs, OneRun, copied, run_often, trace_once, write_calls, write_changes};
 use bq_policy_files::{Head, Policy, read_policy};
 use bq_verify::{Program, Refused, Verified, verify};
 use std::alloc::{AllocError, Global};
+use std::time::Clock;
 
-impl From<InputFault> for WordsFault {
-    fn from(fault: InputFault) -> WordsFault {
-        match fault {
-            InputFault::Words(why) => WordsFault::Words(why),
-            InputFault::OutOfMemory => WordsFault::OutOfMemory,
-        }
-    }
-}
-
-/// The one run of the policy whose file has these bytes, on the inputs that the words name, or why there is none.
-pub fn run(alloc: Global, words: &RunWords, bytes: &[u8]) -> Result<Answered, AllocError>
+/// The one run of the policy whose file has these bytes, on the inputs that the words name, or why there is none. Where they say how
+/// often it is run, the clock tells how long that takes.
+pub fn run<C: Clock>(
+    alloc: Global,
+    clock: &C,
+    words: &RunWords,
+    bytes: &[u8],
+) -> Result<Answered, AllocError>
     ensures { IfOk result (RunsTo words.now bytes.now) }
 {
     match said_by(alloc, &words.policy) {
-        Ok(head) => run_file(alloc, words, bytes, &head),
+        Ok(head) => run_file(alloc, clock, words, bytes, &head),
         Err(WordsFault::Words(why)) => Ok(Answered::Words(why)),
         Err(WordsFault::OutOfMemory) => Err(AllocError),
     }
 }
 
-fn run_file(
+fn run_file<C: Clock>(
     alloc: Global,
+    clock: &C,
     words: &RunWords,
     bytes: &[u8],
     head: &Head,
@@ -49,7 +45,7 @@ fn run_file(
     ensures { IfOk result (RunsFile words.now bytes.now head.now) }
 {
     match read_policy(alloc, bytes, head) {
-        Ok(policy) => run_policy(alloc, words, &policy),
+        Ok(policy) => run_policy(alloc, clock, words, &policy),
         Err(fault) => {
             let text = refused_file(alloc, &words.policy.file, bytes, fault)?;
             Ok(Answered::Refused(text))
@@ -57,7 +53,12 @@ fn run_file(
     }
 }
 
-fn run_policy(alloc: Global, words: &RunWords, policy: &Policy) -> Result<Answered, AllocError>
+fn run_policy<C: Clock>(
+    alloc: Global,
+    clock: &C,
+    words: &RunWords,
+    policy: &Policy,
+) -> Result<Answered, AllocError>
     ensures { IfOk result (RunsPolicy words.now policy.now) }
 {
     let program = Program {
@@ -67,7 +68,7 @@ fn run_policy(alloc: Global, words: &RunWords, policy: &Policy) -> Result<Answer
         version: policy.version,
     };
     match verify(alloc, program) {
-        Ok(verified) => run_verified(alloc, words, policy, &verified),
+        Ok(verified) => run_verified(alloc, clock, words, policy, &verified),
         Err(Refused::OutOfMemory) => Err(AllocError),
         Err(Refused::At { slot, cause }) => {
             let text = unaccepted_text(alloc, policy, Verdict::Refused { slot, cause })?;
@@ -85,8 +86,9 @@ fn unaccepted_text(alloc: Global, policy: &Policy, verdict: Verdict) -> Result<S
 }
 
 /// The run of a program that is accepted.
-fn run_verified(
+fn run_verified<C: Clock>(
     alloc: Global,
+    clock: &C,
     words: &RunWords,
     policy: &Policy,
     verified: &Verified,
@@ -99,63 +101,16 @@ fn run_verified(
         Err(WordsFault::OutOfMemory) => return Err(AllocError),
     };
     match inputs_named(alloc, words, verified) {
-        Ok(inputs) => run_on(alloc, words, policy, verified, inputs, before),
+        Ok(inputs) => {
+            let line = time_line(alloc, clock, words, verified)?;
+            run_on(alloc, words, policy, verified, inputs, before, &line)
+        }
         Err(WordsFault::Words(why)) => Ok(Answered::Words(why)),
         Err(WordsFault::OutOfMemory) => Err(AllocError),
     }
 }
 
-/// The inputs that the words name; all others are 0.
-fn inputs_named(alloc: Global, words: &RunWords, verified: &Verified) -> Result<Inputs, WordsFault>
-    ensures { IfOk result (HasClock words.now) }
-{
-    let env = env_named(alloc, words)?;
-    let mut inputs = inputs_of(alloc, verified, env)?;
-    if let Some(text) = &words.context {
-        inputs.set_context(alloc, text.as_str())?;
-    }
-    for text in &words.fields {
-        inputs.set_fields(alloc, verified.hook(), verified.version(), text.as_str())?;
-    }
-    for text in &words.entries {
-        inputs.set_entry(alloc, text.as_str())?;
-    }
-    for text in &words.counters {
-        inputs.set_counter(alloc, text.as_str())?;
-    }
-    inputs.env = env;
-    Ok(inputs)
-}
-
-/// The time and the processor.
-fn env_named(alloc: Global, words: &RunWords) -> Result<Env, WordsFault>
-    ensures now { IfOk result (λ env. IsNumberOrZero (option_bytes words.now.time) env.now) }
-    ensures processor { IfOk result (λ env. IsNumberOrZero (option_bytes words.now.processor) env.processor) }
-{
-    let now = number(alloc, "time", &words.time)?;
-    let processor = number(alloc, "processor", &words.processor)?;
-    match u32::try_from(processor) {
-        Ok(processor) => Ok(Env { now, processor }),
-        Err(_) => Err(words_fault(String::from_str(
-            alloc,
-            "--processor is a number below 4294967296",
-        ))),
-    }
-}
-
-fn number(alloc: Global, option: &str, word: &Option<String>) -> Result<u64, WordsFault>
-    ensures { IfOk result (IsNumberOrZero (option_bytes word.now)) }
-{
-    let Some(word) = word else {
-        return Ok(0);
-    };
-    match word.as_str().parse::<u64>() {
-        Ok(number) => Ok(number),
-        Err(_) => Err(words_fault(format!(in alloc; "--{option} {word} is no number"))),
-    }
-}
-
-/// The run after so many others on the same maps and counters.
+/// The run after so many others on the same maps and counters; the line that says how long they take stands last.
 fn run_on(
     alloc: Global,
     words: &RunWords,
@@ -163,6 +118,7 @@ fn run_on(
     verified: &Verified,
     inputs: Inputs,
     before: u32,
+    line: &String,
 ) -> Result<Answered, AllocError>
     ensures { IfOk result (RunsOn words.now.telling.is_traced before verified.now inputs) }
 {
@@ -178,7 +134,11 @@ fn run_on(
     };
     let is_traced = words.telling.is_traced;
     let executed = executed_text(alloc, is_traced, policy, verified, moments.as_slice())?;
-    let text = told(alloc, verified, first.as_slice(), &inputs, &ran, &executed)?;
+    let mut changes = String::new(alloc);
+    write_changes(alloc, first.as_slice(), &inputs, &mut changes)?;
+    write_calls(ran.calls.as_slice(), &mut changes)?;
+    changes.push_str(line.as_str())?;
+    let text = told(alloc, verified, &inputs, &ran, &executed, &changes)?;
     Ok(Answered::Done(text))
 }
 
@@ -186,10 +146,10 @@ fn run_on(
 fn told(
     alloc: Global,
     verified: &Verified,
-    before: &[Vec<u8>],
     inputs: &Inputs,
     ran: &OneRun,
     executed: &String,
+    changes: &String,
 ) -> Result<String, AllocError>
     ensures { IfOk result (λ text. TellsRun ran.now.r0 (string_bytes executed.now) (string_bytes text)) }
 {
@@ -198,8 +158,5 @@ fn told(
     let budget = verified.budget();
     let word = word_text(alloc, verified.hook(), inputs.context.as_slice(), r0)?;
     let first = format!(in alloc; " (0x{r0:x})  {word}  steps {steps} of {budget}\n")?;
-    let mut changes = String::new(alloc);
-    write_changes(alloc, before, inputs, &mut changes)?;
-    write_calls(ran.calls.as_slice(), &mut changes)?;
     format!(in alloc; "r0 {r0}{first}{executed}{changes}")
 }

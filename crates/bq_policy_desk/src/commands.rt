@@ -96,7 +96,7 @@ fn run_command<'a>(alloc: Global) -> Result<Command<'a>, AllocError> {
     );
     let command = command.arg(trace)?;
     let repeat = option(alloc, "repeat", "N").help(
-        "Runs the policy N times, each time on the maps and counters that the run before left, and tells the last run and its calls of counters; entries of maps stand as all runs changed them",
+        "Runs the policy N times, each time on the maps and counters that the run before left, and tells the last run and its calls of counters, entries of maps as all runs changed them, and how long a run took on average",
     );
     command.arg(repeat)
 }

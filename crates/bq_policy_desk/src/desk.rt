@@ -7,6 +7,7 @@ use std::alloc::{AllocError, Global};
 use std::fs;
 use std::io::{Error, ErrorKind, IsTerminal, Read, Write};
 use std::process::ExitCode;
+use std::time::Clock;
 
 /// Does what is asked of the policy.
 pub fn do_policy(rt: &HostRuntime, request: &PolicyRequest) -> ExitCode {
@@ -23,15 +24,20 @@ pub fn do_policy(rt: &HostRuntime, request: &PolicyRequest) -> ExitCode {
         Ok(bytes) => bytes,
         Err(code) => return code,
     };
-    let answer = answer(rt.alloc(), &request.asked, bytes.as_slice());
+    let answer = answer(rt.alloc(), rt, &request.asked, bytes.as_slice());
     written(rt, &answer)
 }
 
-/// The answer to the bytes of a policy's file.
-fn answer(alloc: Global, asked: &Asked, bytes: &[u8]) -> Result<Answered, AllocError> {
+/// The answer to the bytes of a policy's file; the clock tells how long runs take.
+fn answer<C: Clock>(
+    alloc: Global,
+    clock: &C,
+    asked: &Asked,
+    bytes: &[u8],
+) -> Result<Answered, AllocError> {
     match asked {
         Asked::Check(words) => check(alloc, words, bytes),
-        Asked::Run(words) => run(alloc, words, bytes),
+        Asked::Run(words) => run(alloc, clock, words, bytes),
         Asked::List(words) => list(alloc, words, bytes),
         Asked::Text(text) => Ok(Answered::Words(String::from_str(alloc, text.as_str())?)),
     }

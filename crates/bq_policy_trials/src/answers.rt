@@ -4,7 +4,10 @@ use bq_policy_commands::{
     Answered, CheckWords, ListWords, PolicyWords, RunWords, TellingWords, check, list, run,
 };
 use std::alloc::{AllocError, Global};
+use std::cell::Cell;
+use std::io;
 use std::test::Fail;
+use std::time::{Clock, Duration};
 
 /// The policy that answers the processor which the task last left.
 const KEEP_HOME: &str = ";@ hook place\nldxw r0, [r1+28]\nexit\n";
@@ -16,6 +19,24 @@ const COUNTS: &str = ";@ hook preempt\nmov64 r1, 0\nmov64 r2, 1\ncall 100\nmov64
 const KEEPS: &str =
     ";@ hook preempt\n;@ maps 8:2\ncall 8\nmov64 r6, r0\nstw [r10-4], 1\nldmap r1, 0\nmov64 r2, r10\nadd64 r2, -4\ncall 1\njeq64 r0, 0, end\nstxb [r0+0], r6\nend:\nmov64 r0, 0\nexit\n";
 
+/// A clock that goes on by 900 ns at each reading.
+#[derive(Drop)]
+struct Ticking {
+    readings: Cell<u64>,
+}
+
+impl Clock for Ticking {
+    fn monotonic(&self) -> io::Result<Duration> {
+        let now = self.readings.get();
+        self.readings.set(now.saturating_add(900));
+        Ok(Duration::from_nanos(now))
+    }
+
+    fn since_1970(&self) -> io::Result<Duration> {
+        self.monotonic()
+    }
+}
+
 fn text_of(alloc: Global, word: &str) -> Result<Option<String>, AllocError> {
     if word.is_empty() {
         return Ok(None);
@@ -23,10 +44,11 @@ fn text_of(alloc: Global, word: &str) -> Result<Option<String>, AllocError> {
     Ok(Some(String::from_str(alloc, word)?))
 }
 
-fn words_of(alloc: Global, word: &str) -> Result<Vec<String>, AllocError> {
+/// The words of a text, with blanks between.
+fn words_of(alloc: Global, text: &str) -> Result<Vec<String>, AllocError> {
     let mut words = Vec::new(alloc);
-    if let Some(word) = text_of(alloc, word)? {
-        words.push(word)?;
+    for word in text.split_whitespace() {
+        words.push(String::from_str(alloc, word)?)?;
     }
     Ok(words)
 }
@@ -131,7 +153,28 @@ fn checks_say_what_is_wrong(rt: HostRuntime) -> Result<(), Fail> {
 }
 
 /// The policy, its fields, an entry, a counter, the processor, a letter for the form, how often, and what is told.
-const RUN: [(&str, &str, &str, &str, &str, &str, &str, &str); 8] = [
+const RUN: [(&str, &str, &str, &str, &str, &str, &str, &str); 10] = [
+    // Of words for the same field, counter or entry the last counts.
+    (
+        KEEP_HOME,
+        "mask=0x6,processors=4,previous=1,previous=2 processors=3",
+        "",
+        "",
+        "",
+        "",
+        "",
+        "D r0 2 (0x2)  permitted: processor 2 is in mask 0x6  steps 2 of 2\n",
+    ),
+    (
+        COUNTS,
+        "",
+        "",
+        "0=41 0=7",
+        "",
+        "",
+        "",
+        "D r0 1 (0x1)  permitted: 0 stays, 1 gives way  steps 5 of 5\ncounter 0: 7 and 1 give 8\n",
+    ),
     (
         KEEP_HOME,
         "task=3,mask=0x6,processors=4,previous=1",
@@ -150,7 +193,7 @@ const RUN: [(&str, &str, &str, &str, &str, &str, &str, &str); 8] = [
         "",
         "",
         "1",
-        "D r0 3 (0x3)  not permitted: processor 3 is not in mask 0x6  steps 2 of 2\n",
+        "D r0 3 (0x3)  not permitted: processor 3 is not in mask 0x6  steps 2 of 2\n1 runs, 900 ns a run\n",
     ),
     (
         COUNTS,
@@ -165,12 +208,12 @@ const RUN: [(&str, &str, &str, &str, &str, &str, &str, &str); 8] = [
     (
         KEEPS,
         "",
-        "0:1=ff01",
+        "0:1=00000003 0:1=ff01",
         "",
         "7",
         "",
         "2",
-        "D r0 0 (0x0)  permitted: 0 stays, 1 gives way  steps 11 of 11\nmap 0 entry 1: 0701000000000000\n",
+        "D r0 0 (0x0)  permitted: 0 stays, 1 gives way  steps 11 of 11\nmap 0 entry 1: 0701000000000000\n2 runs, 450 ns a run\n",
     ),
     (
         KEEP_HOME,
@@ -202,7 +245,7 @@ const RUN: [(&str, &str, &str, &str, &str, &str, &str, &str); 8] = [
         "",
         "t",
         "3",
-        "D r0 1 (0x1)  permitted: 0 stays, 1 gives way  steps 5 of 5\nline 2, slot 0: mov64 r1, 0\n    r1 = 0 (0x0)\nline 3, slot 1: mov64 r2, 1\n    r2 = 1 (0x1)\nline 4, slot 2: call 100\n    r0 = 43 (0x2b)\nline 5, slot 3: mov64 r0, 1\n    r0 = 1 (0x1)\nline 6, slot 4: exit\ncounter 0: 43 and 1 give 44\n",
+        "D r0 1 (0x1)  permitted: 0 stays, 1 gives way  steps 5 of 5\nline 2, slot 0: mov64 r1, 0\n    r1 = 0 (0x0)\nline 3, slot 1: mov64 r2, 1\n    r2 = 1 (0x1)\nline 4, slot 2: call 100\n    r0 = 43 (0x2b)\nline 5, slot 3: mov64 r0, 1\n    r0 = 1 (0x1)\nline 6, slot 4: exit\ncounter 0: 43 and 1 give 44\n3 runs, 300 ns a run\n",
     ),
     (
         COUNTS,
@@ -219,6 +262,9 @@ const RUN: [(&str, &str, &str, &str, &str, &str, &str, &str); 8] = [
 #[test]
 fn runs_tell_what_came_of_them(rt: HostRuntime) -> Result<(), Fail> {
     let alloc = rt.alloc();
+    let clock = Ticking {
+        readings: Cell::new(0),
+    };
     for (policy, fields, entry, counter, processor, form, repeat, wanted) in RUN {
         let words = RunWords {
             policy: policy_words(alloc, "", "")?,
@@ -233,7 +279,7 @@ fn runs_tell_what_came_of_them(rt: HostRuntime) -> Result<(), Fail> {
             time: None,
             processor: text_of(alloc, processor)?,
         };
-        let answer = told(alloc, run(alloc, &words, policy.as_bytes())?)?;
+        let answer = told(alloc, run(alloc, &clock, &words, policy.as_bytes())?)?;
         assert!(rt; answer.as_str().starts_with(wanted), "{policy}: {answer}");
     }
     Ok(())

@@ -1,7 +1,18 @@
 -- What becomes of a task's run phase.
-use Rattle.std.specs.Prelude.{ℕ, ◌+◌, ◌==◌, Bool, true, not, ◌&&◌, if◌then◌else◌}
+use Rattle.std.specs.Prelude.{◌≡◌, ℕ, ◌+◌, ◌==◌, Bool, true, false, not, ◌&&◌, if◌then◌else◌}
 use Rattle.bq_roster.specs.declared.course.Course.{Course}
-use Rattle.bq_roster.specs.declared.course.Stance.TheVariants.{Runnable}
+use Rattle.bq_roster.specs.declared.course.Stance.TheVariants.{Asleep, Runnable}
+
+-- a task that has done nothing, and sleeps until its first timer
+abbrev pub fresh : ℕ → ℕ → Course
+fresh kind home = record { kind = kind; action = 0; woken = 0; loops = 0; stance = Asleep; due = 0; got = 0; home = home; has_run = false }
+
+-- what a task does next is no matter of its phase, nor of the processor that it ran on last
+pub record IsSamePhase (c d : Course) : Type 0 where
+  pub due : d.due ≡ c.due
+  pub got : d.got ≡ c.got
+  pub home : d.home ≡ c.home
+  pub has_run : d.has_run ≡ c.has_run
 
 -- a phase of this length begins
 abbrev pub begun : ℕ → Course → Course

@@ -37,10 +37,12 @@ pub struct Course {
 }
 
 impl Course {
-    ghost use Rattle.bq_roster.specs.Courses.{begun, run_for, moved_to, woken, is_done};
+    ghost use Rattle.bq_roster.specs.Courses.{begun, fresh, run_for, moved_to, woken, is_done, IsSamePhase};
 
     /// A task that has done nothing, and sleeps until its first timer.
-    pub fn new(kind: usize, home: u8) -> Course {
+    pub fn new(kind: usize, home: u8) -> Course
+        ensures { result ≡ fresh kind home }
+    {
         Course {
             kind,
             action: 0,
@@ -101,7 +103,9 @@ impl Course {
     }
 
     /// Goes on to the next of so many actions, after the last to the first.
-    pub fn advance(&mut self, actions: usize) {
+    pub fn advance(&mut self, actions: usize)
+        ensures { IsSamePhase self.old self.new }
+    {
         self.woken = 0;
         if self.action.saturating_add(1) >= actions {
             self.action = 0;

@@ -1,4 +1,6 @@
 //! A processor as a simulation keeps it.
+ghost use Rattle.std.specs.Prelude.{◌≡◌};
+ghost use Rattle.bq_roster.specs.Accounts.{at_rest};
 
 /// What runs at a processor.
 #[derive(Clone, Copy, Debug, PartialEq, Eq)]
@@ -13,7 +15,9 @@ pub struct Lane {
 
 impl Lane {
     /// Nothing runs.
-    pub fn new() -> Lane {
+    pub fn new() -> Lane
+        ensures { result ≡ at_rest }
+    {
         Lane {
             run: None,
             since: 0,

@@ -1,5 +1,7 @@
 //! All tasks and processors of a simulation.
-ghost use Rattle.std.specs.Prelude.{◌≡◌, ◌<◌, IfOk, OnOk};
+ghost use Rattle.std.specs.Prelude.{◌≡◌, ◌<◌, ◌++◌, [], ◌∷◌, None, Some, IfOk, IfErr, OnOk, slice_get, slice_set, length};
+ghost use Rattle.bq_roster.specs.Courses.{begun, woken};
+ghost use Rattle.bq_roster.specs.Accounts.{accounts_of, charged, entered_by, IsDone, left_by, of_task, opening, passed, switched, taken_over};
 ghost use Rattle.bq_agenda.specs.Dues.{IsDue, place_of};
 ghost use Rattle.bq_agenda.specs.Minima.{at_place, never, ChangesOnly};
 
@@ -36,9 +38,12 @@ pub struct Roster {
 
 impl Roster {
     /// So many processors that run nothing, and no task.
-    pub fn new(alloc: Global, processors: u8, pace: Pace) -> Result<Roster, AllocError> {
+    pub fn new(alloc: Global, processors: u8, pace: Pace) -> Result<Roster, AllocError>
+        ensures accounts { IfOk result (λ roster. accounts_of roster ≡ opening processors) }
+        ensures pace { IfOk result (λ roster. roster.pace ≡ pace) }
+    {
         let mut lanes = Vec::with_capacity(alloc, usize::from(processors))?;
-        for _ in 0..processors {
+        'lanes: for _ in 0..processors {
             lanes.push(Lane::new())?;
         }
         Ok(Roster {
@@ -50,37 +55,61 @@ impl Roster {
     }
 
     /// One more task.
-    pub fn add(&mut self, course: Course) -> Result<(), AllocError> {
+    pub fn add(&mut self, course: Course) -> Result<(), AllocError>
+        ensures courses { OnOk result (self.new.courses.items ≡ self.old.courses.items ++ course ∷ []) }
+        ensures lanes { self.new.lanes ≡ self.old.lanes }
+        ensures pace { self.new.pace ≡ self.old.pace }
+    {
         self.courses.push(course)?;
         Ok(())
     }
 
     /// How far a task has come.
-    pub fn course(&self, task: u16) -> Result<Course, Astray> {
+    pub fn course(&self, task: u16) -> Result<Course, Astray>
+        ensures there { IfOk result (λ course. slice_get self.now.courses.items task ≡ Some course) }
+        ensures missing { IfErr result (λ _. slice_get self.now.courses.items task ≡ None) }
+    {
         self.courses.get(usize::from(task)).copied().ok_or(Astray)
     }
 
     /// A task has come so far.
-    pub fn set_course(&mut self, task: u16, course: Course) -> Result<(), Astray> {
+    pub fn set_course(&mut self, task: u16, course: Course) -> Result<(), Astray>
+        ensures there { OnOk result (task < length self.old.courses.items) }
+        ensures courses { OnOk result (self.new.courses.items ≡ slice_set self.old.courses.items task course) }
+        ensures lanes { self.new.lanes ≡ self.old.lanes }
+        ensures agenda { self.new.agenda ≡ self.old.agenda }
+        ensures pace { self.new.pace ≡ self.old.pace }
+    {
         *self.courses.get_mut(usize::from(task)).ok_or(Astray)? = course;
         Ok(())
     }
 
     /// What runs at a processor.
-    pub fn lane(&self, processor: u8) -> Result<Lane, Astray> {
+    pub fn lane(&self, processor: u8) -> Result<Lane, Astray>
+        ensures there { IfOk result (λ lane. slice_get self.now.lanes.items processor ≡ Some lane) }
+        ensures missing { IfErr result (λ _. slice_get self.now.lanes.items processor ≡ None) }
+    {
         self.lanes
             .get(usize::from(processor))
             .copied()
             .ok_or(Astray)
     }
 
-    fn set_lane(&mut self, processor: u8, lane: Lane) -> Result<(), Astray> {
+    fn set_lane(&mut self, processor: u8, lane: Lane) -> Result<(), Astray>
+        ensures there { OnOk result (processor < length self.old.lanes.items) }
+        ensures lanes { OnOk result (self.new.lanes.items ≡ slice_set self.old.lanes.items processor lane) }
+        ensures courses { self.new.courses ≡ self.old.courses }
+        ensures agenda { self.new.agenda ≡ self.old.agenda }
+        ensures pace { self.new.pace ≡ self.old.pace }
+    {
         *self.lanes.get_mut(usize::from(processor)).ok_or(Astray)? = lane;
         Ok(())
     }
 
     /// How many processors there are.
-    pub fn processors(&self) -> usize {
+    pub fn processors(&self) -> usize
+        ensures { result ≡ length self.now.lanes.items }
+    {
         self.lanes.len()
     }
 
@@ -96,6 +125,8 @@ impl Roster {
     pub fn plan(&mut self, due: Due, time: u64) -> Result<(), Astray>
         ensures others { OnOk result (ChangesOnly (place_of due) self.old.agenda self.new.agenda) }
         ensures courses { self.new.courses ≡ self.old.courses }
+        ensures lanes { self.new.lanes ≡ self.old.lanes }
+        ensures pace { self.new.pace ≡ self.old.pace }
     {
         let place = place_of(due)?;
         let is_seen = time <= self.pace.end && time <= LATEST;
@@ -108,6 +139,8 @@ impl Roster {
         ensures due { OnOk result (at_place self.new.agenda (place_of due) ≡ never) }
         ensures others { OnOk result (ChangesOnly (place_of due) self.old.agenda self.new.agenda) }
         ensures courses { self.new.courses ≡ self.old.courses }
+        ensures lanes { self.new.lanes ≡ self.old.lanes }
+        ensures pace { self.new.pace ≡ self.old.pace }
     {
         let place = place_of(due)?;
         self.agenda.set(place, None);
@@ -144,7 +177,10 @@ fn next_after(now: u64, between: u64) -> Result<u64, Astray> {
 
 impl Roster {
     /// From now on this task runs at a processor, or none does.
-    pub fn switch(&mut self, processor: u8, run: Option<u16>, now: u64) -> Result<(), Astray> {
+    pub fn switch(&mut self, processor: u8, run: Option<u16>, now: u64) -> Result<(), Astray>
+        ensures accounts { OnOk result (accounts_of self.new ≡ switched processor run now self.old.pace.migration_cost (accounts_of self.old)) }
+        ensures pace { self.new.pace ≡ self.old.pace }
+    {
         let lane = self.lane(processor)?;
         if lane.run == run {
             return Ok(());
@@ -157,7 +193,11 @@ impl Roster {
     }
 
     /// The task that runs at a processor has run until now.
-    pub fn charge(&mut self, processor: u8, now: u64) -> Result<(), Astray> {
+    pub fn charge(&mut self, processor: u8, now: u64) -> Result<(), Astray>
+        ensures accounts { OnOk result (accounts_of self.new ≡ charged processor now (accounts_of self.old)) }
+        ensures agenda { self.new.agenda ≡ self.old.agenda }
+        ensures pace { self.new.pace ≡ self.old.pace }
+    {
         let mut lane = self.lane(processor)?;
         if let Some(task) = lane.run {
             let ran = now.checked_sub(lane.since).ok_or(Astray)?;
@@ -170,7 +210,10 @@ impl Roster {
     }
 
     /// A task runs at a processor from now on.
-    fn start(&mut self, processor: u8, task: u16, now: u64, was_idle: bool) -> Result<(), Astray> {
+    fn start(&mut self, processor: u8, task: u16, now: u64, was_idle: bool) -> Result<(), Astray>
+        ensures accounts { OnOk result (accounts_of self.new ≡ taken_over processor (Some task) now self.old.pace.migration_cost (accounts_of self.old)) }
+        ensures pace { self.new.pace ≡ self.old.pace }
+    {
         let mut lane = self.lane(processor)?;
         lane.run = Some(task);
         lane.since = now;
@@ -188,6 +231,8 @@ impl Roster {
 
     /// Nothing runs at a processor from now on: it does not tick, and looks at once for a task to pull.
     fn idle(&mut self, processor: u8, now: u64) -> Result<(), Astray>
+        ensures accounts { OnOk result (accounts_of self.new ≡ taken_over processor None now self.old.pace.migration_cost (accounts_of self.old)) }
+        ensures pace { self.new.pace ≡ self.old.pace }
         ensures tick { OnOk result (at_place self.new.agenda (place_of (Due.Tick processor)) ≡ never) }
         ensures end { OnOk result (at_place self.new.agenda (place_of (Due.End processor)) ≡ never) }
     {
@@ -203,7 +248,11 @@ impl Roster {
     }
 
     /// The phase of the task that runs at a processor ends when it has got what is left of it.
-    fn plan_end(&mut self, processor: u8, course: &Course, now: u64) -> Result<(), Astray> {
+    fn plan_end(&mut self, processor: u8, course: &Course, now: u64) -> Result<(), Astray>
+        ensures courses { self.new.courses ≡ self.old.courses }
+        ensures lanes { self.new.lanes ≡ self.old.lanes }
+        ensures pace { self.new.pace ≡ self.old.pace }
+    {
         let left = course.due.checked_sub(course.got).ok_or(Astray)?;
         self.plan(Due::End(processor), now.saturating_add(left))
     }
@@ -215,17 +264,48 @@ impl Roster {
         task: u16,
         length: u64,
         now: u64,
-    ) -> Result<(), Astray> {
+    ) -> Result<(), Astray>
+        ensures accounts { OnOk result (accounts_of self.new ≡ of_task (begun length) task (accounts_of self.old)) }
+        ensures pace { self.new.pace ≡ self.old.pace }
+    {
         let mut course = self.course(task)?;
         course.begin(length);
         self.set_course(task, course)?;
         self.plan_end(processor, &course, now)
     }
 
+    /// The phase of the task that runs at a processor has ended just now, and it has none. The task, and how far it had come: it had
+    /// got what its phase takes, no more and no less.
+    pub fn end_phase(&mut self, processor: u8, now: u64) -> Result<(u16, Course), Astray>
+        ensures done { IfOk result (λ ended. IsDone (charged processor now (accounts_of self.old)) processor ended.0 ended.1) }
+        ensures next { IfOk result (λ ended. slice_get self.new.courses.items ended.0 ≡ Some (begun 0 ended.1)) }
+        ensures accounts { IfOk result (λ ended. accounts_of self.new ≡ of_task (begun 0) ended.0 (charged processor now (accounts_of self.old))) }
+        ensures pace { self.new.pace ≡ self.old.pace }
+    {
+        let (task, course) = self.ended(processor, now)?;
+        let mut next = course;
+        next.begin(0);
+        self.set_course(task, next)?;
+        Ok((task, course))
+    }
+
+    /// A task is woken, and has no phase yet.
+    pub fn wake(&mut self, task: u16) -> Result<(), Astray>
+        ensures accounts { OnOk result (accounts_of self.new ≡ of_task woken task (accounts_of self.old)) }
+        ensures agenda { self.new.agenda ≡ self.old.agenda }
+        ensures pace { self.new.pace ≡ self.old.pace }
+    {
+        let mut course = self.course(task)?;
+        course.wake();
+        self.set_course(task, course)
+    }
+
     /// The task that runs at a processor, where its phase has ended just now: it has got what it takes, no more and no
     /// less.
-    pub fn ended(&mut self, processor: u8, now: u64) -> Result<(u16, Course), Astray>
-        ensures { IfOk result (λ ended. ended.1.got ≡ ended.1.due) }
+    fn ended(&mut self, processor: u8, now: u64) -> Result<(u16, Course), Astray>
+        ensures done { IfOk result (λ ended. IsDone (accounts_of self.new) processor ended.0 ended.1) }
+        ensures accounts { OnOk result (accounts_of self.new ≡ charged processor now (accounts_of self.old)) }
+        ensures pace { self.new.pace ≡ self.old.pace }
     {
         self.charge(processor, now)?;
         let task = self.lane(processor)?.run.ok_or(Astray)?;
@@ -244,7 +324,11 @@ impl Roster {
         stance: Stance,
         run: Option<u16>,
         now: u64,
-    ) -> Result<(), Astray> {
+    ) -> Result<(), Astray>
+        ensures there { OnOk result (task < length self.old.courses.items) }
+        ensures accounts { OnOk result (accounts_of self.new ≡ left_by processor task stance run now self.old.pace.migration_cost (accounts_of self.old)) }
+        ensures pace { self.new.pace ≡ self.old.pace }
+    {
         let mut course = self.course(task)?;
         course.stance = stance;
         self.set_course(task, course)?;
@@ -261,7 +345,10 @@ impl Roster {
         count: u32,
         run: Option<u16>,
         now: u64,
-    ) -> Result<(), Astray> {
+    ) -> Result<(), Astray>
+        ensures accounts { OnOk result (accounts_of self.new ≡ entered_by processor count run now self.old.pace.migration_cost (accounts_of self.old)) }
+        ensures pace { self.new.pace ≡ self.old.pace }
+    {
         let mut lane = self.lane(processor)?;
         lane.size = lane.size.checked_add(count).ok_or(Astray)?;
         self.set_lane(processor, lane)?;
@@ -269,7 +356,11 @@ impl Roster {
     }
 
     /// A task has gone from the queue of one processor to another.
-    pub fn pass(&mut self, from: u8, to: u8) -> Result<(), Astray> {
+    pub fn pass(&mut self, from: u8, to: u8) -> Result<(), Astray>
+        ensures accounts { OnOk result (accounts_of self.new ≡ passed from to (accounts_of self.old)) }
+        ensures agenda { self.new.agenda ≡ self.old.agenda }
+        ensures pace { self.new.pace ≡ self.old.pace }
+    {
         let mut source = self.lane(from)?;
         source.size = source.size.checked_sub(1).ok_or(Astray)?;
         self.set_lane(from, source)?;
@@ -294,7 +385,10 @@ impl Roster {
     }
 
     /// The next tick of a processor that has ticked.
-    pub fn plan_tick(&mut self, processor: u8, now: u64) -> Result<(), Astray> {
+    pub fn plan_tick(&mut self, processor: u8, now: u64) -> Result<(), Astray>
+        ensures accounts { accounts_of self.new ≡ accounts_of self.old }
+        ensures pace { self.new.pace ≡ self.old.pace }
+    {
         if self.lane(processor)?.run.is_none() {
             return Ok(());
         }
@@ -302,7 +396,10 @@ impl Roster {
     }
 
     /// The next pull of a processor that has looked for a task.
-    pub fn plan_pull(&mut self, processor: u8, now: u64) -> Result<(), Astray> {
+    pub fn plan_pull(&mut self, processor: u8, now: u64) -> Result<(), Astray>
+        ensures accounts { accounts_of self.new ≡ accounts_of self.old }
+        ensures pace { self.new.pace ≡ self.old.pace }
+    {
         self.plan(Due::Pull(processor), next_after(now, self.pace.balance)?)
     }
 }

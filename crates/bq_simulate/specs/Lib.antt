@@ -1,1 +1,2 @@
+pub mod Chronicles
 pub mod Simulations

@@ -1,8 +1,8 @@
 //! A simulation from its beginning to its end.
 ghost use Rattle.std.specs.Prelude.{◌≡◌, OnOk, IfOk};
-ghost use Rattle.bq_driver.specs.Drives.{Went};
+ghost use Rattle.bq_roster.specs.Accounts.{accounts_of};
+ghost use Rattle.bq_simulate.specs.Simulations.{HasStreams, IsSimulation, Lived, Silent, opening_accounts};
 ghost use Rattle.bq_trace.specs.News.{Gets};
-ghost use Rattle.bq_simulate.specs.Simulations.{IsSimulation};
 
 use crate::bound::most_steps;
 use crate::fault::SimulateFault;
@@ -41,7 +41,11 @@ pub fn simulate<S: Sink>(
 impl Simulation {
     /// Nothing is admitted yet.
     fn new(alloc: Global, workload: &Workload, driver: Driver) -> Result<Simulation, SimulateFault>
-        ensures { IfOk result (λ simulation. simulation.driver ≡ driver) }
+        ensures driver { IfOk result (λ simulation. simulation.driver ≡ driver) }
+        ensures accounts { IfOk result (λ simulation. accounts_of simulation.roster ≡ opening_accounts workload.now.machine) }
+        ensures seed { IfOk result (λ simulation. simulation.seed ≡ workload.now.machine.seed) }
+        ensures streams { IfOk result HasStreams }
+        ensures cost { IfOk result (λ simulation. simulation.roster.pace.migration_cost ≡ workload.now.machine.migration_cost) }
     {
         let machine = &workload.machine;
         let pace = Pace {
@@ -61,6 +65,7 @@ impl Simulation {
             streams: Vec::new(alloc),
             firsts: Vec::new(alloc),
             tally,
+            seed: machine.seed,
         })
     }
 
@@ -72,7 +77,7 @@ impl Simulation {
         policies: &[Policy],
         sink: &mut S,
     ) -> Result<(), SimulateFault>
-        ensures { OnOk result (Went S.takes sink.old self.old.driver sink.new self.new.driver) }
+        ensures { OnOk result (Lived S.takes sink.old self.old sink.new self.new) }
     {
         let processors = workload.machine.size.processors();
         self.install(alloc, processors, policies, sink)?;
@@ -84,7 +89,7 @@ impl Simulation {
 
     /// Each processor looks for a task at multiples of the time between two balancings, where there are others.
     fn plan_pulls(&mut self, processors: u8) -> Result<(), SimulateFault>
-        ensures { self.new.driver ≡ self.old.driver }
+        ensures { OnOk result (Silent self.old self.new) }
     {
         if processors < 2 {
             return Ok(());
@@ -103,7 +108,7 @@ impl Simulation {
         most: u64,
         sink: &mut S,
     ) -> Result<(), SimulateFault>
-        ensures { OnOk result (Went S.takes sink.old self.old.driver sink.new self.new.driver) }
+        ensures { OnOk result (Lived S.takes sink.old self.old sink.new self.new) }
     {
         'steps: for _ in 0..most {
             let Some((now, due)) = self.roster.first()? else {
@@ -121,7 +126,7 @@ impl Simulation {
         end: u64,
         sink: &mut S,
     ) -> Result<(), SimulateFault>
-        ensures { OnOk result (Went S.takes sink.old self.old.driver sink.new self.new.driver) }
+        ensures { OnOk result (Lived S.takes sink.old self.old sink.new self.new) }
     {
         'processors: for processor in 0..64 {
             self.tick_at_end(alloc, processor, end, sink)?;
@@ -136,13 +141,10 @@ impl Simulation {
         end: u64,
         sink: &mut S,
     ) -> Result<(), SimulateFault>
-        ensures { OnOk result (Went S.takes sink.old self.old.driver sink.new self.new.driver) }
+        ensures { OnOk result (Lived S.takes sink.old self.old sink.new self.new) }
     {
         match self.roster.lane(processor) {
-            Ok(lane) if lane.run.is_some() => {
-                self.driver.tick(alloc, processor, end, sink)?;
-                Ok(())
-            }
+            Ok(lane) if lane.run.is_some() => self.tick(alloc, processor, end, sink),
             _ => Ok(()),
         }
     }

@@ -1,6 +1,6 @@
 //! How a simulation begins: policies are installed, and tasks are admitted.
 ghost use Rattle.std.specs.Prelude.{OnOk};
-ghost use Rattle.bq_driver.specs.Drives.{Went};
+ghost use Rattle.bq_simulate.specs.Simulations.{Lived, Silent};
 
 use crate::fault::SimulateFault;
 use crate::simulation::Simulation;
@@ -9,9 +9,9 @@ use bq_actions::{TaskKind, Workload};
 use bq_agenda::Due;
 use bq_core::Policy;
 use bq_draws::Stream;
-use bq_roster::Course;
+use bq_roster::{Astray, Course};
 use bq_trace::Sink;
-use std::alloc::Global;
+use std::alloc::{AllocError, Global};
 
 impl Simulation {
     /// Each policy is installed at its hook of every processor, as one generation.
@@ -22,7 +22,7 @@ impl Simulation {
         policies: &[Policy],
         sink: &mut S,
     ) -> Result<(), SimulateFault>
-        ensures { OnOk result (Went S.takes sink.old self.old.driver sink.new self.new.driver) }
+        ensures { OnOk result (Lived S.takes sink.old self.old sink.new self.new) }
     {
         'policies: for policy in policies {
             let generation = self.driver.draw(alloc, sink)?;
@@ -39,7 +39,7 @@ impl Simulation {
         policy: &Policy,
         sink: &mut S,
     ) -> Result<(), SimulateFault>
-        ensures { OnOk result (Went S.takes sink.old self.old.driver sink.new self.new.driver) }
+        ensures { OnOk result (Lived S.takes sink.old self.old sink.new self.new) }
     {
         'processors: for processor in 0..processors {
             let copy = policy.clone()?;
@@ -56,7 +56,7 @@ impl Simulation {
         workload: &Workload,
         sink: &mut S,
     ) -> Result<(), SimulateFault>
-        ensures { OnOk result (Went S.takes sink.old self.old.driver sink.new self.new.driver) }
+        ensures { OnOk result (Lived S.takes sink.old self.old sink.new self.new) }
     {
         'kinds: for (number, kind) in workload.tasks.iter().enumerate() {
             if self.firsts.push(self.tally.tasks).is_err() {
@@ -75,22 +75,47 @@ impl Simulation {
         kind: &TaskKind,
         sink: &mut S,
     ) -> Result<(), SimulateFault>
-        ensures { OnOk result (Went S.takes sink.old self.old.driver sink.new self.new.driver) }
+        ensures { OnOk result (Lived S.takes sink.old self.old sink.new self.new) }
     {
         let processors = workload.machine.size.processors();
         let home = first_of_mask(kind.mask, processors).ok_or(SimulateFault::Astray)?;
         'tasks: for _ in 0..kind.count {
             let task = self.tally.tasks;
             self.admit_one(alloc, task, kind, sink)?;
-            self.roster.add(Course::new(number, home))?;
-            self.roster.plan(Due::Wake(task), kind.start)?;
-            let stream = Stream::of_task(workload.machine.seed, task);
-            if self.streams.push(stream).is_err() {
-                return Err(SimulateFault::OutOfMemory);
-            }
-            self.tally.tasks = task.saturating_add(1);
+            self.join(number, home)?;
+            self.open_stream(task)?;
+            self.begin_at(task, kind.start)?;
         }
         Ok(())
+    }
+
+    /// The timer of the next task, which is the last so far.
+    fn begin_at(&mut self, task: u16, start: u64) -> Result<(), Astray>
+        ensures { OnOk result (Silent self.old self.new) }
+    {
+        self.roster.plan(Due::Wake(task), start)?;
+        self.tally.tasks = task.saturating_add(1);
+        Ok(())
+    }
+
+    /// The stream of the next task.
+    fn open_stream(&mut self, task: u16) -> Result<(), SimulateFault>
+        ensures { OnOk result (Silent self.old self.new) }
+    {
+        if self.streams.len() != usize::from(task) {
+            return Err(SimulateFault::Astray);
+        }
+        match self.streams.push(Stream::of_task(self.seed, task)) {
+            Ok(()) => Ok(()),
+            Err(_) => Err(SimulateFault::OutOfMemory),
+        }
+    }
+
+    /// One more task of a kind, which comes first to this processor.
+    fn join(&mut self, kind: usize, home: u8) -> Result<(), AllocError>
+        ensures { OnOk result (Silent self.old self.new) }
+    {
+        self.roster.add(Course::new(kind, home))
     }
 
     fn admit_one<S: Sink>(
@@ -100,7 +125,7 @@ impl Simulation {
         kind: &TaskKind,
         sink: &mut S,
     ) -> Result<(), SimulateFault>
-        ensures { OnOk result (Went S.takes sink.old self.old.driver sink.new self.new.driver) }
+        ensures { OnOk result (Lived S.takes sink.old self.old sink.new self.new) }
     {
         self.driver
             .admit(alloc, task, kind.nice, kind.mask, kind.slice, sink)?;

@@ -1,7 +1,10 @@
 //! A simulation on its way.
-ghost use Rattle.std.specs.Prelude.{◌≡◌, ℕ, [], ◌∷◌, OnOk};
+ghost use Rattle.std.specs.Prelude.{◌≡◌, ℕ, [], ◌∷◌, IfOk, OnOk};
 ghost use Rattle.bq_parts.specs.declared.event.Event.TheVariants.{BeginWake, EndWake, Drain};
-ghost use Rattle.bq_driver.specs.Drives.{Drove, Went};
+ghost use Rattle.bq_driver.specs.Drives.{Drove};
+ghost use Rattle.std.specs.Option.{option_map_or};
+ghost use Rattle.bq_roster.specs.Accounts.{accounts_of, passed, switched};
+ghost use Rattle.bq_simulate.specs.Simulations.{Draws, Lived};
 
 use crate::fault::SimulateFault;
 use crate::tally::Tally;
@@ -14,7 +17,8 @@ use bq_roster::{Astray, Roster, Stance};
 use bq_trace::Sink;
 use std::alloc::Global;
 
-/// A simulation on its way: its machine, its tasks and processors, the draws of each task, and the first task of each kind.
+/// A simulation on its way: its machine, its tasks and processors, the draws of each task, the first task of each kind,
+/// what is counted, and the seed of the draws.
 #[derive(Drop)]
 pub struct Simulation {
     pub(crate) driver: Driver,
@@ -22,6 +26,7 @@ pub struct Simulation {
     pub(crate) streams: Vec<Stream>,
     pub(crate) firsts: Vec<u16>,
     pub(crate) tally: Tally,
+    pub(crate) seed: u64,
 }
 
 impl Simulation {
@@ -34,7 +39,7 @@ impl Simulation {
         now: u64,
         sink: &mut S,
     ) -> Result<(), SimulateFault>
-        ensures { OnOk result (Went S.takes sink.old self.old.driver sink.new self.new.driver) }
+        ensures { OnOk result (Lived S.takes sink.old self.old sink.new self.new) }
     {
         match due {
             Due::End(processor) => self.act(alloc, workload, processor, now, sink),
@@ -52,7 +57,7 @@ impl Simulation {
         now: u64,
         sink: &mut S,
     ) -> Result<(), SimulateFault>
-        ensures { OnOk result (Went S.takes sink.old self.old.driver sink.new self.new.driver) }
+        ensures { OnOk result (Lived S.takes sink.old self.old sink.new self.new) }
     {
         self.roster.drop_plan(Due::Wake(task))?;
         let course = self.roster.course(task)?;
@@ -71,11 +76,10 @@ impl Simulation {
         now: u64,
         sink: &mut S,
     ) -> Result<(), SimulateFault>
-        ensures { OnOk result ((to : ℕ) × Drove S.takes sink.old self.old.driver (BeginWake from task ∷ EndWake from now ∷ Drain to now ∷ []) sink.new self.new.driver) }
+        ensures events { OnOk result ((to : ℕ) × Drove S.takes sink.old self.old.driver (BeginWake from task ∷ EndWake from now ∷ Drain to now ∷ []) sink.new self.new.driver) }
+        ensures lived { OnOk result (Lived S.takes sink.old self.old sink.new self.new) }
     {
-        let mut course = self.roster.course(task)?;
-        course.wake();
-        self.roster.set_course(task, course)?;
+        self.roster.wake(task)?;
         let to = self.driver.wake(alloc, from, task, now, sink)?;
         let entered = self.driver.drain(alloc, to, now, sink)?;
         self.roster.enter(to, entered.count, entered.run, now)?;
@@ -83,14 +87,14 @@ impl Simulation {
     }
 
     /// A processor that runs something ticks.
-    fn tick<S: Sink>(
+    pub(crate) fn tick<S: Sink>(
         &mut self,
         alloc: Global,
         processor: u8,
         now: u64,
         sink: &mut S,
     ) -> Result<(), SimulateFault>
-        ensures { OnOk result (Went S.takes sink.old self.old.driver sink.new self.new.driver) }
+        ensures { OnOk result (Lived S.takes sink.old self.old sink.new self.new) }
     {
         let run = self.driver.tick(alloc, processor, now, sink)?;
         self.roster.switch(processor, run, now)?;
@@ -106,7 +110,7 @@ impl Simulation {
         now: u64,
         sink: &mut S,
     ) -> Result<(), SimulateFault>
-        ensures { OnOk result (Went S.takes sink.old self.old.driver sink.new self.new.driver) }
+        ensures { OnOk result (Lived S.takes sink.old self.old sink.new self.new) }
     {
         self.roster.plan_pull(processor, now)?;
         match self.roster.largest() {
@@ -123,7 +127,7 @@ impl Simulation {
         now: u64,
         sink: &mut S,
     ) -> Result<(), SimulateFault>
-        ensures { OnOk result (Went S.takes sink.old self.old.driver sink.new self.new.driver) }
+        ensures { OnOk result (Lived S.takes sink.old self.old sink.new self.new) }
     {
         let moved = self.driver.pull(alloc, processor, from, now, sink)?;
         keep_pull(&mut self.roster, processor, from, moved, now)?;
@@ -132,7 +136,7 @@ impl Simulation {
 
     /// The next length of a task.
     pub(crate) fn draw(&mut self, task: u16, length: Length) -> Result<u64, Astray>
-        ensures { self.new.driver ≡ self.old.driver }
+        ensures { IfOk result (λ drawn. Draws task length self.old drawn self.new) }
     {
         let stream = self.streams.get_mut(usize::from(task)).ok_or(Astray)?;
         if !length.is_sound() {
@@ -149,7 +153,10 @@ fn keep_pull(
     from: u8,
     moved: Moved,
     now: u64,
-) -> Result<(), Astray> {
+) -> Result<(), Astray>
+    ensures accounts { OnOk result (accounts_of roster.new ≡ switched processor moved.run now roster.old.pace.migration_cost (option_map_or (λ task. passed from processor (accounts_of roster.old)) moved.task (accounts_of roster.old))) }
+    ensures pace { roster.new.pace ≡ roster.old.pace }
+{
     if moved.task.is_some() {
         roster.pass(from, processor)?;
     }

@@ -28,6 +28,10 @@ pub enum AskedFault {
     Duration,
     #[error("--seed: a seed is a whole number below 2^64")]
     Seed,
+    #[error("--seeds: a number of seeds is from 1 to 1000")]
+    Seeds,
+    #[error("--as: with --seeds or --against a form is report, csv or json")]
+    TableForm,
     #[error("--as: a form is trace, report, map, timehist, why, svg, perfetto, csv or json")]
     Form,
     #[error("{0}")]

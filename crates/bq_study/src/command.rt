@@ -2,7 +2,7 @@
 
 use bq_timeline::{Words, WordsFault};
 use clap::error::ErrorKind;
-use clap::{Arg, ArgMatches, Command};
+use clap::{Arg, ArgAction, ArgMatches, Command};
 use std::alloc::{AllocError, Global};
 
 /// The words of the options, as they were given.
@@ -12,10 +12,14 @@ pub struct StudyWords {
     pub processors: Option<String>,
     pub duration: Option<String>,
     pub seed: Option<String>,
+    /// How many seeds it is run with.
+    pub seeds: Option<String>,
     /// Files of policies, or `none`.
     pub place: Option<String>,
     pub preempt: Option<String>,
     pub pull: Option<String>,
+    /// What it is compared with: files of policies, or `none`.
+    pub against: Vec<String>,
     /// How it is shown, and the file of the workload.
     pub shown: Words,
 }
@@ -35,18 +39,22 @@ fn found(alloc: Global, matches: &ArgMatches<'_>) -> Result<StudyWords, AllocErr
     let processors = word(alloc, matches, "processors")?;
     let duration = word(alloc, matches, "duration")?;
     let seed = word(alloc, matches, "seed")?;
+    let seeds = word(alloc, matches, "seeds")?;
     let place = word(alloc, matches, "place")?;
     let preempt = word(alloc, matches, "preempt")?;
     let pull = word(alloc, matches, "pull")?;
+    let against = all_words(alloc, matches, "against")?;
     let shown = shown_words(alloc, matches)?;
     Ok(StudyWords {
         discipline,
         processors,
         duration,
         seed,
+        seeds,
         place,
         preempt,
         pull,
+        against,
         shown,
     })
 }
@@ -80,6 +88,21 @@ fn word(
         None => Ok(None),
         Some(word) => Ok(Some(String::from_str(alloc, word)?)),
     }
+}
+
+/// The words of an option that may be given several times.
+fn all_words(
+    alloc: Global,
+    matches: &ArgMatches<'_>,
+    option: &str,
+) -> Result<Vec<String>, AllocError> {
+    let mut words = Vec::new(alloc);
+    if let Some(given) = matches.get_strs(option) {
+        for word in given {
+            words.push(String::from_str(alloc, word)?)?;
+        }
+    }
+    Ok(words)
 }
 
 /// The fault of words that clap refuses, with its text.
@@ -118,7 +141,11 @@ fn machine_options<'a>(alloc: Global, command: Command<'a>) -> Result<Command<'a
     let duration = option(alloc, "duration", "TIME").help("How long it runs, as 500us or 2s");
     let command = command.arg(duration)?;
     let seed = option(alloc, "seed", "N").help("Of the draws");
-    command.arg(seed)
+    let command = command.arg(seed)?;
+    let seeds = option(alloc, "seeds", "N").help(
+        "Runs it with so many seeds, from its own on, and shows means and deviations",
+    );
+    command.arg(seeds)
 }
 
 /// What stands at the hooks.
@@ -130,7 +157,11 @@ fn policy_options<'a>(alloc: Global, command: Command<'a>) -> Result<Command<'a>
     let preempt = option(alloc, "preempt", "POLICY").help("The same");
     let command = command.arg(preempt)?;
     let pull = option(alloc, "pull", "POLICY").help("The same");
-    command.arg(pull)
+    let command = command.arg(pull)?;
+    let against = option(alloc, "against", "POLICY")
+        .help("Compares with these policies in place of the others, or with none; once a policy")
+        .action(ArgAction::Append);
+    command.arg(against)
 }
 
 /// How it is shown.

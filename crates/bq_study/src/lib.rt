@@ -13,5 +13,6 @@ pub mod trace_text;
 
 pub use asked::{Asked, AskedFault, asked_changes};
 pub use command::{StudyWords, study_words};
+pub use names::task_names;
 pub use policies::{Policies, PolicyFault};
 pub use running::{Written, run_as};

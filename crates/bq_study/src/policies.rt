@@ -19,6 +19,8 @@ pub enum PolicyFault {
     Program(LoadFault),
     #[error("the policy is for another hook")]
     Hook,
+    #[error("another policy is for the same hook")]
+    Twice,
     #[error("out of memory")]
     OutOfMemory,
 }
@@ -44,17 +46,31 @@ impl Policies {
     pub fn add(&mut self, alloc: Global, hook: Hook, file: &[u8]) -> Result<(), PolicyFault> {
         let mut asked = Head::nothing();
         asked.hook = Some(hook);
-        let image = match read_policy(alloc, file, &asked) {
-            Ok(policy) => image_of(alloc, &policy)?,
+        self.take(alloc, &asked, file)
+    }
+
+    /// The same, for the hook that the file says.
+    pub fn add_as_said(&mut self, alloc: Global, file: &[u8]) -> Result<(), PolicyFault> {
+        self.take(alloc, &Head::nothing(), file)
+    }
+
+    /// Takes the policy of a file that agrees with what was asked for.
+    fn take(&mut self, alloc: Global, asked: &Head, file: &[u8]) -> Result<(), PolicyFault> {
+        let read = match read_policy(alloc, file, asked) {
+            Ok(read) => read,
             Err(fault) => return Err(told(alloc, file, fault)),
         };
+        if self.image_at(read.hook).is_some() {
+            return Err(PolicyFault::Twice);
+        }
+        let image = image_of(alloc, &read)?;
         let program = match load(alloc, image.as_slice()) {
             Ok(program) => program,
             Err(LoadFault::OutOfMemory) => return Err(PolicyFault::OutOfMemory),
             Err(fault) => return Err(PolicyFault::Program(fault)),
         };
         let policy = Policy::new(alloc, program)?;
-        self.images.push((hook, image))?;
+        self.images.push((read.hook, image))?;
         self.loaded.push(policy)?;
         Ok(())
     }

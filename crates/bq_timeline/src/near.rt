@@ -1,10 +1,12 @@
 //! How near each processor came to the bounds of its rule: a table below the report.
 
-use bq_bounds::{Bounds, Charge, Standing, how_it_stands};
+use bq_bounds::{Bounds, Charge, Glance, Standing, how_it_stands};
 use bq_core::{Event, Reply};
+use bq_disc::RunQueue;
 use bq_forms::percent::Percent;
 use bq_forms::tables::write_millis;
 use bq_forms::window::is_in;
+use bq_parts::Cpu;
 use bq_schedule::Change;
 use bq_sizes::Rule;
 use bq_trace::{Machine, Seen};
@@ -67,9 +69,17 @@ impl Near {
             Some(Seen::Eevdf(cpu)) => {
                 self.bounds
                     .take(processor, event, reply, standing, rise, cpu.kept());
-                let tasks = present(self.alloc, cpu)?;
-                self.bounds
-                    .owe(processor, event, reply, rise, tasks.as_slice());
+                let is_done = match glance_at(cpu) {
+                    Some(glance) => self
+                        .bounds
+                        .owe_unseen(processor, event, reply, rise, glance),
+                    None => false,
+                };
+                if !is_done {
+                    let tasks = present(self.alloc, cpu)?;
+                    self.bounds
+                        .owe(processor, event, reply, rise, tasks.as_slice());
+                }
             }
             None => {}
         }
@@ -126,6 +136,20 @@ impl Near {
             None => Ok(()),
         }
     }
+}
+
+/// What is known of the tasks of a processor that has just been charged, by its mark and by those that come first; nothing where no
+/// task runs.
+fn glance_at<Q: RunQueue>(cpu: &Cpu<Q>) -> Option<Glance> {
+    let standing = how_it_stands(cpu)?;
+    let least = match standing.least {
+        Some(least) => least.min(standing.v),
+        None => standing.v,
+    };
+    Some(Glance {
+        least,
+        mean: cpu.kept(),
+    })
 }
 
 /// A line of the table; none where nothing was measured.

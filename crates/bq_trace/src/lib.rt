@@ -4,7 +4,7 @@
 //! Stands on the lines of a trace, on the core's step and on the two disciplines.
 #![tactic(auto)]
 
-mod bare;
+pub mod bare;
 mod counted;
 pub mod fault;
 pub mod laws;

@@ -5,7 +5,7 @@ use Rattle.bq_insn.specs.declared.Insn.{Insn}
 use Rattle.bq_insn.specs.declared.Insn.TheVariants.{Call}
 use Rattle.bq_maps.specs.declared.shape.MapShape.{MapShape}
 use Rattle.bq_maps.specs.Machine.{IsCounterCall}
-use Rattle.bq_views.specs.Ready.{IsAsking, IsReady, IsReadyToAsk}
+use Rattle.bq_transfer.specs.Ready.{IsAsking, IsReady, IsReadyToAsk}
 use Rattle.bq_views.specs.declared.view.View.{View}
 
 pub record Asked (view : View) (insn : Insn) : Type 0 where

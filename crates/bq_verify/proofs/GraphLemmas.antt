@@ -5,7 +5,7 @@ use Rattle.std.proofs.lemmas.Bool.{cases_lt}
 use Rattle.bq_insn.specs.declared.Insn.TheVariants.{Call}
 use Rattle.bq_maps.specs.Machine.{IsCounterCall, instruction_at}
 use Rattle.bq_graph.proofs.CountLemmas.{extend}
-use Rattle.bq_graph.proofs.SoundLemmas.{late_by}
+use Rattle.bq_graph.proofs.SoundLemmas.{late_by, sound_graph}
 use Rattle.bq_insn.specs.declared.Insn.{Insn}
 use Rattle.bq_insn.specs.Slots.{spread}
 use Rattle.bq_graph.specs.Edges.{IsEdge, IsWhole, IsStart}
@@ -13,7 +13,6 @@ use Rattle.bq_graph.specs.Paths.{IsGreatest, IsMost, PathOut, CallsOnWay, asks_c
 use Rattle.bq_graph.specs.Faults.{IsFaultless}
 use Rattle.bq_graph.specs.Passes.{IsSound, Measured}
 use Rattle.bq_graph.specs.declared.cause.Cause.TheVariants.{Jump, NoExit, Unreached, Counters}
-use Rattle.bq_graph.proofs.SoundLemmas.{sound_graph}
 use Rattle.bq_graph.proofs.SpreadLemmas.{spread_begins}
 use Rattle.bq_graph.proofs.HeightLemmas.{heights_fall, heights_positive}
 use Rattle.bq_verify.specs.Control.{AreHeights, AreMade}

@@ -1,5 +1,5 @@
 -- What the pass knows before a slot covers every run that comes there.
-use Rattle.std.proofs.Common.{◌≡◌, ◌≢◌, ℕ, zero, suc, ◌+◌, ◌^◌, ◌<◌, ◌≤◌, Bool, true, false, List, [], ◌∷◌, ◌++◌, Option, Some, None, Box, Global, length, refl, arith, sym, ap, ◌∙◌, subst, zero-le, ◌⊎◌, inl, inr, ℤ}
+use Rattle.std.proofs.Common.{◌≡◌, ◌≢◌, ℕ, zero, suc, ◌+◌, ◌^◌, ◌<◌, ◌≤◌, Bool, true, false, List, [], ◌++◌, Option, Some, None, Box, Global, length, refl, arith, sym, ap, ◌∙◌, subst, zero-le, ◌⊎◌, inl, inr, ℤ}
 use Rattle.std.specs.Prelude.{slice_index_or}
 use Rattle.std.proofs.lemmas.Bool.Decides.{eqb_tells}
 use Rattle.bq_insn.specs.declared.Insn.{Insn}
@@ -9,12 +9,12 @@ use Rattle.bq_maps.specs.declared.board.Call.{Call as Asked}
 use Rattle.bq_maps.specs.Counters.{answer_of}
 use Rattle.bq_maps.specs.Memory.{Setting, State, Region, InContext, InStack, InEntry, Writes, written}
 use Rattle.bq_maps.specs.Arrays.{HaveShapes}
-use Rattle.bq_maps.specs.Machine.{Asks, Chain, Does, Helps, IsSetting, LeadsTo, Step, Takes, called, listed, start}
+use Rattle.bq_maps.specs.Machine.{Chain, Does, Helps, IsSetting, LeadsTo, Step, Takes, listed, start}
 use Rattle.bq_graph.specs.Edges.{IsEdge, IsStart, Leaves}
 use Rattle.bq_graph.specs.Passes.{IsSound}
 use Rattle.bq_views.specs.declared.view.View.{View}
 use Rattle.bq_views.specs.Views.{Covers}
-use Rattle.bq_verify.specs.Control.{IsIn, IsKnown, LeadsOn, PassesOn, WaitsBoxed}
+use Rattle.bq_verify.specs.Control.{IsKnown, LeadsOn, PassesOn}
 use Rattle.bq_verify.specs.KnownAt.{CoversRuns, RestIsCovered}
 use Rattle.bq_verify.proofs.ChainLemmas.{no_step, one_step}
 use Rattle.bq_verify.proofs.PassLemmas.{moved, no_view}

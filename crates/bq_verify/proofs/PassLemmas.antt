@@ -2,7 +2,7 @@
 use Rattle.std.proofs.Common.{◌≡◌, ◌≢◌, ℕ, zero, suc, ◌+◌, ◌^◌, ◌<◌, ◌≤◌, Bool, true, false, List, Option, Some, None, Box, Global, length, refl, arith, sym, ap, subst, zero-le, length-set, ◌⊎◌, inl, inr, ℤ}
 use Rattle.std.specs.Prelude.{slice_index, slice_index_or}
 use Rattle.std.proofs.lemmas.Bool.Decides.{eqb_tells}
-use Rattle.std.proofs.lemmas.List.{get_or_past, set-set}
+use Rattle.std.proofs.lemmas.List.{get_or_past}
 use Rattle.bq_insn.specs.declared.Insn.{Insn}
 use Rattle.bq_insn.specs.declared.Insn.TheVariants.{Goto, Goto32, Branch, Call, Exit}
 use Rattle.bq_insn.specs.declared.Width.{Width}
@@ -23,11 +23,12 @@ use Rattle.bq_graph.specs.Passes.{IsSound}
 use Rattle.bq_views.specs.declared.view.View.{View}
 use Rattle.bq_views.specs.declared.view.Known.{Known}
 use Rattle.bq_views.specs.declared.view.Kind.TheVariants.{Context, Stack}
-use Rattle.bq_views.specs.Views.{Covers, Suits, Carries, AsksFrom, Describes, Fits, knowing}
+use Rattle.bq_views.specs.Views.{Covers, Suits, Describes, knowing}
+use Rattle.bq_transfer.specs.Carries.{Carries, AsksFrom, IsStraight}
+use Rattle.bq_transfer.specs.Sides.{Fits}
 use Rattle.bq_verify.specs.Control.{IsAskingEdge, AreHeights, AreMade, EndsWithin, IsIn, WaitsBoxed, IsKnown, LeadsOn, Goes, PassesOn, RestIsSafe, IsOnSide, PartsTo}
-use Rattle.bq_views.specs.Views.{IsStraight}
 use Rattle.bq_views.proofs.MergeLemmas.{some_none}
-use Rattle.bq_views.proofs.PutLemmas.{covers_learn, found_at}
+use Rattle.bq_views.proofs.LearnLemmas.{covers_learn, found_at}
 use Rattle.bq_verify.proofs.ChainLemmas.{goes_well}
 
 pub Covers-at : (f : Setting) (v : View) (s : State) (slot : ℕ) → Covers f v s → Covers f v (record s { slot = slot })

@@ -15,14 +15,14 @@ use Rattle.bq_views.specs.declared.view.Kind.TheVariants.{Entry, EntryOrNull}
 use Rattle.bq_views.specs.declared.view.Known.{Known}
 use Rattle.bq_views.specs.declared.view.View.{View}
 use Rattle.bq_views.specs.Views.{knowing}
-use Rattle.bq_views.specs.Told.{HasLearnt, IsLasting}
+use Rattle.bq_views.specs.Told.{HasLearnt, IsLasting, IsCertain}
 use Rattle.bq_views.specs.Standing.{Scalar, Exact, Pointer, NoPointer, Stands, StandsAt, Fact, Never, AtRegister, IsSetAt, IsPlainAt, Has, Outlasts}
 use Rattle.bq_verify.specs.Ways.{HasOnSide, AfterTest, IsApartFrom}
-use Rattle.bq_views.specs.Sides.{IsNumberIfAny, IsTested, is_found}
-use Rattle.bq_views.specs.Ready.{IsCarried}
-use Rattle.bq_views.specs.After.{IsCertain, IsFoundSide, After}
+use Rattle.bq_transfer.specs.Sides.{IsNumberIfAny, IsTested, is_found}
+use Rattle.bq_transfer.specs.Ready.{IsCarried}
+use Rattle.bq_transfer.specs.After.{IsFoundSide, After}
 use Rattle.bq_views.proofs.MergeLemmas.{some_none}
-use Rattle.bq_views.proofs.StandingLemmas.{not_both, pointer_is, given_has, knowing_given}
+use Rattle.bq_transfer.proofs.StandingLemmas.{not_both, pointer_is, given_has, knowing_given}
 
 known_within : (xs : List (Option Known)) (r : ℕ) (k : Known) → Some k ≡ slice_index_or xs r None → (r < length xs) ⊎ (length xs ≤ r) → r < length xs
 known_within xs r k known (inl within) = within

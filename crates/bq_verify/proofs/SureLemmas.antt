@@ -28,9 +28,11 @@ use Rattle.bq_views.specs.declared.view.Kind.TheVariants.{Context, Stack, Entry,
 use Rattle.bq_views.specs.declared.view.View.{View}
 use Rattle.bq_views.specs.Standing.{Scalar, Exact, Pointer, NoPointer, StandsAt, Fact, Never, AtRegister, IsSetAt, IsPlainAt, Has, IsScalarOperand}
 use Rattle.bq_verify.specs.Ways.{HasWaiting, GoesOnSure}
-use Rattle.bq_views.specs.Ready.{IsAsking, IsAtMost, IsCopyOfFrame, IsLeftReady, IsMoveOfPointer, IsNamingEntry, IsPlaced, IsReadable, IsOnFrame, IsIntoEntry, IsReady, IsReadyToAsk, IsUpdating, size_of_shape}
-use Rattle.bq_views.specs.After.{GivesExact, GivesNumber, GivesPointer, IsNoTestOf, LeavesNumber, IsCertain, LeavesPointer, Spares, IsStackByte, StoresByte, After}
-use Rattle.bq_views.proofs.StandingLemmas.{exact_at_most}
+use Rattle.bq_transfer.specs.Ready.{IsAsking, IsAtMost, IsCopyOfFrame, IsLeftReady, IsMoveOfPointer, IsNamingEntry, IsPlaced, IsReadable, IsOnFrame, IsIntoEntry, IsReady, IsReadyToAsk, IsUpdating}
+use Rattle.bq_views.specs.Views.{size_of_shape}
+use Rattle.bq_transfer.specs.After.{GivesExact, GivesNumber, GivesPointer, IsNoTestOf, LeavesNumber, LeavesPointer, Spares, IsStackByte, StoresByte, After}
+use Rattle.bq_views.specs.Told.{IsCertain}
+use Rattle.bq_transfer.proofs.StandingLemmas.{exact_at_most}
 use Rattle.bq_verify.specs.Straight.{held_along, OnEachPath, is_register, writes, leaves, spares, loads, untouched, stores, always, never, IsWritten, IsStored, IsLoaded, IsContextLeft, IsWrittenOperand, IsWrittenLeft, IsOnStack, MakesPointer, LeavesPointerIn, IsPointerFrom, IsPointerAt, IsInEntry, IsGoodLoad, IsGoodStore, IsCopyOfEnd, IsMoveOnStack, IsNaming, IsGiving, IsCounting, Needs, IsStraightProgram}
 use Rattle.bq_verify.specs.Sure.{IsDue, IsSure}
 

@@ -16,7 +16,7 @@ use Rattle.bq_maps.specs.Machine.{IsOperand, instruction_at, Step, Ends, IsSetti
 use Rattle.bq_graph.specs.Edges.{Leaves, IsEdge, IsStart}
 use Rattle.bq_views.specs.declared.view.Known.{Known}
 use Rattle.bq_views.specs.declared.view.View.{View}
-use Rattle.bq_views.specs.Ready.{WritesBelowFrame}
+use Rattle.bq_transfer.specs.Ready.{WritesBelowFrame}
 use Rattle.bq_views.specs.Told.{IsTold}
 use Rattle.bq_views.specs.Views.{Covers}
 

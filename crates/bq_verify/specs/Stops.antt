@@ -3,9 +3,9 @@ use Rattle.std.specs.Prelude.{◌≡◌}
 use Rattle.bq_insn.specs.declared.Insn.{Insn}
 use Rattle.bq_graph.specs.declared.cause.Cause.TheVariants as cause
 use Rattle.bq_graph.specs.declared.cause.Cause.{Cause}
-use Rattle.bq_views.specs.Doubts.{MayDoubt}
-use Rattle.bq_views.specs.declared.view.Doubt.{Doubt}
-use Rattle.bq_views.specs.declared.view.Doubt.TheVariants.{Unset, Access, PointerUse, Argument, Answer}
+use Rattle.bq_transfer.specs.Doubts.{MayDoubt}
+use Rattle.bq_transfer.specs.declared.doubt.Doubt.{Doubt}
+use Rattle.bq_transfer.specs.declared.doubt.Doubt.TheVariants.{Unset, Access, PointerUse, Argument, Answer}
 use Rattle.bq_verify.specs.declared.stop.Stop.TheVariants as stop
 use Rattle.bq_verify.specs.declared.stop.Stop.TheVariants.{Doubted}
 use Rattle.bq_verify.specs.declared.stop.Stop.{Stop}

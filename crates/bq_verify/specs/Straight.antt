@@ -16,8 +16,8 @@ use Rattle.bq_maps.specs.Machine.{instruction_at}
 use Rattle.bq_graph.specs.Edges.{IsEdge}
 use Rattle.bq_graph.specs.Paths.{IsPath, end_of}
 use Rattle.bq_graph.specs.Faults.{IsFaultless, destination_of}
-use Rattle.bq_views.specs.Ready.{IsNullCheck}
-use Rattle.bq_views.specs.After.{IsFoundSide, IsStackByte, LeavesPointer}
+use Rattle.bq_transfer.specs.Ready.{IsNullCheck}
+use Rattle.bq_transfer.specs.After.{IsFoundSide, IsStackByte, LeavesPointer}
 use Rattle.bq_views.specs.declared.view.Kind.{Kind}
 use Rattle.bq_views.specs.declared.view.Kind.TheVariants.{Entry, EntryOrNull, Map, Stack}
 

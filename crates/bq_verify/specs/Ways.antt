@@ -4,7 +4,7 @@ use Rattle.std.specs.Prelude.{Bool, true, ◌≡◌, ◌≢◌, ℕ, ◌+◌, Li
 use Rattle.std.specs.declared.boxed.Box.{Box}
 use Rattle.bq_insn.specs.declared.Insn.{Insn}
 use Rattle.bq_graph.specs.Edges.{IsEdge}
-use Rattle.bq_views.specs.After.{After}
+use Rattle.bq_transfer.specs.After.{After}
 use Rattle.bq_views.specs.Standing.{Pointer, Fact, AtRegister, Has}
 use Rattle.bq_views.specs.Told.{HasLearnt, IsLasting}
 use Rattle.bq_views.specs.declared.view.Kind.TheVariants.{Entry}

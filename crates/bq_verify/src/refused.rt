@@ -5,14 +5,14 @@ ghost use Rattle.bq_insn.specs.declared.Insn.{Insn};
 ghost use Rattle.bq_maps.specs.Machine.{instruction_at};
 ghost use Rattle.bq_graph.specs.Faults.{place_of};
 ghost use Rattle.bq_verify.specs.Stops.{cause_for, IsWantOfMemory, MayCause, MayStop};
-ghost use Rattle.bq_views.specs.Doubts.{MayDoubt};
-ghost use Rattle.bq_views.specs.declared.view.Doubt.{Doubt as Missing};
+ghost use Rattle.bq_transfer.specs.Doubts.{MayDoubt};
+ghost use Rattle.bq_transfer.specs.declared.doubt.Doubt.{Doubt as Missing};
 ghost use Rattle.bq_verify.specs.declared.refused.Refused.TheVariants.{At};
 ghost use Rattle.bq_verify.specs.Refusals.{IsOutOfMemory, IsStopped};
 
 use crate::stop::Stop;
 use bq_graph::cause::Cause;
-use bq_views::view::Doubt;
+use bq_transfer::doubt::Doubt;
 use std::alloc::AllocError;
 
 /// Why a program is not accepted: a cause at a slot, or want of memory.

@@ -1,6 +1,6 @@
 // Why the pass stops.
 
-use bq_views::view::Doubt;
+use bq_transfer::doubt::Doubt;
 use std::alloc::AllocError;
 
 /// Why the pass stops at an instruction.

@@ -1,29 +1,23 @@
 -- Accesses by pointers that are known.
-use Rattle.std.proofs.Common.{◌≡◌, ℕ, zero, suc, ◌+◌, ◌*◌, ◌%◌, ◌^◌, ◌<◌, ◌≤◌, true, false, Bool, List, [], ◌∷◌, Option, Some, None, length, get_or, refl, arith, sym, ap, subst, ◌∙◌, ℤ}
+use Rattle.std.proofs.Common.{◌≡◌, ℕ, zero, suc, ◌+◌, ◌*◌, ◌%◌, ◌^◌, ◌<◌, ◌≤◌, true, false, List, [], ◌∷◌, Option, Some, None, length, get_or, refl, arith, sym, ap, subst, ◌∙◌, ℤ, set, pos}
 use Rattle.std.specs.Prelude.{slice_get, slice_index, slice_index_or}
 use Rattle.std.proofs.lemmas.Option.{slice_get-get_or}
 use Rattle.std.proofs.Math.Nat.{mul-le-mul_left, mul-le-mul, pow-suc}
-use Rattle.bq_insn.specs.declared.Insn.TheVariants.{Load}
-use Rattle.bq_insn.specs.declared.Size.{Size}
-use Rattle.bq_insn.specs.declared.Size.TheVariants.{Double}
-use Rattle.std.specs.Int.{byte_at as byte_of, bytes_low_first}
-use Rattle.bq_views.proofs.StoreLemmas.{low_at}
-use Rattle.bq_insn.specs.Meaning.{byte_count, word_of}
+use Rattle.std.specs.Int.{bytes_low_first}
+use Rattle.bq_insn.specs.Meaning.{word_of}
 use Rattle.bq_maps.specs.declared.shape.MapShape.{MapShape}
-use Rattle.bq_maps.specs.Memory.{Setting, State, Region, InContext, InStack, InEntry, Spans, IsEntry, IsGood, Reads, byte_at, number_of}
+use Rattle.bq_maps.specs.Memory.{Setting, State, Region, InContext, InEntry, Spans, IsEntry, IsGood, Reads, byte_at, number_of}
 use Rattle.bq_maps.specs.Arrays.{HaveShapes}
-use Rattle.bq_maps.specs.Machine.{loaded, Does, address_of, put}
+use Rattle.bq_maps.specs.Machine.{address_of}
 use Rattle.bq_ranges.specs.Within.{Within}
 use Rattle.bq_ranges.specs.declared.range.Range.{Range}
-use Rattle.bq_views.specs.Copies.{HasWord}
 use Rattle.bq_views.specs.declared.view.View.{View}
 use Rattle.bq_views.specs.declared.view.Known.{Known}
 use Rattle.bq_views.specs.declared.view.Kind.{Kind}
 use Rattle.bq_views.specs.declared.view.Kind.TheVariants.{Number, Context, Stack, Entry, EntryOrNull, Map}
-use Rattle.bq_views.specs.Views.{Describes, Covers, Keeps, Suits, IsEntryBase, IsOfKind, Bounds, FindsPlace}
+use Rattle.bq_views.specs.Views.{Covers, Suits, IsEntryBase, IsOfKind, Bounds, FindsBytes}
 use Rattle.bq_views.proofs.MergeLemmas.{some_same}
-use Rattle.bq_views.proofs.WordLemmas.{number_is}
-use Rattle.bq_views.proofs.PutLemmas.{found_at}
+use Rattle.bq_views.proofs.LearnLemmas.{found_at}
 
 -- bytes that are set make a list, and a number
 pub read_bytes : (at : ℕ → Option ℕ) (n : ℕ) → ((i : ℕ) → i < n → (b : ℕ) × (at i ≡ Some b) × (b < 256)) → (bytes : List ℕ) × (length bytes ≡ n) × ((i : ℕ) → i < n → at i ≡ Some (slice_index bytes i)) × (number_of bytes < 256 ^ n) × ((i : ℕ) → slice_index bytes i < 256)
@@ -97,35 +91,6 @@ region_byte shapes context_length f v s (Entry m) region base size i suits cover
 region_byte shapes context_length f v s (EntryOrNull m) region base size i suits covers is spans lt set = absurd is
 region_byte shapes context_length f v s (Map m) region base size i suits covers is spans lt set = absurd is
 
--- where an access by a pointer that stays inside its region goes
-pub place_gives : (shapes : List MapShape) (context_length : ℕ) (view : View) (size : Size) (src : ℕ) (off : ℤ) (base : Known) (bound : ℕ) (at : Range) → Some base ≡ slice_index_or view.registers src None → Bounds shapes context_length base.kind bound → bound ≤ 65536 → ((u : ℕ) → Within base.offset u → Within at ((u + word_of off) % 2 ^ 64)) → at.hi + byte_count size ≤ bound → FindsPlace shapes context_length view src off size base.kind at
-place_gives shapes context_length view size src off base bound at known bounds small moved inside f s suits covers =
-    let found = found_at f view s src base known covers in
-    let d = found.2 in
-    let region = bounds f d.base suits d.is_base in
-    let o : ℕ = (d.offset + word_of off) % 2 ^ 64 in
-    let within = moved d.offset d.within in
-    let stays : o + byte_count size ≤ bound = omega (arith, within, inside) in
-    let good = good_at f region.0 d.base bound found.0 d.offset (byte_count size) o off region.1 region.3 d.word_is refl small stays in
-    (found.0, region.0, o, found.1, good, region.2, within)
-
--- a read of a place whose bytes are set
-pub reads_place : (shapes : List MapShape) (context_length : ℕ) (view : View) (size : Size) (src : ℕ) (off : ℤ) (kind : Kind) (at : Range) → FindsPlace shapes context_length view src off size kind at → (kind ≡ Stack → (o i : ℕ) → Within at o → i < byte_count size → slice_index_or view.set (o + i) false ≡ true) → (f : Setting) (s : State) → Suits shapes context_length f → Covers f view s → (word : ℕ) × (bytes : List ℕ) × (s.register src ≡ Some word) × (length bytes ≡ byte_count size) × (r : Reads f s (address_of word off) bytes) × (number_of bytes < 256 ^ byte_count size) × IsOfKind kind r.region × Within at r.offset
-reads_place shapes context_length view size src off kind at finds set f s suits covers =
-    let found = finds f s suits covers in
-    let good = found.4 in
-    let bytes = read_bytes (λ i. byte_at f s found.1 (found.2 + i)) (byte_count size)
-    (λ i h. region_byte shapes context_length f view s kind found.1 good.base good.size (found.2 + i) suits covers found.5 good.spans (omega (arith, good.inside)) (λ stack. set stack found.2 i found.6 h)) in (
-      found.0,
-      bytes.0,
-      found.3,
-      bytes.1,
-      record { region = found.1; offset = found.2; good = rw bytes.1 good; set = λ i h. bytes.2 i (rw bytes.1 at h) },
-      bytes.3,
-      found.5,
-      found.6,
-    )
-
 -- a read by a pointer that stays inside its region
 pub reads_gives : (shapes : List MapShape) (context_length : ℕ) (view : View) (count : ℕ) (src : ℕ) (off : ℤ) (base : Known) (bound : ℕ) (at : Range) → Some base ≡ slice_index_or view.registers src None → Bounds shapes context_length base.kind bound → bound ≤ 65536 → ((u : ℕ) → Within base.offset u → Within at ((u + word_of off) % 2 ^ 64)) → at.hi + count ≤ bound → (base.kind ≡ Stack → (o i : ℕ) → Within at o → i < count → slice_index_or view.set (o + i) false ≡ true) → (f : Setting) (s : State) → Suits shapes context_length f → Covers f view s → (word : ℕ) × (bytes : List ℕ) × (s.register src ≡ Some word) × (length bytes ≡ count) × Reads f s (address_of word off) bytes × (number_of bytes < 256 ^ count) × (word < 2 ^ 64) × ((i : ℕ) → slice_index bytes i < 256)
 reads_gives shapes context_length view count src off base bound at known bounds small moved inside set f s suits covers =
@@ -148,51 +113,17 @@ reads_gives shapes context_length view count src off base bound at known bounds 
       bytes.4,
     )
 
--- a load of a place whose bytes are set
-pub load_gives : (shapes : List MapShape) (context_length : ℕ) (view : View) (size : Size) (signed : Bool) (dst src : ℕ) (off : ℤ) (kind : Kind) (at numbers : Range) → FindsPlace shapes context_length view src off size kind at → (kind ≡ Stack → (o i : ℕ) → Within at o → i < byte_count size → slice_index_or view.set (o + i) false ≡ true) → ((f : Setting) (s : State) (word : ℕ) (bytes : List ℕ) (r : Reads f s (address_of word off) bytes) → Covers f view s → length bytes ≡ byte_count size → number_of bytes < 256 ^ byte_count size → IsOfKind kind r.region → Within at r.offset → Within numbers (loaded size signed (number_of bytes))) → dst < 10 → (f : Setting) (s : State) → Suits shapes context_length f → Covers f view s → (n : ℕ) × Does f (Load size signed dst src off) s (put s 1 dst n) × Describes f.shapes (record { kind = Number; offset = numbers }) n
-load_gives shapes context_length view size signed dst src off kind at numbers finds set fits target f s suits covers =
-    let read = reads_place shapes context_length view size src off kind at finds set f s suits covers in
-    (loaded size signed (number_of read.1), (read.0, read.1, read.2, read.3, read.4, target, refl), number_is f.shapes numbers _ (fits f s read.0 read.1 read.4 covers read.3 read.5 read.6 read.7))
-
 -- the number of its own eight bytes
 pub number_of_word : (n : ℕ) → n < 2 ^ 64 → number_of (bytes_low_first 0 8 n) ≡ n
 number_of_word n small = omega arith
 
--- a word that is kept in a slot is there
-kept_word : (shapes : List MapShape) (k : Known) (s : State) (slot : ℕ) → (keeps : Keeps shapes (Some k) s.stack slot) → HasWord s (11 + slot) keeps.0
-kept_word shapes k s slot keeps = (
-  λ lt. absurd (let no : ⊥ = omega (arith, lt) in no),
-  λ j is.
-      let same : slot ≡ j = omega (arith, is) in
-      let d = keeps.1 in (
-        omega (arith, d.word_is),
-        subst (λ (m : ℕ). (i : ℕ) → i < 8 → s.stack (8 * m + i) ≡ Some (byte_of i keeps.0)) same keeps.2,
-      ),
-)
+word_at : (f : Setting) (s : State) (word : ℕ) (bytes : List ℕ) → word < 2 ^ 64 → Reads f s (address_of word (pos 0)) bytes → Reads f s word bytes
+word_at f s word bytes small reads = let same : (word + word_of (pos 0)) % 2 ^ 64 ≡ word = omega arith in subst (λ (a : ℕ). Reads f s a bytes) same reads
 
--- a load of a word that was stored whole
-pub kept_gives : (shapes : List MapShape) (context_length : ℕ) (view : View) (dst src : ℕ) (off : ℤ) (at : Range) (slot : ℕ) (k : Known) → FindsPlace shapes context_length view src off Double Stack at → at.lo ≡ at.hi → at.lo ≡ 8 * slot → slice_index_or view.kept slot None ≡ Some k → dst < 10 → (f : Setting) (s : State) → Suits shapes context_length f → Covers f view s → (n : ℕ) × Does f (Load Double false dst src off) s (put s 1 dst n) × Describes f.shapes k n × HasWord s (11 + slot) n
-kept_gives shapes context_length view dst src off at slot k finds single here there target f s suits covers =
-    let found = finds f s suits covers in
-    let same : found.2 ≡ 8 * slot = omega (arith, found.6) in
-    let keeps = subst (λ (v : Option Known). Keeps f.shapes v s.stack slot) there (covers.kept slot) in
-    let n : ℕ = keeps.0 in
-    let small : n < 2 ^ 64 = let d = keeps.1 in omega (arith, d.word_is) in
-    let bytes : List ℕ = bytes_low_first 0 8 n in
-    let stack = subst (λ (r : Region). IsGood f (address_of found.0 off) 8 r found.2) found.5 found.4 in
-    let is = number_of_word n small in (
-      n,
-      (found.0, bytes, found.3, refl, record { region = InStack; offset = found.2; good = stack; set = λ i h. rw same (keeps.2 i h ∙ ap Some (sym (low_at 0 8 n i h ∙ ap (λ (x : ℕ). byte_of x n) (omega arith)))) }, target, rw is refl),
-      keeps.1,
-      kept_word f.shapes k s slot keeps,
-    )
-
-pub kept_load : (shapes : List MapShape) (context_length : ℕ) (view : View) (size : Size) (signed : Bool) (dst src : ℕ) (off : ℤ) (kind : Kind) (at : Range) (k : Known) → FindsPlace shapes context_length view src off size kind at → (kind ≡ Stack) × (size ≡ Double) × (signed ≡ false) × (at.lo ≡ at.hi) × (slot : ℕ) × (slot < 64) × (at.lo ≡ 8 * slot) × (slice_index_or view.kept slot None ≡ Some k) → dst < 10 → (f : Setting) (s : State) → Suits shapes context_length f → Covers f view s → (n : ℕ) × Does f (Load size signed dst src off) s (put s 1 dst n) × Describes f.shapes k n × ((place : ℕ) → at.lo ≡ 8 * place → HasWord s (11 + place) n)
-kept_load shapes context_length view size signed dst src off kind at k finds (stack, double, plain, single, slot, inside, here, there) target f s suits covers =
-    let finds' : FindsPlace shapes context_length view src off Double Stack at = subst (λ (z : Size). FindsPlace shapes context_length view src off z Stack at) double (subst (λ (x : Kind). FindsPlace shapes context_length view src off size x at) stack finds) in
-    let given = kept_gives shapes context_length view dst src off at slot k finds' single here there target f s suits covers in (
-      given.0,
-      subst (λ (z : Size). Does f (Load z signed dst src off) s (put s 1 dst given.0)) (sym double) (subst (λ (b : Bool). Does f (Load Double b dst src off) s (put s 1 dst given.0)) (sym plain) given.1),
-      given.2,
-      λ place is. let same : slot ≡ place = omega (arith, here, is) in subst (λ (p : ℕ). HasWord s (11 + p) given.0) same given.3,
-    )
+-- a pointer that stays inside its region finds bytes
+pub finds_bytes : (shapes : List MapShape) (context_length : ℕ) (view : View) (count : ℕ) (src : ℕ) (base : Known) (bound : ℕ) → Some base ≡ slice_index_or view.registers src None → Bounds shapes context_length base.kind bound → bound ≤ 65536 → base.offset.hi + count ≤ bound → (base.kind ≡ Stack → (o i : ℕ) → Within base.offset o → i < count → slice_index_or view.set (o + i) false ≡ true) → FindsBytes shapes context_length view src count
+finds_bytes shapes context_length view count src base bound known bounds small inside set f s suits covers =
+    let fits = base.offset.fits in
+    let read = reads_gives shapes context_length view count src (pos 0) base bound base.offset known bounds small
+    (λ u w. let same : (u + word_of (pos 0)) % 2 ^ 64 ≡ u = omega (arith, w) in rw same w) inside set f s suits covers in
+    (read.0, read.1, read.2, read.3, word_at f s read.0 read.1 read.6 read.4, read.7)

@@ -1,13 +1,9 @@
 pub mod WordLemmas
-pub mod PutLemmas
+pub mod LearnLemmas
 pub mod MergeLemmas
-pub mod StandingLemmas
-pub mod PlaceLemmas
 pub mod AccessLemmas
-pub mod CallLemmas
 pub mod StoreLemmas
-pub mod WriteLemmas
-pub mod CounterLemmas
+pub mod StackLemmas
 pub mod CopyLemmas
 pub mod PartLemmas
 pub mod ToldLemmas

@@ -14,7 +14,7 @@ use Rattle.bq_views.specs.Standing.{Standing, Stands, NoPointer, Fact, Never, At
 use Rattle.bq_views.specs.Told.{HasLearnt, IsLasting, IsLastingWord, IsSharper}
 use Rattle.bq_views.specs.Views.{Covers, Describes, Holds, Keeps}
 use Rattle.bq_views.proofs.AccessLemmas.{number_of_word}
-use Rattle.bq_views.proofs.PutLemmas.{learn_at}
+use Rattle.bq_views.proofs.LearnLemmas.{learn_at}
 use Rattle.bq_views.proofs.WordLemmas.{word_fits}
 
 -- what is so of each word is so after one is written

@@ -1,17 +1,12 @@
 -- Words that are known.
-use Rattle.std.proofs.Common.{true, false, ◌≢◌, ◌⊎◌, inl, inr, ◌≡◌, ℕ, ◌+◌, ◌-◌, ◌%◌, ◌^◌, ◌<◌, List, refl, arith}
-use Rattle.bq_insn.specs.Meaning.{alu_result, operate, taken, compares}
-use Rattle.bq_insn.specs.declared.Width.TheVariants.{W32, W64}
-use Rattle.bq_insn.specs.declared.Operation.TheVariants as op
-use Rattle.bq_insn.specs.declared.Condition.TheVariants as cond
-use Rattle.std.proofs.lemmas.Bool.Decides.{nat_tests}
+use Rattle.std.proofs.Common.{◌≡◌, ℕ, ◌^◌, ◌<◌, List, refl, arith}
 use Rattle.bq_maps.specs.declared.shape.MapShape.{MapShape}
 use Rattle.bq_ranges.specs.Within.{Within}
 use Rattle.bq_ranges.specs.declared.range.Range.{Range}
 use Rattle.bq_views.specs.declared.view.Kind.{Kind}
-use Rattle.bq_views.specs.declared.view.Kind.TheVariants.{Number, Entry, EntryOrNull}
+use Rattle.bq_views.specs.declared.view.Kind.TheVariants.{Number}
 use Rattle.bq_views.specs.declared.view.Known.{Known}
-use Rattle.bq_views.specs.Views.{Describes, IsEntryBase}
+use Rattle.bq_views.specs.Views.{Describes}
 
 -- a number is itself in the range
 pub number_within : (shapes : List MapShape) (k : Known) (word : ℕ) → k.kind ≡ Number → Describes shapes k word → Within k.offset word
@@ -26,79 +21,8 @@ number_is shapes r word w =
     let fits = r.fits in
     record { base = 0; offset = word; is_base = refl; within = w; word_is = omega (arith, w) }
 
-pub moved_up : (shapes : List MapShape) (kind : Kind) (r t : Range) (x y : ℕ) (b : Range) → Describes shapes (record { kind = kind; offset = r }) x → Within b y → ((u v : ℕ) → Within r u → Within b v → Within t ((u + v) % 2 ^ 64)) → Describes shapes (record { kind = kind; offset = t }) (alu_result W64 op.Add x y)
-unfolding operate
-moved_up shapes kind r t x y b d w sums =
-    record { base = d.base; offset = (d.offset + y) % 2 ^ 64; is_base = d.is_base; within = sums d.offset y d.within w; word_is = omega (arith, d.word_is) }
-
-pub moved_down : (shapes : List MapShape) (kind : Kind) (r t : Range) (x y : ℕ) (b : Range) → Describes shapes (record { kind = kind; offset = r }) x → Within b y → ((u v : ℕ) → Within r u → Within b v → Within t ((u + (2 ^ 64 - v)) % 2 ^ 64)) → Describes shapes (record { kind = kind; offset = t }) (alu_result W64 op.Sub x y)
-unfolding operate
-moved_down shapes kind r t x y b d w differences =
-    let fits = b.fits in
-    record { base = d.base; offset = (d.offset + (2 ^ 64 - y)) % 2 ^ 64; is_base = d.is_base; within = differences d.offset y d.within w; word_is = omega (arith, d.word_is, w) }
-
-pub same_word : (x y : ℕ) → y < 2 ^ 64 → alu_result W64 op.Mov x y ≡ y
-unfolding operate
-same_word x y h = omega arith
-
-pub copied_word : (shapes : List MapShape) (k : Known) (x y : ℕ) → Describes shapes k y → Describes shapes k (alu_result W64 op.Mov x y)
-copied_word shapes k x y d = rw (same_word x y (omega (arith, d.word_is))) d
-
-pub left_is_free : (x y : ℕ) → alu_result W32 op.Mov x y ≡ alu_result W32 op.Mov y y
-unfolding operate
-left_is_free x y = refl
-
 pub wider : (shapes : List MapShape) (kind : Kind) (k : Known) (r : Range) (word : ℕ) → k.kind ≡ kind → ((x : ℕ) → Within k.offset x → Within r x) → Describes shapes k word → Describes shapes (record { kind = kind; offset = r }) word
 wider shapes kind k r word e more d = record { base = d.base; offset = d.offset; is_base = rw e at d.is_base; within = more d.offset d.within; word_is = d.word_is }
 
--- the number 0, as a look-up's result may be compared with it
-zero_word : (shapes : List MapShape) (k : Known) (b : ℕ) → k.kind ≡ Number → k.offset.hi ≡ 0 → Describes shapes k b → b ≡ 0
-zero_word shapes k b kind none d = let w = number_within shapes k b kind d in omega (arith, w)
-
--- a result that is 0
-pub null_side : (shapes : List MapShape) (k : Known) (a b : ℕ) → k.kind ≡ Number → k.offset.hi ≡ 0 → Describes shapes k b → a ≡ b → Describes shapes (record { kind = Number; offset = k.offset }) a
-null_side shapes k a b kind none d same = rw same (number_is shapes k.offset b (number_within shapes k b kind d))
-
--- a result that isn't
-pub entry_side : (shapes : List MapShape) (m : ℕ) (left right : Known) (a b : ℕ) → left.kind ≡ EntryOrNull m → left.offset.hi ≡ 0 → right.kind ≡ Number → right.offset.hi ≡ 0 → Describes shapes left a → Describes shapes right b → a ≢ b → Describes shapes (record { kind = Entry m; offset = left.offset }) a
-entry_side shapes m left right a b is whole kind none d e differ =
-    record {
-      base = d.base;
-      offset = d.offset;
-      is_base = choose (rw is at d.is_base);
-      within = d.within;
-      word_is = d.word_is;
-    }
-  where
-    choose : (d.base ≡ 0) ⊎ IsEntryBase shapes m d.base → IsEntryBase shapes m d.base
-    choose (inl zero_base) = absurd (differ (let w = d.within in omega (arith, d.word_is, zero_word shapes right b kind none e, w)))
-    choose (inr entry) = entry
-
-pub equal_true : (a b : ℕ) → a < 2 ^ 64 → b < 2 ^ 64 → taken W64 cond.Equal a b ≡ true → a ≡ b
-unfolding compares
-equal_true a b p q h = grind (arith, nat_tests)
-
-pub equal_false : (a b : ℕ) → a < 2 ^ 64 → b < 2 ^ 64 → taken W64 cond.Equal a b ≡ false → a ≢ b
-unfolding compares
-equal_false a b p q h = grind (arith, nat_tests)
-
-pub unequal_true : (a b : ℕ) → a < 2 ^ 64 → b < 2 ^ 64 → taken W64 cond.NotEqual a b ≡ true → a ≢ b
-unfolding compares
-unequal_true a b p q h = grind (arith, nat_tests)
-
-pub unequal_false : (a b : ℕ) → a < 2 ^ 64 → b < 2 ^ 64 → taken W64 cond.NotEqual a b ≡ false → a ≡ b
-unfolding compares
-unequal_false a b p q h = grind (arith, nat_tests)
-
 pub word_fits : (shapes : List MapShape) (k : Known) (a : ℕ) → Describes shapes k a → a < 2 ^ 64
 word_fits shapes k a d = omega (arith, d.word_is)
-
--- a sum may be turned
-pub sum_turned : (x y : ℕ) → alu_result W64 op.Add x y ≡ alu_result W64 op.Add y x
-unfolding operate
-sum_turned x y = omega arith
-
--- a copy of the low half of a word that has no other
-pub same_half : (n : ℕ) → n < 2 ^ 32 → alu_result W32 op.Mov 0 n ≡ n
-unfolding operate
-same_half n h = omega arith

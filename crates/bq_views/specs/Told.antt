@@ -1,17 +1,20 @@
 -- What a branch tells of its operands, and of the places that hold the same words.
 use Rattle.std.specs.Prelude.{◌≡◌, ℕ, List, Option, Some, None, slice_set}
-use Rattle.bq_insn.specs.Meaning.{alu_result}
-use Rattle.bq_insn.specs.declared.Operation.TheVariants.{Mov}
-use Rattle.bq_insn.specs.declared.Width.{Width}
 use Rattle.bq_insn.specs.declared.Source.{Source}
 use Rattle.bq_insn.specs.declared.Source.TheVariants.{Reg}
 use Rattle.bq_maps.specs.declared.shape.MapShape.{MapShape}
 use Rattle.bq_maps.specs.Memory.{Setting, State}
 use Rattle.bq_views.specs.declared.view.Known.{Known}
 use Rattle.bq_views.specs.declared.view.View.{View}
-use Rattle.bq_views.specs.After.{IsCertain}
 use Rattle.bq_views.specs.Standing.{Standing, Pointer, Fact, AtRegister, Has}
 use Rattle.bq_views.specs.Views.{Describes}
+use Rattle.bq_views.specs.declared.view.Kind.TheVariants.{EntryOrNull}
+use Rattle.bq_views.specs.declared.view.Kind.{Kind}
+
+-- a pointer of the kind is not told apart by a test
+abbrev pub IsCertain : Kind → Type 0
+IsCertain (EntryOrNull m) = ⊥
+IsCertain kind = Unit {0}
 
 -- what stays sure of a word of which more is told: all but an answer of a look-up, which becomes an entry or 0
 abbrev pub IsLastingWord : Standing → Type 0
@@ -31,14 +34,6 @@ abbrev pub IsSharper : Known → Option Known → Option Known → Type 0
 IsSharper told old None = Unit {0}
 IsSharper told None (Some new) = ⊥
 IsSharper told (Some old) (Some new) = (shapes : List MapShape) (n : ℕ) → Describes shapes told n → Describes shapes old n → Describes shapes new n
-
--- the register got what a MOV of that width makes of another one, which is described so
-pub record IsCopied (s : State) (dst r : ℕ) (width : Width) (k : Known) : Type 0 where
-  pub shapes : List MapShape
-  pub word : ℕ
-  pub from_is : s.register r ≡ Some word
-  pub described : Describes shapes k word
-  pub to_is : s.register dst ≡ Some (alu_result width Mov 0 word)
 
 -- both operands are as told
 pub record IsTold (f : Setting) (s : State) (dst : ℕ) (src : Source) (left right : Known) : Type 0 where

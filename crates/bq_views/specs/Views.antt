@@ -1,22 +1,13 @@
 -- The states that a view speaks of.
-use Rattle.std.specs.Prelude.{Bool, ◌≡◌, ℕ, ℤ, ◌+◌, ◌*◌, ◌%◌, ◌^◌, ◌<◌, ◌≤◌, true, false, List, Option, Some, None, length, slice_get, slice_set, slice_index, slice_index_or, ◌⊎◌}
+use Rattle.std.specs.Prelude.{Bool, ◌≡◌, ℕ, ◌+◌, ◌*◌, ◌%◌, ◌^◌, ◌<◌, ◌≤◌, true, false, List, Option, Some, None, length, slice_get, slice_set, slice_index, slice_index_or, ◌⊎◌}
 use Rattle.std.specs.Int.{byte_at}
-use Rattle.bq_insn.specs.declared.Insn.{Insn}
-use Rattle.bq_insn.specs.Slots.{slots_of}
-use Rattle.bq_insn.specs.declared.Size.{Size}
-use Rattle.bq_insn.specs.declared.Size.TheVariants.{Double}
-use Rattle.bq_insn.specs.Meaning.{byte_count}
-use Rattle.bq_graph.specs.Edges.{Leaves}
 use Rattle.bq_maps.specs.declared.shape.MapShape.{MapShape}
-use Rattle.bq_maps.specs.Memory.{Setting, State, Region, Reads, InContext, InStack, InEntry, Spans, IsEntry, IsGood, Writes, reference, values_base, context_base, stack_base}
-use Rattle.bq_maps.specs.declared.board.Call.{Call as Asked}
-use Rattle.bq_maps.specs.Counters.{answer_of}
+use Rattle.bq_maps.specs.Memory.{Setting, State, Region, Reads, InContext, InStack, InEntry, Spans, IsEntry, reference, values_base, context_base, stack_base}
 use Rattle.bq_maps.specs.Arrays.{HaveShapes}
-use Rattle.bq_maps.specs.Machine.{Does, IsOperand, Asks, called, address_of, low_bytes, next}
+use Rattle.bq_maps.specs.Machine.{IsOperand}
 use Rattle.bq_insn.specs.declared.Source.{Source}
 use Rattle.bq_ranges.specs.Within.{Within}
-use Rattle.bq_ranges.specs.declared.range.Range.{Range}
-use Rattle.bq_views.specs.Copies.{AreCopies, HasWord}
+use Rattle.bq_views.specs.Copies.{AreCopies}
 use Rattle.bq_views.specs.Parts.{HaveParts}
 use Rattle.bq_views.specs.declared.view.Kind.{Kind}
 use Rattle.bq_views.specs.declared.view.Kind.TheVariants.{Number, Context, Stack, Entry, EntryOrNull, Map}
@@ -74,24 +65,6 @@ pub record Suits (shapes : List MapShape) (context_length : ℕ) (f : Setting) :
   pub now_fits : f.now < 2 ^ 64
   pub processor_fits : f.processor < 2 ^ 32
 
--- from every state of the old view the instruction has a step, to a state of the new one at the next slot
-abbrev pub Carries : List MapShape → ℕ → Insn → View → View → Type 0
-Carries shapes context_length insn old new =
-    (f : Setting) (s : State) → Suits shapes context_length f → Covers f old s → (t : State) × Does f insn s t × Covers f new t × (t.slot ≡ s.slot + slots_of insn)
-
--- in every state of the old view the instruction calls a counter, and whatever the answer is, the new view is right after it
-abbrev pub AsksFrom : Insn → View → View → Type 0
-AsksFrom insn old new =
-    (f : Setting) (s : State) (x : ℕ) → Covers f old s → x < 2 ^ 64 → (c : Asked) × (answer_of c ≡ x) × Asks insn s c × Covers f new (called s x)
-
--- in every state of the view the register is set, and is below that number
-abbrev pub IsBelow : View → ℕ → ℕ → Type 0
-IsBelow view r bound = (f : Setting) (s : State) → Covers f view s → (n : ℕ) × (s.register r ≡ Some n) × (n < bound)
-
--- in every state of the view the register is set, to a number of the range
-abbrev pub HoldsNumber : View → ℕ → Range → Type 0
-HoldsNumber view r range = (f : Setting) (s : State) → Covers f view s → (n : ℕ) × (s.register r ≡ Some n) × Within range n
-
 -- in every state of the view the operand is set, and is such a word
 abbrev pub Finds : View → Source → Known → Type 0
 Finds v src k = (f : Setting) (s : State) → Covers f v s → (b : ℕ) × IsOperand s src b × Describes f.shapes k b
@@ -105,11 +78,6 @@ abbrev pub Allows : Option Known → Option Known → Type 0
 Allows old None = Unit {0}
 Allows None (Some new) = ⊥
 Allows (Some old) (Some new) = (shapes : List MapShape) (word : ℕ) → Describes shapes old word → Describes shapes new word
-
--- there is such a known word, and it is right
-abbrev pub Fits : List MapShape → Option Known → ℕ → Type 0
-Fits shapes None word = ⊥
-Fits shapes (Some k) word = Describes shapes k word
 
 -- the regions that a pointer of the kind is into
 abbrev pub IsOfKind : Kind → Region → Type 0
@@ -142,25 +110,17 @@ Marks old new from to = (i : ℕ) → slice_index_or new i false ≡ true → ((
 abbrev pub Forgets : List (Option Known) → List (Option Known) → ℕ → ℕ → Type 0
 Forgets old new from to = (j : ℕ) → (slice_index_or new j None ≡ None) ⊎ ((slice_index_or new j None ≡ slice_index_or old j None) × ((8 * j + 8 ≤ from) ⊎ (to ≤ 8 * j)))
 
--- in every state of the view the access is good: the region is of that kind, and the offset in the range
-abbrev pub FindsPlace : List MapShape → ℕ → View → ℕ → ℤ → Size → Kind → Range → Type 0
-FindsPlace shapes context_length view r off size kind at =
-    (f : Setting) (s : State) → Suits shapes context_length f → Covers f view s → (word : ℕ) × (region : Region) × (o : ℕ) × (s.register r ≡ Some word) × IsGood f (address_of word off) (byte_count size) region o × IsOfKind kind region × Within at o
-
 -- the known word in a slot of eight bytes
 abbrev pub keeping : View → ℕ → Known → View
 keeping v slot k = record v { kept = slice_set v.kept slot (Some k) }
 
--- the eight bytes of that slot of the stack
-abbrev pub IsWholeSlot : Range → Size → ℕ → Type 0
-IsWholeSlot at size slot = (slot < 64) × (size ≡ Double) × (at.lo ≡ 8 * slot) × (at.hi ≡ 8 * slot)
+-- how many bytes there are where a pointer of the kind points to
+abbrev pub size_of_shape : Option MapShape → Option ℕ
+size_of_shape None = None
+size_of_shape (Some shape) = Some shape.value_size
 
--- from every state of the old view the low bytes of such a word can be written there, which leads to a state of the new one, where the slot, if there is one, has the word
-abbrev pub Stores : List MapShape → ℕ → ℕ → ℤ → Size → Known → View → View → Option ℕ → Type 0
-Stores shapes context_length dst off size k old new slot =
-    (f : Setting) (s : State) (v : ℕ) → Suits shapes context_length f → Covers f old s → Describes f.shapes k v
-    → (a : ℕ) × (u : State) × (s.register dst ≡ Some a) × Writes f s (address_of a off) (low_bytes size v) u × Covers f new (next u) × (u.slot ≡ s.slot) × (u.register ≡ s.register) × ((n : ℕ) → slot ≡ Some n → HasWord u (11 + n) v)
-
--- control only goes on to the next instruction
-abbrev pub IsStraight : Insn → Type 0
-IsStraight insn = (slot : ℕ) → Leaves insn slot (slot + slots_of insn)
+abbrev pub bound_of : List MapShape → ℕ → Kind → Option ℕ
+bound_of shapes context Context = Some context
+bound_of shapes context Stack = Some 512
+bound_of shapes context (Entry m) = size_of_shape (slice_get shapes m)
+bound_of shapes context _ = None

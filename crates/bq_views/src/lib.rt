@@ -1,22 +1,15 @@
-//! What is known of registers and stack, and what one instruction does to it.
+//! What is known of registers and stack before an instruction: the verifier's abstract state.
 //!
-//! A `View` speaks of machine states. `carry` and `ask` take it over an instruction, `side` says what a branch leaves
-//! of an operand, `merge` joins two: each new view covers every state that the machine comes to. Where views come
-//! from and go to is the verifier's, above this layer.
+//! A `View` speaks of machine states (`specs/Views.antt`, `Covers`). Here it is read, written and forgotten in part, told
+//! more of by a branch, and joined with another: each function says of which states the view that it leaves is right. What
+//! an instruction does to a view stands above this layer, in `bq_transfer`.
 #![tactic(auto)]
 
-mod alu;
-mod calls;
-pub mod carry;
-mod copies;
-pub mod counters;
-mod loads;
+pub mod copies;
 pub mod merge;
-mod moves;
-mod parts;
-mod places;
+pub mod parts;
+pub mod places;
 pub mod registers;
-pub mod sides;
-mod stores;
+pub mod stack;
 pub mod told;
 pub mod view;

@@ -1,6 +1,6 @@
 // Numbers that are stored in a few bytes of the stack.
 
-ghost use Rattle.std.specs.Prelude.{◌≡◌, ◌+◌, ◌^◌, ◌<◌, ◌≤◌, ℕ, Some, None, List, Option, length, slice_index, slice_index_or};
+ghost use Rattle.std.specs.Prelude.{◌≡◌, ◌+◌, ◌^◌, ◌<◌, ℕ, Some, None, List, Option, length, slice_index_or};
 ghost use Rattle.bq_insn.specs.Meaning.{byte_count};
 ghost use Rattle.bq_maps.specs.Machine.{low_bytes};
 ghost use Rattle.bq_maps.specs.Memory.{number_of};

@@ -1,76 +1,19 @@
-// Where an access by a register goes, and what may be read there.
+// How far a pointer reaches, and what may be read there.
 
-ghost use Rattle.std.specs.Prelude.{Some, ◌↔◌, ◌≡◌, ◌+◌, ◌^◌, ◌<◌, ◌≤◌, ℕ, IsTrue, IsOk, length, IfSome, false, true, slice_get, slice_index_or, IfErr, IfOk, None};
-ghost use Rattle.bq_insn.specs.Meaning.{byte_count, word_of};
+ghost use Rattle.std.specs.Prelude.{Some, ◌↔◌, ◌≡◌, ◌+◌, ◌^◌, ◌<◌, ◌≤◌, ℕ, IsTrue, length, IfSome, false, true, slice_get, slice_index_or, None};
+ghost use Rattle.bq_insn.specs.Meaning.{byte_count};
 ghost use Rattle.bq_ranges.specs.Within.{Within};
-ghost use Rattle.bq_insn.specs.declared.Insn.{Insn};
-ghost use Rattle.bq_views.specs.Doubts.{IsAccess, MayDoubt, ReadsOperand};
 ghost use Rattle.bq_views.specs.Standing.{Pointer, StandsAt};
-ghost use Rattle.bq_views.specs.Ready.{IsPlaced, bound_of};
-ghost use Rattle.bq_views.specs.declared.view.Kind.{Kind as Base};
-ghost use Rattle.bq_views.specs.Views.{Bounds, FindsBytes, FindsPlace};
+ghost use Rattle.bq_views.specs.Views.{bound_of, Bounds, FindsBytes};
 
 use crate::registers::known;
-use crate::view::{Doubt, Kind, View};
-use bq_insn::{Operation, Size, Width};
+use crate::view::{Kind, View};
+use bq_insn::Size;
 use bq_maps::shape::MapShape;
-use bq_ranges::{Range, arithmetic};
-
-/// Where an access goes: what the pointer counts from, and the offsets from there.
-#[derive(Clone, Copy, Debug)]
-pub struct Location {
-    pub kind: Kind,
-    pub at: Range,
-}
-
-/// Where an access by a register goes, if it stays inside.
-pub fn locate(
-    view: &View,
-    shapes: &[MapShape],
-    context: usize,
-    size: Size,
-    register: u8,
-    off: i16,
-) -> Result<Location, Doubt>
-    requires context { context < 2 ^ 16 }
-    ensures finds { IfOk result (λ p. FindsPlace shapes.now context view.now register off size p.kind p.at) }
-    ensures doubts { IfErr result (λ doubt. (insn : Insn) → IsAccess insn → ReadsOperand insn → MayDoubt doubt insn) }
-    ensures accepts { (kind : Base) (place : ℕ) → IsPlaced shapes.now context view.now size register off kind place → IsOk result }
-    ensures there { IfOk result (λ p. (kind : Base) (place : ℕ) → IsPlaced shapes.now context view.now size register off kind place → (p.kind ≡ kind) × (p.at.lo ≡ place) × (p.at.hi ≡ place)) }
-{
-    let Some(base) = known(view, register) else {
-        return Err(Doubt::Unset);
-    };
-    let Some(bound) = bound(base.kind, shapes, context) else {
-        return Err(Doubt::Access);
-    };
-    let at = arithmetic::alu(
-        Width::W64,
-        Operation::Add,
-        base.offset,
-        Range::single(word_of_distance(off)),
-    );
-    if bound > 0x1_0000 {
-        return Err(Doubt::Access);
-    }
-    if !stays(at, size, bound) {
-        return Err(Doubt::Access);
-    }
-    Ok(Location {
-        kind: base.kind,
-        at,
-    })
-}
-
-/// The word of a distance.
-fn word_of_distance(off: i16) -> u64
-    ensures { result ≡ word_of off }
-{
-    i64::from(off).cast_unsigned()
-}
+use bq_ranges::Range;
 
 /// How many bytes there are where a pointer of the kind points to, if it may be followed.
-fn bound(kind: Kind, shapes: &[MapShape], context: usize) -> Option<usize>
+pub fn bound(kind: Kind, shapes: &[MapShape], context: usize) -> Option<usize>
     ensures bounds { IfSome result (Bounds shapes.now context kind) }
     ensures is { result ≡ bound_of shapes.now context kind }
     ensures small { context < 2 ^ 16 → IfSome result (λ bytes. bytes ≤ 65536) }

@@ -1,9 +1,9 @@
 // Registers of a view.
 
-ghost use Rattle.std.specs.Prelude.{◌≡◌, ◌<◌, ℕ, ℤ, None, IfSome, slice_index_or};
+ghost use Rattle.std.specs.Prelude.{◌≡◌, ◌<◌, ℕ, ℤ, None, IfSome, length, slice_index_or};
 ghost use Rattle.bq_insn.specs.Meaning.{word_of};
 ghost use Rattle.bq_views.specs.Standing.{IsScalarOperand, IsWord, Scalar, Stands};
-ghost use Rattle.bq_views.specs.Views.{Finds, knowing};
+ghost use Rattle.bq_views.specs.Views.{Clears, Finds, knowing};
 
 use crate::view::{Kind, Known, View};
 use bq_insn::Source;
@@ -42,8 +42,19 @@ pub fn known(view: &View, register: u8) -> Option<Known>
 /// Writes what is known of a register.
 pub fn learn(view: &mut View, register: u8, word: Known)
     requires { register < 11 }
-    ensures { view.new ≡ knowing view.old register word }
+    ensures is { view.new ≡ knowing view.old register word }
+    ensures long { length view.old.registers ≡ 11 }
 {
     view.registers[usize::from(register)] = Some(word);
     view.classes[usize::from(register)] = 0;
+}
+
+/// Registers 1 to 5 are forgotten, as after a call.
+pub fn clear(registers: &mut [Option<Known>])
+    requires { length registers.old ≡ 11 }
+    ensures { Clears registers.old registers.new }
+{
+    for register in 1..6 {
+        registers[register] = None;
+    }
 }

@@ -1,19 +1,54 @@
 //! The jobs of bq_cli: `asm`, `check`, `dis`, `par` and `replay`.
 
-use crate::inputs::standard_input;
+use crate::inputs::{file_named, unread, whole_input};
+use crate::outputs::{out_of_memory, written};
 use bq_cli::asked::Job;
 use bq_cli::{Counted, exit_status, perform};
 use bq_complaints::complaint;
+use bq_policy_commands::{AsmRefusal, asm_refusal};
+use std::fs;
 use std::io::{IsTerminal, Read};
 use std::process::ExitCode;
 use std::sync::Wait;
 use std::thread::Threads;
 
-/// Does a job on standard input.
-pub(crate) fn work<T: Threads + Wait + Sync>(rt: &HostRuntime, threads: &T, job: &Job) -> ExitCode {
+/// The exit status where a text is refused.
+const REFUSED_TEXT: u8 = 1;
+
+/// Does a job on the file that is named, or on standard input.
+pub(crate) fn work<T: Threads + Wait + Sync>(
+    rt: &HostRuntime,
+    threads: &T,
+    job: &Job,
+    file: &Option<String>,
+) -> ExitCode {
     match job {
-        Job::Asm(_) => assemble(rt, threads, job),
-        Job::Replay => {
+        Job::Asm(options) => match whole_input(rt, file) {
+            Ok(text) => match asm_refusal(rt.alloc(), options, text.as_slice()) {
+                Ok(None) => assemble(rt, threads, job, text.as_slice()),
+                Ok(Some(refusal)) => refuse(rt, &refusal),
+                Err(_) => out_of_memory(rt),
+            },
+            Err(code) => code,
+        },
+        Job::Replay => replay(rt, threads, job, file),
+        _ => work_on(rt, threads, job, rt.stdin()),
+    }
+}
+
+/// Replays a trace. On a terminal it says that it waits.
+fn replay<T: Threads + Wait + Sync>(
+    rt: &HostRuntime,
+    threads: &T,
+    job: &Job,
+    file: &Option<String>,
+) -> ExitCode {
+    match file_named(file) {
+        Some(path) => match fs::open(rt, path) {
+            Ok(trace) => work_on(rt, threads, job, trace),
+            Err(error) => unread(rt, path, &error),
+        },
+        None => {
             let input = rt.stdin();
             if input.is_terminal() {
                 let _ = eprintln!(rt;
@@ -22,7 +57,6 @@ pub(crate) fn work<T: Threads + Wait + Sync>(rt: &HostRuntime, threads: &T, job:
             }
             work_on(rt, threads, job, input)
         }
-        _ => work_on(rt, threads, job, rt.stdin()),
     }
 }
 
@@ -42,14 +76,22 @@ fn work_on<T: Threads + Wait + Sync, R: Read + Drop>(
     ExitCode::from(exit_status(&outcome))
 }
 
-/// Assembles standard input, and says beside the answer what is wrong with it.
-fn assemble<T: Threads + Wait + Sync>(rt: &HostRuntime, threads: &T, job: &Job) -> ExitCode {
-    let text = match standard_input(rt) {
-        Ok(text) => text,
-        Err(code) => return code,
-    };
-    let code = work_on(rt, threads, job, text.as_slice());
-    if let Ok(Some(why)) = complaint(rt.alloc(), text.as_slice()) {
+/// Refuses words that say another thing than the marks of the text.
+fn refuse(rt: &HostRuntime, refusal: &AsmRefusal) -> ExitCode {
+    let reason = &refusal.reason;
+    let _ = eprintln!(rt; "bqsim: {reason}");
+    written(rt, refusal.line.as_str(), ExitCode::from(REFUSED_TEXT))
+}
+
+/// Assembles a text, and says beside the answer what is wrong with it.
+fn assemble<T: Threads + Wait + Sync>(
+    rt: &HostRuntime,
+    threads: &T,
+    job: &Job,
+    text: &[u8],
+) -> ExitCode {
+    let code = work_on(rt, threads, job, text);
+    if let Ok(Some(why)) = complaint(rt.alloc(), text) {
         let _ = eprint!(rt; "bqsim: {why}");
     }
     code

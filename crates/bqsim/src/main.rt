@@ -31,7 +31,7 @@ fn main(rt: HostRuntime) -> ExitCode {
 /// Does what is asked for.
 fn done<T: Threads + Wait + Sync>(rt: &HostRuntime, threads: &T, request: &Request) -> ExitCode {
     match request {
-        Request::Job(job) => jobs::work(rt, threads, job),
+        Request::Job(job, file) => jobs::work(rt, threads, job, file),
         Request::Timeline(words) => timeline::timeline(rt, words),
         Request::Simulate(words) => simulate::simulate(rt, words),
         Request::Import(words) => import::import(rt, words),

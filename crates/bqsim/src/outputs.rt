@@ -7,9 +7,14 @@ use std::process::ExitCode;
 
 /// Writes an answer to standard output.
 pub(crate) fn write_out(rt: &HostRuntime, text: &str) -> ExitCode {
+    written(rt, text, ExitCode::SUCCESS)
+}
+
+/// Writes an answer to standard output, and ends so where that is done.
+pub(crate) fn written(rt: &HostRuntime, text: &str, code: ExitCode) -> ExitCode {
     let mut output = rt.stdout();
     match output.write_all(text.as_bytes()) {
-        Ok(()) => ExitCode::SUCCESS,
+        Ok(()) => code,
         Err(error) => {
             let _ = eprintln!(rt; "bqsim: a write failed: {error}");
             ExitCode::from(UNREADABLE)

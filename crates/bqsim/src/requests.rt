@@ -12,7 +12,8 @@ use std::io::ErrorKind;
 /// What the program is asked to do.
 #[derive(Drop)]
 pub(crate) enum Request {
-    Job(Job),
+    /// A job, on the file that the words name or on standard input.
+    Job(Job, Option<String>),
     Timeline(Words),
     Simulate(StudyWords),
     Import(bq_import_command::Words),
@@ -56,7 +57,48 @@ fn request_of<'a>(alloc: Global, words: &'a [&'a str]) -> Result<Request, JobFau
         ["help", "timeline"] => timeline_words(alloc, &["--help"]),
         ["help", "simulate"] => simulate_words(alloc, &["--help"]),
         ["help", "import"] => import_words(alloc, &["--help"]),
-        all => Ok(Request::Job(job(alloc, all)?)),
+        all => job_words(alloc, all),
+    }
+}
+
+/// What the words of the other commands ask for. `asm` and `replay` may name a file, first or last.
+fn job_words(alloc: Global, words: &[&str]) -> Result<Request, JobFault> {
+    let place = file_place(words);
+    let mut file = None;
+    let mut others = Vec::new(alloc);
+    for (at, word) in words.iter().enumerate() {
+        if place == Some(at) {
+            file = Some(String::from_str(alloc, *word)?);
+        } else {
+            others.push(*word)?;
+        }
+    }
+    let job = job(alloc, others.as_slice())?;
+    Ok(Request::Job(job, file))
+}
+
+/// Where a file stands among the words, if there is one.
+fn file_place(words: &[&str]) -> Option<usize> {
+    match words {
+        ["asm" | "replay", rest @ ..] => match rest {
+            [first, ..] if is_file(first) => Some(1),
+            [.., option, last] if is_file(last) && !takes_value(option) => Some(rest.len()),
+            _ => None,
+        },
+        _ => None,
+    }
+}
+
+/// Whether a word names a file: it is no option; `-` is standard input.
+fn is_file(word: &str) -> bool {
+    word == "-" || !word.starts_with('-')
+}
+
+/// Whether the word after this one is its value.
+fn takes_value(option: &str) -> bool {
+    match option {
+        "--hook" | "--maps" | "--format" => true,
+        _ => false,
     }
 }
 

@@ -4,11 +4,13 @@ use crate::inputs::{name_of, whole_file, whole_input};
 use crate::outputs::{out_of_memory, write_out};
 use bq_actions::Workload;
 use bq_cli::status::REFUSED;
+use bq_comparison::{Comparing, SeedsFault, asked_comparison, compare, lines, written};
 use bq_core::Hook;
 use bq_simulate::SimulateFault;
 use bq_study::{Asked, AskedFault, Policies, PolicyFault, StudyWords, asked_changes, run_as};
 use bq_timeline::SettingsFault;
 use bq_workload::{Changes, Fault, read};
+use std::alloc::Global;
 use std::process::ExitCode;
 use std::str::from_utf8;
 
@@ -25,6 +27,10 @@ pub(crate) fn simulate(rt: &HostRuntime, words: &StudyWords) -> ExitCode {
 
 /// The same, where the error is the exit status of what was refused.
 fn simulated(rt: &HostRuntime, words: &StudyWords) -> Result<ExitCode, ExitCode> {
+    let compared = asked_comparison(rt.alloc(), words).map_err(|fault| refused(rt, fault))?;
+    if let Some(asked) = compared {
+        return side_by_side(rt, words, &asked);
+    }
     let asked = Asked::of(rt.alloc(), words).map_err(|fault| refused(rt, fault))?;
     let changes = asked_changes(words).map_err(|fault| refused(rt, fault))?;
     let workload = workload(rt, words, changes)?;
@@ -41,6 +47,55 @@ fn simulated(rt: &HostRuntime, words: &StudyWords) -> Result<ExitCode, ExitCode>
             Err(ExitCode::from(BAD_INPUT))
         }
     }
+}
+
+/// Runs it with several seeds, or beside other policies.
+fn side_by_side(
+    rt: &HostRuntime,
+    words: &StudyWords,
+    asked: &Comparing,
+) -> Result<ExitCode, ExitCode> {
+    let changes = asked_changes(words).map_err(|fault| refused(rt, fault))?;
+    let mut workload = workload(rt, words, changes)?;
+    let ours = policies(rt, words)?;
+    let others = others(rt, words)?;
+    match tabled(rt.alloc(), &mut workload, &ours, others.as_ref(), asked) {
+        Ok(text) => Ok(write_out(rt, text.as_str())),
+        Err(SeedsFault::OutOfMemory) => Err(out_of_memory(rt)),
+        Err(fault) => {
+            let _ = eprintln!(rt; "bqsim: {fault}");
+            Err(ExitCode::from(BAD_INPUT))
+        }
+    }
+}
+
+/// The table of the figures on both sides.
+fn tabled(
+    alloc: Global,
+    workload: &mut Workload,
+    ours: &Policies,
+    others: Option<&Policies>,
+    asked: &Comparing,
+) -> Result<String, SeedsFault> {
+    let sides = compare(alloc, workload, ours, others, asked.seeds)?;
+    let lines = lines(alloc, &sides, &asked.window)?;
+    Ok(written(alloc, workload, lines.as_slice(), asked.form)?)
+}
+
+/// The policies that the words compare with, if they compare; `none` adds none.
+fn others(rt: &HostRuntime, words: &StudyWords) -> Result<Option<Policies>, ExitCode> {
+    if words.against.is_empty() {
+        return Ok(None);
+    }
+    let mut policies = Policies::new(rt.alloc());
+    for path in &words.against {
+        if path.as_str() != "none" {
+            let bytes = whole_file(rt, path.as_str())?;
+            let taken = policies.add_as_said(rt.alloc(), bytes.as_slice());
+            told(rt, path.as_str(), taken)?;
+        }
+    }
+    Ok(Some(policies))
 }
 
 /// Says what is wrong with the words.
@@ -93,7 +148,13 @@ fn add(
         return Ok(());
     }
     let bytes = whole_file(rt, path.as_str())?;
-    match policies.add(rt.alloc(), hook, bytes.as_slice()) {
+    let taken = policies.add(rt.alloc(), hook, bytes.as_slice());
+    told(rt, path.as_str(), taken)
+}
+
+/// Says why a file is no policy.
+fn told(rt: &HostRuntime, path: &str, taken: Result<(), PolicyFault>) -> Result<(), ExitCode> {
+    match taken {
         Ok(()) => Ok(()),
         Err(PolicyFault::OutOfMemory) => Err(out_of_memory(rt)),
         Err(fault) => {

@@ -1,4 +1,4 @@
-use Rattle.std.proofs.Common.{◌≡◌, ◌∙◌, ap, true, false}
+use Rattle.std.proofs.Common.{◌≡◌, ◌∙◌, ap, true}
 use Rattle.bq_policy_commands.specs.Checking.{answered}
 use Rattle.bq_policy_commands.proofs.checking.check_policy.Goals.{then-words-via-then-words, then-words-via-else-words+then-words-2}
 use Rattle.bq_policy_commands.proofs.checking.check_policy.Goals as goal

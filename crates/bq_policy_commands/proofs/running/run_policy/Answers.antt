@@ -6,7 +6,7 @@ use Rattle.bq_verify.specs.declared.refused.Refused.TheVariants as refused
 use Rattle.bq_policy_commands.proofs.running.run_policy.Goals as goal
 
 pub returns-in_ok-text-in-Err-At : goal.returns-in_ok-text-in-Err-At
-returns-in_ok-text-in-Err-At c =
+returns-in_ok-text-in-Err-At g c =
     let named : c.in-Err-At.field-0 ≡ refused.At c.in-Err-At.slot c.in-Err-At.cause = search rules in
     inl record {
       slot = c.in-Err-At.slot;

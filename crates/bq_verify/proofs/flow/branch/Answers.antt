@@ -2,7 +2,7 @@ use Rattle.std.proofs.Common.{◌≡◌, Option, Some, true, false, inl, inr, su
 use Rattle.bq_views.specs.declared.view.Kind.TheVariants.{EntryOrNull, Number}
 use Rattle.bq_views.specs.declared.view.Known.{Known}
 use Rattle.bq_views.specs.Standing.{Pointer, Scalar, Stands}
-use Rattle.bq_views.specs.Sides.{is_found}
+use Rattle.bq_transfer.specs.Sides.{is_found}
 use Rattle.bq_verify.proofs.SideLemmas.{known_inside, has_on_side, has_on_tested}
 use Rattle.bq_verify.specs.Control.{IsKnown}
 use Rattle.bq_verify.proofs.PassLemmas.{parts_of}

@@ -2,13 +2,13 @@ use Rattle.bq_views.specs.Told.{IsLasting}
 use Rattle.std.proofs.Common.{rules, ℕ, Bool, Some, ◌≡◌, ◌+◌, ◌<◌, length, arith, refl, sym, ap, subst, ◌∙◌, true, false, inl, inr}
 use Rattle.bq_insn.specs.declared.Insn.{Insn}
 use Rattle.bq_views.specs.declared.view.Kind.TheVariants.{EntryOrNull}
-use Rattle.bq_views.specs.After.{After, IsFoundSide}
-use Rattle.bq_views.specs.Ready.{IsReady}
+use Rattle.bq_transfer.specs.After.{After, IsFoundSide}
+use Rattle.bq_transfer.specs.Ready.{IsReady}
 use Rattle.bq_views.specs.Standing.{Has, Outlasts}
-use Rattle.bq_views.specs.Sides.{is_found}
+use Rattle.bq_transfer.specs.Sides.{is_found}
 use Rattle.bq_views.proofs.MergeLemmas.{some_none}
 use Rattle.bq_verify.proofs.SideLemmas.{carried_of, found_next, found_there, has_tested, outlasts, lasting_after}
-use Rattle.bq_views.proofs.StandingLemmas.{has_left, not_both}
+use Rattle.bq_transfer.proofs.StandingLemmas.{has_left, not_both}
 use mir.Syntax.{w16, w32}
 use mir.Val.{SFits}
 use Rattle.std.proofs.lemmas.Int.{ints}

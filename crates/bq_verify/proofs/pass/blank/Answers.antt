@@ -1,4 +1,3 @@
-use Rattle.std.proofs.Common.{◌≡◌, true, false}
 use Rattle.bq_verify.proofs.pass.blank.Goals as goal
 
 pub returns-clause-covers : goal.returns-clause-covers

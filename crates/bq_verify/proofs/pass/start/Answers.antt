@@ -5,5 +5,5 @@ use Rattle.bq_verify.proofs.pass.start.Goals as goal
 pub returns-clause-covers : goal.returns-clause-covers
 returns-clause-covers c = λ f maps have.
     let long : 10 < length c.blank-view.result.registers = omega arith in
-    rw (c.learn-2.ensures, c.learn.ensures)
+    rw (c.learn-2.ensures.is, c.learn.ensures.is)
     (start_is f maps c.blank-view.result _ _ long refl (omega arith, omega arith) refl (omega arith, omega arith) (c.blank-view.ensures.covers f _ have))

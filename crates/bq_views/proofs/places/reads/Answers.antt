@@ -1,6 +1,6 @@
 use Rattle.std.proofs.Common.{arith, rules}
 use Rattle.bq_insn.specs.Meaning.{byte_count}
-use Rattle.bq_views.proofs.CallLemmas.{finds_bytes}
+use Rattle.bq_views.proofs.AccessLemmas.{finds_bytes}
 use Rattle.bq_views.proofs.places.reads.Goals as goal
 
 pub returns-clause-finds : goal.returns-clause-finds

@@ -1,5 +1,5 @@
 use Rattle.std.proofs.Common.{arith}
-use Rattle.bq_views.proofs.CallLemmas.{finds_bytes}
+use Rattle.bq_views.proofs.AccessLemmas.{finds_bytes}
 use Rattle.bq_views.proofs.places.reads_value.Goals as goal
 
 pub returns-in-Stack-clause-finds : goal.returns-in-Stack-clause-finds

@@ -1,5 +1,5 @@
-use Rattle.std.proofs.Common.{◌≡◌}
+use Rattle.bq_simulate.specs.Simulations.{Silent}
 use Rattle.bq_simulate.proofs.simulation.Simulation.plan_pulls.Given as goal
 
 abbrev pub invariant-processors : goal.invariant-processors
-invariant-processors l = l.self.driver ≡ l.initial.self.driver
+invariant-processors l = Silent l.initial.self l.self

@@ -1,0 +1,10 @@
+//! What is known of a processor's tasks without a look at each.
+
+/// What is known of a processor's tasks without a look at each.
+#[derive(Clone, Copy, Debug)]
+pub struct Glance {
+    /// No task that is there has a lesser virtual runtime.
+    pub least: u64,
+    /// The mean of their virtual runtimes is no greater.
+    pub mean: u64,
+}

@@ -1,0 +1,29 @@
+-- Lines, one more at the end.
+use Rattle.std.proofs.Common.{◌≡◌, ℕ, suc, zero, ◌+◌, List, [], ◌∷◌, ◌++◌, Option, length, refl, ap, sym, ◌∙◌, subst, inl, inr, arith}
+use Rattle.std.specs.declared.vec.Vec.{Vec}
+use Rattle.std.proofs.Common.{Global}
+use Rattle.std.proofs.lemmas.Grind.{common_steps}
+use Rattle.bq_figures.specs.declared.summing.Row.{Row}
+use Rattle.bq_comparison.specs.declared.line.Line.{Line}
+use Rattle.bq_comparison.specs.Lines.{Selects, beside, row_at}
+
+pub Selects-take : (P : Line → Type 0) (xs ys : List Line) (x : Line) → Selects P xs ys → P x → Selects P (xs ++ x ∷ []) (ys ++ x ∷ [])
+Selects-take P [] ys x h shown = inl (shown, ([], ap (λ l. l ++ x ∷ []) h, refl))
+Selects-take P (z ∷ zs) ys x h shown =
+    elim h [
+      | inl a ↦ inl (a.0, (a.1.0 ++ x ∷ [], ap (λ l. l ++ x ∷ []) a.1.1, Selects-take P zs a.1.0 x a.1.2 shown))
+      | inr b ↦ inr (b.0, Selects-take P zs ys x b.1 shown)
+    ]
+
+pub Selects-leave : (P : Line → Type 0) (xs ys : List Line) (x : Line) → Selects P xs ys → ¬ P x → Selects P (xs ++ x ∷ []) ys
+Selects-leave P [] ys x h hidden = inr (hidden, h)
+Selects-leave P (z ∷ zs) ys x h hidden =
+    elim h [
+      | inl a ↦ inl (a.0, (a.1.0, a.1.1, Selects-leave P zs a.1.0 x a.1.2 hidden))
+      | inr b ↦ inr (b.0, Selects-leave P zs ys x b.1 hidden)
+    ]
+
+pub beside-more : (place : ℕ) (rows : List Row) (row : Row) (theirs : Option (Vec Row Global))
+    → beside place (rows ++ row ∷ []) theirs ≡ beside place rows theirs ++ record { ours = row; theirs = row_at theirs (place + length rows) } ∷ []
+beside-more place [] row theirs = grind (arith, common_steps)
+beside-more place (r ∷ rs) row theirs = grind (arith, common_steps, beside-more (place + 1) rs row theirs)

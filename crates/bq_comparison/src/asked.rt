@@ -1,0 +1,77 @@
+//! What is asked for, by the words of the command.
+ghost use Rattle.std.specs.Prelude.{◌≤◌, IfOk, IfSome};
+
+use bq_forms::Window;
+use bq_study::{AskedFault, StudyWords};
+use bq_timeline::form_names::FormName;
+use bq_timeline::{Settings, SettingsFault};
+use std::alloc::Global;
+
+/// The most seeds.
+pub const MOST_SEEDS: u64 = 1000;
+
+/// How the figures are written.
+#[derive(Clone, Copy)]
+pub enum TableForm {
+    /// An aligned table.
+    Report,
+    /// Comma-separated values.
+    Csv,
+    /// JSON.
+    Json,
+}
+
+/// With how many seeds a workload is run, which tasks and processors are shown, and how.
+#[derive(Drop)]
+pub struct Comparing {
+    pub seeds: u16,
+    pub window: Window,
+    pub form: TableForm,
+}
+
+/// What the words ask for, if they ask for several seeds or for something to compare with. Without `--seeds` it is one seed.
+pub fn asked_comparison(alloc: Global, words: &StudyWords) -> Result<Option<Comparing>, AskedFault>
+    ensures { IfOk result (λ asked. IfSome asked (λ c. (1 ≤ c.seeds) × (c.seeds ≤ 1000))) }
+{
+    if words.seeds.is_none() && words.against.is_empty() {
+        return Ok(None);
+    }
+    let seeds = match &words.seeds {
+        Some(word) => seeds_of(word.as_str()).ok_or(AskedFault::Seeds)?,
+        None => 1,
+    };
+    let settings = match Settings::of(alloc, &words.shown) {
+        Ok(settings) => settings,
+        Err(SettingsFault::Form) => return Err(AskedFault::TableForm),
+        Err(fault) => return Err(AskedFault::Settings(fault)),
+    };
+    let form = table_form(settings.form).ok_or(AskedFault::TableForm)?;
+    let window = settings.window;
+    Ok(Some(Comparing {
+        seeds,
+        window,
+        form,
+    }))
+}
+
+/// A number of seeds.
+fn seeds_of(word: &str) -> Option<u16>
+    ensures { IfSome result (λ n. (1 ≤ n) × (n ≤ 1000)) }
+{
+    let seeds = bq_lines::numbers::decimal(word.as_bytes())?;
+    if 1 <= seeds && seeds <= MOST_SEEDS {
+        Some(seeds as u16)
+    } else {
+        None
+    }
+}
+
+/// The form of a table, if it is one.
+fn table_form(form: FormName) -> Option<TableForm> {
+    match form {
+        FormName::Report => Some(TableForm::Report),
+        FormName::Csv => Some(TableForm::Csv),
+        FormName::Json => Some(TableForm::Json),
+        _ => None,
+    }
+}

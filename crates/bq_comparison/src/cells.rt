@@ -1,0 +1,49 @@
+//! Means, deviations and differences as text.
+
+use crate::difference::Difference;
+use bq_figures::Row;
+use std::alloc::{AllocError, Global};
+
+/// Thousandths, with three decimals.
+pub(crate) fn decimal(alloc: Global, thousandths: u128) -> Result<String, AllocError> {
+    let whole = thousandths / 1000;
+    let part = thousandths % 1000;
+    format!(in alloc; "{whole}.{part:03}")
+}
+
+/// The same where there are any, else another text.
+pub(crate) fn cell(
+    alloc: Global,
+    thousandths: Option<u128>,
+    otherwise: &str,
+) -> Result<String, AllocError> {
+    match thousandths {
+        Some(thousandths) => decimal(alloc, thousandths),
+        None => String::from_str(alloc, otherwise),
+    }
+}
+
+/// A difference with its sign, where there is one, else another text.
+pub(crate) fn signed(
+    alloc: Global,
+    difference: Option<Difference>,
+    otherwise: &str,
+) -> Result<String, AllocError> {
+    let (sign, size) = match difference {
+        Some(Difference::More(size)) => ("+", size),
+        Some(Difference::Less(size)) => ("-", size),
+        None => return String::from_str(alloc, otherwise),
+    };
+    let size = decimal(alloc, size)?;
+    format!(in alloc; "{sign}{size}")
+}
+
+/// The mean of a row, if there is a row and it has one.
+pub(crate) fn mean_of(row: Option<Row>) -> Option<u128> {
+    row?.mean
+}
+
+/// The deviation of a row, if there is a row and it has one.
+pub(crate) fn deviation_of(row: Option<Row>) -> Option<u128> {
+    row?.deviation
+}

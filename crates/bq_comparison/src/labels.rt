@@ -1,0 +1,85 @@
+//! The words for figures.
+
+use bq_figures::{Figure, HookFigure, ProcessorFigure, TaskFigure};
+use std::alloc::{AllocError, Global};
+
+/// What a figure is of: `task 3`, `cpu 0` or `cpu 0 place`.
+pub(crate) fn subject(alloc: Global, figure: Figure) -> Result<String, AllocError> {
+    match figure {
+        Figure::Task(task, _) => format!(in alloc; "task {task}"),
+        Figure::Latency(task, _) => format!(in alloc; "task {task}"),
+        Figure::Processor(processor, _) => format!(in alloc; "cpu {processor}"),
+        Figure::Hook(processor, hook, _) => {
+            let hook = hook.word();
+            format!(in alloc; "cpu {processor} {hook}")
+        }
+    }
+}
+
+/// The name of the task that a figure is of.
+pub(crate) fn name<'a>(figure: Figure, names: &'a [String]) -> &'a str {
+    let task = match figure {
+        Figure::Task(task, _) => task,
+        Figure::Latency(task, _) => task,
+        _ => return "",
+    };
+    match names.get(usize::from(task)) {
+        Some(name) => name.as_str(),
+        None => "",
+    }
+}
+
+/// The word for a figure, as the report has it.
+pub(crate) fn word(figure: Figure) -> &'static str {
+    match figure {
+        Figure::Task(_, figure) => task_word(figure),
+        Figure::Latency(_, percent) => latency_word(percent),
+        Figure::Processor(_, ProcessorFigure::Busy) => "busy",
+        Figure::Processor(_, ProcessorFigure::Idle) => "idle",
+        Figure::Processor(_, ProcessorFigure::Switches) => "switches",
+        Figure::Hook(_, _, HookFigure::Asked) => "asked",
+        Figure::Hook(_, _, HookFigure::Overruled) => "overruled",
+        Figure::Hook(_, _, HookFigure::Steps) => "steps",
+    }
+}
+
+fn task_word(figure: TaskFigure) -> &'static str {
+    match figure {
+        TaskFigure::Ran => "cpu",
+        TaskFigure::Fair => "fair",
+        TaskFigure::Waited => "waited",
+        TaskFigure::Switches => "switches",
+        TaskFigure::Preemptions => "preempted",
+        TaskFigure::Migrations => "migrated",
+        TaskFigure::Wakes => "wakes",
+    }
+}
+
+fn latency_word(percent: u8) -> &'static str {
+    match percent {
+        50 => "p50",
+        95 => "p95",
+        99 => "p99",
+        _ => "max",
+    }
+}
+
+/// Whether a figure is a time; else it is a count.
+pub(crate) fn is_time(figure: Figure) -> bool {
+    match figure {
+        Figure::Task(_, figure) => matches!(
+            figure,
+            TaskFigure::Ran | TaskFigure::Fair | TaskFigure::Waited
+        ),
+        Figure::Latency(_, _) => true,
+        Figure::Processor(_, figure) => {
+            matches!(figure, ProcessorFigure::Busy | ProcessorFigure::Idle)
+        }
+        Figure::Hook(_, _, _) => false,
+    }
+}
+
+/// The unit of a figure: `ns`, or `1` of a count.
+pub(crate) fn unit(figure: Figure) -> &'static str {
+    if is_time(figure) { "ns" } else { "1" }
+}

@@ -1,0 +1,76 @@
+//! Figures side by side.
+ghost use Rattle.std.specs.Prelude.{◌≡◌, ◌↔◌, IsTrue, IfOk};
+ghost use Rattle.bq_comparison.specs.Lines.{IsShown, Selects, beside, is_nothing, row_at, says_nothing};
+
+use crate::sides::Sides;
+use bq_figures::{Figure, Row};
+use bq_forms::Window;
+use std::alloc::{AllocError, Global};
+
+/// What the runs say of a figure, and what those under the other policies say, if there are any.
+#[derive(Clone, Copy)]
+pub struct Line {
+    pub ours: Row,
+    pub theirs: Option<Row>,
+}
+
+impl Line {
+    /// Whether it tells of a task or a processor in the window, and of a hook only what is not 0 on both sides.
+    fn is_shown(&self, window: &Window) -> bool
+        ensures { IsTrue result ↔ IsShown window.now self.now }
+    {
+        match self.ours.figure {
+            Figure::Task(task, _) => window.shows_task(task),
+            Figure::Latency(task, _) => window.shows_task(task),
+            Figure::Processor(processor, _) => window.shows_processor(processor),
+            Figure::Hook(processor, _, _) => {
+                window.shows_processor(processor) && !self.says_nothing()
+            }
+        }
+    }
+
+    fn says_nothing(&self) -> bool
+        ensures { result ≡ says_nothing self.now }
+    {
+        match &self.theirs {
+            Some(theirs) => is_nothing(self.ours.mean) && is_nothing(theirs.mean),
+            None => is_nothing(self.ours.mean),
+        }
+    }
+}
+
+/// Whether a mean is 0.
+fn is_nothing(mean: Option<u128>) -> bool
+    ensures { result ≡ is_nothing mean }
+{
+    mean == Some(0)
+}
+
+impl Sides {
+    /// The row of the others at a place.
+    fn their(&self, place: usize) -> Option<Row>
+        ensures { result ≡ row_at self.now.theirs place }
+    {
+        match &self.theirs {
+            Some(rows) => rows.get(place).copied(),
+            None => None,
+        }
+    }
+}
+
+/// The rows side by side, of those that are shown.
+pub fn lines(alloc: Global, sides: &Sides, window: &Window) -> Result<Vec<Line>, AllocError>
+    ensures { IfOk result (λ v. Selects (IsShown window.now) (beside 0 sides.now.ours.items sides.now.theirs) v.items) }
+{
+    let mut lines = Vec::new(alloc);
+    'rows: for (place, row) in sides.ours.iter().enumerate() {
+        let line = Line {
+            ours: *row,
+            theirs: sides.their(place),
+        };
+        if line.is_shown(window) {
+            lines.push(line)?;
+        }
+    }
+    Ok(lines)
+}

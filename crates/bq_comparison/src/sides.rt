@@ -1,0 +1,56 @@
+//! The two sides of a comparison.
+ghost use Rattle.std.specs.Prelude.{◌≡◌, ◌↔◌, IfOk, IsSome};
+ghost use Rattle.bq_comparison.specs.Sides.{IsComparison, extent_of};
+
+use bq_actions::Workload;
+use bq_figures::{Extent, all_figures};
+use bq_seeds::{Rows, SeedsFault, summary};
+use bq_study::Policies;
+use std::alloc::Global;
+
+/// What the runs say of each figure, and what the runs with the same seeds under other policies say, if there are others.
+#[derive(Drop)]
+pub struct Sides {
+    pub ours: Rows,
+    pub theirs: Option<Rows>,
+}
+
+/// Runs a workload with so many seeds, from its own on, under policies, and with the same seeds under others, if there are
+/// others.
+pub fn compare(
+    alloc: Global,
+    workload: &mut Workload,
+    policies: &Policies,
+    others: Option<&Policies>,
+    seeds: u16,
+) -> Result<Sides, SeedsFault>
+    ensures sides { IfOk result (IsComparison workload.old seeds) }
+    ensures theirs { IfOk result (λ sides. IsSome sides.theirs ↔ IsSome others.entry) }
+    ensures same { workload.new ≡ workload.old }
+{
+    let figures = all_figures(alloc, extent_of(workload))?;
+    let figures = figures.as_slice();
+    let ours = summary(alloc, workload, policies.loaded.as_slice(), seeds, figures)?;
+    let theirs = match others {
+        Some(others) => {
+            let rows = summary(alloc, workload, others.loaded.as_slice(), seeds, figures)?;
+            Some(rows)
+        }
+        None => None,
+    };
+    Ok(Sides { ours, theirs })
+}
+
+/// How many tasks a workload has, as far as 16 bits count, and how many processors.
+pub fn extent_of(workload: &Workload) -> Extent
+    ensures { result ≡ extent_of workload.now }
+{
+    let mut tasks: u16 = 0;
+    'kinds: for kind in &workload.tasks {
+        tasks = tasks.saturating_add(kind.count);
+    }
+    Extent {
+        tasks,
+        processors: workload.machine.size.processors(),
+    }
+}

@@ -1,0 +1,95 @@
+//! An aligned table of figures.
+
+use crate::cells::{cell, deviation_of, mean_of, signed};
+use crate::difference::Difference;
+use crate::labels::{is_time, name, subject, word};
+use crate::line::Line;
+use std::alloc::{AllocError, Global};
+
+/// The head of a table without others.
+const HEAD: &str = "of            name            figure    unit          mean     deviation\n";
+
+/// The head of a table with others.
+const WIDE_HEAD: &str =
+    "of            name            figure    unit          mean     deviation       against     deviation    difference\n";
+
+/// A line a figure. Times are in microseconds.
+pub(crate) fn table_text(
+    alloc: Global,
+    lines: &[Line],
+    names: &[String],
+) -> Result<String, AllocError> {
+    let mut text = String::from_str(alloc, head(lines))?;
+    for line in lines {
+        write_label(alloc, &mut text, line, names)?;
+        write_cells(alloc, &mut text, line)?;
+        text.push_str("\n")?;
+    }
+    Ok(text)
+}
+
+fn head(lines: &[Line]) -> &'static str {
+    match lines.first() {
+        Some(line) if line.theirs.is_some() => WIDE_HEAD,
+        _ => HEAD,
+    }
+}
+
+/// What the figure is of, the name of its task, its word and the unit.
+fn write_label(
+    alloc: Global,
+    text: &mut String,
+    line: &Line,
+    names: &[String],
+) -> Result<(), AllocError> {
+    let figure = line.ours.figure;
+    let subject = subject(alloc, figure)?;
+    let name = name(figure, names);
+    let word = word(figure);
+    let unit = if is_time(figure) { "us" } else { "" };
+    write!(text, "{subject:<13} {name:<15.15} {word:<9} {unit:<4}")
+}
+
+/// Its means and deviations.
+fn write_cells(alloc: Global, text: &mut String, line: &Line) -> Result<(), AllocError> {
+    let is_time = is_time(line.ours.figure);
+    write_cell(alloc, text, is_time, line.ours.mean)?;
+    write_cell(alloc, text, is_time, line.ours.deviation)?;
+    if line.theirs.is_none() {
+        return Ok(());
+    }
+    let their_mean = mean_of(line.theirs);
+    write_cell(alloc, text, is_time, their_mean)?;
+    write_cell(alloc, text, is_time, deviation_of(line.theirs))?;
+    let difference = Difference::of(line.ours.mean, their_mean);
+    let difference = shown_difference(is_time, difference);
+    let cell = signed(alloc, difference, "-")?;
+    write!(text, " {cell:>13}")
+}
+
+fn write_cell(
+    alloc: Global,
+    text: &mut String,
+    is_time: bool,
+    value: Option<u128>,
+) -> Result<(), AllocError> {
+    let shown = match value {
+        Some(value) => Some(in_unit(is_time, value)),
+        None => None,
+    };
+    let cell = cell(alloc, shown, "-")?;
+    write!(text, " {cell:>13}")
+}
+
+fn shown_difference(is_time: bool, difference: Option<Difference>) -> Option<Difference> {
+    match difference {
+        Some(Difference::More(size)) => Some(Difference::More(in_unit(is_time, size))),
+        Some(Difference::Less(size)) => Some(Difference::Less(in_unit(is_time, size))),
+        None => None,
+    }
+}
+
+/// A value in thousandths of the unit that it is shown in. Of a time that is its nanoseconds, thousandths of a microsecond.
+fn in_unit(is_time: bool, value: u128) -> u128 {
+    if is_time { value / 1000 } else { value }
+}

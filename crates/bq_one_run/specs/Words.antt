@@ -1,0 +1,20 @@
+-- Numbers as the words of a command write them.
+use Rattle.std.specs.Prelude.{◌≡◌, ℕ, List, ◌++◌, ◌⊎◌, codes}
+use Rattle.std.specs.Str.Parse.{IsNumeral, digits_value, without_leading_plus}
+
+-- the word writes the number in that base
+pub record IsNumberIn (base : ℕ) (word : List ℕ) (number : ℕ) : Type 0 where
+  pub numeral : IsNumeral base (without_leading_plus word)
+  pub value : number ≡ digits_value base (without_leading_plus word)
+
+-- in decimal
+abbrev pub IsNumber : List ℕ → ℕ → Type 0
+IsNumber word number = IsNumberIn 10 word number
+
+-- in hex, after `0x`
+abbrev pub IsHexNumber : List ℕ → ℕ → Type 0
+IsHexNumber word number = (digits : List ℕ) × (word ≡ codes "0x" ++ digits) × IsNumberIn 16 digits number
+
+-- in decimal, or in hex after `0x`
+abbrev pub IsValue : List ℕ → ℕ → Type 0
+IsValue word number = IsNumber word number ⊎ IsHexNumber word number

@@ -1,0 +1,77 @@
+//! Entries of maps from the words of a command.
+ghost use Rattle.std.specs.Prelude.{◌≡◌, IfSome};
+ghost use Rattle.std.specs.Result.{OnOk};
+ghost use Rattle.bq_one_run.specs.Naming.{NamesEntry, SetsEntry, TextsInTurn, padded};
+
+use crate::faults::{InputFault, fault};
+use crate::inputs::{Inputs, bytes_named};
+use crate::words::{cut, decimal};
+use std::alloc::{AllocError, Global};
+
+impl Inputs {
+    /// Sets the entries that texts name, one after another.
+    pub fn set_all_entries(&mut self, alloc: Global, texts: &[String]) -> Result<(), InputFault>
+        ensures maps { OnOk result (TextsInTurn SetsEntry texts.now self.old.maps self.new.maps) }
+        ensures context { self.new.context ≡ self.old.context }
+        ensures env { self.new.env ≡ self.old.env }
+        ensures board { self.new.board ≡ self.old.board }
+    {
+        for text in texts {
+            self.set_entry(alloc, text.as_str())?;
+        }
+        Ok(())
+    }
+
+    /// Sets an entry of a map, as `0:0=0a00` does; bytes that are left out are 0.
+    pub fn set_entry(&mut self, alloc: Global, text: &str) -> Result<(), InputFault>
+        ensures maps { OnOk result (SetsEntry text.now self.old.maps self.new.maps) }
+        ensures context { self.new.context ≡ self.old.context }
+        ensures env { self.new.env ≡ self.old.env }
+        ensures board { self.new.board ≡ self.old.board }
+    {
+        let Some((place, value)) = cut(text, '=') else {
+            return Err(fault(format!(in alloc; "--map {text}: an entry is set as 0:0=0a00")));
+        };
+        let Some((map, entry)) = entry_named(place) else {
+            return Err(fault(format!(in alloc;
+                "--map {text}: an entry is named by its map and its number, as 0:0"
+            )));
+        };
+        let Some(mut bytes) = bytes_named(alloc, value)? else {
+            return Err(fault(format!(in alloc; "--map {text}: the value is no hex")));
+        };
+        if !self.maps.lookup(map, entry) {
+            return Err(fault(format!(in alloc; "--map {text}: there is no such entry")));
+        }
+        let size = usize::from(self.maps.shape(map).value_size);
+        if bytes.len() > size {
+            return Err(fault(format!(in alloc;
+                "--map {text}: the value is longer than the map's"
+            )));
+        }
+        pad(alloc, &mut bytes, size)?;
+        self.maps.put(map, entry, 0, bytes.as_slice());
+        Ok(())
+    }
+}
+
+/// The map and the entry that a text names, as `0:2`.
+fn entry_named(place: &str) -> Option<(usize, u32)>
+    ensures { IfSome result (λ named. NamesEntry place.now named.0 named.1) }
+{
+    let (map, entry) = cut(place, ':')?;
+    let map = decimal(map)?;
+    let entry = decimal(entry)?;
+    match u32::try_from(entry) {
+        Ok(entry) => Some((map, entry)),
+        Err(_) => None,
+    }
+}
+
+/// Puts zeros behind the bytes until there are so many.
+fn pad(alloc: Global, bytes: &mut Vec<u8>, size: usize) -> Result<(), AllocError>
+    ensures { OnOk result (bytes.new.items ≡ padded size bytes.old.items) }
+{
+    let zeros = vec![in alloc; 0; size.saturating_sub(bytes.len())]?;
+    bytes.extend_from_slice(zeros.as_slice())
+}

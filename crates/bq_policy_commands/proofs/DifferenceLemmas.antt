@@ -1,0 +1,11 @@
+-- The mark from which words differ, of a fault.
+use Rattle.std.proofs.Common.{◌≡◌, ℕ, List, Option, Some, None, inr, sym}
+use Rattle.bq_policy_files.specs.declared.fault.PolicyFault.{PolicyFault}
+use Rattle.bq_policy_files.specs.declared.head.Head.{Head}
+use Rattle.bq_policy_files.specs.declared.mark.Key.{Key}
+use Rattle.bq_policy_files.specs.Files.{IsPolicyFault}
+use Rattle.bq_policy_commands.specs.Disagreeing.{IsDifference, differing}
+
+pub of_fault : (bytes : List ℕ) (h : Head) (named : PolicyFault) (told : Option Key) → IsPolicyFault bytes h named → told ≡ differing named → IsDifference bytes h told
+of_fault bytes h named None is e = inr (inr (named, is, sym e))
+of_fault bytes h named (Some key) is e = (named, is, sym e)

@@ -1,0 +1,88 @@
+//! The words of `asm` beside the marks of its text.
+ghost use Rattle.std.specs.Prelude.{◌≡◌, IfOk};
+ghost use Rattle.bq_policy_commands.specs.Disagreeing.{IsDifference, differing};
+
+use crate::fault_words::{fault_line, fault_reason};
+use bq_policy_files::{Head, Key, Kind, PolicyFault, kind_of, read_policy};
+use bq_program::{Options, shapes_of};
+use std::alloc::{AllocError, Global};
+
+/// Why the words of `asm` are refused beside a text.
+#[derive(Debug, Drop)]
+pub struct AsmRefusal {
+    /// The line that names the mark, as `check` names it.
+    pub line: String,
+    /// What is wrong, in words.
+    pub reason: String,
+}
+
+/// Whether the words of `asm` say another thing than the marks of the text: then its answer is a refusal.
+pub fn asm_refusal(
+    alloc: Global,
+    options: &Options,
+    text: &[u8],
+) -> Result<Option<AsmRefusal>, AllocError> {
+    let Some(given) = head_of(alloc, options)? else {
+        return Ok(None);
+    };
+    match difference(alloc, &given, text)? {
+        None => Ok(None),
+        Some(key) => {
+            let fault = PolicyFault::Disagrees(key);
+            let line = fault_line(alloc, fault)?;
+            let reason = fault_reason(alloc, text, fault)?;
+            Ok(Some(AsmRefusal { line, reason }))
+        }
+    }
+}
+
+/// What the words say of the image, if they ask for one. Maps that are none are refused by `asm` itself.
+fn head_of(alloc: Global, options: &Options) -> Result<Option<Head>, AllocError> {
+    if options.hook.is_none() {
+        return Ok(None);
+    }
+    let maps = match &options.maps {
+        None => None,
+        Some(text) => match shapes_of(alloc, text.as_bytes())? {
+            None => return Ok(None),
+            Some(shapes) => Some(shapes),
+        },
+    };
+    Ok(Some(Head {
+        hook: options.hook,
+        maps,
+        format: options.format,
+    }))
+}
+
+/// The first mark of a text from which the words differ, if there is one.
+fn difference(alloc: Global, given: &Head, text: &[u8]) -> Result<Option<Key>, AllocError>
+    ensures { IfOk result (IsDifference text.now given.now) }
+{
+    match kind_of(text) {
+        Kind::Image | Kind::Hex => return Ok(None),
+        Kind::Text => {}
+    }
+    match read_policy(alloc, text, given) {
+        Ok(_) => Ok(None),
+        Err(PolicyFault::OutOfMemory) => Err(AllocError),
+        Err(fault) => Ok(differing(fault)),
+    }
+}
+
+/// The mark that is said otherwise, where that is the fault.
+fn differing(fault: PolicyFault) -> Option<Key>
+    ensures { result ≡ differing fault }
+{
+    match fault {
+        PolicyFault::Disagrees(key) => Some(key),
+        PolicyFault::Text
+        | PolicyFault::Hex
+        | PolicyFault::Head { .. }
+        | PolicyFault::Assembly { .. }
+        | PolicyFault::Image(_)
+        | PolicyFault::Program { .. }
+        | PolicyFault::NoHook
+        | PolicyFault::OutOfMemory => None,
+    }
+}

@@ -1,0 +1,87 @@
+//! The inputs that the words of `run` name.
+ghost use Rattle.std.specs.Prelude.{◌≡◌, IfOk, replicate};
+ghost use Rattle.bq_verify.specs.Accepted.{context_length_of};
+ghost use Rattle.bq_one_run.specs.Naming.{BeginsWith, IsClean};
+ghost use Rattle.bq_policy_commands.specs.Running.{HasInputs, IsNumberOrZero};
+ghost use Rattle.bq_policy_commands.specs.Saying.{option_bytes};
+
+use crate::given::{WordsFault, words_fault};
+use crate::words::RunWords;
+use bq_interp::Env;
+use bq_one_run::{InputFault, Inputs, inputs_of};
+use bq_verify::Verified;
+use std::alloc::Global;
+
+impl From<InputFault> for WordsFault {
+    fn from(fault: InputFault) -> WordsFault {
+        match fault {
+            InputFault::Words(why) => WordsFault::Words(why),
+            InputFault::OutOfMemory => WordsFault::OutOfMemory,
+        }
+    }
+}
+
+/// The inputs that the words name; all others are 0.
+pub(crate) fn inputs_named(
+    alloc: Global,
+    words: &RunWords,
+    verified: &Verified,
+) -> Result<Inputs, WordsFault>
+    ensures { IfOk result (HasInputs words.now verified.now) }
+{
+    let env = env_named(alloc, words)?;
+    let mut inputs = first_inputs(alloc, words, verified, env)?;
+    let hook = verified.hook();
+    let version = verified.version();
+    inputs.set_all_fields(alloc, hook, version, words.fields.as_slice())?;
+    inputs.set_all_entries(alloc, words.entries.as_slice())?;
+    inputs.set_all_counters(alloc, words.counters.as_slice())?;
+    Ok(inputs)
+}
+
+/// The inputs before words set parts of them: the context that a word names, and all else 0.
+fn first_inputs(
+    alloc: Global,
+    words: &RunWords,
+    verified: &Verified,
+    env: Env,
+) -> Result<Inputs, InputFault>
+    ensures context { IfOk result (λ i. BeginsWith (option_bytes words.now.context) (context_length_of verified.now.hook verified.now.version) i.context.items) }
+    ensures maps { IfOk result (λ i. IsClean verified.now.shapes i.maps) }
+    ensures env { IfOk result (λ i. i.env ≡ env) }
+    ensures board { IfOk result (λ i. i.board ≡ replicate 64 0) }
+{
+    let mut inputs = inputs_of(alloc, verified, env)?;
+    if let Some(text) = &words.context {
+        inputs.set_context(alloc, text.as_str())?;
+    }
+    Ok(inputs)
+}
+
+/// The time and the processor.
+fn env_named(alloc: Global, words: &RunWords) -> Result<Env, WordsFault>
+    ensures now { IfOk result (λ env. IsNumberOrZero (option_bytes words.now.time) env.now) }
+    ensures processor { IfOk result (λ env. IsNumberOrZero (option_bytes words.now.processor) env.processor) }
+{
+    let now = number(alloc, "time", &words.time)?;
+    let processor = number(alloc, "processor", &words.processor)?;
+    match u32::try_from(processor) {
+        Ok(processor) => Ok(Env { now, processor }),
+        Err(_) => Err(words_fault(String::from_str(
+            alloc,
+            "--processor is a number below 4294967296",
+        ))),
+    }
+}
+
+fn number(alloc: Global, option: &str, word: &Option<String>) -> Result<u64, WordsFault>
+    ensures { IfOk result (IsNumberOrZero (option_bytes word.now)) }
+{
+    let Some(word) = word else {
+        return Ok(0);
+    };
+    match word.as_str().parse::<u64>() {
+        Ok(number) => Ok(number),
+        Err(_) => Err(words_fault(format!(in alloc; "--{option} {word} is no number"))),
+    }
+}

@@ -1,0 +1,205 @@
+// Two tasks on one processor, with two seeds, beside a policy that lets each run to its end. The draws are those that
+// tests/model makes: task 0 runs for 6,004,168 ns and 6,822,202 ns, task 1 for 6,084,272 ns and 6,838,358 ns. The rest is by
+// hand. By the rule task 1 comes to run at the tick at 4 ms; at 8 ms the two are level, so it runs to its end, and then task 0
+// does: to task 1 half of that time is fair, 4 ms and its own length. By the policy task 0 runs to its end first, and half of
+// that is fair to task 1, and then all. The policy is asked when task 1 comes to the queue and at three ticks, and takes two
+// instructions.
+
+use bq_comparison::{asked_comparison, compare, lines, written};
+use bq_study::{AskedFault, Policies, study_words};
+use bq_workload::{Changes, read};
+use std::alloc::Global;
+use std::test::Fail;
+
+const WORKLOAD: &str = concat!(
+    "[machine]\n",
+    "duration = \"20ms\"\n",
+    "[[task]]\n",
+    "name = \"a\"\n",
+    "loops = 1\n",
+    "run = { uniform = [\"6ms\", \"7ms\"] }\n",
+    "[[task]]\n",
+    "name = \"b\"\n",
+    "loops = 1\n",
+    "run = { uniform = [\"6ms\", \"7ms\"] }\n",
+);
+
+const TO_THE_END: &str = ";@ hook preempt\nmov64 r0, 0\nexit\n";
+
+const CSV: &str = concat!(
+    "of,name,figure,unit,runs,mean,deviation,against_runs,against_mean,against_deviation,diff",
+    "erence\n",
+    "task 1,b,cpu,ns,2,6461315.000,533219.324,2,6461315.000,533219.324,+0.000\n",
+    "task 1,b,fair,ns,2,5230657.500,266609.662,2,9667907.500,822438.018,+4437250.000\n",
+    "task 1,b,waited,ns,2,4000000.000,0.000,2,6413185.000,578437.388,+2413185.000\n",
+    "task 1,b,switches,1,2,1.000,0.000,2,1.000,0.000,+0.000\n",
+    "task 1,b,preempted,1,2,0.000,0.000,2,0.000,0.000,+0.000\n",
+    "task 1,b,migrated,1,2,0.000,0.000,2,0.000,0.000,+0.000\n",
+    "task 1,b,wakes,1,2,1.000,0.000,2,1.000,0.000,+0.000\n",
+    "task 1,b,p50,ns,2,4000000.000,0.000,2,6413185.000,578437.388,+2413185.000\n",
+    "task 1,b,p95,ns,2,4000000.000,0.000,2,6413185.000,578437.388,+2413185.000\n",
+    "task 1,b,p99,ns,2,4000000.000,0.000,2,6413185.000,578437.388,+2413185.000\n",
+    "task 1,b,max,ns,2,4000000.000,0.000,2,6413185.000,578437.388,+2413185.000\n",
+    "cpu 0,,busy,ns,2,12874500.000,1111656.712,2,12874500.000,1111656.712,+0.000\n",
+    "cpu 0,,idle,ns,2,0.000,0.000,2,0.000,0.000,+0.000\n",
+    "cpu 0,,switches,1,2,3.000,0.000,2,2.000,0.000,-1.000\n",
+    "cpu 0 preempt,,asked,1,2,0.000,0.000,2,4.000,0.000,+4.000\n",
+    "cpu 0 preempt,,steps,1,2,0.000,0.000,2,8.000,0.000,+8.000\n",
+);
+
+const REPORT: &str = concat!(
+    "of            name            figure    unit          mean     deviation\n",
+    "cpu 0                         busy      us       12874.500      1111.656\n",
+    "cpu 0                         idle      us           0.000         0.000\n",
+    "cpu 0                         switches               3.000         0.000\n",
+);
+
+const WIDE_REPORT: &str = concat!(
+    "of            name            figure    unit          mean     deviation       against  ",
+    "   deviation    difference\n",
+    "task 1        b               cpu       us        6084.272             -      6084.272  ",
+    "           -        +0.000\n",
+    "task 1        b               fair      us        5042.136             -      9086.356  ",
+    "           -     +4044.220\n",
+    "task 1        b               waited    us        4000.000             -      6004.168  ",
+    "           -     +2004.168\n",
+    "task 1        b               switches               1.000             -         1.000  ",
+    "           -        +0.000\n",
+    "task 1        b               preempted              0.000             -         0.000  ",
+    "           -        +0.000\n",
+    "task 1        b               migrated               0.000             -         0.000  ",
+    "           -        +0.000\n",
+    "task 1        b               wakes                  1.000             -         1.000  ",
+    "           -        +0.000\n",
+    "task 1        b               p50       us        4000.000             -      6004.168  ",
+    "           -     +2004.168\n",
+    "task 1        b               p95       us        4000.000             -      6004.168  ",
+    "           -     +2004.168\n",
+    "task 1        b               p99       us        4000.000             -      6004.168  ",
+    "           -     +2004.168\n",
+    "task 1        b               max       us        4000.000             -      6004.168  ",
+    "           -     +2004.168\n",
+);
+
+const JSON: &str = concat!(
+    "[\n",
+    "{\"against_deviation_thousandths\":1111656712,\"against_mean_thousandths\":12874500000,",
+    "\"deviation_thousandths\":1111656712,\"difference_thousandths\":0,\"figure\":\"busy\",\"",
+    "mean_thousandths\":12874500000,\"name\":\"\",\"of\":\"cpu 0\",\"runs\":2,\"unit\":\"ns\"",
+    "},\n",
+    "{\"against_deviation_thousandths\":0,\"against_mean_thousandths\":0,\"deviation_thousand",
+    "ths\":0,\"difference_thousandths\":0,\"figure\":\"idle\",\"mean_thousandths\":0,\"name\"",
+    ":\"\",\"of\":\"cpu 0\",\"runs\":2,\"unit\":\"ns\"},\n",
+    "{\"against_deviation_thousandths\":0,\"against_mean_thousandths\":2000,\"deviation_thous",
+    "andths\":0,\"difference_thousandths\":-1000,\"figure\":\"switches\",\"mean_thousandths\"",
+    ":3000,\"name\":\"\",\"of\":\"cpu 0\",\"runs\":2,\"unit\":\"1\"},\n",
+    "{\"against_deviation_thousandths\":0,\"against_mean_thousandths\":4000,\"deviation_thous",
+    "andths\":0,\"difference_thousandths\":4000,\"figure\":\"asked\",\"mean_thousandths\":0,",
+    "\"name\":\"\",\"of\":\"cpu 0 preempt\",\"runs\":2,\"unit\":\"1\"},\n",
+    "{\"against_deviation_thousandths\":0,\"against_mean_thousandths\":8000,\"deviation_thous",
+    "andths\":0,\"difference_thousandths\":8000,\"figure\":\"steps\",\"mean_thousandths\":0,",
+    "\"name\":\"\",\"of\":\"cpu 0 preempt\",\"runs\":2,\"unit\":\"1\"}\n",
+    "]\n",
+);
+
+/// Words of options, and what is written. A word of `--against` stands for the policy.
+const WRITTEN: [(&[&str], &str); 4] = [
+    (
+        &[
+            "--seeds",
+            "2",
+            "--against",
+            "p",
+            "--tasks",
+            "1",
+            "--as",
+            "csv",
+        ],
+        CSV,
+    ),
+    (&["--seeds", "2", "--tasks", "9"], REPORT),
+    (
+        &["--against", "p", "--tasks", "1", "--cpus", "1"],
+        WIDE_REPORT,
+    ),
+    (
+        &[
+            "--seeds",
+            "2",
+            "--against",
+            "p",
+            "--tasks",
+            "9",
+            "--as",
+            "json",
+        ],
+        JSON,
+    ),
+];
+
+/// Words that are refused, and why.
+const REFUSED: [(&[&str], AskedFault); 4] = [
+    (&["--seeds", "0"], AskedFault::Seeds),
+    (&["--seeds", "1001"], AskedFault::Seeds),
+    (&["--seeds", "2", "--as", "map"], AskedFault::TableForm),
+    (
+        &["--against", "none", "--as", "trace"],
+        AskedFault::TableForm,
+    ),
+];
+
+/// What is written with these words.
+fn shown(alloc: Global, words: &[&str]) -> Result<String, Fail> {
+    let Ok(words) = study_words(alloc, words) else {
+        return Err(Fail::from("the words are refused"));
+    };
+    let Ok(Some(asked)) = asked_comparison(alloc, &words) else {
+        return Err(Fail::from("nothing is compared"));
+    };
+    let Ok(mut workload) = read(alloc, WORKLOAD, Changes::NONE) else {
+        return Err(Fail::from("it is no workload"));
+    };
+    let mut others = Policies::new(alloc);
+    let Ok(()) = others.add_as_said(alloc, TO_THE_END.as_bytes()) else {
+        return Err(Fail::from("it is no policy"));
+    };
+    let others = if words.against.is_empty() {
+        None
+    } else {
+        Some(&others)
+    };
+    let Ok(sides) = compare(
+        alloc,
+        &mut workload,
+        &Policies::new(alloc),
+        others,
+        asked.seeds,
+    ) else {
+        return Err(Fail::from("it does not run"));
+    };
+    let lines = lines(alloc, &sides, &asked.window)?;
+    Ok(written(alloc, &workload, lines.as_slice(), asked.form)?)
+}
+
+#[test]
+fn tables_written(rt: HostRuntime) -> Result<(), Fail> {
+    for (words, text) in WRITTEN {
+        let shown = shown(rt.alloc(), words)?;
+        assert_eq!(rt; shown.as_str(), text);
+    }
+    Ok(())
+}
+
+#[test]
+fn words_refused(rt: HostRuntime) -> Result<(), Fail> {
+    for (words, why) in REFUSED {
+        let Ok(words) = study_words(rt.alloc(), words) else {
+            return Err(Fail::from("clap refuses the words"));
+        };
+        let Err(fault) = asked_comparison(rt.alloc(), &words) else {
+            return Err(Fail::from("they are taken"));
+        };
+        assert_eq!(rt; fault, why);
+    }
+    Ok(())
+}

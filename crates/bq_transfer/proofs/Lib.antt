@@ -1,0 +1,8 @@
+pub mod ResultLemmas
+pub mod PutLemmas
+pub mod StandingLemmas
+pub mod PlaceLemmas
+pub mod LoadLemmas
+pub mod CallLemmas
+pub mod WriteLemmas
+pub mod CounterLemmas

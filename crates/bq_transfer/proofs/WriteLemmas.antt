@@ -1,0 +1,146 @@
+-- What a store leaves known: on the stack, and in an entry.
+use Rattle.std.proofs.Common.{◌≡◌, ◌≢◌, ℕ, zero, suc, ◌+◌, ◌*◌, ◌^◌, ◌<◌, ◌≤◌, Bool, true, false, List, Option, Some, None, length, get_or, set, refl, sym, ap, subst, arith, ◌⊎◌, inl, inr, ℤ, get_or-set_same, get_or-set_other}
+use Rattle.std.specs.Prelude.{slice_index, IfSome}
+use Rattle.std.specs.Int.{byte_at as byte_of, bytes_low_first}
+use Rattle.std.proofs.lemmas.Bool.{cases_lt}
+use Rattle.std.proofs.lemmas.Bool.Decides.{eqb_tells}
+use Rattle.std.proofs.lemmas.List.{get_or_past}
+use Rattle.std.proofs.lemmas.Option.{slice_get_within}
+use Rattle.bq_insn.specs.declared.Size.{Size}
+use Rattle.bq_insn.specs.declared.Size.TheVariants.{Byte, Half, Word, Double}
+use Rattle.bq_insn.specs.declared.Insn.TheVariants.{StoreImm, StoreReg}
+use Rattle.bq_insn.specs.Meaning.{byte_count, word_of}
+use Rattle.bq_maps.specs.declared.shape.MapShape.{MapShape}
+use Rattle.bq_maps.specs.Memory.{Setting, State, Region, InStack, InEntry, IsGood, stack_with, written}
+use Rattle.bq_maps.specs.Machine.{address_of, low_bytes, next}
+use Rattle.bq_maps.proofs.ShapeLemmas.{have_overwritten}
+use Rattle.bq_ranges.specs.declared.range.Range.{Range}
+use Rattle.bq_ranges.specs.Within.{Within}
+use Rattle.bq_views.specs.declared.view.Kind.{Kind}
+use Rattle.bq_views.specs.declared.view.Kind.TheVariants.{Stack, Entry}
+use Rattle.bq_views.specs.declared.view.View.{View}
+use Rattle.bq_views.specs.declared.view.Known.{Known}
+use Rattle.bq_views.specs.Views.{Covers, Describes, Keeps, IsOfKind, keeping}
+use Rattle.bq_transfer.specs.Carries.{FindsPlace, IsWholeSlot, Stores, Carries}
+use Rattle.bq_views.proofs.StoreLemmas.{low_at, stored_bytes}
+use Rattle.bq_views.specs.Copies.{AreCopies, HasWord}
+use Rattle.bq_views.proofs.AccessLemmas.{entry_inside}
+
+-- as many bytes as the store has
+pub low_long : (size : Size) (v : ℕ) → length (low_bytes size v) ≡ byte_count size
+low_long Byte v = refl
+low_long Half v = refl
+low_long Word v = refl
+low_long Double v = refl
+
+byte_small : (i v : ℕ) → byte_of i v < 256
+byte_small zero v = omega arith
+byte_small (suc i) v = omega arith
+
+-- each is a byte
+pub low_small : (size : Size) (v k : ℕ) → slice_index (low_bytes size v) k < 256
+low_small size v k = at (cases_lt k (byte_count size))
+  where
+    at : (k < byte_count size) ⊎ (byte_count size ≤ k) → slice_index (low_bytes size v) k < 256
+    at (inl lt) = let e = low_at 0 (byte_count size) v k lt in rw e (byte_small (0 + k) v)
+    at (inr past) =
+        let beyond : length (low_bytes size v) ≤ k = omega (arith, low_long size v) in
+        rw (get_or_past (low_bytes size v) k 0 beyond) (omega arith)
+
+keeps_at : (f : Setting) (w : View) (t : State) (j i : ℕ) (k : Known) (b : Bool) → j < length w.kept → Keeps f.shapes (Some k) t.stack j → Covers f w t → ((b ≡ true) × (i ≡ j)) ⊎ ((b ≡ false) × (i ≢ j)) → Keeps f.shapes (get_or (set w.kept j (Some k)) i None) t.stack i
+keeps_at f w t j i k b there keeps covers (inl (_, same)) =
+    rw (same, get_or-set_same w.kept j (Some k) None there) keeps
+keeps_at f w t j i k b there keeps covers (inr (_, other)) =
+    subst (λ (v : Option Known). Keeps f.shapes v t.stack i) (sym (get_or-set_other w.kept j i (Some k) None other)) (covers.kept i)
+
+-- a slot whose word is known
+pub covers_keeping : (f : Setting) (w : View) (t : State) (j : ℕ) (k : Known) → j < length w.kept → Keeps f.shapes (Some k) t.stack j → Covers f w t → Covers f (keeping w j k) t
+covers_keeping f w t j k there keeps covers = record {
+  registers = covers.registers;
+  set = covers.set;
+  kept = λ i. keeps_at f w t j i k _ there keeps covers (eqb_tells i j);
+  parts = covers.parts;
+  maps = covers.maps;
+  copies = covers.copies;
+}
+
+-- bytes written into an entry
+pub covers_entry : (f : Setting) (v : View) (s : State) (m first address n o : ℕ) (bytes : List ℕ) → IsGood f address n (InEntry m first) o → length bytes ≡ n → ((k : ℕ) → slice_index bytes k < 256) → Covers f v s → Covers f v (next (written s (InEntry m first) o bytes))
+covers_entry f v s m first address n o bytes good long small covers =
+    let entry = good.spans.1 in
+    let inside = entry_inside f.shapes s.maps m first good.size covers.maps entry in
+    let there : m < length f.shapes = slice_get_within f.shapes m entry.shape entry.known in
+    record {
+      registers = covers.registers;
+      set = covers.set;
+      kept = covers.kept;
+      parts = covers.parts;
+      copies = covers.copies;
+      maps = have_overwritten f.shapes s.maps m (first + o) bytes covers.maps there (omega (arith, good.inside, long, inside)) small;
+    }
+
+-- the word in a slot that was written whole
+slot_word : (shapes : List MapShape) (s : State) (k : Known) (at : Range) (size : Size) (o v n : ℕ) → IsWholeSlot at size n → Within at o → Describes shapes k v → HasWord (written s InStack o (low_bytes size v)) (11 + n) v
+slot_word shapes s k at size o v n (there, double, low, high) within d =
+    let place : 8 * n ≡ o = omega (arith, within) in
+    let is : low_bytes size v ≡ bytes_low_first 0 8 v = ap (λ (z : Size). low_bytes z v) double in
+    let whole = stored_bytes s.stack n v (low_bytes size v) is (ap length is) in
+    let small : v < 2 ^ 64 = omega (arith, d.word_is) in
+    let bytes = subst (λ (p : ℕ). (i : ℕ) → i < 8 → stack_with s.stack p (low_bytes size v) (8 * n + i) ≡ Some (byte_of i v)) place whole in (
+      λ lt. absurd (let no : ⊥ = omega (arith, lt) in no),
+      λ j is. let same : n ≡ j = omega (arith, is) in (small, subst (λ (m : ℕ). (i : ℕ) → i < 8 → stack_with s.stack o (low_bytes size v) (8 * m + i) ≡ Some (byte_of i v)) same bytes),
+    )
+
+some_slot : (slot : Option ℕ) (n : ℕ) (P : ℕ → Type 0) → IfSome slot P → slot ≡ Some n → P n
+some_slot None n P h e = absurd (let no : ⊥ = cc in no)
+some_slot (Some m) n P h e = let same : m ≡ n = cc in subst P same h
+
+-- a store on the stack
+pub stores_on_stack : (shapes : List MapShape) (context_length dst : ℕ) (off : ℤ) (size : Size) (k : Known) (at : Range) (kind : Kind) (old new : View) (slot : Option ℕ) → IfSome slot (IsWholeSlot at size) → kind ≡ Stack → FindsPlace shapes context_length old dst off size kind at → ((f : Setting) (s : State) (o v : ℕ) → Covers f old s → Within at o → Describes f.shapes k v → Covers f new (next (written s InStack o (low_bytes size v)))) → Stores shapes context_length dst off size k old new slot
+stores_on_stack shapes context_length dst off size k at kind old new slot whole stack finds after f s v suits covers d =
+    let found = finds f s suits covers in
+    let region : found.1 ≡ InStack = subst (λ (x : Kind). IsOfKind x found.1) stack found.5 in
+    let good = subst (λ (r : Region). IsGood f (address_of found.0 off) (byte_count size) r found.2) region found.4 in (
+      found.0,
+      written s InStack found.2 (low_bytes size v),
+      found.3,
+      record { region = InStack; offset = found.2; writable = tt; good = rw (low_long size v) good; after = refl },
+      after f s found.2 v covers found.6 d,
+      refl,
+      refl,
+      λ n is. slot_word f.shapes s k at size found.2 v n (some_slot slot n (IsWholeSlot at size) whole is) found.6 d,
+    )
+
+-- a store into an entry
+pub stores_in_entry : (shapes : List MapShape) (context_length dst : ℕ) (off : ℤ) (size : Size) (k : Known) (at : Range) (kind : Kind) (m : ℕ) (view : View) → kind ≡ Entry m → FindsPlace shapes context_length view dst off size kind at → Stores shapes context_length dst off size k view view None
+stores_in_entry shapes context_length dst off size k at kind m view entry finds f s v suits covers d =
+    let found = finds f s suits covers in
+    let into : (first : ℕ) × (found.1 ≡ InEntry m first) = subst (λ (x : Kind). IsOfKind x found.1) entry found.5 in
+    let good = subst (λ (r : Region). IsGood f (address_of found.0 off) (byte_count size) r found.2) into.1 found.4 in (
+      found.0,
+      written s (InEntry m into.0) found.2 (low_bytes size v),
+      found.3,
+      record { region = InEntry m into.0; offset = found.2; writable = tt; good = rw (low_long size v) good; after = refl },
+      covers_entry f view s m into.0 (address_of found.0 off) (byte_count size) found.2 (low_bytes size v) good (low_long size v) (low_small size v) covers,
+      refl,
+      refl,
+      λ n is. absurd (let no : ⊥ = cc in no),
+    )
+
+pub carries_imm : (shapes : List MapShape) (context_length dst : ℕ) (off imm : ℤ) (size : Size) (k : Known) (old new : View) (slot : Option ℕ) → ((f : Setting) → Describes f.shapes k (word_of imm)) → Stores shapes context_length dst off size k old new slot → Carries shapes context_length (StoreImm size dst off imm) old new
+carries_imm shapes context_length dst off imm size k old new slot word stores f s suits covers =
+    let on = stores f s (word_of imm) suits covers (word f) in
+    (next on.1, (on.0, on.1, on.2, on.3, refl), on.4, ap (λ (n : ℕ). n + 1) on.5)
+
+-- a view with other classes, which are right
+pub covers_classes : (f : Setting) (v : View) (t : State) (classes : List ℕ) → AreCopies classes t → Covers f v t → Covers f (record v { classes = classes }) t
+covers_classes f v t classes copies covers = record { registers = covers.registers; set = covers.set; kept = covers.kept; parts = covers.parts; maps = covers.maps; copies = copies }
+
+pub carries_reg : (shapes : List MapShape) (context_length dst src : ℕ) (off : ℤ) (size : Size) (k : Known) (old new : View) (slot : Option ℕ) (classes : List ℕ) → ((f : Setting) (s : State) → Covers f old s → (v : ℕ) × (s.register src ≡ Some v) × Describes f.shapes k v) → Stores shapes context_length dst off size k old new slot → ((t : State) (v : ℕ) → AreCopies new.classes t → t.register src ≡ Some v → ((n : ℕ) → slot ≡ Some n → HasWord t (11 + n) v) → AreCopies classes t) → Carries shapes context_length (StoreReg size dst off src) old (record new { classes = classes })
+carries_reg shapes context_length dst src off size k old new slot classes word stores linked f s suits covers =
+    let v = word f s covers in
+    let on = stores f s v.0 suits covers v.2 in
+    let same : on.1.register ≡ s.register = on.6 in
+    let is : on.1.register src ≡ Some v.0 = rw same v.1 in
+    let after = on.4 in
+    (next on.1, (on.0, v.0, on.1, on.2, v.1, on.3, refl), covers_classes f new (next on.1) classes (linked (next on.1) v.0 after.copies is on.7) after, ap (λ (n : ℕ). n + 1) on.5)

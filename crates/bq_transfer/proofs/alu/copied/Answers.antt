@@ -1,0 +1,12 @@
+use Rattle.bq_views.proofs.WordLemmas.{number_within, number_is}
+use Rattle.bq_transfer.proofs.ResultLemmas.{copied_word, left_is_free}
+use Rattle.bq_transfer.proofs.alu.copied.Goals as goal
+
+pub returns-in-W64-default-clause-describes : goal.returns-in-W64-default-clause-describes
+returns-in-W64-default-clause-describes c = λ shapes x y d. rw c.in-W64-default.is-0 (copied_word shapes c.args.word x y d)
+
+pub returns-in-W32-Number-clause-describes : goal.returns-in-W32-Number-clause-describes
+returns-in-W32-Number-clause-describes c = λ shapes x y d.
+    let w = number_within shapes c.args.word y c.in-W32-Number.is-1 d in
+    let outcome = c.alu.ensures.holds y y w w in
+    number_is shapes c.alu.result _ (rw (c.in-W32-Number.is-0, left_is_free x y) (rw c.in-W32-Number.is-0 at outcome))

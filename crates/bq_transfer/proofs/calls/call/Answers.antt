@@ -1,0 +1,110 @@
+use Rattle.std.proofs.Common.{ℕ, pos, subst, sym, refl, ap, inl, inr, ◌∙◌, ℤ, false, true, arith, ◌≡◌, ◌≢◌, rules}
+use Rattle.bq_insn.specs.declared.Insn.{Insn}
+use Rattle.bq_transfer.specs.After.{After}
+use Rattle.bq_transfer.proofs.StandingLemmas.{has_answered, has_looked_up}
+use Rattle.bq_insn.specs.declared.Insn.TheVariants.{Call}
+use mir.Syntax.{w32}
+use mir.Val.{SFits}
+use Rattle.std.proofs.lemmas.Int.{ints}
+use Rattle.bq_transfer.proofs.calls.call.Goals as goal
+
+pub returns-then-helper-eq1-clause-carries : goal.returns-then-helper-eq1-clause-carries
+returns-then-helper-eq1-clause-carries c =
+    let fits : SFits w32 c.args.helper = search rules in
+    let is : c.args.helper ≡ pos 1 = omega (arith, ints) in
+    rw is c.in_ok-look_up.ensures.carries
+
+pub returns-then-helper-eq5-clause-carries : goal.returns-then-helper-eq5-clause-carries
+returns-then-helper-eq5-clause-carries c =
+    let fits : SFits w32 c.args.helper = search rules in
+    let is : c.args.helper ≡ pos 5 = omega (arith, ints) in
+    rw is (c.now.ensures.carries c.args.shapes.now c.args.context)
+
+pub returns-then-helper-eq8-clause-carries : goal.returns-then-helper-eq8-clause-carries
+returns-then-helper-eq8-clause-carries c =
+    let fits : SFits w32 c.args.helper = search rules in
+    let is : c.args.helper ≡ pos 8 = omega (arith, ints) in
+    rw is (c.processor.ensures.carries c.args.shapes.now c.args.context)
+
+pub returns-then-helper-eq2-clause-carries : goal.returns-then-helper-eq2-clause-carries
+returns-then-helper-eq2-clause-carries c =
+    let fits : SFits w32 c.args.helper = search rules in
+    let is : c.args.helper ≡ pos 2 = omega (arith, ints) in
+    rw is c.in_ok-update.ensures.carries
+
+pos_is : (a b : ℕ) → pos a ≡ pos b → a ≡ b
+pos_is a b e = cc
+
+pub returns-in_err-look_up-clause-accepts : goal.returns-in_err-look_up-clause-accepts
+returns-in_err-look_up-clause-accepts c = λ ready.
+    let fits : SFits w32 c.args.helper = search rules in
+    let is : c.args.helper ≡ pos 1 = omega (arith, ints) in
+    elim ready [
+      | inl either ↦
+          elim either [
+            | inl e ↦ absurd (let numbers = pos_is 5 1 (sym e ∙ is) in omega (arith, numbers))
+            | inr e ↦ absurd (let numbers = pos_is 8 1 (sym e ∙ is) in omega (arith, numbers))
+          ]
+      | inr rest ↦
+          elim rest [
+            | inl n ↦ absurd (let ok : false ≡ true = (c.in_err-look_up.ensures.accepts n.1 n.2).0 in let refuted : ⊥ = cc in refuted)
+            | inr n ↦ absurd (let numbers = pos_is 2 1 (sym n.0 ∙ is) in omega (arith, numbers))
+          ]
+    ]
+
+pub returns-then-helper-eq1-clause-accepts : goal.returns-then-helper-eq1-clause-accepts
+returns-then-helper-eq1-clause-accepts c = λ ready.
+    let fits : SFits w32 c.args.helper = search rules in
+    let is : c.args.helper ≡ pos 1 = omega (arith, ints) in
+    elim ready [
+      | inl either ↦
+          elim either [
+            | inl e ↦ absurd (let numbers = pos_is 5 1 (sym e ∙ is) in omega (arith, numbers))
+            | inr e ↦ absurd (let numbers = pos_is 8 1 (sym e ∙ is) in omega (arith, numbers))
+          ]
+      | inr rest ↦
+          elim rest [
+            | inl n ↦ (
+              refl,
+              λ x slot k after.
+                  has_looked_up x slot k n.1 c.args.view.now c.look_up.new.view n.2.names (c.in_ok-look_up.ensures.accepts n.1 n.2).1
+                  (subst (λ (i : Insn). After x slot k i c.args.view.now) (ap (λ (h : ℤ). Call h) is) after),
+            )
+            | inr n ↦ absurd (let numbers = pos_is 2 1 (sym n.0 ∙ is) in omega (arith, numbers))
+          ]
+    ]
+
+pub returns-in_err-update-clause-accepts : goal.returns-in_err-update-clause-accepts
+returns-in_err-update-clause-accepts c = λ ready.
+    let fits : SFits w32 c.args.helper = search rules in
+    let is : c.args.helper ≡ pos 2 = omega (arith, ints) in
+    elim ready [
+      | inl either ↦
+          elim either [
+            | inl e ↦ absurd (let numbers = pos_is 5 2 (sym e ∙ is) in omega (arith, numbers))
+            | inr e ↦ absurd (let numbers = pos_is 8 2 (sym e ∙ is) in omega (arith, numbers))
+          ]
+      | inr rest ↦
+          elim rest [
+            | inl n ↦ absurd (let numbers = pos_is 1 2 (sym n.0 ∙ is) in omega (arith, numbers))
+            | inr n ↦ absurd (let ok : false ≡ true = (c.in_err-update.ensures.accepts n.1 n.2).0 in let refuted : ⊥ = cc in refuted)
+          ]
+    ]
+
+pub returns-then-helper-eq2-clause-accepts : goal.returns-then-helper-eq2-clause-accepts
+returns-then-helper-eq2-clause-accepts c = λ ready.
+    let fits : SFits w32 c.args.helper = search rules in
+    let is : c.args.helper ≡ pos 2 = omega (arith, ints) in
+    let other : c.args.helper ≢ pos 1 = λ e. (let numbers = pos_is 1 2 (sym e ∙ is) in omega (arith, numbers)) in
+    elim ready [
+      | inl either ↦
+          elim either [
+            | inl e ↦ absurd (let numbers = pos_is 5 2 (sym e ∙ is) in omega (arith, numbers))
+            | inr e ↦ absurd (let numbers = pos_is 8 2 (sym e ∙ is) in omega (arith, numbers))
+          ]
+      | inr rest ↦
+          elim rest [
+            | inl n ↦ absurd (other n.0)
+            | inr n ↦ (refl, λ x slot k after. has_answered x slot k c.args.helper c.args.view.now c.update.new.view other (c.in_ok-update.ensures.accepts n.1 n.2).1 after)
+          ]
+    ]

@@ -1,0 +1,23 @@
+use Rattle.std.proofs.Common.{◌≡◌, ℤ, pos, sym, subst, arith, rules, ⊎_elim}
+use Rattle.std.proofs.lemmas.Int.{ints}
+use mir.Syntax.{w32}
+use mir.Val.{SFits}
+use Rattle.bq_insn.specs.declared.Insn.{Insn}
+use Rattle.bq_insn.specs.declared.Insn.TheVariants.{Call}
+use Rattle.bq_transfer.specs.Carries.{AsksFrom}
+use Rattle.bq_transfer.proofs.counters.ask.Goals as goal
+
+pub returns-then-helper-eq100-clause-asks : goal.returns-then-helper-eq100-clause-asks
+returns-then-helper-eq100-clause-asks c =
+    let fits : SFits w32 c.in-Call.helper = search rules in
+    let is : c.in-Call.helper ≡ pos 100 = omega (arith, ints) in
+    subst (λ (i : Insn). AsksFrom i c.args.view.now c.add.new.view) (sym c.in-Call.is)
+    (subst (λ (h : ℤ). AsksFrom (Call h) c.args.view.now c.add.new.view) (sym is) c.in_ok-add-in-Call.ensures.asks)
+
+pub returns-clause-asks : goal.returns-clause-asks
+returns-clause-asks c =
+    let fits : SFits w32 c.in-Call.helper = search rules in
+    let counter = rw c.in-Call.is at c.requires in
+    let is : c.in-Call.helper ≡ pos 101 = ⊎_elim (λ (e : c.in-Call.helper ≡ pos 100). absurd (omega (arith, ints, e))) (λ (e : c.in-Call.helper ≡ pos 101). e) counter in
+    subst (λ (i : Insn). AsksFrom i c.args.view.now c.read.new.view) (sym c.in-Call.is)
+    (subst (λ (h : ℤ). AsksFrom (Call h) c.args.view.now c.read.new.view) (sym is) c.in_ok-read-in-Call.ensures.asks)

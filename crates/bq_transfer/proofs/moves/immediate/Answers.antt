@@ -1,0 +1,12 @@
+use Rattle.std.proofs.Common.{refl, arith, length, ◌<◌}
+use Rattle.bq_insn.specs.declared.Insn.TheVariants.{Imm64}
+use Rattle.bq_transfer.proofs.PutLemmas.{carries_put}
+use Rattle.bq_views.proofs.WordLemmas.{number_is}
+use Rattle.bq_transfer.proofs.moves.immediate.Goals as goal
+
+pub returns-clause-carries : goal.returns-clause-carries
+returns-clause-carries c = λ shapes context_length.
+    let there : c.args.dst < length c.args.view.now.registers = omega (arith, c.requires) in
+    rw c.learn_number.ensures.is
+    (carries_put shapes context_length (Imm64 c.args.dst c.args.value) c.args.view.now c.args.dst _ there
+    (λ f s suits covers. (c.args.value, (c.requires, refl), number_is f.shapes c.single.result c.args.value (omega (arith, c.single.ensures.lo), omega (arith, c.single.ensures.hi)))))

@@ -1,0 +1,15 @@
+use Rattle.std.proofs.Common.{refl, arith, length, ◌<◌}
+use Rattle.bq_insn.specs.declared.Insn.TheVariants.{End}
+use Rattle.bq_insn.specs.Meaning.{reordered}
+use Rattle.bq_transfer.proofs.PutLemmas.{carries_put}
+use Rattle.bq_views.proofs.WordLemmas.{number_is}
+use Rattle.bq_transfer.proofs.moves.reorder.Goals as goal
+
+pub returns-clause-carries : goal.returns-clause-carries
+returns-clause-carries c = λ shapes context_length.
+    let there : c.args.dst < length c.args.view.now.registers = omega (arith, c.requires) in
+    rw c.learn_number.ensures.is
+    (carries_put shapes context_length (End c.args.kind c.args.bits c.args.dst) c.args.view.now c.args.dst _ there
+    (λ f s suits covers.
+    let word = c.in_ok-word.ensures.holds f s covers in
+    (reordered c.args.kind c.args.bits word.0, (word.0, word.1, c.requires, refl), number_is f.shapes c.reorder.result (reordered c.args.kind c.args.bits word.0) (c.reorder.ensures.holds word.0 word.2))))

@@ -1,0 +1,88 @@
+-- What is sure of a view after an instruction, by the view before it.
+use Rattle.std.specs.Prelude.{◌≡◌, ◌≢◌, ℕ, ◌+◌, ◌<◌, ◌≤◌, ℤ, pos, ◌+ℤ◌, Some, ◌⊎◌}
+use Rattle.bq_insn.specs.Meaning.{byte_count, word_of}
+use Rattle.bq_insn.specs.declared.Condition.TheVariants.{Equal, NotEqual}
+use Rattle.bq_insn.specs.declared.Condition.{Condition}
+use Rattle.bq_insn.specs.declared.Insn.TheVariants.{Alu, StoreImm, StoreReg, MapRef, Branch, Call}
+use Rattle.bq_insn.specs.declared.Insn.{Insn}
+use Rattle.bq_insn.specs.declared.Operation.TheVariants.{Add, Mov}
+use Rattle.bq_insn.specs.declared.Size.{Size}
+use Rattle.bq_insn.specs.declared.Source.TheVariants.{Imm, Reg}
+use Rattle.bq_insn.specs.declared.Width.TheVariants.{W64}
+use Rattle.bq_maps.specs.Machine.{LeadsTo}
+use Rattle.bq_graph.specs.Faults.{destination_of}
+use Rattle.bq_views.specs.Standing.{Scalar, Exact, Pointer, NoPointer, StandsAt, Fact, Never, AtRegister, IsSetAt, IsPlainAt, Has}
+use Rattle.bq_views.specs.Told.{IsCertain}
+use Rattle.bq_views.specs.declared.view.Kind.TheVariants.{Entry, EntryOrNull, Map}
+use Rattle.bq_views.specs.declared.view.Kind.{Kind}
+use Rattle.bq_views.specs.declared.view.View.{View}
+
+-- the instruction gives the register a number
+abbrev pub GivesNumber : Insn → ℕ → Type 0
+GivesNumber (Alu w Mov dst (Imm i)) r = dst ≡ r
+GivesNumber (Alu w Mov dst (Reg src)) r = (dst ≡ r) × (src ≢ 10)
+GivesNumber (Alu w op dst src) r = ⊥
+GivesNumber (MapRef dst index) r = ⊥
+GivesNumber (Call helper) r = (r ≡ 0) × (helper ≢ pos 1)
+GivesNumber insn r = destination_of insn ≡ Some r
+
+-- a number in the register stays a number
+abbrev pub LeavesNumber : Insn → ℕ → Type 0
+LeavesNumber (Alu w Mov dst src) r = dst ≢ r
+LeavesNumber (Alu w op dst src) r = Unit {0}
+LeavesNumber (Call helper) r = 6 ≤ r
+LeavesNumber insn r = destination_of insn ≡ Some r → ⊥
+
+-- the instruction gives the register that number
+abbrev pub GivesExact : ℕ → Insn → ℕ → Type 0
+GivesExact n (Alu w Mov dst (Imm i)) r = (w ≡ W64) × (dst ≡ r) × (n ≡ word_of i)
+GivesExact n insn r = ⊥
+
+-- the instruction is no test of the register
+abbrev pub IsNoTestOf : Insn → ℕ → Type 0
+IsNoTestOf (Branch w c dst src off) r = r ≢ dst
+IsNoTestOf insn r = Unit {0}
+
+-- the instruction leaves the register as it is
+abbrev pub Spares : Insn → ℕ → Type 0
+Spares (Call helper) r = 6 ≤ r
+Spares insn r = destination_of insn ≡ Some r → ⊥
+
+abbrev pub LeavesPointer : Kind → Insn → Type 0
+LeavesPointer kind (Branch w c dst src off) = IsCertain kind
+LeavesPointer kind insn = Unit {0}
+
+-- from the test at that slot control goes to the other one where the operands differ, and only then
+abbrev pub IsFoundSide : Condition → ℤ → ℕ → ℕ → Type 0
+IsFoundSide Equal off slot to = (to ≡ slot + 1) × (LeadsTo slot off to → ⊥)
+IsFoundSide NotEqual off slot to = LeadsTo slot off to × (to ≢ slot + 1)
+IsFoundSide _ off slot to = ⊥
+
+-- the instruction gives the register such a pointer, by the view before it: a map's name, a copy, a sum, a look-up's answer, and what a test leaves of it
+abbrev pub GivesPointer : Kind → ℕ → ℕ → ℕ → Insn → ℕ → View → Type 0
+GivesPointer kind o slot k (MapRef dst index) r view = (dst ≡ r) × (m : ℕ) × (index ≡ pos m) × (kind ≡ Map m) × (o ≡ 0)
+GivesPointer kind o slot k (Alu w Mov dst (Reg src)) r view = (dst ≡ r) × (src ≡ 10) × StandsAt (Pointer kind o) view 10
+GivesPointer kind o slot k (Alu w Add dst (Imm i)) r view = (dst ≡ r) × (base : ℕ) × StandsAt (Pointer kind base) view dst × (pos o ≡ (pos base +ℤ i))
+GivesPointer kind o slot k (Call helper) r view = (r ≡ 0) × (helper ≡ pos 1) × (m : ℕ) × (kind ≡ EntryOrNull m) × (o ≡ 0) × StandsAt (Pointer (Map m) 0) view 1
+GivesPointer kind o slot k (Branch w c dst src off) r view =
+    (dst ≡ r) × (m : ℕ) × (kind ≡ Entry m) × (o ≡ 0) × StandsAt (Pointer (EntryOrNull m) 0) view dst × IsFoundSide c off slot k
+GivesPointer kind o slot k insn r view = ⊥
+
+-- the byte of the stack is one of those that the instruction stores by register 10
+abbrev pub IsStackByte : Size → ℤ → ℕ → Type 0
+IsStackByte size off i = (at : ℕ) × (pos at ≡ (pos 512 +ℤ off)) × (at ≤ i) × (i < at + byte_count size)
+
+abbrev pub StoresByte : Insn → ℕ → Type 0
+StoresByte (StoreImm size dst off imm) i = (dst ≡ 10) × IsStackByte size off i
+StoresByte (StoreReg size dst off src) i = (dst ≡ 10) × IsStackByte size off i
+StoresByte insn i = ⊥
+
+-- what is sure after an instruction on the way to a slot: what it made so, or what was so and it left so
+abbrev pub After : Fact → ℕ → ℕ → Insn → View → Type 0
+After Never slot k insn view = ⊥
+After (AtRegister Scalar r) slot k insn view = GivesNumber insn r ⊎ (LeavesNumber insn r × Has (AtRegister Scalar r) view)
+After (AtRegister (Exact n) r) slot k insn view = GivesExact n insn r ⊎ (Spares insn r × IsNoTestOf insn r × Has (AtRegister (Exact n) r) view)
+After (AtRegister (Pointer kind o) r) slot k insn view = GivesPointer kind o slot k insn r view ⊎ (Spares insn r × LeavesPointer kind insn × Has (AtRegister (Pointer kind o) r) view)
+After (AtRegister NoPointer r) slot k insn view = ⊥
+After (IsSetAt i) slot k insn view = StoresByte insn i ⊎ Has (IsSetAt i) view
+After (IsPlainAt j) slot k insn view = Has (IsPlainAt j) view

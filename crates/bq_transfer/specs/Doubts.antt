@@ -1,0 +1,65 @@
+-- What may not be shown of which instruction.
+use Rattle.std.specs.Prelude.{◌≡◌, ℕ}
+use Rattle.bq_insn.specs.declared.Insn.{Insn}
+use Rattle.bq_insn.specs.declared.Insn.TheVariants.{Alu, MovSx, Neg, End, Load, StoreImm, StoreReg, MapRef, Branch, Call, Exit}
+use Rattle.bq_insn.specs.declared.Operation.{Operation}
+use Rattle.bq_insn.specs.declared.Operation.TheVariants.{Mov}
+use Rattle.bq_insn.specs.declared.Source.{Source}
+use Rattle.bq_insn.specs.declared.Source.TheVariants.{Reg}
+use Rattle.bq_insn.specs.declared.Width.{Width}
+use Rattle.bq_insn.specs.declared.Width.TheVariants.{W32}
+use Rattle.bq_transfer.specs.declared.doubt.Doubt.{Doubt}
+use Rattle.bq_transfer.specs.declared.doubt.Doubt.TheVariants.{Unset, Access, PointerUse, Argument, Answer}
+
+abbrev pub IsAccess : Insn → Type 0
+IsAccess (Load size signed dst src off) = Unit {0}
+IsAccess (StoreImm size dst off imm) = Unit {0}
+IsAccess (StoreReg size dst off src) = Unit {0}
+IsAccess _ = ⊥
+
+abbrev pub TakesArgument : Insn → Type 0
+TakesArgument (MapRef dst index) = Unit {0}
+TakesArgument (Call helper) = Unit {0}
+TakesArgument _ = ⊥
+
+abbrev pub IsExit : Insn → Type 0
+IsExit Exit = Unit {0}
+IsExit _ = ⊥
+
+-- all arithmetic but a move of a number from the instruction
+abbrev pub ReadsRegister : Operation → Source → Type 0
+ReadsRegister op src = op ≡ Mov → (r : ℕ) × (src ≡ Reg r)
+
+-- the instruction reads a register as an operand; those of a call are arguments, and that of an EXIT is the answer
+abbrev pub ReadsOperand : Insn → Type 0
+ReadsOperand (Alu w op dst src) = ReadsRegister op src
+ReadsOperand (MovSx w bits dst src) = Unit {0}
+ReadsOperand (Neg w dst) = Unit {0}
+ReadsOperand (End order bits dst) = Unit {0}
+ReadsOperand (Load size signed dst src off) = Unit {0}
+ReadsOperand (StoreImm size dst off imm) = Unit {0}
+ReadsOperand (StoreReg size dst off src) = Unit {0}
+ReadsOperand (Branch w c dst src off) = Unit {0}
+ReadsOperand _ = ⊥
+
+-- all arithmetic but a move of 64 bits and a move of a number from the instruction
+abbrev pub Calculates : Width → Operation → Source → Type 0
+Calculates w op src = op ≡ Mov → (w ≡ W32) × (r : ℕ) × (src ≡ Reg r)
+
+-- the instruction calculates with, stores or compares what a register holds
+abbrev pub UsesWord : Insn → Type 0
+UsesWord (Alu w op dst src) = Calculates w op src
+UsesWord (MovSx w bits dst src) = Unit {0}
+UsesWord (Neg w dst) = Unit {0}
+UsesWord (End order bits dst) = Unit {0}
+UsesWord (StoreReg size dst off src) = Unit {0}
+UsesWord (Branch w c dst src off) = Unit {0}
+UsesWord _ = ⊥
+
+-- an operand where one is read, a pointer's use where a word is used, an access at a load or a store, an argument at a call or a map reference, an answer at an EXIT
+abbrev pub MayDoubt : Doubt → Insn → Type 0
+MayDoubt Unset insn = ReadsOperand insn
+MayDoubt PointerUse insn = UsesWord insn
+MayDoubt Access insn = IsAccess insn
+MayDoubt Argument insn = TakesArgument insn
+MayDoubt Answer insn = IsExit insn

@@ -1,0 +1,154 @@
+-- What each instruction needs of the view before it, so that nothing is left to be shown.
+use Rattle.std.specs.Prelude.{length, ◌≡◌, ◌≢◌, ℕ, ◌+◌, ◌<◌, ◌≤◌, ℤ, pos, ◌+ℤ◌, List, Option, Some, None, slice_get, slice_index_or, ◌⊎◌}
+use Rattle.bq_insn.specs.Meaning.{byte_count}
+use Rattle.bq_insn.specs.declared.Condition.TheVariants.{Equal, NotEqual}
+use Rattle.bq_insn.specs.declared.Condition.{Condition}
+use Rattle.bq_insn.specs.declared.Insn.TheVariants.{Alu, MovSx, Neg, End, Load, StoreImm, StoreReg, Imm64, MapRef, Goto, Goto32, Branch, Call, Exit}
+use Rattle.bq_insn.specs.declared.Insn.{Insn}
+use Rattle.bq_insn.specs.declared.Operation.TheVariants.{Add, Mov}
+use Rattle.bq_insn.specs.declared.Operation.{Operation}
+use Rattle.bq_insn.specs.declared.Size.{Size}
+use Rattle.bq_insn.specs.declared.Source.TheVariants.{Imm, Reg}
+use Rattle.bq_insn.specs.declared.Source.{Source}
+use Rattle.bq_insn.specs.declared.Width.TheVariants.{W64}
+use Rattle.bq_insn.specs.declared.Width.{Width}
+use Rattle.bq_maps.specs.declared.shape.MapShape.{MapShape}
+use Rattle.bq_graph.specs.Faults.{destination_of}
+use Rattle.bq_views.specs.Standing.{Scalar, Pointer, StandsAt, IsSetAt, IsPlainAt, Has, IsScalarOperand}
+use Rattle.bq_views.specs.Views.{bound_of, size_of_shape}
+use Rattle.bq_views.specs.declared.view.Kind.TheVariants.{Number, Stack, Entry, EntryOrNull, Map}
+use Rattle.bq_views.specs.declared.view.Kind.{Kind}
+use Rattle.bq_views.specs.declared.view.Known.{Known}
+use Rattle.bq_views.specs.declared.view.View.{View}
+
+-- the first operand of an arithmetic instruction, which a MOV has not
+abbrev pub IsLeftReady : Operation → View → ℕ → Type 0
+IsLeftReady Mov view dst = Unit {0}
+IsLeftReady _ view dst = StandsAt Scalar view dst
+
+-- an access by the register lies there, inside what the register points to
+pub record IsPlaced (shapes : List MapShape) (context : ℕ) (view : View) (size : Size) (r : ℕ) (off : ℤ) (kind : Kind) (at : ℕ) : Type 0 where
+  pub base : ℕ
+  pub stands : StandsAt (Pointer kind base) view r
+  pub at_is : pos at ≡ (pos base +ℤ off)
+  pub bound : ℕ
+  pub bound_is : bound_of shapes context kind ≡ Some bound
+  pub inside : at + byte_count size ≤ bound
+
+-- a load of what may be read: on the stack, of bytes that are set, and no pointer is kept there
+pub record IsReadable (shapes : List MapShape) (context : ℕ) (view : View) (size : Size) (r : ℕ) (off : ℤ) : Type 0 where
+  pub kind : Kind
+  pub at : ℕ
+  pub placed : IsPlaced shapes context view size r off kind at
+  pub set : kind ≡ Stack → (i : ℕ) → at ≤ i → i < at + byte_count size → Has (IsSetAt i) view
+  pub plain : (j : ℕ) → Has (IsPlainAt j) view
+
+-- a store on the stack
+pub record IsOnFrame (shapes : List MapShape) (context : ℕ) (view : View) (size : Size) (r : ℕ) (off : ℤ) : Type 0 where
+  pub at : ℕ
+  pub at_is : pos at ≡ (pos 512 +ℤ off)
+  pub placed : IsPlaced shapes context view size r off Stack at
+
+-- a store into an entry
+pub record IsIntoEntry (shapes : List MapShape) (context : ℕ) (view : View) (size : Size) (r : ℕ) (off : ℤ) : Type 0 where
+  pub map : ℕ
+  pub at : ℕ
+  pub placed : IsPlaced shapes context view size r off (Entry map) at
+  pub other : r ≢ 10
+
+-- a copy of register 10
+pub record IsCopyOfFrame (view : View) (w : Width) (op : Operation) (src : Source) : Type 0 where
+  pub is_copy : op ≡ Mov
+  pub whole : w ≡ W64
+  pub of_frame : src ≡ Reg 10
+  pub base : ℕ
+  pub stands : StandsAt (Pointer Stack base) view 10
+
+-- a sum of a pointer into the stack and a number
+pub record IsMoveOfPointer (view : View) (w : Width) (op : Operation) (dst : ℕ) (src : Source) : Type 0 where
+  pub is_sum : op ≡ Add
+  pub whole : w ≡ W64
+  pub distance : ℤ
+  pub by_distance : src ≡ Imm distance
+  pub base : ℕ
+  pub stands : StandsAt (Pointer Stack base) view dst
+  pub at : ℕ
+  pub at_is : pos at ≡ (pos base +ℤ distance)
+  pub below : base ≤ 512
+  pub small : at ≤ 512
+
+-- a look-up: register 1 names a map, and register 2 points to four bytes of the stack that are set
+pub record IsNamingEntry (view : View) (map : ℕ) : Type 0 where
+  pub names : StandsAt (Pointer (Map map) 0) view 1
+  pub at : ℕ
+  pub points : StandsAt (Pointer Stack at) view 2
+  pub inside : at + 4 ≤ 512
+  pub set : (i : ℕ) → at ≤ i → i < at + 4 → Has (IsSetAt i) view
+
+-- a number of at most so much
+abbrev pub IsAtMost : ℕ → Option Known → Type 0
+IsAtMost most None = ⊥
+IsAtMost most (Some k) = (k.kind ≡ Number) × (k.offset.hi ≤ most)
+
+-- an update: as a look-up, and register 3 points to bytes of the stack that are set, as many as a value has, and register 4 is 0
+pub record IsUpdating (shapes : List MapShape) (view : View) (map : ℕ) : Type 0 where
+  pub names : IsNamingEntry view map
+  pub size : ℕ
+  pub size_is : size_of_shape (slice_get shapes map) ≡ Some size
+  pub at : ℕ
+  pub points : StandsAt (Pointer Stack at) view 3
+  pub inside : at + size ≤ 512
+  pub set : (i : ℕ) → at ≤ i → i < at + size → Has (IsSetAt i) view
+  pub flags : IsAtMost 0 (slice_index_or view.registers 4 None)
+
+-- a test with 0 for equality
+abbrev pub IsNullTest : Condition → Type 0
+IsNullTest Equal = Unit {0}
+IsNullTest NotEqual = Unit {0}
+IsNullTest _ = ⊥
+
+-- of a look-up's answer
+pub record IsNullCheck (w : Width) (c : Condition) (src : Source) : Type 0 where
+  pub whole : w ≡ W64
+  pub of_null : IsNullTest c
+  pub with_zero : src ≡ Imm (pos 0)
+
+-- what an instruction needs, by the view before it
+abbrev pub IsReady : List MapShape → ℕ → View → Insn → Type 0
+IsReady shapes context view (Alu w op dst src) = (dst < 10) × ((IsLeftReady op view dst × IsScalarOperand view src) ⊎ (IsCopyOfFrame view w op src ⊎ IsMoveOfPointer view w op dst src))
+IsReady shapes context view (MovSx w bits dst src) = (dst < 10) × StandsAt Scalar view src
+IsReady shapes context view (Neg w dst) = (dst < 10) × StandsAt Scalar view dst
+IsReady shapes context view (End order bits dst) = (dst < 10) × StandsAt Scalar view dst
+IsReady shapes context view (Load size signed dst src off) = (dst < 10) × IsReadable shapes context view size src off
+IsReady shapes context view (StoreImm size dst off imm) = IsOnFrame shapes context view size dst off ⊎ IsIntoEntry shapes context view size dst off
+IsReady shapes context view (StoreReg size dst off src) = StandsAt Scalar view src × (IsOnFrame shapes context view size dst off ⊎ IsIntoEntry shapes context view size dst off)
+IsReady shapes context view (Imm64 dst value) = dst < 10
+IsReady shapes context view (MapRef dst index) = (dst < 10) × (m : ℕ) × (index ≡ pos m) × (m < length shapes)
+IsReady shapes context view (Goto off) = Unit {0}
+IsReady shapes context view (Goto32 imm) = Unit {0}
+IsReady shapes context view (Branch w c dst src off) =
+    (dst < 10) × ((StandsAt Scalar view dst × IsScalarOperand view src) ⊎ (IsNullCheck w c src × (m : ℕ) × StandsAt (Pointer (EntryOrNull m) 0) view dst))
+IsReady shapes context view (Call helper) =
+    ((helper ≡ pos 5) ⊎ (helper ≡ pos 8)) ⊎ ((helper ≡ pos 1) × (m : ℕ) × IsNamingEntry view m) ⊎ ((helper ≡ pos 2) × (m : ℕ) × IsUpdating shapes view m)
+IsReady shapes context view Exit = StandsAt Scalar view 0
+
+-- neither a jump nor an EXIT
+abbrev pub IsCarried : Insn → Type 0
+IsCarried (Goto off) = ⊥
+IsCarried (Goto32 imm) = ⊥
+IsCarried (Branch w c dst src off) = ⊥
+IsCarried Exit = ⊥
+IsCarried insn = Unit {0}
+
+-- the instruction does not write register 10, the address of the stack's end
+abbrev pub WritesBelowFrame : Insn → Type 0
+WritesBelowFrame insn = (r : ℕ) → destination_of insn ≡ Some r → r < 10
+
+-- a call of a counter: register 1 is one of 64, and of an add register 2 is the amount
+abbrev pub IsAsking : View → ℤ → Type 0
+IsAsking view helper = IsAtMost 63 (slice_index_or view.registers 1 None) × (helper ≡ pos 100 → StandsAt Scalar view 2)
+
+-- what a call of a counter needs
+abbrev pub IsReadyToAsk : View → Insn → Type 0
+IsReadyToAsk view (Call helper) = ((helper ≡ pos 100) ⊎ (helper ≡ pos 101)) × IsAsking view helper
+IsReadyToAsk view insn = ⊥

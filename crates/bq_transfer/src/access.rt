@@ -1,0 +1,70 @@
+// Where an access by a register goes.
+
+ghost use Rattle.std.specs.Prelude.{Some, ◌≡◌, ◌^◌, ◌<◌, ℕ, IsOk, IfErr, IfOk};
+ghost use Rattle.bq_insn.specs.Meaning.{word_of};
+ghost use Rattle.bq_insn.specs.declared.Insn.{Insn};
+ghost use Rattle.bq_transfer.specs.Doubts.{IsAccess, MayDoubt, ReadsOperand};
+ghost use Rattle.bq_transfer.specs.Ready.{IsPlaced};
+ghost use Rattle.bq_views.specs.declared.view.Kind.{Kind as Base};
+ghost use Rattle.bq_transfer.specs.Carries.{FindsPlace};
+
+use crate::doubt::Doubt;
+use bq_insn::{Operation, Size, Width};
+use bq_maps::shape::MapShape;
+use bq_ranges::{Range, arithmetic};
+use bq_views::places::{bound, stays};
+use bq_views::registers::known;
+use bq_views::view::{Kind, View};
+
+/// Where an access goes: what the pointer counts from, and the offsets from there.
+#[derive(Clone, Copy, Debug)]
+pub struct Location {
+    pub kind: Kind,
+    pub at: Range,
+}
+
+/// Where an access by a register goes, if it stays inside.
+pub fn locate(
+    view: &View,
+    shapes: &[MapShape],
+    context: usize,
+    size: Size,
+    register: u8,
+    off: i16,
+) -> Result<Location, Doubt>
+    requires context { context < 2 ^ 16 }
+    ensures finds { IfOk result (λ p. FindsPlace shapes.now context view.now register off size p.kind p.at) }
+    ensures doubts { IfErr result (λ doubt. (insn : Insn) → IsAccess insn → ReadsOperand insn → MayDoubt doubt insn) }
+    ensures accepts { (kind : Base) (place : ℕ) → IsPlaced shapes.now context view.now size register off kind place → IsOk result }
+    ensures there { IfOk result (λ p. (kind : Base) (place : ℕ) → IsPlaced shapes.now context view.now size register off kind place → (p.kind ≡ kind) × (p.at.lo ≡ place) × (p.at.hi ≡ place)) }
+{
+    let Some(base) = known(view, register) else {
+        return Err(Doubt::Unset);
+    };
+    let Some(bound) = bound(base.kind, shapes, context) else {
+        return Err(Doubt::Access);
+    };
+    let at = arithmetic::alu(
+        Width::W64,
+        Operation::Add,
+        base.offset,
+        Range::single(word_of_distance(off)),
+    );
+    if bound > 0x1_0000 {
+        return Err(Doubt::Access);
+    }
+    if !stays(at, size, bound) {
+        return Err(Doubt::Access);
+    }
+    Ok(Location {
+        kind: base.kind,
+        at,
+    })
+}
+
+/// The word of a distance.
+fn word_of_distance(off: i16) -> u64
+    ensures { result ≡ word_of off }
+{
+    i64::from(off).cast_unsigned()
+}

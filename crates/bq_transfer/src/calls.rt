@@ -1,0 +1,205 @@
+// Map references and calls of helpers.
+
+ghost use Rattle.std.specs.Prelude.{◌≡◌, ◌<◌, ◌≤◌, ◌^◌, ◌-◌, ℕ, pos, List, IfSome, IsOk, OnOk, Some, length, IfErr, IsTrue, None, slice_index_or};
+ghost use Rattle.bq_maps.specs.Memory.{Setting, State, reference};
+ghost use Rattle.bq_maps.specs.Machine.{called};
+ghost use Rattle.bq_maps.specs.declared.shape.MapShape.{MapShape};
+ghost use Rattle.bq_ranges.specs.Within.{Within};
+ghost use Rattle.bq_transfer.specs.Doubts.{MayDoubt};
+ghost use Rattle.bq_transfer.specs.After.{After};
+ghost use Rattle.bq_views.specs.Standing.{Fact, Has, IsAnswered, IsCalled, IsMade, Pointer, Scalar, StandsAt};
+ghost use Rattle.bq_transfer.specs.Ready.{IsAtMost, IsReady, IsUpdating, IsNamingEntry};
+ghost use Rattle.bq_transfer.specs.Carries.{Carries, IsBelow};
+ghost use Rattle.bq_views.specs.Views.{Covers};
+
+use crate::doubt::Doubt;
+use bq_insn::{Insn, Size, Width};
+use bq_maps::shape::MapShape;
+use bq_ranges::Range;
+use bq_views::copies::part_first;
+use bq_views::places::{reads, reads_value, shape_of};
+use bq_views::registers::{clear, known, learn};
+use bq_views::view::{Kind, Known, View};
+
+/// The reference of a map.
+pub fn map_ref(view: &mut View, shapes: &[MapShape], dst: u8, index: i32) -> Result<(), Doubt>
+    requires few { length shapes.now ≤ 8 }
+    requires below { dst < 10 }
+    ensures carries { OnOk result ((context_length : ℕ) → Carries shapes.now context_length (Insn.MapRef dst index) view.old view.new) }
+    ensures doubts { IfErr result (λ doubt. MayDoubt doubt (Insn.MapRef dst index)) }
+    ensures accepts { (m : ℕ) → index ≡ pos m → m < length shapes.now → IsOk result × IsMade (Pointer (Kind.Map m) 0) view.old view.new dst }
+{
+    let Some(map) = map_number(shapes, index) else {
+        return Err(Doubt::Argument);
+    };
+    learn(
+        view,
+        dst,
+        Known {
+            kind: Kind::Map(map),
+            offset: Range::single(0),
+        },
+    );
+    Ok(())
+}
+
+/// The number of a map, if there is one of that index.
+fn map_number(shapes: &[MapShape], index: i32) -> Option<u8>
+    requires { length shapes.now ≤ 8 }
+    ensures index { IfSome result (λ m. index ≡ pos m) }
+    ensures there { IfSome result (λ m. m < length shapes.now) }
+    ensures found { (m : ℕ) → index ≡ pos m → m < length shapes.now → result ≡ Some m }
+{
+    if index < 0 || index >= 8 {
+        return None;
+    }
+    let map = index as u8;
+    if usize::from(map) < shapes.len() {
+        Some(map)
+    } else {
+        None
+    }
+}
+
+/// The map that register 1 names.
+fn map_of(view: &View) -> Option<u8>
+    ensures found { (m : ℕ) → StandsAt (Pointer (Kind.Map m) 0) view.now 1 → result ≡ Some m }
+    ensures names { IfSome result (λ m. (f : Setting) (s : State) → Covers f view.now s → (s.register 1 ≡ Some (reference m)) × (m < length f.shapes)) }
+{
+    let Some(word) = known(view, 1) else {
+        return None;
+    };
+    if word.offset.hi > 0 {
+        return None;
+    }
+    match word.kind {
+        Kind::Map(map) => Some(map),
+        _ => None,
+    }
+}
+
+/// A call of a helper that is no counter's: a look-up, an update, the time, or the number of the processor.
+pub fn call(view: &mut View, shapes: &[MapShape], context: usize, helper: i32) -> Result<(), Doubt>
+    requires { context < 2 ^ 16 }
+    ensures carries { OnOk result (Carries shapes.now context (Insn.Call helper) view.old view.new) }
+    ensures doubts { IfErr result (λ doubt. MayDoubt doubt (Insn.Call helper)) }
+    ensures accepts { IsReady shapes.now context view.old (Insn.Call helper) → IsOk result × ((x : Fact) (slot k : ℕ) → After x slot k (Insn.Call helper) view.old → Has x view.new) }
+{
+    if helper == 1 {
+        look_up(view, shapes, context)?;
+        return Ok(());
+    }
+    if helper == 2 {
+        update(view, shapes, context)?;
+        return Ok(());
+    }
+    if helper == 5 {
+        now(view);
+        return Ok(());
+    }
+    if helper == 8 {
+        processor(view);
+        return Ok(());
+    }
+    Err(Doubt::Argument)
+}
+
+/// A look-up: register 1 is the reference of a map, and register 2 points to the number of an entry.
+fn look_up(view: &mut View, shapes: &[MapShape], context: usize) -> Result<(), Doubt>
+    requires context { context < 2 ^ 16 }
+    ensures carries { OnOk result (Carries shapes.now context (Insn.Call (pos 1)) view.old view.new) }
+    ensures doubts { IfErr result (λ doubt. MayDoubt doubt (Insn.Call (pos 1))) }
+    ensures accepts { (m : ℕ) → IsNamingEntry view.old m → IsOk result × IsCalled (Pointer (Kind.EntryOrNull m) 0) view.old view.new }
+{
+    let Some(map) = map_of(view) else {
+        return Err(Doubt::Argument);
+    };
+    if !reads(view, shapes, context, 2, Size::Word) {
+        return Err(Doubt::Argument);
+    }
+    clear(&mut view.registers);
+    part_first(&mut view.classes);
+    learn(
+        view,
+        0,
+        Known {
+            kind: Kind::EntryOrNull(map),
+            offset: Range::single(0),
+        },
+    );
+    Ok(())
+}
+
+/// An update: as a look-up, and register 3 points to a value, and register 4 is 0.
+fn update(view: &mut View, shapes: &[MapShape], context: usize) -> Result<(), Doubt>
+    requires context { context < 2 ^ 16 }
+    ensures carries { OnOk result (Carries shapes.now context (Insn.Call (pos 2)) view.old view.new) }
+    ensures doubts { IfErr result (λ doubt. MayDoubt doubt (Insn.Call (pos 2))) }
+    ensures accepts { (m : ℕ) → IsUpdating shapes.now view.old m → IsOk result × IsAnswered view.old view.new }
+{
+    let Some(map) = map_of(view) else {
+        return Err(Doubt::Argument);
+    };
+    if !reads(view, shapes, context, 2, Size::Word) {
+        return Err(Doubt::Argument);
+    }
+    let Some(shape) = shape_of(shapes, map) else {
+        return Err(Doubt::Argument);
+    };
+    if !reads_value(view, shapes, context, 3, usize::from(shape.value_size)) {
+        return Err(Doubt::Argument);
+    }
+    if !is_at_most(view, 4, 0) {
+        return Err(Doubt::Argument);
+    }
+    answer(view, Range::full(Width::W64));
+    Ok(())
+}
+
+/// Whether a register is a number of at most `most`.
+pub fn is_at_most(view: &View, register: u8, most: u64) -> bool
+    ensures below { IsTrue result → (bound : ℕ) → most < bound → IsBelow view.now register bound }
+    ensures found { IsAtMost most (slice_index_or view.now.registers register None) → IsTrue result }
+    ensures any { most ≡ 2 ^ 64 - 1 → StandsAt Scalar view.now register → IsTrue result }
+{
+    let Some(word) = known(view, register) else {
+        return false;
+    };
+    if word.kind != Kind::Number {
+        return false;
+    }
+    word.offset.hi <= most
+}
+
+/// After a call registers 1 to 5 are unset, and register 0 is a number of that range.
+pub fn answer(view: &mut View, offset: Range)
+    ensures covers { (f : Setting) (s : State) (x : ℕ) → Covers f view.old s → Within offset x → Covers f view.new (called s x) }
+    ensures answered { IsAnswered view.old view.new }
+{
+    clear(&mut view.registers);
+    part_first(&mut view.classes);
+    learn(
+        view,
+        0,
+        Known {
+            kind: Kind::Number,
+            offset,
+        },
+    );
+}
+
+/// The time.
+fn now(view: &mut View)
+    ensures carries { (shapes : List MapShape) (context_length : ℕ) → Carries shapes context_length (Insn.Call (pos 5)) view.old view.new }
+    ensures answered { IsAnswered view.old view.new }
+{
+    answer(view, Range::full(Width::W64));
+}
+
+/// The number of the processor.
+fn processor(view: &mut View)
+    ensures carries { (shapes : List MapShape) (context_length : ℕ) → Carries shapes context_length (Insn.Call (pos 8)) view.old view.new }
+    ensures answered { IsAnswered view.old view.new }
+{
+    answer(view, Range::full(Width::W32));
+}

@@ -1,0 +1,74 @@
+// Calls of counters.
+
+ghost use Rattle.std.specs.Prelude.{◌<◌, pos, false, IsTrue, ◌≡◌, OnOk, IsOk, IfErr, ℤ};
+ghost use Rattle.bq_transfer.specs.Doubts.{MayDoubt};
+ghost use Rattle.bq_maps.specs.Machine.{IsCounterCall};
+ghost use Rattle.bq_transfer.specs.Ready.{IsAsking};
+ghost use Rattle.bq_views.specs.Standing.{IsAnswered};
+ghost use Rattle.bq_transfer.specs.Carries.{AsksFrom};
+
+use crate::calls::{answer, is_at_most};
+use crate::doubt::Doubt;
+use bq_insn::{Insn, Width};
+use bq_ranges::Range;
+use bq_views::view::View;
+
+/// An add: register 1 is a counter, and register 2 an amount.
+fn add(view: &mut View) -> Result<(), Doubt>
+    ensures asks { OnOk result (AsksFrom (Insn.Call (pos 100)) view.old view.new) }
+    ensures accepts { IsAsking view.old (pos 100) → IsOk result × IsAnswered view.old view.new }
+    ensures doubts { IfErr result (λ doubt. (helper : ℤ) → MayDoubt doubt (Insn.Call helper)) }
+{
+    if !is_at_most(view, 1, 63) {
+        return Err(Doubt::Argument);
+    }
+    if !is_at_most(view, 2, u64::MAX) {
+        return Err(Doubt::Argument);
+    }
+    answer(view, Range::full(Width::W64));
+    Ok(())
+}
+
+/// A read: register 1 is a counter.
+fn read(view: &mut View) -> Result<(), Doubt>
+    ensures asks { OnOk result (AsksFrom (Insn.Call (pos 101)) view.old view.new) }
+    ensures accepts { IsAsking view.old (pos 101) → IsOk result × IsAnswered view.old view.new }
+    ensures doubts { IfErr result (λ doubt. (helper : ℤ) → MayDoubt doubt (Insn.Call helper)) }
+{
+    if !is_at_most(view, 1, 63) {
+        return Err(Doubt::Argument);
+    }
+    answer(view, Range::full(Width::W64));
+    Ok(())
+}
+
+/// Whether the instruction is a call of a counter.
+pub fn is_counter_call(insn: Insn) -> bool
+    ensures is { IsTrue result → IsCounterCall insn }
+    ensures only { IsCounterCall insn → IsTrue result }
+{
+    match insn {
+        Insn::Call { helper } => helper == 100 || helper == 101,
+        _ => false,
+    }
+}
+
+/// The view after a call of a counter.
+pub fn ask(view: &mut View, insn: Insn) -> Result<(), Doubt>
+    requires { IsCounterCall insn }
+    ensures asks { OnOk result (AsksFrom insn view.old view.new) }
+    ensures accepts { (helper : ℤ) → insn ≡ Insn.Call helper → IsAsking view.old helper → IsOk result × IsAnswered view.old view.new }
+    ensures doubts { IfErr result (λ doubt. MayDoubt doubt insn) }
+{
+    match insn {
+        Insn::Call { helper } => {
+            if helper == 100 {
+                add(view)?;
+                return Ok(());
+            }
+            read(view)?;
+            Ok(())
+        }
+        _ => unreachable!(),
+    }
+}

@@ -1,0 +1,116 @@
+// Loads.
+
+ghost use Rattle.std.specs.Prelude.{Some, List, Option, ◌≡◌, ◌≢◌, ◌^◌, ◌<◌, ℕ, IsOk, IfSome, OnOk, false, slice_index_or, IfErr, ◌*◌, None};
+ghost use Rattle.bq_insn.specs.Meaning.{byte_count};
+ghost use Rattle.bq_maps.specs.Machine.{loaded, bits_of as bits_in};
+ghost use Rattle.bq_ranges.specs.Within.{Within};
+ghost use Rattle.bq_insn.specs.declared.Insn.{Insn};
+ghost use Rattle.bq_maps.specs.Memory.{number_of};
+ghost use Rattle.bq_views.specs.Parts.{HasBytes, HaveParts};
+ghost use Rattle.bq_transfer.specs.Doubts.{MayDoubt};
+ghost use Rattle.bq_views.specs.Standing.{IsGiven};
+ghost use Rattle.bq_transfer.specs.Ready.{IsReadable};
+ghost use Rattle.bq_transfer.specs.Carries.{Carries};
+
+use crate::access::{Location, locate};
+use crate::doubt::Doubt;
+use bq_insn::{Bits, Insn, Size, Width};
+use bq_maps::shape::MapShape;
+use bq_ranges::{Range, moves};
+use bq_views::copies::link;
+use bq_views::parts::{numbers, numbers_at};
+use bq_views::places::is_readable;
+use bq_views::registers::learn;
+use bq_views::view::{Kind, Known, View};
+
+/// A load; of a slot of the stack whose word is known the register is a copy then.
+pub fn load(
+    view: &mut View,
+    shapes: &[MapShape],
+    context: usize,
+    size: Size,
+    signed: bool,
+    dst: u8,
+    src: u8,
+    off: i16,
+) -> Result<(), Doubt>
+    requires context { context < 2 ^ 16 }
+    requires below { dst < 10 }
+    ensures carries { OnOk result (Carries shapes.now context (Insn.Load size signed dst src off) view.old view.new) }
+    ensures doubts { IfErr result (λ doubt. MayDoubt doubt (Insn.Load size signed dst src off)) }
+    ensures accepts { IsReadable shapes.now context view.old size src off → IsOk result × IsGiven view.old view.new dst }
+{
+    let found = locate(view, shapes, context, size, src, off)?;
+    if let Some(word) = kept_at(view, found, size, signed) {
+        learn(view, dst, word);
+        let slot = found.at.lo as usize / 8;
+        link(&mut view.classes, usize::from(dst), 11 + slot);
+        return Ok(());
+    }
+    if !is_readable(view, found.kind, found.at, size) {
+        return Err(Doubt::Access);
+    }
+    learn(
+        view,
+        dst,
+        Known {
+            kind: Kind::Number,
+            offset: loads(reads_at(view, found, size), size, signed),
+        },
+    );
+    Ok(())
+}
+
+/// The word that is kept where a load of eight bytes reads, if one is.
+fn kept_at(view: &View, place: Location, size: Size, signed: bool) -> Option<Known>
+    ensures { IfSome result (λ word. (place.kind ≡ Kind.Stack) × (size ≡ Size.Double) × (signed ≡ false) × (place.at.lo ≡ place.at.hi) × (slot : ℕ) × (slot < 64) × (place.at.lo ≡ 8 * slot) × (slice_index_or view.now.kept slot None ≡ Some word)) }
+{
+    if place.kind != Kind::Stack || size != Size::Double || signed {
+        return None;
+    }
+    if !place.at.is_single() || place.at.lo % 8 != 0 || place.at.lo >= 512 {
+        return None;
+    }
+    kept_in(view, place.at.lo as usize / 8)
+}
+
+/// The word that is kept in a slot of eight bytes, if one is.
+fn kept_in(view: &View, slot: usize) -> Option<Known>
+    requires { slot < 64 }
+    ensures { result ≡ slice_index_or view.now.kept slot None }
+{
+    view.kept[slot]
+}
+
+/// The numbers that a read of so many bytes gives there.
+fn reads_at(view: &View, place: Location, size: Size) -> Range
+    ensures any { (x : ℕ) → place.kind ≢ Kind.Stack → x < 256 ^ byte_count size → Within result x }
+    ensures stack { (stack : ℕ → Option ℕ) (o : ℕ) (bytes : List ℕ) → place.kind ≡ Kind.Stack → HaveParts stack view.now.parts → Within place.at o → HasBytes stack o (byte_count size) bytes → number_of bytes < 256 ^ byte_count size → Within result (number_of bytes) }
+{
+    if place.kind != Kind::Stack {
+        return numbers(size);
+    }
+    numbers_at(&view.parts, place.at, size)
+}
+
+/// What a load makes of such numbers.
+fn loads(numbers: Range, size: Size, signed: bool) -> Range
+    ensures { (x : ℕ) → Within numbers x → Within result (loaded size signed x) }
+{
+    if signed {
+        return moves::extend(Width::W64, bits_of(size), numbers);
+    }
+    numbers
+}
+
+/// How many bits so many bytes have.
+fn bits_of(size: Size) -> Bits
+    ensures { result ≡ bits_in size }
+{
+    match size {
+        Size::Byte => Bits::B8,
+        Size::Half => Bits::B16,
+        Size::Word => Bits::B32,
+        Size::Double => Bits::B64,
+    }
+}

@@ -1,0 +1,93 @@
+// Moves that change a number on the way, and numbers from the instruction.
+
+ghost use Rattle.std.specs.Prelude.{◌≡◌, ◌<◌, ℕ, List, IsOk, OnOk, IfOk, IfErr, length};
+ghost use Rattle.bq_views.specs.Standing.{IsGiven, Scalar, StandsAt};
+ghost use Rattle.bq_insn.specs.declared.Insn.{Insn};
+ghost use Rattle.bq_maps.specs.declared.shape.MapShape.{MapShape};
+ghost use Rattle.bq_transfer.specs.Doubts.{MayDoubt, ReadsOperand, UsesWord};
+ghost use Rattle.bq_views.specs.declared.view.Kind.TheVariants.{Number};
+ghost use Rattle.bq_transfer.specs.Carries.{Carries, HoldsNumber};
+ghost use Rattle.bq_views.specs.Views.{knowing};
+
+use crate::doubt::Doubt;
+use bq_insn::{Bits, Order, Width};
+use bq_ranges::{Range, moves};
+use bq_views::registers::{known, learn};
+use bq_views::view::{Kind, Known, View};
+
+/// The range of a register that is a number.
+pub fn number(view: &View, register: u8) -> Result<Range, Doubt>
+    ensures holds { IfOk result (HoldsNumber view.now register) }
+    ensures doubts { IfErr result (λ doubt. (insn : Insn) → ReadsOperand insn → UsesWord insn → MayDoubt doubt insn) }
+    ensures accepts { StandsAt Scalar view.now register → IsOk result }
+{
+    let Some(word) = known(view, register) else {
+        return Err(Doubt::Unset);
+    };
+    if word.kind != Kind::Number {
+        return Err(Doubt::PointerUse);
+    }
+    Ok(word.offset)
+}
+
+/// A register becomes a number of that range.
+fn learn_number(view: &mut View, register: u8, offset: Range)
+    requires { register < 10 }
+    ensures is { view.new ≡ knowing view.old register (record { kind = Number; offset = offset }) }
+    ensures given { IsGiven view.old view.new register }
+    ensures long { length view.old.registers ≡ 11 }
+{
+    learn(
+        view,
+        register,
+        Known {
+            kind: Kind::Number,
+            offset,
+        },
+    );
+}
+
+/// The low bits of a register with their sign extended.
+pub fn extend(view: &mut View, width: Width, bits: Bits, dst: u8, src: u8) -> Result<(), Doubt>
+    requires { dst < 10 }
+    ensures carries { OnOk result ((shapes : List MapShape) (context_length : ℕ) → Carries shapes context_length (Insn.MovSx width bits dst src) view.old view.new) }
+    ensures doubts { IfErr result (λ doubt. MayDoubt doubt (Insn.MovSx width bits dst src)) }
+    ensures accepts { StandsAt Scalar view.old src → IsOk result × IsGiven view.old view.new dst }
+{
+    let word = number(view, src)?;
+    learn_number(view, dst, moves::extend(width, bits, word));
+    Ok(())
+}
+
+/// A negation.
+pub fn negate(view: &mut View, width: Width, dst: u8) -> Result<(), Doubt>
+    requires { dst < 10 }
+    ensures carries { OnOk result ((shapes : List MapShape) (context_length : ℕ) → Carries shapes context_length (Insn.Neg width dst) view.old view.new) }
+    ensures doubts { IfErr result (λ doubt. MayDoubt doubt (Insn.Neg width dst)) }
+    ensures accepts { StandsAt Scalar view.old dst → IsOk result × IsGiven view.old view.new dst }
+{
+    let word = number(view, dst)?;
+    learn_number(view, dst, moves::neg(width, word));
+    Ok(())
+}
+
+/// The low bits of a register in a byte order.
+pub fn reorder(view: &mut View, kind: Order, bits: Bits, dst: u8) -> Result<(), Doubt>
+    requires { dst < 10 }
+    ensures carries { OnOk result ((shapes : List MapShape) (context_length : ℕ) → Carries shapes context_length (Insn.End kind bits dst) view.old view.new) }
+    ensures doubts { IfErr result (λ doubt. MayDoubt doubt (Insn.End kind bits dst)) }
+    ensures accepts { StandsAt Scalar view.old dst → IsOk result × IsGiven view.old view.new dst }
+{
+    let word = number(view, dst)?;
+    learn_number(view, dst, moves::reorder(kind, bits, word));
+    Ok(())
+}
+
+/// A number of 64 bits from the instruction.
+pub fn immediate(view: &mut View, dst: u8, value: u64)
+    requires { dst < 10 }
+    ensures carries { (shapes : List MapShape) (context_length : ℕ) → Carries shapes context_length (Insn.Imm64 dst value) view.old view.new }
+    ensures given { IsGiven view.old view.new dst }
+{
+    learn_number(view, dst, Range::single(value));
+}

@@ -1,0 +1,135 @@
+// What a branch tells of its left operand, on each side.
+
+ghost use Rattle.std.specs.Prelude.{◌≡◌, ◌<◌, ℕ, ℤ, IfOk, IfSome, IfErr, IsOk, OnOk, List, Some, true, false};
+ghost use Rattle.bq_insn.specs.declared.Insn.{Insn};
+ghost use Rattle.bq_insn.specs.Meaning.{taken, word_of};
+ghost use Rattle.bq_maps.specs.declared.shape.MapShape.{MapShape};
+ghost use Rattle.bq_transfer.specs.Doubts.{MayDoubt, UsesWord};
+ghost use Rattle.bq_views.specs.Standing.{IsWord, Pointer, Stands};
+ghost use Rattle.bq_transfer.specs.Ready.{IsNullCheck, IsNullTest};
+ghost use Rattle.bq_transfer.specs.Sides.{IsCompared, IsNumberIfAny, IsSide, IsTested, IsTestedIfAny, is_found, Fits};
+ghost use Rattle.bq_views.specs.Views.{Describes};
+
+use crate::doubt::Doubt;
+use bq_insn::{Condition, Source, Width};
+use bq_ranges::narrowing::{narrow, narrow_right};
+use bq_views::view::{Kind, Known};
+
+/// What the left operand is on one side of a branch; `None` where control never goes there.
+pub fn side(
+    width: Width,
+    cond: Condition,
+    left: Known,
+    src: Source,
+    right: Known,
+    goes: bool,
+) -> Result<Option<Known>, Doubt>
+    requires { (i : ℤ) → src ≡ Source.Imm i → IsWord (word_of i) (Some right) }
+    ensures fits { IfOk result (λ side. (shapes : List MapShape) (a b : ℕ) → Describes shapes left a → Describes shapes right b → taken width cond a b ≡ goes → Fits shapes side a) }
+    ensures doubts { IfErr result (λ doubt. (insn : Insn) → UsesWord insn → MayDoubt doubt insn) }
+    ensures compared { OnOk result (IsCompared width cond left src right) }
+    ensures accepts { left.kind ≡ Kind.Number → right.kind ≡ Kind.Number → IsOk result }
+    ensures number { left.kind ≡ Kind.Number → right.kind ≡ Kind.Number → IfOk result IsNumberIfAny }
+    ensures checks { (map : ℕ) → IsNullCheck width cond src → Stands (Pointer (Kind.EntryOrNull map) 0) (Some left) → IsOk result }
+    ensures tested { (map : ℕ) → IsNullCheck width cond src → Stands (Pointer (Kind.EntryOrNull map) 0) (Some left) → IfOk result (IsTested map (is_found cond goes)) }
+{
+    match outcome(width, cond, left, src, right, goes) {
+        Some(side) => Ok(side),
+        None => Err(Doubt::PointerUse),
+    }
+}
+
+/// What the right operand is on one side of a branch, where control goes there.
+pub fn right_side(width: Width, cond: Condition, left: Known, right: Known, goes: bool) -> Known
+    ensures { (shapes : List MapShape) (a b : ℕ) → Describes shapes left a → Describes shapes right b → taken width cond a b ≡ goes → Describes shapes result b }
+{
+    match (left.kind, right.kind) {
+        (Kind::Number, Kind::Number) => Known {
+            kind: Kind::Number,
+            offset: narrow_right(cond, width, left.offset, right.offset, goes),
+        },
+        _ => right,
+    }
+}
+
+/// What the left operand is on one side of a branch, where such words may be compared; the inner `None` where control never goes there.
+fn outcome(
+    width: Width,
+    cond: Condition,
+    left: Known,
+    src: Source,
+    right: Known,
+    goes: bool,
+) -> Option<Option<Known>>
+    requires { (i : ℤ) → src ≡ Source.Imm i → IsWord (word_of i) (Some right) }
+    ensures compared { IfSome result (λ _. IsCompared width cond left src right) }
+    ensures fits { IfSome result (λ side. (shapes : List MapShape) (a b : ℕ) → Describes shapes left a → Describes shapes right b → taken width cond a b ≡ goes → Fits shapes side a) }
+    ensures numbers { left.kind ≡ Kind.Number → right.kind ≡ Kind.Number → IsSide result }
+    ensures tested { (map : ℕ) → IsNullCheck width cond src → Stands (Pointer (Kind.EntryOrNull map) 0) (Some left) → IsTestedIfAny map (is_found cond goes) result }
+{
+    match (left.kind, right.kind) {
+        (Kind::Number, Kind::Number) => match narrow(cond, width, left.offset, right.offset, goes) {
+            Some(offset) => Some(Some(Known {
+                kind: Kind::Number,
+                offset,
+            })),
+            None => Some(None),
+        },
+        (Kind::EntryOrNull(map), Kind::Number) => {
+            if left.offset.hi > 0 || src != Source::Imm(0) {
+                return None;
+            }
+            null_check(map, width, cond, left, right, goes)
+        }
+        (Kind::Entry(_), Kind::Number) => found_check(width, cond, left, src),
+        _ => None,
+    }
+}
+
+/// An answer of a look-up that was found, on a side of one more test: it stays what it is.
+fn found_check(width: Width, cond: Condition, left: Known, src: Source) -> Option<Option<Known>>
+    ensures compared { IfSome result (λ _. (left.offset.hi ≡ 0) × IsNullCheck width cond src) }
+    ensures same { IfSome result (λ side. side ≡ Some left) }
+{
+    if left.offset.hi > 0 {
+        return None;
+    }
+    match (width, cond, src) {
+        (Width::W64, Condition::Equal | Condition::NotEqual, Source::Imm(0)) => Some(Some(left)),
+        _ => None,
+    }
+}
+
+/// A look-up's result on one side of its test.
+fn null_check(
+    map: u8,
+    width: Width,
+    cond: Condition,
+    left: Known,
+    right: Known,
+    goes: bool,
+) -> Option<Option<Known>>
+    requires left { left.kind ≡ Kind.EntryOrNull map }
+    requires right { right.kind ≡ Kind.Number }
+    requires whole { left.offset.hi ≡ 0 }
+    requires null { right.offset.hi ≡ 0 }
+    ensures compared { IfSome result (λ _. (width ≡ Width.W64) × IsNullTest cond) }
+    ensures tested { width ≡ Width.W64 → IsNullTest cond → left.offset.lo ≡ 0 → IsTestedIfAny map (is_found cond goes) result }
+    ensures fits { IfSome result (λ side. (shapes : List MapShape) (a b : ℕ) → Describes shapes left a → Describes shapes right b → taken width cond a b ≡ goes → Fits shapes side a) }
+{
+    let null = Known {
+        kind: Kind::Number,
+        offset: right.offset,
+    };
+    let entry = Known {
+        kind: Kind::Entry(map),
+        offset: left.offset,
+    };
+    match (width, cond, goes) {
+        (Width::W64, Condition::Equal, true) => Some(Some(null)),
+        (Width::W64, Condition::Equal, false) => Some(Some(entry)),
+        (Width::W64, Condition::NotEqual, true) => Some(Some(entry)),
+        (Width::W64, Condition::NotEqual, false) => Some(Some(null)),
+        _ => None,
+    }
+}

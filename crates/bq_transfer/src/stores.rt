@@ -1,0 +1,160 @@
+// Stores, and what they leave known.
+
+ghost use Rattle.std.specs.Prelude.{◌≡◌, ◌≢◌, ◌+◌, ◌<◌, ◌≤◌, ◌^◌, ℕ, None, Some, length, IsOk, OnOk, IfOk, IfSome, IfErr};
+ghost use Rattle.bq_insn.specs.declared.Insn.{Insn};
+ghost use Rattle.bq_insn.specs.Meaning.{byte_count, word_of};
+ghost use Rattle.bq_maps.specs.Memory.{Setting, State, InStack, written};
+ghost use Rattle.bq_maps.specs.Machine.{low_bytes, next};
+ghost use Rattle.bq_ranges.specs.Within.{Within};
+ghost use Rattle.bq_views.specs.Copies.{AreCopies, HasWord};
+ghost use Rattle.bq_transfer.specs.Doubts.{IsAccess, MayDoubt, ReadsOperand, UsesWord};
+ghost use Rattle.bq_transfer.specs.Ready.{IsPlaced};
+ghost use Rattle.bq_views.specs.Standing.{IsStoredAt, Scalar, StandsAt};
+ghost use Rattle.bq_transfer.specs.Carries.{Carries, IsWholeSlot, Stores};
+ghost use Rattle.bq_views.specs.Views.{Covers, Describes};
+
+use crate::access::locate;
+use crate::doubt::Doubt;
+use bq_insn::{Insn, Size};
+use bq_maps::shape::MapShape;
+use bq_ranges::Range;
+use bq_views::copies::link;
+use bq_views::parts::store_part;
+use bq_views::places::stays;
+use bq_views::registers::known;
+use bq_views::stack::{keep, overwrite};
+use bq_views::view::{Kind, Known, View};
+
+/// A store of a number from the instruction.
+pub fn store_imm(
+    view: &mut View,
+    shapes: &[MapShape],
+    context: usize,
+    size: Size,
+    dst: u8,
+    off: i16,
+    imm: i32,
+) -> Result<(), Doubt>
+    requires context { context < 2 ^ 16 }
+    ensures carries { OnOk result (Carries shapes.now context (Insn.StoreImm size dst off imm) view.old view.new) }
+    ensures doubts { IfErr result (λ doubt. MayDoubt doubt (Insn.StoreImm size dst off imm)) }
+    ensures accepts { (place : ℕ) → IsPlaced shapes.now context view.old size dst off Kind.Stack place → IsOk result × IsStoredAt view.old view.new place (place + byte_count size) }
+    ensures entry { (map place : ℕ) → IsPlaced shapes.now context view.old size dst off (Kind.Entry map) place → IsOk result × (view.new ≡ view.old) }
+{
+    let word = Known {
+        kind: Kind::Number,
+        offset: Range::single(word_of_imm(imm)),
+    };
+    store(view, shapes, context, size, dst, off, word)?;
+    Ok(())
+}
+
+/// The word of a number in the instruction.
+fn word_of_imm(imm: i32) -> u64
+    ensures { result ≡ word_of imm }
+{
+    i64::from(imm).cast_unsigned()
+}
+
+/// A store of a register, of which a slot of the stack is a copy then if it got the whole word.
+pub fn store_reg(
+    view: &mut View,
+    shapes: &[MapShape],
+    context: usize,
+    size: Size,
+    dst: u8,
+    off: i16,
+    src: u8,
+) -> Result<(), Doubt>
+    requires context { context < 2 ^ 16 }
+    ensures carries { OnOk result (Carries shapes.now context (Insn.StoreReg size dst off src) view.old view.new) }
+    ensures doubts { IfErr result (λ doubt. MayDoubt doubt (Insn.StoreReg size dst off src)) }
+    ensures accepts { StandsAt Scalar view.old src → (place : ℕ) → IsPlaced shapes.now context view.old size dst off Kind.Stack place → IsOk result × IsStoredAt view.old view.new place (place + byte_count size) }
+    ensures entry { StandsAt Scalar view.old src → (map place : ℕ) → IsPlaced shapes.now context view.old size dst off (Kind.Entry map) place → IsOk result × (view.new ≡ view.old) }
+{
+    let Some(word) = known(view, src) else {
+        return Err(Doubt::Unset);
+    };
+    let slot = store(view, shapes, context, size, dst, off, word)?;
+    link_slot(&mut view.classes, slot, src);
+    Ok(())
+}
+
+/// The slot of the stack, if there is one, is a copy of the register.
+fn link_slot(classes: &mut [u8], slot: Option<usize>, register: u8)
+    requires room { length classes.old ≡ 75 }
+    requires inside { IfSome slot (λ n. n < 64) }
+    ensures copies { (s : State) (word : ℕ) → AreCopies classes.old s → s.register register ≡ Some word → ((n : ℕ) → slot ≡ Some n → HasWord s (11 + n) word) → AreCopies classes.new s }
+    ensures none { slot ≡ None → classes.new ≡ classes.old }
+{
+    let Some(slot) = slot else {
+        return;
+    };
+    if register >= 11 {
+        return;
+    }
+    link(classes, 11 + slot, usize::from(register));
+}
+
+/// A store of a word: on the stack, or into an entry. The answer is the slot of eight bytes in which the word is kept whole.
+fn store(
+    view: &mut View,
+    shapes: &[MapShape],
+    context: usize,
+    size: Size,
+    dst: u8,
+    off: i16,
+    word: Known,
+) -> Result<Option<usize>, Doubt>
+    requires context { context < 2 ^ 16 }
+    ensures stores { IfOk result (Stores shapes.now context dst off size word view.old view.new) }
+    ensures inside { IfOk result (λ slot. IfSome slot (λ n. n < 64)) }
+    ensures doubts { IfErr result (λ doubt. (insn : Insn) → IsAccess insn → ReadsOperand insn → (word.kind ≢ Kind.Number → UsesWord insn) → MayDoubt doubt insn) }
+    ensures accepts { word.kind ≡ Kind.Number → (place : ℕ) → IsPlaced shapes.now context view.old size dst off Kind.Stack place → IsOk result × IsStoredAt view.old view.new place (place + byte_count size) }
+    ensures entry { word.kind ≡ Kind.Number → (map place : ℕ) → IsPlaced shapes.now context view.old size dst off (Kind.Entry map) place → IsOk result × (view.new ≡ view.old) × IfOk result (λ slot. slot ≡ None) }
+{
+    let found = locate(view, shapes, context, size, dst, off)?;
+    match found.kind {
+        Kind::Stack => {
+            let slot = store_on_stack(view, found.at, size, word)?;
+            Ok(slot)
+        }
+        Kind::Entry(_) => {
+            if word.kind != Kind::Number {
+                return Err(Doubt::PointerUse);
+            }
+            Ok(None)
+        }
+        _ => Err(Doubt::Access),
+    }
+}
+
+/// A store on the stack; a word of eight bytes at a multiple of eight is kept whole, in the slot that is answered, and of
+/// another number the bytes that are stored.
+fn store_on_stack(
+    view: &mut View,
+    at: Range,
+    size: Size,
+    word: Known,
+) -> Result<Option<usize>, Doubt>
+    ensures slot { IfOk result (λ slot. IfSome slot (IsWholeSlot at size)) }
+    ensures covers { OnOk result ((f : Setting) (s : State) (o v : ℕ) → Covers f view.old s → Within at o → Describes f.shapes word v → Covers f view.new (next (written s InStack o (low_bytes size v)))) }
+    ensures doubts { IfErr result (λ doubt. (insn : Insn) → IsAccess insn → (word.kind ≢ Kind.Number → UsesWord insn) → MayDoubt doubt insn) }
+    ensures accepts { word.kind ≡ Kind.Number → (place : ℕ) → at.lo ≡ place → at.hi ≡ place → place + byte_count size ≤ 512 → IsOk result × IsStoredAt view.old view.new place (place + byte_count size) }
+{
+    if !stays(at, size, 512) {
+        return Err(Doubt::Access);
+    }
+    if size == Size::Double && at.is_single() && at.lo % 8 == 0 {
+        overwrite(view, at, size);
+        let slot = at.lo as usize / 8;
+        keep(view, slot, word);
+        return Ok(Some(slot));
+    }
+    if word.kind != Kind::Number {
+        return Err(Doubt::PointerUse);
+    }
+    overwrite(view, at, size);
+    store_part(&mut view.parts, at, size, word.offset);
+    Ok(None)
+}

@@ -1,7 +1,0 @@
-use Rattle.bq_views.proofs.WordLemmas.{number_within, number_is}
-use Rattle.bq_views.proofs.alu.combine.Goals as goal
-
-pub returns-in-Number-Number-clause-describes : goal.returns-in-Number-Number-clause-describes
-returns-in-Number-Number-clause-describes c = λ shapes x y p q.
-    number_is shapes c.alu.result _
-    (c.alu.ensures.holds x y (number_within shapes c.args.a x c.in-Number-Number.is-0 p) (number_within shapes c.args.b y c.in-Number-Number.is-1 q))

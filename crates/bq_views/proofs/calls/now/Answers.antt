@@ -1,7 +1,0 @@
-use Rattle.std.proofs.Common.{refl, inl, inr, arith}
-use Rattle.bq_maps.specs.Machine.{called}
-use Rattle.bq_views.proofs.calls.now.Goals as goal
-
-pub returns-clause-carries : goal.returns-clause-carries
-returns-clause-carries c = λ shapes context_length f s suits covers.
-    (called s f.now, inr (inr (inl (refl, refl))), c.answer.ensures.covers f s f.now covers (omega (arith, c.full.ensures.lo), omega (arith, c.full.ensures.hi, suits.now_fits)), refl)

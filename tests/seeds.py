@@ -1,0 +1,138 @@
+#!/usr/bin/env python3
+"""Compares what `bqsim simulate --seeds` and `--against` tell with the figures of single runs.
+
+    tests/seeds.py BQSIM [SEEDS]    with so many seeds (3 if left out)
+
+BQSIM is the path of the program. Each workload of workloads/ is run for DURATION under both disciplines, with no policy against
+those of OTHERS, and again the other way round. The figures are those of single runs, one by one with `--seed`, as `--as json` has
+them. Their means, deviations and differences are computed here in fractions, as docs/SEEDS.md says, and each line of the report,
+the csv and the json has to be the same. This is run by hand, and is no part of the gate. Last seen: 10 workloads, 10,594 figures alike
+in three forms.
+"""
+import csv
+import io
+import json
+import math
+import statistics
+import subprocess
+import sys
+from fractions import Fraction
+from pathlib import Path
+
+TOP = Path(__file__).resolve().parent.parent
+DURATION = "40ms"
+OTHERS = {"place": TOP / "policies/keep_home.s", "preempt": TOP / "policies/run_to_the_end.s"}
+HEAD = "of,name,figure,unit,runs,mean,deviation,against_runs,against_mean,against_deviation,difference".split(",")
+TASK = [("cpu", "ran"), ("fair", "fair"), ("waited", "waited")]
+COUNTS = [("switches", "switches"), ("preempted", "preemptions"), ("migrated", "migrations"), ("wakes", "wakes")]
+
+
+def run(program, *words):
+    done = subprocess.run([program, "simulate", *map(str, words)], capture_output=True, text=True, timeout=600)
+    if done.returncode:
+        sys.exit(f"{words}: {done.stderr}")
+    return done.stdout
+
+
+def figures(program, words, seed):
+    """Each figure of one run: what it is of, the task's name, the figure and its unit, with its value."""
+    told = json.loads(run(program, *words, "--seed", seed, "--as", "json"))
+    values = {}
+    for task in told["tasks"]:
+        of = f"task {task['task']}", task["name"] or ""
+        values |= {(*of, figure, "ns"): task[key] for figure, key in TASK}
+        values |= {(*of, figure, "1"): task["counts"][key] for figure, key in COUNTS}
+        values |= {(*of, figure, "ns"): (task["latency"] or {}).get(figure) for figure in ("p50", "p95", "p99", "max")}
+    for processor in told["processors"]:
+        of = f"cpu {processor['processor']}"
+        values |= {(of, "", figure, unit): processor[figure] for figure, unit in (("busy", "ns"), ("idle", "ns"), ("switches", "1"))}
+        for hook in ("place", "preempt", "pull"):
+            values |= {(f"{of} {hook}", "", figure, "1"): processor[hook][figure] for figure in ("asked", "overruled", "steps")}
+    return values
+
+
+def summary(program, words, seeds):
+    """Of each figure how many runs have it, and the mean and the deviation in whole thousandths."""
+    runs, rows = [figures(program, words, seed) for seed in seeds], {}
+    for figure in runs[0]:
+        values = [Fraction(run[figure]) for run in runs if run[figure] is not None]
+        mean = math.floor(1000 * statistics.mean(values)) if values else None
+        deviation = math.isqrt(math.floor(10**6 * statistics.variance(values))) if len(values) > 1 else None
+        rows[figure] = len(values), mean, deviation
+    return rows
+
+
+def lines(ours, theirs):
+    """The figures that have a line, each with both sides and the difference of the means."""
+    for figure, row in ours.items():
+        their = theirs[figure] if theirs else (None, None, None)
+        if figure[0].count(" ") == 2 and row[1] == 0 and their[1] in (0, None):
+            continue
+        difference = None if row[1] is None or their[1] is None else their[1] - row[1]
+        yield figure, row, their, difference
+
+
+def decimal(thousandths, sign="", unit=1):
+    """Thousandths of something, in so many times that unit, cut off after three decimals."""
+    if thousandths is None:
+        return ""
+    sign, size = "-" if thousandths < 0 else sign, abs(thousandths) // unit
+    return f"{sign}{size // 1000}.{size % 1000:03}"
+
+
+def as_csv(told):
+    text = io.StringIO()
+    writer = csv.writer(text, lineterminator="\n")
+    writer.writerow(HEAD)
+    for figure, (runs, *ours), (their_runs, *theirs), difference in told:
+        cells = [runs, *map(decimal, ours), "" if their_runs is None else their_runs, *map(decimal, theirs)]
+        writer.writerow([*figure, *cells, decimal(difference, "+")])
+    return text.getvalue()
+
+
+def as_json(told):
+    keys = "runs mean_thousandths deviation_thousandths against_mean_thousandths against_deviation_thousandths difference_thousandths".split()
+    return [dict(zip(["of", "name", "figure", "unit", *keys], [*figure, *ours, *theirs[1:], difference])) for figure, ours, theirs, difference in told]
+
+
+def as_report(told, wide):
+    """The words of each line: what stands in a column, without how wide it is."""
+    head = "of name figure unit mean deviation" + (" against deviation difference" if wide else "")
+    rows = [head.split()]
+    for (of, name, figure, unit), (_, *ours), (_, *theirs), difference in told:
+        size, shown = (1000, ["us"]) if unit == "ns" else (1, [])
+        values = [*ours, *theirs] if wide else ours
+        cells = [decimal(value, unit=size) or "-" for value in values]
+        cells += [decimal(difference, "+", size) or "-"] if wide else []
+        rows.append([*of.split(), *name[:15].split(), figure, *shown, *cells])
+    return rows
+
+
+def compare(program, words, against, theirs_words, seeds):
+    ours, theirs = summary(program, words, seeds), summary(program, theirs_words, seeds) if against else None
+    told = list(lines(ours, theirs))
+    asked = [*words, "--seed", seeds[0], "--seeds", len(seeds), *against]
+    if run(program, *asked, "--as", "csv") != as_csv(told):
+        sys.exit(f"{asked}: the csv differs")
+    if json.loads(run(program, *asked, "--as", "json")) != as_json(told):
+        sys.exit(f"{asked}: the json differs")
+    if [line.split() for line in run(program, *asked).splitlines()] != as_report(told, bool(against)):
+        sys.exit(f"{asked}: the report differs")
+    return len(told)
+
+
+def main(program, count="3"):
+    workloads, compared, seeds = sorted((TOP / "workloads").glob("*.toml")), 0, range(5, 5 + int(count))
+    installed = [word for hook, file in OTHERS.items() for word in (f"--{hook}", file)]
+    against = [word for file in OTHERS.values() for word in ("--against", file)]
+    for workload in workloads:
+        for rule in ("cfs", "eevdf"):
+            plain = [workload, "--duration", DURATION, "--discipline", rule]
+            compared += compare(program, plain, [], None, seeds)
+            compared += compare(program, plain, against, [*plain, *installed], seeds)
+            compared += compare(program, [*plain, *installed], ["--against", "none"], plain, seeds[:2])
+    print(f"{len(workloads)} workloads, {compared} figures alike in three forms")
+
+
+if __name__ == "__main__":
+    sys.exit(main(*sys.argv[1:]) if len(sys.argv) > 1 else __doc__)
