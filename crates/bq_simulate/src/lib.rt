@@ -14,6 +14,6 @@ pub mod sound;
 pub mod tally;
 
 pub use fault::SimulateFault;
-pub use following::simulate;
+pub use following::{simulate, simulate_seed};
 pub use sound::{Unsound, soundness};
 pub use tally::Tally;

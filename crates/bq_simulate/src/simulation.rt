@@ -4,7 +4,7 @@ ghost use Rattle.bq_parts.specs.declared.event.Event.TheVariants.{BeginWake, End
 ghost use Rattle.bq_driver.specs.Drives.{Drove};
 ghost use Rattle.std.specs.Option.{option_map_or};
 ghost use Rattle.bq_roster.specs.Accounts.{accounts_of, passed, switched};
-ghost use Rattle.bq_simulate.specs.Simulations.{Draws, Lived};
+ghost use Rattle.bq_simulate.specs.Simulations.{Befell, Draws, Lived};
 
 use crate::fault::SimulateFault;
 use crate::tally::Tally;
@@ -39,7 +39,7 @@ impl Simulation {
         now: u64,
         sink: &mut S,
     ) -> Result<(), SimulateFault>
-        ensures { OnOk result (Lived S.takes sink.old self.old sink.new self.new) }
+        ensures { OnOk result (Lived S.takes workload.now.tasks.items sink.old self.old sink.new self.new) }
     {
         match due {
             Due::End(processor) => self.act(alloc, workload, processor, now, sink),
@@ -57,7 +57,7 @@ impl Simulation {
         now: u64,
         sink: &mut S,
     ) -> Result<(), SimulateFault>
-        ensures { OnOk result (Lived S.takes sink.old self.old sink.new self.new) }
+        ensures { OnOk result (Befell S.takes sink.old self.old sink.new self.new) }
     {
         self.roster.drop_plan(Due::Wake(task))?;
         let course = self.roster.course(task)?;
@@ -77,7 +77,7 @@ impl Simulation {
         sink: &mut S,
     ) -> Result<(), SimulateFault>
         ensures events { OnOk result ((to : ℕ) × Drove S.takes sink.old self.old.driver (BeginWake from task ∷ EndWake from now ∷ Drain to now ∷ []) sink.new self.new.driver) }
-        ensures lived { OnOk result (Lived S.takes sink.old self.old sink.new self.new) }
+        ensures lived { OnOk result (Befell S.takes sink.old self.old sink.new self.new) }
     {
         self.roster.wake(task)?;
         let to = self.driver.wake(alloc, from, task, now, sink)?;
@@ -94,7 +94,7 @@ impl Simulation {
         now: u64,
         sink: &mut S,
     ) -> Result<(), SimulateFault>
-        ensures { OnOk result (Lived S.takes sink.old self.old sink.new self.new) }
+        ensures { OnOk result (Befell S.takes sink.old self.old sink.new self.new) }
     {
         let run = self.driver.tick(alloc, processor, now, sink)?;
         self.roster.switch(processor, run, now)?;
@@ -110,7 +110,7 @@ impl Simulation {
         now: u64,
         sink: &mut S,
     ) -> Result<(), SimulateFault>
-        ensures { OnOk result (Lived S.takes sink.old self.old sink.new self.new) }
+        ensures { OnOk result (Befell S.takes sink.old self.old sink.new self.new) }
     {
         self.roster.plan_pull(processor, now)?;
         match self.roster.largest() {
@@ -127,7 +127,7 @@ impl Simulation {
         now: u64,
         sink: &mut S,
     ) -> Result<(), SimulateFault>
-        ensures { OnOk result (Lived S.takes sink.old self.old sink.new self.new) }
+        ensures { OnOk result (Befell S.takes sink.old self.old sink.new self.new) }
     {
         let moved = self.driver.pull(alloc, processor, from, now, sink)?;
         keep_pull(&mut self.roster, processor, from, moved, now)?;

@@ -1,5 +1,5 @@
-use Rattle.bq_simulate.proofs.Deeds.{Lived-join}
+use Rattle.bq_simulate.proofs.Deeds.{Befell-join}
 use Rattle.bq_simulate.proofs.simulation.Simulation.finish.Goals as goal
 
 pub processors-preserved : goal.processors-preserved
-processors-preserved g c = Lived-join g.S.Sink.takes _ _ _ _ _ _ c.processors.invariant c.in_ok-tick_at_end.ensures
+processors-preserved g c = Befell-join g.S.Sink.takes _ _ _ _ _ _ c.processors.invariant c.in_ok-tick_at_end.ensures
