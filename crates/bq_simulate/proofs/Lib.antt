@@ -1,3 +1,4 @@
 pub mod Deeds
+pub mod KindLemmas
 pub mod StreamLemmas
 pub mod Wholes

@@ -23,11 +23,11 @@ next_action kinds c = option_and_then (λ kind. action_at kind c) (slice_get kin
 
 -- how many actions it goes through
 abbrev pub actions_of : List TaskKind → Course → ℕ
-actions_of kinds c = option_map_or (λ (kind : TaskKind). length kind.actions.items) 0 (slice_get kinds c.kind)
+actions_of kinds c = option_map_or (λ (kind : TaskKind). length kind.actions.items) (slice_get kinds c.kind) 0
 
 -- how many tasks a kind has
 abbrev pub count_of : List TaskKind → ℕ → ℕ
-count_of kinds number = option_map_or (λ (kind : TaskKind). kind.count) 0 (slice_get kinds number)
+count_of kinds number = option_map_or (λ (kind : TaskKind). kind.count) (slice_get kinds number) 0
 
 -- running and sleeping take a length
 abbrev pub asked_by : Option Action → Option Length

@@ -64,9 +64,9 @@ fn woken_one(workload: &Workload, course: Course, kind: usize) -> Result<Course,
     ensures { IfOk result (λ next. next ≡ woken_one_in workload.now.tasks.items kind course) }
 {
     let count = workload.tasks.get(kind).ok_or(Astray)?.count;
-    let mut next = course;
-    next.woken = course.woken.saturating_add(1);
-    if next.woken < count {
+    if u32::from(course.woken) + 1 < u32::from(count) {
+        let mut next = course;
+        next.woken += 1;
         return Ok(next);
     }
     advanced(workload, course)

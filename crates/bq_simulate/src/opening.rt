@@ -64,6 +64,7 @@ impl Simulation {
         ensures { OnOk result (Lived S.takes workload.now.tasks.items sink.old self.old sink.new self.new) }
     {
         'kinds: for (number, kind) in workload.tasks.iter().enumerate() {
+            self.begin_kind()?;
             self.admit_kind(alloc, workload, number, kind, sink)?;
         }
         Ok(())
@@ -85,7 +86,6 @@ impl Simulation {
     {
         let processors = workload.machine.size.processors();
         let home = first_of_mask(kind.mask, processors).ok_or(SimulateFault::Astray)?;
-        self.begin_kind()?;
         'tasks: for _ in 0..kind.count {
             let task = self.tally.tasks;
             self.admit_one(alloc, task, kind, sink)?;

@@ -1,6 +1,6 @@
 use Rattle.std.proofs.Common.{refl, ◌∙◌}
 use Rattle.bq_parts.specs.declared.event.Event.TheVariants.{Draw}
-use Rattle.bq_simulate.proofs.Deeds.{Befell-join, Lived-drove}
+use Rattle.bq_simulate.proofs.Deeds.{Befell-join, Lived-drove, Lived-same, Same-here}
 use Rattle.bq_simulate.proofs.simulation.Simulation.install.Goals as goal
 
 pub policies-preserved : goal.policies-preserved
@@ -11,3 +11,6 @@ policies-preserved g c =
       befell = Befell-join takes _ _ _ _ _ _ c.policies.invariant.befell (Befell-join takes _ _ _ _ _ _ drawn c.in_ok-install_one.ensures.befell);
       roster = c.in_ok-install_one.ensures.roster ∙ c.policies.invariant.roster;
     }
+
+pub policies-init : goal.policies-init
+policies-init g c = record { befell = Lived-same g.S.Sink.takes _ _ _ (Same-here _); roster = refl }
