@@ -11,9 +11,12 @@ use Rattle.bq_simulate.specs.Actions.{IsOfKind, first_of}
 pub first-more : (kinds : List TaskKind) (number : ℕ) (kind : TaskKind) → slice_get kinds number ≡ Some kind → first_of kinds (number + 1) ≡ first_of kinds number + kind.count
 first-more kinds number kind there =
     let count : TaskKind → ℕ = λ k. k.count in
-    let last : List TaskKind = get_or kinds number kind ∷ [] in
-    ap (sum_by count) (take_more kinds number kind (slice_get_within kinds number kind there)) ∙ sum_by-append count (take number kinds) last
-    ∙ ap (λ (k : TaskKind). first_of kinds number + (k.count + 0)) (get_or_from_slice_get kinds number kind kind there) ∙ ap (λ n. first_of kinds number + n) (omega arith)
+    let first = first_of kinds number in
+    let last : first_of kinds (number + 1) ≡ first + sum_by count (get_or kinds number kind ∷ []) =
+      ap (sum_by count) (take_more kinds number kind (slice_get_within kinds number kind there)) ∙ sum_by-append count (take number kinds) (get_or kinds number kind ∷ []) in
+    let is : first + sum_by count (get_or kinds number kind ∷ []) ≡ first + sum_by count (kind ∷ []) = ap (λ (k : TaskKind). first + sum_by count (k ∷ [])) (get_or_from_slice_get kinds number kind kind there) in
+    let one : sum_by count (kind ∷ []) ≡ kind.count = omega arith in
+    last ∙ is ∙ ap (λ n. first + n) one
 
 -- the tasks of a kind, one after another
 pub nth-of-kind : (kinds : List TaskKind) (kind : TaskKind) (task number before : ℕ) → slice_get kinds number ≡ Some kind → task ≡ first_of kinds number + before → before < kind.count → IsOfKind kinds task number

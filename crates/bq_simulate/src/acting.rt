@@ -1,7 +1,7 @@
 //! What a task does next, once it has run long enough.
 ghost use Rattle.std.specs.Prelude.{◌≡◌, IfOk, OnOk};
 ghost use Rattle.bq_roster.specs.Courses.{begun};
-ghost use Rattle.bq_simulate.specs.Actions.{acted, advanced_in, asked_by, next_action, resting, woken_one_in};
+ghost use Rattle.bq_simulate.specs.Actions.{acted, advanced_in, asked_by, count_of, next_action, resting, woken_one_in};
 ghost use Rattle.bq_simulate.specs.Simulations.{Befell, DrawsFor, Lived, Same, Silent};
 
 use crate::fault::SimulateFault;
@@ -59,17 +59,23 @@ fn advanced(workload: &Workload, course: Course) -> Result<Course, Astray>
     Ok(course)
 }
 
+/// How many tasks a kind has.
+fn count_of(workload: &Workload, kind: usize) -> Result<u16, Astray>
+    ensures { IfOk result (λ count. count ≡ count_of workload.now.tasks.items kind) }
+{
+    let kind = workload.tasks.get(kind).ok_or(Astray)?;
+    Ok(kind.count)
+}
+
 /// How far a task has come once its wake has come to one more of the tasks of a kind.
 fn woken_one(workload: &Workload, course: Course, kind: usize) -> Result<Course, Astray>
     ensures { IfOk result (λ next. next ≡ woken_one_in workload.now.tasks.items kind course) }
 {
-    let count = workload.tasks.get(kind).ok_or(Astray)?.count;
-    if u32::from(course.woken) + 1 < u32::from(count) {
-        let mut next = course;
-        next.woken += 1;
-        return Ok(next);
+    let count = count_of(workload, kind)?;
+    match course.woken.checked_add(1) {
+        Some(woken) if woken < count => Ok(Course { woken, ..course }),
+        _ => advanced(workload, course),
     }
-    advanced(workload, course)
 }
 
 /// A task that has no phase, and sleeps.
