@@ -1,5 +1,5 @@
 -- Deeds after deeds.
-use Rattle.std.proofs.Common.{◌≡◌, ℕ, ◌+◌, List, [], ◌∷◌, ◌++◌, length, Option, Some, None, arith, refl, sym, ◌∙◌, ap, subst, zero, suc, append_assoc, append-nil}
+use Rattle.std.proofs.Common.{◌≡◌, ℕ, List, [], ◌∷◌, ◌++◌, length, Option, Some, refl, sym, ◌∙◌, ap, subst, append_assoc, append-nil}
 use Rattle.std.specs.Option.{option_map_or}
 use Rattle.std.specs.Prelude.{slice_get, slice_set}
 use Rattle.bq_parts.specs.declared.event.Event.{Event}
@@ -18,9 +18,9 @@ use Rattle.bq_roster.specs.Accounts.{Accounts, IsDone, accounts_of, charged, of_
 use Rattle.bq_roster.specs.Courses.{fresh, woken}
 use Rattle.bq_simulate.specs.declared.simulation.Simulation.{Simulation}
 use Rattle.bq_simulate.specs.Actions.{IsOfKind, acted, asked_by, next_action}
-use Rattle.bq_simulate.specs.Chronicles.{Acts, Book, Deed, Happens, Joins, Lives, after_act, after_answer, after_event, drawn_with, events_of, joined, length_taken}
+use Rattle.bq_simulate.specs.Chronicles.{Acts, Book, Deed, Happens, IsDue, IsWoken, Joins, Lives, after_act, after_answer, after_event, drawn_with, events_of, joined, length_taken}
 use Rattle.bq_simulate.specs.Simulations.{Befell, DrawsFor, HasDrawn, Lived, Same, Silent, Stays, book_of, streams_after}
-use Rattle.bq_simulate.proofs.StreamLemmas.{Gave, gave, opened-streams}
+use Rattle.bq_simulate.proofs.StreamLemmas.{gave, opened-streams}
 
 -- some, and then others
 pub Lives-append : (kinds : List TaskKind) (seed cost : ℕ) (d m e : Driver) (a b c : Book) (xs ys : List Deed) (told more : Told) → Lives kinds seed cost d a xs told m b → Lives kinds seed cost m b ys more e c → Lives kinds seed cost d a (xs ++ ys) (told ++ more) e c
@@ -29,15 +29,15 @@ Lives-append kinds seed cost d m e a b c [] ys told more h k =
     let Q : Driver → Type 0 = λ x. Lives kinds seed cost x a ys more e c in
     let R : Book → Type 0 = λ x. Lives kinds seed cost m x ys more e c in
     subst P (sym h.0) (subst Q h.1 (subst R h.2 k))
-Lives-append kinds seed cost d m e a b c (Happens event reply ∷ xs) ys told more (mid, first, rest, does, lives, whole) k =
-    (mid, first, rest ++ more, does, Lives-append kinds seed cost mid m e (after_answer cost event reply a) b c xs ys rest more lives k, ap (λ t. t ++ more) whole ∙ append_assoc first rest more)
+Lives-append kinds seed cost d m e a b c (Happens event reply ∷ xs) ys told more (due, mid, first, rest, does, lives, whole) k =
+    (due, mid, first, rest ++ more, does, Lives-append kinds seed cost mid m e (after_answer cost event reply a) b c xs ys rest more lives k, ap (λ t. t ++ more) whole ∙ append_assoc first rest more)
 Lives-append kinds seed cost d m e a b c (Joins kind home ∷ xs) ys told more (of, lives) k = (of, Lives-append kinds seed cost d m e (joined kind home a) b c xs ys told more lives k)
 Lives-append kinds seed cost d m e a b c (Acts at task now ∷ xs) ys told more (c', done, lives) k = (c', done, Lives-append kinds seed cost d m e (after_act kinds seed at task now c' a) b c xs ys told more lives k)
 
 -- the events among them were driven
 pub drives-of-lives : (kinds : List TaskKind) (seed cost : ℕ) (d e : Driver) (a b : Book) (xs : List Deed) (told : Told) → Lives kinds seed cost d a xs told e b → Drives d (events_of xs) told e
 drives-of-lives kinds seed cost d e a b [] told h = (h.0, h.1)
-drives-of-lives kinds seed cost d e a b (Happens event reply ∷ xs) told (mid, first, rest, does, lives, whole) = (reply, mid, first, rest, does, drives-of-lives kinds seed cost mid e (after_answer cost event reply a) b xs rest lives, whole)
+drives-of-lives kinds seed cost d e a b (Happens event reply ∷ xs) told (due, mid, first, rest, does, lives, whole) = (reply, mid, first, rest, does, drives-of-lives kinds seed cost mid e (after_answer cost event reply a) b xs rest lives, whole)
 drives-of-lives kinds seed cost d e a b (Joins kind home ∷ xs) told (of, lives) = drives-of-lives kinds seed cost d e (joined kind home a) b xs told lives
 drives-of-lives kinds seed cost d e a b (Acts at task now ∷ xs) told (c, done, lives) = drives-of-lives kinds seed cost d e (after_act kinds seed at task now c a) b xs told lives
 
@@ -146,9 +146,9 @@ Silent-joins kinds s t kind home pace seed driver courses lanes streams of drawn
 }
 
 -- an event happens
-pub Lived-event : {S : Type 0} (takes : S → ℕ → News → S → Type 0) (x y : S) (s t : Simulation) (event : Event) (reply : Reply) → Stays s t → Did takes x s.driver event reply y t.driver
+pub Lived-event : {S : Type 0} (takes : S → ℕ → News → S → Type 0) (x y : S) (s t : Simulation) (event : Event) (reply : Reply) → IsDue event (accounts_of s.roster) → Stays s t → Did takes x s.driver event reply y t.driver
     → accounts_of t.roster ≡ after_event s.roster.pace.migration_cost event reply (accounts_of s.roster) → Befell takes x s y t
-Lived-event takes x y s t event reply stays did accounts kinds drawn had = record {
+Lived-event takes x y s t event reply due stays did accounts kinds drawn had = record {
   deeds = Happens event reply ∷ [];
   after = drawn;
   pace = stays.pace;
@@ -157,14 +157,14 @@ Lived-event takes x y s t event reply stays did accounts kinds drawn had = recor
   tells = record {
     told = did.told;
     taken = did.taken;
-    holds = (t.driver, did.told, [], did.holds, (refl, refl, ap (λ (a : Accounts). record { accounts = a; drawn = drawn }) accounts), sym (append-nil did.told));
+    holds = (due, t.driver, did.told, [], did.holds, (refl, refl, ap (λ (a : Accounts). record { accounts = a; drawn = drawn }) accounts), sym (append-nil did.told));
   };
 }
 
 -- an event of which the accounts know nothing
-pub Lived-drove : {S : Type 0} (takes : S → ℕ → News → S → Type 0) (x y : S) (s t : Simulation) (event : Event) → Stays s t → ((reply : Reply) (a : Accounts) → after_event s.roster.pace.migration_cost event reply a ≡ a)
+pub Lived-drove : {S : Type 0} (takes : S → ℕ → News → S → Type 0) (x y : S) (s t : Simulation) (event : Event) → IsDue event (accounts_of s.roster) → Stays s t → ((reply : Reply) (a : Accounts) → after_event s.roster.pace.migration_cost event reply a ≡ a)
     → Drove takes x s.driver (event ∷ []) y t.driver → accounts_of t.roster ≡ accounts_of s.roster → Befell takes x s y t
-Lived-drove takes x y s t event stays quiet drove accounts kinds drawn had =
+Lived-drove takes x y s t event due stays quiet drove accounts kinds drawn had =
     let h = drove.holds in
     record {
       deeds = Happens event h.0 ∷ [];
@@ -175,15 +175,15 @@ Lived-drove takes x y s t event stays quiet drove accounts kinds drawn had =
       tells = record {
         told = drove.told;
         taken = drove.taken;
-        holds = (h.1, h.2, h.3, h.4, (h.5.0, h.5.1, ap (λ (a : Accounts). record { accounts = a; drawn = drawn }) (accounts ∙ sym (quiet h.0 (accounts_of s.roster)))), h.6);
+        holds = (due, h.1, h.2, h.3, h.4, (h.5.0, h.5.1, ap (λ (a : Accounts). record { accounts = a; drawn = drawn }) (accounts ∙ sym (quiet h.0 (accounts_of s.roster)))), h.6);
       };
     }
 
 -- a task is woken, and the processor on which it was placed takes it in
-pub Lived-wakes : {S : Type 0} (takes : S → ℕ → News → S → Type 0) (x y z : S) (s t : Simulation) (m : Driver) (from task to now : ℕ) (reply : Reply) → Stays s t
+pub Lived-wakes : {S : Type 0} (takes : S → ℕ → News → S → Type 0) (x y z : S) (s t : Simulation) (m : Driver) (from task to now : ℕ) (reply : Reply) → IsWoken (accounts_of s.roster) from task → Stays s t
     → Drove takes x s.driver (BeginWake from task ∷ EndWake from now ∷ []) y m → Did takes y m (Drain to now) reply z t.driver
     → accounts_of t.roster ≡ after_event s.roster.pace.migration_cost (Drain to now) reply (of_task woken task (accounts_of s.roster)) → Befell takes x s z t
-Lived-wakes takes x y z s t m from task to now reply stays woke did accounts kinds drawn had =
+Lived-wakes takes x y z s t m from task to now reply due stays woke did accounts kinds drawn had =
     let h = woke.holds in
     let k = h.5 in
     let kept = ap (λ (a : Accounts). record { accounts = a; drawn = drawn }) accounts in
@@ -197,11 +197,12 @@ Lived-wakes takes x y z s t m from task to now reply stays woke did accounts kin
         told = woke.told ++ did.told;
         taken = TakesAll-append takes x y z woke.told did.told woke.taken did.taken;
         holds = (
+          due,
           h.1,
           h.2,
           k.2 ++ did.told,
           h.4,
-          (k.1, k.2, did.told, k.4, (t.driver, did.told, [], subst (λ (x : Driver). Does x (Drain to now) reply did.told t.driver) k.5.1 did.holds, (refl, refl, kept), sym (append-nil did.told)), refl),
+          (tt, k.1, k.2, did.told, k.4, (tt, t.driver, did.told, [], subst (λ (x : Driver). Does x (Drain to now) reply did.told t.driver) k.5.1 did.holds, (refl, refl, kept), sym (append-nil did.told)), refl),
           ap (λ (x : Told). x ++ did.told) (h.6 ∙ ap (λ (x : Told). h.2 ++ x) (k.6 ∙ ap (λ (x : Told). k.2 ++ x) k.5.0 ∙ append-nil k.2)) ∙ append_assoc h.2 k.2 did.told,
         );
       };

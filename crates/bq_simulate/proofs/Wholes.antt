@@ -1,5 +1,5 @@
 -- A simulation from its beginning to its end.
-use Rattle.std.proofs.Common.{◌≡◌, ℕ, [], ◌∙◌, ◌++◌, ap, refl, subst}
+use Rattle.std.proofs.Common.{◌≡◌, ℕ, [], ◌++◌, ap, refl, subst}
 use Rattle.bq_actions.specs.declared.workload.Workload.{Workload}
 use Rattle.bq_trace.specs.News.{News, Gets}
 use Rattle.bq_driver.specs.declared.driver.Driver.{Driver}

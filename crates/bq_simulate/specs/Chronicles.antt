@@ -1,5 +1,5 @@
 -- What happens in a simulation, one thing after another: events of the trace with their answers, and what tasks do beside them.
-use Rattle.std.specs.Prelude.{◌≡◌, ℕ, zero, suc, ◌-◌, List, [], ◌∷◌, ◌++◌, Option, Some, None, length, slice_get, unwrap_or}
+use Rattle.std.specs.Prelude.{◌≡◌, ℕ, suc, List, [], ◌∷◌, ◌++◌, Option, Some, None, length, slice_get, unwrap_or}
 use Rattle.std.specs.Option.{option_map_or}
 use Rattle.bq_actions.specs.declared.action.Length.{Length}
 use Rattle.bq_actions.specs.declared.workload.TaskKind.{TaskKind}
@@ -10,6 +10,9 @@ use Rattle.bq_trace.specs.News.{Told}
 use Rattle.bq_driver.specs.declared.driver.Driver.{Driver}
 use Rattle.bq_driver.specs.Drives.{Does, count_entered, runs_now, task_pulled}
 use Rattle.bq_roster.specs.declared.course.Course.{Course}
+use Rattle.bq_roster.specs.declared.course.Stance.{Stance}
+use Rattle.bq_roster.specs.declared.course.Stance.TheVariants.{Asleep, Waiting}
+use Rattle.bq_roster.specs.declared.lane.Lane.{Lane}
 use Rattle.bq_roster.specs.Accounts.{Accounts, IsDone, changed_at, charged, entered_by, left_by, of_task, passed, switched}
 use Rattle.bq_roster.specs.Courses.{fresh, woken}
 use Rattle.bq_simulate.specs.Actions.{IsOfKind, acted, asked_by, length_of, next_action}
@@ -21,6 +24,22 @@ pub data Deed : Type 0 where
   Joins : ℕ → ℕ → Deed
   -- at an instant the phase of the task that runs at a processor ends, and it does its next action
   Acts : ℕ → ℕ → ℕ → Deed
+
+-- a timer wakes a task from the processor that it ran on last; who waits is woken from a processor at which a task runs, which wakes it
+abbrev pub IsFrom : Accounts → Stance → ℕ → ℕ → Type 0
+IsFrom a Asleep home from = from ≡ home
+IsFrom a Waiting home from = (lane : Lane) × (waker : ℕ) × (slice_get a.lanes from ≡ Some lane) × (lane.run ≡ Some waker)
+IsFrom a stance home from = ⊥
+
+pub record IsWoken (a : Accounts) (from task : ℕ) : Type 0 where
+  pub course : Course
+  pub there : slice_get a.courses task ≡ Some course
+  pub place : IsFrom a course.stance course.home from
+
+-- whoever is woken sleeps, and is woken from the right processor
+abbrev pub IsDue : Event → Accounts → Type 0
+IsDue (BeginWake from task) a = IsWoken a from task
+IsDue event a = Unit {0}
 
 -- what is kept of a simulation: the accounts, and how many lengths each task's stream has given
 pub record Book : Type 0 where
@@ -69,7 +88,7 @@ after_act kinds seed processor task now c b = record {
 abbrev pub Lives : List TaskKind → ℕ → ℕ → Driver → Book → List Deed → Told → Driver → Book → Type 0
 Lives kinds seed cost d b [] told e f = (told ≡ []) × (e ≡ d) × (f ≡ b)
 Lives kinds seed cost d b (Happens event reply ∷ deeds) told e f =
-    (mid : Driver) × (first : Told) × (more : Told)
+    IsDue event b.accounts × (mid : Driver) × (first : Told) × (more : Told)
     × Does d event reply first mid × Lives kinds seed cost mid (after_answer cost event reply b) deeds more e f × (told ≡ first ++ more)
 Lives kinds seed cost d b (Joins kind home ∷ deeds) told e f = IsOfKind kinds (length b.accounts.courses) kind × Lives kinds seed cost d (joined kind home b) deeds told e f
 Lives kinds seed cost d b (Acts processor task now ∷ deeds) told e f =

@@ -239,11 +239,18 @@ impl Simulation {
     {
         let first = *self.firsts.get(kind).ok_or(SimulateFault::Astray)?;
         let target = first.checked_add(woken).ok_or(SimulateFault::Astray)?;
-        if self.roster.course(target)?.stance != Stance::Waiting {
-            self.miss();
-            return Ok(());
+        let lane = self.roster.lane(processor)?;
+        let Some(_) = lane.run else {
+            return Err(SimulateFault::Astray);
+        };
+        let course = self.roster.course(target)?;
+        match course.stance {
+            Stance::Waiting => self.wake(alloc, processor, target, now, sink),
+            _ => {
+                self.miss();
+                Ok(())
+            }
         }
-        self.wake(alloc, processor, target, now, sink)
     }
 
     /// A wake comes to a task that does not wait.

@@ -4,6 +4,7 @@ ghost use Rattle.bq_parts.specs.declared.event.Event.TheVariants.{BeginWake, End
 ghost use Rattle.bq_driver.specs.Drives.{Drove};
 ghost use Rattle.std.specs.Option.{option_map_or};
 ghost use Rattle.bq_roster.specs.Accounts.{accounts_of, passed, switched};
+ghost use Rattle.bq_simulate.specs.Chronicles.{IsWoken};
 ghost use Rattle.bq_simulate.specs.Simulations.{Befell, Draws, Lived};
 
 use crate::fault::SimulateFault;
@@ -61,10 +62,10 @@ impl Simulation {
     {
         self.roster.drop_plan(Due::Wake(task))?;
         let course = self.roster.course(task)?;
-        if course.stance != Stance::Asleep {
-            return Err(SimulateFault::Astray);
+        match course.stance {
+            Stance::Asleep => self.wake(alloc, course.home, task, now, sink),
+            _ => Err(SimulateFault::Astray),
         }
-        self.wake(alloc, course.home, task, now, sink)
     }
 
     /// A task is woken from a processor: it is placed, and the processor on which it was placed takes it in at once.
@@ -76,6 +77,7 @@ impl Simulation {
         now: u64,
         sink: &mut S,
     ) -> Result<(), SimulateFault>
+        requires { IsWoken (accounts_of self.old.roster) from task }
         ensures events { OnOk result ((to : ℕ) × Drove S.takes sink.old self.old.driver (BeginWake from task ∷ EndWake from now ∷ Drain to now ∷ []) sink.new self.new.driver) }
         ensures lived { OnOk result (Befell S.takes sink.old self.old sink.new self.new) }
     {

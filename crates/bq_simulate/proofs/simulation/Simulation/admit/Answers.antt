@@ -1,7 +1,6 @@
-use Rattle.std.proofs.Common.{◌≡◌, ◌+◌, get_or, length, sym, ap, ◌∙◌}
+use Rattle.std.proofs.Common.{◌+◌, get_or, length, sym, ap, ◌∙◌}
 use Rattle.std.proofs.lemmas.Option.{slice_get_read}
 use Rattle.bq_roster.specs.declared.roster.Roster.{Roster}
-use Rattle.bq_simulate.specs.Actions.{first_of}
 use Rattle.bq_simulate.proofs.Deeds.{Lived-join, Lived-same, Same-here}
 use Rattle.bq_simulate.proofs.KindLemmas.{first-more}
 use Rattle.bq_simulate.proofs.simulation.Simulation.admit.Goals as goal

@@ -1,6 +1,5 @@
 use Rattle.std.proofs.Common.{◌≡◌, ◌+◌, length, ap, ◌∙◌, arith}
 use Rattle.bq_roster.specs.declared.roster.Roster.{Roster}
-use Rattle.bq_simulate.specs.Actions.{first_of}
 use Rattle.bq_simulate.proofs.Deeds.{Lived-join, Lived-same, Lived-silent, Same-here}
 use Rattle.bq_simulate.proofs.KindLemmas.{nth-of-kind}
 use Rattle.bq_simulate.proofs.simulation.Simulation.admit_kind.Goals as goal

@@ -6,7 +6,7 @@ use Rattle.bq_simulate.proofs.simulation.Simulation.install.Goals as goal
 pub policies-preserved : goal.policies-preserved
 policies-preserved g c =
     let takes = g.S.Sink.takes in
-    let drawn = Lived-drove takes _ _ _ _ Draw (record { pace = refl; seed = refl; streams = refl }) (λ reply a. refl) c.in_ok-generation.ensures refl in
+    let drawn = Lived-drove takes _ _ _ _ Draw tt (record { pace = refl; seed = refl; streams = refl }) (λ reply a. refl) c.in_ok-generation.ensures refl in
     record {
       befell = Befell-join takes _ _ _ _ _ _ c.policies.invariant.befell (Befell-join takes _ _ _ _ _ _ drawn c.in_ok-install_one.ensures.befell);
       roster = c.in_ok-install_one.ensures.roster ∙ c.policies.invariant.roster;
