@@ -1,5 +1,5 @@
 -- Runs of one workload with several seeds.
-use Rattle.std.specs.Prelude.{◌≡◌, ℕ, ◌+◌, List, [], ◌∷◌, ◌++◌, Some, Result, Ok, IfOk, map, length}
+use Rattle.std.specs.Prelude.{◌≡◌, ℕ, ◌+◌, List, [], ◌∷◌, ◌++◌, Some, Result, Ok, IfOk, map, length, slice_get}
 use Rattle.bq_actions.specs.declared.workload.Workload.{Workload}
 use Rattle.bq_schedule.specs.Figures.{Figures}
 use Rattle.bq_figures.specs.declared.naming.Figure.{Figure}
@@ -31,10 +31,9 @@ pub record IsSummary (w : Workload) (count : ℕ) (figures : List Figure) (rows 
   pub runs_are : AreRuns w figures w.machine.seed runs
   pub rows_are : AreRows runs figures rows
 
--- what came of a run with each seed in turn: its figures, where it came to its end
+-- what came of a run with each seed from that one on: its figures, where it came to its end
 abbrev pub AreResults : Workload → List Figure → ℕ → List (Result Run SimulateFault) → Type 0
-AreResults w figures seed [] = Unit {0}
-AreResults w figures seed (result ∷ results) = IfOk result (IsRun (with_seed w seed) figures) × AreResults w figures (seed + 1) results
+AreResults w figures seed results = (i : ℕ) (result : Result Run SimulateFault) → slice_get results i ≡ Some result → IfOk result (IsRun (with_seed w (seed + i)) figures)
 
 -- each of them came to its end, and they stand behind those before
 abbrev pub Comes : List Run → List (Result Run SimulateFault) → List Run → Type 0

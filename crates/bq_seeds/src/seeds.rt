@@ -1,5 +1,5 @@
 //! A workload run with several seeds.
-ghost use Rattle.std.specs.Prelude.{◌≡◌, ◌<◌, ◌+◌, ◌≤◌, ◌^◌, ◌×◌, length, vec_len, IfOk, OnOk, Err};
+ghost use Rattle.std.specs.Prelude.{◌≡◌, ◌≢◌, ◌<◌, ◌+◌, ◌≤◌, ◌^◌, length, vec_len, IfOk, OnOk, Err};
 ghost use Rattle.bq_seeds.specs.Seeds.{AreResults, AreRuns, Comes, IsRun, IsSummary};
 ghost use Rattle.bq_seeds.specs.declared.fault.SeedsFault.TheVariants.{Last};
 ghost use Rattle.bq_simulate.specs.Simulations.{with_seed};
@@ -86,28 +86,39 @@ fn at_once<T: Threads + Sync>(
     alloc: Global,
     workload: &Workload,
     policies: &[Policy],
-    seed: u64,
+    first: u64,
     count: usize,
     figures: &[Figure],
 ) -> Result<Results, AllocError>
-    requires { seed + count ≤ 2 ^ 64 }
-    ensures results { IfOk result (λ results. AreResults workload.now figures.now seed results.items) }
+    ensures results { IfOk result (λ results. AreResults workload.now figures.now first results.items) }
     ensures count { IfOk result (λ results. vec_len results ≡ count) }
 {
-    map_indices(
-        threads,
-        alloc,
-        count,
-        &|number: usize| -> Result<Run, SimulateFault>
-            requires { number < count }
-            ensures { IfOk result (IsRun (with_seed workload.now (seed + number)) figures.now) }
-        { run(alloc, workload, seed + number as u64, policies, figures) },
-    )
+    map_indices(threads, alloc, count, &|number| {
+        nth_run(alloc, workload, policies, first, number, figures)
+    })
+}
+
+/// The run whose seed is so many above the first.
+fn nth_run(
+    alloc: Global,
+    workload: &Workload,
+    policies: &[Policy],
+    first: u64,
+    number: usize,
+    figures: &[Figure],
+) -> Result<Run, SimulateFault>
+    ensures { IfOk result (IsRun (with_seed workload.now (first + number)) figures.now) }
+{
+    let seed = first
+        .checked_add(number as u64)
+        .ok_or(SimulateFault::Astray)?;
+    run(alloc, workload, policies, seed, figures)
 }
 
 /// Adds what came of some runs; where one did not come to its end, the first such fault.
 fn add_all(runs: &mut Vec<Run>, results: Results) -> Result<(), SeedsFault>
-    ensures { OnOk result (Comes runs.old.items results.items runs.new.items) }
+    ensures comes { OnOk result (Comes runs.old.items results.items runs.new.items) }
+    ensures last { result ≢ Err Last }
 {
     'results: for result in results {
         runs.push(result?)?;
@@ -119,8 +130,8 @@ fn add_all(runs: &mut Vec<Run>, results: Results) -> Result<(), SeedsFault>
 fn run(
     alloc: Global,
     workload: &Workload,
-    seed: u64,
     policies: &[Policy],
+    seed: u64,
     figures: &[Figure],
 ) -> Result<Run, SimulateFault>
     ensures { IfOk result (IsRun (with_seed workload.now seed) figures.now) }
