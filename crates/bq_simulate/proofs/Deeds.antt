@@ -121,7 +121,7 @@ Silent-acts kinds s m n t processor task now length c next ended driver counted 
     let value : length ≡ length_taken s.seed task drawn asked = g.value ∙ ap (λ k. length_taken k task drawn asked) ended.seed in
     let becomes = does ∙ ap (λ l. acted kinds (next_action kinds c) l c) value in
     let accounts = same_accounts _ _ _ _ courses lanes ∙ sym (of_task_at (λ _. next) task (accounts_of n.roster) c there) ∙ ap (of_task (λ _. next) task) (same ∙ counted)
-      ∙ ap (λ (k : Course). of_task (λ _. k) task (charged processor now (accounts_of s.roster))) becomes in
+    ∙ ap (λ (k : Course). of_task (λ _. k) task (charged processor now (accounts_of s.roster))) becomes in
     record {
       deeds = Acts processor task now ∷ [];
       after = drawn_with task drawn asked;

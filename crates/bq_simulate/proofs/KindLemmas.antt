@@ -13,7 +13,7 @@ first-more kinds number kind there =
     let count : TaskKind → ℕ = λ k. k.count in
     let first = first_of kinds number in
     let last : first_of kinds (number + 1) ≡ first + sum_by count (get_or kinds number kind ∷ []) =
-      ap (sum_by count) (take_more kinds number kind (slice_get_within kinds number kind there)) ∙ sum_by-append count (take number kinds) (get_or kinds number kind ∷ []) in
+    ap (sum_by count) (take_more kinds number kind (slice_get_within kinds number kind there)) ∙ sum_by-append count (take number kinds) (get_or kinds number kind ∷ []) in
     let is : first + sum_by count (get_or kinds number kind ∷ []) ≡ first + sum_by count (kind ∷ []) = ap (λ (k : TaskKind). first + sum_by count (k ∷ [])) (get_or_from_slice_get kinds number kind kind there) in
     let one : sum_by count (kind ∷ []) ≡ kind.count = omega arith in
     last ∙ is ∙ ap (λ n. first + n) one

@@ -65,7 +65,7 @@ drew task asked s length t d drawn had =
     let count : draws_of drawn task ≡ h.draws = ap (λ o. unwrap_or o 0) h.there in
     let grown : changed_at suc drawn task ≡ slice_set drawn task (suc h.draws) = ap (λ o. option_map_or (λ (x : ℕ). slice_set drawn task (suc x)) o drawn) h.there in
     let further : after_draw d.stream ≡ after_draws (suc h.draws) (stream_of_task s.seed (0 + task)) =
-      ap after_draw is ∙ after_more h.draws (stream_of_task s.seed task) ∙ ap (λ k. after_draws (suc h.draws) (stream_of_task s.seed k)) (omega arith) in
+    ap after_draw is ∙ after_more h.draws (stream_of_task s.seed task) ∙ ap (λ k. after_draws (suc h.draws) (stream_of_task s.seed k)) (omega arith) in
     record {
       value = d.value ∙ ap (next_length asked) is ∙ ap (λ n. length_of s.seed task n asked) (sym count);
       streams =

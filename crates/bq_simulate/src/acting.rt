@@ -134,12 +134,7 @@ impl Simulation {
 
     /// The run phase of the task that runs at a processor has ended, with just what it takes, and its next action is taken up:
     /// where it takes a length, that is the next of the task.
-    fn take_action(
-        &mut self,
-        workload: &Workload,
-        processor: u8,
-        now: u64,
-    ) -> Result<Doing, Astray>
+    fn take_action(&mut self, workload: &Workload, processor: u8, now: u64) -> Result<Doing, Astray>
         ensures { OnOk result (Silent workload.now.tasks.items self.old self.new) }
     {
         let (task, before) = self.roster.end_phase(processor, now)?;
