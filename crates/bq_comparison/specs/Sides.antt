@@ -13,5 +13,5 @@ extent_of w = record { tasks = min (sum_by (λ kind. kind.count) w.tasks.items) 
 
 -- each side tells of so many runs, and of all figures of the report
 pub record IsComparison (w : Workload) (seeds : ℕ) (sides : Sides) : Type 0 where
-  pub ours : IsSummary w.machine seeds (figures_of_report (extent_of w)) sides.ours.items
-  pub theirs : IfSome sides.theirs (λ rows. IsSummary w.machine seeds (figures_of_report (extent_of w)) rows.items)
+  pub ours : IsSummary w seeds (figures_of_report (extent_of w)) sides.ours.items
+  pub theirs : IfSome sides.theirs (λ rows. IsSummary w seeds (figures_of_report (extent_of w)) rows.items)

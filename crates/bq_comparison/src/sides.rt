@@ -7,6 +7,7 @@ use bq_figures::{Extent, all_figures};
 use bq_seeds::{Rows, SeedsFault, summary};
 use bq_study::Policies;
 use std::alloc::Global;
+use std::thread::Threads;
 
 /// What the runs say of each figure, and what the runs with the same seeds under other policies say, if there are others.
 #[derive(Drop)]
@@ -16,24 +17,38 @@ pub struct Sides {
 }
 
 /// Runs a workload with so many seeds, from its own on, under policies, and with the same seeds under others, if there are
-/// others.
-pub fn compare(
+/// others; as many runs at once as there are processors at hand.
+pub fn compare<T: Threads + Sync>(
+    threads: &T,
     alloc: Global,
-    workload: &mut Workload,
+    workload: &Workload,
     policies: &Policies,
     others: Option<&Policies>,
     seeds: u16,
 ) -> Result<Sides, SeedsFault>
-    ensures sides { IfOk result (IsComparison workload.old seeds) }
+    ensures sides { IfOk result (IsComparison workload.now seeds) }
     ensures theirs { IfOk result (λ sides. IsSome sides.theirs ↔ IsSome others.entry) }
-    ensures same { workload.new ≡ workload.old }
 {
     let figures = all_figures(alloc, extent_of(workload))?;
     let figures = figures.as_slice();
-    let ours = summary(alloc, workload, policies.loaded.as_slice(), seeds, figures)?;
+    let ours = summary(
+        threads,
+        alloc,
+        workload,
+        policies.loaded.as_slice(),
+        seeds,
+        figures,
+    )?;
     let theirs = match others {
         Some(others) => {
-            let rows = summary(alloc, workload, others.loaded.as_slice(), seeds, figures)?;
+            let rows = summary(
+                threads,
+                alloc,
+                workload,
+                others.loaded.as_slice(),
+                seeds,
+                figures,
+            )?;
             Some(rows)
         }
         None => None,

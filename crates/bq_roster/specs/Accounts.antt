@@ -2,7 +2,6 @@
 use Rattle.std.specs.Prelude.{◌≡◌, ℕ, ◌+◌, ◌-◌, ◌==◌, Bool, true, false, if◌then◌else◌, List, [], replicate, Option, Some, None, slice_get, slice_set}
 use Rattle.std.specs.Option.{option_map_or}
 use Rattle.bq_roster.specs.declared.course.Course.{Course}
-use Rattle.bq_roster.specs.declared.course.Stance.{Stance}
 use Rattle.bq_roster.specs.declared.lane.Lane.{Lane}
 use Rattle.bq_roster.specs.declared.roster.Roster.{Roster}
 use Rattle.bq_roster.specs.Courses.{run_for, moved_to}
@@ -66,10 +65,9 @@ abbrev pub switched : ℕ → Option ℕ → ℕ → ℕ → Accounts → Accoun
 switched processor run now cost a =
     option_map_or (λ (lane : Lane). if is_same lane.run run then a else taken_over processor run now cost (charged processor now a)) (slice_get a.lanes processor) a
 
--- a task that ran sleeps from now on, and another runs, or none
-abbrev pub left_by : ℕ → ℕ → Stance → Option ℕ → ℕ → ℕ → Accounts → Accounts
-left_by processor task stance run now cost a =
-    switched processor run now cost (of_processor (λ l. record l { size = l.size - 1 }) processor (of_task (λ c. record c { stance = stance }) task a))
+-- the task that ran has gone from the queue, and another runs, or none
+abbrev pub left_by : ℕ → Option ℕ → ℕ → ℕ → Accounts → Accounts
+left_by processor run now cost a = switched processor run now cost (of_processor (λ l. record l { size = l.size - 1 }) processor a)
 
 -- so many tasks have entered a queue
 abbrev pub entered_by : ℕ → ℕ → Option ℕ → ℕ → ℕ → Accounts → Accounts

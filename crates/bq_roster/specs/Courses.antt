@@ -1,5 +1,5 @@
 -- What becomes of a task's run phase.
-use Rattle.std.specs.Prelude.{◌≡◌, ℕ, ◌+◌, ◌==◌, Bool, true, false, not, ◌&&◌, if◌then◌else◌}
+use Rattle.std.specs.Prelude.{◌≡◌, ℕ, ◌+◌, ◌==◌, Bool, true, false, not, ◌&&◌, if◌then◌else◌, min, nat_le}
 use Rattle.bq_roster.specs.declared.course.Course.{Course}
 use Rattle.bq_roster.specs.declared.course.Stance.TheVariants.{Asleep, Runnable}
 
@@ -7,12 +7,10 @@ use Rattle.bq_roster.specs.declared.course.Stance.TheVariants.{Asleep, Runnable}
 abbrev pub fresh : ℕ → ℕ → Course
 fresh kind home = record { kind = kind; action = 0; woken = 0; loops = 0; stance = Asleep; due = 0; got = 0; home = home; has_run = false }
 
--- what a task does next is no matter of its phase, nor of the processor that it ran on last
-pub record IsSamePhase (c d : Course) : Type 0 where
-  pub due : d.due ≡ c.due
-  pub got : d.got ≡ c.got
-  pub home : d.home ≡ c.home
-  pub has_run : d.has_run ≡ c.has_run
+-- it has done one of so many actions, and comes to the next; after the last to the first, once more, as far as 64 bits count
+abbrev pub advanced : ℕ → Course → Course
+advanced actions c =
+    if nat_le actions (c.action + 1) then record c { action = 0; woken = 0; loops = min (c.loops + 1) 18446744073709551615 } else record c { action = c.action + 1; woken = 0 }
 
 -- a phase of this length begins
 abbrev pub begun : ℕ → Course → Course

@@ -37,7 +37,7 @@ pub struct Course {
 }
 
 impl Course {
-    ghost use Rattle.bq_roster.specs.Courses.{begun, fresh, run_for, moved_to, woken, is_done, IsSamePhase};
+    ghost use Rattle.bq_roster.specs.Courses.{advanced, begun, fresh, run_for, moved_to, woken, is_done};
 
     /// A task that has done nothing, and sleeps until its first timer.
     pub fn new(kind: usize, home: u8) -> Course
@@ -102,9 +102,9 @@ impl Course {
         self.got == self.due
     }
 
-    /// Goes on to the next of so many actions, after the last to the first.
+    /// Goes on to the next of so many actions; after the last to the first, and it has done them all once more.
     pub fn advance(&mut self, actions: usize)
-        ensures { IsSamePhase self.old self.new }
+        ensures { self.new ≡ advanced actions self.old }
     {
         self.woken = 0;
         if self.action.saturating_add(1) >= actions {

@@ -1,11 +1,11 @@
 //! All tasks and processors of a simulation.
 ghost use Rattle.std.specs.Prelude.{◌≡◌, ◌<◌, ◌++◌, [], ◌∷◌, None, Some, IfOk, IfErr, OnOk, slice_get, slice_set, length};
-ghost use Rattle.bq_roster.specs.Courses.{begun, woken};
+ghost use Rattle.bq_roster.specs.Courses.{woken};
 ghost use Rattle.bq_roster.specs.Accounts.{accounts_of, charged, entered_by, IsDone, left_by, of_task, opening, passed, switched, taken_over};
 ghost use Rattle.bq_agenda.specs.Dues.{IsDue, place_of};
 ghost use Rattle.bq_agenda.specs.Minima.{at_place, never, ChangesOnly};
 
-use crate::course::{Course, Stance};
+use crate::course::Course;
 use crate::lane::Lane;
 use bq_agenda::{Agenda, Due};
 use std::alloc::{AllocError, Global};
@@ -248,45 +248,13 @@ impl Roster {
     }
 
     /// The phase of the task that runs at a processor ends when it has got what is left of it.
-    fn plan_end(&mut self, processor: u8, course: &Course, now: u64) -> Result<(), Astray>
+    pub fn plan_end(&mut self, processor: u8, course: &Course, now: u64) -> Result<(), Astray>
         ensures courses { self.new.courses ≡ self.old.courses }
         ensures lanes { self.new.lanes ≡ self.old.lanes }
         ensures pace { self.new.pace ≡ self.old.pace }
     {
         let left = course.due.checked_sub(course.got).ok_or(Astray)?;
         self.plan(Due::End(processor), now.saturating_add(left))
-    }
-
-    /// The task that runs at a processor begins a phase of this length now.
-    pub fn begin_phase(
-        &mut self,
-        processor: u8,
-        task: u16,
-        length: u64,
-        now: u64,
-    ) -> Result<(), Astray>
-        ensures accounts { OnOk result (accounts_of self.new ≡ of_task (begun length) task (accounts_of self.old)) }
-        ensures pace { self.new.pace ≡ self.old.pace }
-    {
-        let mut course = self.course(task)?;
-        course.begin(length);
-        self.set_course(task, course)?;
-        self.plan_end(processor, &course, now)
-    }
-
-    /// The phase of the task that runs at a processor has ended just now, and it has none. The task, and how far it had come: it had
-    /// got what its phase takes, no more and no less.
-    pub fn end_phase(&mut self, processor: u8, now: u64) -> Result<(u16, Course), Astray>
-        ensures done { IfOk result (λ ended. IsDone (charged processor now (accounts_of self.old)) processor ended.0 ended.1) }
-        ensures next { IfOk result (λ ended. slice_get self.new.courses.items ended.0 ≡ Some (begun 0 ended.1)) }
-        ensures accounts { IfOk result (λ ended. accounts_of self.new ≡ of_task (begun 0) ended.0 (charged processor now (accounts_of self.old))) }
-        ensures pace { self.new.pace ≡ self.old.pace }
-    {
-        let (task, course) = self.ended(processor, now)?;
-        let mut next = course;
-        next.begin(0);
-        self.set_course(task, next)?;
-        Ok((task, course))
     }
 
     /// A task is woken, and has no phase yet.
@@ -300,9 +268,9 @@ impl Roster {
         self.set_course(task, course)
     }
 
-    /// The task that runs at a processor, where its phase has ended just now: it has got what it takes, no more and no
-    /// less.
-    fn ended(&mut self, processor: u8, now: u64) -> Result<(u16, Course), Astray>
+    /// The phase of the task that runs at a processor has ended just now. The task, and how far it has come: it has got what
+    /// its phase takes, no more and no less.
+    pub fn end_phase(&mut self, processor: u8, now: u64) -> Result<(u16, Course), Astray>
         ensures done { IfOk result (λ ended. IsDone (accounts_of self.new) processor ended.0 ended.1) }
         ensures accounts { OnOk result (accounts_of self.new ≡ charged processor now (accounts_of self.old)) }
         ensures pace { self.new.pace ≡ self.old.pace }
@@ -316,22 +284,11 @@ impl Roster {
         Ok((task, course))
     }
 
-    /// A task that ran at a processor sleeps from now on; the next one runs there, or none.
-    pub fn leave(
-        &mut self,
-        processor: u8,
-        task: u16,
-        stance: Stance,
-        run: Option<u16>,
-        now: u64,
-    ) -> Result<(), Astray>
-        ensures there { OnOk result (task < length self.old.courses.items) }
-        ensures accounts { OnOk result (accounts_of self.new ≡ left_by processor task stance run now self.old.pace.migration_cost (accounts_of self.old)) }
+    /// The task that ran at a processor has gone from its queue; the next one runs there, or none.
+    pub fn leave(&mut self, processor: u8, run: Option<u16>, now: u64) -> Result<(), Astray>
+        ensures accounts { OnOk result (accounts_of self.new ≡ left_by processor run now self.old.pace.migration_cost (accounts_of self.old)) }
         ensures pace { self.new.pace ≡ self.old.pace }
     {
-        let mut course = self.course(task)?;
-        course.stance = stance;
-        self.set_course(task, course)?;
         let mut lane = self.lane(processor)?;
         lane.size = lane.size.checked_sub(1).ok_or(Astray)?;
         self.set_lane(processor, lane)?;

@@ -1,7 +1,7 @@
 -- What is gathered of all news.
 use Rattle.std.proofs.Common.{◌≡◌, ℕ, List, [], ◌∷◌, ◌++◌, Some, None, refl, sym, ap, ◌∙◌, append_assoc, append-nil, subst}
 use Rattle.bq_trace.specs.News.{News, Told, TakesAll, Gets}
-use Rattle.bq_actions.specs.declared.setup.Setup.{Setup}
+use Rattle.bq_actions.specs.declared.workload.Workload.{Workload}
 use Rattle.bq_simulate.specs.Simulations.{IsSimulation}
 use Rattle.bq_figures.specs.declared.values.Delay.{Delay}
 use Rattle.bq_seeds.specs.declared.gathering.Gatherer.{Gatherer}
@@ -24,9 +24,9 @@ delays-after old new ((n, x) ∷ more) h =
     ∙ append_assoc old.delays.items (delays_with old.schedule x) (delays_after (schedule_with old.schedule x) more)
 
 -- the schedule and the delays of a whole simulation
-pub gathered : (old new : Gatherer) (machine : Setup) → old.schedule ≡ None → old.delays.items ≡ [] → Gets Takes old new (IsSimulation machine)
-    → IsGathered machine new.schedule new.delays.items
-gathered old new machine none empty g = record {
+pub gathered : (old new : Gatherer) (w : Workload) → old.schedule ≡ None → old.delays.items ≡ [] → Gets Takes old new (IsSimulation w)
+    → IsGathered w new.schedule new.delays.items
+gathered old new w none empty g = record {
   told = g.told;
   simulation = g.holds;
   schedule_is = schedule-after old new g.told g.taken ∙ ap (λ s. schedule_after s g.told) none;

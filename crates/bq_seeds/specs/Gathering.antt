@@ -1,6 +1,6 @@
 -- What is kept of the news of a simulation: its schedule, and each delay from a wake until its task ran.
 use Rattle.std.specs.Prelude.{◌≡◌, ℕ, List, [], ◌∷◌, ◌++◌, Option, Some, None}
-use Rattle.bq_actions.specs.declared.setup.Setup.{Setup}
+use Rattle.bq_actions.specs.declared.workload.Workload.{Workload}
 use Rattle.bq_sizes.specs.Sizes.{processors_in}
 use Rattle.bq_trace.specs.News.{News, Told, Opened, Answered}
 use Rattle.bq_schedule.specs.declared.change.Start.{Start}
@@ -37,9 +37,9 @@ abbrev pub delays_after : Option Figures → Told → List Delay
 delays_after s [] = []
 delays_after s ((n, news) ∷ more) = delays_with s news ++ delays_after (schedule_with s news) more
 
--- the schedule and the delays of a simulation on that machine
-pub record IsGathered (machine : Setup) (schedule : Option Figures) (delays : List Delay) : Type 0 where
+-- the schedule and the delays of a simulation of that workload
+pub record IsGathered (w : Workload) (schedule : Option Figures) (delays : List Delay) : Type 0 where
   pub told : Told
-  pub simulation : IsSimulation machine told
+  pub simulation : IsSimulation w told
   pub schedule_is : schedule ≡ schedule_after None told
   pub delays_are : delays ≡ delays_after None told

@@ -1,6 +1,6 @@
 -- Runs of one workload with several seeds.
-use Rattle.std.specs.Prelude.{◌≡◌, ℕ, ◌+◌, List, [], ◌∷◌, Some, length}
-use Rattle.bq_actions.specs.declared.setup.Setup.{Setup}
+use Rattle.std.specs.Prelude.{◌≡◌, ℕ, ◌+◌, List, [], ◌∷◌, ◌++◌, Some, Result, Ok, IfOk, map, length, slice_get}
+use Rattle.bq_actions.specs.declared.workload.Workload.{Workload}
 use Rattle.bq_schedule.specs.Figures.{Figures}
 use Rattle.bq_figures.specs.declared.naming.Figure.{Figure}
 use Rattle.bq_figures.specs.declared.summing.Row.{Row}
@@ -8,26 +8,33 @@ use Rattle.bq_figures.specs.declared.runs.Run.{Run}
 use Rattle.bq_figures.specs.declared.values.Delay.{Delay}
 use Rattle.bq_figures.specs.Rows.{AreRows}
 use Rattle.bq_figures.specs.Runs.{IsRunOf}
+use Rattle.bq_simulate.specs.Simulations.{with_seed}
 use Rattle.bq_seeds.specs.Gathering.{IsGathered}
+use Rattle.bq_simulate.specs.declared.fault.SimulateFault.{SimulateFault}
 
--- the figures of a simulation on that machine
-pub record IsRun (machine : Setup) (figures : List Figure) (run : Run) : Type 0 where
+-- the figures of a simulation of that workload
+pub record IsRun (w : Workload) (figures : List Figure) (run : Run) : Type 0 where
   pub schedule : Figures
   pub delays : List Delay
-  pub gathered : IsGathered machine (Some schedule) delays
+  pub gathered : IsGathered w (Some schedule) delays
   pub told : IsRunOf schedule delays figures run
 
-abbrev pub with_seed : Setup → ℕ → Setup
-with_seed machine seed = record machine { seed = seed }
-
 -- a run with each seed in turn, from that one on
-abbrev pub AreRuns : Setup → List Figure → ℕ → List Run → Type 0
-AreRuns machine figures seed [] = Unit {0}
-AreRuns machine figures seed (run ∷ runs) = IsRun (with_seed machine seed) figures run × AreRuns machine figures (seed + 1) runs
+abbrev pub AreRuns : Workload → List Figure → ℕ → List Run → Type 0
+AreRuns w figures seed [] = Unit {0}
+AreRuns w figures seed (run ∷ runs) = IsRun (with_seed w seed) figures run × AreRuns w figures (seed + 1) runs
 
--- what the runs with so many seeds, from the machine's own on, say of each figure
-pub record IsSummary (machine : Setup) (count : ℕ) (figures : List Figure) (rows : List Row) : Type 0 where
+-- what the runs with so many seeds, from the workload's own on, say of each figure
+pub record IsSummary (w : Workload) (count : ℕ) (figures : List Figure) (rows : List Row) : Type 0 where
   pub runs : List Run
   pub number : length runs ≡ count
-  pub runs_are : AreRuns machine figures machine.seed runs
+  pub runs_are : AreRuns w figures w.machine.seed runs
   pub rows_are : AreRows runs figures rows
+
+-- what came of a run with each seed from that one on: its figures, where it came to its end
+abbrev pub AreResults : Workload → List Figure → ℕ → List (Result Run SimulateFault) → Type 0
+AreResults w figures seed results = (i : ℕ) (result : Result Run SimulateFault) → slice_get results i ≡ Some result → IfOk result (IsRun (with_seed w (seed + i)) figures)
+
+-- each of them came to its end, and they stand behind those before
+abbrev pub Comes : List Run → List (Result Run SimulateFault) → List Run → Type 0
+Comes before results after = (more : List Run) × (results ≡ map Ok more) × (after ≡ before ++ more)

@@ -1,13 +1,14 @@
 //! What is kept of one simulation.
 ghost use Rattle.std.specs.Prelude.{◌≡◌, ◌++◌, [], IfOk, None};
 ghost use Rattle.bq_seeds.specs.Gathering.{IsGathered, delays_with, schedule_with};
+ghost use Rattle.bq_simulate.specs.Simulations.{with_seed};
 
 use bq_actions::Workload;
 use bq_core::{Event, Policy, Refusal, Reply};
 use bq_figures::Delay;
 use bq_load::LoadFault;
 use bq_schedule::Schedule;
-use bq_simulate::{SimulateFault, simulate};
+use bq_simulate::{SimulateFault, simulate_seed};
 use bq_sizes::{Rule, Size};
 use bq_trace::{Machine, Sink};
 use std::alloc::{AllocError, Global};
@@ -103,15 +104,16 @@ impl Sink for Gatherer {
     }
 }
 
-/// Follows a workload to its end, and keeps what figures are made of.
+/// Follows a workload to its end with this seed, and keeps what figures are made of.
 pub(crate) fn gather(
     alloc: Global,
     workload: &Workload,
+    seed: u64,
     policies: &[Policy],
 ) -> Result<Gatherer, SimulateFault>
-    ensures { IfOk result (λ g. IsGathered workload.now.machine g.schedule g.delays.items) }
+    ensures { IfOk result (λ g. IsGathered (with_seed workload.now seed) g.schedule g.delays.items) }
 {
     let mut gatherer = Gatherer::new(alloc);
-    simulate(alloc, workload, policies, &mut gatherer)?;
+    simulate_seed(alloc, workload, seed, policies, &mut gatherer)?;
     Ok(gatherer)
 }

@@ -1,91 +1,142 @@
 //! A workload run with several seeds.
-ghost use Rattle.std.specs.Prelude.{◌≡◌, ◌<◌, ◌+◌, ◌≤◌, ◌^◌, length, vec_len, IfOk, Err};
-ghost use Rattle.bq_seeds.specs.Seeds.{AreRuns, IsRun, IsSummary, with_seed};
+ghost use Rattle.std.specs.Prelude.{◌≡◌, ◌≢◌, ◌<◌, ◌+◌, ◌≤◌, ◌^◌, length, vec_len, IfOk, OnOk, Err};
+ghost use Rattle.bq_seeds.specs.Seeds.{AreResults, AreRuns, Comes, IsRun, IsSummary};
 ghost use Rattle.bq_seeds.specs.declared.fault.SeedsFault.TheVariants.{Last};
+ghost use Rattle.bq_simulate.specs.Simulations.{with_seed};
 
 use crate::fault::SeedsFault;
 use crate::gathering::gather;
-use bq_actions::{Setup, Workload};
+use bq_actions::Workload;
 use bq_core::Policy;
 use bq_figures::{Figure, Row, Run, rows, run_of};
 use bq_simulate::SimulateFault;
-use std::alloc::Global;
+use std::alloc::{AllocError, Global};
+use std::thread::{Threads, available_parallelism, map_indices};
 
 /// What the runs say of each figure, a row a figure.
 pub type Rows = Vec<Row>;
 
+/// What comes of some runs.
+type Results = Vec<Result<Run, SimulateFault>>;
+
+/// At most so many runs are done at once.
+const MOST_AT_ONCE: usize = 64;
+
 /// Runs a workload with so many seeds, from its own on, with these policies at all processors; what the runs say of each of
-/// the figures.
-pub fn summary(
+/// the figures. So many runs are done at once as there are processors at hand, each on a thread of its own.
+pub fn summary<T: Threads + Sync>(
+    threads: &T,
     alloc: Global,
-    workload: &mut Workload,
+    workload: &Workload,
     policies: &[Policy],
     count: u16,
     figures: &[Figure],
 ) -> Result<Rows, SeedsFault>
-    ensures rows { IfOk result (λ rows. IsSummary workload.old.machine count figures.now rows.items) }
-    ensures same { workload.new ≡ workload.old }
-    ensures last { result ≡ Err Last → 2 ^ 64 < workload.old.machine.seed + count }
+    ensures rows { IfOk result (λ rows. IsSummary workload.now count figures.now rows.items) }
+    ensures last { result ≡ Err Last → 2 ^ 64 < workload.now.machine.seed + count }
 {
-    let runs = runs(alloc, workload, policies, count, figures)?;
+    let runs = runs(threads, alloc, workload, policies, count, figures)?;
     let rows = rows(alloc, figures, runs.as_slice())?;
     Ok(rows)
 }
 
 /// The runs with so many seeds, from the workload's own on.
-fn runs(
+fn runs<T: Threads + Sync>(
+    threads: &T,
     alloc: Global,
-    workload: &mut Workload,
+    workload: &Workload,
     policies: &[Policy],
     count: u16,
     figures: &[Figure],
 ) -> Result<Vec<Run>, SeedsFault>
-    ensures runs { IfOk result (λ runs. AreRuns workload.old.machine figures.now workload.old.machine.seed runs.items) }
+    ensures runs { IfOk result (λ runs. AreRuns workload.now figures.now workload.now.machine.seed runs.items) }
     ensures count { IfOk result (λ runs. vec_len runs ≡ count) }
-    ensures same { workload.new ≡ workload.old }
-    ensures last { result ≡ Err Last → 2 ^ 64 < workload.old.machine.seed + count }
+    ensures last { result ≡ Err Last → 2 ^ 64 < workload.now.machine.seed + count }
 {
     let first = workload.machine.seed;
     let others = u64::from(count).saturating_sub(1);
     if first.checked_add(others).is_none() {
         return Err(SeedsFault::Last);
     }
+    let most = hands(threads);
+    let count = usize::from(count);
     let mut runs = Vec::new(alloc);
-    'numbers: for number in 0..count {
-        let seed = first + u64::from(number);
-        runs.push(run_with(alloc, workload, policies, seed, figures)?)?;
+    'numbers: while runs.len() < count {
+        let seed = first + runs.len() as u64;
+        let wave = most.min(count - runs.len());
+        let results = at_once(threads, alloc, workload, policies, seed, wave, figures)?;
+        add_all(&mut runs, results)?;
     }
     Ok(runs)
 }
 
-/// The run with this seed in place of the workload's own.
-fn run_with(
-    alloc: Global,
-    workload: &mut Workload,
-    policies: &[Policy],
-    seed: u64,
-    figures: &[Figure],
-) -> Result<Run, SimulateFault>
-    ensures run { IfOk result (IsRun (with_seed workload.old.machine seed) figures.now) }
-    ensures same { workload.new ≡ workload.old }
+/// How many runs are done at once: as many as there are processors at hand.
+fn hands<T: Threads + Sync>(threads: &T) -> usize
+    ensures { 1 ≤ result }
 {
-    let machine = workload.machine;
-    workload.machine = Setup { seed, ..machine };
-    let run = run(alloc, workload, policies, figures);
-    workload.machine = machine;
-    run
+    match available_parallelism(threads) {
+        Ok(hands) => hands.get().max(1).min(MOST_AT_ONCE),
+        Err(_) => 1,
+    }
 }
 
-/// One run.
+/// So many runs at once, with seeds from this one on, each on a thread of its own.
+fn at_once<T: Threads + Sync>(
+    threads: &T,
+    alloc: Global,
+    workload: &Workload,
+    policies: &[Policy],
+    first: u64,
+    count: usize,
+    figures: &[Figure],
+) -> Result<Results, AllocError>
+    ensures results { IfOk result (λ results. AreResults workload.now figures.now first results.items) }
+    ensures count { IfOk result (λ results. vec_len results ≡ count) }
+{
+    map_indices(threads, alloc, count, &|number| {
+        nth_run(alloc, workload, policies, first, number, figures)
+    })
+}
+
+/// The run whose seed is so many above the first.
+fn nth_run(
+    alloc: Global,
+    workload: &Workload,
+    policies: &[Policy],
+    first: u64,
+    number: usize,
+    figures: &[Figure],
+) -> Result<Run, SimulateFault>
+    ensures { IfOk result (IsRun (with_seed workload.now (first + number)) figures.now) }
+{
+    let seed = first
+        .checked_add(number as u64)
+        .ok_or(SimulateFault::Astray)?;
+    run(alloc, workload, policies, seed, figures)
+}
+
+/// Adds what came of some runs; where one did not come to its end, the first such fault.
+fn add_all(runs: &mut Vec<Run>, results: Results) -> Result<(), SeedsFault>
+    ensures comes { OnOk result (Comes runs.old.items results.items runs.new.items) }
+    ensures last { result ≢ Err Last }
+{
+    'results: for result in results {
+        runs.push(result?)?;
+    }
+    Ok(())
+}
+
+/// One run, with this seed in place of the workload's own.
 fn run(
     alloc: Global,
     workload: &Workload,
     policies: &[Policy],
+    seed: u64,
     figures: &[Figure],
 ) -> Result<Run, SimulateFault>
-    ensures { IfOk result (IsRun workload.now.machine figures.now) }
+    ensures { IfOk result (IsRun (with_seed workload.now seed) figures.now) }
 {
-    let gathered = gather(alloc, workload, policies)?;
+    let gathered = gather(alloc, workload, seed, policies)?;
     match &gathered.schedule {
         Some(schedule) => Ok(run_of(alloc, schedule, gathered.delays.as_slice(), figures)?),
         None => Err(SimulateFault::Astray),

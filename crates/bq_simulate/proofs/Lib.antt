@@ -1,2 +1,4 @@
 pub mod Deeds
+pub mod KindLemmas
+pub mod StreamLemmas
 pub mod Wholes

@@ -1,11 +1,8 @@
--- What happens in a simulation, one thing after another: events of the trace with their answers, and what tasks begin and end
--- beside them.
-use Rattle.std.specs.Prelude.{◌≡◌, ℕ, ◌-◌, false, List, [], ◌∷◌, ◌++◌, Some, slice_get}
+-- What happens in a simulation, one thing after another: events of the trace with their answers, and what tasks do beside them.
+use Rattle.std.specs.Prelude.{◌≡◌, ℕ, suc, List, [], ◌∷◌, ◌++◌, Option, Some, None, length, slice_get, unwrap_or}
 use Rattle.std.specs.Option.{option_map_or}
-use Rattle.rand_pcg.specs.Lcg.{Lcg}
 use Rattle.bq_actions.specs.declared.action.Length.{Length}
-use Rattle.bq_draws.specs.Lengths.{length_drawn}
-use Rattle.bq_draws.specs.Streams.{stream_of_task, first_word, second_word, after_draws}
+use Rattle.bq_actions.specs.declared.workload.TaskKind.{TaskKind}
 use Rattle.bq_parts.specs.declared.event.Event.{Event}
 use Rattle.bq_parts.specs.declared.event.Event.TheVariants.{BeginWake, Drain, Tick, Block, Pull}
 use Rattle.bq_parts.specs.declared.reply.Reply.{Reply}
@@ -13,67 +10,93 @@ use Rattle.bq_trace.specs.News.{Told}
 use Rattle.bq_driver.specs.declared.driver.Driver.{Driver}
 use Rattle.bq_driver.specs.Drives.{Does, count_entered, runs_now, task_pulled}
 use Rattle.bq_roster.specs.declared.course.Course.{Course}
-use Rattle.bq_roster.specs.Accounts.{Accounts, IsDone, charged, entered_by, of_processor, of_task, passed, switched}
-use Rattle.bq_roster.specs.Courses.{begun, woken, IsSamePhase}
+use Rattle.bq_roster.specs.declared.course.Stance.{Stance}
+use Rattle.bq_roster.specs.declared.course.Stance.TheVariants.{Asleep, Waiting}
+use Rattle.bq_roster.specs.declared.lane.Lane.{Lane}
+use Rattle.bq_roster.specs.Accounts.{Accounts, IsDone, changed_at, charged, entered_by, left_by, of_task, passed, switched}
+use Rattle.bq_roster.specs.Courses.{fresh, woken}
+use Rattle.bq_simulate.specs.Actions.{IsOfKind, acted, asked_by, length_of, next_action}
 
 pub data Deed : Type 0 where
   -- an event of the trace, with its answer
   Happens : Event → Reply → Deed
-  -- one more task is there
-  Joins : Course → Deed
-  -- a task has come to another of its actions
-  GoesOn : ℕ → Course → Deed
-  -- a run phase of a task begins, of this length
-  Begins : ℕ → ℕ → Deed
-  -- the phase of the task that runs at a processor ends at an instant
-  Ends : ℕ → ℕ → ℕ → Deed
+  -- one more task is there, of this kind, whose first wake comes from this processor
+  Joins : ℕ → ℕ → Deed
+  -- at an instant the phase of the task that runs at a processor ends, and it does its next action
+  Acts : ℕ → ℕ → ℕ → Deed
+
+-- a timer wakes a task from the processor that it ran on last; who waits is woken from a processor at which a task runs, which wakes it
+abbrev pub IsFrom : Accounts → Stance → ℕ → ℕ → Type 0
+IsFrom a Asleep home from = from ≡ home
+IsFrom a Waiting home from = (lane : Lane) × (waker : ℕ) × (slice_get a.lanes from ≡ Some lane) × (lane.run ≡ Some waker)
+IsFrom a stance home from = ⊥
+
+pub record IsWoken (a : Accounts) (from task : ℕ) : Type 0 where
+  pub course : Course
+  pub there : slice_get a.courses task ≡ Some course
+  pub place : IsFrom a course.stance course.home from
+
+-- whoever is woken sleeps, and is woken from the right processor
+abbrev pub IsDue : Event → Accounts → Type 0
+IsDue (BeginWake from task) a = IsWoken a from task
+IsDue event a = Unit {0}
+
+-- what is kept of a simulation: the accounts, and how many lengths each task's stream has given
+pub record Book : Type 0 where
+  pub accounts : Accounts
+  pub drawn : List ℕ
 
 -- where the answer says that another runs now, what ran before has its time; who is woken has no phase yet
 abbrev pub after_event : ℕ → Event → Reply → Accounts → Accounts
 after_event cost (BeginWake c task) reply a = of_task woken task a
 after_event cost (Drain c now) reply a = entered_by c (count_entered reply) (runs_now reply) now cost a
 after_event cost (Tick c now) reply a = switched c (runs_now reply) now cost a
-after_event cost (Block c now) reply a = switched c (runs_now reply) now cost (of_processor (λ l. record l { size = l.size - 1 }) c a)
+after_event cost (Block c now) reply a = left_by c (runs_now reply) now cost a
 after_event cost (Pull c from now) reply a = switched c (runs_now reply) now cost (option_map_or (λ task. passed from c a) (task_pulled reply) a)
 after_event cost event reply a = a
 
--- a task that has no phase yet, and has not run
-abbrev pub IsNew : Course → Type 0
-IsNew c = (c.due ≡ 0) × (c.got ≡ 0) × (c.has_run ≡ false)
+abbrev pub after_answer : ℕ → Event → Reply → Book → Book
+after_answer cost event reply b = record b { accounts = after_event cost event reply b.accounts }
 
--- a task has come further in what it does, and its phase is as it was
-pub record KeepsPhase (a : Accounts) (task : ℕ) (c : Course) : Type 0 where
-  pub before : Course
-  pub there : slice_get a.courses task ≡ Some before
-  pub phase : IsSamePhase before c
+-- a task that has done nothing, and whose stream has given nothing
+abbrev pub joined : ℕ → ℕ → Book → Book
+joined kind home b = record { accounts = record b.accounts { courses = b.accounts.courses ++ fresh kind home ∷ [] }; drawn = b.drawn ++ 0 ∷ [] }
 
--- the length that a stream gives next, for what is asked for
-abbrev pub next_length : Length → Lcg → ℕ
-next_length asked g = length_drawn asked (first_word g) (second_word g)
+-- how many lengths a task's stream has given
+abbrev pub draws_of : List ℕ → ℕ → ℕ
+draws_of drawn task = unwrap_or (slice_get drawn task) 0
 
--- a length that the stream of a task gave, after some others
-pub record IsDrawn (seed task length : ℕ) : Type 0 where
-  pub draws : ℕ
-  pub asked : Length
-  pub value : length ≡ next_length asked (after_draws draws (stream_of_task seed task))
+-- the length that an action takes which asks for one: the next of its task
+abbrev pub length_taken : ℕ → ℕ → List ℕ → Option Length → ℕ
+length_taken seed task drawn None = 0
+length_taken seed task drawn (Some asked) = length_of seed task (draws_of drawn task) asked
 
--- deeds one after another: what the sink is told of them, and what becomes of the machine and of the accounts, where a change of
--- processor costs so much, and lengths are drawn from this seed
-abbrev pub Lives : ℕ → ℕ → Driver → Accounts → List Deed → Told → Driver → Accounts → Type 0
-Lives seed cost d a [] told e b = (told ≡ []) × (e ≡ d) × (b ≡ a)
-Lives seed cost d a (Happens event reply ∷ deeds) told e b =
-    (mid : Driver) × (first : Told) × (more : Told)
-    × Does d event reply first mid × Lives seed cost mid (after_event cost event reply a) deeds more e b × (told ≡ first ++ more)
-Lives seed cost d a (Joins c ∷ deeds) told e b = IsNew c × Lives seed cost d (record a { courses = a.courses ++ c ∷ [] }) deeds told e b
-Lives seed cost d a (GoesOn task c ∷ deeds) told e b = KeepsPhase a task c × Lives seed cost d (of_task (λ _. c) task a) deeds told e b
-Lives seed cost d a (Begins task length ∷ deeds) told e b = IsDrawn seed task length × Lives seed cost d (of_task (begun length) task a) deeds told e b
-Lives seed cost d a (Ends c task now ∷ deeds) told e b = (course : Course) × IsDone (charged c now a) c task course × Lives seed cost d (of_task (begun 0) task (charged c now a)) deeds told e b
+-- and one length more is given
+abbrev pub drawn_with : ℕ → List ℕ → Option Length → List ℕ
+drawn_with task drawn None = drawn
+drawn_with task drawn (Some asked) = changed_at suc drawn task
+
+-- the task does its next action, once the time that it has run is counted
+abbrev pub after_act : List TaskKind → ℕ → ℕ → ℕ → ℕ → Course → Book → Book
+after_act kinds seed processor task now c b = record {
+  accounts = of_task (λ _. acted kinds (next_action kinds c) (length_taken seed task b.drawn (asked_by (next_action kinds c))) c) task (charged processor now b.accounts);
+  drawn = drawn_with task b.drawn (asked_by (next_action kinds c));
+}
+
+-- deeds one after another: what the sink is told of them, and what becomes of the machine and of what is kept, where tasks do what
+-- their kinds say, lengths are drawn from this seed, and a change of processor costs so much
+abbrev pub Lives : List TaskKind → ℕ → ℕ → Driver → Book → List Deed → Told → Driver → Book → Type 0
+Lives kinds seed cost d b [] told e f = (told ≡ []) × (e ≡ d) × (f ≡ b)
+Lives kinds seed cost d b (Happens event reply ∷ deeds) told e f =
+    IsDue event b.accounts × (mid : Driver) × (first : Told) × (more : Told)
+    × Does d event reply first mid × Lives kinds seed cost mid (after_answer cost event reply b) deeds more e f × (told ≡ first ++ more)
+Lives kinds seed cost d b (Joins kind home ∷ deeds) told e f = IsOfKind kinds (length b.accounts.courses) kind × Lives kinds seed cost d (joined kind home b) deeds told e f
+Lives kinds seed cost d b (Acts processor task now ∷ deeds) told e f =
+    (c : Course) × IsDone (charged processor now b.accounts) processor task c × Lives kinds seed cost d (after_act kinds seed processor task now c b) deeds told e f
 
 -- the events among them
 abbrev pub events_of : List Deed → List Event
 events_of [] = []
 events_of (Happens event reply ∷ deeds) = event ∷ events_of deeds
-events_of (Joins c ∷ deeds) = events_of deeds
-events_of (GoesOn task c ∷ deeds) = events_of deeds
-events_of (Begins task length ∷ deeds) = events_of deeds
-events_of (Ends c task now ∷ deeds) = events_of deeds
+events_of (Joins kind home ∷ deeds) = events_of deeds
+events_of (Acts processor task now ∷ deeds) = events_of deeds

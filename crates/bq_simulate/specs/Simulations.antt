@@ -1,62 +1,94 @@
 -- What a simulation tells.
-use Rattle.std.specs.Prelude.{◌≡◌, ℕ, ◌++◌, List, [], Some, slice_get, slice_set}
+use Rattle.std.specs.Prelude.{◌≡◌, ℕ, ◌++◌, ◌+◌, List, [], ◌∷◌, Option, Some, None, slice_get, slice_set}
 use Rattle.rand_pcg.specs.Lcg.{Lcg}
 use Rattle.bq_actions.specs.declared.action.Length.{Length}
 use Rattle.bq_actions.specs.declared.setup.Setup.{Setup}
+use Rattle.bq_actions.specs.declared.workload.TaskKind.{TaskKind}
+use Rattle.bq_actions.specs.declared.workload.Workload.{Workload}
 use Rattle.bq_draws.specs.Streams.{stream_of_task, after_draw, after_draws}
 use Rattle.bq_sizes.specs.Sizes.{processors_in}
 use Rattle.bq_trace.specs.News.{News, Told, Gets}
 use Rattle.bq_driver.specs.declared.driver.Driver.{Driver}
 use Rattle.bq_driver.specs.Drives.{Starts, Drives}
-use Rattle.bq_roster.specs.Accounts.{Accounts, accounts_of, opening}
+use Rattle.bq_roster.specs.Accounts.{accounts_of, opening}
 use Rattle.bq_simulate.specs.declared.simulation.Simulation.{Simulation}
-use Rattle.bq_simulate.specs.Chronicles.{Deed, Lives, events_of, next_length}
+use Rattle.bq_simulate.specs.Actions.{next_length}
+use Rattle.bq_simulate.specs.Chronicles.{Book, Deed, Lives, events_of}
+
+-- the same workload with another seed
+abbrev pub with_seed : Workload → ℕ → Workload
+with_seed w seed = record w { machine = record w.machine { seed = seed } }
 
 -- no task is there, and nothing runs
-abbrev pub opening_accounts : Setup → Accounts
-opening_accounts machine = opening (processors_in machine.size)
+abbrev pub opening_book : Setup → Book
+opening_book machine = record { accounts = opening (processors_in machine.size); drawn = [] }
 
 -- It makes the machine that the workload asks for, and then some events are done one after another, of which none is refused,
 -- with readings that never fall: so it is the trace of those events, with their answers. Who has run and how long is what
--- the answers say; each run phase is as long as the stream of its task says, and one that ended has got just that, and the costs
--- of its changes of processor.
-pub record IsSimulation (machine : Setup) (told : Told) : Type 0 where
+-- the answers say. Each task goes through the actions of its kind in their order, and over again; it goes on only when it has
+-- got just the length of its run phase, and the costs of its changes of processor; and each length is the next of its task.
+pub record IsSimulation (w : Workload) (told : Told) : Type 0 where
   pub opening : Driver
   pub closing : Driver
   pub deeds : List Deed
-  pub accounts : Accounts
+  pub book : Book
   pub first : Told
   pub more : Told
-  pub starts : Starts machine.rule machine.size first opening
+  pub starts : Starts w.machine.rule w.machine.size first opening
   pub drives : Drives opening (events_of deeds) more closing
-  pub lives : Lives machine.seed machine.migration_cost opening (opening_accounts machine) deeds more closing accounts
+  pub lives : Lives w.tasks.items w.machine.seed w.machine.migration_cost opening (opening_book w.machine) deeds more closing book
   pub whole : told ≡ first ++ more
 
--- each task's stream is that of its number, after some draws
-abbrev pub HasStreams : Simulation → Type 0
-HasStreams s = (task : ℕ) (g : Lcg) → slice_get s.streams.items task ≡ Some g → (draws : ℕ) × (g ≡ after_draws draws (stream_of_task s.seed task))
+-- the streams of the tasks from this number on, each after so many draws
+abbrev pub streams_after : ℕ → ℕ → List ℕ → List Lcg
+streams_after seed task [] = []
+streams_after seed task (draws ∷ more) = after_draws draws (stream_of_task seed task) ∷ streams_after seed (task + 1) more
 
--- a simulation goes on by some deeds, of which a sink is told
-pub record Goes {S : Type 0} (takes : S → ℕ → News → S → Type 0) (old : S) (s : Simulation) (new : S) (t : Simulation) : Type 0 where
+abbrev pub HasDrawn : Simulation → List ℕ → Type 0
+HasDrawn s drawn = s.streams.items ≡ streams_after s.seed 0 drawn
+
+abbrev pub book_of : Simulation → List ℕ → Book
+book_of s drawn = record { accounts = accounts_of s.roster; drawn = drawn }
+
+-- a simulation, whose streams have given so many lengths, goes on by some deeds, of which a sink is told
+pub record Goes {S : Type 0} (takes : S → ℕ → News → S → Type 0) (kinds : List TaskKind) (old : S) (s : Simulation) (drawn : List ℕ) (new : S) (t : Simulation) : Type 0 where
   pub deeds : List Deed
+  pub after : List ℕ
   pub pace : t.roster.pace ≡ s.roster.pace
   pub seed : t.seed ≡ s.seed
-  pub streams : HasStreams t
-  pub tells : Gets takes old new (λ told. Lives s.seed s.roster.pace.migration_cost s.driver (accounts_of s.roster) deeds told t.driver (accounts_of t.roster))
+  pub streams : HasDrawn t after
+  pub tells : Gets takes old new (λ told. Lives kinds s.seed s.roster.pace.migration_cost s.driver (book_of s drawn) deeds told t.driver (book_of t after))
 
-abbrev pub Lived : {S : Type 0} → (S → ℕ → News → S → Type 0) → S → Simulation → S → Simulation → Type 0
-Lived takes old s new t = HasStreams s → Goes takes old s new t
+abbrev pub Lived : {S : Type 0} → (S → ℕ → News → S → Type 0) → List TaskKind → S → Simulation → S → Simulation → Type 0
+Lived takes kinds old s new t = (drawn : List ℕ) → HasDrawn s drawn → Goes takes kinds old s drawn new t
+
+-- events alone: what tasks do has no part in it
+abbrev pub Befell : {S : Type 0} → (S → ℕ → News → S → Type 0) → S → Simulation → S → Simulation → Type 0
+Befell takes old s new t = (kinds : List TaskKind) → Lived takes kinds old s new t
 
 -- it goes on by deeds of which nothing is told
-pub record GoesUntold (s t : Simulation) : Type 0 where
+pub record GoesUntold (kinds : List TaskKind) (s : Simulation) (drawn : List ℕ) (t : Simulation) : Type 0 where
   pub deeds : List Deed
+  pub after : List ℕ
   pub pace : t.roster.pace ≡ s.roster.pace
   pub seed : t.seed ≡ s.seed
-  pub streams : HasStreams t
-  pub lives : Lives s.seed s.roster.pace.migration_cost s.driver (accounts_of s.roster) deeds [] t.driver (accounts_of t.roster)
+  pub streams : HasDrawn t after
+  pub lives : Lives kinds s.seed s.roster.pace.migration_cost s.driver (book_of s drawn) deeds [] t.driver (book_of t after)
 
-abbrev pub Silent : Simulation → Simulation → Type 0
-Silent s t = HasStreams s → GoesUntold s t
+abbrev pub Silent : List TaskKind → Simulation → Simulation → Type 0
+Silent kinds s t = (drawn : List ℕ) → HasDrawn s drawn → GoesUntold kinds s drawn t
+
+-- what stays beside the machine and the accounts
+pub record Stays (s t : Simulation) : Type 0 where
+  pub pace : t.roster.pace ≡ s.roster.pace
+  pub seed : t.seed ≡ s.seed
+  pub streams : t.streams ≡ s.streams
+
+-- nothing was done but to plan or to count
+pub record Same (s t : Simulation) : Type 0 where
+  pub driver : t.driver ≡ s.driver
+  pub accounts : accounts_of t.roster ≡ accounts_of s.roster
+  pub stays : Stays s t
 
 -- a length is drawn for a task, and nothing else is done
 pub record Draws (task : ℕ) (asked : Length) (s : Simulation) (length : ℕ) (t : Simulation) : Type 0 where
@@ -67,3 +99,8 @@ pub record Draws (task : ℕ) (asked : Length) (s : Simulation) (length : ℕ) (
   pub driver : t.driver ≡ s.driver
   pub roster : t.roster ≡ s.roster
   pub seed : t.seed ≡ s.seed
+
+-- where a length is asked for
+abbrev pub DrawsFor : ℕ → Option Length → Simulation → ℕ → Simulation → Type 0
+DrawsFor task None s length t = (length ≡ 0) × (t ≡ s)
+DrawsFor task (Some asked) s length t = Draws task asked s length t

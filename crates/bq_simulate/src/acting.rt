@@ -1,19 +1,35 @@
 //! What a task does next, once it has run long enough.
-ghost use Rattle.std.specs.Prelude.{◌≡◌, IfOk, OnOk, Some, slice_get};
-ghost use Rattle.bq_roster.specs.declared.course.Course.{Course};
-ghost use Rattle.bq_roster.specs.Courses.{IsSamePhase};
-ghost use Rattle.bq_simulate.specs.Simulations.{Lived, Silent};
+ghost use Rattle.std.specs.Prelude.{◌≡◌, IfOk, OnOk};
+ghost use Rattle.bq_roster.specs.Courses.{begun};
+ghost use Rattle.bq_simulate.specs.Actions.{acted, advanced_in, asked_by, count_of, next_action, resting, woken_one_in};
+ghost use Rattle.bq_simulate.specs.Simulations.{Befell, DrawsFor, Lived, Same, Silent};
 
 use crate::fault::SimulateFault;
 use crate::simulation::Simulation;
-use bq_actions::{Action, Workload};
+use bq_actions::{Action, Length, Workload};
 use bq_agenda::Due;
 use bq_roster::{Astray, Course, Stance};
 use bq_trace::Sink;
 use std::alloc::Global;
 
+/// What a task does next, once its phase has ended.
+#[derive(Drop)]
+struct Doing {
+    task: u16,
+    /// How far it had come.
+    before: Course,
+    /// How far it has come with that.
+    after: Course,
+    /// Nothing where it has done all as often as it is to.
+    action: Option<Action>,
+    /// What was drawn for it, where it takes a length.
+    length: u64,
+}
+
 /// What a task does next; nothing where it has done all as often as it is to.
-fn next_of(workload: &Workload, course: &Course) -> Result<Option<Action>, Astray> {
+fn next_of(workload: &Workload, course: &Course) -> Result<Option<Action>, Astray>
+    ensures { IfOk result (λ action. action ≡ next_action workload.now.tasks.items course.now) }
+{
     let kind = workload.tasks.get(course.kind).ok_or(Astray)?;
     if kind.loops == Some(course.loops) {
         return Ok(None);
@@ -22,9 +38,20 @@ fn next_of(workload: &Workload, course: &Course) -> Result<Option<Action>, Astra
     Ok(Some(*action))
 }
 
+/// The length that an action takes.
+fn asked_by(action: Option<Action>) -> Option<Length>
+    ensures { result ≡ asked_by action }
+{
+    match action {
+        Some(Action::Run(length)) => Some(length),
+        Some(Action::Sleep(length)) => Some(length),
+        _ => None,
+    }
+}
+
 /// How far a task has come once it has done an action.
 fn advanced(workload: &Workload, course: Course) -> Result<Course, Astray>
-    ensures { IfOk result (λ next. IsSamePhase course next) }
+    ensures { IfOk result (λ next. next ≡ advanced_in workload.now.tasks.items course) }
 {
     let kind = workload.tasks.get(course.kind).ok_or(Astray)?;
     let mut course = course;
@@ -32,26 +59,63 @@ fn advanced(workload: &Workload, course: Course) -> Result<Course, Astray>
     Ok(course)
 }
 
-/// How far a task has come once its wake has come to one more of so many tasks.
-fn woken_one(workload: &Workload, course: Course, count: u16) -> Result<Course, Astray>
-    ensures { IfOk result (λ next. IsSamePhase course next) }
+/// How many tasks a kind has.
+fn count_of(workload: &Workload, kind: usize) -> Result<u16, Astray>
+    ensures { IfOk result (λ count. count ≡ count_of workload.now.tasks.items kind) }
+{
+    let kind = workload.tasks.get(kind).ok_or(Astray)?;
+    Ok(kind.count)
+}
+
+/// How far a task has come once its wake has come to one more of the tasks of a kind.
+fn woken_one(workload: &Workload, course: Course, kind: usize) -> Result<Course, Astray>
+    ensures { IfOk result (λ next. next ≡ woken_one_in workload.now.tasks.items kind course) }
+{
+    let count = count_of(workload, kind)?;
+    match course.woken.checked_add(1) {
+        Some(woken) if woken < count => Ok(Course { woken, ..course }),
+        _ => advanced(workload, course),
+    }
+}
+
+/// A task that has no phase, and sleeps.
+fn resting(course: Course, stance: Stance) -> Course
+    ensures { result ≡ resting stance course }
 {
     let mut course = course;
-    course.woken = course.woken.saturating_add(1);
-    if course.woken < count {
-        return Ok(course);
+    course.begin(0);
+    course.stance = stance;
+    course
+}
+
+/// A task whose phase has this length.
+fn begun(course: Course, length: u64) -> Course
+    ensures { result ≡ begun length course }
+{
+    let mut course = course;
+    course.begin(length);
+    course
+}
+
+/// How far a task has come with its next action, which takes that length where it takes one. Only where it runs it has a phase.
+fn acted(
+    workload: &Workload,
+    course: Course,
+    action: Option<Action>,
+    length: u64,
+) -> Result<Course, Astray>
+    ensures { IfOk result (λ next. next ≡ acted workload.now.tasks.items action length course) }
+{
+    match action {
+        None => Ok(resting(course, Stance::Over)),
+        Some(Action::Run(_)) => Ok(begun(advanced(workload, course)?, length)),
+        Some(Action::Sleep(_)) => Ok(resting(advanced(workload, course)?, Stance::Asleep)),
+        Some(Action::Wait) => Ok(resting(advanced(workload, course)?, Stance::Waiting)),
+        Some(Action::Wake(kind)) => Ok(begun(woken_one(workload, course, kind)?, 0)),
     }
-    advanced(workload, course)
 }
 
 impl Simulation {
-    /// A wake comes to a task that does not wait.
-    fn miss(&mut self)
-        ensures { Silent self.old self.new }
-    {
-        self.tally.missed = self.tally.missed.saturating_add(1);
-    }
-
     /// The run phase of the task that runs at a processor has ended: it does what comes next.
     pub(crate) fn act<S: Sink>(
         &mut self,
@@ -61,67 +125,83 @@ impl Simulation {
         now: u64,
         sink: &mut S,
     ) -> Result<(), SimulateFault>
-        ensures { OnOk result (Lived S.takes sink.old self.old sink.new self.new) }
+        ensures { OnOk result (Lived S.takes workload.now.tasks.items sink.old self.old sink.new self.new) }
     {
-        let (task, course) = self.end_phase(processor, now)?;
-        let Some(action) = next_of(workload, &course)? else {
-            return self.block(alloc, processor, task, Stance::Over, now, sink);
-        };
-        if let Action::Wake(kind) = action {
-            return self.wake_next(alloc, workload, processor, task, course, kind, now, sink);
+        let doing = self.take_action(workload, processor, now)?;
+        self.count_phase(&doing.before);
+        self.follow(alloc, processor, &doing, now, sink)
+    }
+
+    /// The run phase of the task that runs at a processor has ended, with just what it takes, and its next action is taken up:
+    /// where it takes a length, that is the next of the task.
+    fn take_action(&mut self, workload: &Workload, processor: u8, now: u64) -> Result<Doing, Astray>
+        ensures { OnOk result (Silent workload.now.tasks.items self.old self.new) }
+    {
+        let (task, before) = self.roster.end_phase(processor, now)?;
+        let action = next_of(workload, &before)?;
+        let length = self.length_for(task, asked_by(action))?;
+        let after = acted(workload, before, action, length)?;
+        self.roster.set_course(task, after)?;
+        Ok(Doing {
+            task,
+            before,
+            after,
+            action,
+            length,
+        })
+    }
+
+    /// The next length of a task, where one is asked for.
+    fn length_for(&mut self, task: u16, asked: Option<Length>) -> Result<u64, Astray>
+        ensures { IfOk result (λ length. DrawsFor task asked self.old length self.new) }
+    {
+        match asked {
+            Some(asked) => self.draw(task, asked),
+            None => Ok(0),
         }
-        self.go_on_to(task, course, advanced(workload, course)?)?;
-        self.perform(alloc, processor, task, action, now, sink)
     }
 
-    /// The run phase of the task that runs at a processor has ended, with just what it takes; how far the task has come.
-    fn end_phase(&mut self, processor: u8, now: u64) -> Result<(u16, Course), Astray>
-        ensures ends { OnOk result (Silent self.old self.new) }
-        ensures course { IfOk result (λ ended. slice_get self.new.roster.courses.items ended.0 ≡ Some ended.1) }
+    /// Counts a run phase that has ended; a task that has just been woken, or has woken others, had none.
+    fn count_phase(&mut self, before: &Course)
+        ensures { Same self.old self.new }
     {
-        let (task, mut course) = self.roster.end_phase(processor, now)?;
-        let phases = u64::from(course.due > 0);
+        let phases = u64::from(before.due > 0);
         self.tally.phases = self.tally.phases.saturating_add(phases);
-        course.begin(0);
-        Ok((task, course))
     }
 
-    /// A task has come to another of its actions.
-    fn go_on_to(&mut self, task: u16, before: Course, course: Course) -> Result<(), Astray>
-        requires there { slice_get self.old.roster.courses.items task ≡ Some before }
-        requires phase { IsSamePhase before course }
-        ensures { OnOk result (Silent self.old self.new) }
-    {
-        self.roster.set_course(task, course)
-    }
-
-    /// A task does an action that is no wake.
-    fn perform<S: Sink>(
+    /// What comes of an action that a task has taken up.
+    fn follow<S: Sink>(
         &mut self,
         alloc: Global,
         processor: u8,
-        task: u16,
-        action: Action,
+        doing: &Doing,
         now: u64,
         sink: &mut S,
     ) -> Result<(), SimulateFault>
-        ensures { OnOk result (Lived S.takes sink.old self.old sink.new self.new) }
+        ensures { OnOk result (Befell S.takes sink.old self.old sink.new self.new) }
     {
-        match action {
-            Action::Run(length) => {
-                let length = self.draw(task, length)?;
-                self.roster.begin_phase(processor, task, length, now)?;
+        match doing.action {
+            Some(Action::Run(_)) => {
+                self.plan_end(processor, &doing.after, now)?;
                 Ok(())
             }
-            Action::Sleep(length) => {
-                let length = self.draw(task, length)?;
-                self.roster
-                    .plan(Due::Wake(task), now.saturating_add(length))?;
-                self.block(alloc, processor, task, Stance::Asleep, now, sink)
+            Some(Action::Sleep(_)) => {
+                self.plan_wake(doing.task, now.saturating_add(doing.length))?;
+                self.block(alloc, processor, now, sink)
             }
-            Action::Wait => self.block(alloc, processor, task, Stance::Waiting, now, sink),
-            Action::Wake(_) => Err(SimulateFault::Astray),
+            Some(Action::Wait) => self.block(alloc, processor, now, sink),
+            None => self.block(alloc, processor, now, sink),
+            Some(Action::Wake(kind)) => {
+                self.wake_next(alloc, processor, kind, doing.before.woken, now, sink)
+            }
         }
+    }
+
+    /// The phase of the task that runs at a processor ends once it has got what it takes.
+    fn plan_end(&mut self, processor: u8, course: &Course, now: u64) -> Result<(), Astray>
+        ensures { Same self.old self.new }
+    {
+        self.roster.plan_end(processor, course, now)
     }
 
     /// The task that runs at a processor goes to sleep.
@@ -129,43 +209,49 @@ impl Simulation {
         &mut self,
         alloc: Global,
         processor: u8,
-        task: u16,
-        stance: Stance,
         now: u64,
         sink: &mut S,
     ) -> Result<(), SimulateFault>
-        ensures { OnOk result (Lived S.takes sink.old self.old sink.new self.new) }
+        ensures { OnOk result (Befell S.takes sink.old self.old sink.new self.new) }
     {
         let run = self.driver.block(alloc, processor, now, sink)?;
-        self.roster.leave(processor, task, stance, run, now)?;
+        self.roster.leave(processor, run, now)?;
         Ok(())
     }
 
-    /// A task goes on with a wake: it comes to the next task of the kind, which is woken from its processor if it waits.
+    /// The wake of the task that runs at a processor has come to so many tasks of a kind: the next is woken from there, if it
+    /// waits.
     fn wake_next<S: Sink>(
         &mut self,
         alloc: Global,
-        workload: &Workload,
         processor: u8,
-        task: u16,
-        course: Course,
         kind: usize,
+        woken: u16,
         now: u64,
         sink: &mut S,
     ) -> Result<(), SimulateFault>
-        requires { slice_get self.old.roster.courses.items task ≡ Some course }
-        ensures { OnOk result (Lived S.takes sink.old self.old sink.new self.new) }
+        ensures { OnOk result (Befell S.takes sink.old self.old sink.new self.new) }
     {
-        let count = workload.tasks.get(kind).ok_or(SimulateFault::Astray)?.count;
         let first = *self.firsts.get(kind).ok_or(SimulateFault::Astray)?;
-        let target = first
-            .checked_add(course.woken)
-            .ok_or(SimulateFault::Astray)?;
-        self.go_on_to(task, course, woken_one(workload, course, count)?)?;
-        if self.roster.course(target)?.stance != Stance::Waiting {
-            self.miss();
-            return Ok(());
+        let target = first.checked_add(woken).ok_or(SimulateFault::Astray)?;
+        let lane = self.roster.lane(processor)?;
+        let Some(_) = lane.run else {
+            return Err(SimulateFault::Astray);
+        };
+        let course = self.roster.course(target)?;
+        match course.stance {
+            Stance::Waiting => self.wake(alloc, processor, target, now, sink),
+            _ => {
+                self.miss();
+                Ok(())
+            }
         }
-        self.wake(alloc, processor, target, now, sink)
+    }
+
+    /// A wake comes to a task that does not wait.
+    fn miss(&mut self)
+        ensures { Same self.old self.new }
+    {
+        self.tally.missed = self.tally.missed.saturating_add(1);
     }
 }

@@ -1,7 +1,7 @@
 //! A simulation from its beginning to its end.
-ghost use Rattle.std.specs.Prelude.{◌≡◌, OnOk, IfOk};
+ghost use Rattle.std.specs.Prelude.{◌≡◌, [], OnOk, IfOk, length};
 ghost use Rattle.bq_roster.specs.Accounts.{accounts_of};
-ghost use Rattle.bq_simulate.specs.Simulations.{HasStreams, IsSimulation, Lived, Silent, opening_accounts};
+ghost use Rattle.bq_simulate.specs.Simulations.{Befell, IsSimulation, Lived, Same, opening_book, with_seed};
 ghost use Rattle.bq_trace.specs.News.{Gets};
 
 use crate::bound::most_steps;
@@ -9,7 +9,7 @@ use crate::fault::SimulateFault;
 use crate::simulation::Simulation;
 use crate::sound::soundness;
 use crate::tally::Tally;
-use bq_actions::Workload;
+use bq_actions::{Setup, Workload};
 use bq_agenda::Due;
 use bq_core::Policy;
 use bq_driver::Driver;
@@ -28,26 +28,44 @@ pub fn simulate<S: Sink>(
     policies: &[Policy],
     sink: &mut S,
 ) -> Result<Tally, SimulateFault>
-    ensures { OnOk result (Gets S.takes sink.old sink.new (IsSimulation workload.now.machine)) }
+    ensures { OnOk result (Gets S.takes sink.old sink.new (IsSimulation workload.now)) }
+{
+    simulate_seed(alloc, workload, workload.machine.seed, policies, sink)
+}
+
+/// Follows a workload to its end as `simulate` does, with this seed in place of its own.
+pub fn simulate_seed<S: Sink>(
+    alloc: Global,
+    workload: &Workload,
+    seed: u64,
+    policies: &[Policy],
+    sink: &mut S,
+) -> Result<Tally, SimulateFault>
+    ensures { OnOk result (Gets S.takes sink.old sink.new (IsSimulation (with_seed workload.now seed))) }
 {
     soundness(workload).map_err(SimulateFault::Unsound)?;
     let machine = &workload.machine;
     let driver = Driver::new(alloc, machine.rule, machine.size, sink)?;
-    let mut simulation = Simulation::new(alloc, workload, driver)?;
+    let mut simulation = Simulation::new(alloc, &workload.machine, seed, driver)?;
     simulation.run(alloc, workload, policies, sink)?;
     Ok(simulation.tally)
 }
 
 impl Simulation {
     /// Nothing is admitted yet.
-    fn new(alloc: Global, workload: &Workload, driver: Driver) -> Result<Simulation, SimulateFault>
+    fn new(
+        alloc: Global,
+        machine: &Setup,
+        seed: u64,
+        driver: Driver,
+    ) -> Result<Simulation, SimulateFault>
         ensures driver { IfOk result (λ simulation. simulation.driver ≡ driver) }
-        ensures accounts { IfOk result (λ simulation. accounts_of simulation.roster ≡ opening_accounts workload.now.machine) }
-        ensures seed { IfOk result (λ simulation. simulation.seed ≡ workload.now.machine.seed) }
-        ensures streams { IfOk result HasStreams }
-        ensures cost { IfOk result (λ simulation. simulation.roster.pace.migration_cost ≡ workload.now.machine.migration_cost) }
+        ensures accounts { IfOk result (λ simulation. accounts_of simulation.roster ≡ (opening_book machine.now).accounts) }
+        ensures seed { IfOk result (λ simulation. simulation.seed ≡ seed) }
+        ensures streams { IfOk result (λ simulation. simulation.streams.items ≡ []) }
+        ensures tasks { IfOk result (λ simulation. simulation.roster.courses.items ≡ []) }
+        ensures cost { IfOk result (λ simulation. simulation.roster.pace.migration_cost ≡ machine.now.migration_cost) }
     {
-        let machine = &workload.machine;
         let pace = Pace {
             end: machine.duration,
             tick: machine.tick,
@@ -65,7 +83,7 @@ impl Simulation {
             streams: Vec::new(alloc),
             firsts: Vec::new(alloc),
             tally,
-            seed: machine.seed,
+            seed,
         })
     }
 
@@ -77,7 +95,8 @@ impl Simulation {
         policies: &[Policy],
         sink: &mut S,
     ) -> Result<(), SimulateFault>
-        ensures { OnOk result (Lived S.takes sink.old self.old sink.new self.new) }
+        requires { length self.old.roster.courses.items ≡ 0 }
+        ensures { OnOk result (Lived S.takes workload.now.tasks.items sink.old self.old sink.new self.new) }
     {
         let processors = workload.machine.size.processors();
         self.install(alloc, processors, policies, sink)?;
@@ -89,7 +108,7 @@ impl Simulation {
 
     /// Each processor looks for a task at multiples of the time between two balancings, where there are others.
     fn plan_pulls(&mut self, processors: u8) -> Result<(), SimulateFault>
-        ensures { OnOk result (Silent self.old self.new) }
+        ensures { OnOk result (Same self.old self.new) }
     {
         if processors < 2 {
             return Ok(());
@@ -108,7 +127,7 @@ impl Simulation {
         most: u64,
         sink: &mut S,
     ) -> Result<(), SimulateFault>
-        ensures { OnOk result (Lived S.takes sink.old self.old sink.new self.new) }
+        ensures { OnOk result (Lived S.takes workload.now.tasks.items sink.old self.old sink.new self.new) }
     {
         'steps: for _ in 0..most {
             let Some((now, due)) = self.roster.first()? else {
@@ -126,7 +145,7 @@ impl Simulation {
         end: u64,
         sink: &mut S,
     ) -> Result<(), SimulateFault>
-        ensures { OnOk result (Lived S.takes sink.old self.old sink.new self.new) }
+        ensures { OnOk result (Befell S.takes sink.old self.old sink.new self.new) }
     {
         'processors: for processor in 0..64 {
             self.tick_at_end(alloc, processor, end, sink)?;
@@ -141,7 +160,7 @@ impl Simulation {
         end: u64,
         sink: &mut S,
     ) -> Result<(), SimulateFault>
-        ensures { OnOk result (Lived S.takes sink.old self.old sink.new self.new) }
+        ensures { OnOk result (Befell S.takes sink.old self.old sink.new self.new) }
     {
         match self.roster.lane(processor) {
             Ok(lane) if lane.run.is_some() => self.tick(alloc, processor, end, sink),

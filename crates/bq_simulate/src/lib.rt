@@ -1,6 +1,7 @@
 //! The loop of a simulation: tasks do what their workload says, and the machine decides when.
 //! Promises that what the sink is told is a trace from the opening machine on, each of whose events was done and none
-//! refused, with readings that never fall; so replaying that trace answers the same.
+//! refused, with readings that never fall; so replaying that trace answers the same. And that each task does what its kind
+//! says, action by action, each with the next length of its own.
 //! Stands on a driven machine, on the roster of tasks and processors, and on the draws of each task.
 #![tactic(auto)]
 
@@ -14,6 +15,6 @@ pub mod sound;
 pub mod tally;
 
 pub use fault::SimulateFault;
-pub use following::simulate;
+pub use following::{simulate, simulate_seed};
 pub use sound::{Unsound, soundness};
 pub use tally::Tally;

@@ -1,6 +1,8 @@
 //! How a simulation begins: policies are installed, and tasks are admitted.
-ghost use Rattle.std.specs.Prelude.{OnOk};
-ghost use Rattle.bq_simulate.specs.Simulations.{Lived, Silent};
+ghost use Rattle.std.specs.Prelude.{◌≡◌, ◌+◌, OnOk, Some, List, length, slice_get};
+ghost use Rattle.bq_actions.specs.declared.workload.TaskKind.{TaskKind};
+ghost use Rattle.bq_simulate.specs.Actions.{IsOfKind, first_of};
+ghost use Rattle.bq_simulate.specs.Simulations.{Befell, Lived, Same, Silent};
 
 use crate::fault::SimulateFault;
 use crate::simulation::Simulation;
@@ -11,7 +13,7 @@ use bq_core::Policy;
 use bq_draws::Stream;
 use bq_roster::{Astray, Course};
 use bq_trace::Sink;
-use std::alloc::{AllocError, Global};
+use std::alloc::Global;
 
 impl Simulation {
     /// Each policy is installed at its hook of every processor, as one generation.
@@ -22,7 +24,8 @@ impl Simulation {
         policies: &[Policy],
         sink: &mut S,
     ) -> Result<(), SimulateFault>
-        ensures { OnOk result (Lived S.takes sink.old self.old sink.new self.new) }
+        ensures befell { OnOk result (Befell S.takes sink.old self.old sink.new self.new) }
+        ensures roster { self.new.roster ≡ self.old.roster }
     {
         'policies: for policy in policies {
             let generation = self.driver.draw(alloc, sink)?;
@@ -39,7 +42,8 @@ impl Simulation {
         policy: &Policy,
         sink: &mut S,
     ) -> Result<(), SimulateFault>
-        ensures { OnOk result (Lived S.takes sink.old self.old sink.new self.new) }
+        ensures befell { OnOk result (Befell S.takes sink.old self.old sink.new self.new) }
+        ensures roster { self.new.roster ≡ self.old.roster }
     {
         'processors: for processor in 0..processors {
             let copy = policy.clone()?;
@@ -56,17 +60,17 @@ impl Simulation {
         workload: &Workload,
         sink: &mut S,
     ) -> Result<(), SimulateFault>
-        ensures { OnOk result (Lived S.takes sink.old self.old sink.new self.new) }
+        requires { length self.old.roster.courses.items ≡ 0 }
+        ensures { OnOk result (Lived S.takes workload.now.tasks.items sink.old self.old sink.new self.new) }
     {
         'kinds: for (number, kind) in workload.tasks.iter().enumerate() {
-            if self.firsts.push(self.tally.tasks).is_err() {
-                return Err(SimulateFault::OutOfMemory);
-            }
+            self.begin_kind()?;
             self.admit_kind(alloc, workload, number, kind, sink)?;
         }
         Ok(())
     }
 
+    /// The tasks of a kind are admitted, after those of the kinds before it.
     fn admit_kind<S: Sink>(
         &mut self,
         alloc: Global,
@@ -75,47 +79,64 @@ impl Simulation {
         kind: &TaskKind,
         sink: &mut S,
     ) -> Result<(), SimulateFault>
-        ensures { OnOk result (Lived S.takes sink.old self.old sink.new self.new) }
+        requires kind { slice_get workload.now.tasks.items number ≡ Some kind.now }
+        requires first { length self.old.roster.courses.items ≡ first_of workload.now.tasks.items number }
+        ensures lived { OnOk result (Lived S.takes workload.now.tasks.items sink.old self.old sink.new self.new) }
+        ensures tasks { OnOk result (length self.new.roster.courses.items ≡ length self.old.roster.courses.items + kind.now.count) }
     {
         let processors = workload.machine.size.processors();
         let home = first_of_mask(kind.mask, processors).ok_or(SimulateFault::Astray)?;
         'tasks: for _ in 0..kind.count {
             let task = self.tally.tasks;
             self.admit_one(alloc, task, kind, sink)?;
-            self.join(number, home)?;
-            self.open_stream(task)?;
+            self.join(task, number, home)?;
             self.begin_at(task, kind.start)?;
+        }
+        Ok(())
+    }
+
+    /// The next task is the first of the next kind.
+    fn begin_kind(&mut self) -> Result<(), SimulateFault>
+        ensures same { OnOk result (Same self.old self.new) }
+        ensures courses { self.new.roster ≡ self.old.roster }
+    {
+        if self.firsts.push(self.tally.tasks).is_err() {
+            return Err(SimulateFault::OutOfMemory);
         }
         Ok(())
     }
 
     /// The timer of the next task, which is the last so far.
     fn begin_at(&mut self, task: u16, start: u64) -> Result<(), Astray>
-        ensures { OnOk result (Silent self.old self.new) }
+        ensures same { OnOk result (Same self.old self.new) }
+        ensures courses { self.new.roster.courses ≡ self.old.roster.courses }
     {
-        self.roster.plan(Due::Wake(task), start)?;
+        self.plan_wake(task, start)?;
         self.tally.tasks = task.saturating_add(1);
         Ok(())
     }
 
-    /// The stream of the next task.
-    fn open_stream(&mut self, task: u16) -> Result<(), SimulateFault>
-        ensures { OnOk result (Silent self.old self.new) }
+    /// The timer of a task.
+    pub(crate) fn plan_wake(&mut self, task: u16, time: u64) -> Result<(), Astray>
+        ensures same { Same self.old self.new }
+        ensures courses { self.new.roster.courses ≡ self.old.roster.courses }
+    {
+        self.roster.plan(Due::Wake(task), time)
+    }
+
+    /// One more task of a kind, with a stream of its own; its first wake comes from this processor.
+    fn join(&mut self, task: u16, kind: usize, home: u8) -> Result<(), SimulateFault>
+        ensures silent { OnOk result ((kinds : List TaskKind) → IsOfKind kinds (length self.old.roster.courses.items) kind → Silent kinds self.old self.new) }
+        ensures tasks { OnOk result (length self.new.roster.courses.items ≡ length self.old.roster.courses.items + 1) }
     {
         if self.streams.len() != usize::from(task) {
             return Err(SimulateFault::Astray);
         }
+        self.roster.add(Course::new(kind, home))?;
         match self.streams.push(Stream::of_task(self.seed, task)) {
             Ok(()) => Ok(()),
             Err(_) => Err(SimulateFault::OutOfMemory),
         }
-    }
-
-    /// One more task of a kind, which comes first to this processor.
-    fn join(&mut self, kind: usize, home: u8) -> Result<(), AllocError>
-        ensures { OnOk result (Silent self.old self.new) }
-    {
-        self.roster.add(Course::new(kind, home))
     }
 
     fn admit_one<S: Sink>(
@@ -125,7 +146,8 @@ impl Simulation {
         kind: &TaskKind,
         sink: &mut S,
     ) -> Result<(), SimulateFault>
-        ensures { OnOk result (Lived S.takes sink.old self.old sink.new self.new) }
+        ensures befell { OnOk result (Befell S.takes sink.old self.old sink.new self.new) }
+        ensures courses { self.new.roster ≡ self.old.roster }
     {
         self.driver
             .admit(alloc, task, kind.nice, kind.mask, kind.slice, sink)?;

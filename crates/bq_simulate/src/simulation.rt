@@ -4,7 +4,8 @@ ghost use Rattle.bq_parts.specs.declared.event.Event.TheVariants.{BeginWake, End
 ghost use Rattle.bq_driver.specs.Drives.{Drove};
 ghost use Rattle.std.specs.Option.{option_map_or};
 ghost use Rattle.bq_roster.specs.Accounts.{accounts_of, passed, switched};
-ghost use Rattle.bq_simulate.specs.Simulations.{Draws, Lived};
+ghost use Rattle.bq_simulate.specs.Chronicles.{IsWoken};
+ghost use Rattle.bq_simulate.specs.Simulations.{Befell, Draws, Lived};
 
 use crate::fault::SimulateFault;
 use crate::tally::Tally;
@@ -39,7 +40,7 @@ impl Simulation {
         now: u64,
         sink: &mut S,
     ) -> Result<(), SimulateFault>
-        ensures { OnOk result (Lived S.takes sink.old self.old sink.new self.new) }
+        ensures { OnOk result (Lived S.takes workload.now.tasks.items sink.old self.old sink.new self.new) }
     {
         match due {
             Due::End(processor) => self.act(alloc, workload, processor, now, sink),
@@ -57,14 +58,14 @@ impl Simulation {
         now: u64,
         sink: &mut S,
     ) -> Result<(), SimulateFault>
-        ensures { OnOk result (Lived S.takes sink.old self.old sink.new self.new) }
+        ensures { OnOk result (Befell S.takes sink.old self.old sink.new self.new) }
     {
         self.roster.drop_plan(Due::Wake(task))?;
         let course = self.roster.course(task)?;
-        if course.stance != Stance::Asleep {
-            return Err(SimulateFault::Astray);
+        match course.stance {
+            Stance::Asleep => self.wake(alloc, course.home, task, now, sink),
+            _ => Err(SimulateFault::Astray),
         }
-        self.wake(alloc, course.home, task, now, sink)
     }
 
     /// A task is woken from a processor: it is placed, and the processor on which it was placed takes it in at once.
@@ -76,8 +77,9 @@ impl Simulation {
         now: u64,
         sink: &mut S,
     ) -> Result<(), SimulateFault>
+        requires { IsWoken (accounts_of self.old.roster) from task }
         ensures events { OnOk result ((to : ℕ) × Drove S.takes sink.old self.old.driver (BeginWake from task ∷ EndWake from now ∷ Drain to now ∷ []) sink.new self.new.driver) }
-        ensures lived { OnOk result (Lived S.takes sink.old self.old sink.new self.new) }
+        ensures lived { OnOk result (Befell S.takes sink.old self.old sink.new self.new) }
     {
         self.roster.wake(task)?;
         let to = self.driver.wake(alloc, from, task, now, sink)?;
@@ -94,7 +96,7 @@ impl Simulation {
         now: u64,
         sink: &mut S,
     ) -> Result<(), SimulateFault>
-        ensures { OnOk result (Lived S.takes sink.old self.old sink.new self.new) }
+        ensures { OnOk result (Befell S.takes sink.old self.old sink.new self.new) }
     {
         let run = self.driver.tick(alloc, processor, now, sink)?;
         self.roster.switch(processor, run, now)?;
@@ -110,7 +112,7 @@ impl Simulation {
         now: u64,
         sink: &mut S,
     ) -> Result<(), SimulateFault>
-        ensures { OnOk result (Lived S.takes sink.old self.old sink.new self.new) }
+        ensures { OnOk result (Befell S.takes sink.old self.old sink.new self.new) }
     {
         self.roster.plan_pull(processor, now)?;
         match self.roster.largest() {
@@ -127,7 +129,7 @@ impl Simulation {
         now: u64,
         sink: &mut S,
     ) -> Result<(), SimulateFault>
-        ensures { OnOk result (Lived S.takes sink.old self.old sink.new self.new) }
+        ensures { OnOk result (Befell S.takes sink.old self.old sink.new self.new) }
     {
         let moved = self.driver.pull(alloc, processor, from, now, sink)?;
         keep_pull(&mut self.roster, processor, from, moved, now)?;

@@ -10,6 +10,7 @@ use bq_study::{AskedFault, Policies, study_words};
 use bq_workload::{Changes, read};
 use std::alloc::Global;
 use std::test::Fail;
+use std::thread::Threads;
 
 const WORKLOAD: &str = concat!(
     "[machine]\n",
@@ -149,14 +150,14 @@ const REFUSED: [(&[&str], AskedFault); 4] = [
 ];
 
 /// What is written with these words.
-fn shown(alloc: Global, words: &[&str]) -> Result<String, Fail> {
+fn shown<T: Threads + Sync>(threads: &T, alloc: Global, words: &[&str]) -> Result<String, Fail> {
     let Ok(words) = study_words(alloc, words) else {
         return Err(Fail::from("the words are refused"));
     };
     let Ok(Some(asked)) = asked_comparison(alloc, &words) else {
         return Err(Fail::from("nothing is compared"));
     };
-    let Ok(mut workload) = read(alloc, WORKLOAD, Changes::NONE) else {
+    let Ok(workload) = read(alloc, WORKLOAD, Changes::NONE) else {
         return Err(Fail::from("it is no workload"));
     };
     let mut others = Policies::new(alloc);
@@ -169,8 +170,9 @@ fn shown(alloc: Global, words: &[&str]) -> Result<String, Fail> {
         Some(&others)
     };
     let Ok(sides) = compare(
+        threads,
         alloc,
-        &mut workload,
+        &workload,
         &Policies::new(alloc),
         others,
         asked.seeds,
@@ -184,7 +186,7 @@ fn shown(alloc: Global, words: &[&str]) -> Result<String, Fail> {
 #[test]
 fn tables_written(rt: HostRuntime) -> Result<(), Fail> {
     for (words, text) in WRITTEN {
-        let shown = shown(rt.alloc(), words)?;
+        let shown = shown(&rt, rt.alloc(), words)?;
         assert_eq!(rt; shown.as_str(), text);
     }
     Ok(())

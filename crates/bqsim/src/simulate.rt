@@ -10,7 +10,6 @@ use bq_simulate::SimulateFault;
 use bq_study::{Asked, AskedFault, Policies, PolicyFault, StudyWords, asked_changes, run_as};
 use bq_timeline::SettingsFault;
 use bq_workload::{Changes, Fault, read};
-use std::alloc::Global;
 use std::process::ExitCode;
 use std::str::from_utf8;
 
@@ -56,10 +55,10 @@ fn side_by_side(
     asked: &Comparing,
 ) -> Result<ExitCode, ExitCode> {
     let changes = asked_changes(words).map_err(|fault| refused(rt, fault))?;
-    let mut workload = workload(rt, words, changes)?;
+    let workload = workload(rt, words, changes)?;
     let ours = policies(rt, words)?;
     let others = others(rt, words)?;
-    match tabled(rt.alloc(), &mut workload, &ours, others.as_ref(), asked) {
+    match tabled(rt, &workload, &ours, others.as_ref(), asked) {
         Ok(text) => Ok(write_out(rt, text.as_str())),
         Err(SeedsFault::OutOfMemory) => Err(out_of_memory(rt)),
         Err(fault) => {
@@ -71,13 +70,14 @@ fn side_by_side(
 
 /// The table of the figures on both sides.
 fn tabled(
-    alloc: Global,
-    workload: &mut Workload,
+    rt: &HostRuntime,
+    workload: &Workload,
     ours: &Policies,
     others: Option<&Policies>,
     asked: &Comparing,
 ) -> Result<String, SeedsFault> {
-    let sides = compare(alloc, workload, ours, others, asked.seeds)?;
+    let alloc = rt.alloc();
+    let sides = compare(rt, alloc, workload, ours, others, asked.seeds)?;
     let lines = lines(alloc, &sides, &asked.window)?;
     Ok(written(alloc, workload, lines.as_slice(), asked.form)?)
 }

@@ -1,10 +1,12 @@
-use Rattle.std.proofs.Common.{◌≡◌, length}
+use Rattle.std.proofs.Common.{◌≤◌, ◌-◌, length}
 use Rattle.bq_seeds.specs.Seeds.{AreRuns}
 use Rattle.bq_seeds.proofs.seeds.runs.Given as goal
 
 abbrev pub invariant-numbers : goal.invariant-numbers
-invariant-numbers l = record {
-  runs_are : AreRuns l.fn.workload.machine l.figures l.first l.runs.items;
-  number : length l.runs.items ≡ l.number;
-  same : l.workload ≡ l.fn.workload;
+invariant-numbers g l = record {
+  runs_are : AreRuns l.workload l.figures l.workload.machine.seed l.runs.items;
+  low : length l.runs.items ≤ l.count;
 }
+
+abbrev pub decreases-numbers : goal.decreases-numbers
+decreases-numbers g l = l.count - length l.runs.items

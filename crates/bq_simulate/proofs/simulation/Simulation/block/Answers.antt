@@ -1,8 +1,12 @@
-use Rattle.std.proofs.Common.{refl}
-use Rattle.bq_simulate.proofs.Deeds.{Lived-blocks}
+use Rattle.std.proofs.Common.{ℕ, Option, refl, ap, sym, ◌∙◌}
+use Rattle.bq_parts.specs.declared.event.Event.TheVariants.{Block}
+use Rattle.bq_roster.specs.Accounts.{accounts_of, left_by}
+use Rattle.bq_simulate.proofs.Deeds.{Lived-event}
 use Rattle.bq_simulate.proofs.simulation.Simulation.block.Goals as goal
 
 pub returns : goal.returns
 returns g c =
     let said = c.in_ok-run.ensures in
-    Lived-blocks g.S.Sink.takes _ _ _ _ c.args.processor c.args.task c.args.stance c.in_ok-run.run' c.args.now said.0 (record { pace = c.in_ok-leave.ensures.pace; seed = refl; streams = refl }) c.in_ok-leave.ensures.there said.1 said.2 c.in_ok-leave.ensures.accounts
+    let was = c.args.self.now.roster in
+    let accounts = c.in_ok-leave.ensures.accounts ∙ ap (λ (r : Option ℕ). left_by c.args.processor r c.args.now was.pace.migration_cost (accounts_of was)) (sym said.1) in
+    Lived-event g.S.Sink.takes _ _ _ _ (Block c.args.processor c.args.now) said.0 tt (record { pace = c.in_ok-leave.ensures.pace; seed = refl; streams = refl }) said.2 accounts

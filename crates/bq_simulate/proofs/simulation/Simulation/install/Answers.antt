@@ -1,7 +1,16 @@
-use Rattle.std.proofs.Common.{refl}
+use Rattle.std.proofs.Common.{refl, ◌∙◌}
 use Rattle.bq_parts.specs.declared.event.Event.TheVariants.{Draw}
-use Rattle.bq_simulate.proofs.Deeds.{Lived-drove, Lived-join}
+use Rattle.bq_simulate.proofs.Deeds.{Befell-join, Lived-drove, Lived-same, Same-here}
 use Rattle.bq_simulate.proofs.simulation.Simulation.install.Goals as goal
 
 pub policies-preserved : goal.policies-preserved
-policies-preserved g c = Lived-join g.S.Sink.takes _ _ _ _ _ _ (Lived-join g.S.Sink.takes _ _ _ _ _ _ c.policies.invariant (Lived-drove g.S.Sink.takes _ _ _ _ Draw (record { pace = refl; seed = refl; streams = refl }) (λ reply a. refl) c.in_ok-generation.ensures refl)) c.in_ok-install_one.ensures
+policies-preserved g c =
+    let takes = g.S.Sink.takes in
+    let drawn = Lived-drove takes _ _ _ _ Draw tt (record { pace = refl; seed = refl; streams = refl }) (λ reply a. refl) c.in_ok-generation.ensures refl in
+    record {
+      befell = Befell-join takes _ _ _ _ _ _ c.policies.invariant.befell (Befell-join takes _ _ _ _ _ _ drawn c.in_ok-install_one.ensures.befell);
+      roster = c.in_ok-install_one.ensures.roster ∙ c.policies.invariant.roster;
+    }
+
+pub policies-init : goal.policies-init
+policies-init g c = record { befell = Lived-same g.S.Sink.takes _ _ _ (Same-here _); roster = refl }

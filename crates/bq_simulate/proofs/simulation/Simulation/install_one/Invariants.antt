@@ -1,5 +1,9 @@
-use Rattle.bq_simulate.specs.Simulations.{Lived}
+use Rattle.std.proofs.Common.{◌≡◌}
+use Rattle.bq_simulate.specs.Simulations.{Befell}
 use Rattle.bq_simulate.proofs.simulation.Simulation.install_one.Given as goal
 
 abbrev pub invariant-processors : goal.invariant-processors
-invariant-processors g l = Lived g.S.Sink.takes l.initial.sink l.initial.self l.sink l.self
+invariant-processors g l = record {
+  befell : Befell g.S.Sink.takes l.initial.sink l.initial.self l.sink l.self;
+  roster : l.self.roster ≡ l.initial.self.roster;
+}

@@ -1,9 +1,14 @@
-use Rattle.std.proofs.Common.{refl, ap}
-use Rattle.std.proofs.lemmas.Result.{on_ok_weaker}
+use Rattle.std.proofs.Common.{◌≡◌, ◌++◌, ◌∷◌, [], length, refl, ap, ◌∙◌, arith}
+use Rattle.rand_pcg.specs.Lcg.{Lcg}
+use Rattle.bq_draws.specs.Streams.{stream_of_task}
 use Rattle.bq_roster.specs.declared.course.Course.{Course}
 use Rattle.bq_simulate.proofs.Deeds.{Silent-joins}
 use Rattle.bq_simulate.proofs.simulation.Simulation.join.Goals as goal
 
--- a new task has no phase and has not run
-pub returns : goal.returns
-returns c = on_ok_weaker c.add.result (λ h. Silent-joins _ _ c.new.result (record { pace = c.add.ensures.pace; seed = refl; streams = refl }) (ap (λ (k : Course). k.due) c.new.ensures, ap (λ (k : Course). k.got) c.new.ensures, ap (λ (k : Course). k.has_run) c.new.ensures) refl h (ap (λ l. l.items) c.add.ensures.lanes)) c.add.ensures.courses
+pub returns-in-Ok-clause-silent : goal.returns-in-Ok-clause-silent
+returns-in-Ok-clause-silent c =
+    let was = c.args.self.now in
+    let place : c.args.task ≡ length was.streams.items = grind (arith, c.len.ensures, c.from.ensures, c.if-len-from.false) in
+    let stream = c.of_task.ensures ∙ ap (stream_of_task was.seed) place in
+    let added = c.in_ok-add.ensures in
+    λ kinds of. Silent-joins kinds _ _ c.args.kind c.args.home added.pace refl refl (added.courses ∙ ap (λ (k : Course). was.roster.courses.items ++ k ∷ []) c.new.ensures) (ap (λ l. l.items) added.lanes) (c.in-Ok.ensures.items ∙ ap (λ (g : Lcg). was.streams.items ++ g ∷ []) stream) of

@@ -9,4 +9,4 @@ returns g c =
     let said = c.in_ok-run.ensures in
     let was = c.args.self.now.roster in
     let accounts = c.in_ok-plan_tick.ensures.accounts ∙ c.in_ok-switch.ensures.accounts ∙ ap (λ (r : Option ℕ). switched c.args.processor r c.args.now was.pace.migration_cost (accounts_of was)) (sym said.1) in
-    Lived-event g.S.Sink.takes _ _ _ _ (Tick c.args.processor c.args.now) said.0 (record { pace = c.in_ok-plan_tick.ensures.pace ∙ c.in_ok-switch.ensures.pace; seed = refl; streams = refl }) said.2 accounts
+    Lived-event g.S.Sink.takes _ _ _ _ (Tick c.args.processor c.args.now) said.0 tt (record { pace = c.in_ok-plan_tick.ensures.pace ∙ c.in_ok-switch.ensures.pace; seed = refl; streams = refl }) said.2 accounts

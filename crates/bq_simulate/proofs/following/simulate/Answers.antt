@@ -1,7 +1,0 @@
-use Rattle.bq_simulate.proofs.Wholes.{simulation-of}
-use Rattle.bq_simulate.proofs.following.simulate.Goals as goal
-
-pub returns : goal.returns
-returns g c =
-    let s = c.in_ok-simulation.ensures in
-    simulation-of g.S.Sink.takes _ _ _ _ _ _ _ c.in_ok-driver.ensures s.driver s.accounts s.cost s.seed s.streams c.in_ok-run.ensures

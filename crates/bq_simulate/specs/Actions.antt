@@ -1,0 +1,75 @@
+-- What a task does next, and what becomes of it with that.
+use Rattle.std.specs.Prelude.{◌≡◌, ℕ, ◌+◌, ◌≤◌, ◌<◌, if◌then◌else◌, nat_lt, List, Option, Some, None, length, slice_get, sum_by, take, option_and_then}
+use Rattle.std.specs.Option.{option_map_or}
+use Rattle.rand_pcg.specs.Lcg.{Lcg}
+use Rattle.bq_actions.specs.declared.action.Action.{Action}
+use Rattle.bq_actions.specs.declared.action.Action.TheVariants.{Run, Sleep, Wait, Wake}
+use Rattle.bq_actions.specs.declared.action.Length.{Length}
+use Rattle.bq_actions.specs.declared.workload.TaskKind.{TaskKind}
+use Rattle.bq_draws.specs.Lengths.{length_drawn}
+use Rattle.bq_draws.specs.Streams.{stream_of_task, first_word, second_word, after_draws}
+use Rattle.bq_roster.specs.Accounts.{is_same}
+use Rattle.bq_roster.specs.declared.course.Course.{Course}
+use Rattle.bq_roster.specs.declared.course.Stance.{Stance}
+use Rattle.bq_roster.specs.declared.course.Stance.TheVariants.{Asleep, Waiting, Over}
+use Rattle.bq_roster.specs.Courses.{advanced, begun}
+
+-- the action at which a task of this kind stands; none where it has done all as often as it is to
+abbrev pub action_at : TaskKind → Course → Option Action
+action_at kind c = if is_same kind.loops (Some c.loops) then None else slice_get kind.actions.items c.action
+
+abbrev pub next_action : List TaskKind → Course → Option Action
+next_action kinds c = option_and_then (λ kind. action_at kind c) (slice_get kinds c.kind)
+
+-- how many actions it goes through
+abbrev pub actions_of : List TaskKind → Course → ℕ
+actions_of kinds c = option_map_or (λ (kind : TaskKind). length kind.actions.items) (slice_get kinds c.kind) 0
+
+-- how many tasks a kind has
+abbrev pub count_of : List TaskKind → ℕ → ℕ
+count_of kinds number = option_map_or (λ (kind : TaskKind). kind.count) (slice_get kinds number) 0
+
+-- running and sleeping take a length
+abbrev pub asked_by : Option Action → Option Length
+asked_by (Some (Run asked)) = Some asked
+asked_by (Some (Sleep asked)) = Some asked
+asked_by action = None
+
+-- the length that a stream gives next, for what is asked for
+abbrev pub next_length : Length → Lcg → ℕ
+next_length asked g = length_drawn asked (first_word g) (second_word g)
+
+-- the length of a task, after so many others, for what is asked for
+abbrev pub length_of : ℕ → ℕ → ℕ → Length → ℕ
+length_of seed task others asked = next_length asked (after_draws others (stream_of_task seed task))
+
+-- it has done its action
+abbrev pub advanced_in : List TaskKind → Course → Course
+advanced_in kinds c = advanced (actions_of kinds c) c
+
+-- its wake has come to one more of the tasks of a kind; after the last it goes on
+abbrev pub woken_one_in : List TaskKind → ℕ → Course → Course
+woken_one_in kinds kind c = if nat_lt (c.woken + 1) (count_of kinds kind) then record c { woken = c.woken + 1 } else advanced_in kinds c
+
+-- it has no phase, and sleeps
+abbrev pub resting : Stance → Course → Course
+resting stance c = record (begun 0 c) { stance = stance }
+
+-- it does this action, which takes that length where it takes one; then it has a phase only where it runs
+abbrev pub acted : List TaskKind → Option Action → ℕ → Course → Course
+acted kinds None length c = resting Over c
+acted kinds (Some (Run asked)) length c = begun length (advanced_in kinds c)
+acted kinds (Some (Sleep asked)) length c = resting Asleep (advanced_in kinds c)
+acted kinds (Some Wait) length c = resting Waiting (advanced_in kinds c)
+acted kinds (Some (Wake kind)) length c = begun 0 (woken_one_in kinds kind c)
+
+-- the tasks before those of a kind
+abbrev pub first_of : List TaskKind → ℕ → ℕ
+first_of kinds number = sum_by (λ (kind : TaskKind). kind.count) (take number kinds)
+
+-- the kind of a task, by their numbers: its tasks follow those of the kinds before it
+pub record IsOfKind (kinds : List TaskKind) (task number : ℕ) : Type 0 where
+  pub kind : TaskKind
+  pub there : slice_get kinds number ≡ Some kind
+  pub from : first_of kinds number ≤ task
+  pub below : task < first_of kinds number + kind.count
