@@ -125,7 +125,9 @@ fn label_reason(alloc: Global, said: &str, first: &str) -> Result<String, AllocE
 fn unknown(alloc: Global, word: &str) -> Result<String, AllocError> {
     match nearest(alloc, word)? {
         Some(known) => format!(in alloc; "unknown word \"{word}\", did you mean \"{known}\"?"),
-        None => format!(in alloc; "unknown word \"{word}\"; docs/ASSEMBLER.md has those that there are"),
+        None => format!(in alloc;
+            "unknown word \"{word}\"; docs/ASSEMBLER.md has those that there are"
+        ),
     }
 }
 

@@ -50,12 +50,12 @@ is_view_text v registers unset stack kept text registers_are is_stack kept_are i
 pub tells_state : (v : View) (text : List ℕ) → IsViewText v text → (f : Setting) (s : State) → Covers f v s → TellsState f s text
 tells_state v text is f s covers =
     record {
-        registers = registers_below 11 v.registers;
-        unset = is.unset;
-        stack = is.stack;
-        kept = kept_below 64 v.kept;
-        text_is = is.text_is;
-        registers_told = tells_registers f s v covers 11;
-        stack_told = tells_stack f s v is.stack covers is.is_stack;
-        kept_told = tells_kept f s v covers 64
+      registers = registers_below 11 v.registers;
+      unset = is.unset;
+      stack = is.stack;
+      kept = kept_below 64 v.kept;
+      text_is = is.text_is;
+      registers_told = tells_registers f s v covers 11;
+      stack_told = tells_stack f s v is.stack covers is.is_stack;
+      kept_told = tells_kept f s v covers 64;
     }

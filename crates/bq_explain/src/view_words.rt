@@ -48,11 +48,7 @@ fn registers_text(alloc: Global, view: &View) -> Result<String, AllocError>
 }
 
 /// A register, if something is known of it.
-fn register_text(
-    alloc: Global,
-    number: usize,
-    known: &Option<Known>,
-) -> Result<String, AllocError>
+fn register_text(alloc: Global, number: usize, known: &Option<Known>) -> Result<String, AllocError>
     ensures { IfOk result (λ text. string_bytes text ≡ register_text number known.now) }
 {
     match known {

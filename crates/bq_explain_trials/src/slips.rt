@@ -204,7 +204,8 @@ line 6, slot 4:  ldxw r0, [r1+40]
 
 #[test]
 fn a_refusal_is_told_whole(rt: HostRuntime) -> Result<(), Fail> {
-    let text = ";@ hook place\nldxw r2, [r1+0]\nand64 r2, 31\nlsh64 r2, 2\nadd64 r1, r2\nldxw r0, [r1+40]\nexit\n";
+    let text =
+        ";@ hook place\nldxw r2, [r1+0]\nand64 r2, 31\nlsh64 r2, 2\nadd64 r1, r2\nldxw r0, [r1+40]\nexit\n";
     let Ok(policy) = read_policy(rt.alloc(), text.as_bytes(), &Head::nothing()) else {
         return Err(Fail::from("the text is no policy"));
     };

@@ -42,9 +42,7 @@ fn map_words(alloc: Global, part: &str) -> Result<String, AllocError> {
     let with_an_entry = format!(in alloc; "{size}:1")?;
     if !is_maps(alloc, with_an_entry.as_str())? {
         let got = got(size);
-        return format!(in alloc;
-            "the size of a value is 8 to 256, a multiple of 8 (got {got})"
-        );
+        return format!(in alloc; "the size of a value is 8 to 256, a multiple of 8 (got {got})");
     }
     let got = got(entries);
     format!(in alloc; "the number of entries is 1 to 256 (got {got})")

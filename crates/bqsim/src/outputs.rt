@@ -1,9 +1,7 @@
 //! What commands write, and how they end.
 
+pub(crate) use bq_streams::{say_out_of_memory as out_of_memory, written};
 use std::process::ExitCode;
-
-pub(crate) use bq_streams::say_out_of_memory as out_of_memory;
-pub(crate) use bq_streams::written;
 
 /// Writes an answer to standard output.
 pub(crate) fn write_out(rt: &HostRuntime, text: &str) -> ExitCode {
