@@ -1,5 +1,5 @@
 -- What is printed of a word is right about each word that it may be.
-use Rattle.std.proofs.Common.{◌≡◌, ℕ, ◌+◌, ◌-◌, ◌%◌, ◌^◌, ◌<◌, ◌≤◌, ◌==◌, ◌&&◌, nat_lt, true, false, List, [], ◌++◌, if◌then◌else◌, refl, ◌∙◌, ap, arith}
+use Rattle.std.proofs.Common.{◌≡◌, ℕ, ◌+◌, ◌-◌, ◌%◌, ◌^◌, ◌≤◌, ◌==◌, ◌&&◌, nat_lt, true, false, List, [], ◌++◌, if◌then◌else◌, refl, ◌∙◌, ap, arith}
 use Rattle.std.specs.Prelude.{codes}
 use Rattle.std.proofs.Math.Nat.{mod-add-mod, add-mod_right}
 use Rattle.bq_maps.specs.declared.shape.MapShape.{MapShape}

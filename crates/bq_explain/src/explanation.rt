@@ -133,7 +133,6 @@ fn reasons(
 }
 
 /// The same, where the state is known to be within a view.
-#[tactic(auto, using(crate::proofs::KnownLemmas::is_known))]
 fn state_reasons(
     alloc: Global,
     head: &str,
