@@ -8,6 +8,8 @@ mod kept;
 mod reading;
 mod reasons;
 mod saying;
+#[cfg(test)]
+mod tests;
 mod writing;
 
 pub use kept::Kept;
