@@ -19,9 +19,9 @@ FILES = ["check", "run", "dis", "timeline", "import", "simulate"]  # commands th
 STATUSES = [
     ("0", "well"),
     ("1", "a bad line in a trace; what asm, dis, check or run refuses"),
-    ("2", "the words are refused, or ask for help or the version"),
+    ("2", "the words are refused, or ask for help or the version; the text is on standard error"),
     ("3", "want of memory"),
-    ("4", "a read or a write failed, or a file can't be opened"),
+    ("4", "a read or a write failed, or a file can't be opened; standard error tells the reason"),
 ]
 
 

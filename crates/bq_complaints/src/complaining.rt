@@ -58,8 +58,8 @@ fn reason(alloc: Global, line: &str, cause: Cause) -> Result<String, AllocError>
             )
         }
         Cause::LabelTwice => {
-            let said = line.trim();
-            format!(in alloc; "the label \"{said}\" was set before")
+            let said = without_comment(line).trim();
+            format!(in alloc; "the label \"{said}\" was set before; one of them wants another name")
         }
         Cause::LabelMissing => {
             let said = without_comment(line).trim();
@@ -87,14 +87,9 @@ fn word_reason(alloc: Global, line: &str) -> Result<String, AllocError> {
     if let Some(inside) = blank_in_brackets(said) {
         return format!(in alloc; "[{inside}]: no blank inside brackets");
     }
-    let first = match said.split_once(' ') {
-        Some((first, _)) => first,
-        None => said,
-    };
-    if said.ends_with(':') {
-        return format!(in alloc;
-            "\"{said}\" is no label: a label is a letter or _, then up to 31 letters, digits or _, and a colon"
-        );
+    let first = first_word(said);
+    if first.ends_with(':') {
+        return label_reason(alloc, said, first);
     }
     if !is_word(first) {
         return unknown(alloc, first);
@@ -103,11 +98,36 @@ fn word_reason(alloc: Global, line: &str) -> Result<String, AllocError> {
     format!(in alloc; "\"{said}\" has other operands than {first} takes; write it as {form}")
 }
 
+/// The first word of a line that begins with none of the marks between words: space, tab and comma.
+fn first_word(said: &str) -> &str {
+    match said.split(is_between).next() {
+        Some(first) => first,
+        None => said,
+    }
+}
+
+/// Whether the letter stands between words.
+fn is_between(letter: char) -> bool {
+    letter == ' ' || letter == '\t' || letter == ','
+}
+
+/// Why a line whose first word ends with a colon sets no label.
+fn label_reason(alloc: Global, said: &str, first: &str) -> Result<String, AllocError> {
+    if said == first {
+        return format!(in alloc;
+            "\"{said}\" is no label: a label is a letter or _, then up to 31 letters, digits or _, and a colon"
+        );
+    }
+    format!(in alloc; "\"{said}\" has words after its label: a label stands alone on its line")
+}
+
 /// A word that no instruction begins with, and the one that may be meant.
 fn unknown(alloc: Global, word: &str) -> Result<String, AllocError> {
     match nearest(alloc, word)? {
         Some(known) => format!(in alloc; "unknown word \"{word}\", did you mean \"{known}\"?"),
-        None => format!(in alloc; "unknown word \"{word}\""),
+        None => format!(in alloc;
+            "unknown word \"{word}\"; docs/ASSEMBLER.md has those that there are"
+        ),
     }
 }
 
@@ -126,7 +146,7 @@ fn foreign_comment(said: &str) -> Option<&'static str> {
 fn blank_in_brackets(said: &str) -> Option<&str> {
     let (_, rest) = said.split_once('[')?;
     let (inside, _) = rest.split_once(']')?;
-    if inside.contains(" ") {
+    if inside.contains(" ") || inside.contains("\t") {
         return Some(inside);
     }
     None

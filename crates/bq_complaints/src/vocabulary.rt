@@ -17,25 +17,29 @@ const FAR: usize = 3;
 
 /// Whether an instruction begins with the word.
 pub(crate) fn is_word(word: &str) -> bool {
-    is_among(word, WORDS)
+    same_among(word, WORDS).is_some()
 }
 
-/// Whether it is one of the words between blanks.
-fn is_among(word: &str, words: &str) -> bool {
+/// The one of the words between blanks that is the same.
+fn same_among<'a>(word: &str, words: &'a str) -> Option<&'a str> {
     for known in words.split_whitespace() {
         if known == word {
-            return true;
+            return Some(known);
         }
     }
-    false
+    None
 }
 
-/// The known word that is nearest, if one is near.
+/// The known word that is meant: the word with its width, where only that is left out, else the nearest, if one is near.
 pub(crate) fn nearest(alloc: Global, word: &str) -> Result<Option<&'static str>, AllocError> {
-    nearest_among(alloc, word, WORDS)
+    let with_width = format!(in alloc; "{word}64")?;
+    match same_among(with_width.as_str(), WORDS) {
+        Some(known) => Ok(Some(known)),
+        None => nearest_among(alloc, word, WORDS),
+    }
 }
 
-/// The same, of the words between blanks.
+/// The nearest of the words between blanks, if one is near.
 fn nearest_among<'a>(
     alloc: Global,
     word: &str,

@@ -1,0 +1,4 @@
+pub mod KnownLemmas
+pub mod RunLemmas
+pub mod SayingLemmas
+pub mod ViewLemmas

@@ -1,6 +1,10 @@
 //! A policy's verdict with its explanation.
-ghost use Rattle.std.specs.Prelude.{◌≡◌, IfOk, false};
-ghost use Rattle.bq_explain.specs.Explained.{Explains};
+ghost use Rattle.std.specs.Prelude.{◌≡◌, ◌≤◌, IfOk, None, false, true, length};
+ghost use Rattle.bq_insn.specs.Spelling.{is_well_formed};
+ghost use Rattle.bq_insn.specs.Slots.{spread};
+ghost use Rattle.bq_verify.specs.Accepted.{context_length_of};
+ghost use Rattle.bq_verify.specs.KnownAt.{CoversRuns};
+ghost use Rattle.bq_explain.specs.Explained.{Explains, HasKnown};
 
 use crate::advice::{graph_advice, state_advice};
 use crate::limits::Limits;
@@ -10,13 +14,14 @@ use crate::operands::read;
 use crate::pass_needs::graph_words;
 use crate::program_words::{index_at, instruction_text, place_of};
 use crate::summary::summary;
-use crate::trail::write_trail;
+use crate::trail::trail_text;
 use crate::verdict::{Verdict, judge, program_of, verdict_line};
-use crate::view_words::write_view;
+use crate::view_words::view_text;
 use bq_insn::Insn;
 use bq_policy_files::Policy;
 use bq_verify::hook::context_length;
-use bq_verify::{Cause, view_at};
+use bq_verify::{Cause, Program, view_at};
+use bq_views::view::View;
 use std::alloc::{AllocError, Global};
 
 /// What is said of a policy.
@@ -26,79 +31,154 @@ pub struct Explained {
     pub text: String,
     /// Whether the policy is accepted, within the limits.
     pub accepted: bool,
+    /// The lines of the text that tell what is known of registers and stack where the policy is refused, if something is.
+    pub known: Option<String>,
 }
 
-/// The verdict on a policy, and what explains it.
+/// An instruction that is refused: which one it is, its slot, itself, and why.
+#[derive(Clone, Copy)]
+struct Fault {
+    index: usize,
+    slot: usize,
+    insn: Insn,
+    cause: Cause,
+}
+
+/// The verdict on a policy, and what explains it. What it tells of registers and stack at the slot of a refusal holds in every run
+/// that comes there.
 pub fn explain(alloc: Global, policy: &Policy, limits: &Limits) -> Result<Explained, AllocError>
-    ensures { IfOk result (λ e. Explains policy.now limits.now e.accepted) }
+    ensures { IfOk result (Explains policy.now limits.now) }
 {
     let verdict = judge(alloc, policy, limits)?;
-    let text = match verdict {
-        Verdict::Accepted { budget } => summary(alloc, policy, budget)?,
-        Verdict::OverSteps { .. } | Verdict::Forbidden { .. } => {
-            verdict_line(alloc, policy.hook, verdict)?
-        }
+    match verdict {
+        Verdict::Accepted { budget } => Ok(Explained {
+            text: summary(alloc, policy, budget)?,
+            accepted: true,
+            known: None,
+        }),
+        Verdict::OverSteps { .. } | Verdict::Forbidden { .. } => Ok(Explained {
+            text: verdict_line(alloc, policy.hook, verdict)?,
+            accepted: false,
+            known: None,
+        }),
         Verdict::Refused { slot, cause } => {
             let line = verdict_line(alloc, policy.hook, verdict)?;
-            with_reasons(alloc, line, policy, slot, cause)?
+            refused(alloc, line, policy, slot, cause)
         }
-    };
-    Ok(Explained {
-        text,
-        accepted: verdict.is_accepted(),
-    })
+    }
 }
 
 /// The line of a refusal with why the verifier refuses the program at that slot.
-fn with_reasons(
+fn refused(
     alloc: Global,
     line: String,
     policy: &Policy,
     slot: usize,
     cause: Cause,
-) -> Result<String, AllocError> {
-    let mut text = line;
+) -> Result<Explained, AllocError>
+    ensures accepted { IfOk result (λ e. e.accepted ≡ false) }
+    ensures known { IfOk result (HasKnown policy.now slot) }
+{
     let insns = policy.insns.as_slice();
-    if let Some(index) = index_at(insns, slot) {
-        if let Some(insn) = insns.get(index) {
-            let place = place_of(alloc, policy.lines.as_slice(), index, slot)?;
-            let said = instruction_text(alloc, *insn)?;
-            write!(text, "{place}:  {said}\n")?;
-            write_reasons(alloc, policy, (index, slot), *insn, cause, &mut text)?;
-        }
+    let Some(index) = index_at(insns, slot) else {
+        return Ok(alone(line));
+    };
+    let Some(insn) = insns.get(index) else {
+        return Ok(alone(line));
+    };
+    let fault = Fault {
+        index,
+        slot,
+        insn: *insn,
+        cause,
+    };
+    let place = place_of(alloc, policy.lines.as_slice(), index, slot)?;
+    let said = instruction_text(alloc, fault.insn)?;
+    let head = format!(in alloc; "{line}{place}:  {said}\n")?;
+    reasons(alloc, head.as_str(), policy, fault)
+}
+
+/// A refusal of which no more is told.
+fn alone(line: String) -> Explained
+    ensures accepted { result.accepted ≡ false }
+    ensures known { result.known ≡ None }
+{
+    Explained {
+        text: line,
+        accepted: false,
+        known: None,
     }
-    Ok(text)
 }
 
 /// What the instruction needs and has not, what is known there, and what helps.
-fn write_reasons(
+fn reasons(
     alloc: Global,
+    head: &str,
     policy: &Policy,
-    place: (usize, usize),
-    insn: Insn,
-    cause: Cause,
-    text: &mut String,
-) -> Result<(), AllocError> {
-    let (index, slot) = place;
+    fault: Fault,
+) -> Result<Explained, AllocError>
+    ensures accepted { IfOk result (λ e. e.accepted ≡ false) }
+    ensures known { IfOk result (HasKnown policy.now fault.slot) }
+{
     let program = program_of(alloc, policy)?;
-    let Some(view) = view_at(alloc, &program, slot)? else {
-        let need = graph_words(cause);
-        let help = graph_advice(cause);
-        write!(text, "  {need}\n  helps: {help}\n")?;
-        return Ok(());
-    };
+    match view_at(alloc, &program, fault.slot)? {
+        Some(view) => state_reasons(alloc, head, policy, &program, &view, fault),
+        None => {
+            let need = graph_words(fault.cause);
+            let help = graph_advice(fault.cause);
+            let text = format!(in alloc; "{head}  {need}\n  helps: {help}\n")?;
+            Ok(alone(text))
+        }
+    }
+}
+
+/// The same, where the state is known to be within a view.
+fn state_reasons(
+    alloc: Global,
+    head: &str,
+    policy: &Policy,
+    program: &Program,
+    view: &View,
+    fault: Fault,
+) -> Result<Explained, AllocError>
+    requires whole { is_well_formed program.now.insns.items ≡ true }
+    requires few { length program.now.shapes.items ≤ 8 }
+    requires covers { CoversRuns (spread policy.now.insns.items) policy.now.shapes.items (context_length_of policy.now.hook policy.now.version) fault.slot view.now }
+    ensures accepted { IfOk result (λ e. e.accepted ≡ false) }
+    ensures known { IfOk result (HasKnown policy.now fault.slot) }
+{
     let around = Surroundings {
         hook: policy.hook,
         version: policy.version,
         context: context_length(policy.hook, policy.version),
         shapes: policy.shapes.as_slice(),
     };
-    let need = need_text(alloc, around, &view, insn, cause)?;
-    write!(text, "  {need}\n")?;
-    write_view(alloc, &view, text)?;
+    let need = need_text(alloc, around, view, fault.insn, fault.cause)?;
+    let before = format!(in alloc; "{head}  {need}\n")?;
+    let known = view_text(alloc, view)?;
+    let after = what_helps(alloc, policy, program, view, fault, around)?;
+    let text = format!(in alloc; "{before}{known}{after}")?;
+    Ok(Explained {
+        text,
+        accepted: false,
+        known: Some(known),
+    })
+}
+
+/// What made the registers that the instruction reads, and what helps.
+fn what_helps(
+    alloc: Global,
+    policy: &Policy,
+    program: &Program,
+    view: &View,
+    fault: Fault,
+    around: Surroundings<'_>,
+) -> Result<String, AllocError>
+    requires whole { is_well_formed program.now.insns.items ≡ true }
+    requires few { length program.now.shapes.items ≤ 8 }
+{
     let lines = policy.lines.as_slice();
-    write_trail(alloc, &program, lines, index, read(insn), text)?;
-    let help = state_advice(around, &view, insn, cause);
-    write!(text, "  helps: {help}\n")?;
-    Ok(())
+    let trail = trail_text(alloc, program, lines, fault.index, read(fault.insn))?;
+    let help = state_advice(around, view, fault.insn, fault.cause);
+    format!(in alloc; "{trail}  helps: {help}\n")
 }

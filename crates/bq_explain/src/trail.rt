@@ -60,26 +60,26 @@ fn placed(alloc: Global, insns: &[Insn], until: usize) -> Result<Vec<Made>, Allo
 }
 
 /// One line for each instruction that made the registers, in the program's order.
-pub(crate) fn write_trail(
+pub(crate) fn trail_text(
     alloc: Global,
     program: &Program,
     lines: &[usize],
     until: usize,
     registers: Registers,
-    text: &mut String,
-) -> Result<(), AllocError>
+) -> Result<String, AllocError>
     requires whole { is_well_formed program.now.insns.items ≡ true }
     requires few { length program.now.shapes.items ≤ 8 }
 {
     let found = trail(alloc, program.insns.as_slice(), until, registers)?;
+    let mut text = String::new(alloc);
     for made in found.iter().rev() {
         let place = place_of(alloc, lines, made.index, made.slot)?;
         let said = instruction_text(alloc, made.insn)?;
         write!(text, "  made at {place}:  {said}")?;
-        write_outcome(alloc, program, made, text)?;
+        write_outcome(alloc, program, made, &mut text)?;
         text.push_str("\n")?;
     }
-    Ok(())
+    Ok(text)
 }
 
 /// What the register is known to be at the next slot.

@@ -1,4 +1,10 @@
 //! What is known of registers and stack at a slot, as lines of text.
+ghost use Rattle.std.specs.Prelude.{◌≡◌, ◌<◌, ◌≤◌, ◌++◌, ℕ, List, true, false, slice_index_or, IfOk, string_bytes};
+ghost use Rattle.bq_maps.specs.Memory.{Setting, State};
+ghost use Rattle.bq_views.specs.Views.{Covers};
+ghost use Rattle.bq_explain.specs.Telling.{TellsState};
+ghost use Rattle.bq_explain.specs.Texts.{AreRuns, AreSet, IsStackText, IsViewText, kept_below, kept_text, register_text, registers_below, run_text};
+
 use crate::known::known_text;
 use bq_views::view::{Known, View};
 use std::alloc::{AllocError, Global};
@@ -6,82 +12,158 @@ use std::alloc::{AllocError, Global};
 /// The bytes of the stack.
 const STACK: usize = 512;
 
-/// One line with what each register is known to be, the stack's written bytes, and a line for each word that is kept there.
-pub(crate) fn write_view(alloc: Global, view: &View, text: &mut String) -> Result<(), AllocError> {
-    text.push_str(" ")?;
-    for (number, known) in view.registers.iter().enumerate() {
-        if let Some(known) = known {
+/// One line with what each register is known to be and the stack's written bytes, and a line for each word that is kept there.
+/// It holds of every state that the view covers.
+#[tactic(auto, using(crate::proofs::ViewLemmas::tells_state))]
+pub(crate) fn view_text(alloc: Global, view: &View) -> Result<String, AllocError>
+    ensures text { IfOk result (λ text. IsViewText view.now (string_bytes text)) }
+    ensures tells { IfOk result (λ text. (f : Setting) (s : State) → Covers f view.now s → TellsState f s (string_bytes text)) }
+{
+    let text = lines_of(alloc, view)?;
+    Ok(text)
+}
+
+/// The same, by what is printed.
+#[tactic(auto, using(crate::proofs::ViewLemmas::is_view_text))]
+fn lines_of(alloc: Global, view: &View) -> Result<String, AllocError>
+    ensures { IfOk result (λ text. IsViewText view.now (string_bytes text)) }
+{
+    let registers = registers_text(alloc, view)?;
+    let unset = unset_text(alloc, view)?;
+    let stack = stack_line(alloc, view)?;
+    let kept = kept_lines(alloc, view)?;
+    format!(in alloc; " {registers}{unset}{stack}{kept}")
+}
+
+/// The registers of which something is known.
+fn registers_text(alloc: Global, view: &View) -> Result<String, AllocError>
+    ensures { IfOk result (λ text. string_bytes text ≡ registers_below 11 view.now.registers) }
+{
+    let mut text = String::new(alloc);
+    for number in 0..11usize {
+        let told = register_text(alloc, number, &view.registers[number])?;
+        text.push_str(told.as_str())?;
+    }
+    Ok(text)
+}
+
+/// A register, if something is known of it.
+fn register_text(alloc: Global, number: usize, known: &Option<Known>) -> Result<String, AllocError>
+    ensures { IfOk result (λ text. string_bytes text ≡ register_text number known.now) }
+{
+    match known {
+        None => Ok(String::new(alloc)),
+        Some(known) => {
             let told = known_text(alloc, known)?;
-            write!(text, " r{number} {told}  ")?;
+            format!(in alloc; " r{number} {told}  ")
         }
     }
-    write_unset(view, text)?;
-    write_stack(view, text)?;
-    write_kept(alloc, &view.kept, text)
 }
 
 /// The registers of which nothing is known.
-fn write_unset(view: &View, text: &mut String) -> Result<(), AllocError> {
-    let mut some = false;
+fn unset_text(alloc: Global, view: &View) -> Result<String, AllocError> {
+    let mut text = String::new(alloc);
     for (number, known) in view.registers.iter().enumerate() {
         if known.is_none() {
             write!(text, " r{number}")?;
-            some = true;
         }
     }
-    if some {
+    if !text.is_empty() {
         text.push_str(" unset  ")?;
     }
-    Ok(())
+    Ok(text)
 }
 
-/// The bytes of the stack that are set, by their distance from its end.
-fn write_stack(view: &View, text: &mut String) -> Result<(), AllocError> {
-    text.push_str(" stack:")?;
-    let mut from: Option<usize> = None;
-    let mut some = false;
-    for (byte, set) in view.set.iter().enumerate() {
-        if *set {
-            if from.is_none() {
-                from = Some(byte);
-            }
-        } else if let Some(first) = from {
-            write_run(first, byte, text)?;
-            from = None;
-            some = true;
+/// The bytes of the stack that are set.
+fn stack_line(alloc: Global, view: &View) -> Result<String, AllocError>
+    ensures { IfOk result (λ text. IsStackText view.now.set (string_bytes text)) }
+{
+    let runs = runs_text(alloc, view)?;
+    if runs.is_empty() {
+        return String::from_str(alloc, " stack: nothing written\n");
+    }
+    format!(in alloc; " stack:{runs} written\n")
+}
+
+/// Each run of bytes that are set, by their distance from the stack's end.
+#[tactic(auto, using(crate::proofs::RunLemmas::none_yet))]
+fn runs_text(alloc: Global, view: &View) -> Result<String, AllocError>
+    ensures { IfOk result (λ text. AreRuns view.now.set (string_bytes text)) }
+{
+    let mut text = String::new(alloc);
+    for byte in 0..STACK {
+        let run = run_from(alloc, &view.set, byte)?;
+        text.push_str(run.as_str())?;
+    }
+    Ok(text)
+}
+
+/// The run that begins with that byte, if one does.
+#[tactic(auto, using(crate::proofs::RunLemmas::with_nothing, crate::proofs::RunLemmas::with_run))]
+fn run_from(alloc: Global, set: &[bool; 512], first: usize) -> Result<String, AllocError>
+    requires { first < 512 }
+    ensures { IfOk result (λ text. (before : List ℕ) → AreRuns set.now before → AreRuns set.now (before ++ string_bytes text)) }
+{
+    if !set[first] || (first > 0 && set[first - 1]) {
+        return Ok(String::new(alloc));
+    }
+    let past = run_end(set, first);
+    run_text(alloc, first, past)
+}
+
+/// The byte past the last of the run that the byte begins.
+fn run_end(set: &[bool; 512], first: usize) -> usize
+    requires inside { first < 512 }
+    requires begun { slice_index_or set.now first false ≡ true }
+    ensures some { first < result }
+    ensures most { result ≤ 512 }
+    ensures all { AreSet set.now first result }
+{
+    for byte in first + 1..STACK {
+        if !set[byte] {
+            return byte;
         }
     }
-    if let Some(first) = from {
-        write_run(first, STACK, text)?;
-        some = true;
-    }
-    if some {
-        text.push_str(" written\n")
-    } else {
-        text.push_str(" nothing written\n")
-    }
+    STACK
 }
 
 /// Bytes of the stack, from the first up to the one past the last.
-fn write_run(first: usize, past: usize, text: &mut String) -> Result<(), AllocError> {
-    let far = STACK.saturating_sub(first);
-    let near = STACK.saturating_sub(past).saturating_add(1);
+fn run_text(alloc: Global, first: usize, past: usize) -> Result<String, AllocError>
+    requires some { first < past }
+    requires inside { past ≤ 512 }
+    ensures { IfOk result (λ text. string_bytes text ≡ run_text first past) }
+{
+    let far = STACK - first;
+    let near = STACK + 1 - past;
     if far == near {
-        write!(text, " -{far}")?;
-    } else {
-        write!(text, " -{far}..-{near}")?;
+        return format!(in alloc; " -{far}");
     }
-    Ok(())
+    format!(in alloc; " -{far}..-{near}")
 }
 
-/// The words that are kept whole on the stack.
-fn write_kept(alloc: Global, kept: &[Option<Known>], text: &mut String) -> Result<(), AllocError> {
-    for (place, known) in kept.iter().enumerate() {
-        if let Some(known) = known {
+/// The words that are kept whole on the stack, a line for each.
+fn kept_lines(alloc: Global, view: &View) -> Result<String, AllocError>
+    ensures { IfOk result (λ text. string_bytes text ≡ kept_below 64 view.now.kept) }
+{
+    let mut text = String::new(alloc);
+    for slot in 0..64usize {
+        let told = kept_line(alloc, slot, &view.kept[slot])?;
+        text.push_str(told.as_str())?;
+    }
+    Ok(text)
+}
+
+/// The word that is kept in a slot of the stack, if one is known.
+fn kept_line(alloc: Global, slot: usize, known: &Option<Known>) -> Result<String, AllocError>
+    requires { slot < 64 }
+    ensures { IfOk result (λ text. string_bytes text ≡ kept_text slot known.now) }
+{
+    match known {
+        None => Ok(String::new(alloc)),
+        Some(known) => {
             let told = known_text(alloc, known)?;
-            let below = STACK.saturating_sub(place.saturating_mul(8));
-            write!(text, "  the 8 bytes at stack end - {below}: {told}\n")?;
+            let below = STACK - slot * 8;
+            format!(in alloc; "  the 8 bytes at stack end - {below}: {told}\n")
         }
     }
-    Ok(())
 }

@@ -117,7 +117,7 @@ fn refusals_say_what_helps(rt: HostRuntime) -> Result<(), Fail> {
 }
 
 /// Texts that do not assemble, and what is said of them.
-const COMPLAINED: [(&str, &str); 6] = [
+const COMPLAINED: [(&str, &str); 14] = [
     (
         "mov r0, 1\nexit\n",
         "line 1: unknown word \"mov\", did you mean \"mov64\"?\n",
@@ -142,6 +142,40 @@ const COMPLAINED: [(&str, &str); 6] = [
         "ja end\n",
         "line 1: \"ja end\" jumps to a label that is set nowhere",
     ),
+    // "stb" is one letter away, and the width is what is left out
+    (
+        "sub r1, 2\nexit\n",
+        "line 1: unknown word \"sub\", did you mean \"sub64\"?\n",
+    ),
+    // words are cut at tabs and commas too
+    (
+        "\tmov\tr0, 1\n\texit\n",
+        "line 1: unknown word \"mov\", did you mean \"mov64\"?\n",
+    ),
+    (
+        "call,lookup\nexit\n",
+        "line 1: \"call,lookup\" has other operands than call takes; write it as call 1; helpers go by their numbers",
+    ),
+    (
+        "ldxw r0, [r1\t+4]\nexit\n",
+        "line 1: [r1\t+4]: no blank inside brackets\n",
+    ),
+    (
+        "foreach\nexit\n",
+        "line 1: unknown word \"foreach\"; docs/ASSEMBLER.md has those that there are\n",
+    ),
+    (
+        "end: exit\n",
+        "line 1: \"end: exit\" has words after its label: a label stands alone on its line\n",
+    ),
+    (
+        "e:\ne: ; again\nexit\n",
+        "line 2: the label \"e:\" was set before; one of them wants another name\n",
+    ),
+    (
+        "mov64 r0, 5000000000\nexit\n",
+        "line 1: a number in \"mov64 r0, 5000000000\" is out of its range: numbers of instructions have 32 bits",
+    ),
 ];
 
 #[test]
@@ -151,6 +185,67 @@ fn complaints_name_what_is_wrong(rt: HostRuntime) -> Result<(), Fail> {
             Some(said) => assert!(rt; said.as_str().contains(told), "{text}: {said}"),
             None => return Err(Fail::from("nothing was said")),
         }
+    }
+    Ok(())
+}
+
+// The mask that is too wide, told whole. Register 2 is any word of 32 bits, then at most 31, then at most 4 * 31; that is added to the
+// context's address, and 40 + 124 + 4 is above the 104 bytes that there are.
+const WHOLE: &str = "refused L8 V5 4
+line 6, slot 4:  ldxw r0, [r1+40]
+  reads 4 bytes at context + 40..164; the context of place, version 1, has 104 bytes
+  r1 context + 0..124   r2 0..124   r10 stack end   r0 r3 r4 r5 r6 r7 r8 r9 unset   stack: nothing written
+  made at line 2, slot 0:  ldxw r2, [r1+0]    r2 then is 0..4294967295
+  made at line 3, slot 1:  and64 r2, 31    r2 then is 0..31
+  made at line 4, slot 2:  lsh64 r2, 2    r2 then is 0..124
+  made at line 5, slot 3:  add64 r1, r2    r1 then is context + 0..124
+  helps: a smaller mask or a test (jgt64) before the address is made, or format 2, whose context has 296 bytes; docs/CONTEXTS.md has the fields
+";
+
+#[test]
+fn a_refusal_is_told_whole(rt: HostRuntime) -> Result<(), Fail> {
+    let text =
+        ";@ hook place\nldxw r2, [r1+0]\nand64 r2, 31\nlsh64 r2, 2\nadd64 r1, r2\nldxw r0, [r1+40]\nexit\n";
+    let Ok(policy) = read_policy(rt.alloc(), text.as_bytes(), &Head::nothing()) else {
+        return Err(Fail::from("the text is no policy"));
+    };
+    let said = explain(rt.alloc(), &policy, &Limits::none())?;
+    assert_eq!(rt; said.text.as_str(), WHOLE);
+    Ok(())
+}
+
+/// Policies that are refused at their `ldxdw r0, [r7+0]`, and the lines on registers and stack there. The bytes of the stack are those that were
+/// stored, counted from its end; the word in them is kept where eight were stored at a multiple of 8.
+const KNOWN: [(&str, &str); 3] = [
+    // the 8 bytes below the end, and 2 apart from them
+    (
+        ";@ hook preempt\nmov64 r6, 7\nstxdw [r10-8], r6\nsth [r10-16], 1\nldxdw r0, [r7+0]\nexit\n",
+        "  r1 context   r6 7   r10 stack end   r0 r2 r3 r4 r5 r7 r8 r9 unset   stack: -16..-15 -8..-1 written\n  the 8 bytes at stack end - 8: 7\n",
+    ),
+    // one byte; a pointer 24 bytes below the end, and one beyond the context's begin; a word of which nothing is known
+    (
+        ";@ hook preempt\nstb [r10-1], 1\nmov64 r2, r10\nadd64 r2, -24\nmov64 r3, r1\nsub64 r3, 8\nldxdw r4, [r1+0]\nldxdw r0, [r7+0]\nexit\n",
+        "  r1 context   r2 stack end - 24   r3 context - 8   r4 any number   r10 stack end   r0 r5 r6 r7 r8 r9 unset   stack: -1 written\n",
+    ),
+    // the answer of a look-up, before its test and after it; the call leaves registers 1 to 5 unset
+    (
+        ";@ hook preempt\n;@ maps 16:2\nstw [r10-4], 0\nldmap r1, 0\nmov64 r2, r10\nadd64 r2, -4\ncall 1\nmov64 r6, r0\nldxdw r0, [r7+0]\nexit\n",
+        "  r0 entry of map 0 or 0, not compared   r6 entry of map 0 or 0, not compared   r10 stack end   r1 r2 r3 r4 r5 r7 r8 r9 unset   stack: -4..-1 written\n",
+    ),
+];
+
+#[test]
+fn the_state_is_told(rt: HostRuntime) -> Result<(), Fail> {
+    for (text, told) in KNOWN {
+        let Ok(policy) = read_policy(rt.alloc(), text.as_bytes(), &Head::nothing()) else {
+            return Err(Fail::from("the text is no policy"));
+        };
+        let said = explain(rt.alloc(), &policy, &Limits::none())?;
+        match &said.known {
+            Some(known) => assert!(rt; known.as_str() == told, "{text}: {known}"),
+            None => return Err(Fail::from("nothing is told of the state")),
+        }
+        assert!(rt; said.text.as_str().contains(told));
     }
     Ok(())
 }

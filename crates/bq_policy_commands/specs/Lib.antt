@@ -1,4 +1,5 @@
 pub mod Checking
+pub mod Complaining
 pub mod Disagreeing
 pub mod Limiting
 pub mod Listing

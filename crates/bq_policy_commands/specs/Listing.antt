@@ -1,5 +1,5 @@
 -- What `dis` answers to a policy's file.
-use Rattle.std.specs.Prelude.{◌≡◌, ℕ, Bool, false, List, [], ◌++◌, ◌⊎◌, String, codes, flat_map, string_bytes}
+use Rattle.std.specs.Prelude.{◌≡◌, ℕ, Bool, false, List, [], ◌∷◌, ◌++◌, ◌⊎◌, String, codes, flat_map, string_bytes}
 use Rattle.std.specs.declared.alloc.Global.{Global}
 use Rattle.std.specs.Fmt.{decimal}
 use Rattle.bq_asm.specs.Text.{listing_text}
@@ -24,14 +24,19 @@ shape_text s = decimal s.value_size ++ (codes ":" ++ decimal s.entries)
 abbrev pub more_maps : List MapShape → List ℕ
 more_maps shapes = flat_map (λ s. codes "," ++ shape_text s) shapes
 
+-- the line that says the maps, if there are some
+abbrev pub maps_mark : List MapShape → List ℕ
+maps_mark [] = []
+maps_mark (first ∷ rest) = codes ";@ maps " ++ (decimal first.value_size ++ (codes ":" ++ (decimal first.entries ++ (more_maps rest ++ codes "\n"))))
+
 -- the line that says the version, if it is not the first
 abbrev pub format_mark : Version → List ℕ
 format_mark First = []
 format_mark Second = codes ";@ format 2\n"
 
--- the lines that say what a policy is: its hook, its maps, and its version if it is not the first
+-- the lines that say what a policy is: its hook, its maps if there are some, and its version if it is not the first
 abbrev pub AreMarks : Policy → List ℕ → Type 0
-AreMarks p text = (maps : List ℕ) × (text ≡ codes ";@ hook " ++ (hook_word p.hook ++ (codes "\n" ++ (maps ++ format_mark p.version))))
+AreMarks p text = text ≡ codes ";@ hook " ++ (hook_word p.hook ++ (codes "\n" ++ (maps_mark p.shapes.items ++ format_mark p.version)))
 
 -- the marks and then the listing; beside it slots and bytes may stand
 pub record IsListed (p : Policy) (has_slots : Bool) (text : List ℕ) : Type 0 where

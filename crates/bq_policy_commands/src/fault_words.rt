@@ -5,6 +5,7 @@ ghost use Rattle.bq_policy_files.specs.Marks.{key_word};
 ghost use Rattle.bq_policy_files.specs.declared.fault.PolicyFault.TheVariants.{OutOfMemory};
 
 use crate::image_words::{image_words, spelling_words};
+use crate::maps_words::maps_words;
 use bq_asm::Cause;
 use bq_complaints::complaint;
 use bq_load::LoadFault;
@@ -47,10 +48,7 @@ pub fn fault_reason(alloc: Global, bytes: &[u8], fault: PolicyFault) -> Result<S
     match fault {
         PolicyFault::Text => String::from_str(alloc, "the file is no UTF-8 text"),
         PolicyFault::Hex => String::from_str(alloc, "the file begins as hex does, and is none"),
-        PolicyFault::Head { line, cause } => {
-            let why = head_words(cause);
-            format!(in alloc; "line {line}: {why}")
-        }
+        PolicyFault::Head { line, cause } => head_reason(alloc, bytes, line, cause),
         PolicyFault::Assembly { line, cause } => assembly_reason(alloc, bytes, line, cause),
         PolicyFault::Image(fault) => String::from_str(alloc, image_words(fault)),
         PolicyFault::Program { slot, cause } => {
@@ -83,6 +81,30 @@ fn assembly_reason(
             format!(in alloc; "line {line}: the assembler refuses it by A{number}")
         }
     }
+}
+
+/// What is wrong with a line that begins with `;@`.
+fn head_reason(
+    alloc: Global,
+    bytes: &[u8],
+    line: usize,
+    cause: HeadCause,
+) -> Result<String, AllocError> {
+    if cause == HeadCause::Value(Key::Maps) {
+        if let Some(maps) = last_word(bytes, line) {
+            let why = maps_words(alloc, maps)?;
+            return format!(in alloc; "line {line}: maps: {why}");
+        }
+    }
+    let why = head_words(cause);
+    format!(in alloc; "line {line}: {why}")
+}
+
+/// The last word of the line of that number, counted from 1.
+fn last_word(bytes: &[u8], number: usize) -> Option<&str> {
+    let text = std::str::from_utf8(bytes).ok()?;
+    let line = text.lines().nth(number.checked_sub(1)?)?;
+    line.split_whitespace().last()
 }
 
 fn key_word(key: Key) -> &'static str

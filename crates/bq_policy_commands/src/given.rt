@@ -4,6 +4,7 @@ ghost use Rattle.bq_policy_commands.specs.Saying.{IsHeadWord, SaysHead, option_b
 ghost use Rattle.bq_policy_files.specs.Heads.{Names};
 ghost use Rattle.bq_verify.specs.Names.{hook_of, version_of};
 
+use crate::asm_options::maps_option_words;
 use crate::words::PolicyWords;
 use bq_load::{Hook, Version};
 use bq_maps::shape::MapShape;
@@ -89,18 +90,6 @@ fn maps_in(alloc: Global, text: &Option<String>) -> Result<Option<Vec<MapShape>>
     };
     match shapes_of(alloc, text.as_bytes())? {
         Some(shapes) => Ok(Some(shapes)),
-        None => Err(words_fault(maps_fault(alloc, text.as_str()))),
+        None => Err(words_fault(maps_option_words(alloc, text.as_str()))),
     }
-}
-
-/// What is wrong with a text of maps: the part of it that names none, or that there are too many.
-fn maps_fault(alloc: Global, text: &str) -> Result<String, AllocError> {
-    for part in text.split(',') {
-        if shapes_of(alloc, part.as_bytes())?.is_none() {
-            return format!(in alloc;
-                "--maps {text}: the map {part}: a map is its value size, 8 to 256 in eights, a colon, and its entries, 1 to 256, as 8:2"
-            );
-        }
-    }
-    format!(in alloc; "--maps {text}: a policy has 8 maps at most")
 }

@@ -6,6 +6,7 @@
 
 mod answered;
 mod asm_head;
+mod asm_options;
 mod checking;
 mod fault_words;
 mod given;
@@ -13,6 +14,7 @@ mod image_words;
 mod json_text;
 mod limits;
 mod listing;
+mod maps_words;
 mod named;
 mod naming;
 mod policy_marks;
@@ -25,6 +27,7 @@ mod words;
 
 pub use answered::Answered;
 pub use asm_head::{AsmRefusal, asm_refusal};
+pub use asm_options::options_complaint;
 pub use checking::check;
 pub use fault_words::{fault_line, fault_reason};
 pub use given::{WordsFault, said_by};

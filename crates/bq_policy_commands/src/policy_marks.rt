@@ -1,6 +1,6 @@
 //! The marks that say what a policy is.
 ghost use Rattle.std.specs.Prelude.{◌≡◌, IfOk, string_bytes};
-ghost use Rattle.bq_policy_commands.specs.Listing.{AreMarks, format_mark, more_maps};
+ghost use Rattle.bq_policy_commands.specs.Listing.{AreMarks, format_mark, maps_mark, more_maps};
 
 use bq_load::Version;
 use bq_maps::shape::MapShape;
@@ -18,7 +18,9 @@ pub fn marks(alloc: Global, policy: &Policy) -> Result<String, AllocError>
 }
 
 /// The line that says the maps, if there are some.
-fn maps_mark(alloc: Global, shapes: &[MapShape]) -> Result<String, AllocError> {
+fn maps_mark(alloc: Global, shapes: &[MapShape]) -> Result<String, AllocError>
+    ensures { IfOk result (λ text. string_bytes text ≡ maps_mark shapes.now) }
+{
     match shapes {
         [] => Ok(String::new(alloc)),
         [first, rest @ ..] => {

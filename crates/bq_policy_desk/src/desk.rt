@@ -1,11 +1,10 @@
 //! What is done for a request: its file read, its answer written.
 use crate::asking::Asked;
 use crate::request::PolicyRequest;
-use crate::status::{OUT_OF_MEMORY, UNREADABLE, exit_status};
-use bq_policy_commands::{Answered, PolicyWords, check, list, run};
+use crate::status::exit_status;
+use bq_policy_commands::{Answered, check, list, run};
+use bq_streams::{say_out_of_memory, whole_input, written};
 use std::alloc::{AllocError, Global};
-use std::fs;
-use std::io::{Error, ErrorKind, IsTerminal, Read, Write};
 use std::process::ExitCode;
 use std::time::Clock;
 
@@ -20,12 +19,12 @@ pub fn do_policy(rt: &HostRuntime, request: &PolicyRequest) -> ExitCode {
             return ExitCode::from(2);
         }
     };
-    let bytes = match policy_bytes(rt, words) {
+    let bytes = match whole_input(rt, &words.file) {
         Ok(bytes) => bytes,
         Err(code) => return code,
     };
     let answer = answer(rt.alloc(), rt, &request.asked, bytes.as_slice());
-    written(rt, &answer)
+    told(rt, &answer)
 }
 
 /// The answer to the bytes of a policy's file; the clock tells how long runs take.
@@ -43,56 +42,16 @@ fn answer<C: Clock>(
     }
 }
 
-/// The bytes of the file that the words name, or of standard input.
-fn policy_bytes(rt: &HostRuntime, words: &PolicyWords) -> Result<Vec<u8>, ExitCode> {
-    match &words.file {
-        Some(path) if path.as_str() != "-" => {
-            let path = path.as_str();
-            fs::read(rt, path).map_err(|error| unread(rt, path, &error))
-        }
-        _ => input_bytes(rt),
-    }
-}
-
-/// All bytes of standard input. On a terminal it says that it waits.
-fn input_bytes(rt: &HostRuntime) -> Result<Vec<u8>, ExitCode> {
-    let mut input = rt.stdin();
-    if input.is_terminal() {
-        let _ = eprintln!(rt; "bqsim: waiting for standard input; Ctrl-D ends it");
-    }
-    let mut bytes = Vec::new(rt.alloc());
-    match input.read_to_end(&mut bytes) {
-        Ok(_) => Ok(bytes),
-        Err(error) => Err(unread(rt, "standard input", &error)),
-    }
-}
-
-/// Says why a read failed.
-fn unread(rt: &HostRuntime, name: &str, error: &Error) -> ExitCode {
-    if error.kind() == ErrorKind::OutOfMemory {
-        let _ = eprintln!(rt; "bqsim: out of memory");
-        return ExitCode::from(OUT_OF_MEMORY);
-    }
-    let _ = eprintln!(rt; "bqsim: {name}: {error}");
-    ExitCode::from(UNREADABLE)
-}
-
 /// Writes the answer: on standard output what was done and what is refused, on standard error what is wrong with the words.
-fn written(rt: &HostRuntime, answer: &Result<Answered, AllocError>) -> ExitCode {
+fn told(rt: &HostRuntime, answer: &Result<Answered, AllocError>) -> ExitCode {
     match answer {
         Ok(Answered::Done(text) | Answered::Refused(text)) => {
-            let mut output = rt.stdout();
-            if output.write_all(text.as_bytes()).is_err() {
-                let _ = eprintln!(rt; "bqsim: a write failed");
-                return ExitCode::from(UNREADABLE);
-            }
+            written(rt, text.as_str(), ExitCode::from(exit_status(answer)))
         }
         Ok(Answered::Words(why)) => {
             let _ = eprintln!(rt; "error: {why}");
+            ExitCode::from(exit_status(answer))
         }
-        Err(_) => {
-            let _ = eprintln!(rt; "bqsim: out of memory");
-        }
+        Err(_) => say_out_of_memory(rt),
     }
-    ExitCode::from(exit_status(answer))
 }

@@ -3,13 +3,8 @@ ghost use Rattle.std.specs.Prelude.{◌≡◌};
 ghost use Rattle.bq_policy_desk.specs.Status.{status_of};
 
 use bq_policy_commands::Answered;
+use bq_streams::OUT_OF_MEMORY;
 use std::alloc::AllocError;
-
-/// The exit status where memory was wanted.
-pub(crate) const OUT_OF_MEMORY: u8 = 3;
-
-/// The exit status where a file can't be read, or the answer not be written.
-pub(crate) const UNREADABLE: u8 = 4;
 
 /// The exit status of an answer: 0 where it is done, 1 where the policy is refused, 2 where the words are, 3 where memory was wanted.
 pub fn exit_status(answer: &Result<Answered, AllocError>) -> u8

@@ -1,8 +1,10 @@
 // Files, words and answers. The numbers were counted by hand.
 
 use bq_policy_commands::{
-    Answered, CheckWords, ListWords, PolicyWords, RunWords, TellingWords, check, list, run,
+    Answered, CheckWords, ListWords, PolicyWords, RunWords, TellingWords, check, list,
+    options_complaint, run,
 };
+use bq_program::{Hook, Options, Version};
 use std::alloc::{AllocError, Global};
 use std::cell::Cell;
 use std::io;
@@ -72,7 +74,7 @@ fn told(alloc: Global, answer: Answered) -> Result<String, AllocError> {
 }
 
 /// The policy, the words for hook, limit of steps, helpers, a letter for the form, and what is told.
-const CHECKED: [(&str, &str, &str, &str, &str, &str); 11] = [
+const CHECKED: [(&str, &str, &str, &str, &str, &str); 12] = [
     (KEEP_HOME, "", "", "", "", "D accepted place budget 2\n"),
     (
         KEEP_HOME,
@@ -133,7 +135,151 @@ const CHECKED: [(&str, &str, &str, &str, &str, &str); 11] = [
         "e",
         "R refused L8 V5 1\np.s line 3, slot 1:  ldxw r0, [r1+56]\n",
     ),
+    (
+        ";@ hook preempt\n;@ maps 8:2,7:2\nexit\n",
+        "",
+        "",
+        "",
+        "e",
+        "R refused head 2\np.s line 2: maps: part 2 \"7:2\": the size of a value is 8 to 256, a multiple of 8 (got 7)\n",
+    ),
 ];
+
+/// Texts of `--maps`, and what is wrong with them. A value has 8 to 256 bytes in eights, a map 1 to 256 entries, a program 8 maps at most.
+const MAPS: [(&str, &str); 15] = [
+    (
+        "7:2",
+        "--maps: part 1 \"7:2\": the size of a value is 8 to 256, a multiple of 8 (got 7)",
+    ),
+    (
+        "8:2,264:1",
+        "--maps: part 2 \"264:1\": the size of a value is 8 to 256, a multiple of 8 (got 264)",
+    ),
+    (
+        "8:2,16:4,12:1",
+        "--maps: part 3 \"12:1\": the size of a value is 8 to 256, a multiple of 8 (got 12)",
+    ),
+    (
+        "0:1",
+        "--maps: part 1 \"0:1\": the size of a value is 8 to 256, a multiple of 8 (got 0)",
+    ),
+    // 65544 is 8 and 2^16
+    (
+        "65544:1",
+        "--maps: part 1 \"65544:1\": the size of a value is 8 to 256, a multiple of 8 (got 65544)",
+    ),
+    (
+        "+8:1",
+        "--maps: part 1 \"+8:1\": the size of a value is 8 to 256, a multiple of 8 (got +8)",
+    ),
+    (
+        ":2",
+        "--maps: part 1 \":2\": the size of a value is 8 to 256, a multiple of 8 (got nothing)",
+    ),
+    (
+        "8:0",
+        "--maps: part 1 \"8:0\": the number of entries is 1 to 256 (got 0)",
+    ),
+    (
+        "8:257",
+        "--maps: part 1 \"8:257\": the number of entries is 1 to 256 (got 257)",
+    ),
+    (
+        "8:",
+        "--maps: part 1 \"8:\": the number of entries is 1 to 256 (got nothing)",
+    ),
+    (
+        "8",
+        "--maps: part 1 \"8\": a map is the size of a value, a colon and the number of entries, as 8:2",
+    ),
+    (
+        "8:2:4",
+        "--maps: part 1 \"8:2:4\": a map is the size of a value, a colon and the number of entries, as 8:2",
+    ),
+    (
+        "8:2,,8:2",
+        "--maps: part 2 is empty: a map is the size of a value, a colon and the number of entries, as 8:2",
+    ),
+    (
+        "",
+        "--maps: part 1 is empty: a map is the size of a value, a colon and the number of entries, as 8:2",
+    ),
+    (
+        "8:1,8:1,8:1,8:1,8:1,8:1,8:1,8:1,8:1",
+        "--maps: 9 maps; a program has 8 at most",
+    ),
+];
+
+#[test]
+fn maps_are_judged_part_by_part(rt: HostRuntime) -> Result<(), Fail> {
+    let alloc = rt.alloc();
+    for (maps, wanted) in MAPS {
+        let options = Options {
+            hook: Some(Hook::Place),
+            maps: Some(String::from_str(alloc, maps)?),
+            format: None,
+        };
+        match options_complaint(alloc, &options)? {
+            Some(why) => assert_eq!(rt; why.as_str(), wanted),
+            None => return Err(Fail::from("nothing was said")),
+        }
+        let mut policy = policy_words(alloc, "p.s", "")?;
+        policy.maps = Some(String::from_str(alloc, maps)?);
+        let words = CheckWords {
+            policy,
+            is_explained: false,
+            is_json: false,
+            max_steps: None,
+            helpers: None,
+        };
+        match check(alloc, &words, KEEP_HOME.as_bytes())? {
+            Answered::Words(why) => assert_eq!(rt; why.as_str(), wanted),
+            _ => return Err(Fail::from("the words were taken")),
+        }
+    }
+    Ok(())
+}
+
+/// The options of `asm` without a hook, and what is wrong with them.
+#[test]
+fn options_without_a_hook_are_told(rt: HostRuntime) -> Result<(), Fail> {
+    let alloc = rt.alloc();
+    let cases = [
+        (
+            true,
+            None,
+            "--maps: only an image has maps; say its hook too, as --hook place",
+        ),
+        (
+            false,
+            Some(Version::Second),
+            "--format: only an image has a version; say its hook too, as --hook place",
+        ),
+    ];
+    for (has_maps, format, wanted) in cases {
+        let maps = if has_maps {
+            Some(String::from_str(alloc, "8:2")?)
+        } else {
+            None
+        };
+        let options = Options {
+            hook: None,
+            maps,
+            format,
+        };
+        match options_complaint(alloc, &options)? {
+            Some(why) => assert_eq!(rt; why.as_str(), wanted),
+            None => return Err(Fail::from("nothing was said")),
+        }
+    }
+    let nothing = Options {
+        hook: None,
+        maps: None,
+        format: None,
+    };
+    assert!(rt; options_complaint(alloc, &nothing)?.is_none());
+    Ok(())
+}
 
 #[test]
 fn checks_say_what_is_wrong(rt: HostRuntime) -> Result<(), Fail> {

@@ -1,6 +1,7 @@
 //! Does what its words ask, from standard input or a file to standard output.
 #![tactic(auto)]
 
+mod faults;
 mod import;
 mod inputs;
 mod jobs;

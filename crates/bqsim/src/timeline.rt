@@ -1,9 +1,11 @@
 //! `bqsim timeline`.
 
-use crate::inputs::{file_named, unread};
+use crate::faults::{Streams, say_fault};
+use crate::inputs::file_named;
 use crate::outputs::out_of_memory;
 use bq_cli::status::REFUSED;
 use bq_cli::{Counted, exit_status};
+use bq_streams::{Kept, say_unread};
 use bq_timeline::{Settings, SettingsFault, Words, show};
 use std::fs;
 use std::io::Read;
@@ -21,17 +23,22 @@ pub(crate) fn timeline(rt: &HostRuntime, words: &Words) -> ExitCode {
     };
     match file_named(&words.file) {
         Some(path) => match fs::open(rt, path) {
-            Ok(file) => show_from(rt, settings, file),
-            Err(error) => unread(rt, path, &error),
+            Ok(file) => show_from(rt, settings, Some(path), file),
+            Err(error) => say_unread(rt, Some(path), &error),
         },
-        None => show_from(rt, settings, rt.stdin()),
+        None => show_from(rt, settings, None, rt.stdin()),
     }
 }
 
-/// Shows the timeline of what is read.
-fn show_from<R: Read + Drop>(rt: &HostRuntime, settings: Settings, reader: R) -> ExitCode {
-    let mut input = Counted::new(reader);
-    let mut output = Counted::new(rt.stdout());
+/// Shows the timeline of what is read from the file of that name, or from standard input.
+fn show_from<R: Read + Drop>(
+    rt: &HostRuntime,
+    settings: Settings,
+    name: Option<&str>,
+    reader: R,
+) -> ExitCode {
+    let mut input = Counted::new(Kept::new(reader));
+    let mut output = Counted::new(Kept::new(rt.stdout()));
     let outcome = match show(rt.alloc(), settings, &mut input, &mut output) {
         Ok(outcome) => {
             let notes = outcome.notes;
@@ -39,7 +46,12 @@ fn show_from<R: Read + Drop>(rt: &HostRuntime, settings: Settings, reader: R) ->
             Ok(outcome.clean)
         }
         Err(fault) => {
-            let _ = eprintln!(rt; "bqsim: {fault}");
+            let streams = Streams {
+                name,
+                read: input.into_inner().failure(),
+                written: output.into_inner().failure(),
+            };
+            say_fault(rt, fault, &streams);
             Err(fault)
         }
     };

@@ -7,10 +7,10 @@ pub returns-then-words : goal.returns-then-words
 returns-then-words c =
     let e = c.in_ok-explained.ensures in
     record {
-      verdict = e.0;
-      is_verdict = e.1;
+      verdict = e.verdict;
+      is_verdict = e.is_verdict;
       text = c.in_ok-text-2.text;
-      is = c.answered.ensures ∙ ap (λ accepted. answered accepted c.in_ok-text-2.text) e.2;
+      is = c.answered.ensures ∙ ap (λ accepted. answered accepted c.in_ok-text-2.text) e.accepted;
       told = λ plain bare. elim c.then-words.branch [
         | then-words-via-then-words w ↦ let set : c.args.words.now.is_explained ≡ true = w.if-words.true in absurd (cc)
         | then-words-via-else-words+then-words-2 w ↦ let set : c.args.words.now.is_json ≡ true = w.if-words-2.true in absurd (cc)

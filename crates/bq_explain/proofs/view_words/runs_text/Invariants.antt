@@ -1,0 +1,6 @@
+use Rattle.std.specs.String.{string_bytes}
+use Rattle.bq_explain.specs.Texts.{AreRuns}
+use Rattle.bq_explain.proofs.view_words.runs_text.Given as goal
+
+abbrev pub invariant-loop-byte : goal.invariant-loop-byte
+invariant-loop-byte l = AreRuns l.view.set (string_bytes l.text)

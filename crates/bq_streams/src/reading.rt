@@ -1,0 +1,48 @@
+//! What commands read whole: a file, or standard input.
+use crate::saying::say_unread;
+use std::fs;
+use std::io::{IsTerminal, Read};
+use std::process::ExitCode;
+
+/// The file that is named, unless it is `-`, which stands for standard input.
+pub fn file_named(file: &Option<String>) -> Option<&str> {
+    match file {
+        Some(path) if path.as_str() != "-" => Some(path.as_str()),
+        _ => None,
+    }
+}
+
+/// What messages about its contents call the file that is named.
+pub fn name_of(file: &Option<String>) -> &str {
+    match file_named(file) {
+        Some(path) => path,
+        None => "standard input",
+    }
+}
+
+/// All bytes of the file that is named, or of standard input. Where they can't be read, standard error says why, and the error
+/// is the exit status.
+pub fn whole_input(rt: &HostRuntime, file: &Option<String>) -> Result<Vec<u8>, ExitCode> {
+    match file_named(file) {
+        Some(path) => whole_file(rt, path),
+        None => standard_input(rt),
+    }
+}
+
+/// All bytes of a file.
+pub fn whole_file(rt: &HostRuntime, path: &str) -> Result<Vec<u8>, ExitCode> {
+    fs::read(rt, path).map_err(|error| say_unread(rt, Some(path), &error))
+}
+
+/// All bytes of standard input. On a terminal it says that it waits.
+pub fn standard_input(rt: &HostRuntime) -> Result<Vec<u8>, ExitCode> {
+    let mut input = rt.stdin();
+    if input.is_terminal() {
+        let _ = eprintln!(rt; "bqsim: waiting for standard input; Ctrl-D ends it");
+    }
+    let mut bytes = Vec::new(rt.alloc());
+    match input.read_to_end(&mut bytes) {
+        Ok(_) => Ok(bytes),
+        Err(error) => Err(say_unread(rt, None, &error)),
+    }
+}

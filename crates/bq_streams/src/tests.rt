@@ -1,0 +1,78 @@
+// What is said of errors: the system's words for them are those of errno's manual.
+
+use crate::kept::Kept;
+use crate::reasons::reason;
+use std::io;
+use std::io::{Error, Read, Write};
+use std::test::Fail;
+
+#[test]
+fn reasons_are_the_systems_words(rt: HostRuntime) -> Result<(), Fail> {
+    let cases = [
+        (Error::from_raw_os_error(2), "no such file or directory"),
+        (Error::from_raw_os_error(5), "input/output error"),
+        (Error::from_raw_os_error(13), "permission denied"),
+        (Error::from_raw_os_error(21), "is a directory"),
+        (Error::from_raw_os_error(28), "no space left on device"),
+        (Error::other("Nothing is there"), "nothing is there"),
+        (Error::other(""), ""),
+    ];
+    for (error, words) in &cases {
+        let why = reason(rt.alloc(), error)?;
+        assert_eq!(rt; why.as_str(), *words);
+    }
+    Ok(())
+}
+
+/// Gives one byte, then fails as a directory does, then gives bytes again; takes nothing of what is written.
+#[derive(Drop)]
+struct Failing {
+    calls: u8,
+}
+
+impl Read for Failing {
+    fn read(&mut self, buf: &mut [u8]) -> io::Result<usize> {
+        self.calls = self.calls.saturating_add(1);
+        if self.calls == 2 {
+            return Err(Error::from_raw_os_error(21));
+        }
+        match buf {
+            [] => Ok(0),
+            [first, ..] => {
+                *first = b'x';
+                Ok(1)
+            }
+        }
+    }
+}
+
+impl Write for Failing {
+    fn write(&mut self, _buf: &[u8]) -> io::Result<usize> {
+        Err(Error::from_raw_os_error(28))
+    }
+
+    fn flush(&mut self) -> io::Result<()> {
+        Ok(())
+    }
+}
+
+#[test]
+fn failures_are_kept(rt: HostRuntime) -> Result<(), Fail> {
+    let mut kept = Kept::new(Failing { calls: 0 });
+    let mut buf = [0u8; 4];
+    assert!(rt; kept.read(&mut buf).is_ok());
+    assert!(rt; kept.failure().is_none());
+    assert!(rt; kept.read(&mut buf).is_err());
+    assert!(rt; kept.read(&mut buf).is_ok());
+    assert_eq!(rt; code(kept.failure()), Some(21));
+    assert!(rt; kept.write(b"y").is_err());
+    assert_eq!(rt; code(kept.failure()), Some(28));
+    Ok(())
+}
+
+fn code(error: Option<Error>) -> Option<i32> {
+    match error {
+        Some(error) => error.raw_os_error(),
+        None => None,
+    }
+}
