@@ -49,12 +49,12 @@ impl<Q: RunQueue + Drop, K: Clock + Drop, N: Naming + Counting, const P: usize> 
             return Err(Refusal::SameProcessor);
         }
         let slip = room(alloc)?;
-        let rooms = call_rooms(alloc)?;
+        call_rooms(alloc, &mut seat.rooms)?;
         let now = self.clock.now(processor);
         if processor < from {
-            return Ok(self.pull_upward(rt, &mut seat.working, processor, from, now, slip, rooms));
+            return Ok(self.pull_upward(rt, &mut seat.working, processor, from, now, slip, &mut seat.rooms));
         }
-        Ok(self.pull_downward(rt, &mut seat.working, processor, from, now, slip, rooms))
+        Ok(self.pull_downward(rt, &mut seat.working, processor, from, now, slip, &mut seat.rooms))
     }
 
     /// Locks the puller first, whose number is the lesser.
@@ -66,7 +66,7 @@ impl<Q: RunQueue + Drop, K: Clock + Drop, N: Naming + Counting, const P: usize> 
         from: u8,
         now: u64,
         slip: Slip<Record>,
-        rooms: CallRooms,
+        rooms: &mut Option<CallRooms>,
     ) -> Receipt<Record>
         requires tally { working.old.tally ≡ account_of told_calls working.old.caller.1 }
         requires inside { processor < P }
@@ -83,7 +83,7 @@ impl<Q: RunQueue + Drop, K: Clock + Drop, N: Naming + Counting, const P: usize> 
         let source = &mut *source_guard;
         need_own(rt, source.cell.content.number, from);
         self.recorder
-            .pull(rt, working, place, source, now, slip, rooms)
+            .pull(rt, working, place, source, now, slip, &mut seat.rooms)
     }
 
     /// Locks the source first, whose number is the lesser.
@@ -95,7 +95,7 @@ impl<Q: RunQueue + Drop, K: Clock + Drop, N: Naming + Counting, const P: usize> 
         from: u8,
         now: u64,
         slip: Slip<Record>,
-        rooms: CallRooms,
+        rooms: &mut Option<CallRooms>,
     ) -> Receipt<Record>
         requires tally { working.old.tally ≡ account_of told_calls working.old.caller.1 }
         requires inside { processor < P }
@@ -112,6 +112,6 @@ impl<Q: RunQueue + Drop, K: Clock + Drop, N: Naming + Counting, const P: usize> 
         let place = &mut *guard;
         need_own(rt, place.cell.content.number, processor);
         self.recorder
-            .pull(rt, working, place, source, now, slip, rooms)
+            .pull(rt, working, place, source, now, slip, &mut seat.rooms)
     }
 }

@@ -64,10 +64,11 @@ pub fn finish<Q: RunQueue + Drop, K: Clock + Drop, N: Naming + Counting, const P
         return Err(AllocError);
     }
     let closed = machine.close(seats);
+    let records = closed.history.in_order(alloc)?;
     Ok(Summary {
         events: closed.len(),
-        ticks: ticks_among(&closed),
-        confirmed: confirmed_among(&closed, &lists),
+        ticks: ticks_among(&records),
+        confirmed: confirmed_among(&records, &lists),
     })
 }
 
@@ -94,60 +95,59 @@ fn returned<N: Naming + Counting>(
     Ok(ReturnedSeats { seats, lists })
 }
 
-/// How many events of a history are ticks.
-fn ticks_among<Q: RunQueue + Drop, const P: usize>(closed: &Closed<Q, P>) -> u64
-    ensures { result ≡ ticks_in closed.now.history }
+/// How many of the records are of ticks.
+fn ticks_among(records: &[&Record]) -> u64
+    ensures { result ≡ ticks_in (map (λ r. r.now) records.now) }
 {
     let mut ticks = 0;
-    for place in 0..closed.len() {
-        ticks += ticks_at(closed, place);
+    for record in records {
+        ticks += ticks_of_one(record);
     }
     ticks
 }
 
-/// How many ticks a history has at a place: 1 or 0.
-fn ticks_at<Q: RunQueue + Drop, const P: usize>(closed: &Closed<Q, P>, place: u64) -> u64
-    ensures is { result ≡ told one_tick (slice_get closed.now.history place) }
+/// How many ticks a record tells: 1 or 0.
+fn ticks_of_one(record: &Record) -> u64
+    ensures is { result ≡ one_tick record.now }
     ensures few { result ≤ 1 }
 {
-    match closed.history.logged(place) {
-        Some(
-            Record {
-                event: Event::Tick { .. },
-                ..
-            },
-        ) => 1,
+    match record.event {
+        Event::Tick { .. } => 1,
         _ => 0,
     }
 }
 
-/// How many receipts of all lists stand in a history at their places.
-fn confirmed_among<Q: RunQueue + Drop, const P: usize>(
-    closed: &Closed<Q, P>,
-    lists: &[Vec<Receipt<Record>>],
-) -> u64
-    requires stand { All (λ l. All (Stands closed.now.history) l.items) lists.now }
+/// How many receipts of all lists stand among the records at their places.
+fn confirmed_among(records: &[&Record], lists: &[Vec<Receipt<Record>>]) -> u64
+    requires stand { All (λ l. All (Stands (map (λ r. r.now) records.now)) l.items) lists.now }
     requires few { sum_by (λ l. length l.items) lists.now < 2 ^ 64 }
     ensures { result ≡ sum_by (λ l. length l.items) lists.now }
 {
     let mut confirmed = 0;
     for list in lists {
-        confirmed += confirmed_in(closed, list);
+        confirmed += confirmed_in(records, list);
     }
     confirmed
 }
 
 /// How many receipts of one list do.
-fn confirmed_in<Q: RunQueue + Drop, const P: usize>(
-    closed: &Closed<Q, P>,
-    list: &[Receipt<Record>],
-) -> u64
-    requires { All (Stands closed.now.history) list.now }
+fn confirmed_in(records: &[&Record], list: &[Receipt<Record>]) -> u64
+    requires { All (Stands (map (λ r. r.now) records.now)) list.now }
     ensures { result ≡ length list.now }
 {
     let mut confirmed = 0;
     for receipt in list {
-        confirmed += u64::from(closed.confirms(receipt));
+        confirmed += u64::from(is_confirmed(records, receipt));
     }
     confirmed
+}
+
+/// Whether the receipt's record stands among the records at the receipt's place.
+fn is_confirmed(records: &[&Record], receipt: &Receipt<Record>) -> bool
+    ensures { IsTrue result ↔ IsConfirmed (λ r s. r ≡ s) (map (λ r. r.now) records.now) receipt.now }
+{
+    match records.get(receipt.place as usize) {
+        Some(record) => record.is_alike(&receipt.entry),
+        None => false,
+    }
 }
