@@ -17,14 +17,13 @@ use Rattle.bq_parts.specs.contracts.cpu.Cpu as Cpu
 use Rattle.bq_parts.specs.contracts.cpu.Cpu.TheInside as inside
 use Rattle.bq_parts.specs.contracts.unlinked.Unlinked as Unlinked
 use Rattle.bq_parts.specs.contracts.carried.Carried as Carried
+use Rattle.bq_alike.proofs.answer.Answer.TheSendSync as answer
 use Rattle.bq_parts.proofs.event.Event.TheSendSync as event
-use Rattle.bq_parts.proofs.refusal.Refusal.TheSendSync as refusal
 use Rattle.bq_cells.specs.contracts.cells.NumberedCpu as Numbered
 use Rattle.bq_cells.specs.contracts.cells.NumberedInbox as NumberedInbox
 use Rattle.bq_cells.specs.contracts.cells.OneLobby as OneLobby
 use Rattle.bq_cells.specs.contracts.record.Record as Record
 use Rattle.bq_seats.specs.contracts.calls.Calls as Calls
-use Rattle.bq_alike.specs.contracts.answer.Answer as Answer
 use Rattle.bq_cells.specs.contracts.law.Kept as Kept
 
 unlinked_send : IsSend (Option.the_row Unlinked.the_row)
@@ -52,15 +51,12 @@ inbox_send = search (crosses, knot.crosses, sendable) depth 60 fits 20000
 pub lobby_send : IsSend OneLobby.the_row
 lobby_send = search (crosses, knot.crosses, sendable) depth 60 fits 20000
 
-answer_send : IsSend Answer.the_row
-answer_send = search (crosses, loads.the_send, refusal.the_send, sendable) depth 40
-
 calls_send : IsSend Calls.the_row
 calls_send = search (crosses, list.the_send, call.the_send, sendable) depth 40
 
 -- a record
 pub record_send : IsSend Record.the_row
-record_send = declared_send Record.the_type (event.the_send, (answer_send, (calls_send, tt)))
+record_send = declared_send Record.the_type (event.the_send, (answer.the_send, (calls_send, tt)))
 
 -- what the journal keeps
 pub kept_send : IsSend Kept.the_row
