@@ -152,7 +152,7 @@ impl<Q: RunQueue + Drop, N: Naming + Counting> Recorder<Q, N> {
         let journal = &mut *guard;
         journal.need_room(rt);
         let mut kept = journal.kept().again();
-        kept.block(processor, &entry.reply);
+        kept.block(processor, &reply);
         working.commit_two(
             &self.history,
             journal,

@@ -21,12 +21,12 @@ commit_two-requires-clause-moves g c =
       lobby_part hall,
       c.requires.says,
       c.lobby.invariant.0,
-      rw (c.again-kept.ensures, c.kept.ensures, c.none-2.ensures)
+      rw (c.again-kept.ensures, c.kept.ensures, c.none-2.ensures, c.with_room-2.ensures)
           (begin_moves d n own.number c.args.task own.state b.new.self hall b.new.lobby k b.result c.requires.seat share),
     )
 
 pub commit_two-requires-clause-told : goal.commit_two-requires-clause-told
-commit_two-requires-clause-told g c = c.requires.tally ∙ ap (λ l. ahead told_calls c.args.working.now.caller.1 l) (sym c.none-2.ensures)
+commit_two-requires-clause-told g c = c.requires.tally ∙ ap (λ l. ahead told_calls c.args.working.now.caller.1 l) (sym c.none-2.ensures, c.with_room-2.ensures)
 
 pub returns-clause-hand : goal.returns-clause-hand
 returns-clause-hand g c =
@@ -39,4 +39,4 @@ returns-clause-hand g c =
     let there = c.lobby.view_is ∙ c.look.ensures.same in
     let seen : SeenLobby d n hall = rw there c.look.ensures.world in
     let share : Begins c.args.task k.loads own.state hall b.result b.new.self b.new.lobby = rw (c.again-kept.ensures, c.kept.ensures) at b.ensures.share in
-    rw (c.commit_two.ensures.receipt.1, c.commit_two.ensures.a.0) (begun_hand c.args.task k.loads own.state hall b.result b.new.self b.new.lobby share (seen_own d n hall seen c.args.task))
+    rw (c.commit_two.ensures.receipt.1, c.with_room-2.ensures, c.commit_two.ensures.a.0) (begun_hand c.args.task k.loads own.state hall b.result b.new.self b.new.lobby share (seen_own d n hall seen c.args.task))
