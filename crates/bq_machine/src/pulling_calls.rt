@@ -83,7 +83,7 @@ impl<Q: RunQueue + Drop, K: Clock + Drop, N: Naming + Counting, const P: usize> 
         let source = &mut *source_guard;
         need_own(rt, source.cell.content.number, from);
         self.recorder
-            .pull(rt, working, place, source, now, slip, &mut seat.rooms)
+            .pull(rt, working, place, source, now, slip, rooms)
     }
 
     /// Locks the source first, whose number is the lesser.
@@ -112,6 +112,6 @@ impl<Q: RunQueue + Drop, K: Clock + Drop, N: Naming + Counting, const P: usize> 
         let place = &mut *guard;
         need_own(rt, place.cell.content.number, processor);
         self.recorder
-            .pull(rt, working, place, source, now, slip, &mut seat.rooms)
+            .pull(rt, working, place, source, now, slip, rooms)
     }
 }

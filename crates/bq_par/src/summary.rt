@@ -1,16 +1,16 @@
 //! What is said of a parallel run, once all seats have come back.
-ghost use Rattle.std.specs.Prelude.{◌≡◌, ◌<◌, ◌≤◌, ◌^◌, IfOk, map, length, vec_len, slice_get, string_bytes};
+ghost use Rattle.std.specs.Prelude.{◌≡◌, ◌↔◌, ◌<◌, ◌≤◌, ◌^◌, IfOk, IsTrue, map, length, vec_len, slice_get, string_bytes};
 ghost use Rattle.std.specs.List.{All, sum_by};
+ghost use Rattle.std.specs.Option.{option_map};
 ghost use Rattle.bq_tie.specs.Whole.{Each};
-ghost use Rattle.bq_history.specs.History.{Stands};
+ghost use Rattle.bq_history.specs.History.{IsConfirmed, Stands};
 ghost use Rattle.bq_par.specs.Summaries.{IsSummary, summary_line};
-ghost use Rattle.bq_par.specs.Ticks.{one_tick, ticks_in, ticks_of, told};
+ghost use Rattle.bq_par.specs.Ticks.{one_tick, ticks_of};
 
 use crate::shift::Done;
-use bq_closing::Closed;
 use bq_counters::Naming as Counting;
 use bq_disc::RunQueue;
-use bq_history::Receipt;
+use bq_history::{Compared, Receipt};
 use bq_machine::{Clock, Machine, Record, Seat};
 use bq_parts::{Event, Refusal};
 use bq_tie::Naming;
@@ -97,7 +97,7 @@ fn returned<N: Naming + Counting>(
 
 /// How many of the records are of ticks.
 fn ticks_among(records: &[&Record]) -> u64
-    ensures { result ≡ ticks_in (map (λ r. r.now) records.now) }
+    ensures { result ≡ sum_by (λ r. one_tick r.now) records.now }
 {
     let mut ticks = 0;
     for record in records {
@@ -111,7 +111,7 @@ fn ticks_of_one(record: &Record) -> u64
     ensures is { result ≡ one_tick record.now }
     ensures few { result ≤ 1 }
 {
-    match record.event {
+    match &record.event {
         Event::Tick { .. } => 1,
         _ => 0,
     }
@@ -146,8 +146,18 @@ fn confirmed_in(records: &[&Record], list: &[Receipt<Record>]) -> u64
 fn is_confirmed(records: &[&Record], receipt: &Receipt<Record>) -> bool
     ensures { IsTrue result ↔ IsConfirmed (λ r s. r ≡ s) (map (λ r. r.now) records.now) receipt.now }
 {
-    match records.get(receipt.place as usize) {
+    match record_at(records, receipt.place) {
         Some(record) => record.is_alike(&receipt.entry),
         None => false,
+    }
+}
+
+/// The record at a place, or none where there are not that many.
+fn record_at<'a>(records: &[&'a Record], place: u64) -> Option<&'a Record>
+    ensures { option_map (λ r. r.now) result ≡ slice_get (map (λ r. r.now) records.now) place }
+{
+    match records.get(place as usize) {
+        Some(record) => Some(*record),
+        None => None,
     }
 }
