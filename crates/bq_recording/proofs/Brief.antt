@@ -20,7 +20,7 @@ retires_brief id seats (Ok r) seats' s = ap (λ (x : Reply). has_loads (Ok x)) s
 retires_brief id seats (Err e) seats' s = refl
 
 pub blocks_brief : (d : Discipline) (cpu now : ℕ) (p : Processor) (seats : List Seat) (a : Result Reply Refusal) (q : Processor) (seats' : List Seat) → Blocks d cpu now p seats a q seats' → has_loads a ≡ false
-blocks_brief d cpu now p seats (Ok r) q seats' s = ap (λ (x : Reply). has_loads (Ok x)) s.3
+blocks_brief d cpu now p seats (Ok r) q seats' s = ap (λ (x : Reply). has_loads (Ok x)) s.1.2
 blocks_brief d cpu now p seats (Err e) q seats' s = refl
 
 pub installs_brief : (h : Hook) (drawn : ℕ) (p : Processor) (new : Program) (a : Result Reply Refusal) (q : Processor) → Installs h drawn p new a q → has_loads a ≡ false

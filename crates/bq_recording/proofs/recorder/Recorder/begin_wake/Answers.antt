@@ -26,7 +26,7 @@ commit_two-requires-clause-moves g c =
     )
 
 pub commit_two-requires-clause-told : goal.commit_two-requires-clause-told
-commit_two-requires-clause-told g c = c.requires.tally ∙ ap (λ l. ahead told_calls c.args.working.now.caller.1 l) (sym c.none-2.ensures, c.with_room-2.ensures)
+commit_two-requires-clause-told g c = c.requires.tally ∙ ap (λ l. ahead told_calls c.args.working.now.caller.1 l) (sym c.none-2.ensures)
 
 pub returns-clause-hand : goal.returns-clause-hand
 returns-clause-hand g c =

@@ -36,7 +36,7 @@ pub commit_two-requires-clause-told : goal.commit_two-requires-clause-told
 commit_two-requires-clause-told g c = c.requires.tally ∙ ap (λ l. ahead told_calls c.args.working.now.caller.1 l) (sym c.none-2.ensures)
 
 pub of-requires : goal.of-requires
-of-requires g c = blocks_brief _ _ c.args.now _ _ c.block-reply.result c.block-reply.new.self c.block-reply.new.lobby c.block-reply.ensures.share
+of-requires g c = blocks_brief g.Q.R.Rule.discipline c.place.inside.cell.content.number c.args.now c.place.inside.cell.content.state c.lobby.inside.cell.content.state c.block-reply.result c.block-reply.new.self c.block-reply.new.lobby c.block-reply.ensures.share
 
-pub of-2-requires : goal.of-2-requires
-of-2-requires g c = blocks_brief _ _ c.args.now _ _ c.block-reply.result c.block-reply.new.self c.block-reply.new.lobby c.block-reply.ensures.share
+pub of-requires-2 : goal.of-requires-2
+of-requires-2 g c = blocks_brief g.Q.R.Rule.discipline c.place.inside.cell.content.number c.args.now c.place.inside.cell.content.state c.lobby.inside.cell.content.state c.block-reply.result c.block-reply.new.self c.block-reply.new.lobby c.block-reply.ensures.share

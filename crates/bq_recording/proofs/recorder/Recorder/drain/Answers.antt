@@ -69,5 +69,5 @@ commit_two-requires-clause-told g c =
 pub of-requires : goal.of-requires
 of-requires g c = ap (λ r. has_loads (Ok r)) c.drain-reply.ensures.share.3
 
-pub of-2-requires : goal.of-2-requires
-of-2-requires g c = ap (λ r. has_loads (Ok r)) c.drain-reply.ensures.share.3
+pub of-requires-2 : goal.of-requires-2
+of-requires-2 g c = ap (λ r. has_loads (Ok r)) c.drain-reply.ensures.share.3

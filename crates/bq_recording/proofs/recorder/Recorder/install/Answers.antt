@@ -43,5 +43,5 @@ commit_one-requires-clause-told g c = c.requires.tally ∙ ap (λ l. ahead told_
 pub of-requires : goal.of-requires
 of-requires g c = installs_brief c.args.hook _ _ _ c.replace-reply.result c.replace-reply.new.self c.replace-reply.ensures.share
 
-pub of-2-requires : goal.of-2-requires
-of-2-requires g c = installs_brief c.args.hook _ _ _ c.replace-reply.result c.replace-reply.new.self c.replace-reply.ensures.share
+pub of-requires-2 : goal.of-requires-2
+of-requires-2 g c = installs_brief c.args.hook _ _ _ c.replace-reply.result c.replace-reply.new.self c.replace-reply.ensures.share

@@ -74,7 +74,7 @@ commit_two-requires-clause-told g c =
     (ap (λ x. x.1) (c.stand.ensures.caller ∙ c.sit-desk.ensures.caller)) calls
 
 pub of-requires : goal.of-requires
-of-requires g c = ap (λ r. has_loads (Ok r)) c.pull-reply.ensures.share.3
+of-requires g c = ap (λ r. has_loads (Ok r)) c.pull-reply.ensures.share.1.2
 
-pub of-2-requires : goal.of-2-requires
-of-2-requires g c = ap (λ r. has_loads (Ok r)) c.pull-reply.ensures.share.3
+pub of-requires-2 : goal.of-requires-2
+of-requires-2 g c = ap (λ r. has_loads (Ok r)) c.pull-reply.ensures.share.1.2

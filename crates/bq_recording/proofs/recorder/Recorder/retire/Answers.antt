@@ -26,5 +26,5 @@ commit_one-requires-clause-told g c = c.requires.tally ∙ ap (λ l. ahead told_
 pub of-requires : goal.of-requires
 of-requires g c = retires_brief c.args.task _ c.retire-reply.result c.retire-reply.new.self c.retire-reply.ensures.share
 
-pub of-2-requires : goal.of-2-requires
-of-2-requires g c = retires_brief c.args.task _ c.retire-reply.result c.retire-reply.new.self c.retire-reply.ensures.share
+pub of-requires-2 : goal.of-requires-2
+of-requires-2 g c = retires_brief c.args.task _ c.retire-reply.result c.retire-reply.new.self c.retire-reply.ensures.share

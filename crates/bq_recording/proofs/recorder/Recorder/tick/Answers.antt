@@ -51,5 +51,5 @@ commit_one-requires-clause-told g c =
 pub of-requires : goal.of-requires
 of-requires g c = ap (λ r. has_loads (Ok r)) c.tick-reply.ensures.share.3
 
-pub of-2-requires : goal.of-2-requires
-of-2-requires g c = ap (λ r. has_loads (Ok r)) c.tick-reply.ensures.share.3
+pub of-requires-2 : goal.of-requires-2
+of-requires-2 g c = ap (λ r. has_loads (Ok r)) c.tick-reply.ensures.share.3
