@@ -1,4 +1,4 @@
-use Rattle.std.proofs.Common.{rules, FitsSigned, w8, ◌≡◌, ap, sym, ◌∙◌}
+use Rattle.std.proofs.Common.{rules, FitsSigned, w8, ap, sym, ◌∙◌}
 use Rattle.std.proofs.lemmas.Int.{to_z-of_z}
 use Rattle.bq_cells.specs.Parts.{lobby_part}
 use Rattle.bq_cells.proofs.CallSteps.{admit_moves}

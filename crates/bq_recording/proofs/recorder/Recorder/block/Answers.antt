@@ -1,4 +1,4 @@
-use Rattle.std.proofs.Common.{◌≡◌, ◌∙◌, ap, sym}
+use Rattle.std.proofs.Common.{◌∙◌, ap, sym}
 use Rattle.bq_cells.specs.Parts.{cpu_part, lobby_part}
 use Rattle.bq_cells.proofs.Looked.{Seen, seen_seated}
 use Rattle.bq_cells.proofs.CallSteps.{block_moves}

@@ -1,4 +1,4 @@
-use Rattle.std.proofs.Common.{◌≡◌, ap, sym, ◌∙◌}
+use Rattle.std.proofs.Common.{ap, sym, ◌∙◌}
 use Rattle.bq_cells.proofs.CallSteps.{draw_moves}
 use Rattle.bq_seats.specs.Calls.{ahead}
 use Rattle.bq_cells.specs.Parts.{told_calls}

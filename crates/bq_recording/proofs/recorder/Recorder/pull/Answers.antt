@@ -1,4 +1,4 @@
-use Rattle.std.proofs.Common.{Ok, ◌≡◌, ◌≢◌, ℕ, ◌<◌, ap, sym, ◌∙◌, arith}
+use Rattle.std.proofs.Common.{Ok, ◌≡◌, ◌≢◌, ap, ◌∙◌, arith}
 use Rattle.bq_parts.specs.Choices.{policies}
 use Rattle.bq_parts.specs.Shares.{Pulls}
 use Rattle.bq_cells.specs.Parts.{cpu_part}

@@ -1,4 +1,4 @@
-use Rattle.std.proofs.Common.{◌≡◌, ◌<◌, None, ap, sym, ◌∙◌}
+use Rattle.std.proofs.Common.{◌<◌, None, ap, sym, ◌∙◌}
 use Rattle.bq_seats.specs.Calls.{ahead}
 use Rattle.bq_parts.specs.declared.refusal.Refusal.TheVariants as no
 use Rattle.bq_core.proofs.Order.{passed}

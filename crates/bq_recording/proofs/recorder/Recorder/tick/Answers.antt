@@ -1,4 +1,4 @@
-use Rattle.std.proofs.Common.{Ok, ◌≡◌, ◌∙◌, ap, sym}
+use Rattle.std.proofs.Common.{Ok, ◌≡◌, ◌∙◌, ap}
 use Rattle.bq_parts.specs.Choices.{policies}
 use Rattle.bq_parts.specs.Shares.{Ticks}
 use Rattle.bq_cells.specs.Parts.{cpu_part}
