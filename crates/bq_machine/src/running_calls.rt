@@ -84,8 +84,15 @@ impl<Q: RunQueue + Drop, K: Clock + Drop, N: Naming + Counting, const P: usize> 
         let inbox = &mut *inbox_guard;
         need_own(rt, inbox.cell.content.number, processor);
         Ok(
-            self.recorder
-                .drain(rt, &mut seat.working, place, inbox, now, slip, &mut seat.rooms),
+            self.recorder.drain(
+                rt,
+                &mut seat.working,
+                place,
+                inbox,
+                now,
+                slip,
+                &mut seat.rooms,
+            ),
         )
     }
 

@@ -72,7 +72,15 @@ impl<Q: RunQueue + Drop, K: Clock + Drop, N: Naming + Counting, const P: usize> 
         let mut guard = self.cpus[index].lock(rt);
         let place = &mut *guard;
         need_own(rt, place.cell.content.number, processor);
-        let begin = self.begin_in_lobby(rt, &mut seat.working, &mut place.cell, task, first, for_record, for_receipt);
+        let begin = self.begin_in_lobby(
+            rt,
+            &mut seat.working,
+            &mut place.cell,
+            task,
+            first,
+            for_record,
+            for_receipt,
+        );
         if begin.entry.reply.is_err() {
             return Ok(WakeReceipts { begin, end: None });
         }
@@ -119,7 +127,15 @@ impl<Q: RunQueue + Drop, K: Clock + Drop, N: Naming + Counting, const P: usize> 
     {
         let mut guard = self.lobby.lock(rt);
         let lobby = &mut *guard;
-        self.recorder
-            .begin_wake(rt, working, cell, lobby, task, slip, for_record, for_receipt)
+        self.recorder.begin_wake(
+            rt,
+            working,
+            cell,
+            lobby,
+            task,
+            slip,
+            for_record,
+            for_receipt,
+        )
     }
 }

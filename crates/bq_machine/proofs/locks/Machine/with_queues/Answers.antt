@@ -14,8 +14,8 @@ open-journal-requires g c =
     ap (λ (ls : List ℕ). record { drawn = 0; loads = ls }) (opening_loads p.about ∙ ap (λ (n : ℕ). replicate n 0) c.requires.counts.0 ∙ sym c.no_loads.ensures) in
     ap first_of c.named-history.ensures.1 ∙ ap (λ (k : Kept). journal_item [] k ∷ []) none
 
-pub part_locks-locks-requires-clause-items : goal.part_locks-locks-requires-clause-items
-part_locks-locks-requires-clause-items g c =
+pub part_locks-requires-clause-items : goal.part_locks-requires-clause-items
+part_locks-requires-clause-items g c =
     let p = c.args.prepared.1 in
     let base : c.open-journal.new.all ≡ map part_item (first_parts p.about) ++ callers_from 0 p.callers = c.open-journal.ensures.0 ∙ ap others_of c.named-history.ensures.1 in
     (c.args.seat_count, rw (c.requires.counts.0, c.requires.counts.1) at base)
