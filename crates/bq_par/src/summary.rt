@@ -100,18 +100,18 @@ fn ticks_among(records: &[&Record]) -> u64
     ensures { result ≡ sum_by (λ r. one_tick r.now) records.now }
 {
     let mut ticks = 0;
-    for record in records {
-        ticks += ticks_of_one(record);
+    for entry in records {
+        ticks += ticks_of_one(entry);
     }
     ticks
 }
 
 /// How many ticks a record tells: 1 or 0.
-fn ticks_of_one(record: &Record) -> u64
-    ensures is { result ≡ one_tick record.now }
+fn ticks_of_one(entry: &Record) -> u64
+    ensures is { result ≡ one_tick entry.now }
     ensures few { result ≤ 1 }
 {
-    match &record.event {
+    match &entry.event {
         Event::Tick { .. } => 1,
         _ => 0,
     }
@@ -147,7 +147,7 @@ fn is_confirmed(records: &[&Record], receipt: &Receipt<Record>) -> bool
     ensures { IsTrue result ↔ IsConfirmed (λ r s. r ≡ s) (map (λ r. r.now) records.now) receipt.now }
 {
     match record_at(records, receipt.place) {
-        Some(record) => record.is_alike(&receipt.entry),
+        Some(entry) => entry.is_alike(&receipt.entry),
         None => false,
     }
 }
@@ -157,7 +157,7 @@ fn record_at<'a>(records: &[&'a Record], place: u64) -> Option<&'a Record>
     ensures { option_map (λ r. r.now) result ≡ slice_get (map (λ r. r.now) records.now) place }
 {
     match records.get(place as usize) {
-        Some(record) => Some(*record),
+        Some(entry) => Some(*entry),
         None => None,
     }
 }

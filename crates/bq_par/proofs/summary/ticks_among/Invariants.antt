@@ -3,8 +3,8 @@ use Rattle.std.specs.List.{sum_by}
 use Rattle.bq_par.specs.Ticks.{one_tick}
 use Rattle.bq_par.proofs.summary.ticks_among.Given as goal
 
-abbrev pub invariant-loop-record : goal.invariant-loop-record
-invariant-loop-record g l = record {
-  counted : l.ticks ≡ sum_by (λ r. one_tick r.now) (take l.record-index l.records);
-  few : l.ticks ≤ l.record-index;
+abbrev pub invariant-loop-entry : goal.invariant-loop-entry
+invariant-loop-entry g l = record {
+  counted : l.ticks ≡ sum_by (λ r. one_tick r.now) (take l.entry-index l.records);
+  few : l.ticks ≤ l.entry-index;
 }
