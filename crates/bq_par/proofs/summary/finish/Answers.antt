@@ -15,7 +15,7 @@ confirmed_among-requires g c =
     let back = c.in_ok-seats.field-0 in
     let r = c.close-closed.ensures.receipts in
     let log = c.close-closed.result.history in
-    let all : map (λ x. x.now) c.in_ok-records.field-0.items ≡ log = c.in_ok-records.ensures in
+    let all : map (λ x. x.now) c.in_ok-records.records.items ≡ log = c.in_ok-records.ensures in
     let many = same_many (λ s. s.1) (λ v. v.items) back.seats.items back.lists.items back.same in (
       search rules,
       (
@@ -30,7 +30,7 @@ returns g c =
     let said = c.in_ok-seats.ensures in
     let r = c.close-closed.ensures.receipts in
     let log = c.close-closed.result.history in
-    let records = c.in_ok-records.field-0.items in
+    let records = c.in_ok-records.records.items in
     let many : length back.seats.items ≡ g.row.P = said.many ∙ c.requires.many in
     let ticked : c.ticks_among.result ≡ ticks_in log =
         c.ticks_among.ensures ∙ (ap (λ vs. sum_by (λ v. one_tick v.now) vs) c.deref-2.ensures.value
