@@ -16,13 +16,11 @@ confirmed_among-requires g c =
     let r = c.close-closed.ensures.receipts in
     let log = c.close-closed.result.history in
     let all : map (λ x. x.now) c.in_ok-records.records.items ≡ log = c.in_ok-records.ensures in
-    let many = same_many (λ s. s.1) (λ v. v.items) back.seats.items back.lists.items back.same in (
-      search rules,
-      (
-        rw (c.deref-3.ensures.value, c.deref-4.ensures.value, all) (all_items (λ s. s.1) (λ v. v.items) (Stands log) (λ s. IsRising 0 s.1) back.seats.items back.lists.items back.same r.stand),
-        rw c.deref-4.ensures.value (omega (arith, many, r.many, c.len.ensures, c.len.type_inv)),
-      ),
-    )
+    let many = same_many (λ s. s.1) (λ v. v.items) back.seats.items back.lists.items back.same in
+    record {
+      stand = rw (c.deref-3.ensures.value, c.deref-4.ensures.value, all) (all_items (λ s. s.1) (λ v. v.items) (Stands log) (λ s. IsRising 0 s.1) back.seats.items back.lists.items back.same r.stand);
+      few = rw c.deref-4.ensures.value (omega (arith, many, r.many, c.len.ensures, c.len.type_inv));
+    }
 
 pub returns : goal.returns
 returns g c =
