@@ -1,5 +1,6 @@
 //! An answer in little room, as records and receipts keep it.
-ghost use Rattle.std.specs.Prelude.{◌≡◌, ◌↔◌, true, false, IsTrue, is_err, is_some};
+ghost use Rattle.std.specs.Prelude.{◌≡◌, ◌↔◌, true, false, IsTrue, Ok, Err, is_err, is_some};
+ghost use Rattle.bq_parts.specs.declared.reply.Reply.TheVariants as reply;
 ghost use Rattle.bq_alike.specs.Brief.{has_loads};
 
 use crate::same::is_same_answer;
@@ -73,6 +74,15 @@ impl Answer {
         ensures { result ≡ answer.now }
     {
         Answer::kept(answer, None)
+    }
+
+    /// A refusal.
+    pub fn refused(refusal: Refusal) -> Answer
+        ensures { result ≡ Err refusal }
+    {
+        Answer {
+            brief: Brief::Refused(refusal),
+        }
     }
 
     /// An answer, with room for its loads where it has some.
@@ -223,6 +233,32 @@ impl Answer {
     pub fn is_same(&self, other: &Answer) -> bool
         ensures { IsTrue result ↔ (self.now ≡ other.now) }
     {
-        is_same_answer(&self.told(), &other.told())
+        match &self.brief {
+            Brief::Ticked { run, by, steps } => other.is_ticked(*run, *by, *steps),
+            _ => is_same_answer(&self.told(), &other.told()),
+        }
+    }
+
+    /// Whether it is this answer to a tick.
+    fn is_ticked(&self, run: Option<u16>, by: By, steps: u32) -> bool
+        ensures { IsTrue result ↔ (Ok (reply.Ticked run by steps) ≡ self.now) }
+    {
+        match &self.brief {
+            Brief::Ticked {
+                run: own_run,
+                by: own_by,
+                steps: own_steps,
+            } => run == *own_run && by == *own_by && steps == *own_steps,
+            Brief::Admitted => false,
+            Brief::Retired => false,
+            Brief::Drawn { .. } => false,
+            Brief::Installed => false,
+            Brief::Begun { .. } => false,
+            Brief::Placed { .. } => false,
+            Brief::Drained { .. } => false,
+            Brief::Blocked { .. } => false,
+            Brief::Pulled { .. } => false,
+            Brief::Refused(_) => false,
+        }
     }
 }

@@ -41,7 +41,7 @@ pub fn room(alloc: Global) -> Result<Slip<Record>, Refusal>
 {
     let blank = Record {
         event: Event::Draw,
-        reply: Answer::of(&Err(Refusal::OutOfMemory)),
+        reply: Answer::refused(Refusal::OutOfMemory),
         calls: Calls::none(),
     };
     Slip::new(alloc, blank).map_err(|_| Refusal::OutOfMemory)
