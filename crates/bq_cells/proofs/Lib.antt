@@ -7,5 +7,4 @@ pub mod CallSteps
 pub mod PullSteps
 pub mod Woken
 pub mod Opening
-pub mod SameCalls
 pub mod Sent

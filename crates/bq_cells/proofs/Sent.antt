@@ -4,7 +4,6 @@ use denote.Struct.Field.{row_field}
 use denote.Param.Send.{IsSend, sendable, view_send}
 use denote.Param.SendFields.{declared_send, as_row_send}
 use Rattle.std.proofs.Crossing.{crosses}
-use Rattle.std.specs.contracts.result.Result as Result
 use Rattle.std.specs.contracts.option.Option as Option
 use Rattle.arrayvec.proofs.array_vec.ArrayVec.TheSendSync as list
 use Rattle.bq_disc.proofs.node.Node.TheLaws.TheKnot as knot
@@ -18,16 +17,13 @@ use Rattle.bq_parts.specs.contracts.cpu.Cpu as Cpu
 use Rattle.bq_parts.specs.contracts.cpu.Cpu.TheInside as inside
 use Rattle.bq_parts.specs.contracts.unlinked.Unlinked as Unlinked
 use Rattle.bq_parts.specs.contracts.carried.Carried as Carried
-use Rattle.bq_parts.specs.contracts.reply.Reply as Reply
-use Rattle.bq_parts.specs.contracts.refusal.Refusal as Refusal
+use Rattle.bq_alike.proofs.answer.Answer.TheSendSync as answer
 use Rattle.bq_parts.proofs.event.Event.TheSendSync as event
-use Rattle.bq_parts.proofs.reply.Reply.TheSendSync as reply
-use Rattle.bq_parts.proofs.refusal.Refusal.TheSendSync as refusal
 use Rattle.bq_cells.specs.contracts.cells.NumberedCpu as Numbered
 use Rattle.bq_cells.specs.contracts.cells.NumberedInbox as NumberedInbox
 use Rattle.bq_cells.specs.contracts.cells.OneLobby as OneLobby
 use Rattle.bq_cells.specs.contracts.record.Record as Record
-use Rattle.bq_cells.specs.contracts.calls.Calls as Calls
+use Rattle.bq_seats.specs.contracts.calls.Calls as Calls
 use Rattle.bq_cells.specs.contracts.law.Kept as Kept
 
 unlinked_send : IsSend (Option.the_row Unlinked.the_row)
@@ -55,15 +51,12 @@ inbox_send = search (crosses, knot.crosses, sendable) depth 60 fits 20000
 pub lobby_send : IsSend OneLobby.the_row
 lobby_send = search (crosses, knot.crosses, sendable) depth 60 fits 20000
 
-result_send : IsSend (Result.the_row Reply.the_row Refusal.the_row)
-result_send = search (reply.the_send, refusal.the_send, sendable) depth 20
-
 calls_send : IsSend Calls.the_row
 calls_send = search (crosses, list.the_send, call.the_send, sendable) depth 40
 
 -- a record
 pub record_send : IsSend Record.the_row
-record_send = declared_send Record.the_type (event.the_send, (result_send, (calls_send, tt)))
+record_send = declared_send Record.the_type (event.the_send, (answer.the_send, (calls_send, tt)))
 
 -- what the journal keeps
 pub kept_send : IsSend Kept.the_row

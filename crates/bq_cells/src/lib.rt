@@ -4,12 +4,11 @@
 //! Stands on bq_parts for the shares, on bq_core for the laws of worlds, and on bq_history for what a move is.
 #![tactic(auto)]
 
-pub mod calls;
 pub mod cells;
 pub mod law;
 pub mod record;
 
-pub use calls::{CallRooms, Calls};
 pub use cells::{NumberedCpu, NumberedInbox, OneLobby};
+pub use bq_seats::{CallRooms, Calls, hold_calls};
 pub use law::{CpuState, Kept, Part, Sched, WorldState};
-pub use record::{Record, call_rooms, room};
+pub use record::{Record, call_rooms, loads_room, room};

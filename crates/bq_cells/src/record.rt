@@ -1,19 +1,18 @@
 //! What the history tells of each event.
-ghost use Rattle.std.specs.Prelude.{◌≡◌, IfErr};
+ghost use Rattle.std.specs.Prelude.{◌≡◌, true, is_some, IfErr, OnOk};
 ghost use Rattle.bq_parts.specs.declared.refusal.Refusal.TheVariants as no;
 
-use crate::calls::{CallRooms, Calls};
-use bq_alike::{is_same_answer, is_same_event};
+use bq_alike::{Answer, is_same_event};
 use bq_history::{Compared, Slip};
-use bq_parts::{Event, Refusal, Reply};
-use bq_seats::Told;
+use bq_parts::{Event, Loads, Refusal};
+use bq_seats::{CallRooms, Calls, Told};
 use std::alloc::Global;
 
 /// An event, what it was answered, and its calls of counters in their order.
 #[derive(Drop)]
 pub struct Record {
     pub event: Event,
-    pub reply: Result<Reply, Refusal>,
+    pub reply: Answer,
     pub calls: Calls,
 }
 
@@ -31,7 +30,7 @@ impl Compared for Record {
 
     fn is_alike(&self, other: &Record) -> bool {
         is_same_event(&self.event, &other.event)
-            && is_same_answer(&self.reply, &other.reply)
+            && self.reply.is_same(&other.reply)
             && self.calls.is_same(&other.calls)
     }
 }
@@ -42,15 +41,29 @@ pub fn room(alloc: Global) -> Result<Slip<Record>, Refusal>
 {
     let blank = Record {
         event: Event::Draw,
-        reply: Err(Refusal::OutOfMemory),
+        reply: Answer::refused(Refusal::OutOfMemory),
         calls: Calls::none(),
     };
     Slip::new(alloc, blank).map_err(|_| Refusal::OutOfMemory)
 }
 
-/// Room for the calls of counters of an event, once for its record and once for its receipt.
-pub fn call_rooms(alloc: Global) -> Result<CallRooms, Refusal>
+/// Room for the calls of counters of an event, once for its record and once for its receipt, where there is none yet.
+pub fn call_rooms(alloc: Global, rooms: &mut Option<CallRooms>) -> Result<(), Refusal>
+    ensures memory { IfErr result (λ refusal. refusal ≡ no.OutOfMemory) }
+    ensures ready { OnOk result (is_some rooms.new ≡ true) }
+{
+    if rooms.is_none() {
+        match CallRooms::new(alloc) {
+            Ok(made) => *rooms = Some(made),
+            Err(_) => return Err(Refusal::OutOfMemory),
+        }
+    }
+    Ok(())
+}
+
+/// Room for the loads that a wake is told as it begins.
+pub fn loads_room(alloc: Global) -> Result<Box<Loads>, Refusal>
     ensures memory { IfErr result (λ refusal. refusal ≡ no.OutOfMemory) }
 {
-    CallRooms::new(alloc).map_err(|_| Refusal::OutOfMemory)
+    Box::new(alloc, Loads::new()).map_err(|_| Refusal::OutOfMemory)
 }

@@ -28,11 +28,11 @@ impl<Q: RunQueue + Drop, const P: usize> Closed<Q, P> {
 
     /// The event at a place, counted from 0, with what it was answered and its calls of counters, or none where the history
     /// is not that long.
-    pub fn logged(&self, place: u64) -> Option<(&Event, &Result<Reply, Refusal>, &[Call])>
-        ensures { option_map (λ r. record { event = r.0.now; reply = r.1.now; calls = r.2.now }) result ≡ slice_get self.now.history place }
+    pub fn logged(&self, place: u64) -> Option<(&Event, Result<Reply, Refusal>, &[Call])>
+        ensures { option_map (λ r. record { event = r.0.now; reply = r.1; calls = r.2.now }) result ≡ slice_get self.now.history place }
     {
         let record = self.history.logged(place)?;
-        Some((&record.event, &record.reply, record.calls.as_slice()))
+        Some((&record.event, record.reply.told(), record.calls.as_slice()))
     }
 
     /// Whether the history has the receipt's event at the receipt's place, with the same answer and the same calls of

@@ -1,6 +1,8 @@
 //! A machine at the start.
-ghost use Rattle.std.specs.Prelude.{◌≡◌, ◌≤◌, ◌^◌, ◌++◌, [], List, All, IfOk, length, vec_len, replicate};
+ghost use Rattle.std.specs.Prelude.{◌≡◌, ◌≤◌, ◌^◌, ◌++◌, ℕ, [], List, All, IfOk, length, map, vec_len, replicate};
+ghost use Rattle.bq_history.specs.Items.{callers_from, part_item};
 ghost use Rattle.bq_seats.specs.Calls.{fresh};
+ghost use Rattle.bq_cells.specs.Parts.{first_parts};
 ghost use Rattle.bq_cells.specs.Opened.{ItemOf, cpu_items, inbox_items};
 
 use crate::clock::Clock;
@@ -101,6 +103,43 @@ fn inbox_locks<Q: RunQueue + Drop, N: Naming>(
     Ok(locks)
 }
 
+/// The locks of all parts of a world.
+#[derive(Drop)]
+struct PartLocks<Q: RunQueue + Drop, N: Naming> {
+    lobby: Mutex<Place<OneLobby, N>>,
+    cpus: Vec<Mutex<Place<NumberedCpu<Q>, N>>>,
+    inboxes: Vec<Mutex<Place<NumberedInbox, N>>>,
+}
+
+/// A lock for each part, from the parts at the start; the callers are left.
+fn part_locks<Q: RunQueue + Drop, N: Naming>(
+    alloc: Global,
+    history: &Shared<Q, N>,
+    all: &mut Holder<Item<Record, Part, Kept>, N>,
+    queues: Vec<Q>,
+    count: u8,
+) -> Result<PartLocks<Q, N>, AllocError>
+    requires few { count ≤ 64 }
+    requires many { length queues.items ≡ count }
+    requires empty { All (λ q. (Q.members q ≡ []) × (Q.kept_mark q ≡ 2 ^ 32)) queues.items }
+    requires items { (s : ℕ) × (all.old ≡ map part_item (first_parts count) ++ callers_from 0 s) }
+    ensures cpus { IfOk result (λ l. vec_len l.cpus ≡ count) }
+    ensures inboxes { IfOk result (λ l. vec_len l.inboxes ≡ count) }
+    ensures rest { IfOk result (λ _. (s : ℕ) → all.old ≡ map part_item (first_parts count) ++ callers_from 0 s → all.new ≡ callers_from 0 s) }
+{
+    let hall = OneLobby {
+        state: Lobby::new(alloc)?,
+    };
+    let lobby = Locked::open(history, all, hall);
+    let cpus = cpu_locks(alloc, history, all, queues)?;
+    let inboxes = inbox_locks(alloc, history, all, count)?;
+    Ok(PartLocks {
+        lobby: Mutex::new(lobby),
+        cpus,
+        inboxes,
+    })
+}
+
 /// The loads of processors that have no task.
 fn no_loads(count: usize) -> Loads
     requires { count ≤ 64 }
@@ -164,12 +203,12 @@ impl<Q: RunQueue + Drop, K: Clock + Drop, N: Naming + Counting, const P: usize> 
             loads: no_loads(P),
         };
         let journal = Journal::open(&history, &mut all, kept);
-        let hall = OneLobby {
-            state: Lobby::new(alloc)?,
-        };
-        let lobby = Locked::open(&history, &mut all, hall);
-        let cpu_locks = cpu_locks(alloc, &history, &mut all, queues)?;
-        let inbox_locks = inbox_locks(alloc, &history, &mut all, P as u8)?;
+        let locks = part_locks(alloc, &history, &mut all, queues, P as u8)?;
+        let PartLocks {
+            lobby,
+            cpus,
+            inboxes,
+        } = locks;
         let seats = seats(alloc, &history, &mut all, &counters, account, seat_count)?;
         let recorder = Recorder {
             history,
@@ -179,9 +218,9 @@ impl<Q: RunQueue + Drop, K: Clock + Drop, N: Naming + Counting, const P: usize> 
         let machine = Machine {
             clock,
             recorder,
-            cpus: cpu_locks,
-            inboxes: inbox_locks,
-            lobby: Mutex::new(lobby),
+            cpus,
+            inboxes,
+            lobby,
             room: Mutex::new(room),
             seats: seat_count,
         };

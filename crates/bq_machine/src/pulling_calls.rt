@@ -1,5 +1,5 @@
 //! A pull: a processor takes a task from the queue of another. Both are locked, by rising number.
-ghost use Rattle.std.specs.Prelude.{◌≡◌, ◌≢◌, ◌<◌, ◌∷◌, ◌++◌, ℕ, [], None, IfOk, IfErr, OnErr};
+ghost use Rattle.std.specs.Prelude.{◌≡◌, ◌≢◌, ◌<◌, ◌∷◌, ◌++◌, ℕ, [], None, IfOk, IfErr, OnErr, is_some, true};
 ghost use Rattle.bq_seats.specs.Calls.{account_of};
 ghost use Rattle.bq_parts.specs.Refusals.{argument_refusal};
 ghost use Rattle.bq_cells.specs.Parts.{told_calls};
@@ -49,12 +49,28 @@ impl<Q: RunQueue + Drop, K: Clock + Drop, N: Naming + Counting, const P: usize> 
             return Err(Refusal::SameProcessor);
         }
         let slip = room(alloc)?;
-        let rooms = call_rooms(alloc)?;
+        call_rooms(alloc, &mut seat.rooms)?;
         let now = self.clock.now(processor);
         if processor < from {
-            return Ok(self.pull_upward(rt, &mut seat.working, processor, from, now, slip, rooms));
+            return Ok(self.pull_upward(
+                rt,
+                &mut seat.working,
+                processor,
+                from,
+                now,
+                slip,
+                &mut seat.rooms,
+            ));
         }
-        Ok(self.pull_downward(rt, &mut seat.working, processor, from, now, slip, rooms))
+        Ok(self.pull_downward(
+            rt,
+            &mut seat.working,
+            processor,
+            from,
+            now,
+            slip,
+            &mut seat.rooms,
+        ))
     }
 
     /// Locks the puller first, whose number is the lesser.
@@ -66,8 +82,9 @@ impl<Q: RunQueue + Drop, K: Clock + Drop, N: Naming + Counting, const P: usize> 
         from: u8,
         now: u64,
         slip: Slip<Record>,
-        rooms: CallRooms,
+        rooms: &mut Option<CallRooms>,
     ) -> Receipt<Record>
+        requires ready { is_some rooms.old ≡ true }
         requires tally { working.old.tally ≡ account_of told_calls working.old.caller.1 }
         requires inside { processor < P }
         requires inside_from { from < P }
@@ -95,8 +112,9 @@ impl<Q: RunQueue + Drop, K: Clock + Drop, N: Naming + Counting, const P: usize> 
         from: u8,
         now: u64,
         slip: Slip<Record>,
-        rooms: CallRooms,
+        rooms: &mut Option<CallRooms>,
     ) -> Receipt<Record>
+        requires ready { is_some rooms.old ≡ true }
         requires tally { working.old.tally ≡ account_of told_calls working.old.caller.1 }
         requires inside { processor < P }
         requires inside_from { from < P }

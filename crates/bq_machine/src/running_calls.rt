@@ -43,14 +43,14 @@ impl<Q: RunQueue + Drop, K: Clock + Drop, N: Naming + Counting, const P: usize> 
             return Err(Refusal::NoProcessor);
         }
         let slip = room(alloc)?;
-        let rooms = call_rooms(alloc)?;
+        call_rooms(alloc, &mut seat.rooms)?;
         let mut guard = self.cpus[index].lock(rt);
         let place = &mut *guard;
         need_own(rt, place.cell.content.number, processor);
         let now = self.clock.now(processor);
         Ok(
             self.recorder
-                .tick(rt, &mut seat.working, place, now, slip, rooms),
+                .tick(rt, &mut seat.working, place, now, slip, &mut seat.rooms),
         )
     }
 
@@ -75,7 +75,7 @@ impl<Q: RunQueue + Drop, K: Clock + Drop, N: Naming + Counting, const P: usize> 
             return Err(Refusal::NoProcessor);
         }
         let slip = room(alloc)?;
-        let rooms = call_rooms(alloc)?;
+        call_rooms(alloc, &mut seat.rooms)?;
         let mut guard = self.cpus[index].lock(rt);
         let place = &mut *guard;
         need_own(rt, place.cell.content.number, processor);
@@ -84,8 +84,15 @@ impl<Q: RunQueue + Drop, K: Clock + Drop, N: Naming + Counting, const P: usize> 
         let inbox = &mut *inbox_guard;
         need_own(rt, inbox.cell.content.number, processor);
         Ok(
-            self.recorder
-                .drain(rt, &mut seat.working, place, inbox, now, slip, rooms),
+            self.recorder.drain(
+                rt,
+                &mut seat.working,
+                place,
+                inbox,
+                now,
+                slip,
+                &mut seat.rooms,
+            ),
         )
     }
 

@@ -11,11 +11,11 @@ ghost use Rattle.bq_machine.specs.Calls.{IsCallRefused};
 
 use crate::clock::Clock;
 use crate::locks::Machine;
-use bq_cells::{Record, call_rooms, room};
+use bq_cells::{Record, call_rooms, loads_room, room};
 use bq_counters::Naming as Counting;
 use bq_disc::RunQueue;
 use bq_history::{Receipt, Slip};
-use bq_parts::{Event, Refusal};
+use bq_parts::{Event, Loads, Refusal};
 use bq_recording::{Caller, CpuCell, Seat, need_own};
 use bq_tie::Naming;
 use std::alloc::Global;
@@ -66,11 +66,21 @@ impl<Q: RunQueue + Drop, K: Clock + Drop, N: Naming + Counting, const P: usize> 
         }
         let first = room(alloc)?;
         let second = room(alloc)?;
-        let rooms = call_rooms(alloc)?;
+        let for_record = loads_room(alloc)?;
+        let for_receipt = loads_room(alloc)?;
+        call_rooms(alloc, &mut seat.rooms)?;
         let mut guard = self.cpus[index].lock(rt);
         let place = &mut *guard;
         need_own(rt, place.cell.content.number, processor);
-        let begin = self.begin_in_lobby(rt, &mut seat.working, &mut place.cell, task, first);
+        let begin = self.begin_in_lobby(
+            rt,
+            &mut seat.working,
+            &mut place.cell,
+            task,
+            first,
+            for_record,
+            for_receipt,
+        );
         if begin.entry.reply.is_err() {
             return Ok(WakeReceipts { begin, end: None });
         }
@@ -83,7 +93,7 @@ impl<Q: RunQueue + Drop, K: Clock + Drop, N: Naming + Counting, const P: usize> 
             task,
             now,
             second,
-            rooms,
+            &mut seat.rooms,
         );
         Ok(WakeReceipts {
             begin,
@@ -99,6 +109,8 @@ impl<Q: RunQueue + Drop, K: Clock + Drop, N: Naming + Counting, const P: usize> 
         cell: &mut CpuCell<Q, N>,
         task: u16,
         slip: Slip<Record>,
+        for_record: Box<Loads>,
+        for_receipt: Box<Loads>,
     ) -> Receipt<Record>
         requires seat { task < 1024 }
         requires tally { working.old.tally ≡ account_of told_calls working.old.caller.1 }
@@ -115,7 +127,15 @@ impl<Q: RunQueue + Drop, K: Clock + Drop, N: Naming + Counting, const P: usize> 
     {
         let mut guard = self.lobby.lock(rt);
         let lobby = &mut *guard;
-        self.recorder
-            .begin_wake(rt, working, cell, lobby, task, slip)
+        self.recorder.begin_wake(
+            rt,
+            working,
+            cell,
+            lobby,
+            task,
+            slip,
+            for_record,
+            for_receipt,
+        )
     }
 }

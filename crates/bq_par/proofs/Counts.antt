@@ -1,29 +1,17 @@
 -- Sums and lists of what the threads of a run bring back.
-use Rattle.std.proofs.Common.{◌≡◌, ℕ, zero, suc, ◌+◌, ◌*◌, ◌<◌, List, [], ◌∷◌, ◌++◌, map, length, take, add-one, refl, sym, ap, ◌∙◌, subst, arith}
-use Rattle.std.specs.Prelude.{slice_get}
+use Rattle.std.proofs.Common.{◌≡◌, ℕ, zero, suc, ◌+◌, ◌*◌, ◌<◌, List, [], ◌∷◌, ◌++◌, map, length, refl, sym, ap, ◌∙◌, subst, arith}
 use Rattle.std.specs.List.{All, sum_by}
 use Rattle.std.proofs.lemmas.List.{map_push}
 use Rattle.std.proofs.lemmas.List.Sums.{sum_by-cons}
 use Rattle.bq_tie.specs.Whole.{total, Each}
 use Rattle.bq_history.specs.declared.law.Receipt.{Receipt}
 use Rattle.bq_seats.specs.Calls.{fresh}
-use Rattle.bq_par.specs.Ticks.{told}
 
 module _ {A : Type 0} where
   -- one sum, in two words
   pub total_sum : (f : A → ℕ) (xs : List A) → total f xs ≡ sum_by f xs
   total_sum f [] = refl
   total_sum f (x ∷ xs) = ap (λ n. f x + n) (total_sum f xs) ∙ sym (sum_by-cons f x xs)
-
-  -- one more item of a list
-  pub total_next : (f : A → ℕ) (xs : List A) (i : ℕ) → total f (take (i + 1) xs) ≡ total f (take i xs) + told f (slice_get xs i)
-  total_next f xs i = rw add-one (next xs i)
-    where
-      next : (ys : List A) (k : ℕ) → total f (take (suc k) ys) ≡ total f (take k ys) + told f (slice_get ys k)
-      next [] zero = refl
-      next [] (suc k) = refl
-      next (y ∷ ys) zero = omega arith
-      next (y ∷ ys) (suc k) = let h = next ys k in omega (arith, h)
 
   -- as often the same number
   pub total_times : (f : A → ℕ) (n : ℕ) (xs : List A) → Each (λ x. f x ≡ n) xs → total f xs ≡ length xs * n
@@ -35,6 +23,11 @@ module _ {A : Type 0} where
   each_at P [] each k d lt = absurd (omega arith)
   each_at P (x ∷ xs) (first, rest) zero d lt = first
   each_at P (x ∷ xs) (first, rest) (suc k) d lt = each_at P xs rest k d (omega arith)
+
+-- the sum of a list's images
+pub total_map : {A B : Type 0} (f : B → ℕ) (g : A → B) (xs : List A) → total f (map g xs) ≡ sum_by (λ x. f (g x)) xs
+total_map f g [] = refl
+total_map f g (x ∷ xs) = ap (λ n. f (g x) + n) (total_map f g xs) ∙ sym (sum_by-cons (λ y. f (g y)) x xs)
 
 -- one more on either side
 pub same_more : {A B C : Type 0} (f : A → C) (g : B → C) (xs : List A) (ys : List B) (x : A) (y : B) → map g ys ≡ map f xs → g y ≡ f x → map g (ys ++ y ∷ []) ≡ map f (xs ++ x ∷ [])

@@ -1,5 +1,5 @@
 -- Ticks among what a history tells.
-use Rattle.std.specs.Prelude.{ℕ, List, Option, None, Some}
+use Rattle.std.specs.Prelude.{ℕ, List}
 use Rattle.bq_tie.specs.Whole.{total}
 use Rattle.bq_history.specs.declared.law.Receipt.{Receipt}
 use Rattle.bq_parts.specs.declared.event.Event.{Event}
@@ -21,8 +21,3 @@ ticks_in log = total one_tick log
 -- how many of the receipts are for ticks
 abbrev pub ticks_of : List (Receipt Record) → ℕ
 ticks_of l = total (λ (x : Receipt Record). one_tick x.entry) l
-
--- what is told of an item, and 0 of none
-abbrev pub told : {A : Type 0} → (A → ℕ) → Option A → ℕ
-told f None = 0
-told f (Some x) = f x

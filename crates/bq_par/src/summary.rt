@@ -1,16 +1,16 @@
 //! What is said of a parallel run, once all seats have come back.
-ghost use Rattle.std.specs.Prelude.{◌≡◌, ◌<◌, ◌≤◌, ◌^◌, IfOk, map, length, vec_len, slice_get, string_bytes};
+ghost use Rattle.std.specs.Prelude.{◌≡◌, ◌↔◌, ◌<◌, ◌≤◌, ◌^◌, IfOk, IsTrue, map, length, vec_len, slice_get, string_bytes};
 ghost use Rattle.std.specs.List.{All, sum_by};
+ghost use Rattle.std.specs.Option.{option_map};
 ghost use Rattle.bq_tie.specs.Whole.{Each};
-ghost use Rattle.bq_history.specs.History.{Stands};
+ghost use Rattle.bq_history.specs.History.{IsConfirmed, Stands};
 ghost use Rattle.bq_par.specs.Summaries.{IsSummary, summary_line};
-ghost use Rattle.bq_par.specs.Ticks.{one_tick, ticks_in, ticks_of, told};
+ghost use Rattle.bq_par.specs.Ticks.{one_tick, ticks_of};
 
 use crate::shift::Done;
-use bq_closing::Closed;
 use bq_counters::Naming as Counting;
 use bq_disc::RunQueue;
-use bq_history::Receipt;
+use bq_history::{Compared, Receipt};
 use bq_machine::{Clock, Machine, Record, Seat};
 use bq_parts::{Event, Refusal};
 use bq_tie::Naming;
@@ -64,10 +64,11 @@ pub fn finish<Q: RunQueue + Drop, K: Clock + Drop, N: Naming + Counting, const P
         return Err(AllocError);
     }
     let closed = machine.close(seats);
+    let records = closed.history.in_order(alloc)?;
     Ok(Summary {
         events: closed.len(),
-        ticks: ticks_among(&closed),
-        confirmed: confirmed_among(&closed, &lists),
+        ticks: ticks_among(&records),
+        confirmed: confirmed_among(&records, &lists),
     })
 }
 
@@ -94,60 +95,69 @@ fn returned<N: Naming + Counting>(
     Ok(ReturnedSeats { seats, lists })
 }
 
-/// How many events of a history are ticks.
-fn ticks_among<Q: RunQueue + Drop, const P: usize>(closed: &Closed<Q, P>) -> u64
-    ensures { result ≡ ticks_in closed.now.history }
+/// How many of the records are of ticks.
+fn ticks_among(records: &[&Record]) -> u64
+    ensures { result ≡ sum_by (λ r. one_tick r.now) records.now }
 {
     let mut ticks = 0;
-    for place in 0..closed.len() {
-        ticks += ticks_at(closed, place);
+    for entry in records {
+        ticks += ticks_of_one(entry);
     }
     ticks
 }
 
-/// How many ticks a history has at a place: 1 or 0.
-fn ticks_at<Q: RunQueue + Drop, const P: usize>(closed: &Closed<Q, P>, place: u64) -> u64
-    ensures is { result ≡ told one_tick (slice_get closed.now.history place) }
+/// How many ticks a record tells: 1 or 0.
+fn ticks_of_one(entry: &Record) -> u64
+    ensures is { result ≡ one_tick entry.now }
     ensures few { result ≤ 1 }
 {
-    match closed.history.logged(place) {
-        Some(
-            Record {
-                event: Event::Tick { .. },
-                ..
-            },
-        ) => 1,
+    match &entry.event {
+        Event::Tick { .. } => 1,
         _ => 0,
     }
 }
 
-/// How many receipts of all lists stand in a history at their places.
-fn confirmed_among<Q: RunQueue + Drop, const P: usize>(
-    closed: &Closed<Q, P>,
-    lists: &[Vec<Receipt<Record>>],
-) -> u64
-    requires stand { All (λ l. All (Stands closed.now.history) l.items) lists.now }
+/// How many receipts of all lists stand among the records at their places.
+fn confirmed_among(records: &[&Record], lists: &[Vec<Receipt<Record>>]) -> u64
+    requires stand { All (λ l. All (Stands (map (λ r. r.now) records.now)) l.items) lists.now }
     requires few { sum_by (λ l. length l.items) lists.now < 2 ^ 64 }
     ensures { result ≡ sum_by (λ l. length l.items) lists.now }
 {
     let mut confirmed = 0;
     for list in lists {
-        confirmed += confirmed_in(closed, list);
+        confirmed += confirmed_in(records, list);
     }
     confirmed
 }
 
 /// How many receipts of one list do.
-fn confirmed_in<Q: RunQueue + Drop, const P: usize>(
-    closed: &Closed<Q, P>,
-    list: &[Receipt<Record>],
-) -> u64
-    requires { All (Stands closed.now.history) list.now }
+fn confirmed_in(records: &[&Record], list: &[Receipt<Record>]) -> u64
+    requires { All (Stands (map (λ r. r.now) records.now)) list.now }
     ensures { result ≡ length list.now }
 {
     let mut confirmed = 0;
     for receipt in list {
-        confirmed += u64::from(closed.confirms(receipt));
+        confirmed += u64::from(is_confirmed(records, receipt));
     }
     confirmed
+}
+
+/// Whether the receipt's record stands among the records at the receipt's place.
+fn is_confirmed(records: &[&Record], receipt: &Receipt<Record>) -> bool
+    ensures { IsTrue result ↔ IsConfirmed (λ r s. r ≡ s) (map (λ r. r.now) records.now) receipt.now }
+{
+    match record_at(records, receipt.place) {
+        Some(entry) => entry.is_alike(&receipt.entry),
+        None => false,
+    }
+}
+
+/// The record at a place, or none where there are not that many.
+fn record_at<'a>(records: &[&'a Record], place: u64) -> Option<&'a Record>
+    ensures { option_map (λ r. r.now) result ≡ slice_get (map (λ r. r.now) records.now) place }
+{
+    match records.get(place as usize) {
+        Some(entry) => Some(*entry),
+        None => None,
+    }
 }

@@ -2,6 +2,7 @@
 
 use crate::play::{Play, Script};
 use crate::script::{Outcome, run_script};
+use bq_alike::Answer;
 use bq_parts::{Event, Reply};
 use std::alloc::{AllocError, Global};
 use std::test::Fail;
@@ -63,7 +64,7 @@ fn four_seats_share_one_history(rt: HostRuntime) -> Result<(), Fail> {
         let Some(first) = list.get_mut(0) else {
             return Err(Fail::from("a seat has no receipt"));
         };
-        first.entry.reply = Ok(Reply::Retired);
+        first.entry.reply = Answer::of(&Ok(Reply::Retired));
     }
     // each seat has a receipt of another reply now
     assert_eq!(&rt; outcome.confirmed(), 4012);

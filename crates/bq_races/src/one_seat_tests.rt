@@ -1,6 +1,7 @@
 // The machine by one thread: what is answered, at which places, and what the end confirms. The values follow from the rules.
 ghost use Rattle.std.specs.Prelude.{◌≡◌};
 
+use bq_alike::Answer;
 use bq_cfs::CfsQueue;
 use bq_load::LoadFault;
 use bq_machine::{
@@ -36,12 +37,12 @@ type Single<N> = Machine<CfsQueue, Steady, N, 2>;
 
 /// Nothing runs on an opening machine, and so nothing is blocked there.
 fn is_idle(receipt: &Receipt<Record>) -> bool {
-    receipt.place == 0 && matches!(receipt.entry.reply, Err(Refusal::Idle))
+    receipt.place == 0 && matches!(receipt.entry.reply.told(), Err(Refusal::Idle))
 }
 
 /// An opening machine has nothing to pull.
 fn is_pull_of_none(receipt: &Receipt<Record>) -> bool {
-    let reply = &receipt.entry.reply;
+    let reply = receipt.entry.reply.told();
     receipt.place == 1
         && matches!(
             reply,
@@ -80,7 +81,7 @@ fn loads<N: Naming + Counting, R: Wait>(
         Ok(loaded) => {
             let drawn = &loaded.draw;
             let numbered =
-                matches!(drawn.entry.reply, Ok(Reply::Drawn { generation }) if generation == number);
+                matches!(drawn.entry.reply.told(), Ok(Reply::Drawn { generation }) if generation == number);
             drawn.place == place && numbered && loaded.installs.len() == 2
         }
         Err(_) => false,
@@ -119,7 +120,7 @@ fn has_both(
     pulled: Receipt<Record>,
 ) -> bool {
     let stands = closed.len() == 8 && closed.confirms(&idle) && closed.confirms(&pulled);
-    idle.entry.reply = Ok(Reply::Retired);
+    idle.entry.reply = Answer::of(&Ok(Reply::Retired));
     stands && !closed.confirms(&idle)
 }
 

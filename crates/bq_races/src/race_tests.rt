@@ -18,7 +18,10 @@ use std::thread::{Threads, map_vec};
 const THREADS: u64 = 8;
 
 /// How many calls each of them makes.
-const CALLS: u32 = 10_000;
+const CALLS: u32 = 125_000;
+
+/// The least number of events that the calls of all are.
+const EVENTS: u64 = 1_000_000;
 
 /// The seats that came back.
 fn returned<N: Naming + Counting>(
@@ -88,7 +91,7 @@ fn a_race_under_cfs_is_replayed(rt: HostRuntime) -> Result<(), Fail> {
     let alloc = rt.alloc();
     let (prepared, unnamed) = prepare::<CfsQueue>(alloc, 64, THREADS)?;
     let closed = race_under_cfs::<Brand, _>(&rt, alloc, prepared, unnamed)?;
-    assert!(&rt; closed.len() > u64::from(CALLS), "{} events", closed.len());
+    assert!(&rt; closed.len() >= EVENTS, "{} events", closed.len());
     assert!(&rt; is_replayed(alloc, closed)?);
     Ok(())
 }
@@ -98,7 +101,7 @@ fn a_race_under_eevdf_is_replayed(rt: HostRuntime) -> Result<(), Fail> {
     let alloc = rt.alloc();
     let (prepared, unnamed) = prepare::<EevdfQueue>(alloc, 64, THREADS)?;
     let closed = race_under_eevdf::<Brand, _>(&rt, alloc, prepared, unnamed)?;
-    assert!(&rt; closed.len() > u64::from(CALLS), "{} events", closed.len());
+    assert!(&rt; closed.len() >= EVENTS, "{} events", closed.len());
     assert!(&rt; is_replayed(alloc, closed)?);
     Ok(())
 }

@@ -90,7 +90,7 @@ pub fn is_replayed<Q: RunQueue + Drop, const P: usize>(
             is_same: true,
         };
         let answer = core.step(alloc, event_again(event)?, &mut board);
-        if !is_same_answer(&answer, reply) || !board.was_followed() {
+        if !is_same_answer(&answer, &reply) || !board.was_followed() {
             return Ok(false);
         }
         add_all(&mut sums, calls);

@@ -1,1 +1,2 @@
+pub mod Brief
 pub mod Told

@@ -7,7 +7,7 @@ ghost use Rattle.bq_parts.specs.declared.reply.Reply.TheVariants.{Drawn};
 ghost use Rattle.bq_cells.specs.Parts.{told_calls};
 
 use crate::recorder::{Caller, Place, Recorder};
-use bq_alike::answer_again;
+use bq_alike::Answer;
 use bq_cells::{Calls, NumberedCpu, Record, room};
 use bq_counters::Naming as Counting;
 use bq_disc::RunQueue;
@@ -80,12 +80,12 @@ impl<Q: RunQueue + Drop, N: Naming + Counting> Recorder<Q, N> {
         kept.drawn = generation;
         slip.set(Record {
             event: Event::Draw,
-            reply: Ok(Reply::Drawn { generation }),
+            reply: Answer::of(&Ok(Reply::Drawn { generation })),
             calls: Calls::none(),
         });
         let entry = Record {
             event: Event::Draw,
-            reply: Ok(Reply::Drawn { generation }),
+            reply: Answer::of(&Ok(Reply::Drawn { generation })),
             calls: Calls::none(),
         };
         let receipt = working.commit(&self.history, journal, slip, entry, kept);
@@ -131,7 +131,7 @@ impl<Q: RunQueue + Drop, N: Naming + Counting> Recorder<Q, N> {
                 generation,
                 policy: for_record,
             },
-            reply: answer_again(&reply),
+            reply: Answer::of(&reply),
             calls: Calls::none(),
         });
         let entry = Record {
@@ -141,7 +141,7 @@ impl<Q: RunQueue + Drop, N: Naming + Counting> Recorder<Q, N> {
                 generation,
                 policy: for_receipt,
             },
-            reply,
+            reply: Answer::of(&reply),
             calls: Calls::none(),
         };
         working.commit_one(&self.history, journal, &mut place.cell, slip, entry, kept)

@@ -6,7 +6,7 @@ ghost use Rattle.bq_parts.specs.Moves.{admitted};
 ghost use Rattle.bq_cells.specs.Parts.{told_calls};
 
 use crate::recorder::{Caller, Place, Recorder};
-use bq_alike::answer_again;
+use bq_alike::Answer;
 use bq_cells::{Calls, OneLobby, Record};
 use bq_counters::Naming as Counting;
 use bq_disc::RunQueue;
@@ -44,7 +44,7 @@ impl<Q: RunQueue + Drop, N: Naming + Counting> Recorder<Q, N> {
                 mask,
                 slice,
             },
-            reply: answer_again(&reply),
+            reply: Answer::of(&reply),
             calls: Calls::none(),
         });
         let entry = Record {
@@ -54,7 +54,7 @@ impl<Q: RunQueue + Drop, N: Naming + Counting> Recorder<Q, N> {
                 mask,
                 slice,
             },
-            reply,
+            reply: Answer::of(&reply),
             calls: Calls::none(),
         };
         let mut guard = self.journal.lock(rt);
@@ -82,12 +82,12 @@ impl<Q: RunQueue + Drop, N: Naming + Counting> Recorder<Q, N> {
         let reply = place.cell.content.state.retire(task);
         slip.set(Record {
             event: Event::Retire { task },
-            reply: answer_again(&reply),
+            reply: Answer::of(&reply),
             calls: Calls::none(),
         });
         let entry = Record {
             event: Event::Retire { task },
-            reply,
+            reply: Answer::of(&reply),
             calls: Calls::none(),
         };
         let mut guard = self.journal.lock(rt);

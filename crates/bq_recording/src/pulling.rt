@@ -1,11 +1,11 @@
 //! A processor takes a task from the queue of another.
-ghost use Rattle.std.specs.Prelude.{◌≡◌, ◌≢◌, ◌∷◌, ◌++◌, []};
+ghost use Rattle.std.specs.Prelude.{◌≡◌, ◌≢◌, ◌∷◌, ◌++◌, [], true, is_some};
 ghost use Rattle.bq_seats.specs.Calls.{account_of};
 ghost use Rattle.bq_cells.specs.Parts.{told_calls};
 
 use crate::recorder::{Caller, Place, Recorder};
-use bq_alike::answer_again;
-use bq_cells::{CallRooms, NumberedCpu, Record};
+use bq_alike::Answer;
+use bq_cells::{CallRooms, NumberedCpu, Record, hold_calls};
 use bq_counters::Naming as Counting;
 use bq_disc::RunQueue;
 use bq_history::{Receipt, Slip, look_at_both};
@@ -23,8 +23,9 @@ impl<Q: RunQueue + Drop, N: Naming + Counting> Recorder<Q, N> {
         source: &mut Place<NumberedCpu<Q>, N>,
         now: u64,
         mut slip: Slip<Record>,
-        rooms: CallRooms,
+        rooms: &mut Option<CallRooms>,
     ) -> Receipt<Record>
+        requires ready { is_some rooms.old ≡ true }
         requires tally { working.old.tally ≡ account_of told_calls working.old.caller.1 }
         requires apart { place.old.number ≢ source.old.number }
         ensures caller { working.new.caller ≡ (working.old.caller.0, working.old.caller.1 ++ result ∷ []) }
@@ -52,14 +53,14 @@ impl<Q: RunQueue + Drop, N: Naming + Counting> Recorder<Q, N> {
         let mut kept = journal.kept().again();
         kept.pull(processor, from, &reply);
         let reply = Ok(reply);
-        let (for_record, for_receipt) = rooms.hold(content.scratch.calls());
+        let (for_record, for_receipt) = hold_calls(rooms, content.scratch.calls());
         slip.set(Record {
             event: Event::Pull {
                 processor,
                 from,
                 now,
             },
-            reply: answer_again(&reply),
+            reply: Answer::of(&reply),
             calls: for_record,
         });
         let entry = Record {
@@ -68,7 +69,7 @@ impl<Q: RunQueue + Drop, N: Naming + Counting> Recorder<Q, N> {
                 from,
                 now,
             },
-            reply,
+            reply: Answer::of(&reply),
             calls: for_receipt,
         };
         working.commit_two(

@@ -1,11 +1,11 @@
 //! Events of one processor: its clock ticks, its inbox's tasks enter, and its running task goes to sleep.
-ghost use Rattle.std.specs.Prelude.{◌≡◌, ◌∷◌, ◌++◌, []};
+ghost use Rattle.std.specs.Prelude.{◌≡◌, ◌∷◌, ◌++◌, [], true, is_some};
 ghost use Rattle.bq_seats.specs.Calls.{account_of};
 ghost use Rattle.bq_cells.specs.Parts.{told_calls};
 
 use crate::recorder::{Caller, Place, Recorder};
-use bq_alike::answer_again;
-use bq_cells::{CallRooms, Calls, NumberedCpu, NumberedInbox, OneLobby, Record};
+use bq_alike::Answer;
+use bq_cells::{CallRooms, Calls, NumberedCpu, NumberedInbox, OneLobby, Record, hold_calls};
 use bq_counters::Naming as Counting;
 use bq_disc::RunQueue;
 use bq_history::{Receipt, Slip, look_at_both};
@@ -22,8 +22,9 @@ impl<Q: RunQueue + Drop, N: Naming + Counting> Recorder<Q, N> {
         place: &mut Place<NumberedCpu<Q>, N>,
         now: u64,
         mut slip: Slip<Record>,
-        rooms: CallRooms,
+        rooms: &mut Option<CallRooms>,
     ) -> Receipt<Record>
+        requires ready { is_some rooms.old ≡ true }
         requires tally { working.old.tally ≡ account_of told_calls working.old.caller.1 }
         ensures caller { working.new.caller ≡ (working.old.caller.0, working.old.caller.1 ++ result ∷ []) }
         ensures tally { working.new.tally ≡ account_of told_calls working.new.caller.1 }
@@ -39,15 +40,15 @@ impl<Q: RunQueue + Drop, N: Naming + Counting> Recorder<Q, N> {
             .tick(processor, now, &mut content.scratch, &mut desk);
         working.stand(desk);
         let reply = Ok(reply);
-        let (for_record, for_receipt) = rooms.hold(content.scratch.calls());
+        let (for_record, for_receipt) = hold_calls(rooms, content.scratch.calls());
         slip.set(Record {
             event: Event::Tick { processor, now },
-            reply: answer_again(&reply),
+            reply: Answer::of(&reply),
             calls: for_record,
         });
         let entry = Record {
             event: Event::Tick { processor, now },
-            reply,
+            reply: Answer::of(&reply),
             calls: for_receipt,
         };
         let mut guard = self.journal.lock(rt);
@@ -66,8 +67,9 @@ impl<Q: RunQueue + Drop, N: Naming + Counting> Recorder<Q, N> {
         inbox: &mut Place<NumberedInbox, N>,
         now: u64,
         mut slip: Slip<Record>,
-        rooms: CallRooms,
+        rooms: &mut Option<CallRooms>,
     ) -> Receipt<Record>
+        requires ready { is_some rooms.old ≡ true }
         requires tally { working.old.tally ≡ account_of told_calls working.old.caller.1 }
         requires own { inbox.old.number ≡ place.old.number }
         ensures caller { working.new.caller ≡ (working.old.caller.0, working.old.caller.1 ++ result ∷ []) }
@@ -88,15 +90,15 @@ impl<Q: RunQueue + Drop, N: Naming + Counting> Recorder<Q, N> {
         );
         working.stand(desk);
         let reply = Ok(reply);
-        let (for_record, for_receipt) = rooms.hold(content.scratch.calls());
+        let (for_record, for_receipt) = hold_calls(rooms, content.scratch.calls());
         slip.set(Record {
             event: Event::Drain { processor, now },
-            reply: answer_again(&reply),
+            reply: Answer::of(&reply),
             calls: for_record,
         });
         let entry = Record {
             event: Event::Drain { processor, now },
-            reply,
+            reply: Answer::of(&reply),
             calls: for_receipt,
         };
         let mut guard = self.journal.lock(rt);
@@ -138,19 +140,19 @@ impl<Q: RunQueue + Drop, N: Naming + Counting> Recorder<Q, N> {
             .block(&mut lobby.cell.content.state, processor, now);
         slip.set(Record {
             event: Event::Block { processor, now },
-            reply: answer_again(&reply),
+            reply: Answer::of(&reply),
             calls: Calls::none(),
         });
         let entry = Record {
             event: Event::Block { processor, now },
-            reply,
+            reply: Answer::of(&reply),
             calls: Calls::none(),
         };
         let mut guard = self.journal.lock(rt);
         let journal = &mut *guard;
         journal.need_room(rt);
         let mut kept = journal.kept().again();
-        kept.block(processor, &entry.reply);
+        kept.block(processor, &reply);
         working.commit_two(
             &self.history,
             journal,

@@ -1,5 +1,5 @@
 //! Both events of a wake: a task of the lobby comes into a processor's hand, and is placed.
-ghost use Rattle.std.specs.Prelude.{◌≡◌, ◌∷◌, ◌++◌, ◌<◌, ◌⊎◌, [], None, Some, IfErr, OnOk, OnErr, length};
+ghost use Rattle.std.specs.Prelude.{◌≡◌, ◌∷◌, ◌++◌, ◌<◌, ◌⊎◌, [], None, Some, IfErr, OnOk, OnErr, length, true, is_some};
 ghost use Rattle.std.specs.Option.{option_map};
 ghost use Rattle.bq_history.specs.Items.{part_item};
 ghost use Rattle.bq_seats.specs.Calls.{account_of};
@@ -8,12 +8,12 @@ ghost use Rattle.bq_cells.specs.Parts.{cpu_part, told_calls};
 ghost use Rattle.bq_recording.specs.Placing.{IsPlaced};
 
 use crate::recorder::{Caller, CpuCell, Place, Recorder, need_own};
-use bq_alike::answer_again;
-use bq_cells::{CallRooms, Calls, NumberedInbox, OneLobby, Record};
+use bq_alike::Answer;
+use bq_cells::{CallRooms, Calls, NumberedInbox, OneLobby, Record, hold_calls};
 use bq_counters::Naming as Counting;
 use bq_disc::RunQueue;
 use bq_history::{Receipt, Slip};
-use bq_parts::{Event, Placement, Reply};
+use bq_parts::{Event, Loads, Placement, Reply};
 use bq_tie::Naming;
 use std::sync::{Mutex, Wait};
 
@@ -28,6 +28,8 @@ impl<Q: RunQueue + Drop, N: Naming + Counting> Recorder<Q, N> {
         lobby: &mut Place<OneLobby, N>,
         task: u16,
         mut slip: Slip<Record>,
+        for_record: Box<Loads>,
+        for_receipt: Box<Loads>,
     ) -> Receipt<Record>
         requires seat { task < 1024 }
         requires tally { working.old.tally ≡ account_of told_calls working.old.caller.1 }
@@ -54,12 +56,12 @@ impl<Q: RunQueue + Drop, N: Naming + Counting> Recorder<Q, N> {
             .begin_wake(&mut lobby.cell.content.state, task, &kept.loads);
         slip.set(Record {
             event: Event::BeginWake { processor, task },
-            reply: answer_again(&reply),
+            reply: Answer::with_room(&reply, for_record),
             calls: Calls::none(),
         });
         let entry = Record {
             event: Event::BeginWake { processor, task },
-            reply,
+            reply: Answer::with_room(&reply, for_receipt),
             calls: Calls::none(),
         };
         working.commit_two(
@@ -84,9 +86,10 @@ impl<Q: RunQueue + Drop, N: Naming + Counting> Recorder<Q, N> {
         task: u16,
         now: u64,
         mut slip: Slip<Record>,
-        rooms: CallRooms,
+        rooms: &mut Option<CallRooms>,
     ) -> Receipt<Record>
         requires inboxes { length inboxes.now ≡ self.now.history.about }
+        requires ready { is_some rooms.old ≡ true }
         requires tally { working.old.tally ≡ account_of told_calls working.old.caller.1 }
         requires says { cell.old.holder ≡ part_item (cpu_part cell.old.content.number cell.old.content.state) ∷ [] }
         requires hand { option_map (λ c. c.task.id) cell.old.content.state.hand ≡ Some task }
@@ -130,15 +133,15 @@ impl<Q: RunQueue + Drop, N: Naming + Counting> Recorder<Q, N> {
             by,
             steps,
         });
-        let (for_record, for_receipt) = rooms.hold(content.scratch.calls());
+        let (for_record, for_receipt) = hold_calls(rooms, content.scratch.calls());
         slip.set(Record {
             event: Event::EndWake { processor, now },
-            reply: answer_again(&reply),
+            reply: Answer::of(&reply),
             calls: for_record,
         });
         let entry = Record {
             event: Event::EndWake { processor, now },
-            reply,
+            reply: Answer::of(&reply),
             calls: for_receipt,
         };
         let mut guard = self.journal.lock(rt);

@@ -1,8 +1,8 @@
-use Rattle.std.proofs.Common.{◌≡◌, ◌*◌, ℕ, length, rules, arith, sym, ap, ◌∙◌}
+use Rattle.std.proofs.Common.{◌≡◌, ◌*◌, ℕ, List, length, map, rules, arith, sym, ap, ◌∙◌}
 use Rattle.std.specs.List.{sum_by}
 use Rattle.bq_history.specs.History.{EachOnce, Stands, IsRising}
-use Rattle.bq_par.specs.Ticks.{one_tick, ticks_of}
-use Rattle.bq_par.proofs.Counts.{all_items, same_many, total_times}
+use Rattle.bq_par.specs.Ticks.{one_tick, ticks_in, ticks_of}
+use Rattle.bq_par.proofs.Counts.{all_items, same_many, total_map, total_times}
 use Rattle.bq_par.proofs.summary.finish.Goals as goal
 
 pub close-closed-requires : goal.close-closed-requires
@@ -15,22 +15,26 @@ confirmed_among-requires g c =
     let back = c.in_ok-seats.field-0 in
     let r = c.close-closed.ensures.receipts in
     let log = c.close-closed.result.history in
-    let many = same_many (λ s. s.1) (λ v. v.items) back.seats.items back.lists.items back.same in (
-      search rules,
-      (
-        rw c.deref-2.ensures.value (all_items (λ s. s.1) (λ v. v.items) (Stands log) (λ s. IsRising 0 s.1) back.seats.items back.lists.items back.same r.stand),
-        rw c.deref-2.ensures.value (omega (arith, many, r.many, c.len.ensures, c.len.type_inv)),
-      ),
-    )
+    let all : map (λ x. x.now) c.in_ok-records.records.items ≡ log = c.in_ok-records.ensures in
+    let many = same_many (λ s. s.1) (λ v. v.items) back.seats.items back.lists.items back.same in
+    record {
+      stand = rw (c.deref-3.ensures.value, c.deref-4.ensures.value, all) (all_items (λ s. s.1) (λ v. v.items) (Stands log) (λ s. IsRising 0 s.1) back.seats.items back.lists.items back.same r.stand);
+      few = rw c.deref-4.ensures.value (omega (arith, many, r.many, c.len.ensures, c.len.type_inv));
+    }
 
 pub returns : goal.returns
 returns g c =
     let back = c.in_ok-seats.field-0 in
     let said = c.in_ok-seats.ensures in
     let r = c.close-closed.ensures.receipts in
+    let log = c.close-closed.result.history in
+    let records = c.in_ok-records.records.items in
     let many : length back.seats.items ≡ g.row.P = said.many ∙ c.requires.many in
+    let ticked : c.ticks_among.result ≡ ticks_in log =
+        c.ticks_among.ensures ∙ (ap (λ vs. sum_by (λ v. one_tick v.now) vs) c.deref-2.ensures.value
+        ∙ (sym (total_map one_tick (λ v. v.now) records) ∙ ap (λ l. ticks_in l) c.in_ok-records.ensures)) in
     record {
-      log = c.close-closed.result.history;
+      log = log;
       world = c.close-closed.result.core;
       callers = back.seats.items;
       leaves = c.close-closed.ensures.history;
@@ -38,7 +42,7 @@ returns g c =
       many = many;
       each = said.ticked;
       events = c.len.ensures;
-      ticked = c.ticks_among.ensures;
-      asked = c.ticks_among.ensures ∙ (sym (r.counts one_tick) ∙ (total_times (λ s. ticks_of s.1) c.args.ticks back.seats.items said.ticked ∙ ap (λ (n : ℕ). n * c.args.ticks) many));
-      confirmed = c.confirmed_among.ensures ∙ (ap (λ vs. sum_by (λ v. length v.items) vs) c.deref-2.ensures.value ∙ same_many (λ s. s.1) (λ v. v.items) back.seats.items back.lists.items back.same);
+      ticked = ticked;
+      asked = ticked ∙ (sym (r.counts one_tick) ∙ (total_times (λ s. ticks_of s.1) c.args.ticks back.seats.items said.ticked ∙ ap (λ (n : ℕ). n * c.args.ticks) many));
+      confirmed = c.confirmed_among.ensures ∙ (ap (λ vs. sum_by (λ v. length v.items) vs) c.deref-4.ensures.value ∙ same_many (λ s. s.1) (λ v. v.items) back.seats.items back.lists.items back.same);
     }

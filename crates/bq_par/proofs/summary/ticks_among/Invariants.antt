@@ -1,9 +1,10 @@
 use Rattle.std.proofs.Common.{◌≡◌, ◌≤◌, take}
-use Rattle.bq_par.specs.Ticks.{ticks_in}
+use Rattle.std.specs.List.{sum_by}
+use Rattle.bq_par.specs.Ticks.{one_tick}
 use Rattle.bq_par.proofs.summary.ticks_among.Given as goal
 
-abbrev pub invariant-loop-place : goal.invariant-loop-place
-invariant-loop-place g l = record {
-  counted : l.ticks ≡ ticks_in (take l.place l.closed.history);
-  few : l.ticks ≤ l.place;
+abbrev pub invariant-loop-entry : goal.invariant-loop-entry
+invariant-loop-entry l = record {
+  counted : l.ticks ≡ sum_by (λ r. one_tick r.now) (take l.entry-index l.records);
+  few : l.ticks ≤ l.entry-index;
 }

@@ -4,9 +4,7 @@ use Rattle.bq_history.specs.Items.{part_item, callers_from, journal_item}
 use Rattle.bq_parts.specs.World.{opening_world}
 use Rattle.bq_cells.specs.declared.law.Kept.{Kept}
 use Rattle.bq_cells.proofs.Loads.{opening_loads}
-use Rattle.bq_cells.specs.Parts.{cpus_from, inboxes_from, kept_of}
-use Rattle.bq_cells.specs.Opened.{cpu_items, inbox_items}
-use Rattle.bq_cells.proofs.Opening.{in_order}
+use Rattle.bq_cells.specs.Parts.{first_parts, kept_of}
 use Rattle.bq_machine.proofs.locks.Machine.with_queues.Goals as goal
 
 pub open-journal-requires : goal.open-journal-requires
@@ -16,32 +14,17 @@ open-journal-requires g c =
     ap (λ (ls : List ℕ). record { drawn = 0; loads = ls }) (opening_loads p.about ∙ ap (λ (n : ℕ). replicate n 0) c.requires.counts.0 ∙ sym c.no_loads.ensures) in
     ap first_of c.named-history.ensures.1 ∙ ap (λ (k : Kept). journal_item [] k ∷ []) none
 
-pub cpu_locks-requires-clause-items : goal.cpu_locks-requires-clause-items
-cpu_locks-requires-clause-items g c =
-    let n = g.row.P in
-    let s = c.args.seat_count in
+pub part_locks-requires-clause-items : goal.part_locks-requires-clause-items
+part_locks-requires-clause-items g c =
     let p = c.args.prepared.1 in
-    let base : c.open-lobby.new.all ≡ map part_item (cpus_from 0 p.about ++ inboxes_from 0 p.about) ++ callers_from 0 p.callers = c.open-lobby.ensures.0 ∙ ap others_of (c.open-journal.ensures.0 ∙ ap others_of c.named-history.ensures.1) in
-    let start = rw (c.requires.counts.0, c.requires.counts.1) at base in
-    (inbox_items 0 n ++ callers_from 0 s, start ∙ in_order n (callers_from 0 s) ∙ ap (λ (k : ℕ). cpu_items 0 k ++ (inbox_items 0 n ++ callers_from 0 s)) (sym c.requires.many))
-
-pub inbox_locks-requires : goal.inbox_locks-requires
-inbox_locks-requires g c =
-    let n = g.row.P in
-    let s = c.args.seat_count in
-    let p = c.args.prepared.1 in
-    let base : c.open-lobby.new.all ≡ map part_item (cpus_from 0 p.about ++ inboxes_from 0 p.about) ++ callers_from 0 p.callers = c.open-lobby.ensures.0 ∙ ap others_of (c.open-journal.ensures.0 ∙ ap others_of c.named-history.ensures.1) in
-    let start = rw (c.requires.counts.0, c.requires.counts.1) at base in
-    (callers_from 0 s, c.in_ok-cpu_locks.ensures.rest (inbox_items 0 n ++ callers_from 0 s) (start ∙ in_order n (callers_from 0 s) ∙ ap (λ (k : ℕ). cpu_items 0 k ++ (inbox_items 0 n ++ callers_from 0 s)) (sym c.requires.many)))
+    let base : c.open-journal.new.all ≡ map part_item (first_parts p.about) ++ callers_from 0 p.callers = c.open-journal.ensures.0 ∙ ap others_of c.named-history.ensures.1 in
+    (c.args.seat_count, rw (c.requires.counts.0, c.requires.counts.1) at base)
 
 pub seats-requires-clause-all : goal.seats-requires-clause-all
 seats-requires-clause-all g c =
-    let n = g.row.P in
-    let s = c.args.seat_count in
     let p = c.args.prepared.1 in
-    let base : c.open-lobby.new.all ≡ map part_item (cpus_from 0 p.about ++ inboxes_from 0 p.about) ++ callers_from 0 p.callers = c.open-lobby.ensures.0 ∙ ap others_of (c.open-journal.ensures.0 ∙ ap others_of c.named-history.ensures.1) in
-    let start = rw (c.requires.counts.0, c.requires.counts.1) at base in
-    c.in_ok-inbox_locks.ensures.rest (callers_from 0 s) (c.in_ok-cpu_locks.ensures.rest (inbox_items 0 n ++ callers_from 0 s) (start ∙ in_order n (callers_from 0 s) ∙ ap (λ (k : ℕ). cpu_items 0 k ++ (inbox_items 0 n ++ callers_from 0 s)) (sym c.requires.many)))
+    let base : c.open-journal.new.all ≡ map part_item (first_parts p.about) ++ callers_from 0 p.callers = c.open-journal.ensures.0 ∙ ap others_of c.named-history.ensures.1 in
+    c.in_ok-locks.ensures.rest c.args.seat_count (rw (c.requires.counts.0, c.requires.counts.1) at base)
 
 pub invariant_of-machine : goal.invariant_of-machine
 invariant_of-machine g c =
@@ -50,8 +33,8 @@ invariant_of-machine g c =
     let callers : c.named-history.result.0.callers ≡ c.args.seat_count = ap (λ s. s.callers) of ∙ c.requires.counts.1 in
     record {
       about = ap (λ s. s.about) of ∙ c.requires.counts.0;
-      counted = c.in_ok-cpu_locks.ensures.locks ∙ c.requires.many;
-      one_each = c.in_ok-inbox_locks.ensures.locks;
+      counted = c.in_ok-locks.ensures.cpus;
+      one_each = c.in_ok-locks.ensures.inboxes;
       few = c.requires.few;
       seated = sym callers;
     }

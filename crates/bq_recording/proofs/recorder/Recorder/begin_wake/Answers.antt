@@ -1,4 +1,4 @@
-use Rattle.std.proofs.Common.{◌≡◌, ap, sym, ◌∙◌}
+use Rattle.std.proofs.Common.{ap, sym, ◌∙◌}
 use Rattle.bq_parts.specs.Shares.{Begins}
 use Rattle.bq_cells.specs.Parts.{cpu_part, lobby_part}
 use Rattle.bq_cells.proofs.Looked.{SeenLobby, seen_own}
@@ -21,7 +21,7 @@ commit_two-requires-clause-moves g c =
       lobby_part hall,
       c.requires.says,
       c.lobby.invariant.0,
-      rw (c.again-kept.ensures, c.kept.ensures, c.none-2.ensures)
+      rw (c.again-kept.ensures, c.kept.ensures, c.none-2.ensures, c.with_room-2.ensures)
           (begin_moves d n own.number c.args.task own.state b.new.self hall b.new.lobby k b.result c.requires.seat share),
     )
 
@@ -39,4 +39,4 @@ returns-clause-hand g c =
     let there = c.lobby.view_is ∙ c.look.ensures.same in
     let seen : SeenLobby d n hall = rw there c.look.ensures.world in
     let share : Begins c.args.task k.loads own.state hall b.result b.new.self b.new.lobby = rw (c.again-kept.ensures, c.kept.ensures) at b.ensures.share in
-    rw (c.commit_two.ensures.receipt.1, c.commit_two.ensures.a.0) (begun_hand c.args.task k.loads own.state hall b.result b.new.self b.new.lobby share (seen_own d n hall seen c.args.task))
+    rw (c.commit_two.ensures.receipt.1, c.with_room-2.ensures, c.commit_two.ensures.a.0) (begun_hand c.args.task k.loads own.state hall b.result b.new.self b.new.lobby share (seen_own d n hall seen c.args.task))

@@ -41,22 +41,22 @@ commit_two-requires-clause-moves g c =
     let there = c.inbox-2.view_is ∙ c.look-2.ensures.same in
     let same : box.number ≡ x.to = ap (λ b. b.number) (there ∙ sym c.inbox.view_is) ∙ c.need_own.ensures in
     let count : length c.args.inboxes.now ≡ n = c.requires.inboxes in
-    let calls : c.hold-for_record.result.1 ≡ c.end_wake.new.scratch = c.hold-for_record.ensures.receipt ∙ c.calls.ensures.value in
-    let share : Places (policies d) n own.number c.args.now own.state c.hold-for_record.result.1 (Some x) q = rw calls (rw count at c.in-Some.ensures.share) in
+    let calls : c.hold_calls-for_record.result.1 ≡ c.end_wake.new.scratch = c.hold_calls-for_record.ensures.receipt ∙ c.calls.ensures.value in
+    let share : Places (policies d) n own.number c.args.now own.state c.hold_calls-for_record.result.1 (Some x) q = rw calls (rw count at c.in-Some.ensures.share) in
     let hand : option_map (λ (y : Carried). y.task.id) own.state.hand ≡ Some c.args.task = rw c.look.ensures.same c.requires.hand in
     let asked : c.args.task ≡ x.task.id = placed_own c.args.task own.state.hand share.0 x hand share.2 share.3 in (
       cpu_part own.number own.state,
       inbox_part box.number box.state,
       rw c.look.ensures.same c.requires.says,
       c.inbox-2.invariant.0,
-      rw (c.one_more.ensures, c.again-kept.ensures, c.kept.ensures, c.push.ensures, same)
-          (place_moves d n own.number c.args.now c.args.task own.state q box.state c.hold-for_record.result.1 k x asked share),
+      rw (c.of-2.ensures, c.one_more.ensures, c.again-kept.ensures, c.kept.ensures, c.push.ensures, same)
+          (place_moves d n own.number c.args.now c.args.task own.state q box.state c.hold_calls-for_record.result.1 k x asked share),
     )
 
 pub commit_two-requires-clause-told : goal.commit_two-requires-clause-told
 commit_two-requires-clause-told g c =
     let t = c.end_wake in
-    let calls : c.hold-for_record.result.1 ≡ t.new.scratch = c.hold-for_record.ensures.receipt ∙ c.calls.ensures.value in
-    told_of (λ x. x.tally) c.sit-desk.result t.new.board c.args.working.now.caller.1 c.stand.new.self.caller.1 t.new.scratch c.hold-for_record.result.1 c.stand.new.self.tally
+    let calls : c.hold_calls-for_record.result.1 ≡ t.new.scratch = c.hold_calls-for_record.ensures.receipt ∙ c.calls.ensures.value in
+    told_of (λ x. x.tally) c.sit-desk.result t.new.board c.args.working.now.caller.1 c.stand.new.self.caller.1 t.new.scratch c.hold_calls-for_record.result.1 c.stand.new.self.tally
     (c.sit-desk.ensures.desk ∙ c.requires.tally) t.ensures.board c.stand.ensures.tally
     (ap (λ x. x.1) (c.stand.ensures.caller ∙ c.sit-desk.ensures.caller)) calls

@@ -9,6 +9,7 @@ use Rattle.bq_cells.specs.Parts.{cpu_part}
 use Rattle.bq_cells.proofs.CallSteps.{install_moves}
 use Rattle.bq_seats.specs.Calls.{ahead}
 use Rattle.bq_cells.specs.Parts.{told_calls}
+use Rattle.bq_recording.proofs.Brief.{installs_brief}
 use Rattle.bq_recording.proofs.recorder.Recorder.install.Goals as goal
 
 pub replace-reply-requires : goal.replace-reply-requires
@@ -32,9 +33,15 @@ commit_one-requires-clause-moves g c =
     let share = subst (λ (x : Program). Installs h k.drawn own.state x r q) whole had in (
       cpu_part own.number own.state,
       c.place.invariant.0,
-      rw (c.again-kept.ensures, c.kept.ensures, c.none-2.ensures, c.generation-generation.ensures.value, c.args.spare.receipt_is)
+      rw (c.of-2.ensures, c.again-kept.ensures, c.kept.ensures, c.none-2.ensures, c.generation-generation.ensures.value, c.args.spare.receipt_is)
           (install_moves d n own.number i.generation h i.policy own.state q k r fits share),
     )
 
 pub commit_one-requires-clause-told : goal.commit_one-requires-clause-told
 commit_one-requires-clause-told g c = c.requires.tally ∙ ap (λ l. ahead told_calls c.args.working.now.caller.1 l) (sym c.none-2.ensures)
+
+pub of-requires : goal.of-requires
+of-requires g c = installs_brief c.args.hook _ _ _ c.replace-reply.result c.replace-reply.new.self c.replace-reply.ensures.share
+
+pub of-requires-2 : goal.of-requires-2
+of-requires-2 g c = installs_brief c.args.hook _ _ _ c.replace-reply.result c.replace-reply.new.self c.replace-reply.ensures.share

@@ -1,4 +1,4 @@
-use Rattle.std.proofs.Common.{◌≡◌, ◌≢◌, ℕ, ◌<◌, ap, sym, ◌∙◌, arith}
+use Rattle.std.proofs.Common.{Ok, ◌≡◌, ◌≢◌, ap, ◌∙◌, arith}
 use Rattle.bq_parts.specs.Choices.{policies}
 use Rattle.bq_parts.specs.Shares.{Pulls}
 use Rattle.bq_cells.specs.Parts.{cpu_part}
@@ -6,6 +6,7 @@ use Rattle.bq_cells.proofs.Reached.{reached_sound}
 use Rattle.bq_cells.proofs.Looked.{SeenTwo, two_once, two_seated}
 use Rattle.bq_cells.proofs.PullSteps.{pull_moves}
 use Rattle.bq_recording.proofs.Told.{told_of}
+use Rattle.bq_alike.specs.Brief.{has_loads}
 use Rattle.bq_recording.proofs.recorder.Recorder.pull.Goals as goal
 
 pub pull-reply-requires-clause-inside : goal.pull-reply-requires-clause-inside
@@ -54,20 +55,26 @@ commit_two-requires-clause-moves g c =
     let apart : own.number ≢ other.number = rw (here, there) c.requires.apart in
     let k = c.deref_mut-journal.result.now.1 in
     let t = c.pull-reply in
-    let calls : c.hold-for_record.result.1 ≡ t.new.scratch = c.hold-for_record.ensures.receipt ∙ c.calls.ensures.value in
-    let share : Pulls (policies d) own.number other.number c.args.now own.state other.state c.hold-for_record.result.1 t.result t.new.self t.new.source = rw calls t.ensures.share in (
+    let calls : c.hold_calls-for_record.result.1 ≡ t.new.scratch = c.hold_calls-for_record.ensures.receipt ∙ c.calls.ensures.value in
+    let share : Pulls (policies d) own.number other.number c.args.now own.state other.state c.hold_calls-for_record.result.1 t.result t.new.self t.new.source = rw calls t.ensures.share in (
       cpu_part own.number own.state,
       cpu_part other.number other.state,
       c.place.invariant.0,
       c.source.invariant.0,
-      rw (c.pull.ensures, c.again-kept.ensures, c.kept.ensures)
-          (pull_moves d n own.number other.number c.args.now own.state t.new.self other.state t.new.source c.hold-for_record.result.1 k t.result apart share),
+      rw (c.pull.ensures, c.of-2.ensures, c.again-kept.ensures, c.kept.ensures)
+          (pull_moves d n own.number other.number c.args.now own.state t.new.self other.state t.new.source c.hold_calls-for_record.result.1 k t.result apart share),
     )
 
 pub commit_two-requires-clause-told : goal.commit_two-requires-clause-told
 commit_two-requires-clause-told g c =
     let t = c.pull-reply in
-    let calls : c.hold-for_record.result.1 ≡ t.new.scratch = c.hold-for_record.ensures.receipt ∙ c.calls.ensures.value in
-    told_of (λ x. x.tally) c.sit-desk.result t.new.board c.args.working.now.caller.1 c.stand.new.self.caller.1 t.new.scratch c.hold-for_record.result.1 c.stand.new.self.tally
+    let calls : c.hold_calls-for_record.result.1 ≡ t.new.scratch = c.hold_calls-for_record.ensures.receipt ∙ c.calls.ensures.value in
+    told_of (λ x. x.tally) c.sit-desk.result t.new.board c.args.working.now.caller.1 c.stand.new.self.caller.1 t.new.scratch c.hold_calls-for_record.result.1 c.stand.new.self.tally
     (c.sit-desk.ensures.desk ∙ c.requires.tally) t.ensures.board c.stand.ensures.tally
     (ap (λ x. x.1) (c.stand.ensures.caller ∙ c.sit-desk.ensures.caller)) calls
+
+pub of-requires : goal.of-requires
+of-requires g c = ap (λ r. has_loads (Ok r)) c.pull-reply.ensures.share.1.2
+
+pub of-requires-2 : goal.of-requires-2
+of-requires-2 g c = ap (λ r. has_loads (Ok r)) c.pull-reply.ensures.share.1.2

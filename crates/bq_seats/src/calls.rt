@@ -1,5 +1,5 @@
 //! The calls of counters of one event.
-ghost use Rattle.std.specs.Prelude.{◌≡◌, ◌≤◌, [], length};
+ghost use Rattle.std.specs.Prelude.{◌≡◌, ◌≤◌, [], length, true, is_some};
 
 use arrayvec::ArrayVec;
 use bq_maps::Call;
@@ -16,7 +16,7 @@ pub struct Calls {
 impl Model for Calls {
     ghost use Rattle.std.specs.Prelude.{List};
     ghost use Rattle.bq_maps.specs.declared.board.Call.{Call as Asked};
-    ghost use Rattle.bq_cells.specs.Listed.{listed};
+    ghost use Rattle.bq_seats.specs.Listed.{listed};
 
     ghost Value = { List Asked };
 
@@ -65,19 +65,22 @@ impl CallRooms {
         let receipt = Box::new(alloc, ArrayVec::new())?;
         Ok(CallRooms { record, receipt })
     }
+}
 
-    /// These calls, for the record and for the receipt.
-    pub fn hold(self, calls: &[Call]) -> (Calls, Calls)
-        requires { length calls.now ≤ 16 }
-        ensures record { result.0 ≡ calls.now }
-        ensures receipt { result.1 ≡ calls.now }
-    {
-        if calls.is_empty() {
-            return (Calls::none(), Calls::none());
-        }
-        let CallRooms { record, receipt } = self;
-        (filled(record, calls), filled(receipt, calls))
+/// These calls, for the record and for the receipt. Where there are none the rooms stay for another event.
+pub fn hold_calls(rooms: &mut Option<CallRooms>, calls: &[Call]) -> (Calls, Calls)
+    requires few { length calls.now ≤ 16 }
+    requires ready { is_some rooms.old ≡ true }
+    ensures record { result.0 ≡ calls.now }
+    ensures receipt { result.1 ≡ calls.now }
+{
+    if calls.is_empty() {
+        return (Calls::none(), Calls::none());
     }
+    let Some(CallRooms { record, receipt }) = rooms.take() else {
+        unreachable!()
+    };
+    (filled(record, calls), filled(receipt, calls))
 }
 
 fn filled(room: Box<ArrayVec<Call, 16>>, calls: &[Call]) -> Calls
