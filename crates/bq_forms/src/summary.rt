@@ -10,7 +10,7 @@ use crate::percentiles::{Percentiles, WakeLatencies};
 use crate::tables::nanoseconds;
 use crate::window::Window;
 use bq_schedule::{Change, HookFigures, ProcessorFigures, Schedule, TaskFigures};
-use serde_json::{Value, json};
+use serde_json::{Map, Value, json, put};
 use std::alloc::{AllocError, Global};
 
 /// The figures of the report, in full, as one JSON object: `tasks` and `processors`, an object each. Times are nanoseconds.
@@ -83,28 +83,54 @@ impl Json {
         fair: u64,
         percentiles: &Percentiles,
     ) -> Result<Value, AllocError> {
+        let mut members = Map::new(self.alloc);
         let name = match names.of(task) {
             Some(name) => Value::try_from_str(self.alloc, name)?,
             None => Value::Null,
         };
+        put(&mut members, self.alloc, "name", name)?;
+        put(&mut members, self.alloc, "nice", Value::from(figures.nice))?;
+        self.put_numbers(
+            &mut members,
+            &[
+                ("task", u64::from(task)),
+                ("weight", u64::from(figures.weight)),
+                ("ran", figures.time),
+                ("fair", fair),
+                ("waited", figures.waited),
+            ],
+        )?;
         let latency = self.latency(percentiles)?;
-        let counts = json!(in self.alloc; {
-            "switches": (figures.switches),
-            "preemptions": (figures.preemptions),
-            "migrations": (figures.migrations),
-            "wakes": (figures.wakes)
-        })?;
-        json!(in self.alloc; {
-            "task": task,
-            "name": name,
-            "nice": (figures.nice),
-            "weight": (figures.weight),
-            "ran": (figures.time),
-            "fair": fair,
-            "waited": (figures.waited),
-            "latency": latency,
-            "counts": counts
-        })
+        put(&mut members, self.alloc, "latency", latency)?;
+        let counts = self.counts(figures)?;
+        put(&mut members, self.alloc, "counts", counts)?;
+        Ok(Value::Object(members))
+    }
+
+    fn counts(&self, figures: &TaskFigures) -> Result<Value, AllocError> {
+        let mut members = Map::new(self.alloc);
+        self.put_numbers(
+            &mut members,
+            &[
+                ("switches", figures.switches),
+                ("preemptions", figures.preemptions),
+                ("migrations", figures.migrations),
+                ("wakes", figures.wakes),
+            ],
+        )?;
+        Ok(Value::Object(members))
+    }
+
+    /// Puts each number into an object, by its key.
+    fn put_numbers(
+        &self,
+        members: &mut Map<String, Value>,
+        numbers: &[(&str, u64)],
+    ) -> Result<(), AllocError> {
+        for (key, number) in numbers {
+            put(members, self.alloc, key, Value::from(*number))?;
+        }
+        Ok(())
     }
 
     fn latency(&self, percentiles: &Percentiles) -> Result<Value, AllocError>
@@ -118,19 +144,25 @@ impl Json {
     }
 
     fn processor(&self, number: u8, figures: &ProcessorFigures) -> Result<Value, AllocError> {
-        let place = self.hook(&figures.place)?;
-        let preempt = self.hook(&figures.preempt)?;
-        let pull = self.hook(&figures.pull)?;
-        let idle = figures.idle();
-        json!(in self.alloc; {
-            "processor": number,
-            "busy": (figures.busy),
-            "idle": idle,
-            "switches": (figures.switches),
-            "place": place,
-            "preempt": preempt,
-            "pull": pull
-        })
+        let mut members = Map::new(self.alloc);
+        self.put_numbers(
+            &mut members,
+            &[
+                ("processor", u64::from(number)),
+                ("busy", figures.busy),
+                ("idle", figures.idle()),
+                ("switches", figures.switches),
+            ],
+        )?;
+        for (key, hook) in [
+            ("place", figures.place),
+            ("preempt", figures.preempt),
+            ("pull", figures.pull),
+        ] {
+            let hook = self.hook(&hook)?;
+            put(&mut members, self.alloc, key, hook)?;
+        }
+        Ok(Value::Object(members))
     }
 
     fn hook(&self, figures: &HookFigures) -> Result<Value, AllocError>

@@ -149,6 +149,10 @@ works-read_at cpu now j s inside false (inr other) =
     ap (λ l. get_or l j unread) (processors-read_at cpu now s)
     ∙ get_or-set_other s.processors cpu j (processor_read cpu (processor_of s cpu) now) unread (λ e. other.1 (sym e))
 
+-- the processor that was read
+pub read_there : (cpu now : ℕ) (s : Figures) → cpu < length s.processors → processor_of (read_at cpu now s) cpu ≡ processor_read cpu (processor_of s cpu) now
+read_there cpu now s inside = works-read_at cpu now cpu s inside true (inl (refl, refl))
+
 pub processor-read_at : (cpu now j : ℕ) (s : Figures) → j < length s.processors →
     processor_of (read_at cpu now s) j ≡ cond (eqb cpu j) (processor_read cpu (processor_of s cpu) now) (processor_of s j)
 processor-read_at cpu now j s inside = works-read_at cpu now j s inside (eqb cpu j) (eqb_tells cpu j)

@@ -6,7 +6,7 @@ use Rattle.std.proofs.lemmas.Bool.Decides.{eqb_tells, nat_tests}
 use Rattle.std.proofs.lemmas.List.{get_or-replicate, length-set, length-replicate}
 use Rattle.bq_disc.specs.Tasks.{Task, id_of, with_id}
 use Rattle.bq_disc.specs.Discipline.{Discipline, charged, next_of}
-use Rattle.bq_disc.specs.OneProcessor.{Running, reading, charge, marked, run_id, start, exchanged, switched, decided, enter_all}
+use Rattle.bq_disc.specs.OneProcessor.{Running, reading, charge, run_id, exchanged, decided, enter_all}
 use Rattle.bq_maps.specs.declared.board.Call.{Call as Asked}
 use Rattle.bq_parts.specs.declared.event.Event.{Event}
 use Rattle.bq_parts.specs.declared.event.Event.TheVariants.{Admit, Retire, Draw, Install, BeginWake, EndWake, Drain, Tick, Block, Pull}
@@ -24,7 +24,7 @@ use Rattle.bq_parts.specs.Shares.{after_time, remarked}
 use Rattle.bq_parts.specs.Steps.{Performs, WorldStep, WorldRun}
 use Rattle.bq_core.specs.Laws.{under_any_answers}
 use Rattle.bq_core.proofs.Order.{there, passed}
-use Rattle.bq_schedule.specs.Moments.{Moment, History}
+use Rattle.bq_schedule.specs.Moments.{History}
 use Rattle.bq_schedule.specs.Slices.{Sight, sight, sight_of, clock_after, clock, runner_after, runner}
 use Rattle.bq_schedule.specs.Laws.{IsWithin, IsOf, grown, IsCharged}
 use Rattle.bq_schedule.proofs.Frames.{get_or-set_like}

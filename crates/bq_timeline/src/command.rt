@@ -30,15 +30,17 @@ impl<T: Drop> From<AllocFailed<T>> for WordsFault {
 
 /// Reads the words after `timeline`.
 pub fn words<'a>(alloc: Global, given: &'a [&'a str]) -> Result<Words, WordsFault> {
-    let command = command(alloc)?;
-    match command.try_get_matches_from(given) {
-        Ok(matches) => Ok(found(alloc, &matches)?),
-        Err(error) => Err(refusal(alloc, &error)),
+    match command(alloc) {
+        Ok(command) => match command.try_get_matches_from(given) {
+            Ok(matches) => found(alloc, &matches),
+            Err(error) => Err(refusal(alloc, &error)),
+        },
+        Err(_) => Err(WordsFault::OutOfMemory),
     }
 }
 
 /// The words that were found.
-fn found(alloc: Global, matches: &ArgMatches<'_>) -> Result<Words, AllocError> {
+fn found(alloc: Global, matches: &ArgMatches<'_>) -> Result<Words, WordsFault> {
     let file = word(alloc, matches, "file")?;
     let form = word(alloc, matches, "as")?;
     let from = word(alloc, matches, "from")?;
@@ -81,32 +83,59 @@ fn refusal(alloc: Global, error: &clap::Error) -> WordsFault {
 
 /// The options, as clap takes them. The words come without the program's name and `timeline`.
 fn command<'a>(alloc: Global) -> Result<Command<'a>, AllocError> {
-    let command = Command::new(alloc, "timeline").about(
-        "Reads a trace and shows its schedule in a form that people read",
-    );
+    let command = Command::new(alloc, "timeline")
+        .about(ABOUT)
+        .no_binary_name(true);
+    let mut command = with_file(alloc, command)?;
+    for option in &OPTIONS {
+        command = with_option(alloc, command, option)?;
+    }
+    command.bin_name("bqsim timeline")
+}
+
+/// What the command does.
+const ABOUT: &str = "Reads a trace and shows its schedule in a form that people read";
+
+/// An option's name, the name of its value, and what it asks for.
+type OptionText = (&'static str, &'static str, &'static str);
+
+/// The options, each of which takes one value.
+const OPTIONS: [OptionText; 6] = [
+    (
+        "as",
+        "FORM",
+        "report (without it), map, timehist, why, svg, perfetto, csv or json",
+    ),
+    (
+        "from",
+        "TIME",
+        "Shows what is from then on: 1500, 1.5ms, 2s",
+    ),
+    ("to", "TIME", "Shows what is up to then"),
+    ("cpus", "LIST", "Shows these processors alone, as in 0-3,8"),
+    ("tasks", "LIST", "Shows these tasks alone, as in 1,4"),
+    ("width", "COLUMNS", "How wide a map is, 80 without it"),
+];
+
+/// The command with the argument that names the trace.
+fn with_file<'a>(alloc: Global, command: Command<'a>) -> Result<Command<'a>, AllocError> {
     let file = Arg::new(alloc, "file")
         .value_name("FILE")
         .help("The trace; standard input without it, or as -");
-    let command = command.arg(file)?;
-    let form = option(alloc, "as", "FORM").help(
-        "report (without it), map, timehist, why, svg, perfetto, csv or json",
-    );
-    let command = command.arg(form)?;
-    let from = option(alloc, "from", "TIME").help("Shows what is from then on: 1500, 1.5ms, 2s");
-    let command = command.arg(from)?;
-    let to = option(alloc, "to", "TIME").help("Shows what is up to then");
-    let command = command.arg(to)?;
-    let cpus = option(alloc, "cpus", "LIST").help("Shows these processors alone, as in 0-3,8");
-    let command = command.arg(cpus)?;
-    let tasks = option(alloc, "tasks", "LIST").help("Shows these tasks alone, as in 1,4");
-    let command = command.arg(tasks)?;
-    let width = option(alloc, "width", "COLUMNS").help("How wide a map is, 80 without it");
-    let command = command.arg(width)?;
-    let command = command.bin_name("bqsim timeline")?;
-    Ok(command.no_binary_name(true))
+    command.arg(file)
 }
 
-/// An option that takes one value.
-fn option<'a>(alloc: Global, name: &'a str, value: &'a str) -> Arg<'a> {
-    Arg::new(alloc, name).long(name).value_name(value)
+/// The command with an option.
+fn with_option<'a>(
+    alloc: Global,
+    command: Command<'a>,
+    option: &OptionText,
+) -> Result<Command<'a>, AllocError> {
+    let (name, value, help) = *option;
+    command.arg(
+        Arg::new(alloc, name)
+            .long(name)
+            .value_name(value)
+            .help(help),
+    )
 }

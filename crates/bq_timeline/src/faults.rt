@@ -41,57 +41,54 @@ impl Kind {
             Kind::Counter => numbers::processor(word).is_some_and(|counter| counter < 64),
         }
     }
+
+    /// What a word that is not that is said to be, or not to fit.
+    fn words(self) -> &'static str {
+        match self {
+            Kind::Rule => "is no rule (cfs or eevdf)",
+            Kind::Size => "is no number of processors (1, 2, 4, 8, 16, 32 or 64)",
+            Kind::Processor => "does not fit a processor's number (0 to 255)",
+            Kind::Task => "does not fit a task's number (0 to 65535)",
+            Kind::Nice => "does not fit a nice value (-128 to 127)",
+            Kind::Mask => "does not fit a mask (64 bits, decimal or hex after 0x)",
+            Kind::Time => "does not fit a clock reading (0 to 2^64 - 1)",
+            Kind::Generation => "does not fit a generation (0 to 2^64 - 1)",
+            Kind::Slice => "does not fit a slice (0 to 2^64 - 1)",
+            Kind::Hook => "is no hook (place, preempt or pull)",
+            Kind::Image => "is no image",
+            Kind::Counter => "does not fit a counter's number (0 to 63)",
+        }
+    }
 }
 
 impl fmt::Display for Kind {
     fn fmt<W: fmt::Write>(&self, f: &mut fmt::Formatter<W>) -> fmt::Result {
-        match self {
-            Kind::Rule => write!(f, "is no rule (cfs or eevdf)"),
-            Kind::Size => { write!(f, "is no number of processors (1, 2, 4, 8, 16, 32 or 64)") }
-            Kind::Processor => write!(f, "does not fit a processor's number (0 to 255)"),
-            Kind::Task => write!(f, "does not fit a task's number (0 to 65535)"),
-            Kind::Nice => write!(f, "does not fit a nice value (-128 to 127)"),
-            Kind::Mask => { write!(f, "does not fit a mask (64 bits, decimal or hex after 0x)") }
-            Kind::Time => write!(f, "does not fit a clock reading (0 to 2^64 - 1)"),
-            Kind::Generation => write!(f, "does not fit a generation (0 to 2^64 - 1)"),
-            Kind::Slice => write!(f, "does not fit a slice (0 to 2^64 - 1)"),
-            Kind::Hook => write!(f, "is no hook (place, preempt or pull)"),
-            Kind::Image => write!(f, "is no image"),
-            Kind::Counter => write!(f, "does not fit a counter's number (0 to 63)"),
-        }
+        f.write_str(self.words())
     }
 }
 
 /// The words that follow a command's name.
 fn operands_of(name: &[u8]) -> Option<&'static [Kind]> {
-    if name == b"machine".as_slice() {
-        Some(&[Kind::Rule, Kind::Size])
-    } else if name == b"admit".as_slice() {
-        Some(&[Kind::Task, Kind::Nice, Kind::Mask, Kind::Slice])
-    } else if name == b"retire".as_slice() {
-        Some(&[Kind::Task])
-    } else if name == b"draw".as_slice() {
-        Some(&[])
-    } else if name == b"install".as_slice() {
-        Some(&[Kind::Processor, Kind::Generation, Kind::Hook, Kind::Image])
-    } else if name == b"begin".as_slice() {
-        Some(&[Kind::Processor, Kind::Task])
-    } else if name == b"wake".as_slice() {
-        Some(&[Kind::Processor, Kind::Task, Kind::Time])
-    } else if name == b"end".as_slice()
-        || name == b"drain".as_slice()
-        || name == b"tick".as_slice()
-        || name == b"block".as_slice()
-    {
-        Some(&[Kind::Processor, Kind::Time])
-    } else if name == b"pull".as_slice() {
-        Some(&[Kind::Processor, Kind::Processor, Kind::Time])
-    } else if name == b"show".as_slice() {
-        Some(&[Kind::Processor])
-    } else if name == b"counter".as_slice() {
-        Some(&[Kind::Counter])
-    } else {
-        None
+    match str::from_utf8(name) {
+        Ok(name) => operands_of_text(name),
+        Err(_) => None,
+    }
+}
+
+fn operands_of_text(name: &str) -> Option<&'static [Kind]> {
+    match name {
+        "machine" => Some(&[Kind::Rule, Kind::Size]),
+        "admit" => Some(&[Kind::Task, Kind::Nice, Kind::Mask, Kind::Slice]),
+        "retire" => Some(&[Kind::Task]),
+        "draw" => Some(&[]),
+        "install" => Some(&[Kind::Processor, Kind::Generation, Kind::Hook, Kind::Image]),
+        "begin" => Some(&[Kind::Processor, Kind::Task]),
+        "wake" => Some(&[Kind::Processor, Kind::Task, Kind::Time]),
+        "end" | "drain" | "tick" | "block" => Some(&[Kind::Processor, Kind::Time]),
+        "pull" => Some(&[Kind::Processor, Kind::Processor, Kind::Time]),
+        "show" => Some(&[Kind::Processor]),
+        "counter" => Some(&[Kind::Counter]),
+        _ => None,
     }
 }
 
@@ -171,7 +168,7 @@ impl fmt::Display for Quoted<'_> {
     fn fmt<W: fmt::Write>(&self, f: &mut fmt::Formatter<W>) -> fmt::Result {
         let word = beginning(self.0);
         match str::from_utf8(word) {
-            Ok(word) => write!(f, "{word}"),
+            Ok(word) => f.write_str(word),
             Err(_) => Ok(()),
         }
     }
@@ -180,8 +177,8 @@ impl fmt::Display for Quoted<'_> {
 impl fmt::Display for Fault<'_> {
     fn fmt<W: fmt::Write>(&self, f: &mut fmt::Formatter<W>) -> fmt::Result {
         match self {
-            Fault::TooLong => write!(f, "a line has at most 131072 bytes"),
-            Fault::Byte => write!(f, "a byte is neither printable ASCII nor a tab"),
+            Fault::TooLong => f.write_str("a line has at most 131072 bytes"),
+            Fault::Byte => f.write_str("a byte is neither printable ASCII nor a tab"),
             Fault::Name(name) => {
                 let name = Quoted(name);
                 write!(f, "{name} is no command")
@@ -194,13 +191,10 @@ impl fmt::Display for Fault<'_> {
                 let word = Quoted(word);
                 write!(f, "{word} {kind}")
             }
-            Fault::Again => write!(f, "the machine is made already"),
-            Fault::NoMachine => {
-                write!(
-                    f,
-                    "a trace begins with its machine line; nothing after this is done"
-                )
-            }
+            Fault::Again => f.write_str("the machine is made already"),
+            Fault::NoMachine => f.write_str(
+                "a trace begins with its machine line; nothing after this is done",
+            ),
         }
     }
 }

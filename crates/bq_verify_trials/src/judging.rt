@@ -12,9 +12,6 @@ use std::test::Fail;
 /// The budget of an accepted program, or why it is refused.
 pub type Verdict = Result<u32, Refused>;
 
-/// The beginning of a program, and what is answered to it.
-pub type Trial = (&'static str, Verdict);
-
 /// The refusal of a slot.
 pub fn at(slot: usize, cause: Cause) -> Verdict {
     Err(Refused::At { slot, cause })
@@ -50,18 +47,30 @@ pub fn judge(alloc: Global, text: &str, shapes: &[MapShape]) -> Result<Verdict, 
     Ok(verdict(alloc, insns, shapes, Hook::Preempt, Version::First)?)
 }
 
-/// Each program, of such a beginning and that end, has its answer beside these maps.
+/// What is answered, in a word or two: the budget, or the cause of the refusal and its slot.
+fn said(alloc: Global, verdict: &Verdict) -> Result<String, AllocError> {
+    match verdict {
+        Ok(budget) => format!(in alloc; "{budget}"),
+        Err(Refused::At { slot, cause }) => format!(in alloc; "{cause:?} {slot}"),
+        Err(Refused::OutOfMemory) => String::from_str(alloc, "out of memory"),
+    }
+}
+
+/// Each program, of such a beginning and that end, has its answer beside these maps. Between the trials stand blank lines, and a trial's
+/// first line is the answer.
 pub fn expect(
     rt: &impl Abort,
     alloc: Global,
     shapes: &[MapShape],
-    trials: &[Trial],
+    trials: &str,
     end: &str,
 ) -> Result<(), Fail> {
-    for (beginning, answer) in trials {
+    for trial in trials.split("\n\n") {
+        let (answer, beginning) = trial.split_once('\n').ok_or("no answer")?;
         let text = format!(in alloc; "{beginning}\n{end}")?;
         let verdict = judge(alloc, text.as_str(), shapes)?;
-        assert_eq!(rt; verdict, *answer, "{beginning}");
+        let said = said(alloc, &verdict)?;
+        assert_eq!(rt; said.as_str(), answer, "{beginning}");
     }
     Ok(())
 }
@@ -81,13 +90,8 @@ mov64 r0, 0
 exit
 ";
 
-/// The refusal of an access.
-pub fn access(slot: usize) -> Verdict {
-    at(slot, Cause::Access)
-}
-
 /// Each program, of such a beginning and that end, has its answer beside two maps of one entry of 16 bytes each.
-pub fn follows(rt: &impl Abort, alloc: Global, trials: &[Trial], end: &str) -> Result<(), Fail> {
+pub fn follows(rt: &impl Abort, alloc: Global, trials: &str, end: &str) -> Result<(), Fail> {
     let shape = MapShape::new(16, 1).ok_or("shape")?;
     expect(rt, alloc, &[shape, shape], trials, end)
 }

@@ -3,7 +3,7 @@
 ghost use Rattle.std.specs.Prelude.{◌≡◌};
 ghost use Rattle.bq_verify.specs.Worked.{calling, worked};
 
-use crate::judging::{Trial, Verdict, at, expect, judge, verdict};
+use crate::judging::{Verdict, at, expect, judge, verdict};
 use bq_asm::assemble;
 use bq_graph::cause::Cause;
 use bq_insn::{Condition, Insn, Operation, Size, Source, Width};
@@ -15,53 +15,138 @@ use std::test::Fail;
 
 #[test]
 fn refusals(rt: HostRuntime) -> Result<(), Fail> {
-    let trials: [Trial; 15] = [
-        ("exit", at(0, Cause::Answer)),
-        ("mov64 r0, r1\nexit", at(1, Cause::Answer)),
-        ("mov64 r0, r3\nexit", at(0, Cause::Unset)),
-        ("call 5\nmov64 r0, r1\nexit", at(1, Cause::Unset)),
-        ("ldxdw r0, [r10-8]\nexit", at(0, Cause::Access)),
-        ("stw [r1+0], 0\nmov64 r0, 0\nexit", at(0, Cause::Access)),
-        ("mul64 r1, 2\nmov64 r0, 0\nexit", at(0, Cause::PointerUse)),
-        (
-            "mov64 r0, 0\nstxw [r10-4], r1\nexit",
-            at(1, Cause::PointerUse),
-        ),
-        ("ldmap r1, 0\nmov64 r0, 0\nexit", at(0, Cause::Argument)),
-        ("call 3\nexit", at(0, Cause::Helper)),
-        (
-            "ja +1\nmov64 r0, 0\nmov64 r0, 1\nexit",
-            at(1, Cause::Unreached),
-        ),
-        (
-            "stxdw [r10-8], r1\nldxdw r2, [r10-8]\nldxw r0, [r2+0]\nexit",
-            Ok(4),
-        ),
-        ("mov64 r0, 0\njeq64 r0, 0, +1\nmov64 r0, 1\nexit", Ok(4)),
-        ("mov64 r10, 0\nmov64 r0, 0\nexit", at(0, Cause::Frame)),
-        ("mov64 r0, 1\nlsh64 r0, 64\nexit", Ok(3)),
-    ];
-    expect(&rt, rt.alloc(), &[], trials.as_slice(), "")
+    expect(&rt, rt.alloc(), &[], REFUSALS, "")?;
+    expect(&rt, rt.alloc(), &[], JOINS, "")?;
+    expect(
+        &rt,
+        rt.alloc(),
+        &[],
+        CONTEXT,
+        "add64 r1, r2\nldxb r0, [r1+0]\nexit\nmov64 r0, 0\nexit\n",
+    )
 }
 
-#[test]
-fn joins(rt: HostRuntime) -> Result<(), Fail> {
-    let trials: [Trial; 5] = [
-        // r2 is the frame's end on one way, and 0 on the other
-        (
-            "ldxw r3, [r1+0]\njeq64 r3, 0, +2\nmov64 r2, r10\nja +1\nmov64 r2, 0\nldxdw r0, [r2-8]\nexit",
-            at(5, Cause::Unset),
-        ),
-        (
-            "ldxw r3, [r1+0]\njeq64 r3, 0, +2\nmov64 r2, r10\nja +1\nmov64 r2, 0\nmov64 r0, 0\nexit",
-            Ok(6),
-        ),
-        ("ja +1\nlddw r1, 0\nmov64 r0, 0\nexit", at(0, Cause::Jump)),
-        ("ja -1\nexit", at(0, Cause::Jump)),
-        ("mov64 r0, 0", at(0, Cause::NoExit)),
-    ];
-    expect(&rt, rt.alloc(), &[], trials.as_slice(), "")
-}
+/// Programs that are refused, and some that are not.
+const REFUSALS: &str = "\
+Answer 0
+exit
+
+Answer 1
+mov64 r0, r1
+exit
+
+Unset 0
+mov64 r0, r3
+exit
+
+Unset 1
+call 5
+mov64 r0, r1
+exit
+
+Access 0
+ldxdw r0, [r10-8]
+exit
+
+Access 0
+stw [r1+0], 0
+mov64 r0, 0
+exit
+
+PointerUse 0
+mul64 r1, 2
+mov64 r0, 0
+exit
+
+PointerUse 1
+mov64 r0, 0
+stxw [r10-4], r1
+exit
+
+Argument 0
+ldmap r1, 0
+mov64 r0, 0
+exit
+
+Helper 0
+call 3
+exit
+
+Unreached 1
+ja +1
+mov64 r0, 0
+mov64 r0, 1
+exit
+
+4
+stxdw [r10-8], r1
+ldxdw r2, [r10-8]
+ldxw r0, [r2+0]
+exit
+
+4
+mov64 r0, 0
+jeq64 r0, 0, +1
+mov64 r0, 1
+exit
+
+Frame 0
+mov64 r10, 0
+mov64 r0, 0
+exit
+
+3
+mov64 r0, 1
+lsh64 r0, 64
+exit";
+
+/// Programs whose ways meet, and jumps that lead nowhere.
+const JOINS: &str = "\
+Unset 5
+; r2 is the frame's end on one way, and 0 on the other
+ldxw r3, [r1+0]
+jeq64 r3, 0, +2
+mov64 r2, r10
+ja +1
+mov64 r2, 0
+ldxdw r0, [r2-8]
+exit
+
+6
+ldxw r3, [r1+0]
+jeq64 r3, 0, +2
+mov64 r2, r10
+ja +1
+mov64 r2, 0
+mov64 r0, 0
+exit
+
+Jump 0
+ja +1
+lddw r1, 0
+mov64 r0, 0
+exit
+
+Jump 0
+ja -1
+exit
+
+NoExit 0
+mov64 r0, 0";
+
+/// A load of the context at a number of it, where a branch says what the number may be.
+const CONTEXT: &str = "\
+5
+ldxw r2, [r1+0]
+jgt64 r2, 55, +3
+
+Access 3
+ldxw r2, [r1+0]
+jgt64 r2, 56, +3
+
+Access 3
+ldxw r2, [r1+0]
+jle64 r2, 55, +3";
 
 /// Programs of 4,096 slots: straight, and with a branch at every second slot.
 #[test]
@@ -93,18 +178,6 @@ fn repeated(
 
 /// Loads, and how many bytes each takes.
 const LOADS: [(&str, u64); 4] = [("ldxb", 1), ("ldxh", 2), ("ldxw", 4), ("ldxdw", 8)];
-
-/// A load of the context at a number of it, where a branch says what the number may be.
-#[test]
-fn context(rt: HostRuntime) -> Result<(), Fail> {
-    let trials: [Trial; 3] = [
-        ("ldxw r2, [r1+0]\njgt64 r2, 55, +3", Ok(5)),
-        ("ldxw r2, [r1+0]\njgt64 r2, 56, +3", at(3, Cause::Access)),
-        ("ldxw r2, [r1+0]\njle64 r2, 55, +3", at(3, Cause::Access)),
-    ];
-    let end = "add64 r1, r2\nldxb r0, [r1+0]\nexit\nmov64 r0, 0\nexit\n";
-    expect(&rt, rt.alloc(), &[], trials.as_slice(), end)
-}
 
 /// A load of 56 bytes of context at up to each bound is accepted exactly where it stays inside.
 #[test]

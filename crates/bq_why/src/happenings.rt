@@ -9,29 +9,56 @@ pub struct InWords<'a>(pub &'a Event);
 
 impl fmt::Display for InWords<'_> {
     fn fmt<W: fmt::Write>(&self, f: &mut fmt::Formatter<W>) -> fmt::Result {
-        match self.0 {
-            Event::Admit { task, .. } => write!(f, "admit {task}"),
-            Event::Retire { task } => write!(f, "retire {task}"),
-            Event::Draw => write!(f, "draw"),
-            Event::Install {
-                processor,
-                hook,
-                ..
-            } => {
-                let hook = hook.word();
-                write!(f, "install {processor} {hook}")
-            }
-            Event::BeginWake { processor, task } => write!(f, "begin {processor} {task}"),
-            Event::EndWake { processor, .. } => write!(f, "end {processor}"),
-            Event::Drain { processor, .. } => write!(f, "drain {processor}"),
-            Event::Tick { processor, .. } => write!(f, "tick {processor}"),
-            Event::Block { processor, .. } => write!(f, "block {processor}"),
-            Event::Pull {
-                processor,
-                from,
-                ..
-            } => write!(f, "pull {processor} {from}"),
+        f.write_str(name_of(self.0))?;
+        let (first, second) = numbers_of(self.0);
+        if let Some(first) = first {
+            write!(f, " {first}")?;
         }
+        if let Some(second) = second {
+            write!(f, " {second}")?;
+        }
+        match self.0 {
+            Event::Install { hook, .. } => {
+                f.write_str(" ")?;
+                f.write_str(hook.word())
+            }
+            _ => Ok(()),
+        }
+    }
+}
+
+/// The name of an event's line.
+fn name_of(event: &Event) -> &'static str {
+    match event {
+        Event::Admit { .. } => "admit",
+        Event::Retire { .. } => "retire",
+        Event::Draw => "draw",
+        Event::Install { .. } => "install",
+        Event::BeginWake { .. } => "begin",
+        Event::EndWake { .. } => "end",
+        Event::Drain { .. } => "drain",
+        Event::Tick { .. } => "tick",
+        Event::Block { .. } => "block",
+        Event::Pull { .. } => "pull",
+    }
+}
+
+/// The numbers of the task and the processors that an event names, in the order of its line.
+fn numbers_of(event: &Event) -> (Option<u16>, Option<u16>) {
+    match event {
+        Event::Admit { task, .. } | Event::Retire { task } => (Some(*task), None),
+        Event::Draw => (None, None),
+        Event::BeginWake { processor, task } => (Some(u16::from(*processor)), Some(*task)),
+        Event::Install { processor, .. }
+        | Event::EndWake { processor, .. }
+        | Event::Drain { processor, .. }
+        | Event::Tick { processor, .. }
+        | Event::Block { processor, .. } => (Some(u16::from(*processor)), None),
+        Event::Pull {
+            processor,
+            from,
+            ..
+        } => (Some(u16::from(*processor)), Some(u16::from(*from))),
     }
 }
 
@@ -42,21 +69,29 @@ pub struct Because(pub Refusal);
 impl fmt::Display for Because {
     fn fmt<W: fmt::Write>(&self, f: &mut fmt::Formatter<W>) -> fmt::Result {
         match self.0 {
-            Refusal::NoProcessor => write!(f, "the machine has no such processor"),
-            Refusal::NoTask => write!(f, "no such task is admitted"),
-            Refusal::NotBlocked => write!(f, "the task does not sleep"),
-            Refusal::TaskExists => write!(f, "the task is admitted already"),
-            Refusal::EmptyMask => write!(f, "the mask has no processor of the machine"),
-            Refusal::Nice => write!(f, "a nice value is from -20 to 19"),
-            Refusal::Slice => write!(f, "a slice is from 100000 to 100000000 ns"),
-            Refusal::Idle => write!(f, "nothing runs there"),
-            Refusal::SameProcessor => write!(f, "a processor does not pull from itself"),
-            Refusal::InHand => write!(f, "a wake has begun there and has not ended"),
-            Refusal::NothingInHand => write!(f, "no wake has begun there"),
             Refusal::Older(newest) => write!(f, "generation {newest} stands there already"),
-            Refusal::NotDrawn => write!(f, "that generation was not drawn"),
-            Refusal::WrongHook => write!(f, "the policy was verified for another hook"),
-            Refusal::OutOfMemory => write!(f, "out of memory"),
+            other => f.write_str(reason(other)),
         }
+    }
+}
+
+/// The reason of a refusal, in words without a number.
+fn reason(refusal: Refusal) -> &'static str {
+    match refusal {
+        Refusal::NoProcessor => "the machine has no such processor",
+        Refusal::NoTask => "no such task is admitted",
+        Refusal::NotBlocked => "the task does not sleep",
+        Refusal::TaskExists => "the task is admitted already",
+        Refusal::EmptyMask => "the mask has no processor of the machine",
+        Refusal::Nice => "a nice value is from -20 to 19",
+        Refusal::Slice => "a slice is from 100000 to 100000000 ns",
+        Refusal::Idle => "nothing runs there",
+        Refusal::SameProcessor => "a processor does not pull from itself",
+        Refusal::InHand => "a wake has begun there and has not ended",
+        Refusal::NothingInHand => "no wake has begun there",
+        Refusal::Older(_) => "a newer generation stands there already",
+        Refusal::NotDrawn => "that generation was not drawn",
+        Refusal::WrongHook => "the policy was verified for another hook",
+        Refusal::OutOfMemory => "out of memory",
     }
 }

@@ -17,7 +17,7 @@ pub struct Who<'a> {
 impl fmt::Display for Who<'_> {
     fn fmt<W: fmt::Write>(&self, f: &mut fmt::Formatter<W>) -> fmt::Result {
         match self.names.of(self.task) {
-            Some(name) => write!(f, "{name}"),
+            Some(name) => f.write_str(name),
             None => {
                 let task = self.task;
                 write!(f, "{task}")
@@ -35,12 +35,12 @@ pub struct Ids<'a> {
 
 impl fmt::Display for Ids<'_> {
     fn fmt<W: fmt::Write>(&self, f: &mut fmt::Formatter<W>) -> fmt::Result {
-        write!(f, "{{")?;
+        f.write_str("{")?;
         let mut is_first = true;
         for row in self.rows {
             if row.is_eligible {
                 if !is_first {
-                    write!(f, ", ")?;
+                    f.write_str(", ")?;
                 }
                 is_first = false;
                 let who = Who {
@@ -50,7 +50,7 @@ impl fmt::Display for Ids<'_> {
                 write!(f, "{who}")?;
             }
         }
-        write!(f, "}}")
+        f.write_str("}")
     }
 }
 
@@ -61,11 +61,8 @@ pub struct Virtual(pub u64);
 impl fmt::Display for Virtual {
     fn fmt<W: fmt::Write>(&self, f: &mut fmt::Formatter<W>) -> fmt::Result {
         let distance = Millis(self.0.abs_diff(START));
-        if self.0 < START {
-            write!(f, "-{distance}")
-        } else {
-            write!(f, "{distance}")
-        }
+        let sign = if self.0 < START { "-" } else { "" };
+        write!(f, "{sign}{distance}")
     }
 }
 
@@ -75,14 +72,8 @@ pub struct Lag<'a>(pub &'a Row);
 
 impl fmt::Display for Lag<'_> {
     fn fmt<W: fmt::Write>(&self, f: &mut fmt::Formatter<W>) -> fmt::Result {
-        let amount = match u64::try_from(self.0.lag) {
-            Ok(lag) => Millis(lag),
-            Err(_) => Millis(u64::MAX),
-        };
-        if self.0.is_eligible {
-            write!(f, "+{amount}")
-        } else {
-            write!(f, "-{amount}")
-        }
+        let amount = Millis(u64::try_from(self.0.lag).unwrap_or(u64::MAX));
+        let sign = if self.0.is_eligible { '+' } else { '-' };
+        write!(f, "{sign}{amount}")
     }
 }

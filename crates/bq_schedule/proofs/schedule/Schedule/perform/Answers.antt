@@ -1,7 +1,120 @@
-use Rattle.std.proofs.Common.{◌∙◌, ap}
-use Rattle.bq_schedule.specs.Steps.{emptied, decided}
+use Rattle.std.proofs.Common.{◌≡◌, ◌≢◌, ℕ, ℤ, Option, refl, sym, ◌∙◌, ap}
+use Rattle.bq_hooks.specs.declared.settled.By.{By}
+use Rattle.bq_parts.specs.declared.event.Event.{Event}
+use Rattle.bq_parts.specs.declared.event.Event.TheVariants.{Admit, Retire, Draw, Install, BeginWake, EndWake, Drain, Tick, Block, Pull}
+use Rattle.bq_parts.specs.declared.reply.Reply.{Reply}
+use Rattle.bq_parts.specs.declared.reply.Reply.TheVariants.{Admitted, Retired, Drawn, Installed, Begun, Placed, Drained, Ticked, Blocked as Went, Pulled}
+use Rattle.bq_schedule.specs.Figures.{Figures}
+use Rattle.bq_schedule.specs.Steps.{emptied, decided, performed, performed_told, nothing}
 use Rattle.bq_schedule.specs.declared.change.Decision.{Decision}
 use Rattle.bq_schedule.proofs.schedule.Schedule.perform.Goals as goal
+use Rattle.bq_schedule.proofs.schedule.Schedule.perform.Goals.{in_default-via-in-Admit+in_default, in_default-via-in-EndWake+in_default, in_default-via-in-Drain+in_default, in_default-via-in-Tick+in_default, in_default-via-in-Block+in_default, in_default-via-in-Pull+in_default, in_default-via-in_default}
+
+-- the answer changes nothing: it is of another kind than its event
+abbrev Stands : Figures → Event → Reply → Type 0
+Stands s e r = (performed s e r ≡ s) × (performed_told s e r ≡ nothing)
+
+other_admit : (s : Figures) (id : ℕ) (nice : ℤ) (mask slice : ℕ) (r : Reply) → (r ≢ Admitted) → Stands s (Admit id nice mask slice) r
+other_admit s id nice mask slice Admitted differs = absurd (differs refl)
+other_admit s id nice mask slice Retired differs = (refl, refl)
+other_admit s id nice mask slice (Drawn g) differs = (refl, refl)
+other_admit s id nice mask slice Installed differs = (refl, refl)
+other_admit s id nice mask slice (Begun t l) differs = (refl, refl)
+other_admit s id nice mask slice (Placed t to b n) differs = (refl, refl)
+other_admit s id nice mask slice (Drained k run b n) differs = (refl, refl)
+other_admit s id nice mask slice (Ticked run b n) differs = (refl, refl)
+other_admit s id nice mask slice (Went t run) differs = (refl, refl)
+other_admit s id nice mask slice (Pulled t run b n) differs = (refl, refl)
+
+other_endwake : (s : Figures) (cpu now : ℕ) (r : Reply) → ((t to : ℕ) (b : By) (n : ℕ) → r ≢ Placed t to b n) → Stands s (EndWake cpu now) r
+other_endwake s cpu now Admitted differs = (refl, refl)
+other_endwake s cpu now Retired differs = (refl, refl)
+other_endwake s cpu now (Drawn g) differs = (refl, refl)
+other_endwake s cpu now Installed differs = (refl, refl)
+other_endwake s cpu now (Begun t l) differs = (refl, refl)
+other_endwake s cpu now (Placed t to b n) differs = absurd (differs t to b n refl)
+other_endwake s cpu now (Drained k run b n) differs = (refl, refl)
+other_endwake s cpu now (Ticked run b n) differs = (refl, refl)
+other_endwake s cpu now (Went t run) differs = (refl, refl)
+other_endwake s cpu now (Pulled t run b n) differs = (refl, refl)
+
+other_drain : (s : Figures) (cpu now : ℕ) (r : Reply) → ((k : ℕ) (run : Option ℕ) (b : By) (n : ℕ) → r ≢ Drained k run b n) → Stands s (Drain cpu now) r
+other_drain s cpu now Admitted differs = (refl, refl)
+other_drain s cpu now Retired differs = (refl, refl)
+other_drain s cpu now (Drawn g) differs = (refl, refl)
+other_drain s cpu now Installed differs = (refl, refl)
+other_drain s cpu now (Begun t l) differs = (refl, refl)
+other_drain s cpu now (Placed t to b n) differs = (refl, refl)
+other_drain s cpu now (Drained k run b n) differs = absurd (differs k run b n refl)
+other_drain s cpu now (Ticked run b n) differs = (refl, refl)
+other_drain s cpu now (Went t run) differs = (refl, refl)
+other_drain s cpu now (Pulled t run b n) differs = (refl, refl)
+
+other_tick : (s : Figures) (cpu now : ℕ) (r : Reply) → ((run : Option ℕ) (b : By) (n : ℕ) → r ≢ Ticked run b n) → Stands s (Tick cpu now) r
+other_tick s cpu now Admitted differs = (refl, refl)
+other_tick s cpu now Retired differs = (refl, refl)
+other_tick s cpu now (Drawn g) differs = (refl, refl)
+other_tick s cpu now Installed differs = (refl, refl)
+other_tick s cpu now (Begun t l) differs = (refl, refl)
+other_tick s cpu now (Placed t to b n) differs = (refl, refl)
+other_tick s cpu now (Drained k run b n) differs = (refl, refl)
+other_tick s cpu now (Ticked run b n) differs = absurd (differs run b n refl)
+other_tick s cpu now (Went t run) differs = (refl, refl)
+other_tick s cpu now (Pulled t run b n) differs = (refl, refl)
+
+other_block : (s : Figures) (cpu now : ℕ) (r : Reply) → ((t : ℕ) (run : Option ℕ) → r ≢ Went t run) → Stands s (Block cpu now) r
+other_block s cpu now Admitted differs = (refl, refl)
+other_block s cpu now Retired differs = (refl, refl)
+other_block s cpu now (Drawn g) differs = (refl, refl)
+other_block s cpu now Installed differs = (refl, refl)
+other_block s cpu now (Begun t l) differs = (refl, refl)
+other_block s cpu now (Placed t to b n) differs = (refl, refl)
+other_block s cpu now (Drained k run b n) differs = (refl, refl)
+other_block s cpu now (Ticked run b n) differs = (refl, refl)
+other_block s cpu now (Went t run) differs = absurd (differs t run refl)
+other_block s cpu now (Pulled t run b n) differs = (refl, refl)
+
+other_pull : (s : Figures) (cpu from now : ℕ) (r : Reply) → ((t run : Option ℕ) (b : By) (n : ℕ) → r ≢ Pulled t run b n) → Stands s (Pull cpu from now) r
+other_pull s cpu from now Admitted differs = (refl, refl)
+other_pull s cpu from now Retired differs = (refl, refl)
+other_pull s cpu from now (Drawn g) differs = (refl, refl)
+other_pull s cpu from now Installed differs = (refl, refl)
+other_pull s cpu from now (Begun t l) differs = (refl, refl)
+other_pull s cpu from now (Placed t to b n) differs = (refl, refl)
+other_pull s cpu from now (Drained k run b n) differs = (refl, refl)
+other_pull s cpu from now (Ticked run b n) differs = (refl, refl)
+other_pull s cpu from now (Went t run) differs = (refl, refl)
+other_pull s cpu from now (Pulled t run b n) differs = absurd (differs t run b n refl)
+
+other_event : (s : Figures) (e : Event) (r : Reply) → ((id : ℕ) (nice : ℤ) (mask slice : ℕ) → e ≢ Admit id nice mask slice) → ((cpu now : ℕ) → e ≢ EndWake cpu now)
+    → ((cpu now : ℕ) → e ≢ Drain cpu now) → ((cpu now : ℕ) → e ≢ Tick cpu now) → ((cpu now : ℕ) → e ≢ Block cpu now) → ((cpu from now : ℕ) → e ≢ Pull cpu from now) → Stands s e r
+other_event s (Admit id nice mask slice) r a w d t b p = absurd (a id nice mask slice refl)
+other_event s (Retire id) r a w d t b p = (refl, refl)
+other_event s Draw r a w d t b p = (refl, refl)
+other_event s (Install cpu hook generation policy) r a w d t b p = (refl, refl)
+other_event s (BeginWake cpu id) r a w d t b p = (refl, refl)
+other_event s (EndWake cpu now) r a w d t b p = absurd (w cpu now refl)
+other_event s (Drain cpu now) r a w d t b p = absurd (d cpu now refl)
+other_event s (Tick cpu now) r a w d t b p = absurd (t cpu now refl)
+other_event s (Block cpu now) r a w d t b p = absurd (b cpu now refl)
+other_event s (Pull cpu from now) r a w d t b p = absurd (p cpu from now refl)
+
+stands : (c : goal.After-nothing-in_default) → Stands c.args.self.now c.args.event.now c.args.reply.now
+stands c = elim c.in_default.branch [
+  | in_default-via-in-Admit+in_default w ↦ rw w.in_default.is-0 (other_admit _ _ _ w.in_default.field-2-0 w.in_default.field-3-0 _ w.in_default.not-Admitted-1)
+  | in_default-via-in-EndWake+in_default w ↦ rw w.in_default.is-0 (other_endwake _ _ _ _ w.in_default.not-Placed-1)
+  | in_default-via-in-Drain+in_default w ↦ rw w.in_default.is-0 (other_drain _ _ _ _ w.in_default.not-Drained-1)
+  | in_default-via-in-Tick+in_default w ↦ rw w.in_default.is-0 (other_tick _ _ _ _ w.in_default.not-Ticked-1)
+  | in_default-via-in-Block+in_default w ↦ rw w.in_default.is-0 (other_block _ _ _ _ w.in_default.not-Blocked-1)
+  | in_default-via-in-Pull+in_default w ↦ rw w.in_default.is-0 (other_pull _ _ _ _ _ w.in_default.not-Pulled-1)
+  | in_default-via-in_default w ↦ other_event _ _ _ w.in_default.not-Admit-0 w.in_default.not-EndWake-0 w.in_default.not-Drain-0 w.in_default.not-Tick-0 w.in_default.not-Block-0 w.in_default.not-Pull-0
+]
+
+pub returns-in_default-clause-figures : goal.returns-in_default-clause-figures
+returns-in_default-clause-figures c = sym (stands c).0
+
+pub returns-in_default-clause-change : goal.returns-in_default-clause-change
+returns-in_default-clause-change c = c.nothing-in_default.ensures ∙ sym (stands c).1
 
 pub returns-in-Drain-Drained-clause-figures : goal.returns-in-Drain-Drained-clause-figures
 returns-in-Drain-Drained-clause-figures c =
