@@ -104,32 +104,34 @@ impl Answer {
             },
             Ok(Reply::Installed) => Brief::Installed,
             Ok(Reply::Begun { task, loads }) => {
-                let Some(mut room) = room else {
-                    unreachable!()
-                };
+                let Some(mut room) = room else { unreachable!() };
                 *room = loads.copy();
                 Brief::Begun {
                     task: *task,
                     loads: room,
                 }
             }
-            Ok(Reply::Placed {
-                task,
-                to,
-                by,
-                steps,
-            }) => Brief::Placed {
+            Ok(
+                Reply::Placed {
+                    task,
+                    to,
+                    by,
+                    steps,
+                },
+            ) => Brief::Placed {
                 task: *task,
                 to: *to,
                 by: *by,
                 steps: *steps,
             },
-            Ok(Reply::Drained {
-                count,
-                run,
-                by,
-                steps,
-            }) => Brief::Drained {
+            Ok(
+                Reply::Drained {
+                    count,
+                    run,
+                    by,
+                    steps,
+                },
+            ) => Brief::Drained {
                 count: *count,
                 run: *run,
                 by: *by,
@@ -144,12 +146,14 @@ impl Answer {
                 task: *task,
                 run: *run,
             },
-            Ok(Reply::Pulled {
-                task,
-                run,
-                by,
-                steps,
-            }) => Brief::Pulled {
+            Ok(
+                Reply::Pulled {
+                    task,
+                    run,
+                    by,
+                    steps,
+                },
+            ) => Brief::Pulled {
                 task: *task,
                 run: *run,
                 by: *by,

@@ -8,7 +8,7 @@ pub mod cells;
 pub mod law;
 pub mod record;
 
-pub use cells::{NumberedCpu, NumberedInbox, OneLobby};
 pub use bq_seats::{CallRooms, Calls, hold_calls};
+pub use cells::{NumberedCpu, NumberedInbox, OneLobby};
 pub use law::{CpuState, Kept, Part, Sched, WorldState};
 pub use record::{Record, call_rooms, loads_room, room};

@@ -31,8 +31,8 @@ returns g c =
     let records = c.in_ok-records.records.items in
     let many : length back.seats.items ≡ g.row.P = said.many ∙ c.requires.many in
     let ticked : c.ticks_among.result ≡ ticks_in log =
-        c.ticks_among.ensures ∙ (ap (λ vs. sum_by (λ v. one_tick v.now) vs) c.deref-2.ensures.value
-        ∙ (sym (total_map one_tick (λ v. v.now) records) ∙ ap (λ l. ticks_in l) c.in_ok-records.ensures)) in
+    c.ticks_among.ensures ∙ (ap (λ vs. sum_by (λ v. one_tick v.now) vs) c.deref-2.ensures.value
+    ∙ (sym (total_map one_tick (λ v. v.now) records) ∙ ap (λ l. ticks_in l) c.in_ok-records.ensures)) in
     record {
       log = log;
       world = c.close-closed.result.core;
