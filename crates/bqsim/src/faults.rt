@@ -5,6 +5,7 @@ use bq_streams::{say_unread, say_unwritten};
 use std::io::Error;
 
 /// What a job was doing: the name of its file, unless it is standard input, and why its reads and its writes failed last.
+#[derive(Clone, Copy)]
 pub(crate) struct Streams<'a> {
     pub name: Option<&'a str>,
     pub read: Option<Error>,
