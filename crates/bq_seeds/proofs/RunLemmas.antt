@@ -14,7 +14,7 @@ ran w figures seed [] h = tt
 ran w figures seed (x ∷ xs) h =
     let P : ℕ → Type 0 = λ s. IsRun (with_seed w s) figures x in
     let rest : AreResults w figures (seed + 1) (map Ok xs) = λ i r there.
-      subst (λ s. IfOk r (IsRun (with_seed w s) figures)) (omega arith) (h (suc i) r there) in
+    subst (λ s. IfOk r (IsRun (with_seed w s) figures)) (omega arith) (h (suc i) r there) in
     (subst P (omega arith) (h zero (Ok x) refl), ran w figures (seed + 1) xs rest)
 
 pub AreRuns-append : (w : Workload) (figures : List Figure) (seed : ℕ) (runs more : List Run)

@@ -93,9 +93,12 @@ fn at_once<T: Threads + Sync>(
     ensures results { IfOk result (λ results. AreResults workload.now figures.now first results.items) }
     ensures count { IfOk result (λ results. vec_len results ≡ count) }
 {
-    map_indices(threads, alloc, count, &|number| {
-        nth_run(alloc, workload, policies, first, number, figures)
-    })
+    map_indices(
+        threads,
+        alloc,
+        count,
+        &|number| { nth_run(alloc, workload, policies, first, number, figures) },
+    )
 }
 
 /// The run whose seed is so many above the first.
