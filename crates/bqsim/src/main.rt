@@ -34,7 +34,7 @@ fn done<T: Threads + Wait + Sync>(rt: &HostRuntime, threads: &T, request: &Reque
     match request {
         Request::Job(job, file) => jobs::work(rt, threads, job, file),
         Request::Timeline(words) => timeline::timeline(rt, words),
-        Request::Simulate(words) => simulate::simulate(rt, words),
+        Request::Simulate(words) => simulate::simulate(rt, threads, words),
         Request::Import(words) => import::import(rt, words),
         Request::Policy(request) => do_policy(rt, request),
     }

@@ -12,23 +12,32 @@ use bq_timeline::SettingsFault;
 use bq_workload::{Changes, Fault, read};
 use std::process::ExitCode;
 use std::str::from_utf8;
+use std::thread::Threads;
 
 /// The exit status of a workload or a policy that is none.
 const BAD_INPUT: u8 = 1;
 
 /// Runs a workload, from the file that the words name or from standard input, and shows it as they ask.
-pub(crate) fn simulate(rt: &HostRuntime, words: &StudyWords) -> ExitCode {
-    match simulated(rt, words) {
+pub(crate) fn simulate<T: Threads + Sync>(
+    rt: &HostRuntime,
+    threads: &T,
+    words: &StudyWords,
+) -> ExitCode {
+    match simulated(rt, threads, words) {
         Ok(code) => code,
         Err(code) => code,
     }
 }
 
 /// The same, where the error is the exit status of what was refused.
-fn simulated(rt: &HostRuntime, words: &StudyWords) -> Result<ExitCode, ExitCode> {
+fn simulated<T: Threads + Sync>(
+    rt: &HostRuntime,
+    threads: &T,
+    words: &StudyWords,
+) -> Result<ExitCode, ExitCode> {
     let compared = asked_comparison(rt.alloc(), words).map_err(|fault| refused(rt, fault))?;
     if let Some(asked) = compared {
-        return side_by_side(rt, words, &asked);
+        return side_by_side(rt, threads, words, &asked);
     }
     let asked = Asked::of(rt.alloc(), words).map_err(|fault| refused(rt, fault))?;
     let changes = asked_changes(words).map_err(|fault| refused(rt, fault))?;
@@ -49,8 +58,9 @@ fn simulated(rt: &HostRuntime, words: &StudyWords) -> Result<ExitCode, ExitCode>
 }
 
 /// Runs it with several seeds, or beside other policies.
-fn side_by_side(
+fn side_by_side<T: Threads + Sync>(
     rt: &HostRuntime,
+    threads: &T,
     words: &StudyWords,
     asked: &Comparing,
 ) -> Result<ExitCode, ExitCode> {
@@ -58,7 +68,7 @@ fn side_by_side(
     let workload = workload(rt, words, changes)?;
     let ours = policies(rt, words)?;
     let others = others(rt, words)?;
-    match tabled(rt, &workload, &ours, others.as_ref(), asked) {
+    match tabled(rt, threads, &workload, &ours, others.as_ref(), asked) {
         Ok(text) => Ok(write_out(rt, text.as_str())),
         Err(SeedsFault::OutOfMemory) => Err(out_of_memory(rt)),
         Err(fault) => {
@@ -69,15 +79,16 @@ fn side_by_side(
 }
 
 /// The table of the figures on both sides.
-fn tabled(
+fn tabled<T: Threads + Sync>(
     rt: &HostRuntime,
+    threads: &T,
     workload: &Workload,
     ours: &Policies,
     others: Option<&Policies>,
     asked: &Comparing,
 ) -> Result<String, SeedsFault> {
     let alloc = rt.alloc();
-    let sides = compare(rt, alloc, workload, ours, others, asked.seeds)?;
+    let sides = compare(threads, alloc, workload, ours, others, asked.seeds)?;
     let lines = lines(alloc, &sides, &asked.window)?;
     Ok(written(alloc, workload, lines.as_slice(), asked.form)?)
 }
