@@ -225,8 +225,9 @@ fn a_pull_of_one_of_two(rt: HostRuntime) -> Result<(), Fail> {
 0000000001000000 ; its v
 ";
     let shown = bytes_of(rt.alloc(), shown)?;
-    assert_eq!(rt; context[..64].as_slice(), shown.as_slice());
-    for byte in &context[64..] {
+    let (first, rest) = context.split_at(64);
+    assert_eq!(rt; first, shown.as_slice());
+    for byte in rest {
         assert_eq!(rt; *byte, 0);
     }
     Ok(())
