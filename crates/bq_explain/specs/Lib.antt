@@ -1,4 +1,7 @@
+pub mod Accesses
 pub mod Explained
+pub mod Needs
+pub mod Operands
 pub mod Telling
 pub mod Texts
 pub mod Verdicts

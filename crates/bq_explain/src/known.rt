@@ -45,7 +45,7 @@ pub(crate) fn known_text(alloc: Global, known: &Known) -> Result<String, AllocEr
 }
 
 /// A word of a kind, by the range of its offset.
-fn kind_text(alloc: Global, kind: Kind, range: Range) -> Result<String, AllocError>
+pub(crate) fn kind_text(alloc: Global, kind: Kind, range: Range) -> Result<String, AllocError>
     ensures { IfOk result (λ text. string_bytes text ≡ kind_text kind range) }
 {
     match kind {
@@ -78,7 +78,7 @@ fn number_text(alloc: Global, range: Range) -> Result<String, AllocError>
 }
 
 /// A pointer, so far above its base; offsets beyond 2^63 are those below it.
-pub(crate) fn pointer_text(alloc: Global, base: &str, range: Range) -> Result<String, AllocError>
+fn pointer_text(alloc: Global, base: &str, range: Range) -> Result<String, AllocError>
     ensures { IfOk result (λ text. string_bytes text ≡ base.now ++ offset_text range) }
 {
     let offset = offset_text(alloc, range)?;
@@ -109,7 +109,7 @@ fn below(offset: u64) -> u64
 }
 
 /// A pointer into the stack, by its distance from the end, at which r10 points.
-pub(crate) fn stack_text(alloc: Global, range: Range) -> Result<String, AllocError>
+fn stack_text(alloc: Global, range: Range) -> Result<String, AllocError>
     ensures { IfOk result (λ text. string_bytes text ≡ stack_text range) }
 {
     if range.hi > STACK {

@@ -4,11 +4,12 @@
 //! What is printed of registers and stack is what `view_at` knows, which covers every run that comes to the slot.
 #![tactic(auto)]
 
+mod accesses;
 mod advice;
+mod arguments;
 mod explanation;
 mod known;
 mod limits;
-mod names;
 mod needs;
 mod operands;
 mod pass_needs;

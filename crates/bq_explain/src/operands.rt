@@ -1,5 +1,22 @@
-//! Which registers an instruction reads and writes.
-use bq_insn::{Insn, Operation, Source};
+//! Which registers an instruction reads and writes, and the memory that it accesses.
+ghost use Rattle.std.specs.Prelude.{◌≡◌, ◌≤◌, IfSome, IsTrue};
+ghost use Rattle.bq_insn.specs.Meaning.{byte_count};
+ghost use Rattle.bq_explain.specs.Operands.{NeedsSet, access_of, is_register, reads, reads_left};
+
+use bq_insn::{Insn, Operation, Size, Source};
+
+/// The access of a load or a store.
+#[derive(Clone, Copy)]
+pub(crate) struct Access {
+    /// Whether it writes; else it reads.
+    pub writes: bool,
+    /// How many bytes.
+    pub bytes: usize,
+    /// The register that its address counts from.
+    pub register: u8,
+    /// How far from there it begins.
+    pub off: i16,
+}
 
 /// Registers by their numbers, a bit for each.
 pub(crate) type Registers = u16;
@@ -26,22 +43,76 @@ pub(crate) fn written(insn: Insn) -> Option<u8> {
 
 /// The registers that the instruction reads as operands.
 pub(crate) fn read(insn: Insn) -> Registers {
+    let mut registers = 0;
+    for register in 0..11u8 {
+        if reads(insn, register) {
+            registers |= bit(register);
+        }
+    }
+    registers
+}
+
+/// Whether the instruction reads the register as an operand; then it does nothing where that is unset.
+pub(crate) fn reads(insn: Insn, register: u8) -> bool
+    ensures is { result ≡ reads insn register }
+    ensures needs { IsTrue result → NeedsSet insn register }
+{
     match insn {
-        Insn::Alu { op, dst, src, .. } => match op {
-            Operation::Mov => of_source(src),
-            _ => bit(dst) | of_source(src),
-        },
-        Insn::MovSx { src, .. } | Insn::Load { src, .. } => bit(src),
-        Insn::Neg { dst, .. } | Insn::End { dst, .. } | Insn::StoreImm { dst, .. } => bit(dst),
-        Insn::StoreReg { dst, src, .. } => bit(dst) | bit(src),
-        Insn::Branch { dst, src, .. } => bit(dst) | of_source(src),
-        _ => 0,
+        Insn::Alu { op, dst, src, .. } => {
+            (reads_left(op) && dst == register) || is_register(src, register)
+        }
+        Insn::MovSx { src, .. } | Insn::Load { src, .. } => src == register,
+        Insn::Neg { dst, .. } | Insn::End { dst, .. } | Insn::StoreImm { dst, .. } => {
+            dst == register
+        }
+        Insn::StoreReg { dst, src, .. } => dst == register || src == register,
+        Insn::Branch { dst, src, .. } => dst == register || is_register(src, register),
+        _ => false,
     }
 }
 
-fn of_source(src: Source) -> Registers {
+/// All operations but a move read what they change.
+fn reads_left(op: Operation) -> bool
+    ensures { result ≡ reads_left op }
+{
+    match op {
+        Operation::Mov => false,
+        _ => true,
+    }
+}
+
+/// Whether the second operand is that register.
+fn is_register(src: Source, register: u8) -> bool
+    ensures { result ≡ is_register src register }
+{
     match src {
-        Source::Imm(_) => 0,
-        Source::Reg(register) => bit(register),
+        Source::Imm(_) => false,
+        Source::Reg(number) => number == register,
+    }
+}
+
+/// The access of the instruction, if it is a load or a store.
+pub(crate) fn access_of(insn: Insn) -> Option<Access>
+    ensures is { result ≡ access_of insn }
+    ensures few { IfSome result (λ access. access.bytes ≤ 8) }
+{
+    match insn {
+        Insn::Load { size, src, off, .. } => Some(sized(false, size, src, off)),
+        Insn::StoreImm { size, dst, off, .. } => Some(sized(true, size, dst, off)),
+        Insn::StoreReg { size, dst, off, .. } => Some(sized(true, size, dst, off)),
+        _ => None,
+    }
+}
+
+/// An access of that size.
+fn sized(writes: bool, size: Size, register: u8, off: i16) -> Access
+    ensures is { result ≡ record { writes = writes; bytes = byte_count size; register = register; off = off } }
+    ensures few { result.bytes ≤ 8 }
+{
+    Access {
+        writes,
+        bytes: size.bytes(),
+        register,
+        off,
     }
 }
