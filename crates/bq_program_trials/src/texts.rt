@@ -5,11 +5,13 @@ use bq_insn::encode::encode;
 use std::process::Abort;
 use std::test::Fail;
 
-fn assembles(rt: &(impl Abort + AllocGlobal), text: &str, bytes: &[u8]) -> Result<(), Fail> {
+/// The text is the program whose bytes stand in hex.
+fn assembles(rt: &(impl Abort + AllocGlobal), text: &str, bytes: &str) -> Result<(), Fail> {
     let insns = assemble(rt.alloc(), text)?;
     let mut spelled = Vec::new(rt.alloc());
     encode(insns.as_slice(), &mut spelled)?;
-    assert_eq!(rt; spelled.as_slice(), bytes, "{text}");
+    let found = hex::encode(rt.alloc(), spelled.as_slice())?;
+    assert_eq!(rt; found.as_str(), bytes, "{text}");
     Ok(())
 }
 
@@ -21,8 +23,12 @@ fn refused(rt: &(impl Abort + AllocGlobal), text: &str, line: usize, cause: Caus
     }
 }
 
-fn listed(rt: &(impl Abort + AllocGlobal), bytes: &[u8], text: &str) -> Result<(), Fail> {
-    let insns = decode(rt.alloc(), bytes)?;
+/// The listing of the program whose bytes stand in hex is the text, which assembles back.
+fn listed(rt: &(impl Abort + AllocGlobal), bytes: &str, text: &str) -> Result<(), Fail> {
+    let Ok(program) = hex::decode(rt.alloc(), bytes.as_bytes()) else {
+        return Err(Fail::from("not hex"));
+    };
+    let insns = decode(rt.alloc(), program.as_slice())?;
     let found = listing(rt.alloc(), insns.as_slice())?;
     assert_eq!(rt; found.as_str(), text);
     assembles(rt, text, bytes)
@@ -34,16 +40,13 @@ fn programs(rt: HostRuntime) -> Result<(), Fail> {
     assembles(
         &rt,
         "jeq64 r1, 0, e\nlddw r2, 1\ne:\nexit",
-        &[
-            0x15, 0x01, 0x02, 0, 0, 0, 0, 0, 0x18, 0x02, 0, 0, 1, 0, 0, 0, 0, 0, 0, 0, 0, 0, 0, 0,
-            0x95, 0, 0, 0, 0, 0, 0, 0,
-        ],
+        "1501020000000000180200000100000000000000000000009500000000000000",
     )?;
-    assembles(&rt, "ja end\nend:", &[0x05, 0, 0, 0, 0, 0, 0, 0])?;
+    assembles(&rt, "ja end\nend:", "0500000000000000")?;
     assembles(
         &rt,
         "ldxw r0, [r1+48]\nexit\n",
-        &[0x61, 0x10, 0x30, 0, 0, 0, 0, 0, 0x95, 0, 0, 0, 0, 0, 0, 0],
+        "61103000000000009500000000000000",
     )?;
     let insns = assemble(rt.alloc(), "mov64 r0, 1\nja end\nend:\nexit")?;
     let text = listing(rt.alloc(), insns.as_slice())?;
@@ -64,32 +67,14 @@ fn refusals(rt: HostRuntime) {
 
 #[test]
 fn listings(rt: HostRuntime) -> Result<(), Fail> {
-    listed(&rt, &[0xd4, 1, 0, 0, 0x10, 0, 0, 0], "le16 r1\n")?;
+    listed(&rt, "d401000010000000", "le16 r1\n")?;
+    listed(&rt, "37010100fdffffff", "sdiv64 r1, -3\n")?;
+    listed(&rt, "bf32200000000000", "movsx64_32 r2, r3\n")?;
+    listed(&rt, "8912feff00000000", "ldxsh r2, [r1-2]\n")?;
+    listed(&rt, "c601ffff05000000", "jslt32 r1, 5, -1\n")?;
     listed(
         &rt,
-        &[0x37, 1, 1, 0, 0xfd, 0xff, 0xff, 0xff],
-        "sdiv64 r1, -3\n",
-    )?;
-    listed(
-        &rt,
-        &[0xbf, 0x32, 0x20, 0, 0, 0, 0, 0],
-        "movsx64_32 r2, r3\n",
-    )?;
-    listed(
-        &rt,
-        &[0x89, 0x12, 0xfe, 0xff, 0, 0, 0, 0],
-        "ldxsh r2, [r1-2]\n",
-    )?;
-    listed(
-        &rt,
-        &[0xc6, 1, 0xff, 0xff, 5, 0, 0, 0],
-        "jslt32 r1, 5, -1\n",
-    )?;
-    listed(
-        &rt,
-        &[
-            0x18, 1, 0, 0, 0xff, 0xff, 0xff, 0xff, 0, 0, 0, 0, 0xff, 0xff, 0xff, 0xff,
-        ],
+        "18010000ffffffff00000000ffffffff",
         "lddw r1, 18446744073709551615\n",
     )?;
     Ok(())
@@ -98,107 +83,97 @@ fn listings(rt: HostRuntime) -> Result<(), Fail> {
 // One slot and a text for it: each kind of operand, and each way of spelling it.
 #[test]
 fn operands(rt: HostRuntime) -> Result<(), Fail> {
-    let rows: [(&str, [u8; 8]); 18] = [
-        (
-            "\tadd32\tr10,r0 ; all low\r\n",
-            [0x0c, 0x0a, 0, 0, 0, 0, 0, 0],
-        ),
-        (
-            ",, mov64 , r3 ,, -0x80000000",
-            [0xb7, 3, 0, 0, 0, 0, 0, 0x80],
-        ),
-        (
-            "and64 r1, 0x7fFFffff",
-            [0x57, 1, 0, 0, 0xff, 0xff, 0xff, 0x7f],
-        ),
-        ("or64 r1, -0", [0x47, 1, 0, 0, 0, 0, 0, 0]),
-        ("neg32 r4", [0x84, 4, 0, 0, 0, 0, 0, 0]),
-        ("be64 r2", [0xdc, 2, 0, 0, 64, 0, 0, 0]),
-        ("swap32 r2", [0xd7, 2, 0, 0, 32, 0, 0, 0]),
-        ("ldxdw r2, [r1]", [0x79, 0x12, 0, 0, 0, 0, 0, 0]),
-        ("ldxb r2, [r10-32768]", [0x71, 0xa2, 0, 0x80, 0, 0, 0, 0]),
-        ("stb [r1+0x7fff], 7", [0x72, 1, 0xff, 0x7f, 7, 0, 0, 0]),
-        ("stxdw [r0+0], r4", [0x7b, 0x40, 0, 0, 0, 0, 0, 0]),
-        ("ja -0x8000", [0x05, 0, 0, 0x80, 0, 0, 0, 0]),
-        ("ja +32767", [0x05, 0, 0xff, 0x7f, 0, 0, 0, 0]),
-        ("ja32 -2147483648", [0x06, 0, 0, 0, 0, 0, 0, 0x80]),
-        ("jset32 r1, r2, +3", [0x4e, 0x21, 3, 0, 0, 0, 0, 0]),
-        ("call -1", [0x85, 0, 0, 0, 0xff, 0xff, 0xff, 0xff]),
-        ("exit:\nja32 exit", [0x06, 0, 0, 0, 0xff, 0xff, 0xff, 0xff]),
-        (
-            "r1:\njle64 r1, r2, r1",
-            [0xbd, 0x21, 0xff, 0xff, 0, 0, 0, 0],
-        ),
+    let rows: [(&str, &str); 18] = [
+        ("\tadd32\tr10,r0 ; all low\r\n", "0c0a000000000000"),
+        (",, mov64 , r3 ,, -0x80000000", "b703000000000080"),
+        ("and64 r1, 0x7fFFffff", "57010000ffffff7f"),
+        ("or64 r1, -0", "4701000000000000"),
+        ("neg32 r4", "8404000000000000"),
+        ("be64 r2", "dc02000040000000"),
+        ("swap32 r2", "d702000020000000"),
+        ("ldxdw r2, [r1]", "7912000000000000"),
+        ("ldxb r2, [r10-32768]", "71a2008000000000"),
+        ("stb [r1+0x7fff], 7", "7201ff7f07000000"),
+        ("stxdw [r0+0], r4", "7b40000000000000"),
+        ("ja -0x8000", "0500008000000000"),
+        ("ja +32767", "0500ff7f00000000"),
+        ("ja32 -2147483648", "0600000000000080"),
+        ("jset32 r1, r2, +3", "4e21030000000000"),
+        ("call -1", "85000000ffffffff"),
+        ("exit:\nja32 exit", "06000000ffffffff"),
+        ("r1:\njle64 r1, r2, r1", "bd21ffff00000000"),
     ];
     for (text, bytes) in rows.iter() {
-        assembles(&rt, text, bytes.as_slice())?;
+        assembles(&rt, text, bytes)?;
     }
-    assembles(
-        &rt,
-        "ldmap r1, 2",
-        &[0x18, 0x51, 0, 0, 2, 0, 0, 0, 0, 0, 0, 0, 0, 0, 0, 0],
-    )
+    assembles(&rt, "ldmap r1, 2", "18510000020000000000000000000000")
 }
+
+// Lines of which each has a number just out of its range, or none where one is wanted; in the last the least of two causes counts.
+const NO_NUMBERS: &str = "\
+mov64 r1, 2147483648
+mov64 r1, -2147483649
+mov64 r1, +5
+mov64 r1, 0X5
+mov64 r1, 0x
+mov64 r1, 5f
+lddw r1, 18446744073709551616
+ldxw r1, [r2+32768]
+ldxw r1, [r2-32769]
+ldxw r1, [r2+]
+ldxw r1, [r2+-8]
+ja 3
+ja +32768
+ja32 +2147483648
+ja32 1x
+call 2147483648
+ldmap r1, -2147483649
+ja 99999
+";
+
+// Lines of which each has another form than its place wants, or none that there is; in the last three the least of two causes counts.
+const NO_FORMS: &str = "\
+mov64
+mov64 r1
+mov64 r1, 1, 2
+mov64 r1, 1, 2, 3, 4
+exit 0
+MOV64 r1, 1
+mov64 r01, 1
+mov64 5, 1
+mov64 r1, r11
+mov64 r1, x
+movsx32_32 r1, r2
+movsx64_8 r1, 5
+le8 r1
+ldxsdw r1, [r2+0]
+ldxw r1, r2
+ldxw r1, [r2 +0]
+ldxw r1, [r28]
+ldxw r1, [+8]
+stxw [r1+0], 5
+ja x-y
+ja a2345678901234567890123456789012x
+x: exit
+x :
+:
+1x:
+x::
+mov64 r11, 5000000000
+stw [r1+99999], x
+mov64 r1, 5000000000, 1
+";
 
 // The bounds of each number, what stands in no place, and which of two causes counts.
 #[test]
 fn causes(rt: HostRuntime) {
-    let rows = [
-        // A number just out of its range, or none at all.
-        ("mov64 r1, 2147483648", Cause::Number),
-        ("mov64 r1, -2147483649", Cause::Number),
-        ("mov64 r1, +5", Cause::Number),
-        ("mov64 r1, 0X5", Cause::Number),
-        ("mov64 r1, 0x", Cause::Number),
-        ("mov64 r1, 5f", Cause::Number),
-        ("lddw r1, 18446744073709551616", Cause::Number),
-        ("ldxw r1, [r2+32768]", Cause::Number),
-        ("ldxw r1, [r2-32769]", Cause::Number),
-        ("ldxw r1, [r2+]", Cause::Number),
-        ("ldxw r1, [r2+-8]", Cause::Number),
-        ("ja 3", Cause::Number),
-        ("ja +32768", Cause::Number),
-        ("ja32 +2147483648", Cause::Number),
-        ("ja32 1x", Cause::Number),
-        ("call 2147483648", Cause::Number),
-        ("ldmap r1, -2147483649", Cause::Number),
-        // Another form than the place wants.
-        ("mov64", Cause::Word),
-        ("mov64 r1", Cause::Word),
-        ("mov64 r1, 1, 2", Cause::Word),
-        ("mov64 r1, 1, 2, 3, 4", Cause::Word),
-        ("exit 0", Cause::Word),
-        ("MOV64 r1, 1", Cause::Word),
-        ("mov64 r01, 1", Cause::Word),
-        ("mov64 5, 1", Cause::Word),
-        ("mov64 r1, r11", Cause::Word),
-        ("mov64 r1, x", Cause::Word),
-        ("movsx32_32 r1, r2", Cause::Word),
-        ("movsx64_8 r1, 5", Cause::Word),
-        ("le8 r1", Cause::Word),
-        ("ldxsdw r1, [r2+0]", Cause::Word),
-        ("ldxw r1, r2", Cause::Word),
-        ("ldxw r1, [r2 +0]", Cause::Word),
-        ("ldxw r1, [r28]", Cause::Word),
-        ("ldxw r1, [+8]", Cause::Word),
-        ("stxw [r1+0], 5", Cause::Word),
-        ("ja x-y", Cause::Word),
-        ("ja a2345678901234567890123456789012x", Cause::Word),
-        ("x: exit", Cause::Word),
-        ("x :", Cause::Word),
-        (":", Cause::Word),
-        ("1x:", Cause::Word),
-        ("x::", Cause::Word),
-        ("exit\r", Cause::Word),
-        // The least of two.
-        ("mov64 r11, 5000000000", Cause::Word),
-        ("stw [r1+99999], x", Cause::Word),
-        ("mov64 r1, 5000000000, 1", Cause::Word),
-        ("ja 99999", Cause::Number),
-    ];
-    for (text, cause) in rows.iter() {
-        refused(&rt, text, 1, *cause);
+    for line in NO_NUMBERS.lines() {
+        refused(&rt, line, 1, Cause::Number);
     }
+    for line in NO_FORMS.lines() {
+        refused(&rt, line, 1, Cause::Word);
+    }
+    refused(&rt, "exit\r", 1, Cause::Word);
     // The first line with a fault, and only then a label that is set nowhere.
     refused(&rt, "ja x\nja y\nx:", 2, Cause::LabelMissing);
     refused(&rt, "ja x\nmov64 r1, 5000000000", 2, Cause::Number);

@@ -3,6 +3,7 @@
 
 ghost use Rattle.std.specs.Prelude.{◌≤◌};
 
+use crate::hex_text::bytes_of;
 use bq_cfs::CfsQueue;
 use bq_core::{Board, Core, Event, Hook, Plain, Policy};
 use bq_disc::RunQueue;
@@ -13,50 +14,49 @@ use std::alloc::Global;
 use std::test::Fail;
 
 /// Preempt, one map of 8 bytes and 1 entry: answers the old value of its entry and adds one to it, or answers 2.
-const COUNTING: [u8; 136] = [
-    0x42, 0x51, 0x50, 0x49, 1, 1, 1, 0, 8, 0, 1, 0, 15, 0, 0, 0, //
-    0x62, 0x0a, 0xfc, 0xff, 0, 0, 0, 0, // stw [r10-4], 0
-    0x18, 0x51, 0, 0, 0, 0, 0, 0, // ldmap r1, 0
-    0, 0, 0, 0, 0, 0, 0, 0, //
-    0xbf, 0xa2, 0, 0, 0, 0, 0, 0, // mov64 r2, r10
-    0x07, 0x02, 0, 0, 0xfc, 0xff, 0xff, 0xff, // add64 r2, -4
-    0x85, 0, 0, 0, 1, 0, 0, 0, // call 1
-    0x55, 0, 2, 0, 0, 0, 0, 0, // jne64 r0, 0, +2
-    0xb7, 0, 0, 0, 2, 0, 0, 0, // mov64 r0, 2
-    0x95, 0, 0, 0, 0, 0, 0, 0, // exit
-    0x79, 0x03, 0, 0, 0, 0, 0, 0, // ldxdw r3, [r0+0]
-    0xbf, 0x34, 0, 0, 0, 0, 0, 0, // mov64 r4, r3
-    0x07, 0x04, 0, 0, 1, 0, 0, 0, // add64 r4, 1
-    0x7b, 0x40, 0, 0, 0, 0, 0, 0, // stxdw [r0+0], r4
-    0xbf, 0x30, 0, 0, 0, 0, 0, 0, // mov64 r0, r3
-    0x95, 0, 0, 0, 0, 0, 0, 0, // exit
-];
+const COUNTING: &str = "\
+42515049 01 01 0100 0800 0100 0f000000
+620afcff00000000                 ; stw [r10-4], 0
+18510000000000000000000000000000 ; ldmap r1, 0
+bfa2000000000000                 ; mov64 r2, r10
+07020000fcffffff                 ; add64 r2, -4
+8500000001000000                 ; call 1
+5500020000000000                 ; jne64 r0, 0, +2
+b700000002000000                 ; mov64 r0, 2
+9500000000000000                 ; exit
+7903000000000000                 ; ldxdw r3, [r0+0]
+bf34000000000000                 ; mov64 r4, r3
+0704000001000000                 ; add64 r4, 1
+7b40000000000000                 ; stxdw [r0+0], r4
+bf30000000000000                 ; mov64 r0, r3
+9500000000000000                 ; exit
+";
 
 /// Preempt: adds 5 to counter 3, and answers 0.
-const ADDING: [u8; 52] = [
-    0x42, 0x51, 0x50, 0x49, 1, 1, 0, 0, 5, 0, 0, 0, //
-    0xb7, 1, 0, 0, 3, 0, 0, 0, // mov64 r1, 3
-    0xb7, 2, 0, 0, 5, 0, 0, 0, // mov64 r2, 5
-    0x85, 0, 0, 0, 100, 0, 0, 0, // call 100
-    0xb7, 0, 0, 0, 0, 0, 0, 0, // mov64 r0, 0
-    0x95, 0, 0, 0, 0, 0, 0, 0, // exit
-];
+const ADDING: &str = "\
+42515049 01 01 0000 05000000
+b701000003000000 ; mov64 r1, 3
+b702000005000000 ; mov64 r2, 5
+8500000064000000 ; call 100
+b700000000000000 ; mov64 r0, 0
+9500000000000000 ; exit
+";
+
+/// Place: answers processor 0.
+const FIRST_PROCESSOR: &str = "42515049 01 00 0000 02000000  b700000000000000 9500000000000000";
+
+/// Pull: asks for task 1, and for task 2.
+const FIRST_TASK: &str = "42515049 01 02 0000 02000000  b700000001000000 9500000000000000";
+
+const SECOND_TASK: &str = "42515049 01 02 0000 02000000  b700000002000000 9500000000000000";
 
 /// The policy of an image.
-fn policy(alloc: Global, image: &[u8]) -> Result<Option<Policy>, Fail> {
-    match load(alloc, image) {
+fn policy(alloc: Global, image: &str) -> Result<Option<Policy>, Fail> {
+    let image = bytes_of(alloc, image)?;
+    match load(alloc, image.as_slice()) {
         Ok(program) => Ok(Some(Policy::new(alloc, program)?)),
         Err(_) => Err(Fail::from("the image does not load")),
     }
-}
-
-/// The policy of an image for a hook that answers one number.
-fn constant(alloc: Global, hook: u8, answer: u8) -> Result<Option<Policy>, Fail> {
-    let image = [
-        0x42, 0x51, 0x50, 0x49, 1, hook, 0, 0, 2, 0, 0, 0, 0xb7, 0, 0, 0, answer, 0, 0, 0, 0x95, 0,
-        0, 0, 0, 0, 0, 0,
-    ];
-    policy(alloc, &image)
 }
 
 fn admit(task: u16, mask: u64, slice: u64) -> Event {
@@ -114,7 +114,7 @@ fn a_map_is_written_and_read_back(rt: HostRuntime) -> Result<(), Fail> {
     events.push(admit(1, 1, 3_000_000))?;
     events.push(admit(2, 1, 3_000_000))?;
     events.push(Event::Draw)?;
-    events.push(install(0, Hook::Preempt, 1, policy(alloc, &COUNTING)?))?;
+    events.push(install(0, Hook::Preempt, 1, policy(alloc, COUNTING)?))?;
     wake(&mut events, 1, 0)?;
     wake(&mut events, 2, 0)?;
     events.push(Event::Drain {
@@ -179,7 +179,7 @@ fn an_emptier_processor_pulls(rt: HostRuntime) -> Result<(), Fail> {
     events.push(admit(2, 3, 3_000_000))?;
     events.push(admit(3, 3, 3_000_000))?;
     events.push(Event::Draw)?;
-    events.push(install(0, Hook::Place, 1, constant(alloc, 0, 0)?))?;
+    events.push(install(0, Hook::Place, 1, policy(alloc, FIRST_PROCESSOR)?))?;
     wake(&mut events, 1, 0)?;
     wake(&mut events, 2, 0)?;
     wake(&mut events, 3, 0)?;
@@ -190,10 +190,10 @@ fn an_emptier_processor_pulls(rt: HostRuntime) -> Result<(), Fail> {
     events.push(pull(0))?;
     events.push(pull(0))?;
     events.push(Event::Draw)?;
-    events.push(install(1, Hook::Pull, 2, constant(alloc, 2, 1)?))?;
+    events.push(install(1, Hook::Pull, 2, policy(alloc, FIRST_TASK)?))?;
     events.push(pull(0))?;
     events.push(Event::Draw)?;
-    events.push(install(1, Hook::Pull, 3, constant(alloc, 2, 2)?))?;
+    events.push(install(1, Hook::Pull, 3, policy(alloc, SECOND_TASK)?))?;
     events.push(pull(0))?;
     events.push(pull(1))?;
     let mut board = Plain::new();
@@ -214,7 +214,7 @@ fn what_policies_add_stands_on_the_board(rt: HostRuntime) -> Result<(), Fail> {
     let mut events = Vec::new(alloc);
     events.push(admit(1, 1, 3_000_000))?;
     events.push(Event::Draw)?;
-    events.push(install(0, Hook::Preempt, 1, policy(alloc, &ADDING)?))?;
+    events.push(install(0, Hook::Preempt, 1, policy(alloc, ADDING)?))?;
     wake(&mut events, 1, 0)?;
     events.push(Event::Drain {
         processor: 0,

@@ -14,6 +14,8 @@ mod core_runs;
 #[cfg(test)]
 mod examples;
 #[cfg(test)]
+mod hex_text;
+#[cfg(test)]
 mod places;
 #[cfg(test)]
 mod policies;

@@ -1,11 +1,14 @@
 // Contexts of places, permitted answers and own places. Expected bytes are written field by field from the tables of
 // docs/CONTEXTS.md; each load is its processor's number and one more.
 
+use crate::hex_text::bytes_of;
 use bq_disc::Entity;
 use bq_hooks::{
     By, Choice, Loads, Place, own_place, place_ctx, settle_place, settle_preempt, wide_place_ctx,
 };
+use std::alloc::Global;
 use std::process::Abort;
+use std::test::Fail;
 
 /// The loads 1, 2, 3 and so on.
 fn rising(count: u16) -> Loads {
@@ -19,32 +22,48 @@ fn rising(count: u16) -> Loads {
 }
 
 /// Compares a context with its first 40 bytes and the loads of so many processors behind them.
-fn shows(rt: &impl Abort, context: &[u8], header: &[u8; 40], processors: usize) {
+fn shows(rt: &impl Abort, context: &[u8], header: &[u8], processors: usize) {
+    assert_eq!(rt; header.len(), 40);
     for (at, byte) in context.iter().enumerate() {
-        let expected = if at < 40 {
-            usize::from(header[at])
-        } else if at % 4 == 0 && (at - 40) / 4 < processors {
-            (at - 40) / 4 + 1
-        } else {
-            0
+        let expected = match header.get(at) {
+            Some(byte) => usize::from(*byte),
+            None => load_byte(at.saturating_sub(40), processors),
         };
         assert_eq!(rt; usize::from(*byte), expected, "byte {at}");
     }
 }
 
+/// A byte of the loads of so many processors, each of which is its processor's number and one more.
+fn load_byte(at: usize, processors: usize) -> usize {
+    if at % 4 == 0 && at / 4 < processors {
+        (at / 4).saturating_add(1)
+    } else {
+        0
+    }
+}
+
 /// Compares both contexts of a place.
-fn both_show(rt: &impl Abort, facts: &Place, first: &[u8; 40], second: &[u8; 40]) {
+fn both_show(
+    rt: &impl Abort,
+    alloc: Global,
+    facts: &Place,
+    first: &str,
+    second: &str,
+) -> Result<(), Fail> {
     let mut context = [0xaa; 104];
     place_ctx(facts, &mut context);
-    shows(rt, &context, first, facts.processors.min(16));
+    let first = bytes_of(alloc, first)?;
+    shows(rt, &context, first.as_slice(), facts.processors.min(16));
     let mut context = [0xaa; 296];
     wide_place_ctx(facts, &mut context);
-    shows(rt, &context, second, facts.processors.min(64));
+    let second = bytes_of(alloc, second)?;
+    shows(rt, &context, second.as_slice(), facts.processors.min(64));
+    Ok(())
 }
 
 /// On one processor both versions show the same.
 #[test]
-fn place_on_one_processor(rt: HostRuntime) {
+fn place_on_one_processor(rt: HostRuntime) -> Result<(), Fail> {
     let task = Entity::new(1023, 1024, 1, 100_000);
     let facts = Place {
         task: &task,
@@ -53,22 +72,22 @@ fn place_on_one_processor(rt: HostRuntime) {
         own: 0,
         loads: &rising(1),
     };
-    let header = [
-        0xff, 0x03, 0, 0, // the task
-        0x00, 0x04, 0, 0, // its weight
-        0x01, 0, 0, 0, 0, 0, 0, 0, // its mask
-        0xa0, 0x86, 0x01, 0, 0, 0, 0, 0, // its slice
-        0, 0, 0, 0, // the waking processor
-        0xff, 0xff, 0xff, 0xff, // no previous one
-        1, 0, 0, 0, // how many processors there are
-        0, 0, 0, 0, // the own choice
-    ];
-    both_show(&rt, &facts, &header, &header);
+    let header = "\
+ff030000         ; the task
+00040000         ; its weight
+0100000000000000 ; its mask
+a086010000000000 ; its slice
+00000000         ; the waking processor
+ffffffff         ; no previous one
+01000000         ; how many processors there are
+00000000         ; the own choice
+";
+    both_show(&rt, rt.alloc(), &facts, header, header)
 }
 
 /// And on sixteen: number 15 is the last that version 1 shows.
 #[test]
-fn place_on_sixteen_processors(rt: HostRuntime) {
+fn place_on_sixteen_processors(rt: HostRuntime) -> Result<(), Fail> {
     let mut task = Entity::new(3, 88761, 0x8001, 100_000_000);
     task.set_prev(15);
     let facts = Place {
@@ -78,22 +97,22 @@ fn place_on_sixteen_processors(rt: HostRuntime) {
         own: 0,
         loads: &rising(16),
     };
-    let header = [
-        3, 0, 0, 0, // the task
-        0xb9, 0x5a, 0x01, 0, // its weight
-        0x01, 0x80, 0, 0, 0, 0, 0, 0, // its mask
-        0x00, 0xe1, 0xf5, 0x05, 0, 0, 0, 0, // its slice
-        15, 0, 0, 0, // the waking processor
-        15, 0, 0, 0, // the previous one
-        16, 0, 0, 0, // how many processors there are
-        0, 0, 0, 0, // the own choice
-    ];
-    both_show(&rt, &facts, &header, &header);
+    let header = "\
+03000000         ; the task
+b95a0100         ; its weight
+0180000000000000 ; its mask
+00e1f50500000000 ; its slice
+0f000000         ; the waking processor
+0f000000         ; the previous one
+10000000         ; how many processors there are
+00000000         ; the own choice
+";
+    both_show(&rt, rt.alloc(), &facts, header, header)
 }
 
 /// On more, version 1 shows sixteen processors, and none in place of those beyond.
 #[test]
-fn place_on_sixty_four_processors(rt: HostRuntime) {
+fn place_on_sixty_four_processors(rt: HostRuntime) -> Result<(), Fail> {
     let mut task = Entity::new(513, 15, 0x8000_0000_0001_8001, 3_000_000);
     task.set_prev(63);
     let facts = Place {
@@ -103,32 +122,32 @@ fn place_on_sixty_four_processors(rt: HostRuntime) {
         own: 15,
         loads: &rising(64),
     };
-    let first = [
-        0x01, 0x02, 0, 0, // the task
-        15, 0, 0, 0, // its weight
-        0x01, 0x80, 0, 0, 0, 0, 0, 0, // its mask, of the first sixteen
-        0xc0, 0xc6, 0x2d, 0, 0, 0, 0, 0, // its slice
-        0xff, 0xff, 0xff, 0xff, // the waking processor is not shown
-        0xff, 0xff, 0xff, 0xff, // nor is the previous one
-        16, 0, 0, 0, // how many processors are shown
-        15, 0, 0, 0, // the own choice
-    ];
-    let second = [
-        0x01, 0x02, 0, 0, // the task
-        15, 0, 0, 0, // its weight
-        0x01, 0x80, 0x01, 0, 0, 0, 0, 0x80, // its mask
-        0xc0, 0xc6, 0x2d, 0, 0, 0, 0, 0, // its slice
-        16, 0, 0, 0, // the waking processor
-        63, 0, 0, 0, // the previous one
-        64, 0, 0, 0, // how many processors there are
-        15, 0, 0, 0, // the own choice
-    ];
-    both_show(&rt, &facts, &first, &second);
+    let first = "\
+01020000         ; the task
+0f000000         ; its weight
+0180000000000000 ; its mask, of the first sixteen
+c0c62d0000000000 ; its slice
+ffffffff         ; the waking processor is not shown
+ffffffff         ; nor is the previous one
+10000000         ; how many processors are shown
+0f000000         ; the own choice
+";
+    let second = "\
+01020000         ; the task
+0f000000         ; its weight
+0180010000000080 ; its mask
+c0c62d0000000000 ; its slice
+10000000         ; the waking processor
+3f000000         ; the previous one
+40000000         ; how many processors there are
+0f000000         ; the own choice
+";
+    both_show(&rt, rt.alloc(), &facts, first, second)
 }
 
 /// An own choice beyond number 15 is not shown to version 1; mask bits beyond the machine are shown to neither.
 #[test]
-fn place_on_thirty_two_processors(rt: HostRuntime) {
+fn place_on_thirty_two_processors(rt: HostRuntime) -> Result<(), Fail> {
     let mut task = Entity::new(1, 1024, 0xffff_ffff_0010_0000, 3_000_000);
     task.set_prev(14);
     let facts = Place {
@@ -138,27 +157,27 @@ fn place_on_thirty_two_processors(rt: HostRuntime) {
         own: 20,
         loads: &rising(32),
     };
-    let first = [
-        1, 0, 0, 0, // the task
-        0x00, 0x04, 0, 0, // its weight
-        0, 0, 0, 0, 0, 0, 0, 0, // its mask, of the first sixteen
-        0xc0, 0xc6, 0x2d, 0, 0, 0, 0, 0, // its slice
-        15, 0, 0, 0, // the waking processor
-        14, 0, 0, 0, // the previous one
-        16, 0, 0, 0, // how many processors are shown
-        0xff, 0xff, 0xff, 0xff, // the own choice is not shown
-    ];
-    let second = [
-        1, 0, 0, 0, // the task
-        0x00, 0x04, 0, 0, // its weight
-        0, 0, 0x10, 0, 0, 0, 0, 0, // its mask
-        0xc0, 0xc6, 0x2d, 0, 0, 0, 0, 0, // its slice
-        15, 0, 0, 0, // the waking processor
-        14, 0, 0, 0, // the previous one
-        32, 0, 0, 0, // how many processors there are
-        20, 0, 0, 0, // the own choice
-    ];
-    both_show(&rt, &facts, &first, &second);
+    let first = "\
+01000000         ; the task
+00040000         ; its weight
+0000000000000000 ; its mask, of the first sixteen
+c0c62d0000000000 ; its slice
+0f000000         ; the waking processor
+0e000000         ; the previous one
+10000000         ; how many processors are shown
+ffffffff         ; the own choice is not shown
+";
+    let second = "\
+01000000         ; the task
+00040000         ; its weight
+0000100000000000 ; its mask
+c0c62d0000000000 ; its slice
+0f000000         ; the waking processor
+0e000000         ; the previous one
+20000000         ; how many processors there are
+14000000         ; the own choice
+";
+    both_show(&rt, rt.alloc(), &facts, first, second)
 }
 
 /// Of two processors the mask allows the second: 200, 0 and -1 are not permitted, and 1 is.

@@ -1,6 +1,6 @@
 // Policies are asked at their hooks: what they answer, in how many steps, and which maps and counters they see.
 
-use bq_insn::decode::decode;
+use bq_asm::assemble;
 use bq_maps::{Call, MapShape, Plain};
 use bq_policies::{Env, Hook, Hooks, Installed, Policy, Scratch, Version};
 use bq_verify::hook::context_length;
@@ -10,23 +10,36 @@ use std::process::Abort;
 use std::test::Fail;
 
 /// `ldmap r1, 0`, looks entry 0 up, answers its value, and adds one to it.
-const COUNTS: [u8; 120] = [
-    0x62, 0x0a, 0xfc, 0xff, 0, 0, 0, 0, 0x18, 0x51, 0, 0, 0, 0, 0, 0, 0, 0, 0, 0, 0, 0, 0, 0, 0xbf,
-    0xa2, 0, 0, 0, 0, 0, 0, 0x07, 0x02, 0, 0, 0xfc, 0xff, 0xff, 0xff, 0x85, 0, 0, 0, 1, 0, 0, 0,
-    0x55, 0, 2, 0, 0, 0, 0, 0, 0xb7, 0, 0, 0, 2, 0, 0, 0, 0x95, 0, 0, 0, 0, 0, 0, 0, 0x79, 0x03, 0,
-    0, 0, 0, 0, 0, 0xbf, 0x34, 0, 0, 0, 0, 0, 0, 0x07, 0x04, 0, 0, 1, 0, 0, 0, 0x7b, 0x40, 0, 0, 0,
-    0, 0, 0, 0xbf, 0x30, 0, 0, 0, 0, 0, 0, 0x95, 0, 0, 0, 0, 0, 0, 0,
-];
+const COUNTS: &str = "\
+stw [r10-4], 0
+ldmap r1, 0
+mov64 r2, r10
+add64 r2, -4
+call 1
+jne64 r0, 0, found
+mov64 r0, 2
+exit
+found:
+ldxdw r3, [r0+0]
+mov64 r4, r3
+add64 r4, 1
+stxdw [r0+0], r4
+mov64 r0, r3
+exit
+";
 
 /// Adds 5 to counter 3, and answers 0.
-const ADDS: [u8; 40] = [
-    0xb7, 1, 0, 0, 3, 0, 0, 0, 0xb7, 2, 0, 0, 5, 0, 0, 0, 0x85, 0, 0, 0, 100, 0, 0, 0, 0xb7, 0, 0,
-    0, 0, 0, 0, 0, 0x95, 0, 0, 0, 0, 0, 0, 0,
-];
+const ADDS: &str = "\
+mov64 r1, 3
+mov64 r2, 5
+call 100
+mov64 r0, 0
+exit
+";
 
 /// The policy for the hook preempt, where the program is accepted.
-fn policy(alloc: Global, bytes: &[u8], shapes: &[MapShape]) -> Result<Option<Policy>, AllocError> {
-    let insns = match decode(alloc, bytes) {
+fn policy(alloc: Global, text: &str, shapes: &[MapShape]) -> Result<Option<Policy>, AllocError> {
+    let insns = match assemble(alloc, text) {
         Ok(insns) => insns,
         Err(_) => return Ok(None),
     };
@@ -70,7 +83,7 @@ fn maps_of_their_own(rt: HostRuntime) -> Result<(), Fail> {
     let Some(shape) = MapShape::new(8, 1) else {
         panic!(&rt; "no shape");
     };
-    let Some(counts) = policy(alloc, &COUNTS, &[shape])? else {
+    let Some(counts) = policy(alloc, COUNTS, &[shape])? else {
         panic!(&rt; "not accepted");
     };
     let mut scratch = Scratch::new();
@@ -89,7 +102,7 @@ fn maps_of_their_own(rt: HostRuntime) -> Result<(), Fail> {
 #[test]
 fn counters_of_all(rt: HostRuntime) -> Result<(), Fail> {
     let alloc = rt.alloc();
-    let Some(adds) = policy(alloc, &ADDS, &[])? else {
+    let Some(adds) = policy(alloc, ADDS, &[])? else {
         panic!(&rt; "not accepted");
     };
     let mut scratch = Scratch::new();
@@ -113,7 +126,7 @@ fn counters_of_all(rt: HostRuntime) -> Result<(), Fail> {
 #[test]
 fn three_hooks(rt: HostRuntime) -> Result<(), Fail> {
     let alloc = rt.alloc();
-    let Some(adds) = policy(alloc, &ADDS, &[])? else {
+    let Some(adds) = policy(alloc, ADDS, &[])? else {
         panic!(&rt; "not accepted");
     };
     let mut hooks = Hooks::new();
