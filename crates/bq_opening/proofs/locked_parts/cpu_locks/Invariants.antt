@@ -1,6 +1,6 @@
 use Rattle.std.proofs.Common.{◌≡◌, ◌++◌, ◌-◌, List, length, vec_len}
 use Rattle.bq_cells.specs.Opened.{ItemOf, cpu_items}
-use Rattle.bq_machine.proofs.opened.cpu_locks.Given as goal
+use Rattle.bq_opening.proofs.locked_parts.cpu_locks.Given as goal
 
 abbrev pub invariant-loop-queue : goal.invariant-loop-queue
 invariant-loop-queue g l =

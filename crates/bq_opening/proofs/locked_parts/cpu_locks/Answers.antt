@@ -1,4 +1,4 @@
-use Rattle.std.proofs.Common.{◌≡◌, ◌-◌, ◌++◌, ℕ, ◌<◌, ◌+◌, ◌^◌, ◌∷◌, [], length, sym, rules, ap, ◌∙◌, arith, length-append}
+use Rattle.std.proofs.Common.{◌≡◌, ◌-◌, ◌++◌, ◌<◌, ◌∷◌, [], length, sym, rules, ap, ◌∙◌, arith, length-append}
 use Rattle.std.proofs.lemmas.Iterator.Adapters.{YieldsList-from_vec}
 use Rattle.std.proofs.lemmas.Iterator.Consumers.{YieldsList-turn, YieldsList-end}
 use Rattle.bq_tie.specs.Whole.{first_of, others_of}
@@ -6,7 +6,7 @@ use Rattle.bq_history.specs.Items.{part_item}
 use Rattle.bq_cells.specs.Parts.{cpu_part}
 use Rattle.bq_cells.specs.Opened.{cpu_items}
 use Rattle.bq_cells.proofs.Opening.{cpu_turn}
-use Rattle.bq_machine.proofs.opened.cpu_locks.Goals as goal
+use Rattle.bq_opening.proofs.locked_parts.cpu_locks.Goals as goal
 
 pub over-requires-clause-empty : goal.over-requires-clause-empty
 over-requires-clause-empty g c =

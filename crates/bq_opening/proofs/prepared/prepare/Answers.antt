@@ -1,5 +1,5 @@
 use Rattle.bq_cells.proofs.Opening.{once, parts_there}
-use Rattle.bq_machine.proofs.opened.prepare.Goals as goal
+use Rattle.bq_opening.proofs.prepared.prepare.Goals as goal
 
 pub open-requires-clause-once : goal.open-requires-clause-once
 open-requires-clause-once g c = once c.args.processors

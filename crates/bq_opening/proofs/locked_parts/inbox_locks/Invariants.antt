@@ -1,6 +1,6 @@
 use Rattle.std.proofs.Common.{◌≡◌, ◌++◌, ◌-◌, List, vec_len}
 use Rattle.bq_cells.specs.Opened.{ItemOf, inbox_items}
-use Rattle.bq_machine.proofs.opened.inbox_locks.Given as goal
+use Rattle.bq_opening.proofs.locked_parts.inbox_locks.Given as goal
 
 abbrev pub invariant-loop-number : goal.invariant-loop-number
 invariant-loop-number g l =

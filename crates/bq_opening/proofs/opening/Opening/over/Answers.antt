@@ -5,7 +5,7 @@ use Rattle.bq_parts.specs.World.{opening_world}
 use Rattle.bq_cells.specs.declared.law.Kept.{Kept}
 use Rattle.bq_cells.proofs.Loads.{opening_loads}
 use Rattle.bq_cells.specs.Parts.{first_parts, kept_of}
-use Rattle.bq_machine.proofs.locks.Machine.with_queues.Goals as goal
+use Rattle.bq_opening.proofs.opening.Opening.over.Goals as goal
 
 pub open-journal-requires : goal.open-journal-requires
 open-journal-requires g c =
@@ -26,8 +26,8 @@ seats-requires-clause-all g c =
     let base : c.open-journal.new.all ≡ map part_item (first_parts p.about) ++ callers_from 0 p.callers = c.open-journal.ensures.0 ∙ ap others_of c.named-history.ensures.1 in
     c.in_ok-locks.ensures.rest c.args.seat_count (rw (c.requires.counts.0, c.requires.counts.1) at base)
 
-pub invariant_of-machine : goal.invariant_of-machine
-invariant_of-machine g c =
+pub invariant_of-opening : goal.invariant_of-opening
+invariant_of-opening g c =
     let p = c.args.prepared.1 in
     let of : c.named-history.result.0 ≡ p = c.named-history.ensures.0 in
     let callers : c.named-history.result.0.callers ≡ c.args.seat_count = ap (λ s. s.callers) of ∙ c.requires.counts.1 in

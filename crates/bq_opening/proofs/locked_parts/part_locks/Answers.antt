@@ -4,7 +4,7 @@ use Rattle.bq_history.specs.Items.{part_item, callers_from}
 use Rattle.bq_cells.specs.Parts.{cpus_from, inboxes_from}
 use Rattle.bq_cells.specs.Opened.{cpu_items, inbox_items}
 use Rattle.bq_cells.proofs.Opening.{in_order}
-use Rattle.bq_machine.proofs.opened.part_locks.Goals as goal
+use Rattle.bq_opening.proofs.locked_parts.part_locks.Goals as goal
 
 pub cpu_locks-requires-clause-items : goal.cpu_locks-requires-clause-items
 cpu_locks-requires-clause-items g c =
