@@ -3,6 +3,7 @@ pub mod LineLemmas
 pub mod ShapeLemmas
 pub mod MarkLemmas
 pub mod OneHead
+pub mod NoFault
 pub mod ReadBack
 pub mod ListedLines
 pub mod NoteLemmas

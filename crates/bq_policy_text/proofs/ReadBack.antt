@@ -1,5 +1,5 @@
 -- The text of a policy is read as that policy, and as no other.
-use Rattle.std.proofs.Common.{◌≡◌, ℕ, zero, suc, List, [], ◌∷◌, ◌++◌, map, Some, Option, refl, sym, ap, subst, ◌∙◌, option_map, unwrap_or}
+use Rattle.std.proofs.Common.{◌≡◌, ℕ, zero, suc, List, [], ◌∷◌, ◌++◌, map, Some, None, Option, refl, sym, ap, subst, ◌∙◌, option_map, unwrap_or}
 use Rattle.std.specs.Prelude.{replicate}
 use Rattle.std.specs.Map.{keys_of}
 use Rattle.std.specs.Str.Lines.{lines}
@@ -13,16 +13,19 @@ use Rattle.bq_verify.specs.declared.hook.Version.TheVariants.{First, Second}
 use Rattle.bq_asm.specs.Assembly.{Assembles, AreNewLabels, Says, places_from}
 use Rattle.bq_asm.specs.Lines.{Line, Blank, line_said, lines_of}
 use Rattle.bq_asm.specs.Text.{listing_text}
-use Rattle.bq_asm.proofs.LawLemmas.{one_program}
+use Rattle.bq_asm.proofs.LawLemmas.{no_program_is_faulty, one_program}
 use Rattle.bq_asm.proofs.ListingLemmas.{listing_assembles}
+use Rattle.bq_policy_files.specs.declared.fault.PolicyFault.{PolicyFault}
+use Rattle.bq_policy_files.specs.declared.fault.PolicyFault.TheVariants as fault
 use Rattle.bq_policy_files.specs.declared.head.Head.{Head}
 use Rattle.bq_policy_files.specs.declared.kind.Kind.TheVariants as kind
 use Rattle.bq_policy_files.specs.declared.policy.Policy.{Policy}
-use Rattle.bq_policy_files.specs.Files.{Agrees, IsOfKind, IsOfText, Settles, either, kind_of, maps_in}
+use Rattle.bq_policy_files.specs.Files.{Agrees, IsFaultOfKind, IsOfKind, IsOfText, IsTextFault, Settles, either, kind_of, maps_in}
 use Rattle.bq_policy_files.specs.Heads.{SaysHead}
 use Rattle.bq_policy_text.specs.ReadBack.{AsksNothing, IsFileOf, IsFrom, IsSame}
 use Rattle.bq_policy_text.proofs.LineLemmas.{AreClean, ended, lines_ended, text_ended, clean_append}
 use Rattle.bq_policy_text.proofs.MarkLemmas.{AreNoMarks, mark_lines, marks_blank, marks_clean, said_of, says_policy, maps_said, format_said}
+use Rattle.bq_policy_text.proofs.NoFault.{no_bad_line, nothing_differs}
 use Rattle.bq_policy_text.proofs.OneHead.{one_hook, one_format, one_maps}
 
 -- lines that say the instructions, and no mark
@@ -134,10 +137,30 @@ is_read p q ls h fit are a f =
       lines = f.lines;
     }
 
+-- it has none of the faults of a text
+no_text_fault : (p : Policy) (ls : List (List ℕ)) (h : Head) (named : PolicyFault) → AllFit p.insns.items → AreLines p.insns.items ls → AsksNothing h → IsTextFault (text_of p ls) h named → named ≡ fault.OutOfMemory
+no_text_fault p ls h fault.OutOfMemory fit are a f = refl
+no_text_fault p ls h fault.Text fit are a f =
+    absurd (f (text_ended (mark_lines p.hook p.shapes.items p.version ++ ls) (clean_append (mark_lines p.hook p.shapes.items p.version) ls (marks_clean p.hook p.shapes.items p.version) are.clean)))
+no_text_fault p ls h (fault.Head line cause) fit are a f = absurd (no_bad_line (lines (text_of p ls)) (said_of p) line cause (says_again p ls are) f)
+no_text_fault p ls h (fault.Assembly line cause) fit are a f = absurd (no_program_is_faulty (text_of p ls) p.insns.items line cause (assembles_again p ls fit are) f)
+no_text_fault p ls h (fault.Disagrees key) fit are a f = absurd (nothing_differs h key f.0.hook (maps_in f.0) f.0.format a f.2)
+no_text_fault p ls h fault.NoHook fit are a f =
+    let same : f.0.hook ≡ Some p.hook = one_hook (lines (text_of p ls)) f.0 (said_of p) f.1 (says_again p ls are) in
+    let none : f.0.hook ≡ None = f.3 in
+    absurd cc
+no_text_fault p ls h fault.Hex fit are a f = absurd f
+no_text_fault p ls h (fault.Image named) fit are a f = absurd f
+no_text_fault p ls h (fault.Program slot cause) fit are a f = absurd f
+
 -- so it is the policy's file
 pub file_of : (p : Policy) (ls : List (List ℕ)) → AllFit p.insns.items → AreLines p.insns.items ls → IsFileOf p (text_of p ls)
-file_of p ls fit are h a q =
-    let text = text_of p ls in (
-      λ read. let o = subst (λ k. IsOfKind k text h q) (text_kind p ls) read in record { same = same_read p q ls h fit are a o; lines = o.lines },
-      λ from. subst (λ k. IsOfKind k text h q) (sym (text_kind p ls)) (is_read p q ls h fit are a from),
-    )
+file_of p ls fit are =
+    let text = text_of p ls in
+    record {
+      read = λ h a q. (
+        λ read. let o = subst (λ k. IsOfKind k text h q) (text_kind p ls) read in record { same = same_read p q ls h fit are a o; lines = o.lines },
+        λ from. subst (λ k. IsOfKind k text h q) (sym (text_kind p ls)) (is_read p q ls h fit are a from),
+      );
+      no_fault = λ h a named f. no_text_fault p ls h named fit are a (subst (λ k. IsFaultOfKind k text h named) (text_kind p ls) f);
+    }

@@ -2,9 +2,11 @@
 use Rattle.std.specs.Prelude.{◌≡◌, ◌↔◌, ℕ, Bool, List, None}
 use Rattle.std.specs.Str.Lines.{lines}
 use Rattle.bq_insn.specs.Laws.{AllFit}
+use Rattle.bq_policy_files.specs.declared.fault.PolicyFault.{PolicyFault}
+use Rattle.bq_policy_files.specs.declared.fault.PolicyFault.TheVariants.{OutOfMemory}
 use Rattle.bq_policy_files.specs.declared.head.Head.{Head}
 use Rattle.bq_policy_files.specs.declared.policy.Policy.{Policy}
-use Rattle.bq_policy_files.specs.Files.{IsPolicy, instruction_lines}
+use Rattle.bq_policy_files.specs.Files.{IsPolicy, IsPolicyFault, instruction_lines}
 use Rattle.bq_policy_text.specs.Listed.{IsListed}
 
 -- nothing is asked for beside the file
@@ -25,9 +27,10 @@ pub record IsFrom (text : List ℕ) (p q : Policy) : Type 0 where
   pub same : IsSame p q
   pub lines : q.lines.items ≡ instruction_lines 1 (lines text)
 
--- the text is the file of this policy, and of no other
-abbrev pub IsFileOf : Policy → List ℕ → Type 0
-IsFileOf p text = (h : Head) → AsksNothing h → (q : Policy) → IsPolicy text h q ↔ IsFrom text p q
+-- the text is the file of this policy and of no other, and has no fault; want of memory says nothing of it
+pub record IsFileOf (p : Policy) (text : List ℕ) : Type 0 where
+  pub read : (h : Head) → AsksNothing h → (q : Policy) → IsPolicy text h q ↔ IsFrom text p q
+  pub no_fault : (h : Head) → AsksNothing h → (named : PolicyFault) → IsPolicyFault text h named → named ≡ OutOfMemory
 
 -- what is listed of a policy is its file, with slots and bytes and without
 abbrev pub ListingIsReadBack : Type 0
