@@ -169,7 +169,7 @@ told_lines-append images [] ys = refl
 told_lines-append images ((n, x) ∷ xs) ys =
     ap (λ l. news_lines images x ++ l) (told_lines-append images xs ys) ∙ sym (append_assoc (news_lines images x) (told_lines images xs) (told_lines images ys))
 
-AreFitting-parts : (xs ys : Told) → AreFitting (xs ++ ys) → AreFitting xs × AreFitting ys
+pub AreFitting-parts : (xs ys : Told) → AreFitting (xs ++ ys) → AreFitting xs × AreFitting ys
 AreFitting-parts [] ys h = (tt, h)
 AreFitting-parts ((n, x) ∷ xs) ys h = let parts = AreFitting-parts xs ys h.1 in ((h.0, parts.0), parts.1)
 

@@ -1,4 +1,7 @@
 //! The names of a workload's tasks.
+ghost use Rattle.std.specs.Prelude.{OnOk};
+ghost use Rattle.bq_trace.specs.News.{Gets};
+ghost use Rattle.bq_study.specs.Traces.{AreNames};
 
 use bq_actions::Workload;
 use bq_trace::Sink;
@@ -26,9 +29,11 @@ pub fn tell_names<S: Sink>(
     alloc: Global,
     workload: &Workload,
     sink: &mut S,
-) -> Result<u64, AllocError> {
+) -> Result<u64, AllocError>
+    ensures { OnOk result (Gets S.takes sink.old sink.new AreNames) }
+{
     let names = task_names(alloc, workload)?;
-    for (task, name) in names.iter().enumerate() {
+    'names: for (task, name) in names.iter().enumerate() {
         let comment = format!(in alloc; "# task {task} {name}")?;
         sink.skipped(0, comment.as_bytes())?;
     }
