@@ -1,11 +1,11 @@
 -- Comments that name tasks, told one after another.
-use Rattle.std.proofs.Common.{◌≡◌, ℕ, List, [], ◌∷◌, ◌++◌, map, refl, sym, ap, ◌∙◌, Bool, true, false, cond}
+use Rattle.std.proofs.Common.{◌≡◌, ℕ, List, [], ◌∷◌, ◌++◌, map, refl, sym, ap, ◌∙◌, cond}
 use Rattle.std.specs.List.{AllByRecursion}
-use Rattle.std.specs.Str.{IsUtf8, is_utf8}
+use Rattle.std.specs.Str.{IsUtf8}
 use Rattle.std.proofs.lemmas.List.{map-append}
 use Rattle.std.proofs.lemmas.Str.{is_utf8-from_IsUtf8}
 use Rattle.bq_retelling.specs.Texts.{ByHook, told_lines}
-use Rattle.bq_trace.specs.News.{News, Told, TakesAll, Gets, Skipped}
+use Rattle.bq_trace.specs.News.{News, Told, Gets, Skipped}
 use Rattle.bq_trace.proofs.TakingLemmas.{TakesAll-append}
 use Rattle.bq_study.specs.Traces.{AreNames, NamesTask, skipped}
 

@@ -1,11 +1,9 @@
 -- A simulation that is told as a text.
-use Rattle.std.proofs.Common.{◌≡◌, ℕ, List, [], ◌∷◌, ◌++◌, refl, sym, ap, ◌∙◌, subst, string_bytes, Option}
+use Rattle.std.proofs.Common.{◌≡◌, [], ◌∷◌, ◌++◌, sym, ap, ◌∙◌, subst, string_bytes}
 use Rattle.std.proofs.lemmas.Grind.{flat_map-append}
-use Rattle.std.specs.List.{AllByRecursion}
 use Rattle.bq_actions.specs.declared.workload.Workload.{Workload}
 use Rattle.bq_retelling.specs.Retelling.{Answers}
-use Rattle.bq_retelling.specs.Texts.{AreFitting, ByHook, Writes, image_at, told_lines, bytes_of}
-use Rattle.bq_retelling.specs.declared.images.Images.{Images}
+use Rattle.bq_retelling.specs.Texts.{AreFitting, ByHook, image_at, told_lines}
 use Rattle.bq_retelling.specs.declared.trace_text.TraceText.{TraceText}
 use Rattle.bq_retelling.proofs.RetellingLemmas.{AreFitting-parts, texts_are_replayed}
 use Rattle.bq_retelling.proofs.TextLemmas.{Takes, writes_all}
@@ -13,19 +11,8 @@ use Rattle.bq_simulate.specs.Chronicles.{events_of}
 use Rattle.bq_simulate.specs.Simulations.{IsSimulation}
 use Rattle.bq_trace.specs.Feeding.{with_feeds}
 use Rattle.bq_trace.specs.News.{Gets, Told, texts}
-use Rattle.bq_verify.specs.declared.hook.Hook.{Hook}
-use Rattle.bq_verify.specs.declared.hook.Hook.TheVariants as hooks
 use Rattle.bq_study.specs.Traces.{AreNames, IsTrace, TracesAreReplayed}
 use Rattle.bq_study.proofs.NameLemmas.{lines_named}
-
--- what is the same at each hook is the same
-pub by_hook : (images : Images) (at : ByHook) → bytes_of images.place ≡ at hooks.Place → bytes_of images.preempt ≡ at hooks.Preempt → bytes_of images.pull ≡ at hooks.Pull → image_at images ≡ at
-by_hook images at place preempt pull = λ i hook. each hook i
-  where
-    each : (hook : Hook) → image_at images hook ≡ at hook
-    each hooks.Place = place
-    each hooks.Preempt = preempt
-    each hooks.Pull = pull
 
 -- names, and then a simulation, are written as a trace
 pub trace_written : (none named whole : TraceText) (w : Workload) (images : ByHook) → string_bytes none.text ≡ [] → image_at none.images ≡ images
@@ -34,7 +21,7 @@ trace_written none named whole w images empty same g h =
     let first = writes_all none named g.told g.taken in
     let then = writes_all named whole h.told h.taken in
     let names : string_bytes named.text ≡ with_feeds g.holds.lines =
-        first.1.text ∙ ap (λ l. l ++ with_feeds (told_lines (image_at none.images) g.told)) empty ∙ ap with_feeds (lines_named (image_at none.images) g.told g.holds) in
+    first.1.text ∙ ap (λ l. l ++ with_feeds (told_lines (image_at none.images) g.told)) empty ∙ ap with_feeds (lines_named (image_at none.images) g.told g.holds) in
     let as_images : image_at named.images ≡ images = ap image_at first.0 ∙ same in
     record {
       names = g.holds.lines;

@@ -1,5 +1,5 @@
 -- What is written of a workload that is run, as a trace.
-use Rattle.std.specs.Prelude.{◌≡◌, ℕ, List, [], ◌∷◌, ◌++◌, map, Option, Some, None, Vec, if◌then◌else◌, codes, string_bytes}
+use Rattle.std.specs.Prelude.{◌≡◌, ℕ, List, [], ◌∷◌, ◌++◌, map, Some, None, Vec, if◌then◌else◌, codes, string_bytes}
 use Rattle.std.specs.Fmt.{decimal}
 use Rattle.std.specs.Global.{Global}
 use Rattle.std.specs.List.{AllByRecursion}
