@@ -34,8 +34,19 @@ pub fn tell_names<S: Sink>(
 {
     let names = task_names(alloc, workload)?;
     'names: for (task, name) in names.iter().enumerate() {
+        let name = plain(alloc, name.as_str())?;
         let comment = format!(in alloc; "# task {task} {name}")?;
         sink.skipped(0, comment.as_bytes())?;
     }
     Ok(names.len() as u64)
+}
+
+/// The name as a line of a trace can have it: a character that is no printable ASCII stands as `?`.
+fn plain(alloc: Global, name: &str) -> Result<String, AllocError> {
+    let mut text = String::new(alloc);
+    for letter in name.chars() {
+        let is_plain = letter.is_ascii_graphic() || letter == ' ';
+        text.push(if is_plain { letter } else { '?' })?;
+    }
+    Ok(text)
 }
