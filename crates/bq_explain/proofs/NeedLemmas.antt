@@ -10,12 +10,12 @@ use Rattle.bq_views.specs.declared.view.Known.{Known}
 use Rattle.bq_views.specs.declared.view.View.{View}
 use Rattle.bq_policy_files.specs.declared.policy.Policy.{Policy}
 use Rattle.bq_explain.specs.Accesses.{IsShown, Lacks, context_of}
-use Rattle.bq_explain.specs.Needs.{AreGiven, AreKnown, AreNumbers, GivesHelper, GivesValue, IsGoodAccess, IsPointerRead, NamesEntry, PointsTo, helper_of, unset_below, unset_text}
+use Rattle.bq_explain.specs.Needs.{AreGiven, AreKnown, AreNumbers, GivesHelper, GivesValue, IsGoodAccess, IsPointerWorkedOn, NamesEntry, PointsTo, helper_of, unset_below, unset_text}
 use Rattle.bq_explain.specs.declared.arguments.Wanted.TheVariants as wanted
 use Rattle.bq_explain.specs.declared.arguments.Wanted.{Wanted}
 use Rattle.bq_maps.specs.declared.shape.MapShape.{MapShape}
 use Rattle.std.proofs.lemmas.Int.{ints}
-use Rattle.bq_explain.specs.Operands.{access_of, known_in, reads}
+use Rattle.bq_explain.specs.Operands.{access_of, known_in, reads, works_on}
 use Rattle.bq_explain.specs.declared.accesses.Lack.TheVariants as lack
 use Rattle.bq_explain.specs.declared.accesses.Lack.{Lack}
 use Rattle.bq_explain.specs.declared.operands.Access.{Access}
@@ -119,16 +119,16 @@ told_not_known view insn told is some known = some (is ∙ none_below view insn 
 pub empty_known : (view : View) (insn : Insn) (told : List ℕ) → told ≡ unset_below 11 view insn → told ≡ [] → AreKnown view insn
 empty_known view insn told is none = all_known view insn 11 (sym is ∙ none)
 
--- a pointer that is read is no number
-pub pointer_no_number : (view : View) (insn : Insn) (r : ℕ) (k : Known) → IsPointerRead view insn r k → ¬ (AreNumbers view insn)
-pointer_no_number view insn r k read numbers = read.no_number (numbers r k read.below read.is_read read.is_known)
+-- a pointer that is worked on is no number
+pub pointer_no_number : (view : View) (insn : Insn) (r : ℕ) (k : Known) → IsPointerWorkedOn view insn r k → ¬ (AreNumbers view insn)
+pointer_no_number view insn r k pointer numbers = pointer.no_number (numbers r k pointer.below pointer.is_worked_on pointer.is_known)
 
 -- one register more
-pub one_more : (view : View) (insn : Insn) (n : ℕ) → ((r : ℕ) (k : Known) → r < n → reads insn r ≡ true → known_in view r ≡ Some k → k.kind ≡ kind.Number) → ((k : Known) → reads insn n ≡ true → known_in view n ≡ Some k → k.kind ≡ kind.Number) → (r : ℕ) (k : Known) → r < n + 1 → reads insn r ≡ true → known_in view r ≡ Some k → k.kind ≡ kind.Number
-one_more view insn n before here r k below read known =
+pub one_more : (view : View) (insn : Insn) (n : ℕ) → ((r : ℕ) (k : Known) → r < n → works_on insn r ≡ true → known_in view r ≡ Some k → k.kind ≡ kind.Number) → ((k : Known) → works_on insn n ≡ true → known_in view n ≡ Some k → k.kind ≡ kind.Number) → (r : ℕ) (k : Known) → r < n + 1 → works_on insn r ≡ true → known_in view r ≡ Some k → k.kind ≡ kind.Number
+one_more view insn n before here r k below works known =
     elim (cases_lt r n) [
-      | inl lt ↦ before r k lt read known
-      | inr ge ↦ let same : r ≡ n = omega arith in here k (rw same at read) (rw same at known)
+      | inl lt ↦ before r k lt works known
+      | inr ge ↦ let same : r ≡ n = omega arith in here k (rw same at works) (rw same at known)
     ]
 
 same_map : (m n : ℕ) → kind.Map m ≡ kind.Map n → m ≡ n

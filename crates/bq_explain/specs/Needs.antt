@@ -15,16 +15,16 @@ use Rattle.bq_explain.specs.declared.arguments.Wanted.TheVariants as wanted
 use Rattle.bq_explain.specs.declared.arguments.Wanted.{Wanted}
 use Rattle.bq_explain.specs.declared.operands.Access.{Access as Accessed}
 use Rattle.bq_explain.specs.Accesses.{IsShown, TellsAccess}
-use Rattle.bq_explain.specs.Operands.{access_of, known_in, reads}
+use Rattle.bq_explain.specs.Operands.{access_of, known_in, reads, works_on}
 use Rattle.bq_explain.specs.Texts.{known_text}
 
 -- each register that the instruction reads is known to be set
 abbrev pub AreKnown : View → Insn → Type 0
 AreKnown view insn = (r : ℕ) → r < 11 → reads insn r ≡ true → known_in view r ≢ None
 
--- each register that the instruction reads, and of which something is known, is a number
+-- each register that the instruction works on, and of which something is known, is a number
 abbrev pub AreNumbers : View → Insn → Type 0
-AreNumbers view insn = (r : ℕ) (k : Known) → r < 11 → reads insn r ≡ true → known_in view r ≡ Some k → k.kind ≡ Number
+AreNumbers view insn = (r : ℕ) (k : Known) → r < 11 → works_on insn r ≡ true → known_in view r ≡ Some k → k.kind ≡ Number
 
 -- a load or a store is known to be good
 abbrev pub IsGoodAccess : Policy → View → Insn → Type 0
@@ -104,17 +104,17 @@ pointer_rule (StoreReg size dst off src) = codes "a pointer is stored whole by s
 pointer_rule (Branch w c dst src off) = codes "of pointers only the answer of a look-up is compared, by jeq64 or jne64 with the number 0"
 pointer_rule insn = codes "a pointer may be copied by mov64, and a number be added to it or taken from it by add64 and sub64"
 
--- the instruction reads the register, of which that is known, and it is no number
-pub record IsPointerRead (view : View) (insn : Insn) (r : ℕ) (k : Known) : Type 0 where
+-- the instruction works on the register, of which that is known, and it is no number
+pub record IsPointerWorkedOn (view : View) (insn : Insn) (r : ℕ) (k : Known) : Type 0 where
   pub below : r < 11
-  pub is_read : reads insn r ≡ true
+  pub is_worked_on : works_on insn r ≡ true
   pub is_known : known_in view r ≡ Some k
   pub no_number : k.kind ≢ Number
 
 -- such a register, what is known of it, and what may be done with it
 abbrev pub TellsPointer : View → Insn → List ℕ → Type 0
 TellsPointer view insn text =
-    (r : ℕ) × (k : Known) × IsPointerRead view insn r k × (text ≡ codes "works on r" ++ (decimal r ++ (codes ", which is " ++ (known_text k ++ (codes "; " ++ pointer_rule insn)))))
+    (r : ℕ) × (k : Known) × IsPointerWorkedOn view insn r k × (text ≡ codes "works on r" ++ (decimal r ++ (codes ", which is " ++ (known_text k ++ (codes "; " ++ pointer_rule insn)))))
 
 -- what a helper wants of its arguments
 abbrev pub wanted_text : Wanted → List ℕ

@@ -35,6 +35,11 @@ reads (StoreReg size dst off src) r = (dst == r) || (src == r)
 reads (Branch w c dst src off) r = (dst == r) || is_register src r
 reads insn r = false
 
+-- what the instruction works on: a store of a register on that one, and each other instruction on those that it reads
+abbrev pub works_on : Insn → ℕ → Bool
+works_on (StoreReg size dst off src) r = src == r
+works_on insn r = reads insn r
+
 -- the machine does nothing by the instruction where the register is unset
 abbrev pub NeedsSet : Insn → ℕ → Type 0
 NeedsSet insn r = (f : Setting) (s t : State) → Does f insn s t → (n : ℕ) × (s.register r ≡ Some n)

@@ -2,14 +2,14 @@
 ghost use Rattle.std.specs.Prelude.{◌≡◌, ◌↔◌, ◌<◌, Some, true, IfOk, IsTrue, MatchOption, string_bytes};
 ghost use Rattle.bq_views.specs.Standing.{Scalar, StandsAt};
 ghost use Rattle.bq_explain.specs.Accesses.{verb};
-ghost use Rattle.bq_explain.specs.Needs.{AreKnown, AreNumbers, IsGoodAccess, IsMet, IsNeed, IsPointerRead, TellsAccessOf, TellsNeed, TellsPointer, answer_text, pointer_rule, unset_below, unset_need, unset_text};
-ghost use Rattle.bq_explain.specs.Operands.{known_in, reads};
+ghost use Rattle.bq_explain.specs.Needs.{AreKnown, AreNumbers, IsGoodAccess, IsMet, IsNeed, IsPointerWorkedOn, TellsAccessOf, TellsNeed, TellsPointer, answer_text, pointer_rule, unset_below, unset_need, unset_text};
+ghost use Rattle.bq_explain.specs.Operands.{known_in, reads, works_on};
 ghost use Rattle.bq_views.specs.declared.view.Known.{Known as Shown};
 
 use crate::accesses::{begin_text, lack_of, lack_text};
 use crate::arguments::argument_need;
 use crate::known::known_text;
-use crate::operands::{access_of, reads};
+use crate::operands::{access_of, reads, works_on};
 use bq_insn::Insn;
 use bq_policy_files::Policy;
 use bq_verify::Cause;
@@ -132,15 +132,15 @@ fn verb(writes: bool) -> &'static str
     if writes { "writes" } else { "reads" }
 }
 
-/// A pointer that the instruction reads, and what may be done with it, if it reads one.
+/// A pointer that the instruction works on, and what may be done with it, if it works on one.
 fn pointer_need(alloc: Global, view: &View, insn: Insn) -> Result<Option<String>, AllocError>
     ensures { IfOk result (λ told. MatchOption told (AreNumbers view.now insn) (λ text. TellsPointer view.now insn (string_bytes text) × ¬ (AreNumbers view.now insn))) }
 {
-    let Some(read) = pointer_read(view, insn) else {
+    let Some(pointer) = pointer_worked_on(view, insn) else {
         return Ok(None);
     };
-    let register = read.register;
-    let told = known_text(alloc, &read.known)?;
+    let register = pointer.register;
+    let told = known_text(alloc, &pointer.known)?;
     let rule = pointer_rule(insn);
     let text = format!(in alloc; "works on r{register}, which is {told}; {rule}")?;
     Ok(Some(text))
@@ -153,24 +153,24 @@ struct Pointer {
     known: Known,
 }
 
-/// The first of the registers that the instruction reads which is known to be no number.
-fn pointer_read(view: &View, insn: Insn) -> Option<Pointer>
-    ensures { MatchOption result (AreNumbers view.now insn) (λ read. IsPointerRead view.now insn read.register read.known) }
+/// The first of the registers that the instruction works on which is known to be no number.
+fn pointer_worked_on(view: &View, insn: Insn) -> Option<Pointer>
+    ensures { MatchOption result (AreNumbers view.now insn) (λ pointer. IsPointerWorkedOn view.now insn pointer.register pointer.known) }
 {
     for register in 0..11u8 {
-        if let Some(pointer) = read_as_pointer(view, insn, register) {
+        if let Some(pointer) = as_pointer(view, insn, register) {
             return Some(pointer);
         }
     }
     None
 }
 
-/// The register, if the instruction reads it and it is known to be no number.
-fn read_as_pointer(view: &View, insn: Insn, register: u8) -> Option<Pointer>
+/// The register, if the instruction works on it and it is known to be no number.
+fn as_pointer(view: &View, insn: Insn, register: u8) -> Option<Pointer>
     requires { register < 11 }
-    ensures { MatchOption result ((k : Shown) → reads insn register ≡ true → known_in view.now register ≡ Some k → k.kind ≡ Kind.Number) (λ read. IsPointerRead view.now insn read.register read.known) }
+    ensures { MatchOption result ((k : Shown) → works_on insn register ≡ true → known_in view.now register ≡ Some k → k.kind ≡ Kind.Number) (λ pointer. IsPointerWorkedOn view.now insn pointer.register pointer.known) }
 {
-    if !reads(insn, register) {
+    if !works_on(insn, register) {
         return None;
     }
     let Some(known) = known(view, register) else {

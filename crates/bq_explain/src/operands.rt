@@ -1,7 +1,7 @@
 //! Which registers an instruction reads and writes, and the memory that it accesses.
 ghost use Rattle.std.specs.Prelude.{◌≡◌, ◌≤◌, IfSome, IsTrue};
 ghost use Rattle.bq_insn.specs.Meaning.{byte_count};
-ghost use Rattle.bq_explain.specs.Operands.{NeedsSet, access_of, is_register, reads, reads_left};
+ghost use Rattle.bq_explain.specs.Operands.{NeedsSet, access_of, is_register, reads, reads_left, works_on};
 
 use bq_insn::{Insn, Operation, Size, Source};
 
@@ -68,6 +68,16 @@ pub(crate) fn reads(insn: Insn, register: u8) -> bool
         Insn::StoreReg { dst, src, .. } => dst == register || src == register,
         Insn::Branch { dst, src, .. } => dst == register || is_register(src, register),
         _ => false,
+    }
+}
+
+/// Whether the instruction works on the register: a store of a register on that one, and each other instruction on those that it reads.
+pub(crate) fn works_on(insn: Insn, register: u8) -> bool
+    ensures { result ≡ works_on insn register }
+{
+    match insn {
+        Insn::StoreReg { src, .. } => src == register,
+        _ => reads(insn, register),
     }
 }
 
