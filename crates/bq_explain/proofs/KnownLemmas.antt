@@ -12,7 +12,7 @@ use Rattle.bq_views.specs.Views.{Covers}
 use Rattle.bq_views.specs.declared.view.View.{View}
 use Rattle.bq_policy_files.specs.declared.policy.Policy.{Policy}
 use Rattle.bq_explain.specs.Explained.{IsKnown, IsNeedAt}
-use Rattle.bq_explain.specs.Needs.{IsNeed}
+use Rattle.bq_needs.specs.Needs.{IsNeed}
 use Rattle.bq_explain.specs.Telling.{TellsState}
 use Rattle.bq_explain.specs.Texts.{IsViewText}
 

@@ -15,7 +15,7 @@ use Rattle.bq_explain.specs.declared.explanation.Explained.{Explained}
 use Rattle.bq_explain.specs.declared.limits.Limits.{Limits}
 use Rattle.bq_explain.specs.declared.verdict.Verdict.{Verdict}
 use Rattle.bq_explain.specs.declared.verdict.Verdict.TheVariants.{Refused}
-use Rattle.bq_explain.specs.Needs.{IsNeed}
+use Rattle.bq_needs.specs.Needs.{IsNeed}
 use Rattle.bq_explain.specs.Telling.{TellsState}
 use Rattle.bq_explain.specs.Texts.{IsViewText}
 use Rattle.bq_explain.specs.Verdicts.{IsVerdict, is_accepted}

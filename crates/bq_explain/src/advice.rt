@@ -1,6 +1,6 @@
 //! What helps against each cause, in one sentence.
-use crate::operands::reads;
 use bq_insn::Insn;
+use bq_needs::reads;
 use bq_policy_files::Policy;
 use bq_verify::{Cause, Hook, Version};
 use bq_views::registers::known;

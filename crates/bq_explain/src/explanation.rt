@@ -9,15 +9,15 @@ ghost use Rattle.bq_explain.specs.Explained.{Explains, HasKnown, HasNeed};
 
 use crate::advice::{graph_advice, state_advice};
 use crate::limits::Limits;
-use crate::needs::need_text;
-use crate::operands::read;
 use crate::pass_needs::graph_words;
 use crate::program_words::{index_at, instruction_text, place_of};
+use crate::registers::read;
 use crate::summary::summary;
 use crate::trail::trail_text;
 use crate::verdict::{Verdict, judge, program_of, verdict_line};
 use crate::view_words::view_text;
 use bq_insn::Insn;
+use bq_needs::need_text;
 use bq_policy_files::Policy;
 use bq_verify::{Cause, Program, view_at};
 use bq_views::view::View;

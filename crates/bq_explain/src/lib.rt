@@ -4,22 +4,18 @@
 //! What is printed of registers and stack is what `view_at` knows, which covers every run that comes to the slot.
 #![tactic(auto)]
 
-mod accesses;
 mod advice;
-mod arguments;
 mod explanation;
-mod known;
 mod limits;
-mod needs;
-mod operands;
 mod pass_needs;
 mod program_words;
+mod registers;
 mod summary;
 mod trail;
 mod verdict;
 mod view_words;
 
+pub use bq_needs::range_text;
 pub use explanation::{Explained, explain};
-pub use known::range_text;
 pub use limits::Limits;
 pub use verdict::{Verdict, judge, verdict_line};

@@ -2,10 +2,10 @@
 ghost use Rattle.std.specs.Prelude.{◌≡◌, ◌≤◌, length, true};
 ghost use Rattle.bq_insn.specs.Spelling.{is_well_formed};
 
-use crate::known::known_text;
-use crate::operands::{Registers, bit, read, written};
 use crate::program_words::{instruction_text, place_of};
+use crate::registers::{Registers, bit, read, written};
 use bq_insn::Insn;
+use bq_needs::known_text;
 use bq_verify::{Program, view_at};
 use bq_views::registers::known;
 use std::alloc::{AllocError, Global};

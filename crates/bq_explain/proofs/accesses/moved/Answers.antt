@@ -1,6 +1,0 @@
-use Rattle.std.proofs.Common.{rules}
-use Rattle.bq_explain.proofs.AccessLemmas.{reaches_last}
-use Rattle.bq_explain.proofs.accesses.moved.Goals as goal
-
-pub returns-else-lo-hi : goal.returns-else-lo-hi
-returns-else-lo-hi c = reaches_last c.args.off c.args.offsets c.ranges.off (search rules)

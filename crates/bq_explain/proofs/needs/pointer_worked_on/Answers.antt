@@ -1,5 +1,0 @@
-use Rattle.bq_explain.proofs.NeedLemmas.{one_more}
-use Rattle.bq_explain.proofs.needs.pointer_worked_on.Goals as goal
-
-pub loop-register-preserved : goal.loop-register-preserved
-loop-register-preserved c = one_more c.args.view.now c.args.insn c.loop-register.register c.loop-register.invariant c.in_default.ensures
