@@ -1,4 +1,4 @@
 pub mod KnownLemmas
 pub mod RunLemmas
-pub mod SayingLemmas
+pub mod SlotLemmas
 pub mod ViewLemmas

@@ -1,6 +1,7 @@
 -- Runs of bytes that are set.
 use Rattle.std.proofs.Common.{◌≡◌, ℕ, ◌<◌, ◌≤◌, Bool, List, [], ◌++◌, sym, ◌∙◌, ap, subst, append-nil}
-use Rattle.bq_explain.specs.Texts.{AreRuns, AreSet, no_run, one_run, run_text}
+use Rattle.bq_needs.specs.Accesses.{AreSet}
+use Rattle.bq_explain.specs.Texts.{AreRuns, no_run, one_run, run_text}
 
 -- nothing is told yet
 pub none_yet : (set : List Bool) (text : List ℕ) → text ≡ [] → AreRuns set text

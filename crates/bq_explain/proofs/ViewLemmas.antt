@@ -6,8 +6,9 @@ use Rattle.bq_views.specs.Views.{Covers, Holds, Keeps}
 use Rattle.bq_views.specs.declared.view.Known.{Known}
 use Rattle.bq_views.specs.declared.view.View.{View}
 use Rattle.bq_explain.specs.Telling.{TellsRegisters, no_register, one_register, TellsRuns, no_run_told, one_run_told, TellsStack, TellsKept, no_kept, one_kept, TellsState}
-use Rattle.bq_explain.specs.Texts.{register_text, registers_below, kept_text, kept_below, AreRuns, no_run, one_run, IsStackText, IsViewText, known_text}
-use Rattle.bq_explain.proofs.SayingLemmas.{says_known}
+use Rattle.bq_explain.specs.Texts.{register_text, registers_below, kept_text, kept_below, AreRuns, no_run, one_run, IsStackText, IsViewText}
+use Rattle.bq_needs.specs.Texts.{known_text}
+use Rattle.bq_needs.proofs.SayingLemmas.{says_known}
 
 -- one register more
 pub tells_register : (f : Setting) (s : State) (before : List ℕ) (r : ℕ) (known : Option Known) → Holds f.shapes known (s.register r) → TellsRegisters f s before → TellsRegisters f s (before ++ register_text r known)

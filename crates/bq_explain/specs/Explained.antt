@@ -1,18 +1,23 @@
 -- What an explanation says of a policy.
-use Rattle.std.specs.Prelude.{◌≡◌, ℕ, List, ◌++◌, IfSome, string_bytes}
+use Rattle.std.specs.Prelude.{◌≡◌, ℕ, List, ◌++◌, Some, IfSome, codes, string_bytes}
+use Rattle.bq_insn.specs.declared.Insn.{Insn}
 use Rattle.bq_insn.specs.Slots.{spread}
 use Rattle.bq_graph.specs.declared.cause.Cause.{Cause}
 use Rattle.bq_maps.specs.Arrays.{HaveShapes}
-use Rattle.bq_maps.specs.Machine.{Chain, IsSetting, start}
+use Rattle.bq_maps.specs.Machine.{Chain, IsSetting, instruction_at, start}
 use Rattle.bq_maps.specs.Memory.{Setting, State}
 use Rattle.bq_maps.specs.declared.board.Call.{Call as Asked}
 use Rattle.bq_verify.specs.Accepted.{context_length_of}
+use Rattle.bq_verify.specs.KnownAt.{CoversRuns}
+use Rattle.bq_views.specs.declared.view.View.{View}
 use Rattle.bq_policy_files.specs.declared.policy.Policy.{Policy}
 use Rattle.bq_explain.specs.declared.explanation.Explained.{Explained}
 use Rattle.bq_explain.specs.declared.limits.Limits.{Limits}
 use Rattle.bq_explain.specs.declared.verdict.Verdict.{Verdict}
 use Rattle.bq_explain.specs.declared.verdict.Verdict.TheVariants.{Refused}
+use Rattle.bq_needs.specs.Needs.{IsNeed}
 use Rattle.bq_explain.specs.Telling.{TellsState}
+use Rattle.bq_explain.specs.Texts.{IsViewText}
 use Rattle.bq_explain.specs.Verdicts.{IsVerdict, is_accepted}
 
 -- in every run of the policy's program that comes to the slot, whatever the context, the maps, the clock, the processor and the answers of the
@@ -33,14 +38,34 @@ pub record IsKnown (p : Policy) (slot : ℕ) (text known : List ℕ) : Type 0 wh
 abbrev pub HasKnown : Policy → ℕ → Explained → Type 0
 HasKnown p slot e = IfSome e.known (λ known. IsKnown p slot (string_bytes e.text) (string_bytes known))
 
--- the policy is refused at a slot, and the lines on the state hold there
+-- the lines on the state tell of a view that every run which comes to the slot is within; the line before them tells, by the cause, a need of the
+-- instruction there that this view does not give
+pub record IsNeedAt (p : Policy) (slot : ℕ) (cause : Cause) (text known : List ℕ) : Type 0 where
+  pub view : View
+  pub covers : CoversRuns (spread p.insns.items) p.shapes.items (context_length_of p.hook p.version) slot view
+  pub view_told : IsViewText view known
+  pub insn : Insn
+  pub here : instruction_at (spread p.insns.items) slot ≡ Some insn
+  pub need : List ℕ
+  pub is_need : IsNeed p view insn cause need
+  pub before : List ℕ
+  pub after : List ℕ
+  pub text_is : text ≡ before ++ (codes "\n  " ++ (need ++ (codes "\n" ++ (known ++ after))))
+
+-- where lines on the state are told, the need stands before them
+abbrev pub HasNeed : Policy → ℕ → Cause → Explained → Type 0
+HasNeed p slot cause e = IfSome e.known (λ known. IsNeedAt p slot cause (string_bytes e.text) (string_bytes known))
+
+-- the policy is refused at a slot, the lines on the state hold there, and a need that the state does not meet stands before them
 pub record IsKnownOf (p : Policy) (verdict : Verdict) (text known : List ℕ) : Type 0 where
   pub slot : ℕ
   pub cause : Cause
   pub refused : verdict ≡ Refused slot cause
   pub known_is : IsKnown p slot text known
+  pub need_is : IsNeedAt p slot cause text known
 
--- the verdict is that of the verifier and the limits; where lines on the state are told, they hold at the slot of the refusal
+-- the verdict is that of the verifier and the limits; where lines on the state are told, they hold at the slot of the refusal, and the need before them is
+-- one that what they tell does not give
 pub record Explains (p : Policy) (l : Limits) (e : Explained) : Type 0 where
   pub verdict : Verdict
   pub is_verdict : IsVerdict p l verdict

@@ -1,28 +1,10 @@
--- What a text says of a word, as it is read.
-use Rattle.std.specs.Prelude.{◌≡◌, ℕ, ◌+◌, ◌-◌, ◌*◌, ◌%◌, ◌^◌, ◌<◌, ◌≤◌, ◌⊎◌, List, [], ◌++◌, Some, length, codes}
+-- What a text says of registers and stack, as it is read.
+use Rattle.std.specs.Prelude.{◌≡◌, ℕ, ◌+◌, ◌-◌, ◌*◌, ◌<◌, ◌≤◌, ◌⊎◌, List, [], ◌++◌, Some, codes}
 use Rattle.std.specs.Int.{byte_at}
 use Rattle.std.specs.Fmt.{decimal}
-use Rattle.bq_maps.specs.declared.shape.MapShape.{MapShape}
-use Rattle.bq_maps.specs.Memory.{Setting, State, reference, context_base, stack_base}
-use Rattle.bq_views.specs.Views.{IsEntryBase}
-use Rattle.bq_explain.specs.Texts.{between, run_text}
-
--- the word is so far from a place: nothing is added, or a number of a range, or a number of a range is taken away
-pub data TellsPlace : List ℕ → ℕ → ℕ → Type 0 where
-  there : (place word : ℕ) → word ≡ place % 2 ^ 64 → TellsPlace [] place word
-  above : (lo hi n place word : ℕ) → lo ≤ n → n ≤ hi → word ≡ (place + n) % 2 ^ 64 → TellsPlace (codes " + " ++ between lo hi) place word
-  under : (far near n place word : ℕ) → near ≤ n → n ≤ far → (word + n) % 2 ^ 64 ≡ place % 2 ^ 64 → TellsPlace (codes " - " ++ between far near) place word
-
--- the word is as the text says
-pub data Says : List MapShape → List ℕ → ℕ → Type 0 where
-  any_number : (shapes : List MapShape) (word : ℕ) → Says shapes (codes "any number") word
-  number : (shapes : List MapShape) (lo hi word : ℕ) → lo ≤ word → word ≤ hi → Says shapes (between lo hi) word
-  context : (shapes : List MapShape) (text : List ℕ) (word : ℕ) → TellsPlace text context_base word → Says shapes (codes "context" ++ text) word
-  stack_begin : (shapes : List MapShape) (text : List ℕ) (word : ℕ) → TellsPlace text stack_base word → Says shapes (codes "stack begin" ++ text) word
-  stack_end : (shapes : List MapShape) (text : List ℕ) (word : ℕ) → TellsPlace text (stack_base + 512) word → Says shapes (codes "stack end" ++ text) word
-  entry : (shapes : List MapShape) (text : List ℕ) (map base word : ℕ) → IsEntryBase shapes map base → TellsPlace text base word → Says shapes (codes "entry of map " ++ (decimal map ++ text)) word
-  entry_or_null : (shapes : List MapShape) (text : List ℕ) (map base word : ℕ) → (base ≡ 0) ⊎ IsEntryBase shapes map base → TellsPlace text base word → Says shapes (codes "entry of map " ++ (decimal map ++ (codes " or 0" ++ (text ++ codes ", not compared")))) word
-  map_reference : (shapes : List MapShape) (text : List ℕ) (map word : ℕ) → map < length shapes → TellsPlace text (reference map) word → Says shapes (codes "map " ++ (decimal map ++ text)) word
+use Rattle.bq_maps.specs.Memory.{Setting, State}
+use Rattle.bq_explain.specs.Texts.{run_text}
+use Rattle.bq_needs.specs.Saying.{Says}
 
 -- pieces of a line, each of which names a register of the state and tells its word
 pub data TellsRegisters : Setting → State → List ℕ → Type 0 where

@@ -1,9 +1,9 @@
 //! What helps against each cause, in one sentence.
-use crate::names::Surroundings;
-use crate::needs::known_of;
-use crate::operands::{bit, read};
 use bq_insn::Insn;
+use bq_needs::reads;
+use bq_policy_files::Policy;
 use bq_verify::{Cause, Hook, Version};
+use bq_views::registers::known;
 use bq_views::view::{Kind, View};
 
 /// What helps where something is wrong with the control graph.
@@ -24,15 +24,10 @@ pub(crate) fn graph_advice(cause: Cause) -> &'static str {
 }
 
 /// What helps where something is not shown of the states.
-pub(crate) fn state_advice(
-    around: Surroundings<'_>,
-    view: &View,
-    insn: Insn,
-    cause: Cause,
-) -> &'static str {
+pub(crate) fn state_advice(policy: &Policy, view: &View, insn: Insn, cause: Cause) -> &'static str {
     match cause {
         Cause::Unset => unset_advice(view, insn),
-        Cause::Access => access_advice(around, view, insn),
+        Cause::Access => access_advice(policy, view, insn),
         Cause::PointerUse => match insn {
             Insn::StoreReg { .. } => "store it by stxdw at r10 - 8, r10 - 16 or so on",
             Insn::Branch { .. } => {
@@ -59,24 +54,24 @@ pub(crate) fn state_advice(
 /// A call leaves r1 to r5 unset, which is the usual slip.
 fn unset_advice(view: &View, insn: Insn) -> &'static str {
     for register in 1..6u8 {
-        if read(insn) & bit(register) != 0 && known_of(view, register).is_none() {
+        if reads(insn, register) && known(view, register).is_none() {
             return "set it on each way before; a call leaves r1 to r5 unset, so keep what is needed later in r6 to r9, as by mov64 r6, r1 at the begin";
         }
     }
     "set it on each way that leads here, as by mov64 before the first branch"
 }
 
-fn access_advice(around: Surroundings<'_>, view: &View, insn: Insn) -> &'static str {
+fn access_advice(policy: &Policy, view: &View, insn: Insn) -> &'static str {
     let register = match insn {
         Insn::Load { src, .. } => src,
         Insn::StoreImm { dst, .. } | Insn::StoreReg { dst, .. } => dst,
         _ => 0,
     };
-    let Some(known) = known_of(view, register) else {
+    let Some(pointer) = known(view, register) else {
         return "set the register on each way that leads here";
     };
-    match known.kind {
-        Kind::Context => match (around.hook, around.version) {
+    match pointer.kind {
+        Kind::Context => match (policy.hook, policy.version) {
             (Hook::Place, Version::First) => {
                 "a smaller mask or a test (jgt64) before the address is made, or format 2, whose context has 296 bytes; docs/CONTEXTS.md has the fields"
             }

@@ -1,25 +1,24 @@
 //! A policy's verdict with its explanation.
-ghost use Rattle.std.specs.Prelude.{◌≡◌, ◌≤◌, IfOk, None, false, true, length};
+ghost use Rattle.std.specs.Prelude.{◌≡◌, ◌≤◌, IfOk, None, Some, false, true, length};
 ghost use Rattle.bq_insn.specs.Spelling.{is_well_formed};
 ghost use Rattle.bq_insn.specs.Slots.{spread};
 ghost use Rattle.bq_verify.specs.Accepted.{context_length_of};
 ghost use Rattle.bq_verify.specs.KnownAt.{CoversRuns};
-ghost use Rattle.bq_explain.specs.Explained.{Explains, HasKnown};
+ghost use Rattle.bq_maps.specs.Machine.{instruction_at};
+ghost use Rattle.bq_explain.specs.Explained.{Explains, HasKnown, HasNeed};
 
 use crate::advice::{graph_advice, state_advice};
 use crate::limits::Limits;
-use crate::names::Surroundings;
-use crate::needs::need_text;
-use crate::operands::read;
 use crate::pass_needs::graph_words;
 use crate::program_words::{index_at, instruction_text, place_of};
+use crate::registers::read;
 use crate::summary::summary;
 use crate::trail::trail_text;
 use crate::verdict::{Verdict, judge, program_of, verdict_line};
 use crate::view_words::view_text;
 use bq_insn::Insn;
+use bq_needs::need_text;
 use bq_policy_files::Policy;
-use bq_verify::hook::context_length;
 use bq_verify::{Cause, Program, view_at};
 use bq_views::view::View;
 use std::alloc::{AllocError, Global};
@@ -78,6 +77,7 @@ fn refused(
 ) -> Result<Explained, AllocError>
     ensures accepted { IfOk result (λ e. e.accepted ≡ false) }
     ensures known { IfOk result (HasKnown policy.now slot) }
+    ensures need { IfOk result (HasNeed policy.now slot cause) }
 {
     let insns = policy.insns.as_slice();
     let Some(index) = index_at(insns, slot) else {
@@ -94,7 +94,7 @@ fn refused(
     };
     let place = place_of(alloc, policy.lines.as_slice(), index, slot)?;
     let said = instruction_text(alloc, fault.insn)?;
-    let head = format!(in alloc; "{line}{place}:  {said}\n")?;
+    let head = format!(in alloc; "{line}{place}:  {said}")?;
     reasons(alloc, head.as_str(), policy, fault)
 }
 
@@ -117,8 +117,10 @@ fn reasons(
     policy: &Policy,
     fault: Fault,
 ) -> Result<Explained, AllocError>
+    requires { instruction_at (spread policy.now.insns.items) fault.slot ≡ Some fault.insn }
     ensures accepted { IfOk result (λ e. e.accepted ≡ false) }
     ensures known { IfOk result (HasKnown policy.now fault.slot) }
+    ensures need { IfOk result (HasNeed policy.now fault.slot fault.cause) }
 {
     let program = program_of(alloc, policy)?;
     match view_at(alloc, &program, fault.slot)? {
@@ -126,7 +128,7 @@ fn reasons(
         None => {
             let need = graph_words(fault.cause);
             let help = graph_advice(fault.cause);
-            let text = format!(in alloc; "{head}  {need}\n  helps: {help}\n")?;
+            let text = format!(in alloc; "{head}\n  {need}\n  helps: {help}\n")?;
             Ok(alone(text))
         }
     }
@@ -143,21 +145,16 @@ fn state_reasons(
 ) -> Result<Explained, AllocError>
     requires whole { is_well_formed program.now.insns.items ≡ true }
     requires few { length program.now.shapes.items ≤ 8 }
+    requires here { instruction_at (spread policy.now.insns.items) fault.slot ≡ Some fault.insn }
     requires covers { CoversRuns (spread policy.now.insns.items) policy.now.shapes.items (context_length_of policy.now.hook policy.now.version) fault.slot view.now }
     ensures accepted { IfOk result (λ e. e.accepted ≡ false) }
     ensures known { IfOk result (HasKnown policy.now fault.slot) }
+    ensures need { IfOk result (HasNeed policy.now fault.slot fault.cause) }
 {
-    let around = Surroundings {
-        hook: policy.hook,
-        version: policy.version,
-        context: context_length(policy.hook, policy.version),
-        shapes: policy.shapes.as_slice(),
-    };
-    let need = need_text(alloc, around, view, fault.insn, fault.cause)?;
-    let before = format!(in alloc; "{head}  {need}\n")?;
+    let need = need_text(alloc, policy, view, fault.insn, fault.cause)?;
     let known = view_text(alloc, view)?;
-    let after = what_helps(alloc, policy, program, view, fault, around)?;
-    let text = format!(in alloc; "{before}{known}{after}")?;
+    let after = what_helps(alloc, policy, program, view, fault)?;
+    let text = format!(in alloc; "{head}\n  {need}\n{known}{after}")?;
     Ok(Explained {
         text,
         accepted: false,
@@ -172,13 +169,12 @@ fn what_helps(
     program: &Program,
     view: &View,
     fault: Fault,
-    around: Surroundings<'_>,
 ) -> Result<String, AllocError>
     requires whole { is_well_formed program.now.insns.items ≡ true }
     requires few { length program.now.shapes.items ≤ 8 }
 {
     let lines = policy.lines.as_slice();
     let trail = trail_text(alloc, program, lines, fault.index, read(fault.insn))?;
-    let help = state_advice(around, view, fault.insn, fault.cause);
+    let help = state_advice(policy, view, fault.insn, fault.cause);
     format!(in alloc; "{trail}  helps: {help}\n")
 }

@@ -6,19 +6,16 @@
 
 mod advice;
 mod explanation;
-mod known;
 mod limits;
-mod names;
-mod needs;
-mod operands;
 mod pass_needs;
 mod program_words;
+mod registers;
 mod summary;
 mod trail;
 mod verdict;
 mod view_words;
 
+pub use bq_needs::range_text;
 pub use explanation::{Explained, explain};
-pub use known::range_text;
 pub use limits::Limits;
 pub use verdict::{Verdict, judge, verdict_line};

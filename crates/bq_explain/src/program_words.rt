@@ -1,4 +1,9 @@
 //! Instructions and their places in words.
+ghost use Rattle.std.specs.Prelude.{◌≡◌, IfSome, Some, slice_get};
+ghost use Rattle.bq_insn.specs.Slots.{spread};
+ghost use Rattle.bq_insn.specs.declared.Insn.{Insn as Told};
+ghost use Rattle.bq_maps.specs.Machine.{instruction_at};
+
 use bq_asm::listing;
 use bq_insn::Insn;
 use std::alloc::{AllocError, Global};
@@ -26,13 +31,15 @@ pub(crate) fn place_of(
 }
 
 /// The index of the instruction that begins at the slot.
-pub(crate) fn index_at(insns: &[Insn], slot: usize) -> Option<usize> {
+pub(crate) fn index_at(insns: &[Insn], slot: usize) -> Option<usize>
+    ensures { IfSome result (λ index. (insn : Told) → slice_get insns.now index ≡ Some insn → instruction_at (spread insns.now) slot ≡ Some insn) }
+{
     let mut at: usize = 0;
     for (index, insn) in insns.iter().enumerate() {
         if at == slot {
             return Some(index);
         }
-        at = at.saturating_add(insn.slots());
+        at = at.checked_add(insn.slots())?;
     }
     None
 }

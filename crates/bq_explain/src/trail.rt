@@ -2,12 +2,12 @@
 ghost use Rattle.std.specs.Prelude.{◌≡◌, ◌≤◌, length, true};
 ghost use Rattle.bq_insn.specs.Spelling.{is_well_formed};
 
-use crate::known::known_text;
-use crate::needs::known_of;
-use crate::operands::{Registers, bit, read, written};
 use crate::program_words::{instruction_text, place_of};
+use crate::registers::{Registers, bit, read, written};
 use bq_insn::Insn;
+use bq_needs::known_text;
 use bq_verify::{Program, view_at};
+use bq_views::registers::known;
 use std::alloc::{AllocError, Global};
 
 /// The most instructions that are listed.
@@ -96,8 +96,8 @@ fn write_outcome(
     let (Some(register), Some(view)) = (written(made.insn), view_at(alloc, program, next)?) else {
         return Ok(());
     };
-    if let Some(known) = known_of(&view, register) {
-        let told = known_text(alloc, &known)?;
+    if let Some(word) = known(&view, register) {
+        let told = known_text(alloc, &word)?;
         write!(text, "    r{register} then is {told}")?;
     }
     Ok(())

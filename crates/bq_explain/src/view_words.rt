@@ -3,9 +3,10 @@ ghost use Rattle.std.specs.Prelude.{◌≡◌, ◌<◌, ◌≤◌, ◌++◌, ℕ
 ghost use Rattle.bq_maps.specs.Memory.{Setting, State};
 ghost use Rattle.bq_views.specs.Views.{Covers};
 ghost use Rattle.bq_explain.specs.Telling.{TellsState};
-ghost use Rattle.bq_explain.specs.Texts.{AreRuns, AreSet, IsStackText, IsViewText, kept_below, kept_text, register_text, registers_below, run_text};
+ghost use Rattle.bq_needs.specs.Accesses.{AreSet};
+ghost use Rattle.bq_explain.specs.Texts.{AreRuns, IsStackText, IsViewText, kept_below, kept_text, register_text, registers_below, run_text};
 
-use crate::known::known_text;
+use bq_needs::known_text;
 use bq_views::view::{Known, View};
 use std::alloc::{AllocError, Global};
 

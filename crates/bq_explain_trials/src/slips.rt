@@ -6,7 +6,7 @@ use bq_policy_files::{Head, read_policy};
 use std::test::Fail;
 
 /// What a policy's text is, and what its explanation says: the first line, and words of the others.
-const REFUSED: [(&str, &str, &str, &str); 13] = [
+const REFUSED: [(&str, &str, &str, &str); 14] = [
     // r1 after a call
     (
         ";@ hook preempt\ncall 5\nldxw r0, [r1+48]\nexit\n",
@@ -61,6 +61,13 @@ const REFUSED: [(&str, &str, &str, &str); 13] = [
         ";@ hook preempt\nmov64 r0, 0\nstxw [r10-4], r1\nexit\n",
         "refused L8 V6 1\n",
         "a pointer is stored whole by stxdw",
+        "store it by stxdw at r10 - 8",
+    ),
+    // the same where the address is a pointer too, in a lower register: at fault is the one that is stored
+    (
+        ";@ hook preempt\nmov64 r0, 0\nmov64 r6, r10\nmov64 r7, r1\nstxw [r6-4], r7\nexit\n",
+        "refused L8 V6 3\n",
+        "works on r7, which is context; a pointer is stored whole by stxdw",
         "store it by stxdw at r10 - 8",
     ),
     // maps forgotten

@@ -1,2 +1,6 @@
 mod FieldLemmas
 mod InTurnLemmas
+mod MovableIds
+mod PlaceLaw
+mod PullLaw
+mod ShownLemmas

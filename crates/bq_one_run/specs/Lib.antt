@@ -1,5 +1,6 @@
 pub mod Fields
 pub mod Naming
 pub mod Permitting
+pub mod PermittingLaw
 pub mod Runs
 pub mod Words

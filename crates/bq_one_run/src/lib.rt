@@ -7,6 +7,7 @@ mod entries;
 mod faults;
 mod fields;
 mod inputs;
+pub mod laws;
 mod one_run;
 mod permitted;
 mod settings;

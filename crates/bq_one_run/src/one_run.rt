@@ -1,6 +1,7 @@
 //! Runs, and what came of them.
 ghost use Rattle.std.specs.Prelude.{◌≡◌, [], length, IfOk, IfSome};
 ghost use Rattle.bq_interp.specs.Chains.{setting_of};
+ghost use Rattle.bq_verify.specs.Accepted.{context_length_of};
 ghost use Rattle.bq_interp.specs.Moments.{AreMoments};
 ghost use Rattle.bq_maps.specs.Machine.{start};
 ghost use Rattle.bq_one_run.specs.Runs.{AreRuns, IsRun, kept_in};
@@ -64,6 +65,8 @@ pub fn trace_once(
     ensures run { IfOk result (λ o. IfSome o (λ r. IsRun verified.now inputs.old.context.items inputs.old.env.now inputs.old.env.processor (kept_in inputs.old) r.steps r.calls.items r.r0 (kept_in inputs.new))) }
     ensures moments { IfOk result (λ o. IfSome o (λ r. AreMoments (setting_of verified.now inputs.old.context.items inputs.old.env.now inputs.old.env.processor) (start inputs.old.maps.bytes) 0 moments.new.items)) }
     ensures each { IfOk result (λ o. IfSome o (λ r. length moments.new.items ≡ r.steps)) }
+    ensures whole { IfOk result (λ o. IfSome o (λ _. length inputs.old.context.items ≡ context_length_of verified.now.hook verified.now.version)) }
+    ensures context { IfOk result (λ _. inputs.new.context ≡ inputs.old.context) }
 {
     if inputs.context.len() != context_length(verified.hook(), verified.version()) {
         return Ok(None);

@@ -1,12 +1,17 @@
 //! Whether the rule permits an answer, by what the context shows.
-ghost use Rattle.std.specs.Prelude.{◌≡◌, ◌≤◌, length};
-ghost use Rattle.bq_one_run.specs.Permitting.{place_permits};
+ghost use Rattle.std.specs.Prelude.{◌≡◌, ◌≤◌, ◌+◌, length};
+ghost use Rattle.bq_one_run.specs.Permitting.{hides_tasks, number_at, place_permits, place_word, preempt_word, pull_word, shows_task, word_of};
+ghost use Rattle.bq_verify.specs.Accepted.{context_length_of};
+ghost use Rattle.bq_verify.specs.declared.hook.Version.{Version as OfVersion};
 
 use bq_verify::Hook;
 use byteorder::{ByteOrder, LittleEndian};
 
 /// The answer of a pull policy that takes no task.
 const NOBODY: u64 = 0xffff_ffff;
+
+/// How many movable tasks a pull context has room for.
+const SHOWN: u32 = 8;
 
 /// What the rule says of an answer.
 #[derive(Clone, Copy, Debug, PartialEq, Eq)]
@@ -17,32 +22,24 @@ pub enum Word {
     NotShown,
 }
 
-/// What the rule says of the answer, where the context was this one.
-pub fn word_on(hook: Hook, context: &[u8], r0: u64) -> Word {
+/// What the rule says of the answer, where the context was this one, of the length that the hook's contexts have.
+pub fn word_on(hook: Hook, context: &[u8], r0: u64) -> Word
+    ensures { (version : OfVersion) → length context.now ≡ context_length_of hook version → result ≡ word_of hook context.now r0 }
+{
     match hook {
-        Hook::Place => {
-            if context.len() >= 36 && place_permits(context, r0) {
-                Word::Permitted
-            } else {
-                Word::NotPermitted
-            }
-        }
-        Hook::Preempt => {
-            if r0 < 2 {
-                Word::Permitted
-            } else {
-                Word::NotPermitted
-            }
-        }
-        Hook::Pull => {
-            if r0 == NOBODY || shows_task(context, r0) {
-                Word::Permitted
-            } else if hides_tasks(context) {
-                Word::NotShown
-            } else {
-                Word::NotPermitted
-            }
-        }
+        Hook::Place => place_word(context, r0),
+        Hook::Preempt => preempt_word(r0),
+        Hook::Pull => pull_word(context, r0),
+    }
+}
+
+fn place_word(context: &[u8], r0: u64) -> Word
+    ensures { 36 ≤ length context.now → result ≡ place_word context.now r0 }
+{
+    if context.len() >= 36 && place_permits(context, r0) {
+        Word::Permitted
+    } else {
+        Word::NotPermitted
     }
 }
 
@@ -51,39 +48,67 @@ fn place_permits(context: &[u8], r0: u64) -> bool
     requires { 36 ≤ length context.now }
     ensures { result ≡ place_permits context.now r0 }
 {
-    let count = LittleEndian::read_u32(&context[32..36]);
+    let count = number_at(context, 32);
     let mask = LittleEndian::read_u64(&context[8..16]);
     r0 < u64::from(count) && r0 < 64 && (mask >> r0) % 2 == 1
 }
 
-/// The number of four bytes at that place.
-fn number_at(context: &[u8], at: usize) -> Option<u32> {
-    let bytes = context.get(at..at.saturating_add(4))?;
-    if bytes.len() < 4 {
-        return None;
+fn preempt_word(r0: u64) -> Word
+    ensures { result ≡ preempt_word r0 }
+{
+    if r0 < 2 {
+        Word::Permitted
+    } else {
+        Word::NotPermitted
     }
-    Some(LittleEndian::read_u32(bytes))
+}
+
+fn pull_word(context: &[u8], r0: u64) -> Word
+    ensures { 160 ≤ length context.now → result ≡ pull_word context.now r0 }
+{
+    if r0 == NOBODY {
+        return Word::Permitted;
+    }
+    if context.len() < 160 {
+        return Word::NotPermitted;
+    }
+    if shows_task(context, r0) {
+        return Word::Permitted;
+    }
+    if hides_tasks(context) {
+        Word::NotShown
+    } else {
+        Word::NotPermitted
+    }
+}
+
+/// The number of the four bytes at that place.
+fn number_at(context: &[u8], at: usize) -> u32
+    requires { at + 4 ≤ length context.now }
+    ensures { result ≡ number_at context.now at }
+{
+    LittleEndian::read_u32(&context[at..at + 4])
 }
 
 /// Whether one of the tasks that are shown has that number.
-fn shows_task(context: &[u8], r0: u64) -> bool {
-    let shown = number_at(context, 20).unwrap_or(0);
-    for place in 0..8u32 {
-        if place < shown {
-            let at = 32 + 16 * place as usize;
-            if let Some(task) = number_at(context, at) {
-                if u64::from(task) == r0 {
-                    return true;
-                }
-            }
+fn shows_task(context: &[u8], r0: u64) -> bool
+    requires { 160 ≤ length context.now }
+    ensures { result ≡ shows_task context.now r0 }
+{
+    let shown = number_at(context, 20).min(SHOWN);
+    for place in 0..shown {
+        let id = number_at(context, 32 + 16 * place as usize);
+        if u64::from(id) == r0 {
+            return true;
         }
     }
     false
 }
 
 /// Whether more tasks are movable than are shown.
-fn hides_tasks(context: &[u8]) -> bool {
-    let movable = number_at(context, 16).unwrap_or(0);
-    let shown = number_at(context, 20).unwrap_or(0);
-    movable > shown
+fn hides_tasks(context: &[u8]) -> bool
+    requires { 160 ≤ length context.now }
+    ensures { result ≡ hides_tasks context.now }
+{
+    number_at(context, 16) > number_at(context, 20)
 }

@@ -1,3 +1,4 @@
 mod DifferenceLemmas
+mod JudgeLemmas
 mod TraceLemmas
 mod RunLemmas

@@ -1,7 +1,7 @@
 -- What `run` answers to a policy's file.
-use Rattle.std.specs.Prelude.{◌≡◌, ℕ, ◌+◌, Bool, List, ◌++◌, length, replicate, ◌⊎◌, Option, Some, None, String, codes, string_bytes}
+use Rattle.std.specs.Prelude.{◌≡◌, ℕ, ◌+◌, Bool, false, List, ◌++◌, length, replicate, ◌⊎◌, Option, Some, None, String, codes, string_bytes}
 use Rattle.std.specs.declared.alloc.Global.{Global}
-use Rattle.std.specs.Fmt.{decimal}
+use Rattle.std.specs.Fmt.{decimal, digits}
 use Rattle.bq_insn.specs.Slots.{spread}
 use Rattle.bq_maps.specs.declared.board.Call.{Call as Asked}
 use Rattle.bq_explain.specs.declared.verdict.Verdict.{Verdict}
@@ -14,6 +14,7 @@ use Rattle.bq_interp.specs.declared.traced.Moment.{Moment}
 use Rattle.bq_interp.specs.Chains.{setting_of}
 use Rattle.bq_interp.specs.Moments.{AreMoments}
 use Rattle.bq_one_run.specs.Naming.{BeginsWith, IsClean, SetsCounter, SetsEntry, SetsFields, TextsInTurn}
+use Rattle.bq_one_run.specs.Permitting.{word_of}
 use Rattle.bq_one_run.specs.Runs.{AreRuns, IsRun, Kept, kept_in}
 use Rattle.bq_one_run.specs.Words.{IsNumber}
 use Rattle.bq_graph.specs.declared.cause.Cause.{Cause}
@@ -27,6 +28,7 @@ use Rattle.bq_policy_files.specs.Files.{IsPolicy}
 use Rattle.bq_policy_commands.specs.declared.answered.Answered.{Answered}
 use Rattle.bq_policy_commands.specs.declared.answered.Answered.TheVariants.{Done, Refused}
 use Rattle.bq_policy_commands.specs.declared.words.RunWords.{RunWords}
+use Rattle.bq_policy_commands.specs.Judging.{TellsWord}
 use Rattle.bq_policy_commands.specs.Refusing.{IsRefusedFile}
 use Rattle.bq_policy_commands.specs.Tracing.{TellsSteps}
 use Rattle.bq_policy_commands.specs.Saying.{IsWordsFault, SaysHead, option_bytes}
@@ -60,9 +62,18 @@ pub record HasInputs (w : RunWords) (program : Accepted) (inputs : Inputs) : Typ
   pub maps : HasMaps w program inputs.maps
   pub counters : TextsInTurn SetsCounter w.counters.items (replicate 64 0) inputs.board
 
--- the text begins with the answer, and what is told of the steps stands after what ends that line, before what changed
-abbrev pub TellsRun : ℕ → List ℕ → List ℕ → Type 0
-TellsRun answer executed text = (first changes : List ℕ) × (text ≡ codes "r0 " ++ (decimal answer ++ (first ++ (executed ++ changes))))
+-- the line that tells an answer: in decimal and in hex, then what is said of it, and how many steps of the budget the run took
+abbrev pub answer_line : ℕ → List ℕ → ℕ → ℕ → List ℕ
+answer_line answer judged steps budget =
+    codes "r0 " ++ (decimal answer ++ (codes " (0x" ++ (digits 16 false answer ++ (codes ")  " ++ (judged
+    ++ (codes "  steps " ++ (decimal steps ++ (codes " of " ++ (decimal budget ++ codes "\n")))))))))
+
+-- the first line tells the answer of a run on that context, with the rule's word on it; then the steps are told, and what changed
+pub record TellsRun (program : Accepted) (context : List ℕ) (answer steps : ℕ) (executed text : List ℕ) : Type 0 where
+  pub judged : List ℕ
+  pub word : TellsWord (word_of program.hook context answer) judged
+  pub changes : List ℕ
+  pub text_is : text ≡ answer_line answer judged steps program.budget ++ (executed ++ changes)
 
 -- of so many runs as the word says, all but the last
 abbrev pub IsBefore : Option (List ℕ) → ℕ → Type 0
@@ -86,7 +97,7 @@ pub record HasRun (traced : Bool) (others : ℕ) (program : Accepted) (inputs : 
   pub is : told_as ≡ Done text
   pub executed : List ℕ
   pub steps_told : TellsSteps traced program moments executed
-  pub told : TellsRun answer executed (string_bytes text)
+  pub told : TellsRun program inputs.context.items answer steps executed (string_bytes text)
 
 abbrev pub RunsOn : Bool → ℕ → Accepted → Inputs → Answered → Type 0
 RunsOn traced others program inputs told_as = IsWordsFault told_as ⊎ HasRun traced others program inputs told_as

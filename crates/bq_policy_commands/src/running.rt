@@ -1,5 +1,6 @@
 //! `run` of a policy's file.
-ghost use Rattle.std.specs.Prelude.{◌≡◌, IfOk, string_bytes};
+ghost use Rattle.std.specs.Prelude.{◌≡◌, IfOk, length, string_bytes};
+ghost use Rattle.bq_verify.specs.Accepted.{context_length_of};
 ghost use Rattle.bq_policy_commands.specs.Running.{RunsFile, RunsOn, RunsPolicy, RunsProgram, RunsTo, TellsRun, TellsVerdict};
 
 use crate::answered::Answered;
@@ -151,12 +152,13 @@ fn told(
     executed: &String,
     changes: &String,
 ) -> Result<String, AllocError>
-    ensures { IfOk result (λ text. TellsRun ran.now.r0 (string_bytes executed.now) (string_bytes text)) }
+    requires { length inputs.now.context.items ≡ context_length_of verified.now.hook verified.now.version }
+    ensures { IfOk result (λ text. TellsRun verified.now inputs.now.context.items ran.now.r0 ran.now.steps (string_bytes executed.now) (string_bytes text)) }
 {
     let r0 = ran.r0;
     let steps = ran.steps;
     let budget = verified.budget();
     let word = word_text(alloc, verified.hook(), inputs.context.as_slice(), r0)?;
-    let first = format!(in alloc; " (0x{r0:x})  {word}  steps {steps} of {budget}\n")?;
-    format!(in alloc; "r0 {r0}{first}{executed}{changes}")
+    let first = format!(in alloc; "r0 {r0} (0x{r0:x})  {word}  steps {steps} of {budget}\n")?;
+    format!(in alloc; "{first}{executed}{changes}")
 }

@@ -9,14 +9,14 @@ use Rattle.bq_policy_files.specs.Words.{words, is_blank}
 use Rattle.bq_policy_files.specs.Words.{IsWordLen}
 
 -- the end, or a blank
-abbrev EndsWord : List ℕ → Type 0
+abbrev pub EndsWord : List ℕ → Type 0
 EndsWord [] = Unit {0}
 EndsWord (b ∷ bs) = is_blank b ≡ true
 
-words-blank : (b : ℕ) (bs : List ℕ) → is_blank b ≡ true → words (b ∷ bs) ≡ words bs
+pub words-blank : (b : ℕ) (bs : List ℕ) → is_blank b ≡ true → words (b ∷ bs) ≡ words bs
 words-blank b bs h = rw h refl
 
-words-word : (w rest : List ℕ) → 0 < length w → All (λ b. is_blank b ≡ false) w → EndsWord rest → words (w ++ rest) ≡ w ∷ words rest
+pub words-word : (w rest : List ℕ) → 0 < length w → All (λ b. is_blank b ≡ false) w → EndsWord rest → words (w ++ rest) ≡ w ∷ words rest
 words-word w [] some h end =
     let e : ltb 0 (length w) ≡ true = grind (arith, nat_tests) in
     ap words (append-nil w) ∙ ap (filter (λ x. ltb 0 (length x))) (slice_split_none is_blank w h) ∙ ap (λ t. cond t (w ∷ []) []) e

@@ -1,6 +1,7 @@
 //! From the bytes of a file to its policy.
 ghost use Rattle.std.specs.Prelude.{◌≡◌, IfOk, IfErr};
 ghost use Rattle.std.specs.Str.Lines.{lines};
+ghost use Rattle.bq_insn.specs.Laws.{AllFit};
 ghost use Rattle.bq_policy_files.specs.Files.{IsImageFault, IsOfImage, IsOfText, IsPolicy, IsPolicyFault, IsTextFault, instruction_lines};
 ghost use Rattle.bq_policy_files.specs.Heads.{IsHeadFault, SaysHead};
 
@@ -19,6 +20,7 @@ use std::alloc::{AllocError, Global};
 /// given beside it must agree with it, and says of a text what its marks leave out.
 pub fn read_policy(alloc: Global, bytes: &[u8], given: &Head) -> Result<Policy, PolicyFault>
     ensures policy { IfOk result (IsPolicy bytes.now given.now) }
+    ensures numbers { IfOk result (λ p. AllFit p.insns.items) }
     ensures fault { IfErr result (IsPolicyFault bytes.now given.now) }
 {
     match kind_of(bytes) {
@@ -34,6 +36,7 @@ pub fn read_policy(alloc: Global, bytes: &[u8], given: &Head) -> Result<Policy, 
 /// The policy of an image.
 fn from_image(alloc: Global, bytes: &[u8], given: &Head) -> Result<Policy, PolicyFault>
     ensures policy { IfOk result (IsOfImage bytes.now given.now) }
+    ensures numbers { IfOk result (λ p. AllFit p.insns.items) }
     ensures fault { IfErr result (IsImageFault bytes.now given.now) }
 {
     let Image {
@@ -59,6 +62,7 @@ fn from_image(alloc: Global, bytes: &[u8], given: &Head) -> Result<Policy, Polic
 /// The policy of an assembler text.
 fn from_text(alloc: Global, bytes: &[u8], given: &Head) -> Result<Policy, PolicyFault>
     ensures policy { IfOk result (IsOfText bytes.now given.now) }
+    ensures numbers { IfOk result (λ p. AllFit p.insns.items) }
     ensures fault { IfErr result (IsTextFault bytes.now given.now) }
 {
     match std::str::from_utf8(bytes) {
@@ -70,6 +74,7 @@ fn from_text(alloc: Global, bytes: &[u8], given: &Head) -> Result<Policy, Policy
 /// The same, of bytes that are text.
 fn from_str(alloc: Global, text: &str, given: &Head) -> Result<Policy, PolicyFault>
     ensures policy { IfOk result (IsOfText text.now given.now) }
+    ensures numbers { IfOk result (λ p. AllFit p.insns.items) }
     ensures fault { IfErr result (IsTextFault text.now given.now) }
 {
     let said = read_head(alloc, text)?;

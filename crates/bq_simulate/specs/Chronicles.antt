@@ -1,6 +1,7 @@
 -- What happens in a simulation, one thing after another: events of the trace with their answers, and what tasks do beside them.
-use Rattle.std.specs.Prelude.{◌≡◌, ℕ, suc, List, [], ◌∷◌, ◌++◌, Option, Some, None, length, slice_get, unwrap_or}
+use Rattle.std.specs.Prelude.{◌≡◌, ℕ, suc, Bool, true, false, List, [], ◌∷◌, ◌++◌, Option, Some, None, is_some, length, slice_get, unwrap_or}
 use Rattle.std.specs.Option.{option_map_or}
+use Rattle.bq_actions.specs.declared.action.Action.{Action}
 use Rattle.bq_actions.specs.declared.action.Length.{Length}
 use Rattle.bq_actions.specs.declared.workload.TaskKind.{TaskKind}
 use Rattle.bq_parts.specs.declared.event.Event.{Event}
@@ -22,13 +23,17 @@ pub data Deed : Type 0 where
   Happens : Event → Reply → Deed
   -- one more task is there, of this kind, whose first wake comes from this processor
   Joins : ℕ → ℕ → Deed
-  -- at an instant the phase of the task that runs at a processor ends, and it does its next action
-  Acts : ℕ → ℕ → ℕ → Deed
+  -- at an instant the phase of the task that runs at a processor ends, and it does this action; with none it has done all
+  Acts : ℕ → ℕ → ℕ → Option Action → Deed
+
+-- whether a processor runs something
+abbrev pub is_busy : Accounts → ℕ → Bool
+is_busy a processor = option_map_or (λ (lane : Lane). is_some lane.run) (slice_get a.lanes processor) false
 
 -- a timer wakes a task from the processor that it ran on last; who waits is woken from a processor at which a task runs, which wakes it
 abbrev pub IsFrom : Accounts → Stance → ℕ → ℕ → Type 0
 IsFrom a Asleep home from = from ≡ home
-IsFrom a Waiting home from = (lane : Lane) × (waker : ℕ) × (slice_get a.lanes from ≡ Some lane) × (lane.run ≡ Some waker)
+IsFrom a Waiting home from = is_busy a from ≡ true
 IsFrom a stance home from = ⊥
 
 pub record IsWoken (a : Accounts) (from task : ℕ) : Type 0 where
@@ -36,9 +41,10 @@ pub record IsWoken (a : Accounts) (from task : ℕ) : Type 0 where
   pub there : slice_get a.courses task ≡ Some course
   pub place : IsFrom a course.stance course.home from
 
--- whoever is woken sleeps, and is woken from the right processor
+-- whoever is woken sleeps, and is woken from the right processor; a tick comes only where something runs
 abbrev pub IsDue : Event → Accounts → Type 0
 IsDue (BeginWake from task) a = IsWoken a from task
+IsDue (Tick c now) a = is_busy a c ≡ true
 IsDue event a = Unit {0}
 
 -- what is kept of a simulation: the accounts, and how many lengths each task's stream has given
@@ -91,12 +97,13 @@ Lives kinds seed cost d b (Happens event reply ∷ deeds) told e f =
     IsDue event b.accounts × (mid : Driver) × (first : Told) × (more : Told)
     × Does d event reply first mid × Lives kinds seed cost mid (after_answer cost event reply b) deeds more e f × (told ≡ first ++ more)
 Lives kinds seed cost d b (Joins kind home ∷ deeds) told e f = IsOfKind kinds (length b.accounts.courses) kind × Lives kinds seed cost d (joined kind home b) deeds told e f
-Lives kinds seed cost d b (Acts processor task now ∷ deeds) told e f =
-    (c : Course) × IsDone (charged processor now b.accounts) processor task c × Lives kinds seed cost d (after_act kinds seed processor task now c b) deeds told e f
+Lives kinds seed cost d b (Acts processor task now action ∷ deeds) told e f =
+    (c : Course) × IsDone (charged processor now b.accounts) processor task c × (action ≡ next_action kinds c)
+    × Lives kinds seed cost d (after_act kinds seed processor task now c b) deeds told e f
 
 -- the events among them
 abbrev pub events_of : List Deed → List Event
 events_of [] = []
 events_of (Happens event reply ∷ deeds) = event ∷ events_of deeds
 events_of (Joins kind home ∷ deeds) = events_of deeds
-events_of (Acts processor task now ∷ deeds) = events_of deeds
+events_of (Acts processor task now action ∷ deeds) = events_of deeds

@@ -13,7 +13,9 @@ use Rattle.bq_driver.specs.Drives.{Starts, Drives}
 use Rattle.bq_roster.specs.Accounts.{accounts_of, opening}
 use Rattle.bq_simulate.specs.declared.simulation.Simulation.{Simulation}
 use Rattle.bq_simulate.specs.Actions.{next_length}
+use Rattle.bq_simulate.specs.Bounds.{most_steps}
 use Rattle.bq_simulate.specs.Chronicles.{Book, Deed, Lives, events_of}
+use Rattle.bq_simulate.specs.Steps.{AreJust, AreMet, AreOfOpening, all_processors, last_ticks}
 
 -- the same workload with another seed
 abbrev pub with_seed : Workload → ℕ → Workload
@@ -23,10 +25,31 @@ with_seed w seed = record w { machine = record w.machine { seed = seed } }
 abbrev pub opening_book : Setup → Book
 opening_book machine = record { accounts = opening (processors_in machine.size); drawn = [] }
 
+-- first policies are installed and tasks admitted; then so many things at most come due until the end, and are met
+pub record Proceeds (most end : ℕ) (deeds : List Deed) : Type 0 where
+  pub opening : List Deed
+  pub met : List Deed
+  pub whole : deeds ≡ opening ++ met
+  pub opens : AreOfOpening opening
+  pub meets : AreMet most end met
+
+-- when nothing comes due any more each processor that runs something ticks at the end, by number, and nothing else is done
+pub record Ends (w : Workload) (d : Driver) (deeds : List Deed) : Type 0 where
+  pub until : List Deed
+  pub last : List Deed
+  pub whole : deeds ≡ until ++ last
+  pub proceeds : Proceeds (most_steps w) w.machine.duration until
+  pub told : Told
+  pub driver : Driver
+  pub book : Book
+  pub lives : Lives w.tasks.items w.machine.seed w.machine.migration_cost d (opening_book w.machine) until told driver book
+  pub ticks : AreJust (last_ticks w.machine.duration (all_processors (processors_in w.machine.size)) book.accounts) last
+
 -- It makes the machine that the workload asks for, and then some events are done one after another, of which none is refused,
 -- with readings that never fall: so it is the trace of those events, with their answers. Who has run and how long is what
 -- the answers say. Each task goes through the actions of its kind in their order, and over again; it goes on only when it has
 -- got just the length of its run phase, and the costs of its changes of processor; and each length is the next of its task.
+-- All is done when something comes due, but for what opens it and for the ticks at its end.
 pub record IsSimulation (w : Workload) (told : Told) : Type 0 where
   pub opening : Driver
   pub closing : Driver
@@ -38,6 +61,7 @@ pub record IsSimulation (w : Workload) (told : Told) : Type 0 where
   pub drives : Drives opening (events_of deeds) more closing
   pub lives : Lives w.tasks.items w.machine.seed w.machine.migration_cost opening (opening_book w.machine) deeds more closing book
   pub whole : told ≡ first ++ more
+  pub ends : Ends w opening deeds
 
 -- the streams of the tasks from this number on, each after so many draws
 abbrev pub streams_after : ℕ → ℕ → List ℕ → List Lcg
@@ -50,33 +74,42 @@ HasDrawn s drawn = s.streams.items ≡ streams_after s.seed 0 drawn
 abbrev pub book_of : Simulation → List ℕ → Book
 book_of s drawn = record { accounts = accounts_of s.roster; drawn = drawn }
 
--- a simulation, whose streams have given so many lengths, goes on by some deeds, of which a sink is told
-pub record Goes {S : Type 0} (takes : S → ℕ → News → S → Type 0) (kinds : List TaskKind) (old : S) (s : Simulation) (drawn : List ℕ) (new : S) (t : Simulation) : Type 0 where
+-- a simulation, whose streams have given so many lengths, goes on by some deeds of which this holds, and of which a sink is told
+pub record Goes {S : Type 0} (takes : S → ℕ → News → S → Type 0) (kinds : List TaskKind) (Are : List Deed → Type 0) (old : S) (s : Simulation) (drawn : List ℕ) (new : S) (t : Simulation) : Type 0 where
   pub deeds : List Deed
   pub after : List ℕ
   pub pace : t.roster.pace ≡ s.roster.pace
   pub seed : t.seed ≡ s.seed
   pub streams : HasDrawn t after
   pub tells : Gets takes old new (λ told. Lives kinds s.seed s.roster.pace.migration_cost s.driver (book_of s drawn) deeds told t.driver (book_of t after))
+  pub are : Are deeds
 
-abbrev pub Lived : {S : Type 0} → (S → ℕ → News → S → Type 0) → List TaskKind → S → Simulation → S → Simulation → Type 0
-Lived takes kinds old s new t = (drawn : List ℕ) → HasDrawn s drawn → Goes takes kinds old s drawn new t
+abbrev pub Lived : {S : Type 0} → (S → ℕ → News → S → Type 0) → List TaskKind → (List Deed → Type 0) → S → Simulation → S → Simulation → Type 0
+Lived takes kinds Are old s new t = (drawn : List ℕ) → HasDrawn s drawn → Goes takes kinds Are old s drawn new t
 
 -- events alone: what tasks do has no part in it
-abbrev pub Befell : {S : Type 0} → (S → ℕ → News → S → Type 0) → S → Simulation → S → Simulation → Type 0
-Befell takes old s new t = (kinds : List TaskKind) → Lived takes kinds old s new t
+abbrev pub Befell : {S : Type 0} → (S → ℕ → News → S → Type 0) → (List Deed → Type 0) → S → Simulation → S → Simulation → Type 0
+Befell takes Are old s new t = (kinds : List TaskKind) → Lived takes kinds Are old s new t
 
 -- it goes on by deeds of which nothing is told
-pub record GoesUntold (kinds : List TaskKind) (s : Simulation) (drawn : List ℕ) (t : Simulation) : Type 0 where
+pub record GoesUntold (kinds : List TaskKind) (Are : List Deed → Type 0) (s : Simulation) (drawn : List ℕ) (t : Simulation) : Type 0 where
   pub deeds : List Deed
   pub after : List ℕ
   pub pace : t.roster.pace ≡ s.roster.pace
   pub seed : t.seed ≡ s.seed
   pub streams : HasDrawn t after
   pub lives : Lives kinds s.seed s.roster.pace.migration_cost s.driver (book_of s drawn) deeds [] t.driver (book_of t after)
+  pub are : Are deeds
 
-abbrev pub Silent : List TaskKind → Simulation → Simulation → Type 0
-Silent kinds s t = (drawn : List ℕ) → HasDrawn s drawn → GoesUntold kinds s drawn t
+abbrev pub Silent : List TaskKind → (List Deed → Type 0) → Simulation → Simulation → Type 0
+Silent kinds Are s t = (drawn : List ℕ) → HasDrawn s drawn → GoesUntold kinds Are s drawn t
+
+-- a simulation goes on until nothing comes due, and then to its end
+pub record Runs {S : Type 0} (takes : S → ℕ → News → S → Type 0) (kinds : List TaskKind) (most end processors : ℕ) (old : S) (s : Simulation) (new : S) (t : Simulation) : Type 0 where
+  pub sink : S
+  pub ended : Simulation
+  pub proceeds : Lived takes kinds (Proceeds most end) old s sink ended
+  pub ticks : Lived takes kinds (AreJust (last_ticks end (all_processors processors) (accounts_of ended.roster))) sink ended new t
 
 -- what stays beside the machine and the accounts
 pub record Stays (s t : Simulation) : Type 0 where

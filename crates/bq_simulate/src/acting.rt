@@ -1,8 +1,10 @@
 //! What a task does next, once it has run long enough.
-ghost use Rattle.std.specs.Prelude.{◌≡◌, IfOk, OnOk};
+ghost use Rattle.std.specs.Prelude.{◌≡◌, [], ◌∷◌, IfOk, OnOk};
+ghost use Rattle.bq_parts.specs.declared.event.Event.TheVariants.{Block};
 ghost use Rattle.bq_roster.specs.Courses.{begun};
 ghost use Rattle.bq_simulate.specs.Actions.{acted, advanced_in, asked_by, count_of, next_action, resting, woken_one_in};
 ghost use Rattle.bq_simulate.specs.Simulations.{Befell, DrawsFor, Lived, Same, Silent};
+ghost use Rattle.bq_simulate.specs.Steps.{AreJust, Follow, IsAct, Meet, Wakes};
 
 use crate::fault::SimulateFault;
 use crate::simulation::Simulation;
@@ -125,7 +127,7 @@ impl Simulation {
         now: u64,
         sink: &mut S,
     ) -> Result<(), SimulateFault>
-        ensures { OnOk result (Lived S.takes workload.now.tasks.items sink.old self.old sink.new self.new) }
+        ensures { OnOk result (Lived S.takes workload.now.tasks.items (Meet (Due.End processor) now) sink.old self.old sink.new self.new) }
     {
         let doing = self.take_action(workload, processor, now)?;
         self.count_phase(&doing.before);
@@ -135,7 +137,7 @@ impl Simulation {
     /// The run phase of the task that runs at a processor has ended, with just what it takes, and its next action is taken up:
     /// where it takes a length, that is the next of the task.
     fn take_action(&mut self, workload: &Workload, processor: u8, now: u64) -> Result<Doing, Astray>
-        ensures { OnOk result (Silent workload.now.tasks.items self.old self.new) }
+        ensures { IfOk result (λ doing. Silent workload.now.tasks.items (IsAct processor doing.task now doing.action) self.old self.new) }
     {
         let (task, before) = self.roster.end_phase(processor, now)?;
         let action = next_of(workload, &before)?;
@@ -178,7 +180,7 @@ impl Simulation {
         now: u64,
         sink: &mut S,
     ) -> Result<(), SimulateFault>
-        ensures { OnOk result (Befell S.takes sink.old self.old sink.new self.new) }
+        ensures { OnOk result (Befell S.takes (Follow doing.now.action processor now) sink.old self.old sink.new self.new) }
     {
         match doing.action {
             Some(Action::Run(_)) => {
@@ -212,7 +214,7 @@ impl Simulation {
         now: u64,
         sink: &mut S,
     ) -> Result<(), SimulateFault>
-        ensures { OnOk result (Befell S.takes sink.old self.old sink.new self.new) }
+        ensures { OnOk result (Befell S.takes (AreJust (Block processor now ∷ [])) sink.old self.old sink.new self.new) }
     {
         let run = self.driver.block(alloc, processor, now, sink)?;
         self.roster.leave(processor, run, now)?;
@@ -230,7 +232,7 @@ impl Simulation {
         now: u64,
         sink: &mut S,
     ) -> Result<(), SimulateFault>
-        ensures { OnOk result (Befell S.takes sink.old self.old sink.new self.new) }
+        ensures { OnOk result (Befell S.takes (Wakes processor now) sink.old self.old sink.new self.new) }
     {
         let first = *self.firsts.get(kind).ok_or(SimulateFault::Astray)?;
         let target = first.checked_add(woken).ok_or(SimulateFault::Astray)?;

@@ -1,7 +1,10 @@
 //! A simulation from its beginning to its end.
-ghost use Rattle.std.specs.Prelude.{◌≡◌, [], OnOk, IfOk, length};
+ghost use Rattle.std.specs.Prelude.{◌≡◌, [], ◌∷◌, OnOk, IfOk, length};
 ghost use Rattle.bq_roster.specs.Accounts.{accounts_of};
-ghost use Rattle.bq_simulate.specs.Simulations.{Befell, IsSimulation, Lived, Same, opening_book, with_seed};
+ghost use Rattle.bq_sizes.specs.Sizes.{processors_in};
+ghost use Rattle.bq_simulate.specs.Bounds.{most_steps};
+ghost use Rattle.bq_simulate.specs.Simulations.{Befell, IsSimulation, Lived, Runs, Same, opening_book, with_seed};
+ghost use Rattle.bq_simulate.specs.Steps.{AreJust, AreMet, KeepsOthers, all_processors, last_ticks};
 ghost use Rattle.bq_trace.specs.News.{Gets};
 
 use crate::bound::most_steps;
@@ -96,14 +99,14 @@ impl Simulation {
         sink: &mut S,
     ) -> Result<(), SimulateFault>
         requires { length self.old.roster.courses.items ≡ 0 }
-        ensures { OnOk result (Lived S.takes workload.now.tasks.items sink.old self.old sink.new self.new) }
+        ensures { OnOk result (Runs S.takes workload.now.tasks.items (most_steps workload.now) workload.now.machine.duration (processors_in workload.now.machine.size) sink.old self.old sink.new self.new) }
     {
         let processors = workload.machine.size.processors();
         self.install(alloc, processors, policies, sink)?;
         self.admit(alloc, workload, sink)?;
         self.plan_pulls(processors)?;
         self.go_on(alloc, workload, most_steps(workload), sink)?;
-        self.finish(alloc, workload.machine.duration, sink)
+        self.finish(alloc, processors, workload.machine.duration, sink)
     }
 
     /// Each processor looks for a task at multiples of the time between two balancings, where there are others.
@@ -119,7 +122,8 @@ impl Simulation {
         Ok(())
     }
 
-    /// Does what comes due, one thing after another, until nothing does.
+    /// Does what comes due, one thing after another, until nothing does. Nothing comes before what came already, or beyond the
+    /// duration.
     fn go_on<S: Sink>(
         &mut self,
         alloc: Global,
@@ -127,12 +131,18 @@ impl Simulation {
         most: u64,
         sink: &mut S,
     ) -> Result<(), SimulateFault>
-        ensures { OnOk result (Lived S.takes workload.now.tasks.items sink.old self.old sink.new self.new) }
+        ensures { OnOk result (Lived S.takes workload.now.tasks.items (AreMet most workload.now.machine.duration) sink.old self.old sink.new self.new) }
     {
+        let end = workload.machine.duration;
+        let mut last: u64 = 0;
         'steps: for _ in 0..most {
             let Some((now, due)) = self.roster.first()? else {
                 return Ok(());
             };
+            if now < last || now > end {
+                return Err(SimulateFault::Astray);
+            }
+            last = now;
             self.meet(alloc, workload, due, now, sink)?;
         }
         Err(SimulateFault::Endless)
@@ -142,17 +152,19 @@ impl Simulation {
     fn finish<S: Sink>(
         &mut self,
         alloc: Global,
+        processors: u8,
         end: u64,
         sink: &mut S,
     ) -> Result<(), SimulateFault>
-        ensures { OnOk result (Befell S.takes sink.old self.old sink.new self.new) }
+        ensures { OnOk result (Befell S.takes (AreJust (last_ticks end (all_processors processors) (accounts_of self.old.roster))) sink.old self.old sink.new self.new) }
     {
-        'processors: for processor in 0..64 {
+        'processors: for processor in 0..processors {
             self.tick_at_end(alloc, processor, end, sink)?;
         }
         Ok(())
     }
 
+    /// A processor ticks at the end, if it runs something.
     fn tick_at_end<S: Sink>(
         &mut self,
         alloc: Global,
@@ -160,11 +172,13 @@ impl Simulation {
         end: u64,
         sink: &mut S,
     ) -> Result<(), SimulateFault>
-        ensures { OnOk result (Befell S.takes sink.old self.old sink.new self.new) }
+        ensures befell { OnOk result (Befell S.takes (AreJust (last_ticks end (processor ∷ []) (accounts_of self.old.roster))) sink.old self.old sink.new self.new) }
+        ensures others { OnOk result (KeepsOthers processor (accounts_of self.old.roster) (accounts_of self.new.roster)) }
     {
-        match self.roster.lane(processor) {
-            Ok(lane) if lane.run.is_some() => self.tick(alloc, processor, end, sink),
-            _ => Ok(()),
+        let lane = self.roster.lane(processor)?;
+        match lane.run {
+            Some(_) => self.tick(alloc, processor, end, sink),
+            None => Ok(()),
         }
     }
 }

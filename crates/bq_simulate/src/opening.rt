@@ -3,6 +3,7 @@ ghost use Rattle.std.specs.Prelude.{◌≡◌, ◌+◌, OnOk, Some, List, length
 ghost use Rattle.bq_actions.specs.declared.workload.TaskKind.{TaskKind};
 ghost use Rattle.bq_simulate.specs.Actions.{IsOfKind, first_of};
 ghost use Rattle.bq_simulate.specs.Simulations.{Befell, Lived, Same, Silent};
+ghost use Rattle.bq_simulate.specs.Steps.{AreOfOpening};
 
 use crate::fault::SimulateFault;
 use crate::simulation::Simulation;
@@ -24,7 +25,7 @@ impl Simulation {
         policies: &[Policy],
         sink: &mut S,
     ) -> Result<(), SimulateFault>
-        ensures befell { OnOk result (Befell S.takes sink.old self.old sink.new self.new) }
+        ensures befell { OnOk result (Befell S.takes AreOfOpening sink.old self.old sink.new self.new) }
         ensures roster { self.new.roster ≡ self.old.roster }
     {
         'policies: for policy in policies {
@@ -42,7 +43,7 @@ impl Simulation {
         policy: &Policy,
         sink: &mut S,
     ) -> Result<(), SimulateFault>
-        ensures befell { OnOk result (Befell S.takes sink.old self.old sink.new self.new) }
+        ensures befell { OnOk result (Befell S.takes AreOfOpening sink.old self.old sink.new self.new) }
         ensures roster { self.new.roster ≡ self.old.roster }
     {
         'processors: for processor in 0..processors {
@@ -61,7 +62,7 @@ impl Simulation {
         sink: &mut S,
     ) -> Result<(), SimulateFault>
         requires { length self.old.roster.courses.items ≡ 0 }
-        ensures { OnOk result (Lived S.takes workload.now.tasks.items sink.old self.old sink.new self.new) }
+        ensures { OnOk result (Lived S.takes workload.now.tasks.items AreOfOpening sink.old self.old sink.new self.new) }
     {
         'kinds: for (number, kind) in workload.tasks.iter().enumerate() {
             self.begin_kind()?;
@@ -81,7 +82,7 @@ impl Simulation {
     ) -> Result<(), SimulateFault>
         requires kind { slice_get workload.now.tasks.items number ≡ Some kind.now }
         requires first { length self.old.roster.courses.items ≡ first_of workload.now.tasks.items number }
-        ensures lived { OnOk result (Lived S.takes workload.now.tasks.items sink.old self.old sink.new self.new) }
+        ensures lived { OnOk result (Lived S.takes workload.now.tasks.items AreOfOpening sink.old self.old sink.new self.new) }
         ensures tasks { OnOk result (length self.new.roster.courses.items ≡ length self.old.roster.courses.items + kind.now.count) }
     {
         let processors = workload.machine.size.processors();
@@ -126,7 +127,7 @@ impl Simulation {
 
     /// One more task of a kind, with a stream of its own; its first wake comes from this processor.
     fn join(&mut self, task: u16, kind: usize, home: u8) -> Result<(), SimulateFault>
-        ensures silent { OnOk result ((kinds : List TaskKind) → IsOfKind kinds (length self.old.roster.courses.items) kind → Silent kinds self.old self.new) }
+        ensures silent { OnOk result ((kinds : List TaskKind) → IsOfKind kinds (length self.old.roster.courses.items) kind → Silent kinds AreOfOpening self.old self.new) }
         ensures tasks { OnOk result (length self.new.roster.courses.items ≡ length self.old.roster.courses.items + 1) }
     {
         if self.streams.len() != usize::from(task) {
@@ -146,7 +147,7 @@ impl Simulation {
         kind: &TaskKind,
         sink: &mut S,
     ) -> Result<(), SimulateFault>
-        ensures befell { OnOk result (Befell S.takes sink.old self.old sink.new self.new) }
+        ensures befell { OnOk result (Befell S.takes AreOfOpening sink.old self.old sink.new self.new) }
         ensures courses { self.new.roster ≡ self.old.roster }
     {
         self.driver

@@ -1,11 +1,12 @@
 //! A simulation on its way.
-ghost use Rattle.std.specs.Prelude.{◌≡◌, ℕ, [], ◌∷◌, IfOk, OnOk};
-ghost use Rattle.bq_parts.specs.declared.event.Event.TheVariants.{BeginWake, EndWake, Drain};
+ghost use Rattle.std.specs.Prelude.{◌≡◌, ℕ, true, [], ◌∷◌, IfOk, OnOk};
+ghost use Rattle.bq_parts.specs.declared.event.Event.TheVariants.{BeginWake, EndWake, Drain, Pull, Tick};
 ghost use Rattle.bq_driver.specs.Drives.{Drove};
 ghost use Rattle.std.specs.Option.{option_map_or};
 ghost use Rattle.bq_roster.specs.Accounts.{accounts_of, passed, switched};
-ghost use Rattle.bq_simulate.specs.Chronicles.{IsWoken};
+ghost use Rattle.bq_simulate.specs.Chronicles.{IsWoken, is_busy};
 ghost use Rattle.bq_simulate.specs.Simulations.{Befell, Draws, Lived};
+ghost use Rattle.bq_simulate.specs.Steps.{AreJust, AreWake, KeepsOthers, Meet};
 
 use crate::fault::SimulateFault;
 use crate::tally::Tally;
@@ -40,12 +41,12 @@ impl Simulation {
         now: u64,
         sink: &mut S,
     ) -> Result<(), SimulateFault>
-        ensures { OnOk result (Lived S.takes workload.now.tasks.items sink.old self.old sink.new self.new) }
+        ensures { OnOk result (Lived S.takes workload.now.tasks.items (Meet due now) sink.old self.old sink.new self.new) }
     {
         match due {
             Due::End(processor) => self.act(alloc, workload, processor, now, sink),
             Due::Wake(task) => self.wake_by_timer(alloc, task, now, sink),
-            Due::Tick(processor) => self.tick(alloc, processor, now, sink),
+            Due::Tick(processor) => self.tick_on_time(alloc, processor, now, sink),
             Due::Pull(processor) => self.pull(alloc, processor, now, sink),
         }
     }
@@ -58,7 +59,7 @@ impl Simulation {
         now: u64,
         sink: &mut S,
     ) -> Result<(), SimulateFault>
-        ensures { OnOk result (Befell S.takes sink.old self.old sink.new self.new) }
+        ensures { OnOk result (Befell S.takes (Meet (Due.Wake task) now) sink.old self.old sink.new self.new) }
     {
         self.roster.drop_plan(Due::Wake(task))?;
         let course = self.roster.course(task)?;
@@ -79,13 +80,30 @@ impl Simulation {
     ) -> Result<(), SimulateFault>
         requires { IsWoken (accounts_of self.old.roster) from task }
         ensures events { OnOk result ((to : ℕ) × Drove S.takes sink.old self.old.driver (BeginWake from task ∷ EndWake from now ∷ Drain to now ∷ []) sink.new self.new.driver) }
-        ensures lived { OnOk result (Befell S.takes sink.old self.old sink.new self.new) }
+        ensures lived { OnOk result (Befell S.takes (AreWake from task now) sink.old self.old sink.new self.new) }
     {
         self.roster.wake(task)?;
         let to = self.driver.wake(alloc, from, task, now, sink)?;
         let entered = self.driver.drain(alloc, to, now, sink)?;
         self.roster.enter(to, entered.count, entered.run, now)?;
         Ok(())
+    }
+
+    /// The clock of a processor ticks: it runs something.
+    fn tick_on_time<S: Sink>(
+        &mut self,
+        alloc: Global,
+        processor: u8,
+        now: u64,
+        sink: &mut S,
+    ) -> Result<(), SimulateFault>
+        ensures { OnOk result (Befell S.takes (Meet (Due.Tick processor) now) sink.old self.old sink.new self.new) }
+    {
+        let lane = self.roster.lane(processor)?;
+        match lane.run {
+            Some(_) => self.tick(alloc, processor, now, sink),
+            None => Err(SimulateFault::Astray),
+        }
     }
 
     /// A processor that runs something ticks.
@@ -96,7 +114,9 @@ impl Simulation {
         now: u64,
         sink: &mut S,
     ) -> Result<(), SimulateFault>
-        ensures { OnOk result (Befell S.takes sink.old self.old sink.new self.new) }
+        requires { is_busy (accounts_of self.old.roster) processor ≡ true }
+        ensures befell { OnOk result (Befell S.takes (AreJust (Tick processor now ∷ [])) sink.old self.old sink.new self.new) }
+        ensures others { OnOk result (KeepsOthers processor (accounts_of self.old.roster) (accounts_of self.new.roster)) }
     {
         let run = self.driver.tick(alloc, processor, now, sink)?;
         self.roster.switch(processor, run, now)?;
@@ -112,7 +132,7 @@ impl Simulation {
         now: u64,
         sink: &mut S,
     ) -> Result<(), SimulateFault>
-        ensures { OnOk result (Befell S.takes sink.old self.old sink.new self.new) }
+        ensures { OnOk result (Befell S.takes (Meet (Due.Pull processor) now) sink.old self.old sink.new self.new) }
     {
         self.roster.plan_pull(processor, now)?;
         match self.roster.largest() {
@@ -129,7 +149,7 @@ impl Simulation {
         now: u64,
         sink: &mut S,
     ) -> Result<(), SimulateFault>
-        ensures { OnOk result (Befell S.takes sink.old self.old sink.new self.new) }
+        ensures { OnOk result (Befell S.takes (AreJust (Pull processor from now ∷ [])) sink.old self.old sink.new self.new) }
     {
         let moved = self.driver.pull(alloc, processor, from, now, sink)?;
         keep_pull(&mut self.roster, processor, from, moved, now)?;

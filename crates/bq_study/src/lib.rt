@@ -1,15 +1,16 @@
 //! The command `simulate`: a workload, read from a text, is run, and shown as `timeline` shows a trace, or as a trace.
-//! Stands on bq_workload for the text, on bq_simulate for the loop, and on bq_timeline for the forms.
+//! Promises that a trace has the line of each event of a simulation of that workload, and that a replay answers it alike.
+//! Stands on bq_workload for the text, on bq_simulate for the loop, on bq_retelling for a trace, and on bq_timeline for the
+//! other forms.
 #![tactic(auto)]
 
 pub mod asked;
 pub mod command;
-pub mod event_line;
 pub mod later;
+pub mod laws;
 pub mod names;
 pub mod policies;
 pub mod running;
-pub mod trace_text;
 
 pub use asked::{Asked, AskedFault, asked_changes};
 pub use command::{StudyWords, study_words};

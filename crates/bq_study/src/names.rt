@@ -1,4 +1,7 @@
 //! The names of a workload's tasks.
+ghost use Rattle.std.specs.Prelude.{OnOk};
+ghost use Rattle.bq_trace.specs.News.{Gets};
+ghost use Rattle.bq_study.specs.Traces.{AreNames};
 
 use bq_actions::Workload;
 use bq_trace::Sink;
@@ -26,11 +29,24 @@ pub fn tell_names<S: Sink>(
     alloc: Global,
     workload: &Workload,
     sink: &mut S,
-) -> Result<u64, AllocError> {
+) -> Result<u64, AllocError>
+    ensures { OnOk result (Gets S.takes sink.old sink.new AreNames) }
+{
     let names = task_names(alloc, workload)?;
-    for (task, name) in names.iter().enumerate() {
+    'names: for (task, name) in names.iter().enumerate() {
+        let name = plain(alloc, name.as_str())?;
         let comment = format!(in alloc; "# task {task} {name}")?;
         sink.skipped(0, comment.as_bytes())?;
     }
     Ok(names.len() as u64)
+}
+
+/// The name as a line of a trace can have it: a character that is no printable ASCII stands as `?`.
+fn plain(alloc: Global, name: &str) -> Result<String, AllocError> {
+    let mut text = String::new(alloc);
+    for letter in name.chars() {
+        let is_plain = letter.is_ascii_graphic() || letter == ' ';
+        text.push(if is_plain { letter } else { '?' })?;
+    }
+    Ok(text)
 }

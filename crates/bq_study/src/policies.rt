@@ -1,10 +1,16 @@
 //! The policies that stand at the hooks of all processors.
+ghost use Rattle.std.specs.Prelude.{◌≡◌, ℕ, List};
+ghost use Rattle.std.specs.Borrow.{Bor};
+ghost use Rattle.std.specs.Option.{option_map};
+ghost use Rattle.bq_retelling.specs.Texts.{image_at};
+ghost use Rattle.bq_study.specs.Traces.{image_for};
 
 use bq_core::{Hook, Policy};
 use bq_insn::encode::encode;
 use bq_load::{Image, LoadFault, load, write_image};
 use bq_policy_commands::fault_reason;
 use bq_policy_files::{Head, read_policy};
+use bq_retelling::Images;
 use std::alloc::{AllocError, AllocFailed, Global};
 use thiserror::Error;
 
@@ -76,13 +82,26 @@ impl Policies {
     }
 
     /// The image at a hook.
-    pub fn image_at(&self, hook: Hook) -> Option<&[u8]> {
-        for (place, image) in &self.images {
+    pub fn image_at(&self, hook: Hook) -> Option<&[u8]>
+        ensures { option_map (λ (b : Bor (List ℕ)). b.now) result ≡ image_for self.now.images.items hook }
+    {
+        'images: for (place, image) in &self.images {
             if *place == hook {
                 return Some(image.as_slice());
             }
         }
         None
+    }
+
+    /// The images at all hooks.
+    pub fn images(&self) -> Images<'_>
+        ensures { image_at result ≡ image_for self.now.images.items }
+    {
+        Images {
+            place: self.image_at(Hook::Place),
+            preempt: self.image_at(Hook::Preempt),
+            pull: self.image_at(Hook::Pull),
+        }
     }
 }
 

@@ -1,11 +1,13 @@
 //! One run of a workload, and what is written of it.
+ghost use Rattle.std.specs.Prelude.{IfOk, string_bytes};
+ghost use Rattle.bq_study.specs.Traces.{IsTrace, IsWritten, image_for};
 
 use crate::asked::Asked;
 use crate::later::Later;
 use crate::names::tell_names;
 use crate::policies::Policies;
-use crate::trace_text::TraceText;
 use bq_actions::Workload;
+use bq_retelling::TraceText;
 use bq_simulate::{SimulateFault, simulate};
 use bq_timeline::Settings;
 use bq_timeline::viewer::Viewer;
@@ -24,19 +26,24 @@ pub fn run_as(
     workload: &Workload,
     policies: &Policies,
     asked: Asked,
-) -> Result<Written, SimulateFault> {
+) -> Result<Written, SimulateFault>
+    ensures { IfOk result (λ written. IsWritten asked workload.now policies.now written) }
+{
     match asked {
         Asked::Trace => as_trace(alloc, workload, policies),
         Asked::Timeline(settings) => as_timeline(alloc, workload, policies, settings),
     }
 }
 
+/// Runs it, and tells its events as the text of a trace, after comments that name the tasks.
 fn as_trace(
     alloc: Global,
     workload: &Workload,
     policies: &Policies,
-) -> Result<Written, SimulateFault> {
-    let mut sink = TraceText::new(alloc, policies);
+) -> Result<Written, SimulateFault>
+    ensures { IfOk result (λ written. IsTrace workload.now (image_for policies.now.images.items) (string_bytes written.text)) }
+{
+    let mut sink = TraceText::new(alloc, policies.images());
     tell_names(alloc, workload, &mut sink)?;
     simulate(alloc, workload, policies.loaded.as_slice(), &mut sink)?;
     Ok(Written {

@@ -1,4 +1,4 @@
-use Rattle.bq_explain.specs.Texts.{AreSet}
+use Rattle.bq_needs.specs.Accesses.{AreSet}
 use Rattle.bq_explain.proofs.view_words.run_end.Given as goal
 
 abbrev pub invariant-loop-byte : goal.invariant-loop-byte

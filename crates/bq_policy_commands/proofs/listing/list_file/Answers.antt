@@ -5,9 +5,10 @@ pub returns-in_ok-listed-in-Ok : goal.returns-in_ok-listed-in-Ok
 returns-in_ok-listed-in-Ok c = inr record {
   policy = c.in-Ok.policy;
   is_policy = c.in-Ok.ensures.policy;
-  text = c.in_ok-listed-in-Ok.field-0;
+  text = c.in_ok-listed-in-Ok.listed;
   is = refl;
-  listed = c.in_ok-listed-in-Ok.ensures;
+  listed = c.in_ok-listed-in-Ok.ensures.listed;
+  file = c.in_ok-listed-in-Ok.ensures.file;
 }
 
 pub returns-in_ok-text-in-Err : goal.returns-in_ok-text-in-Err

@@ -1,9 +1,19 @@
+use Rattle.std.proofs.Common.{List, ◌++◌, ap}
 use Rattle.std.proofs.lemmas.Result.{on_ok_weaker}
-use Rattle.bq_simulate.proofs.Deeds.{Lived-join, Lived-same, Lived-silent}
+use Rattle.bq_agenda.specs.declared.due.Due.TheVariants.{End}
+use Rattle.bq_simulate.specs.Chronicles.{Deed}
+use Rattle.bq_simulate.specs.Steps.{Follow, IsAct, Meet}
+use Rattle.bq_simulate.proofs.Deeds.{Lived-after, Lived-join, Lived-silent}
 use Rattle.bq_simulate.proofs.simulation.Simulation.act.Goals as goal
 
 pub returns : goal.returns
 returns g c =
     let kinds = c.args.workload.now.tasks.items in
     let takes = g.S.Sink.takes in
-    on_ok_weaker c.follow.result (λ h. Lived-join takes kinds _ _ _ _ _ _ (Lived-silent takes kinds _ _ _ c.in_ok-doing.ensures) (Lived-join takes kinds _ _ _ _ _ _ (Lived-same takes _ _ _ c.count_phase.ensures kinds) (h kinds))) c.follow.ensures
+    let processor = c.args.processor in
+    let now = c.args.now in
+    let doing = c.in_ok-doing.doing in
+    let acts = IsAct processor doing.task now doing.action in
+    let follows = Follow doing.action processor now in
+    let meets : (xs ys : List Deed) → acts xs → follows ys → Meet (End processor) now (xs ++ ys) = λ xs ys act follow. (doing.task, doing.action, ys, ap (λ (l : List Deed). l ++ ys) act, follow) in
+    on_ok_weaker c.follow.result (λ h. Lived-join takes kinds acts follows (Meet (End processor) now) meets _ _ _ _ _ _ (Lived-silent takes kinds acts _ _ _ c.in_ok-doing.ensures) (Lived-after takes kinds follows _ _ _ _ _ c.count_phase.ensures (h kinds))) c.follow.ensures

@@ -1,12 +1,13 @@
 use Rattle.std.proofs.Common.{◌+◌, get_or, length, sym, ap, ◌∙◌}
 use Rattle.std.proofs.lemmas.Option.{slice_get_read}
 use Rattle.bq_roster.specs.declared.roster.Roster.{Roster}
-use Rattle.bq_simulate.proofs.Deeds.{Lived-join, Lived-same, Same-here}
+use Rattle.bq_simulate.specs.Steps.{AreOfOpening}
+use Rattle.bq_simulate.proofs.Deeds.{Lived-same, Opening-join, Same-here}
 use Rattle.bq_simulate.proofs.KindLemmas.{first-more}
 use Rattle.bq_simulate.proofs.simulation.Simulation.admit.Goals as goal
 
 pub kinds-init : goal.kinds-init
-kinds-init g c = record { lived = Lived-same g.S.Sink.takes _ _ _ (Same-here _) c.args.workload.now.tasks.items; tasks = c.requires }
+kinds-init g c = record { lived = Lived-same g.S.Sink.takes AreOfOpening tt _ _ _ (Same-here _) c.args.workload.now.tasks.items; tasks = c.requires }
 
 pub admit_kind-requires-clause-kind : goal.admit_kind-requires-clause-kind
 admit_kind-requires-clause-kind g c =
@@ -24,8 +25,8 @@ kinds-preserved g c =
     let same = c.deref-kind-items.ensures.value in
     let there = slice_get_read kinds _ c.kinds.number kind (ap length same) c.kinds-test.true (c.kind-item.is ∙ ap (λ l. get_or l c.kinds.number kind) same) in
     let before = ap (λ (r : Roster). length r.courses.items) c.in_ok-begin_kind.ensures.courses ∙ c.kinds.invariant.tasks in
-    let begun = Lived-join takes kinds _ _ _ _ _ _ c.kinds.invariant.lived (Lived-same takes _ _ _ c.in_ok-begin_kind.ensures.same kinds) in
+    let begun = Opening-join takes kinds _ _ _ _ _ _ c.kinds.invariant.lived (Lived-same takes AreOfOpening tt _ _ _ c.in_ok-begin_kind.ensures.same kinds) in
     record {
-      lived = Lived-join takes kinds _ _ _ _ _ _ begun c.in_ok-admit_kind.ensures.lived;
+      lived = Opening-join takes kinds _ _ _ _ _ _ begun c.in_ok-admit_kind.ensures.lived;
       tasks = c.in_ok-admit_kind.ensures.tasks ∙ ap (λ n. n + kind.count) before ∙ sym (first-more kinds c.kinds.number kind there);
     }

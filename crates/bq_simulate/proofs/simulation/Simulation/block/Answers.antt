@@ -1,6 +1,7 @@
-use Rattle.std.proofs.Common.{ℕ, Option, refl, ap, sym, ◌∙◌}
+use Rattle.std.proofs.Common.{[], ◌∷◌, ℕ, Option, refl, ap, sym, ◌∙◌}
 use Rattle.bq_parts.specs.declared.event.Event.TheVariants.{Block}
 use Rattle.bq_roster.specs.Accounts.{accounts_of, left_by}
+use Rattle.bq_simulate.specs.Steps.{AreJust}
 use Rattle.bq_simulate.proofs.Deeds.{Lived-event}
 use Rattle.bq_simulate.proofs.simulation.Simulation.block.Goals as goal
 
@@ -8,5 +9,6 @@ pub returns : goal.returns
 returns g c =
     let said = c.in_ok-run.ensures in
     let was = c.args.self.now.roster in
+    let event = Block c.args.processor c.args.now in
     let accounts = c.in_ok-leave.ensures.accounts ∙ ap (λ (r : Option ℕ). left_by c.args.processor r c.args.now was.pace.migration_cost (accounts_of was)) (sym said.1) in
-    Lived-event g.S.Sink.takes _ _ _ _ (Block c.args.processor c.args.now) said.0 tt (record { pace = c.in_ok-leave.ensures.pace; seed = refl; streams = refl }) said.2 accounts
+    Lived-event g.S.Sink.takes (AreJust (event ∷ [])) _ _ _ _ event said.0 (said.0, [], refl, refl) tt (record { pace = c.in_ok-leave.ensures.pace; seed = refl; streams = refl }) said.2 accounts

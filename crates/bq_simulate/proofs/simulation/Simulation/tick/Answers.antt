@@ -1,12 +1,23 @@
-use Rattle.std.proofs.Common.{ℕ, Option, refl, ap, sym, ◌∙◌}
+use Rattle.std.proofs.Common.{[], ◌∷◌, ℕ, Option, refl, ap, sym, ◌∙◌}
+use Rattle.std.specs.Prelude.{slice_get}
 use Rattle.bq_parts.specs.declared.event.Event.TheVariants.{Tick}
-use Rattle.bq_roster.specs.Accounts.{accounts_of, switched}
+use Rattle.bq_roster.specs.Accounts.{Accounts, accounts_of, switched}
+use Rattle.bq_simulate.specs.Steps.{AreJust}
 use Rattle.bq_simulate.proofs.Deeds.{Lived-event}
+use Rattle.bq_simulate.proofs.Lanes.{switched-others}
 use Rattle.bq_simulate.proofs.simulation.Simulation.tick.Goals as goal
 
-pub returns : goal.returns
-returns g c =
+pub returns-clause-befell : goal.returns-clause-befell
+returns-clause-befell g c =
     let said = c.in_ok-run.ensures in
     let was = c.args.self.now.roster in
+    let event = Tick c.args.processor c.args.now in
     let accounts = c.in_ok-plan_tick.ensures.accounts ∙ c.in_ok-switch.ensures.accounts ∙ ap (λ (r : Option ℕ). switched c.args.processor r c.args.now was.pace.migration_cost (accounts_of was)) (sym said.1) in
-    Lived-event g.S.Sink.takes _ _ _ _ (Tick c.args.processor c.args.now) said.0 tt (record { pace = c.in_ok-plan_tick.ensures.pace ∙ c.in_ok-switch.ensures.pace; seed = refl; streams = refl }) said.2 accounts
+    Lived-event g.S.Sink.takes (AreJust (event ∷ [])) _ _ _ _ event said.0 (said.0, [], refl, refl) c.requires (record { pace = c.in_ok-plan_tick.ensures.pace ∙ c.in_ok-switch.ensures.pace; seed = refl; streams = refl }) said.2 accounts
+
+-- only what runs at this processor may be another task
+pub returns-clause-others : goal.returns-clause-others
+returns-clause-others g c =
+    let was = c.args.self.now.roster in
+    let accounts = c.in_ok-plan_tick.ensures.accounts ∙ c.in_ok-switch.ensures.accounts in
+    λ other apart. ap (λ (a : Accounts). slice_get a.lanes other) accounts ∙ switched-others c.args.processor _ c.args.now was.pace.migration_cost other (accounts_of was) apart

@@ -1,0 +1,37 @@
+//! Sets of registers: those that an instruction reads, and the one that it writes.
+use bq_insn::Insn;
+use bq_needs::reads;
+
+/// Registers by their numbers, a bit for each.
+pub(crate) type Registers = u16;
+
+/// The bit of a register.
+pub(crate) fn bit(register: u8) -> Registers {
+    1u16.checked_shl(u32::from(register)).unwrap_or(0)
+}
+
+/// The register that the instruction writes; a call writes r0.
+pub(crate) fn written(insn: Insn) -> Option<u8> {
+    match insn {
+        Insn::Alu { dst, .. }
+        | Insn::MovSx { dst, .. }
+        | Insn::Neg { dst, .. }
+        | Insn::End { dst, .. }
+        | Insn::Load { dst, .. }
+        | Insn::Imm64 { dst, .. }
+        | Insn::MapRef { dst, .. } => Some(dst),
+        Insn::Call { .. } => Some(0),
+        _ => None,
+    }
+}
+
+/// The registers that the instruction reads as operands.
+pub(crate) fn read(insn: Insn) -> Registers {
+    let mut registers = 0;
+    for register in 0..11u8 {
+        if reads(insn, register) {
+            registers |= bit(register);
+        }
+    }
+    registers
+}

@@ -1,8 +1,0 @@
-use Rattle.bq_cells.proofs.Opening.{once, parts_there}
-use Rattle.bq_machine.proofs.opened.prepare.Goals as goal
-
-pub open-requires-clause-once : goal.open-requires-clause-once
-open-requires-clause-once g c = once c.args.processors
-
-pub open-requires-clause-parts : goal.open-requires-clause-parts
-open-requires-clause-parts g c = parts_there c.args.processors

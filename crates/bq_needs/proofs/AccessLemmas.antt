@@ -1,0 +1,97 @@
+-- When an access is shown to be good, and when it is not.
+use Rattle.std.proofs.Common.{◌≡◌, ℕ, ℤ, ◌+◌, ◌-◌, ◌%◌, ◌^◌, ◌<◌, ◌≤◌, true, false, List, Some, SFits, slice_get, sym, subst, refl, arith}
+use Rattle.std.specs.Int.{w16}
+use Rattle.std.proofs.lemmas.Int.{ints}
+use Rattle.bq_insn.specs.Meaning.{word_of}
+use Rattle.bq_maps.specs.Machine.{address_of}
+use Rattle.bq_ranges.specs.Within.{Within}
+use Rattle.bq_ranges.specs.declared.range.Range.{Range}
+use Rattle.bq_views.specs.Views.{size_of_shape}
+use Rattle.bq_views.specs.declared.view.Kind.TheVariants as kind
+use Rattle.bq_views.specs.declared.view.Known.{Known}
+use Rattle.bq_views.specs.declared.view.View.{View}
+use Rattle.bq_policy_files.specs.declared.policy.Policy.{Policy}
+use Rattle.bq_needs.specs.Accesses.{AreSet, GoesBeyond, IsMoved, IsShown, ReachesLast, Stays, TellsBegin, begin_of, context_of, counted, by_register, register_text}
+use Rattle.bq_needs.specs.Texts.{kind_text}
+use Rattle.bq_needs.specs.declared.operands.Access.{Access}
+
+-- where the moved ends are turned round, one of the words between them becomes the greatest
+last_between : (lo hi d : ℕ) → lo ≤ hi → hi < 2 ^ 64 → d < 2 ^ 64 → (hi + d) % 2 ^ 64 < (lo + d) % 2 ^ 64 → (lo ≤ 2 ^ 64 - 1 - d) × (2 ^ 64 - 1 - d ≤ hi) × ((2 ^ 64 - 1 - d + d) % 2 ^ 64 ≡ 2 ^ 64 - 1)
+last_between lo hi d ordered fits small wraps = omega arith
+
+small_distance : (off : ℤ) → SFits w16 off → word_of off < 2 ^ 64
+small_distance off fits = omega (arith, ints)
+
+pub reaches_last : (off : ℤ) (offsets : Range) → SFits w16 off → address_of offsets.hi off < address_of offsets.lo off → ReachesLast off offsets
+reaches_last off offsets fits wraps =
+    let last = last_between offsets.lo offsets.hi (word_of off) offsets.ordered offsets.fits (small_distance off fits) wraps in
+    (2 ^ 64 - 1 - word_of off, (last.0, last.1), last.2)
+
+-- with the greatest offset all bytes lie below the bound, and so with each
+pub all_below : (a : Access) (offsets at : Range) (bound : ℕ) → IsMoved a.off offsets at → at.hi + a.bytes ≤ bound → Stays a offsets bound
+all_below a offsets at bound moved below o within =
+    let in_range : Within at (address_of o a.off) = moved.each o within in
+    omega (arith, in_range.1)
+
+-- with the greatest offset they do not
+pub last_beyond : (a : Access) (offsets at : Range) (bound : ℕ) → IsMoved a.off offsets at → bound < at.hi + a.bytes → GoesBeyond a offsets bound
+last_beyond a offsets at bound moved beyond =
+    let last : at.hi ≡ address_of offsets.hi a.off = moved.hi in
+    (offsets.hi, (offsets.ordered, omega arith), subst (λ (n : ℕ). bound < n + a.bytes) last beyond)
+
+-- the greatest word is beyond all bounds
+pub greatest_beyond : (a : Access) (offsets : Range) (bound : ℕ) → ReachesLast a.off offsets → bound < 65536 → GoesBeyond a offsets bound
+greatest_beyond a offsets bound (o, within, greatest) small =
+    (o, within, subst (λ (n : ℕ). bound < n + a.bytes) (sym greatest) (omega arith))
+
+-- where the access begins is told by the range
+pub tells_counted : (a : Access) (k : Known) (at : Range) (text : List ℕ) → IsMoved a.off k.offset at → text ≡ kind_text k.kind at → TellsBegin a k text
+tells_counted a k at text moved is = subst (λ (t : List ℕ). TellsBegin a k t) (sym is) (counted at moved.lo moved.hi)
+
+-- or by the register
+pub tells_register : (a : Access) (k : Known) (text : List ℕ) → text ≡ register_text a.register k → TellsBegin a k text
+tells_register a k text is = subst (λ (t : List ℕ). TellsBegin a k t) (sym is) by_register
+
+-- a read of the context within its length
+pub shown_in_context : (p : Policy) (view : View) (a : Access) (k : Known) → k.kind ≡ kind.Context → a.writes ≡ false → Stays a k.offset (context_of p) → IsShown p view a k
+shown_in_context p view a k of read stays =
+    record {
+      bound = context_of p;
+      bound_is = rw of refl;
+      stays = stays;
+      writable = λ writes. cc;
+      set = λ _ on. cc;
+    }
+
+-- a write of the stack within its bytes
+pub written_on_stack : (p : Policy) (view : View) (a : Access) (k : Known) → k.kind ≡ kind.Stack → a.writes ≡ true → Stays a k.offset 512 → IsShown p view a k
+written_on_stack p view a k of written stays =
+    record {
+      bound = 512;
+      bound_is = rw of refl;
+      stays = stays;
+      writable = λ _ on. cc;
+      set = λ read _. cc;
+    }
+
+-- a read of bytes of it that are set
+pub read_from_stack : (p : Policy) (view : View) (a : Access) (k : Known) → k.kind ≡ kind.Stack → a.writes ≡ false → Stays a k.offset 512 → AreSet view.set (begin_of a k.offset.lo) (begin_of a k.offset.hi + a.bytes) → IsShown p view a k
+read_from_stack p view a k of read stays set =
+    record {
+      bound = 512;
+      bound_is = rw of refl;
+      stays = stays;
+      writable = λ writes. cc;
+      set = λ _ _. set;
+    }
+
+-- an access within a value of the map
+pub shown_in_value : (p : Policy) (view : View) (a : Access) (k : Known) (map size : ℕ) → k.kind ≡ kind.Entry map → size_of_shape (slice_get p.shapes.items map) ≡ Some size → Stays a k.offset size → IsShown p view a k
+shown_in_value p view a k map size of is stays =
+    record {
+      bound = size;
+      bound_is = rw of is;
+      stays = stays;
+      writable = λ _ on. cc;
+      set = λ _ on. cc;
+    }

@@ -1,0 +1,3 @@
+pub mod AccessLemmas
+pub mod NeedLemmas
+pub mod SayingLemmas

@@ -1,0 +1,101 @@
+-- When the view shows an access to be good, and what a text tells of one that it does not.
+use Rattle.std.specs.Prelude.{◌≡◌, ◌≢◌, ℕ, ℤ, ◌+◌, ◌-◌, ◌^◌, ◌<◌, ◌≤◌, Bool, true, false, List, ◌++◌, Option, Some, None, codes, slice_get, slice_index_or}
+use Rattle.std.specs.Fmt.{decimal}
+use Rattle.bq_maps.specs.Machine.{address_of}
+use Rattle.bq_ranges.specs.Within.{Within}
+use Rattle.bq_ranges.specs.declared.range.Range.{Range}
+use Rattle.bq_verify.specs.Accepted.{context_length_of}
+use Rattle.bq_verify.specs.Names.{hook_word, version_number}
+use Rattle.bq_views.specs.Views.{bound_of, size_of_shape}
+use Rattle.bq_views.specs.declared.view.Kind.TheVariants as kind
+use Rattle.bq_views.specs.declared.view.Known.{Known}
+use Rattle.bq_views.specs.declared.view.View.{View}
+use Rattle.bq_policy_files.specs.declared.policy.Policy.{Policy}
+use Rattle.bq_needs.specs.declared.accesses.Lack.TheVariants as lack
+use Rattle.bq_needs.specs.declared.accesses.Lack.{Lack}
+use Rattle.bq_needs.specs.declared.operands.Access.{Access}
+use Rattle.bq_needs.specs.Texts.{kind_text, known_text}
+
+-- where the access begins, counted from where its pointer counts from, if the pointer is so far above that
+abbrev pub begin_of : Access → ℕ → ℕ
+begin_of a offset = address_of offset a.off
+
+-- the bytes from the first up to the one past the last are set
+abbrev pub AreSet : List Bool → ℕ → ℕ → Type 0
+AreSet set first past = (i : ℕ) → first ≤ i → i < past → slice_index_or set i false ≡ true
+
+-- with each offset that the pointer may have all bytes lie below the bound
+abbrev pub Stays : Access → Range → ℕ → Type 0
+Stays a offsets bound = (o : ℕ) → Within offsets o → begin_of a o + a.bytes ≤ bound
+
+-- with one that it may have they do not
+abbrev pub GoesBeyond : Access → Range → ℕ → Type 0
+GoesBeyond a offsets bound = (o : ℕ) × Within offsets o × (bound < begin_of a o + a.bytes)
+
+-- one of the bytes that the access may touch is not known to be set
+abbrev pub TouchesUnset : View → Access → Range → Type 0
+TouchesUnset view a offsets = (i : ℕ) × (begin_of a offsets.lo ≤ i) × (i < begin_of a offsets.hi + a.bytes) × (slice_index_or view.set i false ≡ false)
+
+-- each word of the range, so far on, is in the other one, and so are its ends
+pub record IsMoved (off : ℤ) (old new : Range) : Type 0 where
+  pub lo : new.lo ≡ address_of old.lo off
+  pub hi : new.hi ≡ address_of old.hi off
+  pub each : (o : ℕ) → Within old o → Within new (address_of o off)
+
+-- so far on one of the words of the range is the greatest that there is
+abbrev pub ReachesLast : ℤ → Range → Type 0
+ReachesLast off offsets = (o : ℕ) × Within offsets o × (address_of o off ≡ 2 ^ 64 - 1)
+
+abbrev pub context_of : Policy → ℕ
+context_of p = context_length_of p.hook p.version
+
+-- by what is known of its pointer the access is good: it stays in what the pointer points to, it does not write the context, and what it reads of the stack is set
+pub record IsShown (p : Policy) (view : View) (a : Access) (k : Known) : Type 0 where
+  pub bound : ℕ
+  pub bound_is : bound_of p.shapes.items (context_of p) k.kind ≡ Some bound
+  pub stays : Stays a k.offset bound
+  pub writable : a.writes ≡ true → k.kind ≢ kind.Context
+  pub set : a.writes ≡ false → k.kind ≡ kind.Stack → AreSet view.set (begin_of a k.offset.lo) (begin_of a k.offset.hi + a.bytes)
+
+-- what is not so of the access
+abbrev pub Lacks : Policy → View → Access → Known → Lack → Type 0
+Lacks p view a k lack.Number = k.kind ≡ kind.Number
+Lacks p view a k lack.Answer = (map : ℕ) × (k.kind ≡ kind.EntryOrNull map)
+Lacks p view a k lack.Reference = (map : ℕ) × (k.kind ≡ kind.Map map)
+Lacks p view a k lack.WritesContext = (k.kind ≡ kind.Context) × (a.writes ≡ true)
+Lacks p view a k lack.BeyondContext = (k.kind ≡ kind.Context) × (a.writes ≡ false) × GoesBeyond a k.offset (context_of p)
+Lacks p view a k lack.BeyondStack = (k.kind ≡ kind.Stack) × GoesBeyond a k.offset 512
+Lacks p view a k lack.ReadsUnset = (k.kind ≡ kind.Stack) × (a.writes ≡ false) × Stays a k.offset 512 × TouchesUnset view a k.offset
+Lacks p view a k (lack.BeyondValue map size) = (k.kind ≡ kind.Entry map) × (size_of_shape (slice_get p.shapes.items map) ≡ Some size) × GoesBeyond a k.offset size
+Lacks p view a k lack.InNoMap = (map : ℕ) × (k.kind ≡ kind.Entry map) × (size_of_shape (slice_get p.shapes.items map) ≡ None)
+
+abbrev pub lack_text : Policy → Lack → List ℕ
+lack_text p lack.Number = codes "a number is no address"
+lack_text p lack.Answer = codes "the answer of a look-up is 0 where there is no such entry"
+lack_text p lack.Reference = codes "the reference of a map is no address of its values"
+lack_text p lack.WritesContext = codes "the context is only read"
+lack_text p lack.BeyondContext = codes "the context of " ++ (hook_word p.hook ++ (codes ", version " ++ (decimal (version_number p.version) ++ (codes ", has " ++ (decimal (context_of p) ++ codes " bytes")))))
+lack_text p lack.BeyondStack = codes "the stack has the 512 bytes below r10"
+lack_text p lack.ReadsUnset = codes "not all of these bytes were written before, on each way that leads here"
+lack_text p (lack.BeyondValue map size) = codes "a value of map " ++ (decimal map ++ (codes " has " ++ (decimal size ++ codes " bytes, and an access stays in one")))
+lack_text p lack.InNoMap = codes "an access stays in one value"
+
+-- the register and what is known of it
+abbrev pub register_text : ℕ → Known → List ℕ
+register_text r k = codes "r" ++ (decimal r ++ (codes ", which is " ++ known_text k))
+
+-- the text tells where it begins: how far from what its pointer counts from, or by which register and what is known of that
+pub data TellsBegin (a : Access) (k : Known) : List ℕ → Type 0 where
+  counted : (at : Range) → at.lo ≡ begin_of a k.offset.lo → at.hi ≡ begin_of a k.offset.hi → TellsBegin a k (kind_text k.kind at)
+  by_register : TellsBegin a k (register_text a.register k)
+
+abbrev pub verb : Bool → List ℕ
+verb true = codes "writes"
+verb false = codes "reads"
+
+-- how many bytes are read or written, by an unset register, or from where and why they may not be
+abbrev pub TellsAccess : Policy → View → Access → Option Known → List ℕ → Type 0
+TellsAccess p view a None text =
+    text ≡ verb a.writes ++ (codes " " ++ (decimal a.bytes ++ (codes " bytes by r" ++ (decimal a.register ++ codes ", which is not set on each way that leads here"))))
+TellsAccess p view a (Some k) text =
+    (begin : List ℕ) × (why : Lack) × TellsBegin a k begin × Lacks p view a k why × (text ≡ verb a.writes ++ (codes " " ++ (decimal a.bytes ++ (codes " bytes at " ++ (begin ++ (codes "; " ++ lack_text p why))))))

@@ -1,0 +1,43 @@
+-- How what is known of a word is printed.
+use Rattle.std.specs.Prelude.{ℕ, ◌-◌, ◌^◌, ◌==◌, ◌&&◌, nat_lt, List, [], ◌++◌, codes, if◌then◌else◌}
+use Rattle.std.specs.Fmt.{decimal}
+use Rattle.bq_ranges.specs.declared.range.Range.{Range}
+use Rattle.bq_views.specs.declared.view.Kind.{Kind}
+use Rattle.bq_views.specs.declared.view.Kind.TheVariants.{Number, Context, Stack, Entry, EntryOrNull, Map}
+use Rattle.bq_views.specs.declared.view.Known.{Known}
+
+-- one number by itself, else both
+abbrev pub between : ℕ → ℕ → List ℕ
+between a b = if a == b then decimal a else decimal a ++ (codes ".." ++ decimal b)
+
+-- the words of a range
+abbrev pub range_text : Range → List ℕ
+range_text r = between r.lo r.hi
+
+-- a number; of one of which nothing else is known it says so
+abbrev pub number_text : Range → List ℕ
+number_text r = if (r.lo == 0) && (r.hi == 2 ^ 64 - 1) then codes "any number" else range_text r
+
+-- how far above what it counts from a pointer is, or how far below, where its offset is so great that the sum wraps
+abbrev pub offset_text : Range → List ℕ
+offset_text r =
+    if r.hi == 0 then [] else if nat_lt r.lo (2 ^ 63) then codes " + " ++ range_text r else codes " - " ++ between (2 ^ 64 - r.lo) (2 ^ 64 - r.hi)
+
+-- a pointer into the stack of 512 bytes: how far below its end it is, unless it may be beyond
+abbrev pub stack_text : Range → List ℕ
+stack_text r =
+    if nat_lt 512 r.hi then codes "stack begin" ++ offset_text r
+    else if r.lo == 512 then codes "stack end" else codes "stack end - " ++ between (512 - r.lo) (512 - r.hi)
+
+-- a word of a kind, by the range of its offset
+abbrev pub kind_text : Kind → Range → List ℕ
+kind_text Number r = number_text r
+kind_text Context r = codes "context" ++ offset_text r
+kind_text Stack r = stack_text r
+kind_text (Entry map) r = codes "entry of map " ++ (decimal map ++ offset_text r)
+kind_text (EntryOrNull map) r = codes "entry of map " ++ (decimal map ++ (codes " or 0" ++ (offset_text r ++ codes ", not compared")))
+kind_text (Map map) r = codes "map " ++ (decimal map ++ offset_text r)
+
+-- what is known of a word
+abbrev pub known_text : Known → List ℕ
+known_text k = kind_text k.kind k.offset

@@ -1,0 +1,227 @@
+//! Whether what is known of its pointer shows an access to be good, and if not why, in words.
+ghost use Rattle.std.specs.Prelude.{◌≡◌, ◌<◌, ◌≤◌, ◌+◌, IfOk, MatchBool, MatchOption, Some, false, true, string_bytes};
+ghost use Rattle.bq_maps.specs.Machine.{address_of};
+ghost use Rattle.bq_needs.specs.Accesses.{AreSet, GoesBeyond, IsMoved, IsShown, Lacks, ReachesLast, Stays, TellsBegin, TouchesUnset, begin_of, lack_text, register_text};
+
+use crate::known::{kind_text, known_text};
+use crate::operands::Access;
+use bq_policy_files::Policy;
+use bq_ranges::Range;
+use bq_verify::hook::context_length;
+use bq_views::places::shape_of;
+use bq_views::view::{Kind, Known, View};
+use std::alloc::{AllocError, Global};
+
+/// The bytes of a policy's stack.
+const STACK: usize = 512;
+
+/// Why what is known of its pointer does not show an access to be good.
+#[derive(Clone, Copy)]
+pub(crate) enum Lack {
+    /// The pointer is a number.
+    Number,
+    /// It is the answer of a look-up, which may be 0.
+    Answer,
+    /// It is the reference of a map.
+    Reference,
+    /// The access writes the context.
+    WritesContext,
+    /// It goes beyond the context.
+    BeyondContext,
+    /// It goes beyond the stack.
+    BeyondStack,
+    /// It reads bytes of the stack that may be unset.
+    ReadsUnset,
+    /// It goes beyond a value of that map, which has so many bytes.
+    BeyondValue(u8, u16),
+    /// It goes into a map that there is not.
+    InNoMap,
+}
+
+/// Why what is known of its pointer does not show the access to be good, unless it does.
+pub(crate) fn lack_of(policy: &Policy, view: &View, access: Access, pointer: Known) -> Option<Lack>
+    requires { access.bytes ≤ 256 }
+    ensures { MatchOption result (IsShown policy.now view.now access pointer) (Lacks policy.now view.now access pointer) }
+{
+    match pointer.kind {
+        Kind::Number => Some(Lack::Number),
+        Kind::EntryOrNull(_) => Some(Lack::Answer),
+        Kind::Map(_) => Some(Lack::Reference),
+        Kind::Context => context_lack(policy, view, access, pointer),
+        Kind::Stack => stack_lack(policy, view, access, pointer),
+        Kind::Entry(map) => value_lack(policy, view, access, pointer, map),
+    }
+}
+
+/// The same of a pointer into the context, which is only read.
+#[tactic(auto, using(crate::proofs::AccessLemmas::shown_in_context))]
+fn context_lack(policy: &Policy, view: &View, access: Access, pointer: Known) -> Option<Lack>
+    requires few { access.bytes ≤ 256 }
+    requires kind { pointer.kind ≡ Kind.Context }
+    ensures { MatchOption result (IsShown policy.now view.now access pointer) (Lacks policy.now view.now access pointer) }
+{
+    if access.writes {
+        return Some(Lack::WritesContext);
+    }
+    let length = context_length(policy.hook, policy.version);
+    if stays(access, pointer.offset, length) {
+        None
+    } else {
+        Some(Lack::BeyondContext)
+    }
+}
+
+/// The same of a pointer into the stack, of which only what is set is read.
+#[tactic(auto, using(crate::proofs::AccessLemmas::written_on_stack, crate::proofs::AccessLemmas::read_from_stack))]
+fn stack_lack(policy: &Policy, view: &View, access: Access, pointer: Known) -> Option<Lack>
+    requires few { access.bytes ≤ 256 }
+    requires kind { pointer.kind ≡ Kind.Stack }
+    ensures { MatchOption result (IsShown policy.now view.now access pointer) (Lacks policy.now view.now access pointer) }
+{
+    if !stays(access, pointer.offset, STACK) {
+        return Some(Lack::BeyondStack);
+    }
+    if access.writes {
+        return None;
+    }
+    if touches_set(view, access, pointer.offset) {
+        None
+    } else {
+        Some(Lack::ReadsUnset)
+    }
+}
+
+/// The same of a pointer into a value of that map.
+#[tactic(auto, using(crate::proofs::AccessLemmas::shown_in_value))]
+fn value_lack(policy: &Policy, view: &View, access: Access, pointer: Known, map: u8) -> Option<Lack>
+    requires few { access.bytes ≤ 256 }
+    requires kind { pointer.kind ≡ Kind.Entry map }
+    ensures { MatchOption result (IsShown policy.now view.now access pointer) (Lacks policy.now view.now access pointer) }
+{
+    let Some(shape) = shape_of(policy.shapes.as_slice(), map) else {
+        return Some(Lack::InNoMap);
+    };
+    if stays(access, pointer.offset, usize::from(shape.value_size)) {
+        None
+    } else {
+        Some(Lack::BeyondValue(map, shape.value_size))
+    }
+}
+
+/// Whether all bytes of the access lie below the bound, with each offset that its pointer may have.
+#[tactic(auto, using(crate::proofs::AccessLemmas::all_below, crate::proofs::AccessLemmas::last_beyond, crate::proofs::AccessLemmas::greatest_beyond))]
+fn stays(access: Access, offsets: Range, bound: usize) -> bool
+    requires few { access.bytes ≤ 256 }
+    requires small { bound < 65536 }
+    ensures { MatchBool result (Stays access offsets bound) (GoesBeyond access offsets bound) }
+{
+    let Some(at) = moved(offsets, access.off) else {
+        return false;
+    };
+    if bound < access.bytes {
+        return false;
+    }
+    at.hi <= (bound - access.bytes) as u64
+}
+
+/// Whether all bytes of the stack that the access may touch are known to be set.
+fn touches_set(view: &View, access: Access, offsets: Range) -> bool
+    requires few { access.bytes ≤ 256 }
+    requires inside { Stays access offsets 512 }
+    ensures { MatchBool result (AreSet view.now.set (begin_of access offsets.lo) (begin_of access offsets.hi + access.bytes)) (TouchesUnset view.now access offsets) }
+{
+    let first = word_at(offsets.lo, access.off) as usize;
+    let past = word_at(offsets.hi, access.off) as usize + access.bytes;
+    for byte in first..past {
+        if !view.set[byte] {
+            return false;
+        }
+    }
+    true
+}
+
+/// The words that far on from those of the range, unless one of them is beyond the greatest.
+fn moved(offsets: Range, off: i16) -> Option<Range>
+    ensures { MatchOption result (ReachesLast off offsets) (IsMoved off offsets) }
+{
+    let lo = word_at(offsets.lo, off);
+    let hi = word_at(offsets.hi, off);
+    if lo <= hi {
+        Some(Range { lo, hi })
+    } else {
+        None
+    }
+}
+
+/// The word that far on.
+fn word_at(word: u64, off: i16) -> u64
+    ensures { result ≡ address_of word off }
+{
+    word.wrapping_add(i64::from(off).cast_unsigned())
+}
+
+/// Where the access begins, by what is known of its pointer.
+#[tactic(auto, using(crate::proofs::AccessLemmas::tells_counted, crate::proofs::AccessLemmas::tells_register))]
+pub(crate) fn begin_text(
+    alloc: Global,
+    access: Access,
+    pointer: Known,
+) -> Result<String, AllocError>
+    ensures { IfOk result (λ text. TellsBegin access pointer (string_bytes text)) }
+{
+    if let (true, Some(at)) = (is_followed(pointer.kind), moved(pointer.offset, access.off)) {
+        return kind_text(alloc, pointer.kind, at);
+    }
+    register_text(alloc, access.register, pointer)
+}
+
+/// The register, and what is known of it.
+fn register_text(alloc: Global, register: u8, known: Known) -> Result<String, AllocError>
+    ensures { IfOk result (λ text. string_bytes text ≡ register_text register known) }
+{
+    let told = known_text(alloc, &known)?;
+    format!(in alloc; "r{register}, which is {told}")
+}
+
+/// Whether a pointer of the kind may be followed.
+fn is_followed(kind: Kind) -> bool {
+    matches!(kind, Kind::Context | Kind::Stack | Kind::Entry(_))
+}
+
+/// Why an access is not good, in words.
+pub(crate) fn lack_text(alloc: Global, policy: &Policy, lack: Lack) -> Result<String, AllocError>
+    ensures { IfOk result (λ text. string_bytes text ≡ lack_text policy.now lack) }
+{
+    match lack {
+        Lack::Number => String::from_str(alloc, "a number is no address"),
+        Lack::Answer => String::from_str(
+            alloc,
+            "the answer of a look-up is 0 where there is no such entry",
+        ),
+        Lack::Reference => String::from_str(
+            alloc,
+            "the reference of a map is no address of its values",
+        ),
+        Lack::WritesContext => String::from_str(alloc, "the context is only read"),
+        Lack::BeyondContext => context_text(alloc, policy),
+        Lack::BeyondStack => String::from_str(alloc, "the stack has the 512 bytes below r10"),
+        Lack::ReadsUnset => String::from_str(
+            alloc,
+            "not all of these bytes were written before, on each way that leads here",
+        ),
+        Lack::BeyondValue(map, size) => {
+            format!(in alloc; "a value of map {map} has {size} bytes, and an access stays in one")
+        }
+        Lack::InNoMap => String::from_str(alloc, "an access stays in one value"),
+    }
+}
+
+/// How long the policy's context is.
+fn context_text(alloc: Global, policy: &Policy) -> Result<String, AllocError>
+    ensures { IfOk result (λ text. string_bytes text ≡ lack_text policy.now Lack.BeyondContext) }
+{
+    let hook = policy.hook.word();
+    let version = policy.version.number();
+    let length = context_length(policy.hook, policy.version);
+    format!(in alloc; "the context of {hook}, version {version}, has {length} bytes")
+}

@@ -1,0 +1,123 @@
+//! What is known of one word, as text.
+ghost use Rattle.std.specs.Prelude.{◌≡◌, ◌-◌, ◌^◌, ◌<◌, ◌≤◌, ◌++◌, ℕ, List, IfOk};
+ghost use Rattle.std.specs.String.{string_bytes};
+ghost use Rattle.bq_maps.specs.declared.shape.MapShape.{MapShape};
+ghost use Rattle.bq_views.specs.Views.{Describes};
+ghost use Rattle.bq_needs.specs.Saying.{Says};
+ghost use Rattle.bq_needs.specs.Texts.{between, kind_text, known_text, number_text, offset_text, range_text, stack_text};
+
+use bq_ranges::Range;
+use bq_views::view::{Kind, Known};
+use std::alloc::{AllocError, Global};
+
+/// The bytes of a policy's stack.
+const STACK: u64 = 512;
+
+/// Words from here on are printed as what is taken away.
+const NEGATIVE: u64 = 1 << 63;
+
+/// One number by itself, else both.
+fn between(alloc: Global, first: u64, last: u64) -> Result<String, AllocError>
+    ensures { IfOk result (λ text. string_bytes text ≡ between first last) }
+{
+    if first == last {
+        return format!(in alloc; "{first}");
+    }
+    format!(in alloc; "{first}..{last}")
+}
+
+/// The words of a range: one by itself, or both ends.
+pub fn range_text(alloc: Global, range: Range) -> Result<String, AllocError>
+    ensures { IfOk result (λ text. string_bytes text ≡ range_text range) }
+{
+    between(alloc, range.lo, range.hi)
+}
+
+/// What is known of a word: a number, or a pointer by what it counts from and how far above that it is. Each word of which that is
+/// known is as the text says.
+#[tactic(auto, using(crate::proofs::SayingLemmas::says_known))]
+pub fn known_text(alloc: Global, known: &Known) -> Result<String, AllocError>
+    ensures text { IfOk result (λ text. string_bytes text ≡ known_text known.now) }
+    ensures says { IfOk result (λ text. (shapes : List MapShape) (word : ℕ) → Describes shapes known.now word → Says shapes (string_bytes text) word) }
+{
+    let text = kind_text(alloc, known.kind, known.offset)?;
+    Ok(text)
+}
+
+/// A word of a kind, by the range of its offset.
+pub(crate) fn kind_text(alloc: Global, kind: Kind, range: Range) -> Result<String, AllocError>
+    ensures { IfOk result (λ text. string_bytes text ≡ kind_text kind range) }
+{
+    match kind {
+        Kind::Number => number_text(alloc, range),
+        Kind::Context => pointer_text(alloc, "context", range),
+        Kind::Stack => stack_text(alloc, range),
+        Kind::Entry(map) => {
+            let offset = offset_text(alloc, range)?;
+            format!(in alloc; "entry of map {map}{offset}")
+        }
+        Kind::EntryOrNull(map) => {
+            let offset = offset_text(alloc, range)?;
+            format!(in alloc; "entry of map {map} or 0{offset}, not compared")
+        }
+        Kind::Map(map) => {
+            let offset = offset_text(alloc, range)?;
+            format!(in alloc; "map {map}{offset}")
+        }
+    }
+}
+
+/// A number; of one of which nothing else is known it says so.
+fn number_text(alloc: Global, range: Range) -> Result<String, AllocError>
+    ensures { IfOk result (λ text. string_bytes text ≡ number_text range) }
+{
+    if range.lo == 0 && range.hi == u64::MAX {
+        return String::from_str(alloc, "any number");
+    }
+    range_text(alloc, range)
+}
+
+/// A pointer, so far above its base; offsets beyond 2^63 are those below it.
+fn pointer_text(alloc: Global, base: &str, range: Range) -> Result<String, AllocError>
+    ensures { IfOk result (λ text. string_bytes text ≡ base.now ++ offset_text range) }
+{
+    let offset = offset_text(alloc, range)?;
+    format!(in alloc; "{base}{offset}")
+}
+
+/// How far a pointer is above what it counts from, or below it.
+fn offset_text(alloc: Global, range: Range) -> Result<String, AllocError>
+    ensures { IfOk result (λ text. string_bytes text ≡ offset_text range) }
+{
+    if range.hi == 0 {
+        return Ok(String::new(alloc));
+    }
+    if range.lo < NEGATIVE {
+        let offset = range_text(alloc, range)?;
+        return format!(in alloc; " + {offset}");
+    }
+    let distance = between(alloc, below(range.lo), below(range.hi))?;
+    format!(in alloc; " - {distance}")
+}
+
+/// How far below the word is that is so far above by a sum that wraps.
+fn below(offset: u64) -> u64
+    requires { 0 < offset }
+    ensures { result ≡ 2 ^ 64 - offset }
+{
+    u64::MAX - offset + 1
+}
+
+/// A pointer into the stack, by its distance from the end, at which r10 points.
+fn stack_text(alloc: Global, range: Range) -> Result<String, AllocError>
+    ensures { IfOk result (λ text. string_bytes text ≡ stack_text range) }
+{
+    if range.hi > STACK {
+        return pointer_text(alloc, "stack begin", range);
+    }
+    if range.lo == STACK {
+        return String::from_str(alloc, "stack end");
+    }
+    let distance = between(alloc, STACK - range.lo, STACK - range.hi)?;
+    format!(in alloc; "stack end - {distance}")
+}

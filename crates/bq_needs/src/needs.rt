@@ -1,0 +1,227 @@
+//! What an instruction needs and the view before it does not give, in words, for causes of what is known of the states.
+ghost use Rattle.std.specs.Prelude.{◌≡◌, ◌↔◌, ◌<◌, Some, true, IfOk, IsTrue, MatchOption, string_bytes};
+ghost use Rattle.bq_views.specs.Standing.{Scalar, StandsAt};
+ghost use Rattle.bq_needs.specs.Accesses.{verb};
+ghost use Rattle.bq_needs.specs.Needs.{AreKnown, AreNumbers, IsGoodAccess, IsMet, IsNeed, IsPointerWorkedOn, TellsAccessOf, TellsNeed, TellsPointer, answer_text, pointer_rule, unset_below, unset_need, unset_text};
+ghost use Rattle.bq_needs.specs.Operands.{known_in, reads, works_on};
+ghost use Rattle.bq_views.specs.declared.view.Known.{Known as Shown};
+
+use crate::accesses::{begin_text, lack_of, lack_text};
+use crate::arguments::argument_need;
+use crate::known::known_text;
+use crate::operands::{access_of, reads, works_on};
+use bq_insn::Insn;
+use bq_policy_files::Policy;
+use bq_verify::Cause;
+use bq_views::registers::known;
+use bq_views::view::{Kind, Known, View};
+use std::alloc::{AllocError, Global};
+
+/// The need that the view does not give, by the cause.
+pub fn need_text(
+    alloc: Global,
+    policy: &Policy,
+    view: &View,
+    insn: Insn,
+    cause: Cause,
+) -> Result<String, AllocError>
+    ensures { IfOk result (λ text. IsNeed policy.now view.now insn cause (string_bytes text)) }
+{
+    match told(alloc, policy, view, insn, cause)? {
+        Some(text) => Ok(text),
+        None => String::from_str(alloc, "is not shown to be safe"),
+    }
+}
+
+/// The same, if the view does not give what the cause says.
+fn told(
+    alloc: Global,
+    policy: &Policy,
+    view: &View,
+    insn: Insn,
+    cause: Cause,
+) -> Result<Option<String>, AllocError>
+    ensures { IfOk result (λ told. MatchOption told (IsMet policy.now view.now insn cause) (λ text. TellsNeed policy.now view.now insn cause (string_bytes text) × ¬ (IsMet policy.now view.now insn cause))) }
+{
+    match cause {
+        Cause::Unset => unset_need(alloc, view, insn),
+        Cause::Access => access_need(alloc, policy, view, insn),
+        Cause::PointerUse => pointer_need(alloc, view, insn),
+        Cause::Argument => argument_need(alloc, policy, view, insn),
+        Cause::Answer => answer_need(alloc, view),
+        _ => Ok(None),
+    }
+}
+
+/// The registers that the instruction reads and that may be unset, if there are any.
+fn unset_need(alloc: Global, view: &View, insn: Insn) -> Result<Option<String>, AllocError>
+    ensures { IfOk result (λ told. MatchOption told (AreKnown view.now insn) (λ text. (string_bytes text ≡ unset_need view.now insn) × ¬ (AreKnown view.now insn))) }
+{
+    let registers = unset_registers(alloc, view, insn)?;
+    if registers.is_empty() {
+        return Ok(None);
+    }
+    let text = format!(in alloc;
+        "reads{registers}, which is not set here, or not on each way that leads here"
+    )?;
+    Ok(Some(text))
+}
+
+/// Each register that the instruction reads and of which nothing is known.
+fn unset_registers(alloc: Global, view: &View, insn: Insn) -> Result<String, AllocError>
+    ensures { IfOk result (λ text. string_bytes text ≡ unset_below 11 view.now insn) }
+{
+    let mut text = String::new(alloc);
+    for register in 0..11u8 {
+        let told = unset_register(alloc, view, insn, register)?;
+        text.push_str(told.as_str())?;
+    }
+    Ok(text)
+}
+
+/// The register, if it is one of those.
+fn unset_register(
+    alloc: Global,
+    view: &View,
+    insn: Insn,
+    register: u8,
+) -> Result<String, AllocError>
+    ensures { IfOk result (λ text. string_bytes text ≡ unset_text view.now insn register) }
+{
+    if reads(insn, register) && known(view, register).is_none() {
+        format!(in alloc; " r{register}")
+    } else {
+        Ok(String::new(alloc))
+    }
+}
+
+/// The access of a load or a store, and why it is not shown to be good, if it is not.
+fn access_need(
+    alloc: Global,
+    policy: &Policy,
+    view: &View,
+    insn: Insn,
+) -> Result<Option<String>, AllocError>
+    ensures { IfOk result (λ told. MatchOption told (IsGoodAccess policy.now view.now insn) (λ text. TellsAccessOf policy.now view.now insn (string_bytes text) × ¬ (IsGoodAccess policy.now view.now insn))) }
+{
+    let Some(access) = access_of(insn) else {
+        return Ok(None);
+    };
+    let verb = verb(access.writes);
+    let bytes = access.bytes;
+    let Some(pointer) = known(view, access.register) else {
+        let register = access.register;
+        let text = format!(in alloc;
+            "{verb} {bytes} bytes by r{register}, which is not set on each way that leads here"
+        )?;
+        return Ok(Some(text));
+    };
+    let Some(lack) = lack_of(policy, view, access, pointer) else {
+        return Ok(None);
+    };
+    let begin = begin_text(alloc, access, pointer)?;
+    let why = lack_text(alloc, policy, lack)?;
+    let text = format!(in alloc; "{verb} {bytes} bytes at {begin}; {why}")?;
+    Ok(Some(text))
+}
+
+/// What an access does with the bytes.
+fn verb(writes: bool) -> &'static str
+    ensures { result.now ≡ verb writes }
+{
+    if writes { "writes" } else { "reads" }
+}
+
+/// A pointer that the instruction works on, and what may be done with it, if it works on one.
+fn pointer_need(alloc: Global, view: &View, insn: Insn) -> Result<Option<String>, AllocError>
+    ensures { IfOk result (λ told. MatchOption told (AreNumbers view.now insn) (λ text. TellsPointer view.now insn (string_bytes text) × ¬ (AreNumbers view.now insn))) }
+{
+    let Some(pointer) = pointer_worked_on(view, insn) else {
+        return Ok(None);
+    };
+    let register = pointer.register;
+    let told = known_text(alloc, &pointer.known)?;
+    let rule = pointer_rule(insn);
+    let text = format!(in alloc; "works on r{register}, which is {told}; {rule}")?;
+    Ok(Some(text))
+}
+
+/// A register and what is known of it.
+#[derive(Clone, Copy)]
+struct Pointer {
+    register: u8,
+    known: Known,
+}
+
+/// The first of the registers that the instruction works on which is known to be no number.
+fn pointer_worked_on(view: &View, insn: Insn) -> Option<Pointer>
+    ensures { MatchOption result (AreNumbers view.now insn) (λ pointer. IsPointerWorkedOn view.now insn pointer.register pointer.known) }
+{
+    for register in 0..11u8 {
+        if let Some(pointer) = as_pointer(view, insn, register) {
+            return Some(pointer);
+        }
+    }
+    None
+}
+
+/// The register, if the instruction works on it and it is known to be no number.
+fn as_pointer(view: &View, insn: Insn, register: u8) -> Option<Pointer>
+    requires { register < 11 }
+    ensures { MatchOption result ((k : Shown) → works_on insn register ≡ true → known_in view.now register ≡ Some k → k.kind ≡ Kind.Number) (λ pointer. IsPointerWorkedOn view.now insn pointer.register pointer.known) }
+{
+    if !works_on(insn, register) {
+        return None;
+    }
+    let Some(known) = known(view, register) else {
+        return None;
+    };
+    if is_number(known.kind) {
+        None
+    } else {
+        Some(Pointer { register, known })
+    }
+}
+
+/// Whether words of the kind are numbers.
+fn is_number(kind: Kind) -> bool
+    ensures { IsTrue result ↔ (kind ≡ Kind.Number) }
+{
+    matches!(kind, Kind::Number)
+}
+
+/// What may be done with a pointer, where the instruction does another thing.
+fn pointer_rule(insn: Insn) -> &'static str
+    ensures { result.now ≡ pointer_rule insn }
+{
+    match insn {
+        Insn::StoreReg { .. } => {
+            "a pointer is stored whole by stxdw, on the stack, at a multiple of 8 below r10"
+        }
+        Insn::Branch { .. } => {
+            "of pointers only the answer of a look-up is compared, by jeq64 or jne64 with the number 0"
+        }
+        _ => {
+            "a pointer may be copied by mov64, and a number be added to it or taken from it by add64 and sub64"
+        }
+    }
+}
+
+/// What the answer is, if it is not shown to be a number.
+fn answer_need(alloc: Global, view: &View) -> Result<Option<String>, AllocError>
+    ensures { IfOk result (λ told. MatchOption told (StandsAt Scalar view.now 0) (λ text. (string_bytes text ≡ answer_text (known_in view.now 0)) × ¬ (StandsAt Scalar view.now 0))) }
+{
+    let Some(answer) = known(view, 0) else {
+        let text = String::from_str(
+            alloc,
+            "ends, and r0, the answer, is not set on each way that leads here",
+        )?;
+        return Ok(Some(text));
+    };
+    if is_number(answer.kind) {
+        return Ok(None);
+    }
+    let told = known_text(alloc, &answer)?;
+    let text = format!(in alloc; "ends, and r0, the answer, is {told}; an answer is a number")?;
+    Ok(Some(text))
+}

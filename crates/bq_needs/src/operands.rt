@@ -1,0 +1,94 @@
+//! Which registers an instruction reads, and the memory that it accesses.
+ghost use Rattle.std.specs.Prelude.{◌≡◌, ◌≤◌, IfSome, IsTrue};
+ghost use Rattle.bq_insn.specs.Meaning.{byte_count};
+ghost use Rattle.bq_needs.specs.Operands.{NeedsSet, access_of, is_register, reads, reads_left, works_on};
+
+use bq_insn::{Insn, Operation, Size, Source};
+
+/// The access of a load or a store.
+#[derive(Clone, Copy)]
+pub(crate) struct Access {
+    /// Whether it writes; else it reads.
+    pub writes: bool,
+    /// How many bytes.
+    pub bytes: usize,
+    /// The register that its address counts from.
+    pub register: u8,
+    /// How far from there it begins.
+    pub off: i16,
+}
+
+/// Whether the instruction reads the register as an operand; then it does nothing where that is unset.
+pub fn reads(insn: Insn, register: u8) -> bool
+    ensures is { result ≡ reads insn register }
+    ensures needs { IsTrue result → NeedsSet insn register }
+{
+    match insn {
+        Insn::Alu { op, dst, src, .. } => {
+            (reads_left(op) && dst == register) || is_register(src, register)
+        }
+        Insn::MovSx { src, .. } | Insn::Load { src, .. } => src == register,
+        Insn::Neg { dst, .. } | Insn::End { dst, .. } | Insn::StoreImm { dst, .. } => {
+            dst == register
+        }
+        Insn::StoreReg { dst, src, .. } => dst == register || src == register,
+        Insn::Branch { dst, src, .. } => dst == register || is_register(src, register),
+        _ => false,
+    }
+}
+
+/// Whether the instruction works on the register: a store of a register on that one, and each other instruction on those that it reads.
+pub(crate) fn works_on(insn: Insn, register: u8) -> bool
+    ensures { result ≡ works_on insn register }
+{
+    match insn {
+        Insn::StoreReg { src, .. } => src == register,
+        _ => reads(insn, register),
+    }
+}
+
+/// All operations but a move read what they change.
+fn reads_left(op: Operation) -> bool
+    ensures { result ≡ reads_left op }
+{
+    match op {
+        Operation::Mov => false,
+        _ => true,
+    }
+}
+
+/// Whether the second operand is that register.
+fn is_register(src: Source, register: u8) -> bool
+    ensures { result ≡ is_register src register }
+{
+    match src {
+        Source::Imm(_) => false,
+        Source::Reg(number) => number == register,
+    }
+}
+
+/// The access of the instruction, if it is a load or a store.
+pub(crate) fn access_of(insn: Insn) -> Option<Access>
+    ensures is { result ≡ access_of insn }
+    ensures few { IfSome result (λ access. access.bytes ≤ 8) }
+{
+    match insn {
+        Insn::Load { size, src, off, .. } => Some(sized(false, size, src, off)),
+        Insn::StoreImm { size, dst, off, .. } => Some(sized(true, size, dst, off)),
+        Insn::StoreReg { size, dst, off, .. } => Some(sized(true, size, dst, off)),
+        _ => None,
+    }
+}
+
+/// An access of that size.
+fn sized(writes: bool, size: Size, register: u8, off: i16) -> Access
+    ensures is { result ≡ record { writes = writes; bytes = byte_count size; register = register; off = off } }
+    ensures few { result.bytes ≤ 8 }
+{
+    Access {
+        writes,
+        bytes: size.bytes(),
+        register,
+        off,
+    }
+}

@@ -1,0 +1,9 @@
+//! Laws of what is said of a run. Each is a theorem over its definitions, and its function does nothing.
+ghost use Rattle.bq_one_run.specs.PermittingLaw.{WordsAreTheRules};
+
+/// Where the context is that of a choice, the word on an answer is the scheduler's rule on it: permitted is said only of
+/// answers that the rule permits, not permitted only of those that it does not, and neither of a task that may be movable
+/// and is not shown.
+pub fn words_are_the_rules()
+    ensures { WordsAreTheRules }
+{}

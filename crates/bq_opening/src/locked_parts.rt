@@ -1,0 +1,100 @@
+//! A lock for each part of the world.
+ghost use Rattle.std.specs.Prelude.{◌≡◌, ◌≤◌, ◌^◌, ◌++◌, ℕ, [], List, All, IfOk, length, map, vec_len};
+ghost use Rattle.bq_history.specs.Items.{callers_from, part_item};
+ghost use Rattle.bq_cells.specs.Parts.{first_parts};
+ghost use Rattle.bq_cells.specs.Opened.{ItemOf, cpu_items, inbox_items};
+
+use bq_cells::{Kept, NumberedCpu, NumberedInbox, OneLobby, Part, Record};
+use bq_disc::RunQueue;
+use bq_history::{Item, Locked};
+use bq_parts::{Cpu, Inbox, Lobby, Scratch};
+use bq_recording::{Place, Shared};
+use bq_tie::{Holder, Naming};
+use std::alloc::{AllocError, Global};
+use std::sync::Mutex;
+
+/// The locks of all parts of a world.
+#[derive(Drop)]
+pub struct PartLocks<Q: RunQueue + Drop, N: Naming> {
+    pub lobby: Mutex<Place<OneLobby, N>>,
+    pub cpus: Vec<Mutex<Place<NumberedCpu<Q>, N>>>,
+    pub inboxes: Vec<Mutex<Place<NumberedInbox, N>>>,
+}
+
+/// A lock for each part, from the parts at the start; what the callers hold is left. It takes memory for the locks and the lobby.
+pub fn part_locks<Q: RunQueue + Drop, N: Naming>(
+    alloc: Global,
+    history: &Shared<Q, N>,
+    all: &mut Holder<Item<Record, Part, Kept>, N>,
+    queues: Vec<Q>,
+    count: u8,
+) -> Result<PartLocks<Q, N>, AllocError>
+    requires few { count ≤ 64 }
+    requires many { length queues.items ≡ count }
+    requires empty { All (λ q. (Q.members q ≡ []) × (Q.kept_mark q ≡ 2 ^ 32)) queues.items }
+    requires items { (s : ℕ) × (all.old ≡ map part_item (first_parts count) ++ callers_from 0 s) }
+    ensures cpus { IfOk result (λ l. vec_len l.cpus ≡ count) }
+    ensures inboxes { IfOk result (λ l. vec_len l.inboxes ≡ count) }
+    ensures rest { IfOk result (λ _. (s : ℕ) → all.old ≡ map part_item (first_parts count) ++ callers_from 0 s → all.new ≡ callers_from 0 s) }
+{
+    let hall = OneLobby {
+        state: Lobby::new(alloc)?,
+    };
+    let lobby = Locked::open(history, all, hall);
+    let cpus = cpu_locks(alloc, history, all, queues)?;
+    let inboxes = inbox_locks(alloc, history, all, count)?;
+    Ok(PartLocks {
+        lobby: Mutex::new(lobby),
+        cpus,
+        inboxes,
+    })
+}
+
+/// A lock for each processor.
+fn cpu_locks<Q: RunQueue + Drop, N: Naming>(
+    alloc: Global,
+    history: &Shared<Q, N>,
+    all: &mut Holder<Item<Record, Part, Kept>, N>,
+    queues: Vec<Q>,
+) -> Result<Vec<Mutex<Place<NumberedCpu<Q>, N>>>, AllocError>
+    requires few { length queues.items ≤ 64 }
+    requires empty { All (λ q. (Q.members q ≡ []) × (Q.kept_mark q ≡ 2 ^ 32)) queues.items }
+    requires items { (rest : List ItemOf) × (all.old ≡ cpu_items 0 (length queues.items) ++ rest) }
+    ensures locks { IfOk result (λ v. vec_len v ≡ length queues.items) }
+    ensures rest { IfOk result (λ _. (rest : List ItemOf) → all.old ≡ cpu_items 0 (length queues.items) ++ rest → all.new ≡ rest) }
+{
+    let mut locks = Vec::with_capacity(alloc, queues.len())?;
+    let mut number: u8 = 0;
+    for queue in queues {
+        let content = NumberedCpu {
+            number,
+            state: Cpu::over(queue),
+            scratch: Scratch::new(),
+        };
+        locks.push(Mutex::new(Locked::open(history, all, content)))?;
+        number += 1;
+    }
+    Ok(locks)
+}
+
+/// A lock for each inbox.
+fn inbox_locks<Q: RunQueue + Drop, N: Naming>(
+    alloc: Global,
+    history: &Shared<Q, N>,
+    all: &mut Holder<Item<Record, Part, Kept>, N>,
+    count: u8,
+) -> Result<Vec<Mutex<Place<NumberedInbox, N>>>, AllocError>
+    requires { (rest : List ItemOf) × (all.old ≡ inbox_items 0 count ++ rest) }
+    ensures locks { IfOk result (λ v. vec_len v ≡ count) }
+    ensures rest { IfOk result (λ _. (rest : List ItemOf) → all.old ≡ inbox_items 0 count ++ rest → all.new ≡ rest) }
+{
+    let mut locks = Vec::with_capacity(alloc, usize::from(count))?;
+    for number in 0..count {
+        let content = NumberedInbox {
+            number,
+            state: Inbox::new(),
+        };
+        locks.push(Mutex::new(Locked::open(history, all, content)))?;
+    }
+    Ok(locks)
+}

@@ -1,0 +1,12 @@
+pub mod BodyLemmas
+pub mod LineLemmas
+pub mod ShapeLemmas
+pub mod MarkLemmas
+pub mod OneHead
+pub mod NoFault
+pub mod ReadBack
+pub mod ListedLines
+pub mod NoteLemmas
+pub mod NotedLemmas
+pub mod PaddingLemmas
+pub mod Law

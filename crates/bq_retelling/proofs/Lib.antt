@@ -1,0 +1,2 @@
+pub mod RetellingLemmas
+pub mod TextLemmas

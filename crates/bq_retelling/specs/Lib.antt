@@ -1,0 +1,2 @@
+pub mod Retelling
+pub mod Texts

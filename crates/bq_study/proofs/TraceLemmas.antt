@@ -1,0 +1,43 @@
+-- A simulation that is told as a text.
+use Rattle.std.proofs.Common.{◌≡◌, [], ◌∷◌, ◌++◌, sym, ap, ◌∙◌, subst, string_bytes}
+use Rattle.std.proofs.lemmas.Grind.{flat_map-append}
+use Rattle.bq_actions.specs.declared.workload.Workload.{Workload}
+use Rattle.bq_retelling.specs.Retelling.{Answers}
+use Rattle.bq_retelling.specs.Texts.{AreFitting, ByHook, image_at, told_lines}
+use Rattle.bq_retelling.specs.declared.trace_text.TraceText.{TraceText}
+use Rattle.bq_retelling.proofs.RetellingLemmas.{AreFitting-parts, texts_are_replayed}
+use Rattle.bq_retelling.proofs.TextLemmas.{Takes, writes_all}
+use Rattle.bq_simulate.specs.Chronicles.{events_of}
+use Rattle.bq_simulate.specs.Simulations.{IsSimulation}
+use Rattle.bq_trace.specs.Feeding.{with_feeds}
+use Rattle.bq_trace.specs.News.{Gets, Told, texts}
+use Rattle.bq_study.specs.Traces.{AreNames, IsTrace, TracesAreReplayed}
+use Rattle.bq_study.proofs.NameLemmas.{lines_named}
+
+-- names, and then a simulation, are written as a trace
+pub trace_written : (none named whole : TraceText) (w : Workload) (images : ByHook) → string_bytes none.text ≡ [] → image_at none.images ≡ images
+    → Gets Takes none named AreNames → Gets Takes named whole (IsSimulation w) → IsTrace w images (string_bytes whole.text)
+trace_written none named whole w images empty same g h =
+    let first = writes_all none named g.told g.taken in
+    let then = writes_all named whole h.told h.taken in
+    let names : string_bytes named.text ≡ with_feeds g.holds.lines =
+    first.1.text ∙ ap (λ l. l ++ with_feeds (told_lines (image_at none.images) g.told)) empty ∙ ap with_feeds (lines_named (image_at none.images) g.told g.holds) in
+    let as_images : image_at named.images ≡ images = ap image_at first.0 ∙ same in
+    record {
+      names = g.holds.lines;
+      told = h.told;
+      named = g.holds.named;
+      simulation = h.holds;
+      fits = then.1.fits;
+      whole = then.1.text ∙ ap (λ l. l ++ with_feeds (told_lines (image_at named.images) h.told)) names
+          ∙ sym (flat_map-append (λ line. line ++ 10 ∷ []) g.holds.lines (told_lines (image_at named.images) h.told))
+          ∙ ap (λ (at : ByHook). with_feeds (g.holds.lines ++ told_lines at h.told)) as_images;
+    }
+
+pub traces_are_replayed : TracesAreReplayed
+traces_are_replayed w images text t names from =
+    let s = t.simulation in
+    let fits = (AreFitting-parts s.first s.more (subst AreFitting s.whole t.fits)).1 in
+    let answers = texts_are_replayed images t.names w.machine.rule w.machine.size s.opening s.closing (events_of s.deeds) s.first s.more names s.starts s.drives from fits in
+    subst (λ x. Answers x (texts t.told) s.closing) (sym t.whole)
+    (subst (λ (told : Told). Answers (with_feeds (t.names ++ told_lines images told)) (texts told) s.closing) (sym s.whole) answers)
