@@ -9,7 +9,7 @@ use Rattle.arrayvec.proofs.array_vec.ArrayVec.TheSendSync as list
 use Rattle.bq_disc.proofs.node.Node.TheLaws.TheKnot as knot
 use Rattle.bq_disc.specs.declared.queue.RunQueue as Queue
 use Rattle.bq_disc.specs.declared.rule.Rule as Rule
-use Rattle.bq_maps.proofs.board.Call.TheSendSync as call
+use Rattle.bq_bpf.proofs.board.Call.TheSendSync as call
 use Rattle.bq_hooks.proofs.loads.Loads.TheSendSync as loads
 use Rattle.bq_policies.proofs.hooks.Hooks.TheSendSync as hooks
 use Rattle.bq_policies.proofs.scratch.Scratch.TheSendSync as scratch

@@ -1,9 +1,9 @@
 -- What words ask for.
 use Rattle.std.specs.Prelude.{◌≡◌, ℕ, List, Option, Some, option_map, option_and_then, codes}
 use Rattle.clap.specs.Words.{Row, Text, first_of, subcommand_of}
-use Rattle.bq_verify.specs.declared.hook.Version.{Version}
-use Rattle.bq_verify.specs.declared.hook.Version.TheVariants.{First, Second}
-use Rattle.bq_verify.specs.Names.{hook_word}
+use Rattle.bq_bpf.specs.declared.hook.Version.{Version}
+use Rattle.bq_bpf.specs.declared.hook.Version.TheVariants.{First, Second}
+use Rattle.bq_bpf.specs.Hooks.{hook_word}
 use Rattle.bq_program.specs.Forms.{maps_text}
 use Rattle.bq_program.specs.declared.options.Options.{Options}
 use Rattle.bq_sizes.specs.Sizes.{rule_of, size_numbered}

@@ -3,10 +3,10 @@ ghost use Rattle.std.specs.Prelude.{◌≡◌, ℕ, List, Option, IfOk, IfErr, o
 ghost use Rattle.std.specs.Borrow.{Bor};
 ghost use Rattle.std.specs.String.{string_bytes};
 ghost use Rattle.clap.specs.Words.{first_of, found_of, rows_of};
-ghost use Rattle.bq_verify.specs.Names.{hook_word};
+ghost use Rattle.bq_bpf.specs.Hooks.{hook_word};
 ghost use Rattle.bq_program.specs.declared.options.Options.{Options as Given};
-ghost use Rattle.bq_verify.specs.declared.hook.Hook.{Hook as Place};
-ghost use Rattle.bq_verify.specs.declared.hook.Version.{Version as Number};
+ghost use Rattle.bq_bpf.specs.declared.hook.Hook.{Hook as Place};
+ghost use Rattle.bq_bpf.specs.declared.hook.Version.{Version as Number};
 ghost use Rattle.bq_cli.specs.Jobs.{AreOptions, version_word};
 
 use crate::asked::JobFault;

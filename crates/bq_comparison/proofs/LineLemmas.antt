@@ -1,7 +1,6 @@
 -- Lines, one more at the end.
-use Rattle.std.proofs.Common.{◌≡◌, ℕ, suc, zero, ◌+◌, List, [], ◌∷◌, ◌++◌, Option, length, refl, ap, sym, ◌∙◌, subst, inl, inr, arith}
+use Rattle.std.proofs.Common.{◌≡◌, ℕ, suc, zero, ◌+◌, List, [], ◌∷◌, ◌++◌, Option, length, refl, ap, sym, ◌∙◌, subst, inl, inr, arith, Global}
 use Rattle.std.specs.declared.vec.Vec.{Vec}
-use Rattle.std.proofs.Common.{Global}
 use Rattle.std.proofs.lemmas.Grind.{common_steps}
 use Rattle.bq_figures.specs.declared.summing.Row.{Row}
 use Rattle.bq_comparison.specs.declared.line.Line.{Line}

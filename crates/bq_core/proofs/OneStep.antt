@@ -5,13 +5,13 @@ use Rattle.bq_disc.specs.Tasks.{Task}
 use Rattle.bq_disc.specs.Discipline.{Discipline}
 use Rattle.bq_disc.specs.Movable.{movable_to}
 use Rattle.bq_disc.specs.OneProcessor.{own_preempt}
-use Rattle.bq_maps.specs.declared.board.Call.{Call as Asked}
-use Rattle.bq_maps.specs.Machine.{start}
+use Rattle.bq_bpf.specs.declared.board.Call.{Call as Asked}
+use Rattle.bq_bpf.specs.Runs.{start}
 use Rattle.bq_interp.specs.Laws.{AnswerAlike}
 use Rattle.bq_interp.specs.Chains.{setting_of}
 use Rattle.bq_interp.proofs.OneRunLemmas.{one_run}
-use Rattle.bq_verify.specs.declared.hook.Version.{Version}
-use Rattle.bq_verify.specs.declared.hook.Version.TheVariants.{First, Second}
+use Rattle.bq_bpf.specs.declared.hook.Version.{Version}
+use Rattle.bq_bpf.specs.declared.hook.Version.TheVariants.{First, Second}
 use Rattle.bq_verify.specs.Accepted.{Accepted}
 use Rattle.bq_policies.specs.Programs.{Program}
 use Rattle.bq_hooks.specs.Contexts.{PlaceFacts, PreemptFacts, PullFacts, preempt_bytes, pull_bytes, as_number, or_nobody}

@@ -5,7 +5,7 @@ use Rattle.std.proofs.lemmas.Bool.Decides.{nat_tests}
 use Rattle.std.proofs.lemmas.List.{set-get_or}
 use Rattle.bq_disc.specs.Tasks.{Task}
 use Rattle.bq_disc.specs.Discipline.{Discipline}
-use Rattle.bq_maps.specs.declared.board.Call.{Call as Asked}
+use Rattle.bq_bpf.specs.declared.board.Call.{Call as Asked}
 use Rattle.bq_parts.specs.declared.event.Event.TheVariants.{Admit, Retire, Install, BeginWake, EndWake, Drain, Tick, Block, Pull}
 use Rattle.bq_parts.specs.declared.reply.Reply.{Reply}
 use Rattle.bq_parts.specs.declared.reply.Reply.TheVariants.{Placed}
@@ -21,7 +21,7 @@ use Rattle.bq_parts.specs.Choices.{policies}
 use Rattle.bq_parts.specs.Moves.{admitted}
 use Rattle.bq_parts.specs.Steps.{WorldStep}
 use Rattle.bq_parts.specs.Shares.{Admits, Retires, Ticks, Drains, Blocks, Begins, Places, Installs, Pulls}
-use Rattle.bq_verify.specs.declared.hook.Hook.{Hook}
+use Rattle.bq_bpf.specs.declared.hook.Hook.{Hook}
 use Rattle.bq_verify.specs.Accepted.{Accepted}
 use Rattle.bq_policies.specs.Answers.{fresh_maps}
 use Rattle.bq_core.proofs.Steps.{within, still_runs, block_idle}

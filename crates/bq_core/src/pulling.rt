@@ -1,7 +1,7 @@
 //! The event by which work spreads: a processor takes a task from the queue of another.
 ghost use Rattle.std.specs.Prelude.{◌≡◌, ◌≢◌, ◌≤◌, ◌<◌, ◌++◌, [], length, slice_index_or, slice_set};
 ghost use Rattle.bq_disc.specs.OneProcessor.{present_at};
-ghost use Rattle.bq_maps.specs.Counters.{Through};
+ghost use Rattle.bq_bpf.specs.Counters.{Through};
 ghost use Rattle.bq_parts.specs.Processors.{Processor, opening, HasEachOnce, HasSeatedIds};
 ghost use Rattle.bq_parts.specs.World.{count_in};
 ghost use Rattle.bq_parts.specs.Choices.{policies};
@@ -12,7 +12,7 @@ ghost use Rattle.bq_parts.specs.StandsOnce.{IsOrderly};
 use crate::parts::Parts;
 use crate::{Cpu, Event, Refusal, Reply, Scratch};
 use bq_disc::RunQueue;
-use bq_maps::Board;
+use bq_bpf::Board;
 
 impl<Q: RunQueue, const P: usize> Parts<Q, P> {
     /// A processor takes a task from the queue of another: the one that its policy names, or that of the discipline, where

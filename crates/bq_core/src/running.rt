@@ -1,7 +1,7 @@
 //! The events of one processor: its clock ticks, placed tasks enter, and the running task goes to sleep.
 ghost use Rattle.std.specs.Prelude.{◌≡◌, ◌<◌, []};
 ghost use Rattle.bq_parts.specs.World.{count_in};
-ghost use Rattle.bq_maps.specs.Counters.{Through};
+ghost use Rattle.bq_bpf.specs.Counters.{Through};
 ghost use Rattle.bq_parts.specs.Choices.{policies};
 ghost use Rattle.bq_parts.specs.Steps.{WorldStep};
 ghost use Rattle.bq_parts.specs.StandsOnce.{IsOrderly};
@@ -9,7 +9,7 @@ ghost use Rattle.bq_parts.specs.StandsOnce.{IsOrderly};
 use crate::parts::Parts;
 use crate::{Event, Refusal, Reply, Scratch};
 use bq_disc::RunQueue;
-use bq_maps::Board;
+use bq_bpf::Board;
 
 impl<Q: RunQueue, const P: usize> Parts<Q, P> {
     /// The clock of a processor ticks.

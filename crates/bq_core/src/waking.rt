@@ -2,7 +2,7 @@
 ghost use Rattle.std.specs.Prelude.{◌≡◌, ◌<◌, ◌≤◌, ◌^◌, ℕ, [], length, slice_index_or};
 ghost use Rattle.bq_parts.specs.Processors.{opening, load_of};
 ghost use Rattle.bq_parts.specs.World.{count_in, loads_of};
-ghost use Rattle.bq_maps.specs.Counters.{Through};
+ghost use Rattle.bq_bpf.specs.Counters.{Through};
 ghost use Rattle.bq_parts.specs.Choices.{policies};
 ghost use Rattle.bq_parts.specs.Steps.{WorldStep};
 ghost use Rattle.bq_parts.specs.StandsOnce.{IsOrderly};
@@ -10,7 +10,7 @@ ghost use Rattle.bq_parts.specs.StandsOnce.{IsOrderly};
 use crate::parts::Parts;
 use crate::{Cpu, Event, Inbox, Loads, Placement, Refusal, Reply, Scratch};
 use bq_disc::RunQueue;
-use bq_maps::Board;
+use bq_bpf::Board;
 
 impl<Q: RunQueue, const P: usize> Parts<Q, P> {
     /// A sleeping task comes into the hand of a processor, with the loads of that moment.

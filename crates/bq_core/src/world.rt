@@ -3,8 +3,8 @@ ghost use Rattle.std.specs.Prelude.{◌≡◌, ◌+◌, ◌≤◌, ◌<◌, List
 ghost use Rattle.bq_parts.specs.World.{opening_world, processor, count_in};
 ghost use Rattle.bq_parts.specs.Choices.{policies};
 ghost use Rattle.bq_parts.specs.Steps.{WorldStep, WorldRun, ThroughAll};
-ghost use Rattle.bq_maps.specs.Counters.{Through};
-ghost use Rattle.bq_maps.specs.declared.board.Call.{Call as Asked};
+ghost use Rattle.bq_bpf.specs.Counters.{Through};
+ghost use Rattle.bq_bpf.specs.declared.board.Call.{Call as Asked};
 ghost use Rattle.bq_parts.specs.StandsOnce.{IsOrderly};
 ghost use Rattle.bq_parts.specs.declared.refusal.Refusal.TheVariants as no;
 ghost use Rattle.bq_core.specs.Laws.{StaysOrderly};
@@ -12,7 +12,7 @@ ghost use Rattle.bq_core.specs.Laws.{StaysOrderly};
 use crate::parts::Parts;
 use crate::{Cpu, Event, Inbox, Lobby, Refusal, Reply, Scratch, argument_refusal};
 use bq_disc::RunQueue;
-use bq_maps::Board;
+use bq_bpf::Board;
 use std::alloc::{AllocError, Global};
 use std::marker::Model;
 

@@ -4,9 +4,9 @@ use Rattle.std.specs.Prelude.{codes}
 use Rattle.bq_graph.specs.declared.cause.Cause.{Cause}
 use Rattle.bq_insn.specs.Slots.{spread}
 use Rattle.bq_insn.specs.declared.Insn.{Insn}
-use Rattle.bq_maps.specs.Machine.{instruction_at}
-use Rattle.bq_maps.specs.Memory.{Setting, State}
-use Rattle.bq_verify.specs.Accepted.{context_length_of}
+use Rattle.bq_bpf.specs.Steps.{instruction_at}
+use Rattle.bq_bpf.specs.Memory.{Setting, State}
+use Rattle.bq_bpf.specs.Hooks.{context_length_of}
 use Rattle.bq_verify.specs.KnownAt.{CoversRuns}
 use Rattle.bq_views.specs.Views.{Covers}
 use Rattle.bq_views.specs.declared.view.View.{View}

@@ -4,7 +4,7 @@ use Rattle.bq_graph.proofs.SpreadLemmas.{spread_more}
 use Rattle.bq_insn.specs.declared.Insn.TheVariants.{Imm64, MapRef}
 use Rattle.bq_insn.specs.declared.Insn.{Insn}
 use Rattle.bq_insn.specs.Slots.{slots_of, spread}
-use Rattle.bq_maps.specs.Machine.{instruction_at}
+use Rattle.bq_bpf.specs.Steps.{instruction_at}
 
 -- behind the same front two lists differ as without it
 shifted : (front a b : List (Option Insn)) → instruction_at (front ++ a) (length (front ++ b)) ≡ instruction_at a (length b)

@@ -1,7 +1,7 @@
 -- What is printed of a view holds of each state that it covers.
 use Rattle.std.proofs.Common.{◌≡◌, ℕ, suc, zero, Bool, true, false, List, ◌++◌, Option, Some, None, slice_index_or, append-nil, sym, subst, inl, inr}
 use Rattle.std.specs.Prelude.{codes}
-use Rattle.bq_maps.specs.Memory.{Setting, State}
+use Rattle.bq_bpf.specs.Memory.{Setting, State}
 use Rattle.bq_views.specs.Views.{Covers, Holds, Keeps}
 use Rattle.bq_views.specs.declared.view.Known.{Known}
 use Rattle.bq_views.specs.declared.view.View.{View}

@@ -3,11 +3,12 @@ use Rattle.std.specs.Prelude.{◌≡◌, ℕ, List, ◌++◌, Some, IfSome, code
 use Rattle.bq_insn.specs.declared.Insn.{Insn}
 use Rattle.bq_insn.specs.Slots.{spread}
 use Rattle.bq_graph.specs.declared.cause.Cause.{Cause}
-use Rattle.bq_maps.specs.Arrays.{HaveShapes}
-use Rattle.bq_maps.specs.Machine.{Chain, IsSetting, instruction_at, start}
-use Rattle.bq_maps.specs.Memory.{Setting, State}
-use Rattle.bq_maps.specs.declared.board.Call.{Call as Asked}
-use Rattle.bq_verify.specs.Accepted.{context_length_of}
+use Rattle.bq_bpf.specs.Memory.{HaveShapes, Setting, State}
+use Rattle.bq_bpf.specs.Runs.{Chain, start}
+use Rattle.bq_bpf.specs.Safe.{IsSetting}
+use Rattle.bq_bpf.specs.Steps.{instruction_at}
+use Rattle.bq_bpf.specs.declared.board.Call.{Call as Asked}
+use Rattle.bq_bpf.specs.Hooks.{context_length_of}
 use Rattle.bq_verify.specs.KnownAt.{CoversRuns}
 use Rattle.bq_views.specs.declared.view.View.{View}
 use Rattle.bq_policy_files.specs.declared.policy.Policy.{Policy}

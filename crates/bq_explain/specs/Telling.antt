@@ -2,7 +2,7 @@
 use Rattle.std.specs.Prelude.{◌≡◌, ℕ, ◌+◌, ◌-◌, ◌*◌, ◌<◌, ◌≤◌, ◌⊎◌, List, [], ◌++◌, Some, codes}
 use Rattle.std.specs.Int.{byte_at}
 use Rattle.std.specs.Fmt.{decimal}
-use Rattle.bq_maps.specs.Memory.{Setting, State}
+use Rattle.bq_bpf.specs.Memory.{Setting, State}
 use Rattle.bq_explain.specs.Texts.{run_text}
 use Rattle.bq_needs.specs.Saying.{Says}
 

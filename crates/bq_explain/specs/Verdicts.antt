@@ -5,13 +5,12 @@ use Rattle.bq_insn.specs.declared.Insn.{Insn}
 use Rattle.bq_insn.specs.declared.Insn.TheVariants.{Call}
 use Rattle.bq_insn.specs.Slots.{spread}
 use Rattle.bq_graph.specs.Paths.{IsGreatest, PathOut}
-use Rattle.bq_maps.specs.Machine.{Safe}
+use Rattle.bq_bpf.specs.Safe.{Safe}
 use Rattle.bq_load.specs.declared.fault.LoadFault.TheVariants as load
 use Rattle.bq_load.specs.Naming.{fault_text}
-use Rattle.bq_verify.specs.Names.{hook_word}
-use Rattle.bq_verify.specs.Accepted.{context_length_of}
+use Rattle.bq_bpf.specs.Hooks.{hook_word, context_length_of}
 use Rattle.bq_verify.specs.Refusals.{IsRefusal}
-use Rattle.bq_verify.specs.declared.hook.Hook.{Hook}
+use Rattle.bq_bpf.specs.declared.hook.Hook.{Hook}
 use Rattle.bq_verify.specs.declared.refused.Refused.TheVariants as refused
 use Rattle.bq_policy_files.specs.declared.policy.Policy.{Policy}
 use Rattle.bq_explain.specs.declared.limits.Limits.{Limits}

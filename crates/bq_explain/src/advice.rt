@@ -2,7 +2,8 @@
 use bq_insn::Insn;
 use bq_needs::reads;
 use bq_policy_files::Policy;
-use bq_verify::{Cause, Hook, Version};
+use bq_verify::Cause;
+use bq_bpf::{Hook, Version};
 use bq_views::registers::known;
 use bq_views::view::{Kind, View};
 

@@ -2,9 +2,9 @@
 ghost use Rattle.std.specs.Prelude.{◌≡◌, ◌≤◌, IfOk, None, Some, false, true, length};
 ghost use Rattle.bq_insn.specs.Spelling.{is_well_formed};
 ghost use Rattle.bq_insn.specs.Slots.{spread};
-ghost use Rattle.bq_verify.specs.Accepted.{context_length_of};
+ghost use Rattle.bq_bpf.specs.Hooks.{context_length_of};
 ghost use Rattle.bq_verify.specs.KnownAt.{CoversRuns};
-ghost use Rattle.bq_maps.specs.Machine.{instruction_at};
+ghost use Rattle.bq_bpf.specs.Steps.{instruction_at};
 ghost use Rattle.bq_explain.specs.Explained.{Explains, HasKnown, HasNeed};
 
 use crate::advice::{graph_advice, state_advice};

@@ -2,7 +2,7 @@
 ghost use Rattle.std.specs.Prelude.{◌≡◌, IfSome, Some, slice_get};
 ghost use Rattle.bq_insn.specs.Slots.{spread};
 ghost use Rattle.bq_insn.specs.declared.Insn.{Insn as Told};
-ghost use Rattle.bq_maps.specs.Machine.{instruction_at};
+ghost use Rattle.bq_bpf.specs.Steps.{instruction_at};
 
 use bq_asm::listing;
 use bq_insn::Insn;

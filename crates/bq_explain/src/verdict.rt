@@ -7,7 +7,8 @@ use crate::limits::Limits;
 use bq_load::LoadFault;
 use bq_policy_files::Policy;
 use bq_program::fault_text;
-use bq_verify::{Cause, Hook, Program, Refused, verify};
+use bq_verify::{Cause, Program, Refused, verify};
+use bq_bpf::Hook;
 use std::alloc::{AllocError, Global};
 
 /// The answer to a policy under limits.

@@ -1,6 +1,6 @@
 //! What is known of registers and stack at a slot, as lines of text.
 ghost use Rattle.std.specs.Prelude.{◌≡◌, ◌<◌, ◌≤◌, ◌++◌, ℕ, List, true, false, slice_index_or, IfOk, string_bytes};
-ghost use Rattle.bq_maps.specs.Memory.{Setting, State};
+ghost use Rattle.bq_bpf.specs.Memory.{Setting, State};
 ghost use Rattle.bq_views.specs.Views.{Covers};
 ghost use Rattle.bq_explain.specs.Telling.{TellsState};
 ghost use Rattle.bq_needs.specs.Accesses.{AreSet};

@@ -4,7 +4,7 @@ use Rattle.std.specs.Prelude.{slice_index_or, slice_set, IfSome, if◌then◌els
 use Rattle.std.proofs.lemmas.Bool.{cases_lt}
 use Rattle.std.proofs.lemmas.Bool.Decides.{eqb_tells}
 use Rattle.bq_insn.specs.declared.Insn.{Insn}
-use Rattle.bq_maps.specs.Machine.{instruction_at}
+use Rattle.bq_bpf.specs.Steps.{instruction_at}
 use Rattle.bq_graph.specs.Edges.{IsEdge}
 use Rattle.bq_graph.specs.Paths.{IsPath, end_of, CallsOnWay, asks_counter, calls_of, calls_before_end, IsMost}
 use Rattle.bq_graph.specs.Passes.{IsSound, IsOf, LeadsOut, Raises, Counted}

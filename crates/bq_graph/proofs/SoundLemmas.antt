@@ -4,7 +4,7 @@ use Rattle.std.proofs.lemmas.Bool.{cases_lt}
 use Rattle.bq_insn.specs.declared.Insn.{Insn}
 use Rattle.bq_insn.specs.declared.Insn.TheVariants.{Imm64, MapRef}
 use Rattle.bq_insn.specs.Slots.{slots_of}
-use Rattle.bq_maps.specs.Machine.{LeadsTo, instruction_at}
+use Rattle.bq_bpf.specs.Steps.{LeadsTo, instruction_at}
 use Rattle.bq_graph.specs.Edges.{IsStart, IsWhole, Leaves, distance_of, goes_on}
 use Rattle.bq_graph.specs.Paths.{IsGreatest, CallsOnWay, asks_counter}
 use Rattle.bq_graph.specs.Faults.{IsBadJump, RunsOut, IsLateCall}

@@ -4,7 +4,7 @@ use Rattle.std.proofs.lemmas.List.{append-nil, take_more}
 use Rattle.bq_insn.specs.declared.Insn.{Insn}
 use Rattle.bq_insn.specs.declared.Insn.TheVariants.{Imm64, MapRef}
 use Rattle.bq_insn.specs.Slots.{slots_of, spread}
-use Rattle.bq_maps.specs.Machine.{instruction_at}
+use Rattle.bq_bpf.specs.Steps.{instruction_at}
 use Rattle.bq_graph.specs.Edges.{IsStart, IsWhole}
 use Rattle.bq_graph.proofs.EdgeLemmas.{some_same, some_none}
 

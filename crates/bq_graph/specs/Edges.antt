@@ -3,7 +3,7 @@ use Rattle.std.specs.Prelude.{Bool, true, false, ◌≡◌, ℕ, ◌+◌, ◌<�
 use Rattle.bq_insn.specs.declared.Insn.{Insn}
 use Rattle.bq_insn.specs.declared.Insn.TheVariants.{Goto, Goto32, Branch, Exit}
 use Rattle.bq_insn.specs.Slots.{slots_of}
-use Rattle.bq_maps.specs.Machine.{LeadsTo, instruction_at}
+use Rattle.bq_bpf.specs.Steps.{LeadsTo, instruction_at}
 
 -- how far a jump goes
 abbrev pub distance_of : Insn → Option ℤ

@@ -2,7 +2,7 @@
 use Rattle.std.specs.Prelude.{◌≡◌, ℕ, ◌+◌, ◌<◌, ◌≤◌, List, Option, Some, None, slice_index, slice_index_or, ◌⊎◌}
 use Rattle.bq_insn.specs.declared.Insn.{Insn}
 use Rattle.bq_insn.specs.declared.Insn.TheVariants.{Exit}
-use Rattle.bq_maps.specs.Machine.{instruction_at}
+use Rattle.bq_bpf.specs.Steps.{instruction_at}
 use Rattle.bq_graph.specs.Edges.{IsEdge, IsStart, IsForward}
 use Rattle.bq_graph.specs.Paths.{PathOut, CallsOnWay, IsGreatest, calls_of}
 use Rattle.bq_graph.specs.Faults.{IsBadJump}

@@ -1,6 +1,6 @@
 //! The checks of the control graph and of single instructions, one after the other.
 ghost use Rattle.std.specs.Prelude.{◌≡◌, ◌<◌, ◌≤◌, ℕ, length, IsTrue, ◌↔◌, OnOk, IfErr, Some, None, slice_index_or};
-ghost use Rattle.bq_maps.specs.Machine.{instruction_at};
+ghost use Rattle.bq_bpf.specs.Steps.{instruction_at};
 ghost use Rattle.bq_graph.specs.Edges.{IsWhole};
 ghost use Rattle.bq_graph.specs.Paths.{IsMost};
 ghost use Rattle.bq_graph.specs.Faults.{HasFault, IsLateCall, IsLeast, IsFirstFault, IsFaultless, IsOnWay, IsUnreached};

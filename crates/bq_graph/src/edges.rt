@@ -1,7 +1,7 @@
 //! Where control may go from a slot.
 ghost use Rattle.std.specs.Prelude.{◌≡◌, ◌<◌, ◌≤◌, ◌+◌, ℕ, length, IfSome, IfNone, IsTrue, ◌↔◌, Some};
 ghost use Rattle.bq_insn.specs.Slots.{slots_of};
-ghost use Rattle.bq_maps.specs.Machine.{LeadsTo, instruction_at};
+ghost use Rattle.bq_bpf.specs.Steps.{LeadsTo, instruction_at};
 ghost use Rattle.bq_graph.specs.Edges.{distance_of, goes_on, IsStart};
 
 use bq_insn::Insn;

@@ -4,9 +4,10 @@ use Rattle.std.specs.Prelude.{◌&&◌, nat_le, nat_lt}
 use Rattle.bq_insn.specs.declared.Insn.{Insn}
 use Rattle.bq_insn.specs.declared.Insn.TheVariants.{Alu, MovSx, Neg, End, Load, StoreImm, StoreReg, Imm64, MapRef, Goto, Goto32, Branch, Call, Exit}
 use Rattle.bq_insn.specs.Slots.{slots_of}
-use Rattle.bq_maps.specs.declared.board.Call.{Call as Asked}
-use Rattle.bq_maps.specs.Memory.{Setting, State, reference}
-use Rattle.bq_maps.specs.Machine.{Takes, Step, Ends, LeadsTo, put, IsTarget}
+use Rattle.bq_bpf.specs.declared.board.Call.{Call as Asked}
+use Rattle.bq_bpf.specs.Memory.{Setting, State, reference}
+use Rattle.bq_bpf.specs.Steps.{Takes, Step, LeadsTo, put, IsTarget}
+use Rattle.bq_bpf.specs.Runs.{Ends}
 use Rattle.bq_graph.specs.Edges.{distance_of, goes_on}
 use Rattle.bq_graph.proofs.EdgeLemmas.{some_same, leads_same}
 use Rattle.bq_import.specs.Laws.{beside}

@@ -4,7 +4,7 @@ use Rattle.std.specs.Prelude.{slice_index}
 use Rattle.bq_insn.specs.declared.Insn.{Insn}
 use Rattle.bq_insn.specs.declared.Insn.TheVariants.{Alu, MovSx, Neg, End, Load, StoreImm, StoreReg, Imm64, MapRef, Goto, Goto32, Branch, Call, Exit}
 use Rattle.bq_insn.specs.Slots.{slots_of}
-use Rattle.bq_maps.specs.Machine.{LeadsTo}
+use Rattle.bq_bpf.specs.Steps.{LeadsTo}
 use Rattle.bq_graph.specs.Edges.{IsEdge, IsStart, distance_of, goes_on}
 use Rattle.bq_graph.specs.Paths.{IsPath, PathOut, end_of}
 use Rattle.bq_graph.specs.Faults.{IsBadJump, RunsOut}

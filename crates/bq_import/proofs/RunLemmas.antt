@@ -1,10 +1,12 @@
 -- A copy has the same runs, and is safe within the same budgets.
 use Rattle.std.proofs.Common.{◌≡◌, ℕ, zero, suc, List, Option, Some, None, length, refl, sym, ap, ◌∙◌, subst, ◌⊎◌, inl, inr}
 use Rattle.bq_insn.specs.declared.Insn.{Insn}
-use Rattle.bq_maps.specs.declared.shape.MapShape.{MapShape}
-use Rattle.bq_maps.specs.declared.board.Call.{Call as Asked}
-use Rattle.bq_maps.specs.Memory.{Setting, State}
-use Rattle.bq_maps.specs.Machine.{Step, Ends, Chain, RunFrom, GoesOn, GoesWell, IsSetting, start}
+use Rattle.bq_bpf.specs.declared.shape.MapShape.{MapShape}
+use Rattle.bq_bpf.specs.declared.board.Call.{Call as Asked}
+use Rattle.bq_bpf.specs.Memory.{Setting, State}
+use Rattle.bq_bpf.specs.Steps.{Step}
+use Rattle.bq_bpf.specs.Runs.{Ends, Chain, RunFrom, start}
+use Rattle.bq_bpf.specs.Safe.{GoesOn, GoesWell, IsSetting}
 use Rattle.bq_import.specs.Copies.{Stands, IsCopy}
 use Rattle.bq_import.specs.Laws.{beside, SameRuns, SameSafety}
 use Rattle.bq_import.proofs.StepLemmas.{moved}

@@ -4,11 +4,11 @@ use Rattle.std.proofs.Common.{◌≡◌, ℕ, ◌+◌, List, Option, Some, None,
 use Rattle.bq_insn.specs.declared.Insn.{Insn}
 use Rattle.bq_insn.specs.declared.Insn.TheVariants.{Alu, MovSx, Neg, End, Load, StoreImm, StoreReg, Imm64, MapRef, Goto, Goto32, Branch, Call, Exit}
 use Rattle.bq_insn.specs.Slots.{slots_of}
-use Rattle.bq_maps.specs.declared.shape.MapShape.{MapShape}
-use Rattle.bq_maps.specs.declared.board.Call.{Call as Asked}
-use Rattle.bq_maps.specs.declared.board.Call.TheVariants.{Add, Read}
-use Rattle.bq_maps.specs.Memory.{Setting, State, Region, InContext, InStack, InEntry, IsGood, Reads, Writes, written}
-use Rattle.bq_maps.specs.Machine.{Does, Helps, NamesEntry, Takes}
+use Rattle.bq_bpf.specs.declared.shape.MapShape.{MapShape}
+use Rattle.bq_bpf.specs.declared.board.Call.{Call as Asked}
+use Rattle.bq_bpf.specs.declared.board.Call.TheVariants.{Add, Read}
+use Rattle.bq_bpf.specs.Memory.{Setting, State, Region, InContext, InStack, InEntry, IsGood, Reads, Writes, written}
+use Rattle.bq_bpf.specs.Steps.{Does, Helps, NamesEntry, Takes}
 use Rattle.bq_graph.specs.Edges.{distance_of}
 use Rattle.bq_import.specs.Laws.{beside}
 

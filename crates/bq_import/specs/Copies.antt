@@ -4,8 +4,8 @@ use Rattle.std.specs.Prelude.{◌≡◌, ℕ, ◌+◌, ◌-◌, ◌<◌, ℤ, po
 use Rattle.bq_insn.specs.declared.Insn.{Insn}
 use Rattle.bq_insn.specs.declared.Insn.TheVariants.{Imm64, MapRef, Goto, Goto32, Branch}
 use Rattle.bq_insn.specs.Slots.{slots_of}
-use Rattle.bq_maps.specs.Memory.{reference}
-use Rattle.bq_maps.specs.Machine.{LeadsTo, instruction_at}
+use Rattle.bq_bpf.specs.Memory.{reference}
+use Rattle.bq_bpf.specs.Steps.{LeadsTo, instruction_at}
 use Rattle.bq_graph.specs.Edges.{distance_of, goes_on, IsStart}
 
 -- a number that is the reference of one of so many maps

@@ -1,7 +1,7 @@
 -- What keeps a program from being brought into order.
 use Rattle.std.specs.Prelude.{◌≡◌, ℕ, ℤ, List, Option, Some}
 use Rattle.bq_insn.specs.declared.Insn.{Insn}
-use Rattle.bq_maps.specs.Machine.{LeadsTo, instruction_at}
+use Rattle.bq_bpf.specs.Steps.{LeadsTo, instruction_at}
 use Rattle.bq_graph.specs.Edges.{distance_of, IsEdge, IsStart}
 use Rattle.bq_graph.specs.Paths.{Path}
 use Rattle.bq_graph.specs.Faults.{RunsOut}

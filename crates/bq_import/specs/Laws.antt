@@ -1,10 +1,11 @@
 -- Laws of copies: a copy has the same runs, is safe within the same budgets, and has the same longest path.
 use Rattle.std.specs.Prelude.{◌≡◌, ℕ, ◌↔◌, List, Option, length}
 use Rattle.bq_insn.specs.declared.Insn.{Insn}
-use Rattle.bq_maps.specs.declared.shape.MapShape.{MapShape}
-use Rattle.bq_maps.specs.declared.board.Call.{Call as Asked}
-use Rattle.bq_maps.specs.Memory.{Setting}
-use Rattle.bq_maps.specs.Machine.{RunFrom, Safe, start}
+use Rattle.bq_bpf.specs.declared.shape.MapShape.{MapShape}
+use Rattle.bq_bpf.specs.declared.board.Call.{Call as Asked}
+use Rattle.bq_bpf.specs.Memory.{Setting}
+use Rattle.bq_bpf.specs.Runs.{RunFrom, start}
+use Rattle.bq_bpf.specs.Safe.{Safe}
 use Rattle.bq_graph.specs.Edges.{IsForward}
 use Rattle.bq_graph.specs.Paths.{IsGreatest, PathOut}
 use Rattle.bq_graph.specs.Faults.{IsBadJump, RunsOut}

@@ -1,7 +1,7 @@
 -- What the search keeps that puts each slot in front once all slots are in place to which control may go from it.
 use Rattle.std.specs.Prelude.{◌≡◌, ℕ, ◌+◌, ◌*◌, ◌<◌, ◌≤◌, ◌⊎◌, Bool, true, false, ℤ, pos, List, length, Option, Some, None, slice_index, slice_index_or, sum_by}
 use Rattle.bq_insn.specs.declared.Insn.{Insn}
-use Rattle.bq_maps.specs.Machine.{LeadsTo, instruction_at}
+use Rattle.bq_bpf.specs.Steps.{LeadsTo, instruction_at}
 use Rattle.bq_insn.specs.Slots.{slots_of}
 use Rattle.bq_graph.specs.Edges.{distance_of, goes_on, IsEdge, IsStart}
 use Rattle.bq_graph.specs.Paths.{Path}

@@ -1,7 +1,7 @@
 //! Where control goes from each slot of a program, backwards too.
 ghost use Rattle.std.specs.Prelude.{◌≡◌, ◌<◌, ◌≤◌, ◌+◌, ℕ, ℤ, length, OnOk, IfErr, IfSome, IfNone, Some, None, if◌then◌else◌};
 ghost use Rattle.bq_insn.specs.Slots.{slots_of};
-ghost use Rattle.bq_maps.specs.Machine.{LeadsTo, instruction_at};
+ghost use Rattle.bq_bpf.specs.Steps.{LeadsTo, instruction_at};
 ghost use Rattle.bq_graph.specs.Edges.{distance_of, goes_on, IsStart, IsWhole};
 ghost use Rattle.bq_graph.specs.Faults.{RunsOut};
 ghost use Rattle.bq_import.specs.Backward.{AreGood};

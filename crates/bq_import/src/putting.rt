@@ -1,7 +1,7 @@
 //! Putting an instruction in front, once everything to which control may go from it is in place.
 ghost use Rattle.std.specs.Prelude.{◌≡◌, ◌<◌, ◌≤◌, ◌+◌, ℕ, List, Option, pos, length, OnOk, IfErr, IfSome, IfNone, Some, None};
 ghost use Rattle.bq_insn.specs.declared.Insn.{Insn};
-ghost use Rattle.bq_maps.specs.Machine.{instruction_at};
+ghost use Rattle.bq_bpf.specs.Steps.{instruction_at};
 ghost use Rattle.bq_graph.specs.Edges.{IsStart};
 ghost use Rattle.bq_import.specs.Copies.{Stands};
 ghost use Rattle.bq_import.specs.Backward.{AreGood, IsBuilt, IsFront, IsLengthened};

@@ -2,14 +2,13 @@
 use Rattle.std.proofs.Common.{◌≡◌, ◌*◌, ◌≤◌, true, refl, inl, inr, List, [], ◌∷◌, length, length-append, arith}
 use Rattle.std.specs.Prelude.{◌&&◌, nat_le}
 use Rattle.std.proofs.lemmas.Bool.Decides.{nat_tests}
-use Rattle.bq_insn.proofs.FaultLemmas.{has_length}
+use Rattle.bq_insn.proofs.FaultLemmas.{has_length, fault_parts, not_both}
 use Rattle.std.specs.List.{flat_map, list_all}
 use Rattle.bq_insn.specs.declared.Insn.{Insn}
 use Rattle.bq_insn.specs.declared.slot.Slot.{Slot}
 use Rattle.bq_insn.specs.Spelling.{slot_bytes, spelled, is_insn, insn_bytes, spelling, slot_count, is_well_formed}
 use Rattle.bq_insn.specs.Faults.{is_length, NoProgramIsRefused}
 use Rattle.bq_insn.proofs.FormLemmas.{both}
-use Rattle.bq_insn.proofs.FaultLemmas.{fault_parts, not_both}
 use Rattle.bq_insn.proofs.ApartLemmas.{no_program_is_faulty}
 
 -- slots have eight bytes each

@@ -1,6 +1,6 @@
 -- The numbers of instructions that are read fit their fields.
 use Rattle.std.proofs.Common.{ℕ, ◌+◌, ◌*◌, ◌^◌, ◌<◌, Bool, true, false, List, [], ◌∷◌, ◌++◌, arith}
-use Rattle.std.specs.Prelude.{◌==◌, Option, Some, None, if◌then◌else◌}
+use Rattle.std.specs.Prelude.{◌==◌, Option, Some, None, if◌then◌else◌, FitsSigned}
 use Rattle.std.specs.Int.{w16, w32}
 use Rattle.std.proofs.Math.Facts.{sfits_to_z, Fits-of_lt}
 use Rattle.bq_insn.specs.declared.Width.{Width}
@@ -14,7 +14,6 @@ use Rattle.bq_insn.specs.declared.form.Form.TheVariants as form
 use Rattle.bq_insn.specs.declared.slot.Slot.{Slot}
 use Rattle.bq_insn.specs.Reading.{signed16, signed32, bits_of, alu_of, insn_of, second_imm}
 use Rattle.bq_insn.specs.Laws.{Fits, AllFit}
-use Rattle.std.specs.Prelude.{FitsSigned}
 use Rattle.bq_insn.specs.Faults.{BeginsWith, IsSlot}
 
 -- the sign of a field of 32 bits keeps it in 32 bits

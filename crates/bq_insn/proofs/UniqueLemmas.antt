@@ -4,20 +4,17 @@ use Rattle.bq_insn.specs.declared.Operation.{Operation}
 use Rattle.bq_insn.specs.declared.Operation.TheVariants as op
 use Rattle.bq_insn.specs.declared.Bits.{Bits}
 use Rattle.bq_insn.specs.declared.Bits.TheVariants.{B8}
-use Rattle.std.proofs.Common.{◌≡◌, ℕ, length, ◌+◌, ◌*◌, ◌^◌, ◌<◌, ◌≤◌, true, refl, sym, ap, ◌∙◌, List, [], ◌∷◌, ◌++◌, ℤ, arith}
+use Rattle.std.proofs.Common.{◌≡◌, ℕ, length, ◌+◌, ◌*◌, ◌^◌, ◌<◌, ◌≤◌, true, refl, sym, ap, ◌∙◌, List, [], ◌∷◌, ◌++◌, ℤ, arith, drop}
 use Rattle.std.specs.Prelude.{Option, Some, None, FitsSigned}
-use Rattle.std.specs.List.{flat_map}
+use Rattle.std.specs.List.{flat_map, list_all}
 use Rattle.std.specs.Int.{w16, w32, to_le_bytes, from_le_bytes}
 use Rattle.std.proofs.lemmas.Nat.{from_le_bytes-to_le_bytes_2, from_le_bytes-to_le_bytes_4}
 use Rattle.bq_insn.specs.declared.Source.TheVariants.{Imm, Reg}
 use Rattle.bq_insn.specs.declared.Insn.{Insn}
 use Rattle.bq_insn.specs.declared.Insn.TheVariants as insn
 use Rattle.bq_insn.specs.declared.slot.Slot.{Slot}
-use Rattle.bq_insn.specs.Spelling.{slot_bytes, spelled, is_insn, insn_bytes, word16, word32, variant_of, bits_number}
-use Rattle.std.proofs.Common.{drop}
-use Rattle.std.specs.List.{list_all}
+use Rattle.bq_insn.specs.Spelling.{slot_bytes, spelled, is_insn, insn_bytes, word16, word32, variant_of, bits_number, spelling}
 use Rattle.std.proofs.lemmas.List.{drop_at}
-use Rattle.bq_insn.specs.Spelling.{spelling}
 use Rattle.bq_insn.proofs.FormLemmas.{both}
 use Rattle.bq_insn.specs.Laws.{Fits, OneSpelling, OneProgram}
 use Rattle.bq_insn.proofs.FaultLemmas.{same_slot}

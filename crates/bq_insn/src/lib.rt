@@ -1,7 +1,6 @@
 //! Instructions of BPF as values, and their way from bytes and to bytes: RFC 9669, groups base32, base64, divmul32 and
 //! divmul64. `decode` answers with the list of instructions that the bytes spell, or names the first faulty one and its
-//! least cause; `encode` appends the bytes of a list. All layers above speak of instructions by the types of this file,
-//! and of what they do by specs/Meaning.
+//! least cause; `encode` appends the bytes of a list. All layers above speak of instructions by the types of this file.
 #![tactic(auto)]
 
 pub mod decode;
@@ -17,8 +16,7 @@ mod spelling;
 mod uses;
 
 ghost use Rattle.std.specs.Prelude.{◌≡◌};
-ghost use Rattle.bq_insn.specs.Slots.{slots_of};
-ghost use Rattle.bq_insn.specs.Meaning.{byte_count};
+ghost use Rattle.bq_insn.specs.Slots.{byte_count, slots_of};
 
 /// How many low bits of its operands an instruction works on (RFC 9669, section 3.3).
 #[derive(Clone, Copy, Debug, PartialEq, Eq)]

@@ -3,8 +3,8 @@ use Rattle.std.specs.Prelude.{ℕ, not, ◌||◌, nat_lt, List, [], ◌∷◌, l
 use Rattle.std.specs.List.{list_all, starts_with}
 use Rattle.std.specs.Str.{bytes_eq}
 use Rattle.bq_parts.specs.declared.event.Event.TheVariants.{Admit, Retire, Draw, Install, BeginWake, EndWake, Drain, Tick, Block, Pull}
-use Rattle.bq_verify.specs.Names.{hook_of}
-use Rattle.bq_verify.specs.declared.hook.Hook.{Hook}
+use Rattle.bq_bpf.specs.Hooks.{hook_of}
+use Rattle.bq_bpf.specs.declared.hook.Hook.{Hook}
 use Rattle.bq_lines.specs.Words.{words, is_allowed}
 use Rattle.bq_lines.specs.Numbers.{decimal_of, processor_of, task_of, mask_of, nice_of}
 use Rattle.bq_sizes.specs.declared.size.Size.{Size}

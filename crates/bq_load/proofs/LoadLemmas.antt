@@ -12,11 +12,12 @@ use Rattle.bq_insn.specs.Faults.{IsFault as IsProgramFault}
 use Rattle.bq_insn.proofs.FormLemmas.{both}
 use Rattle.bq_insn.proofs.UniqueLemmas as insn
 use Rattle.bq_insn.proofs.LengthLemmas as lengths
-use Rattle.bq_maps.specs.declared.shape.MapShape.{MapShape}
-use Rattle.bq_verify.specs.Accepted.{Accepted, context_length_of}
+use Rattle.bq_bpf.specs.declared.shape.MapShape.{MapShape}
+use Rattle.bq_verify.specs.Accepted.{Accepted}
+use Rattle.bq_bpf.specs.Hooks.{context_length_of}
 use Rattle.bq_graph.specs.Faults.{IsFaultless}
 use Rattle.bq_graph.specs.Paths.{IsGreatest, PathOut}
-use Rattle.bq_maps.specs.Machine.{Safe}
+use Rattle.bq_bpf.specs.Safe.{Safe}
 use Rattle.bq_verify.proofs.SlotLemmas.{few_slots}
 use Rattle.bq_verify.specs.Refusals.{IsRefusal}
 use Rattle.bq_verify.specs.Straight.{IsStraightProgram}

@@ -4,10 +4,10 @@ use Rattle.std.specs.Int.{w16, to_le_bytes}
 use Rattle.std.proofs.Props.{props}
 use Rattle.std.proofs.lemmas.Bool.{le-ltb}
 use Rattle.std.proofs.lemmas.List.Concat.{flat_map-cons}
-use Rattle.bq_maps.specs.declared.shape.MapShape.{MapShape}
-use Rattle.bq_maps.specs.Limits.{IsShape}
-use Rattle.bq_verify.specs.declared.hook.Hook.{Hook}
-use Rattle.bq_verify.specs.declared.hook.Version.{Version}
+use Rattle.bq_bpf.specs.declared.shape.MapShape.{MapShape}
+use Rattle.bq_bpf.specs.Limits.{IsShape}
+use Rattle.bq_bpf.specs.declared.hook.Hook.{Hook}
+use Rattle.bq_bpf.specs.declared.hook.Version.{Version}
 use Rattle.bq_load.specs.declared.fault.LoadFault.{LoadFault}
 use Rattle.bq_load.specs.Layout.{shape_bytes, shapes_bytes, Header, IsFramed}
 use Rattle.bq_load.specs.Reading.{◌>>=◌, Spelled, header_at, ended, frame_at}

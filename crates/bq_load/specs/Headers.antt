@@ -1,6 +1,6 @@
 -- What a header of the code says, and that it stands there.
 use Rattle.std.specs.Prelude.{◌≡◌, ℕ, ◌≤◌, List, ◌++◌}
-use Rattle.bq_maps.specs.declared.shape.MapShape.{MapShape}
+use Rattle.bq_bpf.specs.declared.shape.MapShape.{MapShape}
 use Rattle.bq_load.specs.declared.header.Header.{Header as Read}
 use Rattle.bq_load.specs.Layout.{shapes_bytes, Header, header_bytes, IsHeader, IsFramed}
 use Rattle.bq_load.specs.Reading.{Spelled}

@@ -2,9 +2,9 @@
 use Rattle.std.specs.Prelude.{◌≡◌, ℕ, ◌<◌, List, [], ◌∷◌, slice_index, Result, Ok, Err, ◌⊎◌}
 use Rattle.std.specs.List.{flat_map}
 use Rattle.bq_graph.specs.Faults.{place_of}
-use Rattle.bq_maps.specs.declared.shape.MapShape.{MapShape}
-use Rattle.bq_verify.specs.declared.hook.Hook.{Hook}
-use Rattle.bq_verify.specs.declared.hook.Version.{Version}
+use Rattle.bq_bpf.specs.declared.shape.MapShape.{MapShape}
+use Rattle.bq_bpf.specs.declared.hook.Hook.{Hook}
+use Rattle.bq_bpf.specs.declared.hook.Version.{Version}
 use Rattle.bq_load.specs.declared.fault.LoadFault.{LoadFault}
 use Rattle.bq_load.specs.Layout.{IsImage}
 use Rattle.bq_load.specs.Faults.{IsFault}

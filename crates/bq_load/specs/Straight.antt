@@ -4,11 +4,11 @@ use Rattle.bq_insn.specs.declared.Insn.{Insn}
 use Rattle.bq_insn.specs.Spelling.{spelling, is_well_formed}
 use Rattle.bq_insn.specs.Slots.{spread}
 use Rattle.bq_insn.specs.Laws.{AllFit}
-use Rattle.bq_maps.specs.declared.shape.MapShape.{MapShape}
-use Rattle.bq_verify.specs.Accepted.{context_length_of}
+use Rattle.bq_bpf.specs.declared.shape.MapShape.{MapShape}
+use Rattle.bq_bpf.specs.Hooks.{context_length_of}
 use Rattle.bq_verify.specs.Straight.{IsStraightProgram}
-use Rattle.bq_verify.specs.declared.hook.Hook.{Hook}
-use Rattle.bq_verify.specs.declared.hook.Version.{Version}
+use Rattle.bq_bpf.specs.declared.hook.Hook.{Hook}
+use Rattle.bq_bpf.specs.declared.hook.Version.{Version}
 use Rattle.bq_load.specs.Layout.{IsImage}
 
 -- the bytes are an image of a straight program, in which each instruction finds on every path what it needs

@@ -15,7 +15,7 @@ mod naming;
 pub mod reader;
 pub mod writing;
 
-pub use bq_verify::{Hook, Version};
+pub use bq_bpf::{Hook, Version};
 pub use fault::LoadFault;
 pub use image::{Image, read_image};
 pub use loading::load;

@@ -4,9 +4,10 @@
 use crate::images::COUNTING;
 use bq_interp::{Env, Stack, run};
 use bq_load::load;
-use bq_maps::{Maps, Plain};
+use bq_maps::Maps;
+use bq_bpf::Plain;
 use bq_verify::Verified;
-use bq_verify::hook::context_length;
+use bq_bpf::context_length;
 use std::alloc::{AllocError, Global};
 use std::test::Fail;
 

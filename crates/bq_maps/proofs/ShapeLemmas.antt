@@ -1,15 +1,14 @@
 -- Maps that have their shapes keep them, one more map and a write included.
-use Rattle.std.proofs.Common.{◌≡◌, ◌≢◌, ℕ, ◌+◌, ◌-◌, ◌*◌, ◌<◌, ◌≤◌, List, [], ◌∷◌, ◌++◌, Some, length, get_or, set, take, drop, refl, sym, ◌∙◌, ap, arith, ◌⊎◌, inl, inr}
-use Rattle.std.proofs.Common.{Vec, Global, map, replicate}
+use Rattle.std.proofs.Common.{◌≡◌, ◌≢◌, ℕ, ◌+◌, ◌-◌, ◌*◌, ◌<◌, ◌≤◌, List, [], ◌∷◌, ◌++◌, Some, length, get_or, set, take, drop, refl, sym, ◌∙◌, ap, arith, ◌⊎◌, inl, inr, Vec, Global, map, replicate}
 use Rattle.std.specs.Vec.{with_items}
 use Rattle.std.specs.Prelude.{slice_get}
 use Rattle.std.proofs.lemmas.Bool.{cases_lt, cases_eq}
 use Rattle.std.proofs.lemmas.List.{get_or_append_left, get_or_push, get_or_past, get_or-set_same, get_or-set_other, length_push, length-set, length-append, length-take, length-drop, get_or-append_right, get_or-take, get_or-drop, get_or-map, get_or-replicate, length-replicate, map-set, with_items_is}
 use Rattle.std.proofs.lemmas.Option.{slice_get_past, slice_get_within, slice_get-get_or, get_or_from_slice_get}
 use Rattle.std.proofs.lemmas.Nat.{mul-le}
-use Rattle.bq_maps.specs.declared.shape.MapShape.{MapShape}
-use Rattle.bq_maps.specs.Arrays.{Arrays, HaveShapes, HasEntry}
-use Rattle.bq_maps.specs.Memory.{overwrite}
+use Rattle.bq_bpf.specs.declared.shape.MapShape.{MapShape}
+use Rattle.bq_maps.specs.Arrays.{Arrays, HasEntry}
+use Rattle.bq_bpf.specs.Memory.{HaveShapes, overwrite}
 
 -- bytes are below 256
 abbrev pub AreBytes : List ℕ → Type 0

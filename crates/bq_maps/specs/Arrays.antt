@@ -1,18 +1,12 @@
 -- Array maps: the bytes of all values of a map stand one after another, the first entry first.
 use Rattle.std.specs.Prelude.{◌≡◌, ℕ, ◌+◌, ◌*◌, ◌<◌, List, [], length, Option, Some, None, slice_get, slice_index_or, slice_range, slice_set}
-use Rattle.bq_maps.specs.declared.shape.MapShape.{MapShape}
-use Rattle.bq_maps.specs.Memory.{overwrite}
+use Rattle.bq_bpf.specs.declared.shape.MapShape.{MapShape}
+use Rattle.bq_bpf.specs.Memory.{overwrite}
 
 -- the maps of a program: their shapes, and the bytes of each
 pub record Arrays : Type 0 where
   pub shapes : List MapShape
   pub bytes : List (List ℕ)
-
--- maps of these shapes
-pub record HaveShapes (shapes : List MapShape) (maps : List (List ℕ)) : Type 0 where
-  pub as_many : length maps ≡ length shapes
-  pub sizes : (m : ℕ) (shape : MapShape) → slice_get shapes m ≡ Some shape → length (slice_index_or maps m []) ≡ shape.value_size * shape.entries
-  pub bytes : (m i b : ℕ) → slice_get (slice_index_or maps m []) i ≡ Some b → b < 256
 
 abbrev pub value_size_in : Option MapShape → ℕ
 value_size_in None = 0

@@ -1,8 +1,8 @@
 //! The maps of a program.
 ghost use Rattle.std.specs.Prelude.{◌≡◌, ◌≤◌, ◌+◌, length, slice_range, replicate, IfOk};
-ghost use Rattle.bq_maps.specs.Memory.{overwrite};
+ghost use Rattle.bq_bpf.specs.Memory.{overwrite};
 
-use crate::shape::MapShape;
+use bq_bpf::MapShape;
 use std::alloc::{AllocError, Global};
 use std::marker::Model;
 
@@ -15,7 +15,8 @@ pub struct Maps {
 
 impl Model for Maps {
     ghost use Rattle.std.specs.Prelude.{map};
-    ghost use Rattle.bq_maps.specs.Arrays.{Arrays, HaveShapes};
+    ghost use Rattle.bq_maps.specs.Arrays.{Arrays};
+    ghost use Rattle.bq_bpf.specs.Memory.{HaveShapes};
 
     ghost Value = { Arrays };
 
@@ -27,7 +28,8 @@ impl Model for Maps {
 impl Maps {
     ghost use Rattle.std.specs.Prelude.{◌<◌, ℕ, Some, slice_get, slice_index, IsTrue, ◌↔◌};
     ghost use Rattle.std.specs.Bool.{OnTrue, OnFalse};
-    ghost use Rattle.bq_maps.specs.Arrays.{HasEntry, value_size_of, first_of, bytes_of, entry_of, with_bytes, HaveShapes};
+    ghost use Rattle.bq_maps.specs.Arrays.{HasEntry, value_size_of, first_of, bytes_of, entry_of, with_bytes};
+    ghost use Rattle.bq_bpf.specs.Memory.{HaveShapes};
 
     /// Maps of these shapes, all bytes 0. Want of memory is the only error.
     pub fn new(alloc: Global, shapes: &[MapShape]) -> Result<Maps, AllocError>

@@ -1,15 +1,9 @@
-//! The machine that runs a policy: its memory, its maps and helpers, its counters, and its meaning.
+//! Array maps: for each map of a program the bytes of its values, read and written by entries.
 //!
-//! `specs/` defines what each instruction does and when a program is safe; the verifier and the
-//! interpreter above rest on that. The code keeps array maps and names the helpers.
+//! Stands on `bq_bpf`, which says what the shape of a map is and which helpers reach it.
 #![tactic(auto)]
 
 pub mod arrays;
-pub mod board;
-pub mod helper;
-pub mod shape;
 
 pub use arrays::Maps;
-pub use board::{Board, Call, Plain};
-pub use helper::Helper;
-pub use shape::MapShape;
+pub use bq_bpf::{Board, Call, Helper, MapShape, Plain};

@@ -13,7 +13,7 @@ use Rattle.bq_needs.specs.Accesses.{IsShown, Lacks, context_of}
 use Rattle.bq_needs.specs.Needs.{AreGiven, AreKnown, AreNumbers, GivesHelper, GivesValue, IsGoodAccess, IsPointerWorkedOn, NamesEntry, PointsTo, helper_of, unset_below, unset_text}
 use Rattle.bq_needs.specs.declared.arguments.Wanted.TheVariants as wanted
 use Rattle.bq_needs.specs.declared.arguments.Wanted.{Wanted}
-use Rattle.bq_maps.specs.declared.shape.MapShape.{MapShape}
+use Rattle.bq_bpf.specs.declared.shape.MapShape.{MapShape}
 use Rattle.std.proofs.lemmas.Int.{ints}
 use Rattle.bq_needs.specs.Operands.{access_of, known_in, reads, works_on}
 use Rattle.bq_needs.specs.declared.accesses.Lack.TheVariants as lack

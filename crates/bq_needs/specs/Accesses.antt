@@ -1,11 +1,10 @@
 -- When the view shows an access to be good, and what a text tells of one that it does not.
 use Rattle.std.specs.Prelude.{◌≡◌, ◌≢◌, ℕ, ℤ, ◌+◌, ◌-◌, ◌^◌, ◌<◌, ◌≤◌, Bool, true, false, List, ◌++◌, Option, Some, None, codes, slice_get, slice_index_or}
 use Rattle.std.specs.Fmt.{decimal}
-use Rattle.bq_maps.specs.Machine.{address_of}
+use Rattle.bq_bpf.specs.Steps.{address_of}
 use Rattle.bq_ranges.specs.Within.{Within}
 use Rattle.bq_ranges.specs.declared.range.Range.{Range}
-use Rattle.bq_verify.specs.Accepted.{context_length_of}
-use Rattle.bq_verify.specs.Names.{hook_word, version_number}
+use Rattle.bq_bpf.specs.Hooks.{context_length_of, hook_word, version_number}
 use Rattle.bq_views.specs.Views.{bound_of, size_of_shape}
 use Rattle.bq_views.specs.declared.view.Kind.TheVariants as kind
 use Rattle.bq_views.specs.declared.view.Known.{Known}

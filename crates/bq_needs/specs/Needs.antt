@@ -5,7 +5,7 @@ use Rattle.bq_insn.specs.declared.Insn.{Insn}
 use Rattle.bq_insn.specs.declared.Insn.TheVariants.{StoreReg, MapRef, Branch, Call}
 use Rattle.bq_graph.specs.declared.cause.Cause.{Cause}
 use Rattle.bq_graph.specs.declared.cause.Cause.TheVariants.{Unset, Access, PointerUse, Argument, Answer}
-use Rattle.bq_maps.specs.declared.shape.MapShape.{MapShape}
+use Rattle.bq_bpf.specs.declared.shape.MapShape.{MapShape}
 use Rattle.bq_views.specs.Standing.{Exact, Pointer, Scalar, StandsAt}
 use Rattle.bq_views.specs.declared.view.Kind.TheVariants.{Number, Map}
 use Rattle.bq_views.specs.declared.view.Known.{Known}

@@ -1,14 +1,14 @@
 -- What an instruction works on: the registers that it reads, and the memory that it accesses.
 use Rattle.std.specs.Prelude.{◌≡◌, ℕ, ◌==◌, ◌&&◌, ◌||◌, Bool, true, false, Option, Some, None, slice_index_or}
-use Rattle.bq_insn.specs.Meaning.{byte_count}
+use Rattle.bq_insn.specs.Slots.{byte_count}
 use Rattle.bq_insn.specs.declared.Insn.{Insn}
 use Rattle.bq_insn.specs.declared.Insn.TheVariants.{Alu, MovSx, Neg, End, Load, StoreImm, StoreReg, Branch}
 use Rattle.bq_insn.specs.declared.Operation.{Operation}
 use Rattle.bq_insn.specs.declared.Operation.TheVariants.{Mov}
 use Rattle.bq_insn.specs.declared.Source.{Source}
 use Rattle.bq_insn.specs.declared.Source.TheVariants.{Imm, Reg}
-use Rattle.bq_maps.specs.Machine.{Does}
-use Rattle.bq_maps.specs.Memory.{Setting, State}
+use Rattle.bq_bpf.specs.Steps.{Does}
+use Rattle.bq_bpf.specs.Memory.{Setting, State}
 use Rattle.bq_views.specs.declared.view.Known.{Known}
 use Rattle.bq_views.specs.declared.view.View.{View}
 use Rattle.bq_needs.specs.declared.operands.Access.{Access}

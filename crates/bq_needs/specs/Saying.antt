@@ -1,8 +1,8 @@
 -- What a text says of a word, as it is read.
 use Rattle.std.specs.Prelude.{◌≡◌, ℕ, ◌+◌, ◌%◌, ◌^◌, ◌<◌, ◌≤◌, ◌⊎◌, List, [], ◌++◌, length, codes}
 use Rattle.std.specs.Fmt.{decimal}
-use Rattle.bq_maps.specs.declared.shape.MapShape.{MapShape}
-use Rattle.bq_maps.specs.Memory.{reference, context_base, stack_base}
+use Rattle.bq_bpf.specs.declared.shape.MapShape.{MapShape}
+use Rattle.bq_bpf.specs.Memory.{reference, context_base, stack_base}
 use Rattle.bq_views.specs.Views.{IsEntryBase}
 use Rattle.bq_needs.specs.Texts.{between}
 

@@ -1,13 +1,13 @@
 //! Whether what is known of its pointer shows an access to be good, and if not why, in words.
 ghost use Rattle.std.specs.Prelude.{◌≡◌, ◌<◌, ◌≤◌, ◌+◌, IfOk, MatchBool, MatchOption, Some, false, true, string_bytes};
-ghost use Rattle.bq_maps.specs.Machine.{address_of};
+ghost use Rattle.bq_bpf.specs.Steps.{address_of};
 ghost use Rattle.bq_needs.specs.Accesses.{AreSet, GoesBeyond, IsMoved, IsShown, Lacks, ReachesLast, Stays, TellsBegin, TouchesUnset, begin_of, lack_text, register_text};
 
 use crate::known::{kind_text, known_text};
 use crate::operands::Access;
 use bq_policy_files::Policy;
 use bq_ranges::Range;
-use bq_verify::hook::context_length;
+use bq_bpf::context_length;
 use bq_views::places::shape_of;
 use bq_views::view::{Kind, Known, View};
 use std::alloc::{AllocError, Global};

@@ -1,7 +1,7 @@
 //! What is known of one word, as text.
 ghost use Rattle.std.specs.Prelude.{◌≡◌, ◌-◌, ◌^◌, ◌<◌, ◌≤◌, ◌++◌, ℕ, List, IfOk};
 ghost use Rattle.std.specs.String.{string_bytes};
-ghost use Rattle.bq_maps.specs.declared.shape.MapShape.{MapShape};
+ghost use Rattle.bq_bpf.specs.declared.shape.MapShape.{MapShape};
 ghost use Rattle.bq_views.specs.Views.{Describes};
 ghost use Rattle.bq_needs.specs.Saying.{Says};
 ghost use Rattle.bq_needs.specs.Texts.{between, kind_text, known_text, number_text, offset_text, range_text, stack_text};

@@ -1,6 +1,6 @@
 //! Which registers an instruction reads, and the memory that it accesses.
 ghost use Rattle.std.specs.Prelude.{◌≡◌, ◌≤◌, IfSome, IsTrue};
-ghost use Rattle.bq_insn.specs.Meaning.{byte_count};
+ghost use Rattle.bq_insn.specs.Slots.{byte_count};
 ghost use Rattle.bq_needs.specs.Operands.{NeedsSet, access_of, is_register, reads, reads_left, works_on};
 
 use bq_insn::{Insn, Operation, Size, Source};

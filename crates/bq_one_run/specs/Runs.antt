@@ -1,8 +1,8 @@
 -- The one run of a policy on its inputs.
 use Rattle.std.specs.Prelude.{◌≡◌, ℕ, zero, suc, ◌≤◌, List}
-use Rattle.bq_maps.specs.declared.board.Call.{Call as Asked}
-use Rattle.bq_maps.specs.Counters.{Counts, Through}
-use Rattle.bq_maps.specs.Machine.{RunFrom, start}
+use Rattle.bq_bpf.specs.declared.board.Call.{Call as Asked}
+use Rattle.bq_bpf.specs.Counters.{Counts, Through}
+use Rattle.bq_bpf.specs.Runs.{RunFrom, start}
 use Rattle.bq_verify.specs.Accepted.{Accepted}
 use Rattle.bq_interp.specs.Chains.{setting_of}
 use Rattle.bq_one_run.specs.declared.inputs.Inputs.{Inputs}

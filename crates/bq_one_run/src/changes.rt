@@ -1,6 +1,7 @@
 //! What a run changed of maps and counters, in words.
 use crate::inputs::Inputs;
-use bq_maps::{Call, Maps};
+use bq_bpf::Call;
+use bq_maps::Maps;
 use std::alloc::{AllocError, Global};
 
 /// The bytes of each map.

@@ -6,7 +6,7 @@ ghost use Rattle.bq_one_run.specs.Naming.{NamesCounter, SetsCounter, TextsInTurn
 use crate::faults::{InputFault, fault};
 use crate::inputs::Inputs;
 use crate::words::{cut, decimal, value};
-use bq_maps::{Board, Plain};
+use bq_bpf::{Board, Plain};
 use std::alloc::Global;
 
 impl Inputs {

@@ -2,14 +2,15 @@
 ghost use Rattle.std.specs.Prelude.{◌≡◌, IfOk, IfSome, length, replicate};
 ghost use Rattle.std.specs.Result.{OnOk};
 ghost use Rattle.hex.specs.Hex.{decode_of};
-ghost use Rattle.bq_verify.specs.Accepted.{context_length_of};
+ghost use Rattle.bq_bpf.specs.Hooks.{context_length_of};
 ghost use Rattle.bq_one_run.specs.Naming.{BeginsWith, IsClean};
 
 use crate::faults::{InputFault, fault};
 use bq_interp::Env;
-use bq_maps::{Maps, Plain};
+use bq_maps::Maps;
+use bq_bpf::Plain;
 use bq_verify::Verified;
-use bq_verify::hook::context_length;
+use bq_bpf::context_length;
 use std::alloc::{AllocError, Global};
 
 /// What a run is given beside its program.

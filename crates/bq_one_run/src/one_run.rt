@@ -1,16 +1,16 @@
 //! Runs, and what came of them.
 ghost use Rattle.std.specs.Prelude.{◌≡◌, [], length, IfOk, IfSome};
 ghost use Rattle.bq_interp.specs.Chains.{setting_of};
-ghost use Rattle.bq_verify.specs.Accepted.{context_length_of};
+ghost use Rattle.bq_bpf.specs.Hooks.{context_length_of};
 ghost use Rattle.bq_interp.specs.Moments.{AreMoments};
-ghost use Rattle.bq_maps.specs.Machine.{start};
+ghost use Rattle.bq_bpf.specs.Runs.{start};
 ghost use Rattle.bq_one_run.specs.Runs.{AreRuns, IsRun, kept_in};
 
 use crate::inputs::Inputs;
 use crate::shapes::same_shapes;
 use bq_interp::{Moment, Ran, Stack, run, run_traced};
 use bq_verify::Verified;
-use bq_verify::hook::context_length;
+use bq_bpf::context_length;
 use std::alloc::AllocError;
 
 /// What a run answered and took.

@@ -1,10 +1,10 @@
 //! Whether the rule permits an answer, by what the context shows.
 ghost use Rattle.std.specs.Prelude.{◌≡◌, ◌≤◌, ◌+◌, length};
 ghost use Rattle.bq_one_run.specs.Permitting.{hides_tasks, number_at, place_permits, place_word, preempt_word, pull_word, shows_task, word_of};
-ghost use Rattle.bq_verify.specs.Accepted.{context_length_of};
-ghost use Rattle.bq_verify.specs.declared.hook.Version.{Version as OfVersion};
+ghost use Rattle.bq_bpf.specs.Hooks.{context_length_of};
+ghost use Rattle.bq_bpf.specs.declared.hook.Version.{Version as OfVersion};
 
-use bq_verify::Hook;
+use bq_bpf::Hook;
 use byteorder::{ByteOrder, LittleEndian};
 
 /// The answer of a pull policy that takes no task.

@@ -7,7 +7,7 @@ use crate::faults::{InputFault, fault};
 use crate::fields::{field_named, field_names, put};
 use crate::inputs::Inputs;
 use crate::words::{cut, value};
-use bq_verify::{Hook, Version};
+use bq_bpf::{Hook, Version};
 use std::alloc::Global;
 
 impl Inputs {

@@ -1,7 +1,7 @@
 //! Whether two lists of shapes are the same.
 ghost use Rattle.std.specs.Prelude.{◌≡◌, ◌↔◌, IsTrue};
 
-use bq_maps::shape::MapShape;
+use bq_bpf::MapShape;
 
 /// Whether both lists have the same shapes.
 pub(crate) fn same_shapes(shapes: &[MapShape], other: &[MapShape]) -> bool

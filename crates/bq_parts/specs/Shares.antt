@@ -3,7 +3,7 @@ use Rattle.std.specs.Prelude.{◌≡◌, ℕ, true, false, List, [], length, sli
 use Rattle.bq_disc.specs.Tasks.{Task, id_of}
 use Rattle.bq_disc.specs.Discipline.{Discipline}
 use Rattle.bq_disc.specs.OneProcessor.{charge, marked, enter_all}
-use Rattle.bq_maps.specs.declared.board.Call.{Call as Asked}
+use Rattle.bq_bpf.specs.declared.board.Call.{Call as Asked}
 use Rattle.bq_parts.specs.declared.seat.Seat.{Seat}
 use Rattle.bq_parts.specs.declared.seat.Seat.TheVariants.{Absent, Blocked, Away}
 use Rattle.bq_parts.specs.declared.reply.Reply.{Reply}
@@ -14,7 +14,7 @@ use Rattle.bq_parts.specs.Processors.{Processor}
 use Rattle.bq_parts.specs.declared.carried.Carried.{Carried}
 use Rattle.bq_parts.specs.declared.wakes.Placement.{Placement}
 use Rattle.bq_parts.specs.Refusals.{is_absent, retire_refusal, begin_refusal, install_refusal}
-use Rattle.bq_verify.specs.declared.hook.Hook.{Hook}
+use Rattle.bq_bpf.specs.declared.hook.Hook.{Hook}
 use Rattle.bq_policies.specs.Programs.{Program, at_hook, with_program}
 use Rattle.bq_policies.specs.Standing.{MayStand}
 use Rattle.bq_hooks.specs.Permitted.{task_numbered}

@@ -1,7 +1,7 @@
 -- The step that each event makes in the world: what it is replied, and what its share leaves of the parts that it touches.
 use Rattle.std.specs.Prelude.{◌≡◌, ◌+◌, ◌-◌, ◌^◌, ◌⊎◌, min, List, [], ◌∷◌, ◌++◌, Some, None, Result, Ok, Err}
-use Rattle.bq_maps.specs.declared.board.Call.{Call as Asked}
-use Rattle.bq_maps.specs.Counters.{Through}
+use Rattle.bq_bpf.specs.declared.board.Call.{Call as Asked}
+use Rattle.bq_bpf.specs.Counters.{Through}
 use Rattle.bq_policies.specs.Answers.{fresh_maps}
 use Rattle.bq_parts.specs.declared.seat.Seat.{Seat}
 use Rattle.bq_parts.specs.declared.event.Event.{Event}

@@ -1,8 +1,8 @@
 //! The choices of a processor: its policies' where they are permitted, and else the discipline's own.
 ghost use Rattle.std.specs.Prelude.{◌≡◌, ◌≤◌, ◌<◌, ◌^◌, [], true, length, Some, IfSome, is_some};
 ghost use Rattle.std.specs.Option.{option_map};
-ghost use Rattle.bq_maps.specs.Counters.{Through};
-ghost use Rattle.bq_maps.specs.Arrays.{HaveShapes};
+ghost use Rattle.bq_bpf.specs.Counters.{Through};
+ghost use Rattle.bq_bpf.specs.Memory.{HaveShapes};
 ghost use Rattle.bq_policies.specs.Answers.{Answers, IsWithin};
 ghost use Rattle.bq_hooks.specs.Contexts.{as_number, or_nobody, pull_bytes};
 ghost use Rattle.bq_hooks.specs.OwnPlace.{HasPlace};
@@ -21,7 +21,7 @@ use bq_hooks::preempt::{Preempt, preempt_ctx};
 use bq_hooks::pull::{Pull, pull_ctx};
 use bq_hooks::{Choice, own_place, settle_place, settle_preempt, settle_pull};
 use bq_interp::{Done, Env};
-use bq_maps::Board;
+use bq_bpf::Board;
 use bq_policies::Version;
 
 impl<T> Outcome<T> {

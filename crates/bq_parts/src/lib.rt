@@ -23,7 +23,7 @@ pub mod wakes;
 
 pub use arguments::argument_refusal;
 pub use bq_hooks::{By, Loads};
-pub use bq_maps::{Board, Plain};
+pub use bq_bpf::{Board, Plain};
 pub use bq_policies::{Hook, Hooks, Installed, Policy, Scratch};
 pub use carried::Carried;
 pub use cpu::Cpu;

@@ -3,7 +3,7 @@ ghost use Rattle.std.specs.Prelude.{◌≡◌, ◌≤◌, ◌<◌, ◌++◌, ℕ
 ghost use Rattle.bq_disc.specs.Queues.{HasDistinctIds};
 ghost use Rattle.bq_disc.specs.Tasks.{id_of, with_id};
 ghost use Rattle.bq_disc.specs.OneProcessor.{present_at};
-ghost use Rattle.bq_maps.specs.Counters.{Through};
+ghost use Rattle.bq_bpf.specs.Counters.{Through};
 ghost use Rattle.bq_hooks.specs.Permitted.{task_numbered};
 ghost use Rattle.bq_parts.specs.Processors.{HasEachOnce, HasSeatedIds, size_of};
 ghost use Rattle.bq_parts.specs.Choices.{policies, SettlesPull};
@@ -12,7 +12,7 @@ ghost use Rattle.bq_parts.specs.Shares.{Pulls};
 
 use crate::{Cpu, Outcome, Reply, Scratch};
 use bq_disc::RunQueue;
-use bq_maps::Board;
+use bq_bpf::Board;
 
 impl<Q: RunQueue> Cpu<Q> {
     /// The processor takes a task from the queue of another: the one that its policy names, or that of the discipline,

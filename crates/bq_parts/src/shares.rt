@@ -1,6 +1,6 @@
 //! What each event does to the parts that it touches: one processor, and with it its inbox or the lobby.
 ghost use Rattle.std.specs.Prelude.{◌≡◌, ◌≤◌, ◌<◌, ◌++◌, [], None, IfOk};
-ghost use Rattle.bq_maps.specs.Counters.{Through};
+ghost use Rattle.bq_bpf.specs.Counters.{Through};
 ghost use Rattle.bq_disc.specs.OneProcessor.{present_at};
 ghost use Rattle.bq_parts.specs.Processors.{HasEachOnce, HasSeatedIds};
 ghost use Rattle.bq_parts.specs.Refusals.{argument_refusal};
@@ -11,7 +11,7 @@ ghost use Rattle.bq_parts.specs.Shares.{Admits, Blocks, Drains, Retires, Ticks};
 use crate::arguments::allowed;
 use crate::{Cpu, Event, Inbox, Lobby, Refusal, Reply, Scratch, Unlinked};
 use bq_disc::{Node, RunQueue};
-use bq_maps::Board;
+use bq_bpf::Board;
 use std::alloc::{AllocError, Global};
 
 /// A task as it is admitted among so many processors. It takes memory for the task.

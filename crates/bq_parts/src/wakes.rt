@@ -1,6 +1,6 @@
 //! What the two halves of a wake do to the processor.
 ghost use Rattle.std.specs.Prelude.{◌≡◌, ◌≤◌, ◌<◌, [], IfSome};
-ghost use Rattle.bq_maps.specs.Counters.{Through};
+ghost use Rattle.bq_bpf.specs.Counters.{Through};
 ghost use Rattle.bq_hooks.specs.OwnPlace.{HasPlace};
 ghost use Rattle.bq_policies.specs.Programs.{IsFor};
 ghost use Rattle.bq_parts.specs.Choices.{policies};
@@ -8,7 +8,7 @@ ghost use Rattle.bq_parts.specs.Shares.{Begins, Installs, Places};
 
 use crate::{By, Carried, Cpu, Hook, Installed, Loads, Lobby, Refusal, Reply, Scratch, Unlinked};
 use bq_disc::RunQueue;
-use bq_maps::Board;
+use bq_bpf::Board;
 
 /// A task that left a hand, and where it goes: to a processor that a policy chose in so many steps, or the discipline.
 #[derive(Drop)]

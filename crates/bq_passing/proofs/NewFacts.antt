@@ -5,7 +5,7 @@ use Rattle.std.specs.Option.{option_map}
 use Rattle.bq_disc.specs.Tasks.{Task, with_id, place, present, id_of}
 use Rattle.bq_disc.specs.Discipline.{Discipline, woken, pulled, left_at}
 use Rattle.bq_disc.specs.OneProcessor.{Running, present_at, charge, marked}
-use Rattle.bq_maps.specs.declared.board.Call.{Call as Asked}
+use Rattle.bq_bpf.specs.declared.board.Call.{Call as Asked}
 use Rattle.bq_fair.specs.Steps.{Step, Pass, Decide, Enter, Leave, Mark, stepped, after, IsNew, EachEntersNew}
 use Rattle.bq_fair.specs.Events.{entries}
 use Rattle.bq_hooks.specs.Permitted.{task_numbered}

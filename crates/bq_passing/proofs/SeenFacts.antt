@@ -9,8 +9,8 @@ use Rattle.bq_disc.specs.Queues.{HasDistinctIds, can_use}
 use Rattle.bq_disc.specs.Discipline.{Discipline, pulled, left_at}
 use Rattle.bq_disc.specs.OneProcessor.{Running, present_at, charge, marked, enter_all, decided, own_preempt}
 use Rattle.bq_disc.specs.Movable.{is_movable_to}
-use Rattle.bq_maps.specs.declared.board.Call.{Call as Asked}
-use Rattle.bq_verify.specs.declared.hook.Hook.{Hook}
+use Rattle.bq_bpf.specs.declared.board.Call.{Call as Asked}
+use Rattle.bq_bpf.specs.declared.hook.Hook.{Hook}
 use Rattle.bq_verify.specs.Accepted.{Accepted}
 use Rattle.bq_hooks.specs.declared.settled.By.{By}
 use Rattle.bq_hooks.specs.declared.settled.By.TheVariants as who

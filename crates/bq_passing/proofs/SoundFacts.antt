@@ -9,7 +9,7 @@ use Rattle.bq_weights.specs.VirtualTime.{IsWeight, weights, weight_of}
 use Rattle.bq_disc.specs.Tasks.{Task, has_id, with_id, without, place, present, runs_before, id_of}
 use Rattle.bq_disc.specs.Discipline.{Discipline, charged, woken, pulled, left_at, next_of}
 use Rattle.bq_disc.specs.OneProcessor.{Running, present_at, reading, charge, run_id, start, exchanged, switched, decided, entered, enter_all}
-use Rattle.bq_maps.specs.declared.board.Call.{Call as Asked}
+use Rattle.bq_bpf.specs.declared.board.Call.{Call as Asked}
 use Rattle.bq_parts.specs.declared.carried.Carried.{Carried}
 use Rattle.bq_parts.specs.declared.seat.Seat.{Seat}
 use Rattle.bq_parts.specs.declared.seat.Seat.TheVariants.{Absent, Blocked, Away}

@@ -4,7 +4,7 @@ use Rattle.bq_disc.specs.Discipline.{Discipline}
 use Rattle.bq_disc.specs.OneProcessor.{Running, charge, start, decided, own_preempt}
 use Rattle.bq_cfs.specs.Cfs.{cfs}
 use Rattle.bq_cfs.specs.Spread.{passed, Tick as TickAt, Block as BlockAt}
-use Rattle.bq_maps.specs.declared.board.Call.{Call as Asked}
+use Rattle.bq_bpf.specs.declared.board.Call.{Call as Asked}
 use Rattle.bq_hooks.specs.declared.settled.By.TheVariants as who
 use Rattle.bq_parts.specs.declared.event.Event.TheVariants.{Tick, Block}
 use Rattle.bq_parts.specs.declared.reply.Reply.{Reply}

@@ -3,7 +3,7 @@ use Rattle.std.specs.Prelude.{◌≡◌, ℕ, ◌<◌, Bool, false, ◌==◌, if
 use Rattle.bq_disc.specs.Tasks.{Task}
 use Rattle.bq_disc.specs.Discipline.{Discipline, pulled}
 use Rattle.bq_disc.specs.OneProcessor.{Running, charge, marked}
-use Rattle.bq_maps.specs.declared.board.Call.{Call as Asked}
+use Rattle.bq_bpf.specs.declared.board.Call.{Call as Asked}
 use Rattle.bq_hooks.specs.declared.settled.By.TheVariants as who
 use Rattle.bq_fair.specs.Steps.{Step, Pass, Decide, Enter, Leave, Mark, after}
 use Rattle.bq_fair.specs.Events.{entries}

@@ -5,7 +5,7 @@ use Rattle.bq_weights.specs.VirtualTime.{vdelta_of}
 use Rattle.bq_disc.specs.Tasks.{Task}
 use Rattle.bq_cfs.specs.Cfs.{cfs}
 use Rattle.bq_eevdf.specs.Eevdf.{eevdf}
-use Rattle.bq_maps.specs.declared.board.Call.{Call as Asked}
+use Rattle.bq_bpf.specs.declared.board.Call.{Call as Asked}
 use Rattle.bq_fair.specs.Histories.{HasRoom, task_at}
 use Rattle.bq_fair.specs.Steps.{Step, DecidesWithin, StaysThroughout}
 use Rattle.bq_parts.specs.declared.event.Event.{Event}

@@ -1,6 +1,6 @@
 -- What an accepted policy answers, by what is known of its program.
 use Rattle.std.proofs.Common.{◌<◌, ◌^◌, length, refl, arith}
-use Rattle.bq_maps.specs.Machine.{start}
+use Rattle.bq_bpf.specs.Runs.{start}
 use Rattle.bq_interp.proofs.RunLemmas.{context_small, safe_run}
 use Rattle.bq_interp.proofs.OneRunLemmas.{one_run}
 use Rattle.bq_interp.specs.Chains.{setting_of}

@@ -1,7 +1,7 @@
 -- Maps of zeros.
 use Rattle.std.proofs.Common.{◌≡◌, ℕ, suc, zero, ◌*◌, List, [], ◌∷◌, length, map, replicate, get_or, refl, arith, Some}
 use Rattle.std.specs.Prelude.{slice_get}
-use Rattle.bq_maps.specs.declared.shape.MapShape.{MapShape}
+use Rattle.bq_bpf.specs.declared.shape.MapShape.{MapShape}
 use Rattle.bq_policies.specs.Answers.{zeros_of}
 
 -- a list of which each member is 0

@@ -1,8 +1,8 @@
 -- What a policy answers when it is asked.
 use Rattle.std.specs.Prelude.{ℕ, ◌*◌, ◌≤◌, List, [], length, map, replicate, Option, Some, None}
-use Rattle.bq_maps.specs.declared.shape.MapShape.{MapShape}
-use Rattle.bq_maps.specs.declared.board.Call.{Call as Asked}
-use Rattle.bq_maps.specs.Machine.{RunFrom, start}
+use Rattle.bq_bpf.specs.declared.shape.MapShape.{MapShape}
+use Rattle.bq_bpf.specs.declared.board.Call.{Call as Asked}
+use Rattle.bq_bpf.specs.Runs.{RunFrom, start}
 use Rattle.bq_interp.specs.Chains.{setting_of}
 use Rattle.bq_verify.specs.Accepted.{Accepted}
 

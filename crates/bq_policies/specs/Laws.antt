@@ -1,9 +1,10 @@
 -- Laws of policies: what an accepted one answers rests on what it is shown alone, and comes within its budget.
 use Rattle.std.specs.Prelude.{◌≡◌, ℕ, ◌^◌, ◌<◌, List, length, slice_index}
-use Rattle.bq_maps.specs.Arrays.{HaveShapes}
-use Rattle.bq_maps.specs.declared.board.Call.{Call as Asked}
+use Rattle.bq_bpf.specs.Memory.{HaveShapes}
+use Rattle.bq_bpf.specs.declared.board.Call.{Call as Asked}
 use Rattle.bq_interp.specs.Laws.{AnswerAlike}
-use Rattle.bq_verify.specs.Accepted.{Accepted, context_length_of}
+use Rattle.bq_verify.specs.Accepted.{Accepted}
+use Rattle.bq_bpf.specs.Hooks.{context_length_of}
 use Rattle.bq_policies.specs.Answers.{Answers, IsWithin}
 use Rattle.bq_policies.specs.Standing.{WasAccepted}
 

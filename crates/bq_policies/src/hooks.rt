@@ -1,16 +1,16 @@
 //! What stands at the hooks of a processor.
 ghost use Rattle.std.specs.Prelude.{◌≡◌, true, length, IfSome, is_some};
 ghost use Rattle.std.specs.Option.{option_map};
-ghost use Rattle.bq_maps.specs.Counters.{Through};
-ghost use Rattle.bq_verify.specs.Accepted.{context_length_of};
-ghost use Rattle.bq_maps.specs.Arrays.{HaveShapes};
+ghost use Rattle.bq_bpf.specs.Counters.{Through};
+ghost use Rattle.bq_bpf.specs.Hooks.{context_length_of};
+ghost use Rattle.bq_bpf.specs.Memory.{HaveShapes};
 ghost use Rattle.bq_policies.specs.Answers.{Answers, IsWithin};
 ghost use Rattle.bq_policies.specs.Standing.{WasAnswered};
 ghost use Rattle.bq_policies.specs.Programs.{no_programs, at_hook, with_program, IsFor};
 
 use crate::{Hook, Installed, Scratch, Version};
 use bq_interp::{Done, Env};
-use bq_maps::Board;
+use bq_bpf::Board;
 use std::marker::Model;
 
 /// What stands at each hook of a processor: nothing that was verified for another hook.
@@ -23,7 +23,7 @@ pub struct Hooks {
 
 impl Model for Hooks {
     ghost use Rattle.bq_policies.specs.Programs.{Programs, IsFor};
-    ghost use Rattle.bq_verify.specs.declared.hook.Hook.TheVariants.{Place, Preempt, Pull};
+    ghost use Rattle.bq_bpf.specs.declared.hook.Hook.TheVariants.{Place, Preempt, Pull};
 
     ghost Value = { Programs };
 

@@ -1,17 +1,18 @@
 //! What stands at one hook.
 ghost use Rattle.std.specs.Prelude.{◌≡◌, [], true, length, Some, None, IfOk, IfSome, is_some};
 ghost use Rattle.std.specs.Option.{option_map};
-ghost use Rattle.bq_maps.specs.Counters.{Through};
-ghost use Rattle.bq_verify.specs.Accepted.{context_length_of};
-ghost use Rattle.bq_maps.specs.Arrays.{HaveShapes};
+ghost use Rattle.bq_bpf.specs.Counters.{Through};
+ghost use Rattle.bq_bpf.specs.Hooks.{context_length_of};
+ghost use Rattle.bq_bpf.specs.Memory.{HaveShapes};
 ghost use Rattle.bq_policies.specs.Answers.{Answers, IsWithin, fresh_maps};
 ghost use Rattle.bq_policies.specs.Standing.{IsEquipped, WasAnswered};
 ghost use Rattle.bq_policies.specs.Programs.{no_program};
 
 use crate::{Policy, Scratch};
 use bq_interp::{Done, Env, run_into};
-use bq_maps::{Board, Maps};
-use bq_verify::Version;
+use bq_bpf::Board;
+use bq_maps::Maps;
+use bq_bpf::Version;
 use std::alloc::{AllocError, Global};
 use std::marker::Model;
 

@@ -11,7 +11,8 @@ mod same;
 pub mod scratch;
 
 pub use bq_interp::{Done, Env};
-pub use bq_verify::{Hook, Verified, Version};
+pub use bq_bpf::{Hook, Version};
+pub use bq_verify::Verified;
 pub use hooks::Hooks;
 pub use installed::Installed;
 pub use policy::Policy;

@@ -2,7 +2,7 @@
 ghost use Rattle.std.specs.Prelude.{◌≡◌, ◌↔◌, IsTrue};
 
 use bq_insn::{Insn, Source};
-use bq_maps::shape::MapShape;
+use bq_bpf::MapShape;
 
 /// Whether both lists have the same instructions in the same slots.
 pub(crate) fn same_slots(slots: &[Option<Insn>], other: &[Option<Insn>]) -> bool

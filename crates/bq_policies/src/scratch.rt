@@ -3,7 +3,7 @@ ghost use Rattle.std.specs.Prelude.{◌≡◌, ◌≤◌, [], length};
 
 use arrayvec::ArrayVec;
 use bq_interp::Stack;
-use bq_maps::Call;
+use bq_bpf::Call;
 use std::marker::Model;
 
 /// A stack for policies to run on, and the calls of counters of the run that was the last. One serves any number of runs
@@ -16,7 +16,7 @@ pub struct Scratch {
 
 impl Model for Scratch {
     ghost use Rattle.std.specs.Prelude.{List};
-    ghost use Rattle.bq_maps.specs.declared.board.Call.{Call as Asked};
+    ghost use Rattle.bq_bpf.specs.declared.board.Call.{Call as Asked};
 
     ghost Value = { List Asked };
 

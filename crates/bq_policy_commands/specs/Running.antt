@@ -3,13 +3,13 @@ use Rattle.std.specs.Prelude.{◌≡◌, ℕ, ◌+◌, Bool, false, List, ◌++�
 use Rattle.std.specs.declared.alloc.Global.{Global}
 use Rattle.std.specs.Fmt.{decimal, digits}
 use Rattle.bq_insn.specs.Slots.{spread}
-use Rattle.bq_maps.specs.declared.board.Call.{Call as Asked}
+use Rattle.bq_bpf.specs.declared.board.Call.{Call as Asked}
 use Rattle.bq_explain.specs.declared.verdict.Verdict.{Verdict}
 use Rattle.bq_explain.specs.declared.verdict.Verdict.TheVariants as verdict
 use Rattle.bq_explain.specs.Verdicts.{verdict_line}
 use Rattle.bq_one_run.specs.declared.inputs.Inputs.{Inputs}
 use Rattle.bq_maps.specs.Arrays.{Arrays}
-use Rattle.bq_maps.specs.Machine.{start}
+use Rattle.bq_bpf.specs.Runs.{start}
 use Rattle.bq_interp.specs.declared.traced.Moment.{Moment}
 use Rattle.bq_interp.specs.Chains.{setting_of}
 use Rattle.bq_interp.specs.Moments.{AreMoments}
@@ -18,9 +18,10 @@ use Rattle.bq_one_run.specs.Permitting.{word_of}
 use Rattle.bq_one_run.specs.Runs.{AreRuns, IsRun, Kept, kept_in}
 use Rattle.bq_one_run.specs.Words.{IsNumber}
 use Rattle.bq_graph.specs.declared.cause.Cause.{Cause}
-use Rattle.bq_verify.specs.Accepted.{Accepted, context_length_of}
+use Rattle.bq_verify.specs.Accepted.{Accepted}
+use Rattle.bq_bpf.specs.Hooks.{context_length_of}
 use Rattle.bq_verify.specs.Refusals.{IsRefusal}
-use Rattle.bq_verify.specs.declared.hook.Hook.{Hook}
+use Rattle.bq_bpf.specs.declared.hook.Hook.{Hook}
 use Rattle.bq_verify.specs.declared.refused.Refused.TheVariants as refused
 use Rattle.bq_policy_files.specs.declared.head.Head.{Head}
 use Rattle.bq_policy_files.specs.declared.policy.Policy.{Policy}

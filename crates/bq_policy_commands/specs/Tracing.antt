@@ -3,7 +3,7 @@ use Rattle.std.specs.Prelude.{◌≡◌, ℕ, zero, suc, Bool, true, false, List
 use Rattle.std.specs.Fmt.{decimal, digits}
 use Rattle.bq_insn.specs.declared.Insn.{Insn}
 use Rattle.bq_asm.specs.Text.{listing_text}
-use Rattle.bq_maps.specs.Machine.{instruction_at}
+use Rattle.bq_bpf.specs.Steps.{instruction_at}
 use Rattle.bq_verify.specs.Accepted.{Accepted}
 use Rattle.bq_interp.specs.declared.traced.Moment.{Moment}
 

@@ -2,12 +2,12 @@
 ghost use Rattle.std.specs.Prelude.{◌≡◌, IfOk, Some};
 ghost use Rattle.bq_policy_commands.specs.Saying.{IsHeadWord, SaysHead, option_bytes};
 ghost use Rattle.bq_policy_files.specs.Heads.{Names};
-ghost use Rattle.bq_verify.specs.Names.{hook_of, version_of};
+ghost use Rattle.bq_bpf.specs.Hooks.{hook_of, version_of};
 
 use crate::asm_options::maps_option_words;
 use crate::words::PolicyWords;
 use bq_load::{Hook, Version};
-use bq_maps::shape::MapShape;
+use bq_bpf::MapShape;
 use bq_policy_files::Head;
 use bq_program::shapes_of;
 use std::alloc::{AllocError, Global};

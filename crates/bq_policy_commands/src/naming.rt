@@ -1,6 +1,6 @@
 //! The inputs that the words of `run` name.
 ghost use Rattle.std.specs.Prelude.{◌≡◌, IfOk, replicate};
-ghost use Rattle.bq_verify.specs.Accepted.{context_length_of};
+ghost use Rattle.bq_bpf.specs.Hooks.{context_length_of};
 ghost use Rattle.bq_one_run.specs.Naming.{BeginsWith, IsClean};
 ghost use Rattle.bq_policy_commands.specs.Running.{HasInputs, IsNumberOrZero};
 ghost use Rattle.bq_policy_commands.specs.Saying.{option_bytes};

@@ -1,6 +1,6 @@
 //! `run` of a policy's file.
 ghost use Rattle.std.specs.Prelude.{◌≡◌, IfOk, length, string_bytes};
-ghost use Rattle.bq_verify.specs.Accepted.{context_length_of};
+ghost use Rattle.bq_bpf.specs.Hooks.{context_length_of};
 ghost use Rattle.bq_policy_commands.specs.Running.{RunsFile, RunsOn, RunsPolicy, RunsProgram, RunsTo, TellsRun, TellsVerdict};
 
 use crate::answered::Answered;

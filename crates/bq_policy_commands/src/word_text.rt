@@ -3,11 +3,11 @@ ghost use Rattle.std.specs.Prelude.{◌≡◌, ◌≢◌, ◌≤◌, length, IfO
 ghost use Rattle.bq_one_run.specs.Permitting.{word_of};
 ghost use Rattle.bq_one_run.specs.declared.permitted.Word.TheVariants.{NotPermitted, NotShown, Permitted};
 ghost use Rattle.bq_policy_commands.specs.Judging.{TellsWord};
-ghost use Rattle.bq_verify.specs.Accepted.{context_length_of};
-ghost use Rattle.bq_verify.specs.declared.hook.Version.{Version};
+ghost use Rattle.bq_bpf.specs.Hooks.{context_length_of};
+ghost use Rattle.bq_bpf.specs.declared.hook.Version.{Version};
 
 use bq_one_run::{Word, word_on};
-use bq_verify::Hook;
+use bq_bpf::Hook;
 use byteorder::{ByteOrder, LittleEndian};
 use std::alloc::{AllocError, Global};
 

@@ -5,8 +5,7 @@ use Rattle.std.specs.List.{All}
 use Rattle.std.proofs.lemmas.List.Splits.{slice_split_at, slice_split_none}
 use Rattle.std.proofs.lemmas.Bool.Decides.{nat_tests}
 use Rattle.std.proofs.lemmas.Grind.{common_steps}
-use Rattle.bq_policy_files.specs.Words.{words, is_blank}
-use Rattle.bq_policy_files.specs.Words.{IsWordLen}
+use Rattle.bq_policy_files.specs.Words.{words, is_blank, IsWordLen}
 
 -- the end, or a blank
 abbrev pub EndsWord : List ℕ → Type 0

@@ -3,7 +3,7 @@ use Rattle.std.specs.Prelude.{◌≡◌, ℕ, ◌+◌, Bool, true, false, List, 
 use Rattle.std.specs.List.{list_all}
 use Rattle.std.proofs.Common.{Global}
 use Rattle.std.specs.declared.vec.Vec.{Vec}
-use Rattle.bq_maps.specs.declared.shape.MapShape.{MapShape}
+use Rattle.bq_bpf.specs.declared.shape.MapShape.{MapShape}
 use Rattle.bq_program.specs.ShapesText.{NamesShapes, NamesNoShapes}
 use Rattle.bq_policy_files.specs.declared.head.Head.{Head}
 use Rattle.bq_policy_files.specs.declared.mark.Key.{Key}
@@ -15,7 +15,7 @@ use Rattle.bq_policy_files.specs.declared.fault.HeadCause.TheVariants as cause
 use Rattle.bq_policy_files.specs.declared.fault.HeadFault.{HeadFault}
 use Rattle.bq_policy_files.specs.declared.fault.HeadFault.TheVariants.{At, OutOfMemory}
 use Rattle.bq_policy_files.specs.Marks.{are_known, key_word, mark_words, values}
-use Rattle.bq_verify.specs.Names.{hook_of, version_of}
+use Rattle.bq_bpf.specs.Hooks.{hook_of, version_of}
 
 -- what one line is
 abbrev pub IsMark : List ℕ → Mark → Type 0

@@ -1,7 +1,6 @@
 -- The marks of a text: lines that begin with `;@`, which say of the program what no instruction says.
-use Rattle.std.specs.Prelude.{◌≡◌, ℕ, Bool, true, false, ◌||◌, List, [], ◌∷◌, drop, Option, Some, None, if◌then◌else◌, codes}
+use Rattle.std.specs.Prelude.{◌≡◌, ℕ, Bool, true, false, ◌||◌, List, [], ◌∷◌, drop, Option, Some, None, if◌then◌else◌, codes, nat_eq}
 use Rattle.std.specs.List.{starts_with, flat_map}
-use Rattle.std.specs.Prelude.{nat_eq}
 use Rattle.std.specs.Str.{bytes_eq}
 use Rattle.bq_policy_files.specs.declared.mark.Key.{Key}
 use Rattle.bq_policy_files.specs.declared.mark.Key.TheVariants as key

@@ -2,9 +2,9 @@
 use Rattle.std.specs.Prelude.{◌≡◌, ℕ, List, Option, Some, None}
 use Rattle.std.proofs.Common.{Global}
 use Rattle.std.specs.declared.vec.Vec.{Vec}
-use Rattle.bq_maps.specs.declared.shape.MapShape.{MapShape}
-use Rattle.bq_verify.specs.declared.hook.Hook.{Hook}
-use Rattle.bq_verify.specs.declared.hook.Version.{Version}
+use Rattle.bq_bpf.specs.declared.shape.MapShape.{MapShape}
+use Rattle.bq_bpf.specs.declared.hook.Hook.{Hook}
+use Rattle.bq_bpf.specs.declared.hook.Version.{Version}
 use Rattle.bq_policy_files.specs.declared.head.Head.{Head}
 use Rattle.bq_policy_files.specs.declared.mark.Key.{Key}
 use Rattle.bq_policy_files.specs.declared.mark.Key.TheVariants as key
@@ -12,7 +12,7 @@ use Rattle.bq_policy_files.specs.declared.fault.HeadCause.TheVariants as cause
 use Rattle.bq_policy_files.specs.declared.fault.HeadCause.{HeadCause}
 use Rattle.bq_policy_files.specs.declared.fault.HeadFault.{HeadFault}
 use Rattle.bq_policy_files.specs.declared.fault.HeadFault.TheVariants.{At, OutOfMemory}
-use Rattle.bq_verify.specs.Names.{hook_of, version_of}
+use Rattle.bq_bpf.specs.Hooks.{hook_of, version_of}
 use Rattle.bq_policy_files.specs.Heads.{HasKey, IsBadLine, IsNoValue, Names}
 
 -- nothing was said of the key, and then the value is, and nothing else

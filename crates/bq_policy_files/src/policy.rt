@@ -4,7 +4,7 @@ ghost use Rattle.bq_insn.specs.Spelling.{is_well_formed};
 
 use bq_insn::Insn;
 use bq_load::{Hook, Version};
-use bq_maps::shape::MapShape;
+use bq_bpf::MapShape;
 
 /// A program with the choice that it makes and the shapes of its maps.
 #[derive(Debug, Drop)]

@@ -7,7 +7,7 @@ use crate::fault::PolicyFault;
 use crate::head::Head;
 use crate::mark::Key;
 use bq_load::{Hook, Version};
-use bq_maps::shape::MapShape;
+use bq_bpf::MapShape;
 use std::alloc::Global;
 
 /// The hook, the shapes of the maps and the version.

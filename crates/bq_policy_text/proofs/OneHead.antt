@@ -2,13 +2,13 @@
 use Rattle.std.proofs.Common.{◌≡◌, ℕ, List, [], ◌∷◌, map, Some, None, Option, refl, sym, ap, subst, ◌∙◌, option_map, Global}
 use Rattle.std.proofs.Props.{props}
 use Rattle.std.specs.declared.vec.Vec.{Vec}
-use Rattle.bq_maps.specs.declared.shape.MapShape.{MapShape}
-use Rattle.bq_maps.specs.Limits.{IsShape}
+use Rattle.bq_bpf.specs.declared.shape.MapShape.{MapShape}
+use Rattle.bq_bpf.specs.Limits.{IsShape}
 use Rattle.bq_load.proofs.FieldLemmas.{shape_of, shape_facts}
 use Rattle.bq_program.specs.ShapesText.{numbers_of}
-use Rattle.bq_verify.specs.Names.{hook_of, version_of}
-use Rattle.bq_verify.specs.declared.hook.Hook.{Hook}
-use Rattle.bq_verify.specs.declared.hook.Version.{Version}
+use Rattle.bq_bpf.specs.Hooks.{hook_of, version_of}
+use Rattle.bq_bpf.specs.declared.hook.Hook.{Hook}
+use Rattle.bq_bpf.specs.declared.hook.Version.{Version}
 use Rattle.bq_policy_files.specs.declared.head.Head.{Head}
 use Rattle.bq_policy_files.specs.declared.mark.Key.TheVariants as key
 use Rattle.bq_policy_files.specs.Files.{maps_in}

@@ -4,12 +4,12 @@ use Rattle.std.specs.Prelude.{replicate}
 use Rattle.std.specs.Map.{keys_of}
 use Rattle.std.specs.Str.Lines.{lines}
 use Rattle.std.proofs.lemmas.List.{map-append}
-use Rattle.bq_maps.specs.declared.shape.MapShape.{MapShape}
+use Rattle.bq_bpf.specs.declared.shape.MapShape.{MapShape}
 use Rattle.bq_insn.specs.declared.Insn.{Insn}
 use Rattle.bq_insn.specs.Laws.{AllFit}
-use Rattle.bq_verify.specs.declared.hook.Hook.{Hook}
-use Rattle.bq_verify.specs.declared.hook.Version.{Version}
-use Rattle.bq_verify.specs.declared.hook.Version.TheVariants.{First, Second}
+use Rattle.bq_bpf.specs.declared.hook.Hook.{Hook}
+use Rattle.bq_bpf.specs.declared.hook.Version.{Version}
+use Rattle.bq_bpf.specs.declared.hook.Version.TheVariants.{First, Second}
 use Rattle.bq_asm.specs.Assembly.{Assembles, AreNewLabels, Says, places_from}
 use Rattle.bq_asm.specs.Lines.{Line, Blank, line_said, lines_of}
 use Rattle.bq_asm.specs.Text.{listing_text}

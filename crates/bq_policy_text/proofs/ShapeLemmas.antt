@@ -9,7 +9,7 @@ use Rattle.std.proofs.lemmas.Bool.{and_from, and_parts, leb-true, lt-ltb, ne_eqb
 use Rattle.std.proofs.lemmas.Fmt.{decimal_is_IsNumeral}
 use Rattle.std.proofs.lemmas.List.Elements.{All-from_recursion}
 use Rattle.std.proofs.lemmas.List.Splits.{slice_split_at, slice_split_none}
-use Rattle.bq_maps.specs.declared.shape.MapShape.{MapShape}
+use Rattle.bq_bpf.specs.declared.shape.MapShape.{MapShape}
 use Rattle.bq_asm.proofs.DigitLemmas.{is_digit, decimal_digits}
 use Rattle.bq_program.specs.ShapesText.{NamesShapes, number_of, numbers_in, numbers_of, both, pair_of, parts}
 use Rattle.bq_policy_text.specs.Marks.{shape_text, more_maps}

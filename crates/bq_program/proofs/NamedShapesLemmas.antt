@@ -2,7 +2,7 @@
 use Rattle.std.proofs.Common.{◌≡◌, ℕ, ◌+◌, ◌<◌, ◌≤◌, suc, List, [], ◌∷◌, ◌++◌, length, map, refl, sym, ap, subst, ◌∙◌, Bool, true, false, Some, None, Option, is_some, arith, cond, eqb}
 use Rattle.std.specs.List.{onto_first, slice_split}
 use Rattle.std.specs.Borrow.{Bor}
-use Rattle.bq_maps.specs.declared.shape.MapShape.{MapShape}
+use Rattle.bq_bpf.specs.declared.shape.MapShape.{MapShape}
 use Rattle.bq_program.specs.ShapesText.{NamesShapes, NamesNoShapes, parts, parts_after, pair_of, numbers_in, numbers_of}
 
 -- a text has a part at least

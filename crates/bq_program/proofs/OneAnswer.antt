@@ -13,9 +13,9 @@ use Rattle.bq_insn.proofs.OneFaultLemmas as fault
 use Rattle.bq_insn.proofs.LengthLemmas as lengths
 use Rattle.bq_asm.specs.Text.{listing_text}
 use Rattle.bq_asm.proofs.LawLemmas as asm
-use Rattle.bq_maps.specs.declared.shape.MapShape.{MapShape}
-use Rattle.bq_verify.specs.declared.hook.Hook.{Hook}
-use Rattle.bq_verify.specs.declared.hook.Version.{Version}
+use Rattle.bq_bpf.specs.declared.shape.MapShape.{MapShape}
+use Rattle.bq_bpf.specs.declared.hook.Hook.{Hook}
+use Rattle.bq_bpf.specs.declared.hook.Version.{Version}
 use Rattle.bq_load.specs.Layout.{header_bytes, IsImage}
 use Rattle.bq_program.specs.declared.form.Form.{Form}
 use Rattle.bq_program.specs.declared.form.Form.TheVariants.{Program, Image}

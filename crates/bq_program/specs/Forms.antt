@@ -3,8 +3,8 @@ use Rattle.std.specs.Prelude.{◌≡◌, ℕ, List, [], Option, Some, None, ◌�
 use Rattle.std.specs.String.{string_bytes}
 use Rattle.bq_insn.specs.declared.Insn.{Insn}
 use Rattle.bq_insn.specs.Spelling.{spelling}
-use Rattle.bq_maps.specs.declared.shape.MapShape.{MapShape}
-use Rattle.bq_verify.specs.declared.hook.Version.TheVariants.{First}
+use Rattle.bq_bpf.specs.declared.shape.MapShape.{MapShape}
+use Rattle.bq_bpf.specs.declared.hook.Version.TheVariants.{First}
 use Rattle.bq_load.specs.Layout.{IsImage}
 use Rattle.bq_program.specs.declared.options.Options.{Options}
 use Rattle.bq_program.specs.declared.options.OptionsFault.{OptionsFault}

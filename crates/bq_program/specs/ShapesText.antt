@@ -4,7 +4,7 @@ use Rattle.std.specs.List.{All, list_all, slice_split}
 use Rattle.std.specs.Borrow.{Bor}
 use Rattle.std.specs.Char.{digit_value}
 use Rattle.std.specs.Str.Parse.{digits_value}
-use Rattle.bq_maps.specs.declared.shape.MapShape.{MapShape}
+use Rattle.bq_bpf.specs.declared.shape.MapShape.{MapShape}
 
 -- the parts between such bytes
 abbrev pub parts : ℕ → List ℕ → List (List ℕ)

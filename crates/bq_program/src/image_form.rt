@@ -4,7 +4,7 @@ ghost use Rattle.bq_insn.specs.Faults.{is_length};
 ghost use Rattle.bq_load.specs.Layout.{IsImage};
 
 use bq_load::{Hook, Image, Version, write_image};
-use bq_maps::shape::MapShape;
+use bq_bpf::MapShape;
 use std::alloc::{AllocError, Global};
 
 /// What an image says beside its program.

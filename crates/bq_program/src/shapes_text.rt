@@ -1,9 +1,9 @@
 //! The shapes of maps as a text.
 ghost use Rattle.std.specs.Prelude.{◌≡◌, ◌∷◌, IfOk, IfSome, IfNone, MatchOption};
-ghost use Rattle.bq_maps.specs.declared.shape.MapShape.{MapShape as Shape};
+ghost use Rattle.bq_bpf.specs.declared.shape.MapShape.{MapShape as Shape};
 ghost use Rattle.bq_program.specs.ShapesText.{IsPartLen, NamesNoShapes, NamesShapes, number_of, numbers_in, numbers_of, parts, parts_after};
 
-use bq_maps::shape::MapShape;
+use bq_bpf::MapShape;
 use std::alloc::{AllocError, Global};
 
 /// The most maps of a program.

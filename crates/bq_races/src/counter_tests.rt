@@ -3,7 +3,7 @@
 use crate::images::{ADDS, READS};
 use crate::play::{Play, Script};
 use crate::script::{Outcome, run_script};
-use bq_maps::Call;
+use bq_bpf::Call;
 use std::alloc::{AllocError, Global};
 use std::test::Fail;
 

@@ -9,7 +9,7 @@ use Rattle.bq_parts.specs.declared.refusal.Refusal.{Refusal}
 use Rattle.bq_parts.specs.Processors.{Processor}
 use Rattle.bq_parts.specs.Shares.{Admits, Retires, Blocks, Installs}
 use Rattle.bq_policies.specs.Programs.{Program}
-use Rattle.bq_verify.specs.declared.hook.Hook.{Hook}
+use Rattle.bq_bpf.specs.declared.hook.Hook.{Hook}
 
 pub admits_brief : (id : ℕ) (t : Task) (seats : List Seat) (a : Result Reply Refusal) (seats' : List Seat) → Admits id t seats a seats' → has_loads a ≡ false
 admits_brief id t seats (Ok r) seats' s = ap (λ (x : Reply). has_loads (Ok x)) s.1

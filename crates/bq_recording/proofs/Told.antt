@@ -1,7 +1,7 @@
 -- An account that went over a desk is ahead by the calls that were made there.
 use Rattle.std.proofs.Common.{◌≡◌, List, sym, ap, ◌∙◌}
-use Rattle.bq_maps.specs.declared.board.Call.{Call}
-use Rattle.bq_maps.specs.Counters.{Through}
+use Rattle.bq_bpf.specs.declared.board.Call.{Call}
+use Rattle.bq_bpf.specs.Counters.{Through}
 use Rattle.bq_history.specs.declared.law.Receipt.{Receipt}
 use Rattle.bq_counters.specs.declared.account.Account.{Account}
 use Rattle.bq_counters.specs.Sums.{calling}

@@ -7,7 +7,7 @@ use Rattle.std.proofs.lemmas.List.{get_or-replicate, length-set, length-replicat
 use Rattle.bq_disc.specs.Tasks.{Task, id_of, with_id}
 use Rattle.bq_disc.specs.Discipline.{Discipline, charged, next_of}
 use Rattle.bq_disc.specs.OneProcessor.{Running, reading, charge, run_id, exchanged, decided, enter_all}
-use Rattle.bq_maps.specs.declared.board.Call.{Call as Asked}
+use Rattle.bq_bpf.specs.declared.board.Call.{Call as Asked}
 use Rattle.bq_parts.specs.declared.event.Event.{Event}
 use Rattle.bq_parts.specs.declared.event.Event.TheVariants.{Admit, Retire, Draw, Install, BeginWake, EndWake, Drain, Tick, Block, Pull}
 use Rattle.bq_parts.specs.declared.reply.Reply.{Reply}

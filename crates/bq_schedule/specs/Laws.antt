@@ -3,7 +3,7 @@ use Rattle.std.specs.Prelude.{◌≡◌, ℕ, ◌+◌, ◌-◌, ◌*◌, ◌<◌
 use Rattle.std.specs.Option.{option_map}
 use Rattle.bq_disc.specs.Tasks.{id_of}
 use Rattle.bq_disc.specs.Discipline.{Discipline}
-use Rattle.bq_maps.specs.declared.board.Call.{Call as Asked}
+use Rattle.bq_bpf.specs.declared.board.Call.{Call as Asked}
 use Rattle.bq_parts.specs.declared.event.Event.{Event}
 use Rattle.bq_parts.specs.declared.reply.Reply.{Reply}
 use Rattle.bq_parts.specs.declared.refusal.Refusal.{Refusal}

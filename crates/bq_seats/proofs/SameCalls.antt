@@ -3,9 +3,9 @@ use Rattle.std.proofs.Common.{◌≡◌}
 use Rattle.std.specs.Bool.{Decides}
 use Rattle.std.specs.Prelude.{◌==◌, ◌&&◌}
 use Rattle.std.proofs.lemmas.Bool.Decides.{Decides-eqb, Decides-and, Decides-like}
-use Rattle.bq_maps.specs.declared.board.Call.{Call}
-use Rattle.bq_maps.specs.declared.board.Call.TheVariants.{Add, Read}
-use Rattle.bq_maps.specs.contracts.board.CallPartialEq.TheImpl as impl
+use Rattle.bq_bpf.specs.declared.board.Call.{Call}
+use Rattle.bq_bpf.specs.declared.board.Call.TheVariants.{Add, Read}
+use Rattle.bq_bpf.specs.contracts.board.CallPartialEq.TheImpl as impl
 
 -- `==` on two calls tells whether they are the same
 pub call_decides : (a b : Call) → Decides (impl.eq-value.it a b) (a ≡ b)

@@ -2,7 +2,7 @@
 ghost use Rattle.std.specs.Prelude.{◌≡◌, ◌≤◌, [], length, true, is_some};
 
 use arrayvec::ArrayVec;
-use bq_maps::Call;
+use bq_bpf::Call;
 use std::alloc::{AllocError, Global};
 use std::marker::Model;
 
@@ -15,7 +15,7 @@ pub struct Calls {
 
 impl Model for Calls {
     ghost use Rattle.std.specs.Prelude.{List};
-    ghost use Rattle.bq_maps.specs.declared.board.Call.{Call as Asked};
+    ghost use Rattle.bq_bpf.specs.declared.board.Call.{Call as Asked};
     ghost use Rattle.bq_seats.specs.Listed.{listed};
 
     ghost Value = { List Asked };

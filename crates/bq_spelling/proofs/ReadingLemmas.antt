@@ -6,9 +6,9 @@ use Rattle.std.proofs.lemmas.Bool.{and_parts}
 use Rattle.std.proofs.lemmas.Bool.Decides.{nat_tests}
 use Rattle.hex.specs.Hex.{lower_digits}
 use Rattle.hex.proofs.HexLemmas.{length-encode_with}
-use Rattle.bq_verify.specs.Names.{hook_of, hook_word}
-use Rattle.bq_verify.specs.declared.hook.Hook.{Hook}
-use Rattle.bq_verify.specs.declared.hook.Hook.TheVariants as hooks
+use Rattle.bq_bpf.specs.Hooks.{hook_of, hook_word}
+use Rattle.bq_bpf.specs.declared.hook.Hook.{Hook}
+use Rattle.bq_bpf.specs.declared.hook.Hook.TheVariants as hooks
 use Rattle.bq_parts.specs.declared.event.Event.{Event}
 use Rattle.bq_parts.specs.declared.event.Event.TheVariants.{Admit, Retire, Draw, Install, BeginWake, EndWake, Drain, Tick, Block, Pull}
 use Rattle.bq_sizes.specs.Sizes.{processors_in, rule_of, size_numbered}

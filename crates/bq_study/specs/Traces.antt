@@ -16,7 +16,7 @@ use Rattle.bq_study.specs.declared.policies.Policies.{Policies}
 use Rattle.bq_study.specs.declared.running.Written.{Written}
 use Rattle.bq_trace.specs.Feeding.{with_feeds}
 use Rattle.bq_trace.specs.News.{News, Told, Skipped, texts}
-use Rattle.bq_verify.specs.declared.hook.Hook.{Hook}
+use Rattle.bq_bpf.specs.declared.hook.Hook.{Hook}
 
 -- the image at a hook: the first that is for it
 abbrev pub image_for : List (Hook × Vec ℕ Global) → ByHook

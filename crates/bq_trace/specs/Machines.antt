@@ -3,8 +3,8 @@ use Rattle.std.specs.Prelude.{◌≢◌, ℕ, List, replicate, Result, Err}
 use Rattle.bq_disc.specs.Discipline.{Discipline}
 use Rattle.bq_cfs.specs.Cfs.{cfs}
 use Rattle.bq_eevdf.specs.Eevdf.{eevdf}
-use Rattle.bq_maps.specs.declared.board.Call.{Call as Asked}
-use Rattle.bq_maps.specs.Counters.{Counts, Through}
+use Rattle.bq_bpf.specs.declared.board.Call.{Call as Asked}
+use Rattle.bq_bpf.specs.Counters.{Counts, Through}
 use Rattle.bq_parts.specs.World.{World, opening_world}
 use Rattle.bq_parts.specs.Choices.{Setting, policies}
 use Rattle.bq_parts.specs.Steps.{WorldStep}

@@ -4,9 +4,9 @@ use Rattle.std.specs.Prelude.{slice_get, slice_set, slice_index}
 use Rattle.std.proofs.lemmas.Bool.Decides.{eqb_tells, leb_tells, nat_tests}
 use Rattle.std.proofs.lemmas.Bool.{cases_lt}
 use Rattle.bq_insn.specs.declared.Insn.TheVariants.{Call}
-use Rattle.bq_maps.specs.declared.shape.MapShape.{MapShape}
-use Rattle.bq_maps.specs.Memory.{Setting, State, Reads, Writes, IsGood, InEntry, written, IsEntry, reference, values_base, number_of}
-use Rattle.bq_maps.specs.Machine.{Does, called, entry_address, NamesEntry}
+use Rattle.bq_bpf.specs.declared.shape.MapShape.{MapShape}
+use Rattle.bq_bpf.specs.Memory.{Setting, State, Reads, Writes, IsGood, InEntry, written, IsEntry, reference, values_base, number_of}
+use Rattle.bq_bpf.specs.Steps.{Does, called, entry_address, NamesEntry}
 use Rattle.bq_ranges.specs.declared.range.Range.{Range}
 use Rattle.bq_views.specs.declared.view.View.{View}
 use Rattle.bq_views.specs.declared.view.Known.{Known}

@@ -1,9 +1,9 @@
 -- Calls of counters.
 use Rattle.std.proofs.Common.{ℕ, ◌^◌, ◌<◌, refl, pos}
 use Rattle.bq_insn.specs.declared.Insn.TheVariants.{Call}
-use Rattle.bq_maps.specs.declared.board.Call.TheVariants.{Add, Read}
-use Rattle.bq_maps.specs.Memory.{Setting, State}
-use Rattle.bq_maps.specs.Machine.{called}
+use Rattle.bq_bpf.specs.declared.board.Call.TheVariants.{Add, Read}
+use Rattle.bq_bpf.specs.Memory.{Setting, State}
+use Rattle.bq_bpf.specs.Steps.{called}
 use Rattle.bq_views.specs.declared.view.View.{View}
 use Rattle.bq_transfer.specs.Carries.{AsksFrom, IsBelow}
 use Rattle.bq_views.specs.Views.{Covers}

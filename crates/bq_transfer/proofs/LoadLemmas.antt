@@ -6,10 +6,11 @@ use Rattle.bq_insn.specs.declared.Size.{Size}
 use Rattle.bq_insn.specs.declared.Size.TheVariants.{Double}
 use Rattle.std.specs.Int.{byte_at as byte_of, bytes_low_first}
 use Rattle.bq_views.proofs.StoreLemmas.{low_at}
-use Rattle.bq_insn.specs.Meaning.{byte_count, word_of}
-use Rattle.bq_maps.specs.declared.shape.MapShape.{MapShape}
-use Rattle.bq_maps.specs.Memory.{Setting, State, Region, InStack, IsGood, Reads, byte_at, number_of}
-use Rattle.bq_maps.specs.Machine.{loaded, Does, address_of, put}
+use Rattle.bq_insn.specs.Slots.{byte_count}
+use Rattle.bq_alu.specs.Meaning.{word_of}
+use Rattle.bq_bpf.specs.declared.shape.MapShape.{MapShape}
+use Rattle.bq_bpf.specs.Memory.{Setting, State, Region, InStack, IsGood, Reads, byte_at, number_of}
+use Rattle.bq_bpf.specs.Steps.{loaded, Does, address_of, put}
 use Rattle.bq_ranges.specs.Within.{Within}
 use Rattle.bq_ranges.specs.declared.range.Range.{Range}
 use Rattle.bq_views.specs.Copies.{HasWord}

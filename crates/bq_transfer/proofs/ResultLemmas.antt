@@ -1,11 +1,11 @@
 -- Words that arithmetic gives, and words on the sides of a test.
 use Rattle.std.proofs.Common.{true, false, ◌≢◌, ◌⊎◌, inl, inr, ◌≡◌, ℕ, ◌+◌, ◌-◌, ◌%◌, ◌^◌, ◌<◌, List, refl, arith}
-use Rattle.bq_insn.specs.Meaning.{alu_result, operate, taken, compares}
+use Rattle.bq_alu.specs.Meaning.{alu_result, operate, taken, compares}
 use Rattle.bq_insn.specs.declared.Width.TheVariants.{W32, W64}
 use Rattle.bq_insn.specs.declared.Operation.TheVariants as op
 use Rattle.bq_insn.specs.declared.Condition.TheVariants as cond
 use Rattle.std.proofs.lemmas.Bool.Decides.{nat_tests}
-use Rattle.bq_maps.specs.declared.shape.MapShape.{MapShape}
+use Rattle.bq_bpf.specs.declared.shape.MapShape.{MapShape}
 use Rattle.bq_ranges.specs.Within.{Within}
 use Rattle.bq_ranges.specs.declared.range.Range.{Range}
 use Rattle.bq_views.specs.declared.view.Kind.{Kind}

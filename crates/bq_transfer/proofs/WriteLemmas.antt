@@ -9,10 +9,11 @@ use Rattle.std.proofs.lemmas.Option.{slice_get_within}
 use Rattle.bq_insn.specs.declared.Size.{Size}
 use Rattle.bq_insn.specs.declared.Size.TheVariants.{Byte, Half, Word, Double}
 use Rattle.bq_insn.specs.declared.Insn.TheVariants.{StoreImm, StoreReg}
-use Rattle.bq_insn.specs.Meaning.{byte_count, word_of}
-use Rattle.bq_maps.specs.declared.shape.MapShape.{MapShape}
-use Rattle.bq_maps.specs.Memory.{Setting, State, Region, InStack, InEntry, IsGood, stack_with, written}
-use Rattle.bq_maps.specs.Machine.{address_of, low_bytes, next}
+use Rattle.bq_insn.specs.Slots.{byte_count}
+use Rattle.bq_alu.specs.Meaning.{word_of}
+use Rattle.bq_bpf.specs.declared.shape.MapShape.{MapShape}
+use Rattle.bq_bpf.specs.Memory.{Setting, State, Region, InStack, InEntry, IsGood, stack_with, written}
+use Rattle.bq_bpf.specs.Steps.{address_of, low_bytes, next}
 use Rattle.bq_maps.proofs.ShapeLemmas.{have_overwritten}
 use Rattle.bq_ranges.specs.declared.range.Range.{Range}
 use Rattle.bq_ranges.specs.Within.{Within}

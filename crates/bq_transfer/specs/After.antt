@@ -1,6 +1,7 @@
 -- What is sure of a view after an instruction, by the view before it.
 use Rattle.std.specs.Prelude.{◌≡◌, ◌≢◌, ℕ, ◌+◌, ◌<◌, ◌≤◌, ℤ, pos, ◌+ℤ◌, Some, ◌⊎◌}
-use Rattle.bq_insn.specs.Meaning.{byte_count, word_of}
+use Rattle.bq_insn.specs.Slots.{byte_count}
+use Rattle.bq_alu.specs.Meaning.{word_of}
 use Rattle.bq_insn.specs.declared.Condition.TheVariants.{Equal, NotEqual}
 use Rattle.bq_insn.specs.declared.Condition.{Condition}
 use Rattle.bq_insn.specs.declared.Insn.TheVariants.{Alu, StoreImm, StoreReg, MapRef, Branch, Call}
@@ -9,7 +10,7 @@ use Rattle.bq_insn.specs.declared.Operation.TheVariants.{Add, Mov}
 use Rattle.bq_insn.specs.declared.Size.{Size}
 use Rattle.bq_insn.specs.declared.Source.TheVariants.{Imm, Reg}
 use Rattle.bq_insn.specs.declared.Width.TheVariants.{W64}
-use Rattle.bq_maps.specs.Machine.{LeadsTo}
+use Rattle.bq_bpf.specs.Steps.{LeadsTo}
 use Rattle.bq_graph.specs.Faults.{destination_of}
 use Rattle.bq_views.specs.Standing.{Scalar, Exact, Pointer, NoPointer, StandsAt, Fact, Never, AtRegister, IsSetAt, IsPlainAt, Has}
 use Rattle.bq_views.specs.Told.{IsCertain}

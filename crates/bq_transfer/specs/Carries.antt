@@ -1,16 +1,16 @@
 -- What an instruction does to a view: from every state of the old one it leads to a state of the new one.
 use Rattle.std.specs.Prelude.{◌≡◌, ℕ, ℤ, ◌+◌, ◌*◌, ◌^◌, ◌<◌, List, Option, Some}
 use Rattle.bq_insn.specs.declared.Insn.{Insn}
-use Rattle.bq_insn.specs.Slots.{slots_of}
+use Rattle.bq_insn.specs.Slots.{slots_of, byte_count}
 use Rattle.bq_insn.specs.declared.Size.{Size}
 use Rattle.bq_insn.specs.declared.Size.TheVariants.{Double}
-use Rattle.bq_insn.specs.Meaning.{byte_count, alu_result}
+use Rattle.bq_alu.specs.Meaning.{alu_result}
 use Rattle.bq_graph.specs.Edges.{Leaves}
-use Rattle.bq_maps.specs.declared.shape.MapShape.{MapShape}
-use Rattle.bq_maps.specs.Memory.{Setting, State, Region, IsGood, Writes}
-use Rattle.bq_maps.specs.declared.board.Call.{Call as Asked}
-use Rattle.bq_maps.specs.Counters.{answer_of}
-use Rattle.bq_maps.specs.Machine.{Does, Asks, called, address_of, low_bytes, next}
+use Rattle.bq_bpf.specs.declared.shape.MapShape.{MapShape}
+use Rattle.bq_bpf.specs.Memory.{Setting, State, Region, IsGood, Writes}
+use Rattle.bq_bpf.specs.declared.board.Call.{Call as Asked}
+use Rattle.bq_bpf.specs.Counters.{answer_of}
+use Rattle.bq_bpf.specs.Steps.{Does, Asks, called, address_of, low_bytes, next}
 use Rattle.bq_ranges.specs.Within.{Within}
 use Rattle.bq_ranges.specs.declared.range.Range.{Range}
 use Rattle.bq_views.specs.Copies.{HasWord}

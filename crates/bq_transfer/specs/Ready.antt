@@ -1,6 +1,6 @@
 -- What each instruction needs of the view before it, so that nothing is left to be shown.
 use Rattle.std.specs.Prelude.{length, ◌≡◌, ◌≢◌, ℕ, ◌+◌, ◌<◌, ◌≤◌, ℤ, pos, ◌+ℤ◌, List, Option, Some, None, slice_get, slice_index_or, ◌⊎◌}
-use Rattle.bq_insn.specs.Meaning.{byte_count}
+use Rattle.bq_insn.specs.Slots.{byte_count}
 use Rattle.bq_insn.specs.declared.Condition.TheVariants.{Equal, NotEqual}
 use Rattle.bq_insn.specs.declared.Condition.{Condition}
 use Rattle.bq_insn.specs.declared.Insn.TheVariants.{Alu, MovSx, Neg, End, Load, StoreImm, StoreReg, Imm64, MapRef, Goto, Goto32, Branch, Call, Exit}
@@ -12,7 +12,7 @@ use Rattle.bq_insn.specs.declared.Source.TheVariants.{Imm, Reg}
 use Rattle.bq_insn.specs.declared.Source.{Source}
 use Rattle.bq_insn.specs.declared.Width.TheVariants.{W64}
 use Rattle.bq_insn.specs.declared.Width.{Width}
-use Rattle.bq_maps.specs.declared.shape.MapShape.{MapShape}
+use Rattle.bq_bpf.specs.declared.shape.MapShape.{MapShape}
 use Rattle.bq_graph.specs.Faults.{destination_of}
 use Rattle.bq_views.specs.Standing.{Scalar, Pointer, StandsAt, IsSetAt, IsPlainAt, Has, IsScalarOperand}
 use Rattle.bq_views.specs.Views.{bound_of, size_of_shape}

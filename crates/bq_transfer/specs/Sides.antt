@@ -10,7 +10,7 @@ use Rattle.bq_views.specs.Views.{Describes}
 use Rattle.bq_views.specs.declared.view.Kind.{Kind}
 use Rattle.bq_views.specs.declared.view.Kind.TheVariants.{Number, Entry, EntryOrNull}
 use Rattle.bq_views.specs.declared.view.Known.{Known}
-use Rattle.bq_maps.specs.declared.shape.MapShape.{MapShape}
+use Rattle.bq_bpf.specs.declared.shape.MapShape.{MapShape}
 
 -- whether the operands differ on that side of a test
 abbrev pub is_found : Condition → Bool → Bool

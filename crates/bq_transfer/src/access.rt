@@ -1,7 +1,7 @@
 // Where an access by a register goes.
 
 ghost use Rattle.std.specs.Prelude.{Some, ◌≡◌, ◌^◌, ◌<◌, ℕ, IsOk, IfErr, IfOk};
-ghost use Rattle.bq_insn.specs.Meaning.{word_of};
+ghost use Rattle.bq_alu.specs.Meaning.{word_of};
 ghost use Rattle.bq_insn.specs.declared.Insn.{Insn};
 ghost use Rattle.bq_transfer.specs.Doubts.{IsAccess, MayDoubt, ReadsOperand};
 ghost use Rattle.bq_transfer.specs.Ready.{IsPlaced};
@@ -10,7 +10,7 @@ ghost use Rattle.bq_transfer.specs.Carries.{FindsPlace};
 
 use crate::doubt::Doubt;
 use bq_insn::{Operation, Size, Width};
-use bq_maps::shape::MapShape;
+use bq_bpf::MapShape;
 use bq_ranges::{Range, arithmetic};
 use bq_views::places::{bound, stays};
 use bq_views::registers::known;

@@ -1,13 +1,13 @@
 // Arithmetic on what is known.
 
 ghost use Rattle.std.specs.Prelude.{◌≡◌, ◌≢◌, ◌<◌, length, IsTrue, IfSome, OnOk, IsOk, IfErr, List, ℕ, ℤ, Some};
-ghost use Rattle.bq_maps.specs.declared.shape.MapShape.{MapShape};
-ghost use Rattle.bq_insn.specs.Meaning.{alu_result, word_of};
+ghost use Rattle.bq_bpf.specs.declared.shape.MapShape.{MapShape};
+ghost use Rattle.bq_alu.specs.Meaning.{alu_result, word_of};
 ghost use Rattle.bq_transfer.specs.Doubts.{MayDoubt};
 ghost use Rattle.bq_views.specs.Standing.{Fact, Has, Scalar, Exact, Pointer, Stands, StandsAt, IsScalarOperand, IsGiven, IsMade, IsWord};
 ghost use Rattle.bq_transfer.specs.After.{After};
 ghost use Rattle.bq_transfer.specs.Ready.{IsReady, IsCopyOfFrame, IsMoveOfPointer};
-ghost use Rattle.bq_maps.specs.Memory.{State};
+ghost use Rattle.bq_bpf.specs.Memory.{State};
 ghost use Rattle.bq_views.specs.Copies.{AreCopies};
 ghost use Rattle.bq_transfer.specs.Carries.{IsCopied, Carries};
 ghost use Rattle.bq_views.specs.Views.{Describes};

@@ -1,9 +1,9 @@
 // Map references and calls of helpers.
 
 ghost use Rattle.std.specs.Prelude.{◌≡◌, ◌<◌, ◌≤◌, ◌^◌, ◌-◌, ℕ, pos, List, IfSome, IsOk, OnOk, Some, length, IfErr, IsTrue, None, slice_index_or};
-ghost use Rattle.bq_maps.specs.Memory.{Setting, State, reference};
-ghost use Rattle.bq_maps.specs.Machine.{called};
-ghost use Rattle.bq_maps.specs.declared.shape.MapShape.{MapShape};
+ghost use Rattle.bq_bpf.specs.Memory.{Setting, State, reference};
+ghost use Rattle.bq_bpf.specs.Steps.{called};
+ghost use Rattle.bq_bpf.specs.declared.shape.MapShape.{MapShape};
 ghost use Rattle.bq_ranges.specs.Within.{Within};
 ghost use Rattle.bq_transfer.specs.Doubts.{MayDoubt};
 ghost use Rattle.bq_transfer.specs.After.{After};
@@ -14,7 +14,7 @@ ghost use Rattle.bq_views.specs.Views.{Covers};
 
 use crate::doubt::Doubt;
 use bq_insn::{Insn, Size, Width};
-use bq_maps::shape::MapShape;
+use bq_bpf::MapShape;
 use bq_ranges::Range;
 use bq_views::copies::part_first;
 use bq_views::places::{reads, reads_value, shape_of};

@@ -14,7 +14,7 @@ use crate::loads::load;
 use crate::moves::{extend, immediate, negate, reorder};
 use crate::stores::{store_imm, store_reg};
 use bq_insn::Insn;
-use bq_maps::shape::MapShape;
+use bq_bpf::MapShape;
 use bq_views::view::View;
 
 /// The view after the instruction.

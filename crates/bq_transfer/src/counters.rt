@@ -2,7 +2,7 @@
 
 ghost use Rattle.std.specs.Prelude.{◌<◌, pos, false, IsTrue, ◌≡◌, OnOk, IsOk, IfErr, ℤ};
 ghost use Rattle.bq_transfer.specs.Doubts.{MayDoubt};
-ghost use Rattle.bq_maps.specs.Machine.{IsCounterCall};
+ghost use Rattle.bq_bpf.specs.Steps.{IsCounterCall};
 ghost use Rattle.bq_transfer.specs.Ready.{IsAsking};
 ghost use Rattle.bq_views.specs.Standing.{IsAnswered};
 ghost use Rattle.bq_transfer.specs.Carries.{AsksFrom};

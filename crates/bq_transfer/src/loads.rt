@@ -1,11 +1,11 @@
 // Loads.
 
 ghost use Rattle.std.specs.Prelude.{Some, List, Option, ◌≡◌, ◌≢◌, ◌^◌, ◌<◌, ℕ, IsOk, IfSome, OnOk, false, slice_index_or, IfErr, ◌*◌, None};
-ghost use Rattle.bq_insn.specs.Meaning.{byte_count};
-ghost use Rattle.bq_maps.specs.Machine.{loaded, bits_of as bits_in};
+ghost use Rattle.bq_insn.specs.Slots.{byte_count};
+ghost use Rattle.bq_bpf.specs.Steps.{loaded, bits_of as bits_in};
 ghost use Rattle.bq_ranges.specs.Within.{Within};
 ghost use Rattle.bq_insn.specs.declared.Insn.{Insn};
-ghost use Rattle.bq_maps.specs.Memory.{number_of};
+ghost use Rattle.bq_bpf.specs.Memory.{number_of};
 ghost use Rattle.bq_views.specs.Parts.{HasBytes, HaveParts};
 ghost use Rattle.bq_transfer.specs.Doubts.{MayDoubt};
 ghost use Rattle.bq_views.specs.Standing.{IsGiven};
@@ -15,7 +15,7 @@ ghost use Rattle.bq_transfer.specs.Carries.{Carries};
 use crate::access::{Location, locate};
 use crate::doubt::Doubt;
 use bq_insn::{Bits, Insn, Size, Width};
-use bq_maps::shape::MapShape;
+use bq_bpf::MapShape;
 use bq_ranges::{Range, moves};
 use bq_views::copies::link;
 use bq_views::parts::{numbers, numbers_at};

@@ -3,7 +3,7 @@
 ghost use Rattle.std.specs.Prelude.{◌≡◌, ◌<◌, ℕ, List, IsOk, OnOk, IfOk, IfErr, length};
 ghost use Rattle.bq_views.specs.Standing.{IsGiven, Scalar, StandsAt};
 ghost use Rattle.bq_insn.specs.declared.Insn.{Insn};
-ghost use Rattle.bq_maps.specs.declared.shape.MapShape.{MapShape};
+ghost use Rattle.bq_bpf.specs.declared.shape.MapShape.{MapShape};
 ghost use Rattle.bq_transfer.specs.Doubts.{MayDoubt, ReadsOperand, UsesWord};
 ghost use Rattle.bq_views.specs.declared.view.Kind.TheVariants.{Number};
 ghost use Rattle.bq_transfer.specs.Carries.{Carries, HoldsNumber};

@@ -2,9 +2,10 @@
 
 ghost use Rattle.std.specs.Prelude.{◌≡◌, ◌≢◌, ◌+◌, ◌<◌, ◌≤◌, ◌^◌, ℕ, None, Some, length, IsOk, OnOk, IfOk, IfSome, IfErr};
 ghost use Rattle.bq_insn.specs.declared.Insn.{Insn};
-ghost use Rattle.bq_insn.specs.Meaning.{byte_count, word_of};
-ghost use Rattle.bq_maps.specs.Memory.{Setting, State, InStack, written};
-ghost use Rattle.bq_maps.specs.Machine.{low_bytes, next};
+ghost use Rattle.bq_insn.specs.Slots.{byte_count};
+ghost use Rattle.bq_alu.specs.Meaning.{word_of};
+ghost use Rattle.bq_bpf.specs.Memory.{Setting, State, InStack, written};
+ghost use Rattle.bq_bpf.specs.Steps.{low_bytes, next};
 ghost use Rattle.bq_ranges.specs.Within.{Within};
 ghost use Rattle.bq_views.specs.Copies.{AreCopies, HasWord};
 ghost use Rattle.bq_transfer.specs.Doubts.{IsAccess, MayDoubt, ReadsOperand, UsesWord};
@@ -16,7 +17,7 @@ ghost use Rattle.bq_views.specs.Views.{Covers, Describes};
 use crate::access::locate;
 use crate::doubt::Doubt;
 use bq_insn::{Insn, Size};
-use bq_maps::shape::MapShape;
+use bq_bpf::MapShape;
 use bq_ranges::Range;
 use bq_views::copies::link;
 use bq_views::parts::store_part;

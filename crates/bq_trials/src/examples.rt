@@ -10,8 +10,9 @@ use bq_interp::stack::Stack;
 use bq_load::load;
 use bq_maps::Maps;
 use bq_trace::{Counted, Session};
-use bq_verify::hook::context_length;
-use bq_verify::{Hook, Program, Verified, Version, verify};
+use bq_bpf::context_length;
+use bq_bpf::{Hook, Version};
+use bq_verify::{Program, Verified, verify};
 use std::alloc::Global;
 use std::test::Fail;
 

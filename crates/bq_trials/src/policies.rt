@@ -1,9 +1,9 @@
 // Policies are asked at their hooks: what they answer, in how many steps, and which maps and counters they see.
 
 use bq_asm::assemble;
-use bq_maps::{Call, MapShape, Plain};
+use bq_bpf::{Call, MapShape, Plain};
 use bq_policies::{Env, Hook, Hooks, Installed, Policy, Scratch, Version};
-use bq_verify::hook::context_length;
+use bq_bpf::context_length;
 use bq_verify::{Program, verify};
 use std::alloc::{AllocError, Global};
 use std::process::Abort;

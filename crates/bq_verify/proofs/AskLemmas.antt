@@ -3,8 +3,8 @@ use Rattle.std.proofs.Common.{◌≡◌, ◌≢◌, ℕ, ℤ, pos, List, refl, a
 use Rattle.std.proofs.lemmas.Int.{ints}
 use Rattle.bq_insn.specs.declared.Insn.{Insn}
 use Rattle.bq_insn.specs.declared.Insn.TheVariants.{Call}
-use Rattle.bq_maps.specs.declared.shape.MapShape.{MapShape}
-use Rattle.bq_maps.specs.Machine.{IsCounterCall}
+use Rattle.bq_bpf.specs.declared.shape.MapShape.{MapShape}
+use Rattle.bq_bpf.specs.Steps.{IsCounterCall}
 use Rattle.bq_transfer.specs.Ready.{IsAsking, IsReady, IsReadyToAsk}
 use Rattle.bq_views.specs.declared.view.View.{View}
 

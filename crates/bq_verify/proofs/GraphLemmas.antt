@@ -3,7 +3,7 @@ use Rattle.std.proofs.Common.{◌≡◌, ℕ, ◌+◌, ◌<◌, ◌≤◌, true,
 use Rattle.std.specs.Prelude.{slice_index, slice_index_or}
 use Rattle.std.proofs.lemmas.Bool.{cases_lt}
 use Rattle.bq_insn.specs.declared.Insn.TheVariants.{Call}
-use Rattle.bq_maps.specs.Machine.{IsCounterCall, instruction_at}
+use Rattle.bq_bpf.specs.Steps.{IsCounterCall, instruction_at}
 use Rattle.bq_graph.proofs.CountLemmas.{extend}
 use Rattle.bq_graph.proofs.SoundLemmas.{late_by, sound_graph}
 use Rattle.bq_insn.specs.declared.Insn.{Insn}

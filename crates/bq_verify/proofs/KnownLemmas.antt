@@ -4,12 +4,13 @@ use Rattle.std.specs.Prelude.{slice_index_or}
 use Rattle.std.proofs.lemmas.Bool.Decides.{eqb_tells}
 use Rattle.bq_insn.specs.declared.Insn.{Insn}
 use Rattle.bq_insn.specs.declared.Insn.TheVariants.{Alu, MovSx, Neg, End, Load, StoreImm, StoreReg, Imm64, MapRef, Goto, Goto32, Branch, Call, Exit}
-use Rattle.bq_maps.specs.declared.shape.MapShape.{MapShape}
-use Rattle.bq_maps.specs.declared.board.Call.{Call as Asked}
-use Rattle.bq_maps.specs.Counters.{answer_of}
-use Rattle.bq_maps.specs.Memory.{Setting, State, Region, InContext, InStack, InEntry, Writes, written}
-use Rattle.bq_maps.specs.Arrays.{HaveShapes}
-use Rattle.bq_maps.specs.Machine.{Chain, Does, Helps, IsSetting, LeadsTo, Step, Takes, listed, start}
+use Rattle.bq_bpf.specs.declared.shape.MapShape.{MapShape}
+use Rattle.bq_bpf.specs.declared.board.Call.{Call as Asked}
+use Rattle.bq_bpf.specs.Counters.{answer_of}
+use Rattle.bq_bpf.specs.Memory.{Setting, State, Region, InContext, InStack, InEntry, Writes, written, HaveShapes}
+use Rattle.bq_bpf.specs.Runs.{Chain, listed, start}
+use Rattle.bq_bpf.specs.Steps.{Does, Helps, LeadsTo, Step, Takes}
+use Rattle.bq_bpf.specs.Safe.{IsSetting}
 use Rattle.bq_graph.specs.Edges.{IsEdge, IsStart, Leaves}
 use Rattle.bq_graph.specs.Passes.{IsSound}
 use Rattle.bq_views.specs.declared.view.View.{View}

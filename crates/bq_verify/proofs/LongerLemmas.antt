@@ -3,11 +3,13 @@ use Rattle.std.proofs.Common.{◌≡◌, ℕ, zero, suc, ◌+◌, ◌^◌, ◌<�
 use Rattle.std.specs.Prelude.{slice_get}
 use Rattle.bq_insn.specs.declared.Insn.{Insn}
 use Rattle.bq_insn.specs.declared.Insn.TheVariants.{Alu, MovSx, Neg, End, Load, StoreImm, StoreReg, Imm64, MapRef, Goto, Goto32, Branch, Call, Exit}
-use Rattle.bq_maps.specs.declared.shape.MapShape.{MapShape}
-use Rattle.bq_maps.specs.declared.board.Call.{Call as Asked}
-use Rattle.bq_maps.specs.Counters.{answer_of}
-use Rattle.bq_maps.specs.Memory.{Setting, State, Region, InContext, InStack, InEntry, IsGood, Reads, Writes, byte_at}
-use Rattle.bq_maps.specs.Machine.{Does, Helps, NamesEntry, Takes, Step, Ends, Chain, GoesOn, GoesWell, IsSetting, start}
+use Rattle.bq_bpf.specs.declared.shape.MapShape.{MapShape}
+use Rattle.bq_bpf.specs.declared.board.Call.{Call as Asked}
+use Rattle.bq_bpf.specs.Counters.{answer_of}
+use Rattle.bq_bpf.specs.Memory.{Setting, State, Region, InContext, InStack, InEntry, IsGood, Reads, Writes, byte_at}
+use Rattle.bq_bpf.specs.Steps.{Does, Helps, NamesEntry, Takes, Step}
+use Rattle.bq_bpf.specs.Runs.{Ends, Chain, start}
+use Rattle.bq_bpf.specs.Safe.{GoesOn, GoesWell, IsSetting}
 use Rattle.bq_verify.specs.Laws.{shortened, SafeOnLonger, RunsOnLonger}
 use Rattle.bq_verify.proofs.ChainLemmas.{one_step, no_step}
 

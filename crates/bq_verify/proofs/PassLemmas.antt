@@ -10,13 +10,14 @@ use Rattle.bq_insn.specs.declared.Condition.{Condition}
 use Rattle.bq_insn.specs.declared.Source.{Source}
 use Rattle.bq_insn.specs.declared.Source.TheVariants.{Reg}
 use Rattle.bq_insn.specs.Slots.{slots_of}
-use Rattle.bq_insn.specs.Meaning.{taken}
-use Rattle.bq_maps.specs.declared.shape.MapShape.{MapShape}
-use Rattle.bq_maps.specs.declared.board.Call.{Call as Asked}
-use Rattle.bq_maps.specs.Counters.{answer_of}
-use Rattle.bq_maps.specs.Memory.{Setting, State, context_base, stack_base, stack_size}
-use Rattle.bq_maps.specs.Arrays.{HaveShapes}
-use Rattle.bq_maps.specs.Machine.{Step, Ends, IsSetting, IsOperand, IsCounterCall, LeadsTo, Safe, instruction_at, start, called, most_calls}
+use Rattle.bq_alu.specs.Meaning.{taken}
+use Rattle.bq_bpf.specs.declared.shape.MapShape.{MapShape}
+use Rattle.bq_bpf.specs.declared.board.Call.{Call as Asked}
+use Rattle.bq_bpf.specs.Counters.{answer_of}
+use Rattle.bq_bpf.specs.Memory.{Setting, State, context_base, stack_base, stack_size, HaveShapes}
+use Rattle.bq_bpf.specs.Steps.{Step, IsOperand, IsCounterCall, LeadsTo, instruction_at, called}
+use Rattle.bq_bpf.specs.Runs.{Ends, start}
+use Rattle.bq_bpf.specs.Safe.{IsSetting, Safe, most_calls}
 use Rattle.bq_ranges.specs.Within.{Within}
 use Rattle.bq_graph.specs.Edges.{IsEdge, IsStart, Leaves}
 use Rattle.bq_graph.specs.Passes.{IsSound}

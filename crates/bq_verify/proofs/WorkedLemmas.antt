@@ -9,8 +9,8 @@ use Rattle.bq_insn.specs.declared.Size.TheVariants.{Word, Double}
 use Rattle.bq_insn.specs.declared.Source.TheVariants.{Imm}
 use Rattle.bq_insn.specs.declared.Width.TheVariants.{W64}
 use Rattle.bq_insn.specs.Slots.{slots_of, spread}
-use Rattle.bq_maps.specs.Machine.{LeadsTo, instruction_at}
-use Rattle.bq_maps.specs.declared.shape.MapShape.{MapShape}
+use Rattle.bq_bpf.specs.Steps.{LeadsTo, instruction_at}
+use Rattle.bq_bpf.specs.declared.shape.MapShape.{MapShape}
 use Rattle.bq_graph.specs.Edges.{IsEdge, IsStart, Leaves, distance_of, goes_on}
 use Rattle.bq_graph.specs.Paths.{IsPath, Path, end_of, asks_counter}
 use Rattle.bq_graph.specs.Faults.{IsFaultless, destination_of, is_helper}

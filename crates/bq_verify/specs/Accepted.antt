@@ -1,19 +1,10 @@
 -- What callers see of an accepted program, and what they are told of another.
 use Rattle.std.specs.Prelude.{ℕ, ◌≤◌, List, Option, length}
-use Rattle.bq_maps.specs.Machine.{Safe}
+use Rattle.bq_bpf.specs.Safe.{Safe}
 use Rattle.bq_insn.specs.declared.Insn.{Insn}
-use Rattle.bq_maps.specs.declared.shape.MapShape.{MapShape}
-use Rattle.bq_verify.specs.declared.hook.Hook.{Hook}
-use Rattle.bq_verify.specs.declared.hook.Hook.TheVariants.{Place, Preempt, Pull}
-use Rattle.bq_verify.specs.declared.hook.Version.{Version}
-use Rattle.bq_verify.specs.declared.hook.Version.TheVariants.{First, Second}
-
--- how many bytes a context has
-abbrev pub context_length_of : Hook → Version → ℕ
-context_length_of Place First = 104
-context_length_of Place Second = 296
-context_length_of Preempt _ = 56
-context_length_of Pull _ = 160
+use Rattle.bq_bpf.specs.declared.shape.MapShape.{MapShape}
+use Rattle.bq_bpf.specs.declared.hook.Hook.{Hook}
+use Rattle.bq_bpf.specs.declared.hook.Version.{Version}
 
 pub record Accepted : Type 0 where
   pub slots : List (Option Insn)

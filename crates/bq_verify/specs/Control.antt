@@ -7,12 +7,14 @@ use Rattle.bq_insn.specs.declared.Insn.{Insn}
 use Rattle.bq_insn.specs.declared.Width.{Width}
 use Rattle.bq_insn.specs.declared.Condition.{Condition}
 use Rattle.bq_insn.specs.declared.Source.{Source}
-use Rattle.bq_insn.specs.Meaning.{taken}
-use Rattle.bq_maps.specs.declared.shape.MapShape.{MapShape}
-use Rattle.bq_maps.specs.declared.board.Call.{Call as Asked}
-use Rattle.bq_maps.specs.Counters.{answer_of}
-use Rattle.bq_maps.specs.Memory.{Setting, State}
-use Rattle.bq_maps.specs.Machine.{IsOperand, instruction_at, Step, Ends, IsSetting, IsCounterCall, most_calls}
+use Rattle.bq_alu.specs.Meaning.{taken}
+use Rattle.bq_bpf.specs.declared.shape.MapShape.{MapShape}
+use Rattle.bq_bpf.specs.declared.board.Call.{Call as Asked}
+use Rattle.bq_bpf.specs.Counters.{answer_of}
+use Rattle.bq_bpf.specs.Memory.{Setting, State}
+use Rattle.bq_bpf.specs.Steps.{IsOperand, instruction_at, Step, IsCounterCall}
+use Rattle.bq_bpf.specs.Runs.{Ends}
+use Rattle.bq_bpf.specs.Safe.{IsSetting, most_calls}
 use Rattle.bq_graph.specs.Edges.{Leaves, IsEdge, IsStart}
 use Rattle.bq_views.specs.declared.view.Known.{Known}
 use Rattle.bq_views.specs.declared.view.View.{View}

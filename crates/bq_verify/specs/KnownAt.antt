@@ -1,11 +1,11 @@
 -- What is known of every run that comes to a slot.
 use Rattle.std.specs.Prelude.{◌≡◌, ℕ, ◌≤◌, List, Option}
 use Rattle.bq_insn.specs.declared.Insn.{Insn}
-use Rattle.bq_maps.specs.declared.shape.MapShape.{MapShape}
-use Rattle.bq_maps.specs.declared.board.Call.{Call as Asked}
-use Rattle.bq_maps.specs.Arrays.{HaveShapes}
-use Rattle.bq_maps.specs.Memory.{Setting, State}
-use Rattle.bq_maps.specs.Machine.{Chain, IsSetting, start}
+use Rattle.bq_bpf.specs.declared.shape.MapShape.{MapShape}
+use Rattle.bq_bpf.specs.declared.board.Call.{Call as Asked}
+use Rattle.bq_bpf.specs.Memory.{HaveShapes, Setting, State}
+use Rattle.bq_bpf.specs.Runs.{Chain, start}
+use Rattle.bq_bpf.specs.Safe.{IsSetting}
 use Rattle.bq_graph.specs.Edges.{IsStart}
 use Rattle.bq_views.specs.declared.view.View.{View}
 use Rattle.bq_views.specs.Views.{Covers}

@@ -3,10 +3,11 @@ use Rattle.std.specs.Prelude.{ℕ, ◌≡◌, ◌^◌, ◌<◌, ◌≤◌, List,
 use Rattle.bq_insn.specs.declared.Insn.{Insn}
 use Rattle.bq_graph.specs.declared.cause.Cause.{Cause}
 use Rattle.bq_graph.specs.Faults.{IsFaultless, IsFirstFault}
-use Rattle.bq_maps.specs.declared.shape.MapShape.{MapShape}
-use Rattle.bq_maps.specs.declared.board.Call.{Call as Asked}
-use Rattle.bq_maps.specs.Memory.{Setting}
-use Rattle.bq_maps.specs.Machine.{RunFrom, Safe, start}
+use Rattle.bq_bpf.specs.declared.shape.MapShape.{MapShape}
+use Rattle.bq_bpf.specs.declared.board.Call.{Call as Asked}
+use Rattle.bq_bpf.specs.Memory.{Setting}
+use Rattle.bq_bpf.specs.Runs.{RunFrom, start}
+use Rattle.bq_bpf.specs.Safe.{Safe}
 
 -- of a program with faults one is the first, by cause and slot
 abbrev pub OneFirstFault : Type 0

@@ -4,7 +4,6 @@ pub mod Straight
 pub mod Sure
 pub mod Stops
 pub mod Accepted
-pub mod Names
 pub mod Refusals
 pub mod KnownAt
 pub mod Laws

@@ -1,7 +1,7 @@
 -- What a refusal says of a program.
 use Rattle.std.specs.Prelude.{◌≡◌, ℕ, List, Option, Some, ◌⊎◌}
 use Rattle.bq_insn.specs.declared.Insn.{Insn}
-use Rattle.bq_maps.specs.Machine.{instruction_at}
+use Rattle.bq_bpf.specs.Steps.{instruction_at}
 use Rattle.bq_graph.specs.declared.cause.Cause.{Cause}
 use Rattle.bq_graph.specs.Faults.{IsFirstFault, IsFaultless, place_of}
 use Rattle.bq_verify.specs.Stops.{MayCause}

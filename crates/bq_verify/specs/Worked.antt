@@ -10,7 +10,7 @@ use Rattle.bq_insn.specs.declared.Source.TheVariants.{Imm, Reg}
 use Rattle.bq_insn.specs.declared.Width.TheVariants.{W64}
 use Rattle.bq_insn.specs.Slots.{spread}
 use Rattle.bq_insn.specs.Spelling.{is_well_formed}
-use Rattle.bq_maps.specs.declared.shape.MapShape.{MapShape}
+use Rattle.bq_bpf.specs.declared.shape.MapShape.{MapShape}
 use Rattle.bq_verify.specs.Straight.{IsStraightProgram}
 
 -- stw [r10-4], 0; ldmap r1, 0; mov64 r2, r10; add64 r2, -4; call 1; jeq64 r0, 0, +2; ldxdw r0, [r0+0]; exit; mov64 r0, 0; exit

@@ -2,9 +2,9 @@
 
 ghost use Rattle.std.specs.Prelude.{◌≡◌, ◌<◌, ◌≤◌, ◌+◌, ◌^◌, ℕ, length, IfOk, IfErr, IsOk, OnOk, Some, true, false, ◌⊎◌};
 ghost use Rattle.bq_insn.specs.declared.Insn.{Insn};
-ghost use Rattle.bq_maps.specs.Memory.{Setting, State};
-ghost use Rattle.bq_maps.specs.Machine.{instruction_at};
-ghost use Rattle.bq_maps.specs.declared.shape.MapShape.{MapShape};
+ghost use Rattle.bq_bpf.specs.Memory.{Setting, State};
+ghost use Rattle.bq_bpf.specs.Steps.{instruction_at};
+ghost use Rattle.bq_bpf.specs.declared.shape.MapShape.{MapShape};
 ghost use Rattle.bq_graph.specs.Passes.{IsSound};
 ghost use Rattle.bq_transfer.specs.Doubts.{MayDoubt, ReadsOperand, UsesWord};
 ghost use Rattle.bq_verify.specs.Stops.{IsWantOfMemory, MayStop};
@@ -20,7 +20,7 @@ use crate::stop::Stop;
 use crate::waiting::wait;
 use bq_graph::passes::target;
 use bq_insn::{Condition, Insn, Source, Width};
-use bq_maps::shape::MapShape;
+use bq_bpf::MapShape;
 use bq_transfer::carry::carry;
 use bq_transfer::counters::{ask, is_counter_call};
 use bq_transfer::doubt::Doubt;

@@ -7,18 +7,18 @@ ghost use Rattle.std.specs.List.{list_all};
 ghost use Rattle.bq_views.specs.declared.view.View.{View as Knowledge};
 ghost use Rattle.bq_graph.specs.Edges.{IsStart};
 ghost use Rattle.bq_graph.specs.Passes.{IsSound};
-ghost use Rattle.bq_verify.specs.Accepted.{context_length_of};
+ghost use Rattle.bq_bpf.specs.Hooks.{context_length_of};
 ghost use Rattle.bq_verify.specs.Control.{IsKnown, SparesFrame};
 ghost use Rattle.bq_verify.specs.KnownAt.{CoversRuns, RestIsCovered};
 
-use crate::hook::context_length;
+use bq_bpf::context_length;
 use crate::pass::{pass_slot, start};
 use crate::program::{Program, check_graph};
 use crate::refused::Refused;
 use crate::waiting::{arrive, nothing_waits};
 use bq_graph::layout::lay_out;
 use bq_insn::Insn;
-use bq_maps::shape::MapShape;
+use bq_bpf::MapShape;
 use bq_views::view::View;
 use std::alloc::{AllocError, Global};
 

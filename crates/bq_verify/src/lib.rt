@@ -5,7 +5,6 @@
 #![tactic(auto)]
 
 mod flow;
-pub mod hook;
 mod known_at;
 pub mod laws;
 mod pass;
@@ -15,8 +14,8 @@ mod stop;
 pub mod verified;
 mod waiting;
 
+pub use bq_bpf::{Hook, Version};
 pub use bq_graph::cause::Cause;
-pub use hook::{Hook, Version};
 pub use known_at::view_at;
 pub use program::{Program, verify};
 pub use refused::Refused;

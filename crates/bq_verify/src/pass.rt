@@ -1,9 +1,9 @@
 // One pass over the slots, by rising number.
 
 ghost use Rattle.std.specs.Prelude.{◌≡◌, ◌<◌, ◌≤◌, ◌+◌, ◌^◌, ℕ, List, length, IfOk, IfErr, OnOk, None, false, true, slice_index, slice_index_or};
-ghost use Rattle.bq_maps.specs.Memory.{Setting, State};
-ghost use Rattle.bq_maps.specs.Arrays.{HaveShapes};
-ghost use Rattle.bq_maps.specs.Machine.{Safe, start as beginning};
+ghost use Rattle.bq_bpf.specs.Memory.{Setting, State, HaveShapes};
+ghost use Rattle.bq_bpf.specs.Safe.{Safe};
+ghost use Rattle.bq_bpf.specs.Runs.{start as beginning};
 ghost use Rattle.bq_graph.specs.Edges.{IsStart};
 ghost use Rattle.bq_graph.specs.Passes.{IsSound};
 ghost use Rattle.bq_verify.specs.Refusals.{IsOutOfMemory, IsStopped};
@@ -18,7 +18,7 @@ use crate::refused::{Refused, refuse};
 use crate::waiting::{arrive, nothing_waits};
 use bq_graph::edges::instruction;
 use bq_insn::Insn;
-use bq_maps::shape::MapShape;
+use bq_bpf::MapShape;
 use bq_ranges::Range;
 use bq_views::registers::learn;
 use bq_views::view::{Kind, Known, Part, View};

@@ -4,24 +4,24 @@ ghost use Rattle.std.specs.Prelude.{◌≡◌, ◌<◌, ◌≤◌, ℕ, length, 
 ghost use Rattle.bq_insn.specs.Slots.{spread};
 ghost use Rattle.bq_insn.specs.Spelling.{is_insn, is_well_formed};
 ghost use Rattle.std.specs.List.{list_all};
-ghost use Rattle.bq_maps.specs.Machine.{Safe};
+ghost use Rattle.bq_bpf.specs.Safe.{Safe};
 ghost use Rattle.bq_graph.specs.Edges.{IsWhole};
 ghost use Rattle.bq_graph.specs.Passes.{IsSound, Measured};
 ghost use Rattle.bq_graph.specs.Paths.{IsGreatest, PathOut};
 ghost use Rattle.bq_graph.specs.Faults.{IsFaultless};
 ghost use Rattle.bq_verify.specs.Refusals.{IsRefusal, IsOutOfMemory};
 ghost use Rattle.bq_verify.specs.Control.{AreMade};
-ghost use Rattle.bq_verify.specs.Accepted.{context_length_of};
+ghost use Rattle.bq_bpf.specs.Hooks.{context_length_of};
 ghost use Rattle.bq_verify.specs.Straight.{IsStraightProgram};
 
-use crate::hook::{Hook, Version};
+use bq_bpf::{Hook, Version};
 use crate::refused::Refused;
 use crate::verified::Verified;
 use bq_graph::checks::check;
 use bq_graph::layout::lay_out;
 use bq_graph::passes::measure;
 use bq_insn::Insn;
-use bq_maps::shape::MapShape;
+use bq_bpf::MapShape;
 use std::alloc::{AllocError, Global};
 
 /// A program as it is handed in.

@@ -2,7 +2,7 @@
 
 ghost use Rattle.std.specs.Prelude.{◌≡◌, Some, List, Option};
 ghost use Rattle.bq_insn.specs.declared.Insn.{Insn};
-ghost use Rattle.bq_maps.specs.Machine.{instruction_at};
+ghost use Rattle.bq_bpf.specs.Steps.{instruction_at};
 ghost use Rattle.bq_graph.specs.Faults.{place_of};
 ghost use Rattle.bq_verify.specs.Stops.{cause_for, IsWantOfMemory, MayCause, MayStop};
 ghost use Rattle.bq_transfer.specs.Doubts.{MayDoubt};

@@ -1,10 +1,10 @@
 // Programs that were accepted.
 
-use crate::hook::{Hook, Version, context_length};
+use bq_bpf::{Hook, Version, context_length};
 use crate::pass::judge;
 use crate::refused::Refused;
 use bq_insn::Insn;
-use bq_maps::shape::MapShape;
+use bq_bpf::MapShape;
 use bq_packed::{Packed, pack_all};
 use std::alloc::Global;
 use std::marker::Model;
@@ -22,7 +22,8 @@ pub struct Verified {
 
 impl Model for Verified {
     ghost use Rattle.bq_packed.specs.Packing.{Stands};
-    ghost use Rattle.bq_verify.specs.Accepted.{Accepted, IsAccepted, context_length_of};
+    ghost use Rattle.bq_verify.specs.Accepted.{Accepted, IsAccepted};
+    ghost use Rattle.bq_bpf.specs.Hooks.{context_length_of};
 
     ghost Value = { Accepted };
 
@@ -34,13 +35,15 @@ impl Model for Verified {
 impl Verified {
     ghost use Rattle.std.specs.Prelude.{◌≡◌, ◌≤◌, ◌<◌, ℕ, IfErr, IfOk, length, slice_index};
     ghost use Rattle.bq_packed.specs.Packing.{Stands};
-    ghost use Rattle.bq_verify.specs.Accepted.{IsAccepted, context_length_of};
+    ghost use Rattle.bq_verify.specs.Accepted.{IsAccepted};
+    ghost use Rattle.bq_bpf.specs.Hooks.{context_length_of};
     ghost use Rattle.bq_verify.specs.Control.{AreHeights, AreMade, SparesFrame};
     ghost use Rattle.bq_graph.specs.Passes.{IsSound};
     ghost use Rattle.bq_graph.specs.Edges.{IsStart};
     ghost use Rattle.bq_verify.specs.Refusals.{IsOutOfMemory, IsStopped};
     ghost use Rattle.bq_verify.specs.Straight.{IsStraightProgram};
-    ghost use Rattle.bq_maps.specs.Machine.{Safe, instruction_at};
+    ghost use Rattle.bq_bpf.specs.Safe.{Safe};
+    ghost use Rattle.bq_bpf.specs.Steps.{instruction_at};
     ghost use Rattle.std.specs.Option.{option_copied};
 
     /// The instruction of each slot.

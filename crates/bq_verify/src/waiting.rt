@@ -1,7 +1,7 @@
 // Views that wait, each in a box, for the slots that ways lead to.
 
 ghost use Rattle.std.specs.Prelude.{◌≡◌, ◌<◌, ℕ, true, None, length, slice_index_or, IfOk, OnOk};
-ghost use Rattle.bq_maps.specs.Memory.{Setting, State};
+ghost use Rattle.bq_bpf.specs.Memory.{Setting, State};
 ghost use Rattle.bq_views.specs.Standing.{Fact, Has};
 ghost use Rattle.bq_verify.specs.Ways.{HasIn, HasWaiting, IsSureOf};
 ghost use Rattle.bq_views.specs.Views.{Covers};

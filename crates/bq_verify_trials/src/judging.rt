@@ -3,8 +3,9 @@
 use bq_asm::assemble;
 use bq_insn::Insn;
 use bq_insn::encode::well_formed;
-use bq_maps::MapShape;
-use bq_verify::{Cause, Hook, Program, Refused, Verified, Version, verify};
+use bq_bpf::MapShape;
+use bq_verify::{Cause, Program, Refused, Verified, verify};
+use bq_bpf::{Hook, Version};
 use std::alloc::{AllocError, Global};
 use std::process::Abort;
 use std::test::Fail;

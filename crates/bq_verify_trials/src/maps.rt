@@ -1,9 +1,9 @@
 // The limits of shapes, and values written and read back.
 
 use bq_maps::arrays::Maps;
-use bq_maps::board::{Board, Plain};
-use bq_maps::helper::Helper;
-use bq_maps::shape::MapShape;
+use bq_bpf::board::{Board, Plain};
+use bq_bpf::Helper;
+use bq_bpf::MapShape;
 use std::test::Fail;
 
 #[test]

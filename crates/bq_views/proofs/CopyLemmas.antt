@@ -5,8 +5,8 @@ use Rattle.std.specs.Int.{byte_at as byte_of, bytes_low_first}
 use Rattle.std.proofs.lemmas.Bool.{cases_lt}
 use Rattle.std.proofs.lemmas.Bool.Decides.{eqb_tells, leb_tells}
 use Rattle.std.proofs.lemmas.List.{get_or_past}
-use Rattle.bq_maps.specs.Memory.{State, InStack, number_of, written}
-use Rattle.bq_maps.specs.Machine.{called, next, put}
+use Rattle.bq_bpf.specs.Memory.{State, InStack, number_of, written}
+use Rattle.bq_bpf.specs.Steps.{called, next, put}
 use Rattle.bq_views.specs.Copies.{AreCopies, HasWord, KeepsClasses, PartsFirst, PartsSlots}
 use Rattle.bq_views.proofs.StoreLemmas.{apart_byte}
 

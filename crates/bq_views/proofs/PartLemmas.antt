@@ -6,9 +6,9 @@ use Rattle.std.proofs.lemmas.Bool.Decides.{eqb_tells}
 use Rattle.std.proofs.lemmas.List.{get_or_past, get_or_read}
 use Rattle.bq_insn.specs.declared.Size.{Size}
 use Rattle.bq_insn.specs.declared.Size.TheVariants.{Byte, Half, Word, Double}
-use Rattle.bq_insn.specs.Meaning.{byte_count}
-use Rattle.bq_maps.specs.Memory.{Setting, State, Region, Reads, byte_at, number_of, stack_with}
-use Rattle.bq_maps.specs.Machine.{low_bytes}
+use Rattle.bq_insn.specs.Slots.{byte_count}
+use Rattle.bq_bpf.specs.Memory.{Setting, State, Region, Reads, byte_at, number_of, stack_with}
+use Rattle.bq_bpf.specs.Steps.{low_bytes}
 use Rattle.bq_ranges.specs.declared.range.Range.{Range}
 use Rattle.bq_ranges.specs.Within.{Within}
 use Rattle.bq_views.specs.declared.view.Kind.{Kind}

@@ -1,8 +1,8 @@
 -- Bytes of the stack that are written somewhere in a range.
 use Rattle.std.proofs.Common.{◌≡◌, ℕ, ◌+◌, ◌*◌, ◌<◌, ◌≤◌, Bool, true, false, List, Option, None, length, sym, subst, arith, ◌⊎◌, inl, inr}
 use Rattle.std.specs.Prelude.{slice_index, slice_index_or}
-use Rattle.bq_maps.specs.Memory.{Setting, State, InStack, written}
-use Rattle.bq_maps.specs.Machine.{next}
+use Rattle.bq_bpf.specs.Memory.{Setting, State, InStack, written}
+use Rattle.bq_bpf.specs.Steps.{next}
 use Rattle.bq_ranges.specs.declared.range.Range.{Range}
 use Rattle.bq_ranges.specs.Within.{Within}
 use Rattle.bq_views.specs.declared.view.View.{View}

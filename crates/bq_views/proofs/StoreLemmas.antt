@@ -3,9 +3,9 @@ use Rattle.std.proofs.Common.{◌≡◌, ℕ, zero, suc, ◌+◌, ◌-◌, ◌*�
 use Rattle.std.specs.Prelude.{slice_index, slice_index_or}
 use Rattle.std.specs.Int.{byte_at as byte_of, bytes_low_first}
 use Rattle.std.proofs.lemmas.Bool.Decides.{leb_tells}
-use Rattle.bq_maps.specs.declared.shape.MapShape.{MapShape}
-use Rattle.bq_maps.specs.Memory.{Setting, State, InStack, stack_with, written}
-use Rattle.bq_maps.specs.Machine.{next}
+use Rattle.bq_bpf.specs.declared.shape.MapShape.{MapShape}
+use Rattle.bq_bpf.specs.Memory.{Setting, State, InStack, stack_with, written}
+use Rattle.bq_bpf.specs.Steps.{next}
 use Rattle.bq_views.specs.declared.view.View.{View}
 use Rattle.bq_views.specs.declared.view.Known.{Known}
 use Rattle.bq_views.specs.Copies.{AreCopies}

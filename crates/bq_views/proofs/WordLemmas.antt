@@ -1,6 +1,6 @@
 -- Words that are known.
 use Rattle.std.proofs.Common.{◌≡◌, ℕ, ◌^◌, ◌<◌, List, refl, arith}
-use Rattle.bq_maps.specs.declared.shape.MapShape.{MapShape}
+use Rattle.bq_bpf.specs.declared.shape.MapShape.{MapShape}
 use Rattle.bq_ranges.specs.Within.{Within}
 use Rattle.bq_ranges.specs.declared.range.Range.{Range}
 use Rattle.bq_views.specs.declared.view.Kind.{Kind}

@@ -1,7 +1,7 @@
 -- Which places hold one word: registers 0 to 10, and from 11 on the slots of eight bytes of the stack.
 use Rattle.std.specs.Prelude.{◌≡◌, ◌≢◌, ℕ, ◌+◌, ◌*◌, ◌^◌, ◌<◌, ◌≤◌, ◌⊎◌, List, Some, slice_index}
 use Rattle.std.specs.Int.{byte_at}
-use Rattle.bq_maps.specs.Memory.{State}
+use Rattle.bq_bpf.specs.Memory.{State}
 
 -- the place holds the word
 abbrev pub HasWord : State → ℕ → ℕ → Type 0

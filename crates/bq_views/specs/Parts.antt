@@ -1,7 +1,7 @@
 -- Numbers of which a few bytes of the stack are known.
 use Rattle.std.specs.Prelude.{◌≡◌, ℕ, ◌+◌, ◌<◌, ◌≤◌, List, Option, Some, None, length, slice_index, slice_index_or}
-use Rattle.bq_insn.specs.Meaning.{byte_count}
-use Rattle.bq_maps.specs.Memory.{number_of, stack_with}
+use Rattle.bq_insn.specs.Slots.{byte_count}
+use Rattle.bq_bpf.specs.Memory.{number_of, stack_with}
 use Rattle.bq_ranges.specs.Within.{Within}
 use Rattle.bq_views.specs.declared.view.Part.{Part}
 

@@ -1,10 +1,9 @@
 -- The states that a view speaks of.
 use Rattle.std.specs.Prelude.{Bool, ◌≡◌, ℕ, ◌+◌, ◌*◌, ◌%◌, ◌^◌, ◌<◌, ◌≤◌, true, false, List, Option, Some, None, length, slice_get, slice_set, slice_index, slice_index_or, ◌⊎◌}
 use Rattle.std.specs.Int.{byte_at}
-use Rattle.bq_maps.specs.declared.shape.MapShape.{MapShape}
-use Rattle.bq_maps.specs.Memory.{Setting, State, Region, Reads, InContext, InStack, InEntry, Spans, IsEntry, reference, values_base, context_base, stack_base}
-use Rattle.bq_maps.specs.Arrays.{HaveShapes}
-use Rattle.bq_maps.specs.Machine.{IsOperand}
+use Rattle.bq_bpf.specs.declared.shape.MapShape.{MapShape}
+use Rattle.bq_bpf.specs.Memory.{Setting, State, Region, Reads, InContext, InStack, InEntry, Spans, IsEntry, reference, values_base, context_base, stack_base, HaveShapes}
+use Rattle.bq_bpf.specs.Steps.{IsOperand}
 use Rattle.bq_insn.specs.declared.Source.{Source}
 use Rattle.bq_ranges.specs.Within.{Within}
 use Rattle.bq_views.specs.Copies.{AreCopies}

@@ -1,7 +1,7 @@
 // Places that are known to hold one word: registers, and from 11 on slots of eight bytes of the stack.
 
 ghost use Rattle.std.specs.Prelude.{◌≡◌, ◌≢◌, ◌+◌, ◌<◌, ◌≤◌, ℕ, length, slice_index};
-ghost use Rattle.bq_maps.specs.Memory.{State};
+ghost use Rattle.bq_bpf.specs.Memory.{State};
 ghost use Rattle.bq_views.specs.Copies.{AreCopies, HasWord, KeepsClasses, PartsFirst, PartsSlots};
 
 /// Registers 0 to 5 are written.

@@ -1,7 +1,7 @@
 // Where two ways meet.
 
 ghost use Rattle.std.specs.Prelude.{◌≡◌, ◌≢◌, ℕ, true, None, Some, length, slice_index_or, false};
-ghost use Rattle.bq_maps.specs.Memory.{Setting, State};
+ghost use Rattle.bq_bpf.specs.Memory.{Setting, State};
 ghost use Rattle.bq_views.specs.Standing.{Fact, Has, Standing, Stands};
 ghost use Rattle.bq_views.specs.Views.{Allows, Covers};
 

@@ -1,9 +1,9 @@
 // Numbers that are stored in a few bytes of the stack.
 
 ghost use Rattle.std.specs.Prelude.{◌≡◌, ◌+◌, ◌^◌, ◌<◌, ℕ, Some, None, List, Option, length, slice_index_or};
-ghost use Rattle.bq_insn.specs.Meaning.{byte_count};
-ghost use Rattle.bq_maps.specs.Machine.{low_bytes};
-ghost use Rattle.bq_maps.specs.Memory.{number_of};
+ghost use Rattle.bq_insn.specs.Slots.{byte_count};
+ghost use Rattle.bq_bpf.specs.Steps.{low_bytes};
+ghost use Rattle.bq_bpf.specs.Memory.{number_of};
 ghost use Rattle.bq_ranges.specs.Within.{Within};
 ghost use Rattle.bq_views.specs.Parts.{AllowsPart, HasBytes, HaveParts, Outlives};
 

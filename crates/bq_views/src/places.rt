@@ -1,7 +1,7 @@
 // How far a pointer reaches, and what may be read there.
 
 ghost use Rattle.std.specs.Prelude.{Some, ◌↔◌, ◌≡◌, ◌+◌, ◌^◌, ◌<◌, ◌≤◌, ℕ, IsTrue, length, IfSome, false, true, slice_get, slice_index_or, None};
-ghost use Rattle.bq_insn.specs.Meaning.{byte_count};
+ghost use Rattle.bq_insn.specs.Slots.{byte_count};
 ghost use Rattle.bq_ranges.specs.Within.{Within};
 ghost use Rattle.bq_views.specs.Standing.{Pointer, StandsAt};
 ghost use Rattle.bq_views.specs.Views.{bound_of, Bounds, FindsBytes};
@@ -9,7 +9,7 @@ ghost use Rattle.bq_views.specs.Views.{bound_of, Bounds, FindsBytes};
 use crate::registers::known;
 use crate::view::{Kind, View};
 use bq_insn::Size;
-use bq_maps::shape::MapShape;
+use bq_bpf::MapShape;
 use bq_ranges::Range;
 
 /// How many bytes there are where a pointer of the kind points to, if it may be followed.

@@ -1,9 +1,9 @@
 // Bytes of the stack that are written: which are set then, and what is forgotten.
 
 ghost use Rattle.std.specs.Prelude.{◌≡◌, ◌+◌, ◌*◌, ◌<◌, ◌≤◌, ℕ, true, false, List, None, Some, length, slice_index, slice_index_or};
-ghost use Rattle.bq_insn.specs.Meaning.{byte_count};
-ghost use Rattle.bq_maps.specs.Memory.{Setting, State, InStack, written};
-ghost use Rattle.bq_maps.specs.Machine.{next};
+ghost use Rattle.bq_insn.specs.Slots.{byte_count};
+ghost use Rattle.bq_bpf.specs.Memory.{Setting, State, InStack, written};
+ghost use Rattle.bq_bpf.specs.Steps.{next};
 ghost use Rattle.bq_ranges.specs.Within.{Within};
 ghost use Rattle.bq_views.specs.Standing.{IsStoredAt};
 ghost use Rattle.bq_views.specs.Views.{Covers, Forgets, Marks, keeping};

@@ -1,7 +1,7 @@
 // What a branch tells of its operands is told of all places that hold the same words.
 
 ghost use Rattle.std.specs.Prelude.{◌≡◌, ◌≢◌, ◌+◌, ◌<◌, ◌≤◌, ℕ, Some, None, length, slice_index, slice_index_or};
-ghost use Rattle.bq_maps.specs.Memory.{Setting, State};
+ghost use Rattle.bq_bpf.specs.Memory.{Setting, State};
 ghost use Rattle.bq_views.specs.Standing.{Fact, Has, Standing, Stands};
 ghost use Rattle.bq_views.specs.Told.{HasLearnt, IsLasting, IsLastingWord, IsSharper, IsTold};
 ghost use Rattle.bq_views.specs.Views.{Covers, Describes};

@@ -1,6 +1,6 @@
 use Rattle.std.proofs.Common.{◌≡◌, ℕ, Some, sym, ◌∙◌, subst}
 use Rattle.bq_insn.specs.Slots.{spread}
-use Rattle.bq_maps.specs.Machine.{instruction_at}
+use Rattle.bq_bpf.specs.Steps.{instruction_at}
 use Rattle.bq_explain.proofs.SlotLemmas.{slots_more, stands_behind}
 use Rattle.bq_explain.proofs.program_words.index_at.Goals as goal
 

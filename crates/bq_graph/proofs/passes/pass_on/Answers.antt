@@ -1,5 +1,5 @@
 use Rattle.std.proofs.Common.{◌≡◌, ◌+◌, ℕ, arith, sym, ap, inl, inr, Some}
-use Rattle.bq_maps.specs.Machine.{instruction_at}
+use Rattle.bq_bpf.specs.Steps.{instruction_at}
 use Rattle.bq_graph.specs.Paths.{calls_of}
 use Rattle.bq_graph.proofs.EdgeLemmas.{target_inside}
 use Rattle.bq_graph.proofs.CountLemmas.{counted_on}

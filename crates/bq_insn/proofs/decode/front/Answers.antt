@@ -1,8 +1,7 @@
-use Rattle.std.proofs.Common.{◌≡◌, ◌-◌, length, take, drop}
+use Rattle.std.proofs.Common.{◌≡◌, ◌-◌, length, take, drop, arith}
 use Rattle.std.proofs.lemmas.Grind.{common_steps}
 use Rattle.bq_insn.proofs.FrontLemmas.{begins_with_two}
 use Rattle.bq_insn.proofs.decode.front.Goals as goal
-use Rattle.std.proofs.Common.{arith}
 
 pub returns-clause-begins : goal.returns-clause-begins
 returns-clause-begins c =

@@ -1,12 +1,12 @@
 use Rattle.std.proofs.Common.{rules, ◌≡◌, ℕ, Some, refl, sym, subst, arith, length, ◌<◌}
 use Rattle.bq_insn.specs.declared.Operation.TheVariants.{Mov}
-use Rattle.bq_insn.specs.Meaning.{alu_result, word_of}
+use Rattle.bq_alu.specs.Meaning.{alu_result, word_of}
 use Rattle.bq_views.specs.declared.view.Known.{Known}
 use Rattle.bq_views.specs.declared.view.View.{View}
 use Rattle.bq_views.specs.Standing.{Exact, IsMade, Stands}
 use Rattle.bq_insn.specs.declared.Source.{Source}
 use Rattle.bq_insn.specs.declared.Source.TheVariants.{Reg}
-use Rattle.bq_maps.specs.Machine.{IsOperand, put}
+use Rattle.bq_bpf.specs.Steps.{IsOperand, put}
 use Rattle.bq_views.specs.Views.{Covers, knowing}
 use Rattle.bq_views.proofs.CopyLemmas.{put_here, put_there}
 use Rattle.bq_transfer.proofs.StandingLemmas.{knowing_made, made_classes}

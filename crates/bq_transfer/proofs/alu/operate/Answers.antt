@@ -1,6 +1,6 @@
 use Rattle.std.proofs.Common.{ℕ, Option, Some, refl, sym, subst, arith, length, ◌<◌}
 use Rattle.bq_insn.specs.declared.Insn.TheVariants.{Alu}
-use Rattle.bq_insn.specs.Meaning.{alu_result, word_of}
+use Rattle.bq_alu.specs.Meaning.{alu_result, word_of}
 use Rattle.bq_views.specs.declared.view.Kind.TheVariants.{Stack}
 use Rattle.bq_views.specs.declared.view.Known.{Known}
 use Rattle.bq_views.specs.declared.view.View.{View}

@@ -1,7 +1,7 @@
 use Rattle.std.proofs.Common.{pos, ◌≡◌, ◌<◌, length, arith, refl}
 use Rattle.std.proofs.lemmas.Int.{ints}
 use Rattle.bq_insn.specs.declared.Insn.TheVariants.{MapRef}
-use Rattle.bq_maps.specs.Memory.{reference}
+use Rattle.bq_bpf.specs.Memory.{reference}
 use Rattle.bq_transfer.proofs.PutLemmas.{carries_put, reference_is}
 use Rattle.bq_transfer.proofs.calls.map_ref.Goals as goal
 

@@ -1,5 +1,5 @@
 use Rattle.std.proofs.Common.{refl, inl, inr, arith}
-use Rattle.bq_maps.specs.Machine.{called}
+use Rattle.bq_bpf.specs.Steps.{called}
 use Rattle.bq_transfer.proofs.calls.now.Goals as goal
 
 pub returns-clause-carries : goal.returns-clause-carries

@@ -1,5 +1,5 @@
 use Rattle.std.proofs.Common.{refl, inr, arith}
-use Rattle.bq_maps.specs.Machine.{called}
+use Rattle.bq_bpf.specs.Steps.{called}
 use Rattle.bq_transfer.proofs.calls.processor.Goals as goal
 
 pub returns-clause-carries : goal.returns-clause-carries

@@ -1,6 +1,6 @@
 use Rattle.std.proofs.Common.{ℕ, ◌≡◌, ◌∙◌, Option, Some, None, true, refl, sym, subst, arith, rules}
 use Rattle.std.specs.Prelude.{slice_get}
-use Rattle.bq_maps.specs.declared.shape.MapShape.{MapShape}
+use Rattle.bq_bpf.specs.declared.shape.MapShape.{MapShape}
 use Rattle.bq_views.specs.Views.{size_of_shape}
 use Rattle.bq_transfer.proofs.CallLemmas.{carries_update}
 use Rattle.bq_transfer.proofs.calls.update.Goals as goal

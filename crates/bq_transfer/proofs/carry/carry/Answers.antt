@@ -1,6 +1,6 @@
 use Rattle.std.proofs.Common.{subst, sym, refl, inl, inr, ℤ, ◌+◌, false, true, arith, ◌≡◌, rules}
 use Rattle.bq_insn.specs.declared.Insn.{Insn}
-use Rattle.bq_insn.specs.Meaning.{byte_count}
+use Rattle.bq_insn.specs.Slots.{byte_count}
 use Rattle.bq_views.specs.declared.view.Kind.TheVariants.{Entry, Stack}
 use Rattle.bq_views.specs.declared.view.View.{View}
 use Rattle.bq_transfer.specs.After.{After}

@@ -1,6 +1,6 @@
 use Rattle.std.proofs.Common.{refl, arith, length, ◌<◌}
 use Rattle.bq_insn.specs.declared.Insn.TheVariants.{MovSx}
-use Rattle.bq_insn.specs.Meaning.{extended}
+use Rattle.bq_alu.specs.Meaning.{extended}
 use Rattle.bq_transfer.proofs.PutLemmas.{carries_put}
 use Rattle.bq_views.proofs.WordLemmas.{number_is}
 use Rattle.bq_transfer.proofs.moves.extend.Goals as goal

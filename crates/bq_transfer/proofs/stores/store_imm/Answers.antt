@@ -2,7 +2,7 @@ use Rattle.std.proofs.Common.{◌≡◌, ℤ, false, true, refl, sym, subst, ari
 use mir.Syntax.{w16}
 use mir.Val.{SFits, to_z, of_z}
 use Rattle.std.proofs.lemmas.Int.{ints}
-use Rattle.bq_insn.specs.Meaning.{word_of}
+use Rattle.bq_alu.specs.Meaning.{word_of}
 use Rattle.bq_views.specs.declared.view.Known.{Known}
 use Rattle.bq_views.specs.declared.view.Kind.TheVariants.{Entry, Number, Stack}
 use Rattle.bq_transfer.specs.Ready.{IsPlaced}

@@ -2,15 +2,15 @@ use Rattle.std.proofs.Common.{◌≡◌, ◌<◌, ◌*◌, ◌/◌, ℕ, length,
 use Rattle.bq_transfer.proofs.WriteLemmas.{low_long, low_small, covers_keeping}
 use Rattle.bq_views.proofs.StoreLemmas.{Keeps-stored}
 use Rattle.std.specs.Int.{bytes_low_first}
-use Rattle.bq_insn.specs.Meaning.{byte_count}
+use Rattle.bq_insn.specs.Slots.{byte_count}
 use Rattle.bq_insn.specs.declared.Size.{Size}
 use Rattle.bq_insn.specs.declared.Size.TheVariants.{Double}
 use Rattle.bq_views.specs.declared.view.Kind.TheVariants.{Number}
 use Rattle.bq_views.proofs.WordLemmas.{number_within}
 use Rattle.bq_views.proofs.PartLemmas.{covers_parts, has_written}
 use Rattle.bq_views.specs.Views.{Keeps}
-use Rattle.bq_maps.specs.Memory.{InStack, stack_with, written}
-use Rattle.bq_maps.specs.Machine.{low_bytes, next}
+use Rattle.bq_bpf.specs.Memory.{InStack, stack_with, written}
+use Rattle.bq_bpf.specs.Steps.{low_bytes, next}
 use Rattle.bq_transfer.proofs.stores.store_on_stack.Goals as goal
 
 pub returns-then-at-eq0-clause-covers : goal.returns-then-at-eq0-clause-covers

@@ -15,7 +15,7 @@ use Rattle.std.proofs.lemmas.Int.{ints}
 use Rattle.std.proofs.lemmas.Result.{IfOk-weaker}
 use Rattle.bq_insn.specs.Slots.{slots_of}
 use Rattle.bq_insn.specs.declared.Insn.TheVariants.{Branch, Goto, Goto32}
-use Rattle.bq_maps.specs.Machine.{LeadsTo, instruction_at}
+use Rattle.bq_bpf.specs.Steps.{LeadsTo, instruction_at}
 use Rattle.bq_graph.specs.Edges.{IsEdge, Leaves}
 use Rattle.bq_graph.proofs.EdgeLemmas.{start_inside}
 use Rattle.bq_verify.specs.Control.{IsKnown}

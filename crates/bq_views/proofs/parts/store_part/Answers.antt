@@ -1,6 +1,6 @@
 use Rattle.std.proofs.Common.{◌≡◌, ℕ, subst, arith}
-use Rattle.bq_insn.specs.Meaning.{byte_count}
-use Rattle.bq_maps.specs.Machine.{low_bytes}
+use Rattle.bq_insn.specs.Slots.{byte_count}
+use Rattle.bq_bpf.specs.Steps.{low_bytes}
 use Rattle.bq_views.specs.Parts.{HasBytes}
 use Rattle.bq_views.proofs.parts.store_part.Goals as goal
 

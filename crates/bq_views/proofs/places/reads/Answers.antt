@@ -1,5 +1,5 @@
 use Rattle.std.proofs.Common.{arith, rules}
-use Rattle.bq_insn.specs.Meaning.{byte_count}
+use Rattle.bq_insn.specs.Slots.{byte_count}
 use Rattle.bq_views.proofs.AccessLemmas.{finds_bytes}
 use Rattle.bq_views.proofs.places.reads.Goals as goal
 

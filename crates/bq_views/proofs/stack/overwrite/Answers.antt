@@ -1,5 +1,5 @@
 use Rattle.std.proofs.Common.{◌+◌, refl, inr, arith}
-use Rattle.bq_insn.specs.Meaning.{byte_count}
+use Rattle.bq_insn.specs.Slots.{byte_count}
 use Rattle.bq_views.proofs.StackLemmas.{covers_over, marks_wider}
 use Rattle.bq_views.proofs.stack.overwrite.Goals as goal
 

@@ -5,8 +5,7 @@ use Rattle.bq_asm.specs.Lines.{Instruction}
 use Rattle.bq_asm.specs.Operands.{texts, instruction_of}
 use Rattle.bq_asm.specs.Faults.{slots_in}
 use Rattle.bq_asm.specs.Assembly.{slots_read}
-use Rattle.bq_asm.specs.Jumps.{awaited_by, awaited_at, insn_read, jump_read}
-use Rattle.bq_asm.specs.Jumps.{places_of}
+use Rattle.bq_asm.specs.Jumps.{awaited_by, awaited_at, insn_read, jump_read, places_of}
 use Rattle.bq_asm.proofs.DraftLemmas.{places_kept, slots_more, drafts_more, jumps_more, insn_fits}
 use Rattle.bq_asm.proofs.draft.Draft.take_instruction.Goals as goal
 

@@ -1,6 +1,6 @@
 use Rattle.std.proofs.Common.{◌≡◌, ℕ, ◌*◌, ◌++◌, ◌∷◌, [], Vec, Global, List, take, map, length, replicate, ◌∙◌, ap, sym, refl, arith}
 use Rattle.std.proofs.lemmas.List.{map_push, take_more, length-replicate}
-use Rattle.bq_maps.specs.declared.shape.MapShape.{MapShape}
+use Rattle.bq_bpf.specs.declared.shape.MapShape.{MapShape}
 use Rattle.bq_maps.proofs.ShapeLemmas.{have_more, zero_more, zeros_are_bytes}
 use Rattle.bq_maps.proofs.arrays.Maps.new.Goals as goal
 

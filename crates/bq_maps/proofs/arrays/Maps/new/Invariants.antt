@@ -1,5 +1,5 @@
 use Rattle.std.proofs.Common.{◌≡◌, ℕ, [], map, take, get_or}
-use Rattle.bq_maps.specs.Arrays.{HaveShapes}
+use Rattle.bq_bpf.specs.Memory.{HaveShapes}
 use Rattle.bq_maps.proofs.arrays.Maps.new.Given as goal
 
 abbrev pub invariant-loop-shape : goal.invariant-loop-shape

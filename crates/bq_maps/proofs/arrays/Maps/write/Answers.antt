@@ -1,7 +1,7 @@
 use Rattle.std.proofs.Common.{◌≡◌, ℕ, ◌<◌, List, map, length, Vec, Global, sym, ◌∙◌, ap, arith}
 use Rattle.std.proofs.lemmas.List.{length-map}
 use Rattle.bq_maps.specs.Arrays.{Arrays}
-use Rattle.bq_maps.specs.Memory.{overwrite}
+use Rattle.bq_bpf.specs.Memory.{overwrite}
 use Rattle.bq_maps.proofs.ShapeLemmas.{have_overwritten, bytes_after}
 use Rattle.bq_maps.proofs.arrays.Maps.write.Goals as goal
 

@@ -1,5 +1,5 @@
 use Rattle.std.proofs.Common.{◌≡◌, ◌∙◌, ap, List, map}
-use Rattle.bq_maps.specs.declared.shape.MapShape.{MapShape}
+use Rattle.bq_bpf.specs.declared.shape.MapShape.{MapShape}
 use Rattle.bq_verify.specs.Accepted.{Accepted}
 use Rattle.bq_policies.specs.Answers.{zeros_of}
 use Rattle.bq_policies.proofs.ZeroLemmas.{zeros}

@@ -1,11 +1,10 @@
 use Rattle.std.proofs.Common.{ap, sym, ◌∙◌}
 use Rattle.bq_parts.specs.Shares.{Begins}
-use Rattle.bq_cells.specs.Parts.{cpu_part, lobby_part}
+use Rattle.bq_cells.specs.Parts.{cpu_part, lobby_part, told_calls}
 use Rattle.bq_cells.proofs.Looked.{SeenLobby, seen_own}
 use Rattle.bq_cells.proofs.Woken.{begun_hand}
 use Rattle.bq_cells.proofs.CallSteps.{begin_moves}
 use Rattle.bq_seats.specs.Calls.{ahead}
-use Rattle.bq_cells.specs.Parts.{told_calls}
 use Rattle.bq_recording.proofs.recorder.Recorder.begin_wake.Goals as goal
 
 pub commit_two-requires-clause-moves : goal.commit_two-requires-clause-moves

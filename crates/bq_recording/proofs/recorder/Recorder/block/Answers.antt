@@ -1,9 +1,8 @@
 use Rattle.std.proofs.Common.{◌∙◌, ap, sym}
-use Rattle.bq_cells.specs.Parts.{cpu_part, lobby_part}
+use Rattle.bq_cells.specs.Parts.{cpu_part, lobby_part, told_calls}
 use Rattle.bq_cells.proofs.Looked.{Seen, seen_seated}
 use Rattle.bq_cells.proofs.CallSteps.{block_moves}
 use Rattle.bq_seats.specs.Calls.{ahead}
-use Rattle.bq_cells.specs.Parts.{told_calls}
 use Rattle.bq_recording.proofs.Brief.{blocks_brief}
 use Rattle.bq_recording.proofs.recorder.Recorder.block.Goals as goal
 

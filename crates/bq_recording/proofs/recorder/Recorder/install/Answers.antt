@@ -5,10 +5,9 @@ use Rattle.bq_parts.specs.declared.event.Event.TheVariants.{Install}
 use Rattle.bq_parts.specs.Refusals.{argument_refusal}
 use Rattle.bq_parts.specs.Shares.{Installs}
 use Rattle.bq_core.proofs.Installs.{install_suits}
-use Rattle.bq_cells.specs.Parts.{cpu_part}
+use Rattle.bq_cells.specs.Parts.{cpu_part, told_calls}
 use Rattle.bq_cells.proofs.CallSteps.{install_moves}
 use Rattle.bq_seats.specs.Calls.{ahead}
-use Rattle.bq_cells.specs.Parts.{told_calls}
 use Rattle.bq_recording.proofs.Brief.{installs_brief}
 use Rattle.bq_recording.proofs.recorder.Recorder.install.Goals as goal
 

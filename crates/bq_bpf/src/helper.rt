@@ -20,8 +20,8 @@ pub enum Helper {
 
 impl Helper {
     ghost use Rattle.std.specs.Prelude.{◌≡◌, ◌≢◌, MatchOption};
-    ghost use Rattle.bq_maps.specs.declared.helper.Helper.{Helper};
-    ghost use Rattle.bq_maps.specs.Helpers.{number_of_helper};
+    ghost use Rattle.bq_bpf.specs.declared.helper.Helper.{Helper};
+    ghost use Rattle.bq_bpf.specs.Helpers.{number_of_helper};
 
     /// The helper of a number; `None` where there is none.
     pub fn of(number: i32) -> Option<Helper>

@@ -1,8 +1,7 @@
 // Where a policy is asked, how that is named, and how long its context is.
 
 ghost use Rattle.std.specs.Prelude.{◌≡◌};
-ghost use Rattle.bq_verify.specs.Accepted.{context_length_of};
-ghost use Rattle.bq_verify.specs.Names.{hook_of, hook_word, version_number, version_of};
+ghost use Rattle.bq_bpf.specs.Hooks.{context_length_of, hook_of, hook_word, version_number, version_of};
 
 /// The choice that a policy makes.
 #[derive(Clone, Copy, Debug, PartialEq, Eq)]

@@ -1,10 +1,11 @@
--- The words by which hooks and versions are named: in traces, options, marks and answers alike.
+-- Where a policy is asked: the words by which hooks and versions are named, in traces, options, marks and answers alike,
+-- and how long a context is.
 use Rattle.std.specs.Prelude.{ℕ, List, Option, Some, None, if◌then◌else◌, codes}
 use Rattle.std.specs.Str.{bytes_eq}
-use Rattle.bq_verify.specs.declared.hook.Hook.{Hook}
-use Rattle.bq_verify.specs.declared.hook.Hook.TheVariants as hooks
-use Rattle.bq_verify.specs.declared.hook.Version.{Version}
-use Rattle.bq_verify.specs.declared.hook.Version.TheVariants as versions
+use Rattle.bq_bpf.specs.declared.hook.Hook.{Hook}
+use Rattle.bq_bpf.specs.declared.hook.Hook.TheVariants as hooks
+use Rattle.bq_bpf.specs.declared.hook.Version.{Version}
+use Rattle.bq_bpf.specs.declared.hook.Version.TheVariants as versions
 
 -- the word of a hook
 abbrev pub hook_word : Hook → List ℕ
@@ -31,3 +32,10 @@ version_of word =
     if bytes_eq word (codes "1") then Some versions.First
     else if bytes_eq word (codes "2") then Some versions.Second
     else None
+
+-- how many bytes the context of a hook has
+abbrev pub context_length_of : Hook → Version → ℕ
+context_length_of hooks.Place versions.First = 104
+context_length_of hooks.Place versions.Second = 296
+context_length_of hooks.Preempt _ = 56
+context_length_of hooks.Pull _ = 160

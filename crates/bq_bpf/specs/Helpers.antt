@@ -1,7 +1,7 @@
 -- The table of helpers: the numbers by which a program calls them.
 use Rattle.std.specs.Prelude.{ℤ, pos}
-use Rattle.bq_maps.specs.declared.helper.Helper.{Helper}
-use Rattle.bq_maps.specs.declared.helper.Helper.TheVariants.{Lookup, Update, Now, Processor, AddCounter, ReadCounter}
+use Rattle.bq_bpf.specs.declared.helper.Helper.{Helper}
+use Rattle.bq_bpf.specs.declared.helper.Helper.TheVariants.{Lookup, Update, Now, Processor, AddCounter, ReadCounter}
 
 abbrev pub number_of_helper : Helper → ℤ
 number_of_helper Lookup = pos 1

@@ -19,7 +19,7 @@ pub struct MapShape {
 
 impl MapShape {
     ghost use Rattle.std.specs.Prelude.{IfSome, IfNone};
-    ghost use Rattle.bq_maps.specs.Limits.{IsShape};
+    ghost use Rattle.bq_bpf.specs.Limits.{IsShape};
 
     /// The shape of these numbers; `None` where one is not within its limits.
     pub fn new(value_size: u16, entries: u16) -> Option<MapShape>
