@@ -1,6 +1,6 @@
 //! The machine of a simulation.
 
-use bq_sizes::{Rule, Size};
+use bq_sizes::{ProcessorCount, Rule};
 
 /// The machine of a simulation, and how long it is watched. Times are nanoseconds.
 #[derive(Clone, Copy, Debug, PartialEq, Eq)]
@@ -8,7 +8,7 @@ pub struct Setup {
     /// How processors choose among their tasks.
     pub rule: Rule,
     /// How many processors there are.
-    pub size: Size,
+    pub size: ProcessorCount,
     /// How long it runs, from 1 to 2^48 - 1: what comes after this instant is not done.
     pub duration: u64,
     /// The time between two ticks of a processor that runs something, from 1 to 2^48 - 1.

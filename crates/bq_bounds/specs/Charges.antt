@@ -6,7 +6,7 @@ use Rattle.bq_disc.specs.Tasks.{Task}
 use Rattle.bq_disc.specs.Queues.{follows}
 use Rattle.bq_sizes.specs.declared.rule.Rule.{Rule}
 use Rattle.bq_sizes.specs.declared.rule.Rule.TheVariants.{Cfs, Eevdf}
-use Rattle.bq_bounds.specs.declared.standing.Standing.{Standing}
+use Rattle.bq_bounds.specs.declared.running_task.RunningTask.{RunningTask}
 use Rattle.bq_bounds.specs.declared.charge.Charge.{Charge}
 
 -- the least v of those that wait in a queue, which stand by rising v
@@ -19,6 +19,6 @@ abbrev pub charge_from : ℕ → ℕ → ℕ → ℕ → ℕ → ℕ → Charge
 charge_from base allowance v weight rise since = record { difference = advance_of v rise weight - base; bound = min (allowance + vdelta_of since weight) (2 ^ 64 - 1) }
 
 -- under CFS beyond the least that waits, by the granularity; under EEVDF ahead of the mean
-abbrev pub charge_of : Rule → Standing → ℕ → ℕ → ℕ → Option Charge
+abbrev pub charge_of : Rule → RunningTask → ℕ → ℕ → ℕ → Option Charge
 charge_of Cfs s rise since mean = option_map (λ least. charge_from least 1000000 s.v s.weight rise since) s.least
 charge_of Eevdf s rise since mean = Some (charge_from mean 0 s.v s.weight rise since)

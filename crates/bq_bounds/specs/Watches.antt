@@ -9,7 +9,7 @@ use Rattle.bq_parts.specs.declared.event.Event.{Event}
 use Rattle.bq_parts.specs.declared.event.Event.TheVariants.{Drain, Tick, Block, Pull}
 use Rattle.bq_parts.specs.declared.reply.Reply.{Reply}
 use Rattle.bq_parts.specs.declared.reply.Reply.TheVariants.{Drained, Ticked, Blocked as Went, Pulled}
-use Rattle.bq_bounds.specs.declared.standing.Standing.{Standing}
+use Rattle.bq_bounds.specs.declared.running_task.RunningTask.{RunningTask}
 use Rattle.bq_bounds.specs.declared.charge.Charge.{Charge}
 use Rattle.bq_bounds.specs.declared.watch.Watch.{Watch}
 use Rattle.bq_bounds.specs.Charges.{charge_of}
@@ -39,11 +39,11 @@ measured_if None w = w
 measured_if (Some c) w = measured c w
 
 -- the task that ran is charged: it is measured as far as the discipline decided last, and nothing has disturbed that since
-abbrev pub charged : Rule → Standing → ℕ → ℕ → Option ℕ → Watch → Watch
+abbrev pub charged : Rule → RunningTask → ℕ → ℕ → Option ℕ → Watch → Watch
 charged rule s rise mean None w = record w { left_out = one_more w.left_out }
 charged rule s rise mean (Some since) w = measured_if (charge_of rule s rise since mean) w
 
-abbrev pub charged_if : Rule → Option Standing → ℕ → ℕ → Watch → Watch
+abbrev pub charged_if : Rule → Option RunningTask → ℕ → ℕ → Watch → Watch
 charged_if rule None rise mean w = w
 charged_if rule (Some s) rise mean w = charged rule s rise mean w.since w
 
@@ -69,7 +69,7 @@ settled (Pull cpu from now) (Pulled task run by steps) busy w = pulled task busy
 settled e r busy w = w
 
 -- an event of the processor: its clock rises, what ran is charged, and someone may decide
-abbrev pub watch_after : Rule → Event → Reply → Option Standing → ℕ → ℕ → Watch → Watch
+abbrev pub watch_after : Rule → Event → Reply → Option RunningTask → ℕ → ℕ → Watch → Watch
 watch_after rule e r s rise mean w = settled e r (is_some s) (charged_if rule s rise mean (risen rise w))
 
 abbrev pub watch_of : List Watch → ℕ → Watch
@@ -81,7 +81,7 @@ source_disturbed Eevdf (Pull cpu from now) (Pulled (Some id) run by steps) ws = 
 source_disturbed rule e r ws = ws
 
 -- all processors after an event of one of them
-abbrev pub watches_after : Rule → ℕ → Event → Reply → Option Standing → ℕ → ℕ → List Watch → List Watch
+abbrev pub watches_after : Rule → ℕ → Event → Reply → Option RunningTask → ℕ → ℕ → List Watch → List Watch
 watches_after rule cpu e r s rise mean ws = source_disturbed rule e r (slice_set ws cpu (watch_after rule e r s rise mean (watch_of ws cpu)))
 
 -- the greatest of some charges, the one that came last standing first

@@ -7,7 +7,7 @@ ghost use Rattle.bq_bounds.specs.Watches.{unwatched, source_disturbed, watches_a
 
 use crate::glance::Glance;
 use crate::lags::Lags;
-use crate::standing::Standing;
+use crate::running_task::RunningTask;
 use crate::watch::Watch;
 use bq_disc::Entity;
 use bq_parts::{Event, Reply};
@@ -46,7 +46,7 @@ impl Bounds {
         processor: u8,
         event: &Event,
         reply: &Reply,
-        standing: Option<Standing>,
+        standing: Option<RunningTask>,
         rise: u64,
         mean: u64,
     )

@@ -3,7 +3,7 @@ ghost use Rattle.std.specs.Prelude.{◌≡◌, ◌-◌, ◌^◌, min};
 ghost use Rattle.bq_weights.specs.VirtualTime.{IsWeight, vdelta_of};
 ghost use Rattle.bq_bounds.specs.Charges.{charge_of, charge_from};
 
-use crate::standing::Standing;
+use crate::running_task::RunningTask;
 use bq_sizes::Rule;
 use bq_weights::GREATEST;
 
@@ -18,7 +18,7 @@ pub struct Charge {
     pub bound: u64,
 }
 
-impl Standing {
+impl RunningTask {
     /// The charge of a rise of the clock, which has risen so far since the discipline decided who runs. Under CFS it measures
     /// from the least of those that wait, and there is none where none does; under EEVDF from the mean, as it is after the
     /// charge.

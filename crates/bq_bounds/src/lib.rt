@@ -8,8 +8,8 @@ pub mod charge;
 pub mod glance;
 pub mod lags;
 pub mod laws;
+pub mod running_task;
 pub mod seen;
-pub mod standing;
 pub mod stretch;
 pub mod watch;
 
@@ -17,7 +17,7 @@ pub use bounds::Bounds;
 pub use charge::Charge;
 pub use glance::Glance;
 pub use lags::Lags;
+pub use running_task::RunningTask;
 pub use seen::how_it_stands;
-pub use standing::Standing;
 pub use stretch::Stretch;
 pub use watch::Watch;

@@ -3,12 +3,12 @@ ghost use Rattle.std.specs.Prelude.{◌≡◌};
 ghost use Rattle.bq_bounds.specs.Charges.{least_waiting};
 ghost use Rattle.bq_bounds.specs.Standings.{IsStanding};
 
-use crate::standing::Standing;
+use crate::running_task::RunningTask;
 use bq_disc::RunQueue;
 use bq_parts::Cpu;
 
 /// How a processor stands; `None` where nothing runs. It takes a time in the logarithm of the tasks that wait.
-pub fn how_it_stands<Q: RunQueue>(cpu: &Cpu<Q>) -> Option<Standing>
+pub fn how_it_stands<Q: RunQueue>(cpu: &Cpu<Q>) -> Option<RunningTask>
     ensures { IsStanding cpu.now.running.current cpu.now.running.queue result }
 {
     let least = least_waiting(cpu);
@@ -17,7 +17,7 @@ pub fn how_it_stands<Q: RunQueue>(cpu: &Cpu<Q>) -> Option<Standing>
         Some(node) => {
             let v = node.entity.v();
             let weight = node.entity.weight();
-            Some(Standing { v, weight, least })
+            Some(RunningTask { v, weight, least })
         }
     }
 }

@@ -3,7 +3,7 @@ ghost use Rattle.std.specs.Prelude.{◌≡◌};
 ghost use Rattle.bq_bounds.specs.Watches.{unwatched, risen, measured, decided, disturbed, charged, greater, watch_after, settled};
 
 use crate::charge::Charge;
-use crate::standing::Standing;
+use crate::running_task::RunningTask;
 use bq_parts::{By, Event, Reply};
 use bq_sizes::Rule;
 
@@ -41,7 +41,7 @@ impl Watch {
         rule: Rule,
         event: &Event,
         reply: &Reply,
-        standing: Option<Standing>,
+        standing: Option<RunningTask>,
         rise: u64,
         mean: u64,
     )
@@ -64,7 +64,7 @@ impl Watch {
     }
 
     /// The task that ran is charged.
-    fn charge(&mut self, rule: Rule, standing: &Standing, rise: u64, mean: u64)
+    fn charge(&mut self, rule: Rule, standing: &RunningTask, rise: u64, mean: u64)
         ensures { self.new ≡ charged rule standing.now rise mean self.old.since self.old }
     {
         match self.since {

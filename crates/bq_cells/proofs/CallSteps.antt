@@ -15,11 +15,11 @@ use Rattle.bq_parts.specs.declared.reply.Reply.{Reply}
 use Rattle.bq_parts.specs.declared.reply.Reply.TheVariants.{Drawn, Placed}
 use Rattle.bq_parts.specs.declared.wakes.Placement.{Placement}
 use Rattle.bq_parts.specs.declared.refusal.Refusal.{Refusal}
-use Rattle.bq_parts.specs.declared.seat.Seat.{Seat}
+use Rattle.bq_parts.specs.declared.lobby_entry.LobbyEntry.{LobbyEntry}
 use Rattle.bq_parts.specs.Processors.{Processor, size_of, load_of}
 use Rattle.bq_parts.specs.World.{World, processor, inbox, count_in, with_processor, with_inbox, loads_of}
 use Rattle.bq_parts.specs.Refusals.{argument_refusal}
-use Rattle.bq_parts.specs.Choices.{Setting, Settled, policies, decided_by}
+use Rattle.bq_parts.specs.Choices.{Regime, Decision, policies, decided_by}
 use Rattle.bq_parts.specs.Moves.{admitted, after_leaving}
 use Rattle.bq_parts.specs.Steps.{WorldStep}
 use Rattle.bq_parts.specs.Shares.{after_time, Admits, Retires, Ticks, Drains, Blocks, Begins, Places, Installs}
@@ -49,7 +49,7 @@ seated : (id : ℕ) → id < 1024 → nat_le 1024 id ≡ false
 seated id h = grind (arith, nat_tests)
 
 -- it is decided who runs: the size stays
-decided_size : (s : Setting) (p : Processor) (settled : Settled) → size_of (decided_by s p settled) ≡ size_of p
+decided_size : (s : Regime) (p : Processor) (settled : Decision) → size_of (decided_by s p settled) ≡ size_of p
 decided_size s p settled =
     omega (arith, length_is (present_at (decided_by s p settled).running), length_is (present_at p.running), tally-decided ones s.discipline p.running p.running.current (settled.choice == 1) refl)
 
@@ -57,7 +57,7 @@ decided_size s p settled =
 pub time_size : (d : Discipline) (now : ℕ) (p : Processor) → size_of (after_time d now p) ≡ size_of p
 time_size d now p = omega (arith, length_is (present_at (charge d p.running now)), length_is (present_at p.running), tally-charge ones d p.running now)
 
-begin_size : (id : ℕ) (loads : List ℕ) (p : Processor) (l : List Seat) (r : Result Reply Refusal) (q : Processor) (m : List Seat) → Begins id loads p l r q m → size_of q ≡ size_of p
+begin_size : (id : ℕ) (loads : List ℕ) (p : Processor) (l : List LobbyEntry) (r : Result Reply Refusal) (q : Processor) (m : List LobbyEntry) → Begins id loads p l r q m → size_of q ≡ size_of p
 begin_size id loads p l (Ok r) q m b = ap size_of b.4
 begin_size id loads p l (Err e) q m b = ap size_of b.1
 
@@ -83,13 +83,13 @@ module _ (d : Discipline) (n : ℕ) where
   pub kept_same : (w : World) (c : ℕ) (p q : Processor) (k : Kept) → kept_of w ≡ k → processor w c ≡ p → size_of q ≡ size_of p → kept_of (with_processor w c q) ≡ k
   kept_same w c p q k kw at e = ap (λ (ls : List ℕ). record { drawn = w.drawn; loads = ls }) (loads_same w.processors w.inboxes c q (e ∙ sym (ap size_of at))) ∙ kw
 
-  pub admit_moves : (id : ℕ) (nice : ℤ) (mask slice : ℕ) (l m : List Seat) (k : Kept) (r : Result Reply Refusal) → argument_refusal n (Admit id nice mask slice) ≡ None →
+  pub admit_moves : (id : ℕ) (nice : ℤ) (mask slice : ℕ) (l m : List LobbyEntry) (k : Kept) (r : Result Reply Refusal) → argument_refusal n (Admit id nice mask slice) ≡ None →
       Admits id (admitted n id nice mask slice) l r m → MovesHere d n k (lobby_part l ∷ []) (record { event = Admit id nice mask slice; reply = r; calls = [] }) k (lobby_part m ∷ [])
   admit_moves id nice mask slice l m k r fits share =
       moves_lobby d n l m k (record { event = Admit id nice mask slice; reply = r; calls = [] })
       (λ w s is. (admits_step d w id nice mask slice r m (rw s.many fits) (rw (s.many, is) share), rw s.many fits, admits_named id (admitted n id nice mask slice) l r m share))
 
-  pub retire_moves : (id : ℕ) (l m : List Seat) (k : Kept) (r : Result Reply Refusal) → id < 1024 → argument_refusal n (Retire id) ≡ None → Retires id l r m →
+  pub retire_moves : (id : ℕ) (l m : List LobbyEntry) (k : Kept) (r : Result Reply Refusal) → id < 1024 → argument_refusal n (Retire id) ≡ None → Retires id l r m →
       MovesHere d n k (lobby_part l ∷ []) (record { event = Retire id; reply = r; calls = [] }) k (lobby_part m ∷ [])
   retire_moves id l m k r bound fits share =
       moves_lobby d n l m k (record { event = Retire id; reply = r; calls = [] })
@@ -119,23 +119,23 @@ module _ (d : Discipline) (n : ℕ) where
             (loads_moved w.processors w.inboxes c q [] l (s.boxes ∙ sym s.many) (drain_load c now p q xs calls r t ∙ sym (ap (λ (x : Processor). load_of x xs) at) ∙ sym (ap (λ (x : List Task). load_of (processor w c) x) box))) ∙ kw,
       ))
 
-  block_load : (c now : ℕ) (p q : Processor) (l m : List Seat) (r : Reply) → Blocks d c now p l (Ok r) q m → size_of q + 1 ≡ size_of p
+  block_load : (c now : ℕ) (p q : Processor) (l m : List LobbyEntry) (r : Reply) → Blocks d c now p l (Ok r) q m → size_of q + 1 ≡ size_of p
   block_load c now p q l m r b =
       let a = after_time d now p in
       omega (arith, ap size_of b.1.1, time_size d now p, length_is (present_at (record a { running = after_leaving d a.running }).running), length_is (present_at a.running), tally-after_leaving ones d a.running b.0 b.1.0)
 
-  block_kept : (w : World) (c now : ℕ) (p q : Processor) (l m : List Seat) (k : Kept) (r : Result Reply Refusal) → IsSound n w → kept_of w ≡ k → c < count_in w → processor w c ≡ p → Blocks d c now p l r q m →
+  block_kept : (w : World) (c now : ℕ) (p q : Processor) (l m : List LobbyEntry) (k : Kept) (r : Result Reply Refusal) → IsSound n w → kept_of w ≡ k → c < count_in w → processor w c ≡ p → Blocks d c now p l r q m →
       kept_of (with_processor w c q) ≡ kept_by_block c r k
   block_kept w c now p q l m k (Err e) s kw there at b = kept_same w c p q k kw at (ap size_of b.2)
   block_kept w c now p q l m k (Ok r) s kw there at b = kept_less w c p q k (s.boxes ∙ sym s.many) kw there at (block_load c now p q l m r b)
 
-  pub block_moves : (c now : ℕ) (p q : Processor) (l m : List Seat) (k : Kept) (r : Result Reply Refusal) → Blocks d c now p l r q m →
+  pub block_moves : (c now : ℕ) (p q : Processor) (l m : List LobbyEntry) (k : Kept) (r : Result Reply Refusal) → Blocks d c now p l r q m →
       MovesHere d n k (cpu_part c p ∷ lobby_part l ∷ []) (record { event = Block c now; reply = r; calls = [] }) (kept_by_block c r k) (cpu_part c q ∷ lobby_part m ∷ [])
   block_moves c now p q l m k r b =
       moves_cpu_lobby d n c p q l m k (kept_by_block c r k) (record { event = Block c now; reply = r; calls = [] })
       (λ w s kw there at is. ((blocks_step d w c now r q m there (rw (at, is) b), rw (within w c there) refl, blocks_named d c now p l r q m b), block_kept w c now p q l m k r s kw there at b))
 
-  pub begin_moves : (c id : ℕ) (p q : Processor) (l m : List Seat) (k : Kept) (r : Result Reply Refusal) → id < 1024 → Begins id k.loads p l r q m →
+  pub begin_moves : (c id : ℕ) (p q : Processor) (l m : List LobbyEntry) (k : Kept) (r : Result Reply Refusal) → id < 1024 → Begins id k.loads p l r q m →
       MovesHere d n k (cpu_part c p ∷ lobby_part l ∷ []) (record { event = BeginWake c id; reply = r; calls = [] }) k (cpu_part c q ∷ lobby_part m ∷ [])
   begin_moves c id p q l m k r bound b =
       moves_cpu_lobby d n c p q l m k k (record { event = BeginWake c id; reply = r; calls = [] })

@@ -7,8 +7,8 @@ use Rattle.bq_disc.specs.Discipline.{Discipline}
 use Rattle.bq_disc.specs.OneProcessor.{present_at}
 use Rattle.bq_hooks.specs.OwnPlace.{HasPlace}
 use Rattle.bq_parts.specs.declared.carried.Carried.{Carried}
-use Rattle.bq_parts.specs.declared.seat.Seat.{Seat}
-use Rattle.bq_parts.specs.declared.seat.Seat.TheVariants.{Absent, Blocked}
+use Rattle.bq_parts.specs.declared.lobby_entry.LobbyEntry.{LobbyEntry}
+use Rattle.bq_parts.specs.declared.lobby_entry.LobbyEntry.TheVariants.{Absent, Blocked}
 use Rattle.bq_parts.specs.Processors.{Processor, HasEachOnce, HasSeatedIds}
 use Rattle.bq_parts.specs.World.{World, opening_world, processor, inbox}
 use Rattle.bq_parts.proofs.Counts.{count_of-append}
@@ -93,10 +93,10 @@ module _ (d : Discipline) (n c b : ℕ) (p q : Processor) (apart : c ≢ b) wher
       rw (← k.2.1, ← k.3.1) both
 
 -- a look at the lobby
-module _ (d : Discipline) (n : ℕ) (seats : List Seat) where
+module _ (d : Discipline) (n : ℕ) (seats : List LobbyEntry) where
   abbrev pub SeenLobby : Type 0
   SeenLobby = (w : World) × IsReached (RecordStep d) (opening_world n) w × HasPart w (lobby_part seats)
 
   -- each task stands at its own id
   pub seen_own : SeenLobby → (id : ℕ) (t : Task) → slice_index_or seats id Absent ≡ Blocked t → t.id ≡ id
-  seen_own k id t e = (reached_sound d n k.0 k.1).orderly.once.blocked id t (ap (λ (l : List Seat). slice_index_or l id Absent) k.2 ∙ e)
+  seen_own k id t e = (reached_sound d n k.0 k.1).orderly.once.blocked id t (ap (λ (l : List LobbyEntry). slice_index_or l id Absent) k.2 ∙ e)

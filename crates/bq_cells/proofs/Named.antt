@@ -9,8 +9,8 @@ use Rattle.bq_parts.specs.declared.carried.Carried.{Carried}
 use Rattle.bq_parts.specs.declared.reply.Reply.{Reply}
 use Rattle.bq_parts.specs.declared.refusal.Refusal.{Refusal}
 use Rattle.bq_parts.specs.declared.refusal.Refusal.TheVariants as no
-use Rattle.bq_parts.specs.declared.seat.Seat.{Seat}
-use Rattle.bq_parts.specs.declared.seat.Seat.TheVariants.{Absent}
+use Rattle.bq_parts.specs.declared.lobby_entry.LobbyEntry.{LobbyEntry}
+use Rattle.bq_parts.specs.declared.lobby_entry.LobbyEntry.TheVariants.{Absent}
 use Rattle.bq_parts.specs.Processors.{Processor}
 use Rattle.bq_parts.specs.Refusals.{is_absent, is_away, retire_refusal, begin_refusal}
 use Rattle.bq_parts.specs.Shares.{Admits, Retires, Blocks, Begins, Installs}
@@ -19,11 +19,11 @@ use Rattle.bq_parts.specs.Shares.{Admits, Retires, Blocks, Begins, Installs}
 abbrev pub IsNamed : Result Reply Refusal → Type 0
 IsNamed r = IfErr r (λ e. e ≢ no.OutOfMemory)
 
-pub admits_named : (id : ℕ) (t : Task) (l : List Seat) (r : Result Reply Refusal) (m : List Seat) → Admits id t l r m → IsNamed r
+pub admits_named : (id : ℕ) (t : Task) (l : List LobbyEntry) (r : Result Reply Refusal) (m : List LobbyEntry) → Admits id t l r m → IsNamed r
 admits_named id t l (Ok r) m a = tt
 admits_named id t l (Err e) m a = subst (λ x. x ≢ no.OutOfMemory) (sym a.1) (λ h. cc)
 
-pub blocks_named : (d : Discipline) (c now : ℕ) (p : Processor) (l : List Seat) (r : Result Reply Refusal) (q : Processor) (m : List Seat) → Blocks d c now p l r q m → IsNamed r
+pub blocks_named : (d : Discipline) (c now : ℕ) (p : Processor) (l : List LobbyEntry) (r : Result Reply Refusal) (q : Processor) (m : List LobbyEntry) → Blocks d c now p l r q m → IsNamed r
 blocks_named d c now p l (Ok r) q m b = tt
 blocks_named d c now p l (Err e) q m b = subst (λ x. x ≢ no.OutOfMemory) (sym b.1) (λ h. cc)
 
@@ -38,18 +38,18 @@ first_named false x e rest n more h = more h
 none_named : (e : Refusal) → None ≡ Some e → e ≢ no.OutOfMemory
 none_named e h = absurd (let no : ⊥ = cc in no)
 
-retire_named : (s : Seat) (e : Refusal) → retire_refusal s ≡ Some e → e ≢ no.OutOfMemory
+retire_named : (s : LobbyEntry) (e : Refusal) → retire_refusal s ≡ Some e → e ≢ no.OutOfMemory
 retire_named s e h = first_named (is_absent s) no.NoTask e _ (λ h. cc) (first_named (is_away s) no.NotBlocked e None (λ h. cc) (none_named e)) h
 
-pub retires_named : (id : ℕ) (l : List Seat) (r : Result Reply Refusal) (m : List Seat) → Retires id l r m → IsNamed r
+pub retires_named : (id : ℕ) (l : List LobbyEntry) (r : Result Reply Refusal) (m : List LobbyEntry) → Retires id l r m → IsNamed r
 retires_named id l (Ok r) m a = tt
 retires_named id l (Err e) m a = retire_named (slice_index_or l id Absent) e a.0
 
-begin_named : (s : Seat) (hand : Option Carried) (e : Refusal) → begin_refusal s hand ≡ Some e → e ≢ no.OutOfMemory
+begin_named : (s : LobbyEntry) (hand : Option Carried) (e : Refusal) → begin_refusal s hand ≡ Some e → e ≢ no.OutOfMemory
 begin_named s hand e h =
     first_named (is_absent s) no.NoTask e _ (λ h. cc) (first_named (is_away s) no.NotBlocked e _ (λ h. cc) (first_named (is_some hand) no.InHand e None (λ h. cc) (none_named e))) h
 
-pub begins_named : (id : ℕ) (loads : List ℕ) (p : Processor) (l : List Seat) (r : Result Reply Refusal) (q : Processor) (m : List Seat) → Begins id loads p l r q m → IsNamed r
+pub begins_named : (id : ℕ) (loads : List ℕ) (p : Processor) (l : List LobbyEntry) (r : Result Reply Refusal) (q : Processor) (m : List LobbyEntry) → Begins id loads p l r q m → IsNamed r
 begins_named id loads p l (Ok r) q m b = tt
 begins_named id loads p l (Err e) q m b = begin_named (slice_index_or l id Absent) p.hand e b.0
 

@@ -18,7 +18,7 @@ use Rattle.bq_parts.specs.declared.reply.Reply.{Reply}
 use Rattle.bq_parts.specs.declared.reply.Reply.TheVariants.{Pulled}
 use Rattle.bq_parts.specs.Processors.{Processor, opening, size_of, HasEachOnce}
 use Rattle.bq_parts.specs.World.{World, processor, count_in, with_processor}
-use Rattle.bq_parts.specs.Choices.{Settled, SettlesPull, policies, own_pull}
+use Rattle.bq_parts.specs.Choices.{Decision, SettlesPull, policies, own_pull}
 use Rattle.bq_parts.specs.Moves.{taken_from, without_task, with_pulled, started_if_idle}
 use Rattle.bq_parts.specs.Shares.{after_time, remarked, Pulls}
 use Rattle.bq_parts.proofs.Counts.{each_once_queue}
@@ -76,7 +76,7 @@ taken_one : (cpu id : ℕ) (s : Running) → is_movable_to cpu id s.queue ≡ tr
 taken_one cpu id s h = one_by_case cpu s.kept (with_id id s.queue) h
 
 -- a permitted choice is in the queue
-chosen_there : (d : Discipline) (cpu from now id : ℕ) (p o : Processor) (settled : Settled) → HasEachOnce o.running.queue → SettlesPull (policies d) cpu from (after_time d now p) (remarked d o) settled → task_numbered settled.choice ≡ Some id →
+chosen_there : (d : Discipline) (cpu from now id : ℕ) (p o : Processor) (settled : Decision) → HasEachOnce o.running.queue → SettlesPull (policies d) cpu from (after_time d now p) (remarked d o) settled → task_numbered settled.choice ≡ Some id →
     length (option_to_list (taken_from (remarked d o).running (Some id))) ≡ 1
 chosen_there d cpu from now id p o settled once h e =
     let c = after_time d now p in

@@ -8,10 +8,10 @@ use Rattle.bq_parts.specs.declared.event.Event.{Event}
 use Rattle.bq_parts.specs.declared.event.Event.TheVariants.{Admit, Retire, Draw, Install, BeginWake, EndWake, Drain, Tick, Block, Pull}
 use Rattle.bq_parts.specs.declared.reply.Reply.{Reply}
 use Rattle.bq_parts.specs.declared.refusal.Refusal.{Refusal}
-use Rattle.bq_parts.specs.declared.seat.Seat.TheVariants.{Absent, Away}
+use Rattle.bq_parts.specs.declared.lobby_entry.LobbyEntry.TheVariants.{Absent, Away}
 use Rattle.bq_parts.specs.Processors.{opening}
 use Rattle.bq_parts.specs.World.{World, opening_world, count_in}
-use Rattle.bq_parts.specs.Choices.{Setting, policies}
+use Rattle.bq_parts.specs.Choices.{Regime, policies}
 use Rattle.bq_parts.specs.Steps.{WorldStep, Performs}
 use Rattle.bq_parts.specs.StandsOnce.{IsOrderly}
 use Rattle.bq_core.proofs.Order.{step_tidy, step_keeps, opening_is_orderly}
@@ -27,7 +27,7 @@ pub record IsSound (n : ℕ) (w : World) : Type 0 where
   pub seats : length w.seats ≡ 1024
   pub orderly : IsOrderly w
 
-seats_after : (s : Setting) (w : World) (e : Event) (calls : List Asked) (r : Reply) (u : World) → Performs s w e calls r u → length u.seats ≡ length w.seats
+seats_after : (s : Regime) (w : World) (e : Event) (calls : List Asked) (r : Reply) (u : World) → Performs s w e calls r u → length u.seats ≡ length w.seats
 seats_after s w (Admit id nice mask slice) calls r u k = ap (λ (v : World). length v.seats) k.3 ∙ ap length k.1.2 ∙ length-set w.seats id _
 seats_after s w (Retire id) calls r u k = ap (λ (v : World). length v.seats) k.3 ∙ ap length k.1.2 ∙ length-set w.seats id Absent
 seats_after s w Draw calls r u k = ap (λ (v : World). length v.seats) k.2
@@ -39,7 +39,7 @@ seats_after s w (Tick cpu now) calls r u k = ap (λ (v : World). length v.seats)
 seats_after s w (Block cpu now) calls r u k = ap (λ (v : World). length v.seats) k.4 ∙ ap length k.2.1.3 ∙ length-set w.seats k.2.0.id _
 seats_after s w (Pull cpu from now) calls r u k = ap (λ (v : World). length v.seats) k.3
 
-seats_stay : (s : Setting) (w : World) (e : Event) (calls : List Asked) (r : Result Reply Refusal) (u : World) → WorldStep s w e calls r u → length u.seats ≡ length w.seats
+seats_stay : (s : Regime) (w : World) (e : Event) (calls : List Asked) (r : Result Reply Refusal) (u : World) → WorldStep s w e calls r u → length u.seats ≡ length w.seats
 seats_stay s w e calls (Ok r) u k = seats_after s w e calls r u k.1
 seats_stay s w e calls (Err r) u k = ap (λ (v : World). length v.seats) k.1
 

@@ -5,7 +5,7 @@ use Rattle.bq_tie.specs.Whole.{count}
 use Rattle.bq_history.specs.Items.{Moves}
 use Rattle.bq_disc.specs.Tasks.{Task}
 use Rattle.bq_disc.specs.Discipline.{Discipline}
-use Rattle.bq_parts.specs.declared.seat.Seat.{Seat}
+use Rattle.bq_parts.specs.declared.lobby_entry.LobbyEntry.{LobbyEntry}
 use Rattle.bq_parts.specs.Processors.{Processor, opening}
 use Rattle.bq_parts.specs.World.{World, opening_world, processor, inbox, count_in, with_processor, with_inbox}
 use Rattle.bq_cells.specs.declared.law.Kept.{Kept}
@@ -45,7 +45,7 @@ module _ (d : Discipline) (n : ℕ) where
       others w (part.Lobby o) none f = f
 
   -- the lobby alone
-  pub moves_lobby : (l m : List Seat) (k : Kept) (e : Record) → ((w : World) → IsSound n w → w.seats ≡ l → RecordStep d w e (record w { seats = m })) → MovesHere k (lobby_part l ∷ []) e k (lobby_part m ∷ [])
+  pub moves_lobby : (l m : List LobbyEntry) (k : Kept) (e : Record) → ((w : World) → IsSound n w → w.seats ≡ l → RecordStep d w e (record w { seats = m })) → MovesHere k (lobby_part l ∷ []) e k (lobby_part m ∷ [])
   moves_lobby l m k e steps = (same_self, counts, λ w reached kw h. (record w { seats = m }, steps w (reached_sound d n w reached) h.0, kw, (refl, tt), others w))
     where
       counts : (x : Part) → count (same_part x) (lobby_part m ∷ []) ≡ count (same_part x) (lobby_part l ∷ [])
@@ -81,7 +81,7 @@ module _ (d : Discipline) (n : ℕ) where
       others w (part.Lobby o) none f = f
 
   -- one processor and the lobby
-  pub moves_cpu_lobby : (c : ℕ) (p q : Processor) (l o : List Seat) (k m : Kept) (e : Record) →
+  pub moves_cpu_lobby : (c : ℕ) (p q : Processor) (l o : List LobbyEntry) (k m : Kept) (e : Record) →
       ((w : World) → IsSound n w → kept_of w ≡ k → c < count_in w → processor w c ≡ p → w.seats ≡ l → RecordStep d w e (record (with_processor w c q) { seats = o }) × (kept_of (with_processor w c q) ≡ m)) →
       MovesHere k (cpu_part c p ∷ lobby_part l ∷ []) e m (cpu_part c q ∷ lobby_part o ∷ [])
   moves_cpu_lobby c p q l o k m e steps = (

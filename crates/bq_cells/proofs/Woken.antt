@@ -7,13 +7,13 @@ use Rattle.bq_parts.specs.declared.carried.Carried.{Carried}
 use Rattle.bq_parts.specs.declared.wakes.Placement.{Placement}
 use Rattle.bq_parts.specs.declared.reply.Reply.{Reply}
 use Rattle.bq_parts.specs.declared.refusal.Refusal.{Refusal}
-use Rattle.bq_parts.specs.declared.seat.Seat.{Seat}
-use Rattle.bq_parts.specs.declared.seat.Seat.TheVariants.{Absent, Blocked}
+use Rattle.bq_parts.specs.declared.lobby_entry.LobbyEntry.{LobbyEntry}
+use Rattle.bq_parts.specs.declared.lobby_entry.LobbyEntry.TheVariants.{Absent, Blocked}
 use Rattle.bq_parts.specs.Processors.{Processor}
 use Rattle.bq_parts.specs.Shares.{Begins}
 
 -- the task of a seat that comes into the hand has the seat's id
-pub begun_hand : (id : ℕ) (loads : List ℕ) (p : Processor) (l : List Seat) (r : Result Reply Refusal) (q : Processor) (m : List Seat) → Begins id loads p l r q m → ((t : Task) → slice_index_or l id Absent ≡ Blocked t → t.id ≡ id) →
+pub begun_hand : (id : ℕ) (loads : List ℕ) (p : Processor) (l : List LobbyEntry) (r : Result Reply Refusal) (q : Processor) (m : List LobbyEntry) → Begins id loads p l r q m → ((t : Task) → slice_index_or l id Absent ≡ Blocked t → t.id ≡ id) →
     OnOk r (option_map (λ (c : Carried). c.task.id) q.hand ≡ Some id)
 begun_hand id loads p l (Ok r) q m b own = ap (λ (x : Processor). option_map (λ (c : Carried). c.task.id) x.hand) b.4 ∙ ap Some (own b.0 b.2)
 begun_hand id loads p l (Err e) q m b own = tt

@@ -7,8 +7,8 @@ use Rattle.bq_parts.specs.declared.reply.Reply.{Reply}
 use Rattle.bq_parts.specs.declared.reply.Reply.TheVariants.{Pulled}
 use Rattle.bq_parts.specs.declared.refusal.Refusal.{Refusal}
 use Rattle.bq_parts.specs.declared.refusal.Refusal.TheVariants as no
-use Rattle.bq_parts.specs.declared.seat.Seat.{Seat}
-use Rattle.bq_parts.specs.declared.seat.Seat.TheVariants.{Absent}
+use Rattle.bq_parts.specs.declared.lobby_entry.LobbyEntry.{LobbyEntry}
+use Rattle.bq_parts.specs.declared.lobby_entry.LobbyEntry.TheVariants.{Absent}
 use Rattle.bq_parts.specs.Processors.{Processor, opening}
 use Rattle.bq_parts.specs.World.{World, processor, inbox, count_in, loads_of}
 use Rattle.bq_parts.specs.Refusals.{argument_refusal}
@@ -36,7 +36,7 @@ cpu_part c p = part.Cpu c p
 abbrev pub inbox_part : ℕ → List Task → Part
 inbox_part c tasks = part.Inbox c tasks
 
-abbrev pub lobby_part : List Seat → Part
+abbrev pub lobby_part : List LobbyEntry → Part
 lobby_part seats = part.Lobby seats
 
 -- whether two parts stand at one place

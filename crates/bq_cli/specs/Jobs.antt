@@ -7,7 +7,7 @@ use Rattle.bq_bpf.specs.Hooks.{hook_word}
 use Rattle.bq_program.specs.Forms.{maps_text}
 use Rattle.bq_program.specs.declared.options.Options.{Options}
 use Rattle.bq_sizes.specs.Sizes.{rule_of, size_numbered}
-use Rattle.bq_sizes.specs.declared.size.Size.{Size}
+use Rattle.bq_sizes.specs.declared.processor_count.ProcessorCount.{ProcessorCount}
 use Rattle.bq_lines.specs.Numbers.{below, decimal_of, processor_of}
 use Rattle.bq_cli.specs.Program.{program}
 use Rattle.bq_cli.specs.declared.asked.Parallel.{Parallel}
@@ -29,7 +29,7 @@ abbrev pub ticks_of : List ℕ → Option ℕ
 ticks_of word = below 1000001 (decimal_of word)
 
 -- the size of so many processors, in decimal
-abbrev pub processors_of : List ℕ → Option Size
+abbrev pub processors_of : List ℕ → Option ProcessorCount
 processors_of word = option_and_then size_numbered (processor_of word)
 
 -- the options of `par` have the values that were found

@@ -2,7 +2,7 @@
 ghost use Rattle.std.specs.Prelude.{◌≡◌};
 
 use bq_program::Options;
-use bq_sizes::{Rule, Size};
+use bq_sizes::{ProcessorCount, Rule};
 use std::alloc::{AllocError, AllocFailed};
 use thiserror::Error;
 
@@ -25,7 +25,7 @@ pub enum Job {
 #[derive(Clone, Copy, Debug)]
 pub struct Parallel {
     pub rule: Rule,
-    pub size: Size,
+    pub size: ProcessorCount,
     pub ticks: u32,
 }
 

@@ -4,14 +4,14 @@ ghost use Rattle.std.specs.Borrow.{Bor};
 ghost use Rattle.clap.specs.Words.{found_of, rows_of};
 ghost use Rattle.bq_sizes.specs.Sizes.{rule_of};
 ghost use Rattle.bq_sizes.specs.declared.rule.Rule.{Rule as Way};
-ghost use Rattle.bq_sizes.specs.declared.size.Size.{Size as Many};
+ghost use Rattle.bq_sizes.specs.declared.processor_count.ProcessorCount.{ProcessorCount as Many};
 ghost use Rattle.bq_cli.specs.declared.asked.Parallel.{Parallel as Asked};
 ghost use Rattle.bq_cli.specs.Jobs.{IsParallel, processors_of, ticks_of};
 
 use crate::asked::{JobFault, Parallel};
 use crate::asm_words::{refused, value};
 use bq_lines::numbers;
-use bq_sizes::{Rule, Size};
+use bq_sizes::{ProcessorCount, Rule};
 use clap::ArgMatches;
 use std::alloc::Global;
 
@@ -50,7 +50,7 @@ fn rule_in(alloc: Global, word: Option<&str>) -> Result<Rule, JobFault>
 }
 
 /// The number of processors that a word names.
-fn size_in(alloc: Global, word: Option<&str>) -> Result<Size, JobFault>
+fn size_in(alloc: Global, word: Option<&str>) -> Result<ProcessorCount, JobFault>
     ensures ok { IfOk result (λ s. option_and_then processors_of (option_map (λ (w : Bor (List ℕ)). w.now) word.entry) ≡ Some s) }
     ensures taken { IfErr result (λ e. (s : Many) → option_and_then processors_of (option_map (λ (w : Bor (List ℕ)). w.now) word.entry) ≡ Some s → e ≡ JobFault.OutOfMemory) }
 {
@@ -64,10 +64,10 @@ fn size_in(alloc: Global, word: Option<&str>) -> Result<Size, JobFault>
 }
 
 /// The size of so many processors, in decimal.
-fn size_named(word: &[u8]) -> Option<Size>
+fn size_named(word: &[u8]) -> Option<ProcessorCount>
     ensures { result ≡ processors_of word.now }
 {
-    Size::of_number(numbers::processor(word)?)
+    ProcessorCount::of_number(numbers::processor(word)?)
 }
 
 /// The number of ticks that a word names.

@@ -10,7 +10,7 @@ use Rattle.bq_parts.specs.Processors.{Processor, opening}
 use Rattle.bq_parts.specs.World.{World, opening_world}
 use Rattle.bq_disc.specs.Tasks.{Task}
 use Rattle.bq_disc.specs.Discipline.{Discipline}
-use Rattle.bq_parts.specs.declared.seat.Seat.{Seat}
+use Rattle.bq_parts.specs.declared.lobby_entry.LobbyEntry.{LobbyEntry}
 use Rattle.bq_cells.specs.Opened.{ItemOf}
 use Rattle.bq_closing.specs.AllParts.{all_parts}
 use Rattle.bq_cells.specs.Parts.{cpu_part, inbox_part, lobby_part, same_part, HasPart, RecordStep, kept_of}
@@ -32,7 +32,7 @@ module _ {A B : Type 0} (f : A → Part) (h : B → Part) where
   items_two (x ∷ xs) ys = ap (λ (zs : List ItemOf). part_item (f x) ∷ zs) (items_two xs ys)
 
   -- what a holder of the lobby has that got the others in this order
-  pub gathered : (s : List Seat) (v u t : List ItemOf) (xs : List A) (ys : List B) → t ≡ part_item (lobby_part s) ∷ [] → u ≡ t ++ map (λ x. part_item (f x)) xs → v ≡ u ++ map (λ y. part_item (h y)) ys → v ≡ map part_item (all_parts s xs ys f h)
+  pub gathered : (s : List LobbyEntry) (v u t : List ItemOf) (xs : List A) (ys : List B) → t ≡ part_item (lobby_part s) ∷ [] → u ≡ t ++ map (λ x. part_item (f x)) xs → v ≡ u ++ map (λ y. part_item (h y)) ys → v ≡ map part_item (all_parts s xs ys f h)
   gathered s v u t xs ys first second third =
       third ∙ (ap (λ (zs : List ItemOf). zs ++ map (λ y. part_item (h y)) ys) (second ∙ ap (λ (zs : List ItemOf). zs ++ map (λ x. part_item (f x)) xs) first)
       ∙ ap (λ (zs : List ItemOf). part_item (lobby_part s) ∷ zs) (items_two xs ys))
@@ -59,7 +59,7 @@ module _ {A : Type 0} (number : A → ℕ) where
   inboxes_counted s i tasks [] = refl
   inboxes_counted s i tasks (x ∷ xs) = ap (λ (n : ℕ). cond {A = ℕ} (eqb s (number x)) 1 0 + n) (inboxes_counted s i tasks xs)
 
-module _ {A B : Type 0} (s : List Seat) (xs : List A) (ys : List B) (at : A → ℕ) (state : A → Processor) (place : B → ℕ) (tasks : B → List Task) where
+module _ {A B : Type 0} (s : List LobbyEntry) (xs : List A) (ys : List B) (at : A → ℕ) (state : A → Processor) (place : B → ℕ) (tasks : B → List Task) where
   abbrev as_cpu : A → Part
   as_cpu x = cpu_part (at x) (state x)
 

@@ -3,11 +3,11 @@ ghost use Rattle.std.specs.Prelude.{◌≡◌, ◌↔◌, IsTrue, length, slice_
 ghost use Rattle.std.specs.Option.{option_map};
 ghost use Rattle.bq_history.specs.History.{IsConfirmed};
 
+use bq_bpf::Call;
 use bq_cells::Record;
 use bq_core::Core;
 use bq_disc::RunQueue;
 use bq_history::{Closed as History, Receipt};
-use bq_bpf::Call;
 use bq_parts::{Event, Refusal, Reply};
 
 /// The history of a machine, the world that it leaves, and its counters.

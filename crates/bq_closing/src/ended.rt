@@ -9,7 +9,7 @@ ghost use Rattle.bq_parts.specs.World.{World, opening_world, count_in};
 ghost use Rattle.bq_parts.specs.StandsOnce.{IsOrderly};
 ghost use Rattle.bq_cells.specs.Parts.{RecordStep, told_calls, cpu_part, inbox_part, lobby_part, same_part, HasPart};
 ghost use Rattle.bq_cells.specs.declared.law.Part.{Part as PartOf};
-ghost use Rattle.bq_parts.specs.declared.seat.Seat.{Seat as SeatOf};
+ghost use Rattle.bq_parts.specs.declared.lobby_entry.LobbyEntry.{LobbyEntry as SeatOf};
 ghost use Rattle.bq_closing.specs.AllParts.{all_parts};
 
 use crate::closed::Closed;

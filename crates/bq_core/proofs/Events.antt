@@ -7,8 +7,8 @@ use Rattle.bq_disc.specs.Tasks.{Task, with_id}
 use Rattle.bq_disc.specs.Discipline.{Discipline, left_at}
 use Rattle.bq_disc.specs.OneProcessor.{Running, present_at, charge, marked, enter_all}
 use Rattle.bq_parts.specs.declared.carried.Carried.{Carried}
-use Rattle.bq_parts.specs.declared.seat.Seat.{Seat}
-use Rattle.bq_parts.specs.declared.seat.Seat.TheVariants.{Absent, Blocked, Away}
+use Rattle.bq_parts.specs.declared.lobby_entry.LobbyEntry.{LobbyEntry}
+use Rattle.bq_parts.specs.declared.lobby_entry.LobbyEntry.TheVariants.{Absent, Blocked, Away}
 use Rattle.bq_parts.specs.Processors.{Processor, opening, count_of, in_hand}
 use Rattle.bq_parts.specs.World.{World, processor, inbox, seat, with_processor, with_inbox}
 use Rattle.bq_parts.specs.Refusals.{is_absent, is_away}
@@ -17,7 +17,7 @@ use Rattle.bq_policies.specs.Programs.{Programs}
 use Rattle.bq_hooks.specs.Contexts.{as_number}
 use Rattle.bq_hooks.specs.OwnPlace.{allows, HasPlace}
 use Rattle.bq_hooks.specs.Permitted.{may_pull, task_numbered}
-use Rattle.bq_parts.specs.Choices.{Setting, Settled, decided_by}
+use Rattle.bq_parts.specs.Choices.{Regime, Decision, decided_by}
 use Rattle.bq_parts.specs.Moves.{after_leaving, as_it_leaves, taken_from, without_task, with_pulled, started_if_idle}
 use Rattle.bq_parts.specs.Shares.{after_time}
 use Rattle.bq_parts.proofs.Tallies.{tally, tally-append, tally-charge, tally-decided, tally-enter_all, tally-without, tally-present}
@@ -33,7 +33,7 @@ abbrev pub charged_at : Discipline → World → ℕ → ℕ → Processor
 charged_at d w cpu now = after_time d now (processor w cpu)
 
 -- an absent seat is not away
-absent_is_not_away : (s : Seat) → is_absent s ≡ true → as_number (is_away s) ≡ 0
+absent_is_not_away : (s : LobbyEntry) → is_absent s ≡ true → as_number (is_away s) ≡ 0
 absent_is_not_away Absent h = refl
 absent_is_not_away (Blocked t) h = cc
 absent_is_not_away Away h = cc
@@ -92,7 +92,7 @@ end_wake_tidy d count w cpu now to carried programs y l e k a =
     (omega (arith, of_suits count to carried.task a place))
 
 -- it is decided who runs
-pub tick_tidy : (s : Setting) (count : ℕ) (w : World) (cpu now : ℕ) (settled : Settled) → IsTidy count [] w → cpu < count → IsTidy count [] (with_processor w cpu (decided_by s (charged_at s.discipline w cpu now) settled))
+pub tick_tidy : (s : Regime) (count : ℕ) (w : World) (cpu now : ℕ) (settled : Decision) → IsTidy count [] w → cpu < count → IsTidy count [] (with_processor w cpu (decided_by s (charged_at s.discipline w cpu now) settled))
 tick_tidy s count w cpu now settled y l =
     let p : Processor = charged_at s.discipline w cpu now in
     running_tidy count [] [] w cpu (decided_by s p settled) y l refl
@@ -100,7 +100,7 @@ tick_tidy s count w cpu now settled y l =
     refl
 
 -- an inbox's tasks enter, and it is decided who runs
-pub drain_tidy : (s : Setting) (count : ℕ) (w : World) (cpu now : ℕ) (settled : Settled) → IsTidy count [] w → cpu < count →
+pub drain_tidy : (s : Regime) (count : ℕ) (w : World) (cpu now : ℕ) (settled : Decision) → IsTidy count [] w → cpu < count →
     IsTidy count [] (with_inbox (with_processor w cpu (decided_by s (record (charged_at s.discipline w cpu now) { running = enter_all s.discipline (charged_at s.discipline w cpu now).running (inbox w cpu) }) settled)) cpu [])
 drain_tidy s count w cpu now settled y l =
     let tasks : List Task = inbox w cpu in

@@ -24,24 +24,24 @@ use Rattle.bq_parts.specs.declared.event.Event.TheVariants.{Admit, Retire, Draw,
 use Rattle.bq_parts.specs.declared.carried.Carried.{Carried}
 use Rattle.bq_parts.specs.declared.reply.Reply.{Reply}
 use Rattle.bq_parts.specs.declared.refusal.Refusal.{Refusal}
-use Rattle.bq_parts.specs.declared.seat.Seat.{Seat}
-use Rattle.bq_parts.specs.declared.seat.Seat.TheVariants.{Blocked}
+use Rattle.bq_parts.specs.declared.lobby_entry.LobbyEntry.{LobbyEntry}
+use Rattle.bq_parts.specs.declared.lobby_entry.LobbyEntry.TheVariants.{Blocked}
 use Rattle.bq_parts.specs.declared.wakes.Placement.{Placement}
 use Rattle.bq_parts.specs.Processors.{Processor, size_of}
 use Rattle.bq_parts.specs.World.{World}
 use Rattle.bq_parts.specs.Refusals.{refusal}
-use Rattle.bq_parts.specs.Choices.{Settled, SettlesBy, SettlesPlace, SettlesPreempt, SettlesPull, place_bytes, own_pull, policies, decided_by}
+use Rattle.bq_parts.specs.Choices.{Decision, SettlesBy, SettlesPlace, SettlesPreempt, SettlesPull, place_bytes, own_pull, policies, decided_by}
 use Rattle.bq_parts.specs.Shares.{after_time, remarked, Decides, Ticks, Drains, Blocks, Begins, Places, Pulls}
 use Rattle.bq_parts.specs.Steps.{Performs, WorldStep}
 use Rattle.bq_core.specs.Laws.{HadMemory, StepIsOne}
 
--- Settled choices
+-- Decision choices
 
 place_small : (f : PlaceFacts) (version : Version) → length (place_bytes f version) < 2 ^ 16
 place_small f First = omega (arith, length-place_bytes_first f)
 place_small f Second = omega (arith, length-place_bytes_second f)
 
-same_settled : (x y : Settled) → x.choice ≡ y.choice → x.by ≡ y.by → x.steps ≡ y.steps → x.calls ≡ y.calls → x.program ≡ y.program → x ≡ y
+same_settled : (x y : Decision) → x.choice ≡ y.choice → x.by ≡ y.by → x.steps ≡ y.steps → x.calls ≡ y.calls → x.program ≡ y.program → x ≡ y
 same_settled x y choice by steps calls program =
     ap (λ c. record x { choice = c }) choice
     ∙ ap (λ b. record x { choice = y.choice; by = b }) by
@@ -50,7 +50,7 @@ same_settled x y choice by steps calls program =
     ∙ ap (λ p. record y { program = p }) program
 
 module _ (d : Discipline) where
-  settles_one : (policy : Option Accepted) (context : Version → List ℕ) (program : Program) (now cpu : ℕ) (permitted : ℕ → Bool) (own : ℕ) (x y : Settled) → ((version : Version) → length (context version) < 2 ^ 16) →
+  settles_one : (policy : Option Accepted) (context : Version → List ℕ) (program : Program) (now cpu : ℕ) (permitted : ℕ → Bool) (own : ℕ) (x y : Decision) → ((version : Version) → length (context version) < 2 ^ 16) →
       SettlesBy (policies d) policy context program now cpu permitted own x → SettlesBy (policies d) policy context program now cpu permitted own y → AnswerAlike x.calls y.calls → x ≡ y
   settles_one None context program now cpu permitted own x y small h k alike = h ∙ sym k
   settles_one (Some p) context program now cpu permitted own x y small h k alike =
@@ -62,7 +62,7 @@ module _ (d : Discipline) where
       one.1
       (h.3 ∙ ap (λ maps. record program { maps = maps }) one.3 ∙ sym k.3)
 
-  preempt_one : (cpu : ℕ) (p : Processor) (o : Option Task) (x y : Settled) → SettlesPreempt (policies d) cpu p o x → SettlesPreempt (policies d) cpu p o y → AnswerAlike x.calls y.calls → x ≡ y
+  preempt_one : (cpu : ℕ) (p : Processor) (o : Option Task) (x y : Decision) → SettlesPreempt (policies d) cpu p o x → SettlesPreempt (policies d) cpu p o y → AnswerAlike x.calls y.calls → x ≡ y
   preempt_one cpu p None x y h k alike = h ∙ sym k
   preempt_one cpu p (Some t) x y h k alike =
       let queue = p.running.queue in
@@ -70,20 +70,20 @@ module _ (d : Discipline) where
       let facts : PreemptFacts = record { processor = cpu; queue = queue; current = t; choice = d.choice queue; own = own } in
       settles_one p.programs.preempt.policy (λ version. preempt_bytes facts) p.programs.preempt p.running.last cpu may_preempt (as_number own) x y (λ version. omega (arith, length-preempt_bytes facts)) h k alike
 
-  place_one : (count cpu : ℕ) (p : Processor) (carried : Carried) (x y : Settled) → SettlesPlace (policies d) count cpu p carried x → SettlesPlace (policies d) count cpu p carried y → AnswerAlike x.calls y.calls → x ≡ y
+  place_one : (count cpu : ℕ) (p : Processor) (carried : Carried) (x y : Decision) → SettlesPlace (policies d) count cpu p carried x → SettlesPlace (policies d) count cpu p carried y → AnswerAlike x.calls y.calls → x ≡ y
   place_one count cpu p carried x y h k alike =
       let own = unwrap_or (own_place count carried.loads carried.task) 0 in
       let facts : PlaceFacts = record { task = carried.task; waking = cpu; processors = count; own = own; loads = carried.loads } in
       settles_one p.programs.place.policy (place_bytes facts) p.programs.place p.running.last cpu (may_place count carried.task) own x y (place_small facts) h k alike
 
-  pull_one : (cpu from : ℕ) (p other : Processor) (x y : Settled) → SettlesPull (policies d) cpu from p other x → SettlesPull (policies d) cpu from p other y → AnswerAlike x.calls y.calls → x ≡ y
+  pull_one : (cpu from : ℕ) (p other : Processor) (x y : Decision) → SettlesPull (policies d) cpu from p other x → SettlesPull (policies d) cpu from p other y → AnswerAlike x.calls y.calls → x ≡ y
   pull_one cpu from p other x y h k alike =
       let queue = other.running.queue in
       let own = own_pull cpu p other in
       let facts : PullFacts = record { puller = cpu; source = from; puller_size = size_of p; source_size = size_of other; movable = movable_to cpu queue; own = own } in
       settles_one p.programs.pull.policy (λ version. pull_bytes facts) p.programs.pull p.running.last cpu (may_pull cpu queue) (or_nobody own) x y (λ version. omega (arith, length-pull_bytes facts)) h k alike
 
-  decides_one : (cpu : ℕ) (p : Processor) (x y : Settled) (q q' : Processor) → Decides (policies d) cpu p x q → Decides (policies d) cpu p y q' → AnswerAlike x.calls y.calls → (x ≡ y) × (q ≡ q')
+  decides_one : (cpu : ℕ) (p : Processor) (x y : Decision) (q q' : Processor) → Decides (policies d) cpu p x q → Decides (policies d) cpu p y q' → AnswerAlike x.calls y.calls → (x ≡ y) × (q ≡ q')
   decides_one cpu p x y q q' h k alike =
       let same = preempt_one cpu p p.running.current x y h.0 k.0 alike in
       (same, h.1 ∙ ap (decided_by (policies d) p) same ∙ sym k.1)
@@ -91,35 +91,35 @@ module _ (d : Discipline) where
   -- Shares
 
   -- what calls are alike, those of the settled choices are
-  alike_settled : (calls calls' : List Asked) (x y : Settled) → calls ≡ x.calls → calls' ≡ y.calls → AnswerAlike calls calls' → AnswerAlike x.calls y.calls
+  alike_settled : (calls calls' : List Asked) (x y : Decision) → calls ≡ x.calls → calls' ≡ y.calls → AnswerAlike calls calls' → AnswerAlike x.calls y.calls
   alike_settled calls calls' x y e f alike = subst (λ (c : List Asked). AnswerAlike x.calls c) f (subst (λ (c : List Asked). AnswerAlike c calls') e alike)
 
   ticks_one : (cpu now : ℕ) (p : Processor) (calls calls' : List Asked) (r r' : Reply) (q q' : Processor) → Ticks (policies d) cpu now p calls r q → Ticks (policies d) cpu now p calls' r' q' → AnswerAlike calls calls' →
       (r ≡ r') × (q ≡ q') × (calls ≡ calls')
   ticks_one cpu now p calls calls' r r' q q' h k alike =
       let same = decides_one cpu _ h.0 k.0 q q' h.1 k.1 (alike_settled calls calls' h.0 k.0 h.2 k.2 alike) in
-      (h.3 ∙ rw (same.0, same.1) refl ∙ sym k.3, same.1, h.2 ∙ ap (λ (x : Settled). x.calls) same.0 ∙ sym k.2)
+      (h.3 ∙ rw (same.0, same.1) refl ∙ sym k.3, same.1, h.2 ∙ ap (λ (x : Decision). x.calls) same.0 ∙ sym k.2)
 
   drains_one : (cpu now : ℕ) (p : Processor) (tasks : List Task) (calls calls' : List Asked) (r r' : Reply) (q q' : Processor) → Drains (policies d) cpu now p tasks calls r q → Drains (policies d) cpu now p tasks calls' r' q' → AnswerAlike calls calls' →
       (r ≡ r') × (q ≡ q') × (calls ≡ calls')
   drains_one cpu now p tasks calls calls' r r' q q' h k alike =
       let same = decides_one cpu _ h.0 k.0 q q' h.1 k.1 (alike_settled calls calls' h.0 k.0 h.2 k.2 alike) in
-      (h.3 ∙ rw (same.0, same.1) refl ∙ sym k.3, same.1, h.2 ∙ ap (λ (x : Settled). x.calls) same.0 ∙ sym k.2)
+      (h.3 ∙ rw (same.0, same.1) refl ∙ sym k.3, same.1, h.2 ∙ ap (λ (x : Decision). x.calls) same.0 ∙ sym k.2)
 
   some_one : {X : Type 0} (x y : X) (o : Option X) → o ≡ Some x → o ≡ Some y → x ≡ y
   some_one x y o e f = cc
 
-  blocked_one : (t u : Task) (s : Seat) → s ≡ Blocked t → s ≡ Blocked u → t ≡ u
+  blocked_one : (t u : Task) (s : LobbyEntry) → s ≡ Blocked t → s ≡ Blocked u → t ≡ u
   blocked_one t u s e f = cc
 
-  blocks_one : (cpu now : ℕ) (p : Processor) (seats : List Seat) (r r' : Reply) (q q' : Processor) (left left' : List Seat) → Blocks d cpu now p seats (Ok r) q left → Blocks d cpu now p seats (Ok r') q' left' →
+  blocks_one : (cpu now : ℕ) (p : Processor) (seats : List LobbyEntry) (r r' : Reply) (q q' : Processor) (left left' : List LobbyEntry) → Blocks d cpu now p seats (Ok r) q left → Blocks d cpu now p seats (Ok r') q' left' →
       (r ≡ r') × (q ≡ q') × (left ≡ left')
   blocks_one cpu now p seats r r' q q' left left' h k =
       let task = some_one h.0 k.0 _ h.1.0 k.1.0 in
       let cpus : q ≡ q' = h.1.1 ∙ sym k.1.1 in
       (h.1.2 ∙ rw (task, cpus) refl ∙ sym k.1.2, cpus, h.1.3 ∙ rw task refl ∙ sym k.1.3)
 
-  begins_one : (id : ℕ) (loads : List ℕ) (p : Processor) (seats : List Seat) (r r' : Reply) (q q' : Processor) (left left' : List Seat) → Begins id loads p seats (Ok r) q left → Begins id loads p seats (Ok r') q' left' →
+  begins_one : (id : ℕ) (loads : List ℕ) (p : Processor) (seats : List LobbyEntry) (r r' : Reply) (q q' : Processor) (left left' : List LobbyEntry) → Begins id loads p seats (Ok r) q left → Begins id loads p seats (Ok r') q' left' →
       (r ≡ r') × (q ≡ q') × (left ≡ left')
   begins_one id loads p seats r r' q q' left left' h k =
       let task = blocked_one h.0 k.0 _ h.2 k.2 in
@@ -133,10 +133,10 @@ module _ (d : Discipline) where
       let there = subst (λ (x : Carried). SettlesPlace (policies d) count cpu c x k.1) (sym carried) k.4.0 in
       let same = place_one count cpu c h.0 h.1 k.1 h.4.0 there (alike_settled calls calls' h.1 k.1 h.4.4 k.4.4 alike) in
       let task : x.task ≡ x'.task = h.3 ∙ ap (λ (c : Carried). c.task) carried ∙ sym k.3 in
-      let to : x.to ≡ x'.to = h.4.1 ∙ ap (λ (s : Settled). s.choice) same ∙ sym k.4.1 in
-      let by : x.by ≡ x'.by = h.4.2 ∙ ap (λ (s : Settled). s.by) same ∙ sym k.4.2 in
-      let steps : x.steps ≡ x'.steps = h.4.3 ∙ ap (λ (s : Settled). s.steps) same ∙ sym k.4.3 in
-      (same_placement x x' task to by steps, h.4.5 ∙ rw same refl ∙ sym k.4.5, h.4.4 ∙ ap (λ (s : Settled). s.calls) same ∙ sym k.4.4)
+      let to : x.to ≡ x'.to = h.4.1 ∙ ap (λ (s : Decision). s.choice) same ∙ sym k.4.1 in
+      let by : x.by ≡ x'.by = h.4.2 ∙ ap (λ (s : Decision). s.by) same ∙ sym k.4.2 in
+      let steps : x.steps ≡ x'.steps = h.4.3 ∙ ap (λ (s : Decision). s.steps) same ∙ sym k.4.3 in
+      (same_placement x x' task to by steps, h.4.5 ∙ rw same refl ∙ sym k.4.5, h.4.4 ∙ ap (λ (s : Decision). s.calls) same ∙ sym k.4.4)
     where
       same_placement : (x y : Placement) → x.task ≡ y.task → x.to ≡ y.to → x.by ≡ y.by → x.steps ≡ y.steps → x ≡ y
       same_placement x y task to by steps =
@@ -147,7 +147,7 @@ module _ (d : Discipline) where
   pulls_one cpu from now p o calls calls' r r' q q' u u' h k alike =
       let same = pull_one cpu from (after_time d now p) (remarked d o) h.0 k.0 h.1.0 k.1.0 (alike_settled calls calls' h.0 k.0 h.1.1 k.1.1 alike) in
       let here : q ≡ q' = h.1.3 ∙ rw same refl ∙ sym k.1.3 in
-      (h.1.2 ∙ rw (same, here) refl ∙ sym k.1.2, here, h.1.4 ∙ rw same refl ∙ sym k.1.4, h.1.1 ∙ ap (λ (x : Settled). x.calls) same ∙ sym k.1.1)
+      (h.1.2 ∙ rw (same, here) refl ∙ sym k.1.2, here, h.1.4 ∙ rw same refl ∙ sym k.1.4, h.1.1 ∙ ap (λ (x : Decision). x.calls) same ∙ sym k.1.1)
 
   -- Events
 

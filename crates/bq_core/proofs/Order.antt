@@ -20,7 +20,7 @@ use Rattle.bq_parts.specs.declared.refusal.Refusal.TheVariants as no
 use Rattle.bq_parts.specs.Processors.{Processor, HasEachOnce, opening}
 use Rattle.bq_parts.specs.World.{World, opening_world, processor, seat, count_in, loads_of}
 use Rattle.bq_parts.specs.Refusals.{refusal, argument_refusal, state_refusal, either, is_absent, is_away}
-use Rattle.bq_parts.specs.Choices.{Setting, Settled, policies, place_bytes, own_pull}
+use Rattle.bq_parts.specs.Choices.{Regime, Decision, policies, place_bytes, own_pull}
 use Rattle.bq_parts.specs.Moves.{admitted}
 use Rattle.bq_parts.specs.Shares.{after_time, remarked}
 use Rattle.bq_parts.specs.Steps.{WorldStep, Performs}
@@ -74,25 +74,25 @@ abbrev Keeps : World → World → Type 0
 Keeps w w' = IsTidy (count_in w) [] w'
 
 -- each event by itself, as it is not refused
-admit_keeps : (s : Setting) (w : World) (id : ℕ) (nice : ℤ) (mask slice : ℕ) (calls : List Asked) (r : Reply) (w' : World) → IsTidy (count_in w) [] w → refusal w (Admit id nice mask slice) ≡ None →
+admit_keeps : (s : Regime) (w : World) (id : ℕ) (nice : ℤ) (mask slice : ℕ) (calls : List Asked) (r : Reply) (w' : World) → IsTidy (count_in w) [] w → refusal w (Admit id nice mask slice) ≡ None →
     Performs s w (Admit id nice mask slice) calls r w' → Keeps w w'
 admit_keeps s w id nice mask slice calls r w' y h k =
     let f = accepted w (Admit id nice mask slice) h in
     rw (k.3, k.1.2) (Events.admit_tidy (count_in w) w id (admitted (count_in w) id nice mask slice) y k.1.0 refl (admitted_has_place (count_in w) id nice mask slice f.0))
 
-retire_keeps : (s : Setting) (w : World) (id : ℕ) (calls : List Asked) (r : Reply) (w' : World) → IsTidy (count_in w) [] w → Performs s w (Retire id) calls r w' → Keeps w w'
+retire_keeps : (s : Regime) (w : World) (id : ℕ) (calls : List Asked) (r : Reply) (w' : World) → IsTidy (count_in w) [] w → Performs s w (Retire id) calls r w' → Keeps w w'
 retire_keeps s w id calls r w' y k =
     let later = (passed (is_absent (seat w id)) no.NoTask _ k.1.0).1 in
     rw (k.3, k.1.2) (Events.retire_tidy (count_in w) w id y (passed (is_away (seat w id)) no.NotBlocked None later).0)
 
-install_keeps : (s : Setting) (w : World) (cpu : ℕ) (hook : Hook) (g : ℕ) (policy : Option Accepted) (calls : List Asked) (r : Reply) (w' : World) → IsTidy (count_in w) [] w → refusal w (Install cpu hook g policy) ≡ None →
+install_keeps : (s : Regime) (w : World) (cpu : ℕ) (hook : Hook) (g : ℕ) (policy : Option Accepted) (calls : List Asked) (r : Reply) (w' : World) → IsTidy (count_in w) [] w → refusal w (Install cpu hook g policy) ≡ None →
     Performs s w (Install cpu hook g policy) calls r w' → Keeps w w'
 install_keeps s w cpu hook g policy calls r w' y h k =
     let new : Program = record { policy = policy; generation = g; maps = fresh_maps policy } in
     let l = (there (count_in w) cpu _ (accepted w (Install cpu hook g policy) h).0).0 in
     rw (k.3, k.1.2) (Events.install_tidy (count_in w) w cpu (with_program hook (processor w cpu).programs new) y l)
 
-begin_wake_keeps : (s : Setting) (w : World) (cpu id : ℕ) (calls : List Asked) (r : Reply) (w' : World) → IsTidy (count_in w) [] w → refusal w (BeginWake cpu id) ≡ None →
+begin_wake_keeps : (s : Regime) (w : World) (cpu id : ℕ) (calls : List Asked) (r : Reply) (w' : World) → IsTidy (count_in w) [] w → refusal w (BeginWake cpu id) ≡ None →
     Performs s w (BeginWake cpu id) calls r w' → Keeps w w'
 begin_wake_keeps s w cpu id calls r w' y h k =
     let b = k.2 in
@@ -100,7 +100,7 @@ begin_wake_keeps s w cpu id calls r w' y h k =
     let later = (passed (is_away (seat w id)) no.NotBlocked _ (passed (is_absent (seat w id)) no.NoTask _ b.1).1).1 in
     rw (k.4, b.4, b.5) (Events.begin_wake_tidy (count_in w) w cpu id b.0 (loads_of w.processors w.inboxes) y l b.2 (passed (is_some (processor w cpu).hand) no.InHand None later).0)
 
-end_wake_keeps : (s : Setting) (w : World) (cpu now : ℕ) (calls : List Asked) (r : Reply) (w' : World) → IsTidy (count_in w) [] w → refusal w (EndWake cpu now) ≡ None →
+end_wake_keeps : (s : Regime) (w : World) (cpu now : ℕ) (calls : List Asked) (r : Reply) (w' : World) → IsTidy (count_in w) [] w → refusal w (EndWake cpu now) ≡ None →
     Performs s w (EndWake cpu now) calls r w' → Keeps w w'
 end_wake_keeps s w cpu now calls r w' y h k =
     let l = (there (count_in w) cpu None (accepted w (EndWake cpu now) h).0).0 in
@@ -108,30 +108,30 @@ end_wake_keeps s w cpu now calls r w' y h k =
     let b = k.2 in
     let to = k.0.to in
     let carried : Carried = b.0 in
-    let settled : Settled = b.1 in
+    let settled : Decision = b.1 in
     let own : ℕ = unwrap_or (own_place (count_in w) carried.loads carried.task) 0 in
     let goes = settled_permitted s (place_bytes (record { task = carried.task; waking = cpu; processors = count_in w; own = own; loads = carried.loads })) p.programs.place p.running.last cpu (may_place (count_in w) carried.task) own settled
     (own_place_permitted (count_in w) carried.loads carried.task (y.hand cpu carried b.2)) b.4.0 in
     let fits = may_place_fits (count_in w) carried.task to (subst (λ n. may_place (count_in w) carried.task n ≡ true) (sym b.4.1) goes) in
     rw (k.4, b.4.5, b.3) (Events.end_wake_tidy s.discipline (count_in w) w cpu now to carried (record p.programs { place = settled.program }) y l b.2 fits.0 fits.1)
 
-drain_keeps : (s : Setting) (w : World) (cpu now : ℕ) (calls : List Asked) (r : Reply) (w' : World) → IsTidy (count_in w) [] w → refusal w (Drain cpu now) ≡ None → Performs s w (Drain cpu now) calls r w' → Keeps w w'
+drain_keeps : (s : Regime) (w : World) (cpu now : ℕ) (calls : List Asked) (r : Reply) (w' : World) → IsTidy (count_in w) [] w → refusal w (Drain cpu now) ≡ None → Performs s w (Drain cpu now) calls r w' → Keeps w w'
 drain_keeps s w cpu now calls r w' y h k =
     let l = (there (count_in w) cpu None (accepted w (Drain cpu now) h).0).0 in
     rw (k.2, k.1.1.1) (Events.drain_tidy s (count_in w) w cpu now k.1.0 y l)
 
-tick_keeps : (s : Setting) (w : World) (cpu now : ℕ) (calls : List Asked) (r : Reply) (w' : World) → IsTidy (count_in w) [] w → refusal w (Tick cpu now) ≡ None → Performs s w (Tick cpu now) calls r w' → Keeps w w'
+tick_keeps : (s : Regime) (w : World) (cpu now : ℕ) (calls : List Asked) (r : Reply) (w' : World) → IsTidy (count_in w) [] w → refusal w (Tick cpu now) ≡ None → Performs s w (Tick cpu now) calls r w' → Keeps w w'
 tick_keeps s w cpu now calls r w' y h k =
     let l = (there (count_in w) cpu None (accepted w (Tick cpu now) h).0).0 in
     rw (k.2, k.1.1.1) (Events.tick_tidy s (count_in w) w cpu now k.1.0 y l)
 
-block_keeps : (s : Setting) (w : World) (cpu now : ℕ) (calls : List Asked) (r : Reply) (w' : World) → IsTidy (count_in w) [] w → refusal w (Block cpu now) ≡ None → Performs s w (Block cpu now) calls r w' → Keeps w w'
+block_keeps : (s : Regime) (w : World) (cpu now : ℕ) (calls : List Asked) (r : Reply) (w' : World) → IsTidy (count_in w) [] w → refusal w (Block cpu now) ≡ None → Performs s w (Block cpu now) calls r w' → Keeps w w'
 block_keeps s w cpu now calls r w' y h k =
     let l = (there (count_in w) cpu None (accepted w (Block cpu now) h).0).0 in
     let b = k.2 in
     rw (k.4, b.1.1, b.1.3) (Events.block_tidy s.discipline (count_in w) w cpu now b.0 y l b.1.0)
 
-pull_keeps : (s : Setting) (w : World) (cpu from now : ℕ) (calls : List Asked) (r : Reply) (w' : World) → IsOrderly w → IsTidy (count_in w) [] w →
+pull_keeps : (s : Regime) (w : World) (cpu from now : ℕ) (calls : List Asked) (r : Reply) (w' : World) → IsOrderly w → IsTidy (count_in w) [] w →
     refusal w (Pull cpu from now) ≡ None → Performs s w (Pull cpu from now) calls r w' → Keeps w w'
 pull_keeps s w cpu from now calls r w' o y h k =
     let f = there (count_in w) cpu _ (accepted w (Pull cpu from now) h).0 in
@@ -140,13 +140,13 @@ pull_keeps s w cpu from now calls r w' o y h k =
     let p : Processor = after_time s.discipline now (processor w cpu) in
     let source : Processor = remarked s.discipline (processor w from) in
     let x = k.2 in
-    let settled : Settled = x.0 in
+    let settled : Decision = x.0 in
     let once : HasEachOnce source.running.queue = each_once_queue (processor w from).running (each_once_running w from o) in
     let may = settled_permitted s _ p.programs.pull p.running.last cpu (may_pull cpu source.running.queue) (or_nobody (own_pull cpu p source)) settled (own_pull_permitted cpu p source once) x.1.0 in
     rw (k.3, x.1.3, x.1.4) (Events.pull_tidy s.discipline (count_in w) w cpu from now settled.choice (task_numbered settled.choice) (record p.programs { pull = settled.program }) y f.0 g.0 apart may refl)
 
 -- an event that is not refused keeps a world tidy
-performs_tidy : (s : Setting) (w : World) (e : Event) (calls : List Asked) (r : Reply) (w' : World) → IsOrderly w → IsTidy (count_in w) [] w → refusal w e ≡ None → Performs s w e calls r w' → Keeps w w'
+performs_tidy : (s : Regime) (w : World) (e : Event) (calls : List Asked) (r : Reply) (w' : World) → IsOrderly w → IsTidy (count_in w) [] w → refusal w e ≡ None → Performs s w e calls r w' → Keeps w w'
 performs_tidy s w (Admit id nice mask slice) calls r w' o y h k = admit_keeps s w id nice mask slice calls r w' y h k
 performs_tidy s w (Retire id) calls r w' o y h k = retire_keeps s w id calls r w' y k
 performs_tidy s w Draw calls r w' o y h k = rw k.2 (Events.draw_tidy (count_in w) w _ y)
@@ -159,12 +159,12 @@ performs_tidy s w (Block cpu now) calls r w' o y h k = block_keeps s w cpu now c
 performs_tidy s w (Pull cpu from now) calls r w' o y h k = pull_keeps s w cpu from now calls r w' o y h k
 
 -- in every setting a step leaves the world tidy
-pub step_tidy : (s : Setting) (w : World) (e : Event) (calls : List Asked) (r : Result Reply Refusal) (w' : World) → WorldStep s w e calls r w' → IsOrderly w → Keeps w w'
+pub step_tidy : (s : Regime) (w : World) (e : Event) (calls : List Asked) (r : Result Reply Refusal) (w' : World) → WorldStep s w e calls r w' → IsOrderly w → Keeps w w'
 step_tidy s w e calls (Ok r) w' step o = performs_tidy s w e calls r w' o (tidy_of w o) step.0 step.1
 step_tidy s w e calls (Err r) w' step o = subst (Keeps w) (sym step.1) (tidy_of w o)
 
 -- and all its processors well
-step_well : (s : Setting) (w : World) (e : Event) (calls : List Asked) (r : Result Reply Refusal) (w' : World) → WorldStep s w e calls r w' → IsOrderly w → AllWell w'
+step_well : (s : Regime) (w : World) (e : Event) (calls : List Asked) (r : Result Reply Refusal) (w' : World) → WorldStep s w e calls r w' → IsOrderly w → AllWell w'
 step_well s w e calls (Ok r) w' step o = performs_well s w e calls r w' (well_of w o) step.1
 step_well s w e calls (Err r) w' step o = subst AllWell (sym step.1) (well_of w o)
 
@@ -173,11 +173,11 @@ tidy_is_orderly : (count : ℕ) (w : World) → IsTidy count [] w → AllWell w 
 tidy_is_orderly count w y well = orderly_of w (subst (λ c. IsTidy c [] w) (sym y.many) y) well
 
 -- in every setting a step keeps order
-pub step_keeps : (s : Setting) → StepKeeps s
+pub step_keeps : (s : Regime) → StepKeeps s
 step_keeps s w e calls r w' step o = tidy_is_orderly (count_in w) w' (step_tidy s w e calls r w' step o) (step_well s w e calls r w' step o)
 
 -- and so do the first of some events, however many
-pub run_keeps : (s : Setting) → RunKeeps s
+pub run_keeps : (s : Regime) → RunKeeps s
 run_keeps s w [] o zero [] [] w' run = subst IsOrderly (sym run) o
 run_keeps s w [] o (suc n) [] [] w' run = subst IsOrderly (sym run) o
 run_keeps s w (e ∷ es) o zero [] [] w' run = subst IsOrderly (sym run) o

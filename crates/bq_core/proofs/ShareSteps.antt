@@ -11,7 +11,7 @@ use Rattle.bq_parts.specs.declared.reply.Reply.{Reply}
 use Rattle.bq_parts.specs.declared.reply.Reply.TheVariants.{Placed}
 use Rattle.bq_parts.specs.declared.refusal.Refusal.{Refusal}
 use Rattle.bq_parts.specs.declared.refusal.Refusal.TheVariants as no
-use Rattle.bq_parts.specs.declared.seat.Seat.{Seat}
+use Rattle.bq_parts.specs.declared.lobby_entry.LobbyEntry.{LobbyEntry}
 use Rattle.bq_parts.specs.Processors.{Processor, opening}
 use Rattle.bq_parts.specs.World.{World, processor, inbox, count_in, with_processor, with_inbox, with_seats, loads_of}
 use Rattle.bq_parts.specs.declared.wakes.Placement.{Placement}
@@ -30,12 +30,12 @@ use Rattle.bq_core.proofs.Steps.{within, still_runs, block_idle}
 seated : (id : ℕ) → id < 1024 → nat_le 1024 id ≡ false
 seated id h = grind (arith, nat_tests)
 
-pub admits_step : (d : Discipline) (w : World) (id : ℕ) (nice : ℤ) (mask slice : ℕ) (r : Result Reply Refusal) (seats : List Seat) → argument_refusal (count_in w) (Admit id nice mask slice) ≡ None →
+pub admits_step : (d : Discipline) (w : World) (id : ℕ) (nice : ℤ) (mask slice : ℕ) (r : Result Reply Refusal) (seats : List LobbyEntry) → argument_refusal (count_in w) (Admit id nice mask slice) ≡ None →
     Admits id (admitted (count_in w) id nice mask slice) w.seats r seats → WorldStep (policies d) w (Admit id nice mask slice) [] r (with_seats w seats)
 admits_step d w id nice mask slice (Ok r) seats h a = (rw (h, a.0) refl, (seats, a, refl, refl))
 admits_step d w id nice mask slice (Err e) seats h a = (refl, ap (with_seats w) a.2, inl (rw (h, a.0, a.1) refl))
 
-pub retires_step : (d : Discipline) (w : World) (id : ℕ) (r : Result Reply Refusal) (seats : List Seat) → id < 1024 → Retires id w.seats r seats → WorldStep (policies d) w (Retire id) [] r (with_seats w seats)
+pub retires_step : (d : Discipline) (w : World) (id : ℕ) (r : Result Reply Refusal) (seats : List LobbyEntry) → id < 1024 → Retires id w.seats r seats → WorldStep (policies d) w (Retire id) [] r (with_seats w seats)
 retires_step d w id (Ok r) seats l b = (rw (seated id l, b.0) refl, (seats, b, refl, refl))
 retires_step d w id (Err e) seats l b = (refl, ap (with_seats w) b.1, inl (rw (seated id l, b.0) refl))
 
@@ -52,15 +52,15 @@ same_processor : (w : World) (cpu : ℕ) (q : Processor) → q ≡ processor w c
 same_processor w cpu q e = ap (with_processor w cpu) e ∙ ap (λ (x : List Processor). record w { processors = x }) (set-get_or w.processors cpu opening)
 
 -- and so is the lobby
-same_lobby_too : (w : World) (cpu : ℕ) (q : Processor) (seats : List Seat) → q ≡ processor w cpu → seats ≡ w.seats → with_seats (with_processor w cpu q) seats ≡ w
+same_lobby_too : (w : World) (cpu : ℕ) (q : Processor) (seats : List LobbyEntry) → q ≡ processor w cpu → seats ≡ w.seats → with_seats (with_processor w cpu q) seats ≡ w
 same_lobby_too w cpu q seats e f = ap (with_seats (with_processor w cpu q)) f ∙ same_processor w cpu q e
 
-pub blocks_step : (d : Discipline) (w : World) (cpu now : ℕ) (r : Result Reply Refusal) (q : Processor) (seats : List Seat) → cpu < count_in w → Blocks d cpu now (processor w cpu) w.seats r q seats →
+pub blocks_step : (d : Discipline) (w : World) (cpu now : ℕ) (r : Result Reply Refusal) (q : Processor) (seats : List LobbyEntry) → cpu < count_in w → Blocks d cpu now (processor w cpu) w.seats r q seats →
     WorldStep (policies d) w (Block cpu now) [] r (with_seats (with_processor w cpu q) seats)
 blocks_step d w cpu now (Ok r) q seats h b = (rw (within w cpu h, still_runs d w cpu now b.0 (sym b.1.0)) refl, (q, seats, b, refl, refl))
 blocks_step d w cpu now (Err e) q seats h b = (refl, same_lobby_too w cpu q seats b.2 b.3, rw b.1 (block_idle d w cpu now h b.0).2)
 
-pub begins_step : (d : Discipline) (w : World) (cpu id : ℕ) (r : Result Reply Refusal) (q : Processor) (seats : List Seat) → cpu < count_in w → id < 1024 → Begins id (loads_of w.processors w.inboxes) (processor w cpu) w.seats r q seats →
+pub begins_step : (d : Discipline) (w : World) (cpu id : ℕ) (r : Result Reply Refusal) (q : Processor) (seats : List LobbyEntry) → cpu < count_in w → id < 1024 → Begins id (loads_of w.processors w.inboxes) (processor w cpu) w.seats r q seats →
     WorldStep (policies d) w (BeginWake cpu id) [] r (with_seats (with_processor w cpu q) seats)
 begins_step d w cpu id (Ok r) q seats h l b = (rw (within w cpu h, seated id l, b.1) refl, (q, seats, b, refl, refl))
 begins_step d w cpu id (Err e) q seats h l b = (refl, same_lobby_too w cpu q seats b.1 b.2, inl (rw (within w cpu h, seated id l, b.0) refl))
@@ -75,7 +75,7 @@ pub drains_at : (d : Discipline) (w w' : World) (cpu now : ℕ) (calls : List As
 drains_at d w w' cpu now calls r q p xs h at box t e = rw e (drains_step d w cpu now calls r q h (rw (← at, ← box) t))
 
 -- and of a block
-pub blocks_at : (d : Discipline) (w w' : World) (cpu now : ℕ) (r : Result Reply Refusal) (q p : Processor) (seats seats' : List Seat) → cpu < count_in w → p ≡ processor w cpu → seats ≡ w.seats →
+pub blocks_at : (d : Discipline) (w w' : World) (cpu now : ℕ) (r : Result Reply Refusal) (q p : Processor) (seats seats' : List LobbyEntry) → cpu < count_in w → p ≡ processor w cpu → seats ≡ w.seats →
     Blocks d cpu now p seats r q seats' → w' ≡ with_seats (with_processor w cpu q) seats' → WorldStep (policies d) w (Block cpu now) [] r w'
 blocks_at d w w' cpu now r q p seats seats' h at is b e = rw e (blocks_step d w cpu now r q seats' h (rw (← at, ← is) b))
 

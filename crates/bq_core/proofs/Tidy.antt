@@ -8,8 +8,8 @@ use Rattle.std.proofs.lemmas.Bool.Decides.{nat_tests}
 use Rattle.bq_disc.specs.Tasks.{Task}
 use Rattle.bq_disc.specs.OneProcessor.{present_at}
 use Rattle.bq_parts.specs.declared.carried.Carried.{Carried}
-use Rattle.bq_parts.specs.declared.seat.Seat.{Seat}
-use Rattle.bq_parts.specs.declared.seat.Seat.TheVariants.{Absent, Blocked, Away}
+use Rattle.bq_parts.specs.declared.lobby_entry.LobbyEntry.{LobbyEntry}
+use Rattle.bq_parts.specs.declared.lobby_entry.LobbyEntry.TheVariants.{Absent, Blocked, Away}
 use Rattle.bq_parts.specs.Processors.{Processor, opening, count_of, held_by, in_hand}
 use Rattle.bq_parts.specs.World.{World, processor, inbox, seat, count_in, with_processor, with_inbox, with_seats}
 use Rattle.bq_parts.specs.Refusals.{is_away}
@@ -23,7 +23,7 @@ use Rattle.bq_parts.proofs.Counts.{one, ones, one_self, count_is}
 use Rattle.bq_parts.proofs.Once.{count_of-held_by, as_number_le}
 
 -- one seat is written
-abbrev pub with_seat : World → ℕ → Seat → World
+abbrev pub with_seat : World → ℕ → LobbyEntry → World
 with_seat w id s = with_seats w (set w.seats id s)
 
 -- order in a world of so many processors, with some tasks on their way
@@ -141,13 +141,13 @@ inbox_tidy count xs ys w cpu tasks y l moved fit =
     }
 
 -- a seat is written, and is away afterwards if it was before
-pub seat_tidy : (count : ℕ) (xs : List Task) (w : World) (id : ℕ) (s : Seat) → IsTidy count xs w → as_number (is_away s) ≡ as_number (is_away (seat w id)) →
+pub seat_tidy : (count : ℕ) (xs : List Task) (w : World) (id : ℕ) (s : LobbyEntry) → IsTidy count xs w → as_number (is_away s) ≡ as_number (is_away (seat w id)) →
     ((t : Task) → s ≡ Blocked t → (t.id ≡ id) × HasPlace count t) → IsTidy count xs (with_seat w id s)
 seat_tidy count xs w id s y same blocked = record {
   many = y.many;
   boxes = y.boxes;
-  away = at_set (λ j (x : Seat). standing_count j w + count_of j xs ≡ as_number (is_away x)) w.seats id s Absent (y.away id ∙ sym same) y.away;
-  blocked = at_set (λ j (x : Seat). (t : Task) → x ≡ Blocked t → (t.id ≡ j) × HasPlace count t) w.seats id s Absent blocked y.blocked;
+  away = at_set (λ j (x : LobbyEntry). standing_count j w + count_of j xs ≡ as_number (is_away x)) w.seats id s Absent (y.away id ∙ sym same) y.away;
+  blocked = at_set (λ j (x : LobbyEntry). (t : Task) → x ≡ Blocked t → (t.id ≡ j) × HasPlace count t) w.seats id s Absent blocked y.blocked;
   hand = y.hand;
   present = y.present;
   placed = y.placed;
@@ -171,8 +171,8 @@ leaves_lobby count w id t y e =
     record {
       many = y.many;
       boxes = y.boxes;
-      away = at_set_else (λ j (x : Seat). standing_count j w + count_of j (t ∷ []) ≡ as_number (is_away x)) w.seats id Away Absent (past_seat w id (λ h. cc)) (omega (arith, y.away id)) (λ j n. omega (arith, y.away j, apart j n));
-      blocked = at_set (λ j (x : Seat). (t : Task) → x ≡ Blocked t → (t.id ≡ j) × HasPlace count t) w.seats id Away Absent (λ t e. cc) y.blocked;
+      away = at_set_else (λ j (x : LobbyEntry). standing_count j w + count_of j (t ∷ []) ≡ as_number (is_away x)) w.seats id Away Absent (past_seat w id (λ h. cc)) (omega (arith, y.away id)) (λ j n. omega (arith, y.away j, apart j n));
+      blocked = at_set (λ j (x : LobbyEntry). (t : Task) → x ≡ Blocked t → (t.id ≡ j) × HasPlace count t) w.seats id Away Absent (λ t e. cc) y.blocked;
       hand = y.hand;
       present = y.present;
       placed = y.placed;
@@ -186,8 +186,8 @@ enters_lobby count w t new y same place =
     record {
       many = y.many;
       boxes = y.boxes;
-      away = at_set_else (λ j (x : Seat). standing_count j w + 0 ≡ as_number (is_away x)) w.seats t.id (Blocked new) Absent there (omega (arith, y.away t.id, one_self t, as_number_le (is_away (seat w t.id)))) (λ j n. omega (arith, y.away j, apart j n));
-      blocked = at_set (λ j (x : Seat). (t : Task) → x ≡ Blocked t → (t.id ≡ j) × HasPlace count t) w.seats t.id (Blocked new) Absent (λ u e. let is : new ≡ u = cc in rw (← is) (same, place)) y.blocked;
+      away = at_set_else (λ j (x : LobbyEntry). standing_count j w + 0 ≡ as_number (is_away x)) w.seats t.id (Blocked new) Absent there (omega (arith, y.away t.id, one_self t, as_number_le (is_away (seat w t.id)))) (λ j n. omega (arith, y.away j, apart j n));
+      blocked = at_set (λ j (x : LobbyEntry). (t : Task) → x ≡ Blocked t → (t.id ≡ j) × HasPlace count t) w.seats t.id (Blocked new) Absent (λ u e. let is : new ≡ u = cc in rw (← is) (same, place)) y.blocked;
       hand = y.hand;
       present = y.present;
       placed = y.placed;

@@ -14,7 +14,8 @@ mod waking;
 mod world;
 
 pub use bq_parts::{
-    Board, By, Carried, Cpu, Event, Hook, Hooks, Inbox, Installed, Loads, Lobby, Outcome,
-    Placement, Plain, Policy, Refusal, Reply, Scratch, Seat, Unlinked, argument_refusal, new_task,
+    Board, By, Carried, Cpu, Event, Hook, Hooks, Inbox, Installed, Loads, Lobby, LobbyEntry,
+    Outcome, Placement, Plain, Policy, Refusal, Reply, Scratch, Unlinked, argument_refusal,
+    new_task,
 };
 pub use world::Core;

@@ -11,8 +11,8 @@ ghost use Rattle.bq_parts.specs.StandsOnce.{IsOrderly};
 
 use crate::parts::Parts;
 use crate::{Cpu, Event, Refusal, Reply, Scratch};
-use bq_disc::RunQueue;
 use bq_bpf::Board;
+use bq_disc::RunQueue;
 
 impl<Q: RunQueue, const P: usize> Parts<Q, P> {
     /// A processor takes a task from the queue of another: the one that its policy names, or that of the discipline, where

@@ -8,8 +8,8 @@ ghost use Rattle.bq_parts.specs.StandsOnce.{IsOrderly};
 
 use crate::parts::Parts;
 use crate::{Event, Refusal, Reply, Scratch};
-use bq_disc::RunQueue;
 use bq_bpf::Board;
+use bq_disc::RunQueue;
 
 impl<Q: RunQueue, const P: usize> Parts<Q, P> {
     /// The clock of a processor ticks.

@@ -9,8 +9,8 @@ ghost use Rattle.bq_parts.specs.StandsOnce.{IsOrderly};
 
 use crate::parts::Parts;
 use crate::{Cpu, Event, Inbox, Loads, Placement, Refusal, Reply, Scratch};
-use bq_disc::RunQueue;
 use bq_bpf::Board;
+use bq_disc::RunQueue;
 
 impl<Q: RunQueue, const P: usize> Parts<Q, P> {
     /// A sleeping task comes into the hand of a processor, with the loads of that moment.

@@ -11,8 +11,8 @@ ghost use Rattle.bq_core.specs.Laws.{StaysOrderly};
 
 use crate::parts::Parts;
 use crate::{Cpu, Event, Inbox, Lobby, Refusal, Reply, Scratch, argument_refusal};
-use bq_disc::RunQueue;
 use bq_bpf::Board;
+use bq_disc::RunQueue;
 use std::alloc::{AllocError, Global};
 use std::marker::Model;
 

@@ -5,7 +5,7 @@ use Rattle.bq_parts.specs.declared.event.Event.TheVariants.{EndWake, Drain, Tick
 use Rattle.bq_parts.specs.declared.reply.Reply.{Reply}
 use Rattle.bq_parts.specs.declared.reply.Reply.TheVariants.{Drained, Ticked, Blocked, Pulled}
 use Rattle.bq_sizes.specs.declared.rule.Rule.{Rule}
-use Rattle.bq_sizes.specs.declared.size.Size.{Size}
+use Rattle.bq_sizes.specs.declared.processor_count.ProcessorCount.{ProcessorCount}
 use Rattle.bq_trace.specs.Counts.{one_more}
 use Rattle.bq_trace.specs.Machines.{opening_machine}
 use Rattle.bq_trace.specs.News.{News, Told, Opened, Gets}
@@ -27,7 +27,7 @@ Rises last None next = next ≡ last
 Rises last (Some now) next = (last ≤ now) × (now < 2 ^ 48) × (next ≡ now)
 
 -- a machine to which nothing has happened: the first line of a trace
-pub record Starts (rule : Rule) (size : Size) (told : Told) (d : Driver) : Type 0 where
+pub record Starts (rule : Rule) (size : ProcessorCount) (told : Told) (d : Driver) : Type 0 where
   pub machine : d.machine ≡ opening_machine rule size
   pub line : d.line ≡ 1
   pub now : d.now ≡ 0

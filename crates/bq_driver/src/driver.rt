@@ -6,9 +6,9 @@ ghost use Rattle.bq_trace.specs.News.{Gets};
 
 use crate::fault::DriveFault;
 use bq_core::{Event, Refusal, Reply};
-use bq_sizes::{Rule, Size};
+use bq_sizes::{ProcessorCount, Rule};
 use bq_trace::bare::bare;
-use bq_trace::{Machine, Sink};
+use bq_trace::{AnyCore, Sink};
 use std::alloc::Global;
 
 /// The latest reading of a clock: 2^48 - 1 nanoseconds.
@@ -17,7 +17,7 @@ const LATEST: u64 = 281_474_976_710_655;
 /// A machine, the number of the last line of its trace, and the last reading that was given to a clock.
 #[derive(Drop)]
 pub struct Driver {
-    pub machine: Machine,
+    pub machine: AnyCore,
     pub line: u64,
     pub now: u64,
 }
@@ -27,12 +27,12 @@ impl Driver {
     pub fn new<S: Sink>(
         alloc: Global,
         rule: Rule,
-        size: Size,
+        size: ProcessorCount,
         sink: &mut S,
     ) -> Result<Driver, DriveFault>
         ensures { IfOk result (λ driver. Gets S.takes sink.old sink.new (λ told. Starts rule size told driver)) }
     {
-        let machine = Machine::new(alloc, rule, size)?;
+        let machine = AnyCore::new(alloc, rule, size)?;
         sink.opened(1, rule, size)?;
         Ok(Driver {
             machine,

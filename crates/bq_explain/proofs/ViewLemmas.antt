@@ -2,31 +2,31 @@
 use Rattle.std.proofs.Common.{◌≡◌, ℕ, suc, zero, Bool, true, false, List, ◌++◌, Option, Some, None, slice_index_or, append-nil, sym, subst, inl, inr}
 use Rattle.std.specs.Prelude.{codes}
 use Rattle.bq_bpf.specs.Memory.{Setting, State}
-use Rattle.bq_views.specs.Views.{Covers, Holds, Keeps}
-use Rattle.bq_views.specs.declared.view.Known.{Known}
-use Rattle.bq_views.specs.declared.view.View.{View}
+use Rattle.bq_states.specs.AbstractStates.{Contains, Holds, Keeps}
+use Rattle.bq_states.specs.declared.abstract_state.AbstractValue.{AbstractValue}
+use Rattle.bq_states.specs.declared.abstract_state.AbstractState.{AbstractState}
 use Rattle.bq_explain.specs.Telling.{TellsRegisters, no_register, one_register, TellsRuns, no_run_told, one_run_told, TellsStack, TellsKept, no_kept, one_kept, TellsState}
 use Rattle.bq_explain.specs.Texts.{register_text, registers_below, kept_text, kept_below, AreRuns, no_run, one_run, IsStackText, IsViewText}
 use Rattle.bq_needs.specs.Texts.{known_text}
 use Rattle.bq_needs.proofs.SayingLemmas.{says_known}
 
 -- one register more
-pub tells_register : (f : Setting) (s : State) (before : List ℕ) (r : ℕ) (known : Option Known) → Holds f.shapes known (s.register r) → TellsRegisters f s before → TellsRegisters f s (before ++ register_text r known)
+pub tells_register : (f : Setting) (s : State) (before : List ℕ) (r : ℕ) (known : Option AbstractValue) → Holds f.shapes known (s.register r) → TellsRegisters f s before → TellsRegisters f s (before ++ register_text r known)
 tells_register f s before r None holds told = subst (λ (t : List ℕ). TellsRegisters f s t) (sym (append-nil before)) told
 tells_register f s before r (Some k) (n, is, describes) told = one_register f s before (known_text k) r n told is (says_known k f.shapes n describes)
 
 -- the first registers
-pub tells_registers : (f : Setting) (s : State) (v : View) → Covers f v s → (n : ℕ) → TellsRegisters f s (registers_below n v.registers)
+pub tells_registers : (f : Setting) (s : State) (v : AbstractState) → Contains f v s → (n : ℕ) → TellsRegisters f s (registers_below n v.registers)
 tells_registers f s v covers zero = no_register f s
 tells_registers f s v covers (suc n) =
     tells_register f s (registers_below n v.registers) n (slice_index_or v.registers n None) (covers.registers n) (tells_registers f s v covers n)
 
 -- one word more that is kept
-pub tells_slot : (f : Setting) (s : State) (before : List ℕ) (j : ℕ) (known : Option Known) → Keeps f.shapes known s.stack j → TellsKept f s before → TellsKept f s (before ++ kept_text j known)
+pub tells_slot : (f : Setting) (s : State) (before : List ℕ) (j : ℕ) (known : Option AbstractValue) → Keeps f.shapes known s.stack j → TellsKept f s before → TellsKept f s (before ++ kept_text j known)
 tells_slot f s before j None holds told = subst (λ (t : List ℕ). TellsKept f s t) (sym (append-nil before)) told
 tells_slot f s before j (Some k) (n, describes, bytes) told = one_kept f s before (known_text k) j n told bytes (says_known k f.shapes n describes)
 
-pub tells_kept : (f : Setting) (s : State) (v : View) → Covers f v s → (n : ℕ) → TellsKept f s (kept_below n v.kept)
+pub tells_kept : (f : Setting) (s : State) (v : AbstractState) → Contains f v s → (n : ℕ) → TellsKept f s (kept_below n v.kept)
 tells_kept f s v covers zero = no_kept f s
 tells_kept f s v covers (suc n) =
     tells_slot f s (kept_below n v.kept) n (slice_index_or v.kept n None) (covers.kept n) (tells_kept f s v covers n)
@@ -37,18 +37,18 @@ tells_runs s is (no_run set) = no_run_told s
 tells_runs s is (one_run set before first past rest some inside all) =
     one_run_told s before first past (tells_runs s is rest) some inside (λ i from to. is i (all i from to))
 
-pub tells_stack : (f : Setting) (s : State) (v : View) (text : List ℕ) → Covers f v s → IsStackText v.set text → TellsStack s text
+pub tells_stack : (f : Setting) (s : State) (v : AbstractState) (text : List ℕ) → Contains f v s → IsStackText v.set text → TellsStack s text
 tells_stack f s v text covers (inl none) = inl none
 tells_stack f s v text covers (inr (runs, is, are)) =
     inr (runs, is, tells_runs s (λ i set. let told = covers.set i set in (told.0, told.1)) are)
 
 -- the parts of the text make it whole
-pub is_view_text : (v : View) (registers unset stack kept text : List ℕ) → registers ≡ registers_below 11 v.registers → IsStackText v.set stack → kept ≡ kept_below 64 v.kept → text ≡ codes " " ++ (registers ++ (unset ++ (stack ++ kept))) → IsViewText v text
+pub is_view_text : (v : AbstractState) (registers unset stack kept text : List ℕ) → registers ≡ registers_below 11 v.registers → IsStackText v.set stack → kept ≡ kept_below 64 v.kept → text ≡ codes " " ++ (registers ++ (unset ++ (stack ++ kept))) → IsViewText v text
 is_view_text v registers unset stack kept text registers_are is_stack kept_are is =
     record { unset = unset; stack = stack; text_is = rw registers_are at rw kept_are at is; is_stack = is_stack }
 
 -- the whole text
-pub tells_state : (v : View) (text : List ℕ) → IsViewText v text → (f : Setting) (s : State) → Covers f v s → TellsState f s text
+pub tells_state : (v : AbstractState) (text : List ℕ) → IsViewText v text → (f : Setting) (s : State) → Contains f v s → TellsState f s text
 tells_state v text is f s covers =
     record {
       registers = registers_below 11 v.registers;

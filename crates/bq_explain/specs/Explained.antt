@@ -4,13 +4,13 @@ use Rattle.bq_insn.specs.declared.Insn.{Insn}
 use Rattle.bq_insn.specs.Slots.{spread}
 use Rattle.bq_graph.specs.declared.cause.Cause.{Cause}
 use Rattle.bq_bpf.specs.Memory.{HaveShapes, Setting, State}
-use Rattle.bq_bpf.specs.Runs.{Chain, start}
+use Rattle.bq_bpf.specs.Runs.{Steps, start}
 use Rattle.bq_bpf.specs.Safe.{IsSetting}
 use Rattle.bq_bpf.specs.Steps.{instruction_at}
 use Rattle.bq_bpf.specs.declared.board.Call.{Call as Asked}
 use Rattle.bq_bpf.specs.Hooks.{context_length_of}
 use Rattle.bq_verify.specs.KnownAt.{CoversRuns}
-use Rattle.bq_views.specs.declared.view.View.{View}
+use Rattle.bq_states.specs.declared.abstract_state.AbstractState.{AbstractState}
 use Rattle.bq_policy_files.specs.declared.policy.Policy.{Policy}
 use Rattle.bq_explain.specs.declared.explanation.Explained.{Explained}
 use Rattle.bq_explain.specs.declared.limits.Limits.{Limits}
@@ -26,7 +26,7 @@ use Rattle.bq_explain.specs.Verdicts.{IsVerdict, is_accepted}
 abbrev pub HoldsAt : Policy → ℕ → List ℕ → Type 0
 HoldsAt p slot text =
     (f : Setting) (maps : List (List ℕ)) → IsSetting (spread p.insns.items) p.shapes.items (context_length_of p.hook p.version) f → HaveShapes p.shapes.items maps →
-    (n : ℕ) (calls : List Asked) (t : State) → Chain f (start maps) n calls t → t.slot ≡ slot → TellsState f t text
+    (n : ℕ) (calls : List Asked) (t : State) → Steps f (start maps) n calls t → t.slot ≡ slot → TellsState f t text
 
 -- the lines on the state stand in the text, and hold
 pub record IsKnown (p : Policy) (slot : ℕ) (text known : List ℕ) : Type 0 where
@@ -42,7 +42,7 @@ HasKnown p slot e = IfSome e.known (λ known. IsKnown p slot (string_bytes e.tex
 -- the lines on the state tell of a view that every run which comes to the slot is within; the line before them tells, by the cause, a need of the
 -- instruction there that this view does not give
 pub record IsNeedAt (p : Policy) (slot : ℕ) (cause : Cause) (text known : List ℕ) : Type 0 where
-  pub view : View
+  pub view : AbstractState
   pub covers : CoversRuns (spread p.insns.items) p.shapes.items (context_length_of p.hook p.version) slot view
   pub view_told : IsViewText view known
   pub insn : Insn

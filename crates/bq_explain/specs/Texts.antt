@@ -1,27 +1,27 @@
 -- How what is known of registers and stack is printed.
 use Rattle.std.specs.Prelude.{◌≡◌, ℕ, zero, suc, ◌-◌, ◌*◌, ◌<◌, ◌≤◌, ◌==◌, Bool, List, [], ◌++◌, ◌⊎◌, Option, Some, None, codes, slice_index_or, if◌then◌else◌}
 use Rattle.std.specs.Fmt.{decimal}
-use Rattle.bq_views.specs.declared.view.Known.{Known}
-use Rattle.bq_views.specs.declared.view.View.{View}
+use Rattle.bq_states.specs.declared.abstract_state.AbstractValue.{AbstractValue}
+use Rattle.bq_states.specs.declared.abstract_state.AbstractState.{AbstractState}
 use Rattle.bq_needs.specs.Accesses.{AreSet}
 use Rattle.bq_needs.specs.Texts.{known_text}
 
 -- of a register of which nothing is known nothing is printed
-abbrev pub register_text : ℕ → Option Known → List ℕ
+abbrev pub register_text : ℕ → Option AbstractValue → List ℕ
 register_text register None = []
 register_text register (Some k) = codes " r" ++ (decimal register ++ (codes " " ++ (known_text k ++ codes "  ")))
 
 -- the first registers, so many of them
-abbrev pub registers_below : ℕ → List (Option Known) → List ℕ
+abbrev pub registers_below : ℕ → List (Option AbstractValue) → List ℕ
 registers_below zero registers = []
 registers_below (suc n) registers = registers_below n registers ++ register_text n (slice_index_or registers n None)
 
 -- a word that is kept whole on the stack, by how far its first byte is below the end
-abbrev pub kept_text : ℕ → Option Known → List ℕ
+abbrev pub kept_text : ℕ → Option AbstractValue → List ℕ
 kept_text slot None = []
 kept_text slot (Some k) = codes "  the 8 bytes at stack end - " ++ (decimal (512 - slot * 8) ++ (codes ": " ++ (known_text k ++ codes "\n")))
 
-abbrev pub kept_below : ℕ → List (Option Known) → List ℕ
+abbrev pub kept_below : ℕ → List (Option AbstractValue) → List ℕ
 kept_below zero slots = []
 kept_below (suc n) slots = kept_below n slots ++ kept_text n (slice_index_or slots n None)
 
@@ -42,7 +42,7 @@ IsStackText set text =
 
 -- what is known: each register that is known, the stack's bytes that are set, and the words that are kept there; between them may stand which
 -- registers are not known
-pub record IsViewText (v : View) (text : List ℕ) : Type 0 where
+pub record IsViewText (v : AbstractState) (text : List ℕ) : Type 0 where
   pub unset : List ℕ
   pub stack : List ℕ
   pub text_is : text ≡ codes " " ++ (registers_below 11 v.registers ++ (unset ++ (stack ++ kept_below 64 v.kept)))

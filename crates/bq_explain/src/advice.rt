@@ -1,11 +1,11 @@
 //! What helps against each cause, in one sentence.
+use bq_bpf::{Hook, Version};
 use bq_insn::Insn;
 use bq_needs::reads;
 use bq_policy_files::Policy;
+use bq_states::abstract_state::{AbstractState, Kind};
+use bq_states::registers::known;
 use bq_verify::Cause;
-use bq_bpf::{Hook, Version};
-use bq_views::registers::known;
-use bq_views::view::{Kind, View};
 
 /// What helps where something is wrong with the control graph.
 pub(crate) fn graph_advice(cause: Cause) -> &'static str {
@@ -25,7 +25,12 @@ pub(crate) fn graph_advice(cause: Cause) -> &'static str {
 }
 
 /// What helps where something is not shown of the states.
-pub(crate) fn state_advice(policy: &Policy, view: &View, insn: Insn, cause: Cause) -> &'static str {
+pub(crate) fn state_advice(
+    policy: &Policy,
+    view: &AbstractState,
+    insn: Insn,
+    cause: Cause,
+) -> &'static str {
     match cause {
         Cause::Unset => unset_advice(view, insn),
         Cause::Access => access_advice(policy, view, insn),
@@ -53,7 +58,7 @@ pub(crate) fn state_advice(policy: &Policy, view: &View, insn: Insn, cause: Caus
 }
 
 /// A call leaves r1 to r5 unset, which is the usual slip.
-fn unset_advice(view: &View, insn: Insn) -> &'static str {
+fn unset_advice(view: &AbstractState, insn: Insn) -> &'static str {
     for register in 1..6u8 {
         if reads(insn, register) && known(view, register).is_none() {
             return "set it on each way before; a call leaves r1 to r5 unset, so keep what is needed later in r6 to r9, as by mov64 r6, r1 at the begin";
@@ -62,7 +67,7 @@ fn unset_advice(view: &View, insn: Insn) -> &'static str {
     "set it on each way that leads here, as by mov64 before the first branch"
 }
 
-fn access_advice(policy: &Policy, view: &View, insn: Insn) -> &'static str {
+fn access_advice(policy: &Policy, view: &AbstractState, insn: Insn) -> &'static str {
     let register = match insn {
         Insn::Load { src, .. } => src,
         Insn::StoreImm { dst, .. } | Insn::StoreReg { dst, .. } => dst,

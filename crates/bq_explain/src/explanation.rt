@@ -19,8 +19,8 @@ use crate::view_words::view_text;
 use bq_insn::Insn;
 use bq_needs::need_text;
 use bq_policy_files::Policy;
+use bq_states::abstract_state::AbstractState;
 use bq_verify::{Cause, Program, view_at};
-use bq_views::view::View;
 use std::alloc::{AllocError, Global};
 
 /// What is said of a policy.
@@ -140,7 +140,7 @@ fn state_reasons(
     head: &str,
     policy: &Policy,
     program: &Program,
-    view: &View,
+    view: &AbstractState,
     fault: Fault,
 ) -> Result<Explained, AllocError>
     requires whole { is_well_formed program.now.insns.items ≡ true }
@@ -167,7 +167,7 @@ fn what_helps(
     alloc: Global,
     policy: &Policy,
     program: &Program,
-    view: &View,
+    view: &AbstractState,
     fault: Fault,
 ) -> Result<String, AllocError>
     requires whole { is_well_formed program.now.insns.items ≡ true }

@@ -1,6 +1,6 @@
 //! What is said of a program that is accepted.
-use bq_insn::Insn;
 use bq_bpf::MapShape;
+use bq_insn::Insn;
 use bq_policy_files::Policy;
 use std::alloc::{AllocError, Global};
 

@@ -6,8 +6,8 @@ use crate::program_words::{instruction_text, place_of};
 use crate::registers::{Registers, bit, read, written};
 use bq_insn::Insn;
 use bq_needs::known_text;
+use bq_states::registers::known;
 use bq_verify::{Program, view_at};
-use bq_views::registers::known;
 use std::alloc::{AllocError, Global};
 
 /// The most instructions that are listed.

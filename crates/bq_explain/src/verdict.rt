@@ -4,11 +4,11 @@ ghost use Rattle.std.specs.String.{string_bytes};
 ghost use Rattle.bq_explain.specs.Verdicts.{IsSafePolicy, IsVerdict, is_accepted, verdict_line};
 
 use crate::limits::Limits;
+use bq_bpf::Hook;
 use bq_load::LoadFault;
 use bq_policy_files::Policy;
 use bq_program::fault_text;
 use bq_verify::{Cause, Program, Refused, verify};
-use bq_bpf::Hook;
 use std::alloc::{AllocError, Global};
 
 /// The answer to a policy under limits.

@@ -1,13 +1,13 @@
 //! What is known of registers and stack at a slot, as lines of text.
 ghost use Rattle.std.specs.Prelude.{◌≡◌, ◌<◌, ◌≤◌, ◌++◌, ℕ, List, true, false, slice_index_or, IfOk, string_bytes};
 ghost use Rattle.bq_bpf.specs.Memory.{Setting, State};
-ghost use Rattle.bq_views.specs.Views.{Covers};
+ghost use Rattle.bq_states.specs.AbstractStates.{Contains};
 ghost use Rattle.bq_explain.specs.Telling.{TellsState};
 ghost use Rattle.bq_needs.specs.Accesses.{AreSet};
 ghost use Rattle.bq_explain.specs.Texts.{AreRuns, IsStackText, IsViewText, kept_below, kept_text, register_text, registers_below, run_text};
 
 use bq_needs::known_text;
-use bq_views::view::{Known, View};
+use bq_states::abstract_state::{AbstractState, AbstractValue};
 use std::alloc::{AllocError, Global};
 
 /// The bytes of the stack.
@@ -16,9 +16,9 @@ const STACK: usize = 512;
 /// One line with what each register is known to be and the stack's written bytes, and a line for each word that is kept there.
 /// It holds of every state that the view covers.
 #[tactic(auto, using(crate::proofs::ViewLemmas::tells_state))]
-pub(crate) fn view_text(alloc: Global, view: &View) -> Result<String, AllocError>
+pub(crate) fn view_text(alloc: Global, view: &AbstractState) -> Result<String, AllocError>
     ensures text { IfOk result (λ text. IsViewText view.now (string_bytes text)) }
-    ensures tells { IfOk result (λ text. (f : Setting) (s : State) → Covers f view.now s → TellsState f s (string_bytes text)) }
+    ensures tells { IfOk result (λ text. (f : Setting) (s : State) → Contains f view.now s → TellsState f s (string_bytes text)) }
 {
     let text = lines_of(alloc, view)?;
     Ok(text)
@@ -26,7 +26,7 @@ pub(crate) fn view_text(alloc: Global, view: &View) -> Result<String, AllocError
 
 /// The same, by what is printed.
 #[tactic(auto, using(crate::proofs::ViewLemmas::is_view_text))]
-fn lines_of(alloc: Global, view: &View) -> Result<String, AllocError>
+fn lines_of(alloc: Global, view: &AbstractState) -> Result<String, AllocError>
     ensures { IfOk result (λ text. IsViewText view.now (string_bytes text)) }
 {
     let registers = registers_text(alloc, view)?;
@@ -37,7 +37,7 @@ fn lines_of(alloc: Global, view: &View) -> Result<String, AllocError>
 }
 
 /// The registers of which something is known.
-fn registers_text(alloc: Global, view: &View) -> Result<String, AllocError>
+fn registers_text(alloc: Global, view: &AbstractState) -> Result<String, AllocError>
     ensures { IfOk result (λ text. string_bytes text ≡ registers_below 11 view.now.registers) }
 {
     let mut text = String::new(alloc);
@@ -49,7 +49,11 @@ fn registers_text(alloc: Global, view: &View) -> Result<String, AllocError>
 }
 
 /// A register, if something is known of it.
-fn register_text(alloc: Global, number: usize, known: &Option<Known>) -> Result<String, AllocError>
+fn register_text(
+    alloc: Global,
+    number: usize,
+    known: &Option<AbstractValue>,
+) -> Result<String, AllocError>
     ensures { IfOk result (λ text. string_bytes text ≡ register_text number known.now) }
 {
     match known {
@@ -62,7 +66,7 @@ fn register_text(alloc: Global, number: usize, known: &Option<Known>) -> Result<
 }
 
 /// The registers of which nothing is known.
-fn unset_text(alloc: Global, view: &View) -> Result<String, AllocError> {
+fn unset_text(alloc: Global, view: &AbstractState) -> Result<String, AllocError> {
     let mut text = String::new(alloc);
     for (number, known) in view.registers.iter().enumerate() {
         if known.is_none() {
@@ -76,7 +80,7 @@ fn unset_text(alloc: Global, view: &View) -> Result<String, AllocError> {
 }
 
 /// The bytes of the stack that are set.
-fn stack_line(alloc: Global, view: &View) -> Result<String, AllocError>
+fn stack_line(alloc: Global, view: &AbstractState) -> Result<String, AllocError>
     ensures { IfOk result (λ text. IsStackText view.now.set (string_bytes text)) }
 {
     let runs = runs_text(alloc, view)?;
@@ -88,7 +92,7 @@ fn stack_line(alloc: Global, view: &View) -> Result<String, AllocError>
 
 /// Each run of bytes that are set, by their distance from the stack's end.
 #[tactic(auto, using(crate::proofs::RunLemmas::none_yet))]
-fn runs_text(alloc: Global, view: &View) -> Result<String, AllocError>
+fn runs_text(alloc: Global, view: &AbstractState) -> Result<String, AllocError>
     ensures { IfOk result (λ text. AreRuns view.now.set (string_bytes text)) }
 {
     let mut text = String::new(alloc);
@@ -143,7 +147,7 @@ fn run_text(alloc: Global, first: usize, past: usize) -> Result<String, AllocErr
 }
 
 /// The words that are kept whole on the stack, a line for each.
-fn kept_lines(alloc: Global, view: &View) -> Result<String, AllocError>
+fn kept_lines(alloc: Global, view: &AbstractState) -> Result<String, AllocError>
     ensures { IfOk result (λ text. string_bytes text ≡ kept_below 64 view.now.kept) }
 {
     let mut text = String::new(alloc);
@@ -155,7 +159,11 @@ fn kept_lines(alloc: Global, view: &View) -> Result<String, AllocError>
 }
 
 /// The word that is kept in a slot of the stack, if one is known.
-fn kept_line(alloc: Global, slot: usize, known: &Option<Known>) -> Result<String, AllocError>
+fn kept_line(
+    alloc: Global,
+    slot: usize,
+    known: &Option<AbstractValue>,
+) -> Result<String, AllocError>
     requires { slot < 64 }
     ensures { IfOk result (λ text. string_bytes text ≡ kept_text slot known.now) }
 {

@@ -7,7 +7,7 @@ use Rattle.bq_insn.specs.declared.Insn.{Insn}
 use Rattle.bq_bpf.specs.Steps.{instruction_at}
 use Rattle.bq_graph.specs.Edges.{IsEdge}
 use Rattle.bq_graph.specs.Paths.{IsPath, end_of, CallsOnWay, asks_counter, calls_of, calls_before_end, IsMost}
-use Rattle.bq_graph.specs.Passes.{IsSound, IsOf, LeadsOut, Raises, Counted}
+use Rattle.bq_graph.specs.Passes.{IsSound, IsOf, LeadsOut, Raises, CountsFollowed}
 use Rattle.bq_graph.specs.declared.edges.Targets.{Targets}
 use Rattle.bq_graph.proofs.EdgeLemmas.{some_same, some_none, edge_inside, end_of-push, IsPath-push}
 
@@ -67,7 +67,7 @@ module _ (slots : List (Option Insn)) where
   }
 
   -- the edges from one more slot
-  pub counted_same : (slot : ℕ) (most : List (Option ℕ)) → Counted slots slot most → ((to n : ℕ) → IsEdge slots slot to → slice_index_or most slot None ≡ Some n → (m : ℕ) × (slice_index_or most to None ≡ Some m) × (n + calls_of (instruction_at slots slot) ≤ m)) → Counted slots (slot + 1) most
+  pub counted_same : (slot : ℕ) (most : List (Option ℕ)) → CountsFollowed slots slot most → ((to n : ℕ) → IsEdge slots slot to → slice_index_or most slot None ≡ Some n → (m : ℕ) × (slice_index_or most to None ≡ Some m) × (n + calls_of (instruction_at slots slot) ≤ m)) → CountsFollowed slots (slot + 1) most
   counted_same slot most old here = record {
     begins = old.begins;
     way = old.way;
@@ -81,10 +81,10 @@ module _ (slots : List (Option Insn)) where
           let same : slot ≡ from = omega arith in
           subst (λ (s : ℕ). IsEdge slots s to → slice_index_or most s None ≡ Some n → (m : ℕ) × (slice_index_or most to None ≡ Some m) × (n + calls_of (instruction_at slots s) ≤ m)) same (here to n) edge e
 
-  pub counted_blank : (slot : ℕ) (most : List (Option ℕ)) → Counted slots slot most → slice_index_or most slot None ≡ None → Counted slots (slot + 1) most
+  pub counted_blank : (slot : ℕ) (most : List (Option ℕ)) → CountsFollowed slots slot most → slice_index_or most slot None ≡ None → CountsFollowed slots (slot + 1) most
   counted_blank slot most old none = counted_same slot most old (λ to n edge e. absurd (some_none _ _ e none))
 
-  pub counted_apart : (slot : ℕ) (most : List (Option ℕ)) → Counted slots slot most → instruction_at slots slot ≡ None → Counted slots (slot + 1) most
+  pub counted_apart : (slot : ℕ) (most : List (Option ℕ)) → CountsFollowed slots slot most → instruction_at slots slot ≡ None → CountsFollowed slots (slot + 1) most
   counted_apart slot most old none = counted_same slot most old (λ to n edge e. absurd (some_none _ _ edge.here none))
 
   module _ (sound : IsSound slots) (slot : ℕ) (targets : Targets) (out : LeadsOut slots slot targets) (n count : ℕ) (count_is : count ≡ n + calls_of (instruction_at slots slot)) (old mid new : List (Option ℕ)) (first : Raises old targets.next count mid) (second : Raises mid targets.jump count new) where
@@ -124,7 +124,7 @@ module _ (slots : List (Option Insn)) where
         (two.0, two.1, omega (arith, one.2, two.2))
 
     -- both edges from one more slot have been followed
-    pub counted_on : Counted slots slot old → slice_index_or old slot None ≡ Some n → Counted slots (slot + 1) new
+    pub counted_on : CountsFollowed slots slot old → slice_index_or old slot None ≡ Some n → CountsFollowed slots (slot + 1) new
     counted_on before here =
         counted_same slot new
         (record {
@@ -153,7 +153,7 @@ module _ (slots : List (Option Insn)) where
             let one = one_call (instruction_at slots slot) in
             omega arith
 
-  module _ (most : List (Option ℕ)) (counted : Counted slots (length slots) most) where
+  module _ (most : List (Option ℕ)) (counted : CountsFollowed slots (length slots) most) where
     -- the number at the end of a path is no less than the calls on it
     along : (from : ℕ) (rest : List ℕ) (n : ℕ) → IsPath slots from rest → slice_index_or most from None ≡ Some n → (m : ℕ) × (slice_index_or most (end_of from rest) None ≡ Some m) × (n + calls_before_end slots from rest ≤ m)
     along from [] n p e = (n, e, omega arith)

@@ -30,7 +30,7 @@ pub record Raises (old : List (Option ℕ)) (to : Option ℕ) (count : ℕ) (new
   pub only : (k b : ℕ) → slice_index_or new k None ≡ Some b → (slice_index_or old k None ≡ Some b) ⊎ ((to ≡ Some k) × (b ≡ count))
 
 -- each number is of a path, and the edges from the slots below have been followed
-pub record Counted (slots : List (Option Insn)) (below : ℕ) (most : List (Option ℕ)) : Type 0 where
+pub record CountsFollowed (slots : List (Option Insn)) (below : ℕ) (most : List (Option ℕ)) : Type 0 where
   pub begins : (n : ℕ) × (slice_index_or most 0 None ≡ Some n)
   pub way : (k n : ℕ) → slice_index_or most k None ≡ Some n → CallsOnWay slots k n
   pub small : (k n : ℕ) → slice_index_or most k None ≡ Some n → n ≤ k

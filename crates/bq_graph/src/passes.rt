@@ -4,7 +4,7 @@ ghost use Rattle.bq_insn.specs.Slots.{slots_of};
 ghost use Rattle.bq_bpf.specs.Steps.{LeadsTo, instruction_at};
 ghost use Rattle.bq_graph.specs.Edges.{distance_of, goes_on, IsStart};
 ghost use Rattle.bq_graph.specs.Paths.{IsMost, IsGreatest, PathOut, calls_of};
-ghost use Rattle.bq_graph.specs.Passes.{IsSound, LeadsOut, Raises, Counted, Measured, height_to};
+ghost use Rattle.bq_graph.specs.Passes.{IsSound, LeadsOut, Raises, CountsFollowed, Measured, height_to};
 
 use crate::edges::{Targets, distance, instruction, landing, may_go_on};
 use crate::single::is_counter_call;
@@ -110,8 +110,8 @@ fn pass_on(slots: &[Option<Insn>], slot: usize, most: &mut [Option<u32>])
     requires short { length slots.now ≤ 4096 }
     requires sound { IsSound slots.now }
     requires room { length most.old ≡ length slots.now }
-    requires counted { Counted slots.now slot most.old }
-    ensures { Counted slots.now (slot + 1) most.new }
+    requires counted { CountsFollowed slots.now slot most.old }
+    ensures { CountsFollowed slots.now (slot + 1) most.new }
 {
     let Some(before) = count_at(most, slot) else {
         return;

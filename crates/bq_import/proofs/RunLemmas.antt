@@ -5,7 +5,7 @@ use Rattle.bq_bpf.specs.declared.shape.MapShape.{MapShape}
 use Rattle.bq_bpf.specs.declared.board.Call.{Call as Asked}
 use Rattle.bq_bpf.specs.Memory.{Setting, State}
 use Rattle.bq_bpf.specs.Steps.{Step}
-use Rattle.bq_bpf.specs.Runs.{Ends, Chain, RunFrom, start}
+use Rattle.bq_bpf.specs.Runs.{Ends, Steps, RunFrom, start}
 use Rattle.bq_bpf.specs.Safe.{GoesOn, GoesWell, IsSetting}
 use Rattle.bq_import.specs.Copies.{Stands, IsCopy}
 use Rattle.bq_import.specs.Laws.{beside, SameRuns, SameSafety}
@@ -15,17 +15,17 @@ use Rattle.bq_import.proofs.CopyLemmas.{step_ahead, step_behind, ends_ahead, end
 module _ (maps : ℕ) (old new : List (Option Insn)) (origin : List ℕ) (copy : IsCopy maps old new origin) (f : Setting) (as_many : length f.shapes ≡ maps) where
   record ChainAhead (s : State) (k n : ℕ) (calls : List Asked) (t : State) : Type 0 where
     pub slot : ℕ
-    pub chain : Chain (beside f new) (moved s k) n calls (moved t slot)
+    pub chain : Steps (beside f new) (moved s k) n calls (moved t slot)
     pub stands : Stands new origin slot t.slot
 
   record ChainBehind (s : State) (k n : ℕ) (calls : List Asked) (t' : State) : Type 0 where
     pub state : State
     pub slot : ℕ
-    pub chain : Chain (beside f old) s n calls state
+    pub chain : Steps (beside f old) s n calls state
     pub is : t' ≡ moved state slot
     pub stands : Stands new origin slot state.slot
 
-  chain_ahead : (s : State) (k n : ℕ) (calls : List Asked) (t : State) → Stands new origin k s.slot → Chain (beside f old) s n calls t → ChainAhead s k n calls t
+  chain_ahead : (s : State) (k n : ℕ) (calls : List Asked) (t : State) → Stands new origin k s.slot → Steps (beside f old) s n calls t → ChainAhead s k n calls t
   chain_ahead s k zero calls t stands (none, e) =
       record { slot = k; chain = (none, ap (λ (v : State). moved v k) e); stands = subst (λ (m : ℕ). Stands new origin k m) (sym (ap (λ (v : State). v.slot) e)) stands }
   chain_ahead s k (suc n) calls t stands (before, c, u, chain, step, e) =
@@ -33,7 +33,7 @@ module _ (maps : ℕ) (old new : List (Option Insn)) (origin : List ℕ) (copy :
       let last = step_ahead maps old new origin f as_many copy u first.slot c t first.stands step in
       record { slot = last.slot; chain = (before, c, moved u first.slot, first.chain, last.step, e); stands = last.stands }
 
-  chain_behind : (s : State) (k n : ℕ) (calls : List Asked) (t' : State) → Stands new origin k s.slot → Chain (beside f new) (moved s k) n calls t' → ChainBehind s k n calls t'
+  chain_behind : (s : State) (k n : ℕ) (calls : List Asked) (t' : State) → Stands new origin k s.slot → Steps (beside f new) (moved s k) n calls t' → ChainBehind s k n calls t'
   chain_behind s k zero calls t' stands (none, e) = record { state = s; slot = k; chain = (none, refl); is = e; stands = stands }
   chain_behind s k (suc n) calls t' stands (before, c, u, chain, step, e) =
       let first = chain_behind s k n before u stands chain in
@@ -68,14 +68,14 @@ module _ (maps : ℕ) (old new : List (Option Insn)) (origin : List ℕ) (copy :
       inr (inr (λ x lt. let e = each x lt in let there = step_behind maps old new origin f as_many copy t slot (Some e.0) e.1 stands e.3 in (e.0, there.state, e.2, there.step)))
 
   module _ (contents : List (List ℕ)) (budget n : ℕ) (calls : List Asked) where
-    well_ahead : (t' : State) → ((t : State) → Chain (beside f old) (start contents) n calls t → GoesWell (beside f old) budget n calls t) → Chain (beside f new) (start contents) n calls t' → GoesWell (beside f new) budget n calls t'
+    well_ahead : (t' : State) → ((t : State) → Steps (beside f old) (start contents) n calls t → GoesWell (beside f old) budget n calls t) → Steps (beside f new) (start contents) n calls t' → GoesWell (beside f new) budget n calls t'
     unfolding Rests
     well_ahead t' safe chain =
         let there = chain_behind (start contents) 0 n calls t' copy.first chain in
         let well = safe there.state there.chain in
         record { short = well.short; few = well.few; on = subst (λ (v : State). Rests (beside f new) v) (sym there.is) (on_ahead there.state there.slot there.stands well.on) }
 
-    well_behind : (t : State) → ((t' : State) → Chain (beside f new) (start contents) n calls t' → GoesWell (beside f new) budget n calls t') → Chain (beside f old) (start contents) n calls t → GoesWell (beside f old) budget n calls t
+    well_behind : (t : State) → ((t' : State) → Steps (beside f new) (start contents) n calls t' → GoesWell (beside f new) budget n calls t') → Steps (beside f old) (start contents) n calls t → GoesWell (beside f old) budget n calls t
     unfolding Rests
     well_behind t safe chain =
         let there = chain_ahead (start contents) 0 n calls t copy.first chain in
@@ -108,11 +108,11 @@ same_safety maps old new origin copy shapes context budget as_many = (
       subst (λ (g : Setting). GoesWell g budget n calls t) (sym own)
       (well_ahead maps old new origin copy f (ap length setting.shapes_are ∙ as_many) contents budget n calls t
       (λ u there. safe (beside f old) contents (setting_beside new old shapes context f setting) have n calls u there)
-      (subst (λ (g : Setting). Chain g (start contents) n calls t) own chain)),
+      (subst (λ (g : Setting). Steps g (start contents) n calls t) own chain)),
   λ safe f contents setting have n calls t chain.
       let own = its_own old f setting.slots_are in
       subst (λ (g : Setting). GoesWell g budget n calls t) (sym own)
       (well_behind maps old new origin copy f (ap length setting.shapes_are ∙ as_many) contents budget n calls t
       (λ u there. safe (beside f new) contents (setting_beside old new shapes context f setting) have n calls u there)
-      (subst (λ (g : Setting). Chain g (start contents) n calls t) own chain)),
+      (subst (λ (g : Setting). Steps g (start contents) n calls t) own chain)),
 )

@@ -79,22 +79,19 @@ fn operation_slots(width: Width, op: Operation, dst: u8, src: Source) -> (Slot, 
 {
     let offset = variant_of(op);
     match src {
-        Source::Imm(imm) => {
-            let form = Form::Alu {
-                width,
-                op,
-                by_register: false,
-            };
-            one(form, dst, 0, offset, imm.cast_unsigned())
-        }
-        Source::Reg(register) => {
-            let form = Form::Alu {
-                width,
-                op,
-                by_register: true,
-            };
-            one(form, dst, register, offset, 0)
-        }
+        Source::Imm(imm) => one(alu(width, op, false), dst, 0, offset, imm.cast_unsigned()),
+        Source::Reg(register) => one(alu(width, op, true), dst, register, offset, 0),
+    }
+}
+
+/// The form of an operation.
+fn alu(width: Width, op: Operation, by_register: bool) -> Form
+    ensures { result ≡ Form.Alu width op by_register }
+{
+    Form::Alu {
+        width,
+        op,
+        by_register,
     }
 }
 
@@ -102,12 +99,13 @@ fn operation_slots(width: Width, op: Operation, dst: u8, src: Source) -> (Slot, 
 fn extension_slots(width: Width, bits: Bits, dst: u8, src: u8) -> (Slot, Option<Slot>)
     ensures { AreSlots result (spelled (Insn.MovSx width bits dst src)) }
 {
-    let form = Form::Alu {
-        width,
-        op: Operation::Mov,
-        by_register: true,
-    };
-    one(form, dst, src, bits_number(bits), 0)
+    one(
+        alu(width, Operation::Mov, true),
+        dst,
+        src,
+        bits_number(bits),
+        0,
+    )
 }
 
 /// The slot of a byte order, the number of bits in its immediate.
@@ -161,38 +159,27 @@ fn number_slots(dst: u8, value: u64) -> (Slot, Option<Slot>)
 fn one(form: Form, dst: u8, src: u8, offset: u16, imm: u32) -> (Slot, Option<Slot>)
     ensures { AreSlots result (slot (opcode_of form) dst src offset imm ∷ []) }
 {
-    let opcode = form.opcode();
-    (
-        Slot {
-            opcode,
-            dst,
-            src,
-            offset,
-            imm,
-        },
-        None,
-    )
+    (slot(form.opcode(), dst, src, offset, imm), None)
 }
 
 /// The two slots of a wide instruction.
 fn two(dst: u8, src: u8, low: u32, high: u32) -> (Slot, Option<Slot>)
     ensures { AreSlots result (slot 24 dst src 0 low ∷ slot 0 0 0 0 high ∷ []) }
 {
-    let first = Slot {
-        opcode: 0x18,
+    (slot(0x18, dst, src, 0, low), Some(slot(0, 0, 0, 0, high)))
+}
+
+/// A slot by its fields.
+fn slot(opcode: u8, dst: u8, src: u8, offset: u16, imm: u32) -> Slot
+    ensures { result ≡ slot opcode dst src offset imm }
+{
+    Slot {
+        opcode,
         dst,
         src,
-        offset: 0,
-        imm: low,
-    };
-    let second = Slot {
-        opcode: 0,
-        dst: 0,
-        src: 0,
-        offset: 0,
-        imm: high,
-    };
-    (first, Some(second))
+        offset,
+        imm,
+    }
 }
 
 /// The offset that names a variant of an operation.

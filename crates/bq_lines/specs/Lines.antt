@@ -7,7 +7,7 @@ use Rattle.bq_bpf.specs.Hooks.{hook_of}
 use Rattle.bq_bpf.specs.declared.hook.Hook.{Hook}
 use Rattle.bq_lines.specs.Words.{words, is_allowed}
 use Rattle.bq_lines.specs.Numbers.{decimal_of, processor_of, task_of, mask_of, nice_of}
-use Rattle.bq_sizes.specs.declared.size.Size.{Size}
+use Rattle.bq_sizes.specs.declared.processor_count.ProcessorCount.{ProcessorCount}
 use Rattle.bq_sizes.specs.Sizes.{rule_of, size_numbered}
 use Rattle.bq_lines.specs.declared.command.Command.{Command}
 use Rattle.bq_lines.specs.declared.command.Command.TheVariants.{Machine, Does, Wake, Load, Show, Counter}
@@ -15,7 +15,7 @@ use Rattle.bq_lines.specs.declared.command.Reading.{Reading}
 use Rattle.bq_lines.specs.declared.command.Reading.TheVariants.{Skipped, Bad, Says}
 
 -- the size that a word names
-abbrev pub size_of : List ℕ → Option Size
+abbrev pub size_of : List ℕ → Option ProcessorCount
 size_of word = option_and_then size_numbered (processor_of word)
 
 -- the words after a command's name

@@ -2,7 +2,7 @@
 
 use crate::image::HexWord;
 use bq_core::{Event, Hook};
-use bq_sizes::{Rule, Size};
+use bq_sizes::{ProcessorCount, Rule};
 
 /// What a line may ask.
 #[derive(Drop)]
@@ -10,7 +10,7 @@ pub enum Command {
     /// A machine is made.
     Machine {
         rule: Rule,
-        size: Size,
+        size: ProcessorCount,
     },
     /// An event happens in it.
     Does(Event),

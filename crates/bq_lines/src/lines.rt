@@ -10,7 +10,7 @@ use crate::image::HexWord;
 use crate::numbers;
 use crate::words::{end_of_words, is_allowed_line, next_word};
 use bq_core::{Event, Hook};
-use bq_sizes::{Rule, Size};
+use bq_sizes::{ProcessorCount, Rule};
 use std::alloc::{AllocError, Global};
 
 /// The longest line.
@@ -100,7 +100,7 @@ fn machine(operands: &[u8]) -> Option<Command>
     let (second, rest) = next_word(rest)?;
     end_of_words(rest)?;
     let rule = Rule::of_word(first)?;
-    let size = Size::of_number(numbers::processor(second)?)?;
+    let size = ProcessorCount::of_number(numbers::processor(second)?)?;
     Some(Command::Machine { rule, size })
 }
 

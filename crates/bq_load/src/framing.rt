@@ -8,8 +8,8 @@ ghost use Rattle.bq_load.specs.declared.fault.LoadFault.TheVariants.{OutOfMemory
 
 use crate::fault::LoadFault;
 use crate::header::{Header, read_header, shape};
-use bq_insn::fault::Cause;
 use bq_bpf::MapShape;
+use bq_insn::fault::Cause;
 use std::alloc::Global;
 
 /// The header and the program of an image.

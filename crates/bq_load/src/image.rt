@@ -4,8 +4,7 @@ ghost use Rattle.bq_load.specs.Answers.{Spells, IsUnread};
 
 use crate::fault::LoadFault;
 use crate::framing::{parts, shapes_in};
-use bq_bpf::MapShape;
-use bq_bpf::{Hook, Version};
+use bq_bpf::{Hook, MapShape, Version};
 use std::alloc::Global;
 
 /// An image: a program's bytes, the choice that it makes, and the shapes of its maps.

@@ -8,8 +8,7 @@ ghost use Rattle.bq_load.specs.Layout.{version_byte, hook_byte, shape_bytes, sha
 ghost use Rattle.bq_load.specs.Writing.{written};
 
 use crate::image::Image;
-use bq_bpf::MapShape;
-use bq_bpf::{Hook, Version};
+use bq_bpf::{Hook, MapShape, Version};
 use byteorder::{ByteOrder, LittleEndian};
 use std::alloc::AllocError;
 

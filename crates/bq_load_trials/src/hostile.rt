@@ -2,12 +2,11 @@
 // contexts of zeros and of ff. That it does so on every context is proved; the test is of the code as it is built.
 
 use crate::images::COUNTING;
+use bq_bpf::{Plain, context_length};
 use bq_interp::{Env, Stack, run};
 use bq_load::load;
 use bq_maps::Maps;
-use bq_bpf::Plain;
 use bq_verify::Verified;
-use bq_bpf::context_length;
 use std::alloc::{AllocError, Global};
 use std::test::Fail;
 

@@ -2,12 +2,11 @@
 // The values are worked by hand from RFC 9669.
 
 use bq_asm::assemble;
+use bq_bpf::{Call, Hook, MapShape, Plain, Version, context_length};
 use bq_interp::env::Env;
 use bq_interp::runs::{Ran, run};
 use bq_interp::stack::Stack;
-use bq_bpf::{Call, MapShape, Plain, Hook, Version};
 use bq_maps::Maps;
-use bq_bpf::context_length;
 use bq_verify::{Program, Verified, verify};
 use std::alloc::{AllocError, Global};
 use std::process::Abort;

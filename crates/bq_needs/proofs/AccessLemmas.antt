@@ -6,10 +6,10 @@ use Rattle.bq_alu.specs.Meaning.{word_of}
 use Rattle.bq_bpf.specs.Steps.{address_of}
 use Rattle.bq_ranges.specs.Within.{Within}
 use Rattle.bq_ranges.specs.declared.range.Range.{Range}
-use Rattle.bq_views.specs.Views.{size_of_shape}
-use Rattle.bq_views.specs.declared.view.Kind.TheVariants as kind
-use Rattle.bq_views.specs.declared.view.Known.{Known}
-use Rattle.bq_views.specs.declared.view.View.{View}
+use Rattle.bq_states.specs.AbstractStates.{size_of_shape}
+use Rattle.bq_states.specs.declared.abstract_state.Kind.TheVariants as kind
+use Rattle.bq_states.specs.declared.abstract_state.AbstractValue.{AbstractValue}
+use Rattle.bq_states.specs.declared.abstract_state.AbstractState.{AbstractState}
 use Rattle.bq_policy_files.specs.declared.policy.Policy.{Policy}
 use Rattle.bq_needs.specs.Accesses.{AreSet, GoesBeyond, IsMoved, IsShown, ReachesLast, Stays, TellsBegin, begin_of, context_of, counted, by_register, register_text}
 use Rattle.bq_needs.specs.Texts.{kind_text}
@@ -45,15 +45,15 @@ greatest_beyond a offsets bound (o, within, greatest) small =
     (o, within, subst (λ (n : ℕ). bound < n + a.bytes) (sym greatest) (omega arith))
 
 -- where the access begins is told by the range
-pub tells_counted : (a : Access) (k : Known) (at : Range) (text : List ℕ) → IsMoved a.off k.offset at → text ≡ kind_text k.kind at → TellsBegin a k text
+pub tells_counted : (a : Access) (k : AbstractValue) (at : Range) (text : List ℕ) → IsMoved a.off k.offset at → text ≡ kind_text k.kind at → TellsBegin a k text
 tells_counted a k at text moved is = subst (λ (t : List ℕ). TellsBegin a k t) (sym is) (counted at moved.lo moved.hi)
 
 -- or by the register
-pub tells_register : (a : Access) (k : Known) (text : List ℕ) → text ≡ register_text a.register k → TellsBegin a k text
+pub tells_register : (a : Access) (k : AbstractValue) (text : List ℕ) → text ≡ register_text a.register k → TellsBegin a k text
 tells_register a k text is = subst (λ (t : List ℕ). TellsBegin a k t) (sym is) by_register
 
 -- a read of the context within its length
-pub shown_in_context : (p : Policy) (view : View) (a : Access) (k : Known) → k.kind ≡ kind.Context → a.writes ≡ false → Stays a k.offset (context_of p) → IsShown p view a k
+pub shown_in_context : (p : Policy) (view : AbstractState) (a : Access) (k : AbstractValue) → k.kind ≡ kind.Context → a.writes ≡ false → Stays a k.offset (context_of p) → IsShown p view a k
 shown_in_context p view a k of read stays =
     record {
       bound = context_of p;
@@ -64,7 +64,7 @@ shown_in_context p view a k of read stays =
     }
 
 -- a write of the stack within its bytes
-pub written_on_stack : (p : Policy) (view : View) (a : Access) (k : Known) → k.kind ≡ kind.Stack → a.writes ≡ true → Stays a k.offset 512 → IsShown p view a k
+pub written_on_stack : (p : Policy) (view : AbstractState) (a : Access) (k : AbstractValue) → k.kind ≡ kind.Stack → a.writes ≡ true → Stays a k.offset 512 → IsShown p view a k
 written_on_stack p view a k of written stays =
     record {
       bound = 512;
@@ -75,7 +75,7 @@ written_on_stack p view a k of written stays =
     }
 
 -- a read of bytes of it that are set
-pub read_from_stack : (p : Policy) (view : View) (a : Access) (k : Known) → k.kind ≡ kind.Stack → a.writes ≡ false → Stays a k.offset 512 → AreSet view.set (begin_of a k.offset.lo) (begin_of a k.offset.hi + a.bytes) → IsShown p view a k
+pub read_from_stack : (p : Policy) (view : AbstractState) (a : Access) (k : AbstractValue) → k.kind ≡ kind.Stack → a.writes ≡ false → Stays a k.offset 512 → AreSet view.set (begin_of a k.offset.lo) (begin_of a k.offset.hi + a.bytes) → IsShown p view a k
 read_from_stack p view a k of read stays set =
     record {
       bound = 512;
@@ -86,7 +86,7 @@ read_from_stack p view a k of read stays set =
     }
 
 -- an access within a value of the map
-pub shown_in_value : (p : Policy) (view : View) (a : Access) (k : Known) (map size : ℕ) → k.kind ≡ kind.Entry map → size_of_shape (slice_get p.shapes.items map) ≡ Some size → Stays a k.offset size → IsShown p view a k
+pub shown_in_value : (p : Policy) (view : AbstractState) (a : Access) (k : AbstractValue) (map size : ℕ) → k.kind ≡ kind.Entry map → size_of_shape (slice_get p.shapes.items map) ≡ Some size → Stays a k.offset size → IsShown p view a k
 shown_in_value p view a k map size of is stays =
     record {
       bound = size;

@@ -4,10 +4,10 @@ use Rattle.std.proofs.Common.{◌≡◌, ◌≢◌, ◌∷◌, ℕ, ℤ, pos, ze
 use Rattle.std.specs.Prelude.{codes}
 use Rattle.std.specs.Fmt.{decimal}
 use Rattle.bq_insn.specs.declared.Insn.{Insn}
-use Rattle.bq_views.specs.Standing.{Exact, Pointer, Stands, StandsAt}
-use Rattle.bq_views.specs.declared.view.Kind.TheVariants as kind
-use Rattle.bq_views.specs.declared.view.Known.{Known}
-use Rattle.bq_views.specs.declared.view.View.{View}
+use Rattle.bq_states.specs.Standing.{Exact, Pointer, Stands, StandsAt}
+use Rattle.bq_states.specs.declared.abstract_state.Kind.TheVariants as kind
+use Rattle.bq_states.specs.declared.abstract_state.AbstractValue.{AbstractValue}
+use Rattle.bq_states.specs.declared.abstract_state.AbstractState.{AbstractState}
 use Rattle.bq_policy_files.specs.declared.policy.Policy.{Policy}
 use Rattle.bq_needs.specs.Accesses.{IsShown, Lacks, context_of}
 use Rattle.bq_needs.specs.Needs.{AreGiven, AreKnown, AreNumbers, GivesHelper, GivesValue, IsGoodAccess, IsPointerWorkedOn, NamesEntry, PointsTo, helper_of, unset_below, unset_text}
@@ -23,11 +23,11 @@ use Rattle.bq_needs.specs.declared.operands.Access.{Access}
 same_number : (a b : ℕ) → Some a ≡ Some b → a ≡ b
 same_number a b e = cc
 
-same_known : (a b : Known) → Some a ≡ Some b → a ≡ b
+same_known : (a b : AbstractValue) → Some a ≡ Some b → a ≡ b
 same_known a b e = cc
 
 -- what is lacking of an access is not shown of it
-pub lacks_not_shown : (p : Policy) (view : View) (a : Access) (k : Known) (why : Lack) → Lacks p view a k why → IsShown p view a k → ⊥
+pub lacks_not_shown : (p : Policy) (view : AbstractState) (a : Access) (k : AbstractValue) (why : Lack) → Lacks p view a k why → IsShown p view a k → ⊥
 lacks_not_shown p view a k lack.Number of shown = let e = rw of at shown.bound_is in cc
 lacks_not_shown p view a k lack.Answer (map, of) shown = let e = rw of at shown.bound_is in cc
 lacks_not_shown p view a k lack.Reference (map, of) shown = let e = rw of at shown.bound_is in cc
@@ -48,40 +48,40 @@ lacks_not_shown p view a k (lack.BeyondValue map size) (of, is, (o, within, beyo
 lacks_not_shown p view a k lack.InNoMap (map, of, is) shown = let e = sym is ∙ rw of at shown.bound_is in cc
 
 -- an access of which something is lacking is not good
-pub lacking_not_good : (p : Policy) (view : View) (insn : Insn) (a : Access) (k : Known) (why : Lack) → access_of insn ≡ Some a → known_in view a.register ≡ Some k → Lacks p view a k why → ¬ (IsGoodAccess p view insn)
+pub lacking_not_good : (p : Policy) (view : AbstractState) (insn : Insn) (a : Access) (k : AbstractValue) (why : Lack) → access_of insn ≡ Some a → known_in view a.register ≡ Some k → Lacks p view a k why → ¬ (IsGoodAccess p view insn)
 lacking_not_good p view insn a k why is known lacks good =
     let shown = good a is in
     let same : shown.0 ≡ k = same_known _ _ (sym shown.1 ∙ known) in
-    lacks_not_shown p view a k why lacks (subst (λ (x : Known). IsShown p view a x) same shown.2)
+    lacks_not_shown p view a k why lacks (subst (λ (x : AbstractValue). IsShown p view a x) same shown.2)
 
-pub unset_not_good : (p : Policy) (view : View) (insn : Insn) (a : Access) → access_of insn ≡ Some a → known_in view a.register ≡ None → ¬ (IsGoodAccess p view insn)
+pub unset_not_good : (p : Policy) (view : AbstractState) (insn : Insn) (a : Access) → access_of insn ≡ Some a → known_in view a.register ≡ None → ¬ (IsGoodAccess p view insn)
 unset_not_good p view insn a is unset good = let known = (good a is).1 in cc
 
 same_access : (a b : Access) → Some a ≡ Some b → a ≡ b
 same_access a b e = cc
 
-pub shown_good : (p : Policy) (view : View) (insn : Insn) (a : Access) (k : Known) → access_of insn ≡ Some a → known_in view a.register ≡ Some k → IsShown p view a k → IsGoodAccess p view insn
+pub shown_good : (p : Policy) (view : AbstractState) (insn : Insn) (a : Access) (k : AbstractValue) → access_of insn ≡ Some a → known_in view a.register ≡ Some k → IsShown p view a k → IsGoodAccess p view insn
 shown_good p view insn a k is known shown b other =
     let same : a ≡ b = same_access a b (sym is ∙ other) in
-    subst (λ (x : Access). (k : Known) × (known_in view x.register ≡ Some k) × IsShown p view x k) same (k, known, shown)
+    subst (λ (x : Access). (k : AbstractValue) × (known_in view x.register ≡ Some k) × IsShown p view x k) same (k, known, shown)
 
 -- a register that points to bytes of which something is lacking does not point to what may be read
-pub lacking_not_pointing : (p : Policy) (view : View) (r bytes : ℕ) (k : Known) (why : Lack) → known_in view r ≡ Some k → Lacks p view (record { writes = false; bytes = bytes; register = r; off = pos 0 }) k why → ¬ (PointsTo p view r bytes)
+pub lacking_not_pointing : (p : Policy) (view : AbstractState) (r bytes : ℕ) (k : AbstractValue) (why : Lack) → known_in view r ≡ Some k → Lacks p view (record { writes = false; bytes = bytes; register = r; off = pos 0 }) k why → ¬ (PointsTo p view r bytes)
 lacking_not_pointing p view r bytes k why known lacks (other, is, shown) =
     let a : Access = record { writes = false; bytes = bytes; register = r; off = pos 0 } in
     let same : other ≡ k = same_known _ _ (sym is ∙ known) in
-    lacks_not_shown p view a k why lacks (subst (λ (x : Known). IsShown p view a x) same shown)
+    lacks_not_shown p view a k why lacks (subst (λ (x : AbstractValue). IsShown p view a x) same shown)
 
 -- nothing is told of two texts together: nothing is told of either
 both_empty : (a b : List ℕ) → a ++ b ≡ [] → (a ≡ []) × (b ≡ [])
 both_empty [] b e = (refl, e)
 both_empty (x ∷ a) b e = absurd cc
 
-unset_told : (view : View) (insn : Insn) (r : ℕ) → reads insn r ≡ true → known_in view r ≡ None → unset_text view insn r ≢ []
+unset_told : (view : AbstractState) (insn : Insn) (r : ℕ) → reads insn r ≡ true → known_in view r ≡ None → unset_text view insn r ≢ []
 unset_told view insn r read unset = rw (read, unset) (λ e. cc)
 
 -- where no register is told, each that is read is known
-pub all_known : (view : View) (insn : Insn) (n : ℕ) → unset_below n view insn ≡ [] → (r : ℕ) → r < n → reads insn r ≡ true → known_in view r ≢ None
+pub all_known : (view : AbstractState) (insn : Insn) (n : ℕ) → unset_below n view insn ≡ [] → (r : ℕ) → r < n → reads insn r ≡ true → known_in view r ≢ None
 all_known view insn zero none r below read unset = absurd (omega arith)
 all_known view insn (suc n) none r below read unset =
     let parts = both_empty (unset_below n view insn) (unset_text view insn n) none in
@@ -91,7 +91,7 @@ all_known view insn (suc n) none r below read unset =
     ]
 
 -- where each that is read is known, none is told
-none_told : (view : View) (insn : Insn) (r : ℕ) → (reads insn r ≡ true → known_in view r ≢ None) → unset_text view insn r ≡ []
+none_told : (view : AbstractState) (insn : Insn) (r : ℕ) → (reads insn r ≡ true → known_in view r ≢ None) → unset_text view insn r ≡ []
 none_told view insn r known =
     elim (reads insn r) as (λ b. (b ≡ true → known_in view r ≢ None) → (if b && is_none (known_in view r) then codes " r" ++ decimal r else []) ≡ []) [
       | false ↦ λ _. refl
@@ -102,7 +102,7 @@ none_told view insn r known =
           ] is_known
     ] known
 
-none_below : (view : View) (insn : Insn) (n : ℕ) → ((r : ℕ) → r < n → reads insn r ≡ true → known_in view r ≢ None) → unset_below n view insn ≡ []
+none_below : (view : AbstractState) (insn : Insn) (n : ℕ) → ((r : ℕ) → r < n → reads insn r ≡ true → known_in view r ≢ None) → unset_below n view insn ≡ []
 none_below view insn zero known = refl
 none_below view insn (suc n) known =
     rw (none_below view insn n (λ r below. known r (omega arith))) (none_told view insn n (known n (omega arith)))
@@ -113,18 +113,18 @@ no_length [] none = refl
 no_length (x ∷ l) none = absurd (omega arith)
 
 -- where a register is told, not each that is read is known
-pub told_not_known : (view : View) (insn : Insn) (told : List ℕ) → told ≡ unset_below 11 view insn → told ≢ [] → ¬ (AreKnown view insn)
+pub told_not_known : (view : AbstractState) (insn : Insn) (told : List ℕ) → told ≡ unset_below 11 view insn → told ≢ [] → ¬ (AreKnown view insn)
 told_not_known view insn told is some known = some (is ∙ none_below view insn 11 known)
 
-pub empty_known : (view : View) (insn : Insn) (told : List ℕ) → told ≡ unset_below 11 view insn → told ≡ [] → AreKnown view insn
+pub empty_known : (view : AbstractState) (insn : Insn) (told : List ℕ) → told ≡ unset_below 11 view insn → told ≡ [] → AreKnown view insn
 empty_known view insn told is none = all_known view insn 11 (sym is ∙ none)
 
 -- a pointer that is worked on is no number
-pub pointer_no_number : (view : View) (insn : Insn) (r : ℕ) (k : Known) → IsPointerWorkedOn view insn r k → ¬ (AreNumbers view insn)
+pub pointer_no_number : (view : AbstractState) (insn : Insn) (r : ℕ) (k : AbstractValue) → IsPointerWorkedOn view insn r k → ¬ (AreNumbers view insn)
 pointer_no_number view insn r k pointer numbers = pointer.no_number (numbers r k pointer.below pointer.is_worked_on pointer.is_known)
 
 -- one register more
-pub one_more : (view : View) (insn : Insn) (n : ℕ) → ((r : ℕ) (k : Known) → r < n → works_on insn r ≡ true → known_in view r ≡ Some k → k.kind ≡ kind.Number) → ((k : Known) → works_on insn n ≡ true → known_in view n ≡ Some k → k.kind ≡ kind.Number) → (r : ℕ) (k : Known) → r < n + 1 → works_on insn r ≡ true → known_in view r ≡ Some k → k.kind ≡ kind.Number
+pub one_more : (view : AbstractState) (insn : Insn) (n : ℕ) → ((r : ℕ) (k : AbstractValue) → r < n → works_on insn r ≡ true → known_in view r ≡ Some k → k.kind ≡ kind.Number) → ((k : AbstractValue) → works_on insn n ≡ true → known_in view n ≡ Some k → k.kind ≡ kind.Number) → (r : ℕ) (k : AbstractValue) → r < n + 1 → works_on insn r ≡ true → known_in view r ≡ Some k → k.kind ≡ kind.Number
 one_more view insn n before here r k below works known =
     elim (cases_lt r n) [
       | inl lt ↦ before r k lt works known
@@ -134,12 +134,12 @@ one_more view insn n before here r k below works known =
 same_map : (m n : ℕ) → kind.Map m ≡ kind.Map n → m ≡ n
 same_map m n e = cc
 
-same_standing : (view : View) (m n : ℕ) (o : Option Known) → Stands (Pointer (kind.Map m) 0) o → Stands (Pointer (kind.Map n) 0) o → m ≡ n
+same_standing : (view : AbstractState) (m n : ℕ) (o : Option AbstractValue) → Stands (Pointer (kind.Map m) 0) o → Stands (Pointer (kind.Map n) 0) o → m ≡ n
 same_standing view m n None first second = absurd first
 same_standing view m n (Some k) first second = same_map m n (sym first.0 ∙ second.0)
 
 -- register 1 names one map
-pub one_map : (view : View) (m n : ℕ) → StandsAt (Pointer (kind.Map m) 0) view 1 → StandsAt (Pointer (kind.Map n) 0) view 1 → m ≡ n
+pub one_map : (view : AbstractState) (m n : ℕ) → StandsAt (Pointer (kind.Map m) 0) view 1 → StandsAt (Pointer (kind.Map n) 0) view 1 → m ≡ n
 one_map view m n first second = same_standing view m n (slice_index_or view.registers 1 None) first second
 
 -- of one number one helper is
@@ -161,11 +161,11 @@ one_wanted wanted.Read wanted.Update e = absurd (omega (arith, ints))
 one_wanted wanted.Read wanted.Add e = absurd (omega (arith, ints))
 one_wanted wanted.Read wanted.Read e = refl
 
-pub gives_helper : (p : Policy) (view : View) (helper : ℤ) (w : Wanted) → helper ≡ helper_of w → AreGiven p view w → GivesHelper p view helper
+pub gives_helper : (p : Policy) (view : AbstractState) (helper : ℤ) (w : Wanted) → helper ≡ helper_of w → AreGiven p view w → GivesHelper p view helper
 gives_helper p view helper w is given other same = subst (λ (x : Wanted). AreGiven p view x) (one_wanted w other (sym is ∙ same)) given
 
 -- an entry and a value are given
-pub value_given : (p : Policy) (view : View) (map : ℕ) (shape : MapShape) (bytes : ℕ) → NamesEntry p view map → slice_get p.shapes.items map ≡ Some shape → bytes ≡ shape.value_size → PointsTo p view 3 bytes → StandsAt (Exact 0) view 4 → (m : ℕ) × GivesValue p view m
+pub value_given : (p : Policy) (view : AbstractState) (map : ℕ) (shape : MapShape) (bytes : ℕ) → NamesEntry p view map → slice_get p.shapes.items map ≡ Some shape → bytes ≡ shape.value_size → PointsTo p view 3 bytes → StandsAt (Exact 0) view 4 → (m : ℕ) × GivesValue p view m
 value_given p view map shape bytes names is size points null =
     (map, (names, shape, is, subst (λ (n : ℕ). PointsTo p view 3 n) size points, null))
 
@@ -173,7 +173,7 @@ same_shape : (a b : MapShape) → Some a ≡ Some b → a ≡ b
 same_shape a b e = cc
 
 -- register 3 points to no value
-pub value_not_given : (p : Policy) (view : View) (map : ℕ) (shape : MapShape) (bytes : ℕ) → NamesEntry p view map → slice_get p.shapes.items map ≡ Some shape → bytes ≡ shape.value_size → ¬ (PointsTo p view 3 bytes) → ¬ ((m : ℕ) × GivesValue p view m)
+pub value_not_given : (p : Policy) (view : AbstractState) (map : ℕ) (shape : MapShape) (bytes : ℕ) → NamesEntry p view map → slice_get p.shapes.items map ≡ Some shape → bytes ≡ shape.value_size → ¬ (PointsTo p view 3 bytes) → ¬ ((m : ℕ) × GivesValue p view m)
 value_not_given p view map shape bytes names is size not (m, (other, given, there, points, null)) =
     let same : m ≡ map = one_map view m map other.0 names.0 in
     let one : given ≡ shape = same_shape given shape (sym there ∙ ap (λ (n : ℕ). slice_get p.shapes.items n) same ∙ is) in

@@ -6,10 +6,10 @@ use Rattle.bq_bpf.specs.declared.shape.MapShape.{MapShape}
 use Rattle.bq_bpf.specs.Memory.{reference, context_base, stack_base}
 use Rattle.bq_ranges.specs.Within.{Within}
 use Rattle.bq_ranges.specs.declared.range.Range.{Range}
-use Rattle.bq_views.specs.Views.{Describes, IsBase}
-use Rattle.bq_views.specs.declared.view.Kind.{Kind}
-use Rattle.bq_views.specs.declared.view.Kind.TheVariants.{Number, Context, Stack, Entry, EntryOrNull, Map}
-use Rattle.bq_views.specs.declared.view.Known.{Known}
+use Rattle.bq_states.specs.AbstractStates.{Describes, IsBase}
+use Rattle.bq_states.specs.declared.abstract_state.Kind.{Kind}
+use Rattle.bq_states.specs.declared.abstract_state.Kind.TheVariants.{Number, Context, Stack, Entry, EntryOrNull, Map}
+use Rattle.bq_states.specs.declared.abstract_state.AbstractValue.{AbstractValue}
 use Rattle.bq_needs.specs.Saying.{Says, any_number, number, context, stack_begin, stack_end, entry, entry_or_null, map_reference, TellsPlace, there, above, under}
 use Rattle.bq_needs.specs.Texts.{between, range_text, number_text, offset_text, stack_text, kind_text, known_text}
 
@@ -89,5 +89,5 @@ tells_kind shapes (Map map) r base o word from within is =
     map_reference shapes (offset_text r) map word from.1 (tells_offset r o (reference map) word within (is ∙ ap (λ (b : ℕ). (b + o) % 2 ^ 64) from.0))
 
 -- what is printed of a word says of each word that it may be what it is
-pub says_known : (k : Known) (shapes : List MapShape) (word : ℕ) → Describes shapes k word → Says shapes (known_text k) word
+pub says_known : (k : AbstractValue) (shapes : List MapShape) (word : ℕ) → Describes shapes k word → Says shapes (known_text k) word
 says_known k shapes word d = tells_kind shapes k.kind k.offset d.base d.offset word d.is_base d.within d.word_is

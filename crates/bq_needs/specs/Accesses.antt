@@ -5,10 +5,10 @@ use Rattle.bq_bpf.specs.Steps.{address_of}
 use Rattle.bq_ranges.specs.Within.{Within}
 use Rattle.bq_ranges.specs.declared.range.Range.{Range}
 use Rattle.bq_bpf.specs.Hooks.{context_length_of, hook_word, version_number}
-use Rattle.bq_views.specs.Views.{bound_of, size_of_shape}
-use Rattle.bq_views.specs.declared.view.Kind.TheVariants as kind
-use Rattle.bq_views.specs.declared.view.Known.{Known}
-use Rattle.bq_views.specs.declared.view.View.{View}
+use Rattle.bq_states.specs.AbstractStates.{bound_of, size_of_shape}
+use Rattle.bq_states.specs.declared.abstract_state.Kind.TheVariants as kind
+use Rattle.bq_states.specs.declared.abstract_state.AbstractValue.{AbstractValue}
+use Rattle.bq_states.specs.declared.abstract_state.AbstractState.{AbstractState}
 use Rattle.bq_policy_files.specs.declared.policy.Policy.{Policy}
 use Rattle.bq_needs.specs.declared.accesses.Lack.TheVariants as lack
 use Rattle.bq_needs.specs.declared.accesses.Lack.{Lack}
@@ -32,7 +32,7 @@ abbrev pub GoesBeyond : Access → Range → ℕ → Type 0
 GoesBeyond a offsets bound = (o : ℕ) × Within offsets o × (bound < begin_of a o + a.bytes)
 
 -- one of the bytes that the access may touch is not known to be set
-abbrev pub TouchesUnset : View → Access → Range → Type 0
+abbrev pub TouchesUnset : AbstractState → Access → Range → Type 0
 TouchesUnset view a offsets = (i : ℕ) × (begin_of a offsets.lo ≤ i) × (i < begin_of a offsets.hi + a.bytes) × (slice_index_or view.set i false ≡ false)
 
 -- each word of the range, so far on, is in the other one, and so are its ends
@@ -49,7 +49,7 @@ abbrev pub context_of : Policy → ℕ
 context_of p = context_length_of p.hook p.version
 
 -- by what is known of its pointer the access is good: it stays in what the pointer points to, it does not write the context, and what it reads of the stack is set
-pub record IsShown (p : Policy) (view : View) (a : Access) (k : Known) : Type 0 where
+pub record IsShown (p : Policy) (view : AbstractState) (a : Access) (k : AbstractValue) : Type 0 where
   pub bound : ℕ
   pub bound_is : bound_of p.shapes.items (context_of p) k.kind ≡ Some bound
   pub stays : Stays a k.offset bound
@@ -57,7 +57,7 @@ pub record IsShown (p : Policy) (view : View) (a : Access) (k : Known) : Type 0 
   pub set : a.writes ≡ false → k.kind ≡ kind.Stack → AreSet view.set (begin_of a k.offset.lo) (begin_of a k.offset.hi + a.bytes)
 
 -- what is not so of the access
-abbrev pub Lacks : Policy → View → Access → Known → Lack → Type 0
+abbrev pub Lacks : Policy → AbstractState → Access → AbstractValue → Lack → Type 0
 Lacks p view a k lack.Number = k.kind ≡ kind.Number
 Lacks p view a k lack.Answer = (map : ℕ) × (k.kind ≡ kind.EntryOrNull map)
 Lacks p view a k lack.Reference = (map : ℕ) × (k.kind ≡ kind.Map map)
@@ -80,11 +80,11 @@ lack_text p (lack.BeyondValue map size) = codes "a value of map " ++ (decimal ma
 lack_text p lack.InNoMap = codes "an access stays in one value"
 
 -- the register and what is known of it
-abbrev pub register_text : ℕ → Known → List ℕ
+abbrev pub register_text : ℕ → AbstractValue → List ℕ
 register_text r k = codes "r" ++ (decimal r ++ (codes ", which is " ++ known_text k))
 
 -- the text tells where it begins: how far from what its pointer counts from, or by which register and what is known of that
-pub data TellsBegin (a : Access) (k : Known) : List ℕ → Type 0 where
+pub data TellsBegin (a : Access) (k : AbstractValue) : List ℕ → Type 0 where
   counted : (at : Range) → at.lo ≡ begin_of a k.offset.lo → at.hi ≡ begin_of a k.offset.hi → TellsBegin a k (kind_text k.kind at)
   by_register : TellsBegin a k (register_text a.register k)
 
@@ -93,7 +93,7 @@ verb true = codes "writes"
 verb false = codes "reads"
 
 -- how many bytes are read or written, by an unset register, or from where and why they may not be
-abbrev pub TellsAccess : Policy → View → Access → Option Known → List ℕ → Type 0
+abbrev pub TellsAccess : Policy → AbstractState → Access → Option AbstractValue → List ℕ → Type 0
 TellsAccess p view a None text =
     text ≡ verb a.writes ++ (codes " " ++ (decimal a.bytes ++ (codes " bytes by r" ++ (decimal a.register ++ codes ", which is not set on each way that leads here"))))
 TellsAccess p view a (Some k) text =

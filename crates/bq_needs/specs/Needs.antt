@@ -6,10 +6,10 @@ use Rattle.bq_insn.specs.declared.Insn.TheVariants.{StoreReg, MapRef, Branch, Ca
 use Rattle.bq_graph.specs.declared.cause.Cause.{Cause}
 use Rattle.bq_graph.specs.declared.cause.Cause.TheVariants.{Unset, Access, PointerUse, Argument, Answer}
 use Rattle.bq_bpf.specs.declared.shape.MapShape.{MapShape}
-use Rattle.bq_views.specs.Standing.{Exact, Pointer, Scalar, StandsAt}
-use Rattle.bq_views.specs.declared.view.Kind.TheVariants.{Number, Map}
-use Rattle.bq_views.specs.declared.view.Known.{Known}
-use Rattle.bq_views.specs.declared.view.View.{View}
+use Rattle.bq_states.specs.Standing.{Exact, Pointer, Scalar, StandsAt}
+use Rattle.bq_states.specs.declared.abstract_state.Kind.TheVariants.{Number, Map}
+use Rattle.bq_states.specs.declared.abstract_state.AbstractValue.{AbstractValue}
+use Rattle.bq_states.specs.declared.abstract_state.AbstractState.{AbstractState}
 use Rattle.bq_policy_files.specs.declared.policy.Policy.{Policy}
 use Rattle.bq_needs.specs.declared.arguments.Wanted.TheVariants as wanted
 use Rattle.bq_needs.specs.declared.arguments.Wanted.{Wanted}
@@ -19,35 +19,35 @@ use Rattle.bq_needs.specs.Operands.{access_of, known_in, reads, works_on}
 use Rattle.bq_needs.specs.Texts.{known_text}
 
 -- each register that the instruction reads is known to be set
-abbrev pub AreKnown : View → Insn → Type 0
+abbrev pub AreKnown : AbstractState → Insn → Type 0
 AreKnown view insn = (r : ℕ) → r < 11 → reads insn r ≡ true → known_in view r ≢ None
 
 -- each register that the instruction works on, and of which something is known, is a number
-abbrev pub AreNumbers : View → Insn → Type 0
-AreNumbers view insn = (r : ℕ) (k : Known) → r < 11 → works_on insn r ≡ true → known_in view r ≡ Some k → k.kind ≡ Number
+abbrev pub AreNumbers : AbstractState → Insn → Type 0
+AreNumbers view insn = (r : ℕ) (k : AbstractValue) → r < 11 → works_on insn r ≡ true → known_in view r ≡ Some k → k.kind ≡ Number
 
 -- a load or a store is known to be good
-abbrev pub IsGoodAccess : Policy → View → Insn → Type 0
-IsGoodAccess p view insn = (a : Accessed) → access_of insn ≡ Some a → (k : Known) × (known_in view a.register ≡ Some k) × IsShown p view a k
+abbrev pub IsGoodAccess : Policy → AbstractState → Insn → Type 0
+IsGoodAccess p view insn = (a : Accessed) → access_of insn ≡ Some a → (k : AbstractValue) × (known_in view a.register ≡ Some k) × IsShown p view a k
 
 -- there is a map of that number
 abbrev pub IsMap : Policy → ℤ → Type 0
 IsMap p index = (m : ℕ) × (index ≡ pos m) × (m < length p.shapes.items)
 
 -- the register points to so many bytes that may be read
-abbrev pub PointsTo : Policy → View → ℕ → ℕ → Type 0
-PointsTo p view r bytes = (k : Known) × (known_in view r ≡ Some k) × IsShown p view (record { writes = false; bytes = bytes; register = r; off = pos 0 }) k
+abbrev pub PointsTo : Policy → AbstractState → ℕ → ℕ → Type 0
+PointsTo p view r bytes = (k : AbstractValue) × (known_in view r ≡ Some k) × IsShown p view (record { writes = false; bytes = bytes; register = r; off = pos 0 }) k
 
 -- register 1 is the reference of that map, and register 2 points to the number of an entry
-abbrev pub NamesEntry : Policy → View → ℕ → Type 0
+abbrev pub NamesEntry : Policy → AbstractState → ℕ → Type 0
 NamesEntry p view m = StandsAt (Pointer (Map m) 0) view 1 × PointsTo p view 2 4
 
 -- and register 3 points to a value for it, and register 4 is 0
-abbrev pub GivesValue : Policy → View → ℕ → Type 0
+abbrev pub GivesValue : Policy → AbstractState → ℕ → Type 0
 GivesValue p view m = NamesEntry p view m × (shape : MapShape) × (slice_get p.shapes.items m ≡ Some shape) × PointsTo p view 3 shape.value_size × StandsAt (Exact 0) view 4
 
 -- a number of a counter
-abbrev pub IsCounter : Option Known → Type 0
+abbrev pub IsCounter : Option AbstractValue → Type 0
 IsCounter None = ⊥
 IsCounter (Some k) = (k.kind ≡ Number) × (k.offset.hi < 64)
 
@@ -59,23 +59,23 @@ helper_of wanted.Add = pos 100
 helper_of wanted.Read = pos 101
 
 -- the arguments are what the helper wants
-abbrev pub AreGiven : Policy → View → Wanted → Type 0
+abbrev pub AreGiven : Policy → AbstractState → Wanted → Type 0
 AreGiven p view wanted.LookUp = (m : ℕ) × NamesEntry p view m
 AreGiven p view wanted.Update = (m : ℕ) × GivesValue p view m
 AreGiven p view wanted.Add = IsCounter (known_in view 1) × StandsAt Scalar view 2
 AreGiven p view wanted.Read = IsCounter (known_in view 1)
 
-abbrev pub GivesHelper : Policy → View → ℤ → Type 0
+abbrev pub GivesHelper : Policy → AbstractState → ℤ → Type 0
 GivesHelper p view helper = (w : Wanted) → helper ≡ helper_of w → AreGiven p view w
 
 -- there is a map of that number; of a call, the arguments are what its helper wants
-abbrev pub AreGoodArguments : Policy → View → Insn → Type 0
+abbrev pub AreGoodArguments : Policy → AbstractState → Insn → Type 0
 AreGoodArguments p view (MapRef dst index) = IsMap p index
 AreGoodArguments p view (Call helper) = GivesHelper p view helper
 AreGoodArguments p view insn = Unit {0}
 
 -- the view gives the instruction what the cause says that it lacks
-abbrev pub IsMet : Policy → View → Insn → Cause → Type 0
+abbrev pub IsMet : Policy → AbstractState → Insn → Cause → Type 0
 IsMet p view insn Unset = AreKnown view insn
 IsMet p view insn Access = IsGoodAccess p view insn
 IsMet p view insn PointerUse = AreNumbers view insn
@@ -84,18 +84,18 @@ IsMet p view insn Answer = StandsAt Scalar view 0
 IsMet p view insn other = Unit {0}
 
 -- the registers that the instruction reads and of which nothing is known
-abbrev pub unset_text : View → Insn → ℕ → List ℕ
+abbrev pub unset_text : AbstractState → Insn → ℕ → List ℕ
 unset_text view insn r = if reads insn r && is_none (known_in view r) then codes " r" ++ decimal r else []
 
-abbrev pub unset_below : ℕ → View → Insn → List ℕ
+abbrev pub unset_below : ℕ → AbstractState → Insn → List ℕ
 unset_below zero view insn = []
 unset_below (suc n) view insn = unset_below n view insn ++ unset_text view insn n
 
-abbrev pub unset_need : View → Insn → List ℕ
+abbrev pub unset_need : AbstractState → Insn → List ℕ
 unset_need view insn = codes "reads" ++ (unset_below 11 view insn ++ codes ", which is not set here, or not on each way that leads here")
 
 -- the access, and why it is not shown to be good
-abbrev pub TellsAccessOf : Policy → View → Insn → List ℕ → Type 0
+abbrev pub TellsAccessOf : Policy → AbstractState → Insn → List ℕ → Type 0
 TellsAccessOf p view insn text = (a : Accessed) × (access_of insn ≡ Some a) × TellsAccess p view a (known_in view a.register) text
 
 -- what may be done with a pointer, where the instruction does another thing
@@ -105,16 +105,16 @@ pointer_rule (Branch w c dst src off) = codes "of pointers only the answer of a 
 pointer_rule insn = codes "a pointer may be copied by mov64, and a number be added to it or taken from it by add64 and sub64"
 
 -- the instruction works on the register, of which that is known, and it is no number
-pub record IsPointerWorkedOn (view : View) (insn : Insn) (r : ℕ) (k : Known) : Type 0 where
+pub record IsPointerWorkedOn (view : AbstractState) (insn : Insn) (r : ℕ) (k : AbstractValue) : Type 0 where
   pub below : r < 11
   pub is_worked_on : works_on insn r ≡ true
   pub is_known : known_in view r ≡ Some k
   pub no_number : k.kind ≢ Number
 
 -- such a register, what is known of it, and what may be done with it
-abbrev pub TellsPointer : View → Insn → List ℕ → Type 0
+abbrev pub TellsPointer : AbstractState → Insn → List ℕ → Type 0
 TellsPointer view insn text =
-    (r : ℕ) × (k : Known) × IsPointerWorkedOn view insn r k × (text ≡ codes "works on r" ++ (decimal r ++ (codes ", which is " ++ (known_text k ++ (codes "; " ++ pointer_rule insn)))))
+    (r : ℕ) × (k : AbstractValue) × IsPointerWorkedOn view insn r k × (text ≡ codes "works on r" ++ (decimal r ++ (codes ", which is " ++ (known_text k ++ (codes "; " ++ pointer_rule insn)))))
 
 -- what a helper wants of its arguments
 abbrev pub wanted_text : Wanted → List ℕ
@@ -124,11 +124,11 @@ wanted_text wanted.Add = codes "helper 100 adds to a counter: r1 is its number, 
 wanted_text wanted.Read = codes "helper 101 reads a counter: r1 is its number, 0 to 63"
 
 -- what is known of an argument
-abbrev pub argument_text : ℕ → Option Known → List ℕ
+abbrev pub argument_text : ℕ → Option AbstractValue → List ℕ
 argument_text r None = codes " r" ++ (decimal r ++ codes " is unset,")
 argument_text r (Some k) = codes " r" ++ (decimal r ++ (codes " is " ++ (known_text k ++ codes ",")))
 
-abbrev pub arguments_below : ℕ → View → List ℕ
+abbrev pub arguments_below : ℕ → AbstractState → List ℕ
 arguments_below zero view = []
 arguments_below (suc n) view = arguments_below n view ++ argument_text (n + 1) (known_in view (n + 1))
 
@@ -137,25 +137,25 @@ abbrev pub map_text : ℤ → ℕ → List ℕ
 map_text index count = codes "names map " ++ (signed_decimal index ++ (codes "; the program has " ++ (decimal count ++ codes " maps, numbered from 0")))
 
 -- what the helper wants, and what is known of its arguments
-abbrev pub call_text : View → Wanted → List ℕ
+abbrev pub call_text : AbstractState → Wanted → List ℕ
 call_text view w = wanted_text w ++ (codes "; here" ++ (arguments_below 4 view ++ codes " and of the stack what stands below"))
 
-abbrev pub TellsCall : View → ℤ → List ℕ → Type 0
+abbrev pub TellsCall : AbstractState → ℤ → List ℕ → Type 0
 TellsCall view helper text = (w : Wanted) × (helper ≡ helper_of w) × (text ≡ call_text view w)
 
 -- the number that is no map's, or the call
-abbrev pub TellsArgument : Policy → View → Insn → List ℕ → Type 0
+abbrev pub TellsArgument : Policy → AbstractState → Insn → List ℕ → Type 0
 TellsArgument p view (MapRef dst index) text = text ≡ map_text index (length p.shapes.items)
 TellsArgument p view (Call helper) text = TellsCall view helper text
 TellsArgument p view insn text = ⊥
 
 -- what is known of register 0 at an EXIT
-abbrev pub answer_text : Option Known → List ℕ
+abbrev pub answer_text : Option AbstractValue → List ℕ
 answer_text None = codes "ends, and r0, the answer, is not set on each way that leads here"
 answer_text (Some k) = codes "ends, and r0, the answer, is " ++ (known_text k ++ codes "; an answer is a number")
 
 -- the text tells a need by its cause
-abbrev pub TellsNeed : Policy → View → Insn → Cause → List ℕ → Type 0
+abbrev pub TellsNeed : Policy → AbstractState → Insn → Cause → List ℕ → Type 0
 TellsNeed p view insn Unset text = text ≡ unset_need view insn
 TellsNeed p view insn Access text = TellsAccessOf p view insn text
 TellsNeed p view insn PointerUse text = TellsPointer view insn text
@@ -164,6 +164,6 @@ TellsNeed p view insn Answer text = text ≡ answer_text (known_in view 0)
 TellsNeed p view insn other text = ⊥
 
 -- the text tells a need that the view does not give; where it gives what the cause says, no need is told
-abbrev pub IsNeed : Policy → View → Insn → Cause → List ℕ → Type 0
+abbrev pub IsNeed : Policy → AbstractState → Insn → Cause → List ℕ → Type 0
 IsNeed p view insn cause text =
     (TellsNeed p view insn cause text × ¬ (IsMet p view insn cause)) ⊎ ((text ≡ codes "is not shown to be safe") × IsMet p view insn cause)

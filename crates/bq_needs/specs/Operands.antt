@@ -9,8 +9,8 @@ use Rattle.bq_insn.specs.declared.Source.{Source}
 use Rattle.bq_insn.specs.declared.Source.TheVariants.{Imm, Reg}
 use Rattle.bq_bpf.specs.Steps.{Does}
 use Rattle.bq_bpf.specs.Memory.{Setting, State}
-use Rattle.bq_views.specs.declared.view.Known.{Known}
-use Rattle.bq_views.specs.declared.view.View.{View}
+use Rattle.bq_states.specs.declared.abstract_state.AbstractValue.{AbstractValue}
+use Rattle.bq_states.specs.declared.abstract_state.AbstractState.{AbstractState}
 use Rattle.bq_needs.specs.declared.operands.Access.{Access}
 
 -- all operations but a move read what they change
@@ -45,7 +45,7 @@ abbrev pub NeedsSet : Insn → ℕ → Type 0
 NeedsSet insn r = (f : Setting) (s t : State) → Does f insn s t → (n : ℕ) × (s.register r ≡ Some n)
 
 -- what is known of a register
-abbrev pub known_in : View → ℕ → Option Known
+abbrev pub known_in : AbstractState → ℕ → Option AbstractValue
 known_in view r = slice_index_or view.registers r None
 
 -- the access of a load or a store

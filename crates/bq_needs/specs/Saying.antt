@@ -3,7 +3,7 @@ use Rattle.std.specs.Prelude.{◌≡◌, ℕ, ◌+◌, ◌%◌, ◌^◌, ◌<◌
 use Rattle.std.specs.Fmt.{decimal}
 use Rattle.bq_bpf.specs.declared.shape.MapShape.{MapShape}
 use Rattle.bq_bpf.specs.Memory.{reference, context_base, stack_base}
-use Rattle.bq_views.specs.Views.{IsEntryBase}
+use Rattle.bq_states.specs.AbstractStates.{IsEntryBase}
 use Rattle.bq_needs.specs.Texts.{between}
 
 -- the word is so far from a place: nothing is added, or a number of a range, or a number of a range is taken away

@@ -2,9 +2,9 @@
 use Rattle.std.specs.Prelude.{ℕ, ◌-◌, ◌^◌, ◌==◌, ◌&&◌, nat_lt, List, [], ◌++◌, codes, if◌then◌else◌}
 use Rattle.std.specs.Fmt.{decimal}
 use Rattle.bq_ranges.specs.declared.range.Range.{Range}
-use Rattle.bq_views.specs.declared.view.Kind.{Kind}
-use Rattle.bq_views.specs.declared.view.Kind.TheVariants.{Number, Context, Stack, Entry, EntryOrNull, Map}
-use Rattle.bq_views.specs.declared.view.Known.{Known}
+use Rattle.bq_states.specs.declared.abstract_state.Kind.{Kind}
+use Rattle.bq_states.specs.declared.abstract_state.Kind.TheVariants.{Number, Context, Stack, Entry, EntryOrNull, Map}
+use Rattle.bq_states.specs.declared.abstract_state.AbstractValue.{AbstractValue}
 
 -- one number by itself, else both
 abbrev pub between : ℕ → ℕ → List ℕ
@@ -39,5 +39,5 @@ kind_text (EntryOrNull map) r = codes "entry of map " ++ (decimal map ++ (codes 
 kind_text (Map map) r = codes "map " ++ (decimal map ++ offset_text r)
 
 -- what is known of a word
-abbrev pub known_text : Known → List ℕ
+abbrev pub known_text : AbstractValue → List ℕ
 known_text k = kind_text k.kind k.offset

@@ -5,11 +5,11 @@ ghost use Rattle.bq_needs.specs.Accesses.{AreSet, GoesBeyond, IsMoved, IsShown, 
 
 use crate::known::{kind_text, known_text};
 use crate::operands::Access;
+use bq_bpf::context_length;
 use bq_policy_files::Policy;
 use bq_ranges::Range;
-use bq_bpf::context_length;
-use bq_views::places::shape_of;
-use bq_views::view::{Kind, Known, View};
+use bq_states::abstract_state::{AbstractState, AbstractValue, Kind};
+use bq_states::places::shape_of;
 use std::alloc::{AllocError, Global};
 
 /// The bytes of a policy's stack.
@@ -39,7 +39,12 @@ pub(crate) enum Lack {
 }
 
 /// Why what is known of its pointer does not show the access to be good, unless it does.
-pub(crate) fn lack_of(policy: &Policy, view: &View, access: Access, pointer: Known) -> Option<Lack>
+pub(crate) fn lack_of(
+    policy: &Policy,
+    view: &AbstractState,
+    access: Access,
+    pointer: AbstractValue,
+) -> Option<Lack>
     requires { access.bytes ≤ 256 }
     ensures { MatchOption result (IsShown policy.now view.now access pointer) (Lacks policy.now view.now access pointer) }
 {
@@ -55,7 +60,12 @@ pub(crate) fn lack_of(policy: &Policy, view: &View, access: Access, pointer: Kno
 
 /// The same of a pointer into the context, which is only read.
 #[tactic(auto, using(crate::proofs::AccessLemmas::shown_in_context))]
-fn context_lack(policy: &Policy, view: &View, access: Access, pointer: Known) -> Option<Lack>
+fn context_lack(
+    policy: &Policy,
+    view: &AbstractState,
+    access: Access,
+    pointer: AbstractValue,
+) -> Option<Lack>
     requires few { access.bytes ≤ 256 }
     requires kind { pointer.kind ≡ Kind.Context }
     ensures { MatchOption result (IsShown policy.now view.now access pointer) (Lacks policy.now view.now access pointer) }
@@ -73,7 +83,12 @@ fn context_lack(policy: &Policy, view: &View, access: Access, pointer: Known) ->
 
 /// The same of a pointer into the stack, of which only what is set is read.
 #[tactic(auto, using(crate::proofs::AccessLemmas::written_on_stack, crate::proofs::AccessLemmas::read_from_stack))]
-fn stack_lack(policy: &Policy, view: &View, access: Access, pointer: Known) -> Option<Lack>
+fn stack_lack(
+    policy: &Policy,
+    view: &AbstractState,
+    access: Access,
+    pointer: AbstractValue,
+) -> Option<Lack>
     requires few { access.bytes ≤ 256 }
     requires kind { pointer.kind ≡ Kind.Stack }
     ensures { MatchOption result (IsShown policy.now view.now access pointer) (Lacks policy.now view.now access pointer) }
@@ -93,7 +108,13 @@ fn stack_lack(policy: &Policy, view: &View, access: Access, pointer: Known) -> O
 
 /// The same of a pointer into a value of that map.
 #[tactic(auto, using(crate::proofs::AccessLemmas::shown_in_value))]
-fn value_lack(policy: &Policy, view: &View, access: Access, pointer: Known, map: u8) -> Option<Lack>
+fn value_lack(
+    policy: &Policy,
+    view: &AbstractState,
+    access: Access,
+    pointer: AbstractValue,
+    map: u8,
+) -> Option<Lack>
     requires few { access.bytes ≤ 256 }
     requires kind { pointer.kind ≡ Kind.Entry map }
     ensures { MatchOption result (IsShown policy.now view.now access pointer) (Lacks policy.now view.now access pointer) }
@@ -125,7 +146,7 @@ fn stays(access: Access, offsets: Range, bound: usize) -> bool
 }
 
 /// Whether all bytes of the stack that the access may touch are known to be set.
-fn touches_set(view: &View, access: Access, offsets: Range) -> bool
+fn touches_set(view: &AbstractState, access: Access, offsets: Range) -> bool
     requires few { access.bytes ≤ 256 }
     requires inside { Stays access offsets 512 }
     ensures { MatchBool result (AreSet view.now.set (begin_of access offsets.lo) (begin_of access offsets.hi + access.bytes)) (TouchesUnset view.now access offsets) }
@@ -165,7 +186,7 @@ fn word_at(word: u64, off: i16) -> u64
 pub(crate) fn begin_text(
     alloc: Global,
     access: Access,
-    pointer: Known,
+    pointer: AbstractValue,
 ) -> Result<String, AllocError>
     ensures { IfOk result (λ text. TellsBegin access pointer (string_bytes text)) }
 {
@@ -176,7 +197,7 @@ pub(crate) fn begin_text(
 }
 
 /// The register, and what is known of it.
-fn register_text(alloc: Global, register: u8, known: Known) -> Result<String, AllocError>
+fn register_text(alloc: Global, register: u8, known: AbstractValue) -> Result<String, AllocError>
     ensures { IfOk result (λ text. string_bytes text ≡ register_text register known) }
 {
     let told = known_text(alloc, &known)?;

@@ -1,6 +1,6 @@
 //! What is wrong with an argument of a helper or the number of a map, in words.
 ghost use Rattle.std.specs.Prelude.{◌≡◌, ◌↔◌, ◌≤◌, ℕ, IfOk, IsTrue, MatchBool, MatchOption, length, pos, string_bytes};
-ghost use Rattle.bq_views.specs.Standing.{Exact, Pointer, Scalar, StandsAt};
+ghost use Rattle.bq_states.specs.Standing.{Exact, Pointer, Scalar, StandsAt};
 ghost use Rattle.bq_needs.specs.Needs.{AreGiven, AreGoodArguments, GivesHelper, GivesValue, IsCounter, IsMap, NamesEntry, PointsTo, TellsArgument, TellsCall, argument_text, arguments_below, call_text, helper_of, map_text, wanted_text};
 ghost use Rattle.bq_needs.specs.Operands.{known_in};
 ghost use Rattle.bq_needs.specs.declared.arguments.Wanted.{Wanted as Asked};
@@ -10,9 +10,9 @@ use crate::known::known_text;
 use crate::operands::Access;
 use bq_insn::Insn;
 use bq_policy_files::Policy;
-use bq_views::places::shape_of;
-use bq_views::registers::known;
-use bq_views::view::{Kind, View};
+use bq_states::abstract_state::{AbstractState, Kind};
+use bq_states::places::shape_of;
+use bq_states::registers::known;
 use std::alloc::{AllocError, Global};
 
 /// What a helper wants of its arguments; the other helpers take none.
@@ -32,7 +32,7 @@ enum Wanted {
 pub(crate) fn argument_need(
     alloc: Global,
     policy: &Policy,
-    view: &View,
+    view: &AbstractState,
     insn: Insn,
 ) -> Result<Option<String>, AllocError>
     ensures { IfOk result (λ told. MatchOption told (AreGoodArguments policy.now view.now insn) (λ text. TellsArgument policy.now view.now insn (string_bytes text) × ¬ (AreGoodArguments policy.now view.now insn))) }
@@ -73,7 +73,7 @@ fn is_map(policy: &Policy, index: i32) -> bool
 fn call_need(
     alloc: Global,
     policy: &Policy,
-    view: &View,
+    view: &AbstractState,
     helper: i32,
 ) -> Result<Option<String>, AllocError>
     ensures { IfOk result (λ told. MatchOption told (GivesHelper policy.now view.now helper) (λ text. TellsCall view.now helper (string_bytes text) × ¬ (GivesHelper policy.now view.now helper))) }
@@ -89,7 +89,7 @@ fn call_need(
 }
 
 /// The words for it.
-fn call_text(alloc: Global, view: &View, wanted: Wanted) -> Result<String, AllocError>
+fn call_text(alloc: Global, view: &AbstractState, wanted: Wanted) -> Result<String, AllocError>
     ensures { IfOk result (λ text. string_bytes text ≡ call_text view.now wanted) }
 {
     let words = wanted_text(wanted);
@@ -117,7 +117,7 @@ fn wanted_by(helper: i32) -> Option<Wanted>
 }
 
 /// Whether the arguments are that.
-fn are_given(policy: &Policy, view: &View, wanted: Wanted) -> bool
+fn are_given(policy: &Policy, view: &AbstractState, wanted: Wanted) -> bool
     ensures { IsTrue result ↔ AreGiven policy.now view.now wanted }
 {
     match wanted {
@@ -145,7 +145,7 @@ fn wanted_text(wanted: Wanted) -> &'static str
 }
 
 /// Whether register 1 names a map, and register 2 points to the number of an entry.
-fn names_entry(policy: &Policy, view: &View) -> bool
+fn names_entry(policy: &Policy, view: &AbstractState) -> bool
     ensures { IsTrue result ↔ ((m : ℕ) × NamesEntry policy.now view.now m) }
 {
     match named_entry(policy, view) {
@@ -155,7 +155,7 @@ fn names_entry(policy: &Policy, view: &View) -> bool
 }
 
 /// The map that register 1 names, if it names one and register 2 points to an entry's number.
-fn named_entry(policy: &Policy, view: &View) -> Option<u8>
+fn named_entry(policy: &Policy, view: &AbstractState) -> Option<u8>
     ensures { MatchOption result (¬ ((m : ℕ) × NamesEntry policy.now view.now m)) (NamesEntry policy.now view.now) }
 {
     let Some(map) = named_map(view) else {
@@ -169,7 +169,7 @@ fn named_entry(policy: &Policy, view: &View) -> Option<u8>
 }
 
 /// The map that register 1 names.
-fn named_map(view: &View) -> Option<u8>
+fn named_map(view: &AbstractState) -> Option<u8>
     ensures { MatchOption result (¬ ((m : ℕ) × StandsAt (Pointer (Kind.Map m) 0) view.now 1)) (λ m. StandsAt (Pointer (Kind.Map m) 0) view.now 1) }
 {
     let Some(word) = known(view, 1) else {
@@ -183,7 +183,7 @@ fn named_map(view: &View) -> Option<u8>
 
 /// Whether the register points to so many bytes that may be read.
 #[tactic(auto, using(crate::proofs::NeedLemmas::lacking_not_pointing))]
-fn points_to(policy: &Policy, view: &View, register: u8, bytes: usize) -> bool
+fn points_to(policy: &Policy, view: &AbstractState, register: u8, bytes: usize) -> bool
     requires { bytes ≤ 256 }
     ensures { IsTrue result ↔ PointsTo policy.now view.now register bytes }
 {
@@ -203,7 +203,7 @@ fn points_to(policy: &Policy, view: &View, register: u8, bytes: usize) -> bool
 }
 
 /// Whether an entry and its new value are named.
-fn gives_value(policy: &Policy, view: &View) -> bool
+fn gives_value(policy: &Policy, view: &AbstractState) -> bool
     ensures { IsTrue result ↔ ((m : ℕ) × GivesValue policy.now view.now m) }
 {
     let Some(map) = named_entry(policy, view) else {
@@ -219,7 +219,7 @@ fn gives_value(policy: &Policy, view: &View) -> bool
 }
 
 /// Whether the register is the number 0.
-fn is_zero(view: &View, register: u8) -> bool
+fn is_zero(view: &AbstractState, register: u8) -> bool
     ensures { IsTrue result ↔ StandsAt (Exact 0) view.now register }
 {
     match known(view, register) {
@@ -229,7 +229,7 @@ fn is_zero(view: &View, register: u8) -> bool
 }
 
 /// Whether register 1 is the number of a counter.
-fn names_counter(view: &View) -> bool
+fn names_counter(view: &AbstractState) -> bool
     ensures { IsTrue result ↔ IsCounter (known_in view.now 1) }
 {
     match known(view, 1) {
@@ -239,7 +239,7 @@ fn names_counter(view: &View) -> bool
 }
 
 /// Whether it is, and register 2 a number.
-fn gives_amount(view: &View) -> bool
+fn gives_amount(view: &AbstractState) -> bool
     ensures { IsTrue result ↔ (IsCounter (known_in view.now 1) × StandsAt Scalar view.now 2) }
 {
     match known(view, 2) {
@@ -249,7 +249,7 @@ fn gives_amount(view: &View) -> bool
 }
 
 /// What is known of the four arguments of a helper.
-fn arguments_text(alloc: Global, view: &View) -> Result<String, AllocError>
+fn arguments_text(alloc: Global, view: &AbstractState) -> Result<String, AllocError>
     ensures { IfOk result (λ text. string_bytes text ≡ arguments_below 4 view.now) }
 {
     let mut text = String::new(alloc);
@@ -261,7 +261,7 @@ fn arguments_text(alloc: Global, view: &View) -> Result<String, AllocError>
 }
 
 /// What is known of an argument.
-fn argument_text(alloc: Global, view: &View, register: u8) -> Result<String, AllocError>
+fn argument_text(alloc: Global, view: &AbstractState, register: u8) -> Result<String, AllocError>
     ensures { IfOk result (λ text. string_bytes text ≡ argument_text register (known_in view.now register)) }
 {
     match known(view, register) {

@@ -2,12 +2,12 @@
 ghost use Rattle.std.specs.Prelude.{◌≡◌, ◌-◌, ◌^◌, ◌<◌, ◌≤◌, ◌++◌, ℕ, List, IfOk};
 ghost use Rattle.std.specs.String.{string_bytes};
 ghost use Rattle.bq_bpf.specs.declared.shape.MapShape.{MapShape};
-ghost use Rattle.bq_views.specs.Views.{Describes};
+ghost use Rattle.bq_states.specs.AbstractStates.{Describes};
 ghost use Rattle.bq_needs.specs.Saying.{Says};
 ghost use Rattle.bq_needs.specs.Texts.{between, kind_text, known_text, number_text, offset_text, range_text, stack_text};
 
 use bq_ranges::Range;
-use bq_views::view::{Kind, Known};
+use bq_states::abstract_state::{AbstractValue, Kind};
 use std::alloc::{AllocError, Global};
 
 /// The bytes of a policy's stack.
@@ -36,7 +36,7 @@ pub fn range_text(alloc: Global, range: Range) -> Result<String, AllocError>
 /// What is known of a word: a number, or a pointer by what it counts from and how far above that it is. Each word of which that is
 /// known is as the text says.
 #[tactic(auto, using(crate::proofs::SayingLemmas::says_known))]
-pub fn known_text(alloc: Global, known: &Known) -> Result<String, AllocError>
+pub fn known_text(alloc: Global, known: &AbstractValue) -> Result<String, AllocError>
     ensures text { IfOk result (λ text. string_bytes text ≡ known_text known.now) }
     ensures says { IfOk result (λ text. (shapes : List MapShape) (word : ℕ) → Describes shapes known.now word → Says shapes (string_bytes text) word) }
 {

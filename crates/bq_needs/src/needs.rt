@@ -1,10 +1,10 @@
 //! What an instruction needs and the view before it does not give, in words, for causes of what is known of the states.
 ghost use Rattle.std.specs.Prelude.{◌≡◌, ◌↔◌, ◌<◌, Some, true, IfOk, IsTrue, MatchOption, string_bytes};
-ghost use Rattle.bq_views.specs.Standing.{Scalar, StandsAt};
+ghost use Rattle.bq_states.specs.Standing.{Scalar, StandsAt};
 ghost use Rattle.bq_needs.specs.Accesses.{verb};
 ghost use Rattle.bq_needs.specs.Needs.{AreKnown, AreNumbers, IsGoodAccess, IsMet, IsNeed, IsPointerWorkedOn, TellsAccessOf, TellsNeed, TellsPointer, answer_text, pointer_rule, unset_below, unset_need, unset_text};
 ghost use Rattle.bq_needs.specs.Operands.{known_in, reads, works_on};
-ghost use Rattle.bq_views.specs.declared.view.Known.{Known as Shown};
+ghost use Rattle.bq_states.specs.declared.abstract_state.AbstractValue.{AbstractValue as Shown};
 
 use crate::accesses::{begin_text, lack_of, lack_text};
 use crate::arguments::argument_need;
@@ -12,16 +12,16 @@ use crate::known::known_text;
 use crate::operands::{access_of, reads, works_on};
 use bq_insn::Insn;
 use bq_policy_files::Policy;
+use bq_states::abstract_state::{AbstractState, AbstractValue, Kind};
+use bq_states::registers::known;
 use bq_verify::Cause;
-use bq_views::registers::known;
-use bq_views::view::{Kind, Known, View};
 use std::alloc::{AllocError, Global};
 
 /// The need that the view does not give, by the cause.
 pub fn need_text(
     alloc: Global,
     policy: &Policy,
-    view: &View,
+    view: &AbstractState,
     insn: Insn,
     cause: Cause,
 ) -> Result<String, AllocError>
@@ -37,7 +37,7 @@ pub fn need_text(
 fn told(
     alloc: Global,
     policy: &Policy,
-    view: &View,
+    view: &AbstractState,
     insn: Insn,
     cause: Cause,
 ) -> Result<Option<String>, AllocError>
@@ -54,7 +54,7 @@ fn told(
 }
 
 /// The registers that the instruction reads and that may be unset, if there are any.
-fn unset_need(alloc: Global, view: &View, insn: Insn) -> Result<Option<String>, AllocError>
+fn unset_need(alloc: Global, view: &AbstractState, insn: Insn) -> Result<Option<String>, AllocError>
     ensures { IfOk result (λ told. MatchOption told (AreKnown view.now insn) (λ text. (string_bytes text ≡ unset_need view.now insn) × ¬ (AreKnown view.now insn))) }
 {
     let registers = unset_registers(alloc, view, insn)?;
@@ -68,7 +68,7 @@ fn unset_need(alloc: Global, view: &View, insn: Insn) -> Result<Option<String>, 
 }
 
 /// Each register that the instruction reads and of which nothing is known.
-fn unset_registers(alloc: Global, view: &View, insn: Insn) -> Result<String, AllocError>
+fn unset_registers(alloc: Global, view: &AbstractState, insn: Insn) -> Result<String, AllocError>
     ensures { IfOk result (λ text. string_bytes text ≡ unset_below 11 view.now insn) }
 {
     let mut text = String::new(alloc);
@@ -82,7 +82,7 @@ fn unset_registers(alloc: Global, view: &View, insn: Insn) -> Result<String, All
 /// The register, if it is one of those.
 fn unset_register(
     alloc: Global,
-    view: &View,
+    view: &AbstractState,
     insn: Insn,
     register: u8,
 ) -> Result<String, AllocError>
@@ -99,7 +99,7 @@ fn unset_register(
 fn access_need(
     alloc: Global,
     policy: &Policy,
-    view: &View,
+    view: &AbstractState,
     insn: Insn,
 ) -> Result<Option<String>, AllocError>
     ensures { IfOk result (λ told. MatchOption told (IsGoodAccess policy.now view.now insn) (λ text. TellsAccessOf policy.now view.now insn (string_bytes text) × ¬ (IsGoodAccess policy.now view.now insn))) }
@@ -133,7 +133,11 @@ fn verb(writes: bool) -> &'static str
 }
 
 /// A pointer that the instruction works on, and what may be done with it, if it works on one.
-fn pointer_need(alloc: Global, view: &View, insn: Insn) -> Result<Option<String>, AllocError>
+fn pointer_need(
+    alloc: Global,
+    view: &AbstractState,
+    insn: Insn,
+) -> Result<Option<String>, AllocError>
     ensures { IfOk result (λ told. MatchOption told (AreNumbers view.now insn) (λ text. TellsPointer view.now insn (string_bytes text) × ¬ (AreNumbers view.now insn))) }
 {
     let Some(pointer) = pointer_worked_on(view, insn) else {
@@ -150,11 +154,11 @@ fn pointer_need(alloc: Global, view: &View, insn: Insn) -> Result<Option<String>
 #[derive(Clone, Copy)]
 struct Pointer {
     register: u8,
-    known: Known,
+    known: AbstractValue,
 }
 
 /// The first of the registers that the instruction works on which is known to be no number.
-fn pointer_worked_on(view: &View, insn: Insn) -> Option<Pointer>
+fn pointer_worked_on(view: &AbstractState, insn: Insn) -> Option<Pointer>
     ensures { MatchOption result (AreNumbers view.now insn) (λ pointer. IsPointerWorkedOn view.now insn pointer.register pointer.known) }
 {
     for register in 0..11u8 {
@@ -166,7 +170,7 @@ fn pointer_worked_on(view: &View, insn: Insn) -> Option<Pointer>
 }
 
 /// The register, if the instruction works on it and it is known to be no number.
-fn as_pointer(view: &View, insn: Insn, register: u8) -> Option<Pointer>
+fn as_pointer(view: &AbstractState, insn: Insn, register: u8) -> Option<Pointer>
     requires { register < 11 }
     ensures { MatchOption result ((k : Shown) → works_on insn register ≡ true → known_in view.now register ≡ Some k → k.kind ≡ Kind.Number) (λ pointer. IsPointerWorkedOn view.now insn pointer.register pointer.known) }
 {
@@ -208,7 +212,7 @@ fn pointer_rule(insn: Insn) -> &'static str
 }
 
 /// What the answer is, if it is not shown to be a number.
-fn answer_need(alloc: Global, view: &View) -> Result<Option<String>, AllocError>
+fn answer_need(alloc: Global, view: &AbstractState) -> Result<Option<String>, AllocError>
     ensures { IfOk result (λ told. MatchOption told (StandsAt Scalar view.now 0) (λ text. (string_bytes text ≡ answer_text (known_in view.now 0)) × ¬ (StandsAt Scalar view.now 0))) }
 {
     let Some(answer) = known(view, 0) else {

@@ -6,11 +6,10 @@ ghost use Rattle.bq_bpf.specs.Hooks.{context_length_of};
 ghost use Rattle.bq_one_run.specs.Naming.{BeginsWith, IsClean};
 
 use crate::faults::{InputFault, fault};
+use bq_bpf::{Plain, context_length};
 use bq_interp::Env;
 use bq_maps::Maps;
-use bq_bpf::Plain;
 use bq_verify::Verified;
-use bq_bpf::context_length;
 use std::alloc::{AllocError, Global};
 
 /// What a run is given beside its program.

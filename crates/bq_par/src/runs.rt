@@ -14,7 +14,7 @@ use bq_counters::Naming as Counting;
 use bq_eevdf::EevdfQueue;
 use bq_machine::{Machine, Prepared, Seat, Unnamed, prepare};
 use bq_parts::Refusal;
-use bq_sizes::{Rule, Size};
+use bq_sizes::{ProcessorCount, Rule};
 use bq_tie::Naming;
 use std::alloc::{AllocError, Global};
 use std::marker::Brand;
@@ -28,7 +28,7 @@ pub fn run<T: Threads + Wait + Sync>(
     rt: &T,
     alloc: Global,
     rule: Rule,
-    size: Size,
+    size: ProcessorCount,
     ticks: u32,
 ) -> Result<Summary, AllocError>
     ensures { IfOk result (IsSummary (discipline_of rule) (processors_in size) ticks) }
@@ -42,7 +42,7 @@ pub fn run<T: Threads + Wait + Sync>(
 fn on_cfs<T: Threads + Wait + Sync>(
     rt: &T,
     alloc: Global,
-    size: Size,
+    size: ProcessorCount,
     ticks: u32,
 ) -> Result<Summary, AllocError>
     ensures { IfOk result (IsSummary cfs (processors_in size) ticks) }
@@ -55,7 +55,7 @@ fn on_cfs<T: Threads + Wait + Sync>(
 fn on_eevdf<T: Threads + Wait + Sync>(
     rt: &T,
     alloc: Global,
-    size: Size,
+    size: ProcessorCount,
     ticks: u32,
 ) -> Result<Summary, AllocError>
     ensures { IfOk result (IsSummary eevdf (processors_in size) ticks) }
@@ -70,7 +70,7 @@ fn sized_cfs<N: Naming + Counting + Send + Sync, T: Threads + Wait + Sync>(
     alloc: Global,
     prepared: Prepared<CfsQueue>,
     unnamed: Unnamed,
-    size: Size,
+    size: ProcessorCount,
     ticks: u32,
 ) -> Result<Summary, AllocError>
     requires name { prepared.0 ≡ N.table }
@@ -79,13 +79,13 @@ fn sized_cfs<N: Naming + Counting + Send + Sync, T: Threads + Wait + Sync>(
     ensures { IfOk result (IsSummary cfs (processors_in size) ticks) }
 {
     match size {
-        Size::One => run_cfs::<N, T, 1>(rt, alloc, prepared, unnamed, ticks),
-        Size::Two => run_cfs::<N, T, 2>(rt, alloc, prepared, unnamed, ticks),
-        Size::Four => run_cfs::<N, T, 4>(rt, alloc, prepared, unnamed, ticks),
-        Size::Eight => run_cfs::<N, T, 8>(rt, alloc, prepared, unnamed, ticks),
-        Size::Sixteen => run_cfs::<N, T, 16>(rt, alloc, prepared, unnamed, ticks),
-        Size::ThirtyTwo => run_cfs::<N, T, 32>(rt, alloc, prepared, unnamed, ticks),
-        Size::SixtyFour => run_cfs::<N, T, 64>(rt, alloc, prepared, unnamed, ticks),
+        ProcessorCount::One => run_cfs::<N, T, 1>(rt, alloc, prepared, unnamed, ticks),
+        ProcessorCount::Two => run_cfs::<N, T, 2>(rt, alloc, prepared, unnamed, ticks),
+        ProcessorCount::Four => run_cfs::<N, T, 4>(rt, alloc, prepared, unnamed, ticks),
+        ProcessorCount::Eight => run_cfs::<N, T, 8>(rt, alloc, prepared, unnamed, ticks),
+        ProcessorCount::Sixteen => run_cfs::<N, T, 16>(rt, alloc, prepared, unnamed, ticks),
+        ProcessorCount::ThirtyTwo => run_cfs::<N, T, 32>(rt, alloc, prepared, unnamed, ticks),
+        ProcessorCount::SixtyFour => run_cfs::<N, T, 64>(rt, alloc, prepared, unnamed, ticks),
     }
 }
 
@@ -94,7 +94,7 @@ fn sized_eevdf<N: Naming + Counting + Send + Sync, T: Threads + Wait + Sync>(
     alloc: Global,
     prepared: Prepared<EevdfQueue>,
     unnamed: Unnamed,
-    size: Size,
+    size: ProcessorCount,
     ticks: u32,
 ) -> Result<Summary, AllocError>
     requires name { prepared.0 ≡ N.table }
@@ -103,13 +103,13 @@ fn sized_eevdf<N: Naming + Counting + Send + Sync, T: Threads + Wait + Sync>(
     ensures { IfOk result (IsSummary eevdf (processors_in size) ticks) }
 {
     match size {
-        Size::One => run_eevdf::<N, T, 1>(rt, alloc, prepared, unnamed, ticks),
-        Size::Two => run_eevdf::<N, T, 2>(rt, alloc, prepared, unnamed, ticks),
-        Size::Four => run_eevdf::<N, T, 4>(rt, alloc, prepared, unnamed, ticks),
-        Size::Eight => run_eevdf::<N, T, 8>(rt, alloc, prepared, unnamed, ticks),
-        Size::Sixteen => run_eevdf::<N, T, 16>(rt, alloc, prepared, unnamed, ticks),
-        Size::ThirtyTwo => run_eevdf::<N, T, 32>(rt, alloc, prepared, unnamed, ticks),
-        Size::SixtyFour => run_eevdf::<N, T, 64>(rt, alloc, prepared, unnamed, ticks),
+        ProcessorCount::One => run_eevdf::<N, T, 1>(rt, alloc, prepared, unnamed, ticks),
+        ProcessorCount::Two => run_eevdf::<N, T, 2>(rt, alloc, prepared, unnamed, ticks),
+        ProcessorCount::Four => run_eevdf::<N, T, 4>(rt, alloc, prepared, unnamed, ticks),
+        ProcessorCount::Eight => run_eevdf::<N, T, 8>(rt, alloc, prepared, unnamed, ticks),
+        ProcessorCount::Sixteen => run_eevdf::<N, T, 16>(rt, alloc, prepared, unnamed, ticks),
+        ProcessorCount::ThirtyTwo => run_eevdf::<N, T, 32>(rt, alloc, prepared, unnamed, ticks),
+        ProcessorCount::SixtyFour => run_eevdf::<N, T, 64>(rt, alloc, prepared, unnamed, ticks),
     }
 }
 

@@ -9,7 +9,7 @@ use Rattle.bq_hooks.specs.OwnPlace.{HasPlace}
 use Rattle.bq_hooks.specs.Permitted.{may_place}
 use Rattle.bq_parts.specs.declared.carried.Carried.{Carried}
 use Rattle.bq_parts.specs.Processors.{Processor, count_of, HasSeatedIds}
-use Rattle.bq_parts.specs.Choices.{Settled, SettlesPlace, policies}
+use Rattle.bq_parts.specs.Choices.{Decision, SettlesPlace, policies}
 use Rattle.bq_parts.proofs.Counts.{one, one_self, keeps_charge}
 use Rattle.bq_parts.proofs.Permitted.{settled_permitted, own_place_permitted, may_place_fits}
 
@@ -29,7 +29,7 @@ current_seated d p now t s e =
     below_by_case t (count_of t.id (present_at p)) (count_of t.id q.queue) (s t.id) (omega (arith, here, keeps_charge t.id d p now))
 
 -- what is placed is one of those processors
-pub placed_fits : (d : Discipline) (count cpu : ℕ) (p : Processor) (carried : Carried) (settled : Settled) → HasPlace count carried.task → SettlesPlace (policies d) count cpu p carried settled → settled.choice < count
+pub placed_fits : (d : Discipline) (count cpu : ℕ) (p : Processor) (carried : Carried) (settled : Decision) → HasPlace count carried.task → SettlesPlace (policies d) count cpu p carried settled → settled.choice < count
 placed_fits d count cpu p carried settled h k =
     let goes = settled_permitted (policies d) _ p.programs.place p.running.last cpu (may_place count carried.task) _ settled (own_place_permitted count carried.loads carried.task h) k in
     (may_place_fits count carried.task settled.choice goes).0

@@ -17,7 +17,7 @@ use Rattle.bq_hooks.specs.Permitted.{may_place, may_pull, task_numbered}
 use Rattle.bq_hooks.specs.Settled.{Settled as Chosen, settled as chosen}
 use Rattle.bq_hooks.proofs.Places.{own_place_there}
 use Rattle.bq_parts.specs.Processors.{Processor, count_of, size_of, HasEachOnce}
-use Rattle.bq_parts.specs.Choices.{Setting, Settled, SettlesBy, Settles, own_pull}
+use Rattle.bq_parts.specs.Choices.{Regime, Decision, SettlesBy, Settles, own_pull}
 use Rattle.bq_parts.proofs.Counts.{one}
 use Rattle.bq_parts.proofs.NumberTests.{below_of, below_to}
 
@@ -29,13 +29,13 @@ by_test false permitted r0 own e o = o
 pub answered : (permitted : ℕ → Bool) (r0 own : ℕ) → permitted own ≡ true → permitted (chosen permitted (Some r0) own).choice ≡ true
 answered permitted r0 own o = by_test (permitted r0) permitted r0 own refl o
 
-settles_by : (s : Setting) (policy : Option Accepted) (context : Version → List ℕ) (program : Program) (now cpu : ℕ) (permitted : ℕ → Bool) (own : ℕ) (settled : Settled) →
+settles_by : (s : Regime) (policy : Option Accepted) (context : Version → List ℕ) (program : Program) (now cpu : ℕ) (permitted : ℕ → Bool) (own : ℕ) (settled : Decision) →
     permitted own ≡ true → SettlesBy s policy context program now cpu permitted own settled → permitted settled.choice ≡ true
-settles_by s None context program now cpu permitted own settled o h = ap (λ (x : Settled). permitted x.choice) h ∙ o
+settles_by s None context program now cpu permitted own settled o h = ap (λ (x : Decision). permitted x.choice) h ∙ o
 settles_by s (Some policy) context program now cpu permitted own settled o h = ap permitted h.4 ∙ answered permitted h.0 own o
 
 -- where the own choice is permitted, what is settled is
-pub settled_permitted : (s : Setting) (context : Version → List ℕ) (program : Program) (now cpu : ℕ) (permitted : ℕ → Bool) (own : ℕ) (settled : Settled) →
+pub settled_permitted : (s : Regime) (context : Version → List ℕ) (program : Program) (now cpu : ℕ) (permitted : ℕ → Bool) (own : ℕ) (settled : Decision) →
     permitted own ≡ true → Settles s context program now cpu permitted own settled → permitted settled.choice ≡ true
 settled_permitted s context program now cpu permitted own settled o h = settles_by s program.policy context program now cpu permitted own settled o h
 

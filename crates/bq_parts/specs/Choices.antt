@@ -1,4 +1,4 @@
--- Settled choices: a policy's answer where it is permitted, and else the discipline's own.
+-- Decision choices: a policy's answer where it is permitted, and else the discipline's own.
 use Rattle.std.specs.Prelude.{◌≡◌, ℕ, ◌==◌, Bool, List, [], Option, Some, None, unwrap_or}
 use Rattle.bq_disc.specs.Tasks.{Task, id_of}
 use Rattle.bq_disc.specs.Discipline.{Discipline}
@@ -23,16 +23,16 @@ use Rattle.bq_parts.specs.Processors.{Processor, size_of}
 
 -- what the world runs under: the discipline, and how a policy answers: on a context, maps, a reading and a processor's
 -- number it gives r0, the maps that it leaves and how many steps it took, having asked so much of the counters
-pub record Setting : Type 1 where
+pub record Regime : Type 1 where
   pub discipline : Discipline
   pub Answers : Accepted → List ℕ → List (List ℕ) → ℕ → ℕ → ℕ → List (List ℕ) → ℕ → List Asked → Type 0
 
 -- policies answer as their programs run
-abbrev pub policies : Discipline → Setting
+abbrev pub policies : Discipline → Regime
 policies d = record { discipline = d; Answers = Answers }
 
 -- a choice, whose it was, how many steps it took, what was asked of the counters, and what stands at the hook afterwards
-pub record Settled : Type 0 where
+pub record Decision : Type 0 where
   pub choice : ℕ
   pub by : By
   pub steps : ℕ
@@ -40,12 +40,12 @@ pub record Settled : Type 0 where
   pub program : Program
 
 -- no policy was asked
-abbrev pub unasked : ℕ → Program → Settled
+abbrev pub unasked : ℕ → Program → Decision
 unasked own program = record { choice = own; by = who.Discipline; steps = 0; calls = []; program = program }
 
 -- r0 where it is permitted, and else the own choice. The maps stay as the policy left them, either way: they keep their
 -- shapes. The policy answers within its budget, with sixteen calls of counters at most
-abbrev pub SettlesBy : Setting → Option Accepted → (Version → List ℕ) → Program → ℕ → ℕ → (ℕ → Bool) → ℕ → Settled → Type 0
+abbrev pub SettlesBy : Regime → Option Accepted → (Version → List ℕ) → Program → ℕ → ℕ → (ℕ → Bool) → ℕ → Decision → Type 0
 SettlesBy s None context program now cpu permitted own settled = settled ≡ unasked own program
 SettlesBy s (Some policy) context program now cpu permitted own settled =
     (r0 : ℕ) × (maps : List (List ℕ)) × s.Answers policy (context policy.version) program.maps now cpu r0 maps settled.steps settled.calls
@@ -53,7 +53,7 @@ SettlesBy s (Some policy) context program now cpu permitted own settled =
     × (settled.choice ≡ (chosen permitted (Some r0) own).choice) × (settled.by ≡ (chosen permitted (Some r0) own).by)
     × IsWithin policy settled.steps settled.calls × HaveShapes policy.shapes maps
 
-abbrev pub Settles : Setting → (Version → List ℕ) → Program → ℕ → ℕ → (ℕ → Bool) → ℕ → Settled → Type 0
+abbrev pub Settles : Regime → (Version → List ℕ) → Program → ℕ → ℕ → (ℕ → Bool) → ℕ → Decision → Type 0
 Settles s context program = SettlesBy s program.policy context program
 
 -- the context of a placement, by the version of the policy's image
@@ -62,14 +62,14 @@ place_bytes facts First = place_bytes_first facts
 place_bytes facts Second = place_bytes_second facts
 
 -- a placement is settled, of the task in a hand, among so many processors
-abbrev pub SettlesPlace : Setting → ℕ → ℕ → Processor → Carried → Settled → Type 0
+abbrev pub SettlesPlace : Regime → ℕ → ℕ → Processor → Carried → Decision → Type 0
 SettlesPlace s count cpu p carried settled =
     let own = unwrap_or (own_place count carried.loads carried.task) 0 in
     let context = place_bytes (record { task = carried.task; waking = cpu; processors = count; own = own; loads = carried.loads }) in
     Settles s context p.programs.place p.running.last cpu (may_place count carried.task) own settled
 
 -- a preemption is settled: where nothing runs no policy is asked; else it is answered by 0 or 1
-abbrev pub SettlesPreempt : Setting → ℕ → Processor → Option Task → Settled → Type 0
+abbrev pub SettlesPreempt : Regime → ℕ → Processor → Option Task → Decision → Type 0
 SettlesPreempt s cpu p None settled = settled ≡ unasked 0 p.programs.preempt
 SettlesPreempt s cpu p (Some current) settled =
     let queue = p.running.queue in
@@ -82,7 +82,7 @@ abbrev pub own_pull : ℕ → Processor → Processor → Option ℕ
 own_pull cpu p from = id_of (pull_of cpu (size_of p) (size_of from) from.running.queue)
 
 -- a pull is settled, from another processor
-abbrev pub SettlesPull : Setting → ℕ → ℕ → Processor → Processor → Settled → Type 0
+abbrev pub SettlesPull : Regime → ℕ → ℕ → Processor → Processor → Decision → Type 0
 SettlesPull s cpu from p other settled =
     let queue = other.running.queue in
     let own = own_pull cpu p other in
@@ -90,7 +90,7 @@ SettlesPull s cpu from p other settled =
     Settles s (λ version. context) p.programs.pull p.running.last cpu (may_pull cpu queue) (or_nobody own) settled
 
 -- Decide: who runs after a preemption was settled, and what stands at the hook
-abbrev pub decided_by : Setting → Processor → Settled → Processor
+abbrev pub decided_by : Regime → Processor → Decision → Processor
 decided_by s p settled =
     record p {
       running = decided s.discipline p.running p.running.current (settled.choice == 1);

@@ -1,8 +1,8 @@
 -- Which events are refused, and why: by their arguments, or by what the world holds. The first that holds is named.
 use Rattle.std.specs.Prelude.{ℕ, ◌%◌, ◌^◌, ℤ, pos, negsuc, int_le, Bool, true, false, not, ◌==◌, ◌||◌, ◌&&◌, nat_lt, nat_le, List, [], ◌∷◌, Option, Some, None, if◌then◌else◌, is_some, is_none}
 use Rattle.bq_parts.specs.declared.carried.Carried.{Carried}
-use Rattle.bq_parts.specs.declared.seat.Seat.{Seat}
-use Rattle.bq_parts.specs.declared.seat.Seat.TheVariants.{Absent, Blocked, Away}
+use Rattle.bq_parts.specs.declared.lobby_entry.LobbyEntry.{LobbyEntry}
+use Rattle.bq_parts.specs.declared.lobby_entry.LobbyEntry.TheVariants.{Absent, Blocked, Away}
 use Rattle.bq_bpf.specs.declared.hook.Hook.{Hook}
 use Rattle.bq_bpf.specs.declared.hook.Hook.TheVariants as hooks
 use Rattle.bq_verify.specs.Accepted.{Accepted}
@@ -18,12 +18,12 @@ abbrev pub first_refusal : List (Bool × Refusal) → Option Refusal
 first_refusal [] = None
 first_refusal ((holds, refusal) ∷ rest) = if holds then Some refusal else first_refusal rest
 
-abbrev pub is_absent : Seat → Bool
+abbrev pub is_absent : LobbyEntry → Bool
 is_absent Absent = true
 is_absent (Blocked t) = false
 is_absent Away = false
 
-abbrev pub is_away : Seat → Bool
+abbrev pub is_away : LobbyEntry → Bool
 is_away Absent = false
 is_away (Blocked t) = false
 is_away Away = true
@@ -59,11 +59,11 @@ argument_refusal count (Block cpu now) = first_refusal (no_processor count cpu �
 argument_refusal count (Pull cpu from now) = first_refusal (no_processor count cpu ∷ no_processor count from ∷ (cpu == from, no.SameProcessor) ∷ [])
 
 -- what a seat refuses of a task that leaves for good
-abbrev pub retire_refusal : Seat → Option Refusal
+abbrev pub retire_refusal : LobbyEntry → Option Refusal
 retire_refusal s = first_refusal ((is_absent s, no.NoTask) ∷ (is_away s, no.NotBlocked) ∷ [])
 
 -- what a seat and a hand refuse of a wake that begins
-abbrev pub begin_refusal : Seat → Option Carried → Option Refusal
+abbrev pub begin_refusal : LobbyEntry → Option Carried → Option Refusal
 begin_refusal s hand = first_refusal ((is_absent s, no.NoTask) ∷ (is_away s, no.NotBlocked) ∷ (is_some hand, no.InHand) ∷ [])
 
 -- what is refused of a generation, where another stands at the hook and so many numbers were drawn

@@ -4,8 +4,8 @@ use Rattle.bq_disc.specs.Tasks.{Task, id_of}
 use Rattle.bq_disc.specs.Discipline.{Discipline}
 use Rattle.bq_disc.specs.OneProcessor.{charge, marked, enter_all}
 use Rattle.bq_bpf.specs.declared.board.Call.{Call as Asked}
-use Rattle.bq_parts.specs.declared.seat.Seat.{Seat}
-use Rattle.bq_parts.specs.declared.seat.Seat.TheVariants.{Absent, Blocked, Away}
+use Rattle.bq_parts.specs.declared.lobby_entry.LobbyEntry.{LobbyEntry}
+use Rattle.bq_parts.specs.declared.lobby_entry.LobbyEntry.TheVariants.{Absent, Blocked, Away}
 use Rattle.bq_parts.specs.declared.reply.Reply.{Reply}
 use Rattle.bq_parts.specs.declared.reply.Reply.TheVariants.{Admitted, Retired, Begun, Installed, Drained, Ticked, Blocked as Went, Pulled as Moved}
 use Rattle.bq_parts.specs.declared.refusal.Refusal.{Refusal}
@@ -18,7 +18,7 @@ use Rattle.bq_bpf.specs.declared.hook.Hook.{Hook}
 use Rattle.bq_policies.specs.Programs.{Program, at_hook, with_program}
 use Rattle.bq_policies.specs.Standing.{MayStand}
 use Rattle.bq_hooks.specs.Permitted.{task_numbered}
-use Rattle.bq_parts.specs.Choices.{Setting, Settled, SettlesPlace, SettlesPreempt, SettlesPull, decided_by}
+use Rattle.bq_parts.specs.Choices.{Regime, Decision, SettlesPlace, SettlesPreempt, SettlesPull, decided_by}
 use Rattle.bq_parts.specs.Moves.{after_leaving, as_it_leaves, taken_from, without_task, with_pulled, started_if_idle}
 
 -- a processor after its time has passed
@@ -30,35 +30,35 @@ abbrev pub remarked : Discipline → Processor → Processor
 remarked d p = record p { running = marked d p.running }
 
 -- the lobby admits a task
-abbrev pub Admits : ℕ → Task → List Seat → Result Reply Refusal → List Seat → Type 0
+abbrev pub Admits : ℕ → Task → List LobbyEntry → Result Reply Refusal → List LobbyEntry → Type 0
 Admits id t seats (Ok r) seats' = (is_absent (slice_index_or seats id Absent) ≡ true) × (r ≡ Admitted) × (seats' ≡ slice_set seats id (Blocked t))
 Admits id t seats (Err e) seats' = (is_absent (slice_index_or seats id Absent) ≡ false) × (e ≡ no.TaskExists) × (seats' ≡ seats)
 
 -- a sleeping task leaves the lobby for good
-abbrev pub Retires : ℕ → List Seat → Result Reply Refusal → List Seat → Type 0
+abbrev pub Retires : ℕ → List LobbyEntry → Result Reply Refusal → List LobbyEntry → Type 0
 Retires id seats (Ok r) seats' = (retire_refusal (slice_index_or seats id Absent) ≡ None) × (r ≡ Retired) × (seats' ≡ slice_set seats id Absent)
 Retires id seats (Err e) seats' = (retire_refusal (slice_index_or seats id Absent) ≡ Some e) × (seats' ≡ seats)
 
 -- it is decided who runs
-abbrev pub Decides : Setting → ℕ → Processor → Settled → Processor → Type 0
+abbrev pub Decides : Regime → ℕ → Processor → Decision → Processor → Type 0
 Decides s cpu p settled q = SettlesPreempt s cpu p p.running.current settled × (q ≡ decided_by s p settled)
 
 -- the clock of a processor ticks
-abbrev pub Ticks : Setting → ℕ → ℕ → Processor → List Asked → Reply → Processor → Type 0
+abbrev pub Ticks : Regime → ℕ → ℕ → Processor → List Asked → Reply → Processor → Type 0
 Ticks s cpu now p calls r q =
-    (settled : Settled) × Decides s cpu (after_time s.discipline now p) settled q
+    (settled : Decision) × Decides s cpu (after_time s.discipline now p) settled q
     × (calls ≡ settled.calls) × (r ≡ Ticked (id_of q.running.current) settled.by settled.steps)
 
 -- the tasks of an inbox enter
-abbrev pub Drains : Setting → ℕ → ℕ → Processor → List Task → List Asked → Reply → Processor → Type 0
+abbrev pub Drains : Regime → ℕ → ℕ → Processor → List Task → List Asked → Reply → Processor → Type 0
 Drains s cpu now p tasks calls r q =
-    (settled : Settled)
+    (settled : Decision)
     × (let c = after_time s.discipline now p in
     Decides s cpu (record c { running = enter_all s.discipline c.running tasks }) settled q)
     × (calls ≡ settled.calls) × (r ≡ Drained (length tasks) (id_of q.running.current) settled.by settled.steps)
 
 -- the running task goes to the lobby
-abbrev pub Blocks : Discipline → ℕ → ℕ → Processor → List Seat → Result Reply Refusal → Processor → List Seat → Type 0
+abbrev pub Blocks : Discipline → ℕ → ℕ → Processor → List LobbyEntry → Result Reply Refusal → Processor → List LobbyEntry → Type 0
 Blocks d cpu now p seats (Ok r) q seats' =
     (t : Task)
     × (let c = after_time d now p in
@@ -67,17 +67,17 @@ Blocks d cpu now p seats (Ok r) q seats' =
 Blocks d cpu now p seats (Err e) q seats' = (p.running.current ≡ None) × (e ≡ no.Idle) × (q ≡ p) × (seats' ≡ seats)
 
 -- a task of the lobby comes into the hand, with these loads
-abbrev pub Begins : ℕ → List ℕ → Processor → List Seat → Result Reply Refusal → Processor → List Seat → Type 0
+abbrev pub Begins : ℕ → List ℕ → Processor → List LobbyEntry → Result Reply Refusal → Processor → List LobbyEntry → Type 0
 Begins id loads p seats (Ok r) q seats' =
     (t : Task) × (begin_refusal (slice_index_or seats id Absent) p.hand ≡ None) × (slice_index_or seats id Absent ≡ Blocked t) × (r ≡ Begun id loads)
     × (q ≡ record p { hand = Some (record { task = t; loads = loads }) }) × (seats' ≡ slice_set seats id Away)
 Begins id loads p seats (Err e) q seats' = (begin_refusal (slice_index_or seats id Absent) p.hand ≡ Some e) × (q ≡ p) × (seats' ≡ seats)
 
 -- the task in the hand is given for the processor that is chosen among so many
-abbrev pub Places : Setting → ℕ → ℕ → ℕ → Processor → List Asked → Option Placement → Processor → Type 0
+abbrev pub Places : Regime → ℕ → ℕ → ℕ → Processor → List Asked → Option Placement → Processor → Type 0
 Places s count cpu now p calls None q = (calls ≡ []) × (p.hand ≡ None) × (q ≡ p)
 Places s count cpu now p calls (Some x) q =
-    (carried : Carried) × (settled : Settled) × (p.hand ≡ Some carried) × (x.task ≡ carried.task)
+    (carried : Carried) × (settled : Decision) × (p.hand ≡ Some carried) × (x.task ≡ carried.task)
     × (let c = after_time s.discipline now p in
     SettlesPlace s count cpu c carried settled
     × (x.to ≡ settled.choice) × (x.by ≡ settled.by) × (x.steps ≡ settled.steps) × (calls ≡ settled.calls)
@@ -90,9 +90,9 @@ Installs h drawn p new (Ok r) q =
 Installs h drawn p new (Err e) q = (install_refusal (at_hook h p.programs).generation drawn new.generation ≡ Some e) × (q ≡ p)
 
 -- a task of another processor's queue enters this one's; where nothing runs, the choice does
-abbrev pub Pulls : Setting → ℕ → ℕ → ℕ → Processor → Processor → List Asked → Reply → Processor → Processor → Type 0
+abbrev pub Pulls : Regime → ℕ → ℕ → ℕ → Processor → Processor → List Asked → Reply → Processor → Processor → Type 0
 Pulls s cpu from now p other calls r q other' =
-    (settled : Settled)
+    (settled : Decision)
     × (let c = after_time s.discipline now p in
     let source = remarked s.discipline other in
     let task = task_numbered settled.choice in

@@ -9,7 +9,7 @@ use Rattle.bq_hooks.specs.Contexts.{as_number}
 use Rattle.bq_hooks.specs.OwnPlace.{HasPlace}
 use Rattle.bq_policies.specs.Standing.{AreReady}
 use Rattle.bq_parts.specs.declared.carried.Carried.{Carried}
-use Rattle.bq_parts.specs.declared.seat.Seat.TheVariants.{Blocked}
+use Rattle.bq_parts.specs.declared.lobby_entry.LobbyEntry.TheVariants.{Blocked}
 use Rattle.bq_parts.specs.Processors.{Processor, held_by, count_of}
 use Rattle.bq_parts.specs.World.{World, processor, inbox, seat, count_in}
 use Rattle.bq_parts.specs.Refusals.{is_away}

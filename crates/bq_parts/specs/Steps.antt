@@ -3,7 +3,7 @@ use Rattle.std.specs.Prelude.{◌≡◌, ◌+◌, ◌-◌, ◌^◌, ◌⊎◌, m
 use Rattle.bq_bpf.specs.declared.board.Call.{Call as Asked}
 use Rattle.bq_bpf.specs.Counters.{Through}
 use Rattle.bq_policies.specs.Answers.{fresh_maps}
-use Rattle.bq_parts.specs.declared.seat.Seat.{Seat}
+use Rattle.bq_parts.specs.declared.lobby_entry.LobbyEntry.{LobbyEntry}
 use Rattle.bq_parts.specs.declared.event.Event.{Event}
 use Rattle.bq_parts.specs.declared.event.Event.TheVariants.{Admit, Retire, Draw, Install, BeginWake, EndWake, Drain, Tick, Block, Pull}
 use Rattle.bq_parts.specs.declared.reply.Reply.{Reply}
@@ -15,16 +15,16 @@ use Rattle.bq_parts.specs.Processors.{Processor}
 use Rattle.bq_parts.specs.World.{World, processor, inbox, count_in, with_processor, with_inbox, with_seats, loads_of}
 use Rattle.bq_parts.specs.Refusals.{refusal, argument_refusal}
 use Rattle.bq_parts.specs.Moves.{admitted}
-use Rattle.bq_parts.specs.Choices.{Setting}
+use Rattle.bq_parts.specs.Choices.{Regime}
 use Rattle.bq_parts.specs.Shares.{Admits, Retires, Ticks, Drains, Blocks, Begins, Places, Installs, Pulls}
 
 -- the reply to an event that is not refused, and the world that it leaves
-abbrev pub Performs : Setting → World → Event → List Asked → Reply → World → Type 0
+abbrev pub Performs : Regime → World → Event → List Asked → Reply → World → Type 0
 -- the task stands in the lobby
 Performs s w (Admit id nice mask slice) calls r w' =
-    (seats : List Seat) × Admits id (admitted (count_in w) id nice mask slice) w.seats (Ok r) seats × (calls ≡ []) × (w' ≡ with_seats w seats)
+    (seats : List LobbyEntry) × Admits id (admitted (count_in w) id nice mask slice) w.seats (Ok r) seats × (calls ≡ []) × (w' ≡ with_seats w seats)
 -- it leaves the lobby for good
-Performs s w (Retire id) calls r w' = (seats : List Seat) × Retires id w.seats (Ok r) seats × (calls ≡ []) × (w' ≡ with_seats w seats)
+Performs s w (Retire id) calls r w' = (seats : List LobbyEntry) × Retires id w.seats (Ok r) seats × (calls ≡ []) × (w' ≡ with_seats w seats)
 -- the next number is drawn, and the greatest again and again
 Performs s w Draw calls r w' = let n = min (w.drawn + 1) (2 ^ 64 - 1) in (r ≡ Drawn n) × (calls ≡ []) × (w' ≡ record w { drawn = n })
 -- a policy or none stands at the hook, with maps of its own
@@ -33,7 +33,7 @@ Performs s w (Install cpu h g policy) calls r w' =
     × (calls ≡ []) × (w' ≡ with_processor w cpu q)
 -- the task goes from the lobby to the hand, with all loads of that moment
 Performs s w (BeginWake cpu id) calls r w' =
-    (q : Processor) × (seats : List Seat) × Begins id (loads_of w.processors w.inboxes) (processor w cpu) w.seats (Ok r) q seats
+    (q : Processor) × (seats : List LobbyEntry) × Begins id (loads_of w.processors w.inboxes) (processor w cpu) w.seats (Ok r) q seats
     × (calls ≡ []) × (w' ≡ with_seats (with_processor w cpu q) seats)
 -- the task goes from the hand to the end of the chosen processor's inbox
 Performs s w (EndWake cpu now) calls r w' =
@@ -45,7 +45,7 @@ Performs s w (Drain cpu now) calls r w' =
 Performs s w (Tick cpu now) calls r w' = (q : Processor) × Ticks s cpu now (processor w cpu) calls r q × (w' ≡ with_processor w cpu q)
 -- the current task goes to the lobby, and the queue's choice runs
 Performs s w (Block cpu now) calls r w' =
-    (q : Processor) × (seats : List Seat) × Blocks s.discipline cpu now (processor w cpu) w.seats (Ok r) q seats
+    (q : Processor) × (seats : List LobbyEntry) × Blocks s.discipline cpu now (processor w cpu) w.seats (Ok r) q seats
     × (calls ≡ []) × (w' ≡ with_seats (with_processor w cpu q) seats)
 -- a task of the other processor's queue enters this one's; where nothing runs, the choice does
 Performs s w (Pull cpu from now) calls r w' =
@@ -60,13 +60,13 @@ TakesMemory e = ⊥
 
 -- What an event does. A refusal leaves the world as it was, and so does want of memory, which Admit and Install alone may
 -- meet: after a refusal of their arguments, and before one of the world's.
-abbrev pub WorldStep : Setting → World → Event → List Asked → Result Reply Refusal → World → Type 0
+abbrev pub WorldStep : Regime → World → Event → List Asked → Result Reply Refusal → World → Type 0
 WorldStep s w e calls (Ok r) w' = (refusal w e ≡ None) × Performs s w e calls r w'
 WorldStep s w e calls (Err r) w' =
     (calls ≡ []) × (w' ≡ w) × ((refusal w e ≡ Some r) ⊎ (TakesMemory e × (argument_refusal (count_in w) e ≡ None) × (r ≡ no.OutOfMemory)))
 
 -- the answers to some events are those of steps one after another
-abbrev pub WorldRun : Setting → World → List Event → List (List Asked) → List (Result Reply Refusal) → World → Type 0
+abbrev pub WorldRun : Regime → World → List Event → List (List Asked) → List (Result Reply Refusal) → World → Type 0
 WorldRun s w [] [] [] w' = w' ≡ w
 WorldRun s w (e ∷ es) (calls ∷ more) (a ∷ answers) w' = (mid : World) × WorldStep s w e calls a mid × WorldRun s mid es more answers w'
 WorldRun s w es more answers w' = ⊥

@@ -1,8 +1,8 @@
 -- The world: processors with their inboxes, the lobby of the tasks that sleep, and the numbers drawn.
 use Rattle.std.specs.Prelude.{ℕ, List, [], ◌∷◌, length, replicate, slice_index_or, slice_set}
 use Rattle.bq_disc.specs.Tasks.{Task}
-use Rattle.bq_parts.specs.declared.seat.Seat.{Seat}
-use Rattle.bq_parts.specs.declared.seat.Seat.TheVariants.{Absent}
+use Rattle.bq_parts.specs.declared.lobby_entry.LobbyEntry.{LobbyEntry}
+use Rattle.bq_parts.specs.declared.lobby_entry.LobbyEntry.TheVariants.{Absent}
 use Rattle.bq_parts.specs.Processors.{Processor, opening, load_of}
 
 -- the processors; the inbox of each, in the order in which tasks came; the lobby's seat of each id; and how many numbers
@@ -10,7 +10,7 @@ use Rattle.bq_parts.specs.Processors.{Processor, opening, load_of}
 pub record World : Type 0 where
   pub processors : List Processor
   pub inboxes : List (List Task)
-  pub seats : List Seat
+  pub seats : List LobbyEntry
   pub drawn : ℕ
 
 -- nothing is admitted, drawn or installed
@@ -26,7 +26,7 @@ processor w cpu = slice_index_or w.processors cpu opening
 abbrev pub inbox : World → ℕ → List Task
 inbox w cpu = slice_index_or w.inboxes cpu []
 
-abbrev pub seat : World → ℕ → Seat
+abbrev pub seat : World → ℕ → LobbyEntry
 seat w id = slice_index_or w.seats id Absent
 
 abbrev pub with_processor : World → ℕ → Processor → World
@@ -35,7 +35,7 @@ with_processor w cpu p = record w { processors = slice_set w.processors cpu p }
 abbrev pub with_inbox : World → ℕ → List Task → World
 with_inbox w cpu tasks = record w { inboxes = slice_set w.inboxes cpu tasks }
 
-abbrev pub with_seats : World → List Seat → World
+abbrev pub with_seats : World → List LobbyEntry → World
 with_seats w seats = record w { seats = seats }
 
 -- the load of each processor

@@ -15,13 +15,13 @@ ghost use Rattle.bq_parts.specs.Processors.{HasEachOnce, HasSeatedIds, size_of};
 ghost use Rattle.bq_parts.specs.Choices.{policies, place_bytes, SettlesPlace, SettlesPreempt, decided_by};
 
 use crate::{By, Carried, Cpu, Hook, Outcome, Scratch};
+use bq_bpf::Board;
 use bq_disc::RunQueue;
 use bq_hooks::place::{Place, place_ctx, wide_place_ctx};
 use bq_hooks::preempt::{Preempt, preempt_ctx};
 use bq_hooks::pull::{Pull, pull_ctx};
 use bq_hooks::{Choice, own_place, settle_place, settle_preempt, settle_pull};
 use bq_interp::{Done, Env};
-use bq_bpf::Board;
 use bq_policies::Version;
 
 impl<T> Outcome<T> {

@@ -1,9 +1,9 @@
 //! Where tasks stand that sleep.
 ghost use Rattle.std.specs.Prelude.{◌≡◌, ◌<◌, false, length, IfOk, replicate, slice_index_or, slice_set};
 ghost use Rattle.bq_parts.specs.Refusals.{is_absent, is_away};
-ghost use Rattle.bq_parts.specs.declared.seat.Seat.TheVariants.{Absent, Blocked, Away};
+ghost use Rattle.bq_parts.specs.declared.lobby_entry.LobbyEntry.TheVariants.{Absent, Blocked, Away};
 
-use crate::{Seat, Unlinked};
+use crate::{LobbyEntry, Unlinked};
 use std::alloc::{AllocError, Global};
 use std::marker::Model;
 
@@ -13,14 +13,14 @@ const SEATS: usize = 1024;
 /// The seat of each id. So a task is found by its id at once.
 #[derive(Drop)]
 pub struct Lobby {
-    seats: Vec<Seat>,
+    seats: Vec<LobbyEntry>,
 }
 
 impl Model for Lobby {
     ghost use Rattle.std.specs.Prelude.{◌≡◌, List, length};
-    ghost use Rattle.bq_parts.specs.declared.seat.Seat.{Seat};
+    ghost use Rattle.bq_parts.specs.declared.lobby_entry.LobbyEntry.{LobbyEntry};
 
-    ghost Value = { List Seat };
+    ghost Value = { List LobbyEntry };
 
     ghost view = { λ l. l.seats.items };
 
@@ -34,7 +34,7 @@ impl Lobby {
     {
         let mut seats = Vec::with_capacity(alloc, SEATS)?;
         'seats: for _ in 0..SEATS {
-            seats.push(Seat::Absent)?;
+            seats.push(LobbyEntry::Absent)?;
         }
         Ok(Lobby { seats })
     }
@@ -44,7 +44,7 @@ impl Lobby {
         requires { id < 1024 }
         ensures { result ≡ is_absent (slice_index_or self.now id Absent) }
     {
-        matches!(self.seats[usize::from(id)], Seat::Absent)
+        matches!(self.seats[usize::from(id)], LobbyEntry::Absent)
     }
 
     /// Whether the task of an id is with a processor.
@@ -52,7 +52,7 @@ impl Lobby {
         requires { id < 1024 }
         ensures { result ≡ is_away (slice_index_or self.now id Absent) }
     {
-        matches!(self.seats[usize::from(id)], Seat::Away)
+        matches!(self.seats[usize::from(id)], LobbyEntry::Away)
     }
 
     /// A task comes to a seat.
@@ -60,7 +60,7 @@ impl Lobby {
         requires { id < 1024 }
         ensures { self.new ≡ slice_set self.old id (Blocked task) }
     {
-        self.seats[usize::from(id)] = Seat::Blocked(task);
+        self.seats[usize::from(id)] = LobbyEntry::Blocked(task);
     }
 
     /// A seat is given up for good.
@@ -68,7 +68,7 @@ impl Lobby {
         requires { id < 1024 }
         ensures { self.new ≡ slice_set self.old id Absent }
     {
-        self.seats[usize::from(id)] = Seat::Absent;
+        self.seats[usize::from(id)] = LobbyEntry::Absent;
     }
 
     /// The sleeping task of a seat goes to a processor.
@@ -79,9 +79,9 @@ impl Lobby {
         ensures task { slice_index_or self.old id Absent ≡ Blocked result }
         ensures seats { self.new ≡ slice_set self.old id Away }
     {
-        match std::mem::replace(&mut self.seats[usize::from(id)], Seat::Away) {
-            Seat::Blocked(task) => task,
-            Seat::Absent | Seat::Away => unreachable!(),
+        match std::mem::replace(&mut self.seats[usize::from(id)], LobbyEntry::Away) {
+            LobbyEntry::Blocked(task) => task,
+            LobbyEntry::Absent | LobbyEntry::Away => unreachable!(),
         }
     }
 }

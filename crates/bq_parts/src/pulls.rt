@@ -11,8 +11,8 @@ ghost use Rattle.bq_parts.specs.Moves.{taken_from, without_task, with_pulled, st
 ghost use Rattle.bq_parts.specs.Shares.{Pulls};
 
 use crate::{Cpu, Outcome, Reply, Scratch};
-use bq_disc::RunQueue;
 use bq_bpf::Board;
+use bq_disc::RunQueue;
 
 impl<Q: RunQueue> Cpu<Q> {
     /// The processor takes a task from the queue of another: the one that its policy names, or that of the discipline,

@@ -10,8 +10,8 @@ ghost use Rattle.bq_parts.specs.Shares.{Admits, Blocks, Drains, Retires, Ticks};
 
 use crate::arguments::allowed;
 use crate::{Cpu, Event, Inbox, Lobby, Refusal, Reply, Scratch, Unlinked};
-use bq_disc::{Node, RunQueue};
 use bq_bpf::Board;
+use bq_disc::{Node, RunQueue};
 use std::alloc::{AllocError, Global};
 
 /// A task as it is admitted among so many processors. It takes memory for the task.

@@ -7,8 +7,8 @@ ghost use Rattle.bq_parts.specs.Choices.{policies};
 ghost use Rattle.bq_parts.specs.Shares.{Begins, Installs, Places};
 
 use crate::{By, Carried, Cpu, Hook, Installed, Loads, Lobby, Refusal, Reply, Scratch, Unlinked};
-use bq_disc::RunQueue;
 use bq_bpf::Board;
+use bq_disc::RunQueue;
 
 /// A task that left a hand, and where it goes: to a processor that a policy chose in so many steps, or the discipline.
 #[derive(Drop)]

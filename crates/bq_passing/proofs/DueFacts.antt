@@ -16,7 +16,7 @@ use Rattle.bq_parts.specs.declared.reply.Reply.TheVariants.{Blocked as Went, Pul
 use Rattle.bq_parts.specs.declared.refusal.Refusal.{Refusal}
 use Rattle.bq_parts.specs.Moves.{taken_from}
 use Rattle.bq_parts.specs.World.{World, inbox}
-use Rattle.bq_parts.specs.Choices.{policies, Settled}
+use Rattle.bq_parts.specs.Choices.{policies, Decision}
 use Rattle.bq_parts.specs.Steps.{WorldStep}
 use Rattle.bq_passing.specs.Seen.{running_at, entry, begins, own_steps, leaving, steps_at}
 
@@ -74,7 +74,7 @@ event_due at w w' (Block cpu now) calls (Ok r) h =
     (either_due (own_steps eevdf w (Block cpu now) (Went h.1.2.0.id (id_of h.1.0.running.current))) [] (at == cpu) tt tt)
 event_due at w w' (Pull cpu from now) calls (Ok r) h =
     let c = charge eevdf (running_at w cpu) now in
-    let settled : Settled = h.1.2.0 in
+    let settled : Decision = h.1.2.0 in
     let task = task_numbered settled.choice in
     subst (λ x. EntersDue (steps_at eevdf at w (Pull cpu from now) (Ok x))) (sym h.1.2.1.2)
     (either_due (own_steps eevdf w (Pull cpu from now) (Moved task (id_of h.1.0.running.current) settled.by settled.steps)) (cond (at == from) (leaving task) []) (at == cpu)

@@ -18,7 +18,7 @@ use Rattle.bq_parts.specs.Processors.{count_of, HasEachOnce}
 use Rattle.bq_parts.specs.Moves.{taken_from}
 use Rattle.bq_parts.specs.World.{World, processor, inbox, count_in}
 use Rattle.bq_parts.specs.StandsOnce.{IsOrderly}
-use Rattle.bq_parts.specs.Choices.{policies, Settled}
+use Rattle.bq_parts.specs.Choices.{policies, Decision}
 use Rattle.bq_parts.specs.Steps.{WorldStep}
 use Rattle.bq_parts.proofs.Counts.{one, one_self, count_of-append, count_of-place, count_of-without, queue_le_present, with_id-absent, keeps_charge}
 use Rattle.bq_parts.proofs.Once.{each_once_runnable, each_once_two}
@@ -116,7 +116,7 @@ event_new d P k at w w' (Pull cpu from now) calls (Ok r) o s h =
     let source = marked d (running_at w from) in
     let apart = pulls_apart w cpu from now h.0 in
     let there : Holds P source = record { current = (s.running from).current; queue = (s.running from).queue } in
-    let settled : Settled = h.1.2.0 in
+    let settled : Decision = h.1.2.0 in
     let task = task_numbered settled.choice in
     let taken = taken_from source task in
     subst (λ x. EachEntersNew d (running_at w at) (steps_at d at w (Pull cpu from now) (Ok x))) (sym h.1.2.1.2)

@@ -22,11 +22,11 @@ use Rattle.bq_parts.specs.declared.reply.Reply.{Reply}
 use Rattle.bq_parts.specs.declared.reply.Reply.TheVariants.{Ticked, Blocked as Went}
 use Rattle.bq_parts.specs.declared.refusal.Refusal.{Refusal}
 use Rattle.bq_parts.specs.declared.refusal.Refusal.TheVariants as no
-use Rattle.bq_parts.specs.declared.seat.Seat.{Seat}
+use Rattle.bq_parts.specs.declared.lobby_entry.LobbyEntry.{LobbyEntry}
 use Rattle.bq_parts.specs.Processors.{Processor, opening}
 use Rattle.bq_parts.specs.Refusals.{first_refusal, either}
 use Rattle.bq_parts.specs.World.{World, processor, count_in, with_processor}
-use Rattle.bq_parts.specs.Choices.{Setting, Settled, SettlesBy, SettlesPreempt, policies}
+use Rattle.bq_parts.specs.Choices.{Regime, Decision, SettlesBy, SettlesPreempt, policies}
 use Rattle.bq_parts.specs.Shares.{Ticks, Blocks, after_time}
 use Rattle.bq_parts.specs.Steps.{WorldStep}
 use Rattle.bq_passing.specs.Passing.{after_tick, after_block, DisciplinePasses, CfsPasses}
@@ -38,9 +38,9 @@ own_by_test true permitted r0 own e h = let it = rw e at h in cc
 own_by_test false permitted r0 own e h = rw e refl
 
 -- a choice that was the discipline's own is its own
-own_choice : (s : Setting) (policy : Option Accepted) (context : Version → List ℕ) (program : Program) (now cpu : ℕ) (permitted : ℕ → Bool) (own : ℕ) (settled : Settled) →
+own_choice : (s : Regime) (policy : Option Accepted) (context : Version → List ℕ) (program : Program) (now cpu : ℕ) (permitted : ℕ → Bool) (own : ℕ) (settled : Decision) →
     SettlesBy s policy context program now cpu permitted own settled → settled.by ≡ who.Discipline → settled.choice ≡ own
-own_choice s None context program now cpu permitted own settled h e = ap (λ (x : Settled). x.choice) h
+own_choice s None context program now cpu permitted own settled h e = ap (λ (x : Decision). x.choice) h
 own_choice s (Some policy) context program now cpu permitted own settled h e = h.4 ∙ own_by_test (permitted h.0) permitted h.0 own refl (sym h.5 ∙ e)
 
 as_bool : (b : Bool) → (as_number b == 1) ≡ b
@@ -48,7 +48,7 @@ as_bool true = refl
 as_bool false = refl
 
 -- who runs after it is by the own answer
-pub own_decision : (s : Setting) (cpu : ℕ) (p : Processor) (o : Option Task) (settled : Settled) → SettlesPreempt s cpu p o settled → settled.by ≡ who.Discipline →
+pub own_decision : (s : Regime) (cpu : ℕ) (p : Processor) (o : Option Task) (settled : Decision) → SettlesPreempt s cpu p o settled → settled.by ≡ who.Discipline →
     decided s.discipline p.running o (settled.choice == 1) ≡ decided s.discipline p.running o (own_preempt s.discipline p.running.queue o)
 own_decision s cpu p None settled h e = refl
 own_decision s cpu p (Some u) settled h e =
@@ -65,7 +65,7 @@ tick_share_leaves d p q cpu now calls run steps h =
     let by : h.0.by ≡ who.Discipline = let it = h.3 in cc in
     ap (λ (x : Processor). x.running) h.1.1 ∙ own_decision (policies d) cpu c c.running.current h.0 h.1.0 by
 
-block_share_leaves : (d : Discipline) (p q : Processor) (cpu now : ℕ) (seats seats' : List Seat) (reply : Reply) →
+block_share_leaves : (d : Discipline) (p q : Processor) (cpu now : ℕ) (seats seats' : List LobbyEntry) (reply : Reply) →
     Blocks d cpu now p seats (Ok reply) q seats' → q.running ≡ after_block d p.running now
 block_share_leaves d p q cpu now seats seats' reply h = ap (λ (x : Processor). x.running) h.1.1
 

@@ -26,12 +26,12 @@ use Rattle.bq_parts.specs.declared.reply.Reply.TheVariants.{Admitted, Retired, D
 use Rattle.bq_parts.specs.declared.refusal.Refusal.{Refusal}
 use Rattle.bq_parts.specs.declared.refusal.Refusal.TheVariants as no
 use Rattle.bq_parts.specs.Processors.{Processor, opening}
-use Rattle.bq_parts.specs.declared.seat.Seat.{Seat}
+use Rattle.bq_parts.specs.declared.lobby_entry.LobbyEntry.{LobbyEntry}
 use Rattle.bq_parts.specs.Refusals.{either, argument_refusal, refusal}
 use Rattle.bq_parts.specs.World.{World, processor, inbox, seat, count_in, with_processor}
 use Rattle.bq_parts.specs.Moves.{after_leaving, taken_from, without_task, with_pulled, started_if_idle}
 use Rattle.bq_parts.specs.StandsOnce.{IsOrderly}
-use Rattle.bq_parts.specs.Choices.{policies, Settled, own_pull, decided_by}
+use Rattle.bq_parts.specs.Choices.{policies, Decision, own_pull, decided_by}
 use Rattle.bq_parts.specs.Shares.{Ticks, Drains, Blocks, Pulls, after_time, remarked}
 use Rattle.bq_parts.specs.Steps.{WorldStep}
 use Rattle.bq_parts.proofs.Counts.{each_once_queue, HasDistinctIds-from_counts}
@@ -80,7 +80,7 @@ distinct_at w cpu o = HasDistinctIds-from_counts (present_at (running_at w cpu))
 tick_seen : (d : Discipline) (at cpu now : ℕ) (p q : Processor) (calls : List Asked) (r : Reply) → Ticks (policies d) cpu now p calls r q → DecidesAlone at (Tick cpu now) (Ok r) →
     at ≡ cpu → q.running ≡ after d p.running (Pass now ∷ Decide ∷ [])
 tick_seen d at cpu now p q calls r h alone same =
-    let settled : Settled = h.0 in
+    let settled : Decision = h.0 in
     let own = subst (λ x. DecidesAlone at (Tick cpu now) (Ok x)) h.3 alone same in
     let c = after_time d now p in
     ap (λ (x : Processor). x.running) h.1.1 ∙ own_decision (policies d) cpu c c.running.current settled h.1.0 own
@@ -88,13 +88,13 @@ tick_seen d at cpu now p q calls r h alone same =
 drain_seen : (d : Discipline) (at cpu now : ℕ) (p q : Processor) (tasks : List Task) (calls : List Asked) (r : Reply) → Drains (policies d) cpu now p tasks calls r q → DecidesAlone at (Drain cpu now) (Ok r) →
     at ≡ cpu → q.running ≡ after d p.running (Pass now ∷ entries d (charge d p.running now).kept tasks)
 drain_seen d at cpu now p q tasks calls r h alone same =
-    let settled : Settled = h.0 in
+    let settled : Decision = h.0 in
     let own = subst (λ x. DecidesAlone at (Drain cpu now) (Ok x)) h.3 alone same in
     let c = after_time d now p in
     let e = record c { running = enter_all d c.running tasks } in
     ap (λ (x : Processor). x.running) h.1.1 ∙ own_decision (policies d) cpu e e.running.current settled h.1.0 own ∙ events_are_steps.drain d p.running now tasks
 
-block_seen : (d : Discipline) (w : World) (cpu now : ℕ) (q : Processor) (seats : List Seat) (r : Reply) → IsOrderly w → Blocks d cpu now (processor w cpu) w.seats (Ok r) q seats →
+block_seen : (d : Discipline) (w : World) (cpu now : ℕ) (q : Processor) (seats : List LobbyEntry) (r : Reply) → IsOrderly w → Blocks d cpu now (processor w cpu) w.seats (Ok r) q seats →
     q.running ≡ after d (running_at w cpu) (own_steps d w (Block cpu now) r)
 block_seen d w cpu now q seats r o h =
     let t : Task = h.0 in
@@ -146,7 +146,7 @@ pull_seen : (d : Discipline) (at : ℕ) (w : World) (cpu from now : ℕ) (q othe
     Pulls (policies d) cpu from now (processor w cpu) (processor w from) calls r q other →
     running_at (with_processor (with_processor w cpu q) from other) at ≡ after d (running_at w at) (steps_at d at w (Pull cpu from now) (Ok r))
 pull_seen d at w cpu from now q other calls r o l apart h =
-    let settled : Settled = h.0 in
+    let settled : Decision = h.0 in
     let task = task_numbered settled.choice in
     let c = after_time d now (processor w cpu) in
     let source = remarked d (processor w from) in

@@ -11,8 +11,8 @@ use Rattle.bq_disc.specs.Discipline.{Discipline, charged, woken, pulled, left_at
 use Rattle.bq_disc.specs.OneProcessor.{Running, present_at, reading, charge, run_id, start, exchanged, switched, decided, entered, enter_all}
 use Rattle.bq_bpf.specs.declared.board.Call.{Call as Asked}
 use Rattle.bq_parts.specs.declared.carried.Carried.{Carried}
-use Rattle.bq_parts.specs.declared.seat.Seat.{Seat}
-use Rattle.bq_parts.specs.declared.seat.Seat.TheVariants.{Absent, Blocked, Away}
+use Rattle.bq_parts.specs.declared.lobby_entry.LobbyEntry.{LobbyEntry}
+use Rattle.bq_parts.specs.declared.lobby_entry.LobbyEntry.TheVariants.{Absent, Blocked, Away}
 use Rattle.bq_parts.specs.declared.event.Event.{Event}
 use Rattle.bq_parts.specs.declared.event.Event.TheVariants as event
 use Rattle.bq_parts.specs.declared.reply.Reply.{Reply}
@@ -20,7 +20,7 @@ use Rattle.bq_parts.specs.declared.refusal.Refusal.TheVariants as no
 use Rattle.bq_parts.specs.Processors.{Processor, opening}
 use Rattle.bq_parts.specs.Refusals.{refusal, argument_refusal, out_of_nice}
 use Rattle.bq_parts.specs.World.{World, opening_world, processor, inbox, seat, count_in, with_processor, with_inbox, with_seats}
-use Rattle.bq_parts.specs.Choices.{Setting, Settled, decided_by}
+use Rattle.bq_parts.specs.Choices.{Regime, Decision, decided_by}
 use Rattle.bq_parts.specs.Moves.{taken_from, without_task, with_pulled, started_if_idle, admitted}
 use Rattle.bq_parts.specs.Shares.{Decides, after_time, remarked}
 use Rattle.bq_parts.specs.Steps.{Performs}
@@ -160,12 +160,12 @@ sound_inbox : (P : Task → Type 0) (w : World) (cpu : ℕ) (tasks : List Task) 
 sound_inbox P w cpu tasks s h =
     record { running = s.running; hand = s.hand; placed = at_set (λ n (ts : List Task). Each HasWeight ts) w.inboxes cpu tasks [] h s.placed; lobby = s.lobby }
 
-abbrev SeatIsSound : Seat → Type 0
+abbrev SeatIsSound : LobbyEntry → Type 0
 SeatIsSound x = (t : Task) → x ≡ Blocked t → HasWeight t
 
-sound_seat : (P : Task → Type 0) (w : World) (id : ℕ) (x : Seat) → IsSoundWorld P w → SeatIsSound x → IsSoundWorld P (with_seats w (set w.seats id x))
+sound_seat : (P : Task → Type 0) (w : World) (id : ℕ) (x : LobbyEntry) → IsSoundWorld P w → SeatIsSound x → IsSoundWorld P (with_seats w (set w.seats id x))
 sound_seat P w id x s h =
-    record { running = s.running; hand = s.hand; placed = s.placed; lobby = at_set (λ n (y : Seat). SeatIsSound y) w.seats id x Absent h s.lobby }
+    record { running = s.running; hand = s.hand; placed = s.placed; lobby = at_set (λ n (y : LobbyEntry). SeatIsSound y) w.seats id x Absent h s.lobby }
 
 sound_drawn : (P : Task → Type 0) (w : World) (n : ℕ) → IsSoundWorld P w → IsSoundWorld P (record w { drawn = n })
 sound_drawn P w n s = record { running = s.running; hand = s.hand; placed = s.placed; lobby = s.lobby }
@@ -189,17 +189,17 @@ nice_weight (negsuc n) e = weight_there weights (19 - n) all_weights (omega arit
 
 -- Each event
 
-decides_holds : (s : Setting) (P : Task → Type 0) (cpu : ℕ) (p : Processor) (settled : Settled) (q : Processor) → Decides s cpu p settled q → Holds P p.running → Holds P q.running
+decides_holds : (s : Regime) (P : Task → Type 0) (cpu : ℕ) (p : Processor) (settled : Decision) (q : Processor) → Decides s cpu p settled q → Holds P p.running → Holds P q.running
 decides_holds s P cpu p settled q h k = rw h.1 (holds_decided s.discipline P p.running p.running.current (settled.choice == 1) refl k)
 
-decides_hand : (s : Setting) (cpu : ℕ) (p : Processor) (settled : Settled) (q : Processor) → Decides s cpu p settled q → HandIsSound p → HandIsSound q
+decides_hand : (s : Regime) (cpu : ℕ) (p : Processor) (settled : Decision) (q : Processor) → Decides s cpu p settled q → HandIsSound p → HandIsSound q
 decides_hand s cpu p settled q h k = rw h.1 k
 
 held_task : (x c : Carried) → Some x ≡ Some c → x.task ≡ c.task
 held_task x c e = let same : x ≡ c = cc in ap (λ (y : Carried). y.task) same
 
 -- an event that is not refused keeps a world sound
-pub performs_sound : (s : Setting) (P : Task → Type 0) → IsKept s.discipline P → (w : World) (e : Event) (calls : List Asked) (r : Reply) (w' : World) → IsSoundWorld P w → refusal w e ≡ None → Performs s w e calls r w' → IsSoundWorld P w'
+pub performs_sound : (s : Regime) (P : Task → Type 0) → IsKept s.discipline P → (w : World) (e : Event) (calls : List Asked) (r : Reply) (w' : World) → IsSoundWorld P w → refusal w e ≡ None → Performs s w e calls r w' → IsSoundWorld P w'
 performs_sound s P k w (event.Admit id nice mask slice) calls r w' y free h =
     let arguments = by_arguments (argument_refusal (count_in w) (event.Admit id nice mask slice)) _ free in
     let f = passed (out_of_nice nice) no.Nice _ (passed (mask % 2 ^ count_in w == 0) no.EmptyMask _ (passed (nat_le 1024 id) no.NoTask _ arguments).1).1 in
@@ -265,5 +265,5 @@ opening_sound P count = record {
   running = λ cpu. rw (same_everywhere {X = Processor} opening count cpu) (record { current = λ t e. cc; queue = tt });
   hand = λ cpu c e. let none : None ≡ Some c = sym (ap (λ (p : Processor). p.hand) (same_everywhere {X = Processor} opening count cpu)) ∙ e in cc;
   placed = λ cpu. rw (same_everywhere {X = List Task} [] count cpu) tt;
-  lobby = λ id t e. let none : Absent ≡ Blocked t = sym (same_everywhere {X = Seat} Absent 1024 id) ∙ e in cc;
+  lobby = λ id t e. let none : Absent ≡ Blocked t = sym (same_everywhere {X = LobbyEntry} Absent 1024 id) ∙ e in cc;
 }

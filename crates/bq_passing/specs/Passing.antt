@@ -11,7 +11,7 @@ use Rattle.bq_parts.specs.declared.reply.Reply.{Reply}
 use Rattle.bq_parts.specs.declared.reply.Reply.TheVariants.{Ticked, Blocked as Went}
 use Rattle.bq_parts.specs.declared.refusal.Refusal.{Refusal}
 use Rattle.bq_parts.specs.World.{World, processor, count_in}
-use Rattle.bq_parts.specs.declared.seat.Seat.{Seat}
+use Rattle.bq_parts.specs.declared.lobby_entry.LobbyEntry.{LobbyEntry}
 use Rattle.bq_parts.specs.Processors.{Processor}
 use Rattle.bq_parts.specs.Choices.{policies}
 use Rattle.bq_parts.specs.Shares.{Ticks, Blocks}
@@ -30,7 +30,7 @@ after_block d p now = start d (record (charge d p now) { current = None })
 pub record DisciplinePasses : Type 0 where
   pub tick_share : (d : Discipline) (p q : Processor) (cpu now : ℕ) (calls : List Asked) (run : Option ℕ) (steps : ℕ) →
       Ticks (policies d) cpu now p calls (Ticked run who.Discipline steps) q → q.running ≡ after_tick d p.running now
-  pub block_share : (d : Discipline) (p q : Processor) (cpu now : ℕ) (seats seats' : List Seat) (reply : Reply) →
+  pub block_share : (d : Discipline) (p q : Processor) (cpu now : ℕ) (seats seats' : List LobbyEntry) (reply : Reply) →
       Blocks d cpu now p seats (Ok reply) q seats' → q.running ≡ after_block d p.running now
   pub tick : (d : Discipline) (w w' : World) (cpu now : ℕ) (calls : List Asked) (run : Option ℕ) (steps : ℕ) →
       WorldStep (policies d) w (Tick cpu now) calls (Ok (Ticked run who.Discipline steps)) w' → (processor w' cpu).running ≡ after_tick d (processor w cpu).running now

@@ -9,8 +9,8 @@ ghost use Rattle.bq_policies.specs.Standing.{WasAnswered};
 ghost use Rattle.bq_policies.specs.Programs.{no_programs, at_hook, with_program, IsFor};
 
 use crate::{Hook, Installed, Scratch, Version};
-use bq_interp::{Done, Env};
 use bq_bpf::Board;
+use bq_interp::{Done, Env};
 use std::marker::Model;
 
 /// What stands at each hook of a processor: nothing that was verified for another hook.

@@ -9,10 +9,9 @@ ghost use Rattle.bq_policies.specs.Standing.{IsEquipped, WasAnswered};
 ghost use Rattle.bq_policies.specs.Programs.{no_program};
 
 use crate::{Policy, Scratch};
+use bq_bpf::{Board, Version};
 use bq_interp::{Done, Env, run_into};
-use bq_bpf::Board;
 use bq_maps::Maps;
-use bq_bpf::Version;
 use std::alloc::{AllocError, Global};
 use std::marker::Model;
 

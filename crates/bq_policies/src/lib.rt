@@ -10,8 +10,8 @@ pub mod policy;
 mod same;
 pub mod scratch;
 
-pub use bq_interp::{Done, Env};
 pub use bq_bpf::{Hook, Version};
+pub use bq_interp::{Done, Env};
 pub use bq_verify::Verified;
 pub use hooks::Hooks;
 pub use installed::Installed;

@@ -1,8 +1,8 @@
 //! Whether two programs are the same, instruction by instruction.
 ghost use Rattle.std.specs.Prelude.{◌≡◌, ◌↔◌, IsTrue};
 
-use bq_insn::{Insn, Source};
 use bq_bpf::MapShape;
+use bq_insn::{Insn, Source};
 
 /// Whether both lists have the same instructions in the same slots.
 pub(crate) fn same_slots(slots: &[Option<Insn>], other: &[Option<Insn>]) -> bool

@@ -2,8 +2,8 @@
 ghost use Rattle.std.specs.Prelude.{◌≡◌, ◌≤◌, [], length};
 
 use arrayvec::ArrayVec;
-use bq_interp::Stack;
 use bq_bpf::Call;
+use bq_interp::Stack;
 use std::marker::Model;
 
 /// A stack for policies to run on, and the calls of counters of the run that was the last. One serves any number of runs

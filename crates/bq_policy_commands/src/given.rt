@@ -6,8 +6,8 @@ ghost use Rattle.bq_bpf.specs.Hooks.{hook_of, version_of};
 
 use crate::asm_options::maps_option_words;
 use crate::words::PolicyWords;
-use bq_load::{Hook, Version};
 use bq_bpf::MapShape;
+use bq_load::{Hook, Version};
 use bq_policy_files::Head;
 use bq_program::shapes_of;
 use std::alloc::{AllocError, Global};

@@ -6,8 +6,8 @@ ghost use Rattle.bq_policy_commands.specs.Judging.{TellsWord};
 ghost use Rattle.bq_bpf.specs.Hooks.{context_length_of};
 ghost use Rattle.bq_bpf.specs.declared.hook.Version.{Version};
 
-use bq_one_run::{Word, word_on};
 use bq_bpf::Hook;
+use bq_one_run::{Word, word_on};
 use byteorder::{ByteOrder, LittleEndian};
 use std::alloc::{AllocError, Global};
 

@@ -4,8 +4,8 @@ ghost use Rattle.std.specs.Option.{ForSome};
 
 use crate::fault::{HeadCause, HeadFault, refusal};
 use crate::mark::{Key, Mark, mark_of};
-use bq_load::{Hook, Version};
 use bq_bpf::MapShape;
+use bq_load::{Hook, Version};
 use bq_program::shapes_of;
 use std::alloc::Global;
 

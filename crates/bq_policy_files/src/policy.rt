@@ -2,9 +2,9 @@
 ghost use Rattle.std.specs.Prelude.{◌≡◌, ◌≤◌, length, true};
 ghost use Rattle.bq_insn.specs.Spelling.{is_well_formed};
 
+use bq_bpf::MapShape;
 use bq_insn::Insn;
 use bq_load::{Hook, Version};
-use bq_bpf::MapShape;
 
 /// A program with the choice that it makes and the shapes of its maps.
 #[derive(Debug, Drop)]

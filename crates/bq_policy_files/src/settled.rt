@@ -6,8 +6,8 @@ ghost use Rattle.bq_policy_files.specs.Settled.{IsUnsettled};
 use crate::fault::PolicyFault;
 use crate::head::Head;
 use crate::mark::Key;
-use bq_load::{Hook, Version};
 use bq_bpf::MapShape;
+use bq_load::{Hook, Version};
 use std::alloc::Global;
 
 /// The hook, the shapes of the maps and the version.

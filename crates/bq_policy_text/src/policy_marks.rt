@@ -2,8 +2,8 @@
 ghost use Rattle.std.specs.Prelude.{◌≡◌, IfOk, string_bytes};
 ghost use Rattle.bq_policy_text.specs.Marks.{AreMarks, format_mark, maps_mark, more_maps};
 
-use bq_load::Version;
 use bq_bpf::MapShape;
+use bq_load::Version;
 use bq_policy_files::Policy;
 use std::alloc::{AllocError, Global};
 

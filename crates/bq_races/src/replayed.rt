@@ -2,10 +2,10 @@
 ghost use Rattle.std.specs.Prelude.{◌≤◌};
 
 use bq_alike::{event_again, is_same_answer};
+use bq_bpf::Call;
 use bq_core::{Board, Core, Event, Hook, Plain};
 use bq_disc::RunQueue;
 use bq_machine::Closed;
-use bq_bpf::Call;
 use bq_trace::shows::write_processor;
 use std::alloc::Global;
 use std::test::Fail;

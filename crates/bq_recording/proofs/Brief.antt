@@ -3,7 +3,7 @@ use Rattle.std.proofs.Common.{◌≡◌, ℕ, List, Result, Ok, Err, false, refl
 use Rattle.bq_alike.specs.Brief.{has_loads}
 use Rattle.bq_disc.specs.Tasks.{Task}
 use Rattle.bq_disc.specs.Discipline.{Discipline}
-use Rattle.bq_parts.specs.declared.seat.Seat.{Seat}
+use Rattle.bq_parts.specs.declared.lobby_entry.LobbyEntry.{LobbyEntry}
 use Rattle.bq_parts.specs.declared.reply.Reply.{Reply}
 use Rattle.bq_parts.specs.declared.refusal.Refusal.{Refusal}
 use Rattle.bq_parts.specs.Processors.{Processor}
@@ -11,15 +11,15 @@ use Rattle.bq_parts.specs.Shares.{Admits, Retires, Blocks, Installs}
 use Rattle.bq_policies.specs.Programs.{Program}
 use Rattle.bq_bpf.specs.declared.hook.Hook.{Hook}
 
-pub admits_brief : (id : ℕ) (t : Task) (seats : List Seat) (a : Result Reply Refusal) (seats' : List Seat) → Admits id t seats a seats' → has_loads a ≡ false
+pub admits_brief : (id : ℕ) (t : Task) (seats : List LobbyEntry) (a : Result Reply Refusal) (seats' : List LobbyEntry) → Admits id t seats a seats' → has_loads a ≡ false
 admits_brief id t seats (Ok r) seats' s = ap (λ (x : Reply). has_loads (Ok x)) s.1
 admits_brief id t seats (Err e) seats' s = refl
 
-pub retires_brief : (id : ℕ) (seats : List Seat) (a : Result Reply Refusal) (seats' : List Seat) → Retires id seats a seats' → has_loads a ≡ false
+pub retires_brief : (id : ℕ) (seats : List LobbyEntry) (a : Result Reply Refusal) (seats' : List LobbyEntry) → Retires id seats a seats' → has_loads a ≡ false
 retires_brief id seats (Ok r) seats' s = ap (λ (x : Reply). has_loads (Ok x)) s.1
 retires_brief id seats (Err e) seats' s = refl
 
-pub blocks_brief : (d : Discipline) (cpu now : ℕ) (p : Processor) (seats : List Seat) (a : Result Reply Refusal) (q : Processor) (seats' : List Seat) → Blocks d cpu now p seats a q seats' → has_loads a ≡ false
+pub blocks_brief : (d : Discipline) (cpu now : ℕ) (p : Processor) (seats : List LobbyEntry) (a : Result Reply Refusal) (q : Processor) (seats' : List LobbyEntry) → Blocks d cpu now p seats a q seats' → has_loads a ≡ false
 blocks_brief d cpu now p seats (Ok r) q seats' s = ap (λ (x : Reply). has_loads (Ok x)) s.1.2
 blocks_brief d cpu now p seats (Err e) q seats' s = refl
 

@@ -11,7 +11,7 @@ use Rattle.bq_parts.specs.declared.event.Event.TheVariants.{Admit, Retire, Draw,
 use Rattle.bq_parts.specs.declared.reply.Reply.{Reply}
 use Rattle.bq_parts.specs.declared.refusal.Refusal.{Refusal}
 use Rattle.bq_sizes.specs.declared.rule.Rule.{Rule}
-use Rattle.bq_sizes.specs.declared.size.Size.{Size}
+use Rattle.bq_sizes.specs.declared.processor_count.ProcessorCount.{ProcessorCount}
 use Rattle.bq_lines.specs.Kept.{IsOneLine}
 use Rattle.bq_lines.specs.Lines.{reading_of}
 use Rattle.bq_lines.specs.declared.command.Command.TheVariants as asks
@@ -27,16 +27,16 @@ use Rattle.bq_spelling.proofs.LineLaws.{are_lines, events_are_read, machines_are
 use Rattle.bq_trace.specs.Bare.{bare}
 use Rattle.bq_trace.specs.Counts.{one_more}
 use Rattle.bq_trace.specs.Doing.{DoesAndAnswers}
-use Rattle.bq_trace.specs.Machines.{Machine as Driven, opening_machine}
+use Rattle.bq_trace.specs.Machines.{Driven, opening_machine}
 use Rattle.bq_trace.specs.Texts.{event_line}
 use Rattle.bq_trace.specs.Feeding.{with_feeds}
 use Rattle.bq_trace.specs.News.{Told, texts}
 use Rattle.bq_trace.specs.Telling.{Happens}
-use Rattle.bq_trace.specs.Trace.{Answers as AnswersIn, AnswersLine, Chain, start}
+use Rattle.bq_trace.specs.Trace.{Answers as AnswersIn, AnswersLine, AnswersAll, start}
 use Rattle.bq_trace.specs.declared.progress.Phase.{Phase}
 use Rattle.bq_trace.specs.declared.progress.Phase.TheVariants.{Waiting, Running}
 use Rattle.bq_trace.specs.declared.progress.Progress.{Progress}
-use Rattle.bq_trace.proofs.ChainLemmas.{Chain-append, lines-with_feeds}
+use Rattle.bq_trace.proofs.ChainLemmas.{AnswersAll-append, lines-with_feeds}
 use Rattle.bq_trace.proofs.TakingLemmas.{texts-append}
 use Rattle.bq_driver.specs.Drives.{Does, Drives}
 use Rattle.bq_driver.specs.declared.driver.Driver.{Driver}
@@ -58,14 +58,14 @@ line_says line text reading p q n is h = record {
 }
 
 -- comments are skipped
-skips : (comments : List (List ℕ)) (n : ℕ) → AllByRecursion IsComment comments → (m : ℕ) × Chain (after Waiting n) comments [] (after Waiting m)
+skips : (comments : List (List ℕ)) (n : ℕ) → AllByRecursion IsComment comments → (m : ℕ) × AnswersAll (after Waiting n) comments [] (after Waiting m)
 skips [] n h = (n, (refl, refl))
 skips (line ∷ comments) n h =
     let more = skips comments (one_more n) h.1 in
     (more.0, (after Waiting (one_more n), [], [], line_says line [] says.Skipped Waiting Waiting n h.0.says (refl, refl, refl), more.1, refl))
 
 -- a machine is made
-opens : (rule : Rule) (size : Size) (n : ℕ) → AnswersLine (after Waiting n) (machine_line rule size) [] (after (Running (opening_machine rule size)) (one_more n))
+opens : (rule : Rule) (size : ProcessorCount) (n : ℕ) → AnswersLine (after Waiting n) (machine_line rule size) [] (after (Running (opening_machine rule size)) (one_more n))
 opens rule size n = line_says (machine_line rule size) [] _ Waiting (Running (opening_machine rule size)) n (machines_are_read rule size) (refl, refl, refl)
 
 -- an event that happens is done and answered
@@ -176,7 +176,7 @@ AreFitting-parts ((n, x) ∷ xs) ys h = let parts = AreFitting-parts xs ys h.1 i
 -- what the lines of events that are done one after another leave
 record Goes (images : ByHook) (d e : Driver) (told : Told) (n : ℕ) : Type 0 where
   last : ℕ
-  chain : Chain (after (Running d.machine) n) (told_lines images told) (texts told) (after (Running e.machine) last)
+  chain : AnswersAll (after (Running d.machine) n) (told_lines images told) (texts told) (after (Running e.machine) last)
   whole : AllByRecursion IsWholeLine (told_lines images told)
 
 goes_nowhere : (images : ByHook) (d e : Driver) (n : ℕ) → e ≡ d → Goes images d e [] n
@@ -195,7 +195,7 @@ goes_on images d mid e event reply first more n done from fits rest =
     let answers = again images d.machine mid.machine n _ event (Ok reply) first (events_are_read (brought images event) event stands numbers) from done.happens in
     record {
       last = rest.last;
-      chain = subst (λ ls. Chain (after (Running d.machine) n) ls (texts (first ++ more)) (after (Running e.machine) rest.last)) (sym all)
+      chain = subst (λ ls. AnswersAll (after (Running d.machine) n) ls (texts (first ++ more)) (after (Running e.machine) rest.last)) (sym all)
           (after (Running mid.machine) (one_more n), texts first, texts more, answers, rest.chain, texts-append first more);
       whole = subst (AllByRecursion IsWholeLine) (sym all) (are_lines.events (brought images event) event stands numbers, rest.whole);
     }
@@ -234,15 +234,15 @@ texts_are_replayed images comments rule size d e events first more skipped start
     told_lines-append images first more ∙ ap (λ t. told_lines images t ++ told_lines images more) starts.tells in
     let said : texts (first ++ more) ≡ texts more = texts-append first more ∙ ap (λ t. texts t ++ texts more) starts.tells in
     let asks : AllByRecursion IsWholeLine (told_lines images (first ++ more)) = subst (AllByRecursion IsWholeLine) (sym all) (are_lines.machines rule size, rest.whole) in
-    let chain : Chain (after Waiting n) (told_lines images (first ++ more)) (texts (first ++ more)) (after (Running e.machine) rest.last) =
-    subst (λ ls. Chain (after Waiting n) ls (texts (first ++ more)) (after (Running e.machine) rest.last)) (sym all)
+    let chain : AnswersAll (after Waiting n) (told_lines images (first ++ more)) (texts (first ++ more)) (after (Running e.machine) rest.last) =
+    subst (λ ls. AnswersAll (after Waiting n) ls (texts (first ++ more)) (after (Running e.machine) rest.last)) (sym all)
     (after (Running d.machine) (one_more n), [], texts more, opened, rest.chain, said) in
     record {
       trace = record {
         final = after (Running e.machine) rest.last;
-        chain = subst (λ ls. Chain start ls (texts (first ++ more)) (after (Running e.machine) rest.last))
+        chain = subst (λ ls. AnswersAll start ls (texts (first ++ more)) (after (Running e.machine) rest.last))
             (sym (lines_whole (comments ++ told_lines images (first ++ more)) (comments_whole comments (told_lines images (first ++ more)) skipped asks)))
-            (Chain-append start (after Waiting n) (after (Running e.machine) rest.last) comments (told_lines images (first ++ more)) [] (texts (first ++ more)) before chain);
+            (AnswersAll-append start (after Waiting n) (after (Running e.machine) rest.last) comments (told_lines images (first ++ more)) [] (texts (first ++ more)) before chain);
         is_clean = refl;
       };
       machine = refl;

@@ -11,7 +11,7 @@ use Rattle.bq_parts.specs.declared.event.Event.{Event}
 use Rattle.bq_parts.specs.declared.event.Event.TheVariants.{Install}
 use Rattle.bq_retelling.specs.Texts.{AreFitting, ByHook, told_lines}
 use Rattle.bq_sizes.specs.declared.rule.Rule.{Rule}
-use Rattle.bq_sizes.specs.declared.size.Size.{Size}
+use Rattle.bq_sizes.specs.declared.processor_count.ProcessorCount.{ProcessorCount}
 use Rattle.bq_spelling.specs.Laws.{IsWholeLine}
 use Rattle.bq_trace.specs.Feeding.{with_feeds}
 use Rattle.bq_trace.specs.News.{Told, texts}
@@ -46,7 +46,7 @@ pub record Answers (text answers : List ℕ) (d : Driver) : Type 0 where
 -- are a text that is answered by the answers that the events got.
 abbrev pub TextsAreReplayed : Type 0
 TextsAreReplayed =
-    (images : ByHook) (comments : List (List ℕ)) (rule : Rule) (size : Size) (d e : Driver) (events : List Event) (first more : Told)
+    (images : ByHook) (comments : List (List ℕ)) (rule : Rule) (size : ProcessorCount) (d e : Driver) (events : List Event) (first more : Told)
     → AllByRecursion IsComment comments → Starts rule size first d → Drives d events more e
     → AllByRecursion (IsFromImages images) events → AreFitting more
     → Answers (with_feeds (comments ++ told_lines images (first ++ more))) (texts (first ++ more)) e

@@ -7,9 +7,9 @@ ghost use Rattle.bq_retelling.specs.Texts.{Writes, brought, image_at};
 use crate::images::Images;
 use bq_core::{Event, Refusal, Reply};
 use bq_load::LoadFault;
-use bq_sizes::{Rule, Size};
+use bq_sizes::{ProcessorCount, Rule};
 use bq_spelling::{write_event, write_machine};
-use bq_trace::{Machine, Sink};
+use bq_trace::{AnyCore, Sink};
 use std::alloc::{AllocError, Global};
 use std::fmt::Write;
 
@@ -48,7 +48,7 @@ impl<'a> TraceText<'a> {
 impl Sink for TraceText<'_> {
     ghost takes = { λ old n news new. (new.images ≡ old.images) × Writes (image_at old.images) (string_bytes old.text) news (string_bytes new.text) };
 
-    fn opened(&mut self, _number: u64, rule: Rule, size: Size) -> Result<(), AllocError> {
+    fn opened(&mut self, _number: u64, rule: Rule, size: ProcessorCount) -> Result<(), AllocError> {
         write_machine(&mut self.text, rule, size)
     }
 
@@ -59,7 +59,7 @@ impl Sink for TraceText<'_> {
         }
     }
 
-    fn comes(&mut self, _number: u64, event: &Event, _machine: &Machine) -> Result<(), AllocError> {
+    fn comes(&mut self, _number: u64, event: &Event, _machine: &AnyCore) -> Result<(), AllocError> {
         let image = self.brought(event);
         write_event(self.alloc, &mut self.text, event, image)
     }
@@ -69,7 +69,7 @@ impl Sink for TraceText<'_> {
         _number: u64,
         _event: &Event,
         _answer: &Result<Reply, Refusal>,
-        _machine: &Machine,
+        _machine: &AnyCore,
     ) -> Result<(), AllocError> {
         Ok(())
     }
@@ -86,7 +86,7 @@ impl Sink for TraceText<'_> {
         &mut self,
         _number: u64,
         _processor: u8,
-        _machine: &Machine,
+        _machine: &AnyCore,
     ) -> Result<(), AllocError> {
         Ok(())
     }

@@ -18,7 +18,7 @@ use Rattle.bq_parts.specs.Processors.{Processor, opening}
 use Rattle.bq_parts.specs.World.{World, opening_world, processor, count_in, with_processor}
 use Rattle.bq_parts.specs.Refusals.{refusal, argument_refusal, state_refusal, either}
 use Rattle.bq_parts.specs.Moves.{with_pulled, started_if_idle, without_task, taken_from}
-use Rattle.bq_parts.specs.Choices.{Setting}
+use Rattle.bq_parts.specs.Choices.{Regime}
 use Rattle.bq_hooks.specs.Permitted.{task_numbered}
 use Rattle.bq_parts.specs.Shares.{after_time, remarked}
 use Rattle.bq_parts.specs.Steps.{Performs, WorldStep, WorldRun}
@@ -145,7 +145,7 @@ accepted w e h = neither (argument_refusal (count_in w) e) (state_refusal w e) h
 shown_as : (w w' : World) (e : Event) (r x : Reply) → r ≡ x → Shown w w' (sight e x) → Shown w w' (sight e r)
 shown_as w w' e r x h k = rw h k
 
-pub shown-performs : (s : Setting) (w : World) (e : Event) (calls : List Asked) (r : Reply) (w' : World) → refusal w e ≡ None → Performs s w e calls r w' → Shown w w' (sight e r)
+pub shown-performs : (s : Regime) (w : World) (e : Event) (calls : List Asked) (r : Reply) (w' : World) → refusal w e ≡ None → Performs s w e calls r w' → Shown w w' (sight e r)
 shown-performs s w (Admit id nice mask slice) calls r w' h k =
     shown_as w w' (Admit id nice mask slice) r Admitted k.1.1 (like w w w' None (ap (λ (v : World). v.processors) (sym k.3)) (same w))
 shown-performs s w (Retire id) calls r w' h k = shown_as w w' (Retire id) r Retired k.1.1 (like w w w' None (ap (λ (v : World). v.processors) (sym k.3)) (same w))
@@ -211,7 +211,7 @@ within_as : (n : ℕ) (e : Event) (r x : Reply) → r ≡ x → IsWithin n (sigh
 within_as n e r x h k = rw h k
 
 -- an event that is not refused names a processor that is there
-within-performs : (s : Setting) (w : World) (e : Event) (calls : List Asked) (r : Reply) (w' : World) → refusal w e ≡ None → Performs s w e calls r w' → IsWithin (count_in w) (sight e r)
+within-performs : (s : Regime) (w : World) (e : Event) (calls : List Asked) (r : Reply) (w' : World) → refusal w e ≡ None → Performs s w e calls r w' → IsWithin (count_in w) (sight e r)
 within-performs s w (EndWake cpu now) calls r w' h k =
     within_as (count_in w) (EndWake cpu now) r (Placed k.0.task.id k.0.to k.0.by k.0.steps) k.3 (there (count_in w) cpu None (accepted w (EndWake cpu now) h)).0
 within-performs s w (Drain cpu now) calls r w' h k =
@@ -229,7 +229,7 @@ within-performs s w (Install cpu hook g policy) calls r w' h k = within_as (coun
 within-performs s w (BeginWake cpu id) calls r w' h k = within_as (count_in w) (BeginWake cpu id) r (Begun id _) k.2.3 tt
 
 -- each step shows what its answer says, refused or not
-shown-step : (s : Setting) (w : World) (e : Event) (calls : List Asked) (a : Result Reply Refusal) (w' : World) → WorldStep s w e calls a w' → Shown w w' (sight_of e a) × IsWithin (count_in w) (sight_of e a)
+shown-step : (s : Regime) (w : World) (e : Event) (calls : List Asked) (a : Result Reply Refusal) (w' : World) → WorldStep s w e calls a w' → Shown w w' (sight_of e a) × IsWithin (count_in w) (sight_of e a)
 shown-step s w e calls (Ok r) w' k = (shown-performs s w e calls r w' k.0 k.1, within-performs s w e calls r w' k.0 k.1)
 shown-step s w e calls (Err r) w' k = (like w w w' None (ap (λ (v : World). v.processors) (sym k.1)) (same w), tt)
 
@@ -243,7 +243,7 @@ pub record IsTold (count : ℕ) (w : World) (past : History) : Type 0 where
 within_same : (n k : ℕ) (o : Option Sight) → n ≡ k → IsWithin k o → IsWithin n o
 within_same n k o e h = rw e h
 
-told-step : (count : ℕ) (s : Setting) (w : World) (past : History) (e : Event) (calls : List Asked) (a : Result Reply Refusal) (w' : World) → IsTold count w past → WorldStep s w e calls a w' →
+told-step : (count : ℕ) (s : Regime) (w : World) (past : History) (e : Event) (calls : List Asked) (a : Result Reply Refusal) (w' : World) → IsTold count w past → WorldStep s w e calls a w' →
     IsTold count w' (record { event = e; answer = a } ∷ past)
 told-step count s w past e calls a w' t k =
     let h = shown-step s w e calls a w' k in
@@ -254,7 +254,7 @@ told-step count s w past e calls a w' t k =
       who = λ j inside. h.0.who j (rw t.many inside) ∙ ap (λ n. runner_after j n (sight_of e a)) (t.who j inside);
     }
 
-told-run : (count : ℕ) (s : Setting) (w : World) (past : History) (es : List Event) (calls : List (List Asked)) (answers : List (Result Reply Refusal)) (w' : World) → IsTold count w past →
+told-run : (count : ℕ) (s : Regime) (w : World) (past : History) (es : List Event) (calls : List (List Asked)) (answers : List (Result Reply Refusal)) (w' : World) → IsTold count w past →
     WorldRun s w es calls answers w' → IsTold count w' (grown past es answers)
 told-run count s w past [] [] [] w' t k = rw k t
 told-run count s w past (e ∷ es) (c ∷ calls) (a ∷ answers) w' t k =

@@ -9,8 +9,8 @@ use bq_figures::Delay;
 use bq_load::LoadFault;
 use bq_schedule::Schedule;
 use bq_simulate::{SimulateFault, simulate_seed};
-use bq_sizes::{Rule, Size};
-use bq_trace::{Machine, Sink};
+use bq_sizes::{ProcessorCount, Rule};
+use bq_trace::{AnyCore, Sink};
 use std::alloc::{AllocError, Global};
 
 /// A simulation as far as it has come: its schedule, once it has a machine, and each delay from a wake until its task ran.
@@ -38,7 +38,12 @@ impl Gatherer {
 impl Sink for Gatherer {
     ghost takes = { λ old n news new. (new.schedule ≡ schedule_with old.schedule news) × (new.delays.items ≡ old.delays.items ++ delays_with old.schedule news) };
 
-    fn opened(&mut self, _number: u64, _rule: Rule, size: Size) -> Result<(), AllocError> {
+    fn opened(
+        &mut self,
+        _number: u64,
+        _rule: Rule,
+        size: ProcessorCount,
+    ) -> Result<(), AllocError> {
         self.schedule = Some(Schedule::new(self.alloc, size.processors())?);
         Ok(())
     }
@@ -51,7 +56,7 @@ impl Sink for Gatherer {
         &mut self,
         _number: u64,
         _event: &Event,
-        _machine: &Machine,
+        _machine: &AnyCore,
     ) -> Result<(), AllocError> {
         Ok(())
     }
@@ -61,7 +66,7 @@ impl Sink for Gatherer {
         _number: u64,
         event: &Event,
         answer: &Result<Reply, Refusal>,
-        _machine: &Machine,
+        _machine: &AnyCore,
     ) -> Result<(), AllocError> {
         let Some(schedule) = &mut self.schedule else {
             return Ok(());
@@ -90,7 +95,7 @@ impl Sink for Gatherer {
         &mut self,
         _number: u64,
         _processor: u8,
-        _machine: &Machine,
+        _machine: &AnyCore,
     ) -> Result<(), AllocError> {
         Ok(())
     }

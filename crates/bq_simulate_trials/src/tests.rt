@@ -2,12 +2,12 @@
 
 use bq_actions::{Action, Length, Setup, TaskKind, Workload};
 use bq_simulate::{SimulateFault, Tally, Unsound, simulate};
-use bq_sizes::{Rule, Size};
+use bq_sizes::{ProcessorCount, Rule};
 use std::alloc::Global;
 use std::test::Fail;
 
 /// A machine under CFS for 10 ms, with a tick each 4 ms.
-fn machine(size: Size, migration_cost: u64) -> Setup {
+fn machine(size: ProcessorCount, migration_cost: u64) -> Setup {
     Setup {
         rule: Rule::Cfs,
         size,
@@ -70,7 +70,7 @@ fn two_tasks_take_turns(rt: HostRuntime) -> Result<(), Fail> {
             Action::Sleep(Length::Fixed(1_000_000)),
         ],
     )?;
-    let (text, tally) = told(alloc, machine(Size::One, 0), first, second)?;
+    let (text, tally) = told(alloc, machine(ProcessorCount::One, 0), first, second)?;
     assert_eq!(rt;
         text.as_str(),
         "admit ok\nadmit ok\n\
@@ -113,7 +113,7 @@ fn a_wake_comes_too_early(rt: HostRuntime) -> Result<(), Fail> {
         2,
         &[Action::Wait, Action::Run(Length::Fixed(4_000_000))],
     )?;
-    let (text, tally) = told(alloc, machine(Size::Two, 0), first, second)?;
+    let (text, tally) = told(alloc, machine(ProcessorCount::Two, 0), first, second)?;
     assert_eq!(rt;
         text.as_str(),
         "admit ok\nadmit ok\n\
@@ -151,7 +151,7 @@ fn what_takes_no_time_is_refused(rt: HostRuntime) -> Result<(), Fail> {
     tasks.push(first)?;
     tasks.push(second)?;
     let workload = Workload {
-        machine: machine(Size::One, 0),
+        machine: machine(ProcessorCount::One, 0),
         tasks,
     };
     let mut text = String::new(alloc);

@@ -3,15 +3,15 @@ use Rattle.std.specs.Prelude.{ℕ, ◌==◌, List, Option, Some, None, codes, if
 use Rattle.std.specs.Str.{bytes_eq}
 use Rattle.bq_sizes.specs.declared.rule.Rule.{Rule}
 use Rattle.bq_sizes.specs.declared.rule.Rule.TheVariants.{Cfs, Eevdf}
-use Rattle.bq_sizes.specs.declared.size.Size.{Size}
-use Rattle.bq_sizes.specs.declared.size.Size.TheVariants.{One, Two, Four, Eight, Sixteen, ThirtyTwo, SixtyFour}
+use Rattle.bq_sizes.specs.declared.processor_count.ProcessorCount.{ProcessorCount}
+use Rattle.bq_sizes.specs.declared.processor_count.ProcessorCount.TheVariants.{One, Two, Four, Eight, Sixteen, ThirtyTwo, SixtyFour}
 
 -- the rule that a word names
 abbrev pub rule_of : List ℕ → Option Rule
 rule_of word = if bytes_eq word (codes "cfs") then Some Cfs else if bytes_eq word (codes "eevdf") then Some Eevdf else None
 
 -- the size of so many processors
-abbrev pub size_numbered : ℕ → Option Size
+abbrev pub size_numbered : ℕ → Option ProcessorCount
 size_numbered n =
     if n == 1 then Some One
     else if n == 2 then Some Two
@@ -23,7 +23,7 @@ size_numbered n =
     else None
 
 -- how many processors a size has
-abbrev pub processors_in : Size → ℕ
+abbrev pub processors_in : ProcessorCount → ℕ
 processors_in One = 1
 processors_in Two = 2
 processors_in Four = 4

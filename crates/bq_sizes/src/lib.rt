@@ -2,8 +2,8 @@
 //! Promises that words and numbers name exactly these; traces and the program's options share them.
 #![tactic(auto)]
 
+pub mod processor_count;
 pub mod rule;
-pub mod size;
 
+pub use processor_count::ProcessorCount;
 pub use rule::Rule;
-pub use size::Size;

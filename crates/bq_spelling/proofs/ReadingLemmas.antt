@@ -14,8 +14,8 @@ use Rattle.bq_parts.specs.declared.event.Event.TheVariants.{Admit, Retire, Draw,
 use Rattle.bq_sizes.specs.Sizes.{processors_in, rule_of, size_numbered}
 use Rattle.bq_sizes.specs.declared.rule.Rule.{Rule}
 use Rattle.bq_sizes.specs.declared.rule.Rule.TheVariants.{Cfs, Eevdf}
-use Rattle.bq_sizes.specs.declared.size.Size.{Size}
-use Rattle.bq_sizes.specs.declared.size.Size.TheVariants.{One, Two, Four, Eight, Sixteen, ThirtyTwo, SixtyFour}
+use Rattle.bq_sizes.specs.declared.processor_count.ProcessorCount.{ProcessorCount}
+use Rattle.bq_sizes.specs.declared.processor_count.ProcessorCount.TheVariants.{One, Two, Four, Eight, Sixteen, ThirtyTwo, SixtyFour}
 use Rattle.bq_lines.specs.Lines.{reading_of, reading_of_words, said, size_of, installing as reads_install}
 use Rattle.bq_lines.specs.declared.command.Command.{Command}
 use Rattle.bq_lines.specs.declared.command.Command.TheVariants.{Does, Machine}
@@ -140,10 +140,10 @@ words_say image (Pull c from now) can h =
     of_three (λ c s t. Does (Pull c s t)) _ _ _ c from now (processor_of-decimal c h.0) (processor_of-decimal from h.1) (decimal_of-decimal now h.2)
 
 -- the words of a machine
-abbrev pub machine_words : Rule → Size → List (List ℕ)
+abbrev pub machine_words : Rule → ProcessorCount → List (List ℕ)
 machine_words rule size = codes "machine" ∷ rule_word rule ∷ decimal (processors_in size) ∷ []
 
-small_size : (size : Size) → processors_in size ≤ 64
+small_size : (size : ProcessorCount) → processors_in size ≤ 64
 small_size One = lit≤ tt
 small_size Two = lit≤ tt
 small_size Four = lit≤ tt
@@ -160,10 +160,10 @@ short_rule : (rule : Rule) → length (rule_word rule) ≤ 5
 short_rule Cfs = lit≤ tt
 short_rule Eevdf = lit≤ tt
 
-pub plain_machine : (rule : Rule) (size : Size) → AllByRecursion IsPlain (machine_words rule size)
+pub plain_machine : (rule : Rule) (size : ProcessorCount) → AllByRecursion IsPlain (machine_words rule size)
 plain_machine rule size = let small = small_size size in (known (codes "machine") refl, (plain_rule rule, (plain_decimal (processors_in size) (omega arith), tt)))
 
-pub room_machine : (rule : Rule) (size : Size) → room (machine_words rule size) ≤ 131072
+pub room_machine : (rule : Rule) (size : ProcessorCount) → room (machine_words rule size) ≤ 131072
 room_machine rule size =
     let small = small_size size in
     let number = short_decimal (processors_in size) (omega arith) in
@@ -174,7 +174,7 @@ rule_of-word : (rule : Rule) → rule_of (rule_word rule) ≡ Some rule
 rule_of-word Cfs = refl
 rule_of-word Eevdf = refl
 
-size_of-number : (size : Size) → size_numbered (processors_in size) ≡ Some size
+size_of-number : (size : ProcessorCount) → size_numbered (processors_in size) ≡ Some size
 size_of-number One = refl
 size_of-number Two = refl
 size_of-number Four = refl
@@ -183,9 +183,9 @@ size_of-number Sixteen = refl
 size_of-number ThirtyTwo = refl
 size_of-number SixtyFour = refl
 
-size_of-decimal : (size : Size) → size_of (decimal (processors_in size)) ≡ Some size
+size_of-decimal : (size : ProcessorCount) → size_of (decimal (processors_in size)) ≡ Some size
 size_of-decimal size = let small = small_size size in ap (option_and_then size_numbered) (processor_of-decimal (processors_in size) (omega arith)) ∙ size_of-number size
 
 -- the words of a machine ask for it
-pub machine_says : (rule : Rule) (size : Size) → reading_of_words (machine_words rule size) ≡ Says (Machine rule size)
+pub machine_says : (rule : Rule) (size : ProcessorCount) → reading_of_words (machine_words rule size) ≡ Says (Machine rule size)
 machine_says rule size = of_two (λ r s. Machine r s) _ _ rule size (rule_of-word rule) (size_of-decimal size)

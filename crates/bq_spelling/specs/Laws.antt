@@ -6,7 +6,7 @@ use Rattle.bq_parts.specs.declared.event.Event.{Event}
 use Rattle.bq_parts.specs.declared.event.Event.TheVariants.{Install}
 use Rattle.bq_bpf.specs.declared.hook.Hook.{Hook}
 use Rattle.bq_sizes.specs.declared.rule.Rule.{Rule}
-use Rattle.bq_sizes.specs.declared.size.Size.{Size}
+use Rattle.bq_sizes.specs.declared.processor_count.ProcessorCount.{ProcessorCount}
 use Rattle.bq_lines.specs.Kept.{IsOneLine}
 use Rattle.bq_lines.specs.Lines.{reading_of}
 use Rattle.bq_lines.specs.declared.command.Command.{Command}
@@ -40,7 +40,7 @@ EventsAreRead = (image : Option (List ℕ)) (event : Event) → CanStandInLine i
 
 -- The line of a machine says that machine.
 abbrev pub MachinesAreRead : Type 0
-MachinesAreRead = (rule : Rule) (size : Size) → reading_of (machine_line rule size) ≡ Says (Machine rule size)
+MachinesAreRead = (rule : Rule) (size : ProcessorCount) → reading_of (machine_line rule size) ≡ Says (Machine rule size)
 
 -- The hex of an image spells its bytes.
 abbrev pub ImagesAreRead : Type 0
@@ -54,4 +54,4 @@ pub record IsWholeLine (line : List ℕ) : Type 0 where
 -- Each of these lines is one.
 pub record AreLines : Type 0 where
   pub events : (image : Option (List ℕ)) (event : Event) → CanStandInLine image → HasFittingNumbers event → IsWholeLine (asking_line image event)
-  pub machines : (rule : Rule) (size : Size) → IsWholeLine (machine_line rule size)
+  pub machines : (rule : Rule) (size : ProcessorCount) → IsWholeLine (machine_line rule size)

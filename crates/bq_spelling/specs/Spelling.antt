@@ -11,7 +11,7 @@ use Rattle.bq_parts.specs.declared.event.Event.TheVariants.{Admit, Retire, Draw,
 use Rattle.bq_sizes.specs.Sizes.{processors_in}
 use Rattle.bq_sizes.specs.declared.rule.Rule.{Rule}
 use Rattle.bq_sizes.specs.declared.rule.Rule.TheVariants.{Cfs, Eevdf}
-use Rattle.bq_sizes.specs.declared.size.Size.{Size}
+use Rattle.bq_sizes.specs.declared.processor_count.ProcessorCount.{ProcessorCount}
 
 -- words, a space between each two
 abbrev pub spaced_words : List (List ℕ) → List ℕ
@@ -45,7 +45,7 @@ rule_word Cfs = codes "cfs"
 rule_word Eevdf = codes "eevdf"
 
 -- the line that asks for a machine
-abbrev pub machine_line : Rule → Size → List ℕ
+abbrev pub machine_line : Rule → ProcessorCount → List ℕ
 machine_line rule size = spaced_words (codes "machine" ∷ rule_word rule ∷ decimal (processors_in size) ∷ [])
 
 -- each number of the event fits its type

@@ -5,7 +5,7 @@ ghost use Rattle.std.specs.Option.{option_map};
 ghost use Rattle.bq_spelling.specs.Spelling.{HasFittingNumbers, asking_line, image_word, machine_line, rule_word};
 
 use bq_core::Event;
-use bq_sizes::{Rule, Size};
+use bq_sizes::{ProcessorCount, Rule};
 use std::alloc::{AllocError, Global};
 use std::fmt::Write;
 
@@ -79,7 +79,7 @@ fn write_image(alloc: Global, text: &mut String, image: Option<&[u8]>) -> Result
 }
 
 /// Adds the line that makes a machine, and a line feed.
-pub fn write_machine(text: &mut String, rule: Rule, size: Size) -> Result<(), AllocError>
+pub fn write_machine(text: &mut String, rule: Rule, size: ProcessorCount) -> Result<(), AllocError>
     ensures { OnOk result (string_bytes text.new ≡ string_bytes text.old ++ (machine_line rule size ++ 10 ∷ [])) }
 {
     let rule = word(rule);

@@ -1,7 +1,7 @@
 //! What a simulation is asked for, by the words of its options.
 
 use crate::command::StudyWords;
-use bq_sizes::{Rule, Size};
+use bq_sizes::{ProcessorCount, Rule};
 use bq_spans::duration;
 use bq_timeline::{Settings, SettingsFault};
 use bq_workload::Changes;
@@ -76,9 +76,9 @@ pub fn asked_changes(words: &StudyWords) -> Result<Changes, AskedFault> {
     Ok(changes)
 }
 
-fn size(word: &str) -> Option<Size> {
+fn size(word: &str) -> Option<ProcessorCount> {
     let number = bq_lines::numbers::processor(word.as_bytes())?;
-    Size::of_number(number)
+    ProcessorCount::of_number(number)
 }
 
 /// A duration that can be simulated.

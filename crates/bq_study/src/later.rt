@@ -2,9 +2,9 @@
 
 use bq_core::{Event, Refusal, Reply};
 use bq_load::LoadFault;
-use bq_sizes::{Rule, Size};
+use bq_sizes::{ProcessorCount, Rule};
 use bq_timeline::viewer::Viewer;
-use bq_trace::{Machine, Sink};
+use bq_trace::{AnyCore, Sink};
 use std::alloc::AllocError;
 
 /// A viewer that is told each line by the number that it has below so many others: those with the tasks' names, which stand
@@ -24,7 +24,7 @@ impl Later {
 impl Sink for Later {
     ghost takes = { λ old n news new. Unit {0} };
 
-    fn opened(&mut self, number: u64, rule: Rule, size: Size) -> Result<(), AllocError> {
+    fn opened(&mut self, number: u64, rule: Rule, size: ProcessorCount) -> Result<(), AllocError> {
         let number = self.number(number);
         self.viewer.opened(number, rule, size)
     }
@@ -34,7 +34,7 @@ impl Sink for Later {
         self.viewer.skipped(number, line)
     }
 
-    fn comes(&mut self, number: u64, event: &Event, machine: &Machine) -> Result<(), AllocError> {
+    fn comes(&mut self, number: u64, event: &Event, machine: &AnyCore) -> Result<(), AllocError> {
         let number = self.number(number);
         self.viewer.comes(number, event, machine)
     }
@@ -44,7 +44,7 @@ impl Sink for Later {
         number: u64,
         event: &Event,
         answer: &Result<Reply, Refusal>,
-        machine: &Machine,
+        machine: &AnyCore,
     ) -> Result<(), AllocError> {
         let number = self.number(number);
         self.viewer.answered(number, event, answer, machine)
@@ -60,7 +60,7 @@ impl Sink for Later {
         self.viewer.unloaded(number, fault)
     }
 
-    fn shown(&mut self, number: u64, processor: u8, machine: &Machine) -> Result<(), AllocError> {
+    fn shown(&mut self, number: u64, processor: u8, machine: &AnyCore) -> Result<(), AllocError> {
         let number = self.number(number);
         self.viewer.shown(number, processor, machine)
     }

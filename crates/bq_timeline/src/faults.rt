@@ -3,14 +3,14 @@
 use bq_core::Hook;
 use bq_lines::numbers;
 use bq_lines::words::{is_allowed_line, next_word};
-use bq_sizes::{Rule, Size};
+use bq_sizes::{ProcessorCount, Rule};
 use std::{fmt, str};
 
 /// What a word of a line is to be.
 #[derive(Clone, Copy, Debug, PartialEq, Eq)]
 pub enum Kind {
     Rule,
-    Size,
+    ProcessorCount,
     Processor,
     Task,
     Nice,
@@ -28,8 +28,8 @@ impl Kind {
     fn fits(self, word: &[u8]) -> bool {
         match self {
             Kind::Rule => Rule::of_word(word).is_some(),
-            Kind::Size => numbers::processor(word)
-                .and_then(|number| Size::of_number(number))
+            Kind::ProcessorCount => numbers::processor(word)
+                .and_then(|number| ProcessorCount::of_number(number))
                 .is_some(),
             Kind::Processor => numbers::processor(word).is_some(),
             Kind::Task => numbers::task(word).is_some(),
@@ -46,7 +46,7 @@ impl Kind {
     fn words(self) -> &'static str {
         match self {
             Kind::Rule => "is no rule (cfs or eevdf)",
-            Kind::Size => "is no number of processors (1, 2, 4, 8, 16, 32 or 64)",
+            Kind::ProcessorCount => "is no number of processors (1, 2, 4, 8, 16, 32 or 64)",
             Kind::Processor => "does not fit a processor's number (0 to 255)",
             Kind::Task => "does not fit a task's number (0 to 65535)",
             Kind::Nice => "does not fit a nice value (-128 to 127)",
@@ -77,7 +77,7 @@ fn operands_of(name: &[u8]) -> Option<&'static [Kind]> {
 
 fn operands_of_text(name: &str) -> Option<&'static [Kind]> {
     match name {
-        "machine" => Some(&[Kind::Rule, Kind::Size]),
+        "machine" => Some(&[Kind::Rule, Kind::ProcessorCount]),
         "admit" => Some(&[Kind::Task, Kind::Nice, Kind::Mask, Kind::Slice]),
         "retire" => Some(&[Kind::Task]),
         "draw" => Some(&[]),

@@ -1,6 +1,6 @@
 //! How near each processor came to the bounds of its rule: a table below the report.
 
-use bq_bounds::{Bounds, Charge, Glance, Standing, how_it_stands};
+use bq_bounds::{Bounds, Charge, Glance, RunningTask, how_it_stands};
 use bq_core::{Event, Reply};
 use bq_disc::RunQueue;
 use bq_forms::percent::Percent;
@@ -9,7 +9,7 @@ use bq_forms::window::is_in;
 use bq_parts::Cpu;
 use bq_schedule::Change;
 use bq_sizes::Rule;
-use bq_trace::{Machine, Seen};
+use bq_trace::{AnyCore, Seen};
 use bq_why::{place_of, present};
 use std::alloc::{AllocError, Global};
 
@@ -22,7 +22,7 @@ pub struct Near {
     alloc: Global,
     bounds: Bounds,
     /// How the processor of the next event stands.
-    standing: Option<Standing>,
+    standing: Option<RunningTask>,
 }
 
 impl Near {
@@ -36,7 +36,7 @@ impl Near {
     }
 
     /// Notes how the processor of an event stands before it.
-    pub fn comes(&mut self, event: &Event, machine: &Machine) {
+    pub fn comes(&mut self, event: &Event, machine: &AnyCore) {
         self.standing = match place_of(event) {
             Some((processor, _)) => match machine.seen(processor) {
                 Some(Seen::Cfs(cpu)) => how_it_stands(cpu),
@@ -52,7 +52,7 @@ impl Near {
         &mut self,
         event: &Event,
         reply: &Reply,
-        machine: &Machine,
+        machine: &AnyCore,
         change: &Change,
     ) -> Result<(), AllocError> {
         let Some(reading) = change.reading else {

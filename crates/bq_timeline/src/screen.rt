@@ -9,7 +9,7 @@ use bq_forms::Names;
 use bq_load::LoadFault;
 use bq_schedule::{Change, Schedule};
 use bq_sizes::Rule;
-use bq_trace::Machine;
+use bq_trace::AnyCore;
 use bq_why::{Because, InWords};
 use std::alloc::{AllocError, Global};
 
@@ -73,7 +73,7 @@ impl Screen {
     }
 
     /// An event is about to be done.
-    pub fn comes(&mut self, event: &Event, machine: &Machine) {
+    pub fn comes(&mut self, event: &Event, machine: &AnyCore) {
         if let Shown::Why(form) = &mut self.shown {
             form.comes(event, machine);
         }
@@ -88,7 +88,7 @@ impl Screen {
         number: u64,
         event: &Event,
         answer: &Result<Reply, Refusal>,
-        machine: &Machine,
+        machine: &AnyCore,
         change: &Change,
         schedule: &Schedule,
     ) -> Result<(), AllocError> {

@@ -5,7 +5,7 @@ ghost use Rattle.bq_trace.specs.Faults.{IsFault, IsWriteFault};
 
 use crate::settings::Settings;
 use crate::viewer::Viewer;
-use bq_trace::{Counted, ReplayFault, Standing};
+use bq_trace::{Counted, ReplayFault, TracePosition};
 use std::alloc::Global;
 use std::io::{Read, Write};
 
@@ -54,7 +54,7 @@ pub fn show<R: Read, W: Write>(
 /// A timeline of the pieces so far.
 struct Turns {
     alloc: Global,
-    standing: Standing,
+    standing: TracePosition,
     viewer: Viewer,
 }
 
@@ -73,7 +73,7 @@ impl Turns {
     fn new(alloc: Global, settings: Settings) -> Turns {
         Turns {
             alloc,
-            standing: Standing::new(alloc),
+            standing: TracePosition::new(alloc),
             viewer: Viewer::new(alloc, settings),
         }
     }

@@ -7,8 +7,8 @@ use crate::settings::Settings;
 use bq_core::{Event, Refusal, Reply};
 use bq_load::LoadFault;
 use bq_schedule::Schedule;
-use bq_sizes::{Rule, Size};
-use bq_trace::{Machine, Sink};
+use bq_sizes::{ProcessorCount, Rule};
+use bq_trace::{AnyCore, Sink};
 use std::alloc::{AllocError, Global};
 
 /// A trace as far as it has come: its schedule, once it has a machine, and how many of its lines were bad or refused.
@@ -46,7 +46,7 @@ impl Viewer {
 impl Sink for Viewer {
     ghost takes = { λ old n news new. (new.schedule ≡ watched old.schedule news) × (new.troubles ≡ troubled old.troubles news) };
 
-    fn opened(&mut self, _number: u64, rule: Rule, size: Size) -> Result<(), AllocError> {
+    fn opened(&mut self, _number: u64, rule: Rule, size: ProcessorCount) -> Result<(), AllocError> {
         let schedule = Schedule::new(self.alloc, size.processors())?;
         self.screen.begin(self.alloc, rule, &schedule)?;
         self.schedule = Some(schedule);
@@ -57,7 +57,7 @@ impl Sink for Viewer {
         self.screen.comment(line)
     }
 
-    fn comes(&mut self, _number: u64, event: &Event, machine: &Machine) -> Result<(), AllocError> {
+    fn comes(&mut self, _number: u64, event: &Event, machine: &AnyCore) -> Result<(), AllocError> {
         self.screen.comes(event, machine);
         Ok(())
     }
@@ -67,7 +67,7 @@ impl Sink for Viewer {
         number: u64,
         event: &Event,
         answer: &Result<Reply, Refusal>,
-        machine: &Machine,
+        machine: &AnyCore,
     ) -> Result<(), AllocError> {
         if answer.is_err() {
             self.troubles = self.troubles.saturating_add(1);
@@ -90,7 +90,7 @@ impl Sink for Viewer {
         self.screen.unloaded(number, fault)
     }
 
-    fn shown(&mut self, number: u64, processor: u8, machine: &Machine) -> Result<(), AllocError> {
+    fn shown(&mut self, number: u64, processor: u8, machine: &AnyCore) -> Result<(), AllocError> {
         if machine.seen(processor).is_none() {
             self.troubles = self.troubles.saturating_add(1);
             self.screen.not_there(number, processor)?;

@@ -4,19 +4,19 @@ use Rattle.std.specs.List.{slice_split, onto_first, AllByRecursion}
 use Rattle.std.specs.Str.Lines.{lines, lines_of_parts, strip_carriage_return}
 use Rattle.std.proofs.lemmas.List.Splits.{slice_split_at, slice_split_none}
 use Rattle.bq_lines.specs.Kept.{IsOneLine}
-use Rattle.bq_trace.specs.Trace.{Chain, AnswersLine}
+use Rattle.bq_trace.specs.Trace.{AnswersAll, AnswersLine}
 use Rattle.bq_trace.specs.Feeding.{with_feeds}
 use Rattle.bq_trace.specs.declared.progress.Progress.{Progress}
 
 -- one chain after another
-pub Chain-append : (p m q : Progress) (xs ys : List (List ℕ)) (t u : List ℕ) → Chain p xs t m → Chain m ys u q → Chain p (xs ++ ys) (t ++ u) q
-Chain-append p m q [] ys t u h k =
-    subst (λ s. Chain s ys (t ++ u) q) h.1 (subst (λ l. Chain m ys (l ++ u) q) (sym h.0) k)
-Chain-append p m q (x ∷ xs) ys t u h k =
-    (h.0, h.1, h.2 ++ u, h.3, Chain-append h.0 m q xs ys h.2 u h.4 k, ap (λ l. l ++ u) h.5 ∙ append_assoc h.1 h.2 u)
+pub AnswersAll-append : (p m q : Progress) (xs ys : List (List ℕ)) (t u : List ℕ) → AnswersAll p xs t m → AnswersAll m ys u q → AnswersAll p (xs ++ ys) (t ++ u) q
+AnswersAll-append p m q [] ys t u h k =
+    subst (λ s. AnswersAll s ys (t ++ u) q) h.1 (subst (λ l. AnswersAll m ys (l ++ u) q) (sym h.0) k)
+AnswersAll-append p m q (x ∷ xs) ys t u h k =
+    (h.0, h.1, h.2 ++ u, h.3, AnswersAll-append h.0 m q xs ys h.2 u h.4 k, ap (λ l. l ++ u) h.5 ∙ append_assoc h.1 h.2 u)
 
-pub Chain-one : (p q : Progress) (line text : List ℕ) → AnswersLine p line text q → Chain p (line ∷ []) text q
-Chain-one p q line text h = (q, text, [], h, (refl, refl), sym (append-nil text))
+pub AnswersAll-one : (p q : Progress) (line text : List ℕ) → AnswersLine p line text q → AnswersAll p (line ∷ []) text q
+AnswersAll-one p q line text h = (q, text, [], h, (refl, refl), sym (append-nil text))
 
 abbrev is_feed : ℕ → Bool
 is_feed b = eqb b 10

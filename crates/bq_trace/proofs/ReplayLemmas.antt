@@ -7,15 +7,15 @@ use Rattle.std.proofs.KnownBytes.{Appends-nil, Appends-trans, Consumes-nil, Cons
 use Rattle.std.proofs.lemmas.List.{map-append}
 use Rattle.std.proofs.lemmas.Grind.{flat_map-append}
 use Rattle.bq_lines.specs.Kept.{IsOneLine, StandsFor}
-use Rattle.bq_trace.specs.Trace.{Chain, start}
+use Rattle.bq_trace.specs.Trace.{AnswersAll, start}
 use Rattle.bq_trace.specs.Feeding.{with_feeds, Continues, Feeds, BreaksOff, Finishes}
 use Rattle.bq_trace.specs.Replaying.{Replays, ReplaysInPart}
-use Rattle.bq_trace.proofs.ChainLemmas.{Chain-append, lines-with_feeds}
+use Rattle.bq_trace.proofs.ChainLemmas.{AnswersAll-append, lines-with_feeds}
 use Rattle.bq_trace.proofs.StandingLemmas.{stands_for_nothing}
-use Rattle.bq_trace.specs.declared.standing.Standing.{Standing}
+use Rattle.bq_trace.specs.declared.trace_position.TracePosition.{TracePosition}
 
 -- The reader gave input, whose whole lines are answered by output, and the rest has begun.
-pub record Underway (from to old new : Option (List ℕ)) (s : Standing) : Type 0 where
+pub record Underway (from to old new : Option (List ℕ)) (s : TracePosition) : Type 0 where
   pub input : List ℕ
   pub output : List ℕ
   pub ended : List (List ℕ)
@@ -23,11 +23,11 @@ pub record Underway (from to old new : Option (List ℕ)) (s : Standing) : Type 
   pub consumed : Consumes from to input
   pub whole : input ≡ with_feeds ended ++ rest
   pub each : AllByRecursion IsOneLine ended
-  pub chain : Chain start (map strip_carriage_return ended) output s.progress
+  pub chain : AnswersAll start (map strip_carriage_return ended) output s.progress
   pub stands : StandsFor s.begun rest
   pub added : Appends old new output
 
-pub Underway-none : (from old : Option (List ℕ)) (s : Standing) → s.progress ≡ start → s.begun ≡ Some [] → Underway from from old old s
+pub Underway-none : (from old : Option (List ℕ)) (s : TracePosition) → s.progress ≡ start → s.begun ≡ Some [] → Underway from from old old s
 Underway-none from old s first empty = record {
   input = [];
   output = [];
@@ -52,18 +52,18 @@ with_feeds-join begun piece rest more last ended others first second =
     sym (append_assoc begun piece more) ∙ ap (λ l. l ++ more) first ∙ append_assoc (with_feeds ended) rest more ∙ ap (λ l. with_feeds ended ++ l) second
     ∙ sym (append_assoc (with_feeds ended) (with_feeds others) last) ∙ ap (λ l. l ++ last) (sym (flat_map-append (λ line. line ++ 10 ∷ []) ended others))
 
-pub Continues-join : (s t u : Standing) (begun piece more text others : List ℕ) → (h : Continues s begun piece text t) → Continues t h.rest more others u → Continues s begun (piece ++ more) (text ++ others) u
+pub Continues-join : (s t u : TracePosition) (begun piece more text others : List ℕ) → (h : Continues s begun piece text t) → Continues t h.rest more others u → Continues s begun (piece ++ more) (text ++ others) u
 Continues-join s t u begun piece more text others h k = record {
   ended = h.ended ++ k.ended;
   rest = k.rest;
   whole = with_feeds-join begun piece h.rest more k.rest h.ended k.ended h.whole k.whole;
   each = AllByRecursion-append h.ended k.ended h.each k.each;
-  chain = subst (λ ls. Chain s.progress ls (text ++ others) u.progress) (sym (map-append strip_carriage_return h.ended k.ended))
-      (Chain-append s.progress t.progress u.progress (map strip_carriage_return h.ended) (map strip_carriage_return k.ended) text others h.chain k.chain);
+  chain = subst (λ ls. AnswersAll s.progress ls (text ++ others) u.progress) (sym (map-append strip_carriage_return h.ended k.ended))
+      (AnswersAll-append s.progress t.progress u.progress (map strip_carriage_return h.ended) (map strip_carriage_return k.ended) text others h.chain k.chain);
   stands = k.stands;
 }
 
-pub Underway-more : (from mid to old now new : Option (List ℕ)) (s t : Standing) (piece : List ℕ) → (h : Underway from mid old now s) → Consumes mid to piece → Feeds s h.rest piece t now new → Underway from to old new t
+pub Underway-more : (from mid to old now new : Option (List ℕ)) (s t : TracePosition) (piece : List ℕ) → (h : Underway from mid old now s) → Consumes mid to piece → Feeds s h.rest piece t now new → Underway from to old new t
 Underway-more from mid to old now new s t piece h consumed fed = record {
   input = h.input ++ piece;
   output = h.output ++ fed.text;
@@ -72,13 +72,13 @@ Underway-more from mid to old now new s t piece h consumed fed = record {
   consumed = Consumes-trans from mid to h.input piece h.consumed consumed;
   whole = with_feeds-join [] h.input h.rest piece fed.goes_on.rest h.ended fed.goes_on.ended h.whole fed.goes_on.whole;
   each = AllByRecursion-append h.ended fed.goes_on.ended h.each fed.goes_on.each;
-  chain = subst (λ ls. Chain start ls (h.output ++ fed.text) t.progress) (sym (map-append strip_carriage_return h.ended fed.goes_on.ended))
-      (Chain-append start s.progress t.progress (map strip_carriage_return h.ended) (map strip_carriage_return fed.goes_on.ended) h.output fed.text h.chain fed.goes_on.chain);
+  chain = subst (λ ls. AnswersAll start ls (h.output ++ fed.text) t.progress) (sym (map-append strip_carriage_return h.ended fed.goes_on.ended))
+      (AnswersAll-append start s.progress t.progress (map strip_carriage_return h.ended) (map strip_carriage_return fed.goes_on.ended) h.output fed.text h.chain fed.goes_on.chain);
   stands = fed.goes_on.stands;
   added = Appends-trans old now new h.output fed.text h.added fed.added;
 }
 
-pub Underway-ends : (from mid to old now new : Option (List ℕ)) (s : Standing) (clean : Bool) → (h : Underway from mid old now s) → Consumes mid to [] → IsAtEnd to → Finishes s h.rest now new clean → Replays from to old new clean
+pub Underway-ends : (from mid to old now new : Option (List ℕ)) (s : TracePosition) (clean : Bool) → (h : Underway from mid old now s) → Consumes mid to [] → IsAtEnd to → Finishes s h.rest now new clean → Replays from to old new clean
 Underway-ends from mid to old now new s clean h consumed at_end f = record {
   input = h.input;
   output = h.output ++ f.text;
@@ -87,13 +87,13 @@ Underway-ends from mid to old now new s clean h consumed at_end f = record {
   added = Appends-trans old now new h.output f.text h.added f.added;
   answers = record {
     final = f.final;
-    chain = subst (λ ls. Chain start ls (h.output ++ f.text) f.final) (sym (ap lines h.whole ∙ lines-with_feeds h.ended h.rest h.each))
-        (Chain-append start s.progress f.final (map strip_carriage_return h.ended) (lines h.rest) h.output f.text h.chain f.chain);
+    chain = subst (λ ls. AnswersAll start ls (h.output ++ f.text) f.final) (sym (ap lines h.whole ∙ lines-with_feeds h.ended h.rest h.each))
+        (AnswersAll-append start s.progress f.final (map strip_carriage_return h.ended) (lines h.rest) h.output f.text h.chain f.chain);
     is_clean = f.is_clean;
   };
 }
 
-pub Underway-breaks : (from mid to old now new : Option (List ℕ)) (s : Standing) (piece : List ℕ) → (h : Underway from mid old now s) → Consumes mid to piece → BreaksOff s h.rest piece now new → ReplaysInPart from to old new
+pub Underway-breaks : (from mid to old now new : Option (List ℕ)) (s : TracePosition) (piece : List ℕ) → (h : Underway from mid old now s) → Consumes mid to piece → BreaksOff s h.rest piece now new → ReplaysInPart from to old new
 Underway-breaks from mid to old now new s piece h consumed b = record {
   input = h.input ++ piece;
   consumed = Consumes-trans from mid to h.input piece h.consumed consumed;
@@ -104,7 +104,7 @@ Underway-breaks from mid to old now new s piece h consumed b = record {
         ∙ ap (λ ls. map strip_carriage_return h.ended ++ ls) b.whole ∙ sym (append_assoc (map strip_carriage_return h.ended) b.answered b.others);
     text = h.output ++ b.text;
     final = b.final;
-    chain = Chain-append start s.progress b.final (map strip_carriage_return h.ended) b.answered h.output b.text h.chain b.chain;
+    chain = AnswersAll-append start s.progress b.final (map strip_carriage_return h.ended) b.answered h.output b.text h.chain b.chain;
     part = (
       b.part.0,
       record {
@@ -116,7 +116,7 @@ Underway-breaks from mid to old now new s piece h consumed b = record {
   };
 }
 
-pub Underway-stops : (from mid to old new : Option (List ℕ)) (s : Standing) → (h : Underway from mid old new s) → Keeps mid to → ReplaysInPart from to old new
+pub Underway-stops : (from mid to old new : Option (List ℕ)) (s : TracePosition) → (h : Underway from mid old new s) → Keeps mid to → ReplaysInPart from to old new
 Underway-stops from mid to old new s h kept = record {
   input = h.input;
   consumed = Consumes-kept from mid to h.input h.consumed kept;

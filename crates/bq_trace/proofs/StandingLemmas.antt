@@ -11,7 +11,7 @@ use Rattle.bq_trace.specs.Feeding.{with_feeds}
 use Rattle.bq_trace.proofs.ChainLemmas.{lines-one}
 use Rattle.bq_trace.proofs.TakingLemmas.{TakesAll-append}
 use Rattle.bq_trace.specs.declared.progress.Progress.{Progress}
-use Rattle.bq_trace.specs.declared.standing.Standing.{Standing}
+use Rattle.bq_trace.specs.declared.trace_position.TracePosition.{TracePosition}
 
 -- one story after another
 pub Story-append : (p m q : Progress) (xs ys : List (List ℕ)) (t u : Told) → Story p xs t m → Story m ys u q → Story p (xs ++ ys) (t ++ u) q
@@ -24,7 +24,7 @@ pub Story-one : (p q : Progress) (line : List ℕ) (told : Told) → TellsLine p
 Story-one p q line told h = (q, told, [], h, (refl, refl), sym (append-nil told))
 
 -- The lines so far are told, current is the line that has begun, and rest is still to come.
-pub record SoFar {S : Type 0} (takes : S → ℕ → News → S → Type 0) (s : Standing) (whole : List ℕ) (t : Standing) (rest : List ℕ) (old new : S) : Type 0 where
+pub record SoFar {S : Type 0} (takes : S → ℕ → News → S → Type 0) (s : TracePosition) (whole : List ℕ) (t : TracePosition) (rest : List ℕ) (old new : S) : Type 0 where
   pub ended : List (List ℕ)
   pub current : List ℕ
   pub told : Told
@@ -34,7 +34,7 @@ pub record SoFar {S : Type 0} (takes : S → ℕ → News → S → Type 0) (s :
   pub stands : StandsFor t.begun current
   pub taken : TakesAll takes old told new
 
-pub SoFar-none : {S : Type 0} (takes : S → ℕ → News → S → Type 0) (s : Standing) (begun piece : List ℕ) (old : S) → StandsFor s.begun begun
+pub SoFar-none : {S : Type 0} (takes : S → ℕ → News → S → Type 0) (s : TracePosition) (begun piece : List ℕ) (old : S) → StandsFor s.begun begun
     → SoFar takes s (begun ++ piece) s piece old old
 SoFar-none takes s begun piece old h = record {
   ended = [];
@@ -63,7 +63,7 @@ pub stands_for_nothing : StandsFor (Some []) []
 stands_for_nothing = record { one_line = All-nil (λ b. eqb b 10 ≡ false); kept_is = refl }
 
 -- one more line ends
-pub SoFar-more : {S : Type 0} (takes : S → ℕ → News → S → Type 0) (s t u : Standing) (whole rest tail more : List ℕ) (old mid new : S) → (h : SoFar takes s whole t rest old mid)
+pub SoFar-more : {S : Type 0} (takes : S → ℕ → News → S → Type 0) (s t u : TracePosition) (whole rest tail more : List ℕ) (old mid new : S) → (h : SoFar takes s whole t rest old mid)
     → rest ≡ tail ++ 10 ∷ more → IsOneLine tail
     → Gets takes mid new (λ told. TellsLine t.progress (strip_carriage_return (h.current ++ tail)) told u.progress) → u.begun ≡ Some [] → SoFar takes s whole u more old new
 SoFar-more takes s t u whole rest tail more old mid new h cut one a cleared = record {
@@ -81,7 +81,7 @@ SoFar-more takes s t u whole rest tail more old mid new h cut one a cleared = re
 }
 
 -- no line ends in what is left
-pub SoFar-all : {S : Type 0} (takes : S → ℕ → News → S → Type 0) (s t u : Standing) (begun piece rest : List ℕ) (old new : S) → (h : SoFar takes s (begun ++ piece) t rest old new)
+pub SoFar-all : {S : Type 0} (takes : S → ℕ → News → S → Type 0) (s t u : TracePosition) (begun piece rest : List ℕ) (old new : S) → (h : SoFar takes s (begun ++ piece) t rest old new)
     → u.progress ≡ t.progress → StandsFor u.begun (h.current ++ rest) → Gets takes old new (λ told. GoesOn s begun piece told u)
 SoFar-all takes s t u begun piece rest old new h same stands = record {
   told = h.told;

@@ -11,11 +11,11 @@ use Rattle.bq_lines.specs.declared.command.Command.TheVariants.{Machine, Does, W
 use Rattle.bq_lines.specs.declared.command.Reading.{Reading}
 use Rattle.bq_lines.specs.declared.command.Reading.TheVariants as says
 use Rattle.bq_lines.proofs.KeptLemmas.{reading_heard-line}
-use Rattle.bq_trace.specs.Machines.{Machine as Driven}
+use Rattle.bq_trace.specs.Machines.{Driven}
 use Rattle.bq_trace.specs.Doing.{DoesAndAnswers}
 use Rattle.bq_trace.specs.Loading.{LoadsAndAnswers, fault_line}
 use Rattle.bq_trace.specs.Texts.{event_line, bad_line, counter_line, show_line}
-use Rattle.bq_trace.specs.Trace.{Answers, AnswersLine, Chain, EndsWake, Wakes}
+use Rattle.bq_trace.specs.Trace.{Answers, AnswersLine, AnswersAll, EndsWake, Wakes}
 use Rattle.bq_trace.specs.Feeding.{Continues}
 use Rattle.bq_trace.specs.Writing.{Adds}
 use Rattle.bq_trace.specs.News.{Told, Counted, Bad, Gets, text_of, texts}
@@ -23,7 +23,7 @@ use Rattle.bq_trace.specs.Telling.{Happens, EndHappens, WakeHappens, LoadHappens
 use Rattle.bq_trace.specs.declared.progress.Phase.{Phase}
 use Rattle.bq_trace.specs.declared.progress.Phase.TheVariants.{Waiting, Over, Running}
 use Rattle.bq_trace.specs.declared.progress.Progress.{Progress}
-use Rattle.bq_trace.specs.declared.standing.Standing.{Standing}
+use Rattle.bq_trace.specs.declared.trace_position.TracePosition.{TracePosition}
 use Rattle.bq_trace.proofs.TakingLemmas.{texts-append, added_by}
 
 happens_text : (m k : Driven) (n : ℕ) (event : Event) (answer : Result Reply Refusal) (told : Told) → Happens m n event answer told k → DoesAndAnswers m event answer (texts told) k
@@ -94,12 +94,12 @@ line_text p q line told h = record {
 }
 
 -- and so of lines in order
-pub story_text : (p q : Progress) (ls : List (List ℕ)) (told : Told) → Story p ls told q → Chain p ls (texts told) q
+pub story_text : (p q : Progress) (ls : List (List ℕ)) (told : Told) → Story p ls told q → AnswersAll p ls (texts told) q
 story_text p q [] told h = (ap texts h.0, h.1)
 story_text p q (line ∷ others) told h =
     (h.0, texts h.1, texts h.2, line_text p h.0 line h.1 h.3, story_text h.0 q others h.2 h.4, ap texts h.5 ∙ texts-append h.1 h.2)
 
-pub goes_on_text : (s t : Standing) (begun piece : List ℕ) (told : Told) → GoesOn s begun piece told t → Continues s begun piece (texts told) t
+pub goes_on_text : (s t : TracePosition) (begun piece : List ℕ) (told : Told) → GoesOn s begun piece told t → Continues s begun piece (texts told) t
 goes_on_text s t begun piece told h = record {
   ended = h.ended;
   rest = h.rest;

@@ -4,28 +4,28 @@ use Rattle.std.specs.Str.Lines.{lines, strip_carriage_return}
 use Rattle.std.specs.Io.KnownBytes.{Appends}
 use Rattle.std.proofs.KnownBytes.{Appends-nil, Appends-trans}
 use Rattle.bq_lines.specs.Kept.{StandsFor}
-use Rattle.bq_trace.specs.Trace.{Chain, start}
+use Rattle.bq_trace.specs.Trace.{AnswersAll, start}
 use Rattle.bq_trace.specs.Feeding.{Continues, Feeds, Finishes}
 use Rattle.bq_trace.specs.Sessions.{IsFed, joined, GetsAnswers, SessionAnswers}
-use Rattle.bq_trace.proofs.ChainLemmas.{Chain-append, lines-with_feeds}
+use Rattle.bq_trace.proofs.ChainLemmas.{AnswersAll-append, lines-with_feeds}
 use Rattle.bq_trace.proofs.ReplayLemmas.{Continues-join}
 use Rattle.bq_trace.proofs.StandingLemmas.{stands_for_nothing}
-use Rattle.bq_trace.specs.declared.standing.Standing.{Standing}
+use Rattle.bq_trace.specs.declared.trace_position.TracePosition.{TracePosition}
 
 -- From s on, where nothing had begun, the input was read, and what answers it was written.
-pub record HasRead (s : Standing) (input : List ℕ) (t : Standing) (old new : Option (List ℕ)) : Type 0 where
+pub record HasRead (s : TracePosition) (input : List ℕ) (t : TracePosition) (old new : Option (List ℕ)) : Type 0 where
   pub output : List ℕ
   pub goes_on : Continues s [] input output t
   pub added : Appends old new output
 
-nothing_read : (s : Standing) (w : Option (List ℕ)) → s.begun ≡ Some [] → HasRead s [] s w w
+nothing_read : (s : TracePosition) (w : Option (List ℕ)) → s.begun ≡ Some [] → HasRead s [] s w w
 nothing_read s w empty = record {
   output = [];
   goes_on = record { ended = []; rest = []; whole = refl; each = tt; chain = (refl, refl); stands = subst (λ k. StandsFor k []) (sym empty) stands_for_nothing };
   added = Appends-nil w;
 }
 
-one_more : (s t u : Standing) (input piece : List ℕ) (old now new : Option (List ℕ)) → (h : HasRead s input t old now) → Feeds t h.goes_on.rest piece u now new → HasRead s (input ++ piece) u old new
+one_more : (s t u : TracePosition) (input piece : List ℕ) (old now new : Option (List ℕ)) → (h : HasRead s input t old now) → Feeds t h.goes_on.rest piece u now new → HasRead s (input ++ piece) u old new
 one_more s t u input piece old now new h fed = record {
   output = h.output ++ fed.text;
   goes_on = Continues-join s t u [] input piece h.output fed.text h.goes_on fed.goes_on;
@@ -33,7 +33,7 @@ one_more s t u input piece old now new h fed = record {
 }
 
 -- some more pieces are read
-more : (s t u : Standing) (input : List ℕ) (pieces : List (List ℕ)) (old now new : Option (List ℕ)) → HasRead s input t old now → IsFed t pieces u now new → HasRead s (input ++ joined pieces) u old new
+more : (s t u : TracePosition) (input : List ℕ) (pieces : List (List ℕ)) (old now new : Option (List ℕ)) → HasRead s input t old now → IsFed t pieces u now new → HasRead s (input ++ joined pieces) u old new
 more s t u input [] old now new h f =
     subst (λ w. HasRead s (input ++ []) u old w) (sym f.1) (subst (λ v. HasRead s (input ++ []) v old now) (sym f.0) (subst (λ i. HasRead s i t old now) (sym (append-nil input)) h))
 more s t u input (piece ∷ pieces) old now new h f =
@@ -41,7 +41,7 @@ more s t u input (piece ∷ pieces) old now new h f =
     subst (λ i. HasRead s i u old new) (append_assoc input piece (joined pieces)) (more s f.0 u (input ++ piece) pieces old f.1 new next f.3)
 
 -- the line that has begun is the last
-ends : (s t : Standing) (input : List ℕ) (old now new : Option (List ℕ)) (clean : Bool) → s.progress ≡ start → (h : HasRead s input t old now) → Finishes t h.goes_on.rest now new clean → GetsAnswers input old new clean
+ends : (s t : TracePosition) (input : List ℕ) (old now new : Option (List ℕ)) (clean : Bool) → s.progress ≡ start → (h : HasRead s input t old now) → Finishes t h.goes_on.rest now new clean → GetsAnswers input old new clean
 ends s t input old now new clean first h f =
     let c = h.goes_on in
     record {
@@ -49,9 +49,9 @@ ends s t input old now new clean first h f =
       added = Appends-trans old now new h.output f.text h.added f.added;
       answers = record {
         final = f.final;
-        chain = subst (λ ls. Chain start ls (h.output ++ f.text) f.final) (sym (ap lines c.whole ∙ lines-with_feeds c.ended c.rest c.each))
-            (Chain-append start t.progress f.final (map strip_carriage_return c.ended) (lines c.rest) h.output f.text
-            (subst (λ p. Chain p (map strip_carriage_return c.ended) h.output t.progress) first c.chain) f.chain);
+        chain = subst (λ ls. AnswersAll start ls (h.output ++ f.text) f.final) (sym (ap lines c.whole ∙ lines-with_feeds c.ended c.rest c.each))
+            (AnswersAll-append start t.progress f.final (map strip_carriage_return c.ended) (lines c.rest) h.output f.text
+            (subst (λ p. AnswersAll p (map strip_carriage_return c.ended) h.output t.progress) first c.chain) f.chain);
         is_clean = f.is_clean;
       };
     }

@@ -2,12 +2,12 @@
 use Rattle.std.specs.Prelude.{ℕ, List, nat_lt, Option, Some, None, if◌then◌else◌}
 use Rattle.bq_parts.specs.Processors.{Processor}
 use Rattle.bq_parts.specs.World.{World, processor, count_in}
-use Rattle.bq_trace.specs.Machines.{Machine}
+use Rattle.bq_trace.specs.Machines.{Driven}
 use Rattle.bq_sizes.specs.declared.rule.Rule.TheVariants as rules
-use Rattle.bq_trace.specs.declared.machine.Cores.{Cores}
-use Rattle.bq_trace.specs.declared.machine.Cores.TheVariants.{One, Two, Four, Eight, Sixteen, ThirtyTwo, SixtyFour}
-use Rattle.bq_trace.specs.declared.machine.Ruled.{Ruled}
-use Rattle.bq_trace.specs.declared.machine.Ruled.TheVariants as ruled
+use Rattle.bq_trace.specs.declared.any_core.Cores.{Cores}
+use Rattle.bq_trace.specs.declared.any_core.Cores.TheVariants.{One, Two, Four, Eight, Sixteen, ThirtyTwo, SixtyFour}
+use Rattle.bq_trace.specs.declared.any_core.Ruled.{Ruled}
+use Rattle.bq_trace.specs.declared.any_core.Ruled.TheVariants as ruled
 
 abbrev pub world_of : {Q R : Type 0} → Cores Q R → World
 world_of (One w) = w
@@ -18,7 +18,7 @@ world_of (Sixteen w) = w
 world_of (ThirtyTwo w) = w
 world_of (SixtyFour w) = w
 
-abbrev pub machine_of : Ruled → List ℕ → Machine
+abbrev pub machine_of : Ruled → List ℕ → Driven
 machine_of (ruled.Cfs w) counters = record { rule = rules.Cfs; world = w; counters = counters }
 machine_of (ruled.Eevdf w) counters = record { rule = rules.Eevdf; world = w; counters = counters }
 

@@ -3,7 +3,7 @@ use Rattle.std.specs.Prelude.{◌≡◌, ℕ, List, Result}
 use Rattle.bq_parts.specs.declared.event.Event.{Event}
 use Rattle.bq_parts.specs.declared.reply.Reply.{Reply}
 use Rattle.bq_parts.specs.declared.refusal.Refusal.{Refusal}
-use Rattle.bq_trace.specs.Machines.{Machine as Driven, setting_of, Steps}
+use Rattle.bq_trace.specs.Machines.{Driven, setting_of, Steps}
 use Rattle.bq_trace.specs.Texts.{event_line}
 
 -- An event is done in the machine's world, under its rule, and the text is the line that answers it.

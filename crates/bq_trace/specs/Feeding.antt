@@ -4,37 +4,37 @@ use Rattle.std.specs.List.{flat_map, AllByRecursion}
 use Rattle.std.specs.Str.Lines.{lines, strip_carriage_return}
 use Rattle.std.specs.Io.KnownBytes.{Appends}
 use Rattle.bq_lines.specs.Kept.{IsOneLine, StandsFor}
-use Rattle.bq_trace.specs.Trace.{Chain, WritesBeginning}
+use Rattle.bq_trace.specs.Trace.{AnswersAll, WritesBeginning}
 use Rattle.bq_trace.specs.declared.progress.Progress.{Progress}
-use Rattle.bq_trace.specs.declared.standing.Standing.{Standing}
+use Rattle.bq_trace.specs.declared.trace_position.TracePosition.{TracePosition}
 
 -- lines, and a line feed after each
 abbrev pub with_feeds : List (List ℕ) → List ℕ
 with_feeds ended = flat_map (λ line. line ++ 10 ∷ []) ended
 
 -- The piece goes on with the line that has begun: the lines that it ends are answered by the text, and the rest has begun.
-pub record Continues (s : Standing) (begun piece text : List ℕ) (t : Standing) : Type 0 where
+pub record Continues (s : TracePosition) (begun piece text : List ℕ) (t : TracePosition) : Type 0 where
   pub ended : List (List ℕ)
   pub rest : List ℕ
   pub whole : begun ++ piece ≡ with_feeds ended ++ rest
   pub each : AllByRecursion IsOneLine ended
-  pub chain : Chain s.progress (map strip_carriage_return ended) text t.progress
+  pub chain : AnswersAll s.progress (map strip_carriage_return ended) text t.progress
   pub stands : StandsFor t.begun rest
 
 -- The same, and the text is what the writer got.
-pub record Feeds (s : Standing) (begun piece : List ℕ) (t : Standing) (old new : Option (List ℕ)) : Type 0 where
+pub record Feeds (s : TracePosition) (begun piece : List ℕ) (t : TracePosition) (old new : Option (List ℕ)) : Type 0 where
   pub text : List ℕ
   pub goes_on : Continues s begun piece text t
   pub added : Appends old new text
 
 -- A beginning of the answers to the lines of the begun line and the piece was written.
-abbrev pub BreaksOff : Standing → List ℕ → List ℕ → Option (List ℕ) → Option (List ℕ) → Type 0
+abbrev pub BreaksOff : TracePosition → List ℕ → List ℕ → Option (List ℕ) → Option (List ℕ) → Type 0
 BreaksOff s begun piece old new = WritesBeginning s.progress (lines (begun ++ piece)) old new
 
 -- The line that has begun is the last.
-pub record Finishes (s : Standing) (begun : List ℕ) (old new : Option (List ℕ)) (clean : Bool) : Type 0 where
+pub record Finishes (s : TracePosition) (begun : List ℕ) (old new : Option (List ℕ)) (clean : Bool) : Type 0 where
   pub text : List ℕ
   pub final : Progress
-  pub chain : Chain s.progress (lines begun) text final
+  pub chain : AnswersAll s.progress (lines begun) text final
   pub is_clean : clean ≡ final.clean
   pub added : Appends old new text

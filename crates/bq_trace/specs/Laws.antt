@@ -1,10 +1,10 @@
 -- Laws of the definitions.
 use Rattle.std.specs.Prelude.{ℕ, List, ◌++◌}
 use Rattle.bq_trace.specs.Feeding.{Continues}
-use Rattle.bq_trace.specs.declared.standing.Standing.{Standing}
+use Rattle.bq_trace.specs.declared.trace_position.TracePosition.{TracePosition}
 
 -- A piece, and then another from what has begun, do what their join does.
 abbrev pub PiecesJoin : Type 0
 PiecesJoin =
-    (s t u : Standing) (begun piece more text others : List ℕ) → (h : Continues s begun piece text t)
+    (s t u : TracePosition) (begun piece more text others : List ℕ) → (h : Continues s begun piece text t)
     → Continues t h.rest more others u → Continues s begun (piece ++ more) (text ++ others) u

@@ -11,7 +11,7 @@ use Rattle.bq_load.specs.declared.fault.LoadFault.TheVariants as fault
 use Rattle.bq_parts.specs.declared.event.Event.TheVariants.{Install}
 use Rattle.bq_parts.specs.declared.reply.Reply.{Reply}
 use Rattle.bq_parts.specs.declared.refusal.Refusal.{Refusal}
-use Rattle.bq_trace.specs.Machines.{Machine as Driven}
+use Rattle.bq_trace.specs.Machines.{Driven}
 use Rattle.bq_trace.specs.Doing.{DoesAndAnswers}
 
 -- the line that refuses an image

@@ -6,7 +6,7 @@ use Rattle.bq_eevdf.specs.Eevdf.{eevdf}
 use Rattle.bq_bpf.specs.declared.board.Call.{Call as Asked}
 use Rattle.bq_bpf.specs.Counters.{Counts, Through}
 use Rattle.bq_parts.specs.World.{World, opening_world}
-use Rattle.bq_parts.specs.Choices.{Setting, policies}
+use Rattle.bq_parts.specs.Choices.{Regime, policies}
 use Rattle.bq_parts.specs.Steps.{WorldStep}
 use Rattle.bq_parts.specs.declared.event.Event.{Event}
 use Rattle.bq_parts.specs.declared.reply.Reply.{Reply}
@@ -14,10 +14,10 @@ use Rattle.bq_parts.specs.declared.refusal.Refusal.{Refusal}
 use Rattle.bq_parts.specs.declared.refusal.Refusal.TheVariants.{OutOfMemory}
 use Rattle.bq_sizes.specs.declared.rule.Rule.{Rule}
 use Rattle.bq_sizes.specs.declared.rule.Rule.TheVariants.{Cfs, Eevdf}
-use Rattle.bq_sizes.specs.declared.size.Size.{Size}
+use Rattle.bq_sizes.specs.declared.processor_count.ProcessorCount.{ProcessorCount}
 use Rattle.bq_sizes.specs.Sizes.{processors_in}
 
-pub record Machine : Type 0 where
+pub record Driven : Type 0 where
   pub rule : Rule
   pub world : World
   pub counters : List ℕ
@@ -27,22 +27,22 @@ discipline_of Cfs = cfs
 discipline_of Eevdf = eevdf
 
 -- what the machine's world runs under
-abbrev pub setting_of : Rule → Setting
+abbrev pub setting_of : Rule → Regime
 setting_of rule = policies (discipline_of rule)
 
 -- a machine to which nothing has happened
-abbrev pub opening_machine : Rule → Size → Machine
+abbrev pub opening_machine : Rule → ProcessorCount → Driven
 opening_machine rule size = record { rule = rule; world = opening_world (processors_in size); counters = replicate 64 0 }
 
 -- One event is a step of a world, and what it asked of the counters leads from the ones to the others.
-pub record Advances (s : Setting) (w : World) (old : List ℕ) (event : Event) (answer : Result Reply Refusal) (v : World) (new : List ℕ) : Type 0 where
+pub record Advances (s : Regime) (w : World) (old : List ℕ) (event : Event) (answer : Result Reply Refusal) (v : World) (new : List ℕ) : Type 0 where
   pub calls : List Asked
   pub step : WorldStep s w event calls answer v
   pub through : Through Counts old calls new
 
 -- One event is a step of a world, what it asked of the counters leads from the ones to the others, and it has an answer that
 -- is not want of memory.
-pub record Steps (s : Setting) (w : World) (old : List ℕ) (event : Event) (answer : Result Reply Refusal) (v : World) (new : List ℕ) : Type 0 where
+pub record Steps (s : Regime) (w : World) (old : List ℕ) (event : Event) (answer : Result Reply Refusal) (v : World) (new : List ℕ) : Type 0 where
   pub calls : List Asked
   pub step : WorldStep s w event calls answer v
   pub through : Through Counts old calls new

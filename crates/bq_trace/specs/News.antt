@@ -5,26 +5,26 @@ use Rattle.bq_parts.specs.declared.event.Event.{Event}
 use Rattle.bq_parts.specs.declared.reply.Reply.{Reply}
 use Rattle.bq_parts.specs.declared.refusal.Refusal.{Refusal}
 use Rattle.bq_sizes.specs.declared.rule.Rule.{Rule}
-use Rattle.bq_sizes.specs.declared.size.Size.{Size}
-use Rattle.bq_trace.specs.Machines.{Machine}
+use Rattle.bq_sizes.specs.declared.processor_count.ProcessorCount.{ProcessorCount}
+use Rattle.bq_trace.specs.Machines.{Driven}
 use Rattle.bq_trace.specs.Loading.{fault_line}
 use Rattle.bq_trace.specs.Texts.{event_line, bad_line, show_line, counter_line}
 
 pub data News : Type 0 where
   -- a machine is made
-  Opened : Rule → Size → News
+  Opened : Rule → ProcessorCount → News
   -- the line says nothing: it has no words, or is a comment
   Skipped : List ℕ → News
   -- this event is about to be done in the machine
-  Comes : Event → Machine → News
+  Comes : Event → Driven → News
   -- it was answered, and the machine is this
-  Answered : Event → Result Reply Refusal → Machine → News
+  Answered : Event → Result Reply Refusal → Driven → News
   -- the word of an image is no hex
   Unspelled : News
   -- an image doesn't load
   Unloaded : LoadFault → News
   -- a processor is to be shown
-  Shown : ℕ → Machine → News
+  Shown : ℕ → Driven → News
   -- a counter has this value
   Counted : ℕ → ℕ → News
   -- the line is bad: what is heard of it, unless it is too long

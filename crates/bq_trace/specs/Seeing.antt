@@ -5,9 +5,9 @@ use Rattle.bq_parts.specs.Processors.{Processor}
 use Rattle.bq_sizes.specs.declared.rule.Rule.{Rule}
 use Rattle.bq_sizes.specs.declared.rule.Rule.TheVariants as rules
 use Rattle.bq_trace.specs.Cores.{processor_in}
-use Rattle.bq_trace.specs.Machines.{Machine}
-use Rattle.bq_trace.specs.declared.machine.Seen.{Seen}
-use Rattle.bq_trace.specs.declared.machine.Seen.TheVariants as seen
+use Rattle.bq_trace.specs.Machines.{Driven}
+use Rattle.bq_trace.specs.declared.any_core.Seen.{Seen}
+use Rattle.bq_trace.specs.declared.any_core.Seen.TheVariants as seen
 
 -- a processor, and the rule that it is under
 abbrev pub seen_of : Seen → Rule × Processor
@@ -15,5 +15,5 @@ seen_of (seen.Cfs cpu) = (rules.Cfs, cpu.now)
 seen_of (seen.Eevdf cpu) = (rules.Eevdf, cpu.now)
 
 -- the processor of a machine, if it has it, under its rule
-abbrev pub seen_in : Machine → ℕ → Option (Rule × Processor)
+abbrev pub seen_in : Driven → ℕ → Option (Rule × Processor)
 seen_in m c = option_map (λ p. (m.rule, p)) (processor_in m.world c)

@@ -5,16 +5,16 @@ use Rattle.std.specs.Io.KnownBytes.{Appends}
 use Rattle.bq_lines.specs.Kept.{StandsFor}
 use Rattle.bq_trace.specs.Feeding.{Feeds, Finishes}
 use Rattle.bq_trace.specs.Trace.{TraceText, start}
-use Rattle.bq_trace.specs.declared.standing.Standing.{Standing}
+use Rattle.bq_trace.specs.declared.trace_position.TracePosition.{TracePosition}
 
 -- A session is fed some pieces, one after another, as a feed promises it.
-abbrev pub IsFed : Standing → List (List ℕ) → Standing → Option (List ℕ) → Option (List ℕ) → Type 0
+abbrev pub IsFed : TracePosition → List (List ℕ) → TracePosition → Option (List ℕ) → Option (List ℕ) → Type 0
 IsFed s [] t old new = (t ≡ s) × (new ≡ old)
 IsFed s (piece ∷ pieces) t old new =
-    (mid : Standing) × (now : Option (List ℕ)) × ((begun : List ℕ) → StandsFor s.begun begun → Feeds s begun piece mid old now) × IsFed mid pieces t now new
+    (mid : TracePosition) × (now : Option (List ℕ)) × ((begun : List ℕ) → StandsFor s.begun begun → Feeds s begun piece mid old now) × IsFed mid pieces t now new
 
 -- And it is finished, as its finish promises it.
-abbrev pub IsFinished : Standing → Option (List ℕ) → Option (List ℕ) → Bool → Type 0
+abbrev pub IsFinished : TracePosition → Option (List ℕ) → Option (List ℕ) → Bool → Type 0
 IsFinished s old new clean = (begun : List ℕ) → StandsFor s.begun begun → Finishes s begun old new clean
 
 -- pieces, joined
@@ -30,5 +30,5 @@ pub record GetsAnswers (input : List ℕ) (old new : Option (List ℕ)) (clean :
 -- Where a session begins, is fed some pieces and is finished, the writer got the answers to the joined pieces.
 abbrev pub SessionAnswers : Type 0
 SessionAnswers =
-    (s t : Standing) (pieces : List (List ℕ)) (old now new : Option (List ℕ)) (clean : Bool) →
+    (s t : TracePosition) (pieces : List (List ℕ)) (old now new : Option (List ℕ)) (clean : Bool) →
     s.progress ≡ start → s.begun ≡ Some [] → IsFed s pieces t old now → IsFinished t now new clean → GetsAnswers (joined pieces) old new clean

@@ -22,12 +22,12 @@ use Rattle.bq_lines.specs.declared.command.Reading.TheVariants as says
 use Rattle.bq_trace.specs.Bare.{bare}
 use Rattle.bq_trace.specs.Counts.{one_more}
 use Rattle.bq_trace.specs.Feeding.{with_feeds}
-use Rattle.bq_trace.specs.Machines.{Machine as Driven, opening_machine, setting_of, Advances}
+use Rattle.bq_trace.specs.Machines.{Driven, opening_machine, setting_of, Advances}
 use Rattle.bq_trace.specs.News.{Told, Opened, Skipped, Comes, Answered, Unspelled, Unloaded, Shown, Counted, Bad}
 use Rattle.bq_trace.specs.declared.progress.Phase.{Phase}
 use Rattle.bq_trace.specs.declared.progress.Phase.TheVariants.{Waiting, Over, Running}
 use Rattle.bq_trace.specs.declared.progress.Progress.{Progress}
-use Rattle.bq_trace.specs.declared.standing.Standing.{Standing}
+use Rattle.bq_trace.specs.declared.trace_position.TracePosition.{TracePosition}
 
 -- An event is done in the machine's world, under its rule.
 pub record Moves (m : Driven) (event : Event) (answer : Result Reply Refusal) (k : Driven) : Type 0 where
@@ -105,7 +105,7 @@ Story p (line ∷ others) told q =
     (m : Progress) × (first : Told) × (more : Told) × TellsLine p line first m × Story m others more q × (told ≡ first ++ more)
 
 -- The piece goes on with the line that has begun: so much comes of the lines that it ends, and the rest has begun.
-pub record GoesOn (s : Standing) (begun piece : List ℕ) (told : Told) (t : Standing) : Type 0 where
+pub record GoesOn (s : TracePosition) (begun piece : List ℕ) (told : Told) (t : TracePosition) : Type 0 where
   pub ended : List (List ℕ)
   pub rest : List ℕ
   pub whole : begun ++ piece ≡ with_feeds ended ++ rest

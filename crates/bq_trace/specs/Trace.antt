@@ -5,7 +5,7 @@ use Rattle.bq_parts.specs.declared.event.Event.TheVariants.{BeginWake, EndWake}
 use Rattle.bq_parts.specs.declared.reply.Reply.{Reply}
 use Rattle.bq_parts.specs.declared.refusal.Refusal.{Refusal}
 use Rattle.bq_trace.specs.Counts.{one_more}
-use Rattle.bq_trace.specs.Machines.{Machine as Driven, opening_machine}
+use Rattle.bq_trace.specs.Machines.{Driven, opening_machine}
 use Rattle.bq_trace.specs.Doing.{DoesAndAnswers}
 use Rattle.bq_trace.specs.Loading.{LoadsAndAnswers}
 use Rattle.bq_trace.specs.Writing.{AppendsPart}
@@ -61,10 +61,10 @@ abbrev pub AnswersLine : Progress → List ℕ → List ℕ → Progress → Typ
 AnswersLine p line text q = AnswersReading p (reading_of line) text q
 
 -- Lines in order, each answered where the one before it left off.
-abbrev pub Chain : Progress → List (List ℕ) → List ℕ → Progress → Type 0
-Chain p [] text q = (text ≡ []) × (q ≡ p)
-Chain p (line ∷ others) text q =
-    (m : Progress) × (first : List ℕ) × (more : List ℕ) × AnswersLine p line first m × Chain m others more q × (text ≡ first ++ more)
+abbrev pub AnswersAll : Progress → List (List ℕ) → List ℕ → Progress → Type 0
+AnswersAll p [] text q = (text ≡ []) × (q ≡ p)
+AnswersAll p (line ∷ others) text q =
+    (m : Progress) × (first : List ℕ) × (more : List ℕ) × AnswersLine p line first m × AnswersAll m others more q × (text ≡ first ++ more)
 
 -- before the first line
 abbrev pub start : Progress
@@ -73,7 +73,7 @@ start = record { phase = Waiting; line = 0; clean = true }
 -- The output that an input has. It is clean where no line was called bad.
 pub record TraceText (input output : List ℕ) (clean : Bool) : Type 0 where
   pub final : Progress
-  pub chain : Chain start (lines input) output final
+  pub chain : AnswersAll start (lines input) output final
   pub is_clean : clean ≡ final.clean
 
 -- What a writer holds grew by a beginning of the answers to some of the lines, the first ones.
@@ -83,5 +83,5 @@ pub record WritesBeginning (p : Progress) (all : List (List ℕ)) (old new : Opt
   pub whole : all ≡ answered ++ others
   pub text : List ℕ
   pub final : Progress
-  pub chain : Chain p answered text final
+  pub chain : AnswersAll p answered text final
   pub part : AppendsPart old new text

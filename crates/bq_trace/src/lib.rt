@@ -4,25 +4,25 @@
 //! Stands on the lines of a trace, on the core's step and on the two disciplines.
 #![tactic(auto)]
 
+mod any_core;
 pub mod bare;
 mod counted;
 pub mod fault;
 pub mod laws;
 mod loading;
-mod machine;
 mod pieces;
 mod progress;
 mod session;
 pub mod shows;
 mod sink;
-mod standing;
 mod telling;
 pub mod texts;
+mod trace_position;
 
+pub use any_core::{AnyCore, Seen};
 pub use counted::Counted;
 pub use fault::ReplayFault;
-pub use machine::{Machine, Seen};
 pub use pieces::replay;
 pub use session::Session;
 pub use sink::Sink;
-pub use standing::Standing;
+pub use trace_position::TracePosition;

@@ -3,7 +3,7 @@ ghost use Rattle.std.specs.Prelude.{◌≡◌, ◌≢◌, ◌++◌, OnOk, string
 ghost use Rattle.bq_trace.specs.Loading.{fault_line};
 ghost use Rattle.bq_load.specs.declared.fault.LoadFault.TheVariants as why;
 
-use crate::machine::Machine;
+use crate::any_core::AnyCore;
 use crate::sink::Sink;
 use crate::telling;
 use bq_core::{Event, Hook, Policy};
@@ -11,7 +11,7 @@ use bq_lines::HexWord;
 use bq_load::{LoadFault, Numbered, load};
 use std::alloc::{AllocError, Global};
 
-impl Machine {
+impl AnyCore {
     ghost use Rattle.bq_trace.specs.News.{Gets};
     ghost use Rattle.bq_trace.specs.Telling.{LoadHappens};
 

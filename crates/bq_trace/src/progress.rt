@@ -8,8 +8,8 @@ ghost use Rattle.bq_parts.specs.declared.refusal.Refusal.TheVariants as no;
 ghost use Rattle.bq_trace.specs.News.{Gets};
 ghost use Rattle.bq_trace.specs.Telling.{Happens, WakeHappens, Tells};
 
+use crate::any_core::AnyCore;
 use crate::bare::bare;
-use crate::machine::Machine;
 use crate::sink::Sink;
 use crate::telling;
 use bq_core::{Event, Refusal, Reply};
@@ -26,7 +26,7 @@ fn is_out_of_memory(answer: &Result<Reply, Refusal>) -> bool
     }
 }
 
-impl Machine {
+impl AnyCore {
     /// Does an event, and tells it before and after. True where it was not refused.
     pub fn happen<S: Sink>(
         &mut self,
@@ -137,7 +137,7 @@ pub enum Phase {
     /// The first line was no machine line, so nothing is done any more.
     Over,
     /// The machine, after the events so far.
-    Running(Machine),
+    Running(AnyCore),
 }
 
 /// Where a trace stands after the line of this number, which may be its machine line; tells what comes of it. True where
@@ -158,7 +158,7 @@ fn first_phase<S: Sink>(
             Ok((Phase::Waiting, false))
         }
         Reading::Says(Command::Machine { rule, size }) => {
-            let machine = Machine::new(alloc, rule, size)?;
+            let machine = AnyCore::new(alloc, rule, size)?;
             telling::open(number, rule, size, sink)?;
             Ok((Phase::Running(machine), false))
         }

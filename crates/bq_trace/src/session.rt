@@ -6,7 +6,7 @@ ghost use Rattle.bq_lines.specs.Kept.{StandsFor};
 
 use crate::counted::Counted;
 use crate::fault::ReplayFault;
-use crate::standing::Standing;
+use crate::trace_position::TracePosition;
 use std::alloc::Global;
 use std::io::Write;
 use std::marker::Model;
@@ -28,15 +28,15 @@ use std::marker::Model;
 #[derive(Drop)]
 pub struct Session {
     alloc: Global,
-    standing: Standing,
+    standing: TracePosition,
     /// The answers to one piece, kept for its memory alone.
     answers: String,
 }
 
 impl Model for Session {
-    ghost use Rattle.bq_trace.specs.declared.standing.Standing.{Standing};
+    ghost use Rattle.bq_trace.specs.declared.trace_position.TracePosition.{TracePosition};
 
-    ghost Value = { Standing };
+    ghost Value = { TracePosition };
 
     ghost view = { λ s. s.standing };
 }
@@ -52,7 +52,7 @@ impl Session {
     {
         Session {
             alloc,
-            standing: Standing::new(alloc),
+            standing: TracePosition::new(alloc),
             answers: String::new(alloc),
         }
     }

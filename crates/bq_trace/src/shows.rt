@@ -3,7 +3,7 @@ ghost use Rattle.std.specs.Prelude.{◌≡◌, ◌++◌, Some, OnOk, string_byte
 ghost use Rattle.std.specs.Option.{option_map};
 ghost use Rattle.bq_trace.specs.Texts.{entity_text, current_text, spaced_entities, processor_line, show_line};
 
-use crate::machine::{Machine, Seen};
+use crate::any_core::{AnyCore, Seen};
 use crate::texts::write_refusal;
 use bq_core::{Cpu, Refusal};
 use bq_disc::{Entity, RunQueue};
@@ -68,7 +68,7 @@ pub fn write_processor<Q: RunQueue>(
 }
 
 /// Adds the line that shows a processor of a machine, or refuses it.
-pub fn write_shown(text: &mut String, processor: u8, machine: &Machine) -> Result<(), AllocError>
+pub fn write_shown(text: &mut String, processor: u8, machine: &AnyCore) -> Result<(), AllocError>
     ensures { OnOk result (string_bytes text.new ≡ string_bytes text.old ++ show_line machine.now.world processor) }
 {
     match machine.seen(processor) {

@@ -5,13 +5,13 @@ ghost use Rattle.std.specs.Option.{option_map};
 ghost use Rattle.bq_load.specs.declared.fault.LoadFault.TheVariants as why;
 ghost use Rattle.bq_trace.specs.News.{News, text_of, Opened, Skipped, Comes, Answered, Unspelled, Unloaded, Shown, Counted, Bad};
 
+use crate::any_core::AnyCore;
 use crate::loading::write_fault;
-use crate::machine::Machine;
 use crate::shows::write_shown;
 use crate::texts::{write_answer, write_bad, write_counter};
 use bq_core::{Event, Refusal, Reply};
 use bq_load::LoadFault;
-use bq_sizes::{Rule, Size};
+use bq_sizes::{ProcessorCount, Rule};
 use std::alloc::AllocError;
 
 /// Takes what comes of the lines of a trace, in order. `number` is that of the line, from 1.
@@ -22,7 +22,7 @@ pub trait Sink {
     ghost takes: { Self → ℕ → News → Self → Type 0 };
 
     /// A machine is made.
-    fn opened(&mut self, number: u64, rule: Rule, size: Size) -> Result<(), AllocError>
+    fn opened(&mut self, number: u64, rule: Rule, size: ProcessorCount) -> Result<(), AllocError>
         ensures { OnOk result (takes self.old number (Opened rule size) self.new) };
 
     /// The line says nothing: it has no words, or is a comment.
@@ -30,7 +30,7 @@ pub trait Sink {
         ensures { OnOk result (takes self.old number (Skipped line.now) self.new) };
 
     /// This event is about to be done in the machine. An Install is told without its policy, here and below.
-    fn comes(&mut self, number: u64, event: &Event, machine: &Machine) -> Result<(), AllocError>
+    fn comes(&mut self, number: u64, event: &Event, machine: &AnyCore) -> Result<(), AllocError>
         ensures { OnOk result (takes self.old number (Comes event.now machine.now) self.new) };
 
     /// It was done in the machine, or refused.
@@ -39,7 +39,7 @@ pub trait Sink {
         number: u64,
         event: &Event,
         answer: &Result<Reply, Refusal>,
-        machine: &Machine,
+        machine: &AnyCore,
     ) -> Result<(), AllocError>
         ensures { OnOk result (takes self.old number (Answered event.now answer.now machine.now) self.new) };
 
@@ -53,7 +53,7 @@ pub trait Sink {
         ensures { OnOk result (takes self.old number (Unloaded fault) self.new) };
 
     /// A processor is to be shown, which the machine may not have.
-    fn shown(&mut self, number: u64, processor: u8, machine: &Machine) -> Result<(), AllocError>
+    fn shown(&mut self, number: u64, processor: u8, machine: &AnyCore) -> Result<(), AllocError>
         ensures { OnOk result (takes self.old number (Shown processor machine.now) self.new) };
 
     /// A counter has this value.
@@ -68,7 +68,12 @@ pub trait Sink {
 impl Sink for String {
     ghost takes = { λ old n news new. string_bytes new ≡ string_bytes old ++ text_of n news };
 
-    fn opened(&mut self, _number: u64, _rule: Rule, _size: Size) -> Result<(), AllocError> {
+    fn opened(
+        &mut self,
+        _number: u64,
+        _rule: Rule,
+        _size: ProcessorCount,
+    ) -> Result<(), AllocError> {
         Ok(())
     }
 
@@ -80,7 +85,7 @@ impl Sink for String {
         &mut self,
         _number: u64,
         _event: &Event,
-        _machine: &Machine,
+        _machine: &AnyCore,
     ) -> Result<(), AllocError> {
         Ok(())
     }
@@ -90,7 +95,7 @@ impl Sink for String {
         _number: u64,
         _event: &Event,
         answer: &Result<Reply, Refusal>,
-        _machine: &Machine,
+        _machine: &AnyCore,
     ) -> Result<(), AllocError> {
         write_answer(self, answer)
     }
@@ -103,7 +108,7 @@ impl Sink for String {
         write_fault(self, fault)
     }
 
-    fn shown(&mut self, _number: u64, processor: u8, machine: &Machine) -> Result<(), AllocError> {
+    fn shown(&mut self, _number: u64, processor: u8, machine: &AnyCore) -> Result<(), AllocError> {
         write_shown(self, processor, machine)
     }
 

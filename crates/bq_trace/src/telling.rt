@@ -6,14 +6,19 @@ ghost use Rattle.bq_load.specs.declared.fault.LoadFault.TheVariants as why;
 ghost use Rattle.bq_trace.specs.News.{Gets, Opened, Unspelled, Unloaded, Shown, Counted, Bad};
 ghost use Rattle.bq_trace.specs.Telling.{skips};
 
-use crate::machine::Machine;
+use crate::any_core::AnyCore;
 use crate::sink::Sink;
 use bq_load::LoadFault;
-use bq_sizes::{Rule, Size};
+use bq_sizes::{ProcessorCount, Rule};
 use std::alloc::AllocError;
 
 /// A machine is made.
-pub fn open<S: Sink>(number: u64, rule: Rule, size: Size, sink: &mut S) -> Result<(), AllocError>
+pub fn open<S: Sink>(
+    number: u64,
+    rule: Rule,
+    size: ProcessorCount,
+    sink: &mut S,
+) -> Result<(), AllocError>
     ensures { OnOk result (Gets S.takes sink.old sink.new (λ told. told ≡ (number, Opened rule size) ∷ [])) }
 {
     sink.opened(number, rule, size)
@@ -48,7 +53,7 @@ pub fn refuse_image<S: Sink>(number: u64, fault: LoadFault, sink: &mut S) -> Res
 pub fn show<S: Sink>(
     number: u64,
     processor: u8,
-    machine: &Machine,
+    machine: &AnyCore,
     sink: &mut S,
 ) -> Result<(), AllocError>
     ensures { OnOk result (Gets S.takes sink.old sink.new (λ told. told ≡ (number, Shown processor machine.now) ∷ [])) }

@@ -8,14 +8,14 @@ use Rattle.bq_bpf.specs.declared.shape.MapShape.{MapShape}
 use Rattle.bq_bpf.specs.Memory.{Setting, State, Reads, Writes, IsGood, InEntry, written, IsEntry, reference, values_base, number_of}
 use Rattle.bq_bpf.specs.Steps.{Does, called, entry_address, NamesEntry}
 use Rattle.bq_ranges.specs.declared.range.Range.{Range}
-use Rattle.bq_views.specs.declared.view.View.{View}
-use Rattle.bq_views.specs.declared.view.Known.{Known}
-use Rattle.bq_views.specs.declared.view.Kind.TheVariants.{EntryOrNull}
-use Rattle.bq_views.specs.Copies.{PartsFirst}
-use Rattle.bq_views.proofs.CopyLemmas.{copies_called}
-use Rattle.bq_views.specs.Views.{Describes, Holds, Covers, Clears, FindsBytes}
-use Rattle.bq_transfer.specs.Carries.{Carries, IsBelow}
-use Rattle.bq_views.proofs.AccessLemmas.{entry_low}
+use Rattle.bq_states.specs.declared.abstract_state.AbstractState.{AbstractState}
+use Rattle.bq_states.specs.declared.abstract_state.AbstractValue.{AbstractValue}
+use Rattle.bq_states.specs.declared.abstract_state.Kind.TheVariants.{EntryOrNull}
+use Rattle.bq_states.specs.Copies.{PartsFirst}
+use Rattle.bq_states.proofs.CopyLemmas.{copies_called}
+use Rattle.bq_states.specs.AbstractStates.{Describes, Holds, Contains, Clears, FindsBytes}
+use Rattle.bq_transfer.specs.Transfers.{Transfers, IsBelow}
+use Rattle.bq_states.proofs.AccessLemmas.{entry_low}
 use Rattle.bq_transfer.proofs.WriteLemmas.{covers_entry}
 
 answer_at : (shapes : List MapShape) (m k : ℕ) (shape : MapShape) (r : Range) (b : Bool) → slice_get shapes m ≡ Some shape → m < 256 → r.lo ≡ 0 → ((b ≡ true) × (suc k ≤ shape.entries)) ⊎ ((b ≡ false) × (shape.entries < suc k)) → Describes shapes (record { kind = EntryOrNull m; offset = r }) (cond b (values_base m + k * shape.value_size) 0)
@@ -41,14 +41,14 @@ shape_at [] m lt = absurd (omega arith)
 shape_at (x ∷ xs) zero lt = (x, refl)
 shape_at (x ∷ xs) (suc m) lt = shape_at xs m (omega arith)
 
-called_at : (shapes : List MapShape) (old cleared : List (Option Known)) (register : ℕ → Option ℕ) (answer : ℕ) (k : Known) (r : ℕ) (b c : Bool) → 0 < length cleared → Clears old cleared → Holds shapes (get_or old r None) (register r) → Describes shapes k answer → ((b ≡ true) × (r ≡ 0)) ⊎ ((b ≡ false) × (r ≢ 0)) → ((c ≡ true) × (suc r ≤ 6)) ⊎ ((c ≡ false) × (6 < suc r)) → Holds shapes (get_or (set cleared 0 (Some k)) r None) (cond b (Some answer) (cond c None (register r)))
+called_at : (shapes : List MapShape) (old cleared : List (Option AbstractValue)) (register : ℕ → Option ℕ) (answer : ℕ) (k : AbstractValue) (r : ℕ) (b c : Bool) → 0 < length cleared → Clears old cleared → Holds shapes (get_or old r None) (register r) → Describes shapes k answer → ((b ≡ true) × (r ≡ 0)) ⊎ ((b ≡ false) × (r ≢ 0)) → ((c ≡ true) × (suc r ≤ 6)) ⊎ ((c ≡ false) × (6 < suc r)) → Holds shapes (get_or (set cleared 0 (Some k)) r None) (cond b (Some answer) (cond c None (register r)))
 called_at shapes old cleared register answer k r b c lt clears h d (inl (e, same)) q = rw (e, same, get_or-set_same cleared 0 (Some k) None lt) (answer, refl, d)
 called_at shapes old cleared register answer k r b c lt clears h d (inr (e, other)) (inl (e', low)) =
     rw (e, e', get_or-set_other cleared 0 r (Some k) None other, clears.forgotten r (omega arith) (omega arith)) tt
 called_at shapes old cleared register answer k r b c lt clears h d (inr (e, other)) (inr (e', high)) =
     rw (e, e', get_or-set_other cleared 0 r (Some k) None other, clears.others r (omega arith)) h
 
-pub covers_called : (f : Setting) (v : View) (s : State) (cleared : List (Option Known)) (parts : List ℕ) (answer : ℕ) (k : Known) → 0 < length cleared → Clears v.registers cleared → PartsFirst v.classes parts → Covers f v s → Describes f.shapes k answer → Covers f (record v { registers = slice_set cleared 0 (Some k); classes = slice_set parts 0 0 }) (called s answer)
+pub covers_called : (f : Setting) (v : AbstractState) (s : State) (cleared : List (Option AbstractValue)) (parts : List ℕ) (answer : ℕ) (k : AbstractValue) → 0 < length cleared → Clears v.registers cleared → PartsFirst v.classes parts → Contains f v s → Describes f.shapes k answer → Contains f (record v { registers = slice_set cleared 0 (Some k); classes = slice_set parts 0 0 }) (called s answer)
 covers_called f v s cleared parts answer k lt clears first covers d = record {
   registers = λ r. called_at f.shapes v.registers cleared s.register answer k r _ _ lt clears (covers.registers r) d (eqb_tells r 0) (leb_tells (suc r) 6);
   set = covers.set;
@@ -58,8 +58,8 @@ covers_called f v s cleared parts answer k lt clears first covers d = record {
   copies = copies_called v.classes parts s answer first covers.copies;
 }
 
--- a look-up carries the view on
-pub carries_look_up : (shapes : List MapShape) (context_length : ℕ) (v : View) (cleared : List (Option Known)) (parts : List ℕ) (m : ℕ) (r : Range) → 0 < length cleared → Clears v.registers cleared → PartsFirst v.classes parts → r.lo ≡ 0 → m < 256 → ((f : Setting) (s : State) → Covers f v s → (s.register 1 ≡ Some (reference m)) × (m < length f.shapes)) → FindsBytes shapes context_length v 2 4 → Carries shapes context_length (Call (pos 1)) v (record v { registers = slice_set cleared 0 (Some (record { kind = EntryOrNull m; offset = r })); classes = slice_set parts 0 0 })
+-- a look-up transfers the view on
+pub carries_look_up : (shapes : List MapShape) (context_length : ℕ) (v : AbstractState) (cleared : List (Option AbstractValue)) (parts : List ℕ) (m : ℕ) (r : Range) → 0 < length cleared → Clears v.registers cleared → PartsFirst v.classes parts → r.lo ≡ 0 → m < 256 → ((f : Setting) (s : State) → Contains f v s → (s.register 1 ≡ Some (reference m)) × (m < length f.shapes)) → FindsBytes shapes context_length v 2 4 → Transfers shapes context_length (Call (pos 1)) v (record v { registers = slice_set cleared 0 (Some (record { kind = EntryOrNull m; offset = r })); classes = slice_set parts 0 0 })
 carries_look_up shapes context_length v cleared parts m r lt clears first lo few names finds f s suits covers =
     let named = names f s covers in
     let found = finds f s suits covers in
@@ -82,7 +82,7 @@ carries_look_up shapes context_length v cleared parts m r lt clears first lo few
     )
 
 -- the write of a value into an entry
-entry_written : (f : Setting) (v : View) (s : State) (m k : ℕ) (shape : MapShape) (value : List ℕ) → slice_get f.shapes m ≡ Some shape → k < shape.entries → length value ≡ shape.value_size → ((i : ℕ) → slice_index value i < 256) → Covers f v s → (u : State) × Writes f s (entry_address shape m k) value u × Covers f v u × (u.slot ≡ s.slot)
+entry_written : (f : Setting) (v : AbstractState) (s : State) (m k : ℕ) (shape : MapShape) (value : List ℕ) → slice_get f.shapes m ≡ Some shape → k < shape.entries → length value ≡ shape.value_size → ((i : ℕ) → slice_index value i < 256) → Contains f v s → (u : State) × Writes f s (entry_address shape m k) value u × Contains f v u × (u.slot ≡ s.slot)
 entry_written f v s m k shape value known there long small covers =
     let first : ℕ = k * shape.value_size in
     let entry : IsEntry f.shapes m first shape.value_size = record { shape = shape; known = known; number = k; there = there; first_is = refl; size_is = refl } in
@@ -98,7 +98,7 @@ entry_written f v s m k shape value known there long small covers =
     entry_at : (shape : MapShape) (m k : ℕ) → k < shape.entries → entry_address shape m k ≡ values_base m + k * shape.value_size + 0
     entry_at shape m k there = grind (arith, nat_tests)
 
-update_by : (f : Setting) (s : State) (v new : View) (m k : ℕ) (shape : MapShape) (from : ℕ) (value : List ℕ) → NamesEntry f s m shape k → s.register 3 ≡ Some from → length value ≡ shape.value_size → Reads f s from value → s.register 4 ≡ Some 0 → ((i : ℕ) → slice_index value i < 256) → Covers f v s → ((s : State) (x : ℕ) → Covers f v s → x < 2 ^ 64 → Covers f new (called s x)) → (k < shape.entries) ⊎ (shape.entries ≤ k) → (t : State) × Does f (Call (pos 2)) s t × Covers f new t × (t.slot ≡ s.slot + 1)
+update_by : (f : Setting) (s : State) (v new : AbstractState) (m k : ℕ) (shape : MapShape) (from : ℕ) (value : List ℕ) → NamesEntry f s m shape k → s.register 3 ≡ Some from → length value ≡ shape.value_size → Reads f s from value → s.register 4 ≡ Some 0 → ((i : ℕ) → slice_index value i < 256) → Contains f v s → ((s : State) (x : ℕ) → Contains f v s → x < 2 ^ 64 → Contains f new (called s x)) → (k < shape.entries) ⊎ (shape.entries ≤ k) → (t : State) × Does f (Call (pos 2)) s t × Contains f new t × (t.slot ≡ s.slot + 1)
 update_by f s v new m k shape from value entry is long reads none small covers answered (inl there) =
     let on = entry_written f v s m k shape value entry.known there long small covers in (
       called on.0 0,
@@ -113,8 +113,8 @@ update_by f s v new m k shape from value entry is long reads none small covers a
   refl,
 )
 
--- an update carries the view on
-pub carries_update : (shapes : List MapShape) (context_length : ℕ) (v new : View) (m : ℕ) (shape : MapShape) → slice_get shapes m ≡ Some shape → ((f : Setting) (s : State) → Covers f v s → (s.register 1 ≡ Some (reference m)) × (m < length f.shapes)) → FindsBytes shapes context_length v 2 4 → FindsBytes shapes context_length v 3 shape.value_size → IsBelow v 4 1 → ((f : Setting) (s : State) (x : ℕ) → Covers f v s → x < 2 ^ 64 → Covers f new (called s x)) → Carries shapes context_length (Call (pos 2)) v new
+-- an update transfers the view on
+pub carries_update : (shapes : List MapShape) (context_length : ℕ) (v new : AbstractState) (m : ℕ) (shape : MapShape) → slice_get shapes m ≡ Some shape → ((f : Setting) (s : State) → Contains f v s → (s.register 1 ≡ Some (reference m)) × (m < length f.shapes)) → FindsBytes shapes context_length v 2 4 → FindsBytes shapes context_length v 3 shape.value_size → IsBelow v 4 1 → ((f : Setting) (s : State) (x : ℕ) → Contains f v s → x < 2 ^ 64 → Contains f new (called s x)) → Transfers shapes context_length (Call (pos 2)) v new
 carries_update shapes context_length v new m shape known names finds values below answered f s suits covers =
     let named = names f s covers in
     let found = finds f s suits covers in

@@ -4,17 +4,17 @@ use Rattle.bq_insn.specs.declared.Insn.TheVariants.{Call}
 use Rattle.bq_bpf.specs.declared.board.Call.TheVariants.{Add, Read}
 use Rattle.bq_bpf.specs.Memory.{Setting, State}
 use Rattle.bq_bpf.specs.Steps.{called}
-use Rattle.bq_views.specs.declared.view.View.{View}
-use Rattle.bq_transfer.specs.Carries.{AsksFrom, IsBelow}
-use Rattle.bq_views.specs.Views.{Covers}
+use Rattle.bq_states.specs.declared.abstract_state.AbstractState.{AbstractState}
+use Rattle.bq_transfer.specs.Transfers.{AsksFrom, IsBelow}
+use Rattle.bq_states.specs.AbstractStates.{Contains}
 
-pub asks_add : (view after : View) → IsBelow view 1 64 → IsBelow view 2 (2 ^ 64) → ((f : Setting) (s : State) (x : ℕ) → Covers f view s → x < 2 ^ 64 → Covers f after (called s x)) → AsksFrom (Call (pos 100)) view after
+pub asks_add : (view after : AbstractState) → IsBelow view 1 64 → IsBelow view 2 (2 ^ 64) → ((f : Setting) (s : State) (x : ℕ) → Contains f view s → x < 2 ^ 64 → Contains f after (called s x)) → AsksFrom (Call (pos 100)) view after
 asks_add view after counter amount answered f s x covers small =
     let i = counter f s covers in
     let d = amount f s covers in
     (Add i.0 d.0 x, refl, (refl, i.1, i.2, d.1), answered f s x covers small)
 
-pub asks_read : (view after : View) → IsBelow view 1 64 → ((f : Setting) (s : State) (x : ℕ) → Covers f view s → x < 2 ^ 64 → Covers f after (called s x)) → AsksFrom (Call (pos 101)) view after
+pub asks_read : (view after : AbstractState) → IsBelow view 1 64 → ((f : Setting) (s : State) (x : ℕ) → Contains f view s → x < 2 ^ 64 → Contains f after (called s x)) → AsksFrom (Call (pos 101)) view after
 asks_read view after counter answered f s x covers small =
     let i = counter f s covers in
     (Read i.0 x, refl, (refl, i.1, i.2), answered f s x covers small)

@@ -5,7 +5,7 @@ use Rattle.bq_insn.specs.declared.Insn.TheVariants.{Load}
 use Rattle.bq_insn.specs.declared.Size.{Size}
 use Rattle.bq_insn.specs.declared.Size.TheVariants.{Double}
 use Rattle.std.specs.Int.{byte_at as byte_of, bytes_low_first}
-use Rattle.bq_views.proofs.StoreLemmas.{low_at}
+use Rattle.bq_states.proofs.StoreLemmas.{low_at}
 use Rattle.bq_insn.specs.Slots.{byte_count}
 use Rattle.bq_alu.specs.Meaning.{word_of}
 use Rattle.bq_bpf.specs.declared.shape.MapShape.{MapShape}
@@ -13,19 +13,19 @@ use Rattle.bq_bpf.specs.Memory.{Setting, State, Region, InStack, IsGood, Reads, 
 use Rattle.bq_bpf.specs.Steps.{loaded, Does, address_of, put}
 use Rattle.bq_ranges.specs.Within.{Within}
 use Rattle.bq_ranges.specs.declared.range.Range.{Range}
-use Rattle.bq_views.specs.Copies.{HasWord}
-use Rattle.bq_views.specs.declared.view.View.{View}
-use Rattle.bq_views.specs.declared.view.Known.{Known}
-use Rattle.bq_views.specs.declared.view.Kind.{Kind}
-use Rattle.bq_views.specs.declared.view.Kind.TheVariants.{Number, Stack}
-use Rattle.bq_views.specs.Views.{Describes, Covers, Keeps, Suits, IsOfKind, Bounds}
-use Rattle.bq_transfer.specs.Carries.{FindsPlace}
-use Rattle.bq_views.proofs.WordLemmas.{number_is}
-use Rattle.bq_views.proofs.AccessLemmas.{good_at, number_of_word, read_bytes, region_byte}
-use Rattle.bq_views.proofs.LearnLemmas.{found_at}
+use Rattle.bq_states.specs.Copies.{HasWord}
+use Rattle.bq_states.specs.declared.abstract_state.AbstractState.{AbstractState}
+use Rattle.bq_states.specs.declared.abstract_state.AbstractValue.{AbstractValue}
+use Rattle.bq_states.specs.declared.abstract_state.Kind.{Kind}
+use Rattle.bq_states.specs.declared.abstract_state.Kind.TheVariants.{Number, Stack}
+use Rattle.bq_states.specs.AbstractStates.{Describes, Contains, Keeps, Suits, IsOfKind, Bounds}
+use Rattle.bq_transfer.specs.Transfers.{FindsPlace}
+use Rattle.bq_states.proofs.WordLemmas.{number_is}
+use Rattle.bq_states.proofs.AccessLemmas.{good_at, number_of_word, read_bytes, region_byte}
+use Rattle.bq_states.proofs.LearnLemmas.{found_at}
 
 -- where an access by a pointer that stays inside its region goes
-pub place_gives : (shapes : List MapShape) (context_length : ℕ) (view : View) (size : Size) (src : ℕ) (off : ℤ) (base : Known) (bound : ℕ) (at : Range) → Some base ≡ slice_index_or view.registers src None → Bounds shapes context_length base.kind bound → bound ≤ 65536 → ((u : ℕ) → Within base.offset u → Within at ((u + word_of off) % 2 ^ 64)) → at.hi + byte_count size ≤ bound → FindsPlace shapes context_length view src off size base.kind at
+pub place_gives : (shapes : List MapShape) (context_length : ℕ) (view : AbstractState) (size : Size) (src : ℕ) (off : ℤ) (base : AbstractValue) (bound : ℕ) (at : Range) → Some base ≡ slice_index_or view.registers src None → Bounds shapes context_length base.kind bound → bound ≤ 65536 → ((u : ℕ) → Within base.offset u → Within at ((u + word_of off) % 2 ^ 64)) → at.hi + byte_count size ≤ bound → FindsPlace shapes context_length view src off size base.kind at
 place_gives shapes context_length view size src off base bound at known bounds small moved inside f s suits covers =
     let found = found_at f view s src base known covers in
     let d = found.2 in
@@ -37,7 +37,7 @@ place_gives shapes context_length view size src off base bound at known bounds s
     (found.0, region.0, o, found.1, good, region.2, within)
 
 -- a read of a place whose bytes are set
-pub reads_place : (shapes : List MapShape) (context_length : ℕ) (view : View) (size : Size) (src : ℕ) (off : ℤ) (kind : Kind) (at : Range) → FindsPlace shapes context_length view src off size kind at → (kind ≡ Stack → (o i : ℕ) → Within at o → i < byte_count size → slice_index_or view.set (o + i) false ≡ true) → (f : Setting) (s : State) → Suits shapes context_length f → Covers f view s → (word : ℕ) × (bytes : List ℕ) × (s.register src ≡ Some word) × (length bytes ≡ byte_count size) × (r : Reads f s (address_of word off) bytes) × (number_of bytes < 256 ^ byte_count size) × IsOfKind kind r.region × Within at r.offset
+pub reads_place : (shapes : List MapShape) (context_length : ℕ) (view : AbstractState) (size : Size) (src : ℕ) (off : ℤ) (kind : Kind) (at : Range) → FindsPlace shapes context_length view src off size kind at → (kind ≡ Stack → (o i : ℕ) → Within at o → i < byte_count size → slice_index_or view.set (o + i) false ≡ true) → (f : Setting) (s : State) → Suits shapes context_length f → Contains f view s → (word : ℕ) × (bytes : List ℕ) × (s.register src ≡ Some word) × (length bytes ≡ byte_count size) × (r : Reads f s (address_of word off) bytes) × (number_of bytes < 256 ^ byte_count size) × IsOfKind kind r.region × Within at r.offset
 reads_place shapes context_length view size src off kind at finds set f s suits covers =
     let found = finds f s suits covers in
     let good = found.4 in
@@ -54,13 +54,13 @@ reads_place shapes context_length view size src off kind at finds set f s suits 
     )
 
 -- a load of a place whose bytes are set
-pub load_gives : (shapes : List MapShape) (context_length : ℕ) (view : View) (size : Size) (signed : Bool) (dst src : ℕ) (off : ℤ) (kind : Kind) (at numbers : Range) → FindsPlace shapes context_length view src off size kind at → (kind ≡ Stack → (o i : ℕ) → Within at o → i < byte_count size → slice_index_or view.set (o + i) false ≡ true) → ((f : Setting) (s : State) (word : ℕ) (bytes : List ℕ) (r : Reads f s (address_of word off) bytes) → Covers f view s → length bytes ≡ byte_count size → number_of bytes < 256 ^ byte_count size → IsOfKind kind r.region → Within at r.offset → Within numbers (loaded size signed (number_of bytes))) → dst < 10 → (f : Setting) (s : State) → Suits shapes context_length f → Covers f view s → (n : ℕ) × Does f (Load size signed dst src off) s (put s 1 dst n) × Describes f.shapes (record { kind = Number; offset = numbers }) n
+pub load_gives : (shapes : List MapShape) (context_length : ℕ) (view : AbstractState) (size : Size) (signed : Bool) (dst src : ℕ) (off : ℤ) (kind : Kind) (at numbers : Range) → FindsPlace shapes context_length view src off size kind at → (kind ≡ Stack → (o i : ℕ) → Within at o → i < byte_count size → slice_index_or view.set (o + i) false ≡ true) → ((f : Setting) (s : State) (word : ℕ) (bytes : List ℕ) (r : Reads f s (address_of word off) bytes) → Contains f view s → length bytes ≡ byte_count size → number_of bytes < 256 ^ byte_count size → IsOfKind kind r.region → Within at r.offset → Within numbers (loaded size signed (number_of bytes))) → dst < 10 → (f : Setting) (s : State) → Suits shapes context_length f → Contains f view s → (n : ℕ) × Does f (Load size signed dst src off) s (put s 1 dst n) × Describes f.shapes (record { kind = Number; offset = numbers }) n
 load_gives shapes context_length view size signed dst src off kind at numbers finds set fits target f s suits covers =
     let read = reads_place shapes context_length view size src off kind at finds set f s suits covers in
     (loaded size signed (number_of read.1), (read.0, read.1, read.2, read.3, read.4, target, refl), number_is f.shapes numbers _ (fits f s read.0 read.1 read.4 covers read.3 read.5 read.6 read.7))
 
 -- a word that is kept in a slot is there
-kept_word : (shapes : List MapShape) (k : Known) (s : State) (slot : ℕ) → (keeps : Keeps shapes (Some k) s.stack slot) → HasWord s (11 + slot) keeps.0
+kept_word : (shapes : List MapShape) (k : AbstractValue) (s : State) (slot : ℕ) → (keeps : Keeps shapes (Some k) s.stack slot) → HasWord s (11 + slot) keeps.0
 kept_word shapes k s slot keeps = (
   λ lt. absurd (let no : ⊥ = omega (arith, lt) in no),
   λ j is.
@@ -72,11 +72,11 @@ kept_word shapes k s slot keeps = (
 )
 
 -- a load of a word that was stored whole
-pub kept_gives : (shapes : List MapShape) (context_length : ℕ) (view : View) (dst src : ℕ) (off : ℤ) (at : Range) (slot : ℕ) (k : Known) → FindsPlace shapes context_length view src off Double Stack at → at.lo ≡ at.hi → at.lo ≡ 8 * slot → slice_index_or view.kept slot None ≡ Some k → dst < 10 → (f : Setting) (s : State) → Suits shapes context_length f → Covers f view s → (n : ℕ) × Does f (Load Double false dst src off) s (put s 1 dst n) × Describes f.shapes k n × HasWord s (11 + slot) n
+pub kept_gives : (shapes : List MapShape) (context_length : ℕ) (view : AbstractState) (dst src : ℕ) (off : ℤ) (at : Range) (slot : ℕ) (k : AbstractValue) → FindsPlace shapes context_length view src off Double Stack at → at.lo ≡ at.hi → at.lo ≡ 8 * slot → slice_index_or view.kept slot None ≡ Some k → dst < 10 → (f : Setting) (s : State) → Suits shapes context_length f → Contains f view s → (n : ℕ) × Does f (Load Double false dst src off) s (put s 1 dst n) × Describes f.shapes k n × HasWord s (11 + slot) n
 kept_gives shapes context_length view dst src off at slot k finds single here there target f s suits covers =
     let found = finds f s suits covers in
     let same : found.2 ≡ 8 * slot = omega (arith, found.6) in
-    let keeps = subst (λ (v : Option Known). Keeps f.shapes v s.stack slot) there (covers.kept slot) in
+    let keeps = subst (λ (v : Option AbstractValue). Keeps f.shapes v s.stack slot) there (covers.kept slot) in
     let n : ℕ = keeps.0 in
     let small : n < 2 ^ 64 = let d = keeps.1 in omega (arith, d.word_is) in
     let bytes : List ℕ = bytes_low_first 0 8 n in
@@ -88,7 +88,7 @@ kept_gives shapes context_length view dst src off at slot k finds single here th
       kept_word f.shapes k s slot keeps,
     )
 
-pub kept_load : (shapes : List MapShape) (context_length : ℕ) (view : View) (size : Size) (signed : Bool) (dst src : ℕ) (off : ℤ) (kind : Kind) (at : Range) (k : Known) → FindsPlace shapes context_length view src off size kind at → (kind ≡ Stack) × (size ≡ Double) × (signed ≡ false) × (at.lo ≡ at.hi) × (slot : ℕ) × (slot < 64) × (at.lo ≡ 8 * slot) × (slice_index_or view.kept slot None ≡ Some k) → dst < 10 → (f : Setting) (s : State) → Suits shapes context_length f → Covers f view s → (n : ℕ) × Does f (Load size signed dst src off) s (put s 1 dst n) × Describes f.shapes k n × ((place : ℕ) → at.lo ≡ 8 * place → HasWord s (11 + place) n)
+pub kept_load : (shapes : List MapShape) (context_length : ℕ) (view : AbstractState) (size : Size) (signed : Bool) (dst src : ℕ) (off : ℤ) (kind : Kind) (at : Range) (k : AbstractValue) → FindsPlace shapes context_length view src off size kind at → (kind ≡ Stack) × (size ≡ Double) × (signed ≡ false) × (at.lo ≡ at.hi) × (slot : ℕ) × (slot < 64) × (at.lo ≡ 8 * slot) × (slice_index_or view.kept slot None ≡ Some k) → dst < 10 → (f : Setting) (s : State) → Suits shapes context_length f → Contains f view s → (n : ℕ) × Does f (Load size signed dst src off) s (put s 1 dst n) × Describes f.shapes k n × ((place : ℕ) → at.lo ≡ 8 * place → HasWord s (11 + place) n)
 kept_load shapes context_length view size signed dst src off kind at k finds (stack, double, plain, single, slot, inside, here, there) target f s suits covers =
     let finds' : FindsPlace shapes context_length view src off Double Stack at = subst (λ (z : Size). FindsPlace shapes context_length view src off z Stack at) double (subst (λ (x : Kind). FindsPlace shapes context_length view src off size x at) stack finds) in
     let given = kept_gives shapes context_length view dst src off at slot k finds' single here there target f s suits covers in (

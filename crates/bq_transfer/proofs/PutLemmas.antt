@@ -1,6 +1,6 @@
 -- Instructions that give a register a value.
 use Rattle.bq_ranges.specs.declared.range.Range.{Range}
-use Rattle.bq_views.specs.declared.view.Kind.TheVariants.{Map}
+use Rattle.bq_states.specs.declared.abstract_state.Kind.TheVariants.{Map}
 use Rattle.std.proofs.Common.{zero-le, ◌≡◌, ◌≢◌, ℕ, ◌+◌, ◌<◌, Bool, true, false, List, Option, Some, None, length, get_or, set, refl, arith, get_or-set_same, get_or-set_other, ◌⊎◌, inl, inr, cond}
 use Rattle.std.specs.Prelude.{slice_set}
 use Rattle.std.proofs.lemmas.Bool.Decides.{eqb_tells}
@@ -11,22 +11,22 @@ use Rattle.bq_insn.specs.declared.Operation.TheVariants as op
 use Rattle.bq_bpf.specs.declared.shape.MapShape.{MapShape}
 use Rattle.bq_bpf.specs.Memory.{Setting, State, reference}
 use Rattle.bq_bpf.specs.Steps.{Does, put, IsLeft}
-use Rattle.bq_views.specs.declared.view.Known.{Known}
-use Rattle.bq_views.specs.declared.view.View.{View}
-use Rattle.bq_views.proofs.CopyLemmas.{copies_put, copies_same, loaded_copy, put_here, put_same}
-use Rattle.bq_views.specs.Copies.{AreCopies, HasWord}
-use Rattle.bq_views.specs.Views.{Describes, Holds, Covers, Suits, knowing}
-use Rattle.bq_transfer.specs.Carries.{Carries}
+use Rattle.bq_states.specs.declared.abstract_state.AbstractValue.{AbstractValue}
+use Rattle.bq_states.specs.declared.abstract_state.AbstractState.{AbstractState}
+use Rattle.bq_states.proofs.CopyLemmas.{copies_put, copies_same, loaded_copy, put_here, put_same}
+use Rattle.bq_states.specs.Copies.{AreCopies, HasWord}
+use Rattle.bq_states.specs.AbstractStates.{Describes, Holds, Contains, Suits, knowing}
+use Rattle.bq_transfer.specs.Transfers.{Transfers}
 
 pub left_from_set : (o : Operation) (v : Option ℕ) (a : ℕ) → v ≡ Some a → IsLeft o v a
 left_from_set op.Mov v a e = tt
 left_from_set _ v a e = e
 
-put_at : (shapes : List MapShape) (regs : List (Option Known)) (register : ℕ → Option ℕ) (dst n : ℕ) (k : Known) (r : ℕ) (b : Bool) → dst < length regs → Holds shapes (get_or regs r None) (register r) → Describes shapes k n → ((b ≡ true) × (r ≡ dst)) ⊎ ((b ≡ false) × (r ≢ dst)) → Holds shapes (get_or (set regs dst (Some k)) r None) (cond b (Some n) (register r))
+put_at : (shapes : List MapShape) (regs : List (Option AbstractValue)) (register : ℕ → Option ℕ) (dst n : ℕ) (k : AbstractValue) (r : ℕ) (b : Bool) → dst < length regs → Holds shapes (get_or regs r None) (register r) → Describes shapes k n → ((b ≡ true) × (r ≡ dst)) ⊎ ((b ≡ false) × (r ≢ dst)) → Holds shapes (get_or (set regs dst (Some k)) r None) (cond b (Some n) (register r))
 put_at shapes regs register dst n k r b lt h d (inl (e, same)) = rw (e, same, get_or-set_same regs dst (Some k) None lt) (n, refl, d)
 put_at shapes regs register dst n k r b lt h d (inr (e, other)) = rw (e, get_or-set_other regs dst r (Some k) None other) h
 
-pub covers_put : (f : Setting) (v : View) (s : State) (slots dst n : ℕ) (k : Known) → dst < length v.registers → Covers f v s → Describes f.shapes k n → Covers f (knowing v dst k) (put s slots dst n)
+pub covers_put : (f : Setting) (v : AbstractState) (s : State) (slots dst n : ℕ) (k : AbstractValue) → dst < length v.registers → Contains f v s → Describes f.shapes k n → Contains f (knowing v dst k) (put s slots dst n)
 covers_put f v s slots dst n k lt covers d = record {
   registers = λ r. put_at f.shapes v.registers s.register dst n k r _ lt (covers.registers r) d (eqb_tells r dst);
   set = covers.set;
@@ -37,7 +37,7 @@ covers_put f v s slots dst n k lt covers d = record {
 }
 
 -- a register that is written with what it holds
-pub covers_same : (f : Setting) (v : View) (s : State) (slots dst n : ℕ) → s.register dst ≡ Some n → Covers f v s → Covers f v (put s slots dst n)
+pub covers_same : (f : Setting) (v : AbstractState) (s : State) (slots dst n : ℕ) → s.register dst ≡ Some n → Contains f v s → Contains f v (put s slots dst n)
 covers_same f v s slots dst n is covers = record {
   registers = λ r. rw (put_same s slots dst n is r) (covers.registers r);
   set = covers.set;
@@ -47,18 +47,18 @@ covers_same f v s slots dst n is covers = record {
   copies = copies_same v.classes s slots dst n is covers.copies;
 }
 
--- an instruction that gives a register such a word carries the view on
-pub carries_put : (shapes : List MapShape) (context_length : ℕ) (insn : Insn) (v : View) (dst : ℕ) (k : Known) → dst < length v.registers → ((f : Setting) (s : State) → Suits shapes context_length f → Covers f v s → (n : ℕ) × Does f insn s (put s (slots_of insn) dst n) × Describes f.shapes k n) → Carries shapes context_length insn v (knowing v dst k)
+-- an instruction that gives a register such a word transfers the view on
+pub carries_put : (shapes : List MapShape) (context_length : ℕ) (insn : Insn) (v : AbstractState) (dst : ℕ) (k : AbstractValue) → dst < length v.registers → ((f : Setting) (s : State) → Suits shapes context_length f → Contains f v s → (n : ℕ) × Does f insn s (put s (slots_of insn) dst n) × Describes f.shapes k n) → Transfers shapes context_length insn v (knowing v dst k)
 carries_put shapes context_length insn v dst k lt gives f s suits covers =
     let given = gives f s suits covers in
     (put s (slots_of insn) dst given.0, given.1, covers_put f v s (slots_of insn) dst given.0 k lt covers given.2, refl)
 
 -- the same, where the register is a copy of a slot then
-pub carries_linked : (shapes : List MapShape) (context_length : ℕ) (insn : Insn) (v : View) (dst slot : ℕ) (k : Known) (classes : List ℕ) → dst < length v.registers → dst < 11 → ((f : Setting) (s : State) → Suits shapes context_length f → Covers f v s → (n : ℕ) × Does f insn s (put s (slots_of insn) dst n) × Describes f.shapes k n × HasWord s (11 + slot) n) → ((t : State) (n : ℕ) → AreCopies (slice_set v.classes dst 0) t → HasWord t (11 + slot) n → ((m : ℕ) → HasWord t (11 + slot) m → HasWord t dst m) → AreCopies classes t) → Carries shapes context_length insn v (record (knowing v dst k) { classes = classes })
+pub carries_linked : (shapes : List MapShape) (context_length : ℕ) (insn : Insn) (v : AbstractState) (dst slot : ℕ) (k : AbstractValue) (classes : List ℕ) → dst < length v.registers → dst < 11 → ((f : Setting) (s : State) → Suits shapes context_length f → Contains f v s → (n : ℕ) × Does f insn s (put s (slots_of insn) dst n) × Describes f.shapes k n × HasWord s (11 + slot) n) → ((t : State) (n : ℕ) → AreCopies (slice_set v.classes dst 0) t → HasWord t (11 + slot) n → ((m : ℕ) → HasWord t (11 + slot) m → HasWord t dst m) → AreCopies classes t) → Transfers shapes context_length insn v (record (knowing v dst k) { classes = classes })
 carries_linked shapes context_length insn v dst slot k classes lt low gives linked f s suits covers =
     let given = gives f s suits covers in
     let t : State = put s (slots_of insn) dst given.0 in
-    let put_covers : Covers f (knowing v dst k) t = covers_put f v s (slots_of insn) dst given.0 k lt covers given.2 in
+    let put_covers : Contains f (knowing v dst k) t = covers_put f v s (slots_of insn) dst given.0 k lt covers given.2 in
     let there : HasWord t (11 + slot) given.0 = (λ below. absurd (let no : ⊥ = omega (arith, below) in no), given.3.1) in
     let copies = linked t given.0 put_covers.copies there (λ m has. loaded_copy t dst slot given.0 m low (put_here s (slots_of insn) dst given.0) there has) in
     (t, given.1, record { registers = put_covers.registers; set = put_covers.set; kept = put_covers.kept; parts = put_covers.parts; maps = put_covers.maps; copies = copies }, refl)

@@ -8,11 +8,11 @@ use Rattle.std.proofs.lemmas.Bool.Decides.{nat_tests}
 use Rattle.bq_bpf.specs.declared.shape.MapShape.{MapShape}
 use Rattle.bq_ranges.specs.Within.{Within}
 use Rattle.bq_ranges.specs.declared.range.Range.{Range}
-use Rattle.bq_views.specs.declared.view.Kind.{Kind}
-use Rattle.bq_views.specs.declared.view.Kind.TheVariants.{Number, Entry, EntryOrNull}
-use Rattle.bq_views.specs.declared.view.Known.{Known}
-use Rattle.bq_views.specs.Views.{Describes, IsEntryBase}
-use Rattle.bq_views.proofs.WordLemmas.{number_within, number_is}
+use Rattle.bq_states.specs.declared.abstract_state.Kind.{Kind}
+use Rattle.bq_states.specs.declared.abstract_state.Kind.TheVariants.{Number, Entry, EntryOrNull}
+use Rattle.bq_states.specs.declared.abstract_state.AbstractValue.{AbstractValue}
+use Rattle.bq_states.specs.AbstractStates.{Describes, IsEntryBase}
+use Rattle.bq_states.proofs.WordLemmas.{number_within, number_is}
 
 pub moved_up : (shapes : List MapShape) (kind : Kind) (r t : Range) (x y : ℕ) (b : Range) → Describes shapes (record { kind = kind; offset = r }) x → Within b y → ((u v : ℕ) → Within r u → Within b v → Within t ((u + v) % 2 ^ 64)) → Describes shapes (record { kind = kind; offset = t }) (alu_result W64 op.Add x y)
 unfolding operate
@@ -29,7 +29,7 @@ pub same_word : (x y : ℕ) → y < 2 ^ 64 → alu_result W64 op.Mov x y ≡ y
 unfolding operate
 same_word x y h = omega arith
 
-pub copied_word : (shapes : List MapShape) (k : Known) (x y : ℕ) → Describes shapes k y → Describes shapes k (alu_result W64 op.Mov x y)
+pub copied_word : (shapes : List MapShape) (k : AbstractValue) (x y : ℕ) → Describes shapes k y → Describes shapes k (alu_result W64 op.Mov x y)
 copied_word shapes k x y d = rw (same_word x y (omega (arith, d.word_is))) d
 
 pub left_is_free : (x y : ℕ) → alu_result W32 op.Mov x y ≡ alu_result W32 op.Mov y y
@@ -37,15 +37,15 @@ unfolding operate
 left_is_free x y = refl
 
 -- the number 0, as a look-up's result may be compared with it
-zero_word : (shapes : List MapShape) (k : Known) (b : ℕ) → k.kind ≡ Number → k.offset.hi ≡ 0 → Describes shapes k b → b ≡ 0
+zero_word : (shapes : List MapShape) (k : AbstractValue) (b : ℕ) → k.kind ≡ Number → k.offset.hi ≡ 0 → Describes shapes k b → b ≡ 0
 zero_word shapes k b kind none d = let w = number_within shapes k b kind d in omega (arith, w)
 
 -- a result that is 0
-pub null_side : (shapes : List MapShape) (k : Known) (a b : ℕ) → k.kind ≡ Number → k.offset.hi ≡ 0 → Describes shapes k b → a ≡ b → Describes shapes (record { kind = Number; offset = k.offset }) a
+pub null_side : (shapes : List MapShape) (k : AbstractValue) (a b : ℕ) → k.kind ≡ Number → k.offset.hi ≡ 0 → Describes shapes k b → a ≡ b → Describes shapes (record { kind = Number; offset = k.offset }) a
 null_side shapes k a b kind none d same = rw same (number_is shapes k.offset b (number_within shapes k b kind d))
 
 -- a result that isn't
-pub entry_side : (shapes : List MapShape) (m : ℕ) (left right : Known) (a b : ℕ) → left.kind ≡ EntryOrNull m → left.offset.hi ≡ 0 → right.kind ≡ Number → right.offset.hi ≡ 0 → Describes shapes left a → Describes shapes right b → a ≢ b → Describes shapes (record { kind = Entry m; offset = left.offset }) a
+pub entry_side : (shapes : List MapShape) (m : ℕ) (left right : AbstractValue) (a b : ℕ) → left.kind ≡ EntryOrNull m → left.offset.hi ≡ 0 → right.kind ≡ Number → right.offset.hi ≡ 0 → Describes shapes left a → Describes shapes right b → a ≢ b → Describes shapes (record { kind = Entry m; offset = left.offset }) a
 entry_side shapes m left right a b is whole kind none d e differ =
     record {
       base = d.base;

@@ -17,15 +17,15 @@ use Rattle.bq_bpf.specs.Steps.{address_of, low_bytes, next}
 use Rattle.bq_maps.proofs.ShapeLemmas.{have_overwritten}
 use Rattle.bq_ranges.specs.declared.range.Range.{Range}
 use Rattle.bq_ranges.specs.Within.{Within}
-use Rattle.bq_views.specs.declared.view.Kind.{Kind}
-use Rattle.bq_views.specs.declared.view.Kind.TheVariants.{Stack, Entry}
-use Rattle.bq_views.specs.declared.view.View.{View}
-use Rattle.bq_views.specs.declared.view.Known.{Known}
-use Rattle.bq_views.specs.Views.{Covers, Describes, Keeps, IsOfKind, keeping}
-use Rattle.bq_transfer.specs.Carries.{FindsPlace, IsWholeSlot, Stores, Carries}
-use Rattle.bq_views.proofs.StoreLemmas.{low_at, stored_bytes}
-use Rattle.bq_views.specs.Copies.{AreCopies, HasWord}
-use Rattle.bq_views.proofs.AccessLemmas.{entry_inside}
+use Rattle.bq_states.specs.declared.abstract_state.Kind.{Kind}
+use Rattle.bq_states.specs.declared.abstract_state.Kind.TheVariants.{Stack, Entry}
+use Rattle.bq_states.specs.declared.abstract_state.AbstractState.{AbstractState}
+use Rattle.bq_states.specs.declared.abstract_state.AbstractValue.{AbstractValue}
+use Rattle.bq_states.specs.AbstractStates.{Contains, Describes, Keeps, IsOfKind, keeping}
+use Rattle.bq_transfer.specs.Transfers.{FindsPlace, IsWholeSlot, Stores, Transfers}
+use Rattle.bq_states.proofs.StoreLemmas.{low_at, stored_bytes}
+use Rattle.bq_states.specs.Copies.{AreCopies, HasWord}
+use Rattle.bq_states.proofs.AccessLemmas.{entry_inside}
 
 -- as many bytes as the store has
 pub low_long : (size : Size) (v : ℕ) → length (low_bytes size v) ≡ byte_count size
@@ -48,14 +48,14 @@ low_small size v k = at (cases_lt k (byte_count size))
         let beyond : length (low_bytes size v) ≤ k = omega (arith, low_long size v) in
         rw (get_or_past (low_bytes size v) k 0 beyond) (omega arith)
 
-keeps_at : (f : Setting) (w : View) (t : State) (j i : ℕ) (k : Known) (b : Bool) → j < length w.kept → Keeps f.shapes (Some k) t.stack j → Covers f w t → ((b ≡ true) × (i ≡ j)) ⊎ ((b ≡ false) × (i ≢ j)) → Keeps f.shapes (get_or (set w.kept j (Some k)) i None) t.stack i
+keeps_at : (f : Setting) (w : AbstractState) (t : State) (j i : ℕ) (k : AbstractValue) (b : Bool) → j < length w.kept → Keeps f.shapes (Some k) t.stack j → Contains f w t → ((b ≡ true) × (i ≡ j)) ⊎ ((b ≡ false) × (i ≢ j)) → Keeps f.shapes (get_or (set w.kept j (Some k)) i None) t.stack i
 keeps_at f w t j i k b there keeps covers (inl (_, same)) =
     rw (same, get_or-set_same w.kept j (Some k) None there) keeps
 keeps_at f w t j i k b there keeps covers (inr (_, other)) =
-    subst (λ (v : Option Known). Keeps f.shapes v t.stack i) (sym (get_or-set_other w.kept j i (Some k) None other)) (covers.kept i)
+    subst (λ (v : Option AbstractValue). Keeps f.shapes v t.stack i) (sym (get_or-set_other w.kept j i (Some k) None other)) (covers.kept i)
 
 -- a slot whose word is known
-pub covers_keeping : (f : Setting) (w : View) (t : State) (j : ℕ) (k : Known) → j < length w.kept → Keeps f.shapes (Some k) t.stack j → Covers f w t → Covers f (keeping w j k) t
+pub covers_keeping : (f : Setting) (w : AbstractState) (t : State) (j : ℕ) (k : AbstractValue) → j < length w.kept → Keeps f.shapes (Some k) t.stack j → Contains f w t → Contains f (keeping w j k) t
 covers_keeping f w t j k there keeps covers = record {
   registers = covers.registers;
   set = covers.set;
@@ -66,7 +66,7 @@ covers_keeping f w t j k there keeps covers = record {
 }
 
 -- bytes written into an entry
-pub covers_entry : (f : Setting) (v : View) (s : State) (m first address n o : ℕ) (bytes : List ℕ) → IsGood f address n (InEntry m first) o → length bytes ≡ n → ((k : ℕ) → slice_index bytes k < 256) → Covers f v s → Covers f v (next (written s (InEntry m first) o bytes))
+pub covers_entry : (f : Setting) (v : AbstractState) (s : State) (m first address n o : ℕ) (bytes : List ℕ) → IsGood f address n (InEntry m first) o → length bytes ≡ n → ((k : ℕ) → slice_index bytes k < 256) → Contains f v s → Contains f v (next (written s (InEntry m first) o bytes))
 covers_entry f v s m first address n o bytes good long small covers =
     let entry = good.spans.1 in
     let inside = entry_inside f.shapes s.maps m first good.size covers.maps entry in
@@ -81,7 +81,7 @@ covers_entry f v s m first address n o bytes good long small covers =
     }
 
 -- the word in a slot that was written whole
-slot_word : (shapes : List MapShape) (s : State) (k : Known) (at : Range) (size : Size) (o v n : ℕ) → IsWholeSlot at size n → Within at o → Describes shapes k v → HasWord (written s InStack o (low_bytes size v)) (11 + n) v
+slot_word : (shapes : List MapShape) (s : State) (k : AbstractValue) (at : Range) (size : Size) (o v n : ℕ) → IsWholeSlot at size n → Within at o → Describes shapes k v → HasWord (written s InStack o (low_bytes size v)) (11 + n) v
 slot_word shapes s k at size o v n (there, double, low, high) within d =
     let place : 8 * n ≡ o = omega (arith, within) in
     let is : low_bytes size v ≡ bytes_low_first 0 8 v = ap (λ (z : Size). low_bytes z v) double in
@@ -97,7 +97,7 @@ some_slot None n P h e = absurd (let no : ⊥ = cc in no)
 some_slot (Some m) n P h e = let same : m ≡ n = cc in subst P same h
 
 -- a store on the stack
-pub stores_on_stack : (shapes : List MapShape) (context_length dst : ℕ) (off : ℤ) (size : Size) (k : Known) (at : Range) (kind : Kind) (old new : View) (slot : Option ℕ) → IfSome slot (IsWholeSlot at size) → kind ≡ Stack → FindsPlace shapes context_length old dst off size kind at → ((f : Setting) (s : State) (o v : ℕ) → Covers f old s → Within at o → Describes f.shapes k v → Covers f new (next (written s InStack o (low_bytes size v)))) → Stores shapes context_length dst off size k old new slot
+pub stores_on_stack : (shapes : List MapShape) (context_length dst : ℕ) (off : ℤ) (size : Size) (k : AbstractValue) (at : Range) (kind : Kind) (old new : AbstractState) (slot : Option ℕ) → IfSome slot (IsWholeSlot at size) → kind ≡ Stack → FindsPlace shapes context_length old dst off size kind at → ((f : Setting) (s : State) (o v : ℕ) → Contains f old s → Within at o → Describes f.shapes k v → Contains f new (next (written s InStack o (low_bytes size v)))) → Stores shapes context_length dst off size k old new slot
 stores_on_stack shapes context_length dst off size k at kind old new slot whole stack finds after f s v suits covers d =
     let found = finds f s suits covers in
     let region : found.1 ≡ InStack = subst (λ (x : Kind). IsOfKind x found.1) stack found.5 in
@@ -113,7 +113,7 @@ stores_on_stack shapes context_length dst off size k at kind old new slot whole 
     )
 
 -- a store into an entry
-pub stores_in_entry : (shapes : List MapShape) (context_length dst : ℕ) (off : ℤ) (size : Size) (k : Known) (at : Range) (kind : Kind) (m : ℕ) (view : View) → kind ≡ Entry m → FindsPlace shapes context_length view dst off size kind at → Stores shapes context_length dst off size k view view None
+pub stores_in_entry : (shapes : List MapShape) (context_length dst : ℕ) (off : ℤ) (size : Size) (k : AbstractValue) (at : Range) (kind : Kind) (m : ℕ) (view : AbstractState) → kind ≡ Entry m → FindsPlace shapes context_length view dst off size kind at → Stores shapes context_length dst off size k view view None
 stores_in_entry shapes context_length dst off size k at kind m view entry finds f s v suits covers d =
     let found = finds f s suits covers in
     let into : (first : ℕ) × (found.1 ≡ InEntry m first) = subst (λ (x : Kind). IsOfKind x found.1) entry found.5 in
@@ -128,16 +128,16 @@ stores_in_entry shapes context_length dst off size k at kind m view entry finds 
       λ n is. absurd (let no : ⊥ = cc in no),
     )
 
-pub carries_imm : (shapes : List MapShape) (context_length dst : ℕ) (off imm : ℤ) (size : Size) (k : Known) (old new : View) (slot : Option ℕ) → ((f : Setting) → Describes f.shapes k (word_of imm)) → Stores shapes context_length dst off size k old new slot → Carries shapes context_length (StoreImm size dst off imm) old new
+pub carries_imm : (shapes : List MapShape) (context_length dst : ℕ) (off imm : ℤ) (size : Size) (k : AbstractValue) (old new : AbstractState) (slot : Option ℕ) → ((f : Setting) → Describes f.shapes k (word_of imm)) → Stores shapes context_length dst off size k old new slot → Transfers shapes context_length (StoreImm size dst off imm) old new
 carries_imm shapes context_length dst off imm size k old new slot word stores f s suits covers =
     let on = stores f s (word_of imm) suits covers (word f) in
     (next on.1, (on.0, on.1, on.2, on.3, refl), on.4, ap (λ (n : ℕ). n + 1) on.5)
 
 -- a view with other classes, which are right
-pub covers_classes : (f : Setting) (v : View) (t : State) (classes : List ℕ) → AreCopies classes t → Covers f v t → Covers f (record v { classes = classes }) t
+pub covers_classes : (f : Setting) (v : AbstractState) (t : State) (classes : List ℕ) → AreCopies classes t → Contains f v t → Contains f (record v { classes = classes }) t
 covers_classes f v t classes copies covers = record { registers = covers.registers; set = covers.set; kept = covers.kept; parts = covers.parts; maps = covers.maps; copies = copies }
 
-pub carries_reg : (shapes : List MapShape) (context_length dst src : ℕ) (off : ℤ) (size : Size) (k : Known) (old new : View) (slot : Option ℕ) (classes : List ℕ) → ((f : Setting) (s : State) → Covers f old s → (v : ℕ) × (s.register src ≡ Some v) × Describes f.shapes k v) → Stores shapes context_length dst off size k old new slot → ((t : State) (v : ℕ) → AreCopies new.classes t → t.register src ≡ Some v → ((n : ℕ) → slot ≡ Some n → HasWord t (11 + n) v) → AreCopies classes t) → Carries shapes context_length (StoreReg size dst off src) old (record new { classes = classes })
+pub carries_reg : (shapes : List MapShape) (context_length dst src : ℕ) (off : ℤ) (size : Size) (k : AbstractValue) (old new : AbstractState) (slot : Option ℕ) (classes : List ℕ) → ((f : Setting) (s : State) → Contains f old s → (v : ℕ) × (s.register src ≡ Some v) × Describes f.shapes k v) → Stores shapes context_length dst off size k old new slot → ((t : State) (v : ℕ) → AreCopies new.classes t → t.register src ≡ Some v → ((n : ℕ) → slot ≡ Some n → HasWord t (11 + n) v) → AreCopies classes t) → Transfers shapes context_length (StoreReg size dst off src) old (record new { classes = classes })
 carries_reg shapes context_length dst src off size k old new slot classes word stores linked f s suits covers =
     let v = word f s covers in
     let on = stores f s v.0 suits covers v.2 in

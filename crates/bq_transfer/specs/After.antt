@@ -12,11 +12,11 @@ use Rattle.bq_insn.specs.declared.Source.TheVariants.{Imm, Reg}
 use Rattle.bq_insn.specs.declared.Width.TheVariants.{W64}
 use Rattle.bq_bpf.specs.Steps.{LeadsTo}
 use Rattle.bq_graph.specs.Faults.{destination_of}
-use Rattle.bq_views.specs.Standing.{Scalar, Exact, Pointer, NoPointer, StandsAt, Fact, Never, AtRegister, IsSetAt, IsPlainAt, Has}
-use Rattle.bq_views.specs.Told.{IsCertain}
-use Rattle.bq_views.specs.declared.view.Kind.TheVariants.{Entry, EntryOrNull, Map}
-use Rattle.bq_views.specs.declared.view.Kind.{Kind}
-use Rattle.bq_views.specs.declared.view.View.{View}
+use Rattle.bq_states.specs.Standing.{Scalar, Exact, Pointer, NoPointer, StandsAt, Fact, Never, AtRegister, IsSetAt, IsPlainAt, Has}
+use Rattle.bq_states.specs.Told.{IsCertain}
+use Rattle.bq_states.specs.declared.abstract_state.Kind.TheVariants.{Entry, EntryOrNull, Map}
+use Rattle.bq_states.specs.declared.abstract_state.Kind.{Kind}
+use Rattle.bq_states.specs.declared.abstract_state.AbstractState.{AbstractState}
 
 -- the instruction gives the register a number
 abbrev pub GivesNumber : Insn → ℕ → Type 0
@@ -60,7 +60,7 @@ IsFoundSide NotEqual off slot to = LeadsTo slot off to × (to ≢ slot + 1)
 IsFoundSide _ off slot to = ⊥
 
 -- the instruction gives the register such a pointer, by the view before it: a map's name, a copy, a sum, a look-up's answer, and what a test leaves of it
-abbrev pub GivesPointer : Kind → ℕ → ℕ → ℕ → Insn → ℕ → View → Type 0
+abbrev pub GivesPointer : Kind → ℕ → ℕ → ℕ → Insn → ℕ → AbstractState → Type 0
 GivesPointer kind o slot k (MapRef dst index) r view = (dst ≡ r) × (m : ℕ) × (index ≡ pos m) × (kind ≡ Map m) × (o ≡ 0)
 GivesPointer kind o slot k (Alu w Mov dst (Reg src)) r view = (dst ≡ r) × (src ≡ 10) × StandsAt (Pointer kind o) view 10
 GivesPointer kind o slot k (Alu w Add dst (Imm i)) r view = (dst ≡ r) × (base : ℕ) × StandsAt (Pointer kind base) view dst × (pos o ≡ (pos base +ℤ i))
@@ -79,7 +79,7 @@ StoresByte (StoreReg size dst off src) i = (dst ≡ 10) × IsStackByte size off 
 StoresByte insn i = ⊥
 
 -- what is sure after an instruction on the way to a slot: what it made so, or what was so and it left so
-abbrev pub After : Fact → ℕ → ℕ → Insn → View → Type 0
+abbrev pub After : Fact → ℕ → ℕ → Insn → AbstractState → Type 0
 After Never slot k insn view = ⊥
 After (AtRegister Scalar r) slot k insn view = GivesNumber insn r ⊎ (LeavesNumber insn r × Has (AtRegister Scalar r) view)
 After (AtRegister (Exact n) r) slot k insn view = GivesExact n insn r ⊎ (Spares insn r × IsNoTestOf insn r × Has (AtRegister (Exact n) r) view)

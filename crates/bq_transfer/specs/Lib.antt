@@ -1,5 +1,5 @@
 pub mod Doubts
-pub mod Carries
+pub mod Transfers
 pub mod Ready
 pub mod After
 pub mod Sides

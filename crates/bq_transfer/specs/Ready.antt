@@ -14,20 +14,20 @@ use Rattle.bq_insn.specs.declared.Width.TheVariants.{W64}
 use Rattle.bq_insn.specs.declared.Width.{Width}
 use Rattle.bq_bpf.specs.declared.shape.MapShape.{MapShape}
 use Rattle.bq_graph.specs.Faults.{destination_of}
-use Rattle.bq_views.specs.Standing.{Scalar, Pointer, StandsAt, IsSetAt, IsPlainAt, Has, IsScalarOperand}
-use Rattle.bq_views.specs.Views.{bound_of, size_of_shape}
-use Rattle.bq_views.specs.declared.view.Kind.TheVariants.{Number, Stack, Entry, EntryOrNull, Map}
-use Rattle.bq_views.specs.declared.view.Kind.{Kind}
-use Rattle.bq_views.specs.declared.view.Known.{Known}
-use Rattle.bq_views.specs.declared.view.View.{View}
+use Rattle.bq_states.specs.Standing.{Scalar, Pointer, StandsAt, IsSetAt, IsPlainAt, Has, IsScalarOperand}
+use Rattle.bq_states.specs.AbstractStates.{bound_of, size_of_shape}
+use Rattle.bq_states.specs.declared.abstract_state.Kind.TheVariants.{Number, Stack, Entry, EntryOrNull, Map}
+use Rattle.bq_states.specs.declared.abstract_state.Kind.{Kind}
+use Rattle.bq_states.specs.declared.abstract_state.AbstractValue.{AbstractValue}
+use Rattle.bq_states.specs.declared.abstract_state.AbstractState.{AbstractState}
 
 -- the first operand of an arithmetic instruction, which a MOV has not
-abbrev pub IsLeftReady : Operation → View → ℕ → Type 0
+abbrev pub IsLeftReady : Operation → AbstractState → ℕ → Type 0
 IsLeftReady Mov view dst = Unit {0}
 IsLeftReady _ view dst = StandsAt Scalar view dst
 
 -- an access by the register lies there, inside what the register points to
-pub record IsPlaced (shapes : List MapShape) (context : ℕ) (view : View) (size : Size) (r : ℕ) (off : ℤ) (kind : Kind) (at : ℕ) : Type 0 where
+pub record IsPlaced (shapes : List MapShape) (context : ℕ) (view : AbstractState) (size : Size) (r : ℕ) (off : ℤ) (kind : Kind) (at : ℕ) : Type 0 where
   pub base : ℕ
   pub stands : StandsAt (Pointer kind base) view r
   pub at_is : pos at ≡ (pos base +ℤ off)
@@ -36,7 +36,7 @@ pub record IsPlaced (shapes : List MapShape) (context : ℕ) (view : View) (size
   pub inside : at + byte_count size ≤ bound
 
 -- a load of what may be read: on the stack, of bytes that are set, and no pointer is kept there
-pub record IsReadable (shapes : List MapShape) (context : ℕ) (view : View) (size : Size) (r : ℕ) (off : ℤ) : Type 0 where
+pub record IsReadable (shapes : List MapShape) (context : ℕ) (view : AbstractState) (size : Size) (r : ℕ) (off : ℤ) : Type 0 where
   pub kind : Kind
   pub at : ℕ
   pub placed : IsPlaced shapes context view size r off kind at
@@ -44,20 +44,20 @@ pub record IsReadable (shapes : List MapShape) (context : ℕ) (view : View) (si
   pub plain : (j : ℕ) → Has (IsPlainAt j) view
 
 -- a store on the stack
-pub record IsOnFrame (shapes : List MapShape) (context : ℕ) (view : View) (size : Size) (r : ℕ) (off : ℤ) : Type 0 where
+pub record IsOnFrame (shapes : List MapShape) (context : ℕ) (view : AbstractState) (size : Size) (r : ℕ) (off : ℤ) : Type 0 where
   pub at : ℕ
   pub at_is : pos at ≡ (pos 512 +ℤ off)
   pub placed : IsPlaced shapes context view size r off Stack at
 
 -- a store into an entry
-pub record IsIntoEntry (shapes : List MapShape) (context : ℕ) (view : View) (size : Size) (r : ℕ) (off : ℤ) : Type 0 where
+pub record IsIntoEntry (shapes : List MapShape) (context : ℕ) (view : AbstractState) (size : Size) (r : ℕ) (off : ℤ) : Type 0 where
   pub map : ℕ
   pub at : ℕ
   pub placed : IsPlaced shapes context view size r off (Entry map) at
   pub other : r ≢ 10
 
 -- a copy of register 10
-pub record IsCopyOfFrame (view : View) (w : Width) (op : Operation) (src : Source) : Type 0 where
+pub record IsCopyOfFrame (view : AbstractState) (w : Width) (op : Operation) (src : Source) : Type 0 where
   pub is_copy : op ≡ Mov
   pub whole : w ≡ W64
   pub of_frame : src ≡ Reg 10
@@ -65,7 +65,7 @@ pub record IsCopyOfFrame (view : View) (w : Width) (op : Operation) (src : Sourc
   pub stands : StandsAt (Pointer Stack base) view 10
 
 -- a sum of a pointer into the stack and a number
-pub record IsMoveOfPointer (view : View) (w : Width) (op : Operation) (dst : ℕ) (src : Source) : Type 0 where
+pub record IsMoveOfPointer (view : AbstractState) (w : Width) (op : Operation) (dst : ℕ) (src : Source) : Type 0 where
   pub is_sum : op ≡ Add
   pub whole : w ≡ W64
   pub distance : ℤ
@@ -78,7 +78,7 @@ pub record IsMoveOfPointer (view : View) (w : Width) (op : Operation) (dst : ℕ
   pub small : at ≤ 512
 
 -- a look-up: register 1 names a map, and register 2 points to four bytes of the stack that are set
-pub record IsNamingEntry (view : View) (map : ℕ) : Type 0 where
+pub record IsNamingEntry (view : AbstractState) (map : ℕ) : Type 0 where
   pub names : StandsAt (Pointer (Map map) 0) view 1
   pub at : ℕ
   pub points : StandsAt (Pointer Stack at) view 2
@@ -86,12 +86,12 @@ pub record IsNamingEntry (view : View) (map : ℕ) : Type 0 where
   pub set : (i : ℕ) → at ≤ i → i < at + 4 → Has (IsSetAt i) view
 
 -- a number of at most so much
-abbrev pub IsAtMost : ℕ → Option Known → Type 0
+abbrev pub IsAtMost : ℕ → Option AbstractValue → Type 0
 IsAtMost most None = ⊥
 IsAtMost most (Some k) = (k.kind ≡ Number) × (k.offset.hi ≤ most)
 
 -- an update: as a look-up, and register 3 points to bytes of the stack that are set, as many as a value has, and register 4 is 0
-pub record IsUpdating (shapes : List MapShape) (view : View) (map : ℕ) : Type 0 where
+pub record IsUpdating (shapes : List MapShape) (view : AbstractState) (map : ℕ) : Type 0 where
   pub names : IsNamingEntry view map
   pub size : ℕ
   pub size_is : size_of_shape (slice_get shapes map) ≡ Some size
@@ -114,7 +114,7 @@ pub record IsNullCheck (w : Width) (c : Condition) (src : Source) : Type 0 where
   pub with_zero : src ≡ Imm (pos 0)
 
 -- what an instruction needs, by the view before it
-abbrev pub IsReady : List MapShape → ℕ → View → Insn → Type 0
+abbrev pub IsReady : List MapShape → ℕ → AbstractState → Insn → Type 0
 IsReady shapes context view (Alu w op dst src) = (dst < 10) × ((IsLeftReady op view dst × IsScalarOperand view src) ⊎ (IsCopyOfFrame view w op src ⊎ IsMoveOfPointer view w op dst src))
 IsReady shapes context view (MovSx w bits dst src) = (dst < 10) × StandsAt Scalar view src
 IsReady shapes context view (Neg w dst) = (dst < 10) × StandsAt Scalar view dst
@@ -133,22 +133,22 @@ IsReady shapes context view (Call helper) =
 IsReady shapes context view Exit = StandsAt Scalar view 0
 
 -- neither a jump nor an EXIT
-abbrev pub IsCarried : Insn → Type 0
-IsCarried (Goto off) = ⊥
-IsCarried (Goto32 imm) = ⊥
-IsCarried (Branch w c dst src off) = ⊥
-IsCarried Exit = ⊥
-IsCarried insn = Unit {0}
+abbrev pub IsTransferred : Insn → Type 0
+IsTransferred (Goto off) = ⊥
+IsTransferred (Goto32 imm) = ⊥
+IsTransferred (Branch w c dst src off) = ⊥
+IsTransferred Exit = ⊥
+IsTransferred insn = Unit {0}
 
 -- the instruction does not write register 10, the address of the stack's end
 abbrev pub WritesBelowFrame : Insn → Type 0
 WritesBelowFrame insn = (r : ℕ) → destination_of insn ≡ Some r → r < 10
 
 -- a call of a counter: register 1 is one of 64, and of an add register 2 is the amount
-abbrev pub IsAsking : View → ℤ → Type 0
+abbrev pub IsAsking : AbstractState → ℤ → Type 0
 IsAsking view helper = IsAtMost 63 (slice_index_or view.registers 1 None) × (helper ≡ pos 100 → StandsAt Scalar view 2)
 
 -- what a call of a counter needs
-abbrev pub IsReadyToAsk : View → Insn → Type 0
+abbrev pub IsReadyToAsk : AbstractState → Insn → Type 0
 IsReadyToAsk view (Call helper) = ((helper ≡ pos 100) ⊎ (helper ≡ pos 101)) × IsAsking view helper
 IsReadyToAsk view insn = ⊥

@@ -5,16 +5,16 @@ ghost use Rattle.bq_alu.specs.Meaning.{word_of};
 ghost use Rattle.bq_insn.specs.declared.Insn.{Insn};
 ghost use Rattle.bq_transfer.specs.Doubts.{IsAccess, MayDoubt, ReadsOperand};
 ghost use Rattle.bq_transfer.specs.Ready.{IsPlaced};
-ghost use Rattle.bq_views.specs.declared.view.Kind.{Kind as Base};
-ghost use Rattle.bq_transfer.specs.Carries.{FindsPlace};
+ghost use Rattle.bq_states.specs.declared.abstract_state.Kind.{Kind as Base};
+ghost use Rattle.bq_transfer.specs.Transfers.{FindsPlace};
 
 use crate::doubt::Doubt;
-use bq_insn::{Operation, Size, Width};
 use bq_bpf::MapShape;
+use bq_insn::{Operation, Size, Width};
 use bq_ranges::{Range, arithmetic};
-use bq_views::places::{bound, stays};
-use bq_views::registers::known;
-use bq_views::view::{Kind, View};
+use bq_states::abstract_state::{AbstractState, Kind};
+use bq_states::places::{bound, stays};
+use bq_states::registers::known;
 
 /// Where an access goes: what the pointer counts from, and the offsets from there.
 #[derive(Clone, Copy, Debug)]
@@ -25,7 +25,7 @@ pub struct Location {
 
 /// Where an access by a register goes, if it stays inside.
 pub fn locate(
-    view: &View,
+    view: &AbstractState,
     shapes: &[MapShape],
     context: usize,
     size: Size,

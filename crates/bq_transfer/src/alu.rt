@@ -4,29 +4,34 @@ ghost use Rattle.std.specs.Prelude.{◌≡◌, ◌≢◌, ◌<◌, length, IsTru
 ghost use Rattle.bq_bpf.specs.declared.shape.MapShape.{MapShape};
 ghost use Rattle.bq_alu.specs.Meaning.{alu_result, word_of};
 ghost use Rattle.bq_transfer.specs.Doubts.{MayDoubt};
-ghost use Rattle.bq_views.specs.Standing.{Fact, Has, Scalar, Exact, Pointer, Stands, StandsAt, IsScalarOperand, IsGiven, IsMade, IsWord};
+ghost use Rattle.bq_states.specs.Standing.{Fact, Has, Scalar, Exact, Pointer, Stands, StandsAt, IsScalarOperand, IsGiven, IsMade, IsWord};
 ghost use Rattle.bq_transfer.specs.After.{After};
 ghost use Rattle.bq_transfer.specs.Ready.{IsReady, IsCopyOfFrame, IsMoveOfPointer};
 ghost use Rattle.bq_bpf.specs.Memory.{State};
-ghost use Rattle.bq_views.specs.Copies.{AreCopies};
-ghost use Rattle.bq_transfer.specs.Carries.{IsCopied, Carries};
-ghost use Rattle.bq_views.specs.Views.{Describes};
+ghost use Rattle.bq_states.specs.Copies.{AreCopies};
+ghost use Rattle.bq_transfer.specs.Transfers.{IsCopied, Transfers};
+ghost use Rattle.bq_states.specs.AbstractStates.{Describes};
 
 use crate::doubt::Doubt;
 use bq_insn::{Insn, Operation, Source, Width};
 use bq_ranges::arithmetic;
-use bq_views::copies::link;
-use bq_views::registers::{known, learn, operand};
-use bq_views::view::{Kind, Known, View};
+use bq_states::abstract_state::{AbstractState, AbstractValue, Kind};
+use bq_states::copies::link;
+use bq_states::registers::{known, learn, operand};
 
 /// What is known of the result, where the instruction may work on such words.
-pub fn combine(width: Width, op: Operation, a: Known, b: Known) -> Option<Known>
+pub fn combine(
+    width: Width,
+    op: Operation,
+    a: AbstractValue,
+    b: AbstractValue,
+) -> Option<AbstractValue>
     ensures describes { IfSome result (λ k. (shapes : List MapShape) (x y : ℕ) → Describes shapes a x → Describes shapes b y → Describes shapes k (alu_result width op x y)) }
     ensures scalar { a.kind ≡ Kind.Number → b.kind ≡ Kind.Number → Stands Scalar result }
     ensures moves { (base word : ℕ) → width ≡ Width.W64 → op ≡ Operation.Add → Stands (Pointer Kind.Stack base) (Some a) → IsWord word (Some b) → Stands (Pointer Kind.Stack (alu_result Width.W64 Operation.Add base word)) result }
 {
     match (a.kind, b.kind) {
-        (Kind::Number, Kind::Number) => Some(Known {
+        (Kind::Number, Kind::Number) => Some(AbstractValue {
             kind: Kind::Number,
             offset: arithmetic::alu(width, op, a.offset, b.offset),
         }),
@@ -38,17 +43,17 @@ pub fn combine(width: Width, op: Operation, a: Known, b: Known) -> Option<Known>
 }
 
 /// A pointer and a number.
-fn moved(width: Width, op: Operation, a: Known, b: Known) -> Option<Known>
+fn moved(width: Width, op: Operation, a: AbstractValue, b: AbstractValue) -> Option<AbstractValue>
     requires { b.kind ≡ Kind.Number }
     ensures moves { (base word : ℕ) → width ≡ Width.W64 → op ≡ Operation.Add → Stands (Pointer Kind.Stack base) (Some a) → IsWord word (Some b) → Stands (Pointer Kind.Stack (alu_result Width.W64 Operation.Add base word)) result }
     ensures describes { IfSome result (λ k. (shapes : List MapShape) (x y : ℕ) → Describes shapes a x → Describes shapes b y → Describes shapes k (alu_result width op x y)) }
 {
     match (width, op) {
-        (Width::W64, Operation::Add) => Some(Known {
+        (Width::W64, Operation::Add) => Some(AbstractValue {
             kind: a.kind,
             offset: arithmetic::alu(Width::W64, Operation::Add, a.offset, b.offset),
         }),
-        (Width::W64, Operation::Sub) => Some(Known {
+        (Width::W64, Operation::Sub) => Some(AbstractValue {
             kind: a.kind,
             offset: arithmetic::sub(Width::W64, a.offset, b.offset),
         }),
@@ -57,13 +62,13 @@ fn moved(width: Width, op: Operation, a: Known, b: Known) -> Option<Known>
 }
 
 /// A number to which a pointer is added: the pointer moved.
-fn added(width: Width, op: Operation, a: Known, b: Known) -> Option<Known>
+fn added(width: Width, op: Operation, a: AbstractValue, b: AbstractValue) -> Option<AbstractValue>
     requires { a.kind ≡ Kind.Number }
     ensures { IfSome result (λ k. (shapes : List MapShape) (x y : ℕ) → Describes shapes a x → Describes shapes b y → Describes shapes k (alu_result width op x y)) }
 {
     match (width, op, b.kind) {
         (_, _, Kind::EntryOrNull(_) | Kind::Map(_)) => None,
-        (Width::W64, Operation::Add, _) => Some(Known {
+        (Width::W64, Operation::Add, _) => Some(AbstractValue {
             kind: b.kind,
             offset: arithmetic::add(Width::W64, b.offset, a.offset),
         }),
@@ -72,9 +77,15 @@ fn added(width: Width, op: Operation, a: Known, b: Known) -> Option<Known>
 }
 
 /// An arithmetic instruction.
-pub fn alu(view: &mut View, width: Width, op: Operation, dst: u8, src: Source) -> Result<(), Doubt>
+pub fn alu(
+    view: &mut AbstractState,
+    width: Width,
+    op: Operation,
+    dst: u8,
+    src: Source,
+) -> Result<(), Doubt>
     requires { dst < 10 }
-    ensures carries { OnOk result ((shapes : List MapShape) (context_length : ℕ) → Carries shapes context_length (Insn.Alu width op dst src) view.old view.new) }
+    ensures transfers { OnOk result ((shapes : List MapShape) (context_length : ℕ) → Transfers shapes context_length (Insn.Alu width op dst src) view.old view.new) }
     ensures doubts { IfErr result (λ doubt. MayDoubt doubt (Insn.Alu width op dst src)) }
     ensures accepts { (shapes : List MapShape) (context_length : ℕ) → IsReady shapes context_length view.old (Insn.Alu width op dst src) → IsOk result × ((x : Fact) (slot k : ℕ) → After x slot k (Insn.Alu width op dst src) view.old → Has x view.new) }
 {
@@ -87,10 +98,16 @@ pub fn alu(view: &mut View, width: Width, op: Operation, dst: u8, src: Source) -
 }
 
 /// Arithmetic on what the register holds.
-fn operate(view: &mut View, width: Width, op: Operation, dst: u8, src: Source) -> Result<(), Doubt>
+fn operate(
+    view: &mut AbstractState,
+    width: Width,
+    op: Operation,
+    dst: u8,
+    src: Source,
+) -> Result<(), Doubt>
     requires other { op ≢ Operation.Mov }
     requires below { dst < 10 }
-    ensures carries { OnOk result ((shapes : List MapShape) (context_length : ℕ) → Carries shapes context_length (Insn.Alu width op dst src) view.old view.new) }
+    ensures transfers { OnOk result ((shapes : List MapShape) (context_length : ℕ) → Transfers shapes context_length (Insn.Alu width op dst src) view.old view.new) }
     ensures doubts { IfErr result (λ doubt. MayDoubt doubt (Insn.Alu width op dst src)) }
     ensures accepts { StandsAt Scalar view.old dst → IsScalarOperand view.old src → IsOk result × IsGiven view.old view.new dst }
     ensures moves { (m : IsMoveOfPointer view.old width op dst src) → IsOk result × IsMade (Pointer Kind.Stack m.at) view.old view.new dst }
@@ -109,9 +126,9 @@ fn operate(view: &mut View, width: Width, op: Operation, dst: u8, src: Source) -
 }
 
 /// A copy.
-fn copy(view: &mut View, width: Width, dst: u8, src: Source) -> Result<(), Doubt>
+fn copy(view: &mut AbstractState, width: Width, dst: u8, src: Source) -> Result<(), Doubt>
     requires { dst < 10 }
-    ensures carries { OnOk result ((shapes : List MapShape) (context_length : ℕ) → Carries shapes context_length (Insn.Alu width Operation.Mov dst src) view.old view.new) }
+    ensures transfers { OnOk result ((shapes : List MapShape) (context_length : ℕ) → Transfers shapes context_length (Insn.Alu width Operation.Mov dst src) view.old view.new) }
     ensures doubts { IfErr result (λ doubt. MayDoubt doubt (Insn.Alu width Operation.Mov dst src)) }
     ensures accepts { IsScalarOperand view.old src → IsOk result × IsGiven view.old view.new dst }
     ensures exact { OnOk result ((i : ℤ) → src ≡ Source.Imm i → width ≡ Width.W64 → IsMade (Exact (word_of i)) view.old view.new dst) }
@@ -132,7 +149,7 @@ fn copy(view: &mut View, width: Width, dst: u8, src: Source) -> Result<(), Doubt
 }
 
 /// The register is a copy of another one, if it got the whole word.
-fn link_copy(classes: &mut [u8], width: Width, dst: u8, src: Source, word: Known)
+fn link_copy(classes: &mut [u8], width: Width, dst: u8, src: Source, word: AbstractValue)
     requires dst { dst < 10 }
     requires room { length classes.old ≡ 75 }
     ensures { (s : State) → AreCopies classes.old s → ((r : ℕ) → src ≡ Source.Reg r → r ≢ dst → IsCopied s dst r width word) → AreCopies classes.new s }
@@ -147,7 +164,7 @@ fn link_copy(classes: &mut [u8], width: Width, dst: u8, src: Source, word: Known
 }
 
 /// Whether a copy of that width has the whole word.
-fn is_whole(width: Width, word: Known) -> bool
+fn is_whole(width: Width, word: AbstractValue) -> bool
     ensures { IsTrue result → (shapes : List MapShape) (n : ℕ) → Describes shapes word n → alu_result width Operation.Mov 0 n ≡ n }
 {
     match (width, word.kind) {
@@ -163,14 +180,14 @@ fn is_whole(width: Width, word: Known) -> bool
 }
 
 /// What is known of a copy.
-fn copied(width: Width, word: Known) -> Option<Known>
+fn copied(width: Width, word: AbstractValue) -> Option<AbstractValue>
     ensures describes { IfSome result (λ k. (shapes : List MapShape) (x y : ℕ) → Describes shapes word y → Describes shapes k (alu_result width Operation.Mov x y)) }
     ensures scalar { word.kind ≡ Kind.Number → Stands Scalar result }
     ensures same { width ≡ Width.W64 → result ≡ Some word }
 {
     match (width, word.kind) {
         (Width::W64, _) => Some(word),
-        (Width::W32, Kind::Number) => Some(Known {
+        (Width::W32, Kind::Number) => Some(AbstractValue {
             kind: Kind::Number,
             offset: arithmetic::alu(width, Operation::Mov, word.offset, word.offset),
         }),

@@ -7,25 +7,30 @@ ghost use Rattle.bq_bpf.specs.declared.shape.MapShape.{MapShape};
 ghost use Rattle.bq_ranges.specs.Within.{Within};
 ghost use Rattle.bq_transfer.specs.Doubts.{MayDoubt};
 ghost use Rattle.bq_transfer.specs.After.{After};
-ghost use Rattle.bq_views.specs.Standing.{Fact, Has, IsAnswered, IsCalled, IsMade, Pointer, Scalar, StandsAt};
+ghost use Rattle.bq_states.specs.Standing.{Fact, Has, IsAnswered, IsCalled, IsMade, Pointer, Scalar, StandsAt};
 ghost use Rattle.bq_transfer.specs.Ready.{IsAtMost, IsReady, IsUpdating, IsNamingEntry};
-ghost use Rattle.bq_transfer.specs.Carries.{Carries, IsBelow};
-ghost use Rattle.bq_views.specs.Views.{Covers};
+ghost use Rattle.bq_transfer.specs.Transfers.{Transfers, IsBelow};
+ghost use Rattle.bq_states.specs.AbstractStates.{Contains};
 
 use crate::doubt::Doubt;
-use bq_insn::{Insn, Size, Width};
 use bq_bpf::MapShape;
+use bq_insn::{Insn, Size, Width};
 use bq_ranges::Range;
-use bq_views::copies::part_first;
-use bq_views::places::{reads, reads_value, shape_of};
-use bq_views::registers::{clear, known, learn};
-use bq_views::view::{Kind, Known, View};
+use bq_states::abstract_state::{AbstractState, AbstractValue, Kind};
+use bq_states::copies::part_first;
+use bq_states::places::{reads, reads_value, shape_of};
+use bq_states::registers::{clear, known, learn};
 
 /// The reference of a map.
-pub fn map_ref(view: &mut View, shapes: &[MapShape], dst: u8, index: i32) -> Result<(), Doubt>
+pub fn map_ref(
+    view: &mut AbstractState,
+    shapes: &[MapShape],
+    dst: u8,
+    index: i32,
+) -> Result<(), Doubt>
     requires few { length shapes.now ≤ 8 }
     requires below { dst < 10 }
-    ensures carries { OnOk result ((context_length : ℕ) → Carries shapes.now context_length (Insn.MapRef dst index) view.old view.new) }
+    ensures transfers { OnOk result ((context_length : ℕ) → Transfers shapes.now context_length (Insn.MapRef dst index) view.old view.new) }
     ensures doubts { IfErr result (λ doubt. MayDoubt doubt (Insn.MapRef dst index)) }
     ensures accepts { (m : ℕ) → index ≡ pos m → m < length shapes.now → IsOk result × IsMade (Pointer (Kind.Map m) 0) view.old view.new dst }
 {
@@ -35,7 +40,7 @@ pub fn map_ref(view: &mut View, shapes: &[MapShape], dst: u8, index: i32) -> Res
     learn(
         view,
         dst,
-        Known {
+        AbstractValue {
             kind: Kind::Map(map),
             offset: Range::single(0),
         },
@@ -62,9 +67,9 @@ fn map_number(shapes: &[MapShape], index: i32) -> Option<u8>
 }
 
 /// The map that register 1 names.
-fn map_of(view: &View) -> Option<u8>
+fn map_of(view: &AbstractState) -> Option<u8>
     ensures found { (m : ℕ) → StandsAt (Pointer (Kind.Map m) 0) view.now 1 → result ≡ Some m }
-    ensures names { IfSome result (λ m. (f : Setting) (s : State) → Covers f view.now s → (s.register 1 ≡ Some (reference m)) × (m < length f.shapes)) }
+    ensures names { IfSome result (λ m. (f : Setting) (s : State) → Contains f view.now s → (s.register 1 ≡ Some (reference m)) × (m < length f.shapes)) }
 {
     let Some(word) = known(view, 1) else {
         return None;
@@ -79,9 +84,14 @@ fn map_of(view: &View) -> Option<u8>
 }
 
 /// A call of a helper that is no counter's: a look-up, an update, the time, or the number of the processor.
-pub fn call(view: &mut View, shapes: &[MapShape], context: usize, helper: i32) -> Result<(), Doubt>
+pub fn call(
+    view: &mut AbstractState,
+    shapes: &[MapShape],
+    context: usize,
+    helper: i32,
+) -> Result<(), Doubt>
     requires { context < 2 ^ 16 }
-    ensures carries { OnOk result (Carries shapes.now context (Insn.Call helper) view.old view.new) }
+    ensures transfers { OnOk result (Transfers shapes.now context (Insn.Call helper) view.old view.new) }
     ensures doubts { IfErr result (λ doubt. MayDoubt doubt (Insn.Call helper)) }
     ensures accepts { IsReady shapes.now context view.old (Insn.Call helper) → IsOk result × ((x : Fact) (slot k : ℕ) → After x slot k (Insn.Call helper) view.old → Has x view.new) }
 {
@@ -105,9 +115,9 @@ pub fn call(view: &mut View, shapes: &[MapShape], context: usize, helper: i32) -
 }
 
 /// A look-up: register 1 is the reference of a map, and register 2 points to the number of an entry.
-fn look_up(view: &mut View, shapes: &[MapShape], context: usize) -> Result<(), Doubt>
+fn look_up(view: &mut AbstractState, shapes: &[MapShape], context: usize) -> Result<(), Doubt>
     requires context { context < 2 ^ 16 }
-    ensures carries { OnOk result (Carries shapes.now context (Insn.Call (pos 1)) view.old view.new) }
+    ensures transfers { OnOk result (Transfers shapes.now context (Insn.Call (pos 1)) view.old view.new) }
     ensures doubts { IfErr result (λ doubt. MayDoubt doubt (Insn.Call (pos 1))) }
     ensures accepts { (m : ℕ) → IsNamingEntry view.old m → IsOk result × IsCalled (Pointer (Kind.EntryOrNull m) 0) view.old view.new }
 {
@@ -122,7 +132,7 @@ fn look_up(view: &mut View, shapes: &[MapShape], context: usize) -> Result<(), D
     learn(
         view,
         0,
-        Known {
+        AbstractValue {
             kind: Kind::EntryOrNull(map),
             offset: Range::single(0),
         },
@@ -131,9 +141,9 @@ fn look_up(view: &mut View, shapes: &[MapShape], context: usize) -> Result<(), D
 }
 
 /// An update: as a look-up, and register 3 points to a value, and register 4 is 0.
-fn update(view: &mut View, shapes: &[MapShape], context: usize) -> Result<(), Doubt>
+fn update(view: &mut AbstractState, shapes: &[MapShape], context: usize) -> Result<(), Doubt>
     requires context { context < 2 ^ 16 }
-    ensures carries { OnOk result (Carries shapes.now context (Insn.Call (pos 2)) view.old view.new) }
+    ensures transfers { OnOk result (Transfers shapes.now context (Insn.Call (pos 2)) view.old view.new) }
     ensures doubts { IfErr result (λ doubt. MayDoubt doubt (Insn.Call (pos 2))) }
     ensures accepts { (m : ℕ) → IsUpdating shapes.now view.old m → IsOk result × IsAnswered view.old view.new }
 {
@@ -157,7 +167,7 @@ fn update(view: &mut View, shapes: &[MapShape], context: usize) -> Result<(), Do
 }
 
 /// Whether a register is a number of at most `most`.
-pub fn is_at_most(view: &View, register: u8, most: u64) -> bool
+pub fn is_at_most(view: &AbstractState, register: u8, most: u64) -> bool
     ensures below { IsTrue result → (bound : ℕ) → most < bound → IsBelow view.now register bound }
     ensures found { IsAtMost most (slice_index_or view.now.registers register None) → IsTrue result }
     ensures any { most ≡ 2 ^ 64 - 1 → StandsAt Scalar view.now register → IsTrue result }
@@ -172,8 +182,8 @@ pub fn is_at_most(view: &View, register: u8, most: u64) -> bool
 }
 
 /// After a call registers 1 to 5 are unset, and register 0 is a number of that range.
-pub fn answer(view: &mut View, offset: Range)
-    ensures covers { (f : Setting) (s : State) (x : ℕ) → Covers f view.old s → Within offset x → Covers f view.new (called s x) }
+pub fn answer(view: &mut AbstractState, offset: Range)
+    ensures covers { (f : Setting) (s : State) (x : ℕ) → Contains f view.old s → Within offset x → Contains f view.new (called s x) }
     ensures answered { IsAnswered view.old view.new }
 {
     clear(&mut view.registers);
@@ -181,7 +191,7 @@ pub fn answer(view: &mut View, offset: Range)
     learn(
         view,
         0,
-        Known {
+        AbstractValue {
             kind: Kind::Number,
             offset,
         },
@@ -189,16 +199,16 @@ pub fn answer(view: &mut View, offset: Range)
 }
 
 /// The time.
-fn now(view: &mut View)
-    ensures carries { (shapes : List MapShape) (context_length : ℕ) → Carries shapes context_length (Insn.Call (pos 5)) view.old view.new }
+fn now(view: &mut AbstractState)
+    ensures transfers { (shapes : List MapShape) (context_length : ℕ) → Transfers shapes context_length (Insn.Call (pos 5)) view.old view.new }
     ensures answered { IsAnswered view.old view.new }
 {
     answer(view, Range::full(Width::W64));
 }
 
 /// The number of the processor.
-fn processor(view: &mut View)
-    ensures carries { (shapes : List MapShape) (context_length : ℕ) → Carries shapes context_length (Insn.Call (pos 8)) view.old view.new }
+fn processor(view: &mut AbstractState)
+    ensures transfers { (shapes : List MapShape) (context_length : ℕ) → Transfers shapes context_length (Insn.Call (pos 8)) view.old view.new }
     ensures answered { IsAnswered view.old view.new }
 {
     answer(view, Range::full(Width::W32));

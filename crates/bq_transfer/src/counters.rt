@@ -4,17 +4,17 @@ ghost use Rattle.std.specs.Prelude.{◌<◌, pos, false, IsTrue, ◌≡◌, OnOk
 ghost use Rattle.bq_transfer.specs.Doubts.{MayDoubt};
 ghost use Rattle.bq_bpf.specs.Steps.{IsCounterCall};
 ghost use Rattle.bq_transfer.specs.Ready.{IsAsking};
-ghost use Rattle.bq_views.specs.Standing.{IsAnswered};
-ghost use Rattle.bq_transfer.specs.Carries.{AsksFrom};
+ghost use Rattle.bq_states.specs.Standing.{IsAnswered};
+ghost use Rattle.bq_transfer.specs.Transfers.{AsksFrom};
 
 use crate::calls::{answer, is_at_most};
 use crate::doubt::Doubt;
 use bq_insn::{Insn, Width};
 use bq_ranges::Range;
-use bq_views::view::View;
+use bq_states::abstract_state::AbstractState;
 
 /// An add: register 1 is a counter, and register 2 an amount.
-fn add(view: &mut View) -> Result<(), Doubt>
+fn add(view: &mut AbstractState) -> Result<(), Doubt>
     ensures asks { OnOk result (AsksFrom (Insn.Call (pos 100)) view.old view.new) }
     ensures accepts { IsAsking view.old (pos 100) → IsOk result × IsAnswered view.old view.new }
     ensures doubts { IfErr result (λ doubt. (helper : ℤ) → MayDoubt doubt (Insn.Call helper)) }
@@ -30,7 +30,7 @@ fn add(view: &mut View) -> Result<(), Doubt>
 }
 
 /// A read: register 1 is a counter.
-fn read(view: &mut View) -> Result<(), Doubt>
+fn read(view: &mut AbstractState) -> Result<(), Doubt>
     ensures asks { OnOk result (AsksFrom (Insn.Call (pos 101)) view.old view.new) }
     ensures accepts { IsAsking view.old (pos 101) → IsOk result × IsAnswered view.old view.new }
     ensures doubts { IfErr result (λ doubt. (helper : ℤ) → MayDoubt doubt (Insn.Call helper)) }
@@ -54,7 +54,7 @@ pub fn is_counter_call(insn: Insn) -> bool
 }
 
 /// The view after a call of a counter.
-pub fn ask(view: &mut View, insn: Insn) -> Result<(), Doubt>
+pub fn ask(view: &mut AbstractState, insn: Insn) -> Result<(), Doubt>
     requires { IsCounterCall insn }
     ensures asks { OnOk result (AsksFrom insn view.old view.new) }
     ensures accepts { (helper : ℤ) → insn ≡ Insn.Call helper → IsAsking view.old helper → IsOk result × IsAnswered view.old view.new }

@@ -1,18 +1,18 @@
 //! What one instruction does to what is known of registers and stack: the verifier's transfer functions.
 //!
-//! `carry` and `ask` take a view over an instruction, and `side` says what a branch leaves of an operand: each new view
+//! `transfer` and `ask` take a view over an instruction, and `side` says what a branch leaves of an operand: each new view
 //! covers every state that the machine comes to, and a refusal names a doubt that the instruction may raise. They stand on
-//! `bq_views`, where a view is read, written and joined; where views come from and go to is the verifier's, above this
+//! `bq_states`, where a view is read, written and joined; where views come from and go to is the verifier's, above this
 //! layer.
 #![tactic(auto)]
 
 mod access;
 mod alu;
 mod calls;
-pub mod carry;
 pub mod counters;
 pub mod doubt;
 mod loads;
 mod moves;
 pub mod sides;
 mod stores;
+pub mod transfer;

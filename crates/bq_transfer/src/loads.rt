@@ -6,26 +6,26 @@ ghost use Rattle.bq_bpf.specs.Steps.{loaded, bits_of as bits_in};
 ghost use Rattle.bq_ranges.specs.Within.{Within};
 ghost use Rattle.bq_insn.specs.declared.Insn.{Insn};
 ghost use Rattle.bq_bpf.specs.Memory.{number_of};
-ghost use Rattle.bq_views.specs.Parts.{HasBytes, HaveParts};
+ghost use Rattle.bq_states.specs.Parts.{HasBytes, HaveParts};
 ghost use Rattle.bq_transfer.specs.Doubts.{MayDoubt};
-ghost use Rattle.bq_views.specs.Standing.{IsGiven};
+ghost use Rattle.bq_states.specs.Standing.{IsGiven};
 ghost use Rattle.bq_transfer.specs.Ready.{IsReadable};
-ghost use Rattle.bq_transfer.specs.Carries.{Carries};
+ghost use Rattle.bq_transfer.specs.Transfers.{Transfers};
 
 use crate::access::{Location, locate};
 use crate::doubt::Doubt;
-use bq_insn::{Bits, Insn, Size, Width};
 use bq_bpf::MapShape;
+use bq_insn::{Bits, Insn, Size, Width};
 use bq_ranges::{Range, moves};
-use bq_views::copies::link;
-use bq_views::parts::{numbers, numbers_at};
-use bq_views::places::is_readable;
-use bq_views::registers::learn;
-use bq_views::view::{Kind, Known, View};
+use bq_states::abstract_state::{AbstractState, AbstractValue, Kind};
+use bq_states::copies::link;
+use bq_states::parts::{numbers, numbers_at};
+use bq_states::places::is_readable;
+use bq_states::registers::learn;
 
 /// A load; of a slot of the stack whose word is known the register is a copy then.
 pub fn load(
-    view: &mut View,
+    view: &mut AbstractState,
     shapes: &[MapShape],
     context: usize,
     size: Size,
@@ -36,7 +36,7 @@ pub fn load(
 ) -> Result<(), Doubt>
     requires context { context < 2 ^ 16 }
     requires below { dst < 10 }
-    ensures carries { OnOk result (Carries shapes.now context (Insn.Load size signed dst src off) view.old view.new) }
+    ensures transfers { OnOk result (Transfers shapes.now context (Insn.Load size signed dst src off) view.old view.new) }
     ensures doubts { IfErr result (λ doubt. MayDoubt doubt (Insn.Load size signed dst src off)) }
     ensures accepts { IsReadable shapes.now context view.old size src off → IsOk result × IsGiven view.old view.new dst }
 {
@@ -53,7 +53,7 @@ pub fn load(
     learn(
         view,
         dst,
-        Known {
+        AbstractValue {
             kind: Kind::Number,
             offset: loads(reads_at(view, found, size), size, signed),
         },
@@ -62,7 +62,7 @@ pub fn load(
 }
 
 /// The word that is kept where a load of eight bytes reads, if one is.
-fn kept_at(view: &View, place: Location, size: Size, signed: bool) -> Option<Known>
+fn kept_at(view: &AbstractState, place: Location, size: Size, signed: bool) -> Option<AbstractValue>
     ensures { IfSome result (λ word. (place.kind ≡ Kind.Stack) × (size ≡ Size.Double) × (signed ≡ false) × (place.at.lo ≡ place.at.hi) × (slot : ℕ) × (slot < 64) × (place.at.lo ≡ 8 * slot) × (slice_index_or view.now.kept slot None ≡ Some word)) }
 {
     if place.kind != Kind::Stack || size != Size::Double || signed {
@@ -75,7 +75,7 @@ fn kept_at(view: &View, place: Location, size: Size, signed: bool) -> Option<Kno
 }
 
 /// The word that is kept in a slot of eight bytes, if one is.
-fn kept_in(view: &View, slot: usize) -> Option<Known>
+fn kept_in(view: &AbstractState, slot: usize) -> Option<AbstractValue>
     requires { slot < 64 }
     ensures { result ≡ slice_index_or view.now.kept slot None }
 {
@@ -83,7 +83,7 @@ fn kept_in(view: &View, slot: usize) -> Option<Known>
 }
 
 /// The numbers that a read of so many bytes gives there.
-fn reads_at(view: &View, place: Location, size: Size) -> Range
+fn reads_at(view: &AbstractState, place: Location, size: Size) -> Range
     ensures any { (x : ℕ) → place.kind ≢ Kind.Stack → x < 256 ^ byte_count size → Within result x }
     ensures stack { (stack : ℕ → Option ℕ) (o : ℕ) (bytes : List ℕ) → place.kind ≡ Kind.Stack → HaveParts stack view.now.parts → Within place.at o → HasBytes stack o (byte_count size) bytes → number_of bytes < 256 ^ byte_count size → Within result (number_of bytes) }
 {

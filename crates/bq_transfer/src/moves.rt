@@ -1,22 +1,22 @@
 // Moves that change a number on the way, and numbers from the instruction.
 
 ghost use Rattle.std.specs.Prelude.{◌≡◌, ◌<◌, ℕ, List, IsOk, OnOk, IfOk, IfErr, length};
-ghost use Rattle.bq_views.specs.Standing.{IsGiven, Scalar, StandsAt};
+ghost use Rattle.bq_states.specs.Standing.{IsGiven, Scalar, StandsAt};
 ghost use Rattle.bq_insn.specs.declared.Insn.{Insn};
 ghost use Rattle.bq_bpf.specs.declared.shape.MapShape.{MapShape};
 ghost use Rattle.bq_transfer.specs.Doubts.{MayDoubt, ReadsOperand, UsesWord};
-ghost use Rattle.bq_views.specs.declared.view.Kind.TheVariants.{Number};
-ghost use Rattle.bq_transfer.specs.Carries.{Carries, HoldsNumber};
-ghost use Rattle.bq_views.specs.Views.{knowing};
+ghost use Rattle.bq_states.specs.declared.abstract_state.Kind.TheVariants.{Number};
+ghost use Rattle.bq_transfer.specs.Transfers.{Transfers, HoldsNumber};
+ghost use Rattle.bq_states.specs.AbstractStates.{knowing};
 
 use crate::doubt::Doubt;
 use bq_insn::{Bits, Order, Width};
 use bq_ranges::{Range, moves};
-use bq_views::registers::{known, learn};
-use bq_views::view::{Kind, Known, View};
+use bq_states::abstract_state::{AbstractState, AbstractValue, Kind};
+use bq_states::registers::{known, learn};
 
 /// The range of a register that is a number.
-pub fn number(view: &View, register: u8) -> Result<Range, Doubt>
+pub fn number(view: &AbstractState, register: u8) -> Result<Range, Doubt>
     ensures holds { IfOk result (HoldsNumber view.now register) }
     ensures doubts { IfErr result (λ doubt. (insn : Insn) → ReadsOperand insn → UsesWord insn → MayDoubt doubt insn) }
     ensures accepts { StandsAt Scalar view.now register → IsOk result }
@@ -31,7 +31,7 @@ pub fn number(view: &View, register: u8) -> Result<Range, Doubt>
 }
 
 /// A register becomes a number of that range.
-fn learn_number(view: &mut View, register: u8, offset: Range)
+fn learn_number(view: &mut AbstractState, register: u8, offset: Range)
     requires { register < 10 }
     ensures is { view.new ≡ knowing view.old register (record { kind = Number; offset = offset }) }
     ensures given { IsGiven view.old view.new register }
@@ -40,7 +40,7 @@ fn learn_number(view: &mut View, register: u8, offset: Range)
     learn(
         view,
         register,
-        Known {
+        AbstractValue {
             kind: Kind::Number,
             offset,
         },
@@ -48,9 +48,15 @@ fn learn_number(view: &mut View, register: u8, offset: Range)
 }
 
 /// The low bits of a register with their sign extended.
-pub fn extend(view: &mut View, width: Width, bits: Bits, dst: u8, src: u8) -> Result<(), Doubt>
+pub fn extend(
+    view: &mut AbstractState,
+    width: Width,
+    bits: Bits,
+    dst: u8,
+    src: u8,
+) -> Result<(), Doubt>
     requires { dst < 10 }
-    ensures carries { OnOk result ((shapes : List MapShape) (context_length : ℕ) → Carries shapes context_length (Insn.MovSx width bits dst src) view.old view.new) }
+    ensures transfers { OnOk result ((shapes : List MapShape) (context_length : ℕ) → Transfers shapes context_length (Insn.MovSx width bits dst src) view.old view.new) }
     ensures doubts { IfErr result (λ doubt. MayDoubt doubt (Insn.MovSx width bits dst src)) }
     ensures accepts { StandsAt Scalar view.old src → IsOk result × IsGiven view.old view.new dst }
 {
@@ -60,9 +66,9 @@ pub fn extend(view: &mut View, width: Width, bits: Bits, dst: u8, src: u8) -> Re
 }
 
 /// A negation.
-pub fn negate(view: &mut View, width: Width, dst: u8) -> Result<(), Doubt>
+pub fn negate(view: &mut AbstractState, width: Width, dst: u8) -> Result<(), Doubt>
     requires { dst < 10 }
-    ensures carries { OnOk result ((shapes : List MapShape) (context_length : ℕ) → Carries shapes context_length (Insn.Neg width dst) view.old view.new) }
+    ensures transfers { OnOk result ((shapes : List MapShape) (context_length : ℕ) → Transfers shapes context_length (Insn.Neg width dst) view.old view.new) }
     ensures doubts { IfErr result (λ doubt. MayDoubt doubt (Insn.Neg width dst)) }
     ensures accepts { StandsAt Scalar view.old dst → IsOk result × IsGiven view.old view.new dst }
 {
@@ -72,9 +78,9 @@ pub fn negate(view: &mut View, width: Width, dst: u8) -> Result<(), Doubt>
 }
 
 /// The low bits of a register in a byte order.
-pub fn reorder(view: &mut View, kind: Order, bits: Bits, dst: u8) -> Result<(), Doubt>
+pub fn reorder(view: &mut AbstractState, kind: Order, bits: Bits, dst: u8) -> Result<(), Doubt>
     requires { dst < 10 }
-    ensures carries { OnOk result ((shapes : List MapShape) (context_length : ℕ) → Carries shapes context_length (Insn.End kind bits dst) view.old view.new) }
+    ensures transfers { OnOk result ((shapes : List MapShape) (context_length : ℕ) → Transfers shapes context_length (Insn.End kind bits dst) view.old view.new) }
     ensures doubts { IfErr result (λ doubt. MayDoubt doubt (Insn.End kind bits dst)) }
     ensures accepts { StandsAt Scalar view.old dst → IsOk result × IsGiven view.old view.new dst }
 {
@@ -84,9 +90,9 @@ pub fn reorder(view: &mut View, kind: Order, bits: Bits, dst: u8) -> Result<(), 
 }
 
 /// A number of 64 bits from the instruction.
-pub fn immediate(view: &mut View, dst: u8, value: u64)
+pub fn immediate(view: &mut AbstractState, dst: u8, value: u64)
     requires { dst < 10 }
-    ensures carries { (shapes : List MapShape) (context_length : ℕ) → Carries shapes context_length (Insn.Imm64 dst value) view.old view.new }
+    ensures transfers { (shapes : List MapShape) (context_length : ℕ) → Transfers shapes context_length (Insn.Imm64 dst value) view.old view.new }
     ensures given { IsGiven view.old view.new dst }
 {
     learn_number(view, dst, Range::single(value));

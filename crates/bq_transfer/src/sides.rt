@@ -5,25 +5,25 @@ ghost use Rattle.bq_insn.specs.declared.Insn.{Insn};
 ghost use Rattle.bq_alu.specs.Meaning.{taken, word_of};
 ghost use Rattle.bq_bpf.specs.declared.shape.MapShape.{MapShape};
 ghost use Rattle.bq_transfer.specs.Doubts.{MayDoubt, UsesWord};
-ghost use Rattle.bq_views.specs.Standing.{IsWord, Pointer, Stands};
+ghost use Rattle.bq_states.specs.Standing.{IsWord, Pointer, Stands};
 ghost use Rattle.bq_transfer.specs.Ready.{IsNullCheck, IsNullTest};
 ghost use Rattle.bq_transfer.specs.Sides.{IsCompared, IsNumberIfAny, IsSide, IsTested, IsTestedIfAny, is_found, Fits};
-ghost use Rattle.bq_views.specs.Views.{Describes};
+ghost use Rattle.bq_states.specs.AbstractStates.{Describes};
 
 use crate::doubt::Doubt;
 use bq_insn::{Condition, Source, Width};
 use bq_ranges::narrowing::{narrow, narrow_right};
-use bq_views::view::{Kind, Known};
+use bq_states::abstract_state::{AbstractValue, Kind};
 
 /// What the left operand is on one side of a branch; `None` where control never goes there.
 pub fn side(
     width: Width,
     cond: Condition,
-    left: Known,
+    left: AbstractValue,
     src: Source,
-    right: Known,
+    right: AbstractValue,
     goes: bool,
-) -> Result<Option<Known>, Doubt>
+) -> Result<Option<AbstractValue>, Doubt>
     requires { (i : ℤ) → src ≡ Source.Imm i → IsWord (word_of i) (Some right) }
     ensures fits { IfOk result (λ side. (shapes : List MapShape) (a b : ℕ) → Describes shapes left a → Describes shapes right b → taken width cond a b ≡ goes → Fits shapes side a) }
     ensures doubts { IfErr result (λ doubt. (insn : Insn) → UsesWord insn → MayDoubt doubt insn) }
@@ -40,11 +40,17 @@ pub fn side(
 }
 
 /// What the right operand is on one side of a branch, where control goes there.
-pub fn right_side(width: Width, cond: Condition, left: Known, right: Known, goes: bool) -> Known
+pub fn right_side(
+    width: Width,
+    cond: Condition,
+    left: AbstractValue,
+    right: AbstractValue,
+    goes: bool,
+) -> AbstractValue
     ensures { (shapes : List MapShape) (a b : ℕ) → Describes shapes left a → Describes shapes right b → taken width cond a b ≡ goes → Describes shapes result b }
 {
     match (left.kind, right.kind) {
-        (Kind::Number, Kind::Number) => Known {
+        (Kind::Number, Kind::Number) => AbstractValue {
             kind: Kind::Number,
             offset: narrow_right(cond, width, left.offset, right.offset, goes),
         },
@@ -56,11 +62,11 @@ pub fn right_side(width: Width, cond: Condition, left: Known, right: Known, goes
 fn outcome(
     width: Width,
     cond: Condition,
-    left: Known,
+    left: AbstractValue,
     src: Source,
-    right: Known,
+    right: AbstractValue,
     goes: bool,
-) -> Option<Option<Known>>
+) -> Option<Option<AbstractValue>>
     requires { (i : ℤ) → src ≡ Source.Imm i → IsWord (word_of i) (Some right) }
     ensures compared { IfSome result (λ _. IsCompared width cond left src right) }
     ensures fits { IfSome result (λ side. (shapes : List MapShape) (a b : ℕ) → Describes shapes left a → Describes shapes right b → taken width cond a b ≡ goes → Fits shapes side a) }
@@ -69,7 +75,7 @@ fn outcome(
 {
     match (left.kind, right.kind) {
         (Kind::Number, Kind::Number) => match narrow(cond, width, left.offset, right.offset, goes) {
-            Some(offset) => Some(Some(Known {
+            Some(offset) => Some(Some(AbstractValue {
                 kind: Kind::Number,
                 offset,
             })),
@@ -87,7 +93,12 @@ fn outcome(
 }
 
 /// An answer of a look-up that was found, on a side of one more test: it stays what it is.
-fn found_check(width: Width, cond: Condition, left: Known, src: Source) -> Option<Option<Known>>
+fn found_check(
+    width: Width,
+    cond: Condition,
+    left: AbstractValue,
+    src: Source,
+) -> Option<Option<AbstractValue>>
     ensures compared { IfSome result (λ _. (left.offset.hi ≡ 0) × IsNullCheck width cond src) }
     ensures same { IfSome result (λ side. side ≡ Some left) }
 {
@@ -105,10 +116,10 @@ fn null_check(
     map: u8,
     width: Width,
     cond: Condition,
-    left: Known,
-    right: Known,
+    left: AbstractValue,
+    right: AbstractValue,
     goes: bool,
-) -> Option<Option<Known>>
+) -> Option<Option<AbstractValue>>
     requires left { left.kind ≡ Kind.EntryOrNull map }
     requires right { right.kind ≡ Kind.Number }
     requires whole { left.offset.hi ≡ 0 }
@@ -117,11 +128,11 @@ fn null_check(
     ensures tested { width ≡ Width.W64 → IsNullTest cond → left.offset.lo ≡ 0 → IsTestedIfAny map (is_found cond goes) result }
     ensures fits { IfSome result (λ side. (shapes : List MapShape) (a b : ℕ) → Describes shapes left a → Describes shapes right b → taken width cond a b ≡ goes → Fits shapes side a) }
 {
-    let null = Known {
+    let null = AbstractValue {
         kind: Kind::Number,
         offset: right.offset,
     };
-    let entry = Known {
+    let entry = AbstractValue {
         kind: Kind::Entry(map),
         offset: left.offset,
     };

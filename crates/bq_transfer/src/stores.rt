@@ -7,28 +7,28 @@ ghost use Rattle.bq_alu.specs.Meaning.{word_of};
 ghost use Rattle.bq_bpf.specs.Memory.{Setting, State, InStack, written};
 ghost use Rattle.bq_bpf.specs.Steps.{low_bytes, next};
 ghost use Rattle.bq_ranges.specs.Within.{Within};
-ghost use Rattle.bq_views.specs.Copies.{AreCopies, HasWord};
+ghost use Rattle.bq_states.specs.Copies.{AreCopies, HasWord};
 ghost use Rattle.bq_transfer.specs.Doubts.{IsAccess, MayDoubt, ReadsOperand, UsesWord};
 ghost use Rattle.bq_transfer.specs.Ready.{IsPlaced};
-ghost use Rattle.bq_views.specs.Standing.{IsStoredAt, Scalar, StandsAt};
-ghost use Rattle.bq_transfer.specs.Carries.{Carries, IsWholeSlot, Stores};
-ghost use Rattle.bq_views.specs.Views.{Covers, Describes};
+ghost use Rattle.bq_states.specs.Standing.{IsStoredAt, Scalar, StandsAt};
+ghost use Rattle.bq_transfer.specs.Transfers.{Transfers, IsWholeSlot, Stores};
+ghost use Rattle.bq_states.specs.AbstractStates.{Contains, Describes};
 
 use crate::access::locate;
 use crate::doubt::Doubt;
-use bq_insn::{Insn, Size};
 use bq_bpf::MapShape;
+use bq_insn::{Insn, Size};
 use bq_ranges::Range;
-use bq_views::copies::link;
-use bq_views::parts::store_part;
-use bq_views::places::stays;
-use bq_views::registers::known;
-use bq_views::stack::{keep, overwrite};
-use bq_views::view::{Kind, Known, View};
+use bq_states::abstract_state::{AbstractState, AbstractValue, Kind};
+use bq_states::copies::link;
+use bq_states::parts::store_part;
+use bq_states::places::stays;
+use bq_states::registers::known;
+use bq_states::stack::{keep, overwrite};
 
 /// A store of a number from the instruction.
 pub fn store_imm(
-    view: &mut View,
+    view: &mut AbstractState,
     shapes: &[MapShape],
     context: usize,
     size: Size,
@@ -37,12 +37,12 @@ pub fn store_imm(
     imm: i32,
 ) -> Result<(), Doubt>
     requires context { context < 2 ^ 16 }
-    ensures carries { OnOk result (Carries shapes.now context (Insn.StoreImm size dst off imm) view.old view.new) }
+    ensures transfers { OnOk result (Transfers shapes.now context (Insn.StoreImm size dst off imm) view.old view.new) }
     ensures doubts { IfErr result (λ doubt. MayDoubt doubt (Insn.StoreImm size dst off imm)) }
     ensures accepts { (place : ℕ) → IsPlaced shapes.now context view.old size dst off Kind.Stack place → IsOk result × IsStoredAt view.old view.new place (place + byte_count size) }
     ensures entry { (map place : ℕ) → IsPlaced shapes.now context view.old size dst off (Kind.Entry map) place → IsOk result × (view.new ≡ view.old) }
 {
-    let word = Known {
+    let word = AbstractValue {
         kind: Kind::Number,
         offset: Range::single(word_of_imm(imm)),
     };
@@ -59,7 +59,7 @@ fn word_of_imm(imm: i32) -> u64
 
 /// A store of a register, of which a slot of the stack is a copy then if it got the whole word.
 pub fn store_reg(
-    view: &mut View,
+    view: &mut AbstractState,
     shapes: &[MapShape],
     context: usize,
     size: Size,
@@ -68,7 +68,7 @@ pub fn store_reg(
     src: u8,
 ) -> Result<(), Doubt>
     requires context { context < 2 ^ 16 }
-    ensures carries { OnOk result (Carries shapes.now context (Insn.StoreReg size dst off src) view.old view.new) }
+    ensures transfers { OnOk result (Transfers shapes.now context (Insn.StoreReg size dst off src) view.old view.new) }
     ensures doubts { IfErr result (λ doubt. MayDoubt doubt (Insn.StoreReg size dst off src)) }
     ensures accepts { StandsAt Scalar view.old src → (place : ℕ) → IsPlaced shapes.now context view.old size dst off Kind.Stack place → IsOk result × IsStoredAt view.old view.new place (place + byte_count size) }
     ensures entry { StandsAt Scalar view.old src → (map place : ℕ) → IsPlaced shapes.now context view.old size dst off (Kind.Entry map) place → IsOk result × (view.new ≡ view.old) }
@@ -99,13 +99,13 @@ fn link_slot(classes: &mut [u8], slot: Option<usize>, register: u8)
 
 /// A store of a word: on the stack, or into an entry. The answer is the slot of eight bytes in which the word is kept whole.
 fn store(
-    view: &mut View,
+    view: &mut AbstractState,
     shapes: &[MapShape],
     context: usize,
     size: Size,
     dst: u8,
     off: i16,
-    word: Known,
+    word: AbstractValue,
 ) -> Result<Option<usize>, Doubt>
     requires context { context < 2 ^ 16 }
     ensures stores { IfOk result (Stores shapes.now context dst off size word view.old view.new) }
@@ -133,13 +133,13 @@ fn store(
 /// A store on the stack; a word of eight bytes at a multiple of eight is kept whole, in the slot that is answered, and of
 /// another number the bytes that are stored.
 fn store_on_stack(
-    view: &mut View,
+    view: &mut AbstractState,
     at: Range,
     size: Size,
-    word: Known,
+    word: AbstractValue,
 ) -> Result<Option<usize>, Doubt>
     ensures slot { IfOk result (λ slot. IfSome slot (IsWholeSlot at size)) }
-    ensures covers { OnOk result ((f : Setting) (s : State) (o v : ℕ) → Covers f view.old s → Within at o → Describes f.shapes word v → Covers f view.new (next (written s InStack o (low_bytes size v)))) }
+    ensures covers { OnOk result ((f : Setting) (s : State) (o v : ℕ) → Contains f view.old s → Within at o → Describes f.shapes word v → Contains f view.new (next (written s InStack o (low_bytes size v)))) }
     ensures doubts { IfErr result (λ doubt. (insn : Insn) → IsAccess insn → (word.kind ≢ Kind.Number → UsesWord insn) → MayDoubt doubt insn) }
     ensures accepts { word.kind ≡ Kind.Number → (place : ℕ) → at.lo ≡ place → at.hi ≡ place → place + byte_count size ≤ 512 → IsOk result × IsStoredAt view.old view.new place (place + byte_count size) }
 {

@@ -2,6 +2,7 @@
 // `tests/examples.py` compares them.
 
 use bq_asm::assemble;
+use bq_bpf::{Hook, Version, context_length};
 use bq_cfs::CfsQueue;
 use bq_core::{Core, Event, Plain, Reply};
 use bq_interp::env::Env;
@@ -10,8 +11,6 @@ use bq_interp::stack::Stack;
 use bq_load::load;
 use bq_maps::Maps;
 use bq_trace::{Counted, Session};
-use bq_bpf::context_length;
-use bq_bpf::{Hook, Version};
 use bq_verify::{Program, Verified, verify};
 use std::alloc::Global;
 use std::test::Fail;

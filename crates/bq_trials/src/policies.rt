@@ -1,9 +1,8 @@
 // Policies are asked at their hooks: what they answer, in how many steps, and which maps and counters they see.
 
 use bq_asm::assemble;
-use bq_bpf::{Call, MapShape, Plain};
+use bq_bpf::{Call, MapShape, Plain, context_length};
 use bq_policies::{Env, Hook, Hooks, Installed, Policy, Scratch, Version};
-use bq_bpf::context_length;
 use bq_verify::{Program, verify};
 use std::alloc::{AllocError, Global};
 use std::process::Abort;

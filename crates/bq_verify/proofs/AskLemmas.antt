@@ -6,9 +6,9 @@ use Rattle.bq_insn.specs.declared.Insn.TheVariants.{Call}
 use Rattle.bq_bpf.specs.declared.shape.MapShape.{MapShape}
 use Rattle.bq_bpf.specs.Steps.{IsCounterCall}
 use Rattle.bq_transfer.specs.Ready.{IsAsking, IsReady, IsReadyToAsk}
-use Rattle.bq_views.specs.declared.view.View.{View}
+use Rattle.bq_states.specs.declared.abstract_state.AbstractState.{AbstractState}
 
-pub record Asked (view : View) (insn : Insn) : Type 0 where
+pub record Asked (view : AbstractState) (insn : Insn) : Type 0 where
   pub helper : ℤ
   pub is : insn ≡ Call helper
   pub needs : IsAsking view helper
@@ -19,7 +19,7 @@ other_one helper (inl e) one = omega (arith, ints, e, one)
 other_one helper (inr e) one = omega (arith, ints, e, one)
 
 -- the needs of other calls are none of a counter's
-other_needs : (shapes : List MapShape) (context : ℕ) (view : View) (helper : ℤ) → (helper ≡ pos 100) ⊎ (helper ≡ pos 101) → IsReady shapes context view (Call helper) → ⊥
+other_needs : (shapes : List MapShape) (context : ℕ) (view : AbstractState) (helper : ℤ) → (helper ≡ pos 100) ⊎ (helper ≡ pos 101) → IsReady shapes context view (Call helper) → ⊥
 other_needs shapes context view helper (inl e) (inl (inl five)) = omega (arith, ints, e, five)
 other_needs shapes context view helper (inl e) (inl (inr eight)) = omega (arith, ints, e, eight)
 other_needs shapes context view helper (inl e) (inr (inl n)) = let one = n.0 in omega (arith, ints, e, one)
@@ -29,12 +29,12 @@ other_needs shapes context view helper (inr e) (inl (inr eight)) = omega (arith,
 other_needs shapes context view helper (inr e) (inr (inl n)) = let one = n.0 in omega (arith, ints, e, one)
 other_needs shapes context view helper (inr e) (inr (inr n)) = let two = n.0 in omega (arith, ints, e, two)
 
-pub asked : (shapes : List MapShape) (context : ℕ) (view : View) (insn : Insn) → IsCounterCall insn → IsReady shapes context view insn ⊎ IsReadyToAsk view insn → Asked view insn
+pub asked : (shapes : List MapShape) (context : ℕ) (view : AbstractState) (insn : Insn) → IsCounterCall insn → IsReady shapes context view insn ⊎ IsReadyToAsk view insn → Asked view insn
 asked shapes context view (Call helper) call (inl ready) = absurd (other_needs shapes context view helper call ready)
 asked shapes context view (Call helper) call (inr ready) = record { helper = helper; is = refl; needs = ready.1; other = other_one helper call }
 asked shapes context view insn call ready = absurd call
 
-pub not_asked : (shapes : List MapShape) (context : ℕ) (view : View) (insn : Insn) → (IsCounterCall insn → ⊥) → IsReady shapes context view insn ⊎ IsReadyToAsk view insn → IsReady shapes context view insn
+pub not_asked : (shapes : List MapShape) (context : ℕ) (view : AbstractState) (insn : Insn) → (IsCounterCall insn → ⊥) → IsReady shapes context view insn ⊎ IsReadyToAsk view insn → IsReady shapes context view insn
 not_asked shapes context view insn other (inl ready) = ready
 not_asked shapes context view (Call helper) other (inr ready) = absurd (other ready.0)
 not_asked shapes context view _ other (inr ready) = absurd ready

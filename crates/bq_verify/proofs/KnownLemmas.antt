@@ -8,13 +8,13 @@ use Rattle.bq_bpf.specs.declared.shape.MapShape.{MapShape}
 use Rattle.bq_bpf.specs.declared.board.Call.{Call as Asked}
 use Rattle.bq_bpf.specs.Counters.{answer_of}
 use Rattle.bq_bpf.specs.Memory.{Setting, State, Region, InContext, InStack, InEntry, Writes, written, HaveShapes}
-use Rattle.bq_bpf.specs.Runs.{Chain, listed, start}
+use Rattle.bq_bpf.specs.Runs.{Steps, listed, start}
 use Rattle.bq_bpf.specs.Steps.{Does, Helps, LeadsTo, Step, Takes}
 use Rattle.bq_bpf.specs.Safe.{IsSetting}
 use Rattle.bq_graph.specs.Edges.{IsEdge, IsStart, Leaves}
 use Rattle.bq_graph.specs.Passes.{IsSound}
-use Rattle.bq_views.specs.declared.view.View.{View}
-use Rattle.bq_views.specs.Views.{Covers}
+use Rattle.bq_states.specs.declared.abstract_state.AbstractState.{AbstractState}
+use Rattle.bq_states.specs.AbstractStates.{Contains}
 use Rattle.bq_verify.specs.Control.{IsKnown, LeadsOn, PassesOn}
 use Rattle.bq_verify.specs.KnownAt.{CoversRuns, RestIsCovered}
 use Rattle.bq_verify.proofs.ChainLemmas.{no_step, one_step}
@@ -66,8 +66,8 @@ edge_of : (f : Setting) (s : State) (c : Option Asked) (t : State) → Step f s 
 edge_of f s c t step = record { insn = step.insn; here = step.here; leaves = leaves_takes f step.insn s c t step.takes }
 
 -- the first step of a chain, and the rest
-first_step : (f : Setting) (s : State) (n : ℕ) (calls : List Asked) (t : State) → Chain f s (suc n) calls t
-    → (c : Option Asked) × (u : State) × (rest : List Asked) × Step f s c u × Chain f u n rest t
+first_step : (f : Setting) (s : State) (n : ℕ) (calls : List Asked) (t : State) → Steps f s (suc n) calls t
+    → (c : Option Asked) × (u : State) × (rest : List Asked) × Step f s c u × Steps f u n rest t
 first_step f s zero calls t (before, c, u, (none, same), step, e) = (c, t, [], subst (λ (x : State). Step f x c t) same step, (refl, refl))
 first_step f s (suc n) calls t (before, c, u, chain, step, e) =
     let h = first_step f s n before u chain in
@@ -103,22 +103,22 @@ after_one f L small s u (Some c) (inr (inr each)) step =
 
 module _ (slots : List (Option Insn)) (shapes : List MapShape) (context_length : ℕ) (sound : IsSound slots) (small : context_length < 2 ^ 16) where
   -- a chain goes forward
-  forward : (f : Setting) → IsSetting slots shapes context_length f → (s : State) (n : ℕ) (calls : List Asked) (t : State) → Chain f s n calls t → s.slot ≤ t.slot
+  forward : (f : Setting) → IsSetting slots shapes context_length f → (s : State) (n : ℕ) (calls : List Asked) (t : State) → Steps f s n calls t → s.slot ≤ t.slot
   forward f setting s zero calls t (none, same) = let p : t.slot ≡ s.slot = ap (λ (x : State). x.slot) same in omega (arith, p)
   forward f setting s (suc n) calls t (before, c, u, chain, step, e) =
       let edge : IsEdge slots u.slot t.slot = rw setting.slots_are at (edge_of f u c t step) in
       omega (arith, forward f setting s n before u chain, (sound.forward u.slot t.slot edge).0)
 
   -- a chain with a step goes on
-  farther : (f : Setting) → IsSetting slots shapes context_length f → (s : State) (n : ℕ) (calls : List Asked) (t : State) → Chain f s (suc n) calls t → s.slot < t.slot
+  farther : (f : Setting) → IsSetting slots shapes context_length f → (s : State) (n : ℕ) (calls : List Asked) (t : State) → Steps f s (suc n) calls t → s.slot < t.slot
   farther f setting s n calls t (before, c, u, chain, step, e) =
       let edge : IsEdge slots u.slot t.slot = rw setting.slots_are at (edge_of f u c t step) in
       omega (arith, forward f setting s n before u chain, (sound.forward u.slot t.slot edge).0)
 
-  module _ (target : ℕ) (seen : View) (slot : ℕ) (K L : Setting → State → Type 0) where
+  module _ (target : ℕ) (seen : AbstractState) (slot : ℕ) (K L : Setting → State → Type 0) where
     at_state : slot < target → PassesOn slots shapes context_length slot K L → RestIsCovered slots shapes context_length target seen (slot + 1) L
         → (f : Setting) (s : State) (b : Bool) → IsSetting slots shapes context_length f → slot ≤ s.slot → IsStart slots s.slot → K f s → ((b ≡ true) × (s.slot ≡ slot)) ⊎ ((b ≡ false) × (s.slot ≢ slot))
-        → (n : ℕ) (calls : List Asked) (t : State) → Chain f s n calls t → t.slot ≡ target → Covers f seen t
+        → (n : ℕ) (calls : List Asked) (t : State) → Steps f s n calls t → t.slot ≡ target → Contains f seen t
     at_state before passes rest f s b setting le begins known (inr (e, other)) n calls t chain here =
         rest f s setting (omega arith) begins ((passes f s setting begins known).0 other) n calls t chain here
     at_state before passes rest f s b setting le begins known (inl (e, same)) zero calls t (none, is) here =
@@ -136,22 +136,22 @@ module _ (slots : List (Option Insn)) (shapes : List MapShape) (context_length :
     covered_before before passes rest f s setting le begins known = at_state before passes rest f s _ setting le begins known (eqb_tells s.slot slot)
 
   -- at the slot itself the view is what is known
-  pub covered_at : (target : ℕ) (pending after : List (Option (Box View Global))) (view seen : View) (live arrived : Bool)
+  pub covered_at : (target : ℕ) (pending after : List (Option (Box AbstractState Global))) (view seen : AbstractState) (live arrived : Bool)
       → ((f : Setting) (s : State) → IsKnown pending view live target f s → IsKnown after seen arrived target f s) → slice_index_or after target None ≡ None
       → RestIsCovered slots shapes context_length target seen target (IsKnown pending view live target)
   covered_at target pending after view seen live arrived arrives empty f s setting le begins known (suc n) calls t chain here =
       absurd (omega (arith, farther f setting s n calls t chain, here, le))
   covered_at target pending after view seen live arrived arrives empty f s setting le begins known zero calls t (none, is) here =
       let there : s.slot ≡ target = ap (λ (x : State). x.slot) (sym is) ∙ here in
-      subst (Covers f seen) (sym is) (is_seen (arrives f s known) there)
+      subst (Contains f seen) (sym is) (is_seen (arrives f s known) there)
     where
-      is_seen : IsKnown after seen arrived target f s → s.slot ≡ target → Covers f seen s
+      is_seen : IsKnown after seen arrived target f s → s.slot ≡ target → Contains f seen s
       is_seen (inl waits) there = absurd (no_view f s (slice_index_or after target None) empty (moved f s after target there waits))
       is_seen (inr (e, same, covers)) there = covers
 
 -- a view that covers the rest from the start covers the runs
-pub covers_runs : (slots : List (Option Insn)) (shapes : List MapShape) (context_length target : ℕ) (seen : View) (pending : List (Option (Box View Global))) (view : View)
-    → IsStart slots 0 → ((f : Setting) (maps : List (List ℕ)) → HaveShapes f.shapes maps → Covers f view (start maps))
+pub covers_runs : (slots : List (Option Insn)) (shapes : List MapShape) (context_length target : ℕ) (seen : AbstractState) (pending : List (Option (Box AbstractState Global))) (view : AbstractState)
+    → IsStart slots 0 → ((f : Setting) (maps : List (List ℕ)) → HaveShapes f.shapes maps → Contains f view (start maps))
     → RestIsCovered slots shapes context_length target seen 0 (IsKnown pending view true 0) → CoversRuns slots shapes context_length target seen
 covers_runs slots shapes context_length target seen pending view first begins rest f maps setting have n calls t chain here =
     rest f (start maps) setting zero-le first (inr (refl, refl, begins f maps (rw setting.shapes_are have))) n calls t chain here

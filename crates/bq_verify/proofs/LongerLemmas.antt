@@ -8,7 +8,7 @@ use Rattle.bq_bpf.specs.declared.board.Call.{Call as Asked}
 use Rattle.bq_bpf.specs.Counters.{answer_of}
 use Rattle.bq_bpf.specs.Memory.{Setting, State, Region, InContext, InStack, InEntry, IsGood, Reads, Writes, byte_at}
 use Rattle.bq_bpf.specs.Steps.{Does, Helps, NamesEntry, Takes, Step}
-use Rattle.bq_bpf.specs.Runs.{Ends, Chain, start}
+use Rattle.bq_bpf.specs.Runs.{Ends, Steps, start}
 use Rattle.bq_bpf.specs.Safe.{GoesOn, GoesWell, IsSetting}
 use Rattle.bq_verify.specs.Laws.{shortened, SafeOnLonger, RunsOnLonger}
 use Rattle.bq_verify.proofs.ChainLemmas.{one_step, no_step}
@@ -95,7 +95,7 @@ module _ (f : Setting) (n : ℕ) where
   ends_longer : (s : State) (answer : ℕ) (maps : List (List ℕ)) → Ends (shortened f n) s answer maps → Ends f s answer maps
   ends_longer s answer maps p = record { here = p.here; answer_is = p.answer_is; maps_are = p.maps_are }
 
-  chain_longer : (s : State) (k : ℕ) (calls : List Asked) (t : State) → Chain (shortened f n) s k calls t → Chain f s k calls t
+  chain_longer : (s : State) (k : ℕ) (calls : List Asked) (t : State) → Steps (shortened f n) s k calls t → Steps f s k calls t
   chain_longer s zero calls t p = p
   chain_longer s (suc k) calls t (before, c, u, chain, step, e) = (before, c, u, chain_longer s k before u chain, step_longer u c t step, e)
 
@@ -130,8 +130,8 @@ module _ (f : Setting) (n : ℕ) where
         subst (λ (v : State). Step (shortened f n) s (Some c) v) (sym same.1)
         (subst (λ (d : Option Asked). Step (shortened f n) s d e.1) (sym same.0) e.3)
 
-    module _ (s : State) (budget : ℕ) (safe : (k : ℕ) (calls : List Asked) (t : State) → Chain (shortened f n) s k calls t → GoesWell (shortened f n) budget k calls t) where
-      chain_shorter : (k : ℕ) (calls : List Asked) (t : State) → Chain f s k calls t → Chain (shortened f n) s k calls t
+    module _ (s : State) (budget : ℕ) (safe : (k : ℕ) (calls : List Asked) (t : State) → Steps (shortened f n) s k calls t → GoesWell (shortened f n) budget k calls t) where
+      chain_shorter : (k : ℕ) (calls : List Asked) (t : State) → Steps f s k calls t → Steps (shortened f n) s k calls t
       chain_shorter zero calls t p = p
       chain_shorter (suc k) calls t (before, c, u, chain, step, e) =
           let less = chain_shorter k before u chain in
@@ -141,7 +141,7 @@ module _ (f : Setting) (n : ℕ) where
       on_longer t (inl (answer, ends)) = inl (answer, ends_longer t answer t.maps ends)
       on_longer t (inr on) = inr (goes_on_longer t on)
 
-      pub well_longer : (k : ℕ) (calls : List Asked) (t : State) → Chain f s k calls t → GoesWell f budget k calls t
+      pub well_longer : (k : ℕ) (calls : List Asked) (t : State) → Steps f s k calls t → GoesWell f budget k calls t
       well_longer k calls t chain =
           let well = safe k calls t (chain_shorter k calls t chain) in
           record { short = well.short; few = well.few; on = on_longer t well.on }

@@ -21,19 +21,19 @@ use Rattle.bq_bpf.specs.Safe.{IsSetting, Safe, most_calls}
 use Rattle.bq_ranges.specs.Within.{Within}
 use Rattle.bq_graph.specs.Edges.{IsEdge, IsStart, Leaves}
 use Rattle.bq_graph.specs.Passes.{IsSound}
-use Rattle.bq_views.specs.declared.view.View.{View}
-use Rattle.bq_views.specs.declared.view.Known.{Known}
-use Rattle.bq_views.specs.declared.view.Kind.TheVariants.{Context, Stack}
-use Rattle.bq_views.specs.Views.{Covers, Suits, Describes, knowing}
-use Rattle.bq_transfer.specs.Carries.{Carries, AsksFrom, IsStraight}
+use Rattle.bq_states.specs.declared.abstract_state.AbstractState.{AbstractState}
+use Rattle.bq_states.specs.declared.abstract_state.AbstractValue.{AbstractValue}
+use Rattle.bq_states.specs.declared.abstract_state.Kind.TheVariants.{Context, Stack}
+use Rattle.bq_states.specs.AbstractStates.{Contains, Suits, Describes, knowing}
+use Rattle.bq_transfer.specs.Transfers.{Transfers, AsksFrom, IsStraight}
 use Rattle.bq_transfer.specs.Sides.{Fits}
 use Rattle.bq_verify.specs.Control.{IsAskingEdge, AreHeights, AreMade, EndsWithin, IsIn, WaitsBoxed, IsKnown, LeadsOn, Goes, PassesOn, RestIsSafe, IsOnSide, PartsTo}
-use Rattle.bq_views.proofs.MergeLemmas.{some_none}
-use Rattle.bq_views.proofs.LearnLemmas.{covers_learn, found_at}
+use Rattle.bq_states.proofs.MergeLemmas.{some_none}
+use Rattle.bq_states.proofs.LearnLemmas.{covers_learn, found_at}
 use Rattle.bq_verify.proofs.ChainLemmas.{goes_well}
 
-pub Covers-at : (f : Setting) (v : View) (s : State) (slot : ℕ) → Covers f v s → Covers f v (record s { slot = slot })
-Covers-at f v s slot covers = record { registers = covers.registers; set = covers.set; kept = covers.kept; parts = covers.parts; maps = covers.maps; copies = covers.copies }
+pub Contains-at : (f : Setting) (v : AbstractState) (s : State) (slot : ℕ) → Contains f v s → Contains f v (record s { slot = slot })
+Contains-at f v s slot covers = record { registers = covers.registers; set = covers.set; kept = covers.kept; parts = covers.parts; maps = covers.maps; copies = covers.copies }
 
 pub suits : (slots : List (Option Insn)) (shapes : List MapShape) (context_length : ℕ) (f : Setting) → IsSetting slots shapes context_length f → Suits shapes context_length f
 suits slots shapes context_length f setting = record {
@@ -50,10 +50,10 @@ after_call (Call helper) counter slot = inl (refl, refl)
 after_call _ counter slot = absurd counter
 
 -- the side that the test chooses
-pub chosen : (f : Setting) (view : View) (s : State) (slot dst a b : ℕ) (src : Source) (word : Option Known) (right : Known) → s.register dst ≡ Some a → IsOperand s src b → Covers f view s → Fits f.shapes word a → Describes f.shapes right b → IsOnSide f view dst src word right (record s { slot = slot })
+pub chosen : (f : Setting) (view : AbstractState) (s : State) (slot dst a b : ℕ) (src : Source) (word : Option AbstractValue) (right : AbstractValue) → s.register dst ≡ Some a → IsOperand s src b → Contains f view s → Fits f.shapes word a → Describes f.shapes right b → IsOnSide f view dst src word right (record s { slot = slot })
 chosen f view s slot dst a b src None right is operand covers fits told = fits
 chosen f view s slot dst a b src (Some word) right is operand covers fits told = (
-  Covers-at f view s slot covers,
+  Contains-at f view s slot covers,
   record {
     word = a;
     is = is;
@@ -62,14 +62,14 @@ chosen f view s slot dst a b src (Some word) right is operand covers fits told =
   },
 )
 
-module _ (slots : List (Option Insn)) (shapes : List MapShape) (context_length slot : ℕ) (view : View) (K : Setting → State → Type 0) where
+module _ (slots : List (Option Insn)) (shapes : List MapShape) (context_length slot : ℕ) (view : AbstractState) (K : Setting → State → Type 0) where
   here_at : (insn : Insn) → instruction_at slots slot ≡ Some insn → (f : Setting) (s : State) → IsSetting slots shapes context_length f → s.slot ≡ slot → instruction_at f.slots s.slot ≡ Some insn
   here_at insn here f s setting same = rw (setting.slots_are, same) here
 
   -- the next instruction, at a view of which the state is known
-  pub goes_on : (insn : Insn) (after : View) → instruction_at slots slot ≡ Some insn → IsStraight insn → Carries shapes context_length insn view after → ((f : Setting) (s : State) → s.slot ≡ slot + slots_of insn → Covers f after s → K f s) → Goes slots shapes context_length slot view K
-  goes_on insn after here straight carries added f s setting same covers =
-      let on = carries f s (suits slots shapes context_length f setting) covers in
+  pub goes_on : (insn : Insn) (after : AbstractState) → instruction_at slots slot ≡ Some insn → IsStraight insn → Transfers shapes context_length insn view after → ((f : Setting) (s : State) → s.slot ≡ slot + slots_of insn → Contains f after s → K f s) → Goes slots shapes context_length slot view K
+  goes_on insn after here straight transfers added f s setting same covers =
+      let on = transfers f s (suits slots shapes context_length f setting) covers in
       let at = here_at insn here f s setting same in
       inr (inl (
         on.0,
@@ -78,12 +78,12 @@ module _ (slots : List (Option Insn)) (shapes : List MapShape) (context_length s
         added f on.0 (rw (← same) on.3) on.2,
       ))
 
-  pub goes_out : instruction_at slots slot ≡ Some Exit → ((f : Setting) (s : State) → Covers f view s → (answer : ℕ) × (s.register 0 ≡ Some answer)) → Goes slots shapes context_length slot view K
+  pub goes_out : instruction_at slots slot ≡ Some Exit → ((f : Setting) (s : State) → Contains f view s → (answer : ℕ) × (s.register 0 ≡ Some answer)) → Goes slots shapes context_length slot view K
   goes_out here gives f s setting same covers =
       let given = gives f s covers in
       inl (given.0, record { here = here_at Exit here f s setting same; answer_is = given.1; maps_are = refl })
 
-  pub goes_there : (off : ℤ) (to : ℕ) → instruction_at slots slot ≡ Some (Goto off) → LeadsTo slot off to → ((f : Setting) (s : State) → s.slot ≡ to → Covers f view s → K f s) → Goes slots shapes context_length slot view K
+  pub goes_there : (off : ℤ) (to : ℕ) → instruction_at slots slot ≡ Some (Goto off) → LeadsTo slot off to → ((f : Setting) (s : State) → s.slot ≡ to → Contains f view s → K f s) → Goes slots shapes context_length slot view K
   goes_there off to here leads added f s setting same covers =
       let at = here_at (Goto off) here f s setting same in
       let there : LeadsTo s.slot off to = rw same leads in
@@ -91,10 +91,10 @@ module _ (slots : List (Option Insn)) (shapes : List MapShape) (context_length s
         record s { slot = to },
         record { insn = Goto off; here = at; takes = (to, there, refl) },
         record { insn = Goto off; here = at; leaves = inr (off, refl, there) },
-        added f (record s { slot = to }) refl (Covers-at f view s to covers),
+        added f (record s { slot = to }) refl (Contains-at f view s to covers),
       ))
 
-  pub goes_far : (imm : ℤ) (to : ℕ) → instruction_at slots slot ≡ Some (Goto32 imm) → LeadsTo slot imm to → ((f : Setting) (s : State) → s.slot ≡ to → Covers f view s → K f s) → Goes slots shapes context_length slot view K
+  pub goes_far : (imm : ℤ) (to : ℕ) → instruction_at slots slot ≡ Some (Goto32 imm) → LeadsTo slot imm to → ((f : Setting) (s : State) → s.slot ≡ to → Contains f view s → K f s) → Goes slots shapes context_length slot view K
   goes_far imm to here leads added f s setting same covers =
       let at = here_at (Goto32 imm) here f s setting same in
       let there : LeadsTo s.slot imm to = rw same leads in
@@ -102,10 +102,10 @@ module _ (slots : List (Option Insn)) (shapes : List MapShape) (context_length s
         record s { slot = to },
         record { insn = Goto32 imm; here = at; takes = (to, there, refl) },
         record { insn = Goto32 imm; here = at; leaves = inr (imm, refl, there) },
-        added f (record s { slot = to }) refl (Covers-at f view s to covers),
+        added f (record s { slot = to }) refl (Contains-at f view s to covers),
       ))
 
-  pub goes_asking : (insn : Insn) (after : View) → instruction_at slots slot ≡ Some insn → IsCounterCall insn → AsksFrom insn view after → ((f : Setting) (s : State) → s.slot ≡ slot + 1 → Covers f after s → K f s) → Goes slots shapes context_length slot view K
+  pub goes_asking : (insn : Insn) (after : AbstractState) → instruction_at slots slot ≡ Some insn → IsCounterCall insn → AsksFrom insn view after → ((f : Setting) (s : State) → s.slot ≡ slot + 1 → Contains f after s → K f s) → Goes slots shapes context_length slot view K
   goes_asking insn after here counter asks added f s setting same covers =
       inr (inr (λ x small.
       let on = asks f s x covers small in
@@ -134,12 +134,12 @@ module _ (slots : List (Option Insn)) (shapes : List MapShape) (context_length s
         parts.no (record s { slot = s.slot + 1 }) refl e,
       ))
 
-  pub goes_apart : (w : Width) (c : Condition) (dst : ℕ) (src : Source) (off : ℤ) (to : ℕ) → instruction_at slots slot ≡ Some (Branch w c dst src off) → LeadsTo slot off to → ((f : Setting) (s : State) → Covers f view s → PartsTo K f s w c dst src to (slot + 1)) → Goes slots shapes context_length slot view K
+  pub goes_apart : (w : Width) (c : Condition) (dst : ℕ) (src : Source) (off : ℤ) (to : ℕ) → instruction_at slots slot ≡ Some (Branch w c dst src off) → LeadsTo slot off to → ((f : Setting) (s : State) → Contains f view s → PartsTo K f s w c dst src to (slot + 1)) → Goes slots shapes context_length slot view K
   goes_apart w c dst src off to here leads parts f s setting same covers =
       parted w c dst src off to f s (here_at (Branch w c dst src off) here f s setting same) (rw same leads) (subst (λ (n : ℕ). PartsTo K f s w c dst src to (n + 1)) (sym same) (parts f s covers)) _ refl
 
 -- the two sides of a branch
-pub parts_of : (f : Setting) (s : State) (view : View) (w : Width) (c : Condition) (dst : ℕ) (src : Source) (to next : ℕ) (K : Setting → State → Type 0) (left right : Known) (yes_word no_word : Option Known) (yes_right no_right : Known) → Some left ≡ slice_index_or view.registers dst None → (b : ℕ) → IsOperand s src b → Describes f.shapes right b → ((shapes : List MapShape) (a b : ℕ) → Describes shapes left a → Describes shapes right b → taken w c a b ≡ true → Fits shapes yes_word a) → ((shapes : List MapShape) (a b : ℕ) → Describes shapes left a → Describes shapes right b → taken w c a b ≡ false → Fits shapes no_word a) → ((shapes : List MapShape) (a b : ℕ) → Describes shapes left a → Describes shapes right b → taken w c a b ≡ true → Describes shapes yes_right b) → ((shapes : List MapShape) (a b : ℕ) → Describes shapes left a → Describes shapes right b → taken w c a b ≡ false → Describes shapes no_right b) → ((t : State) → t.slot ≡ to → IsOnSide f view dst src yes_word yes_right t → K f t) → ((t : State) → t.slot ≡ next → IsOnSide f view dst src no_word no_right t → K f t) → Covers f view s → PartsTo K f s w c dst src to next
+pub parts_of : (f : Setting) (s : State) (view : AbstractState) (w : Width) (c : Condition) (dst : ℕ) (src : Source) (to next : ℕ) (K : Setting → State → Type 0) (left right : AbstractValue) (yes_word no_word : Option AbstractValue) (yes_right no_right : AbstractValue) → Some left ≡ slice_index_or view.registers dst None → (b : ℕ) → IsOperand s src b → Describes f.shapes right b → ((shapes : List MapShape) (a b : ℕ) → Describes shapes left a → Describes shapes right b → taken w c a b ≡ true → Fits shapes yes_word a) → ((shapes : List MapShape) (a b : ℕ) → Describes shapes left a → Describes shapes right b → taken w c a b ≡ false → Fits shapes no_word a) → ((shapes : List MapShape) (a b : ℕ) → Describes shapes left a → Describes shapes right b → taken w c a b ≡ true → Describes shapes yes_right b) → ((shapes : List MapShape) (a b : ℕ) → Describes shapes left a → Describes shapes right b → taken w c a b ≡ false → Describes shapes no_right b) → ((t : State) → t.slot ≡ to → IsOnSide f view dst src yes_word yes_right t → K f t) → ((t : State) → t.slot ≡ next → IsOnSide f view dst src no_word no_right t → K f t) → Contains f view s → PartsTo K f s w c dst src to next
 parts_of f s view w c dst src to next K left right yes_word no_word yes_right no_right known b operand word yes_is no_is yes_told no_told add_yes add_no covers =
     let found = found_at f view s dst left known covers in
     record {
@@ -208,18 +208,18 @@ module _ (slots : List (Option Insn)) (shapes : List MapShape) (context_length :
   pub rest_before : PassesOn slots shapes context_length slot K L → RestIsSafe slots shapes context_length heights made (slot + 1) L → RestIsSafe slots shapes context_length heights made slot K
   rest_before passes rest f s setting le begins known = at_state passes rest f s _ setting le begins known (eqb_tells s.slot slot)
 
-pub no_view : (f : Setting) (s : State) (waiting : Option (Box View Global)) → waiting ≡ None → IsIn f waiting s → ⊥
+pub no_view : (f : Setting) (s : State) (waiting : Option (Box AbstractState Global)) → waiting ≡ None → IsIn f waiting s → ⊥
 no_view f s waiting none here = rw none at here
 
 not_true : (live : Bool) → live ≡ false → live ≡ true → ⊥
 not_true live a b = cc
 
-pub moved : (f : Setting) (s : State) (pending : List (Option (Box View Global))) (slot : ℕ) → s.slot ≡ slot → WaitsBoxed f pending s → IsIn f (slice_index_or pending slot None) s
+pub moved : (f : Setting) (s : State) (pending : List (Option (Box AbstractState Global))) (slot : ℕ) → s.slot ≡ slot → WaitsBoxed f pending s → IsIn f (slice_index_or pending slot None) s
 moved f s pending slot same waits = subst (λ (n : ℕ). IsIn f (slice_index_or pending n None) s) same waits
 
-module _ (slots : List (Option Insn)) (shapes : List MapShape) (context_length slot : ℕ) (pending : List (Option (Box View Global))) (view : View) (live : Bool) (K : Setting → State → Type 0) (empty : slice_index_or pending slot None ≡ None) (arrives : (f : Setting) (s : State) → K f s → IsKnown pending view live slot f s) where
+module _ (slots : List (Option Insn)) (shapes : List MapShape) (context_length slot : ℕ) (pending : List (Option (Box AbstractState Global))) (view : AbstractState) (live : Bool) (K : Setting → State → Type 0) (empty : slice_index_or pending slot None ≡ None) (arrives : (f : Setting) (s : State) → K f s → IsKnown pending view live slot f s) where
   -- nothing is known at the slot
-  pub passes_over : (after : View) → live ≡ false → PassesOn slots shapes context_length slot K (IsKnown pending after false (slot + 1))
+  pub passes_over : (after : AbstractState) → live ≡ false → PassesOn slots shapes context_length slot K (IsKnown pending after false (slot + 1))
   passes_over after dead f s setting begins known = (λ other. side (arrives f s known) other, λ same. absurd (here (arrives f s known) same))
     where
       side : IsKnown pending view live slot f s → s.slot ≢ slot → IsKnown pending after false (slot + 1) f s
@@ -231,14 +231,14 @@ module _ (slots : List (Option Insn)) (shapes : List MapShape) (context_length s
       here (inr (e, same', covers)) same = not_true live dead e
 
   -- no instruction begins at the slot
-  pub passes_gap : (after : View) → instruction_at slots slot ≡ None → PassesOn slots shapes context_length slot K (IsKnown pending after false (slot + 1))
+  pub passes_gap : (after : AbstractState) → instruction_at slots slot ≡ None → PassesOn slots shapes context_length slot K (IsKnown pending after false (slot + 1))
   passes_gap after gap f s setting begins known = (λ other. side (arrives f s known) other, λ same. absurd (some_none _ _ (rw same at begins.here) gap))
     where
       side : IsKnown pending view live slot f s → s.slot ≢ slot → IsKnown pending after false (slot + 1) f s
       side (inl waits) other = inl waits
       side (inr (e, same, covers)) other = absurd (other same)
 
-  pub passes_by : (new : List (Option (Box View Global))) (after : View) (on : Bool) → ((f : Setting) (s : State) → WaitsBoxed f pending s → WaitsBoxed f new s) → Goes slots shapes context_length slot view (IsKnown new after on (slot + 1)) → PassesOn slots shapes context_length slot K (IsKnown new after on (slot + 1))
+  pub passes_by : (new : List (Option (Box AbstractState Global))) (after : AbstractState) (on : Bool) → ((f : Setting) (s : State) → WaitsBoxed f pending s → WaitsBoxed f new s) → Goes slots shapes context_length slot view (IsKnown new after on (slot + 1)) → PassesOn slots shapes context_length slot K (IsKnown new after on (slot + 1))
   passes_by new after on kept goes f s setting begins known = (λ other. side (arrives f s known) other, λ same. here (arrives f s known) same)
     where
       side : IsKnown pending view live slot f s → s.slot ≢ slot → IsKnown new after on (slot + 1) f s
@@ -255,14 +255,14 @@ rest_at_end slots shapes context_length heights made slot K end f s setting le b
     absurd (some_none _ _ begins.here (get_or_past slots s.slot None (omega arith)))
 
 -- a program whose start is known is safe
-pub safe_from_start : (slots : List (Option Insn)) (shapes : List MapShape) (context_length : ℕ) (heights : List ℕ) (made : ℕ → ℕ) (pending : List (Option (Box View Global))) (view : View) → context_length < 2 ^ 16 → IsStart slots 0 → ((f : Setting) (maps : List (List ℕ)) → HaveShapes f.shapes maps → Covers f view (start maps)) → RestIsSafe slots shapes context_length heights made 0 (IsKnown pending view true 0) → Safe slots shapes context_length (slice_index heights 0)
+pub safe_from_start : (slots : List (Option Insn)) (shapes : List MapShape) (context_length : ℕ) (heights : List ℕ) (made : ℕ → ℕ) (pending : List (Option (Box AbstractState Global))) (view : AbstractState) → context_length < 2 ^ 16 → IsStart slots 0 → ((f : Setting) (maps : List (List ℕ)) → HaveShapes f.shapes maps → Contains f view (start maps)) → RestIsSafe slots shapes context_length heights made 0 (IsKnown pending view true 0) → Safe slots shapes context_length (slice_index heights 0)
 safe_from_start slots shapes context_length heights made pending view small first begins rest f maps setting have n calls t chain =
     goes_well f (rw setting.context_long small) (start maps) (slice_index heights 0)
     (ends_more f (start maps) _ _ _ 0 (let p : slice_index heights 0 ≤ slice_index heights 0 = omega arith in p) zero-le
     (rest f (start maps) setting zero-le first (inr (refl, refl, begins f maps (rw setting.shapes_are have))))) n calls t chain
 
 -- a register of a start state
-pub start_is : (f : Setting) (maps : List (List ℕ)) (v : View) (k m : Known) → 10 < length v.registers → k.kind ≡ Context → Within k.offset 0 → m.kind ≡ Stack → Within m.offset 512 → Covers f v (start maps) → Covers f (knowing (knowing v 1 k) 10 m) (start maps)
+pub start_is : (f : Setting) (maps : List (List ℕ)) (v : AbstractState) (k m : AbstractValue) → 10 < length v.registers → k.kind ≡ Context → Within k.offset 0 → m.kind ≡ Stack → Within m.offset 512 → Contains f v (start maps) → Contains f (knowing (knowing v 1 k) 10 m) (start maps)
 start_is f maps v k m long kind within kind' within' covers =
     covers_learn f (knowing v 1 k) (start maps) 10 (stack_base + stack_size) m (rw length-set long) refl
     (covers_learn f v (start maps) 1 context_base k (omega arith) refl covers (record { base = context_base; offset = 0; is_base = rw kind refl; within = within; word_is = refl }))

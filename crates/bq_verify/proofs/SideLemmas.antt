@@ -10,30 +10,30 @@ use Rattle.bq_insn.specs.declared.Condition.{Condition}
 use Rattle.bq_insn.specs.declared.Condition.TheVariants.{Equal, NotEqual}
 use Rattle.bq_bpf.specs.Steps.{LeadsTo}
 use Rattle.bq_insn.specs.declared.Source.{Source}
-use Rattle.bq_views.specs.declared.view.Kind.{Kind}
-use Rattle.bq_views.specs.declared.view.Kind.TheVariants.{Entry, EntryOrNull}
-use Rattle.bq_views.specs.declared.view.Known.{Known}
-use Rattle.bq_views.specs.declared.view.View.{View}
-use Rattle.bq_views.specs.Views.{knowing}
-use Rattle.bq_views.specs.Told.{HasLearnt, IsLasting, IsCertain}
-use Rattle.bq_views.specs.Standing.{Scalar, Exact, Pointer, NoPointer, Stands, StandsAt, Fact, Never, AtRegister, IsSetAt, IsPlainAt, Has, Outlasts}
+use Rattle.bq_states.specs.declared.abstract_state.Kind.{Kind}
+use Rattle.bq_states.specs.declared.abstract_state.Kind.TheVariants.{Entry, EntryOrNull}
+use Rattle.bq_states.specs.declared.abstract_state.AbstractValue.{AbstractValue}
+use Rattle.bq_states.specs.declared.abstract_state.AbstractState.{AbstractState}
+use Rattle.bq_states.specs.AbstractStates.{knowing}
+use Rattle.bq_states.specs.Told.{HasLearnt, IsLasting, IsCertain}
+use Rattle.bq_states.specs.Standing.{Scalar, Exact, Pointer, NoPointer, Stands, StandsAt, Fact, Never, AtRegister, IsSetAt, IsPlainAt, Has, Outlasts}
 use Rattle.bq_verify.specs.Ways.{HasOnSide, AfterTest, IsApartFrom}
 use Rattle.bq_transfer.specs.Sides.{IsNumberIfAny, IsTested, is_found}
-use Rattle.bq_transfer.specs.Ready.{IsCarried}
+use Rattle.bq_transfer.specs.Ready.{IsTransferred}
 use Rattle.bq_transfer.specs.After.{IsFoundSide, After}
-use Rattle.bq_views.proofs.MergeLemmas.{some_none}
+use Rattle.bq_states.proofs.MergeLemmas.{some_none}
 use Rattle.bq_transfer.proofs.StandingLemmas.{not_both, pointer_is, given_has, knowing_given}
 
-known_within : (xs : List (Option Known)) (r : ℕ) (k : Known) → Some k ≡ slice_index_or xs r None → (r < length xs) ⊎ (length xs ≤ r) → r < length xs
+known_within : (xs : List (Option AbstractValue)) (r : ℕ) (k : AbstractValue) → Some k ≡ slice_index_or xs r None → (r < length xs) ⊎ (length xs ≤ r) → r < length xs
 known_within xs r k known (inl within) = within
 known_within xs r k known (inr beyond) = absurd (some_none _ _ (sym known) (get_or_past xs r None beyond))
 
 -- a register that is known is one of the registers
-pub known_inside : (xs : List (Option Known)) (r : ℕ) (k : Known) → Some k ≡ slice_index_or xs r None → r < length xs
+pub known_inside : (xs : List (Option AbstractValue)) (r : ℕ) (k : AbstractValue) → Some k ≡ slice_index_or xs r None → r < length xs
 known_inside xs r k known = known_within xs r k known (cases_lt r (length xs))
 
 -- what is sure after a test of a look-up's answer, on a side of it
-pub has_tested : (x : Fact) (slot k : ℕ) (w : Width) (c : Condition) (dst : ℕ) (src : Source) (off : ℤ) (m : ℕ) (found : Bool) (view : View) → StandsAt (Pointer (EntryOrNull m) 0) view dst → (IsFoundSide c off slot k → found ≡ true) → After x slot k (Branch w c dst src off) view → AfterTest x view dst m found
+pub has_tested : (x : Fact) (slot k : ℕ) (w : Width) (c : Condition) (dst : ℕ) (src : Source) (off : ℤ) (m : ℕ) (found : Bool) (view : AbstractState) → StandsAt (Pointer (EntryOrNull m) 0) view dst → (IsFoundSide c off slot k → found ≡ true) → After x slot k (Branch w c dst src off) view → AfterTest x view dst m found
 has_tested Never slot k w c dst src off m found view stands side after = absurd after
 has_tested (AtRegister Scalar r) slot k w c dst src off m found view stands side (inl gives) = absurd (some_none _ _ gives refl)
 has_tested (AtRegister Scalar r) slot k w c dst src off m found view stands side (inr (_, scalar)) = inr (λ same. not_both _ (EntryOrNull m) 0 (subst (λ (n : ℕ). StandsAt Scalar view n) same scalar) stands, tt, scalar)
@@ -57,33 +57,33 @@ has_tested (IsSetAt i) slot k w c dst src off m found view stands side (inl stor
 has_tested (IsSetAt i) slot k w c dst src off m found view stands side (inr has) = inr (tt, tt, has)
 has_tested (IsPlainAt j) slot k w c dst src off m found view stands side after = inr (tt, tt, after)
 
-knowing_apart : (x : Fact) (view : View) (dst : ℕ) (word : Known) → IsApartFrom x dst → Has x view → HasLearnt x view dst word
+knowing_apart : (x : Fact) (view : AbstractState) (dst : ℕ) (word : AbstractValue) → IsApartFrom x dst → Has x view → HasLearnt x view dst word
 knowing_apart Never view dst word other has = has
-knowing_apart (AtRegister s r) view dst word other has = subst (λ (v : Option Known). Stands s v) (sym (get_or-set_other view.registers dst r (Some word) None other)) has
+knowing_apart (AtRegister s r) view dst word other has = subst (λ (v : Option AbstractValue). Stands s v) (sym (get_or-set_other view.registers dst r (Some word) None other)) has
 knowing_apart (IsSetAt i) view dst word other has = has
 knowing_apart (IsPlainAt j) view dst word other has = has
 
 -- the word that is learnt on that side
-pub has_on_tested : (x : Fact) (view : View) (dst m : ℕ) (found : Bool) (side : Option Known) → dst < length view.registers → IsTested m found side → AfterTest x view dst m found → HasOnSide x view dst side
+pub has_on_tested : (x : Fact) (view : AbstractState) (dst m : ℕ) (found : Bool) (side : Option AbstractValue) → dst < length view.registers → IsTested m found side → AfterTest x view dst m found → HasOnSide x view dst side
 has_on_tested x view dst m found side there tested (inl (yes', is)) =
-    let word : Stands (Pointer (Entry m) 0) (slice_index_or (slice_set view.registers dst (Some tested.word)) dst None) = subst (λ (v : Option Known). Stands (Pointer (Entry m) 0) v) (sym (get_or-set_same view.registers dst (Some tested.word) None there)) (tested.entry yes') in
+    let word : Stands (Pointer (Entry m) 0) (slice_index_or (slice_set view.registers dst (Some tested.word)) dst None) = subst (λ (v : Option AbstractValue). Stands (Pointer (Entry m) 0) v) (sym (get_or-set_same view.registers dst (Some tested.word) None there)) (tested.entry yes') in
     let at : HasOnSide (AtRegister (Pointer (Entry m) 0) dst) view dst (Some tested.word) = (tt, word) in
-    subst (λ (v : Option Known). HasOnSide x view dst v) (sym tested.is) (subst (λ (y : Fact). HasOnSide y view dst (Some tested.word)) (sym is) at)
-has_on_tested x view dst m found side there tested (inr (other, lasting, has)) = subst (λ (v : Option Known). HasOnSide x view dst v) (sym tested.is) (lasting, knowing_apart x view dst tested.word other has)
+    subst (λ (v : Option AbstractValue). HasOnSide x view dst v) (sym tested.is) (subst (λ (y : Fact). HasOnSide y view dst (Some tested.word)) (sym is) at)
+has_on_tested x view dst m found side there tested (inr (other, lasting, has)) = subst (λ (v : Option AbstractValue). HasOnSide x view dst v) (sym tested.is) (lasting, knowing_apart x view dst tested.word other has)
 
-learnt_of : (x : Fact) (view : View) (dst : ℕ) (k : Known) → Has x (knowing view dst k) → HasLearnt x view dst k
+learnt_of : (x : Fact) (view : AbstractState) (dst : ℕ) (k : AbstractValue) → Has x (knowing view dst k) → HasLearnt x view dst k
 learnt_of Never view dst k has = has
 learnt_of (AtRegister s r) view dst k has = has
 learnt_of (IsSetAt i) view dst k has = has
 learnt_of (IsPlainAt j) view dst k has = has
 
 -- what is sure of a view is sure on a side of a test of numbers
-pub has_on_side : (x : Fact) (view : View) (dst : ℕ) (side : Option Known) → dst < length view.registers → Outlasts x dst → IsLasting x → StandsAt Scalar view dst → IsNumberIfAny side → Has x view → HasOnSide x view dst side
+pub has_on_side : (x : Fact) (view : AbstractState) (dst : ℕ) (side : Option AbstractValue) → dst < length view.registers → Outlasts x dst → IsLasting x → StandsAt Scalar view dst → IsNumberIfAny side → Has x view → HasOnSide x view dst side
 has_on_side x view dst None there lasts lasting scalar number has = tt
 has_on_side x view dst (Some k) there lasts lasting scalar number has = (lasting, learnt_of x view dst k (given_has x view (knowing view dst k) dst lasts scalar (knowing_given view dst k there number) has))
 
 -- what is sure after a branch outlasts the test
-pub outlasts : (x : Fact) (slot k : ℕ) (w : Width) (c : Condition) (dst : ℕ) (src : Source) (off : ℤ) (view : View) → After x slot k (Branch w c dst src off) view → Outlasts x dst
+pub outlasts : (x : Fact) (slot k : ℕ) (w : Width) (c : Condition) (dst : ℕ) (src : Source) (off : ℤ) (view : AbstractState) → After x slot k (Branch w c dst src off) view → Outlasts x dst
 outlasts (AtRegister (Exact n) r) slot k w c dst src off view (inl gives) = absurd gives
 outlasts (AtRegister (Exact n) r) slot k w c dst src off view (inr (_, other, exact)) = other
 outlasts (AtRegister Scalar r) slot k w c dst src off view after = tt
@@ -94,7 +94,7 @@ outlasts (IsSetAt i) slot k w c dst src off view after = tt
 outlasts (IsPlainAt j) slot k w c dst src off view after = tt
 
 -- and it lasts
-pub lasting_after : (x : Fact) (slot k : ℕ) (w : Width) (c : Condition) (dst : ℕ) (src : Source) (off : ℤ) (view : View) → After x slot k (Branch w c dst src off) view → IsLasting x
+pub lasting_after : (x : Fact) (slot k : ℕ) (w : Width) (c : Condition) (dst : ℕ) (src : Source) (off : ℤ) (view : AbstractState) → After x slot k (Branch w c dst src off) view → IsLasting x
 lasting_after (AtRegister (Pointer kind o) r) slot k w c dst src off view (inl (same, m, kind_is, o_is, answer, on_side)) = subst (λ (b : Kind). IsCertain b) (sym kind_is) tt
 lasting_after (AtRegister (Pointer kind o) r) slot k w c dst src off view (inr (_, certain, before)) = certain
 lasting_after (AtRegister (Exact n) r) slot k w c dst src off view after = tt
@@ -104,7 +104,7 @@ lasting_after Never slot k w c dst src off view after = tt
 lasting_after (IsSetAt i) slot k w c dst src off view after = tt
 lasting_after (IsPlainAt j) slot k w c dst src off view after = tt
 
-pub carried_of : (insn : Insn) → (insn ≡ Exit → ⊥) → ((off : ℤ) → insn ≡ Goto off → ⊥) → ((imm : ℤ) → insn ≡ Goto32 imm → ⊥) → ((w : Width) (c : Condition) (d : ℕ) (s : Source) (off : ℤ) → insn ≡ Branch w c d s off → ⊥) → IsCarried insn
+pub carried_of : (insn : Insn) → (insn ≡ Exit → ⊥) → ((off : ℤ) → insn ≡ Goto off → ⊥) → ((imm : ℤ) → insn ≡ Goto32 imm → ⊥) → ((w : Width) (c : Condition) (d : ℕ) (s : Source) (off : ℤ) → insn ≡ Branch w c d s off → ⊥) → IsTransferred insn
 carried_of (Goto off) e g h b = g off refl
 carried_of (Goto32 imm) e g h b = h imm refl
 carried_of (Branch w c d s off) e g h b = b w c d s off refl

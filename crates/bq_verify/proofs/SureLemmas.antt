@@ -24,15 +24,15 @@ use Rattle.bq_graph.specs.Passes.{IsSound}
 use Rattle.bq_graph.specs.Faults.{destination_of}
 use Rattle.bq_graph.specs.declared.cause.Cause.TheVariants.{Frame}
 use Rattle.bq_graph.proofs.EdgeLemmas.{end_of-push, IsPath-push}
-use Rattle.bq_views.specs.declared.view.Kind.{Kind}
-use Rattle.bq_views.specs.declared.view.Kind.TheVariants.{Context, Stack, Entry, EntryOrNull, Map}
-use Rattle.bq_views.specs.declared.view.View.{View}
-use Rattle.bq_views.specs.Standing.{Scalar, Exact, Pointer, NoPointer, StandsAt, Fact, Never, AtRegister, IsSetAt, IsPlainAt, Has, IsScalarOperand}
+use Rattle.bq_states.specs.declared.abstract_state.Kind.{Kind}
+use Rattle.bq_states.specs.declared.abstract_state.Kind.TheVariants.{Context, Stack, Entry, EntryOrNull, Map}
+use Rattle.bq_states.specs.declared.abstract_state.AbstractState.{AbstractState}
+use Rattle.bq_states.specs.Standing.{Scalar, Exact, Pointer, NoPointer, StandsAt, Fact, Never, AtRegister, IsSetAt, IsPlainAt, Has, IsScalarOperand}
 use Rattle.bq_verify.specs.Ways.{HasWaiting, GoesOnSure}
 use Rattle.bq_transfer.specs.Ready.{IsAsking, IsAtMost, IsCopyOfFrame, IsLeftReady, IsMoveOfPointer, IsNamingEntry, IsPlaced, IsReadable, IsOnFrame, IsIntoEntry, IsReady, IsReadyToAsk, IsUpdating}
-use Rattle.bq_views.specs.Views.{size_of_shape}
+use Rattle.bq_states.specs.AbstractStates.{size_of_shape}
 use Rattle.bq_transfer.specs.After.{GivesExact, GivesNumber, GivesPointer, IsNoTestOf, LeavesNumber, LeavesPointer, Spares, IsStackByte, StoresByte, After}
-use Rattle.bq_views.specs.Told.{IsCertain}
+use Rattle.bq_states.specs.Told.{IsCertain}
 use Rattle.bq_transfer.proofs.StandingLemmas.{exact_at_most}
 use Rattle.bq_verify.specs.Straight.{held_along, OnEachPath, is_register, writes, leaves, spares, loads, untouched, stores, always, never, IsWritten, IsStored, IsLoaded, IsContextLeft, IsWrittenOperand, IsWrittenLeft, IsOnStack, MakesPointer, LeavesPointerIn, IsPointerFrom, IsPointerAt, IsInEntry, IsGoodLoad, IsGoodStore, IsCopyOfEnd, IsMoveOnStack, IsNaming, IsGiving, IsCounting, Needs, IsStraightProgram}
 use Rattle.bq_verify.specs.Sure.{IsDue, IsSure}
@@ -140,7 +140,7 @@ module _ (slots : List (Option Insn)) (makes leaves : Option Insn → Bool) wher
       by false false e f = absurd (reached (λ p. let on : leaves (Some insn) ≡ true = (left_on _ _ _ e (held p.rest p.is_path p.ends)).0 in let no : ⊥ = cc in no))
 
 -- what a chain of instructions makes of a register, the view knows, if it knows what was before
-gives_pointer : (kind : Kind) (o r slot k : ℕ) (insn : Insn) (view : View) (Was : Kind → ℕ → ℕ → Type 0) → StandsAt (Pointer Stack 512) view 10 → ((kind : Kind) (o r : ℕ) → Was kind o r → StandsAt (Pointer kind o) view r) → MakesPointer kind o r slot k (Some insn) Was → GivesPointer kind o slot k insn r view
+gives_pointer : (kind : Kind) (o r slot k : ℕ) (insn : Insn) (view : AbstractState) (Was : Kind → ℕ → ℕ → Type 0) → StandsAt (Pointer Stack 512) view 10 → ((kind : Kind) (o r : ℕ) → Was kind o r → StandsAt (Pointer kind o) view r) → MakesPointer kind o r slot k (Some insn) Was → GivesPointer kind o slot k insn r view
 gives_pointer kind o r slot k (MapRef dst index) view Was frame known made = made
 gives_pointer kind o r slot k (Alu w Mov dst (Reg src)) view Was frame known (same, ten, is, top) = (same, ten, rw (is, top) frame)
 gives_pointer kind o r slot k (Alu w Add dst (Imm i)) view Was frame known (same, base, was, o_is) = (same, base, subst (λ (n : ℕ). StandsAt (Pointer kind base) view n) (sym same) (known kind base r was), o_is)
@@ -149,7 +149,7 @@ gives_pointer kind o r slot k (Branch w c dst src off) view Was frame known (sam
 gives_pointer kind o r slot k _ view Was frame known made = absurd made
 
 -- one slot of a straight program
-module _ (slots : List (Option Insn)) (shapes : List MapShape) (context slot : ℕ) (insn : Insn) (view : View) (here : instruction_at slots slot ≡ Some insn) (straight : IsStraightProgram slots shapes context) (has : (x : Fact) → IsDue slots x slot → Has x view) where
+module _ (slots : List (Option Insn)) (shapes : List MapShape) (context slot : ℕ) (insn : Insn) (view : AbstractState) (here : instruction_at slots slot ≡ Some insn) (straight : IsStraightProgram slots shapes context) (has : (x : Fact) → IsDue slots x slot → Has x view) where
   reached : (Path slots 0 slot → ⊥) → ⊥
   reached none = has Never none
 
@@ -339,16 +339,16 @@ module _ (slots : List (Option Insn)) (shapes : List MapShape) (context slot : �
   ready_at = ready_of insn (straight.each slot insn here)
 
   -- one slot further the pass is as sure
-  pub sure_on : (pending new : List (Option (Box View Global))) (after : View) (on : Bool) → ((x : Fact) (k : ℕ) → IsDue slots x k → HasWaiting x pending k) → GoesOnSure slots slot insn view pending new after on → IsSure slots new after on (slot + 1)
+  pub sure_on : (pending new : List (Option (Box AbstractState Global))) (after : AbstractState) (on : Bool) → ((x : Fact) (k : ℕ) → IsDue slots x k → HasWaiting x pending k) → GoesOnSure slots slot insn view pending new after on → IsSure slots new after on (slot + 1)
   sure_on pending new after on waits goes x k due = goes x k (waits x k due) (λ edge. due_on k edge x due)
 
--- where no view is carried on
-pub sure_over : (slots : List (Option Insn)) (pending : List (Option (Box View Global))) (view : View) (slot : ℕ) → ((x : Fact) (k : ℕ) → IsDue slots x k → HasWaiting x pending k) → IsSure slots pending view false slot
-sure_over slots pending view slot waits x k due = record { waiting = waits x k due; carried = λ live. absurd (let no : ⊥ = cc in no) }
+-- where no view is transferred on
+pub sure_over : (slots : List (Option Insn)) (pending : List (Option (Box AbstractState Global))) (view : AbstractState) (slot : ℕ) → ((x : Fact) (k : ℕ) → IsDue slots x k → HasWaiting x pending k) → IsSure slots pending view false slot
+sure_over slots pending view slot waits x k due = record { waiting = waits x k due; transferred = λ live. absurd (let no : ⊥ = cc in no) }
 
 -- at the start
-pub sure_start : (slots : List (Option Insn)) (pending : List (Option (Box View Global))) (view : View) → IsSound slots → ((k : ℕ) → slice_index_or pending k None ≡ None) → StandsAt (Pointer Context 0) view 1 → StandsAt (Pointer Stack 512) view 10 → ((j : ℕ) → Has (IsPlainAt j) view) → IsSure slots pending view true 0
-sure_start slots pending view sound blank context frame plain x k due = record { waiting = rw (blank k) tt; carried = λ live same. at x (subst (λ (n : ℕ). IsDue slots x n) same due) }
+pub sure_start : (slots : List (Option Insn)) (pending : List (Option (Box AbstractState Global))) (view : AbstractState) → IsSound slots → ((k : ℕ) → slice_index_or pending k None ≡ None) → StandsAt (Pointer Context 0) view 1 → StandsAt (Pointer Stack 512) view 10 → ((j : ℕ) → Has (IsPlainAt j) view) → IsSure slots pending view true 0
+sure_start slots pending view sound blank context frame plain x k due = record { waiting = rw (blank k) tt; transferred = λ live same. at x (subst (λ (n : ℕ). IsDue slots x n) same due) }
   where
     not_made : (kind : Kind) (o r : ℕ) (back : List ℕ) → IsPointerFrom slots kind o r 0 back → ⊥
     not_made kind o r [] chain = chain

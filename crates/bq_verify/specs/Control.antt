@@ -1,5 +1,5 @@
 -- One pass over the slots: what is known along the way, and what that makes safe.
--- One view is carried from slot to slot; where ways part a view is boxed and waits at its slot.
+-- One view is transferred from slot to slot; where ways part a view is boxed and waits at its slot.
 use Rattle.std.specs.Prelude.{Bool, true, false, ◌≡◌, ◌≢◌, ℕ, zero, suc, ◌+◌, ◌^◌, ◌<◌, ◌≤◌, List, Option, Some, None, slice_index, slice_index_or, ◌⊎◌}
 use Rattle.std.proofs.Common.{Global}
 use Rattle.std.specs.declared.boxed.Box.{Box}
@@ -16,11 +16,11 @@ use Rattle.bq_bpf.specs.Steps.{IsOperand, instruction_at, Step, IsCounterCall}
 use Rattle.bq_bpf.specs.Runs.{Ends}
 use Rattle.bq_bpf.specs.Safe.{IsSetting, most_calls}
 use Rattle.bq_graph.specs.Edges.{Leaves, IsEdge, IsStart}
-use Rattle.bq_views.specs.declared.view.Known.{Known}
-use Rattle.bq_views.specs.declared.view.View.{View}
+use Rattle.bq_states.specs.declared.abstract_state.AbstractValue.{AbstractValue}
+use Rattle.bq_states.specs.declared.abstract_state.AbstractState.{AbstractState}
 use Rattle.bq_transfer.specs.Ready.{WritesBelowFrame}
-use Rattle.bq_views.specs.Told.{IsTold}
-use Rattle.bq_views.specs.Views.{Covers}
+use Rattle.bq_states.specs.Told.{IsTold}
+use Rattle.bq_states.specs.AbstractStates.{Contains}
 
 -- each number is above those of the slots that its slot leads to, which come later
 pub record AreHeights (slots : List (Option Insn)) (heights : List ℕ) : Type 0 where
@@ -53,17 +53,17 @@ EndsWithin f s (suc n) made =
     ⊎ ((made < most_calls) × ((x : ℕ) → x < 2 ^ 64 → (c : Asked) × (t : State) × (answer_of c ≡ x) × Step f s (Some c) t × EndsWithin f t n (made + 1)))
 
 -- there is a boxed view, and it is right about the state
-abbrev pub IsIn : Setting → Option (Box View Global) → State → Type 0
+abbrev pub IsIn : Setting → Option (Box AbstractState Global) → State → Type 0
 IsIn f None s = ⊥
-IsIn f (Some boxed) s = Covers f boxed.value s
+IsIn f (Some boxed) s = Contains f boxed.value s
 
 -- a view that waits at the state's slot is right about it
-abbrev pub WaitsBoxed : Setting → List (Option (Box View Global)) → State → Type 0
+abbrev pub WaitsBoxed : Setting → List (Option (Box AbstractState Global)) → State → Type 0
 WaitsBoxed f pending s = IsIn f (slice_index_or pending s.slot None) s
 
--- the state is one of a waiting view, or one of the view that is carried to that slot
-abbrev pub IsKnown : List (Option (Box View Global)) → View → Bool → ℕ → Setting → State → Type 0
-IsKnown pending view live slot f s = WaitsBoxed f pending s ⊎ ((live ≡ true) × (s.slot ≡ slot) × Covers f view s)
+-- the state is one of a waiting view, or one of the view that is transferred to that slot
+abbrev pub IsKnown : List (Option (Box AbstractState Global)) → AbstractState → Bool → ℕ → Setting → State → Type 0
+IsKnown pending view live slot f s = WaitsBoxed f pending s ⊎ ((live ≡ true) × (s.slot ≡ slot) × Contains f view s)
 
 -- at the state the program ends, or goes on to a state that is known; at a call of a counter it does so for each answer
 abbrev pub LeadsOn : (Setting → State → Type 0) → Setting → State → Type 0
@@ -73,9 +73,9 @@ LeadsOn K f s =
     ⊎ ((x : ℕ) → x < 2 ^ 64 → (c : Asked) × (t : State) × (answer_of c ≡ x) × Step f s (Some c) t × IsAskingEdge f.slots s.slot t.slot × K f t)
 
 -- from the states of the view at that slot the program goes on
-abbrev pub Goes : List (Option Insn) → List MapShape → ℕ → ℕ → View → (Setting → State → Type 0) → Type 0
+abbrev pub Goes : List (Option Insn) → List MapShape → ℕ → ℕ → AbstractState → (Setting → State → Type 0) → Type 0
 Goes slots shapes context_length slot view K =
-    (f : Setting) (s : State) → IsSetting slots shapes context_length f → s.slot ≡ slot → Covers f view s → LeadsOn K f s
+    (f : Setting) (s : State) → IsSetting slots shapes context_length f → s.slot ≡ slot → Contains f view s → LeadsOn K f s
 
 -- one slot is done
 abbrev pub PassesOn : List (Option Insn) → List MapShape → ℕ → ℕ → (Setting → State → Type 0) → (Setting → State → Type 0) → Type 0
@@ -88,9 +88,9 @@ RestIsSafe slots shapes context_length heights made slot K =
     (f : Setting) (s : State) → IsSetting slots shapes context_length f → slot ≤ s.slot → IsStart slots s.slot → K f s → EndsWithin f s (slice_index heights s.slot) (made s.slot)
 
 -- the state is one of the view, and both operands are as told there; of none where control never goes there
-abbrev pub IsOnSide : Setting → View → ℕ → Source → Option Known → Known → State → Type 0
+abbrev pub IsOnSide : Setting → AbstractState → ℕ → Source → Option AbstractValue → AbstractValue → State → Type 0
 IsOnSide f view dst src None right s = ⊥
-IsOnSide f view dst src (Some word) right s = Covers f view s × IsTold f s dst src word right
+IsOnSide f view dst src (Some word) right s = Contains f view s × IsTold f s dst src word right
 
 -- both operands are set, and on the side that the test chooses the state is known
 pub record PartsTo (K : Setting → State → Type 0) (f : Setting) (s : State) (w : Width) (c : Condition) (dst : ℕ) (src : Source) (to next : ℕ) : Type 0 where

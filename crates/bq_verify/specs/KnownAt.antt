@@ -4,21 +4,21 @@ use Rattle.bq_insn.specs.declared.Insn.{Insn}
 use Rattle.bq_bpf.specs.declared.shape.MapShape.{MapShape}
 use Rattle.bq_bpf.specs.declared.board.Call.{Call as Asked}
 use Rattle.bq_bpf.specs.Memory.{HaveShapes, Setting, State}
-use Rattle.bq_bpf.specs.Runs.{Chain, start}
+use Rattle.bq_bpf.specs.Runs.{Steps, start}
 use Rattle.bq_bpf.specs.Safe.{IsSetting}
 use Rattle.bq_graph.specs.Edges.{IsStart}
-use Rattle.bq_views.specs.declared.view.View.{View}
-use Rattle.bq_views.specs.Views.{Covers}
+use Rattle.bq_states.specs.declared.abstract_state.AbstractState.{AbstractState}
+use Rattle.bq_states.specs.AbstractStates.{Contains}
 
 -- whatever the context, the maps, the time, the processor and the answers of the counters are, each chain of steps from the start that
 -- comes to the slot leaves there a state of the view
-abbrev pub CoversRuns : List (Option Insn) → List MapShape → ℕ → ℕ → View → Type 0
+abbrev pub CoversRuns : List (Option Insn) → List MapShape → ℕ → ℕ → AbstractState → Type 0
 CoversRuns slots shapes context_length slot view =
     (f : Setting) (maps : List (List ℕ)) → IsSetting slots shapes context_length f → HaveShapes shapes maps →
-    (n : ℕ) (calls : List Asked) (t : State) → Chain f (start maps) n calls t → t.slot ≡ slot → Covers f view t
+    (n : ℕ) (calls : List Asked) (t : State) → Steps f (start maps) n calls t → t.slot ≡ slot → Contains f view t
 
 -- from each known state at an instruction, at that slot or later, a chain that comes to the target leaves there a state of the view
-abbrev pub RestIsCovered : List (Option Insn) → List MapShape → ℕ → ℕ → View → ℕ → (Setting → State → Type 0) → Type 0
+abbrev pub RestIsCovered : List (Option Insn) → List MapShape → ℕ → ℕ → AbstractState → ℕ → (Setting → State → Type 0) → Type 0
 RestIsCovered slots shapes context_length target view slot K =
     (f : Setting) (s : State) → IsSetting slots shapes context_length f → slot ≤ s.slot → IsStart slots s.slot → K f s →
-    (n : ℕ) (calls : List Asked) (t : State) → Chain f s n calls t → t.slot ≡ target → Covers f view t
+    (n : ℕ) (calls : List Asked) (t : State) → Steps f s n calls t → t.slot ≡ target → Contains f view t

@@ -19,8 +19,8 @@ use Rattle.bq_graph.specs.Paths.{IsPath, end_of}
 use Rattle.bq_graph.specs.Faults.{IsFaultless, destination_of}
 use Rattle.bq_transfer.specs.Ready.{IsNullCheck}
 use Rattle.bq_transfer.specs.After.{IsFoundSide, IsStackByte, LeavesPointer}
-use Rattle.bq_views.specs.declared.view.Kind.{Kind}
-use Rattle.bq_views.specs.declared.view.Kind.TheVariants.{Entry, EntryOrNull, Map, Stack}
+use Rattle.bq_states.specs.declared.abstract_state.Kind.{Kind}
+use Rattle.bq_states.specs.declared.abstract_state.Kind.TheVariants.{Entry, EntryOrNull, Map, Stack}
 
 -- whether something holds at the end of a path: the last instruction before the end made it so, or it was so and that one left it so
 abbrev pub held_along : List (Option Insn) → (Option Insn → Bool) → (Option Insn → Bool) → Bool → ℕ → List ℕ → Bool

@@ -4,9 +4,9 @@ use Rattle.std.proofs.Common.{Global}
 use Rattle.std.specs.declared.boxed.Box.{Box}
 use Rattle.bq_insn.specs.declared.Insn.{Insn}
 use Rattle.bq_graph.specs.Paths.{Path}
-use Rattle.bq_views.specs.declared.view.Kind.TheVariants.{Context, Stack}
-use Rattle.bq_views.specs.declared.view.View.{View}
-use Rattle.bq_views.specs.Standing.{Scalar, Exact, Pointer, NoPointer, Fact, Never, AtRegister, IsSetAt, IsPlainAt}
+use Rattle.bq_states.specs.declared.abstract_state.Kind.TheVariants.{Context, Stack}
+use Rattle.bq_states.specs.declared.abstract_state.AbstractState.{AbstractState}
+use Rattle.bq_states.specs.Standing.{Scalar, Exact, Pointer, NoPointer, Fact, Never, AtRegister, IsSetAt, IsPlainAt}
 use Rattle.bq_verify.specs.Ways.{IsSureOf}
 use Rattle.bq_verify.specs.Straight.{IsWritten, IsLoaded, IsByteStored, IsContextLeft, IsPointerAt}
 
@@ -24,5 +24,5 @@ IsDue slots (IsSetAt i) k = IsByteStored slots k i
 IsDue slots (IsPlainAt j) k = Unit {0}
 
 -- what is due at a slot is known there
-abbrev pub IsSure : List (Option Insn) → List (Option (Box View Global)) → View → Bool → ℕ → Type 0
+abbrev pub IsSure : List (Option Insn) → List (Option (Box AbstractState Global)) → AbstractState → Bool → ℕ → Type 0
 IsSure slots pending view live slot = (x : Fact) (k : ℕ) → IsDue slots x k → IsSureOf x pending view live slot k

@@ -9,28 +9,28 @@ ghost use Rattle.bq_graph.specs.Passes.{IsSound};
 ghost use Rattle.bq_transfer.specs.Doubts.{MayDoubt, ReadsOperand, UsesWord};
 ghost use Rattle.bq_verify.specs.Stops.{IsWantOfMemory, MayStop};
 ghost use Rattle.bq_verify.specs.Ways.{AfterTest, GoesOnSure, HasOnSide, HasWaiting, IsSureOf};
-ghost use Rattle.bq_views.specs.Standing.{Fact, Has, IsScalarOperand, Outlasts, Pointer, Scalar, StandsAt};
+ghost use Rattle.bq_states.specs.Standing.{Fact, Has, IsScalarOperand, Outlasts, Pointer, Scalar, StandsAt};
 ghost use Rattle.bq_transfer.specs.Ready.{IsNullCheck, IsReady, IsReadyToAsk, WritesBelowFrame};
 ghost use Rattle.bq_transfer.specs.Sides.{is_found};
-ghost use Rattle.bq_views.specs.Told.{IsLasting};
-ghost use Rattle.bq_views.specs.Views.{Covers};
+ghost use Rattle.bq_states.specs.Told.{IsLasting};
+ghost use Rattle.bq_states.specs.AbstractStates.{Contains};
 ghost use Rattle.bq_verify.specs.Control.{Goes, IsKnown, IsOnSide, PartsTo, WaitsBoxed};
 
 use crate::stop::Stop;
 use crate::waiting::wait;
+use bq_bpf::MapShape;
 use bq_graph::passes::target;
 use bq_insn::{Condition, Insn, Source, Width};
-use bq_bpf::MapShape;
-use bq_transfer::carry::carry;
+use bq_states::abstract_state::{AbstractState, AbstractValue, Kind};
+use bq_states::registers::{known, operand};
+use bq_states::told::tell;
 use bq_transfer::counters::{ask, is_counter_call};
 use bq_transfer::doubt::Doubt;
 use bq_transfer::sides::{right_side, side};
-use bq_views::registers::{known, operand};
-use bq_views::told::tell;
-use bq_views::view::{Kind, Known, View};
+use bq_transfer::transfer::transfer;
 use std::alloc::{AllocError, Global};
 
-/// One slot where something is known: whether a view is carried on to the next slot.
+/// One slot where something is known: whether a view is transferred on to the next slot.
 pub fn visit(
     alloc: Global,
     slots: &[Option<Insn>],
@@ -38,8 +38,8 @@ pub fn visit(
     context: usize,
     slot: usize,
     insn: Insn,
-    view: &mut View,
-    pending: &mut [Option<Box<View>>],
+    view: &mut AbstractState,
+    pending: &mut [Option<Box<AbstractState>>],
 ) -> Result<bool, Stop>
     requires here { instruction_at slots.now slot ≡ Some insn }
     requires inside { slot < length slots.now }
@@ -70,8 +70,8 @@ fn go_on(
     context: usize,
     slot: usize,
     insn: Insn,
-    view: &mut View,
-    pending: &mut [Option<Box<View>>],
+    view: &mut AbstractState,
+    pending: &mut [Option<Box<AbstractState>>],
 ) -> Result<bool, Stop>
     requires here { instruction_at slots.now slot ≡ Some insn }
     requires inside { slot < length slots.now }
@@ -113,7 +113,7 @@ fn go_on(
             branch(alloc, width, cond, dst, src, to, slot + 1, view, pending)
         }
         _ => {
-            carry(view, shapes, context, insn)?;
+            transfer(view, shapes, context, insn)?;
             let count = insn.slots();
             if count == 1 {
                 return Ok(true);
@@ -125,8 +125,8 @@ fn go_on(
 }
 
 /// An EXIT, whose answer has to be a number.
-fn leave(view: &View) -> Result<(), Doubt>
-    ensures answers { OnOk result ((f : Setting) (s : State) → Covers f view.now s → (answer : ℕ) × (s.register 0 ≡ Some answer)) }
+fn leave(view: &AbstractState) -> Result<(), Doubt>
+    ensures answers { OnOk result ((f : Setting) (s : State) → Contains f view.now s → (answer : ℕ) × (s.register 0 ≡ Some answer)) }
     ensures doubts { IfErr result (λ doubt. MayDoubt doubt Insn.Exit) }
     ensures accepts { StandsAt Scalar view.now 0 → IsOk result }
 {
@@ -139,7 +139,7 @@ fn leave(view: &View) -> Result<(), Doubt>
     Ok(())
 }
 
-/// A branch: what is known where it is taken waits there, and the other side is carried on.
+/// A branch: what is known where it is taken waits there, and the other side is transferred on.
 fn branch(
     alloc: Global,
     width: Width,
@@ -148,13 +148,13 @@ fn branch(
     src: Source,
     to: usize,
     next: usize,
-    view: &mut View,
-    pending: &mut [Option<Box<View>>],
+    view: &mut AbstractState,
+    pending: &mut [Option<Box<AbstractState>>],
 ) -> Result<bool, Stop>
     requires to { to < length pending.old }
     ensures long { length pending.new ≡ length pending.old }
     ensures parts { IfOk result (λ live. ((f : Setting) (s : State) → WaitsBoxed f pending.old s → WaitsBoxed f pending.new s)
-        × ((f : Setting) (s : State) → Covers f view.old s → PartsTo (IsKnown pending.new view.new live next) f s width cond dst src to next)) }
+        × ((f : Setting) (s : State) → Contains f view.old s → PartsTo (IsKnown pending.new view.new live next) f s width cond dst src to next)) }
     ensures doubts { IfErr result (λ stop. (insn : Insn) → ReadsOperand insn → UsesWord insn → MayStop stop insn) }
     ensures accepts { dst < 10 → StandsAt Scalar view.old dst → IsScalarOperand view.old src → IfErr result IsWantOfMemory }
     ensures checks { (map : ℕ) → dst < 10 → IsNullCheck width cond src → StandsAt (Pointer (Kind.EntryOrNull map) 0) view.old dst → IfErr result IsWantOfMemory }
@@ -181,13 +181,13 @@ fn branch(
 /// The view waits for the slot with what is told of both operands there, if control goes there.
 fn wait_on_side(
     alloc: Global,
-    pending: &mut [Option<Box<View>>],
+    pending: &mut [Option<Box<AbstractState>>],
     slot: usize,
-    view: &View,
+    view: &AbstractState,
     dst: u8,
     src: Source,
-    side: Option<Known>,
-    right: Known,
+    side: Option<AbstractValue>,
+    right: AbstractValue,
 ) -> Result<(), AllocError>
     requires here { slot < length pending.old }
     requires dst { dst < 11 }
@@ -204,10 +204,16 @@ fn wait_on_side(
     wait(alloc, pending, slot, &told)
 }
 
-/// The view is carried on with what is told of both operands there, if control goes there.
-fn carry_on(view: &mut View, dst: u8, src: Source, side: Option<Known>, right: Known) -> bool
+/// The view is transferred on with what is told of both operands there, if control goes there.
+fn carry_on(
+    view: &mut AbstractState,
+    dst: u8,
+    src: Source,
+    side: Option<AbstractValue>,
+    right: AbstractValue,
+) -> bool
     requires { dst < 11 }
-    ensures covers { (f : Setting) (s : State) → IsOnSide f view.old dst src side right s → (result ≡ true) × Covers f view.new s }
+    ensures covers { (f : Setting) (s : State) → IsOnSide f view.old dst src side right s → (result ≡ true) × Contains f view.new s }
     ensures has { (x : Fact) → HasOnSide x view.old dst side → result ≡ true → Has x view.new }
 {
     let Some(word) = side else {

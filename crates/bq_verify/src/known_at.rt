@@ -4,29 +4,32 @@ ghost use Rattle.std.specs.Prelude.{◌≡◌, ◌≤◌, ◌<◌, ◌^◌, leng
 ghost use Rattle.bq_insn.specs.Slots.{spread};
 ghost use Rattle.bq_insn.specs.Spelling.{is_insn, is_well_formed};
 ghost use Rattle.std.specs.List.{list_all};
-ghost use Rattle.bq_views.specs.declared.view.View.{View as Knowledge};
+ghost use Rattle.bq_states.specs.declared.abstract_state.AbstractState.{AbstractState as Knowledge};
 ghost use Rattle.bq_graph.specs.Edges.{IsStart};
 ghost use Rattle.bq_graph.specs.Passes.{IsSound};
 ghost use Rattle.bq_bpf.specs.Hooks.{context_length_of};
 ghost use Rattle.bq_verify.specs.Control.{IsKnown, SparesFrame};
 ghost use Rattle.bq_verify.specs.KnownAt.{CoversRuns, RestIsCovered};
 
-use bq_bpf::context_length;
 use crate::pass::{pass_slot, start};
 use crate::program::{Program, check_graph};
 use crate::refused::Refused;
 use crate::waiting::{arrive, nothing_waits};
+use bq_bpf::{MapShape, context_length};
 use bq_graph::layout::lay_out;
 use bq_insn::Insn;
-use bq_bpf::MapShape;
-use bq_views::view::View;
+use bq_states::abstract_state::AbstractState;
 use std::alloc::{AllocError, Global};
 
 /// What is known of registers and stack in every run that comes to the slot, before its instruction.
 ///
 /// `None` where nothing is: the control graph has a fault, the pass of the verifier stops at a slot before, or none of its ways
 /// leads there. So of a program that `verify` refuses at a slot for what is not shown of the states, this tells what is known there.
-pub fn view_at(alloc: Global, program: &Program, slot: usize) -> Result<Option<View>, AllocError>
+pub fn view_at(
+    alloc: Global,
+    program: &Program,
+    slot: usize,
+) -> Result<Option<AbstractState>, AllocError>
     requires whole { is_well_formed program.now.insns.items ≡ true }
     requires few { length program.now.shapes.items ≤ 8 }
     ensures { IfOk result (λ known. IfSome known (CoversRuns (spread program.now.insns.items) program.now.shapes.items (context_length_of program.now.hook program.now.version) slot)) }
@@ -35,7 +38,11 @@ pub fn view_at(alloc: Global, program: &Program, slot: usize) -> Result<Option<V
 }
 
 /// The same, of a program of some slots, but not too many.
-fn known_in_slots(alloc: Global, program: &Program, slot: usize) -> Result<Option<View>, AllocError>
+fn known_in_slots(
+    alloc: Global,
+    program: &Program,
+    slot: usize,
+) -> Result<Option<AbstractState>, AllocError>
     requires registers { list_all is_insn program.now.insns.items ≡ true }
     requires some { 0 < length (spread program.now.insns.items) }
     requires short { length (spread program.now.insns.items) ≤ 4096 }
@@ -69,7 +76,7 @@ fn known_at(
     shapes: &[MapShape],
     context: usize,
     slot: usize,
-) -> Result<Option<View>, AllocError>
+) -> Result<Option<AbstractState>, AllocError>
     requires sound { IsSound slots.now }
     requires first { IsStart slots.now 0 }
     requires short { length slots.now ≤ 4096 }
@@ -90,8 +97,8 @@ fn known_with(
     shapes: &[MapShape],
     context: usize,
     slot: usize,
-    pending: &mut [Option<Box<View>>],
-) -> Result<Option<View>, AllocError>
+    pending: &mut [Option<Box<AbstractState>>],
+) -> Result<Option<AbstractState>, AllocError>
     requires sound { IsSound slots.now }
     requires first { IsStart slots.now 0 }
     requires short { length slots.now ≤ 4096 }
@@ -123,8 +130,8 @@ fn pass_before(
     shapes: &[MapShape],
     context: usize,
     until: usize,
-    view: &mut View,
-    pending: &mut [Option<Box<View>>],
+    view: &mut AbstractState,
+    pending: &mut [Option<Box<AbstractState>>],
 ) -> Result<bool, Refused>
     requires sound { IsSound slots.now }
     requires room { length pending.old ≡ length slots.now }

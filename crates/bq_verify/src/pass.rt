@@ -7,21 +7,21 @@ ghost use Rattle.bq_bpf.specs.Runs.{start as beginning};
 ghost use Rattle.bq_graph.specs.Edges.{IsStart};
 ghost use Rattle.bq_graph.specs.Passes.{IsSound};
 ghost use Rattle.bq_verify.specs.Refusals.{IsOutOfMemory, IsStopped};
-ghost use Rattle.bq_views.specs.Standing.{Pointer, Has, IsPlainAt, StandsAt};
+ghost use Rattle.bq_states.specs.Standing.{Pointer, Has, IsPlainAt, StandsAt};
 ghost use Rattle.bq_verify.specs.Straight.{IsStraightProgram};
 ghost use Rattle.bq_verify.specs.Sure.{IsSure};
-ghost use Rattle.bq_views.specs.Views.{Covers};
+ghost use Rattle.bq_states.specs.AbstractStates.{Contains};
 ghost use Rattle.bq_verify.specs.Control.{AreHeights, AreMade, IsKnown, PassesOn, RestIsSafe, SparesFrame};
 
 use crate::flow::visit;
 use crate::refused::{Refused, refuse};
 use crate::waiting::{arrive, nothing_waits};
+use bq_bpf::MapShape;
 use bq_graph::edges::instruction;
 use bq_insn::Insn;
-use bq_bpf::MapShape;
 use bq_ranges::Range;
-use bq_views::registers::learn;
-use bq_views::view::{Kind, Known, Part, View};
+use bq_states::abstract_state::{AbstractState, AbstractValue, Kind, Part};
+use bq_states::registers::learn;
 use std::alloc::Global;
 
 /// Whether the program is safe within the height of its first slot.
@@ -67,8 +67,8 @@ fn pass(
     shapes: &[MapShape],
     context: usize,
     heights: &[u32],
-    view: &mut View,
-    pending: &mut [Option<Box<View>>],
+    view: &mut AbstractState,
+    pending: &mut [Option<Box<AbstractState>>],
 ) -> Result<(), Refused>
     requires sound { IsSound slots.now }
     requires heights { AreHeights slots.now heights.now }
@@ -88,16 +88,16 @@ fn pass(
     Ok(())
 }
 
-/// One slot: whether a view is carried on to the next.
+/// One slot: whether a view is transferred on to the next.
 pub(crate) fn pass_slot(
     alloc: Global,
     slots: &[Option<Insn>],
     shapes: &[MapShape],
     context: usize,
     slot: usize,
-    view: &mut View,
+    view: &mut AbstractState,
     live: bool,
-    pending: &mut [Option<Box<View>>],
+    pending: &mut [Option<Box<AbstractState>>],
 ) -> Result<bool, Refused>
     requires sound { IsSound slots.now }
     requires here { slot < length slots.now }
@@ -125,8 +125,8 @@ pub(crate) fn pass_slot(
 }
 
 /// What is known at the start.
-pub(crate) fn start() -> View
-    ensures covers { (f : Setting) (maps : List (List ℕ)) → HaveShapes f.shapes maps → Covers f result (beginning maps) }
+pub(crate) fn start() -> AbstractState
+    ensures covers { (f : Setting) (maps : List (List ℕ)) → HaveShapes f.shapes maps → Contains f result (beginning maps) }
     ensures context { StandsAt (Pointer Kind.Context 0) result 1 }
     ensures frame { StandsAt (Pointer Kind.Stack 512) result 10 }
     ensures plain { (j : ℕ) → Has (IsPlainAt j) result }
@@ -135,7 +135,7 @@ pub(crate) fn start() -> View
     learn(
         &mut view,
         1,
-        Known {
+        AbstractValue {
             kind: Kind::Context,
             offset: Range::single(0),
         },
@@ -143,7 +143,7 @@ pub(crate) fn start() -> View
     learn(
         &mut view,
         10,
-        Known {
+        AbstractValue {
             kind: Kind::Stack,
             offset: Range::single(512),
         },
@@ -152,11 +152,11 @@ pub(crate) fn start() -> View
 }
 
 /// Nothing is known of registers and stack.
-fn blank() -> View
-    ensures covers { (f : Setting) (s : State) → HaveShapes f.shapes s.maps → Covers f result s }
+fn blank() -> AbstractState
+    ensures covers { (f : Setting) (s : State) → HaveShapes f.shapes s.maps → Contains f result s }
     ensures plain { (j : ℕ) → Has (IsPlainAt j) result }
 {
-    View {
+    AbstractState {
         registers: nothing(),
         set: unset(),
         kept: nothing(),
@@ -165,7 +165,7 @@ fn blank() -> View
     }
 }
 
-fn nothing<const N: usize>() -> [Option<Known>; N]
+fn nothing<const N: usize>() -> [Option<AbstractValue>; N]
     ensures { (k : ℕ) → slice_index_or result k None ≡ None }
 {
     [None; N]

@@ -14,14 +14,13 @@ ghost use Rattle.bq_verify.specs.Control.{AreMade};
 ghost use Rattle.bq_bpf.specs.Hooks.{context_length_of};
 ghost use Rattle.bq_verify.specs.Straight.{IsStraightProgram};
 
-use bq_bpf::{Hook, Version};
 use crate::refused::Refused;
 use crate::verified::Verified;
+use bq_bpf::{Hook, MapShape, Version};
 use bq_graph::checks::check;
 use bq_graph::layout::lay_out;
 use bq_graph::passes::measure;
 use bq_insn::Insn;
-use bq_bpf::MapShape;
 use std::alloc::{AllocError, Global};
 
 /// A program as it is handed in.

@@ -1,10 +1,9 @@
 // Programs that were accepted.
 
-use bq_bpf::{Hook, Version, context_length};
 use crate::pass::judge;
 use crate::refused::Refused;
+use bq_bpf::{Hook, MapShape, Version, context_length};
 use bq_insn::Insn;
-use bq_bpf::MapShape;
 use bq_packed::{Packed, pack_all};
 use std::alloc::Global;
 use std::marker::Model;

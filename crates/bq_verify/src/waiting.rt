@@ -1,18 +1,21 @@
-// Views that wait, each in a box, for the slots that ways lead to.
+// AbstractStates that wait, each in a box, for the slots that ways lead to.
 
 ghost use Rattle.std.specs.Prelude.{◌≡◌, ◌<◌, ℕ, true, None, length, slice_index_or, IfOk, OnOk};
 ghost use Rattle.bq_bpf.specs.Memory.{Setting, State};
-ghost use Rattle.bq_views.specs.Standing.{Fact, Has};
+ghost use Rattle.bq_states.specs.Standing.{Fact, Has};
 ghost use Rattle.bq_verify.specs.Ways.{HasIn, HasWaiting, IsSureOf};
-ghost use Rattle.bq_views.specs.Views.{Covers};
+ghost use Rattle.bq_states.specs.AbstractStates.{Contains};
 ghost use Rattle.bq_verify.specs.Control.{IsIn, WaitsBoxed, IsKnown};
 
-use bq_views::merge::merge;
-use bq_views::view::View;
+use bq_states::abstract_state::AbstractState;
+use bq_states::merge::merge;
 use std::alloc::{AllocError, Global};
 
 /// No slot has a view that waits.
-pub fn nothing_waits(alloc: Global, count: usize) -> Result<Vec<Option<Box<View>>>, AllocError>
+pub fn nothing_waits(
+    alloc: Global,
+    count: usize,
+) -> Result<Vec<Option<Box<AbstractState>>>, AllocError>
     ensures room { IfOk result (λ v. length v.items ≡ count) }
     ensures blank { IfOk result (λ v. (k : ℕ) → slice_index_or v.items k None ≡ None) }
 {
@@ -23,8 +26,13 @@ pub fn nothing_waits(alloc: Global, count: usize) -> Result<Vec<Option<Box<View>
     Ok(pending)
 }
 
-/// Joins what waits at the slot into the view that is carried to it; whether anything is known there.
-pub fn arrive(view: &mut View, live: bool, pending: &mut [Option<Box<View>>], slot: usize) -> bool
+/// Joins what waits at the slot into the view that is transferred to it; whether anything is known there.
+pub fn arrive(
+    view: &mut AbstractState,
+    live: bool,
+    pending: &mut [Option<Box<AbstractState>>],
+    slot: usize,
+) -> bool
     requires here { slot < length pending.old }
     ensures long { length pending.new ≡ length pending.old }
     ensures empty { slice_index_or pending.new slot None ≡ None }
@@ -35,10 +43,10 @@ pub fn arrive(view: &mut View, live: bool, pending: &mut [Option<Box<View>>], sl
     take_over(view, live, &mut pending[slot])
 }
 
-fn take_over(view: &mut View, live: bool, waiting: &mut Option<Box<View>>) -> bool
+fn take_over(view: &mut AbstractState, live: bool, waiting: &mut Option<Box<AbstractState>>) -> bool
     ensures empty { waiting.new ≡ None }
-    ensures carried { (f : Setting) (s : State) → live ≡ true → Covers f view.old s → (result ≡ true) × Covers f view.new s }
-    ensures waited { (f : Setting) (s : State) → IsIn f waiting.old s → (result ≡ true) × Covers f view.new s }
+    ensures transferred { (f : Setting) (s : State) → live ≡ true → Contains f view.old s → (result ≡ true) × Contains f view.new s }
+    ensures waited { (f : Setting) (s : State) → IsIn f waiting.old s → (result ≡ true) × Contains f view.new s }
     ensures has { (x : Fact) → (live ≡ true → Has x view.old) → HasIn x waiting.old → result ≡ true → Has x view.new }
 {
     let Some(boxed) = waiting.take() else {
@@ -55,22 +63,26 @@ fn take_over(view: &mut View, live: bool, waiting: &mut Option<Box<View>>) -> bo
 /// One more view that waits for a slot.
 pub fn wait(
     alloc: Global,
-    pending: &mut [Option<Box<View>>],
+    pending: &mut [Option<Box<AbstractState>>],
     slot: usize,
-    view: &View,
+    view: &AbstractState,
 ) -> Result<(), AllocError>
     requires here { slot < length pending.old }
     ensures long { length pending.new ≡ length pending.old }
     ensures kept { OnOk result ((f : Setting) (s : State) → WaitsBoxed f pending.old s → WaitsBoxed f pending.new s) }
-    ensures added { OnOk result ((f : Setting) (s : State) → s.slot ≡ slot → Covers f view.now s → WaitsBoxed f pending.new s) }
+    ensures added { OnOk result ((f : Setting) (s : State) → s.slot ≡ slot → Contains f view.now s → WaitsBoxed f pending.new s) }
     ensures has { OnOk result ((x : Fact) (k : ℕ) → HasWaiting x pending.old k → (k ≡ slot → Has x view.now) → HasWaiting x pending.new k) }
 {
     join(alloc, &mut pending[slot], view)
 }
 
-fn join(alloc: Global, waiting: &mut Option<Box<View>>, view: &View) -> Result<(), AllocError>
+fn join(
+    alloc: Global,
+    waiting: &mut Option<Box<AbstractState>>,
+    view: &AbstractState,
+) -> Result<(), AllocError>
     ensures kept { OnOk result ((f : Setting) (s : State) → IsIn f waiting.old s → IsIn f waiting.new s) }
-    ensures added { OnOk result ((f : Setting) (s : State) → Covers f view.now s → IsIn f waiting.new s) }
+    ensures added { OnOk result ((f : Setting) (s : State) → Contains f view.now s → IsIn f waiting.new s) }
     ensures has { OnOk result ((x : Fact) → HasIn x waiting.old → Has x view.now → HasIn x waiting.new) }
 {
     if let Some(boxed) = waiting {

@@ -1,11 +1,10 @@
 // What the verifier answers to programs that are given as texts.
 
 use bq_asm::assemble;
+use bq_bpf::{Hook, MapShape, Version};
 use bq_insn::Insn;
 use bq_insn::encode::well_formed;
-use bq_bpf::MapShape;
 use bq_verify::{Cause, Program, Refused, Verified, verify};
-use bq_bpf::{Hook, Version};
 use std::alloc::{AllocError, Global};
 use std::process::Abort;
 use std::test::Fail;

@@ -1,9 +1,8 @@
 // The limits of shapes, and values written and read back.
 
-use bq_maps::arrays::Maps;
 use bq_bpf::board::{Board, Plain};
-use bq_bpf::Helper;
-use bq_bpf::MapShape;
+use bq_bpf::{Helper, MapShape};
+use bq_maps::arrays::Maps;
 use std::test::Fail;
 
 #[test]

@@ -5,10 +5,9 @@ ghost use Rattle.bq_verify.specs.Worked.{calling, worked};
 
 use crate::judging::{Verdict, at, expect, judge, verdict};
 use bq_asm::assemble;
+use bq_bpf::{Hook, MapShape, Version};
 use bq_graph::cause::Cause;
 use bq_insn::{Condition, Insn, Operation, Size, Source, Width};
-use bq_bpf::MapShape;
-use bq_bpf::{Hook, Version};
 use std::alloc::{AllocError, Global};
 use std::process::Abort;
 use std::test::Fail;

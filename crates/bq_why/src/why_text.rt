@@ -10,7 +10,7 @@ use bq_core::{By, Event, Hook, Reply};
 use bq_forms::{Millis, Names, Window};
 use bq_schedule::Change;
 use bq_sizes::Rule;
-use bq_trace::{Machine, Seen};
+use bq_trace::{AnyCore, Seen};
 use std::alloc::{AllocError, Global};
 
 /// How far ahead a task may be under CFS before it gives way, in virtual nanoseconds.
@@ -44,7 +44,7 @@ impl Asked {
     }
 
     /// The policy at a hook of a processor took so many steps.
-    fn at(machine: &Machine, processor: u8, hook: Hook, steps: u32) -> Asked {
+    fn at(machine: &AnyCore, processor: u8, hook: Hook, steps: u32) -> Asked {
         let answer = match machine.seen(processor) {
             Some(Seen::Cfs(cpu)) => answer(cpu, hook, steps),
             Some(Seen::Eevdf(cpu)) => answer(cpu, hook, steps),
@@ -101,7 +101,7 @@ pub fn place_of(event: &Event) -> Option<(u8, u64)> {
 }
 
 /// Who runs at a processor of the machine.
-fn running(machine: &Machine, processor: u8) -> Option<u16> {
+fn running(machine: &AnyCore, processor: u8) -> Option<u16> {
     match machine.seen(processor) {
         Some(Seen::Cfs(cpu)) => cpu.run(),
         Some(Seen::Eevdf(cpu)) => cpu.run(),
@@ -120,7 +120,7 @@ impl Why {
     }
 
     /// Notes who runs before an event.
-    pub fn comes(&mut self, event: &Event, machine: &Machine) {
+    pub fn comes(&mut self, event: &Event, machine: &AnyCore) {
         self.was = match place_of(event) {
             Some((processor, _)) => running(machine, processor),
             None => None,
@@ -133,7 +133,7 @@ impl Why {
         number: u64,
         event: &Event,
         reply: &Reply,
-        machine: &Machine,
+        machine: &AnyCore,
         change: &Change,
         names: &Names,
         text: &mut String,
@@ -221,7 +221,7 @@ impl Why {
         &self,
         text: &mut String,
         names: &Names,
-        machine: &Machine,
+        machine: &AnyCore,
         processor: u8,
         run: Option<u16>,
     ) -> Result<(), AllocError> {
@@ -239,7 +239,7 @@ impl Why {
         &self,
         text: &mut String,
         names: &Names,
-        machine: &Machine,
+        machine: &AnyCore,
         choice: &Choice,
     ) -> Result<(), AllocError> {
         let rule = machine.rule();

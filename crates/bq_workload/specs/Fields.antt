@@ -2,7 +2,7 @@
 use Rattle.std.specs.Prelude.{ℕ, length, ◌&&◌, ◌==◌, nat_le, nat_lt, ℤ, pos, negsuc, List, Option, Some, None, option_map, option_and_then, if◌then◌else◌, bit_and}
 use Rattle.toml.specs.Data.{Data, as_str, as_integer}
 use Rattle.bq_sizes.specs.declared.rule.Rule.{Rule}
-use Rattle.bq_sizes.specs.declared.size.Size.{Size}
+use Rattle.bq_sizes.specs.declared.processor_count.ProcessorCount.{ProcessorCount}
 use Rattle.bq_sizes.specs.Sizes.{rule_of, size_numbered}
 use Rattle.bq_spans.specs.Durations.{duration_of}
 use Rattle.bq_spans.specs.Processors.{processors_of}
@@ -52,7 +52,7 @@ mask_of all d = option_and_then (some_of all) (option_and_then processors_of (as
 abbrev pub rule_in : Data → Option Rule
 rule_in d = option_and_then rule_of (as_str d)
 
-abbrev pub size_in : Data → Option Size
+abbrev pub size_in : Data → Option ProcessorCount
 size_in d = option_and_then size_numbered (number_in 1 64 d)
 
 -- a text with something in it

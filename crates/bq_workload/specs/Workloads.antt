@@ -7,8 +7,8 @@ use Rattle.toml.specs.Data.{Data, Items, no_items, item, Members, no_members, ge
 use Rattle.toml.specs.Parse.{parse_document}
 use Rattle.bq_sizes.specs.Sizes.{processors_in}
 use Rattle.bq_sizes.specs.declared.rule.Rule.TheVariants.{Cfs}
-use Rattle.bq_sizes.specs.declared.size.Size.{Size}
-use Rattle.bq_sizes.specs.declared.size.Size.TheVariants.{One}
+use Rattle.bq_sizes.specs.declared.processor_count.ProcessorCount.{ProcessorCount}
+use Rattle.bq_sizes.specs.declared.processor_count.ProcessorCount.TheVariants.{One}
 use Rattle.bq_actions.specs.Lengths.{longest, takes_time}
 use Rattle.bq_actions.specs.declared.action.Action.{Action}
 use Rattle.bq_actions.specs.declared.action.Action.TheVariants.{Run, Sleep}
@@ -100,11 +100,11 @@ abbrev pub tasks_of : Members → Option Items
 tasks_of document = option_and_then as_array (get_member (codes "task") document)
 
 -- the bits of all processors of a machine
-abbrev pub all_of : Size → ℕ
+abbrev pub all_of : ProcessorCount → ℕ
 all_of size = 2 ^ processors_in size - 1
 
 -- the tasks that a document describes, on a machine of this size
-abbrev pub HasTasks : Size → Members → List TaskKind → Type 0
+abbrev pub HasTasks : ProcessorCount → Members → List TaskKind → Type 0
 HasTasks size document kinds =
     (items : Items) × (names : List (String Global)) × (tasks_of document ≡ Some items) × AreNames items names × AreKinds names (all_of size) items kinds
 

@@ -8,7 +8,7 @@ use std::fmt;
 
 /// A part of a document.
 #[derive(Clone, Copy, Debug)]
-pub(crate) enum Place<'a> {
+pub(crate) enum Location<'a> {
     /// The document itself.
     Document,
     /// The table of the machine.
@@ -26,13 +26,13 @@ pub(crate) enum Place<'a> {
     },
 }
 
-impl fmt::Display for Place<'_> {
+impl fmt::Display for Location<'_> {
     fn fmt<W: fmt::Write>(&self, f: &mut fmt::Formatter<W>) -> fmt::Result {
         match self {
-            Place::Document => Ok(()),
-            Place::Machine => f.write_str("machine: "),
-            Place::Task { number, name } => task(f, *number, *name),
-            Place::Action {
+            Location::Document => Ok(()),
+            Location::Machine => f.write_str("machine: "),
+            Location::Task { number, name } => task(f, *number, *name),
+            Location::Action {
                 number,
                 name,
                 action,
@@ -60,7 +60,7 @@ fn task<W: fmt::Write>(
 #[derive(Clone, Copy, Debug)]
 pub(crate) enum Trouble<'a> {
     /// Something is wrong in it.
-    At { place: Place<'a>, why: Why<'a> },
+    At { place: Location<'a>, why: Why<'a> },
     OutOfMemory,
 }
 
@@ -76,11 +76,11 @@ impl<T: Drop> From<AllocFailed<T>> for Trouble<'_> {
     }
 }
 
-impl<'a> Place<'a> {
+impl<'a> Location<'a> {
     /// An action of this task, by its number from 1.
-    pub(crate) fn action(self, action: usize) -> Place<'a> {
+    pub(crate) fn action(self, action: usize) -> Location<'a> {
         match self {
-            Place::Task { number, name } => Place::Action {
+            Location::Task { number, name } => Location::Action {
                 number,
                 name,
                 action,

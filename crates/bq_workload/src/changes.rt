@@ -2,13 +2,13 @@
 ghost use Rattle.std.specs.Prelude.{◌≡◌};
 
 use bq_actions::Setup;
-use bq_sizes::{Rule, Size};
+use bq_sizes::{ProcessorCount, Rule};
 
 /// What the words of a command put in the place of a machine's own.
 #[derive(Clone, Copy, Debug, PartialEq, Eq)]
 pub struct Changes {
     pub rule: Option<Rule>,
-    pub size: Option<Size>,
+    pub size: Option<ProcessorCount>,
     pub duration: Option<u64>,
     pub seed: Option<u64>,
 }

@@ -6,7 +6,7 @@ ghost use Rattle.bq_workload.specs.Actions.{actions_of};
 ghost use Rattle.bq_workload.specs.Workloads.{doing, short_of};
 
 use crate::actions::{actions, phase};
-use crate::blame::{Place, Trouble};
+use crate::blame::{Location, Trouble};
 use crate::tables::at;
 use crate::why::{Wanted, Why};
 use bq_actions::Action;
@@ -17,7 +17,7 @@ use toml::{Table, Value};
 pub(crate) fn all_actions<'a>(
     alloc: Global,
     table: &'a Table,
-    place: Place<'a>,
+    place: Location<'a>,
     names: &'a [String],
 ) -> Result<Vec<Action>, Trouble<'a>>
     ensures { IfOk result (λ v. doing names.now (get_member (codes "do") (table_view table.now)) (get_member (codes "run") (table_view table.now)) (get_member (codes "sleep") (table_view table.now)) ≡ Some v.items) }
@@ -41,7 +41,7 @@ pub(crate) fn all_actions<'a>(
 /// A run, and a sleep where there is one.
 fn short<'a>(
     alloc: Global,
-    place: Place<'a>,
+    place: Location<'a>,
     run: Option<&'a Value>,
     sleep: Option<&'a Value>,
 ) -> Result<Vec<Action>, Trouble<'a>>
@@ -64,7 +64,7 @@ fn short<'a>(
 /// The actions of a `do`.
 fn long<'a>(
     alloc: Global,
-    place: Place<'a>,
+    place: Location<'a>,
     value: &'a Value,
     names: &'a [String],
 ) -> Result<Vec<Action>, Trouble<'a>>

@@ -1,6 +1,6 @@
 //! Why a text is no workload, as its reader tells it.
 
-use crate::blame::Place;
+use crate::blame::Location;
 use crate::near::Near;
 use crate::why::Why;
 use std::alloc::{AllocError, Global};
@@ -68,7 +68,7 @@ fn position(before: &[u8]) -> (usize, usize) {
 /// What is wrong, with its place and the word that was perhaps meant.
 pub(crate) fn meaning(
     alloc: Global,
-    place: &Place<'_>,
+    place: &Location<'_>,
     why: &Why<'_>,
 ) -> Result<Fault, AllocError> {
     let mut text = String::new(alloc);

@@ -8,7 +8,7 @@ ghost use Rattle.bq_workload.specs.Fields.{within, span_in, number_in, or_defaul
 
 use crate::tables::at;
 use crate::why::{Range, Wanted, Why};
-use bq_sizes::{Rule, Size};
+use bq_sizes::{ProcessorCount, Rule};
 use bq_spans::duration;
 use bq_spans::processors::processors;
 use toml::{Table, Value};
@@ -198,24 +198,24 @@ fn rule_named(value: &Value) -> Option<Rule>
 }
 
 /// How many processors there are.
-pub(crate) fn size(table: &Table) -> Result<Size, Why<'_>>
-    ensures { result_ok result ≡ or_default Size.One size_in (get_member (codes "processors") (table_view table.now)) }
+pub(crate) fn size(table: &Table) -> Result<ProcessorCount, Why<'_>>
+    ensures { result_ok result ≡ or_default ProcessorCount.One size_in (get_member (codes "processors") (table_view table.now)) }
 {
     match at(table, "processors") {
-        None => Ok(Size::One),
+        None => Ok(ProcessorCount::One),
         Some(value) => match size_given(value) {
             Some(size) => Ok(size),
             None => Err(Why::NoSuch {
                 key: "processors",
                 value,
-                wanted: Wanted::Size,
+                wanted: Wanted::ProcessorCount,
             }),
         },
     }
 }
 
 /// The size that a value gives.
-fn size_given(value: &Value) -> Option<Size>
+fn size_given(value: &Value) -> Option<ProcessorCount>
     ensures { result ≡ size_in (view value.now) }
 {
     let number = number(
@@ -225,7 +225,7 @@ fn size_given(value: &Value) -> Option<Size>
             greatest: 64,
         },
     )?;
-    Size::of_number(number as u8)
+    ProcessorCount::of_number(number as u8)
 }
 
 /// The name of a task.

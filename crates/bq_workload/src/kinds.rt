@@ -4,14 +4,14 @@ ghost use Rattle.toml.specs.View.{table_view};
 ghost use Rattle.bq_workload.specs.Workloads.{HasNumbers, IsKind, all_of};
 
 use crate::actions::take_time;
-use crate::blame::{Place, Trouble};
+use crate::blame::{Location, Trouble};
 use crate::doing::all_actions;
 use crate::fields::{loops, mask, name, nice, number_at, span_at};
 use crate::tables::all_known;
 use crate::why::{Range, Why};
 use bq_actions::TaskKind;
 use bq_actions::limits::{GREATEST_SLICE, LEAST_SLICE, LONGEST, MOST_TASKS};
-use bq_sizes::Size;
+use bq_sizes::ProcessorCount;
 use bq_spans::processors::bits;
 use std::alloc::Global;
 use toml::Table;
@@ -31,7 +31,7 @@ pub(crate) struct Processors {
 
 impl Processors {
     /// Those of a machine of this size.
-    pub(crate) fn of(size: Size) -> Processors
+    pub(crate) fn of(size: ProcessorCount) -> Processors
         ensures { result.all ≡ all_of size }
     {
         let number = size.processors();
@@ -97,7 +97,7 @@ pub(crate) fn kind<'a>(
     ensures { IfOk result (IsKind names.now processors.all (table_view table.now)) }
 {
     let called = name(table);
-    let place = Place::Task {
+    let place = Location::Task {
         number,
         name: called.ok(),
     };

@@ -9,7 +9,7 @@ use crate::tables::all_known;
 use crate::why::{Range, Why};
 use bq_actions::Setup;
 use bq_actions::limits::LONGEST;
-use bq_sizes::{Rule, Size};
+use bq_sizes::{ProcessorCount, Rule};
 use toml::Table;
 
 /// The keys of a machine.
@@ -18,7 +18,7 @@ const MACHINE: &str = "discipline processors duration tick balance migration_cos
 /// The machine of a text that says nothing of it: one processor under CFS for 100 ms, with a tick each 4 ms.
 const DEFAULT: Setup = Setup {
     rule: Rule::Cfs,
-    size: Size::One,
+    size: ProcessorCount::One,
     duration: 100_000_000,
     tick: 4_000_000,
     balance: 16_000_000,

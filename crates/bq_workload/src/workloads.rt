@@ -6,7 +6,7 @@ ghost use Rattle.toml.specs.View.{view, items_view, table_view};
 ghost use Rattle.bq_workload.specs.Workloads.{AreKinds, AreNames, Describes, IsMachine, tasks_of};
 
 use crate::actions;
-use crate::blame::{Place, Trouble};
+use crate::blame::{Location, Trouble};
 use crate::changes::Changes;
 use crate::fault::{Fault, meaning, syntax};
 use crate::fields::name;
@@ -66,9 +66,9 @@ fn outline(document: &Table) -> Result<(Setup, &[Value]), Trouble<'_>>
     ensures machine { IfOk result (λ p. IsMachine (table_view document.now) p.0) }
     ensures tasks { IfOk result (λ p. tasks_of (table_view document.now) ≡ Some (items_view p.1.now)) }
 {
-    Place::Document.says(all_known(document, DOCUMENT))?;
+    Location::Document.says(all_known(document, DOCUMENT))?;
     let machine = machine(document)?;
-    let tables = Place::Document.says(tables(document))?;
+    let tables = Location::Document.says(tables(document))?;
     Ok((machine, tables))
 }
 
@@ -79,8 +79,8 @@ fn machine(document: &Table) -> Result<Setup, Trouble<'_>>
     match at(document, "machine") {
         None => Ok(absent()),
         Some(value) => {
-            let table = Place::Document.says(table_at("machine", value))?;
-            let setup = Place::Machine.says(setup(table))?;
+            let table = Location::Document.says(table_at("machine", value))?;
+            let setup = Location::Machine.says(setup(table))?;
             Ok(setup)
         }
     }
@@ -125,7 +125,7 @@ fn names<'a>(alloc: Global, tables: &'a [Value]) -> Result<Vec<String>, Trouble<
 {
     let mut names = Vec::new(alloc);
     for (index, value) in tables.iter().enumerate() {
-        let place = Place::Task {
+        let place = Location::Task {
             number: index + 1,
             name: None,
         };
@@ -158,12 +158,12 @@ fn kinds<'a>(
     let mut kinds = Vec::new(alloc);
     let mut tasks: u16 = 0;
     for (index, value) in tables.iter().enumerate() {
-        let table = Place::Document.says(table_at("task", value))?;
+        let table = Location::Document.says(table_at("task", value))?;
         let kind = kind(alloc, table, index + 1, names, processors)?;
         tasks = match tasks.checked_add(kind.count) {
             Some(tasks) if tasks <= MOST_TASKS => tasks,
             _ => return Err(Trouble::At {
-                place: Place::Document,
+                place: Location::Document,
                 why: Why::TooMany,
             }),
         };

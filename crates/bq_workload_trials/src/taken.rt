@@ -1,7 +1,7 @@
 // Texts that are workloads, and what they say.
 
 use bq_actions::{Action, Length, Setup, Workload};
-use bq_sizes::{Rule, Size};
+use bq_sizes::{ProcessorCount, Rule};
 use bq_workload::{Changes, read};
 use std::alloc::Global;
 use std::test::Fail;
@@ -42,7 +42,7 @@ fn the_example_says_its_machine(rt: HostRuntime) -> Result<(), Fail> {
         workload.machine,
         Setup {
             rule: Rule::Eevdf,
-            size: Size::Two,
+            size: ProcessorCount::Two,
             duration: 50_000_000,
             tick: 4_000_000,
             balance: 16_000_000,
@@ -102,7 +102,7 @@ fn the_example_says_its_tasks(rt: HostRuntime) -> Result<(), Fail> {
 fn words_come_before_the_text(rt: HostRuntime) -> Result<(), Fail> {
     let changes = Changes {
         rule: Some(Rule::Cfs),
-        size: Some(Size::Four),
+        size: Some(ProcessorCount::Four),
         duration: Some(7),
         seed: Some(9),
     };
@@ -110,7 +110,7 @@ fn words_come_before_the_text(rt: HostRuntime) -> Result<(), Fail> {
     let machine = workload.machine;
     assert_eq!(rt;
         (machine.rule, machine.size, machine.duration, machine.seed),
-        (Rule::Cfs, Size::Four, 7, 9)
+        (Rule::Cfs, ProcessorCount::Four, 7, 9)
     );
     let [batch, ..] = workload.tasks.as_slice() else {
         return Err(Fail::from("there are kinds"));

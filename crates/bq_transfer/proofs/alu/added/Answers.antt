@@ -1,5 +1,5 @@
 use Rattle.bq_transfer.proofs.ResultLemmas.{moved_up, sum_turned}
-use Rattle.bq_views.proofs.WordLemmas.{number_within}
+use Rattle.bq_states.proofs.WordLemmas.{number_within}
 use Rattle.bq_transfer.proofs.alu.added.Goals as goal
 
 pub returns-in-W64-Add-default : goal.returns-in-W64-Add-default

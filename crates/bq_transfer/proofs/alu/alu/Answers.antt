@@ -9,10 +9,10 @@ use Rattle.bq_insn.specs.declared.Source.TheVariants.{Imm, Reg}
 use Rattle.bq_insn.specs.declared.Insn.TheVariants.{Alu}
 use Rattle.bq_transfer.proofs.alu.alu.Goals as goal
 
-pub returns-then-eq-clause-carries : goal.returns-then-eq-clause-carries
-returns-then-eq-clause-carries c =
+pub returns-then-eq-clause-transfers : goal.returns-then-eq-clause-transfers
+returns-then-eq-clause-transfers c =
     let same : c.args.op ≡ Mov = search rules in
-    rw same c.in_ok-copy.ensures.carries
+    rw same c.in_ok-copy.ensures.transfers
 
 pub returns-in_err-copy-clause-accepts : goal.returns-in_err-copy-clause-accepts
 returns-in_err-copy-clause-accepts c = λ shapes context ready.

@@ -1,4 +1,4 @@
-use Rattle.bq_views.proofs.WordLemmas.{number_within, number_is}
+use Rattle.bq_states.proofs.WordLemmas.{number_within, number_is}
 use Rattle.bq_transfer.proofs.alu.combine.Goals as goal
 
 pub returns-in-Number-Number-clause-describes : goal.returns-in-Number-Number-clause-describes

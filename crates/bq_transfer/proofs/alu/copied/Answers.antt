@@ -1,4 +1,4 @@
-use Rattle.bq_views.proofs.WordLemmas.{number_within, number_is}
+use Rattle.bq_states.proofs.WordLemmas.{number_within, number_is}
 use Rattle.bq_transfer.proofs.ResultLemmas.{copied_word, left_is_free}
 use Rattle.bq_transfer.proofs.alu.copied.Goals as goal
 

@@ -1,26 +1,26 @@
 use Rattle.std.proofs.Common.{rules, ◌≡◌, ℕ, Some, refl, sym, subst, arith, length, ◌<◌}
 use Rattle.bq_insn.specs.declared.Operation.TheVariants.{Mov}
 use Rattle.bq_alu.specs.Meaning.{alu_result, word_of}
-use Rattle.bq_views.specs.declared.view.Known.{Known}
-use Rattle.bq_views.specs.declared.view.View.{View}
-use Rattle.bq_views.specs.Standing.{Exact, IsMade, Stands}
+use Rattle.bq_states.specs.declared.abstract_state.AbstractValue.{AbstractValue}
+use Rattle.bq_states.specs.declared.abstract_state.AbstractState.{AbstractState}
+use Rattle.bq_states.specs.Standing.{Exact, IsMade, Stands}
 use Rattle.bq_insn.specs.declared.Source.{Source}
 use Rattle.bq_insn.specs.declared.Source.TheVariants.{Reg}
 use Rattle.bq_bpf.specs.Steps.{IsOperand, put}
-use Rattle.bq_views.specs.Views.{Covers, knowing}
-use Rattle.bq_views.proofs.CopyLemmas.{put_here, put_there}
+use Rattle.bq_states.specs.AbstractStates.{Contains, knowing}
+use Rattle.bq_states.proofs.CopyLemmas.{put_here, put_there}
 use Rattle.bq_transfer.proofs.StandingLemmas.{knowing_made, made_classes}
 use Rattle.bq_transfer.proofs.PutLemmas.{covers_put, covers_same}
 use Rattle.bq_transfer.proofs.alu.copy.Goals as goal
 
-pub returns-clause-carries : goal.returns-clause-carries
-returns-clause-carries c = λ shapes context_length f s suits covers.
+pub returns-clause-transfers : goal.returns-clause-transfers
+returns-clause-transfers c = λ shapes context_length f s suits covers.
     let there : c.args.dst < length c.args.view.now.registers = omega (arith, c.requires) in
     let right = c.in-Some.ensures.finds f s covers in
     let value : ℕ = alu_result c.args.width Mov 0 right.0 in
-    let put_covers : Covers f (knowing c.args.view.now c.args.dst c.in-Some-copied.word) (put s 1 c.args.dst value) =
+    let put_covers : Contains f (knowing c.args.view.now c.args.dst c.in-Some-copied.word) (put s 1 c.args.dst value) =
     covers_put f c.args.view.now s 1 c.args.dst value c.in-Some-copied.word there covers (c.in-Some-copied.ensures.describes f.shapes 0 right.0 right.2) in
-    let learnt : Covers f c.learn.new.view (put s 1 c.args.dst value) = subst (λ (v : View). Covers f v (put s 1 c.args.dst value)) (sym c.learn.ensures.is) put_covers in
+    let learnt : Contains f c.learn.new.view (put s 1 c.args.dst value) = subst (λ (v : AbstractState). Contains f v (put s 1 c.args.dst value)) (sym c.learn.ensures.is) put_covers in
     let copies = c.link_copy.ensures (put s 1 c.args.dst value) learnt.copies
     (λ r is other. record {
       shapes = f.shapes;
@@ -35,7 +35,7 @@ returns-clause-carries c = λ shapes context_length f s suits covers.
       refl,
     )
 
-some_known : (a b : Known) → Some a ≡ Some b → a ≡ b
+some_known : (a b : AbstractValue) → Some a ≡ Some b → a ≡ b
 some_known a b e = cc
 
 pub returns-clause-exact : goal.returns-clause-exact
@@ -43,12 +43,12 @@ returns-clause-exact c = λ i is whole.
     let there : c.args.dst < length c.args.view.now.registers = omega (arith, c.requires) in
     let word = c.in-Some.ensures.immediate i is in
     let same : c.in-Some-copied.word ≡ c.in-Some.right = some_known c.in-Some-copied.word c.in-Some.right (c.in-Some-copied.ensures.same whole) in
-    let stands : Stands (Exact (word_of i)) (Some c.in-Some-copied.word) = subst (λ (k : Known). Stands (Exact (word_of i)) (Some k)) (sym same) word in
+    let stands : Stands (Exact (word_of i)) (Some c.in-Some-copied.word) = subst (λ (k : AbstractValue). Stands (Exact (word_of i)) (Some k)) (sym same) word in
     made_classes (Exact (word_of i)) c.args.view.now c.learn.new.view c.args.dst c.link_copy.new.classes
-    (subst (λ (v : View). IsMade (Exact (word_of i)) c.args.view.now v c.args.dst) (sym c.learn.ensures.is) (knowing_made (Exact (word_of i)) c.args.view.now c.args.dst c.in-Some-copied.word there stands))
+    (subst (λ (v : AbstractState). IsMade (Exact (word_of i)) c.args.view.now v c.args.dst) (sym c.learn.ensures.is) (knowing_made (Exact (word_of i)) c.args.view.now c.args.dst c.in-Some-copied.word there stands))
 
-pub returns-then-is_whole-clause-carries : goal.returns-then-is_whole-clause-carries
-returns-then-is_whole-clause-carries c = λ shapes context_length f s suits covers.
+pub returns-then-is_whole-clause-transfers : goal.returns-then-is_whole-clause-transfers
+returns-then-is_whole-clause-transfers c = λ shapes context_length f s suits covers.
     let right = c.in-Some.ensures.finds f s covers in
     let itself : c.args.src ≡ Reg c.args.dst = search rules in
     let whole = c.is_whole.ensures c.if-is_whole.true f.shapes right.0 right.2 in

@@ -1,5 +1,5 @@
 use Rattle.std.proofs.Common.{arith}
-use Rattle.bq_views.proofs.WordLemmas.{number_within, word_fits}
+use Rattle.bq_states.proofs.WordLemmas.{number_within, word_fits}
 use Rattle.bq_transfer.proofs.ResultLemmas.{same_half, same_word}
 use Rattle.bq_transfer.proofs.alu.is_whole.Goals as goal
 

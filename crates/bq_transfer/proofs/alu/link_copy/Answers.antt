@@ -1,5 +1,5 @@
 use Rattle.std.proofs.Common.{◌≡◌, ◌<◌, ◌∙◌, ap, Some, ℕ, subst, sym, arith, rules}
-use Rattle.bq_views.proofs.CopyLemmas.{register_copy, register_word}
+use Rattle.bq_states.proofs.CopyLemmas.{register_copy, register_word}
 use Rattle.bq_transfer.proofs.alu.link_copy.Goals as goal
 
 pub returns : goal.returns

@@ -1,18 +1,18 @@
 use Rattle.std.proofs.Common.{ℕ, Option, Some, refl, sym, subst, arith, length, ◌<◌}
 use Rattle.bq_insn.specs.declared.Insn.TheVariants.{Alu}
 use Rattle.bq_alu.specs.Meaning.{alu_result, word_of}
-use Rattle.bq_views.specs.declared.view.Kind.TheVariants.{Stack}
-use Rattle.bq_views.specs.declared.view.Known.{Known}
-use Rattle.bq_views.specs.declared.view.View.{View}
-use Rattle.bq_views.specs.Standing.{IsMade, IsWord, Pointer, Stands}
+use Rattle.bq_states.specs.declared.abstract_state.Kind.TheVariants.{Stack}
+use Rattle.bq_states.specs.declared.abstract_state.AbstractValue.{AbstractValue}
+use Rattle.bq_states.specs.declared.abstract_state.AbstractState.{AbstractState}
+use Rattle.bq_states.specs.Standing.{IsMade, IsWord, Pointer, Stands}
 use Rattle.bq_transfer.proofs.PlaceLemmas.{moved_is}
 use Rattle.bq_transfer.proofs.StandingLemmas.{knowing_made}
 use Rattle.bq_transfer.proofs.PutLemmas.{carries_put, left_from_set}
-use Rattle.bq_views.proofs.LearnLemmas.{found_at}
+use Rattle.bq_states.proofs.LearnLemmas.{found_at}
 use Rattle.bq_transfer.proofs.alu.operate.Goals as goal
 
-pub returns-clause-carries : goal.returns-clause-carries
-returns-clause-carries c = λ shapes context_length.
+pub returns-clause-transfers : goal.returns-clause-transfers
+returns-clause-transfers c = λ shapes context_length.
     let there : c.args.dst < length c.args.view.now.registers = omega (arith, c.requires.below) in
     rw c.learn.ensures.is
     (carries_put shapes context_length (Alu c.args.width c.args.op c.args.dst c.args.src) c.args.view.now c.args.dst c.in-Some-combine.word there
@@ -27,8 +27,8 @@ returns-clause-carries c = λ shapes context_length.
 pub returns-clause-moves : goal.returns-clause-moves
 returns-clause-moves c = λ m.
     let there : c.args.dst < length c.args.view.now.registers = omega (arith, c.requires.below) in
-    let left : Stands (Pointer Stack m.base) (Some c.in-Some-known.left) = subst (λ (v : Option Known). Stands (Pointer Stack m.base) v) (sym c.in-Some-known.ensures) m.stands in
+    let left : Stands (Pointer Stack m.base) (Some c.in-Some-known.left) = subst (λ (v : Option AbstractValue). Stands (Pointer Stack m.base) v) (sym c.in-Some-known.ensures) m.stands in
     let right : IsWord (word_of m.distance) (Some c.in-Some.right) = c.in-Some.ensures.immediate m.distance m.by_distance in
     let moved = c.in-Some-combine.ensures.moves m.base (word_of m.distance) m.whole m.is_sum left right in
     let stands : Stands (Pointer Stack m.at) (Some c.in-Some-combine.word) = subst (λ (n : ℕ). Stands (Pointer Stack n) (Some c.in-Some-combine.word)) (moved_is m.base m.at m.distance m.below m.small m.at_is) moved in
-    (refl, subst (λ (v : View). IsMade (Pointer Stack m.at) c.args.view.now v c.args.dst) (sym c.learn.ensures.is) (knowing_made (Pointer Stack m.at) c.args.view.now c.args.dst c.in-Some-combine.word there stands))
+    (refl, subst (λ (v : AbstractState). IsMade (Pointer Stack m.at) c.args.view.now v c.args.dst) (sym c.learn.ensures.is) (knowing_made (Pointer Stack m.at) c.args.view.now c.args.dst c.in-Some-combine.word there stands))

@@ -1,5 +1,5 @@
 use Rattle.std.proofs.Common.{◌<◌, length, arith}
-use Rattle.bq_views.proofs.WordLemmas.{number_is}
+use Rattle.bq_states.proofs.WordLemmas.{number_is}
 use Rattle.bq_transfer.proofs.CallLemmas.{covers_called}
 use Rattle.bq_transfer.proofs.calls.answer.Goals as goal
 

@@ -8,29 +8,29 @@ use mir.Val.{SFits}
 use Rattle.std.proofs.lemmas.Int.{ints}
 use Rattle.bq_transfer.proofs.calls.call.Goals as goal
 
-pub returns-then-helper-eq1-clause-carries : goal.returns-then-helper-eq1-clause-carries
-returns-then-helper-eq1-clause-carries c =
+pub returns-then-helper-eq1-clause-transfers : goal.returns-then-helper-eq1-clause-transfers
+returns-then-helper-eq1-clause-transfers c =
     let fits : SFits w32 c.args.helper = search rules in
     let is : c.args.helper ≡ pos 1 = omega (arith, ints) in
-    rw is c.in_ok-look_up.ensures.carries
+    rw is c.in_ok-look_up.ensures.transfers
 
-pub returns-then-helper-eq5-clause-carries : goal.returns-then-helper-eq5-clause-carries
-returns-then-helper-eq5-clause-carries c =
+pub returns-then-helper-eq5-clause-transfers : goal.returns-then-helper-eq5-clause-transfers
+returns-then-helper-eq5-clause-transfers c =
     let fits : SFits w32 c.args.helper = search rules in
     let is : c.args.helper ≡ pos 5 = omega (arith, ints) in
-    rw is (c.now.ensures.carries c.args.shapes.now c.args.context)
+    rw is (c.now.ensures.transfers c.args.shapes.now c.args.context)
 
-pub returns-then-helper-eq8-clause-carries : goal.returns-then-helper-eq8-clause-carries
-returns-then-helper-eq8-clause-carries c =
+pub returns-then-helper-eq8-clause-transfers : goal.returns-then-helper-eq8-clause-transfers
+returns-then-helper-eq8-clause-transfers c =
     let fits : SFits w32 c.args.helper = search rules in
     let is : c.args.helper ≡ pos 8 = omega (arith, ints) in
-    rw is (c.processor.ensures.carries c.args.shapes.now c.args.context)
+    rw is (c.processor.ensures.transfers c.args.shapes.now c.args.context)
 
-pub returns-then-helper-eq2-clause-carries : goal.returns-then-helper-eq2-clause-carries
-returns-then-helper-eq2-clause-carries c =
+pub returns-then-helper-eq2-clause-transfers : goal.returns-then-helper-eq2-clause-transfers
+returns-then-helper-eq2-clause-transfers c =
     let fits : SFits w32 c.args.helper = search rules in
     let is : c.args.helper ≡ pos 2 = omega (arith, ints) in
-    rw is c.in_ok-update.ensures.carries
+    rw is c.in_ok-update.ensures.transfers
 
 pos_is : (a b : ℕ) → pos a ≡ pos b → a ≡ b
 pos_is a b e = cc

@@ -5,8 +5,8 @@ use Rattle.bq_bpf.specs.Memory.{reference}
 use Rattle.bq_transfer.proofs.PutLemmas.{carries_put, reference_is}
 use Rattle.bq_transfer.proofs.calls.map_ref.Goals as goal
 
-pub returns-clause-carries : goal.returns-clause-carries
-returns-clause-carries c = λ context_length.
+pub returns-clause-transfers : goal.returns-clause-transfers
+returns-clause-transfers c = λ context_length.
     let there : c.args.dst < length c.args.view.now.registers = omega (arith, c.requires.below) in
     rw c.learn.ensures.is
     (carries_put c.args.shapes.now context_length (MapRef c.args.dst c.args.index) c.args.view.now c.args.dst _ there

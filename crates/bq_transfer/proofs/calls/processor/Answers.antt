@@ -2,6 +2,6 @@ use Rattle.std.proofs.Common.{refl, inr, arith}
 use Rattle.bq_bpf.specs.Steps.{called}
 use Rattle.bq_transfer.proofs.calls.processor.Goals as goal
 
-pub returns-clause-carries : goal.returns-clause-carries
-returns-clause-carries c = λ shapes context_length f s suits covers.
+pub returns-clause-transfers : goal.returns-clause-transfers
+returns-clause-transfers c = λ shapes context_length f s suits covers.
     (called s f.processor, inr (inr (inr (refl, refl))), c.answer.ensures.covers f s f.processor covers (omega (arith, c.full.ensures.lo), omega (arith, c.full.ensures.hi, suits.processor_fits)), refl)

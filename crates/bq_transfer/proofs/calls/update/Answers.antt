@@ -1,12 +1,12 @@
 use Rattle.std.proofs.Common.{ℕ, ◌≡◌, ◌∙◌, Option, Some, None, true, refl, sym, subst, arith, rules}
 use Rattle.std.specs.Prelude.{slice_get}
 use Rattle.bq_bpf.specs.declared.shape.MapShape.{MapShape}
-use Rattle.bq_views.specs.Views.{size_of_shape}
+use Rattle.bq_states.specs.AbstractStates.{size_of_shape}
 use Rattle.bq_transfer.proofs.CallLemmas.{carries_update}
 use Rattle.bq_transfer.proofs.calls.update.Goals as goal
 
-pub returns-clause-carries : goal.returns-clause-carries
-returns-clause-carries c =
+pub returns-clause-transfers : goal.returns-clause-transfers
+returns-clause-transfers c =
     let size : c.from.result ≡ c.in-Some-shape_of.shape.value_size = search rules in
     let values = rw size at (c.reads_value.ensures.finds c.if-not-reads_value.false) in
     carries_update c.args.shapes.now c.args.context c.args.view.now c.answer.new.view c.in-Some.map c.in-Some-shape_of.shape (sym c.in-Some-shape_of.ensures) c.in-Some.ensures.names

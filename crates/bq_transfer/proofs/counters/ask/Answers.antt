@@ -4,7 +4,7 @@ use mir.Syntax.{w32}
 use mir.Val.{SFits}
 use Rattle.bq_insn.specs.declared.Insn.{Insn}
 use Rattle.bq_insn.specs.declared.Insn.TheVariants.{Call}
-use Rattle.bq_transfer.specs.Carries.{AsksFrom}
+use Rattle.bq_transfer.specs.Transfers.{AsksFrom}
 use Rattle.bq_transfer.proofs.counters.ask.Goals as goal
 
 pub returns-then-helper-eq100-clause-asks : goal.returns-then-helper-eq100-clause-asks

@@ -2,18 +2,18 @@ use Rattle.std.proofs.Common.{◌≡◌, ◌<◌, ◌*◌, ◌/◌, ℕ, ℤ, fa
 use mir.Syntax.{w16}
 use mir.Val.{SFits, to_z, of_z}
 use Rattle.std.proofs.lemmas.Int.{ints}
-use Rattle.bq_views.specs.Copies.{HasWord}
-use Rattle.bq_transfer.specs.Carries.{FindsPlace}
+use Rattle.bq_states.specs.Copies.{HasWord}
+use Rattle.bq_transfer.specs.Transfers.{FindsPlace}
 use Rattle.bq_insn.specs.declared.Insn.TheVariants.{Load}
 use Rattle.bq_transfer.specs.Ready.{IsPlaced}
-use Rattle.bq_views.proofs.PartLemmas.{read_numbers}
+use Rattle.bq_states.proofs.PartLemmas.{read_numbers}
 use Rattle.bq_transfer.proofs.PlaceLemmas.{stack_inside}
 use Rattle.bq_transfer.proofs.PutLemmas.{carries_linked, carries_put}
 use Rattle.bq_transfer.proofs.LoadLemmas.{load_gives, kept_load}
 use Rattle.bq_transfer.proofs.loads.load.Goals as goal
 
-pub returns-in-Some-clause-carries : goal.returns-in-Some-clause-carries
-returns-in-Some-clause-carries c =
+pub returns-in-Some-clause-transfers : goal.returns-in-Some-clause-transfers
+returns-in-Some-clause-transfers c =
     let fits : SFits w16 c.args.off = search rules in
     let same : to_z w16 (of_z w16 c.args.off) ≡ c.args.off = omega (arith, ints) in
     let finds = subst (λ (off : ℤ). FindsPlace c.args.shapes.now c.args.context c.args.view.now c.args.src off c.args.size c.in_ok-found.found.kind c.in_ok-found.found.at) same c.in_ok-found.ensures.finds in
@@ -29,8 +29,8 @@ returns-in-Some-clause-carries c =
     (λ f s suits covers. let given = gives f s suits covers in (given.0, given.1, given.2, given.3 slot first))
     (λ t n copies has copy. linked t n copies has (λ m h. subst (λ (p : ℕ). HasWord t p m) (sym to) (copy m h))))
 
-pub returns-clause-carries : goal.returns-clause-carries
-returns-clause-carries c =
+pub returns-clause-transfers : goal.returns-clause-transfers
+returns-clause-transfers c =
     let fits : SFits w16 c.args.off = search rules in
     let same : to_z w16 (of_z w16 c.args.off) ≡ c.args.off = omega (arith, ints) in
     let finds = subst (λ (off : ℤ). FindsPlace c.args.shapes.now c.args.context c.args.view.now c.args.src off c.args.size c.in_ok-found.found.kind c.in_ok-found.found.at) same c.in_ok-found.ensures.finds in

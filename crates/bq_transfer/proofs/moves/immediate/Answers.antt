@@ -1,11 +1,11 @@
 use Rattle.std.proofs.Common.{refl, arith, length, ◌<◌}
 use Rattle.bq_insn.specs.declared.Insn.TheVariants.{Imm64}
 use Rattle.bq_transfer.proofs.PutLemmas.{carries_put}
-use Rattle.bq_views.proofs.WordLemmas.{number_is}
+use Rattle.bq_states.proofs.WordLemmas.{number_is}
 use Rattle.bq_transfer.proofs.moves.immediate.Goals as goal
 
-pub returns-clause-carries : goal.returns-clause-carries
-returns-clause-carries c = λ shapes context_length.
+pub returns-clause-transfers : goal.returns-clause-transfers
+returns-clause-transfers c = λ shapes context_length.
     let there : c.args.dst < length c.args.view.now.registers = omega (arith, c.requires) in
     rw c.learn_number.ensures.is
     (carries_put shapes context_length (Imm64 c.args.dst c.args.value) c.args.view.now c.args.dst _ there

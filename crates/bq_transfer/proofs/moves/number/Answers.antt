@@ -1,7 +1,7 @@
 use Rattle.std.proofs.Common.{◌≡◌, rules}
-use Rattle.bq_views.specs.declared.view.Kind.TheVariants.{Number}
-use Rattle.bq_views.proofs.LearnLemmas.{found_at}
-use Rattle.bq_views.proofs.WordLemmas.{number_within}
+use Rattle.bq_states.specs.declared.abstract_state.Kind.TheVariants.{Number}
+use Rattle.bq_states.proofs.LearnLemmas.{found_at}
+use Rattle.bq_states.proofs.WordLemmas.{number_within}
 use Rattle.bq_transfer.proofs.moves.number.Goals as goal
 
 pub returns-clause-holds : goal.returns-clause-holds

@@ -1,8 +1,8 @@
 use Rattle.std.proofs.Common.{◌≡◌, false, true, refl}
-use Rattle.bq_views.specs.declared.view.Kind.TheVariants.{Entry, Number}
+use Rattle.bq_states.specs.declared.abstract_state.Kind.TheVariants.{Entry, Number}
 use Rattle.bq_transfer.proofs.StandingLemmas.{entry_stands}
 use Rattle.bq_transfer.proofs.ResultLemmas.{null_side, entry_side, equal_true, equal_false, unequal_true, unequal_false}
-use Rattle.bq_views.proofs.WordLemmas.{word_fits}
+use Rattle.bq_states.proofs.WordLemmas.{word_fits}
 use Rattle.bq_transfer.proofs.sides.null_check.Goals as goal
 
 pub returns-in-W64-Equal-true-clause-fits : goal.returns-in-W64-Equal-true-clause-fits

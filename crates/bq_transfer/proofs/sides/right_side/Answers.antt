@@ -1,4 +1,4 @@
-use Rattle.bq_views.proofs.WordLemmas.{number_is, number_within}
+use Rattle.bq_states.proofs.WordLemmas.{number_is, number_within}
 use Rattle.bq_transfer.proofs.sides.right_side.Goals as goal
 
 pub returns-in-Number-Number : goal.returns-in-Number-Number

@@ -1,6 +1,6 @@
 use Rattle.std.proofs.Common.{◌≡◌, ◌<◌, ◌+◌, Some, ℕ, subst, sym, arith, rules}
-use Rattle.bq_views.specs.Copies.{HasWord}
-use Rattle.bq_views.proofs.CopyLemmas.{register_word, slot_copy}
+use Rattle.bq_states.specs.Copies.{HasWord}
+use Rattle.bq_states.proofs.CopyLemmas.{register_word, slot_copy}
 use Rattle.bq_transfer.proofs.stores.link_slot.Goals as goal
 
 pub returns-clause-copies : goal.returns-clause-copies

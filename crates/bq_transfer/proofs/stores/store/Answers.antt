@@ -2,8 +2,8 @@ use Rattle.std.proofs.Common.{◌≡◌, ℤ, false, true, refl, sym, subst, ari
 use mir.Syntax.{w16}
 use mir.Val.{SFits, to_z, of_z}
 use Rattle.std.proofs.lemmas.Int.{ints}
-use Rattle.bq_transfer.specs.Carries.{FindsPlace}
-use Rattle.bq_views.specs.declared.view.Kind.TheVariants.{Entry, Stack}
+use Rattle.bq_transfer.specs.Transfers.{FindsPlace}
+use Rattle.bq_states.specs.declared.abstract_state.Kind.TheVariants.{Entry, Stack}
 use Rattle.bq_transfer.specs.Ready.{IsPlaced}
 use Rattle.bq_transfer.proofs.PlaceLemmas.{stack_inside}
 use Rattle.bq_transfer.proofs.WriteLemmas.{stores_on_stack, stores_in_entry}

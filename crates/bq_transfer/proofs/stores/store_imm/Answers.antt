@@ -3,19 +3,19 @@ use mir.Syntax.{w16}
 use mir.Val.{SFits, to_z, of_z}
 use Rattle.std.proofs.lemmas.Int.{ints}
 use Rattle.bq_alu.specs.Meaning.{word_of}
-use Rattle.bq_views.specs.declared.view.Known.{Known}
-use Rattle.bq_views.specs.declared.view.Kind.TheVariants.{Entry, Number, Stack}
+use Rattle.bq_states.specs.declared.abstract_state.AbstractValue.{AbstractValue}
+use Rattle.bq_states.specs.declared.abstract_state.Kind.TheVariants.{Entry, Number, Stack}
 use Rattle.bq_transfer.specs.Ready.{IsPlaced}
-use Rattle.bq_transfer.specs.Carries.{Stores}
-use Rattle.bq_views.proofs.WordLemmas.{number_is}
+use Rattle.bq_transfer.specs.Transfers.{Stores}
+use Rattle.bq_states.proofs.WordLemmas.{number_is}
 use Rattle.bq_transfer.proofs.WriteLemmas.{carries_imm}
 use Rattle.bq_transfer.proofs.stores.store_imm.Goals as goal
 
-pub returns-clause-carries : goal.returns-clause-carries
-returns-clause-carries c =
+pub returns-clause-transfers : goal.returns-clause-transfers
+returns-clause-transfers c =
     let fits : SFits w16 c.args.off = search rules in
     let same : to_z w16 (of_z w16 c.args.off) ≡ c.args.off = omega (arith, ints) in
-    let word : Known = record { kind = Number; offset = c.single.result } in
+    let word : AbstractValue = record { kind = Number; offset = c.single.result } in
     let is : c.word_of_imm.result ≡ word_of c.args.imm = search rules in
     let stores = subst (λ (off : ℤ). Stores c.args.shapes.now c.args.context c.args.dst off c.args.size word c.args.view.now c.store.new.view c.in_ok-store.field-0) same c.in_ok-store.ensures.stores in
     carries_imm c.args.shapes.now c.args.context c.args.dst c.args.off c.args.imm c.args.size word c.args.view.now c.store.new.view c.in_ok-store.field-0 (λ f. number_is f.shapes c.single.result (word_of c.args.imm) (omega (arith, is, c.single.ensures.lo), omega (arith, is, c.single.ensures.hi))) stores

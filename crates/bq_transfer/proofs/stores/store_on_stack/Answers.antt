@@ -1,14 +1,14 @@
 use Rattle.std.proofs.Common.{◌≡◌, ◌<◌, ◌*◌, ◌/◌, ℕ, length, subst, arith, rules, Some, ap}
 use Rattle.bq_transfer.proofs.WriteLemmas.{low_long, low_small, covers_keeping}
-use Rattle.bq_views.proofs.StoreLemmas.{Keeps-stored}
+use Rattle.bq_states.proofs.StoreLemmas.{Keeps-stored}
 use Rattle.std.specs.Int.{bytes_low_first}
 use Rattle.bq_insn.specs.Slots.{byte_count}
 use Rattle.bq_insn.specs.declared.Size.{Size}
 use Rattle.bq_insn.specs.declared.Size.TheVariants.{Double}
-use Rattle.bq_views.specs.declared.view.Kind.TheVariants.{Number}
-use Rattle.bq_views.proofs.WordLemmas.{number_within}
-use Rattle.bq_views.proofs.PartLemmas.{covers_parts, has_written}
-use Rattle.bq_views.specs.Views.{Keeps}
+use Rattle.bq_states.specs.declared.abstract_state.Kind.TheVariants.{Number}
+use Rattle.bq_states.proofs.WordLemmas.{number_within}
+use Rattle.bq_states.proofs.PartLemmas.{covers_parts, has_written}
+use Rattle.bq_states.specs.AbstractStates.{Keeps}
 use Rattle.bq_bpf.specs.Memory.{InStack, stack_with, written}
 use Rattle.bq_bpf.specs.Steps.{low_bytes, next}
 use Rattle.bq_transfer.proofs.stores.store_on_stack.Goals as goal

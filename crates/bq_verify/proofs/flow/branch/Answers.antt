@@ -1,7 +1,7 @@
 use Rattle.std.proofs.Common.{◌≡◌, Option, Some, true, false, inl, inr, subst, sym}
-use Rattle.bq_views.specs.declared.view.Kind.TheVariants.{EntryOrNull, Number}
-use Rattle.bq_views.specs.declared.view.Known.{Known}
-use Rattle.bq_views.specs.Standing.{Pointer, Scalar, Stands}
+use Rattle.bq_states.specs.declared.abstract_state.Kind.TheVariants.{EntryOrNull, Number}
+use Rattle.bq_states.specs.declared.abstract_state.AbstractValue.{AbstractValue}
+use Rattle.bq_states.specs.Standing.{Pointer, Scalar, Stands}
 use Rattle.bq_transfer.specs.Sides.{is_found}
 use Rattle.bq_verify.proofs.SideLemmas.{known_inside, has_on_side, has_on_tested}
 use Rattle.bq_verify.specs.Control.{IsKnown}
@@ -25,11 +25,11 @@ returns-clause-parts c = (
 pub returns-clause-sure : goal.returns-clause-sure
 returns-clause-sure c = λ scalar operand x k waits both.
     let there = known_inside c.args.view.now.registers c.args.dst c.in-Some-known.left c.in-Some-known.ensures in
-    let left : c.in-Some-known.left.kind ≡ Number = subst (λ (v : Option Known). Stands Scalar v) (sym c.in-Some-known.ensures) scalar in
+    let left : c.in-Some-known.left.kind ≡ Number = subst (λ (v : Option AbstractValue). Stands Scalar v) (sym c.in-Some-known.ensures) scalar in
     let right : c.in-Some.right.kind ≡ Number = c.in-Some.ensures.scalar operand in
     record {
       waiting = c.in_ok-wait_on_side.ensures.has x k waits (λ same. let so = both (inl same) in has_on_side x c.args.view.now c.args.dst c.in_ok-yes.yes there so.0 so.1 scalar (c.in_ok-yes.ensures.number left right) so.2);
-      carried = λ live same.
+      transferred = λ live same.
           let so = both (inr same) in
           c.carry_on.ensures.has x (has_on_side x c.args.view.now c.args.dst c.in_ok-no.no there so.0 so.1 scalar (c.in_ok-no.ensures.number left right) so.2) live;
     }
@@ -37,10 +37,10 @@ returns-clause-sure c = λ scalar operand x k waits both.
 pub returns-clause-checked : goal.returns-clause-checked
 returns-clause-checked c = λ map check answer x k waits yes_side no_side.
     let there = known_inside c.args.view.now.registers c.args.dst c.in-Some-known.left c.in-Some-known.ensures in
-    let left : Stands (Pointer (EntryOrNull map) 0) (Some c.in-Some-known.left) = subst (λ (v : Option Known). Stands (Pointer (EntryOrNull map) 0) v) (sym c.in-Some-known.ensures) answer in
+    let left : Stands (Pointer (EntryOrNull map) 0) (Some c.in-Some-known.left) = subst (λ (v : Option AbstractValue). Stands (Pointer (EntryOrNull map) 0) v) (sym c.in-Some-known.ensures) answer in
     record {
       waiting = c.in_ok-wait_on_side.ensures.has x k waits
           (λ same. has_on_tested x c.args.view.now c.args.dst map (is_found c.args.cond true) c.in_ok-yes.yes there (c.in_ok-yes.ensures.tested map check left) (yes_side same));
-      carried = λ live same.
+      transferred = λ live same.
           c.carry_on.ensures.has x (has_on_tested x c.args.view.now c.args.dst map (is_found c.args.cond false) c.in_ok-no.no there (c.in_ok-no.ensures.tested map check left) (no_side same)) live;
     }

@@ -1,9 +1,9 @@
 use Rattle.std.proofs.Common.{Option, refl, subst}
-use Rattle.bq_views.specs.declared.view.Known.{Known}
+use Rattle.bq_states.specs.declared.abstract_state.AbstractValue.{AbstractValue}
 use Rattle.bq_verify.specs.Control.{IsOnSide}
 use Rattle.bq_verify.proofs.flow.carry_on.Goals as goal
 
 pub returns-clause-covers : goal.returns-clause-covers
 returns-clause-covers c = λ f s side.
-    let on = subst (λ (k : Option Known). IsOnSide f c.args.view.now c.args.dst c.args.src k c.args.right s) c.in-Some.is side in
+    let on = subst (λ (k : Option AbstractValue). IsOnSide f c.args.view.now c.args.dst c.args.src k c.args.right s) c.in-Some.is side in
     (refl, c.tell.ensures.covers f s on.0 on.1)

@@ -1,12 +1,12 @@
-use Rattle.bq_views.specs.Told.{IsLasting}
+use Rattle.bq_states.specs.Told.{IsLasting}
 use Rattle.std.proofs.Common.{rules, ℕ, Bool, Some, ◌≡◌, ◌+◌, ◌<◌, length, arith, refl, sym, ap, subst, ◌∙◌, true, false, inl, inr}
 use Rattle.bq_insn.specs.declared.Insn.{Insn}
-use Rattle.bq_views.specs.declared.view.Kind.TheVariants.{EntryOrNull}
+use Rattle.bq_states.specs.declared.abstract_state.Kind.TheVariants.{EntryOrNull}
 use Rattle.bq_transfer.specs.After.{After, IsFoundSide}
 use Rattle.bq_transfer.specs.Ready.{IsReady}
-use Rattle.bq_views.specs.Standing.{Has, Outlasts}
+use Rattle.bq_states.specs.Standing.{Has, Outlasts}
 use Rattle.bq_transfer.specs.Sides.{is_found}
-use Rattle.bq_views.proofs.MergeLemmas.{some_none}
+use Rattle.bq_states.proofs.MergeLemmas.{some_none}
 use Rattle.bq_verify.proofs.SideLemmas.{carried_of, found_next, found_there, has_tested, outlasts, lasting_after}
 use Rattle.bq_transfer.proofs.StandingLemmas.{has_left, not_both}
 use mir.Syntax.{w16, w32}
@@ -47,7 +47,7 @@ returns-in_ok-wait-in-Goto32-clause-goes c =
 pub wait-requires-in_default : goal.wait-requires-in_default
 wait-requires-in_default c =
     let edge : IsEdge c.args.slots.now c.args.slot (c.args.slot + slots_of c.args.insn) =
-    record { insn = c.args.insn; here = c.requires.here; leaves = c.in_ok-carry-in_default.ensures.straight c.args.slot } in
+    record { insn = c.args.insn; here = c.requires.here; leaves = c.in_ok-transfer-in_default.ensures.straight c.args.slot } in
     let inside : c.args.slot + slots_of c.args.insn < length c.args.slots.now = start_inside c.args.slots.now _ (c.requires.sound.forward c.args.slot (c.args.slot + slots_of c.args.insn) edge).1 in
     record { here = rw (c.slots-count.ensures, c.requires.room) inside }
 
@@ -56,8 +56,8 @@ returns-in_ok-wait-in_default c = record {
   long = search rules;
   goes = (
     c.in_ok-wait-in_default.ensures.kept,
-    goes_on c.args.slots.now c.args.shapes.now c.args.context c.args.slot c.args.view.now (IsKnown c.wait-in_default.new.pending c.carry.new.view false (c.args.slot + 1))
-        c.args.insn c.carry.new.view c.requires.here c.in_ok-carry-in_default.ensures.straight c.in_ok-carry-in_default.ensures.carries
+    goes_on c.args.slots.now c.args.shapes.now c.args.context c.args.slot c.args.view.now (IsKnown c.wait-in_default.new.pending c.transfer.new.view false (c.args.slot + 1))
+        c.args.insn c.transfer.new.view c.requires.here c.in_ok-transfer-in_default.ensures.straight c.in_ok-transfer-in_default.ensures.transfers
         (λ f s at covers. inl (c.in_ok-wait-in_default.ensures.added f s (rw c.slots-count.ensures at) covers)),
   );
   doubts = tt;
@@ -66,10 +66,10 @@ returns-in_ok-wait-in_default c = record {
       record {
         waiting = c.in_ok-wait-in_default.ensures.has x k waits
             (λ same.
-            (c.in_ok-carry-in_default.ensures.accepts ready).1 x c.args.slot k
+            (c.in_ok-transfer-in_default.ensures.accepts ready).1 x c.args.slot k
             (after
-            (record { insn = c.args.insn; here = c.requires.here; leaves = subst (λ (n : ℕ). Leaves c.args.insn c.args.slot n) (sym (same ∙ ap (λ (n : ℕ). c.args.slot + n) c.slots-count.ensures)) (c.in_ok-carry-in_default.ensures.straight c.args.slot) })));
-        carried = λ live. absurd (let no : ⊥ = cc in no);
+            (record { insn = c.args.insn; here = c.requires.here; leaves = subst (λ (n : ℕ). Leaves c.args.insn c.args.slot n) (sym (same ∙ ap (λ (n : ℕ). c.args.slot + n) c.slots-count.ensures)) (c.in_ok-transfer-in_default.ensures.straight c.args.slot) })));
+        transferred = λ live. absurd (let no : ⊥ = cc in no);
       };
 }
 
@@ -92,8 +92,8 @@ returns-then-count-eq1 c = record {
   long = search rules;
   goes = (
     λ f s waits. waits,
-    goes_on c.args.slots.now c.args.shapes.now c.args.context c.args.slot c.args.view.now (IsKnown c.args.pending.now c.carry.new.view true (c.args.slot + 1))
-        c.args.insn c.carry.new.view c.requires.here c.in_ok-carry-in_default.ensures.straight c.in_ok-carry-in_default.ensures.carries
+    goes_on c.args.slots.now c.args.shapes.now c.args.context c.args.slot c.args.view.now (IsKnown c.args.pending.now c.transfer.new.view true (c.args.slot + 1))
+        c.args.insn c.transfer.new.view c.requires.here c.in_ok-transfer-in_default.ensures.straight c.in_ok-transfer-in_default.ensures.transfers
         (λ f s at covers. inr (refl, at ∙ ap (λ (n : ℕ). c.args.slot + n) one, covers)),
   );
   doubts = tt;
@@ -101,10 +101,10 @@ returns-then-count-eq1 c = record {
   sure = λ ready x k waits after.
       record {
         waiting = waits;
-        carried = λ live same.
-            (c.in_ok-carry-in_default.ensures.accepts ready).1 x c.args.slot k
+        transferred = λ live same.
+            (c.in_ok-transfer-in_default.ensures.accepts ready).1 x c.args.slot k
             (after
-            (record { insn = c.args.insn; here = c.requires.here; leaves = subst (λ (n : ℕ). Leaves c.args.insn c.args.slot n) (sym (same ∙ ap (λ (n : ℕ). c.args.slot + n) (sym one))) (c.in_ok-carry-in_default.ensures.straight c.args.slot) }));
+            (record { insn = c.args.insn; here = c.requires.here; leaves = subst (λ (n : ℕ). Leaves c.args.insn c.args.slot n) (sym (same ∙ ap (λ (n : ℕ). c.args.slot + n) (sym one))) (c.in_ok-transfer-in_default.ensures.straight c.args.slot) }));
       };
 }
   where
@@ -123,7 +123,7 @@ returns-in_ok-wait-in-Goto-clause-sure c = λ ready x k waits after.
           (λ same.
           has_left x c.args.slot k (Goto c.in-Goto.off) c.args.view.now (λ r gives. some_none _ _ gives refl) (λ n r gives. gives) (λ kind o r gives. gives) (λ i stores. stores)
           (subst (λ (i : Insn). After x c.args.slot k i c.args.view.now) c.in-Goto.is (after (subst (λ (n : ℕ). IsEdge c.args.slots.now c.args.slot n) (sym same) edge))));
-      carried = λ live. absurd (let no : ⊥ = cc in no);
+      transferred = λ live. absurd (let no : ⊥ = cc in no);
     }
 
 pub returns-in_ok-wait-in-Goto32-clause-sure : goal.returns-in_ok-wait-in-Goto32-clause-sure
@@ -138,7 +138,7 @@ returns-in_ok-wait-in-Goto32-clause-sure c = λ ready x k waits after.
           (λ same.
           has_left x c.args.slot k (Goto32 c.in-Goto32.imm) c.args.view.now (λ r gives. some_none _ _ gives refl) (λ n r gives. gives) (λ kind o r gives. gives) (λ i stores. stores)
           (subst (λ (i : Insn). After x c.args.slot k i c.args.view.now) c.in-Goto32.is (after (subst (λ (n : ℕ). IsEdge c.args.slots.now c.args.slot n) (sym same) edge))));
-      carried = λ live. absurd (let no : ⊥ = cc in no);
+      transferred = λ live. absurd (let no : ⊥ = cc in no);
     }
 
 pub returns-in-Branch-clause-sure : goal.returns-in-Branch-clause-sure
@@ -191,5 +191,5 @@ returns-in-Branch-clause-accepts c = λ ready.
       | inr check ↦ c.branch-alloc.ensures.checks check.1 needs.0 check.0 check.2
     ]
 
-pub carry-requires-clause-carried : goal.carry-requires-clause-carried
-carry-requires-clause-carried c = carried_of c.args.insn c.in_default.not-Exit c.in_default.not-Goto c.in_default.not-Goto32 c.in_default.not-Branch
+pub transfer-requires-clause-transferred : goal.transfer-requires-clause-transferred
+transfer-requires-clause-transferred c = carried_of c.args.insn c.in_default.not-Exit c.in_default.not-Goto c.in_default.not-Goto32 c.in_default.not-Branch

@@ -29,7 +29,7 @@ returns-then-is_counter_call-clause-sure c = λ ready x k waits after.
     let here : instruction_at c.args.slots.now c.args.slot ≡ Some (Call a.helper) = c.requires.here ∙ ap (λ (i : Insn). Some i) a.is in
     record {
       waiting = waits;
-      carried = λ live same.
+      transferred = λ live same.
           let edge : IsEdge c.args.slots.now c.args.slot k = record { insn = Call a.helper; here = here; leaves = inl (refl, same) } in
           has_answered x c.args.slot k a.helper c.args.view.now c.ask.new.view a.other (c.in_ok-ask.ensures.accepts a.helper a.is a.needs).1
           (subst (λ (i : Insn). After x c.args.slot k i c.args.view.now) a.is (after edge));

@@ -1,6 +1,6 @@
 use Rattle.std.proofs.Common.{Option, subst}
 use Rattle.std.proofs.lemmas.Result.{on_ok_weaker}
-use Rattle.bq_views.specs.declared.view.Known.{Known}
+use Rattle.bq_states.specs.declared.abstract_state.AbstractValue.{AbstractValue}
 use Rattle.bq_verify.specs.Control.{IsOnSide}
 use Rattle.bq_verify.specs.Ways.{HasOnSide}
 use Rattle.bq_verify.proofs.flow.wait_on_side.Goals as goal
@@ -9,7 +9,7 @@ pub returns-clause-added : goal.returns-clause-added
 returns-clause-added c =
     on_ok_weaker c.wait.result
     (λ added f s at side.
-    let on = subst (λ (k : Option Known). IsOnSide f c.args.view.now c.args.dst c.args.src k c.args.right s) c.in-Some.is side in
+    let on = subst (λ (k : Option AbstractValue). IsOnSide f c.args.view.now c.args.dst c.args.src k c.args.right s) c.in-Some.is side in
     added f s at (c.tell.ensures.covers f s on.0 on.1))
     c.wait.ensures.added
 
@@ -18,6 +18,6 @@ returns-clause-has c =
     on_ok_weaker c.wait.result
     (λ has x k waits there.
     has x k waits (λ same.
-    let on = subst (λ (side : Option Known). HasOnSide x c.args.view.now c.args.dst side) c.in-Some.is (there same) in
+    let on = subst (λ (side : Option AbstractValue). HasOnSide x c.args.view.now c.args.dst side) c.in-Some.is (there same) in
     c.tell.ensures.has x on.0 on.1))
     c.wait.ensures.has

@@ -1,5 +1,5 @@
 use Rattle.std.proofs.Common.{◌≡◌, true, length}
-use Rattle.bq_views.specs.declared.view.View.{View}
+use Rattle.bq_states.specs.declared.abstract_state.AbstractState.{AbstractState}
 use Rattle.bq_verify.specs.Control.{IsKnown}
 use Rattle.bq_verify.specs.KnownAt.{RestIsCovered}
 use Rattle.bq_verify.proofs.known_at.pass_before.Given as goal
@@ -7,6 +7,6 @@ use Rattle.bq_verify.proofs.known_at.pass_before.Given as goal
 abbrev pub invariant-loop-slot : goal.invariant-loop-slot
 invariant-loop-slot l = record {
   long : length l.pending ≡ length l.slots;
-  rest : (seen : View) → RestIsCovered l.slots l.shapes l.context l.until seen l.slot (IsKnown l.pending l.view l.live l.slot)
+  rest : (seen : AbstractState) → RestIsCovered l.slots l.shapes l.context l.until seen l.slot (IsKnown l.pending l.view l.live l.slot)
       → RestIsCovered l.slots l.shapes l.context l.until seen 0 (IsKnown l.initial.pending l.initial.view true 0);
 }

@@ -4,7 +4,7 @@ use Rattle.bq_disc.specs.OneProcessor.{charge}
 use Rattle.bq_hooks.specs.OwnPlace.{HasPlace}
 use Rattle.bq_parts.specs.declared.carried.Carried.{Carried}
 use Rattle.bq_parts.specs.Processors.{Processor}
-use Rattle.bq_parts.specs.Choices.{Settled, SettlesPlace, policies}
+use Rattle.bq_parts.specs.Choices.{Decision, SettlesPlace, policies}
 use Rattle.bq_parts.specs.Shares.{after_time}
 use Rattle.bq_parts.proofs.Leaves.{placed_fits}
 use Rattle.bq_parts.proofs.cpu.Cpu.end_wake.Goals as goal
@@ -17,7 +17,7 @@ returns-clause-share g c =
     let p : Processor = record (after_time d now c.args.self.now) { hand = None } in
     let carried = c.in-Some.carried in
     let placed = c.choose_place-placed in
-    let settled : Settled = record { choice = placed.result.choice; by = placed.result.by; steps = placed.result.steps; calls = placed.new.scratch; program = placed.new.self.programs.place } in
+    let settled : Decision = record { choice = placed.result.choice; by = placed.result.by; steps = placed.result.steps; calls = placed.new.scratch; program = placed.new.self.programs.place } in
     let charged : c.charge.new.self ≡ p = c.charge.ensures ∙ ap (λ (x : Processor). record x { running = charge d x.running now }) c.release.ensures.left in
     let settles = subst (λ (x : Processor). SettlesPlace (policies d) c.args.count cpu x carried settled) charged placed.ensures.settled in
     let hand : c.args.self.now.hand ≡ Some carried = sym c.in-Some.ensures.carried in
@@ -31,7 +31,7 @@ returns-clause-below g c =
     let p : Processor = record (after_time d now c.args.self.now) { hand = None } in
     let carried = c.in-Some.carried in
     let placed = c.choose_place-placed in
-    let settled : Settled = record { choice = placed.result.choice; by = placed.result.by; steps = placed.result.steps; calls = placed.new.scratch; program = placed.new.self.programs.place } in
+    let settled : Decision = record { choice = placed.result.choice; by = placed.result.by; steps = placed.result.steps; calls = placed.new.scratch; program = placed.new.self.programs.place } in
     let charged : c.charge.new.self ≡ p = c.charge.ensures ∙ ap (λ (x : Processor). record x { running = charge d x.running now }) c.release.ensures.left in
     let settles = subst (λ (x : Processor). SettlesPlace (policies d) c.args.count cpu x carried settled) charged placed.ensures.settled in
     let hand : c.args.self.now.hand ≡ Some carried = sym c.in-Some.ensures.carried in

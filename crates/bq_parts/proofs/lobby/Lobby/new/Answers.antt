@@ -1,5 +1,5 @@
 use Rattle.std.proofs.Common.{◌≡◌, ap, ◌∙◌, replicate, arith}
-use Rattle.bq_parts.specs.declared.seat.Seat.TheVariants.{Absent}
+use Rattle.bq_parts.specs.declared.lobby_entry.LobbyEntry.TheVariants.{Absent}
 use Rattle.bq_parts.proofs.lobby.Lobby.new.Goals as goal
 
 pub returns : goal.returns

@@ -1,5 +1,5 @@
 use Rattle.std.proofs.Common.{◌≡◌, replicate}
-use Rattle.bq_parts.specs.declared.seat.Seat.TheVariants.{Absent}
+use Rattle.bq_parts.specs.declared.lobby_entry.LobbyEntry.TheVariants.{Absent}
 use Rattle.bq_parts.proofs.lobby.Lobby.new.Given as goal
 
 abbrev pub invariant-seats : goal.invariant-seats

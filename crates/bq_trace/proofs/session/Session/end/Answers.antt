@@ -4,11 +4,11 @@ use Rattle.std.specs.Str.Lines.{lines}
 use Rattle.std.specs.Io.KnownBytes.{Appends}
 use Rattle.bq_trace.specs.Counts.{inner_of}
 use Rattle.bq_lines.specs.Kept.{StandsFor}
-use Rattle.bq_trace.specs.Trace.{Chain}
+use Rattle.bq_trace.specs.Trace.{AnswersAll}
 use Rattle.bq_trace.specs.Writing.{Adds, AppendsPart}
 use Rattle.bq_trace.specs.Feeding.{BreaksOff, Finishes}
 use Rattle.bq_trace.specs.Telling.{Story}
-use Rattle.bq_trace.specs.declared.standing.Standing.{Standing}
+use Rattle.bq_trace.specs.declared.trace_position.TracePosition.{TracePosition}
 use Rattle.bq_trace.proofs.StoryTexts.{gets_text, story_text}
 use Rattle.bq_trace.proofs.SessionLemmas.{on_err, feeds_none, finishes_part, finishes_all}
 use Rattle.bq_trace.proofs.session.Session.end.Goals as goal
@@ -31,11 +31,11 @@ returns-in_err-write_text-clause-part g c =
     let on = c.in_ok-end.ensures in
     let all : (begun : List ℕ) → StandsFor s.begun begun → BreaksOff s begun [] old new =
     λ begun h.
-    let told : Adds (string_bytes c.clear.new.self) answers (λ l. Chain s.progress (lines begun) l t.progress) = gets_text string_bytes c.clear.new.self c.end.new.sink (λ told. Story s.progress (lines begun) told t.progress) (λ l. Chain s.progress (lines begun) l t.progress) (story_text s.progress t.progress (lines begun)) (on begun h) in
-    let added : Adds [] answers (λ l. Chain s.progress (lines begun) l t.progress) = rw c.clear.ensures.bytes at told in
+    let told : Adds (string_bytes c.clear.new.self) answers (λ l. AnswersAll s.progress (lines begun) l t.progress) = gets_text string_bytes c.clear.new.self c.end.new.sink (λ told. Story s.progress (lines begun) told t.progress) (λ l. AnswersAll s.progress (lines begun) l t.progress) (story_text s.progress t.progress (lines begun)) (on begun h) in
+    let added : Adds [] answers (λ l. AnswersAll s.progress (lines begun) l t.progress) = rw c.clear.ensures.bytes at told in
     finishes_part s t begun answers old new added written
     in
-    on_err _ (subst (λ (s : Standing). (begun : List ℕ) → StandsFor s.begun begun → BreaksOff s begun [] old new) c.self.view_is all)
+    on_err _ (subst (λ (s : TracePosition). (begun : List ℕ) → StandsFor s.begun begun → BreaksOff s begun [] old new) c.self.view_is all)
 
 pub returns-clause-ok : goal.returns-clause-ok
 returns-clause-ok g c =
@@ -48,8 +48,8 @@ returns-clause-ok g c =
     let on = c.in_ok-end.ensures in
     let all : (begun : List ℕ) → StandsFor s.begun begun → Finishes s begun old new t.progress.clean =
     λ begun h.
-    let told : Adds (string_bytes c.clear.new.self) answers (λ l. Chain s.progress (lines begun) l t.progress) = gets_text string_bytes c.clear.new.self c.end.new.sink (λ told. Story s.progress (lines begun) told t.progress) (λ l. Chain s.progress (lines begun) l t.progress) (story_text s.progress t.progress (lines begun)) (on begun h) in
-    let added : Adds [] answers (λ l. Chain s.progress (lines begun) l t.progress) = rw c.clear.ensures.bytes at told in
+    let told : Adds (string_bytes c.clear.new.self) answers (λ l. AnswersAll s.progress (lines begun) l t.progress) = gets_text string_bytes c.clear.new.self c.end.new.sink (λ told. Story s.progress (lines begun) told t.progress) (λ l. AnswersAll s.progress (lines begun) l t.progress) (story_text s.progress t.progress (lines begun)) (on begun h) in
+    let added : Adds [] answers (λ l. AnswersAll s.progress (lines begun) l t.progress) = rw c.clear.ensures.bytes at told in
     finishes_all s t begun answers old new added written
     in
-    subst (λ (s : Standing). (begun : List ℕ) → StandsFor s.begun begun → Finishes s begun old new t.progress.clean) c.self.view_is all
+    subst (λ (s : TracePosition). (begun : List ℕ) → StandsFor s.begun begun → Finishes s begun old new t.progress.clean) c.self.view_is all

@@ -6,7 +6,7 @@ use Rattle.bq_lines.specs.Kept.{StandsFor}
 use Rattle.bq_trace.specs.Writing.{Adds, AppendsPart}
 use Rattle.bq_trace.specs.Feeding.{Continues, Feeds, BreaksOff}
 use Rattle.bq_trace.specs.Telling.{GoesOn}
-use Rattle.bq_trace.specs.declared.standing.Standing.{Standing}
+use Rattle.bq_trace.specs.declared.trace_position.TracePosition.{TracePosition}
 use Rattle.bq_trace.proofs.StoryTexts.{gets_text, goes_on_text}
 use Rattle.bq_trace.proofs.SessionLemmas.{on_err, feeds_none, feeds_part, feeds_all}
 use Rattle.bq_trace.proofs.session.Session.go_on.Goals as goal
@@ -34,7 +34,7 @@ returns-in_err-write_text-clause-part g c =
     let added : Adds [] answers (λ l. Continues s begun piece l t) = rw c.clear.ensures.bytes at told in
     feeds_part s t begun piece answers old new added written
     in
-    on_err _ (subst (λ (s : Standing). (begun : List ℕ) → StandsFor s.begun begun → BreaksOff s begun piece old new) c.self.view_is all)
+    on_err _ (subst (λ (s : TracePosition). (begun : List ℕ) → StandsFor s.begun begun → BreaksOff s begun piece old new) c.self.view_is all)
 
 pub returns-clause-ok : goal.returns-clause-ok
 returns-clause-ok g c =
@@ -52,4 +52,4 @@ returns-clause-ok g c =
     let added : Adds [] answers (λ l. Continues s begun piece l t) = rw c.clear.ensures.bytes at told in
     feeds_all s t begun piece answers old new added written
     in
-    subst (λ (s : Standing). (begun : List ℕ) → StandsFor s.begun begun → Feeds s begun piece t old new) c.self.view_is all
+    subst (λ (s : TracePosition). (begun : List ℕ) → StandsFor s.begun begun → Feeds s begun piece t old new) c.self.view_is all

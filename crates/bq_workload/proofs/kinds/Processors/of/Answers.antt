@@ -1,12 +1,12 @@
 use Rattle.std.proofs.Common.{◌≡◌, ℕ, ◌+◌, ◌-◌, ◌^◌, ◌∙◌, ap, refl}
 use Rattle.bq_sizes.specs.Sizes.{processors_in}
-use Rattle.bq_sizes.specs.declared.size.Size.{Size}
-use Rattle.bq_sizes.specs.declared.size.Size.TheVariants.{One, Two, Four, Eight, Sixteen, ThirtyTwo, SixtyFour}
+use Rattle.bq_sizes.specs.declared.processor_count.ProcessorCount.{ProcessorCount}
+use Rattle.bq_sizes.specs.declared.processor_count.ProcessorCount.TheVariants.{One, Two, Four, Eight, Sixteen, ThirtyTwo, SixtyFour}
 use Rattle.bq_workload.specs.Workloads.{all_of}
 use Rattle.bq_workload.proofs.kinds.Processors.of.Goals as goal
 
 -- from the first processor to the last
-all : (size : Size) → 2 ^ (processors_in size - 1 + 1) - 2 ^ 0 ≡ all_of size
+all : (size : ProcessorCount) → 2 ^ (processors_in size - 1 + 1) - 2 ^ 0 ≡ all_of size
 all One = refl
 all Two = refl
 all Four = refl

@@ -1,0 +1,128 @@
+-- Accesses by pointers that are known.
+use Rattle.std.proofs.Common.{◌≡◌, ℕ, zero, suc, ◌+◌, ◌*◌, ◌%◌, ◌^◌, ◌<◌, ◌≤◌, true, false, List, [], ◌∷◌, Option, Some, None, length, get_or, refl, arith, sym, ap, subst, ◌∙◌, ℤ, set, pos}
+use Rattle.std.specs.Prelude.{slice_get, slice_index, slice_index_or}
+use Rattle.std.proofs.lemmas.Option.{slice_get-get_or}
+use Rattle.std.proofs.Math.Nat.{mul-le-mul_left, mul-le-mul, pow-suc}
+use Rattle.std.specs.Int.{bytes_low_first}
+use Rattle.bq_alu.specs.Meaning.{word_of}
+use Rattle.bq_bpf.specs.declared.shape.MapShape.{MapShape}
+use Rattle.bq_bpf.specs.Memory.{Setting, State, Region, InContext, InEntry, Spans, IsEntry, IsGood, Reads, byte_at, number_of, HaveShapes}
+use Rattle.bq_bpf.specs.Steps.{address_of}
+use Rattle.bq_ranges.specs.Within.{Within}
+use Rattle.bq_ranges.specs.declared.range.Range.{Range}
+use Rattle.bq_states.specs.declared.abstract_state.AbstractState.{AbstractState}
+use Rattle.bq_states.specs.declared.abstract_state.AbstractValue.{AbstractValue}
+use Rattle.bq_states.specs.declared.abstract_state.Kind.{Kind}
+use Rattle.bq_states.specs.declared.abstract_state.Kind.TheVariants.{Number, Context, Stack, Entry, EntryOrNull, Map}
+use Rattle.bq_states.specs.AbstractStates.{Contains, Suits, IsEntryBase, IsOfKind, Bounds, FindsBytes}
+use Rattle.bq_states.proofs.MergeLemmas.{some_same}
+use Rattle.bq_states.proofs.LearnLemmas.{found_at}
+
+-- bytes that are set make a list, and a number
+pub read_bytes : (at : ℕ → Option ℕ) (n : ℕ) → ((i : ℕ) → i < n → (b : ℕ) × (at i ≡ Some b) × (b < 256)) → (bytes : List ℕ) × (length bytes ≡ n) × ((i : ℕ) → i < n → at i ≡ Some (slice_index bytes i)) × (number_of bytes < 256 ^ n) × ((i : ℕ) → slice_index bytes i < 256)
+read_bytes at zero each = ([], refl, λ i h. absurd (omega arith), omega arith, λ i. omega arith)
+read_bytes at (suc n) each =
+    let first = each 0 (omega arith) in
+    let rest = read_bytes (λ i. at (suc i)) n (λ i h. each (suc i) (omega arith)) in
+    (first.0 ∷ rest.0, ap suc rest.1, byte_in at first.0 rest.0 n first.1 rest.2, whole first.0 (number_of rest.0) n first.2 rest.3, λ i. small_in first.0 rest.0 first.2 rest.4 i)
+  where
+    whole : (b m k : ℕ) → b < 256 → m < 256 ^ k → b + 256 * m < 256 ^ suc k
+    whole b m k p q = rw pow-suc (omega arith)
+
+    small_in : (b : ℕ) (bs : List ℕ) → b < 256 → ((i : ℕ) → slice_index bs i < 256) → (i : ℕ) → slice_index (b ∷ bs) i < 256
+    small_in b bs p q zero = p
+    small_in b bs p q (suc i) = q i
+
+    byte_in : (at : ℕ → Option ℕ) (b : ℕ) (bs : List ℕ) (n : ℕ) → at 0 ≡ Some b → ((i : ℕ) → i < n → at (suc i) ≡ Some (slice_index bs i)) → (i : ℕ) → i < suc n → at i ≡ Some (slice_index (b ∷ bs) i)
+    byte_in at b bs n p q zero h = p
+    byte_in at b bs n p q (suc i) h = q i (omega arith)
+
+-- an access inside the bound is good
+pub good_at : (f : Setting) (region : Region) (base size word offset count at : ℕ) (off : ℤ) → Spans f region base size → base < 2 ^ 63 → word ≡ (base + offset) % 2 ^ 64 → at ≡ (offset + word_of off) % 2 ^ 64 → size ≤ 65536 → at + count ≤ size → IsGood f (address_of word off) count region at
+good_at f region base size word offset count at off spans low word_is at_is small inside =
+    record { base = base; size = size; spans = spans; address_is = omega (arith, word_is, at_is); inside = inside }
+
+-- the bytes of the context
+pub context_byte : (shapes : List MapShape) (context_length : ℕ) (f : Setting) (s : State) (i : ℕ) → Suits shapes context_length f → i < length f.context → (b : ℕ) × (byte_at f s InContext i ≡ Some b) × (b < 256)
+context_byte shapes context_length f s i suits lt =
+    let e = slice_get-get_or f.context i 0 lt in (get_or f.context i 0, e, suits.context_bytes i _ e)
+
+pub entry_byte : (shapes : List MapShape) (s : State) (f : Setting) (m first i : ℕ) → HaveShapes shapes s.maps → first + i < length (slice_index_or s.maps m []) → (b : ℕ) × (byte_at f s (InEntry m first) i ≡ Some b) × (b < 256)
+entry_byte shapes s f m first i have lt =
+    let e = slice_get-get_or (slice_index_or s.maps m []) (first + i) 0 lt in (get_or (slice_index_or s.maps m []) (first + i) 0, e, have.bytes m (first + i) _ e)
+
+-- an entry lies inside its map
+pub entry_inside : (shapes : List MapShape) (maps : List (List ℕ)) (m first size : ℕ) → HaveShapes shapes maps → IsEntry shapes m first size → first + size ≤ length (slice_index_or maps m [])
+entry_inside shapes maps m first size have entry =
+    let more = mul-le-mul_left entry.shape.value_size (let p : entry.number + 1 ≤ entry.shape.entries = omega (arith, entry.there) in p) in
+    omega (arith, entry.first_is, entry.size_is, have.sizes m entry.shape entry.known, more)
+
+pub entry_low : (shapes : List MapShape) (m first size : ℕ) → IsEntry shapes m first size → first ≤ 65536
+entry_low shapes m first size entry =
+    let number : entry.number ≤ 256 = omega (arith, entry.there, entry.shape.greatest_entries) in
+    let product : entry.number * entry.shape.value_size ≤ 256 * 256 = mul-le-mul number entry.shape.greatest_size in
+    omega (arith, entry.first_is, product)
+
+-- a pointer to an entry of a map may reach over one value
+pub entry_bounds : (shapes : List MapShape) (context_length m size : ℕ) (shape : MapShape) (kind : Kind) → kind ≡ Entry m → Some shape ≡ slice_get shapes m → size ≡ shape.value_size → m < 256 → Bounds shapes context_length kind size
+entry_bounds shapes context_length m size shape kind kind_is known size_is low f base suits is =
+    let entry : IsEntryBase f.shapes m base = rw kind_is at is in
+    let e = entry.entry in
+    let same : e.shape ≡ shape = some_same _ _ _ (rw suits.shapes_are at e.known) (sym known) in
+    let below = entry_low f.shapes m entry.first entry.size e in (
+      InEntry m entry.first,
+      (entry.base_is, record { shape = e.shape; known = e.known; number = e.number; there = e.there; first_is = e.first_is; size_is = size_is ∙ ap (λ (x : MapShape). x.value_size) (sym same) }),
+      rw kind_is (entry.first, refl),
+      omega (arith, entry.base_is, below),
+    )
+
+-- the bytes that a pointer of the kind points to are set
+pub region_byte : (shapes : List MapShape) (context_length : ℕ) (f : Setting) (v : AbstractState) (s : State) (kind : Kind) (region : Region) (base size i : ℕ) → Suits shapes context_length f → Contains f v s → IsOfKind kind region → Spans f region base size → i < size → (kind ≡ Stack → slice_index_or v.set i false ≡ true) → (b : ℕ) × (byte_at f s region i ≡ Some b) × (b < 256)
+region_byte shapes context_length f v s Number region base size i suits covers is spans lt set = absurd is
+region_byte shapes context_length f v s Context region base size i suits covers is spans lt set =
+    let spans' : Spans f InContext base size = rw is at spans in
+    rw is (context_byte shapes context_length f s i suits (omega (arith, spans'.1)))
+region_byte shapes context_length f v s Stack region base size i suits covers is spans lt set = rw is (covers.set i (set refl))
+region_byte shapes context_length f v s (Entry m) region base size i suits covers is spans lt set =
+    let spans' : Spans f (InEntry m is.0) base size = rw is.1 at spans in
+    let inside = entry_inside f.shapes s.maps m is.0 size covers.maps spans'.1 in
+    rw is.1 (entry_byte f.shapes s f m is.0 i covers.maps (omega (arith, inside)))
+region_byte shapes context_length f v s (EntryOrNull m) region base size i suits covers is spans lt set = absurd is
+region_byte shapes context_length f v s (Map m) region base size i suits covers is spans lt set = absurd is
+
+-- a read by a pointer that stays inside its region
+pub reads_gives : (shapes : List MapShape) (context_length : ℕ) (view : AbstractState) (count : ℕ) (src : ℕ) (off : ℤ) (base : AbstractValue) (bound : ℕ) (at : Range) → Some base ≡ slice_index_or view.registers src None → Bounds shapes context_length base.kind bound → bound ≤ 65536 → ((u : ℕ) → Within base.offset u → Within at ((u + word_of off) % 2 ^ 64)) → at.hi + count ≤ bound → (base.kind ≡ Stack → (o i : ℕ) → Within at o → i < count → slice_index_or view.set (o + i) false ≡ true) → (f : Setting) (s : State) → Suits shapes context_length f → Contains f view s → (word : ℕ) × (bytes : List ℕ) × (s.register src ≡ Some word) × (length bytes ≡ count) × Reads f s (address_of word off) bytes × (number_of bytes < 256 ^ count) × (word < 2 ^ 64) × ((i : ℕ) → slice_index bytes i < 256)
+reads_gives shapes context_length view count src off base bound at known bounds small moved inside set f s suits covers =
+    let found = found_at f view s src base known covers in
+    let d = found.2 in
+    let region = bounds f d.base suits d.is_base in
+    let o : ℕ = (d.offset + word_of off) % 2 ^ 64 in
+    let within = moved d.offset d.within in
+    let stays : o + count ≤ bound = omega (arith, within, inside) in
+    let good = good_at f region.0 d.base bound found.0 d.offset (count) o off region.1 region.3 d.word_is refl small stays in
+    let bytes = read_bytes (λ i. byte_at f s region.0 (o + i)) (count)
+    (λ i h. region_byte shapes context_length f view s base.kind region.0 d.base bound (o + i) suits covers region.2 region.1 (omega arith) (λ stack. set stack o i within h)) in (
+      found.0,
+      bytes.0,
+      found.1,
+      bytes.1,
+      record { region = region.0; offset = o; good = rw bytes.1 good; set = λ i h. bytes.2 i (rw bytes.1 at h) },
+      bytes.3,
+      omega (arith, d.word_is),
+      bytes.4,
+    )
+
+-- the number of its own eight bytes
+pub number_of_word : (n : ℕ) → n < 2 ^ 64 → number_of (bytes_low_first 0 8 n) ≡ n
+number_of_word n small = omega arith
+
+word_at : (f : Setting) (s : State) (word : ℕ) (bytes : List ℕ) → word < 2 ^ 64 → Reads f s (address_of word (pos 0)) bytes → Reads f s word bytes
+word_at f s word bytes small reads = let same : (word + word_of (pos 0)) % 2 ^ 64 ≡ word = omega arith in subst (λ (a : ℕ). Reads f s a bytes) same reads
+
+-- a pointer that stays inside its region finds bytes
+pub finds_bytes : (shapes : List MapShape) (context_length : ℕ) (view : AbstractState) (count : ℕ) (src : ℕ) (base : AbstractValue) (bound : ℕ) → Some base ≡ slice_index_or view.registers src None → Bounds shapes context_length base.kind bound → bound ≤ 65536 → base.offset.hi + count ≤ bound → (base.kind ≡ Stack → (o i : ℕ) → Within base.offset o → i < count → slice_index_or view.set (o + i) false ≡ true) → FindsBytes shapes context_length view src count
+finds_bytes shapes context_length view count src base bound known bounds small inside set f s suits covers =
+    let fits = base.offset.fits in
+    let read = reads_gives shapes context_length view count src (pos 0) base bound base.offset known bounds small
+    (λ u w. let same : (u + word_of (pos 0)) % 2 ^ 64 ≡ u = omega (arith, w) in rw same w) inside set f s suits covers in
+    (read.0, read.1, read.2, read.3, word_at f s read.0 read.1 read.6 read.4, read.7)

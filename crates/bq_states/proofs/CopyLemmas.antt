@@ -1,0 +1,192 @@
+-- Places that hold one word stay so until they are written.
+use Rattle.std.proofs.Common.{ap, ◌≡◌, ◌≢◌, ℕ, suc, ◌+◌, ◌*◌, ◌^◌, ◌<◌, ◌≤◌, Bool, true, false, List, Option, Some, None, length, get_or, set, refl, sym, subst, arith, ◌∙◌, get_or-set_same, get_or-set_other, length-set, eqb, ◌⊎◌, inl, inr, cond}
+use Rattle.std.specs.Prelude.{slice_index, slice_set}
+use Rattle.std.specs.Int.{byte_at as byte_of, bytes_low_first}
+use Rattle.std.proofs.lemmas.Bool.{cases_lt}
+use Rattle.std.proofs.lemmas.Bool.Decides.{eqb_tells, leb_tells}
+use Rattle.std.proofs.lemmas.List.{get_or_past}
+use Rattle.bq_bpf.specs.Memory.{State, InStack, number_of, written}
+use Rattle.bq_bpf.specs.Steps.{called, next, put}
+use Rattle.bq_states.specs.Copies.{AreCopies, HasWord, KeepsClasses, PartsFirst, PartsSlots}
+use Rattle.bq_states.proofs.StoreLemmas.{apart_byte}
+
+-- places that keep their class and their word are copies as before
+pub copies_moved : (old new : List ℕ) (s t : State) → ((p : ℕ) → slice_index new p ≢ 0 → (slice_index new p ≡ slice_index old p) × ((n : ℕ) → HasWord s p n → HasWord t p n)) → AreCopies old s → AreCopies new t
+copies_moved old new s t keeps copies = (
+  copies.0,
+  λ p some.
+      let kept = keeps p some in
+      let was : slice_index old p ≢ 0 = λ e. some (kept.0 ∙ e) in
+      kept.1 (copies.0 (slice_index new p)) (subst (λ (k : ℕ). HasWord s p (copies.0 k)) (sym kept.0) (copies.1 p was)),
+)
+
+-- fewer copies
+pub copies_kept : (old new : List ℕ) (s : State) → KeepsClasses old new → AreCopies old s → AreCopies new s
+copies_kept old new s keeps copies = copies_moved old new s s (λ p some. (keeps p some, λ n h. h)) copies
+
+zero_at : (xs : List ℕ) (d : ℕ) → (d < length xs) ⊎ (length xs ≤ d) → get_or (set xs d 0) d 0 ≡ 0
+zero_at xs d (inl lt) = get_or-set_same xs d 0 0 lt
+zero_at xs d (inr past) = get_or_past (set xs d 0) d 0 (rw length-set past)
+
+parted_by : (xs : List ℕ) (d p : ℕ) (b : Bool) → ((b ≡ true) × (p ≡ d)) ⊎ ((b ≡ false) × (p ≢ d)) → get_or (set xs d 0) p 0 ≢ 0 → (p ≢ d) × (get_or (set xs d 0) p 0 ≡ get_or xs p 0)
+parted_by xs d p b (inl (_, same)) some = absurd (some (subst (λ (k : ℕ). get_or (set xs d 0) k 0 ≡ 0) (sym same) (zero_at xs d (cases_lt d (length xs)))))
+parted_by xs d p b (inr (_, other)) some = (other, get_or-set_other xs d p 0 0 other)
+
+-- a place that is written is of no class
+pub parted : (xs : List ℕ) (d p : ℕ) → slice_index (slice_set xs d 0) p ≢ 0 → (p ≢ d) × (slice_index (slice_set xs d 0) p ≡ slice_index xs p)
+parted xs d p some = parted_by xs d p _ (eqb_tells p d) some
+
+-- another register
+pub register_put : (register : ℕ → Option ℕ) (p d v : ℕ) (b : Bool) → ((b ≡ true) × (p ≡ d)) ⊎ ((b ≡ false) × (p ≢ d)) → p ≢ d → cond b (Some v) (register p) ≡ register p
+register_put register p d v b (inl (_, same)) other = absurd (other same)
+register_put register p d v b (inr (e, _)) other = rw e refl
+
+-- a register is written
+pub copies_put : (classes : List ℕ) (s : State) (slots d v : ℕ) → AreCopies classes s → AreCopies (slice_set classes d 0) (put s slots d v)
+copies_put classes s slots d v copies =
+    copies_moved classes (slice_set classes d 0) s (put s slots d v)
+    (λ p some. let kept = parted classes d p some in (kept.1, λ n h. (λ lt. register_put s.register p d v _ (eqb_tells p d) kept.0 ∙ h.0 lt, h.1)))
+    copies
+
+-- a register of which more is known is counted as written
+pub copies_learnt : (classes : List ℕ) (s : State) (d : ℕ) → AreCopies classes s → AreCopies (slice_set classes d 0) s
+copies_learnt classes s d copies = copies_kept classes (slice_set classes d 0) s (λ p some. (parted classes d p some).1) copies
+
+register_called : (register : ℕ → Option ℕ) (p answer : ℕ) (b c : Bool) → ((b ≡ true) × (p ≡ 0)) ⊎ ((b ≡ false) × (p ≢ 0)) → ((c ≡ true) × (suc p ≤ 6)) ⊎ ((c ≡ false) × (6 < suc p)) → 6 ≤ p → cond b (Some answer) (cond c None (register p)) ≡ register p
+register_called register p answer b c (inl (_, same)) q above = absurd (omega arith)
+register_called register p answer b c (inr (e, _)) (inl (_, low)) above = absurd (omega arith)
+register_called register p answer b c (inr (e, _)) (inr (e', _)) above = rw (e, e') refl
+
+-- after a call
+pub copies_called : (old parts : List ℕ) (s : State) (answer : ℕ) → PartsFirst old parts → AreCopies old s → AreCopies (slice_set parts 0 0) (called s answer)
+copies_called old parts s answer first copies =
+    copies_moved old (slice_set parts 0 0) s (called s answer)
+    (λ p some.
+    let kept = parted parts 0 p some in
+    let before = first p (λ e. some (kept.1 ∙ e)) in
+    (kept.1 ∙ before.1, λ n h. (λ lt. register_called s.register p answer _ _ (eqb_tells p 0) (leb_tells (suc p) 6) before.0 ∙ h.0 lt, h.1)))
+    copies
+
+-- after a write of bytes on the stack
+pub copies_written : (old new : List ℕ) (s : State) (at : ℕ) (bytes : List ℕ) → PartsSlots old new at (at + length bytes) → AreCopies old s → AreCopies new (next (written s InStack at bytes))
+copies_written old new s at bytes parts copies =
+    copies_moved old new s (next (written s InStack at bytes))
+    (λ p some.
+    let kept = parts p some in
+    (kept.0, λ n h. (h.0, λ j is. let word = h.1 j is in (word.0, λ i lt. apart_byte s.stack at bytes j i (kept.1 j is) lt ∙ word.1 i lt))))
+    copies
+
+-- slots apart from more bytes are apart from fewer
+pub parts_less : (old new : List ℕ) (from to o e : ℕ) → from ≤ o → e ≤ to → PartsSlots old new from to → PartsSlots old new o e
+parts_less old new from to o e low high parts p some = let kept = parts p some in (kept.0, λ j is. less j (kept.1 j is))
+  where
+    less : (j : ℕ) → (8 * j + 8 ≤ from) ⊎ (to ≤ 8 * j) → (8 * j + 8 ≤ o) ⊎ (e ≤ 8 * j)
+    less j (inl below) = inl (omega arith)
+    less j (inr above) = inr (omega arith)
+
+-- the words of classes, with that one for a class
+abbrev with_word : (ℕ → ℕ) → ℕ → ℕ → ℕ → ℕ
+with_word word own n k = cond (eqb k own) n (word k)
+
+own_by : (word : ℕ → ℕ) (own n k : ℕ) (b : Bool) → ((b ≡ true) × (k ≡ own)) ⊎ ((b ≡ false) × (k ≢ own)) → k ≡ own → n ≡ cond b n (word k)
+own_by word own n k b (inl (e, _)) same = rw e refl
+own_by word own n k b (inr (_, other)) same = absurd (other same)
+
+other_by : (word : ℕ → ℕ) (own n k : ℕ) (b : Bool) → ((b ≡ true) × (k ≡ own)) ⊎ ((b ≡ false) × (k ≢ own)) → k ≢ own → word k ≡ cond b n (word k)
+other_by word own n k b (inl (_, same)) other = absurd (other same)
+other_by word own n k b (inr (e, _)) other = rw e refl
+
+-- a place of no class gets one that no place has
+pub class_given : (old retired : List ℕ) (place own n : ℕ) (s : State) → place < length retired → KeepsClasses old retired → ((p : ℕ) → slice_index retired p ≢ own) → AreCopies old s → HasWord s place n → (word : ℕ → ℕ) × HasWord s place (word own) × ((p : ℕ) → slice_index (slice_set retired place own) p ≢ 0 → HasWord s p (word (slice_index (slice_set retired place own) p)))
+class_given old retired place own n s there keeps gone copies has = (
+  with_word copies.0 own n,
+  subst (λ (k : ℕ). HasWord s place k) (own_by copies.0 own n own _ (eqb_tells own own) refl) has,
+  λ p some. at p _ (eqb_tells p place) some,
+)
+  where
+    at : (p : ℕ) (b : Bool) → ((b ≡ true) × (p ≡ place)) ⊎ ((b ≡ false) × (p ≢ place)) → get_or (set retired place own) p 0 ≢ 0 → HasWord s p (with_word copies.0 own n (get_or (set retired place own) p 0))
+    at p b (inl (_, same)) some =
+        let is : get_or (set retired place own) p 0 ≡ own = rw (same, get_or-set_same retired place own 0 there) refl in
+        let word = own_by copies.0 own n (get_or (set retired place own) p 0) _ (eqb_tells (get_or (set retired place own) p 0) own) is in
+        subst (λ (k : ℕ). HasWord s p k) word (subst (λ (q : ℕ). HasWord s q n) (sym same) has)
+    at p b (inr (_, other)) some =
+        let is : get_or (set retired place own) p 0 ≡ get_or retired p 0 = get_or-set_other retired place p own 0 other in
+        let kept : get_or retired p 0 ≡ get_or old p 0 = keeps p (λ e. some (is ∙ e)) in
+        let apart : get_or (set retired place own) p 0 ≢ own = λ e. gone p (sym is ∙ e) in
+        let word = other_by copies.0 own n (get_or (set retired place own) p 0) _ (eqb_tells (get_or (set retired place own) p 0) own) apart in
+        let before = copies.1 p (λ e. some (is ∙ kept ∙ e)) in
+        subst (λ (k : ℕ). HasWord s p k) word (subst (λ (k : ℕ). HasWord s p (copies.0 k)) (sym (is ∙ kept)) before)
+
+-- a place of the class of another, whose word it holds
+pub linked : (classes : List ℕ) (to from class : ℕ) (s : State) (word : ℕ → ℕ) → to < length classes → HasWord s from (word class) → ((p : ℕ) → slice_index classes p ≢ 0 → HasWord s p (word (slice_index classes p))) → ((m : ℕ) → HasWord s from m → HasWord s to m) → AreCopies (slice_set classes to class) s
+linked classes to from class s word there has all copy = (word, λ p some. at p _ (eqb_tells p to) some)
+  where
+    at : (p : ℕ) (b : Bool) → ((b ≡ true) × (p ≡ to)) ⊎ ((b ≡ false) × (p ≢ to)) → get_or (set classes to class) p 0 ≢ 0 → HasWord s p (word (get_or (set classes to class) p 0))
+    at p b (inl (_, same)) some =
+        let is : get_or (set classes to class) p 0 ≡ class = rw (same, get_or-set_same classes to class 0 there) refl in
+        subst (λ (k : ℕ). HasWord s p (word k)) (sym is) (subst (λ (q : ℕ). HasWord s q (word class)) (sym same) (copy (word class) has))
+    at p b (inr (_, other)) some =
+        let is : get_or (set classes to class) p 0 ≡ get_or classes p 0 = get_or-set_other classes to p class 0 other in
+        subst (λ (k : ℕ). HasWord s p (word k)) (sym is) (all p (λ e. some (is ∙ e)))
+
+put_by : (register : ℕ → Option ℕ) (d v : ℕ) (b : Bool) → ((b ≡ true) × (d ≡ d)) ⊎ ((b ≡ false) × (d ≢ d)) → cond b (Some v) (register d) ≡ Some v
+put_by register d v b (inl (e, _)) = rw e refl
+put_by register d v b (inr (_, other)) = absurd (other refl)
+
+-- the register that is written
+pub put_here : (s : State) (slots d v : ℕ) → (put s slots d v).register d ≡ Some v
+put_here s slots d v = put_by s.register d v _ (eqb_tells d d)
+
+-- another one
+pub put_there : (s : State) (slots d v r n : ℕ) → r ≢ d → s.register r ≡ Some n → (put s slots d v).register r ≡ Some n
+put_there s slots d v r n other is = register_put s.register r d v _ (eqb_tells r d) other ∙ is
+
+same_by : (register : ℕ → Option ℕ) (p d n : ℕ) (b : Bool) → ((b ≡ true) × (p ≡ d)) ⊎ ((b ≡ false) × (p ≢ d)) → register d ≡ Some n → cond b (Some n) (register p) ≡ register p
+same_by register p d n b (inl (e, same)) is = rw (e, same) (sym is)
+same_by register p d n b (inr (e, _)) is = rw e refl
+
+-- a register that is written with what it holds
+pub put_same : (s : State) (slots d n : ℕ) → s.register d ≡ Some n → (p : ℕ) → (put s slots d n).register p ≡ s.register p
+put_same s slots d n is p = same_by s.register p d n _ (eqb_tells p d) is
+
+-- its copies stay its copies
+pub copies_same : (classes : List ℕ) (s : State) (slots d n : ℕ) → s.register d ≡ Some n → AreCopies classes s → AreCopies classes (put s slots d n)
+copies_same classes s slots d n is copies = copies_moved classes classes s (put s slots d n) (λ p some. (refl, λ m h. (λ lt. put_same s slots d n is p ∙ h.0 lt, h.1))) copies
+
+some_is : (a b : ℕ) → Some a ≡ Some b → a ≡ b
+some_is a b e = cc
+
+-- registers with one word
+pub register_word : (s : State) (r n : ℕ) → r < 11 → s.register r ≡ Some n → HasWord s r n
+register_word s r n low is = (λ lt. is, λ j e. absurd (let no : ⊥ = omega (arith, e, low) in no))
+
+pub register_copy : (s : State) (to from n m : ℕ) → to < 11 → from < 11 → s.register from ≡ Some n → s.register to ≡ Some n → HasWord s from m → HasWord s to m
+register_copy s to from n m low low' is to_is has =
+    let same : n ≡ m = some_is n m (sym is ∙ has.0 low') in
+    register_word s to m low (to_is ∙ ap (λ (k : ℕ). Some k) same)
+
+same_bytes : (n m : ℕ) → ((i : ℕ) → i < 8 → byte_of i n ≡ byte_of i m) → bytes_low_first 0 8 n ≡ bytes_low_first 0 8 m
+same_bytes n m each = rw (each 0 (omega arith), each 1 (omega arith), each 2 (omega arith), each 3 (omega arith), each 4 (omega arith), each 5 (omega arith), each 6 (omega arith), each 7 (omega arith)) refl
+
+number_of_bytes : (n : ℕ) → n < 2 ^ 64 → number_of (bytes_low_first 0 8 n) ≡ n
+number_of_bytes n small = omega arith
+
+-- a slot of the stack holds one word
+pub one_word : (s : State) (slot n m : ℕ) → HasWord s (11 + slot) n → HasWord s (11 + slot) m → n ≡ m
+one_word s slot n m first second =
+    let a = first.1 slot refl in
+    let b = second.1 slot refl in
+    let same : bytes_low_first 0 8 n ≡ bytes_low_first 0 8 m = same_bytes n m (λ i lt. some_is (byte_of i n) (byte_of i m) (sym (a.1 i lt) ∙ b.1 i lt)) in
+    sym (number_of_bytes n a.0) ∙ ap number_of same ∙ number_of_bytes m b.0
+
+-- a slot that holds the word of a register
+pub slot_copy : (s : State) (slot from n m : ℕ) → from < 11 → s.register from ≡ Some n → HasWord s (11 + slot) n → HasWord s from m → HasWord s (11 + slot) m
+slot_copy s slot from n m low is there has =
+    let same : n ≡ m = some_is n m (sym is ∙ has.0 low) in
+    subst (λ (k : ℕ). HasWord s (11 + slot) k) same there
+
+-- a register that holds the word of a slot
+pub loaded_copy : (s : State) (to slot n m : ℕ) → to < 11 → s.register to ≡ Some n → HasWord s (11 + slot) n → HasWord s (11 + slot) m → HasWord s to m
+loaded_copy s to slot n m low is there has =
+    let same : n ≡ m = one_word s slot n m there has in
+    register_word s to m low (is ∙ ap (λ (k : ℕ). Some k) same)

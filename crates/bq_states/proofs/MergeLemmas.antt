@@ -1,0 +1,80 @@
+-- AbstractStates that allow more.
+use Rattle.std.proofs.Common.{◌≡◌, ◌≢◌, ℕ, ◌<◌, Bool, true, false, List, Option, Some, None, length, get_or, set, ◌+◌, ◌≤◌, sym, subst, arith, ◌∙◌, get_or-set_same, get_or-set_other, ◌⊎◌, inl, inr}
+use Rattle.std.specs.Prelude.{slice_index_or}
+use Rattle.std.proofs.lemmas.Bool.Decides.{eqb_tells}
+use Rattle.bq_bpf.specs.declared.shape.MapShape.{MapShape}
+use Rattle.bq_bpf.specs.Memory.{Setting, State}
+use Rattle.bq_states.specs.declared.abstract_state.AbstractValue.{AbstractValue}
+use Rattle.bq_states.specs.declared.abstract_state.AbstractState.{AbstractState}
+use Rattle.std.proofs.lemmas.Bool.{cases_lt}
+use Rattle.std.proofs.lemmas.List.{get_or_read}
+use Rattle.bq_states.specs.Standing.{Standing, NoPointer, Stands, Fact, Never, AtRegister, IsSetAt, IsPlainAt, Has}
+use Rattle.bq_states.specs.Copies.{KeepsClasses}
+use Rattle.bq_states.specs.Parts.{AllowsPart}
+use Rattle.bq_states.proofs.CopyLemmas.{copies_kept}
+use Rattle.bq_states.specs.AbstractStates.{Holds, Keeps, Contains, Allows}
+
+pub Allows-same : (k : Option AbstractValue) → Allows k k
+Allows-same None = tt
+Allows-same (Some k) = λ shapes word d. d
+
+pub Holds-more : (shapes : List MapShape) (a b : Option AbstractValue) (v : Option ℕ) → Allows a b → Holds shapes a v → Holds shapes b v
+Holds-more shapes a None v more h = tt
+Holds-more shapes None (Some b) v more h = absurd more
+Holds-more shapes (Some a) (Some b) v more h = (h.0, h.1, more shapes h.0 h.2)
+
+pub Keeps-more : (shapes : List MapShape) (a b : Option AbstractValue) (stack : ℕ → Option ℕ) (j : ℕ) → Allows a b → Keeps shapes a stack j → Keeps shapes b stack j
+Keeps-more shapes a None stack j more h = tt
+Keeps-more shapes None (Some b) stack j more h = absurd more
+Keeps-more shapes (Some a) (Some b) stack j more h = (h.0, more shapes h.0 h.1, h.2)
+
+-- a view that allows more covers no less
+pub Contains-more : (f : Setting) (s : State) (v w : AbstractState) → ((k : ℕ) → Allows (slice_index_or v.registers k None) (slice_index_or w.registers k None)) → ((k : ℕ) → slice_index_or w.set k false ≡ true → slice_index_or v.set k false ≡ true) → ((k : ℕ) → Allows (slice_index_or v.kept k None) (slice_index_or w.kept k None)) → ((k : ℕ) → AllowsPart (slice_index_or v.parts k None) (slice_index_or w.parts k None)) → KeepsClasses v.classes w.classes → Contains f v s → Contains f w s
+Contains-more f s v w registers set kept parts classes covers = record {
+  registers = λ r. Holds-more f.shapes _ _ (s.register r) (registers r) (covers.registers r);
+  set = λ i h. covers.set i (set i h);
+  kept = λ j. Keeps-more f.shapes _ _ s.stack j (kept j) (covers.kept j);
+  parts = λ k. (parts k).has s.stack (covers.parts k);
+  maps = covers.maps;
+  copies = copies_kept v.classes w.classes s classes covers.copies;
+}
+
+-- after a write at one place
+pub Allows-set : (xs : List (Option AbstractValue)) (i k : ℕ) (x from : Option AbstractValue) → i < length xs → Allows from x → k ≡ i → Allows from (get_or (set xs i x) k None)
+Allows-set xs i k x from lt h e = rw (e, get_or-set_same xs i x None lt) h
+
+-- one option holds one value
+pub some_same : {A : Type 0} (o : Option A) (a b : A) → o ≡ Some a → o ≡ Some b → a ≡ b
+some_same o a b p q = cc
+
+pub some_none : {A : Type 0} (o : Option A) (a : A) → o ≡ Some a → o ≡ None → ⊥
+some_none o a p q = cc
+
+stands_by : (s : Standing) (old now other : List (Option AbstractValue)) (i : ℕ) (x a b : Option AbstractValue) → i < length now → i < length other → a ≡ get_or now i a → b ≡ get_or other i b → get_or now i None ≡ get_or old i None → (Stands s a → Stands s b → Stands s x) → ((k : ℕ) → k < i → Stands s (get_or old k None) → Stands s (get_or other k None) → Stands s (get_or now k None)) → (k : ℕ) (t : Bool) → k < i + 1 → ((t ≡ true) × (k ≡ i)) ⊎ ((t ≡ false) × (k ≢ i)) → Stands s (get_or old k None) → Stands s (get_or other k None) → Stands s (get_or (set now i x) k None)
+stands_by s old now other i x a b lt lt' is_a is_b same both before k t le (inr (_, other_k)) p q =
+    subst (λ (v : Option AbstractValue). Stands s v) (sym (get_or-set_other now i k x None other_k)) (before k (omega arith) p q)
+stands_by s old now other i x a b lt lt' is_a is_b same both before k t le (inl (_, e)) p q =
+    let read_a : get_or old k None ≡ a = rw e (sym same ∙ sym (get_or_read now i a lt is_a None)) in
+    let read_b : get_or other k None ≡ b = rw e (sym (get_or_read other i b lt' is_b None)) in
+    let there : get_or (set now i x) k None ≡ x = rw e (get_or-set_same now i x None lt) in
+    subst (λ (v : Option AbstractValue). Stands s v) (sym there) (both (subst (λ (v : Option AbstractValue). Stands s v) read_a p) (subst (λ (v : Option AbstractValue). Stands s v) read_b q))
+
+-- one more place of a join
+pub stands_more : (s : Standing) (old now other : List (Option AbstractValue)) (i : ℕ) (x a b : Option AbstractValue) → i < length now → i < length other → a ≡ get_or now i a → b ≡ get_or other i b → get_or now i None ≡ get_or old i None → (Stands s a → Stands s b → Stands s x) → ((k : ℕ) → k < i → Stands s (get_or old k None) → Stands s (get_or other k None) → Stands s (get_or now k None)) → (k : ℕ) → k < i + 1 → Stands s (get_or old k None) → Stands s (get_or other k None) → Stands s (get_or (set now i x) k None)
+stands_more s old now other i x a b lt lt' is_a is_b same both before k le p q =
+    stands_by s old now other i x a b lt lt' is_a is_b same both before k _ le (eqb_tells k i) p q
+
+stands_all_by : (s : Standing) (old now other : List (Option AbstractValue)) (i : ℕ) → ((k : ℕ) → i ≤ k → get_or now k None ≡ get_or old k None) → ((k : ℕ) → k < i → Stands s (get_or old k None) → Stands s (get_or other k None) → Stands s (get_or now k None)) → (k : ℕ) → (k < i) ⊎ (i ≤ k) → Stands s (get_or old k None) → Stands s (get_or other k None) → Stands s (get_or now k None)
+stands_all_by s old now other i rest before k (inl lt) p q = before k lt p q
+stands_all_by s old now other i rest before k (inr le) p q = subst (λ (v : Option AbstractValue). Stands s v) (sym (rest k le)) p
+
+-- all places of a join
+pub stands_all : (s : Standing) (old now other : List (Option AbstractValue)) (i : ℕ) → ((k : ℕ) → i ≤ k → get_or now k None ≡ get_or old k None) → ((k : ℕ) → k < i → Stands s (get_or old k None) → Stands s (get_or other k None) → Stands s (get_or now k None)) → (k : ℕ) → Stands s (get_or old k None) → Stands s (get_or other k None) → Stands s (get_or now k None)
+stands_all s old now other i rest before k p q = stands_all_by s old now other i rest before k (cases_lt k i) p q
+
+-- what is sure of both views is sure of one that has what both have
+pub Has-both : (x : Fact) (a b v : AbstractState) → ((s : Standing) (k : ℕ) → Stands s (slice_index_or a.registers k None) → Stands s (slice_index_or b.registers k None) → Stands s (slice_index_or v.registers k None)) → ((k : ℕ) → slice_index_or a.set k false ≡ true → slice_index_or b.set k false ≡ true → slice_index_or v.set k false ≡ true) → ((s : Standing) (k : ℕ) → Stands s (slice_index_or a.kept k None) → Stands s (slice_index_or b.kept k None) → Stands s (slice_index_or v.kept k None)) → Has x a → Has x b → Has x v
+Has-both Never a b v registers set kept p q = p
+Has-both (AtRegister s r) a b v registers set kept p q = registers s r p q
+Has-both (IsSetAt i) a b v registers set kept p q = set i p q
+Has-both (IsPlainAt j) a b v registers set kept p q = kept NoPointer j p q

@@ -1,0 +1,134 @@
+-- Numbers in a few bytes of the stack.
+use Rattle.std.proofs.Common.{◌≡◌, ◌≢◌, ℕ, zero, suc, ◌+◌, ◌^◌, ◌<◌, ◌≤◌, Bool, true, false, List, [], ◌∷◌, Option, Some, None, length, get_or, set, refl, sym, ap, subst, arith, ◌∙◌, ◌⊎◌, inl, inr, get_or-set_same, get_or-set_other}
+use Rattle.std.specs.Prelude.{slice_index}
+use Rattle.std.proofs.lemmas.Bool.{cases_lt}
+use Rattle.std.proofs.lemmas.Bool.Decides.{eqb_tells}
+use Rattle.std.proofs.lemmas.List.{get_or_past, get_or_read}
+use Rattle.bq_insn.specs.declared.Size.{Size}
+use Rattle.bq_insn.specs.declared.Size.TheVariants.{Byte, Half, Word, Double}
+use Rattle.bq_insn.specs.Slots.{byte_count}
+use Rattle.bq_bpf.specs.Memory.{Setting, State, Region, Reads, byte_at, number_of, stack_with}
+use Rattle.bq_bpf.specs.Steps.{low_bytes}
+use Rattle.bq_ranges.specs.declared.range.Range.{Range}
+use Rattle.bq_ranges.specs.Within.{Within}
+use Rattle.bq_states.specs.declared.abstract_state.Kind.{Kind}
+use Rattle.bq_states.specs.declared.abstract_state.Kind.TheVariants.{Stack}
+use Rattle.bq_states.specs.declared.abstract_state.Part.{Part}
+use Rattle.bq_states.specs.declared.abstract_state.AbstractState.{AbstractState}
+use Rattle.bq_states.specs.Parts.{AllowsPart, HasBytes, HasPart, HaveParts, Outlives}
+use Rattle.bq_states.specs.AbstractStates.{Contains, IsOfKind}
+use Rattle.bq_states.proofs.StoreLemmas.{outside, inside, stack_cases}
+use Rattle.bq_states.proofs.MergeLemmas.{some_same}
+
+-- the number of a word's low bytes
+pub number_low : (size : Size) (v : ℕ) → v < 256 ^ byte_count size → number_of (low_bytes size v) ≡ v
+number_low Byte v small = omega arith
+number_low Half v small = omega arith
+number_low Word v small = omega arith
+number_low Double v small = omega arith
+
+-- is one of so many bytes
+pub number_less : (size : Size) (v : ℕ) → number_of (low_bytes size v) < 256 ^ byte_count size
+number_less Byte v = omega arith
+number_less Half v = omega arith
+number_less Word v = omega arith
+number_less Double v = omega arith
+
+-- the bytes of a write are there
+pub has_written : (stack : ℕ → Option ℕ) (at count : ℕ) (bytes : List ℕ) → length bytes ≡ count → HasBytes (stack_with stack at bytes) at count bytes
+has_written stack at count bytes long = (long, λ i lt. inside stack at bytes i (omega (arith, long)) (stack_cases stack at bytes (at + i)))
+
+-- bytes that a write does not touch stay
+pub bytes_apart : (stack : ℕ → Option ℕ) (first count at : ℕ) (bytes own : List ℕ) → (first + count ≤ at) ⊎ (at + length bytes ≤ first) → HasBytes stack first count own → HasBytes (stack_with stack at bytes) first count own
+bytes_apart stack first count at bytes own (inl below) h = (h.0, λ i lt. outside stack at bytes (first + i) (inl (omega arith)) (stack_cases stack at bytes (first + i)) ∙ h.1 i lt)
+bytes_apart stack first count at bytes own (inr past) h = (h.0, λ i lt. outside stack at bytes (first + i) (inr (omega arith)) (stack_cases stack at bytes (first + i)) ∙ h.1 i lt)
+
+-- so does a part
+pub part_apart : (p : Part) (from to : ℕ) → (p.first + byte_count p.size ≤ from) ⊎ (to ≤ p.first) → Outlives from to (Some p) (Some p)
+part_apart p from to (inl below) = record { has = λ stack at bytes low high h. (h.0, bytes_apart stack p.first (byte_count p.size) at bytes h.0 (inl (omega arith)) h.1, h.2) }
+part_apart p from to (inr past) = record { has = λ stack at bytes low high h. (h.0, bytes_apart stack p.first (byte_count p.size) at bytes h.0 (inr (omega arith)) h.1, h.2) }
+
+-- a place has one list of so many bytes
+pub same_bytes : (stack : ℕ → Option ℕ) (first count : ℕ) (a b : List ℕ) → HasBytes stack first count a → HasBytes stack first count b → a ≡ b
+same_bytes stack first count [] [] p q = refl
+same_bytes stack first count [] (b ∷ bs) p q = absurd (let no : ⊥ = omega (arith, p.0, q.0) in no)
+same_bytes stack first count (a ∷ as') [] p q = absurd (let no : ⊥ = omega (arith, p.0, q.0) in no)
+same_bytes stack first zero (a ∷ as') (b ∷ bs) p q = absurd (let no : ⊥ = omega (arith, p.0) in no)
+same_bytes stack first (suc count) (a ∷ as') (b ∷ bs) p q =
+    let head : a ≡ b = some_same _ _ _ (p.1 0 (omega arith)) (q.1 0 (omega arith)) in
+    let tail : as' ≡ bs = same_bytes stack (suc first) count as' bs (rest a as' p) (rest b bs q) in
+    ap (λ (x : ℕ). x ∷ as') head ∙ ap (λ (xs : List ℕ). b ∷ xs) tail
+  where
+    rest : (x : ℕ) (xs : List ℕ) → HasBytes stack first (suc count) (x ∷ xs) → HasBytes stack (suc first) count xs
+    rest x xs h = (omega (arith, h.0), λ i lt. subst (λ (n : ℕ). stack n ≡ Some (slice_index xs i)) (let e : first + suc i ≡ suc first + i = omega arith in e) (h.1 (suc i) (omega arith)))
+
+-- the number of the bytes of a part is in its range
+pub part_number : (stack : ℕ → Option ℕ) (p : Part) (o : ℕ) (size : Size) (bytes : List ℕ) → p.first ≡ o → p.size ≡ size → HasPart stack (Some p) → HasBytes stack o (byte_count size) bytes → Within p.range (number_of bytes)
+part_number stack p o size bytes place same h has =
+    let own = subst (λ (n : ℕ). HasBytes stack n (byte_count size) h.0) place (subst (λ (z : Size). HasBytes stack p.first (byte_count z) h.0) same h.1) in
+    subst (λ (xs : List ℕ). Within p.range (number_of xs)) (same_bytes stack o (byte_count size) h.0 bytes own has) h.2
+
+part_at : (stack : ℕ → Option ℕ) (parts : List (Option Part)) (i j : ℕ) (p : Part) (b : Bool) → i < length parts → HasPart stack (Some p) → HaveParts stack parts → ((b ≡ true) × (j ≡ i)) ⊎ ((b ≡ false) × (j ≢ i)) → HasPart stack (get_or (set parts i (Some p)) j None)
+part_at stack parts i j p b there has have (inl (_, same)) = rw (same, get_or-set_same parts i (Some p) None there) has
+part_at stack parts i j p b there has have (inr (_, other)) = subst (λ (v : Option Part). HasPart stack v) (sym (get_or-set_other parts i j (Some p) None other)) (have j)
+
+-- one more part
+pub parts_kept : (stack : ℕ → Option ℕ) (parts : List (Option Part)) (i : ℕ) (p : Part) → i < length parts → HasPart stack (Some p) → HaveParts stack parts → HaveParts stack (set parts i (Some p))
+parts_kept stack parts i p there has have j = part_at stack parts i j p _ there has have (eqb_tells j i)
+
+-- a part has a wider one
+pub part_wider : (a b : Part) → b.first ≡ a.first → b.size ≡ a.size → ((x : ℕ) → Within a.range x → Within b.range x) → AllowsPart (Some a) (Some b)
+part_wider a b place same wide = record {
+  has = λ stack h. (
+    h.0,
+    subst (λ (n : ℕ). HasBytes stack n (byte_count b.size) h.0) (sym place) (subst (λ (z : Size). HasBytes stack a.first (byte_count z) h.0) (sym same) h.1),
+    wide _ h.2,
+  );
+}
+
+related_at : (R : Option Part → Option Part → Type 0) (old now : List (Option Part)) (i : ℕ) (x a : Option Part) → i < length now → get_or old i None ≡ a → R a x → ((k : ℕ) → k < i → R (get_or old k None) (get_or now k None)) → (k : ℕ) (b : Bool) → k < i + 1 → ((b ≡ true) × (k ≡ i)) ⊎ ((b ≡ false) × (k ≢ i)) → R (get_or old k None) (get_or (set now i x) k None)
+related_at R old now i x a lt read r before k b le (inr (_, other)) =
+    subst (λ (v : Option Part). R (get_or old k None) v) (sym (get_or-set_other now i k x None other)) (before k (omega arith))
+related_at R old now i x a lt read r before k b le (inl (_, same)) =
+    let there : get_or (set now i x) k None ≡ x = rw same (get_or-set_same now i x None lt) in
+    let was : get_or old k None ≡ a = rw same read in
+    subst (λ (v : Option Part). R (get_or old k None) v) (sym there) (subst (λ (v : Option Part). R v x) (sym was) r)
+
+-- one more of the parts that are related
+pub related_more : (R : Option Part → Option Part → Type 0) (old now : List (Option Part)) (i : ℕ) (x a : Option Part) → i < length now → get_or old i None ≡ a → R a x → ((k : ℕ) → k < i → R (get_or old k None) (get_or now k None)) → (k : ℕ) → k < i + 1 → R (get_or old k None) (get_or (set now i x) k None)
+related_more R old now i x a lt read r before k le = related_at R old now i x a lt read r before k _ le (eqb_tells k i)
+
+related_by : (R : Option Part → Option Part → Type 0) (old now : List (Option Part)) (i : ℕ) → R None None → length old ≤ i → length now ≤ i → ((k : ℕ) → k < i → R (get_or old k None) (get_or now k None)) → (k : ℕ) → (k < i) ⊎ (i ≤ k) → R (get_or old k None) (get_or now k None)
+related_by R old now i none long long' before k (inl lt) = before k lt
+related_by R old now i none long long' before k (inr le) =
+    subst (λ (v : Option Part). R (get_or old k None) v) (sym (get_or_past now k None (omega arith))) (subst (λ (v : Option Part). R v None) (sym (get_or_past old k None (omega arith))) none)
+
+-- all parts are related
+pub related_all : (R : Option Part → Option Part → Type 0) (old now : List (Option Part)) (i : ℕ) → R None None → length old ≤ i → length now ≤ i → ((k : ℕ) → k < i → R (get_or old k None) (get_or now k None)) → (k : ℕ) → R (get_or old k None) (get_or now k None)
+related_all R old now i none long long' before k = related_by R old now i none long long' before k (cases_lt k i)
+
+-- an element that was read
+pub part_read : (now : List (Option Part)) (i : ℕ) (a : Option Part) → i < length now → a ≡ get_or now i a → get_or now i None ≡ a
+part_read now i a lt is = sym (get_or_read now i a lt is None)
+
+pub allows_none : AllowsPart None None
+allows_none = record { has = λ stack h. h }
+
+pub outlives_none : (from to : ℕ) → Outlives from to None None
+outlives_none from to = record { has = λ stack at bytes low high h. h }
+
+-- a number that is read is one of those
+pub read_numbers : (kind : Kind) (at numbers : Range) (size : Size) (f : Setting) (s : State) (address : ℕ) (bytes : List ℕ) (parts : List (Option Part)) (r : Reads f s address bytes) → ((x : ℕ) → kind ≢ Stack → x < 256 ^ byte_count size → Within numbers x) → ((stack : ℕ → Option ℕ) (o : ℕ) (own : List ℕ) → kind ≡ Stack → HaveParts stack parts → Within at o → HasBytes stack o (byte_count size) own → number_of own < 256 ^ byte_count size → Within numbers (number_of own)) → HaveParts s.stack parts → length bytes ≡ byte_count size → number_of bytes < 256 ^ byte_count size → IsOfKind kind r.region → Within at r.offset → Within numbers (number_of bytes)
+read_numbers Stack at numbers size f s address bytes parts r any on have long small is within =
+    on s.stack r.offset bytes refl have within (long, λ i lt. subst (λ (region : Region). byte_at f s region (r.offset + i) ≡ Some (slice_index bytes i)) is (r.set i (rw long lt))) small
+read_numbers kind at numbers size f s address bytes parts r any on have long small is within = any (number_of bytes) (λ e. let no : ⊥ = cc in no) small
+
+-- a view with other parts, which are right
+pub covers_parts : (f : Setting) (v : AbstractState) (t : State) (parts : List (Option Part)) → HaveParts t.stack parts → Contains f v t → Contains f (record v { parts = parts }) t
+covers_parts f v t parts have covers = record { registers = covers.registers; set = covers.set; kept = covers.kept; parts = have; maps = covers.maps; copies = covers.copies }
+
+-- an element that is there is read the same whatever stands for one that is not
+pub part_known : (parts : List (Option Part)) (i : ℕ) (other : Option Part) (p : Part) → i < length parts → get_or parts i other ≡ Some p → get_or parts i None ≡ Some p
+part_known [] i other p there is = absurd (omega arith)
+part_known (x ∷ xs) zero other p there is = is
+part_known (x ∷ xs) (suc i) other p there is = part_known xs i other p (omega arith) is

@@ -1,0 +1,142 @@
+-- What a branch tells of one place is right of its copies.
+use Rattle.std.proofs.Common.{◌≡◌, ◌≢◌, ℕ, ◌+◌, ◌*◌, ◌^◌, ◌<◌, ◌≤◌, Bool, true, false, List, [], ◌∷◌, Option, Some, None, length, get_or, set, refl, sym, subst, ap, arith, ◌∙◌, get_or-set_same, get_or-set_other, ◌⊎◌, inl, inr}
+use Rattle.std.specs.Prelude.{slice_index, slice_index_or, slice_set}
+use Rattle.std.specs.Int.{byte_at as byte_of}
+use Rattle.std.proofs.lemmas.Bool.{cases_lt}
+use Rattle.std.proofs.lemmas.Bool.Decides.{eqb_tells}
+use Rattle.std.proofs.lemmas.List.{get_or_past, get_or_read}
+use Rattle.bq_bpf.specs.declared.shape.MapShape.{MapShape}
+use Rattle.bq_bpf.specs.Memory.{Setting, State, number_of}
+use Rattle.bq_states.specs.declared.abstract_state.AbstractValue.{AbstractValue}
+use Rattle.bq_states.specs.declared.abstract_state.AbstractState.{AbstractState}
+use Rattle.bq_states.specs.Copies.{HasWord}
+use Rattle.bq_states.specs.Standing.{Standing, Stands, NoPointer, Fact, Never, AtRegister, IsSetAt, IsPlainAt, Has}
+use Rattle.bq_states.specs.Told.{HasLearnt, IsLasting, IsLastingWord, IsSharper}
+use Rattle.bq_states.specs.AbstractStates.{Contains, Describes, Holds, Keeps}
+use Rattle.bq_states.proofs.AccessLemmas.{number_of_word}
+use Rattle.bq_states.proofs.LearnLemmas.{learn_at}
+use Rattle.bq_states.proofs.WordLemmas.{word_fits}
+
+-- what is so of each word is so after one is written
+pub set_each : (R : ℕ → Option AbstractValue → Option AbstractValue → Type 0) (old now : List (Option AbstractValue)) (i : ℕ) (x a : Option AbstractValue) → i < length now → a ≡ get_or now i a → get_or now i None ≡ get_or old i None → R i a x → ((k : ℕ) → R k (get_or old k None) (get_or now k None)) → (k : ℕ) → R k (get_or old k None) (get_or (set now i x) k None)
+set_each R old now i x a lt is same here each k = at _ (eqb_tells k i)
+  where
+    at : (b : Bool) → ((b ≡ true) × (k ≡ i)) ⊎ ((b ≡ false) × (k ≢ i)) → R k (get_or old k None) (get_or (set now i x) k None)
+    at b (inl (_, e)) =
+        let read : get_or old i None ≡ a = sym same ∙ sym (get_or_read now i a lt is None) in
+        let there : get_or (set now i x) i None ≡ x = get_or-set_same now i x None lt in
+        let first : R i (get_or old i None) (get_or (set now i x) i None) = subst (λ (v : Option AbstractValue). R i v (get_or (set now i x) i None)) (sym read) (subst (λ (v : Option AbstractValue). R i a v) (sym there) here) in
+        subst (λ (n : ℕ). R n (get_or old n None) (get_or (set now i x) n None)) (sym e) first
+    at b (inr (_, other)) = subst (λ (v : Option AbstractValue). R k (get_or old k None) v) (sym (get_or-set_other now i k x None other)) (each k)
+
+eight : (f g : ℕ → ℕ) → ((i : ℕ) → i < 8 → f i ≡ g i) → (f 0 ∷ f 1 ∷ f 2 ∷ f 3 ∷ f 4 ∷ f 5 ∷ f 6 ∷ f 7 ∷ []) ≡ (g 0 ∷ g 1 ∷ g 2 ∷ g 3 ∷ g 4 ∷ g 5 ∷ g 6 ∷ g 7 ∷ [])
+eight f g h = rw (h 0 (omega arith), h 1 (omega arith), h 2 (omega arith), h 3 (omega arith), h 4 (omega arith), h 5 (omega arith), h 6 (omega arith), h 7 (omega arith)) refl
+
+-- eight bytes are those of one word
+pub same_bytes : (m n : ℕ) → m < 2 ^ 64 → n < 2 ^ 64 → ((i : ℕ) → i < 8 → byte_of i m ≡ byte_of i n) → m ≡ n
+same_bytes m n p q h = sym (number_of_word m p) ∙ ap number_of (eight (λ i. byte_of i m) (λ i. byte_of i n) h) ∙ number_of_word n q
+
+some_is : (a b : ℕ) → Some a ≡ Some b → a ≡ b
+some_is a b e = cc
+
+Holds-sharper : (shapes : List MapShape) (told : AbstractValue) (n : ℕ) (old new : Option AbstractValue) (v : Option ℕ) → IsSharper told old new → v ≡ Some n → Describes shapes told n → Holds shapes old v → Holds shapes new v
+Holds-sharper shapes told n old None v sharper is d h = tt
+Holds-sharper shapes told n None (Some b) v sharper is d h = absurd sharper
+Holds-sharper shapes told n (Some a) (Some b) v sharper is d h =
+    let same : n ≡ h.0 = some_is n h.0 (sym is ∙ h.1) in
+    (h.0, h.1, sharper shapes h.0 (subst (λ (k : ℕ). Describes shapes told k) same d) h.2)
+
+Holds-none : (shapes : List MapShape) (told : AbstractValue) (old new : Option AbstractValue) (v : Option ℕ) → old ≡ None → IsSharper told old new → Holds shapes new v
+Holds-none shapes told old None v none sharper = tt
+Holds-none shapes told old (Some b) v none sharper = absurd (let no : IsSharper told None (Some b) = subst (λ (k : Option AbstractValue). IsSharper told k (Some b)) none sharper in no)
+
+Keeps-sharper : (shapes : List MapShape) (told : AbstractValue) (n : ℕ) (old new : Option AbstractValue) (stack : ℕ → Option ℕ) (j : ℕ) → IsSharper told old new → n < 2 ^ 64 → ((i : ℕ) → i < 8 → stack (8 * j + i) ≡ Some (byte_of i n)) → Describes shapes told n → Keeps shapes old stack j → Keeps shapes new stack j
+Keeps-sharper shapes told n old None stack j sharper small bytes d h = tt
+Keeps-sharper shapes told n None (Some b) stack j sharper small bytes d h = absurd sharper
+Keeps-sharper shapes told n (Some a) (Some b) stack j sharper small bytes d h =
+    let same : h.0 ≡ n = same_bytes h.0 n (word_fits shapes a h.0 h.1) small (λ i lt. some_is _ _ (sym (h.2 i lt) ∙ bytes i lt)) in
+    (n, sharper shapes n d (subst (λ (k : ℕ). Describes shapes a k) same h.1), bytes)
+
+module _ (f : Setting) (v : AbstractState) (s : State) (told : AbstractValue) (register n : ℕ) (covers : Contains f v s) (is : s.register register ≡ Some n) (d : Describes f.shapes told n) where
+  -- more is known of a register of no class
+  pub covers_sharper_one : (a x : Option AbstractValue) → register < length v.registers → a ≡ get_or v.registers register a → IsSharper told a x → Contains f (record v { registers = slice_set v.registers register x }) s
+  covers_sharper_one a x there read sharper = record {
+    registers = λ r. each r covers.registers;
+    set = covers.set;
+    kept = covers.kept;
+    parts = covers.parts;
+    maps = covers.maps;
+    copies = covers.copies;
+  }
+    where
+      each : (r : ℕ) → ((k : ℕ) → Holds f.shapes (get_or v.registers k None) (s.register k)) → Holds f.shapes (get_or (set v.registers register x) r None) (s.register r)
+      each r all = set_each (λ k old new. Holds f.shapes old (s.register k) → Holds f.shapes new (s.register k)) v.registers v.registers register x a there read refl (λ h. Holds-sharper f.shapes told n a x (s.register register) sharper is d h) (λ k h. h) r (all r)
+
+  -- more is known of all places of a class
+  pub covers_sharper_all : (class : ℕ) (registers kept : List (Option AbstractValue)) → class ≡ slice_index v.classes register → class ≢ 0 → register < 11 → length v.registers ≤ 11
+      → ((k : ℕ) → IsSharper told (slice_index_or v.registers k None) (slice_index_or registers k None)) → ((k : ℕ) → slice_index v.classes (0 + k) ≢ class → slice_index_or registers k None ≡ slice_index_or v.registers k None)
+      → ((k : ℕ) → IsSharper told (slice_index_or v.kept k None) (slice_index_or kept k None)) → ((k : ℕ) → slice_index v.classes (11 + k) ≢ class → slice_index_or kept k None ≡ slice_index_or v.kept k None)
+      → Contains f (record v { registers = registers; kept = kept }) s
+  covers_sharper_all class registers kept class_is some low short sharper others sharper' others' = record {
+    registers = λ r. register_at r _ (eqb_tells (slice_index v.classes (0 + r)) class) (cases_lt r 11);
+    set = covers.set;
+    kept = λ j. slot_at j _ (eqb_tells (slice_index v.classes (11 + j)) class);
+    parts = covers.parts;
+    maps = covers.maps;
+    copies = covers.copies;
+  }
+    where
+      word : ℕ
+      word = covers.copies.0 class
+
+      has : (p : ℕ) → slice_index v.classes p ≡ class → HasWord s p word
+      has p e = subst (λ (k : ℕ). HasWord s p (covers.copies.0 k)) e (covers.copies.1 p (λ none. some (sym e ∙ none)))
+
+      told_word : Describes f.shapes told word
+      told_word = subst (λ (k : ℕ). Describes f.shapes told k) (some_is n word (sym is ∙ (has register (sym class_is)).0 low)) d
+
+      register_at : (r : ℕ) (b : Bool) → ((b ≡ true) × (slice_index v.classes (0 + r) ≡ class)) ⊎ ((b ≡ false) × (slice_index v.classes (0 + r) ≢ class)) → (r < 11) ⊎ (11 ≤ r) → Holds f.shapes (slice_index_or registers r None) (s.register r)
+      register_at r b either (inr past) = Holds-none f.shapes told (slice_index_or v.registers r None) (slice_index_or registers r None) (s.register r) (get_or_past v.registers r None (omega arith)) (sharper r)
+      register_at r b (inl (_, e)) (inl lt) =
+          let same : slice_index v.classes r ≡ class = subst (λ (p : ℕ). slice_index v.classes p ≡ class) (let plain : 0 + r ≡ r = omega arith in plain) e in
+          Holds-sharper f.shapes told word _ _ (s.register r) (sharper r) ((has r same).0 lt) told_word (covers.registers r)
+      register_at r b (inr (_, other)) (inl lt) = subst (λ (k : Option AbstractValue). Holds f.shapes k (s.register r)) (sym (others r other)) (covers.registers r)
+
+      slot_at : (j : ℕ) (b : Bool) → ((b ≡ true) × (slice_index v.classes (11 + j) ≡ class)) ⊎ ((b ≡ false) × (slice_index v.classes (11 + j) ≢ class)) → Keeps f.shapes (slice_index_or kept j None) s.stack j
+      slot_at j b (inl (_, e)) =
+          let bytes = (has (11 + j) e).1 j refl in
+          Keeps-sharper f.shapes told word _ _ s.stack j (sharper' j) bytes.0 bytes.1 told_word (covers.kept j)
+      slot_at j b (inr (_, other)) = subst (λ (k : Option AbstractValue). Keeps f.shapes k s.stack j) (sym (others' j other)) (covers.kept j)
+
+-- what stays sure of a view of which more is known
+pub has_sharper : (x : Fact) (v : AbstractState) (registers kept : List (Option AbstractValue)) → ((s : Standing) (k : ℕ) → IsLastingWord s → Stands s (slice_index_or v.registers k None) → Stands s (slice_index_or registers k None)) → ((s : Standing) (k : ℕ) → IsLastingWord s → Stands s (slice_index_or v.kept k None) → Stands s (slice_index_or kept k None)) → IsLasting x → Has x v → Has x (record v { registers = registers; kept = kept })
+has_sharper Never v registers kept stands stands' lasting has = has
+has_sharper (AtRegister s r) v registers kept stands stands' lasting has = stands s r lasting has
+has_sharper (IsSetAt i) v registers kept stands stands' lasting has = has
+has_sharper (IsPlainAt j) v registers kept stands stands' lasting has = stands' NoPointer j tt has
+
+-- the word of the left operand, last
+pub covers_left : (f : Setting) (v : AbstractState) (s : State) (dst n : ℕ) (left : AbstractValue) → dst < length v.registers → s.register dst ≡ Some n → Contains f v s → Describes f.shapes left n → Contains f (record v { registers = slice_set v.registers dst (Some left) }) s
+covers_left f v s dst n left there is covers d = record {
+  registers = λ r. learn_at f.shapes v.registers s.register dst n left r _ there is (covers.registers r) d (eqb_tells r dst);
+  set = covers.set;
+  kept = covers.kept;
+  parts = covers.parts;
+  maps = covers.maps;
+  copies = covers.copies;
+}
+
+learnt_at : (s : Standing) (old new : List (Option AbstractValue)) (dst r : ℕ) (left : AbstractValue) (b : Bool) → dst < length old → dst < length new → ((b ≡ true) × (r ≡ dst)) ⊎ ((b ≡ false) × (r ≢ dst)) → (Stands s (get_or old r None) → Stands s (get_or new r None)) → Stands s (get_or (set old dst (Some left)) r None) → Stands s (get_or (set new dst (Some left)) r None)
+learnt_at s old new dst r left b there there' (inl (_, e)) more has =
+    let before : get_or (set old dst (Some left)) r None ≡ Some left = rw (e, get_or-set_same old dst (Some left) None there) refl in
+    let after : get_or (set new dst (Some left)) r None ≡ Some left = rw (e, get_or-set_same new dst (Some left) None there') refl in
+    subst (λ (v : Option AbstractValue). Stands s v) (sym after) (subst (λ (v : Option AbstractValue). Stands s v) before has)
+learnt_at s old new dst r left b there there' (inr (_, other)) more has =
+    subst (λ (v : Option AbstractValue). Stands s v) (sym (get_or-set_other new dst r (Some left) None other)) (more (subst (λ (v : Option AbstractValue). Stands s v) (get_or-set_other old dst r (Some left) None other) has))
+
+-- and what is sure of it
+pub has_left_told : (x : Fact) (v w : AbstractState) (dst : ℕ) (left : AbstractValue) → dst < length v.registers → dst < length w.registers → ((y : Fact) → IsLasting y → Has y v → Has y w) → IsLasting x → HasLearnt x v dst left → Has x (record w { registers = slice_set w.registers dst (Some left) })
+has_left_told Never v w dst left there there' more lasting has = has
+has_left_told (AtRegister s r) v w dst left there there' more lasting has = learnt_at s v.registers w.registers dst r left _ there there' (eqb_tells r dst) (more (AtRegister s r) lasting) has
+has_left_told (IsSetAt i) v w dst left there there' more lasting has = more (IsSetAt i) tt has
+has_left_told (IsPlainAt j) v w dst left there there' more lasting has = more (IsPlainAt j) tt has

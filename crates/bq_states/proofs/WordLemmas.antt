@@ -1,0 +1,28 @@
+-- Words that are known.
+use Rattle.std.proofs.Common.{◌≡◌, ℕ, ◌^◌, ◌<◌, List, refl, arith}
+use Rattle.bq_bpf.specs.declared.shape.MapShape.{MapShape}
+use Rattle.bq_ranges.specs.Within.{Within}
+use Rattle.bq_ranges.specs.declared.range.Range.{Range}
+use Rattle.bq_states.specs.declared.abstract_state.Kind.{Kind}
+use Rattle.bq_states.specs.declared.abstract_state.Kind.TheVariants.{Number}
+use Rattle.bq_states.specs.declared.abstract_state.AbstractValue.{AbstractValue}
+use Rattle.bq_states.specs.AbstractStates.{Describes}
+
+-- a number is itself in the range
+pub number_within : (shapes : List MapShape) (k : AbstractValue) (word : ℕ) → k.kind ≡ Number → Describes shapes k word → Within k.offset word
+number_within shapes k word e d =
+    let zero_base : d.base ≡ 0 = rw e at d.is_base in
+    let fits = k.offset.fits in
+    let same : word ≡ d.offset = omega (arith, d.within, d.word_is) in
+    rw same d.within
+
+pub number_is : (shapes : List MapShape) (r : Range) (word : ℕ) → Within r word → Describes shapes (record { kind = Number; offset = r }) word
+number_is shapes r word w =
+    let fits = r.fits in
+    record { base = 0; offset = word; is_base = refl; within = w; word_is = omega (arith, w) }
+
+pub wider : (shapes : List MapShape) (kind : Kind) (k : AbstractValue) (r : Range) (word : ℕ) → k.kind ≡ kind → ((x : ℕ) → Within k.offset x → Within r x) → Describes shapes k word → Describes shapes (record { kind = kind; offset = r }) word
+wider shapes kind k r word e more d = record { base = d.base; offset = d.offset; is_base = rw e at d.is_base; within = more d.offset d.within; word_is = d.word_is }
+
+pub word_fits : (shapes : List MapShape) (k : AbstractValue) (a : ℕ) → Describes shapes k a → a < 2 ^ 64
+word_fits shapes k a d = omega (arith, d.word_is)

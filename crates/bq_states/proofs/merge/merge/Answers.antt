@@ -1,0 +1,11 @@
+use Rattle.bq_states.proofs.MergeLemmas.{Contains-more, Has-both}
+use Rattle.bq_states.proofs.merge.merge.Goals as goal
+
+pub returns-clause-left : goal.returns-clause-left
+returns-clause-left c = λ f s covers. Contains-more f s c.args.into.now _ c.join_all.ensures.left c.keep_common.ensures.left c.join_all-2.ensures.left c.join_parts.ensures.left c.keep_same.ensures.left covers
+
+pub returns-clause-right : goal.returns-clause-right
+returns-clause-right c = λ f s covers. Contains-more f s c.args.other.now _ c.join_all.ensures.right c.keep_common.ensures.right c.join_all-2.ensures.right c.join_parts.ensures.right c.keep_same.ensures.right covers
+
+pub returns-clause-stands : goal.returns-clause-stands
+returns-clause-stands c = λ x. Has-both x c.args.into.now c.args.other.now _ c.join_all.ensures.stands c.keep_common.ensures.both c.join_all-2.ensures.stands

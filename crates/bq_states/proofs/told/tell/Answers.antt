@@ -1,0 +1,18 @@
+use Rattle.std.proofs.Common.{◌≡◌, ◌<◌, ℕ, Some, length, sym, subst, arith, rules}
+use Rattle.bq_states.specs.Told.{HasLearnt}
+use Rattle.bq_states.proofs.ToldLemmas.{covers_left, has_left_told}
+use Rattle.bq_states.proofs.told.tell.Goals as goal
+
+pub returns-clause-covers : goal.returns-clause-covers
+returns-clause-covers c = λ f s covers told.
+    let same : c.from.result ≡ c.args.dst = search rules in
+    let there : c.from.result < length c.sharpen.new.view.registers = omega arith in
+    covers_left f c.sharpen.new.view s c.from.result told.word c.args.left there (subst (λ (r : ℕ). s.register r ≡ Some told.word) (sym same) told.is) (c.sharpen.ensures.covers f s told.word (c.tell_right.ensures.covers f s covers told.right_is) told.is told.left_is) told.left_is
+
+pub returns-clause-has : goal.returns-clause-has
+returns-clause-has c = λ x lasting has.
+    let same : c.from.result ≡ c.args.dst = search rules in
+    let there : c.from.result < length c.args.view.now.registers = omega arith in
+    let there' : c.from.result < length c.sharpen.new.view.registers = omega arith in
+    has_left_told x c.args.view.now c.sharpen.new.view c.from.result c.args.left there there' (λ y lasts had. c.sharpen.ensures.has y lasts (c.tell_right.ensures.has y lasts had)) lasting
+    (subst (λ (r : ℕ). HasLearnt x c.args.view.now r c.args.left) (sym same) has)

@@ -1,0 +1,125 @@
+-- The states that a view speaks of.
+use Rattle.std.specs.Prelude.{Bool, ◌≡◌, ℕ, ◌+◌, ◌*◌, ◌%◌, ◌^◌, ◌<◌, ◌≤◌, true, false, List, Option, Some, None, length, slice_get, slice_set, slice_index, slice_index_or, ◌⊎◌}
+use Rattle.std.specs.Int.{byte_at}
+use Rattle.bq_bpf.specs.declared.shape.MapShape.{MapShape}
+use Rattle.bq_bpf.specs.Memory.{Setting, State, Region, Reads, InContext, InStack, InEntry, Spans, IsEntry, reference, values_base, context_base, stack_base, HaveShapes}
+use Rattle.bq_bpf.specs.Steps.{IsOperand}
+use Rattle.bq_insn.specs.declared.Source.{Source}
+use Rattle.bq_ranges.specs.Within.{Within}
+use Rattle.bq_states.specs.Copies.{AreCopies}
+use Rattle.bq_states.specs.Parts.{HaveParts}
+use Rattle.bq_states.specs.declared.abstract_state.Kind.{Kind}
+use Rattle.bq_states.specs.declared.abstract_state.Kind.TheVariants.{Number, Context, Stack, Entry, EntryOrNull, Map}
+use Rattle.bq_states.specs.declared.abstract_state.AbstractValue.{AbstractValue}
+use Rattle.bq_states.specs.declared.abstract_state.AbstractState.{AbstractState}
+
+-- the first address of some entry of the map
+pub record IsEntryBase (shapes : List MapShape) (m base : ℕ) : Type 0 where
+  pub first : ℕ
+  pub size : ℕ
+  pub entry : IsEntry shapes m first size
+  pub base_is : base ≡ values_base m + first
+
+-- what a word of the kind may count from
+abbrev pub IsBase : List MapShape → Kind → ℕ → Type 0
+IsBase shapes Number base = base ≡ 0
+IsBase shapes Context base = base ≡ context_base
+IsBase shapes Stack base = base ≡ stack_base
+IsBase shapes (Entry m) base = IsEntryBase shapes m base
+IsBase shapes (EntryOrNull m) base = (base ≡ 0) ⊎ IsEntryBase shapes m base
+IsBase shapes (Map m) base = (base ≡ reference m) × (m < length shapes)
+
+-- the word is one of those
+pub record Describes (shapes : List MapShape) (k : AbstractValue) (word : ℕ) : Type 0 where
+  pub base : ℕ
+  pub offset : ℕ
+  pub is_base : IsBase shapes k.kind base
+  pub within : Within k.offset offset
+  pub word_is : word ≡ (base + offset) % 2 ^ 64
+
+-- a register that is known is set
+abbrev pub Holds : List MapShape → Option AbstractValue → Option ℕ → Type 0
+Holds shapes None v = Unit {0}
+Holds shapes (Some k) v = (n : ℕ) × (v ≡ Some n) × Describes shapes k n
+
+-- eight bytes of the stack that are known hold a word that was stored whole
+abbrev pub Keeps : List MapShape → Option AbstractValue → (ℕ → Option ℕ) → ℕ → Type 0
+Keeps shapes None stack j = Unit {0}
+Keeps shapes (Some k) stack j = (n : ℕ) × Describes shapes k n × ((i : ℕ) → i < 8 → stack (8 * j + i) ≡ Some (byte_at i n))
+
+-- the view is right about the state
+pub record Contains (f : Setting) (v : AbstractState) (s : State) : Type 0 where
+  pub registers : (r : ℕ) → Holds f.shapes (slice_index_or v.registers r None) (s.register r)
+  pub set : (i : ℕ) → slice_index_or v.set i false ≡ true → (b : ℕ) × (s.stack i ≡ Some b) × (b < 256)
+  pub kept : (j : ℕ) → Keeps f.shapes (slice_index_or v.kept j None) s.stack j
+  pub parts : HaveParts s.stack v.parts
+  pub maps : HaveShapes f.shapes s.maps
+  pub copies : AreCopies v.classes s
+
+-- the settings of a program with these shapes and this length of context
+pub record Suits (shapes : List MapShape) (context_length : ℕ) (f : Setting) : Type 0 where
+  pub shapes_are : f.shapes ≡ shapes
+  pub context_long : length f.context ≡ context_length
+  pub context_bytes : (i b : ℕ) → slice_get f.context i ≡ Some b → b < 256
+  pub now_fits : f.now < 2 ^ 64
+  pub processor_fits : f.processor < 2 ^ 32
+
+-- in every state of the view the operand is set, and is such a word
+abbrev pub Finds : AbstractState → Source → AbstractValue → Type 0
+Finds v src k = (f : Setting) (s : State) → Contains f v s → (b : ℕ) × IsOperand s src b × Describes f.shapes k b
+
+-- the register is written with the known word, and so is no copy
+abbrev pub knowing : AbstractState → ℕ → AbstractValue → AbstractState
+knowing v dst k = record v { registers = slice_set v.registers dst (Some k); classes = slice_set v.classes dst 0 }
+
+-- every word of the one is a word of the other
+abbrev pub Allows : Option AbstractValue → Option AbstractValue → Type 0
+Allows old None = Unit {0}
+Allows None (Some new) = ⊥
+Allows (Some old) (Some new) = (shapes : List MapShape) (word : ℕ) → Describes shapes old word → Describes shapes new word
+
+-- the regions that a pointer of the kind is into
+abbrev pub IsOfKind : Kind → Region → Type 0
+IsOfKind Context region = region ≡ InContext
+IsOfKind Stack region = region ≡ InStack
+IsOfKind (Entry m) region = (first : ℕ) × (region ≡ InEntry m first)
+IsOfKind _ region = ⊥
+
+-- what a pointer of the kind counts from is the start of a region of that size
+abbrev pub Bounds : List MapShape → ℕ → Kind → ℕ → Type 0
+Bounds shapes context_length kind size =
+    (f : Setting) (base : ℕ) → Suits shapes context_length f → IsBase f.shapes kind base → (region : Region) × Spans f region base size × IsOfKind kind region × (base < 2 ^ 63)
+
+-- registers 1 to 5 are forgotten, and no other
+pub record Clears (old new : List (Option AbstractValue)) : Type 0 where
+  pub forgotten : (r : ℕ) → 1 ≤ r → r < 6 → slice_index_or new r None ≡ None
+  pub first : slice_index_or new 0 None ≡ slice_index_or old 0 None
+  pub others : (r : ℕ) → 6 ≤ r → slice_index_or new r None ≡ slice_index_or old r None
+
+-- in every state of the view the register points to so many bytes that may be read
+abbrev pub FindsBytes : List MapShape → ℕ → AbstractState → ℕ → ℕ → Type 0
+FindsBytes shapes context_length view r count =
+    (f : Setting) (s : State) → Suits shapes context_length f → Contains f view s → (word : ℕ) × (bytes : List ℕ) × (s.register r ≡ Some word) × (length bytes ≡ count) × Reads f s word bytes × ((i : ℕ) → slice_index bytes i < 256)
+
+-- only bytes from there to there were set anew
+abbrev pub Marks : List Bool → List Bool → ℕ → ℕ → Type 0
+Marks old new from to = (i : ℕ) → slice_index_or new i false ≡ true → ((from ≤ i) × (i < to)) ⊎ (slice_index_or old i false ≡ true)
+
+-- each slot is forgotten, or is as it was and lies apart
+abbrev pub Forgets : List (Option AbstractValue) → List (Option AbstractValue) → ℕ → ℕ → Type 0
+Forgets old new from to = (j : ℕ) → (slice_index_or new j None ≡ None) ⊎ ((slice_index_or new j None ≡ slice_index_or old j None) × ((8 * j + 8 ≤ from) ⊎ (to ≤ 8 * j)))
+
+-- the known word in a slot of eight bytes
+abbrev pub keeping : AbstractState → ℕ → AbstractValue → AbstractState
+keeping v slot k = record v { kept = slice_set v.kept slot (Some k) }
+
+-- how many bytes there are where a pointer of the kind points to
+abbrev pub size_of_shape : Option MapShape → Option ℕ
+size_of_shape None = None
+size_of_shape (Some shape) = Some shape.value_size
+
+abbrev pub bound_of : List MapShape → ℕ → Kind → Option ℕ
+bound_of shapes context Context = Some context
+bound_of shapes context Stack = Some 512
+bound_of shapes context (Entry m) = size_of_shape (slice_get shapes m)
+bound_of shapes context _ = None

@@ -1,0 +1,82 @@
+-- What is sure of a view: the ground on which straight programs are accepted.
+use Rattle.std.specs.Prelude.{true, false, ◌≡◌, ◌≢◌, ℕ, ◌<◌, ◌≤◌, Option, Some, None, slice_index_or}
+use Rattle.bq_insn.specs.declared.Source.TheVariants.{Imm, Reg}
+use Rattle.bq_insn.specs.declared.Source.{Source}
+use Rattle.bq_states.specs.declared.abstract_state.Kind.TheVariants.{Number}
+use Rattle.bq_states.specs.declared.abstract_state.Kind.{Kind}
+use Rattle.bq_states.specs.declared.abstract_state.AbstractValue.{AbstractValue}
+use Rattle.bq_states.specs.declared.abstract_state.AbstractState.{AbstractState}
+
+-- a number; that number; a pointer that is so far above what it counts from; no pointer, but perhaps nothing
+pub data Standing : Type 0 where
+  Scalar : Standing
+  Exact : ℕ → Standing
+  Pointer : Kind → ℕ → Standing
+  NoPointer : Standing
+
+abbrev pub Stands : Standing → Option AbstractValue → Type 0
+Stands Scalar None = ⊥
+Stands (Exact n) None = ⊥
+Stands (Pointer kind o) None = ⊥
+Stands NoPointer None = Unit {0}
+Stands Scalar (Some k) = k.kind ≡ Number
+Stands (Exact n) (Some k) = (k.kind ≡ Number) × (k.offset.lo ≡ n) × (k.offset.hi ≡ n)
+Stands (Pointer kind o) (Some k) = (k.kind ≡ kind) × (kind ≢ Number) × (k.offset.lo ≡ o) × (k.offset.hi ≡ o)
+Stands NoPointer (Some k) = k.kind ≡ Number
+
+abbrev pub StandsAt : Standing → AbstractState → ℕ → Type 0
+StandsAt s view r = Stands s (slice_index_or view.registers r None)
+
+-- of a register, of a byte of the stack that it is set, of a slot of eight bytes that no pointer is kept there; and what is true of no view
+pub data Fact : Type 0 where
+  Never : Fact
+  AtRegister : Standing → ℕ → Fact
+  IsSetAt : ℕ → Fact
+  IsPlainAt : ℕ → Fact
+
+abbrev pub Has : Fact → AbstractState → Type 0
+Has Never view = ⊥
+Has (AtRegister s r) view = Stands s (slice_index_or view.registers r None)
+Has (IsSetAt i) view = slice_index_or view.set i false ≡ true
+Has (IsPlainAt j) view = Stands NoPointer (slice_index_or view.kept j None)
+
+-- the fact stays true where a number in the register is known anew as a number
+abbrev pub Outlasts : Fact → ℕ → Type 0
+Outlasts (AtRegister (Exact n) r) dst = r ≢ dst
+Outlasts x dst = Unit {0}
+
+abbrev pub IsScalarOperand : AbstractState → Source → Type 0
+IsScalarOperand view (Imm i) = Unit {0}
+IsScalarOperand view (Reg r) = StandsAt Scalar view r
+
+-- a number, and that one
+abbrev pub IsWord : ℕ → Option AbstractValue → Type 0
+IsWord word None = ⊥
+IsWord word (Some k) = (k.kind ≡ Number) × (k.offset.lo ≡ word) × (k.offset.hi ≡ word)
+
+-- the register has such a word now, and nothing else has changed
+pub record IsMade (s : Standing) (old new : AbstractState) (dst : ℕ) : Type 0 where
+  pub given : StandsAt s new dst
+  pub kept : (r : ℕ) → r ≢ dst → slice_index_or new.registers r None ≡ slice_index_or old.registers r None
+  pub set_same : new.set ≡ old.set
+  pub kept_same : new.kept ≡ old.kept
+
+abbrev pub IsGiven : AbstractState → AbstractState → ℕ → Type 0
+IsGiven old new dst = IsMade Scalar old new dst
+
+-- register 0 has such a word now, and registers from 6 on and the stack have not changed
+pub record IsCalled (s : Standing) (old new : AbstractState) : Type 0 where
+  pub given : StandsAt s new 0
+  pub kept : (r : ℕ) → 6 ≤ r → slice_index_or new.registers r None ≡ slice_index_or old.registers r None
+  pub set_same : new.set ≡ old.set
+  pub kept_same : new.kept ≡ old.kept
+
+abbrev pub IsAnswered : AbstractState → AbstractState → Type 0
+IsAnswered old new = IsCalled Scalar old new
+
+-- these bytes of the stack are set now, no other was lost, no pointer is kept anew, and no register has changed
+pub record IsStoredAt (old new : AbstractState) (from to : ℕ) : Type 0 where
+  pub registers_same : new.registers ≡ old.registers
+  pub stored : (i : ℕ) → from ≤ i → i < to → Has (IsSetAt i) new
+  pub set : (i : ℕ) → Has (IsSetAt i) old → Has (IsSetAt i) new
+  pub plain : (j : ℕ) → Has (IsPlainAt j) old → Has (IsPlainAt j) new

@@ -1,0 +1,43 @@
+-- What a branch tells of its operands, and of the places that hold the same words.
+use Rattle.std.specs.Prelude.{◌≡◌, ℕ, List, Option, Some, None, slice_set}
+use Rattle.bq_insn.specs.declared.Source.{Source}
+use Rattle.bq_insn.specs.declared.Source.TheVariants.{Reg}
+use Rattle.bq_bpf.specs.declared.shape.MapShape.{MapShape}
+use Rattle.bq_bpf.specs.Memory.{Setting, State}
+use Rattle.bq_states.specs.declared.abstract_state.AbstractValue.{AbstractValue}
+use Rattle.bq_states.specs.declared.abstract_state.AbstractState.{AbstractState}
+use Rattle.bq_states.specs.Standing.{Standing, Pointer, Fact, AtRegister, Has}
+use Rattle.bq_states.specs.AbstractStates.{Describes}
+use Rattle.bq_states.specs.declared.abstract_state.Kind.TheVariants.{EntryOrNull}
+use Rattle.bq_states.specs.declared.abstract_state.Kind.{Kind}
+
+-- a pointer of the kind is not told apart by a test
+abbrev pub IsCertain : Kind → Type 0
+IsCertain (EntryOrNull m) = ⊥
+IsCertain kind = Unit {0}
+
+-- what stays sure of a word of which more is told: all but an answer of a look-up, which becomes an entry or 0
+abbrev pub IsLastingWord : Standing → Type 0
+IsLastingWord (Pointer kind o) = IsCertain kind
+IsLastingWord s = Unit {0}
+
+abbrev pub IsLasting : Fact → Type 0
+IsLasting (AtRegister s r) = IsLastingWord s
+IsLasting x = Unit {0}
+
+-- the fact is true of the view with that word in the register
+abbrev pub HasLearnt : Fact → AbstractState → ℕ → AbstractValue → Type 0
+HasLearnt x view dst word = Has x (record view { registers = slice_set view.registers dst (Some word) })
+
+-- what is known of a word that is also as told
+abbrev pub IsSharper : AbstractValue → Option AbstractValue → Option AbstractValue → Type 0
+IsSharper told old None = Unit {0}
+IsSharper told None (Some new) = ⊥
+IsSharper told (Some old) (Some new) = (shapes : List MapShape) (n : ℕ) → Describes shapes told n → Describes shapes old n → Describes shapes new n
+
+-- both operands are as told
+pub record IsTold (f : Setting) (s : State) (dst : ℕ) (src : Source) (left right : AbstractValue) : Type 0 where
+  pub word : ℕ
+  pub is : s.register dst ≡ Some word
+  pub left_is : Describes f.shapes left word
+  pub right_is : (r : ℕ) → src ≡ Reg r → (n : ℕ) × (s.register r ≡ Some n) × Describes f.shapes right n

@@ -1,0 +1,88 @@
+// Places that are known to hold one word: registers, and from 11 on slots of eight bytes of the stack.
+
+ghost use Rattle.std.specs.Prelude.{◌≡◌, ◌≢◌, ◌+◌, ◌<◌, ◌≤◌, ℕ, length, slice_index};
+ghost use Rattle.bq_bpf.specs.Memory.{State};
+ghost use Rattle.bq_states.specs.Copies.{AreCopies, HasWord, KeepsClasses, PartsFirst, PartsSlots};
+
+/// Registers 0 to 5 are written.
+pub fn part_first(classes: &mut [u8])
+    requires { length classes.old ≡ 75 }
+    ensures { PartsFirst classes.old classes.new }
+{
+    for register in 0..6 {
+        classes[register] = 0;
+    }
+}
+
+/// These bytes of the stack are written.
+pub fn part_slots(classes: &mut [u8], from: usize, to: usize)
+    requires room { length classes.old ≡ 75 }
+    requires order { from ≤ to }
+    requires inside { to ≤ 512 }
+    ensures { PartsSlots classes.old classes.new from to }
+{
+    for slot in from / 8..(to + 7) / 8 {
+        classes[11 + slot] = 0;
+    }
+}
+
+/// The place holds what another one holds.
+pub fn link(classes: &mut [u8], to: usize, from: usize)
+    requires to { to < length classes.old }
+    requires from { from < 75 }
+    requires room { length classes.old ≡ 75 }
+    ensures { (s : State) (n : ℕ) → AreCopies classes.old s → HasWord s from n → ((m : ℕ) → HasWord s from m → HasWord s to m) → AreCopies classes.new s }
+{
+    let class = class_of(classes, from);
+    classes[to] = class;
+}
+
+/// The class of a place; it gets its own if it had none.
+fn class_of(classes: &mut [u8], place: usize) -> u8
+    requires place { place < 75 }
+    requires room { length classes.old ≡ 75 }
+    ensures some { result ≢ 0 }
+    ensures long { length classes.new ≡ 75 }
+    ensures word { (s : State) (n : ℕ) → AreCopies classes.old s → HasWord s place n → (word : ℕ → ℕ) × HasWord s place (word result) × ((p : ℕ) → slice_index classes.new p ≢ 0 → HasWord s p (word (slice_index classes.new p))) }
+{
+    let class = classes[place];
+    if class != 0 {
+        return class;
+    }
+    let own = place as u8 + 1;
+    retire(classes, own);
+    classes[place] = own;
+    own
+}
+
+/// No place is of that class.
+fn retire(classes: &mut [u8], class: u8)
+    ensures keeps { KeepsClasses classes.old classes.new }
+    ensures gone { class ≢ 0 → (p : ℕ) → slice_index classes.new p ≢ class }
+{
+    for place in 0..classes.len() {
+        if classes[place] == class {
+            classes[place] = 0;
+        }
+    }
+}
+
+/// What both say.
+pub fn keep_same(into: &mut [u8], other: &[u8])
+    requires { length into.old ≡ length other.now }
+    ensures left { KeepsClasses into.old into.new }
+    ensures right { KeepsClasses other.now into.new }
+{
+    for place in 0..into.len() {
+        into[place] = same(into[place], other[place]);
+    }
+}
+
+/// The class that both are, if they are of one.
+#[inline(always)]
+fn same(a: u8, b: u8) -> u8
+    ensures left { result ≢ 0 → result ≡ a }
+    ensures right { result ≢ 0 → result ≡ b }
+{
+    if a == b { a } else { 0 }
+}

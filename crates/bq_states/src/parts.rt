@@ -1,0 +1,136 @@
+// Numbers that are stored in a few bytes of the stack.
+
+ghost use Rattle.std.specs.Prelude.{◌≡◌, ◌+◌, ◌^◌, ◌<◌, ℕ, Some, None, List, Option, length, slice_index_or};
+ghost use Rattle.bq_insn.specs.Slots.{byte_count};
+ghost use Rattle.bq_bpf.specs.Steps.{low_bytes};
+ghost use Rattle.bq_bpf.specs.Memory.{number_of};
+ghost use Rattle.bq_ranges.specs.Within.{Within};
+ghost use Rattle.bq_states.specs.Parts.{AllowsPart, HasBytes, HaveParts, Outlives};
+
+use crate::abstract_state::Part;
+use bq_insn::Size;
+use bq_ranges::Range;
+
+/// A number of the range was stored there: its low bytes are known.
+fn keep_part(parts: &mut [Option<Part>], first: u16, size: Size, word: Range)
+    requires { length parts.old ≡ 4 }
+    ensures { (stack : ℕ → Option ℕ) (v : ℕ) → Within word v → HasBytes stack first (byte_count size) (low_bytes size v) → HaveParts stack parts.old → HaveParts stack parts.new }
+{
+    let range = low_of(size, word);
+    parts[place_of(first)] = Some(Part { first, size, range });
+}
+
+/// A number of the range was stored at an offset of the range: its low bytes are known if it is one place.
+pub fn store_part(parts: &mut [Option<Part>], at: Range, size: Size, word: Range)
+    requires room { length parts.old ≡ 4 }
+    requires small { at.hi < 2 ^ 16 }
+    ensures { (stack : ℕ → Option ℕ) (o v : ℕ) → Within at o → Within word v → HasBytes stack o (byte_count size) (low_bytes size v) → HaveParts stack parts.old → HaveParts stack parts.new }
+{
+    if at.is_single() {
+        keep_part(parts, at.lo as u16, size, word);
+    }
+}
+
+/// The numbers that a read of so many bytes at an offset of the range gives.
+pub fn numbers_at(parts: &[Option<Part>], at: Range, size: Size) -> Range
+    requires { length parts.now ≡ 4 }
+    ensures { (stack : ℕ → Option ℕ) (o : ℕ) (bytes : List ℕ) → HaveParts stack parts.now → Within at o → HasBytes stack o (byte_count size) bytes → number_of bytes < 256 ^ byte_count size → Within result (number_of bytes) }
+{
+    if !at.is_single() || at.lo >= 512 {
+        return numbers(size);
+    }
+    let first = at.lo as u16;
+    let Some(part) = parts[place_of(first)] else {
+        return numbers(size);
+    };
+    if part.first != first || part.size != size {
+        return numbers(size);
+    }
+    part.range
+}
+
+/// Parts of which a byte is among these are forgotten.
+pub fn forget_parts(parts: &mut [Option<Part>], from: usize, to: usize)
+    ensures { (j : ℕ) → Outlives from to (slice_index_or parts.old j None) (slice_index_or parts.new j None) }
+{
+    for j in 0..parts.len() {
+        parts[j] = apart(parts[j], from, to);
+    }
+}
+
+/// The part, if none of these bytes is one of its own.
+fn apart(part: Option<Part>, from: usize, to: usize) -> Option<Part>
+    ensures { Outlives from to part result }
+{
+    let Some(part) = part else {
+        return None;
+    };
+    let first = usize::from(part.first);
+    if first < to && from < first + part.size.bytes() {
+        return None;
+    }
+    Some(part)
+}
+
+/// Each part as both ways know it.
+pub fn join_parts(into: &mut [Option<Part>], other: &[Option<Part>])
+    requires { length into.old ≡ length other.now }
+    ensures left { (k : ℕ) → AllowsPart (slice_index_or into.old k None) (slice_index_or into.new k None) }
+    ensures right { (k : ℕ) → AllowsPart (slice_index_or other.now k None) (slice_index_or into.new k None) }
+{
+    for i in 0..into.len() {
+        into[i] = join_part(into[i], other[i]);
+    }
+}
+
+/// What both say of the same bytes.
+fn join_part(a: Option<Part>, b: Option<Part>) -> Option<Part>
+    ensures left { AllowsPart a result }
+    ensures right { AllowsPart b result }
+{
+    let (Some(a), Some(b)) = (a, b) else {
+        return None;
+    };
+    if a.first != b.first || a.size != b.size {
+        return None;
+    }
+    Some(Part {
+        first: a.first,
+        size: a.size,
+        range: a.range.hull(b.range),
+    })
+}
+
+/// Where a part is kept.
+fn place_of(first: u16) -> usize
+    ensures { result < 4 }
+{
+    usize::from(first / 4 % 4)
+}
+
+/// The low bytes of words of the range.
+fn low_of(size: Size, word: Range) -> Range
+    ensures { (v : ℕ) → Within word v → Within result (number_of (low_bytes size v)) }
+{
+    let all = numbers(size);
+    if word.hi <= all.hi { word } else { all }
+}
+
+/// The numbers of so many bytes.
+pub fn numbers(size: Size) -> Range
+    ensures all { (x : ℕ) → x < 256 ^ byte_count size → Within result x }
+    ensures below { result.hi < 256 ^ byte_count size }
+{
+    match size {
+        Size::Byte => Range { lo: 0, hi: 0xff },
+        Size::Half => Range { lo: 0, hi: 0xffff },
+        Size::Word => Range {
+            lo: 0,
+            hi: 0xffff_ffff,
+        },
+        Size::Double => Range {
+            lo: 0,
+            hi: u64::MAX,
+        },
+    }
+}

@@ -1,0 +1,162 @@
+// How far a pointer reaches, and what may be read there.
+
+ghost use Rattle.std.specs.Prelude.{Some, ◌↔◌, ◌≡◌, ◌+◌, ◌^◌, ◌<◌, ◌≤◌, ℕ, IsTrue, length, IfSome, false, true, slice_get, slice_index_or, None};
+ghost use Rattle.bq_insn.specs.Slots.{byte_count};
+ghost use Rattle.bq_ranges.specs.Within.{Within};
+ghost use Rattle.bq_states.specs.Standing.{Pointer, StandsAt};
+ghost use Rattle.bq_states.specs.AbstractStates.{bound_of, Bounds, FindsBytes};
+
+use crate::abstract_state::{AbstractState, Kind};
+use crate::registers::known;
+use bq_bpf::MapShape;
+use bq_insn::Size;
+use bq_ranges::Range;
+
+/// How many bytes there are where a pointer of the kind points to, if it may be followed.
+pub fn bound(kind: Kind, shapes: &[MapShape], context: usize) -> Option<usize>
+    ensures bounds { IfSome result (Bounds shapes.now context kind) }
+    ensures is { result ≡ bound_of shapes.now context kind }
+    ensures small { context < 2 ^ 16 → IfSome result (λ bytes. bytes ≤ 65536) }
+{
+    match kind {
+        Kind::Context => Some(context),
+        Kind::Stack => Some(512),
+        Kind::Entry(map) => {
+            let Some(shape) = shape_of(shapes, map) else {
+                return None;
+            };
+            Some(usize::from(shape.value_size))
+        }
+        _ => None,
+    }
+}
+
+/// The shape of a map, if there is one of that number.
+pub fn shape_of(shapes: &[MapShape], map: u8) -> Option<MapShape>
+    ensures { result ≡ slice_get shapes.now map }
+{
+    let map = usize::from(map);
+    if map < shapes.len() {
+        Some(shapes[map])
+    } else {
+        None
+    }
+}
+
+/// Whether an access at each offset of the range stays below the bound.
+pub fn stays(at: Range, size: Size, bound: usize) -> bool
+    requires { bound < 2 ^ 32 }
+    ensures { IsTrue result ↔ (at.hi + byte_count size ≤ bound) }
+{
+    let count = size.bytes();
+    if bound < count {
+        return false;
+    }
+    at.hi <= (bound - count) as u64
+}
+
+/// Whether the bytes of an access at each offset of the range are set, where they are on the stack.
+pub fn is_readable(view: &AbstractState, kind: Kind, at: Range, size: Size) -> bool
+    ensures stack { IsTrue result → kind ≡ Kind.Stack → (o i : ℕ) → Within at o → i < byte_count size → slice_index_or view.now.set (o + i) false ≡ true }
+    ensures found { (kind ≡ Kind.Stack → at.hi + byte_count size ≤ 512) → (kind ≡ Kind.Stack → (i : ℕ) → at.lo ≤ i → i < at.hi + byte_count size → slice_index_or view.now.set i false ≡ true) → IsTrue result }
+{
+    match kind {
+        Kind::Stack => {
+            if !stays(at, size, 512) {
+                return false;
+            }
+            is_set(view, at, size)
+        }
+        _ => true,
+    }
+}
+
+/// Whether all stack bytes of an access at each offset of the range are set.
+fn is_set(view: &AbstractState, at: Range, size: Size) -> bool
+    requires { at.hi + byte_count size ≤ 512 }
+    ensures all { IsTrue result → (o i : ℕ) → Within at o → i < byte_count size → slice_index_or view.now.set (o + i) false ≡ true }
+    ensures found { ((i : ℕ) → at.lo ≤ i → i < at.hi + byte_count size → slice_index_or view.now.set i false ≡ true) → IsTrue result }
+{
+    all_set(&view.set, at.lo as usize, at.hi as usize + size.bytes())
+}
+
+/// Whether all of these bytes are set.
+fn all_set(set: &[bool], from: usize, to: usize) -> bool
+    requires { to ≤ length set.now }
+    ensures all { IsTrue result → (k : ℕ) → from ≤ k → k < to → slice_index_or set.now k false ≡ true }
+    ensures found { ((k : ℕ) → from ≤ k → k < to → slice_index_or set.now k false ≡ true) → IsTrue result }
+{
+    for k in from..to {
+        if !set[k] {
+            return false;
+        }
+    }
+    true
+}
+
+/// Whether a register points to so many bytes that may be read.
+pub fn reads(
+    view: &AbstractState,
+    shapes: &[MapShape],
+    context: usize,
+    register: u8,
+    size: Size,
+) -> bool
+    requires { context < 2 ^ 16 }
+    ensures finds { IsTrue result → FindsBytes shapes.now context view.now register (byte_count size) }
+    ensures accepts { (place : ℕ) → StandsAt (Pointer Kind.Stack place) view.now register → place + byte_count size ≤ 512 → ((i : ℕ) → place ≤ i → i < place + byte_count size → slice_index_or view.now.set i false ≡ true) → IsTrue result }
+{
+    let Some(base) = known(view, register) else {
+        return false;
+    };
+    let Some(bound) = bound(base.kind, shapes, context) else {
+        return false;
+    };
+    if bound > 0x1_0000 {
+        return false;
+    }
+    if !stays(base.offset, size, bound) {
+        return false;
+    }
+    is_readable(view, base.kind, base.offset, size)
+}
+
+/// Whether a register points to so many bytes that may be read.
+pub fn reads_value(
+    view: &AbstractState,
+    shapes: &[MapShape],
+    context: usize,
+    register: u8,
+    count: usize,
+) -> bool
+    requires context { context < 2 ^ 16 }
+    requires count { count ≤ 256 }
+    ensures finds { IsTrue result → FindsBytes shapes.now context view.now register count }
+    ensures accepts { (place : ℕ) → StandsAt (Pointer Kind.Stack place) view.now register → place + count ≤ 512 → ((i : ℕ) → place ≤ i → i < place + count → slice_index_or view.now.set i false ≡ true) → IsTrue result }
+{
+    let Some(base) = known(view, register) else {
+        return false;
+    };
+    let Some(bound) = bound(base.kind, shapes, context) else {
+        return false;
+    };
+    if bound > 0x1_0000 || bound < count || base.offset.hi > (bound - count) as u64 {
+        return false;
+    }
+    match base.kind {
+        Kind::Stack => stack_is_set(view, base.offset, count),
+        _ => true,
+    }
+}
+
+/// Whether so many stack bytes from each offset of the range on are set.
+fn stack_is_set(view: &AbstractState, at: Range, count: usize) -> bool
+    requires { count ≤ 256 }
+    ensures all { IsTrue result → (o i : ℕ) → Within at o → i < count → slice_index_or view.now.set (o + i) false ≡ true }
+    ensures found { at.hi + count ≤ 512 → ((i : ℕ) → at.lo ≤ i → i < at.hi + count → slice_index_or view.now.set i false ≡ true) → IsTrue result }
+{
+    if at.hi > (512 - count) as u64 {
+        return false;
+    }
+    all_set(&view.set, at.lo as usize, at.hi as usize + count)
+}

@@ -1,0 +1,60 @@
+// Registers of a view.
+
+ghost use Rattle.std.specs.Prelude.{◌≡◌, ◌<◌, ℕ, ℤ, None, IfSome, length, slice_index_or};
+ghost use Rattle.bq_alu.specs.Meaning.{word_of};
+ghost use Rattle.bq_states.specs.Standing.{IsScalarOperand, IsWord, Scalar, Stands};
+ghost use Rattle.bq_states.specs.AbstractStates.{Clears, Finds, knowing};
+
+use crate::abstract_state::{AbstractState, AbstractValue, Kind};
+use bq_insn::Source;
+use bq_ranges::Range;
+
+/// What is known of an operand, if it is set.
+pub fn operand(view: &AbstractState, src: Source) -> Option<AbstractValue>
+    ensures finds { IfSome result (Finds view.now src) }
+    ensures scalar { IsScalarOperand view.now src → Stands Scalar result }
+    ensures immediate { (i : ℤ) → src ≡ Source.Imm i → IsWord (word_of i) result }
+    ensures register { (r : ℕ) → src ≡ Source.Reg r → result ≡ slice_index_or view.now.registers r None }
+{
+    match src {
+        Source::Imm(imm) => {
+            let word = i64::from(imm).cast_unsigned();
+            Some(AbstractValue {
+                kind: Kind::Number,
+                offset: Range::single(word),
+            })
+        }
+        Source::Reg(register) => known(view, register),
+    }
+}
+
+/// What is known of a register, if it is set.
+pub fn known(view: &AbstractState, register: u8) -> Option<AbstractValue>
+    ensures { result ≡ slice_index_or view.now.registers register None }
+{
+    if register < 11 {
+        view.registers[usize::from(register)]
+    } else {
+        None
+    }
+}
+
+/// Writes what is known of a register.
+pub fn learn(view: &mut AbstractState, register: u8, word: AbstractValue)
+    requires { register < 11 }
+    ensures is { view.new ≡ knowing view.old register word }
+    ensures long { length view.old.registers ≡ 11 }
+{
+    view.registers[usize::from(register)] = Some(word);
+    view.classes[usize::from(register)] = 0;
+}
+
+/// Registers 1 to 5 are forgotten, as after a call.
+pub fn clear(registers: &mut [Option<AbstractValue>])
+    requires { length registers.old ≡ 11 }
+    ensures { Clears registers.old registers.new }
+{
+    for register in 1..6 {
+        registers[register] = None;
+    }
+}

@@ -1,0 +1,65 @@
+// Bytes of the stack that are written: which are set then, and what is forgotten.
+
+ghost use Rattle.std.specs.Prelude.{◌≡◌, ◌+◌, ◌*◌, ◌<◌, ◌≤◌, ℕ, true, false, List, None, Some, length, slice_index, slice_index_or};
+ghost use Rattle.bq_insn.specs.Slots.{byte_count};
+ghost use Rattle.bq_bpf.specs.Memory.{Setting, State, InStack, written};
+ghost use Rattle.bq_bpf.specs.Steps.{next};
+ghost use Rattle.bq_ranges.specs.Within.{Within};
+ghost use Rattle.bq_states.specs.Standing.{IsStoredAt};
+ghost use Rattle.bq_states.specs.AbstractStates.{Contains, Forgets, Marks, keeping};
+
+use crate::abstract_state::{AbstractState, AbstractValue};
+use crate::copies::part_slots;
+use crate::parts::forget_parts;
+use bq_insn::Size;
+use bq_ranges::Range;
+
+/// Bytes are written somewhere in the range: what was kept there is forgotten, and they are set if it is one place.
+pub fn overwrite(view: &mut AbstractState, at: Range, size: Size)
+    requires { at.hi + byte_count size ≤ 512 }
+    ensures long { length view.new.kept ≡ 64 }
+    ensures stored { at.lo ≡ at.hi → IsStoredAt view.old view.new at.lo (at.hi + byte_count size) }
+    ensures covers { (f : Setting) (s : State) (o : ℕ) (bytes : List ℕ) → Contains f view.old s → Within at o → length bytes ≡ byte_count size → ((k : ℕ) → k < length bytes → slice_index bytes k < 256) → Contains f view.new (next (written s InStack o bytes)) }
+{
+    let from = at.lo as usize;
+    let to = at.hi as usize + size.bytes();
+    forget(&mut view.kept, from, to);
+    forget_parts(&mut view.parts, from, to);
+    part_slots(&mut view.classes, from, to);
+    if !at.is_single() {
+        return;
+    }
+    mark(&mut view.set, from, to);
+}
+
+/// A word is kept in a slot of eight bytes.
+pub fn keep(view: &mut AbstractState, slot: usize, word: AbstractValue)
+    requires { slot < 64 }
+    ensures { view.new ≡ keeping view.old slot word }
+{
+    view.kept[slot] = Some(word);
+}
+
+/// These bytes are set.
+fn mark(set: &mut [bool], from: usize, to: usize)
+    requires { to ≤ length set.old }
+    ensures only { Marks set.old set.new from to }
+    ensures marked { (i : ℕ) → from ≤ i → i < to → slice_index_or set.new i false ≡ true }
+    ensures kept { (i : ℕ) → slice_index_or set.old i false ≡ true → slice_index_or set.new i false ≡ true }
+{
+    for k in from..to {
+        set[k] = true;
+    }
+}
+
+/// Words that were kept where these bytes lie are forgotten.
+fn forget(kept: &mut [Option<AbstractValue>], from: usize, to: usize)
+    requires { length kept.old ≤ 64 }
+    ensures { Forgets kept.old kept.new from to }
+{
+    for j in 0..kept.len() {
+        if j * 8 < to && from < j * 8 + 8 {
+            kept[j] = None;
+        }
+    }
+}

@@ -1,0 +1,20 @@
+use Rattle.std.proofs.Common.{◌≢◌, sym, subst, refl, rules, Err}
+use Rattle.bq_parts.specs.declared.refusal.Refusal.TheVariants as no
+use Rattle.bq_trace.specs.News.{Comes, Answered}
+use Rattle.bq_trace.specs.Telling.{Happens}
+use Rattle.bq_trace.proofs.TakingLemmas.{gets_two}
+use Rattle.bq_trace.proofs.any_core.AnyCore.happen.Goals as goal
+
+pub returns : goal.returns
+returns g c =
+    let takes = g.S.Sink.takes in
+    let n = c.args.number in
+    let answer = c.step-answer.result in
+    let apart : answer ≢ Err no.OutOfMemory = search rules in
+    let comes = subst (λ e. takes c.args.sink.now n (Comes e c.args.self.now) c.comes.new.self) c.bare-told.ensures c.in_ok-comes.ensures in
+    let answered = subst (λ e. takes c.comes.new.self n (Answered e answer c.step-answer.new.self) c.answered.new.self) c.bare-told.ensures c.in_ok-answered.ensures in (
+      answer,
+      sym c.is_ok.ensures.value,
+      gets_two takes c.args.sink.now c.comes.new.self c.answered.new.self n _ _ (λ told. Happens c.args.self.now n c.args.event answer told c.step-answer.new.self)
+          comes answered (record { answered = apart; moves = c.step-answer.ensures; tells = refl }),
+    )

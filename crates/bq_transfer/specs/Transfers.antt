@@ -1,0 +1,67 @@
+-- What an instruction does to a view: from every state of the old one it leads to a state of the new one.
+use Rattle.std.specs.Prelude.{◌≡◌, ℕ, ℤ, ◌+◌, ◌*◌, ◌^◌, ◌<◌, List, Option, Some}
+use Rattle.bq_insn.specs.declared.Insn.{Insn}
+use Rattle.bq_insn.specs.Slots.{slots_of, byte_count}
+use Rattle.bq_insn.specs.declared.Size.{Size}
+use Rattle.bq_insn.specs.declared.Size.TheVariants.{Double}
+use Rattle.bq_alu.specs.Meaning.{alu_result}
+use Rattle.bq_graph.specs.Edges.{Leaves}
+use Rattle.bq_bpf.specs.declared.shape.MapShape.{MapShape}
+use Rattle.bq_bpf.specs.Memory.{Setting, State, Region, IsGood, Writes}
+use Rattle.bq_bpf.specs.declared.board.Call.{Call as Asked}
+use Rattle.bq_bpf.specs.Counters.{answer_of}
+use Rattle.bq_bpf.specs.Steps.{Does, Asks, called, address_of, low_bytes, next}
+use Rattle.bq_ranges.specs.Within.{Within}
+use Rattle.bq_ranges.specs.declared.range.Range.{Range}
+use Rattle.bq_states.specs.Copies.{HasWord}
+use Rattle.bq_states.specs.declared.abstract_state.Kind.{Kind}
+use Rattle.bq_states.specs.declared.abstract_state.AbstractValue.{AbstractValue}
+use Rattle.bq_states.specs.declared.abstract_state.AbstractState.{AbstractState}
+use Rattle.bq_insn.specs.declared.Operation.TheVariants.{Mov}
+use Rattle.bq_insn.specs.declared.Width.{Width}
+use Rattle.bq_states.specs.AbstractStates.{Contains, Describes, IsOfKind, Suits}
+
+-- from every state of the old view the instruction has a step, to a state of the new one at the next slot
+abbrev pub Transfers : List MapShape → ℕ → Insn → AbstractState → AbstractState → Type 0
+Transfers shapes context_length insn old new =
+    (f : Setting) (s : State) → Suits shapes context_length f → Contains f old s → (t : State) × Does f insn s t × Contains f new t × (t.slot ≡ s.slot + slots_of insn)
+
+-- in every state of the old view the instruction calls a counter, and whatever the answer is, the new view is right after it
+abbrev pub AsksFrom : Insn → AbstractState → AbstractState → Type 0
+AsksFrom insn old new =
+    (f : Setting) (s : State) (x : ℕ) → Contains f old s → x < 2 ^ 64 → (c : Asked) × (answer_of c ≡ x) × Asks insn s c × Contains f new (called s x)
+
+-- in every state of the view the register is set, and is below that number
+abbrev pub IsBelow : AbstractState → ℕ → ℕ → Type 0
+IsBelow view r bound = (f : Setting) (s : State) → Contains f view s → (n : ℕ) × (s.register r ≡ Some n) × (n < bound)
+
+-- in every state of the view the register is set, to a number of the range
+abbrev pub HoldsNumber : AbstractState → ℕ → Range → Type 0
+HoldsNumber view r range = (f : Setting) (s : State) → Contains f view s → (n : ℕ) × (s.register r ≡ Some n) × Within range n
+
+-- in every state of the view the access is good: the region is of that kind, and the offset in the range
+abbrev pub FindsPlace : List MapShape → ℕ → AbstractState → ℕ → ℤ → Size → Kind → Range → Type 0
+FindsPlace shapes context_length view r off size kind at =
+    (f : Setting) (s : State) → Suits shapes context_length f → Contains f view s → (word : ℕ) × (region : Region) × (o : ℕ) × (s.register r ≡ Some word) × IsGood f (address_of word off) (byte_count size) region o × IsOfKind kind region × Within at o
+
+-- the eight bytes of that slot of the stack
+abbrev pub IsWholeSlot : Range → Size → ℕ → Type 0
+IsWholeSlot at size slot = (slot < 64) × (size ≡ Double) × (at.lo ≡ 8 * slot) × (at.hi ≡ 8 * slot)
+
+-- from every state of the old view the low bytes of such a word can be written there, which leads to a state of the new one, where the slot, if there is one, has the word
+abbrev pub Stores : List MapShape → ℕ → ℕ → ℤ → Size → AbstractValue → AbstractState → AbstractState → Option ℕ → Type 0
+Stores shapes context_length dst off size k old new slot =
+    (f : Setting) (s : State) (v : ℕ) → Suits shapes context_length f → Contains f old s → Describes f.shapes k v
+    → (a : ℕ) × (u : State) × (s.register dst ≡ Some a) × Writes f s (address_of a off) (low_bytes size v) u × Contains f new (next u) × (u.slot ≡ s.slot) × (u.register ≡ s.register) × ((n : ℕ) → slot ≡ Some n → HasWord u (11 + n) v)
+
+-- control only goes on to the next instruction
+abbrev pub IsStraight : Insn → Type 0
+IsStraight insn = (slot : ℕ) → Leaves insn slot (slot + slots_of insn)
+
+-- the register got what a MOV of that width makes of another one, which is described so
+pub record IsCopied (s : State) (dst r : ℕ) (width : Width) (k : AbstractValue) : Type 0 where
+  pub shapes : List MapShape
+  pub word : ℕ
+  pub from_is : s.register r ≡ Some word
+  pub described : Describes shapes k word
+  pub to_is : s.register dst ≡ Some (alu_result width Mov 0 word)

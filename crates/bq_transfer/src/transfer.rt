@@ -1,0 +1,78 @@
+// Instructions after which the next one runs.
+
+ghost use Rattle.std.specs.Prelude.{ℕ, IsOk, ◌<◌, ◌≤◌, ◌^◌, OnOk, length, IfErr};
+ghost use Rattle.bq_transfer.specs.Doubts.{MayDoubt};
+ghost use Rattle.bq_transfer.specs.Transfers.{Transfers, IsStraight};
+ghost use Rattle.bq_transfer.specs.After.{After};
+ghost use Rattle.bq_states.specs.Standing.{Fact, Has};
+ghost use Rattle.bq_transfer.specs.Ready.{IsTransferred, IsReady, WritesBelowFrame};
+
+use crate::alu::alu;
+use crate::calls::{call, map_ref};
+use crate::doubt::Doubt;
+use crate::loads::load;
+use crate::moves::{extend, immediate, negate, reorder};
+use crate::stores::{store_imm, store_reg};
+use bq_bpf::MapShape;
+use bq_insn::Insn;
+use bq_states::abstract_state::AbstractState;
+
+/// The view after the instruction.
+pub fn transfer(
+    view: &mut AbstractState,
+    shapes: &[MapShape],
+    context: usize,
+    insn: Insn,
+) -> Result<(), Doubt>
+    requires context { context < 2 ^ 16 }
+    requires few { length shapes.now ≤ 8 }
+    requires transferred { IsTransferred insn }
+    requires below { WritesBelowFrame insn }
+    ensures straight { OnOk result (IsStraight insn) }
+    ensures transfers { OnOk result (Transfers shapes.now context insn view.old view.new) }
+    ensures doubts { IfErr result (λ doubt. MayDoubt doubt insn) }
+    ensures accepts { IsReady shapes.now context view.old insn → IsOk result × ((x : Fact) (slot k : ℕ) → After x slot k insn view.old → Has x view.new) }
+{
+    match insn {
+        Insn::Alu {
+            width,
+            op,
+            dst,
+            src,
+        } => alu(view, width, op, dst, src)?,
+        Insn::MovSx {
+            width,
+            bits,
+            dst,
+            src,
+        } => extend(view, width, bits, dst, src)?,
+        Insn::Neg { width, dst } => negate(view, width, dst)?,
+        Insn::End { kind, bits, dst } => reorder(view, kind, bits, dst)?,
+        Insn::Imm64 { dst, value } => immediate(view, dst, value),
+        Insn::Load {
+            size,
+            signed,
+            dst,
+            src,
+            off,
+        } => load(view, shapes, context, size, signed, dst, src, off)?,
+        Insn::StoreImm {
+            size,
+            dst,
+            off,
+            imm,
+        } => store_imm(view, shapes, context, size, dst, off, imm)?,
+        Insn::StoreReg {
+            size,
+            dst,
+            off,
+            src,
+        } => store_reg(view, shapes, context, size, dst, off, src)?,
+        Insn::MapRef { dst, index } => map_ref(view, shapes, dst, index)?,
+        Insn::Call { helper } => call(view, shapes, context, helper)?,
+        Insn::Goto { .. } | Insn::Goto32 { .. } | Insn::Branch { .. } | Insn::Exit => {
+            unreachable!()
+        }
+    }
+    Ok(())
+}
