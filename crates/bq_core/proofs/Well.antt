@@ -2,7 +2,7 @@
 use Rattle.std.proofs.Common.{◌≡◌, ℕ, zero, suc, Bool, true, false, List, [], ◌∷◌, Option, Some, None, refl, sym, subst, get_or, set}
 use Rattle.std.specs.Prelude.{◌==◌}
 use Rattle.bq_disc.specs.Tasks.{Task, with_id, without, place, id_of}
-use Rattle.bq_disc.specs.Trees.{IsRising}
+use Rattle.bq_disc.specs.Rising.{IsRising}
 use Rattle.bq_disc.specs.Discipline.{Discipline, woken, pulled, next_of}
 use Rattle.bq_disc.specs.OneProcessor.{Running, run_id, start, exchanged, switched, decided, entered}
 use Rattle.bq_disc.proofs.RisingFacts.{IsRising-place, IsRising-without}

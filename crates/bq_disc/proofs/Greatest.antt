@@ -6,7 +6,7 @@ use Rattle.std.proofs.lemmas.List.{map-append, reverse-append}
 use Rattle.std.proofs.lemmas.Bool.Decides.{nat_tests}
 use Rattle.bq_disc.specs.Tasks.{Task, id_of, first_by, former, runs_before}
 use Rattle.bq_disc.specs.Queues.{can_use}
-use Rattle.bq_disc.specs.Trees.{IsRising, NoneRunsBefore}
+use Rattle.bq_disc.specs.Rising.{IsRising, NoneRunsBefore}
 use Rattle.bq_disc.specs.Movable.{movable_to, ids}
 use Rattle.bq_disc.specs.Pulls.{pulled_before, movable}
 

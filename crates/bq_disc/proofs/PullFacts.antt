@@ -5,7 +5,7 @@ use Rattle.std.specs.List.{slice_get}
 use Rattle.std.proofs.lemmas.Bool.Decides.{nat_tests}
 use Rattle.bq_disc.specs.Tasks.{Task, id_of, first_by, runs_before}
 use Rattle.bq_disc.specs.Queues.{can_use}
-use Rattle.bq_disc.specs.Trees.{IsRising}
+use Rattle.bq_disc.specs.Rising.{IsRising}
 use Rattle.bq_disc.specs.Movable.{movable_to, ids}
 use Rattle.bq_disc.specs.Orders.{first_by-member, first_by-exists}
 use Rattle.bq_disc.specs.Pulls.{pulled_before, movable, pull_of, IsLawfulPull}

@@ -4,7 +4,7 @@ use Rattle.std.specs.Prelude.{IfSome, find}
 use Rattle.std.proofs.lemmas.Bool.Decides.{nat_tests}
 use Rattle.bq_disc.specs.Tasks.{Task, place, without, runs_before, first_by, former}
 use Rattle.bq_disc.specs.Queues.{follows}
-use Rattle.bq_disc.specs.Trees.{IsRising, NoneRunsBefore}
+use Rattle.bq_disc.specs.Rising.{IsRising, NoneRunsBefore}
 
 not_before : (x y z : Task) → runs_before x y ≡ false → runs_before y z ≡ false → runs_before x z ≡ false
 not_before x y z p q = grind (arith, nat_tests)

@@ -30,7 +30,7 @@ impl Model for Chain {
     ghost coded = { coded_list coded_task };
 
     ghost use Rattle.bq_disc.specs.Chains.{chain_behind, IsStraightBehind};
-    ghost use Rattle.bq_disc.specs.Trees.{IsRising};
+    ghost use Rattle.bq_disc.specs.Rising.{IsRising};
 
     ghost view = { λ q. chain_behind q.head };
 

@@ -3,7 +3,7 @@ ghost use Rattle.std.specs.Prelude.{◌≡◌, ◌≤◌, ◌<◌, ◌^◌, ℕ,
 ghost use Rattle.std.specs.Option.{option_map};
 ghost use Rattle.bq_disc.specs.Tasks.{Task, present, id_of, place, without, with_id};
 ghost use Rattle.bq_disc.specs.Queues.{follows, HasDistinctIds, HasSmallIds};
-ghost use Rattle.bq_disc.specs.Trees.{IsRising};
+ghost use Rattle.bq_disc.specs.Rising.{IsRising};
 ghost use Rattle.bq_disc.specs.Movable.{movable_to, is_movable_to, ids};
 ghost use Rattle.bq_disc.specs.Discipline.{Discipline, charged, entered_by, left_at, next_other};
 ghost use Rattle.bq_disc.specs.Chains.{task_of, IsLone};

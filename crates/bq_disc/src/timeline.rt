@@ -3,7 +3,7 @@ ghost use Rattle.std.specs.Prelude.{◌≡◌, ◌≤◌, ◌<◌, ◌^◌, List
 ghost use Rattle.std.specs.Option.{option_map};
 ghost use Rattle.bq_disc.specs.Tasks.{Task, place, without, with_id, first_by, runs_before};
 ghost use Rattle.bq_disc.specs.Queues.{follows, key_of, HasDistinctIds, HasSmallIds};
-ghost use Rattle.bq_disc.specs.Trees.{IsRising};
+ghost use Rattle.bq_disc.specs.Rising.{IsRising};
 ghost use Rattle.bq_disc.specs.Movable.{movable_to, ids};
 ghost use Rattle.bq_disc.specs.Totals.{sums_of, is_at_most_mean, HasBounds};
 ghost use Rattle.bq_disc.specs.Dues.{first_due};

@@ -3,7 +3,7 @@ ghost use Rattle.std.specs.Prelude.{◌≡◌, ◌<◌, ◌≤◌, ◌^◌, ◌+
 ghost use Rattle.std.specs.Option.{option_map};
 ghost use Rattle.bq_disc.specs.Tasks.{id_of, with_id};
 ghost use Rattle.bq_disc.specs.Queues.{follows, HasDistinctIds};
-ghost use Rattle.bq_disc.specs.Trees.{IsRising};
+ghost use Rattle.bq_disc.specs.Rising.{IsRising};
 ghost use Rattle.bq_disc.specs.Pulls.{pull_of};
 ghost use Rattle.bq_disc.specs.Discipline.{left_at};
 ghost use Rattle.bq_disc.specs.Chains.{task_of, chain_behind, IsStraightBehind};

@@ -5,7 +5,7 @@ use Rattle.std.specs.List.{AllByRecursion}
 use Rattle.std.proofs.lemmas.Bool.Decides.{nat_tests}
 use Rattle.bq_disc.specs.Tasks.{Task, runs_before, with_id}
 use Rattle.bq_disc.specs.Queues.{follows, comes_after, HasDistinctIds}
-use Rattle.bq_disc.specs.Trees.{IsRising, NoneRunsBefore}
+use Rattle.bq_disc.specs.Rising.{IsRising, NoneRunsBefore}
 
 -- the tasks that are still to come
 abbrev pub rest_after : Option (ℕ × ℕ) → List Task → List Task

@@ -3,7 +3,7 @@ use Rattle.std.proofs.Common.{◌≡◌, ℕ, ◌<◌, List, ◌∷◌, ◌++◌
 use Rattle.std.specs.Prelude.{find}
 use Rattle.bq_disc.specs.Tasks.{Task}
 use Rattle.bq_disc.specs.Queues.{follows, HasDistinctIds}
-use Rattle.bq_disc.specs.Trees.{IsRising}
+use Rattle.bq_disc.specs.Rising.{IsRising}
 use Rattle.bq_trace.specs.Texts.{spaced_entities, entity_text}
 use Rattle.bq_trace.proofs.QueueWalks.{rest_after, rest_after-next, rest_after-end}
 

@@ -4,7 +4,7 @@ use Rattle.std.specs.List.{AllByRecursion}
 use Rattle.std.proofs.Math.Nat.{mul-le-mul_left}
 use Rattle.bq_disc.specs.Tasks.{Task}
 use Rattle.bq_disc.specs.Totals.{total_weight, weighted_sum, sums_of, IsBounded, HasBounds}
-use Rattle.bq_disc.specs.Trees.{IsTree, IsTreeHeld, IsTreeBehind, in_order, in_order_held, in_order_behind}
+use Rattle.bq_tree.specs.Trees.{IsTree, IsTreeHeld, IsTreeBehind, in_order, in_order_held, in_order_behind}
 use Rattle.bq_tree.specs.Knowing.{knows_sums}
 use Rattle.bq_disc.specs.declared.node.Node.{Node, out-Node, Node', Held-Node-left, None', Some'}
 

@@ -3,7 +3,7 @@ use Rattle.std.proofs.Common.{◌≡◌, ℕ, zero, suc, ◌+◌, ◌-◌, ◌*�
 use Rattle.std.proofs.Math.Pow.{pow_mono}
 use Rattle.std.proofs.Math.Nat.{pow-suc}
 use Rattle.std.proofs.lemmas.Bool.Decides.{nat_tests}
-use Rattle.bq_disc.specs.Trees.{Knowledge, IsTree, IsTreeHeld, IsTreeBehind, in_order, in_order_held, in_order_behind, height_of, height_held, height_behind, DifferByAtMost}
+use Rattle.bq_tree.specs.Trees.{Knowledge, IsTree, IsTreeHeld, IsTreeBehind, in_order, in_order_held, in_order_behind, height_of, height_held, height_behind, DifferByAtMost}
 use Rattle.bq_disc.specs.declared.node.Node.{Node, Node', Held-Node-left, None', Some'}
 
 -- the fewest nodes of a balanced tree of some height, and of the next height

@@ -4,7 +4,7 @@ use Rattle.std.specs.Option.{option_map_or}
 use Rattle.std.proofs.lemmas.Bool.Decides.{nat_tests}
 use Rattle.bq_disc.specs.Tasks.{Task, with_id, place, runs_before}
 use Rattle.bq_disc.specs.Queues.{HasDistinctIds, HasSmallIds, key_of}
-use Rattle.bq_disc.specs.Trees.{Knowledge, IsTreeBehind, in_order_behind}
+use Rattle.bq_tree.specs.Trees.{Knowledge, IsTreeBehind, in_order_behind}
 use Rattle.bq_disc.specs.declared.node.Node.{Node}
 use Rattle.bq_disc.proofs.QueueFacts.{length-few, length-place, HasDistinctIds-place, HasSmallIds-place, HasDistinctIds-without, HasSmallIds-without}
 use Rattle.bq_tree.specs.Taking.{Takes}

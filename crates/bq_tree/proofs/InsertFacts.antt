@@ -4,7 +4,8 @@ use Rattle.std.proofs.lemmas.Bool.Decides.{nat_tests}
 use Rattle.bq_disc.specs.Tasks.{Task, place, runs_before}
 use Rattle.bq_disc.specs.Totals.{sums_of, added, IsBounded}
 use Rattle.bq_disc.specs.Dues.{due_of, first_due, earlier_of, earliest_of}
-use Rattle.bq_disc.specs.Trees.{Knowledge, IsTree, IsFork, IsTreeBehind, in_order, in_order_behind, height_of, height_behind, left_height, right_height, DifferByAtMost, CountsIn, KeepsSides, IsRising}
+use Rattle.bq_disc.specs.Rising.{IsRising}
+use Rattle.bq_tree.specs.Trees.{Knowledge, IsTree, IsFork, IsTreeBehind, in_order, in_order_behind, height_of, height_behind, left_height, right_height, DifferByAtMost, CountsIn, KeepsSides}
 use Rattle.bq_disc.specs.declared.node.Node.{Node, out-Node}
 use Rattle.bq_disc.proofs.QueueFacts.{length-place}
 use Rattle.bq_tree.proofs.OrderFacts.{IsRising-before, place-left, place-right}

@@ -2,7 +2,8 @@
 use Rattle.std.proofs.Common.{◌≡◌, ℕ, ◌+◌, max, ◌≤◌, ◌∷◌, ◌++◌, length, length-append, Option, Some, None, Box, Global, refl, ap, sym, ◌∙◌, subst, arith}
 use Rattle.bq_disc.specs.Tasks.{Task}
 use Rattle.bq_disc.specs.Totals.{IsBounded}
-use Rattle.bq_disc.specs.Trees.{Knowledge, left_height, right_height, IsTree, IsFork, in_order, in_order_behind, IsTreeBehind, IsRising, height_of, height_behind, DifferByAtMost, hanging}
+use Rattle.bq_disc.specs.Rising.{IsRising}
+use Rattle.bq_tree.specs.Trees.{Knowledge, left_height, right_height, IsTree, IsFork, in_order, in_order_behind, IsTreeBehind, height_of, height_behind, DifferByAtMost, hanging}
 use Rattle.bq_tree.proofs.OrderFacts.{IsRising-left, IsRising-right}
 use Rattle.bq_disc.specs.declared.due.Due.{Due}
 use Rattle.bq_disc.specs.declared.totals.Totals.{Totals}

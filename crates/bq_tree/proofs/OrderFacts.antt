@@ -4,7 +4,7 @@ use Rattle.std.specs.List.{AllByRecursion}
 use Rattle.std.proofs.lemmas.Bool.Decides.{nat_tests}
 use Rattle.bq_disc.specs.Tasks.{Task, place, runs_before}
 use Rattle.bq_disc.specs.Queues.{comes_after}
-use Rattle.bq_disc.specs.Trees.{IsRising, NoneRunsBefore}
+use Rattle.bq_disc.specs.Rising.{IsRising, NoneRunsBefore}
 use Rattle.bq_tree.specs.Taking.{is_at, IsAbsent, Takes, Finds}
 
 -- a task runs before none of these

@@ -5,7 +5,8 @@ use Rattle.bq_disc.specs.Tasks.{Task}
 use Rattle.bq_disc.specs.Queues.{comes_after}
 use Rattle.bq_disc.specs.Totals.{sums_of, added}
 use Rattle.bq_disc.specs.Dues.{due_of, first_due}
-use Rattle.bq_disc.specs.Trees.{Knowledge, IsTree, IsRising, in_order, in_order_behind, StillCounts, KeepsSides, hanging}
+use Rattle.bq_disc.specs.Rising.{IsRising}
+use Rattle.bq_tree.specs.Trees.{Knowledge, IsTree, in_order, in_order_behind, StillCounts, KeepsSides, hanging}
 use Rattle.bq_disc.specs.declared.node.Node.{Node, out-Node, roll-Node}
 use Rattle.bq_disc.specs.declared.totals.Totals.{Totals}
 use Rattle.bq_tree.specs.Knowing.{knows_sums}

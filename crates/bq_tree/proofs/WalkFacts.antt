@@ -5,7 +5,7 @@ use Rattle.bq_disc.specs.Tasks.{Task, runs_before}
 use Rattle.bq_disc.specs.Queues.{comes_after}
 use Rattle.std.proofs.Math.Nat.{mul-le-mul_left}
 use Rattle.bq_disc.specs.Totals.{is_at_most_mean}
-use Rattle.bq_disc.specs.Trees.{IsRising, NoneRunsBefore}
+use Rattle.bq_disc.specs.Rising.{IsRising, NoneRunsBefore}
 use Rattle.bq_tree.proofs.OrderFacts.{RunsBeforeNone, IsRising-before, IsRising-after}
 
 front_by_test : (b : Bool) (x y : Task) (o p : Option Task) → cond b (Some x) o ≡ Some y → (o ≡ Some y → p ≡ Some y) → cond b (Some x) p ≡ Some y

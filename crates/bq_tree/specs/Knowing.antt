@@ -2,7 +2,7 @@
 use Rattle.std.specs.Prelude.{◌≡◌, Some}
 use Rattle.bq_disc.specs.Totals.{sums_of}
 use Rattle.bq_disc.specs.Dues.{first_due}
-use Rattle.bq_disc.specs.Trees.{Knowledge}
+use Rattle.bq_tree.specs.Trees.{Knowledge}
 
 -- when the first of them is due, and what they have together
 abbrev pub knows_sums : Knowledge

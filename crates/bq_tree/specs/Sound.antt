@@ -6,7 +6,8 @@ use Rattle.std.specs.declared.boxed.Box.{Box}
 use Rattle.std.specs.declared.alloc.Global.{Global}
 use Rattle.bq_disc.specs.Tasks.{Task}
 use Rattle.bq_disc.specs.Queues.{HasDistinctIds, HasSmallIds, follows, key_of}
-use Rattle.bq_disc.specs.Trees.{Knowledge, IsTreeBehind, IsRising, in_order_behind}
+use Rattle.bq_disc.specs.Rising.{IsRising}
+use Rattle.bq_tree.specs.Trees.{Knowledge, IsTreeBehind, in_order_behind}
 use Rattle.bq_disc.specs.declared.node.Node.{Node}
 
 -- a table has each task's v at its id, as far as the table goes

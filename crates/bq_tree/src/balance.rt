@@ -3,7 +3,7 @@ ghost use Rattle.std.specs.Prelude.{◌≡◌, ◌<◌, ◌≤◌, ◌+◌, ◌^
 ghost use Rattle.bq_disc.specs.Chains.{task_of, IsLone};
 ghost use Rattle.bq_disc.specs.Totals.{IsBounded};
 ghost use Rattle.bq_disc.specs.declared.node.Node.{out-Node};
-ghost use Rattle.bq_disc.specs.Trees.{in_order, height_of, left_height, right_height, left_height_behind, right_height_behind, IsTree, IsFork, IsForkBehind, in_order_behind, height_behind, IsTreeBehind, DifferByAtMost};
+ghost use Rattle.bq_tree.specs.Trees.{in_order, height_of, left_height, right_height, left_height_behind, right_height_behind, IsTree, IsFork, IsForkBehind, in_order_behind, height_behind, IsTreeBehind, DifferByAtMost};
 
 use crate::summary::Summary;
 use bq_disc::node::Link;

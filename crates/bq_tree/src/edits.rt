@@ -4,7 +4,8 @@ ghost use Rattle.std.specs.Option.{option_map, option_to_list};
 ghost use Rattle.bq_disc.specs.Tasks.{place};
 ghost use Rattle.bq_disc.specs.Queues.{comes_after};
 ghost use Rattle.bq_disc.specs.Chains.{task_of, IsLone};
-ghost use Rattle.bq_disc.specs.Trees.{IsRising, in_order_behind, height_behind, IsTreeBehind, HasNoLeft, DifferByAtMost, left_behind, right_behind};
+ghost use Rattle.bq_disc.specs.Rising.{IsRising};
+ghost use Rattle.bq_tree.specs.Trees.{in_order_behind, height_behind, IsTreeBehind, HasNoLeft, DifferByAtMost, left_behind, right_behind};
 ghost use Rattle.bq_tree.specs.Taking.{is_at, Takes};
 
 use crate::balance::{gathered, height, leaf, opened, settle, settled};

@@ -3,7 +3,7 @@ ghost use Rattle.std.specs.Prelude.{◌≡◌, ◌<◌, ◌≤◌, ◌^◌, ◌+
 ghost use Rattle.std.specs.Option.{option_map, option_map_or, option_to_list};
 ghost use Rattle.bq_disc.specs.Tasks.{Task, with_id};
 ghost use Rattle.bq_disc.specs.Chains.{task_of, IsLone};
-ghost use Rattle.bq_disc.specs.Trees.{in_order_behind};
+ghost use Rattle.bq_tree.specs.Trees.{in_order_behind};
 ghost use Rattle.bq_tree.specs.Sound.{Knows, first_key, lesser_of};
 
 use crate::edits::{insert_into, pop_least, take_from};
@@ -35,7 +35,7 @@ impl<S: Summary> Model for Tree<S> {
 
     ghost coded = { coded_list coded_task };
 
-    ghost use Rattle.bq_disc.specs.Trees.{in_order_behind};
+    ghost use Rattle.bq_tree.specs.Trees.{in_order_behind};
     ghost use Rattle.bq_tree.specs.Taking.{Takes};
     ghost use Rattle.bq_tree.specs.Sound.{IsSound};
 

@@ -7,7 +7,8 @@ ghost use Rattle.bq_disc.specs.Dues.{due_of, first_due, earlier_of};
 ghost use Rattle.bq_disc.specs.declared.node.Node.{out-Node};
 ghost use Rattle.bq_disc.specs.declared.due.Due.{Due};
 ghost use Rattle.bq_disc.specs.declared.totals.Totals.{Totals};
-ghost use Rattle.bq_disc.specs.Trees.{in_order, IsTree, IsTreeBehind, IsRising, in_order_behind, CountsIn, StillCounts, KeepsSides, hanging};
+ghost use Rattle.bq_disc.specs.Rising.{IsRising};
+ghost use Rattle.bq_tree.specs.Trees.{in_order, IsTree, IsTreeBehind, in_order_behind, CountsIn, StillCounts, KeepsSides, hanging};
 ghost use Rattle.bq_tree.specs.Knowing.{knows_sums, knows_nothing};
 
 use crate::walks;

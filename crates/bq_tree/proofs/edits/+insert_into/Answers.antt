@@ -1,7 +1,7 @@
 use Rattle.std.proofs.Common.{◌≡◌, refl, true, false, ap, subst, sym, ◌∙◌, arith}
 use Rattle.bq_disc.specs.Tasks.{runs_before}
 use Rattle.bq_disc.specs.Chains.{task_of}
-use Rattle.bq_disc.specs.Trees.{CountsIn}
+use Rattle.bq_tree.specs.Trees.{CountsIn}
 use Rattle.bq_disc.specs.declared.node.Node.{Node, out-Node}
 use Rattle.bq_tree.proofs.NodeFacts.{IsSide, root_behind, left_side_of, right_side_of}
 use Rattle.bq_tree.proofs.InsertFacts.{grows_left, grows_right, rises_left, rises_right, stays_left, stays_right, not_higher}

@@ -1,4 +1,4 @@
-use Rattle.bq_disc.specs.Trees.{height_behind}
+use Rattle.bq_tree.specs.Trees.{height_behind}
 use Rattle.bq_tree.proofs.edits.+insert_into.Given as goal
 
 abbrev pub decreases-insert_into : goal.decreases-insert_into

@@ -1,4 +1,4 @@
-use Rattle.bq_disc.specs.Trees.{height_behind}
+use Rattle.bq_tree.specs.Trees.{height_behind}
 use Rattle.bq_tree.proofs.edits.+pop_least.Given as goal
 
 abbrev pub decreases-pop_least : goal.decreases-pop_least

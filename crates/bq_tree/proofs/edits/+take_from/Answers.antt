@@ -1,7 +1,7 @@
 use Rattle.std.proofs.Common.{◌≡◌, true, false, sym, ◌∙◌, subst, arith}
 use Rattle.bq_disc.specs.Queues.{comes_after}
 use Rattle.bq_disc.specs.Chains.{task_of}
-use Rattle.bq_disc.specs.Trees.{StillCounts}
+use Rattle.bq_tree.specs.Trees.{StillCounts}
 use Rattle.bq_disc.specs.declared.node.Node.{Node, out-Node}
 use Rattle.bq_tree.specs.Taking.{is_at}
 use Rattle.bq_tree.proofs.NodeFacts.{root_behind, left_side_of, right_side_of, on_left, on_right}

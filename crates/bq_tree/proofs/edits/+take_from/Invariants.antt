@@ -1,4 +1,4 @@
-use Rattle.bq_disc.specs.Trees.{height_behind}
+use Rattle.bq_tree.specs.Trees.{height_behind}
 use Rattle.bq_tree.proofs.edits.+take_from.Given as goal
 
 abbrev pub decreases-take_from : goal.decreases-take_from

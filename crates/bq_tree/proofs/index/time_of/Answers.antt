@@ -1,5 +1,5 @@
 use Rattle.std.proofs.Common.{◌<◌, arith}
-use Rattle.bq_disc.specs.Trees.{in_order_behind}
+use Rattle.bq_tree.specs.Trees.{in_order_behind}
 use Rattle.bq_tree.proofs.SoundFacts.{time_known}
 use Rattle.bq_tree.proofs.index.time_of.Goals as goal
 

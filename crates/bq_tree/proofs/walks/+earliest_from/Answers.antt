@@ -2,7 +2,8 @@ use Rattle.std.proofs.Common.{◌≡◌, true, false, Some, ◌∷◌, ◌++◌,
 use Rattle.bq_disc.specs.Chains.{task_of}
 use Rattle.bq_disc.specs.Totals.{is_at_most_mean}
 use Rattle.bq_disc.specs.Dues.{due_of, first_due, earliest_of, sooner_of}
-use Rattle.bq_disc.specs.Trees.{IsTree, IsTreeBehind, IsRising, in_order_behind}
+use Rattle.bq_disc.specs.Rising.{IsRising}
+use Rattle.bq_tree.specs.Trees.{IsTree, IsTreeBehind, in_order_behind}
 use Rattle.bq_tree.specs.Knowing.{knows_sums}
 use Rattle.bq_tree.proofs.OrderFacts.{IsRising-left, IsRising-right}
 use Rattle.bq_tree.proofs.TotalsFacts.{first_due-fork, fork_of}

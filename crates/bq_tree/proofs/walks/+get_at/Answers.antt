@@ -1,7 +1,8 @@
 use Rattle.std.proofs.Common.{◌≡◌, true, false, ◌∷◌, ◌++◌, length, length-append, ap, subst, arith}
 use Rattle.bq_disc.specs.Queues.{comes_after}
 use Rattle.bq_disc.specs.Chains.{task_of}
-use Rattle.bq_disc.specs.Trees.{IsRising, in_order_behind}
+use Rattle.bq_disc.specs.Rising.{IsRising}
+use Rattle.bq_tree.specs.Trees.{in_order_behind}
 use Rattle.bq_tree.specs.Taking.{is_at}
 use Rattle.bq_tree.proofs.OrderFacts.{IsRising-left, IsRising-right, Finds-left, Finds-right}
 use Rattle.bq_tree.proofs.walks.+get_at.Goals as goal

@@ -1,7 +1,7 @@
 use Rattle.std.proofs.Common.{◌≡◌, None, ◌∷◌, ◌++◌, length, length-append, ap, arith}
 use Rattle.bq_disc.specs.Queues.{follows}
 use Rattle.bq_disc.specs.Chains.{task_of}
-use Rattle.bq_disc.specs.Trees.{in_order, in_order_behind}
+use Rattle.bq_tree.specs.Trees.{in_order, in_order_behind}
 use Rattle.bq_tree.proofs.WalkFacts.{find-front}
 use Rattle.bq_tree.proofs.walks.+least_of.Goals as goal
 

@@ -1,5 +1,5 @@
 use Rattle.std.proofs.Common.{length}
-use Rattle.bq_disc.specs.Trees.{in_order}
+use Rattle.bq_tree.specs.Trees.{in_order}
 use Rattle.bq_tree.proofs.walks.+least_of.Given as goal
 
 abbrev pub decreases-least_of : goal.decreases-least_of

@@ -1,5 +1,5 @@
 use Rattle.std.proofs.Common.{length}
-use Rattle.bq_disc.specs.Trees.{in_order_behind}
+use Rattle.bq_tree.specs.Trees.{in_order_behind}
 use Rattle.bq_tree.proofs.walks.+movable_into.Given as goal
 
 abbrev pub decreases-movable_into : goal.decreases-movable_into

@@ -2,7 +2,7 @@ use Rattle.std.proofs.Common.{◌≡◌, ◌<◌, ◌^◌, None, ℕ, List, slic
 use Rattle.bq_disc.specs.Tasks.{Task, with_id}
 use Rattle.bq_disc.specs.Queues.{key_of}
 use Rattle.bq_disc.specs.Chains.{task_of}
-use Rattle.bq_disc.specs.Trees.{in_order_behind}
+use Rattle.bq_tree.specs.Trees.{in_order_behind}
 use Rattle.bq_disc.specs.declared.node.Node.{Node, out-Node}
 use Rattle.bq_disc.proofs.QueueFacts.{length-few}
 use Rattle.bq_tree.specs.Sound.{Knows, lesser_of}

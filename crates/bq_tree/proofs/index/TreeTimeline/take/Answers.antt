@@ -1,7 +1,7 @@
 use Rattle.std.proofs.Common.{◌≡◌, ◌+◌, ◌-◌, ◌∷◌, List, Some, None, length, length-append, ap, sym, ◌∙◌, arith}
 use Rattle.bq_disc.specs.Tasks.{Task, with_id, without}
 use Rattle.bq_disc.specs.Chains.{task_of}
-use Rattle.bq_disc.specs.Trees.{in_order_behind}
+use Rattle.bq_tree.specs.Trees.{in_order_behind}
 use Rattle.bq_disc.proofs.QueueFacts.{length-few, with_id-without_same}
 use Rattle.bq_tree.proofs.HeightFacts.{low_of_many}
 use Rattle.bq_tree.proofs.SoundFacts.{Takes-id}

@@ -1,9 +1,8 @@
 -- Nodes linked as a balanced tree: G. M. Adelson-Velsky and E. M. Landis, 1962.
-use Rattle.std.specs.Prelude.{◌≡◌, ℕ, ◌+◌, ◌≤◌, max, List, [], ◌∷◌, ◌++◌, Option, Some, None, false}
+use Rattle.std.specs.Prelude.{◌≡◌, ℕ, ◌+◌, ◌≤◌, max, List, [], ◌∷◌, ◌++◌, Option, Some, None}
 use Rattle.std.specs.declared.boxed.Box.{Box}
 use Rattle.std.specs.declared.alloc.Global.{Global}
-use Rattle.std.specs.List.{AllByRecursion}
-use Rattle.bq_disc.specs.Tasks.{Task, place, runs_before}
+use Rattle.bq_disc.specs.Tasks.{Task, place}
 use Rattle.bq_disc.specs.Totals.{IsBounded}
 use Rattle.bq_disc.specs.declared.due.Due.{Due}
 use Rattle.bq_disc.specs.declared.totals.Totals.{Totals}
@@ -126,11 +125,3 @@ abbrev pub StillCounts : Knowledge → Node → Task → Type 0
 StillCounts knows n t =
     (before : List Task) × (after : List Task) × (hanging n ≡ before ++ after)
     × knows (before ++ t ∷ after) (out-Node n).due (out-Node n).totals
-
--- no task runs before an earlier one
-abbrev pub NoneRunsBefore : Task → List Task → Type 0
-NoneRunsBefore x xs = AllByRecursion (λ (y : Task). runs_before y x ≡ false) xs
-
-abbrev pub IsRising : List Task → Type 0
-IsRising [] = Unit {0}
-IsRising (x ∷ xs) = NoneRunsBefore x xs × IsRising xs
