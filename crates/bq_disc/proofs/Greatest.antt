@@ -78,6 +78,6 @@ front_reverse (x ∷ xs) =
     ∙ front_append (ids (reverse xs)) x.id ∙ ap (λ o. Some (unwrap_or o x.id)) (front_reverse xs)
 
 -- the first that a queue names is the first to be pulled
-pub greatest_named : (cpu : ℕ) (xs : List Task) (named : List ℕ) → IsRising xs → named ≡ take 8 (ids (movable_to cpu xs)) → slice_get named 0 ≡ id_of (first_by pulled_before (movable cpu xs))
-greatest_named cpu xs named h e =
-    ap (λ ns. slice_get ns 0) e ∙ front_take (ids (movable_to cpu xs)) ∙ front_reverse (movable cpu xs) ∙ sym (first_is_last (movable cpu xs) (rising_filter (can_use cpu) xs h))
+pub greatest_named : (processor : ℕ) (xs : List Task) (named : List ℕ) → IsRising xs → named ≡ take 8 (ids (movable_to processor xs)) → slice_get named 0 ≡ id_of (first_by pulled_before (movable processor xs))
+greatest_named processor xs named h e =
+    ap (λ ns. slice_get ns 0) e ∙ front_take (ids (movable_to processor xs)) ∙ front_reverse (movable processor xs) ∙ sym (first_is_last (movable processor xs) (rising_filter (can_use processor) xs h))

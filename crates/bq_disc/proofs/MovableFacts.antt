@@ -7,8 +7,8 @@ use Rattle.bq_disc.specs.Queues.{can_use}
 use Rattle.bq_disc.specs.Movable.{movable_to, ids, Adds}
 use Rattle.bq_disc.specs.declared.movable.Movable.{Movable}
 
-movable_to-append : (cpu : ℕ) (xs ys : List Task) → movable_to cpu (xs ++ ys) ≡ movable_to cpu ys ++ movable_to cpu xs
-movable_to-append cpu xs ys = ap reverse (filter-append (can_use cpu) xs ys) ∙ reverse-append (filter (can_use cpu) xs) (filter (can_use cpu) ys)
+movable_to-append : (processor : ℕ) (xs ys : List Task) → movable_to processor (xs ++ ys) ≡ movable_to processor ys ++ movable_to processor xs
+movable_to-append processor xs ys = ap reverse (filter-append (can_use processor) xs ys) ∙ reverse-append (filter (can_use processor) xs) (filter (can_use processor) ys)
 
 take_again : (n : ℕ) (xs ys : List ℕ) → take n (take n xs ++ ys) ≡ take n (xs ++ ys)
 take_again zero xs ys = refl
@@ -28,26 +28,26 @@ append_nothing : (xs : List ℕ) → xs ++ [] ≡ xs
 append_nothing [] = refl
 append_nothing (x ∷ xs) = ap (λ l. x ∷ l) (append_nothing xs)
 
-pub Adds-none : (cpu : ℕ) (a : Movable) → length a.first.items ≤ 8 → Adds cpu [] a a
-Adds-none cpu a h = record {
+pub Adds-none : (processor : ℕ) (a : Movable) → length a.first.items ≤ 8 → Adds processor [] a a
+Adds-none processor a h = record {
   count = omega arith;
   first = sym (ap (λ l. take 8 l) (append_nothing a.first.items) ∙ take_short 8 a.first.items h);
   fits = h;
 }
 
-pub Adds-other : (cpu : ℕ) (t : Task) (a : Movable) → can_use cpu t ≡ false → length a.first.items ≤ 8 → Adds cpu (t ∷ []) a a
-Adds-other cpu t a e h =
-    let none : movable_to cpu (t ∷ []) ≡ [] = rw e refl in
-    let s = Adds-none cpu a h in
+pub Adds-other : (processor : ℕ) (t : Task) (a : Movable) → can_use processor t ≡ false → length a.first.items ≤ 8 → Adds processor (t ∷ []) a a
+Adds-other processor t a e h =
+    let none : movable_to processor (t ∷ []) ≡ [] = rw e refl in
+    let s = Adds-none processor a h in
     record {
       count = omega (arith, ap length none);
       first = rw none s.first;
       fits = h;
     }
 
-pub Adds-more : (cpu : ℕ) (t : Task) (a b : Movable) → can_use cpu t ≡ true → b.count ≡ a.count + 1 → b.first.items ≡ a.first.items ++ t.id ∷ [] → length a.first.items < 8 → Adds cpu (t ∷ []) a b
-Adds-more cpu t a b e count first h =
-    let one : movable_to cpu (t ∷ []) ≡ t ∷ [] = rw e refl in
+pub Adds-more : (processor : ℕ) (t : Task) (a b : Movable) → can_use processor t ≡ true → b.count ≡ a.count + 1 → b.first.items ≡ a.first.items ++ t.id ∷ [] → length a.first.items < 8 → Adds processor (t ∷ []) a b
+Adds-more processor t a b e count first h =
+    let one : movable_to processor (t ∷ []) ≡ t ∷ [] = rw e refl in
     let many = length-append a.first.items (t.id ∷ []) in
     record {
       count = omega (arith, ap length one);
@@ -55,9 +55,9 @@ Adds-more cpu t a b e count first h =
       fits = rw first (omega arith);
     }
 
-pub Adds-full : (cpu : ℕ) (t : Task) (a b : Movable) → can_use cpu t ≡ true → b.count ≡ a.count + 1 → b.first.items ≡ a.first.items → length a.first.items ≡ 8 → Adds cpu (t ∷ []) a b
-Adds-full cpu t a b e count first h =
-    let one : movable_to cpu (t ∷ []) ≡ t ∷ [] = rw e refl in
+pub Adds-full : (processor : ℕ) (t : Task) (a b : Movable) → can_use processor t ≡ true → b.count ≡ a.count + 1 → b.first.items ≡ a.first.items → length a.first.items ≡ 8 → Adds processor (t ∷ []) a b
+Adds-full processor t a b e count first h =
+    let one : movable_to processor (t ∷ []) ≡ t ∷ [] = rw e refl in
     record {
       count = omega (arith, ap length one);
       first = rw one (first ∙ sym (take-append-le 8 a.first.items (t.id ∷ []) (omega arith) ∙ take_short 8 a.first.items (omega arith)));
@@ -65,13 +65,13 @@ Adds-full cpu t a b e count first h =
     }
 
 -- the later part is looked at first
-pub Adds-append : (cpu : ℕ) (xs ys : List Task) (a b c : Movable) → Adds cpu ys a b → Adds cpu xs b c → Adds cpu (xs ++ ys) a c
-Adds-append cpu xs ys a b c h k =
-    let both = movable_to-append cpu xs ys in
-    let many = length-append (movable_to cpu ys) (movable_to cpu xs) in
-    let split = ap ids both ∙ map-append (λ (t : Task). t.id) (movable_to cpu ys) (movable_to cpu xs) in
-    let join = ap (λ l. take 8 (l ++ ids (movable_to cpu xs))) h.first ∙ take_again 8 (a.first.items ++ ids (movable_to cpu ys)) (ids (movable_to cpu xs)) in
-    let regroup = ap (λ l. take 8 l) (append_assoc a.first.items (ids (movable_to cpu ys)) (ids (movable_to cpu xs))) in
+pub Adds-append : (processor : ℕ) (xs ys : List Task) (a b c : Movable) → Adds processor ys a b → Adds processor xs b c → Adds processor (xs ++ ys) a c
+Adds-append processor xs ys a b c h k =
+    let both = movable_to-append processor xs ys in
+    let many = length-append (movable_to processor ys) (movable_to processor xs) in
+    let split = ap ids both ∙ map-append (λ (t : Task). t.id) (movable_to processor ys) (movable_to processor xs) in
+    let join = ap (λ l. take 8 (l ++ ids (movable_to processor xs))) h.first ∙ take_again 8 (a.first.items ++ ids (movable_to processor ys)) (ids (movable_to processor xs)) in
+    let regroup = ap (λ l. take 8 l) (append_assoc a.first.items (ids (movable_to processor ys)) (ids (movable_to processor xs))) in
     record {
       count = omega (arith, h.count, k.count, ap length both);
       first = k.first ∙ join ∙ regroup ∙ sym (ap (λ l. take 8 (a.first.items ++ l)) split);
@@ -86,5 +86,5 @@ fewer : (p : Task → Bool) (xs : List Task) → length (filter p xs) ≤ length
 fewer p [] = omega arith
 fewer p (x ∷ xs) = kept_by_test (p x) x xs (filter p xs) (fewer p xs)
 
-pub few_movable : (cpu : ℕ) (xs : List Task) → length (movable_to cpu xs) ≤ length xs
-few_movable cpu xs = omega (arith, length-reverse (filter (can_use cpu) xs), fewer (can_use cpu) xs)
+pub few_movable : (processor : ℕ) (xs : List Task) → length (movable_to processor xs) ≤ length xs
+few_movable processor xs = omega (arith, length-reverse (filter (can_use processor) xs), fewer (can_use processor) xs)

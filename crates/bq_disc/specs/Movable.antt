@@ -6,17 +6,17 @@ use Rattle.bq_disc.specs.Queues.{can_use}
 use Rattle.bq_disc.specs.declared.movable.Movable.{Movable}
 
 abbrev pub movable_to : ℕ → List Task → List Task
-movable_to cpu xs = reverse (filter (can_use cpu) xs)
+movable_to processor xs = reverse (filter (can_use processor) xs)
 
 abbrev pub ids : List Task → List ℕ
 ids xs = map (λ (t : Task). t.id) xs
 
 -- whether the task of that id is there and may go to a processor
 abbrev pub is_movable_to : ℕ → ℕ → List Task → Bool
-is_movable_to cpu id xs = option_map_or (can_use cpu) (with_id id xs) false
+is_movable_to processor id xs = option_map_or (can_use processor) (with_id id xs) false
 
 -- what is found once these tasks too were looked at, from the last to the first
-pub record Adds (cpu : ℕ) (xs : List Task) (old new : Movable) : Type 0 where
-  pub count : new.count ≡ old.count + length (movable_to cpu xs)
-  pub first : new.first.items ≡ take 8 (old.first.items ++ ids (movable_to cpu xs))
+pub record Adds (processor : ℕ) (xs : List Task) (old new : Movable) : Type 0 where
+  pub count : new.count ≡ old.count + length (movable_to processor xs)
+  pub first : new.first.items ≡ take 8 (old.first.items ++ ids (movable_to processor xs))
   pub fits : length new.first.items ≤ 8

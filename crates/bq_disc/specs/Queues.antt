@@ -36,4 +36,4 @@ follows (Some last) t = comes_after last.0 last.1 t
 
 -- whether a task may use a processor
 abbrev pub can_use : ℕ → Task → Bool
-can_use cpu t = t.mask / 2 ^ cpu % 2 == 1
+can_use processor t = t.mask / 2 ^ processor % 2 == 1

@@ -72,9 +72,9 @@ impl Timeline for Chain {
         }
     }
 
-    fn movable(&self, cpu: u8) -> Movable {
+    fn movable(&self, processor: u8) -> Movable {
         let mut found = Movable::new();
-        movable_behind(&self.head, cpu, &mut found);
+        movable_behind(&self.head, processor, &mut found);
         found
     }
 
@@ -200,15 +200,15 @@ fn earliest_behind(chain: &Link, weight: u64, moment: u128) -> Option<Due>
 }
 
 /// Looks at the tasks of a chain from the last to the first, and adds those that may use a processor.
-pub(crate) fn movable_behind(link: &Link, cpu: u8, found: &mut Movable)
-    requires cpu { cpu < 64 }
+pub(crate) fn movable_behind(link: &Link, processor: u8, found: &mut Movable)
+    requires processor { processor < 64 }
     requires few { found.old.count + length (chain_behind link.now) ≤ 2 ^ 20 }
     requires fits { length found.old.first.items ≤ 8 }
-    ensures { Adds cpu (chain_behind link.now) found.old found.new }
+    ensures { Adds processor (chain_behind link.now) found.old found.new }
 {
     let Some(node) = link else {
         return;
     };
-    movable_behind(behind(node), cpu, found);
-    found.add(&node.entity, cpu);
+    movable_behind(behind(node), processor, found);
+    found.add(&node.entity, processor);
 }

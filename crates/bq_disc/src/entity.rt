@@ -144,11 +144,11 @@ impl Entity {
     }
 
     /// Whether it may use a processor.
-    pub fn can_use(&self, cpu: u8) -> bool
-        requires { cpu < 64 }
-        ensures { result ≡ can_use cpu self.now }
+    pub fn can_use(&self, processor: u8) -> bool
+        requires { processor < 64 }
+        ensures { result ≡ can_use processor self.now }
     {
-        (self.mask >> cpu) % 2 == 1
+        (self.mask >> processor) % 2 == 1
     }
 
     /// Where it stands in the order: its (v, id).

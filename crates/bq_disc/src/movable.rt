@@ -26,13 +26,13 @@ impl Movable {
     }
 
     /// Looks at one more task.
-    pub fn add(&mut self, entity: &Entity, cpu: u8)
-        requires cpu { cpu < 64 }
+    pub fn add(&mut self, entity: &Entity, processor: u8)
+        requires processor { processor < 64 }
         requires few { self.old.count < 2 ^ 20 }
         requires fits { length self.old.first.items ≤ 8 }
-        ensures { Adds cpu (entity.now ∷ []) self.old self.new }
+        ensures { Adds processor (entity.now ∷ []) self.old self.new }
     {
-        if !entity.can_use(cpu) {
+        if !entity.can_use(processor) {
             return;
         }
         self.count += 1;

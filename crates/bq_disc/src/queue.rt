@@ -67,29 +67,29 @@ pub trait RunQueue {
         ensures small { HasSmallIds (members self.now) };
 
     /// The tasks that may go to a processor, the greatest (v, id) first.
-    fn movable(&self, cpu: u8) -> Movable
-        requires { cpu < 64 }
-        ensures count { result.count ≡ length (movable_to cpu (members self.now)) }
-        ensures first { result.first.items ≡ take 8 (ids (movable_to cpu (members self.now))) }
+    fn movable(&self, processor: u8) -> Movable
+        requires { processor < 64 }
+        ensures count { result.count ≡ length (movable_to processor (members self.now)) }
+        ensures first { result.first.items ≡ take 8 (ids (movable_to processor (members self.now))) }
         ensures rising { IsRising (members self.now) };
 
     /// Whether the task of that id is there and may go to a processor.
-    fn is_movable(&self, id: u16, cpu: u8) -> bool
-        requires { cpu < 64 }
-        ensures value { result ≡ is_movable_to cpu id (members self.now) }
+    fn is_movable(&self, id: u16, processor: u8) -> bool
+        requires { processor < 64 }
+        ensures value { result ≡ is_movable_to processor id (members self.now) }
         ensures small { HasSmallIds (members self.now) }
     {
         match self.get(id) {
             None => false,
-            Some(node) => node.entity.can_use(cpu),
+            Some(node) => node.entity.can_use(processor),
         }
     }
 
     /// The task that an emptier processor takes from this queue, where no policy chooses it. `size` tasks run or wait
     /// there, and `from` here, with the one that runs.
-    fn own_pull(&self, cpu: u8, size: usize, from: usize) -> Option<u16>
-        requires cpu { cpu < 64 }
-        ensures { result ≡ id_of (pull_of cpu size from (members self.now)) };
+    fn own_pull(&self, processor: u8, size: usize, from: usize) -> Option<u16>
+        requires processor { processor < 64 }
+        ensures { result ≡ id_of (pull_of processor size from (members self.now)) };
 
     /// Who should run, of the queue and of the current task.
     fn choice(&self, current: Option<&Node>) -> Option<u16>

@@ -33,14 +33,14 @@ pub trait Rule {
 
     /// The task that an emptier processor takes from a timeline, the queue of another. `size` tasks run or wait there, and
     /// `from` here: where these are two more at least, it is the movable task of greatest (v, id).
-    fn pull<T: Timeline>(cpu: u8, size: usize, from: usize, queue: &T) -> Option<u16>
-        requires cpu { cpu < 64 }
-        ensures { result ≡ id_of (pull_of cpu size from (T.tasks queue.now)) }
+    fn pull<T: Timeline>(processor: u8, size: usize, from: usize, queue: &T) -> Option<u16>
+        requires processor { processor < 64 }
+        ensures { result ≡ id_of (pull_of processor size from (T.tasks queue.now)) }
     {
         if from.saturating_sub(size) < WORTH_A_PULL {
             return None;
         }
-        let found = queue.movable(cpu);
+        let found = queue.movable(processor);
         found.first.first().copied()
     }
 

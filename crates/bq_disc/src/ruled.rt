@@ -64,12 +64,12 @@ impl<T: Timeline, R: Rule> RunQueue for RuledQueue<T, R> {
         self.tasks.after(last)
     }
 
-    fn movable(&self, cpu: u8) -> Movable {
-        self.tasks.movable(cpu)
+    fn movable(&self, processor: u8) -> Movable {
+        self.tasks.movable(processor)
     }
 
-    fn own_pull(&self, cpu: u8, size: usize, from: usize) -> Option<u16> {
-        R::pull(cpu, size, from, &self.tasks)
+    fn own_pull(&self, processor: u8, size: usize, from: usize) -> Option<u16> {
+        R::pull(processor, size, from, &self.tasks)
     }
 
     fn choice(&self, current: Option<&Node>) -> Option<u16> {

@@ -52,10 +52,10 @@ pub trait Timeline {
         ensures small { HasSmallIds (tasks self.now) };
 
     /// The tasks that may go to a processor, the greatest (v, id) first.
-    fn movable(&self, cpu: u8) -> Movable
-        requires { cpu < 64 }
-        ensures count { result.count ≡ length (movable_to cpu (tasks self.now)) }
-        ensures first { result.first.items ≡ take 8 (ids (movable_to cpu (tasks self.now))) }
+    fn movable(&self, processor: u8) -> Movable
+        requires { processor < 64 }
+        ensures count { result.count ≡ length (movable_to processor (tasks self.now)) }
+        ensures first { result.first.items ≡ take 8 (ids (movable_to processor (tasks self.now))) }
         ensures rising { IsRising (tasks self.now) };
 
     /// The (v, id) of the task of least (v, id).

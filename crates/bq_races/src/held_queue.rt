@@ -59,12 +59,12 @@ impl RunQueue for HeldQueue {
         self.queue.after(last)
     }
 
-    fn movable(&self, cpu: u8) -> Movable {
-        self.queue.movable(cpu)
+    fn movable(&self, processor: u8) -> Movable {
+        self.queue.movable(processor)
     }
 
-    fn own_pull(&self, cpu: u8, size: usize, from: usize) -> Option<u16> {
-        self.queue.own_pull(cpu, size, from)
+    fn own_pull(&self, processor: u8, size: usize, from: usize) -> Option<u16> {
+        self.queue.own_pull(processor, size, from)
     }
 
     fn choice(&self, current: Option<&Node>) -> Option<u16> {

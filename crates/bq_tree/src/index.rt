@@ -114,9 +114,9 @@ impl<S: Summary> Timeline for Tree<S> {
         }
     }
 
-    fn movable(&self, cpu: u8) -> Movable {
+    fn movable(&self, processor: u8) -> Movable {
         let mut found = Movable::new();
-        walks::movable_into(&self.root, cpu, &mut found);
+        walks::movable_into(&self.root, processor, &mut found);
         found
     }
 

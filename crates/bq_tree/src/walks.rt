@@ -124,19 +124,19 @@ pub(crate) fn earliest_from(
 }
 
 /// Looks at the tasks of a tree from the last to the first, and adds those that may use a processor.
-pub(crate) fn movable_into(link: &Link, cpu: u8, found: &mut Movable)
-    requires cpu { cpu < 64 }
+pub(crate) fn movable_into(link: &Link, processor: u8, found: &mut Movable)
+    requires processor { processor < 64 }
     requires few { found.old.count + length (in_order_behind link.now) ≤ 2 ^ 20 }
     requires fits { length found.old.first.items ≤ 8 }
-    ensures { Adds cpu (in_order_behind link.now) found.old found.new }
+    ensures { Adds processor (in_order_behind link.now) found.old found.new }
 {
     let Some(node) = link else {
         return;
     };
     let (left, right) = sides(node);
-    movable_into(right, cpu, found);
-    found.add(&node.entity, cpu);
-    movable_into(left, cpu, found);
+    movable_into(right, processor, found);
+    found.add(&node.entity, processor);
+    movable_into(left, processor, found);
 }
 
 /// What the tasks of a tree have together, where no node knows.

@@ -134,10 +134,10 @@ fn mark<Q: RunQueue>(queue: &mut Q, current: &Option<Entity>) -> u64 {
     }
 }
 
-fn movable<Q: RunQueue>(queue: &Q, cpu: u8, id: u16) -> Answer
-    requires { cpu < 64 }
+fn movable<Q: RunQueue>(queue: &Q, processor: u8, id: u16) -> Answer
+    requires { processor < 64 }
 {
-    let found = queue.movable(cpu);
+    let found = queue.movable(processor);
     let mut first = 0u128;
     for id in found.first.as_slice() {
         first = first.wrapping_mul(1024).wrapping_add(u128::from(*id) + 1);
@@ -145,7 +145,7 @@ fn movable<Q: RunQueue>(queue: &Q, cpu: u8, id: u16) -> Answer
     Answer::Movable {
         count: found.count,
         first,
-        moves: queue.is_movable(id, cpu),
+        moves: queue.is_movable(id, processor),
     }
 }
 
@@ -243,6 +243,6 @@ pub(crate) fn perform<Q: RunQueue>(
             figures_of(queue.after(Some((v, id)))),
             figures_of(queue.after(None)),
         )),
-        Command::Movable { cpu, id } => Ok(movable(queue, cpu % 64, id)),
+        Command::Movable { processor, id } => Ok(movable(queue, processor % 64, id)),
     }
 }

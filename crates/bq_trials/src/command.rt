@@ -37,7 +37,7 @@ pub(crate) enum Command {
     },
     /// Which tasks may go to a processor, and may this one?
     Movable {
-        cpu: u8,
+        processor: u8,
         id: u16,
     },
 }
@@ -107,7 +107,7 @@ impl Draws {
                 id: self.id(),
             },
             11 => Command::Movable {
-                cpu: self.below(4) as u8,
+                processor: self.below(4) as u8,
                 id: self.id(),
             },
             _ => self.insert(),

@@ -12,7 +12,7 @@ movable_into-requires t c =
     let x = task_of c.in-Some.node.value in
     let whole : in_order_behind c.args.link.now ≡ l ++ x ∷ r = rw (c.in-Some.is, ← c.deref.ensures) s.ensures.order in
     let count = length-append l (x ∷ r) in
-    (omega (arith, ap length whole), (c.requires.cpu, (omega (arith, ap length whole), c.requires.fits)))
+    (omega (arith, ap length whole), (c.requires.processor, (omega (arith, ap length whole), c.requires.fits)))
 
 pub add-requires-clause-few : goal.add-requires-clause-few
 add-requires-clause-few t c =
@@ -22,7 +22,7 @@ add-requires-clause-few t c =
     let x = task_of c.in-Some.node.value in
     let whole : in_order_behind c.args.link.now ≡ l ++ x ∷ r = rw (c.in-Some.is, ← c.deref.ensures) s.ensures.order in
     let count = length-append l (x ∷ r) in
-    omega (arith, ap length whole, few_movable c.args.cpu r, c.movable_into.ensures.count)
+    omega (arith, ap length whole, few_movable c.args.processor r, c.movable_into.ensures.count)
 
 pub movable_into-requires-2 : goal.movable_into-requires-2
 movable_into-requires-2 t c =
@@ -33,7 +33,7 @@ movable_into-requires-2 t c =
     let y = task_of c.deref-2.result.now in
     let whole : in_order_behind c.args.link.now ≡ l ++ x ∷ r = rw (c.in-Some.is, ← c.deref.ensures) s.ensures.order in
     let count = length-append l (x ∷ r) in
-    (omega (arith, ap length whole), (c.requires.cpu, (omega (arith, ap length whole, few_movable c.args.cpu r, few_movable c.args.cpu (y ∷ []), c.movable_into.ensures.count, c.add.ensures.count), c.add.ensures.fits)))
+    (omega (arith, ap length whole), (c.requires.processor, (omega (arith, ap length whole, few_movable c.args.processor r, few_movable c.args.processor (y ∷ []), c.movable_into.ensures.count, c.add.ensures.count), c.add.ensures.fits)))
 
 pub returns : goal.returns
 returns t c =
@@ -43,5 +43,5 @@ returns t c =
     let x = task_of c.in-Some.node.value in
     let y = task_of c.deref-2.result.now in
     let whole : in_order_behind c.args.link.now ≡ l ++ x ∷ r = rw (c.in-Some.is, ← c.deref.ensures) s.ensures.order in
-    let some = Adds-append c.args.cpu (y ∷ []) r c.args.found.now c.movable_into.new.found c.add.new.self c.movable_into.ensures c.add.ensures in
-    rw (whole, ← c.deref-2.ensures) (Adds-append c.args.cpu l (y ∷ r) c.args.found.now c.add.new.self c.movable_into-2.new.found some c.movable_into-2.ensures)
+    let some = Adds-append c.args.processor (y ∷ []) r c.args.found.now c.movable_into.new.found c.add.new.self c.movable_into.ensures c.add.ensures in
+    rw (whole, ← c.deref-2.ensures) (Adds-append c.args.processor l (y ∷ r) c.args.found.now c.add.new.self c.movable_into-2.new.found some c.movable_into-2.ensures)

@@ -9,6 +9,6 @@ is_eight n e = grind (arith, nat_tests)
 
 pub returns-then-is_full : goal.returns-then-is_full
 returns-then-is_full c =
-    let may : can_use c.args.cpu c.args.entity.now ≡ true = cc in
+    let may : can_use c.args.processor c.args.entity.now ≡ true = cc in
     let full : length c.args.self.now.first.items ≡ 8 = is_eight (length c.args.self.now.first.items) c.if-is_full.ensures.value in
-    Adds-full c.args.cpu c.args.entity.now c.args.self.now _ may refl refl full
+    Adds-full c.args.processor c.args.entity.now c.args.self.now _ may refl refl full
