@@ -1,7 +1,7 @@
 -- What is told of a view holds in the runs that it covers, and a need stands before it.
 use Rattle.std.proofs.Common.{◌≡◌, ℕ, List, ◌++◌, Some, append_assoc, ◌∙◌, sym}
 use Rattle.std.specs.Prelude.{codes}
-use Rattle.bq_graph.specs.declared.cause.Cause.{Cause}
+use Rattle.bq_verify.specs.declared.cause.Cause.{Cause}
 use Rattle.bq_insn.specs.Slots.{spread}
 use Rattle.bq_insn.specs.declared.Insn.{Insn}
 use Rattle.bq_bpf.specs.Steps.{instruction_at}

@@ -2,7 +2,7 @@
 use Rattle.std.specs.Prelude.{◌≡◌, ℕ, List, ◌++◌, Some, IfSome, codes, string_bytes}
 use Rattle.bq_insn.specs.declared.Insn.{Insn}
 use Rattle.bq_insn.specs.Slots.{spread}
-use Rattle.bq_graph.specs.declared.cause.Cause.{Cause}
+use Rattle.bq_verify.specs.declared.cause.Cause.{Cause}
 use Rattle.bq_bpf.specs.Memory.{HaveShapes, Setting, State}
 use Rattle.bq_bpf.specs.Runs.{Steps, start}
 use Rattle.bq_bpf.specs.Safe.{IsSetting}

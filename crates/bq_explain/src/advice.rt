@@ -5,22 +5,24 @@ use bq_needs::reads;
 use bq_policy_files::Policy;
 use bq_states::abstract_state::{AbstractState, Kind};
 use bq_states::registers::known;
-use bq_verify::Cause;
+use bq_verify::{Cause, Doubt, GraphCause};
 
 /// What helps where something is wrong with the control graph.
 pub(crate) fn graph_advice(cause: Cause) -> &'static str {
     match cause {
-        Cause::Jump => {
+        Cause::Graph(GraphCause::Jump) => {
             "jump to a later label, and write a loop out as often as it may run; a wide instruction (lddw, ldmap) counts as two slots in a jump's number"
         }
-        Cause::NoExit => "end with exit, or jump to one",
-        Cause::Unreached => "take the instruction out, or let a branch lead to it",
-        Cause::Helper => {
+        Cause::Graph(GraphCause::NoExit) => "end with exit, or jump to one",
+        Cause::Graph(GraphCause::Unreached) =>
+            "take the instruction out, or let a branch lead to it",
+        Cause::Graph(GraphCause::Helper) => {
             "call by number: 1 looks an entry up, 2 writes one, 5 is the time, 8 the processor, 100 adds to a counter, 101 reads one"
         }
-        Cause::Frame => "copy it first: mov64 r2, r10, and change r2",
-        Cause::Counters => "call counters on fewer ways, or add larger amounts at once",
-        _ => "see docs/VERIFIER.md",
+        Cause::Graph(GraphCause::Frame) => "copy it first: mov64 r2, r10, and change r2",
+        Cause::Graph(GraphCause::Counters) =>
+            "call counters on fewer ways, or add larger amounts at once",
+        Cause::State(_) => "see docs/VERIFIER.md",
     }
 }
 
@@ -32,9 +34,9 @@ pub(crate) fn state_advice(
     cause: Cause,
 ) -> &'static str {
     match cause {
-        Cause::Unset => unset_advice(view, insn),
-        Cause::Access => access_advice(policy, view, insn),
-        Cause::PointerUse => match insn {
+        Cause::State(Doubt::Unset) => unset_advice(view, insn),
+        Cause::State(Doubt::Access) => access_advice(policy, view, insn),
+        Cause::State(Doubt::PointerUse) => match insn {
             Insn::StoreReg { .. } => "store it by stxdw at r10 - 8, r10 - 16 or so on",
             Insn::Branch { .. } => {
                 "compare a look-up's answer with the number 0 at once: jeq64 r0, 0, label"
@@ -43,7 +45,7 @@ pub(crate) fn state_advice(
                 "do arithmetic on numbers, and add the result to the pointer by add64; for a shift write lsh64 or rsh64, not div64 or mul64 of a pointer"
             }
         },
-        Cause::Argument => match insn {
+        Cause::State(Doubt::Argument) => match insn {
             Insn::MapRef { .. } => {
                 "say the maps: a line ;@ maps 8:1 in the text's head, or --maps 8:1"
             }

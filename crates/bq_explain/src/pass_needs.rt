@@ -1,18 +1,21 @@
 //! What a program lacks in its control graph, in words.
-use bq_verify::Cause;
+use bq_verify::{Cause, GraphCause};
 
 /// What is wrong with the control graph at the slot, for this cause.
 pub(crate) fn graph_words(cause: Cause) -> &'static str {
     match cause {
-        Cause::Jump => {
+        Cause::Graph(GraphCause::Jump) => {
             "jumps out of the program, into the second half of a wide instruction, or not forward; there are no loops"
         }
-        Cause::NoExit => "goes on past the end of the program, where an exit is needed",
-        Cause::Unreached => "is on no way from the first instruction",
-        Cause::Helper => { "calls a helper that there is not; there are 1, 2, 5, 8, 100 and 101" }
-        Cause::Frame => "writes r10, which is only read",
-        Cause::Counters =>
+        Cause::Graph(GraphCause::NoExit) =>
+            "goes on past the end of the program, where an exit is needed",
+        Cause::Graph(GraphCause::Unreached) => "is on no way from the first instruction",
+        Cause::Graph(GraphCause::Helper) => {
+            "calls a helper that there is not; there are 1, 2, 5, 8, 100 and 101"
+        }
+        Cause::Graph(GraphCause::Frame) => "writes r10, which is only read",
+        Cause::Graph(GraphCause::Counters) =>
             "is at least the seventeenth call of a counter on some way; 16 are allowed",
-        _ => "is not shown to be safe",
+        Cause::State(_) => "is not shown to be safe",
     }
 }

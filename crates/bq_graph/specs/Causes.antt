@@ -1,18 +1,13 @@
--- The numbers of the reasons for which a program is refused.
+-- The numbers of the reasons for which a program is refused by its control graph.
 use Rattle.std.specs.Prelude.{ℕ}
-use Rattle.bq_graph.specs.declared.cause.Cause.{Cause}
-use Rattle.bq_graph.specs.declared.cause.Cause.TheVariants.{Jump, NoExit, Unreached, Unset, Access, PointerUse, Helper, Argument, Answer, Frame, Counters}
+use Rattle.bq_graph.specs.declared.cause.GraphCause.{GraphCause}
+use Rattle.bq_graph.specs.declared.cause.GraphCause.TheVariants.{Jump, NoExit, Unreached, Helper, Frame, Counters}
 
 -- the number of a cause, after the letter V
-abbrev pub cause_number : Cause → ℕ
+abbrev pub cause_number : GraphCause → ℕ
 cause_number Jump = 1
 cause_number NoExit = 2
 cause_number Unreached = 3
-cause_number Unset = 4
-cause_number Access = 5
-cause_number PointerUse = 6
 cause_number Helper = 7
-cause_number Argument = 8
-cause_number Answer = 9
 cause_number Frame = 10
 cause_number Counters = 11

@@ -7,8 +7,8 @@ use Rattle.bq_insn.specs.Slots.{slots_of}
 use Rattle.bq_bpf.specs.Steps.{LeadsTo, instruction_at}
 use Rattle.bq_graph.specs.Edges.{distance_of, goes_on, IsStart}
 use Rattle.bq_graph.specs.Paths.{Path, CallsOnWay, asks_counter}
-use Rattle.bq_graph.specs.declared.cause.Cause.{Cause}
-use Rattle.bq_graph.specs.declared.cause.Cause.TheVariants.{Jump, NoExit, Unreached, Frame, Helper, Counters}
+use Rattle.bq_graph.specs.declared.cause.GraphCause.{GraphCause}
+use Rattle.bq_graph.specs.declared.cause.GraphCause.TheVariants.{Jump, NoExit, Unreached, Frame, Helper, Counters}
 
 -- a jump that leads to no later instruction
 pub record IsBadJump (slots : List (Option Insn)) (slot : ℕ) : Type 0 where
@@ -67,14 +67,13 @@ pub record IsUnreached (slots : List (Option Insn)) (slot : ℕ) : Type 0 where
   pub none : Path slots 0 slot → ⊥
 
 -- the program has the fault at that slot
-abbrev pub HasFault : List (Option Insn) → Cause → ℕ → Type 0
+abbrev pub HasFault : List (Option Insn) → GraphCause → ℕ → Type 0
 HasFault slots Jump slot = IsBadJump slots slot
 HasFault slots NoExit slot = RunsOut slots slot
 HasFault slots Unreached slot = IsUnreached slots slot
 HasFault slots Frame slot = WritesFrame slots slot
 HasFault slots Helper slot = CallsUnknown slots slot
 HasFault slots Counters slot = IsLateCall slots slot
-HasFault slots _ slot = ⊥
 
 -- the least number of which the fact holds, or None where it holds of none
 abbrev pub IsLeast : (ℕ → Type 0) → Option ℕ → Type 0
@@ -82,29 +81,28 @@ IsLeast P None = (k : ℕ) → P k → ⊥
 IsLeast P (Some k) = P k × ((j : ℕ) → j < k → P j → ⊥)
 
 -- the order of the checks
-abbrev pub place_of : Cause → ℕ
+abbrev pub place_of : GraphCause → ℕ
 place_of Jump = 1
 place_of NoExit = 2
 place_of Unreached = 3
 place_of Frame = 4
 place_of Helper = 5
 place_of Counters = 6
-place_of _ = 7
 
 -- no check that comes before that of the cause finds a fault
-abbrev pub EarlierPass : List (Option Insn) → Cause → Type 0
-EarlierPass slots cause = (other : Cause) → place_of other < place_of cause → IsLeast (HasFault slots other) None
+abbrev pub EarlierPass : List (Option Insn) → GraphCause → Type 0
+EarlierPass slots cause = (other : GraphCause) → place_of other < place_of cause → IsLeast (HasFault slots other) None
 
 -- the fault that is named: the first check that finds one, at the least slot
-abbrev pub IsFirstFault : List (Option Insn) → Cause → ℕ → Type 0
+abbrev pub IsFirstFault : List (Option Insn) → GraphCause → ℕ → Type 0
 IsFirstFault slots cause slot = EarlierPass slots cause × IsLeast (HasFault slots cause) (Some slot)
 
 -- no check finds a fault
 abbrev pub IsFaultless : List (Option Insn) → Type 0
-IsFaultless slots = (cause : Cause) → IsLeast (HasFault slots cause) None
+IsFaultless slots = (cause : GraphCause) → IsLeast (HasFault slots cause) None
 
 -- the fault depends on the paths to a slot
-abbrev pub IsOnWay : Cause → Type 0
+abbrev pub IsOnWay : GraphCause → Type 0
 IsOnWay Unreached = Unit {0}
 IsOnWay Counters = Unit {0}
 IsOnWay _ = ⊥

@@ -5,7 +5,7 @@ ghost use Rattle.bq_graph.specs.Edges.{IsWhole};
 ghost use Rattle.bq_graph.specs.Paths.{IsMost};
 ghost use Rattle.bq_graph.specs.Faults.{HasFault, IsLateCall, IsLeast, IsFirstFault, IsFaultless, IsOnWay, IsUnreached};
 
-use crate::cause::Cause;
+use crate::cause::GraphCause;
 use crate::edges::instruction;
 use crate::passes::{count_at, count_calls};
 use crate::single::{calls_unknown, is_bad_jump, is_counter_call, runs_out, writes_frame};
@@ -17,7 +17,7 @@ pub struct Fault {
     /// The slot at which the faulty instruction begins.
     pub slot: usize,
     /// What is wrong there.
-    pub cause: Cause,
+    pub cause: GraphCause,
 }
 
 fn is_unreached(slots: &[Option<Insn>], most: &[Option<u32>], slot: usize, insn: Insn) -> bool
@@ -45,7 +45,7 @@ fn is_late_call(slots: &[Option<Insn>], most: &[Option<u32>], slot: usize, insn:
 }
 
 /// Whether the fault is at that slot. The list has the counter calls on the way to each slot, where the cause is one of the way.
-fn is_faulty(slots: &[Option<Insn>], most: &[Option<u32>], slot: usize, cause: Cause) -> bool
+fn is_faulty(slots: &[Option<Insn>], most: &[Option<u32>], slot: usize, cause: GraphCause) -> bool
     requires inside { slot < length slots.now }
     requires short { length slots.now ≤ 4096 }
     requires room { IsOnWay cause → length most.now ≡ length slots.now }
@@ -56,18 +56,17 @@ fn is_faulty(slots: &[Option<Insn>], most: &[Option<u32>], slot: usize, cause: C
         return false;
     };
     match cause {
-        Cause::Jump => is_bad_jump(slots, slot, insn),
-        Cause::NoExit => runs_out(slots, slot, insn),
-        Cause::Unreached => is_unreached(slots, most, slot, insn),
-        Cause::Frame => writes_frame(slots, slot, insn),
-        Cause::Helper => calls_unknown(slots, slot, insn),
-        Cause::Counters => is_late_call(slots, most, slot, insn),
-        _ => false,
+        GraphCause::Jump => is_bad_jump(slots, slot, insn),
+        GraphCause::NoExit => runs_out(slots, slot, insn),
+        GraphCause::Unreached => is_unreached(slots, most, slot, insn),
+        GraphCause::Frame => writes_frame(slots, slot, insn),
+        GraphCause::Helper => calls_unknown(slots, slot, insn),
+        GraphCause::Counters => is_late_call(slots, most, slot, insn),
     }
 }
 
 /// One check of the whole program: the least slot with the fault is named.
-fn clear(slots: &[Option<Insn>], most: &[Option<u32>], cause: Cause) -> Result<(), Fault>
+fn clear(slots: &[Option<Insn>], most: &[Option<u32>], cause: GraphCause) -> Result<(), Fault>
     requires short { length slots.now ≤ 4096 }
     requires room { IsOnWay cause → length most.now ≡ length slots.now }
     requires most { IsOnWay cause → (k : ℕ) → IsMost slots.now k (slice_index_or most.now k None) }
@@ -97,11 +96,11 @@ pub fn check(slots: &[Option<Insn>], most: &mut [Option<u32>]) -> Result<(), Fau
     ensures counted { OnOk result ((k : ℕ) → IsMost slots.now k (slice_index_or most.new k None)) }
     ensures first { IfErr result (λ fault. IsFirstFault slots.now fault.cause fault.slot) }
 {
-    clear(slots, most, Cause::Jump)?;
-    clear(slots, most, Cause::NoExit)?;
+    clear(slots, most, GraphCause::Jump)?;
+    clear(slots, most, GraphCause::NoExit)?;
     count_calls(slots, most);
-    clear(slots, most, Cause::Unreached)?;
-    clear(slots, most, Cause::Frame)?;
-    clear(slots, most, Cause::Helper)?;
-    clear(slots, most, Cause::Counters)
+    clear(slots, most, GraphCause::Unreached)?;
+    clear(slots, most, GraphCause::Frame)?;
+    clear(slots, most, GraphCause::Helper)?;
+    clear(slots, most, GraphCause::Counters)
 }

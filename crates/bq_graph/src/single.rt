@@ -4,7 +4,7 @@ ghost use Rattle.bq_bpf.specs.Steps.{instruction_at};
 ghost use Rattle.bq_graph.specs.Paths.{asks_counter};
 ghost use Rattle.bq_graph.specs.Faults.{destination_of, is_helper, IsBadJump, RunsOut, WritesFrame, CallsUnknown, HasFault, IsLeast};
 
-use crate::cause::Cause;
+use crate::cause::GraphCause;
 use crate::edges::{distance, instruction, landing, may_go_on};
 use bq_insn::Insn;
 

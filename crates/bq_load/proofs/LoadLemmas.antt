@@ -1,6 +1,6 @@
 -- What `load` answers, by its parts.
 use Rattle.std.proofs.Common.{◌≡◌, ℕ, ◌≤◌, true, List, Option, length, refl, sym, ap, subst, ◌∙◌}
-use Rattle.bq_graph.specs.declared.cause.Cause.{Cause as Reason}
+use Rattle.bq_verify.specs.declared.cause.Cause.{Cause as Reason}
 use Rattle.bq_insn.specs.declared.Insn.{Insn}
 use Rattle.bq_insn.specs.declared.fault.Cause.TheVariants.{Length, Opcode, Register, Field, Offset, Imm, WideCut}
 use Rattle.bq_insn.specs.declared.fault.DecodeFault.{DecodeFault}

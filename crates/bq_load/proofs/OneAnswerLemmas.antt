@@ -12,8 +12,10 @@ use Rattle.bq_insn.proofs.FormLemmas.{both}
 use Rattle.bq_insn.proofs.LengthLemmas as lengths
 use Rattle.bq_insn.proofs.OneFaultLemmas as insn
 use Rattle.bq_insn.proofs.UniqueLemmas.{one_program}
-use Rattle.bq_graph.specs.declared.cause.Cause.{Cause as Named}
-use Rattle.bq_graph.specs.Faults.{IsFaultless, IsFirstFault, place_of}
+use Rattle.bq_graph.specs.declared.cause.GraphCause.{GraphCause}
+use Rattle.bq_verify.specs.declared.cause.Cause.{Cause as Named}
+use Rattle.bq_verify.specs.declared.cause.Cause.TheVariants.{Graph, State}
+use Rattle.bq_graph.specs.Faults.{IsFaultless, IsFirstFault}
 use Rattle.bq_graph.specs.Paths.{IsGreatest, PathOut}
 use Rattle.bq_verify.specs.Accepted.{Accepted}
 use Rattle.bq_verify.specs.Refusals.{IsRefusal}
@@ -111,40 +113,35 @@ one_list bytes a b p q =
     let images = one_image bytes p.version q.version p.hook q.hook p.shapes q.shapes (spelling a) (spelling b) p.image q.image in
     one_program a b (registers a p.well_formed) (registers b q.well_formed) p.numbers q.numbers images.3
 
--- a cause of the control graph is its first fault
-first_fault : (slots : List (Option Insn)) (slot : ℕ) (cause : Named) → place_of cause < 7 → IsRefusal slots (refused.At slot cause) → IsFirstFault slots cause slot
-first_fault slots slot cause lt (inl first) = first
-first_fault slots slot cause lt (inr other) = let e = other.1.states in absurd (omega (arith, e, lt))
-
-one_refusal : (slots : List (Option Insn)) (s t : ℕ) (c d : Named) → IsFirstFault slots c s → IsRefusal slots (refused.At t d) → fault.Refused t d ≡ fault.Refused s c
-one_refusal slots s t c d first (inl other) =
+one_refusal : (slots : List (Option Insn)) (s t : ℕ) (c : GraphCause) (d : Named) → IsFirstFault slots c s → IsRefusal slots (refused.At t d) → fault.Refused t d ≡ fault.Refused s (Graph c)
+one_refusal slots s t c (Graph d) first other =
     let one = one_first_fault slots d c t s other first in
-    ap (λ (n : ℕ). fault.Refused n d) one.1 ∙ ap (λ (k : Named). fault.Refused s k) one.0
-one_refusal slots s t c d first (inr other) = absurd (faultless_has_none slots c s other.0 first)
+    ap (λ (n : ℕ). fault.Refused n (Graph d)) one.1 ∙ ap (λ (k : GraphCause). fault.Refused s (Graph k)) one.0
+one_refusal slots s t c (State d) first other = absurd (faultless_has_none slots c s other.0 first)
 
 -- the verifier's refusal of one list of instructions, said of the other
 moved : (a b : List Insn) (s : ℕ) (c : Named) → a ≡ b → IsRefusal (spread a) (refused.At s c) → IsRefusal (spread b) (refused.At s c)
 moved a b s c same r = subst (λ (x : List Insn). IsRefusal (spread x) (refused.At s c)) same r
 
-not_faultless : (bytes : List ℕ) (slot : ℕ) (cause : Named) (v : Accepted) → place_of cause < 7 → HasRefusedProgram bytes (refused.At slot cause) → Loads bytes v → ⊥
-not_faultless bytes slot cause v lt b l =
-    let first : IsFirstFault (spread l.insns) cause slot = first_fault (spread l.insns) slot cause lt (moved b.insns l.insns slot cause (one_list bytes b.insns l.insns b.program (as_program bytes v l)) b.refused) in
+not_faultless : (bytes : List ℕ) (slot : ℕ) (cause : GraphCause) (v : Accepted) → HasRefusedProgram bytes (refused.At slot (Graph cause)) → Loads bytes v → ⊥
+not_faultless bytes slot cause v b l =
+    let first : IsFirstFault (spread l.insns) cause slot = moved b.insns l.insns slot (Graph cause) (one_list bytes b.insns l.insns b.program (as_program bytes v l)) b.refused in
     faultless_has_none (spread l.insns) cause slot (subst (λ (x : List (Option Insn)). IsFaultless x) l.slots l.faultless) first
 
 -- a fault of the control graph is the answer
-graph_fault : (bytes : List ℕ) (slot : ℕ) (cause : Named) (answer : Result Accepted LoadFault) → AreBytes bytes → place_of cause < 7 → HasRefusedProgram bytes (refused.At slot cause) → IsAnswer bytes answer → IsOnly (fault.Refused slot cause) answer
-graph_fault bytes slot cause (Ok v) fits lt b a = absurd (not_faultless bytes slot cause v lt b a)
-graph_fault bytes slot cause (Err (fault.Decode t d)) fits lt b a = absurd (no_faulty bytes b.insns t d a b.program)
-graph_fault bytes slot cause (Err (fault.Refused t d)) fits lt b a =
+graph_fault : (bytes : List ℕ) (slot : ℕ) (cause : GraphCause) (answer : Result Accepted LoadFault) → AreBytes bytes → HasRefusedProgram bytes (refused.At slot (Graph cause)) → IsAnswer bytes answer → IsOnly (fault.Refused slot (Graph cause)) answer
+graph_fault bytes slot cause (Ok v) fits b a = absurd (not_faultless bytes slot cause v b a)
+graph_fault bytes slot cause (Err (fault.Decode t d)) fits b a = absurd (no_faulty bytes b.insns t d a b.program)
+graph_fault bytes slot cause (Err (fault.Refused t d)) fits b a =
     let same = one_list bytes a.0.insns b.insns a.0.program b.program in
-    inl (ap (λ (x : LoadFault). Err x) (one_refusal (spread b.insns) slot t cause d (first_fault (spread b.insns) slot cause lt b.refused) (moved a.0.insns b.insns t d same a.0.refused)))
-graph_fault bytes slot cause (Err fault.OutOfMemory) fits lt b a = inr refl
-graph_fault bytes slot cause (Err fault.Magic) fits lt b a = absurd (framed bytes fault.Magic _ _ b.program.image.framed (record { at = fault_again bytes fault.Magic fits a }))
-graph_fault bytes slot cause (Err fault.Version) fits lt b a = absurd (framed bytes fault.Version _ _ b.program.image.framed (record { at = fault_again bytes fault.Version fits a }))
-graph_fault bytes slot cause (Err fault.Hook) fits lt b a = absurd (framed bytes fault.Hook _ _ b.program.image.framed (record { at = fault_again bytes fault.Hook fits a }))
-graph_fault bytes slot cause (Err fault.Shape) fits lt b a = absurd (framed bytes fault.Shape _ _ b.program.image.framed (record { at = fault_again bytes fault.Shape fits a }))
-graph_fault bytes slot cause (Err fault.Cut) fits lt b a = absurd (framed bytes fault.Cut _ _ b.program.image.framed (record { at = fault_again bytes fault.Cut fits a }))
-graph_fault bytes slot cause (Err fault.Rest) fits lt b a = absurd (framed bytes fault.Rest _ _ b.program.image.framed (record { at = fault_again bytes fault.Rest fits a }))
+    inl (ap (λ (x : LoadFault). Err x) (one_refusal (spread b.insns) slot t cause d b.refused (moved a.0.insns b.insns t d same a.0.refused)))
+graph_fault bytes slot cause (Err fault.OutOfMemory) fits b a = inr refl
+graph_fault bytes slot cause (Err fault.Magic) fits b a = absurd (framed bytes fault.Magic _ _ b.program.image.framed (record { at = fault_again bytes fault.Magic fits a }))
+graph_fault bytes slot cause (Err fault.Version) fits b a = absurd (framed bytes fault.Version _ _ b.program.image.framed (record { at = fault_again bytes fault.Version fits a }))
+graph_fault bytes slot cause (Err fault.Hook) fits b a = absurd (framed bytes fault.Hook _ _ b.program.image.framed (record { at = fault_again bytes fault.Hook fits a }))
+graph_fault bytes slot cause (Err fault.Shape) fits b a = absurd (framed bytes fault.Shape _ _ b.program.image.framed (record { at = fault_again bytes fault.Shape fits a }))
+graph_fault bytes slot cause (Err fault.Cut) fits b a = absurd (framed bytes fault.Cut _ _ b.program.image.framed (record { at = fault_again bytes fault.Cut fits a }))
+graph_fault bytes slot cause (Err fault.Rest) fits b a = absurd (framed bytes fault.Rest _ _ b.program.image.framed (record { at = fault_again bytes fault.Rest fits a }))
 
 pub one_answer : OneAnswer
 one_answer bytes fault.Magic answer fits of b a = at_stop bytes fault.Magic answer fits (record { at = fault_again bytes fault.Magic fits b }) a
@@ -154,7 +151,8 @@ one_answer bytes fault.Shape answer fits of b a = at_stop bytes fault.Shape answ
 one_answer bytes fault.Cut answer fits of b a = at_stop bytes fault.Cut answer fits (record { at = fault_again bytes fault.Cut fits b }) a
 one_answer bytes fault.Rest answer fits of b a = at_stop bytes fault.Rest answer fits (record { at = fault_again bytes fault.Rest fits b }) a
 one_answer bytes (fault.Decode slot cause) answer fits of b a = faulty bytes slot cause answer fits b a
-one_answer bytes (fault.Refused slot cause) answer fits of b a = graph_fault bytes slot cause answer fits of b.0 a
+one_answer bytes (fault.Refused slot (Graph cause)) answer fits of b a = graph_fault bytes slot cause answer fits b.0 a
+one_answer bytes (fault.Refused slot (State doubt)) answer fits of b a = absurd of
 one_answer bytes fault.OutOfMemory answer fits of b a = absurd of
 
 one_greatest : (P : ℕ → Type 0) (m n : ℕ) → IsGreatest P m → IsGreatest P n → m ≡ n

@@ -1,7 +1,7 @@
 -- Laws of the format: bytes say one thing, and in pieces they say the same.
 use Rattle.std.specs.Prelude.{◌≡◌, ℕ, ◌<◌, List, [], ◌∷◌, slice_index, Result, Ok, Err, ◌⊎◌}
 use Rattle.std.specs.List.{flat_map}
-use Rattle.bq_graph.specs.Faults.{place_of}
+use Rattle.bq_verify.specs.declared.cause.Cause.TheVariants.{Graph, State}
 use Rattle.bq_bpf.specs.declared.shape.MapShape.{MapShape}
 use Rattle.bq_bpf.specs.declared.hook.Hook.{Hook}
 use Rattle.bq_bpf.specs.declared.hook.Version.{Version}
@@ -43,7 +43,8 @@ IsAnswer bytes (Err f) = IsUnloaded bytes f
 
 -- a fault of the bytes, of their program, or of its control graph: what is not known of registers and stack is no such fault
 abbrev pub IsOfBytes : LoadFault → Type 0
-IsOfBytes (fault.Refused slot cause) = place_of cause < 7
+IsOfBytes (fault.Refused slot (Graph cause)) = Unit {0}
+IsOfBytes (fault.Refused slot (State doubt)) = ⊥
 IsOfBytes fault.OutOfMemory = ⊥
 IsOfBytes named = Unit {0}
 

@@ -2,7 +2,7 @@
 use Rattle.std.specs.Prelude.{ℕ, List, [], ◌++◌, codes}
 use Rattle.std.specs.Fmt.{decimal}
 use Rattle.bq_insn.specs.Causes.{cause_number as program_number}
-use Rattle.bq_graph.specs.Causes.{cause_number as refusal_number}
+use Rattle.bq_verify.specs.Causes.{cause_number as refusal_number}
 use Rattle.bq_insn.specs.declared.fault.DecodeFault.{DecodeFault}
 use Rattle.bq_insn.specs.declared.fault.DecodeFault.TheVariants as program
 use Rattle.bq_verify.specs.declared.refused.Refused.{Refused}

@@ -3,7 +3,7 @@
 
 use bq_insn::fault::Cause as Code;
 use bq_load::{Hook, ImageReader, LoadFault, Version, load, read_image, write_image};
-use bq_verify::Cause;
+use bq_verify::{Cause, Doubt, GraphCause};
 use std::alloc::{AllocError, Global};
 use std::process::Abort;
 use std::test::Fail;
@@ -119,7 +119,7 @@ fn images_load_or_are_refused(rt: HostRuntime) -> Result<(), Fail> {
         (long.as_slice(), Err(LoadFault::Rest)),
     ];
     answers(&rt, rt.alloc(), cases.as_slice())?;
-    let out_of_range = [(16, 64, refused(2, Cause::Argument))];
+    let out_of_range = [(16, 64, refused(2, Cause::State(Doubt::Argument)))];
     changes(&rt, rt.alloc(), &ADDING, out_of_range.as_slice())
 }
 
@@ -164,12 +164,12 @@ fn changes_of_a_program_are_refused(rt: HostRuntime) -> Result<(), Fail> {
         );
     }
     let cases = [
-        (28, 0x01, refused(1, Cause::Argument)),
-        (52, 0xf8, refused(5, Cause::Argument)),
-        (66, 0x01, refused(9, Cause::Unreached)),
-        (90, 0x01, refused(9, Cause::Access)),
-        (97, 0x3a, refused(10, Cause::Frame)),
-        (121, 0xa0, refused(14, Cause::Answer)),
+        (28, 0x01, refused(1, Cause::State(Doubt::Argument))),
+        (52, 0xf8, refused(5, Cause::State(Doubt::Argument))),
+        (66, 0x01, refused(9, Cause::Graph(GraphCause::Unreached))),
+        (90, 0x01, refused(9, Cause::State(Doubt::Access))),
+        (97, 0x3a, refused(10, Cause::Graph(GraphCause::Frame))),
+        (121, 0xa0, refused(14, Cause::State(Doubt::Answer))),
         // the shape of the map: 12 bytes, no entries, 257 entries
         (8, 12, Err(LoadFault::Shape)),
         (10, 0, Err(LoadFault::Shape)),
@@ -220,14 +220,14 @@ fn each_slot_is_visited_once(rt: HostRuntime) -> Result<(), Fail> {
 fn the_version_says_how_long_the_context_is(rt: HostRuntime) -> Result<(), Fail> {
     let cases = [
         (1, 0, 100, Ok(2)),
-        (1, 0, 104, refused(0, Cause::Access)),
+        (1, 0, 104, refused(0, Cause::State(Doubt::Access))),
         (2, 0, 104, Ok(2)),
         (2, 0, 292, Ok(2)),
-        (2, 0, 293, refused(0, Cause::Access)),
+        (2, 0, 293, refused(0, Cause::State(Doubt::Access))),
         (2, 1, 52, Ok(2)),
-        (2, 1, 53, refused(0, Cause::Access)),
+        (2, 1, 53, refused(0, Cause::State(Doubt::Access))),
         (2, 2, 156, Ok(2)),
-        (2, 2, 157, refused(0, Cause::Access)),
+        (2, 2, 157, refused(0, Cause::State(Doubt::Access))),
     ];
     for (version, hook, offset, answer) in &cases {
         // ldxw r0, [r1+offset]; exit

@@ -3,8 +3,9 @@ use Rattle.std.specs.Prelude.{◌≡◌, ◌≢◌, ℕ, zero, suc, ℤ, pos, �
 use Rattle.std.specs.Fmt.{decimal, signed_decimal}
 use Rattle.bq_insn.specs.declared.Insn.{Insn}
 use Rattle.bq_insn.specs.declared.Insn.TheVariants.{StoreReg, MapRef, Branch, Call}
-use Rattle.bq_graph.specs.declared.cause.Cause.{Cause}
-use Rattle.bq_graph.specs.declared.cause.Cause.TheVariants.{Unset, Access, PointerUse, Argument, Answer}
+use Rattle.bq_transfer.specs.declared.doubt.Doubt.TheVariants.{Unset, Access, PointerUse, Argument, Answer}
+use Rattle.bq_verify.specs.declared.cause.Cause.{Cause}
+use Rattle.bq_verify.specs.declared.cause.Cause.TheVariants.{State}
 use Rattle.bq_bpf.specs.declared.shape.MapShape.{MapShape}
 use Rattle.bq_states.specs.Standing.{Exact, Pointer, Scalar, StandsAt}
 use Rattle.bq_states.specs.declared.abstract_state.Kind.TheVariants.{Number, Map}
@@ -76,11 +77,11 @@ AreGoodArguments p view insn = Unit {0}
 
 -- the view gives the instruction what the cause says that it lacks
 abbrev pub IsMet : Policy → AbstractState → Insn → Cause → Type 0
-IsMet p view insn Unset = AreKnown view insn
-IsMet p view insn Access = IsGoodAccess p view insn
-IsMet p view insn PointerUse = AreNumbers view insn
-IsMet p view insn Argument = AreGoodArguments p view insn
-IsMet p view insn Answer = StandsAt Scalar view 0
+IsMet p view insn (State Unset) = AreKnown view insn
+IsMet p view insn (State Access) = IsGoodAccess p view insn
+IsMet p view insn (State PointerUse) = AreNumbers view insn
+IsMet p view insn (State Argument) = AreGoodArguments p view insn
+IsMet p view insn (State Answer) = StandsAt Scalar view 0
 IsMet p view insn other = Unit {0}
 
 -- the registers that the instruction reads and of which nothing is known
@@ -156,11 +157,11 @@ answer_text (Some k) = codes "ends, and r0, the answer, is " ++ (known_text k ++
 
 -- the text tells a need by its cause
 abbrev pub TellsNeed : Policy → AbstractState → Insn → Cause → List ℕ → Type 0
-TellsNeed p view insn Unset text = text ≡ unset_need view insn
-TellsNeed p view insn Access text = TellsAccessOf p view insn text
-TellsNeed p view insn PointerUse text = TellsPointer view insn text
-TellsNeed p view insn Argument text = TellsArgument p view insn text
-TellsNeed p view insn Answer text = text ≡ answer_text (known_in view 0)
+TellsNeed p view insn (State Unset) text = text ≡ unset_need view insn
+TellsNeed p view insn (State Access) text = TellsAccessOf p view insn text
+TellsNeed p view insn (State PointerUse) text = TellsPointer view insn text
+TellsNeed p view insn (State Argument) text = TellsArgument p view insn text
+TellsNeed p view insn (State Answer) text = text ≡ answer_text (known_in view 0)
 TellsNeed p view insn other text = ⊥
 
 -- the text tells a need that the view does not give; where it gives what the cause says, no need is told

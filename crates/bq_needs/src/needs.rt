@@ -14,7 +14,7 @@ use bq_insn::Insn;
 use bq_policy_files::Policy;
 use bq_states::abstract_state::{AbstractState, AbstractValue, Kind};
 use bq_states::registers::known;
-use bq_verify::Cause;
+use bq_verify::{Cause, Doubt};
 use std::alloc::{AllocError, Global};
 
 /// The need that the view does not give, by the cause.
@@ -44,12 +44,12 @@ fn told(
     ensures { IfOk result (λ told. MatchOption told (IsMet policy.now view.now insn cause) (λ text. TellsNeed policy.now view.now insn cause (string_bytes text) × ¬ (IsMet policy.now view.now insn cause))) }
 {
     match cause {
-        Cause::Unset => unset_need(alloc, view, insn),
-        Cause::Access => access_need(alloc, policy, view, insn),
-        Cause::PointerUse => pointer_need(alloc, view, insn),
-        Cause::Argument => argument_need(alloc, policy, view, insn),
-        Cause::Answer => answer_need(alloc, view),
-        _ => Ok(None),
+        Cause::State(Doubt::Unset) => unset_need(alloc, view, insn),
+        Cause::State(Doubt::Access) => access_need(alloc, policy, view, insn),
+        Cause::State(Doubt::PointerUse) => pointer_need(alloc, view, insn),
+        Cause::State(Doubt::Argument) => argument_need(alloc, policy, view, insn),
+        Cause::State(Doubt::Answer) => answer_need(alloc, view),
+        Cause::Graph(_) => Ok(None),
     }
 }
 

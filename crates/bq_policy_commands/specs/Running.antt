@@ -17,7 +17,7 @@ use Rattle.bq_one_run.specs.Naming.{BeginsWith, IsClean, SetsCounter, SetsEntry,
 use Rattle.bq_one_run.specs.Permitting.{word_of}
 use Rattle.bq_one_run.specs.Runs.{AreRuns, IsRun, Kept, kept_in}
 use Rattle.bq_one_run.specs.Words.{IsNumber}
-use Rattle.bq_graph.specs.declared.cause.Cause.{Cause}
+use Rattle.bq_verify.specs.declared.cause.Cause.{Cause}
 use Rattle.bq_verify.specs.Accepted.{Accepted}
 use Rattle.bq_bpf.specs.Hooks.{context_length_of}
 use Rattle.bq_verify.specs.Refusals.{IsRefusal}

@@ -63,3 +63,11 @@ MayDoubt PointerUse insn = UsesWord insn
 MayDoubt Access insn = IsAccess insn
 MayDoubt Argument insn = TakesArgument insn
 MayDoubt Answer insn = IsExit insn
+
+-- the number of a doubt, after the letter V
+abbrev pub doubt_number : Doubt → ℕ
+doubt_number Unset = 4
+doubt_number Access = 5
+doubt_number PointerUse = 6
+doubt_number Argument = 8
+doubt_number Answer = 9

@@ -14,7 +14,7 @@ use Rattle.bq_bpf.specs.declared.shape.MapShape.{MapShape}
 use Rattle.bq_graph.specs.Edges.{IsEdge, IsStart, Leaves, distance_of, goes_on}
 use Rattle.bq_graph.specs.Paths.{CallsOnWay, IsPath, Path, calls_before_end, calls_of, end_of, asks_counter}
 use Rattle.bq_graph.specs.Faults.{IsFaultless, destination_of, is_helper}
-use Rattle.bq_graph.specs.declared.cause.Cause.TheVariants.{Jump, NoExit, Unreached, Frame, Helper, Counters}
+use Rattle.bq_graph.specs.declared.cause.GraphCause.TheVariants.{Jump, NoExit, Unreached, Frame, Helper, Counters}
 use Rattle.bq_graph.proofs.EdgeLemmas.{end_of-push, IsPath-push, exit_is_last}
 use Rattle.bq_states.specs.declared.abstract_state.Kind.TheVariants.{Map, Stack}
 use Rattle.bq_verify.specs.Straight.{leaves, loads, stores, untouched, writes, HasOneWay, IsByteStored, IsCounting, IsGiving, IsLoaded, IsMoveOnStack, IsNaming, IsPointerFrom, IsWritten, Needs, OnEachPath}

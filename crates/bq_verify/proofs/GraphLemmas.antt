@@ -12,7 +12,7 @@ use Rattle.bq_graph.specs.Edges.{IsEdge, IsWhole, IsStart}
 use Rattle.bq_graph.specs.Paths.{IsGreatest, IsMost, PathOut, CallsOnWay, asks_counter, calls_of}
 use Rattle.bq_graph.specs.Faults.{IsFaultless}
 use Rattle.bq_graph.specs.Passes.{IsSound, Measured}
-use Rattle.bq_graph.specs.declared.cause.Cause.TheVariants.{Jump, NoExit, Unreached, Counters}
+use Rattle.bq_graph.specs.declared.cause.GraphCause.TheVariants.{Jump, NoExit, Unreached, Counters}
 use Rattle.bq_graph.proofs.SpreadLemmas.{spread_begins}
 use Rattle.bq_graph.proofs.HeightLemmas.{heights_fall, heights_positive}
 use Rattle.bq_verify.specs.Control.{AreHeights, AreMade}

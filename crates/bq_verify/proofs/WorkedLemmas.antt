@@ -14,7 +14,7 @@ use Rattle.bq_bpf.specs.declared.shape.MapShape.{MapShape}
 use Rattle.bq_graph.specs.Edges.{IsEdge, IsStart, Leaves, distance_of, goes_on}
 use Rattle.bq_graph.specs.Paths.{IsPath, Path, end_of, asks_counter}
 use Rattle.bq_graph.specs.Faults.{IsFaultless, destination_of, is_helper}
-use Rattle.bq_graph.specs.declared.cause.Cause.TheVariants.{Jump, NoExit, Unreached, Frame, Helper, Counters}
+use Rattle.bq_graph.specs.declared.cause.GraphCause.TheVariants.{Jump, NoExit, Unreached, Frame, Helper, Counters}
 use Rattle.bq_graph.proofs.EdgeLemmas.{end_of-push, IsPath-push, exit_is_last, leads_same}
 use Rattle.bq_transfer.specs.Ready.{IsNullCheck}
 use Rattle.bq_states.specs.declared.abstract_state.Kind.TheVariants.{Entry, EntryOrNull, Map, Stack}

@@ -1,7 +1,7 @@
 -- Laws of safe programs, and of the fault that is named of others.
 use Rattle.std.specs.Prelude.{ℕ, ◌≡◌, ◌^◌, ◌<◌, ◌≤◌, List, Option, take}
 use Rattle.bq_insn.specs.declared.Insn.{Insn}
-use Rattle.bq_graph.specs.declared.cause.Cause.{Cause}
+use Rattle.bq_graph.specs.declared.cause.GraphCause.{GraphCause}
 use Rattle.bq_graph.specs.Faults.{IsFaultless, IsFirstFault}
 use Rattle.bq_bpf.specs.declared.shape.MapShape.{MapShape}
 use Rattle.bq_bpf.specs.declared.board.Call.{Call as Asked}
@@ -11,11 +11,11 @@ use Rattle.bq_bpf.specs.Safe.{Safe}
 
 -- of a program with faults one is the first, by cause and slot
 abbrev pub OneFirstFault : Type 0
-OneFirstFault = (slots : List (Option Insn)) (a b : Cause) (j k : ℕ) → IsFirstFault slots a j → IsFirstFault slots b k → (a ≡ b) × (j ≡ k)
+OneFirstFault = (slots : List (Option Insn)) (a b : GraphCause) (j k : ℕ) → IsFirstFault slots a j → IsFirstFault slots b k → (a ≡ b) × (j ≡ k)
 
 -- a program without faults has none
 abbrev pub FaultlessHasNone : Type 0
-FaultlessHasNone = (slots : List (Option Insn)) (cause : Cause) (slot : ℕ) → IsFaultless slots → IsFirstFault slots cause slot → ⊥
+FaultlessHasNone = (slots : List (Option Insn)) (cause : GraphCause) (slot : ℕ) → IsFaultless slots → IsFirstFault slots cause slot → ⊥
 
 -- the setting with the first bytes of its context alone
 abbrev pub shortened : Setting → ℕ → Setting

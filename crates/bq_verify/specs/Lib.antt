@@ -4,6 +4,7 @@ pub mod Straight
 pub mod Sure
 pub mod Stops
 pub mod Accepted
+pub mod Causes
 pub mod Refusals
 pub mod KnownAt
 pub mod Laws

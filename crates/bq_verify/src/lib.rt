@@ -4,6 +4,7 @@
 //! registers and stack. A `Verified` is safe within its budget; the interpreter rests on that alone.
 #![tactic(auto)]
 
+pub mod cause;
 mod flow;
 mod known_at;
 pub mod laws;
@@ -15,7 +16,9 @@ pub mod verified;
 mod waiting;
 
 pub use bq_bpf::{Hook, Version};
-pub use bq_graph::cause::Cause;
+pub use bq_graph::cause::GraphCause;
+pub use bq_transfer::doubt::Doubt;
+pub use cause::Cause;
 pub use known_at::view_at;
 pub use program::{Program, verify};
 pub use refused::Refused;

@@ -14,6 +14,7 @@ ghost use Rattle.bq_verify.specs.Control.{AreMade};
 ghost use Rattle.bq_bpf.specs.Hooks.{context_length_of};
 ghost use Rattle.bq_verify.specs.Straight.{IsStraightProgram};
 
+use crate::cause::Cause;
 use crate::refused::Refused;
 use crate::verified::Verified;
 use bq_bpf::{Hook, MapShape, Version};
@@ -58,7 +59,7 @@ pub(crate) fn check_graph(alloc: Global, slots: &[Option<Insn>]) -> Result<(), R
         Ok(()) => Ok(()),
         Err(fault) => Err(Refused::At {
             slot: fault.slot,
-            cause: fault.cause,
+            cause: Cause::Graph(fault.cause),
         }),
     }
 }

@@ -3,16 +3,13 @@
 ghost use Rattle.std.specs.Prelude.{◌≡◌, Some, List, Option};
 ghost use Rattle.bq_insn.specs.declared.Insn.{Insn};
 ghost use Rattle.bq_bpf.specs.Steps.{instruction_at};
-ghost use Rattle.bq_graph.specs.Faults.{place_of};
-ghost use Rattle.bq_verify.specs.Stops.{cause_for, IsWantOfMemory, MayCause, MayStop};
-ghost use Rattle.bq_transfer.specs.Doubts.{MayDoubt};
+ghost use Rattle.bq_verify.specs.Stops.{IsWantOfMemory, MayStop};
 ghost use Rattle.bq_transfer.specs.declared.doubt.Doubt.{Doubt as Missing};
 ghost use Rattle.bq_verify.specs.declared.refused.Refused.TheVariants.{At};
 ghost use Rattle.bq_verify.specs.Refusals.{IsOutOfMemory, IsStopped};
 
+use crate::cause::Cause;
 use crate::stop::Stop;
-use bq_graph::cause::Cause;
-use bq_transfer::doubt::Doubt;
 use std::alloc::AllocError;
 
 /// Why a program is not accepted: a cause at a slot, or want of memory.
@@ -34,31 +31,16 @@ impl From<AllocError> for Refused {
     }
 }
 
-/// The cause that is named for what is not shown.
-fn cause_of(doubt: Doubt) -> Cause
-    ensures is { result ≡ cause_for doubt }
-    ensures states { place_of result ≡ 7 }
-    ensures may { (insn : Insn) → MayDoubt doubt insn → MayCause result insn }
-{
-    match doubt {
-        Doubt::Unset => Cause::Unset,
-        Doubt::Access => Cause::Access,
-        Doubt::PointerUse => Cause::PointerUse,
-        Doubt::Argument => Cause::Argument,
-        Doubt::Answer => Cause::Answer,
-    }
-}
-
 /// The refusal where the pass stopped at a slot.
 pub(crate) fn refuse(slot: usize, stop: Stop) -> Refused
     ensures stopped { (slots : List (Option Insn)) (insn : Insn) → instruction_at slots slot ≡ Some insn → MayStop stop insn → IsStopped slots result }
-    ensures named { (doubt : Missing) → stop ≡ Stop.Doubted doubt → result ≡ At slot (cause_for doubt) }
+    ensures named { (doubt : Missing) → stop ≡ Stop.Doubted doubt → result ≡ At slot (Cause.State doubt) }
     ensures memory { IsWantOfMemory stop → IsOutOfMemory result }
 {
     match stop {
         Stop::Doubted(doubt) => Refused::At {
             slot,
-            cause: cause_of(doubt),
+            cause: Cause::State(doubt),
         },
         Stop::OutOfMemory => Refused::OutOfMemory,
     }

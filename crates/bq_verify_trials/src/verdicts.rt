@@ -6,8 +6,8 @@ ghost use Rattle.bq_verify.specs.Worked.{calling, worked};
 use crate::judging::{Verdict, at, expect, judge, verdict};
 use bq_asm::assemble;
 use bq_bpf::{Hook, MapShape, Version};
-use bq_graph::cause::Cause;
 use bq_insn::{Condition, Insn, Operation, Size, Source, Width};
+use bq_verify::{Cause, Doubt, GraphCause};
 use std::alloc::{AllocError, Global};
 use std::process::Abort;
 use std::test::Fail;
@@ -190,7 +190,7 @@ fn sweep_of_bounds(rt: HostRuntime) -> Result<(), Fail> {
             let answer = if bound + bytes <= 56 {
                 Ok(5)
             } else {
-                at(3, Cause::Access)
+                at(3, Cause::State(Doubt::Access))
             };
             assert_eq!(rt; judge(rt.alloc(), program.as_str(), &none)?, answer);
         }
@@ -228,7 +228,7 @@ fn sweep_of_masks(rt: HostRuntime) -> Result<(), Fail> {
             let answer = if mask + bytes <= 16 {
                 Ok(11)
             } else {
-                at(12, Cause::Access)
+                at(12, Cause::State(Doubt::Access))
             };
             assert_eq!(rt; narrowed(rt.alloc(), "and64", mask, load)?, answer);
         }
@@ -243,7 +243,7 @@ fn sweep_of_shifts(rt: HostRuntime) -> Result<(), Fail> {
         let answer = if shift >= 29 {
             Ok(11)
         } else {
-            at(12, Cause::Access)
+            at(12, Cause::State(Doubt::Access))
         };
         assert_eq!(rt; narrowed(rt.alloc(), "rsh64", shift, "ldxdw")?, answer);
     }
@@ -256,10 +256,10 @@ fn versions(rt: HostRuntime) -> Result<(), Fail> {
     let none: [MapShape; 0] = [];
     for (off, version, answer) in [
         (100, Version::First, Ok(2)),
-        (104, Version::First, at(0, Cause::Access)),
+        (104, Version::First, at(0, Cause::State(Doubt::Access))),
         (104, Version::Second, Ok(2)),
         (292, Version::Second, Ok(2)),
-        (293, Version::Second, at(0, Cause::Access)),
+        (293, Version::Second, at(0, Cause::State(Doubt::Access))),
     ] {
         let program = format!(in rt.alloc(); "ldxw r0, [r1+{off}]\nexit\n")?;
         let insns = assemble(rt.alloc(), program.as_str())?;
@@ -276,11 +276,15 @@ fn versions(rt: HostRuntime) -> Result<(), Fail> {
 fn maps(rt: HostRuntime) -> Result<(), Fail> {
     let look_up = "stw [r10-4], 0\nldmap r1, 0\nmov64 r2, r10\nadd64 r2, -4\ncall 1\n";
     let trials: [(&str, u16, Verdict); 4] = [
-        ("ldxdw r0, [r0+0]\nexit\n", 1, at(6, Cause::Access)),
+        (
+            "ldxdw r0, [r0+0]\nexit\n",
+            1,
+            at(6, Cause::State(Doubt::Access)),
+        ),
         (
             "jne64 r0, 0, +2\nmov64 r0, 0\nexit\nldxdw r0, [r0+4]\nexit\n",
             2,
-            at(9, Cause::Access),
+            at(9, Cause::State(Doubt::Access)),
         ),
         (
             "jne64 r0, 0, +2\nmov64 r0, 2\nexit\nldxdw r3, [r0+0]\nmov64 r4, r3\nadd64 r4, 1\nstxdw [r0+0], r4\n\
@@ -292,7 +296,7 @@ mov64 r0, r3\nexit\n",
         (
             "mov64 r6, 0\njeq64 r0, r6, +0\nmov64 r0, 0\nexit\n",
             1,
-            at(7, Cause::PointerUse),
+            at(7, Cause::State(Doubt::PointerUse)),
         ),
     ];
     for (end, entries, answer) in trials {
@@ -317,13 +321,13 @@ fn counters(rt: HostRuntime) -> Result<(), Fail> {
         (
             "mov64 r1, 64\nmov64 r2, 5\ncall 100\n",
             1,
-            at(2, Cause::Argument),
+            at(2, Cause::State(Doubt::Argument)),
         ),
         ("mov64 r1, 3\nmov64 r2, 5\ncall 100\n", 16, Ok(50)),
         (
             "mov64 r1, 3\nmov64 r2, 5\ncall 100\n",
             17,
-            at(50, Cause::Counters),
+            at(50, Cause::Graph(GraphCause::Counters)),
         ),
     ] {
         let program = repeated(rt.alloc(), "", calls, add, "mov64 r0, 0\nexit\n")?;

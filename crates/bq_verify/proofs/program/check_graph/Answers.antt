@@ -1,4 +1,4 @@
-use Rattle.bq_graph.specs.declared.cause.Cause.TheVariants.{Jump, NoExit}
+use Rattle.bq_graph.specs.declared.cause.GraphCause.TheVariants.{Jump, NoExit}
 use Rattle.bq_graph.proofs.SoundLemmas.{sound_graph}
 use Rattle.bq_verify.proofs.GraphLemmas.{made_of, made_are}
 use Rattle.bq_verify.proofs.program.check_graph.Goals as goal

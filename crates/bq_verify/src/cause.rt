@@ -1,0 +1,27 @@
+//! Why a program is refused.
+ghost use Rattle.std.specs.Prelude.{◌≡◌};
+ghost use Rattle.bq_verify.specs.Causes.{cause_number};
+
+use bq_graph::cause::GraphCause;
+use bq_transfer::doubt::Doubt;
+
+/// Why a program is refused.
+#[derive(Clone, Copy, Debug, PartialEq, Eq)]
+pub enum Cause {
+    /// By its control graph, or by a single instruction.
+    Graph(GraphCause),
+    /// By what is known of its states: something is not shown of an instruction.
+    State(Doubt),
+}
+
+impl Cause {
+    /// The number by which it is named, after the letter V.
+    pub fn number(self) -> u8
+        ensures { result ≡ cause_number self }
+    {
+        match self {
+            Cause::Graph(cause) => cause.number(),
+            Cause::State(doubt) => doubt.number(),
+        }
+    }
+}
