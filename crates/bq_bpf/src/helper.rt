@@ -1,5 +1,18 @@
 //! The helpers that a policy may call.
 
+/// The number of `Helper::Lookup`.
+pub const LOOKUP: i32 = 1;
+/// The number of `Helper::Update`.
+pub const UPDATE: i32 = 2;
+/// The number of `Helper::Now`.
+pub const NOW: i32 = 5;
+/// The number of `Helper::Processor`.
+pub const PROCESSOR: i32 = 8;
+/// The number of `Helper::AddCounter`.
+pub const ADD_COUNTER: i32 = 100;
+/// The number of `Helper::ReadCounter`.
+pub const READ_COUNTER: i32 = 101;
+
 /// What a call asks of the machine (RFC 9669 section 4.3.1): the arguments are in registers 1 to 5, the answer comes in
 /// register 0.
 #[derive(Clone, Copy, Debug, PartialEq, Eq)]
@@ -28,12 +41,12 @@ impl Helper {
         ensures { MatchOption result ((h : Helper) → number_of_helper h ≢ number) (λ h. number_of_helper h ≡ number) }
     {
         match number {
-            1 => Some(Helper::Lookup),
-            2 => Some(Helper::Update),
-            5 => Some(Helper::Now),
-            8 => Some(Helper::Processor),
-            100 => Some(Helper::AddCounter),
-            101 => Some(Helper::ReadCounter),
+            LOOKUP => Some(Helper::Lookup),
+            UPDATE => Some(Helper::Update),
+            NOW => Some(Helper::Now),
+            PROCESSOR => Some(Helper::Processor),
+            ADD_COUNTER => Some(Helper::AddCounter),
+            READ_COUNTER => Some(Helper::ReadCounter),
             _ => None,
         }
     }
@@ -43,12 +56,12 @@ impl Helper {
         ensures { result ≡ number_of_helper self }
     {
         match self {
-            Helper::Lookup => 1,
-            Helper::Update => 2,
-            Helper::Now => 5,
-            Helper::Processor => 8,
-            Helper::AddCounter => 100,
-            Helper::ReadCounter => 101,
+            Helper::Lookup => LOOKUP,
+            Helper::Update => UPDATE,
+            Helper::Now => NOW,
+            Helper::Processor => PROCESSOR,
+            Helper::AddCounter => ADD_COUNTER,
+            Helper::ReadCounter => READ_COUNTER,
         }
     }
 }

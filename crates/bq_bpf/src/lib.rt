@@ -4,6 +4,7 @@
 //! interpreter rest on that. The code names hooks and helpers, tells shapes of maps, and asks counters.
 #![tactic(auto)]
 
+pub mod addresses;
 pub mod board;
 pub mod helper;
 pub mod hook;

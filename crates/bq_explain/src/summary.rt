@@ -1,11 +1,12 @@
 //! What is said of a program that is accepted.
 use bq_bpf::MapShape;
+use bq_bpf::helper::{ADD_COUNTER, LOOKUP, NOW, PROCESSOR, READ_COUNTER, UPDATE};
 use bq_insn::Insn;
 use bq_policy_files::Policy;
 use std::alloc::{AllocError, Global};
 
 /// The helpers that there are, by their numbers.
-const HELPERS: [i32; 6] = [1, 2, 5, 8, 100, 101];
+const HELPERS: [i32; 6] = [LOOKUP, UPDATE, NOW, PROCESSOR, ADD_COUNTER, READ_COUNTER];
 
 /// The one line on an accepted program: its hook, budget, version, maps, helpers, calls of counters and slots.
 pub(crate) fn summary(alloc: Global, policy: &Policy, budget: u32) -> Result<String, AllocError> {
@@ -82,7 +83,7 @@ fn counter_calls(insns: &[Insn]) -> usize {
     let mut count: usize = 0;
     for insn in insns {
         if let Insn::Call { helper } = insn {
-            if *helper == 100 || *helper == 101 {
+            if *helper == ADD_COUNTER || *helper == READ_COUNTER {
                 count = count.saturating_add(1);
             }
         }

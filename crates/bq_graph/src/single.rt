@@ -6,6 +6,7 @@ ghost use Rattle.bq_graph.specs.Faults.{destination_of, is_helper, IsBadJump, Ru
 
 use crate::cause::GraphCause;
 use crate::edges::{distance, instruction, landing, may_go_on};
+use bq_bpf::helper::{ADD_COUNTER, LOOKUP, NOW, PROCESSOR, READ_COUNTER, UPDATE};
 use bq_insn::Insn;
 
 /// The register that an instruction writes, if it names one.
@@ -28,7 +29,12 @@ pub fn destination(insn: Insn) -> Option<u8>
 pub fn is_known_helper(helper: i32) -> bool
     ensures { result ≡ is_helper helper }
 {
-    helper == 1 || helper == 2 || helper == 5 || helper == 8 || helper == 100 || helper == 101
+    helper == LOOKUP
+        || helper == UPDATE
+        || helper == NOW
+        || helper == PROCESSOR
+        || helper == ADD_COUNTER
+        || helper == READ_COUNTER
 }
 
 /// Whether an instruction asks a counter of the machine: helper 100 adds to one, and helper 101 reads one.
@@ -36,7 +42,7 @@ pub fn is_counter_call(insn: Insn) -> bool
     ensures { result ≡ asks_counter insn }
 {
     match insn {
-        Insn::Call { helper } => helper == 100 || helper == 101,
+        Insn::Call { helper } => helper == ADD_COUNTER || helper == READ_COUNTER,
         _ => false,
     }
 }

@@ -8,6 +8,7 @@ ghost use Rattle.bq_needs.specs.declared.arguments.Wanted.{Wanted as Asked};
 use crate::accesses::lack_of;
 use crate::known::known_text;
 use crate::operands::Access;
+use bq_bpf::helper::{ADD_COUNTER, LOOKUP, READ_COUNTER, UPDATE};
 use bq_insn::Insn;
 use bq_policy_files::Policy;
 use bq_states::abstract_state::{AbstractState, Kind};
@@ -101,16 +102,16 @@ fn call_text(alloc: Global, view: &AbstractState, wanted: Wanted) -> Result<Stri
 fn wanted_by(helper: i32) -> Option<Wanted>
     ensures { MatchOption result ((w : Asked) → helper ≡ helper_of w → ⊥) (λ w. helper ≡ helper_of w) }
 {
-    if helper == 1 {
+    if helper == LOOKUP {
         return Some(Wanted::LookUp);
     }
-    if helper == 2 {
+    if helper == UPDATE {
         return Some(Wanted::Update);
     }
-    if helper == 100 {
+    if helper == ADD_COUNTER {
         return Some(Wanted::Add);
     }
-    if helper == 101 {
+    if helper == READ_COUNTER {
         return Some(Wanted::Read);
     }
     None

@@ -14,6 +14,7 @@ ghost use Rattle.bq_states.specs.AbstractStates.{Contains};
 
 use crate::doubt::Doubt;
 use bq_bpf::MapShape;
+use bq_bpf::helper::{LOOKUP, NOW, PROCESSOR, UPDATE};
 use bq_insn::{Insn, Size, Width};
 use bq_ranges::Range;
 use bq_states::abstract_state::{AbstractState, AbstractValue, Kind};
@@ -95,19 +96,19 @@ pub fn call(
     ensures doubts { IfErr result (λ doubt. MayDoubt doubt (Insn.Call helper)) }
     ensures accepts { IsReady shapes.now context view.old (Insn.Call helper) → IsOk result × ((x : Fact) (slot k : ℕ) → After x slot k (Insn.Call helper) view.old → Has x view.new) }
 {
-    if helper == 1 {
+    if helper == LOOKUP {
         look_up(view, shapes, context)?;
         return Ok(());
     }
-    if helper == 2 {
+    if helper == UPDATE {
         update(view, shapes, context)?;
         return Ok(());
     }
-    if helper == 5 {
+    if helper == NOW {
         now(view);
         return Ok(());
     }
-    if helper == 8 {
+    if helper == PROCESSOR {
         processor(view);
         return Ok(());
     }

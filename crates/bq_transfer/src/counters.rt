@@ -9,6 +9,7 @@ ghost use Rattle.bq_transfer.specs.Transfers.{AsksFrom};
 
 use crate::calls::{answer, is_at_most};
 use crate::doubt::Doubt;
+use bq_bpf::helper::{ADD_COUNTER, READ_COUNTER};
 use bq_insn::{Insn, Width};
 use bq_ranges::Range;
 use bq_states::abstract_state::AbstractState;
@@ -48,7 +49,7 @@ pub fn is_counter_call(insn: Insn) -> bool
     ensures only { IsCounterCall insn → IsTrue result }
 {
     match insn {
-        Insn::Call { helper } => helper == 100 || helper == 101,
+        Insn::Call { helper } => helper == ADD_COUNTER || helper == READ_COUNTER,
         _ => false,
     }
 }
@@ -62,7 +63,7 @@ pub fn ask(view: &mut AbstractState, insn: Insn) -> Result<(), Doubt>
 {
     match insn {
         Insn::Call { helper } => {
-            if helper == 100 {
+            if helper == ADD_COUNTER {
                 add(view)?;
                 return Ok(());
             }

@@ -1,0 +1,19 @@
+//! Where the memory of a policy begins, and the references of its maps.
+
+/// The first address of the context.
+pub const CONTEXT_BASE: u64 = 0x1_0000_0000;
+
+/// The first address of the stack.
+pub const STACK_BASE: u64 = 0x2_0000_0000;
+
+/// How many bytes the stack has.
+pub const STACK_SIZE: u64 = 512;
+
+/// The first address of the values of map 0.
+pub const VALUES_BASE: u64 = 0x10_0000_0000;
+
+/// How many addresses a page has: the context, the stack and each map's values have one.
+pub const PAGE: u64 = 0x1_0000_0000;
+
+/// The reference of map 0; that of the next is one more.
+pub const REFERENCE: u64 = 0x4000_0000_0000;
