@@ -318,7 +318,7 @@ impl Why {
             choice.asked.write_overruled(text)?;
         }
         match reason {
-            Reason::Policy => choice.asked.write_answer(text, "preempt"),
+            Reason::Policy => choice.asked.write_answer(text, Hook::Preempt.word()),
             Reason::EarliestDeadline => {
                 let eligible = Ids { names, rows };
                 write!(text, "the earliest deadline of the eligible {eligible}\n")
@@ -360,7 +360,7 @@ fn write_place(
     let who = Who { names, task };
     write!(text, "    {who} is placed on {to}: ")?;
     match by {
-        By::Policy => asked.write_answer(text, "place"),
+        By::Policy => asked.write_answer(text, Hook::Place.word()),
         By::Discipline => {
             asked.write_overruled(text)?;
             text.push_str("the least load in its mask, where it was last if that ties\n")
@@ -384,7 +384,7 @@ fn write_pull(
         None => text.push_str("    nothing is pulled: ")?,
     }
     match by {
-        By::Policy => asked.write_answer(text, "pull"),
+        By::Policy => asked.write_answer(text, Hook::Pull.word()),
         By::Discipline => {
             asked.write_overruled(text)?;
             match task {

@@ -1,0 +1,98 @@
+#!/usr/bin/env python3
+"""Looks for facts that stand in two places of the crates' product code.
+
+    tests/one_place.py        exit status 0: none but those that ALLOWED names with a reason
+
+Four things are looked for: a known fact outside its home (FACTS: a pattern, and the file that may have it); the same function
+twice, by its text without its name; the same definition twice in specs, by its right side; the same long text twice. Trials,
+tests and proofs are left out.
+"""
+import re
+import sys
+from collections import defaultdict
+from pathlib import Path
+
+TOP = Path(__file__).resolve().parent.parent / 'crates'
+
+# What each fact looks like, and the only files that may say it.
+FACTS = [
+    ('the word of a hook', r'"(?:place|preempt|pull)"', {'bq_bpf/src/hook.rt'}),
+    ('an address of the machine', r'0x2_0000_0\d\d\d|0x10_0000_0000|0x4000_0000_0000', {'bq_bpf/src/addresses.rt'}),
+    ('the number of a helper', r'helper\s*(?:==|=>)\s*\d', {'bq_bpf/src/helper.rt'}),
+    ('the number of a fault or a cause', r'(?:Cause|Doubt)::\w+ => \d', {'bq_insn/src/fault.rt', 'bq_asm/src/fault.rt', 'bq_graph/src/cause.rt', 'bq_transfer/src/doubt.rt'}),
+    ('the number of processors of a machine', r'ProcessorCount::\w+ => \d', {'bq_sizes/src/processor_count.rt'}),
+    ('the word of a rule', r'b?"(?:cfs|eevdf)"', {'bq_sizes/src/rule.rt'}),
+    ('the word of a version', r'Version::\w+ => \d', {'bq_bpf/src/hook.rt'}),
+]
+
+# What may stand in two places, and why.
+ALLOWED = {
+}
+
+
+def product(folder, ending):
+    """The files of product code, or of specs, with what is no test of them."""
+    for path in sorted(TOP.glob(f'*/{folder}/**/*{ending}')):
+        crate = path.relative_to(TOP).parts[0]
+        if crate.endswith('_trials') or crate in ('bq_trials', 'bq_races') or path.name.endswith('tests.rt'):
+            continue
+        yield str(path.relative_to(TOP)), path.read_text(encoding='utf-8').split('#[cfg(test)]')[0]
+
+
+def facts(files):
+    for name, text in files:
+        bare = re.sub(r'(?m)//.*$', '', text)
+        for what, pattern, homes in FACTS:
+            if name not in homes and re.search(pattern, bare):
+                yield f'{what}: {name}'
+
+
+def functions(files):
+    seen = defaultdict(list)
+    for name, text in files:
+        for found in re.finditer(r'(?m)^( *)(?:pub(?:\(\w+\))? )?fn (\w+)(.*?)^\1\}$', text, re.S):
+            body = re.sub(r'\s+', ' ', re.sub(r'//.*', '', found[3]))
+            inner = body[body.rfind(' { ') if '{' in body else 0:]
+            if body.count(';') + body.count('=>') >= 3 and len(inner) > 40:
+                seen[body].append(f'{name}: {found[2]}')
+    for places in seen.values():
+        if len({it.split(':')[0] for it in places}) > 1:
+            yield 'the same function: ' + ', '.join(places)
+
+
+def definitions(files):
+    seen = defaultdict(list)
+    for name, text in files:
+        for found in re.finditer(r'(?m)^(?:abbrev )?pub (?:abbrev )?(\S+) :(.*?)(?=^\S*\s*(?:abbrev|pub|--|record)|\Z)', text, re.S):
+            body = re.sub(r'\s+', ' ', found[2].replace(found[1], '_')).strip()
+            if len(body) > 80:
+                seen[body].append(f'{name}: {found[1]}')
+    for places in seen.values():
+        if len({it.split(':')[0] for it in places}) > 1:
+            yield 'the same definition: ' + ', '.join(places)
+
+
+def texts(files):
+    seen = defaultdict(set)
+    for name, text in files:
+        for found in re.finditer(r'"((?:[^"\\\n]|\\.){28,})"', re.sub(r'(?m)^\s*//.*$', '', text)):
+            seen[found[1]].add(name)
+    for said, names in seen.items():
+        if len(names) > 1:
+            yield f'the same text: {", ".join(sorted(names))}: {said[:60]}'
+
+
+def main():
+    code, specs = list(product('src', '.rt')), list(product('specs', '.antt'))
+    found = [*facts(code), *functions(code), *definitions(specs), *texts(code)]
+    bad = [it for it in found if it not in ALLOWED]
+    for it in bad:
+        print(it)
+    for it in sorted(set(ALLOWED) - set(found)):
+        print(f'no more found, so it need not be allowed: {it}')
+    print(f'{len(found)} found, {len(found) - len(bad)} of them allowed')
+    return 1 if bad or set(ALLOWED) - set(found) else 0
+
+
+if __name__ == '__main__':
+    sys.exit(main())
