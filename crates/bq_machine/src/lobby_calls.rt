@@ -5,7 +5,7 @@ ghost use Rattle.bq_machine.specs.Calls.{IsCallRefused};
 
 use crate::clock::Clock;
 use crate::locks::Machine;
-use bq_cells::{Record, room};
+use bq_cells::{Record, record_room};
 use bq_counters::Naming as Counting;
 use bq_disc::RunQueue;
 use bq_history::Receipt;
@@ -51,7 +51,7 @@ impl<Q: RunQueue + Drop, K: Clock + Drop, N: Naming + Counting, const P: usize> 
         if let Some(refusal) = argument_refusal(self.cpus.len(), &event) {
             return Err(refusal);
         }
-        let slip = room(alloc)?;
+        record_room(alloc, &mut seat.first)?;
         let Ok(new) = new_task(alloc, self.cpus.len(), task, nice, mask, slice) else {
             return Err(Refusal::OutOfMemory);
         };
@@ -67,7 +67,7 @@ impl<Q: RunQueue + Drop, K: Clock + Drop, N: Naming + Counting, const P: usize> 
                 mask,
                 slice,
                 new,
-                slip,
+                &mut seat.first,
             ),
         )
     }
@@ -93,12 +93,12 @@ impl<Q: RunQueue + Drop, K: Clock + Drop, N: Naming + Counting, const P: usize> 
         if let Some(refusal) = argument_refusal(self.cpus.len(), &event) {
             return Err(refusal);
         }
-        let slip = room(alloc)?;
+        record_room(alloc, &mut seat.first)?;
         let mut guard = self.lobby.lock(rt);
         let place = &mut *guard;
         Ok(
             self.recorder
-                .retire(rt, &mut seat.working, place, task, slip),
+                .retire(rt, &mut seat.working, place, task, &mut seat.first),
         )
     }
 }

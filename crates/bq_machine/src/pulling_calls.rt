@@ -7,10 +7,10 @@ ghost use Rattle.bq_machine.specs.Calls.{IsCallRefused};
 
 use crate::clock::Clock;
 use crate::locks::Machine;
-use bq_cells::{CallRooms, Record, call_rooms, room};
+use bq_cells::{CallRooms, Record, call_rooms, record_room};
 use bq_counters::Naming as Counting;
 use bq_disc::RunQueue;
-use bq_history::{Receipt, Slip};
+use bq_history::{Receipt, Room};
 use bq_parts::{Event, Refusal};
 use bq_recording::{Caller, Seat, need_own};
 use bq_tie::Naming;
@@ -48,7 +48,7 @@ impl<Q: RunQueue + Drop, K: Clock + Drop, N: Naming + Counting, const P: usize> 
         if processor == from {
             return Err(Refusal::SameProcessor);
         }
-        let slip = room(alloc)?;
+        record_room(alloc, &mut seat.first)?;
         call_rooms(alloc, &mut seat.rooms)?;
         let now = self.clock.now(processor);
         if processor < from {
@@ -58,7 +58,7 @@ impl<Q: RunQueue + Drop, K: Clock + Drop, N: Naming + Counting, const P: usize> 
                 processor,
                 from,
                 now,
-                slip,
+                &mut seat.first,
                 &mut seat.rooms,
             ));
         }
@@ -68,7 +68,7 @@ impl<Q: RunQueue + Drop, K: Clock + Drop, N: Naming + Counting, const P: usize> 
             processor,
             from,
             now,
-            slip,
+            &mut seat.first,
             &mut seat.rooms,
         ))
     }
@@ -81,10 +81,11 @@ impl<Q: RunQueue + Drop, K: Clock + Drop, N: Naming + Counting, const P: usize> 
         processor: u8,
         from: u8,
         now: u64,
-        slip: Slip<Record>,
+        room: &mut Room<Record>,
         rooms: &mut Option<CallRooms>,
     ) -> Receipt<Record>
-        requires ready { is_some rooms.old ≡ true }
+        requires ready { room.old ≡ true }
+        requires calls { is_some rooms.old ≡ true }
         requires tally { working.old.tally ≡ account_of told_calls working.old.caller.1 }
         requires inside { processor < P }
         requires inside_from { from < P }
@@ -100,7 +101,7 @@ impl<Q: RunQueue + Drop, K: Clock + Drop, N: Naming + Counting, const P: usize> 
         let source = &mut *source_guard;
         need_own(rt, source.cell.content.number, from);
         self.recorder
-            .pull(rt, working, place, source, now, slip, rooms)
+            .pull(rt, working, place, source, now, room, rooms)
     }
 
     /// Locks the source first, whose number is the lesser.
@@ -111,10 +112,11 @@ impl<Q: RunQueue + Drop, K: Clock + Drop, N: Naming + Counting, const P: usize> 
         processor: u8,
         from: u8,
         now: u64,
-        slip: Slip<Record>,
+        room: &mut Room<Record>,
         rooms: &mut Option<CallRooms>,
     ) -> Receipt<Record>
-        requires ready { is_some rooms.old ≡ true }
+        requires ready { room.old ≡ true }
+        requires calls { is_some rooms.old ≡ true }
         requires tally { working.old.tally ≡ account_of told_calls working.old.caller.1 }
         requires inside { processor < P }
         requires inside_from { from < P }
@@ -130,6 +132,6 @@ impl<Q: RunQueue + Drop, K: Clock + Drop, N: Naming + Counting, const P: usize> 
         let place = &mut *guard;
         need_own(rt, place.cell.content.number, processor);
         self.recorder
-            .pull(rt, working, place, source, now, slip, rooms)
+            .pull(rt, working, place, source, now, room, rooms)
     }
 }

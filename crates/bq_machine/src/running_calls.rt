@@ -6,7 +6,7 @@ ghost use Rattle.bq_machine.specs.Calls.{IsCallRefused};
 
 use crate::clock::Clock;
 use crate::locks::Machine;
-use bq_cells::{Record, call_rooms, room};
+use bq_cells::{Record, call_rooms, record_room};
 use bq_counters::Naming as Counting;
 use bq_disc::RunQueue;
 use bq_history::Receipt;
@@ -42,15 +42,21 @@ impl<Q: RunQueue + Drop, K: Clock + Drop, N: Naming + Counting, const P: usize> 
         if index >= self.cpus.len() {
             return Err(Refusal::NoProcessor);
         }
-        let slip = room(alloc)?;
+        record_room(alloc, &mut seat.first)?;
         call_rooms(alloc, &mut seat.rooms)?;
         let mut guard = self.cpus[index].lock(rt);
         let place = &mut *guard;
         need_own(rt, place.cell.content.number, processor);
         let now = self.clock.now(processor);
         Ok(
-            self.recorder
-                .tick(rt, &mut seat.working, place, now, slip, &mut seat.rooms),
+            self.recorder.tick(
+                rt,
+                &mut seat.working,
+                place,
+                now,
+                &mut seat.first,
+                &mut seat.rooms,
+            ),
         )
     }
 
@@ -74,7 +80,7 @@ impl<Q: RunQueue + Drop, K: Clock + Drop, N: Naming + Counting, const P: usize> 
         if index >= self.cpus.len() {
             return Err(Refusal::NoProcessor);
         }
-        let slip = room(alloc)?;
+        record_room(alloc, &mut seat.first)?;
         call_rooms(alloc, &mut seat.rooms)?;
         let mut guard = self.cpus[index].lock(rt);
         let place = &mut *guard;
@@ -90,7 +96,7 @@ impl<Q: RunQueue + Drop, K: Clock + Drop, N: Naming + Counting, const P: usize> 
                 place,
                 inbox,
                 now,
-                slip,
+                &mut seat.first,
                 &mut seat.rooms,
             ),
         )
@@ -117,7 +123,7 @@ impl<Q: RunQueue + Drop, K: Clock + Drop, N: Naming + Counting, const P: usize> 
         if index >= self.cpus.len() {
             return Err(Refusal::NoProcessor);
         }
-        let slip = room(alloc)?;
+        record_room(alloc, &mut seat.first)?;
         let mut guard = self.cpus[index].lock(rt);
         let place = &mut *guard;
         need_own(rt, place.cell.content.number, processor);
@@ -126,7 +132,7 @@ impl<Q: RunQueue + Drop, K: Clock + Drop, N: Naming + Counting, const P: usize> 
         let lobby = &mut *lobby_guard;
         Ok(
             self.recorder
-                .block(rt, &mut seat.working, place, lobby, now, slip),
+                .block(rt, &mut seat.working, place, lobby, now, &mut seat.first),
         )
     }
 }

@@ -1,5 +1,5 @@
 //! A wake: a task of the lobby comes into a processor's hand, and is placed. The processor's lock is held throughout.
-ghost use Rattle.std.specs.Prelude.{◌≡◌, ◌∷◌, ◌++◌, ◌<◌, ◌⊎◌, ℕ, [], None, Some, IfOk, IfErr, IfSome, IsOk, IsSome, OnOk, OnErr, ◌↔◌};
+ghost use Rattle.std.specs.Prelude.{◌≡◌, ◌∷◌, ◌++◌, ◌<◌, ◌⊎◌, ℕ, [], None, Some, IfOk, IfErr, IfSome, IsOk, IsSome, OnOk, OnErr, ◌↔◌, true};
 ghost use Rattle.std.specs.Option.{option_to_list, option_map};
 ghost use Rattle.bq_history.specs.Items.{part_item};
 ghost use Rattle.bq_seats.specs.Calls.{account_of};
@@ -11,10 +11,10 @@ ghost use Rattle.bq_machine.specs.Calls.{IsCallRefused};
 
 use crate::clock::Clock;
 use crate::locks::Machine;
-use bq_cells::{Record, call_rooms, loads_room, room};
+use bq_cells::{Record, call_rooms, loads_room, record_room};
 use bq_counters::Naming as Counting;
 use bq_disc::RunQueue;
-use bq_history::{Receipt, Slip};
+use bq_history::{Receipt, Room};
 use bq_parts::{Event, Loads, Refusal};
 use bq_recording::{Caller, CpuCell, Seat, need_own};
 use bq_tie::Naming;
@@ -64,8 +64,8 @@ impl<Q: RunQueue + Drop, K: Clock + Drop, N: Naming + Counting, const P: usize> 
         if task >= 1024 {
             return Err(Refusal::NoTask);
         }
-        let first = room(alloc)?;
-        let second = room(alloc)?;
+        record_room(alloc, &mut seat.first)?;
+        record_room(alloc, &mut seat.second)?;
         let for_record = loads_room(alloc)?;
         let for_receipt = loads_room(alloc)?;
         call_rooms(alloc, &mut seat.rooms)?;
@@ -77,7 +77,7 @@ impl<Q: RunQueue + Drop, K: Clock + Drop, N: Naming + Counting, const P: usize> 
             &mut seat.working,
             &mut place.cell,
             task,
-            first,
+            &mut seat.first,
             for_record,
             for_receipt,
         );
@@ -92,7 +92,7 @@ impl<Q: RunQueue + Drop, K: Clock + Drop, N: Naming + Counting, const P: usize> 
             &self.inboxes,
             task,
             now,
-            second,
+            &mut seat.second,
             &mut seat.rooms,
         );
         Ok(WakeReceipts {
@@ -108,11 +108,12 @@ impl<Q: RunQueue + Drop, K: Clock + Drop, N: Naming + Counting, const P: usize> 
         working: &mut Caller<N>,
         cell: &mut CpuCell<Q, N>,
         task: u16,
-        slip: Slip<Record>,
+        room: &mut Room<Record>,
         for_record: Box<Loads>,
         for_receipt: Box<Loads>,
     ) -> Receipt<Record>
         requires seat { task < 1024 }
+        requires ready { room.old ≡ true }
         requires tally { working.old.tally ≡ account_of told_calls working.old.caller.1 }
         requires says { cell.old.holder ≡ part_item (cpu_part cell.old.content.number cell.old.content.state) ∷ [] }
         requires rests { cell.old.content.state.hand ≡ None }
@@ -133,7 +134,7 @@ impl<Q: RunQueue + Drop, K: Clock + Drop, N: Naming + Counting, const P: usize> 
             cell,
             lobby,
             task,
-            slip,
+            room,
             for_record,
             for_receipt,
         )
