@@ -8,26 +8,26 @@ use mir.Val.{SFits}
 use Rattle.std.proofs.lemmas.Int.{ints}
 use Rattle.bq_transfer.proofs.calls.call.Goals as goal
 
-pub returns-then-helper-eq1-clause-transfers : goal.returns-then-helper-eq1-clause-transfers
-returns-then-helper-eq1-clause-transfers c =
+pub returns-then-helper-eq-LOOKUP-clause-transfers : goal.returns-then-helper-eq-LOOKUP-clause-transfers
+returns-then-helper-eq-LOOKUP-clause-transfers c =
     let fits : SFits w32 c.args.helper = search rules in
     let is : c.args.helper ≡ pos 1 = omega (arith, ints) in
     rw is c.in_ok-look_up.ensures.transfers
 
-pub returns-then-helper-eq5-clause-transfers : goal.returns-then-helper-eq5-clause-transfers
-returns-then-helper-eq5-clause-transfers c =
+pub returns-then-helper-eq-NOW-clause-transfers : goal.returns-then-helper-eq-NOW-clause-transfers
+returns-then-helper-eq-NOW-clause-transfers c =
     let fits : SFits w32 c.args.helper = search rules in
     let is : c.args.helper ≡ pos 5 = omega (arith, ints) in
     rw is (c.now.ensures.transfers c.args.shapes.now c.args.context)
 
-pub returns-then-helper-eq8-clause-transfers : goal.returns-then-helper-eq8-clause-transfers
-returns-then-helper-eq8-clause-transfers c =
+pub returns-then-helper-eq-PROCESSOR-clause-transfers : goal.returns-then-helper-eq-PROCESSOR-clause-transfers
+returns-then-helper-eq-PROCESSOR-clause-transfers c =
     let fits : SFits w32 c.args.helper = search rules in
     let is : c.args.helper ≡ pos 8 = omega (arith, ints) in
     rw is (c.processor.ensures.transfers c.args.shapes.now c.args.context)
 
-pub returns-then-helper-eq2-clause-transfers : goal.returns-then-helper-eq2-clause-transfers
-returns-then-helper-eq2-clause-transfers c =
+pub returns-then-helper-eq-UPDATE-clause-transfers : goal.returns-then-helper-eq-UPDATE-clause-transfers
+returns-then-helper-eq-UPDATE-clause-transfers c =
     let fits : SFits w32 c.args.helper = search rules in
     let is : c.args.helper ≡ pos 2 = omega (arith, ints) in
     rw is c.in_ok-update.ensures.transfers
@@ -52,8 +52,8 @@ returns-in_err-look_up-clause-accepts c = λ ready.
           ]
     ]
 
-pub returns-then-helper-eq1-clause-accepts : goal.returns-then-helper-eq1-clause-accepts
-returns-then-helper-eq1-clause-accepts c = λ ready.
+pub returns-then-helper-eq-LOOKUP-clause-accepts : goal.returns-then-helper-eq-LOOKUP-clause-accepts
+returns-then-helper-eq-LOOKUP-clause-accepts c = λ ready.
     let fits : SFits w32 c.args.helper = search rules in
     let is : c.args.helper ≡ pos 1 = omega (arith, ints) in
     elim ready [
@@ -91,8 +91,8 @@ returns-in_err-update-clause-accepts c = λ ready.
           ]
     ]
 
-pub returns-then-helper-eq2-clause-accepts : goal.returns-then-helper-eq2-clause-accepts
-returns-then-helper-eq2-clause-accepts c = λ ready.
+pub returns-then-helper-eq-UPDATE-clause-accepts : goal.returns-then-helper-eq-UPDATE-clause-accepts
+returns-then-helper-eq-UPDATE-clause-accepts c = λ ready.
     let fits : SFits w32 c.args.helper = search rules in
     let is : c.args.helper ≡ pos 2 = omega (arith, ints) in
     let other : c.args.helper ≢ pos 1 = λ e. (let numbers = pos_is 1 2 (sym e ∙ is) in omega (arith, numbers)) in

@@ -7,8 +7,8 @@ use Rattle.bq_insn.specs.declared.Insn.TheVariants.{Call}
 use Rattle.bq_transfer.specs.Transfers.{AsksFrom}
 use Rattle.bq_transfer.proofs.counters.ask.Goals as goal
 
-pub returns-then-helper-eq100-clause-asks : goal.returns-then-helper-eq100-clause-asks
-returns-then-helper-eq100-clause-asks c =
+pub returns-then-helper-eq-ADD_COUNTER-clause-asks : goal.returns-then-helper-eq-ADD_COUNTER-clause-asks
+returns-then-helper-eq-ADD_COUNTER-clause-asks c =
     let fits : SFits w32 c.in-Call.helper = search rules in
     let is : c.in-Call.helper ≡ pos 100 = omega (arith, ints) in
     subst (λ (i : Insn). AsksFrom i c.args.view.now c.add.new.view) (sym c.in-Call.is)
