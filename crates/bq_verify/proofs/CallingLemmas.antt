@@ -176,7 +176,6 @@ faultless Helper slot fault =
     (λ h is unknown. cc, (λ h is unknown. cc, (λ h is unknown. cc, (λ h is unknown. cc, (λ h is unknown. cc, (λ h is unknown. cc, (λ h is unknown. cc, (λ h. a_helper (pos 2) h refl, (λ h is unknown. cc, (λ h is unknown. cc, (λ h. a_helper (pos 100) h refl, (λ h is unknown. cc, (λ h. a_helper (pos 101) h refl, (λ h is unknown. cc, tt))))))))))))))
     slot (Call fault.helper) fault.here fault.helper refl fault.unknown
 faultless Counters slot fault = never_late slot fault.count fault.insn fault.here fault.way fault.many
-faultless _ slot fault = fault
 
 -- register 1 names the map up to the first call
 names_3 : IsPointerFrom program (Map 0) 0 1 3 (1 ∷ [])

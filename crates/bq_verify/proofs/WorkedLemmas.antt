@@ -195,7 +195,6 @@ faultless Counters slot fault =
     each_slot (λ slot insn. asks_counter insn ≡ true → ⊥)
     (not_false, (not_false, (not_false, (not_false, (not_false, (not_false, (not_false, (not_false, (not_false, (not_false, tt))))))))))
     slot fault.insn fault.here fault.asks
-faultless _ slot fault = fault
 
 written_8 : IsWritten program 8 0
 written_8 = made_before program (writes 0) (leaves 0) false 8 (omega arith) (λ from edge. rw (only_before from 8 edge) refl)
