@@ -1,5 +1,5 @@
 //! A wake: a task of the lobby comes into a processor's hand, and is placed. The processor's lock is held throughout.
-ghost use Rattle.std.specs.Prelude.{◌≡◌, ◌∷◌, ◌++◌, ◌<◌, ◌⊎◌, ℕ, [], None, Some, IfOk, IfErr, IfSome, IsOk, IsSome, OnOk, OnErr, ◌↔◌};
+ghost use Rattle.std.specs.Prelude.{◌≡◌, ◌∷◌, ◌++◌, ◌<◌, ◌⊎◌, ℕ, [], None, Some, IfOk, IfErr, IfSome, IsOk, IsSome, OnOk, OnErr, ◌↔◌, is_some, true};
 ghost use Rattle.std.specs.Option.{option_to_list, option_map};
 ghost use Rattle.bq_history.specs.Items.{part_item};
 ghost use Rattle.bq_seats.specs.Calls.{account_of};
@@ -8,15 +8,17 @@ ghost use Rattle.bq_parts.specs.declared.refusal.Refusal.TheVariants as no;
 ghost use Rattle.bq_cells.specs.Parts.{cpu_part, told_calls};
 ghost use Rattle.bq_recording.specs.Placing.{IsPlaced};
 ghost use Rattle.bq_machine.specs.Calls.{IsCallRefused};
+ghost use Rattle.bq_machine.specs.Waking.{IsWake};
 
 use crate::clock::Clock;
+use crate::needs::rooms_of_event;
 use crate::locks::Machine;
-use bq_cells::{Record, call_rooms, loads_room, room};
+use bq_cells::{CallRooms, Record, loads_room, room};
 use bq_counters::Naming as Counting;
 use bq_disc::RunQueue;
 use bq_history::{Receipt, Slip};
-use bq_parts::{Event, Loads, Refusal};
-use bq_recording::{Caller, CpuCell, Seat, need_own};
+use bq_parts::{Event, Loads, Refusal, argument_refusal};
+use bq_recording::{Caller, CpuCell, Seat};
 use bq_tie::Naming;
 use std::alloc::Global;
 use std::sync::Wait;
@@ -26,6 +28,28 @@ use std::sync::Wait;
 pub struct WakeReceipts {
     pub begin: Receipt<Record>,
     pub end: Option<Receipt<Record>>,
+}
+
+/// What a wake takes of memory before it takes a lock.
+#[derive(Drop)]
+struct WakeRooms {
+    first: Slip<Record>,
+    second: Slip<Record>,
+    for_record: Box<Loads>,
+    for_receipt: Box<Loads>,
+}
+
+/// Room for both records of a wake, for the loads that the first tells, and for the calls of counters of the second.
+fn wake_rooms(alloc: Global, rooms: &mut Option<CallRooms>) -> Result<WakeRooms, Refusal>
+    ensures memory { IfErr result (λ refusal. refusal ≡ no.OutOfMemory) }
+    ensures ready { IfOk result (λ _. is_some rooms.new ≡ true) }
+{
+    Ok(WakeRooms {
+        first: room(alloc)?,
+        second: rooms_of_event(alloc, rooms)?,
+        for_record: loads_room(alloc)?,
+        for_receipt: loads_room(alloc)?,
+    })
 }
 
 impl<Q: RunQueue + Drop, K: Clock + Drop, N: Naming + Counting, const P: usize> Machine<
@@ -57,24 +81,51 @@ impl<Q: RunQueue + Drop, K: Clock + Drop, N: Naming + Counting, const P: usize> 
         ensures refused { IfErr result (IsCallRefused P (Event.BeginWake processor task)) }
         ensures err { OnErr result (seat.new ≡ seat.old) }
     {
-        let index = usize::from(processor);
-        if index >= self.cpus.len() {
-            return Err(Refusal::NoProcessor);
+        let event = Event::BeginWake { processor, task };
+        if let Some(refusal) = argument_refusal(self.cpus.len(), &event) {
+            return Err(refusal);
         }
-        if task >= 1024 {
-            return Err(Refusal::NoTask);
-        }
-        let first = room(alloc)?;
-        let second = room(alloc)?;
-        let for_record = loads_room(alloc)?;
-        let for_receipt = loads_room(alloc)?;
-        call_rooms(alloc, &mut seat.rooms)?;
-        let mut guard = self.cpus[index].lock(rt);
+        let rooms = wake_rooms(alloc, &mut seat.rooms)?;
+        Ok(
+            self.wake_at(
+                rt,
+                &mut seat.working,
+                processor,
+                task,
+                rooms,
+                &mut seat.rooms,
+            ),
+        )
+    }
+
+    /// Both halves of a wake, under the lock of the processor.
+    fn wake_at<R: Wait>(
+        &self,
+        rt: &R,
+        working: &mut Caller<N>,
+        processor: u8,
+        task: u16,
+        rooms: WakeRooms,
+        call_rooms: &mut Option<CallRooms>,
+    ) -> WakeReceipts
+        requires inside { (processor < P) × (task < 1024) }
+        requires ready { is_some call_rooms.old ≡ true }
+        requires tally { working.old.tally ≡ account_of told_calls working.old.caller.1 }
+        ensures caller { working.new.caller ≡ (working.old.caller.0, (working.old.caller.1 ++ result.begin ∷ []) ++ option_to_list result.end) }
+        ensures tally { working.new.tally ≡ account_of told_calls working.new.caller.1 }
+        ensures wake { IsWake (K.gives processor) processor task result }
+    {
+        let WakeRooms {
+            first,
+            second,
+            for_record,
+            for_receipt,
+        } = rooms;
+        let mut guard = self.lock_processor(rt, processor);
         let place = &mut *guard;
-        need_own(rt, place.cell.content.number, processor);
         let begin = self.begin_in_lobby(
             rt,
-            &mut seat.working,
+            working,
             &mut place.cell,
             task,
             first,
@@ -82,23 +133,23 @@ impl<Q: RunQueue + Drop, K: Clock + Drop, N: Naming + Counting, const P: usize> 
             for_receipt,
         );
         if begin.entry.reply.is_err() {
-            return Ok(WakeReceipts { begin, end: None });
+            return WakeReceipts { begin, end: None };
         }
         let now = self.clock.now(processor);
         let end = self.recorder.end_wake(
             rt,
-            &mut seat.working,
+            working,
             &mut place.cell,
             &self.inboxes,
             task,
             now,
             second,
-            &mut seat.rooms,
+            call_rooms,
         );
-        Ok(WakeReceipts {
+        WakeReceipts {
             begin,
             end: Some(end),
-        })
+        }
     }
 
     /// The first half of a wake: the lobby is locked, and let go.
