@@ -1,5 +1,6 @@
 //! The world's parts as what the holders know.
 ghost use Rattle.std.specs.Prelude.{◌≡◌};
+ghost use Rattle.bq_history.specs.Items.{kept_after};
 ghost use Rattle.bq_cells.specs.Parts.{kept_by_block, kept_by_pull, one_less, one_more};
 
 use crate::record::Record;
@@ -73,23 +74,31 @@ impl Kept {
         self.loads.set(index, load);
     }
 
-    /// A processor has answered a block: its task has left, unless that was refused.
-    pub fn block(&mut self, processor: u8, answer: &Result<Reply, Refusal>)
-        ensures { self.new ≡ kept_by_block processor answer.now self.old }
+    /// What is kept once a processor has answered a block, or nothing where that is the same: its task has left, unless that
+    /// was refused.
+    pub fn after_block(&self, processor: u8, answer: &Result<Reply, Refusal>) -> Option<Kept>
+        ensures { kept_after self.now result ≡ kept_by_block processor answer.now self.now }
     {
-        if answer.is_ok() {
-            self.one_less(processor);
+        if answer.is_err() {
+            return None;
         }
+        let mut kept = self.again();
+        kept.one_less(processor);
+        Some(kept)
     }
 
-    /// A processor has answered a pull from another: a task has gone from the one to the other, or none has.
-    pub fn pull(&mut self, processor: u8, from: u8, reply: &Reply)
-        ensures { self.new ≡ kept_by_pull processor from reply.now self.old }
+    /// What is kept once a processor has answered a pull from another, or nothing where that is the same: a task has gone from
+    /// the one to the other, or none has.
+    pub fn after_pull(&self, processor: u8, from: u8, reply: &Reply) -> Option<Kept>
+        ensures { kept_after self.now result ≡ kept_by_pull processor from reply.now self.now }
     {
-        if let Reply::Pulled { task: Some(_), .. } = reply {
-            self.one_less(from);
-            self.one_more(processor);
-        }
+        let Reply::Pulled { task: Some(_), .. } = reply else {
+            return None;
+        };
+        let mut kept = self.again();
+        kept.one_less(from);
+        kept.one_more(processor);
+        Some(kept)
     }
 }
 

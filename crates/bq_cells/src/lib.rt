@@ -11,4 +11,4 @@ pub mod record;
 pub use bq_seats::{CallRooms, Calls, hold_calls};
 pub use cells::{NumberedCpu, NumberedInbox, OneLobby};
 pub use law::{CpuState, Kept, Part, Sched, WorldState};
-pub use record::{Record, call_rooms, loads_room, room};
+pub use record::{Record, call_rooms, loads_room, record_room};

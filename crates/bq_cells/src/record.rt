@@ -3,7 +3,7 @@ ghost use Rattle.std.specs.Prelude.{◌≡◌, true, is_some, IfErr, OnOk};
 ghost use Rattle.bq_parts.specs.declared.refusal.Refusal.TheVariants as no;
 
 use bq_alike::{Answer, is_same_event};
-use bq_history::{Compared, Slip};
+use bq_history::{Compared, Room};
 use bq_parts::{Event, Loads, Refusal};
 use bq_seats::{CallRooms, Calls, Told};
 use std::alloc::Global;
@@ -35,16 +35,12 @@ impl Compared for Record {
     }
 }
 
-/// Room for a record, to be made before any lock is taken. What stands there is no event's record yet.
-pub fn room(alloc: Global) -> Result<Slip<Record>, Refusal>
+/// Room for a record, where there is none yet.
+pub fn record_room(alloc: Global, room: &mut Room<Record>) -> Result<(), Refusal>
     ensures memory { IfErr result (λ refusal. refusal ≡ no.OutOfMemory) }
+    ensures ready { OnOk result (room.new ≡ true) }
 {
-    let blank = Record {
-        event: Event::Draw,
-        reply: Answer::refused(Refusal::OutOfMemory),
-        calls: Calls::none(),
-    };
-    Slip::new(alloc, blank).map_err(|_| Refusal::OutOfMemory)
+    room.prepare(alloc).map_err(|_| Refusal::OutOfMemory)
 }
 
 /// Room for the calls of counters of an event, once for its record and once for its receipt, where there is none yet.

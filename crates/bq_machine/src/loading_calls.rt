@@ -11,7 +11,7 @@ ghost use Rattle.bq_machine.specs.Loading.{IsPolicyOf, IsLoadRefused};
 
 use crate::clock::Clock;
 use crate::locks::Machine;
-use bq_cells::{Record, room};
+use bq_cells::{Record, record_room};
 use bq_counters::Naming as Counting;
 use bq_disc::RunQueue;
 use bq_history::Receipt;
@@ -115,14 +115,14 @@ impl<Q: RunQueue + Drop, K: Clock + Drop, N: Naming + Counting, const P: usize> 
     {
         let policy = policy_of(alloc, hook, image)?;
         let count = self.cpus.len();
-        let (Ok(slip), Ok(spares), Ok(mut installs)) = (
-            room(alloc),
+        let (Ok(()), Ok(spares), Ok(mut installs)) = (
+            record_room(alloc, &mut seat.first),
             spares(alloc, &policy, count),
             Vec::with_capacity(alloc, count),
         ) else {
             return Err(LoadRefused::Refusal(Refusal::OutOfMemory));
         };
-        let (draw, generation) = self.recorder.draw(rt, &mut seat.working, slip);
+        let (draw, generation) = self.recorder.draw(rt, &mut seat.working, &mut seat.first);
         self.install_all(
             rt,
             &mut seat.working,

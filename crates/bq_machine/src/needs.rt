@@ -1,15 +1,15 @@
 //! What each call at a processor begins with: whether there is that processor, and memory for what is recorded.
-ghost use Rattle.std.specs.Prelude.{◌≡◌, ◌<◌, ◌∷◌, [], Some, IfOk, IfErr, OnOk, is_some, true};
+ghost use Rattle.std.specs.Prelude.{◌≡◌, ◌<◌, ◌∷◌, [], Some, IfErr, OnOk, is_some, true};
 ghost use Rattle.bq_parts.specs.Refusals.{first_refusal, no_processor};
 ghost use Rattle.bq_parts.specs.declared.refusal.Refusal.TheVariants as no;
 ghost use Rattle.bq_machine.specs.Calls.{IsCallRefused};
 
 use crate::clock::Clock;
 use crate::locks::Machine;
-use bq_cells::{CallRooms, Record, call_rooms, room};
+use bq_cells::{CallRooms, Record, call_rooms, record_room};
 use bq_counters::Naming as Counting;
 use bq_disc::RunQueue;
-use bq_history::Slip;
+use bq_history::Room;
 use bq_parts::{Event, Refusal};
 use bq_tie::Naming;
 use std::alloc::Global;
@@ -17,14 +17,15 @@ use std::alloc::Global;
 /// Room for the record of an event, and for the calls of counters that it may tell.
 pub(crate) fn rooms_of_event(
     alloc: Global,
-    rooms: &mut Option<CallRooms>,
-) -> Result<Slip<Record>, Refusal>
+    room: &mut Room<Record>,
+    calls: &mut Option<CallRooms>,
+) -> Result<(), Refusal>
     ensures memory { IfErr result (λ refusal. refusal ≡ no.OutOfMemory) }
-    ensures ready { IfOk result (λ _. is_some rooms.new ≡ true) }
+    ensures ready { OnOk result (room.new ≡ true) }
+    ensures calls { OnOk result (is_some calls.new ≡ true) }
 {
-    let slip = room(alloc)?;
-    call_rooms(alloc, rooms)?;
-    Ok(slip)
+    record_room(alloc, room)?;
+    call_rooms(alloc, calls)
 }
 
 impl<Q: RunQueue + Drop, K: Clock + Drop, N: Naming + Counting, const P: usize> Machine<
@@ -48,14 +49,16 @@ impl<Q: RunQueue + Drop, K: Clock + Drop, N: Naming + Counting, const P: usize> 
     pub(crate) fn begin_call(
         &self,
         alloc: Global,
-        rooms: &mut Option<CallRooms>,
+        room: &mut Room<Record>,
+        calls: &mut Option<CallRooms>,
         processor: u8,
-    ) -> Result<Slip<Record>, Refusal>
-        ensures inside { IfOk result (λ _. processor < P) }
-        ensures ready { IfOk result (λ _. is_some rooms.new ≡ true) }
+    ) -> Result<(), Refusal>
+        ensures inside { OnOk result (processor < P) }
+        ensures ready { OnOk result (room.new ≡ true) }
+        ensures calls { OnOk result (is_some calls.new ≡ true) }
         ensures refused { IfErr result (IsCallRefused P (Event.Tick processor 0)) }
     {
         self.need_processor(processor)?;
-        rooms_of_event(alloc, rooms)
+        rooms_of_event(alloc, room, calls)
     }
 }

@@ -42,7 +42,7 @@ impl<Q: RunQueue + Drop, K: Clock + Drop, N: Naming + Counting, const P: usize> 
         ensures err { OnErr result (seat.new ≡ seat.old) }
     {
         self.need_both(processor, from)?;
-        let slip = rooms_of_event(alloc, &mut seat.rooms)?;
+        rooms_of_event(alloc, &mut seat.first, &mut seat.rooms)?;
         let now = self.clock.now(processor);
         let (mut guard, mut source_guard) = self.lock_both(rt, processor, from);
         let place = &mut *guard;
@@ -54,7 +54,7 @@ impl<Q: RunQueue + Drop, K: Clock + Drop, N: Naming + Counting, const P: usize> 
                 place,
                 source,
                 now,
-                slip,
+                &mut seat.first,
                 &mut seat.rooms,
             ),
         )

@@ -4,7 +4,7 @@ ghost use Rattle.bq_machine.specs.Calls.{IsCallRefused};
 
 use crate::clock::Clock;
 use crate::locks::Machine;
-use bq_cells::{Record, room};
+use bq_cells::{Record, record_room};
 use bq_counters::Naming as Counting;
 use bq_disc::RunQueue;
 use bq_history::Receipt;
@@ -36,13 +36,19 @@ impl<Q: RunQueue + Drop, K: Clock + Drop, N: Naming + Counting, const P: usize> 
         ensures refused { IfErr result (IsCallRefused P (Event.Tick processor 0)) }
         ensures err { OnErr result (seat.new ≡ seat.old) }
     {
-        let slip = self.begin_call(alloc, &mut seat.rooms, processor)?;
+        self.begin_call(alloc, &mut seat.first, &mut seat.rooms, processor)?;
         let mut guard = self.lock_processor(rt, processor);
         let place = &mut *guard;
         let now = self.clock.now(processor);
         Ok(
-            self.recorder
-                .tick(rt, &mut seat.working, place, now, slip, &mut seat.rooms),
+            self.recorder.tick(
+                rt,
+                &mut seat.working,
+                place,
+                now,
+                &mut seat.first,
+                &mut seat.rooms,
+            ),
         )
     }
 
@@ -62,7 +68,7 @@ impl<Q: RunQueue + Drop, K: Clock + Drop, N: Naming + Counting, const P: usize> 
         ensures refused { IfErr result (IsCallRefused P (Event.Drain processor 0)) }
         ensures err { OnErr result (seat.new ≡ seat.old) }
     {
-        let slip = self.begin_call(alloc, &mut seat.rooms, processor)?;
+        self.begin_call(alloc, &mut seat.first, &mut seat.rooms, processor)?;
         let mut guard = self.lock_processor(rt, processor);
         let place = &mut *guard;
         let now = self.clock.now(processor);
@@ -75,7 +81,7 @@ impl<Q: RunQueue + Drop, K: Clock + Drop, N: Naming + Counting, const P: usize> 
                 place,
                 inbox,
                 now,
-                slip,
+                &mut seat.first,
                 &mut seat.rooms,
             ),
         )
@@ -99,7 +105,7 @@ impl<Q: RunQueue + Drop, K: Clock + Drop, N: Naming + Counting, const P: usize> 
         ensures err { OnErr result (seat.new ≡ seat.old) }
     {
         self.need_processor(processor)?;
-        let slip = room(alloc)?;
+        record_room(alloc, &mut seat.first)?;
         let mut guard = self.lock_processor(rt, processor);
         let place = &mut *guard;
         let now = self.clock.now(processor);
@@ -107,7 +113,7 @@ impl<Q: RunQueue + Drop, K: Clock + Drop, N: Naming + Counting, const P: usize> 
         let lobby = &mut *lobby_guard;
         Ok(
             self.recorder
-                .block(rt, &mut seat.working, place, lobby, now, slip),
+                .block(rt, &mut seat.working, place, lobby, now, &mut seat.first),
         )
     }
 }

@@ -13,10 +13,10 @@ ghost use Rattle.bq_machine.specs.Waking.{IsWake};
 use crate::clock::Clock;
 use crate::needs::rooms_of_event;
 use crate::locks::Machine;
-use bq_cells::{CallRooms, Record, loads_room, room};
+use bq_cells::{CallRooms, Record, loads_room, record_room};
 use bq_counters::Naming as Counting;
 use bq_disc::RunQueue;
-use bq_history::{Receipt, Slip};
+use bq_history::{Receipt, Room};
 use bq_parts::{Event, Loads, Refusal, argument_refusal};
 use bq_recording::{Caller, CpuCell, Seat};
 use bq_tie::Naming;
@@ -30,23 +30,27 @@ pub struct WakeReceipts {
     pub end: Option<Receipt<Record>>,
 }
 
-/// What a wake takes of memory before it takes a lock.
+/// Room for the loads that the beginning of a wake tells, for its record and for its receipt.
 #[derive(Drop)]
-struct WakeRooms {
-    first: Slip<Record>,
-    second: Slip<Record>,
+struct LoadRooms {
     for_record: Box<Loads>,
     for_receipt: Box<Loads>,
 }
 
 /// Room for both records of a wake, for the loads that the first tells, and for the calls of counters of the second.
-fn wake_rooms(alloc: Global, rooms: &mut Option<CallRooms>) -> Result<WakeRooms, Refusal>
+fn wake_rooms(
+    alloc: Global,
+    first: &mut Room<Record>,
+    second: &mut Room<Record>,
+    calls: &mut Option<CallRooms>,
+) -> Result<LoadRooms, Refusal>
     ensures memory { IfErr result (λ refusal. refusal ≡ no.OutOfMemory) }
-    ensures ready { IfOk result (λ _. is_some rooms.new ≡ true) }
+    ensures ready { IfOk result (λ _. (first.new ≡ true) × (second.new ≡ true)) }
+    ensures calls { IfOk result (λ _. is_some calls.new ≡ true) }
 {
-    Ok(WakeRooms {
-        first: room(alloc)?,
-        second: rooms_of_event(alloc, rooms)?,
+    record_room(alloc, first)?;
+    rooms_of_event(alloc, second, calls)?;
+    Ok(LoadRooms {
         for_record: loads_room(alloc)?,
         for_receipt: loads_room(alloc)?,
     })
@@ -85,14 +89,21 @@ impl<Q: RunQueue + Drop, K: Clock + Drop, N: Naming + Counting, const P: usize> 
         if let Some(refusal) = argument_refusal(self.cpus.len(), &event) {
             return Err(refusal);
         }
-        let rooms = wake_rooms(alloc, &mut seat.rooms)?;
+        let loads = wake_rooms(
+            alloc,
+            &mut seat.first,
+            &mut seat.second,
+            &mut seat.rooms,
+        )?;
         Ok(
             self.wake_at(
                 rt,
                 &mut seat.working,
                 processor,
                 task,
-                rooms,
+                loads,
+                &mut seat.first,
+                &mut seat.second,
                 &mut seat.rooms,
             ),
         )
@@ -105,22 +116,19 @@ impl<Q: RunQueue + Drop, K: Clock + Drop, N: Naming + Counting, const P: usize> 
         working: &mut Caller<N>,
         processor: u8,
         task: u16,
-        rooms: WakeRooms,
-        call_rooms: &mut Option<CallRooms>,
+        loads: LoadRooms,
+        first: &mut Room<Record>,
+        second: &mut Room<Record>,
+        calls: &mut Option<CallRooms>,
     ) -> WakeReceipts
         requires inside { (processor < P) × (task < 1024) }
-        requires ready { is_some call_rooms.old ≡ true }
+        requires ready { (first.old ≡ true) × (second.old ≡ true) }
+        requires calls { is_some calls.old ≡ true }
         requires tally { working.old.tally ≡ account_of told_calls working.old.caller.1 }
         ensures caller { working.new.caller ≡ (working.old.caller.0, (working.old.caller.1 ++ result.begin ∷ []) ++ option_to_list result.end) }
         ensures tally { working.new.tally ≡ account_of told_calls working.new.caller.1 }
         ensures wake { IsWake (K.gives processor) processor task result }
     {
-        let WakeRooms {
-            first,
-            second,
-            for_record,
-            for_receipt,
-        } = rooms;
         let mut guard = self.lock_processor(rt, processor);
         let place = &mut *guard;
         let begin = self.begin_in_lobby(
@@ -129,8 +137,7 @@ impl<Q: RunQueue + Drop, K: Clock + Drop, N: Naming + Counting, const P: usize> 
             &mut place.cell,
             task,
             first,
-            for_record,
-            for_receipt,
+            loads,
         );
         if begin.entry.reply.is_err() {
             return WakeReceipts { begin, end: None };
@@ -144,7 +151,7 @@ impl<Q: RunQueue + Drop, K: Clock + Drop, N: Naming + Counting, const P: usize> 
             task,
             now,
             second,
-            call_rooms,
+            calls,
         );
         WakeReceipts {
             begin,
@@ -159,11 +166,11 @@ impl<Q: RunQueue + Drop, K: Clock + Drop, N: Naming + Counting, const P: usize> 
         working: &mut Caller<N>,
         cell: &mut CpuCell<Q, N>,
         task: u16,
-        slip: Slip<Record>,
-        for_record: Box<Loads>,
-        for_receipt: Box<Loads>,
+        room: &mut Room<Record>,
+        loads: LoadRooms,
     ) -> Receipt<Record>
         requires seat { task < 1024 }
+        requires ready { room.old ≡ true }
         requires tally { working.old.tally ≡ account_of told_calls working.old.caller.1 }
         requires says { cell.old.holder ≡ part_item (cpu_part cell.old.content.number cell.old.content.state) ∷ [] }
         requires rests { cell.old.content.state.hand ≡ None }
@@ -176,6 +183,10 @@ impl<Q: RunQueue + Drop, K: Clock + Drop, N: Naming + Counting, const P: usize> 
         ensures rests { OnErr result.entry.reply (cell.new.content.state.hand ≡ None) }
         ensures begun { IfErr result.entry.reply (λ e. (e ≡ no.NoTask) ⊎ (e ≡ no.NotBlocked)) }
     {
+        let LoadRooms {
+            for_record,
+            for_receipt,
+        } = loads;
         let mut guard = self.lobby.lock(rt);
         let lobby = &mut *guard;
         self.recorder.begin_wake(
@@ -184,7 +195,7 @@ impl<Q: RunQueue + Drop, K: Clock + Drop, N: Naming + Counting, const P: usize> 
             cell,
             lobby,
             task,
-            slip,
+            room,
             for_record,
             for_receipt,
         )

@@ -1,5 +1,5 @@
 //! Numbers that are drawn for loads, and what is installed at a processor.
-ghost use Rattle.std.specs.Prelude.{◌≡◌, ◌∷◌, ◌++◌, ◌+◌, [], None, Ok, IfOk};
+ghost use Rattle.std.specs.Prelude.{◌≡◌, ◌∷◌, ◌++◌, ◌+◌, [], true, None, Ok, IfOk};
 ghost use Rattle.bq_policies.specs.Answers.{fresh_maps};
 ghost use Rattle.bq_seats.specs.Calls.{account_of};
 ghost use Rattle.bq_parts.specs.Refusals.{argument_refusal};
@@ -8,10 +8,10 @@ ghost use Rattle.bq_cells.specs.Parts.{told_calls};
 
 use crate::recorder::{Caller, Place, Recorder};
 use bq_alike::Answer;
-use bq_cells::{Calls, NumberedCpu, Record, room};
+use bq_cells::{Calls, NumberedCpu, Record};
 use bq_counters::Naming as Counting;
 use bq_disc::RunQueue;
-use bq_history::{Receipt, Slip};
+use bq_history::{Receipt, Room};
 use bq_parts::{Event, Hook, Installed, Policy, Reply};
 use bq_tie::Naming;
 use std::alloc::{AllocError, Global};
@@ -24,7 +24,8 @@ pub struct Spare {
     pub installed: Installed,
     pub for_record: Option<Policy>,
     pub for_receipt: Option<Policy>,
-    pub slip: Slip<Record>,
+    pub room: Room<Record>,
+    pub ghost ready: { room ≡ true },
     pub ghost record_is: { for_record ≡ installed.policy },
     pub ghost receipt_is: { for_receipt ≡ installed.policy },
     pub ghost fresh: { installed.maps ≡ fresh_maps installed.policy },
@@ -47,14 +48,13 @@ pub fn one_spare(alloc: Global, policy: &Option<Policy>) -> Result<Spare, AllocE
     let installed = Installed::new(alloc, again(policy)?, 0)?;
     let for_record = again(policy)?;
     let for_receipt = again(policy)?;
-    let Ok(slip) = room(alloc) else {
-        return Err(AllocError);
-    };
+    let mut room = Room::new();
+    room.prepare(alloc)?;
     Ok(Spare {
         installed,
         for_record,
         for_receipt,
-        slip,
+        room,
     })
 }
 
@@ -64,8 +64,9 @@ impl<Q: RunQueue + Drop, N: Naming + Counting> Recorder<Q, N> {
         &self,
         rt: &R,
         working: &mut Caller<N>,
-        mut slip: Slip<Record>,
+        room: &mut Room<Record>,
     ) -> (Receipt<Record>, u64)
+        requires ready { room.old ≡ true }
         requires tally { working.old.tally ≡ account_of told_calls working.old.caller.1 }
         ensures caller { working.new.caller ≡ (working.old.caller.0, working.old.caller.1 ++ result.0 ∷ []) }
         ensures tally { working.new.tally ≡ account_of told_calls working.new.caller.1 }
@@ -78,17 +79,17 @@ impl<Q: RunQueue + Drop, N: Naming + Counting> Recorder<Q, N> {
         let mut kept = journal.kept().again();
         let generation = kept.drawn.saturating_add(1);
         kept.drawn = generation;
-        slip.set(Record {
+        let logged = Record {
             event: Event::Draw,
             reply: Answer::of(&Ok(Reply::Drawn { generation })),
             calls: Calls::none(),
-        });
+        };
         let entry = Record {
             event: Event::Draw,
             reply: Answer::of(&Ok(Reply::Drawn { generation })),
             calls: Calls::none(),
         };
-        let receipt = working.commit(&self.history, journal, slip, entry, kept);
+        let receipt = working.commit(&self.history, journal, room, logged, entry, Some(kept));
         (receipt, generation)
     }
 
@@ -112,19 +113,15 @@ impl<Q: RunQueue + Drop, N: Naming + Counting> Recorder<Q, N> {
             installed,
             for_record,
             for_receipt,
-            mut slip,
+            mut room,
         } = spare;
         let generation = installed.generation();
         let mut guard = self.journal.lock(rt);
         let journal = &mut *guard;
         journal.need_room(rt);
-        let kept = journal.kept().again();
-        let reply = place
-            .cell
-            .content
-            .state
-            .replace(hook, kept.drawn, installed);
-        slip.set(Record {
+        let drawn = journal.kept().drawn;
+        let reply = place.cell.content.state.replace(hook, drawn, installed);
+        let logged = Record {
             event: Event::Install {
                 processor,
                 hook,
@@ -133,7 +130,7 @@ impl<Q: RunQueue + Drop, N: Naming + Counting> Recorder<Q, N> {
             },
             reply: Answer::of(&reply),
             calls: Calls::none(),
-        });
+        };
         let entry = Record {
             event: Event::Install {
                 processor,
@@ -144,6 +141,14 @@ impl<Q: RunQueue + Drop, N: Naming + Counting> Recorder<Q, N> {
             reply: Answer::of(&reply),
             calls: Calls::none(),
         };
-        working.commit_one(&self.history, journal, &mut place.cell, slip, entry, kept)
+        working.commit_one(
+            &self.history,
+            journal,
+            &mut place.cell,
+            &mut room,
+            logged,
+            entry,
+            None,
+        )
     }
 }

@@ -1,5 +1,5 @@
 //! Events of the lobby alone: tasks come to the machine, and leave it.
-ghost use Rattle.std.specs.Prelude.{◌≡◌, ◌∷◌, ◌++◌, [], None};
+ghost use Rattle.std.specs.Prelude.{◌≡◌, ◌∷◌, ◌++◌, [], true, None};
 ghost use Rattle.bq_seats.specs.Calls.{account_of};
 ghost use Rattle.bq_parts.specs.Refusals.{argument_refusal};
 ghost use Rattle.bq_parts.specs.Moves.{admitted};
@@ -10,7 +10,7 @@ use bq_alike::Answer;
 use bq_cells::{Calls, OneLobby, Record};
 use bq_counters::Naming as Counting;
 use bq_disc::RunQueue;
-use bq_history::{Receipt, Slip};
+use bq_history::{Receipt, Room};
 use bq_parts::{Event, Unlinked};
 use bq_tie::Naming;
 use std::sync::Wait;
@@ -27,8 +27,9 @@ impl<Q: RunQueue + Drop, N: Naming + Counting> Recorder<Q, N> {
         mask: u64,
         slice: u64,
         new: Unlinked,
-        mut slip: Slip<Record>,
+        room: &mut Room<Record>,
     ) -> Receipt<Record>
+        requires ready { room.old ≡ true }
         requires tally { working.old.tally ≡ account_of told_calls working.old.caller.1 }
         requires fits { argument_refusal self.now.history.about (Event.Admit task nice mask slice) ≡ None }
         requires new { new ≡ admitted self.now.history.about task nice mask slice }
@@ -37,7 +38,7 @@ impl<Q: RunQueue + Drop, N: Naming + Counting> Recorder<Q, N> {
         ensures event { result.entry.event ≡ Event.Admit task nice mask slice }
     {
         let reply = place.cell.content.state.admit(task, new);
-        slip.set(Record {
+        let logged = Record {
             event: Event::Admit {
                 task,
                 nice,
@@ -46,7 +47,7 @@ impl<Q: RunQueue + Drop, N: Naming + Counting> Recorder<Q, N> {
             },
             reply: Answer::of(&reply),
             calls: Calls::none(),
-        });
+        };
         let entry = Record {
             event: Event::Admit {
                 task,
@@ -60,8 +61,15 @@ impl<Q: RunQueue + Drop, N: Naming + Counting> Recorder<Q, N> {
         let mut guard = self.journal.lock(rt);
         let journal = &mut *guard;
         journal.need_room(rt);
-        let kept = journal.kept().again();
-        working.commit_one(&self.history, journal, &mut place.cell, slip, entry, kept)
+        working.commit_one(
+            &self.history,
+            journal,
+            &mut place.cell,
+            room,
+            logged,
+            entry,
+            None,
+        )
     }
 
     /// Commits that a task leaves, under the lock of the lobby.
@@ -71,8 +79,9 @@ impl<Q: RunQueue + Drop, N: Naming + Counting> Recorder<Q, N> {
         working: &mut Caller<N>,
         place: &mut Place<OneLobby, N>,
         task: u16,
-        mut slip: Slip<Record>,
+        room: &mut Room<Record>,
     ) -> Receipt<Record>
+        requires ready { room.old ≡ true }
         requires tally { working.old.tally ≡ account_of told_calls working.old.caller.1 }
         requires fits { argument_refusal self.now.history.about (Event.Retire task) ≡ None }
         ensures caller { working.new.caller ≡ (working.old.caller.0, working.old.caller.1 ++ result ∷ []) }
@@ -80,11 +89,11 @@ impl<Q: RunQueue + Drop, N: Naming + Counting> Recorder<Q, N> {
         ensures event { result.entry.event ≡ Event.Retire task }
     {
         let reply = place.cell.content.state.retire(task);
-        slip.set(Record {
+        let logged = Record {
             event: Event::Retire { task },
             reply: Answer::of(&reply),
             calls: Calls::none(),
-        });
+        };
         let entry = Record {
             event: Event::Retire { task },
             reply: Answer::of(&reply),
@@ -93,7 +102,14 @@ impl<Q: RunQueue + Drop, N: Naming + Counting> Recorder<Q, N> {
         let mut guard = self.journal.lock(rt);
         let journal = &mut *guard;
         journal.need_room(rt);
-        let kept = journal.kept().again();
-        working.commit_one(&self.history, journal, &mut place.cell, slip, entry, kept)
+        working.commit_one(
+            &self.history,
+            journal,
+            &mut place.cell,
+            room,
+            logged,
+            entry,
+            None,
+        )
     }
 }

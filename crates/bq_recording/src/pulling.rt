@@ -8,7 +8,7 @@ use bq_alike::Answer;
 use bq_cells::{CallRooms, NumberedCpu, Record, hold_calls};
 use bq_counters::Naming as Counting;
 use bq_disc::RunQueue;
-use bq_history::{Receipt, Slip, look_at_both};
+use bq_history::{Receipt, Room, look_at_both};
 use bq_parts::Event;
 use bq_tie::Naming;
 use std::sync::Wait;
@@ -22,10 +22,11 @@ impl<Q: RunQueue + Drop, N: Naming + Counting> Recorder<Q, N> {
         place: &mut Place<NumberedCpu<Q>, N>,
         source: &mut Place<NumberedCpu<Q>, N>,
         now: u64,
-        mut slip: Slip<Record>,
+        room: &mut Room<Record>,
         rooms: &mut Option<CallRooms>,
     ) -> Receipt<Record>
-        requires ready { is_some rooms.old ≡ true }
+        requires calls { is_some rooms.old ≡ true }
+        requires ready { room.old ≡ true }
         requires tally { working.old.tally ≡ account_of told_calls working.old.caller.1 }
         requires apart { place.old.number ≢ source.old.number }
         ensures caller { working.new.caller ≡ (working.old.caller.0, working.old.caller.1 ++ result ∷ []) }
@@ -50,11 +51,10 @@ impl<Q: RunQueue + Drop, N: Naming + Counting> Recorder<Q, N> {
         let mut guard = self.journal.lock(rt);
         let journal = &mut *guard;
         journal.need_room(rt);
-        let mut kept = journal.kept().again();
-        kept.pull(processor, from, &reply);
+        let kept = journal.kept().after_pull(processor, from, &reply);
         let reply = Ok(reply);
         let (for_record, for_receipt) = hold_calls(rooms, content.scratch.calls());
-        slip.set(Record {
+        let logged = Record {
             event: Event::Pull {
                 processor,
                 from,
@@ -62,7 +62,7 @@ impl<Q: RunQueue + Drop, N: Naming + Counting> Recorder<Q, N> {
             },
             reply: Answer::of(&reply),
             calls: for_record,
-        });
+        };
         let entry = Record {
             event: Event::Pull {
                 processor,
@@ -77,7 +77,8 @@ impl<Q: RunQueue + Drop, N: Naming + Counting> Recorder<Q, N> {
             journal,
             &mut place.cell,
             &mut source.cell,
-            slip,
+            room,
+            logged,
             entry,
             kept,
         )

@@ -8,7 +8,7 @@ use bq_alike::Answer;
 use bq_cells::{CallRooms, Calls, NumberedCpu, NumberedInbox, OneLobby, Record, hold_calls};
 use bq_counters::Naming as Counting;
 use bq_disc::RunQueue;
-use bq_history::{Receipt, Slip, look_at_both};
+use bq_history::{Receipt, Room, look_at_both};
 use bq_parts::Event;
 use bq_tie::Naming;
 use std::sync::Wait;
@@ -21,10 +21,11 @@ impl<Q: RunQueue + Drop, N: Naming + Counting> Recorder<Q, N> {
         working: &mut Caller<N>,
         place: &mut Place<NumberedCpu<Q>, N>,
         now: u64,
-        mut slip: Slip<Record>,
+        room: &mut Room<Record>,
         rooms: &mut Option<CallRooms>,
     ) -> Receipt<Record>
-        requires ready { is_some rooms.old ≡ true }
+        requires calls { is_some rooms.old ≡ true }
+        requires ready { room.old ≡ true }
         requires tally { working.old.tally ≡ account_of told_calls working.old.caller.1 }
         ensures caller { working.new.caller ≡ (working.old.caller.0, working.old.caller.1 ++ result ∷ []) }
         ensures tally { working.new.tally ≡ account_of told_calls working.new.caller.1 }
@@ -41,11 +42,11 @@ impl<Q: RunQueue + Drop, N: Naming + Counting> Recorder<Q, N> {
         working.stand(desk);
         let reply = Ok(reply);
         let (for_record, for_receipt) = hold_calls(rooms, content.scratch.calls());
-        slip.set(Record {
+        let logged = Record {
             event: Event::Tick { processor, now },
             reply: Answer::of(&reply),
             calls: for_record,
-        });
+        };
         let entry = Record {
             event: Event::Tick { processor, now },
             reply: Answer::of(&reply),
@@ -54,8 +55,15 @@ impl<Q: RunQueue + Drop, N: Naming + Counting> Recorder<Q, N> {
         let mut guard = self.journal.lock(rt);
         let journal = &mut *guard;
         journal.need_room(rt);
-        let kept = journal.kept().again();
-        working.commit_one(&self.history, journal, &mut place.cell, slip, entry, kept)
+        working.commit_one(
+            &self.history,
+            journal,
+            &mut place.cell,
+            room,
+            logged,
+            entry,
+            None,
+        )
     }
 
     /// Commits a drain, under the locks of its processor and of its inbox.
@@ -66,10 +74,11 @@ impl<Q: RunQueue + Drop, N: Naming + Counting> Recorder<Q, N> {
         place: &mut Place<NumberedCpu<Q>, N>,
         inbox: &mut Place<NumberedInbox, N>,
         now: u64,
-        mut slip: Slip<Record>,
+        room: &mut Room<Record>,
         rooms: &mut Option<CallRooms>,
     ) -> Receipt<Record>
-        requires ready { is_some rooms.old ≡ true }
+        requires calls { is_some rooms.old ≡ true }
+        requires ready { room.old ≡ true }
         requires tally { working.old.tally ≡ account_of told_calls working.old.caller.1 }
         requires own { inbox.old.number ≡ place.old.number }
         ensures caller { working.new.caller ≡ (working.old.caller.0, working.old.caller.1 ++ result ∷ []) }
@@ -91,11 +100,11 @@ impl<Q: RunQueue + Drop, N: Naming + Counting> Recorder<Q, N> {
         working.stand(desk);
         let reply = Ok(reply);
         let (for_record, for_receipt) = hold_calls(rooms, content.scratch.calls());
-        slip.set(Record {
+        let logged = Record {
             event: Event::Drain { processor, now },
             reply: Answer::of(&reply),
             calls: for_record,
-        });
+        };
         let entry = Record {
             event: Event::Drain { processor, now },
             reply: Answer::of(&reply),
@@ -104,15 +113,15 @@ impl<Q: RunQueue + Drop, N: Naming + Counting> Recorder<Q, N> {
         let mut guard = self.journal.lock(rt);
         let journal = &mut *guard;
         journal.need_room(rt);
-        let kept = journal.kept().again();
         working.commit_two(
             &self.history,
             journal,
             &mut place.cell,
             &mut inbox.cell,
-            slip,
+            room,
+            logged,
             entry,
-            kept,
+            None,
         )
     }
 
@@ -124,8 +133,9 @@ impl<Q: RunQueue + Drop, N: Naming + Counting> Recorder<Q, N> {
         place: &mut Place<NumberedCpu<Q>, N>,
         lobby: &mut Place<OneLobby, N>,
         now: u64,
-        mut slip: Slip<Record>,
+        room: &mut Room<Record>,
     ) -> Receipt<Record>
+        requires ready { room.old ≡ true }
         requires tally { working.old.tally ≡ account_of told_calls working.old.caller.1 }
         ensures caller { working.new.caller ≡ (working.old.caller.0, working.old.caller.1 ++ result ∷ []) }
         ensures tally { working.new.tally ≡ account_of told_calls working.new.caller.1 }
@@ -138,11 +148,11 @@ impl<Q: RunQueue + Drop, N: Naming + Counting> Recorder<Q, N> {
             .content
             .state
             .block(&mut lobby.cell.content.state, processor, now);
-        slip.set(Record {
+        let logged = Record {
             event: Event::Block { processor, now },
             reply: Answer::of(&reply),
             calls: Calls::none(),
-        });
+        };
         let entry = Record {
             event: Event::Block { processor, now },
             reply: Answer::of(&reply),
@@ -151,14 +161,14 @@ impl<Q: RunQueue + Drop, N: Naming + Counting> Recorder<Q, N> {
         let mut guard = self.journal.lock(rt);
         let journal = &mut *guard;
         journal.need_room(rt);
-        let mut kept = journal.kept().again();
-        kept.block(processor, &reply);
+        let kept = journal.kept().after_block(processor, &reply);
         working.commit_two(
             &self.history,
             journal,
             &mut place.cell,
             &mut lobby.cell,
-            slip,
+            room,
+            logged,
             entry,
             kept,
         )

@@ -12,7 +12,7 @@ use bq_alike::Answer;
 use bq_cells::{CallRooms, Calls, NumberedInbox, OneLobby, Record, hold_calls};
 use bq_counters::Naming as Counting;
 use bq_disc::RunQueue;
-use bq_history::{Receipt, Slip};
+use bq_history::{Receipt, Room};
 use bq_parts::{Event, Loads, Placement, Reply};
 use bq_tie::Naming;
 use std::sync::{Mutex, Wait};
@@ -27,11 +27,12 @@ impl<Q: RunQueue + Drop, N: Naming + Counting> Recorder<Q, N> {
         cell: &mut CpuCell<Q, N>,
         lobby: &mut Place<OneLobby, N>,
         task: u16,
-        mut slip: Slip<Record>,
+        room: &mut Room<Record>,
         for_record: Box<Loads>,
         for_receipt: Box<Loads>,
     ) -> Receipt<Record>
         requires seat { task < 1024 }
+        requires ready { room.old ≡ true }
         requires tally { working.old.tally ≡ account_of told_calls working.old.caller.1 }
         requires says { cell.old.holder ≡ part_item (cpu_part cell.old.content.number cell.old.content.state) ∷ [] }
         requires rests { cell.old.content.state.hand ≡ None }
@@ -49,16 +50,15 @@ impl<Q: RunQueue + Drop, N: Naming + Counting> Recorder<Q, N> {
         let mut guard = self.journal.lock(rt);
         let journal = &mut *guard;
         journal.need_room(rt);
-        let kept = journal.kept().again();
         let reply = cell
             .content
             .state
-            .begin_wake(&mut lobby.cell.content.state, task, &kept.loads);
-        slip.set(Record {
+            .begin_wake(&mut lobby.cell.content.state, task, &journal.kept().loads);
+        let logged = Record {
             event: Event::BeginWake { processor, task },
             reply: Answer::with_room(&reply, for_record),
             calls: Calls::none(),
-        });
+        };
         let entry = Record {
             event: Event::BeginWake { processor, task },
             reply: Answer::with_room(&reply, for_receipt),
@@ -69,9 +69,10 @@ impl<Q: RunQueue + Drop, N: Naming + Counting> Recorder<Q, N> {
             journal,
             cell,
             &mut lobby.cell,
-            slip,
+            room,
+            logged,
             entry,
-            kept,
+            None,
         )
     }
 
@@ -85,11 +86,12 @@ impl<Q: RunQueue + Drop, N: Naming + Counting> Recorder<Q, N> {
         inboxes: &[Mutex<Place<NumberedInbox, N>>],
         task: u16,
         now: u64,
-        mut slip: Slip<Record>,
+        room: &mut Room<Record>,
         rooms: &mut Option<CallRooms>,
     ) -> Receipt<Record>
         requires inboxes { length inboxes.now ≡ self.now.history.about }
-        requires ready { is_some rooms.old ≡ true }
+        requires calls { is_some rooms.old ≡ true }
+        requires ready { room.old ≡ true }
         requires tally { working.old.tally ≡ account_of told_calls working.old.caller.1 }
         requires says { cell.old.holder ≡ part_item (cpu_part cell.old.content.number cell.old.content.state) ∷ [] }
         requires hand { option_map (λ c. c.task.id) cell.old.content.state.hand ≡ Some task }
@@ -134,11 +136,11 @@ impl<Q: RunQueue + Drop, N: Naming + Counting> Recorder<Q, N> {
             steps,
         });
         let (for_record, for_receipt) = hold_calls(rooms, content.scratch.calls());
-        slip.set(Record {
+        let logged = Record {
             event: Event::EndWake { processor, now },
             reply: Answer::of(&reply),
             calls: for_record,
-        });
+        };
         let entry = Record {
             event: Event::EndWake { processor, now },
             reply: Answer::of(&reply),
@@ -154,9 +156,10 @@ impl<Q: RunQueue + Drop, N: Naming + Counting> Recorder<Q, N> {
             journal,
             cell,
             &mut inbox.cell,
-            slip,
+            room,
+            logged,
             entry,
-            kept,
+            Some(kept),
         )
     }
 }

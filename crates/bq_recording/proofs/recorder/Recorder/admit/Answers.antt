@@ -15,7 +15,7 @@ commit_one-requires-clause-moves g c =
     let fits : FitsSigned w8 a.nice = search rules in (
       lobby_part own,
       c.place.invariant.0,
-      rw (c.of-2.ensures, c.again-kept.ensures, c.kept.ensures, c.none-2.ensures, to_z-of_z w8 a.nice fits)
+      rw (c.of-2.ensures, c.none-2.ensures, to_z-of_z w8 a.nice fits)
           (admit_moves g.Q.R.Rule.discipline a.self.now.history.about a.task a.nice a.mask a.slice own c.admit-reply.new.self k c.admit-reply.result c.requires.fits (rw c.requires.new at c.admit-reply.ensures.share)),
     )
 

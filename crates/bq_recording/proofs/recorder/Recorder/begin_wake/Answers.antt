@@ -16,12 +16,12 @@ commit_two-requires-clause-moves g c =
     let hall = c.lobby.inside.cell.content.state in
     let b = c.begin_wake-reply in
     let k = c.deref_mut-journal.result.now.1 in
-    let share : Begins c.args.task k.loads own.state hall b.result b.new.self b.new.lobby = rw (c.again-kept.ensures, c.kept.ensures) at b.ensures.share in (
+    let share : Begins c.args.task k.loads own.state hall b.result b.new.self b.new.lobby = rw c.kept.ensures at b.ensures.share in (
       cpu_part own.number own.state,
       lobby_part hall,
       c.requires.says,
       c.lobby.invariant.0,
-      rw (c.again-kept.ensures, c.kept.ensures, c.none-2.ensures, c.with_room-2.ensures)
+      rw (c.none-2.ensures, c.with_room-2.ensures)
           (begin_moves d n own.number c.args.task own.state b.new.self hall b.new.lobby k b.result c.requires.seat share),
     )
 
@@ -38,5 +38,5 @@ returns-clause-hand g c =
     let k = c.deref_mut-journal.result.now.1 in
     let there = c.lobby.view_is ∙ c.look.ensures.same in
     let seen : SeenLobby d n hall = rw there c.look.ensures.world in
-    let share : Begins c.args.task k.loads own.state hall b.result b.new.self b.new.lobby = rw (c.again-kept.ensures, c.kept.ensures) at b.ensures.share in
+    let share : Begins c.args.task k.loads own.state hall b.result b.new.self b.new.lobby = rw c.kept.ensures at b.ensures.share in
     rw (c.commit_two.ensures.receipt.1, c.with_room-2.ensures, c.commit_two.ensures.a.0) (begun_hand c.args.task k.loads own.state hall b.result b.new.self b.new.lobby share (seen_own d n hall seen c.args.task))

@@ -1,5 +1,6 @@
-use Rattle.std.proofs.Common.{◌∙◌, ap, sym}
-use Rattle.bq_cells.specs.Parts.{cpu_part, lobby_part}
+use Rattle.std.proofs.Common.{◌≡◌, ◌∙◌, ap, sym}
+use Rattle.bq_history.specs.Items.{kept_after}
+use Rattle.bq_cells.specs.Parts.{cpu_part, lobby_part, kept_by_block}
 use Rattle.bq_cells.proofs.Looked.{Seen, seen_seated}
 use Rattle.bq_cells.proofs.CallSteps.{block_moves}
 use Rattle.bq_seats.specs.Calls.{ahead}
@@ -23,12 +24,13 @@ commit_two-requires-clause-moves g c =
     let own = c.place.inside.cell.content in
     let hall = c.lobby.inside.cell.content.state in
     let b = c.block-reply in
-    let k = c.deref_mut-journal.result.now.1 in (
+    let k = c.deref_mut-journal.result.now.1 in
+    let after : kept_after k c.after_block-kept.result ≡ kept_by_block own.number b.result k = rw c.kept.ensures at c.after_block-kept.ensures in (
       cpu_part own.number own.state,
       lobby_part hall,
       c.place.invariant.0,
       c.lobby.invariant.0,
-      rw (c.of-2.ensures, c.block.ensures, c.again-kept.ensures, c.kept.ensures, c.none-2.ensures)
+      rw (c.of-2.ensures, c.none-2.ensures, after)
           (block_moves d n own.number c.args.now own.state b.new.self hall b.new.lobby k b.result b.ensures.share),
     )
 

@@ -55,7 +55,7 @@ commit_two-requires-clause-moves g c =
       inbox_part box.number box.state,
       c.place.invariant.0,
       c.inbox.invariant.0,
-      rw (c.of-2.ensures, c.again-kept.ensures, c.kept.ensures, t.ensures.emptied, same) (drain_moves d n own.number c.args.now own.state t.new.self box.state c.hold_calls-for_record.result.1 k t.result share),
+      rw (c.of-2.ensures, t.ensures.emptied, same) (drain_moves d n own.number c.args.now own.state t.new.self box.state c.hold_calls-for_record.result.1 k t.result share),
     )
 
 pub commit_two-requires-clause-told : goal.commit_two-requires-clause-told

@@ -29,11 +29,11 @@ commit_one-requires-clause-moves g c =
     let q = c.replace-reply.new.self in
     let fits : argument_refusal n (Install own.number h i.generation i.policy) ≡ None = rw c.place.view_is c.requires.fits in
     let whole : i ≡ record { policy = i.policy; generation = i.generation; maps = fresh_maps i.policy } = ap (λ (m : List (List ℕ)). record { policy = i.policy; generation = i.generation; maps = m }) c.args.spare.fresh in
-    let had : Installs h k.drawn own.state i r q = rw (c.again-kept.ensures, c.kept.ensures) at c.replace-reply.ensures.share in
+    let had : Installs h k.drawn own.state i r q = rw c.kept.ensures at c.replace-reply.ensures.share in
     let share = subst (λ (x : Program). Installs h k.drawn own.state x r q) whole had in (
       cpu_part own.number own.state,
       c.place.invariant.0,
-      rw (c.of-2.ensures, c.again-kept.ensures, c.kept.ensures, c.none-2.ensures, c.generation-generation.ensures.value, c.args.spare.receipt_is)
+      rw (c.of-2.ensures, c.none-2.ensures, c.generation-generation.ensures.value, c.args.spare.receipt_is)
           (install_moves d n own.number i.generation h i.policy own.state q k r fits share),
     )
 

@@ -1,7 +1,8 @@
 use Rattle.std.proofs.Common.{Ok, ◌≡◌, ◌≢◌, ap, ◌∙◌, arith}
 use Rattle.bq_parts.specs.Choices.{policies}
 use Rattle.bq_parts.specs.Shares.{Pulls}
-use Rattle.bq_cells.specs.Parts.{cpu_part}
+use Rattle.bq_history.specs.Items.{kept_after}
+use Rattle.bq_cells.specs.Parts.{cpu_part, kept_by_pull}
 use Rattle.bq_cells.proofs.Reached.{reached_sound}
 use Rattle.bq_cells.proofs.Looked.{SeenTwo, two_once, two_seated}
 use Rattle.bq_cells.proofs.PullSteps.{pull_moves}
@@ -56,12 +57,13 @@ commit_two-requires-clause-moves g c =
     let k = c.deref_mut-journal.result.now.1 in
     let t = c.pull-reply in
     let calls : c.hold_calls-for_record.result.1 ≡ t.new.scratch = c.hold_calls-for_record.ensures.receipt ∙ c.calls.ensures.value in
-    let share : Pulls (policies d) own.number other.number c.args.now own.state other.state c.hold_calls-for_record.result.1 t.result t.new.self t.new.source = rw calls t.ensures.share in (
+    let share : Pulls (policies d) own.number other.number c.args.now own.state other.state c.hold_calls-for_record.result.1 t.result t.new.self t.new.source = rw calls t.ensures.share in
+    let after : kept_after k c.after_pull-kept.result ≡ kept_by_pull own.number other.number t.result k = rw c.kept.ensures at c.after_pull-kept.ensures in (
       cpu_part own.number own.state,
       cpu_part other.number other.state,
       c.place.invariant.0,
       c.source.invariant.0,
-      rw (c.pull.ensures, c.of-2.ensures, c.again-kept.ensures, c.kept.ensures)
+      rw (c.of-2.ensures, after)
           (pull_moves d n own.number other.number c.args.now own.state t.new.self other.state t.new.source c.hold_calls-for_record.result.1 k t.result apart share),
     )
 

@@ -16,7 +16,7 @@ commit_one-requires-clause-moves g c =
     let bound : a.task < 1024 = within_of a.task 1024 (passed _ no.NoTask None c.requires.fits).0 in (
       lobby_part own,
       c.place.invariant.0,
-      rw (c.of-2.ensures, c.again-kept.ensures, c.kept.ensures, c.none-2.ensures)
+      rw (c.of-2.ensures, c.none-2.ensures)
           (retire_moves g.Q.R.Rule.discipline a.self.now.history.about a.task own c.retire-reply.new.self k c.retire-reply.result bound c.requires.fits c.retire-reply.ensures.share),
     )
 

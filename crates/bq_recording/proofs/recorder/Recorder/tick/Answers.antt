@@ -37,7 +37,7 @@ commit_one-requires-clause-moves g c =
     let share : Ticks (policies d) own.number c.args.now own.state c.hold_calls-for_record.result.1 t.result t.new.self = rw calls t.ensures.share in (
       cpu_part own.number own.state,
       c.place.invariant.0,
-      rw (c.of-2.ensures, c.again-kept.ensures, c.kept.ensures) (tick_moves d n own.number c.args.now own.state t.new.self c.hold_calls-for_record.result.1 k t.result share),
+      rw c.of-2.ensures (tick_moves d n own.number c.args.now own.state t.new.self c.hold_calls-for_record.result.1 k t.result share),
     )
 
 pub commit_one-requires-clause-told : goal.commit_one-requires-clause-told

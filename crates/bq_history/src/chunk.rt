@@ -1,0 +1,62 @@
+//! Records that were taken room for together.
+ghost use Rattle.std.specs.Prelude.{◌≡◌, ◌<◌, IfOk, OnOk, [], ◌∷◌, ◌++◌, length, map, slice_get};
+ghost use Rattle.std.specs.Option.{option_map};
+
+use std::alloc::{AllocError, Global};
+use std::marker::Model;
+
+/// How many records a chunk has room for.
+pub(crate) const CHUNK: u64 = 16;
+
+/// Room for 16 records, and those that stand there. Contracts see their list.
+#[derive(Drop)]
+pub struct Chunk<R: Drop> {
+    records: Vec<R>,
+}
+
+impl<R: Drop> Model for Chunk<R> {
+    ghost use Rattle.std.specs.Prelude.{◌≤◌, List, vec_capacity};
+
+    ghost Value = { List R };
+
+    ghost view = { λ c. c.records.items };
+
+    ghost invariant = { λ c. 16 ≤ vec_capacity c.records };
+}
+
+impl<R: Drop> Chunk<R> {
+    /// Room in which nothing stands.
+    pub(crate) fn new(alloc: Global) -> Result<Chunk<R>, AllocError>
+        ensures { IfOk result (λ c. c ≡ []) }
+    {
+        let records = Vec::with_capacity(alloc, CHUNK as usize)?;
+        Ok(Chunk { records })
+    }
+
+    /// One record more. It takes no memory.
+    pub(crate) fn push(&mut self, entry: R)
+        requires { length self.old < 16 }
+        ensures { self.new ≡ self.old ++ entry ∷ [] }
+    {
+        if self.records.push(entry).is_err() {
+            unreachable!();
+        }
+    }
+
+    /// The record at a place, counted from 0, or none where there are not so many.
+    pub(crate) fn at(&self, place: u64) -> Option<&R>
+        ensures { option_map (λ r. r.now) result ≡ slice_get self.now place }
+    {
+        self.records.get(place as usize)
+    }
+
+    /// The records come to the end of a list.
+    pub(crate) fn list<'a>(&'a self, records: &mut Vec<&'a R>) -> Result<(), AllocError>
+        ensures { OnOk result (map (λ r. r.now) records.new.items ≡ map (λ r. r.now) records.old.items ++ self.now) }
+    {
+        for entry in &self.records {
+            records.push(entry)?;
+        }
+        Ok(())
+    }
+}

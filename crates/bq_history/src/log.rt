@@ -1,0 +1,96 @@
+//! Records in the order in which they were added, chunk by chunk.
+ghost use Rattle.std.specs.Prelude.{◌≡◌, ◌+◌, ◌<◌, ◌^◌, [], ◌∷◌, ◌++◌, List, length, true};
+ghost use Rattle.bq_history.specs.Chains.{chain_behind};
+ghost use Rattle.bq_history.specs.Chunks.{joined, AreChunks};
+
+use crate::chain::{Chain, Link, Slip};
+use crate::chunk::{CHUNK, Chunk};
+use crate::room::Room;
+use std::marker::Model;
+
+/// Records, in chunks of which each but the last is full. Contracts see the records in the order in which they were added.
+#[derive(Drop)]
+pub struct Log<R: Drop> {
+    chunks: Chain<Chunk<R>>,
+    len: u64,
+}
+
+impl<R: Drop> Model for Log<R> {
+    ghost use Rattle.std.specs.Prelude.{◌≡◌, List, length};
+    ghost use Rattle.bq_history.specs.Chunks.{joined, AreChunks};
+
+    ghost Value = { List R };
+
+    ghost view = { λ l. joined l.chunks };
+
+    ghost invariant = { λ l. AreChunks l.chunks × (l.len ≡ length (joined l.chunks)) };
+}
+
+impl<R: Drop> Log<R> {
+    /// No record.
+    pub(crate) fn new() -> Log<R>
+        ensures { result ≡ [] }
+    {
+        Log {
+            chunks: Chain::new(),
+            len: 0,
+        }
+    }
+
+    /// How many there are.
+    pub(crate) fn len(&self) -> u64
+        ensures { result ≡ length self.now }
+    {
+        self.len
+    }
+
+    /// One more at the end. Where all chunks are full it comes into the spare one of the room. It takes no memory.
+    pub(crate) fn push(&mut self, entry: R, room: &mut Room<R>)
+        requires fits { length self.old + 1 < 2 ^ 64 }
+        requires ready { room.old ≡ true }
+        ensures { self.new ≡ self.old ++ entry ∷ [] }
+    {
+        let place = self.len;
+        self.len = place + 1;
+        if place % CHUNK == 0 {
+            let slip = begun(room.take(), entry);
+            self.chunks.push(slip);
+        } else {
+            append(&mut self.chunks, entry);
+        }
+    }
+
+    /// The chain of the chunks from the first to the last, how many they are, and how many records they have. It takes no
+    /// memory.
+    pub(crate) fn in_order(self) -> (Link<Chunk<R>>, u64, u64)
+        ensures chunks { joined (chain_behind result.0) ≡ self }
+        ensures are_chunks { AreChunks (chain_behind result.0) }
+        ensures count { result.1 ≡ length (chain_behind result.0) }
+        ensures len { result.2 ≡ length self }
+    {
+        let Log { chunks, len } = self;
+        let (chain, count) = chunks.in_order();
+        (chain, count, len)
+    }
+}
+
+/// A spare chunk with its first record.
+fn begun<R: Drop>(slip: Slip<Chunk<R>>, entry: R) -> Slip<Chunk<R>>
+    requires { slip ≡ [] }
+    ensures { result ≡ entry ∷ [] }
+{
+    let mut slip = slip;
+    slip.node.item.push(entry);
+    slip
+}
+
+/// One record more in the last chunk, which has room for it.
+fn append<R: Drop>(chunks: &mut Chain<Chunk<R>>, entry: R)
+    requires { (front : List (List R)) × (last : List R) × (chunks.old ≡ front ++ last ∷ []) × (length last < 16) }
+    ensures { (front : List (List R)) (last : List R) → chunks.old ≡ front ++ last ∷ [] → chunks.new ≡ front ++ (last ++ entry ∷ []) ∷ [] }
+{
+    let Some(node) = &mut chunks.last else {
+        unreachable!()
+    };
+    node.item.push(entry);
+}

@@ -1,0 +1,56 @@
+//! Room for records, made before any lock is taken.
+ghost use Rattle.std.specs.Prelude.{◌≡◌, OnOk, OnErr, [], true, false};
+
+use crate::chain::Slip;
+use crate::chunk::Chunk;
+use std::alloc::{AllocError, Global};
+use std::marker::Model;
+
+/// What a caller has ready for its next record, so that a commit takes no memory: a spare chunk, or nothing yet. A commit
+/// takes the chunk only where the last one of the history is full. Contracts see whether it is ready.
+#[derive(Drop)]
+pub struct Room<R: Drop> {
+    spare: Option<Slip<Chunk<R>>>,
+}
+
+impl<R: Drop> Model for Room<R> {
+    ghost use Rattle.std.specs.Prelude.{◌≡◌, Bool, List, [], IfSome, is_some};
+
+    ghost Value = { Bool };
+
+    ghost view = { λ r. is_some r.spare };
+
+    ghost invariant = { λ r. IfSome r.spare (λ c. c ≡ []) };
+}
+
+impl<R: Drop> Room<R> {
+    /// Nothing is ready.
+    pub fn new() -> Room<R>
+        ensures { result ≡ false }
+    {
+        Room { spare: None }
+    }
+
+    /// Makes it ready, which takes memory only where it is not. Where the growth is refused it is as it was.
+    pub fn prepare(&mut self, alloc: Global) -> Result<(), AllocError>
+        ensures ready { OnOk result (self.new ≡ true) }
+        ensures err { OnErr result (self.new ≡ self.old) }
+    {
+        if self.spare.is_none() {
+            let chunk = Chunk::new(alloc)?;
+            self.spare = Some(Slip::new(alloc, chunk)?);
+        }
+        Ok(())
+    }
+
+    /// The spare chunk.
+    pub(crate) fn take(&mut self) -> Slip<Chunk<R>>
+        requires { self.old ≡ true }
+        ensures { result ≡ [] }
+    {
+        let Some(slip) = self.spare.take() else {
+            unreachable!()
+        };
+        slip
+    }
+}
