@@ -11,8 +11,8 @@ ghost use Rattle.bq_machine.specs.Calls.{IsCallRefused};
 ghost use Rattle.bq_machine.specs.Waking.{IsWake};
 
 use crate::clock::Clock;
-use crate::needs::rooms_of_event;
 use crate::locks::Machine;
+use crate::needs::rooms_of_event;
 use bq_cells::{CallRooms, Record, loads_room, record_room};
 use bq_counters::Naming as Counting;
 use bq_disc::RunQueue;
@@ -89,24 +89,17 @@ impl<Q: RunQueue + Drop, K: Clock + Drop, N: Naming + Counting, const P: usize> 
         if let Some(refusal) = argument_refusal(self.cpus.len(), &event) {
             return Err(refusal);
         }
-        let loads = wake_rooms(
-            alloc,
+        let loads = wake_rooms(alloc, &mut seat.first, &mut seat.second, &mut seat.rooms)?;
+        Ok(self.wake_at(
+            rt,
+            &mut seat.working,
+            processor,
+            task,
+            loads,
             &mut seat.first,
             &mut seat.second,
             &mut seat.rooms,
-        )?;
-        Ok(
-            self.wake_at(
-                rt,
-                &mut seat.working,
-                processor,
-                task,
-                loads,
-                &mut seat.first,
-                &mut seat.second,
-                &mut seat.rooms,
-            ),
-        )
+        ))
     }
 
     /// Both halves of a wake, under the lock of the processor.
@@ -131,14 +124,7 @@ impl<Q: RunQueue + Drop, K: Clock + Drop, N: Naming + Counting, const P: usize> 
     {
         let mut guard = self.lock_processor(rt, processor);
         let place = &mut *guard;
-        let begin = self.begin_in_lobby(
-            rt,
-            working,
-            &mut place.cell,
-            task,
-            first,
-            loads,
-        );
+        let begin = self.begin_in_lobby(rt, working, &mut place.cell, task, first, loads);
         if begin.entry.reply.is_err() {
             return WakeReceipts { begin, end: None };
         }
