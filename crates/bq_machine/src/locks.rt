@@ -46,11 +46,7 @@ impl<Q: RunQueue + Drop, K: Clock + Drop, N: Naming + Counting, const P: usize> 
     }
 
     /// Locks a processor.
-    pub(crate) fn lock_processor<R: Wait>(
-        &self,
-        rt: &R,
-        processor: u8,
-    ) -> LockedProcessor<'_, Q, N>
+    pub(crate) fn lock_processor<R: Wait>(&self, rt: &R, processor: u8) -> LockedProcessor<'_, Q, N>
         requires inside { processor < P }
         ensures own { (mutex_guard_value result).number ≡ processor }
     {

@@ -5,8 +5,8 @@ ghost use Rattle.bq_parts.specs.Refusals.{argument_refusal};
 ghost use Rattle.bq_machine.specs.Calls.{IsCallRefused};
 
 use crate::clock::Clock;
-use crate::needs::rooms_of_event;
 use crate::locks::{LockedProcessor, Machine};
+use crate::needs::rooms_of_event;
 use bq_cells::Record;
 use bq_counters::Naming as Counting;
 use bq_disc::RunQueue;

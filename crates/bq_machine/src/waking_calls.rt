@@ -11,8 +11,8 @@ ghost use Rattle.bq_machine.specs.Calls.{IsCallRefused};
 ghost use Rattle.bq_machine.specs.Waking.{IsWake};
 
 use crate::clock::Clock;
-use crate::needs::rooms_of_event;
 use crate::locks::Machine;
+use crate::needs::rooms_of_event;
 use bq_cells::{CallRooms, Record, loads_room, room};
 use bq_counters::Naming as Counting;
 use bq_disc::RunQueue;
@@ -30,13 +30,19 @@ pub struct WakeReceipts {
     pub end: Option<Receipt<Record>>,
 }
 
+/// Room for the loads that the beginning of a wake tells, for its record and for its receipt.
+#[derive(Drop)]
+struct LoadRooms {
+    for_record: Box<Loads>,
+    for_receipt: Box<Loads>,
+}
+
 /// What a wake takes of memory before it takes a lock.
 #[derive(Drop)]
 struct WakeRooms {
     first: Slip<Record>,
     second: Slip<Record>,
-    for_record: Box<Loads>,
-    for_receipt: Box<Loads>,
+    loads: LoadRooms,
 }
 
 /// Room for both records of a wake, for the loads that the first tells, and for the calls of counters of the second.
@@ -44,11 +50,16 @@ fn wake_rooms(alloc: Global, rooms: &mut Option<CallRooms>) -> Result<WakeRooms,
     ensures memory { IfErr result (λ refusal. refusal ≡ no.OutOfMemory) }
     ensures ready { IfOk result (λ _. is_some rooms.new ≡ true) }
 {
-    Ok(WakeRooms {
-        first: room(alloc)?,
-        second: rooms_of_event(alloc, rooms)?,
+    let first = room(alloc)?;
+    let second = rooms_of_event(alloc, rooms)?;
+    let loads = LoadRooms {
         for_record: loads_room(alloc)?,
         for_receipt: loads_room(alloc)?,
+    };
+    Ok(WakeRooms {
+        first,
+        second,
+        loads,
     })
 }
 
@@ -86,16 +97,14 @@ impl<Q: RunQueue + Drop, K: Clock + Drop, N: Naming + Counting, const P: usize> 
             return Err(refusal);
         }
         let rooms = wake_rooms(alloc, &mut seat.rooms)?;
-        Ok(
-            self.wake_at(
-                rt,
-                &mut seat.working,
-                processor,
-                task,
-                rooms,
-                &mut seat.rooms,
-            ),
-        )
+        Ok(self.wake_at(
+            rt,
+            &mut seat.working,
+            processor,
+            task,
+            rooms,
+            &mut seat.rooms,
+        ))
     }
 
     /// Both halves of a wake, under the lock of the processor.
@@ -118,20 +127,11 @@ impl<Q: RunQueue + Drop, K: Clock + Drop, N: Naming + Counting, const P: usize> 
         let WakeRooms {
             first,
             second,
-            for_record,
-            for_receipt,
+            loads,
         } = rooms;
         let mut guard = self.lock_processor(rt, processor);
         let place = &mut *guard;
-        let begin = self.begin_in_lobby(
-            rt,
-            working,
-            &mut place.cell,
-            task,
-            first,
-            for_record,
-            for_receipt,
-        );
+        let begin = self.begin_in_lobby(rt, working, &mut place.cell, task, first, loads);
         if begin.entry.reply.is_err() {
             return WakeReceipts { begin, end: None };
         }
@@ -160,8 +160,7 @@ impl<Q: RunQueue + Drop, K: Clock + Drop, N: Naming + Counting, const P: usize> 
         cell: &mut CpuCell<Q, N>,
         task: u16,
         slip: Slip<Record>,
-        for_record: Box<Loads>,
-        for_receipt: Box<Loads>,
+        loads: LoadRooms,
     ) -> Receipt<Record>
         requires seat { task < 1024 }
         requires tally { working.old.tally ≡ account_of told_calls working.old.caller.1 }
@@ -176,6 +175,10 @@ impl<Q: RunQueue + Drop, K: Clock + Drop, N: Naming + Counting, const P: usize> 
         ensures rests { OnErr result.entry.reply (cell.new.content.state.hand ≡ None) }
         ensures begun { IfErr result.entry.reply (λ e. (e ≡ no.NoTask) ⊎ (e ≡ no.NotBlocked)) }
     {
+        let LoadRooms {
+            for_record,
+            for_receipt,
+        } = loads;
         let mut guard = self.lobby.lock(rt);
         let lobby = &mut *guard;
         self.recorder.begin_wake(
