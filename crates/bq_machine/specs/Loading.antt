@@ -1,10 +1,9 @@
 -- What a load of an image is answered.
-use Rattle.std.specs.Prelude.{◌≡◌, ◌⊎◌, ℕ, Bool, true, false, List, Option, None, Some}
+use Rattle.std.specs.Prelude.{◌≡◌, ◌⊎◌, ℕ, true, false, List, Option, None, Some}
 use Rattle.bq_bpf.specs.declared.hook.Hook.{Hook}
 use Rattle.bq_verify.specs.Accepted.{Accepted}
 use Rattle.bq_load.specs.declared.fault.LoadFault.{LoadFault}
 use Rattle.bq_load.specs.Answers.{Loads, IsUnloaded}
-use Rattle.bq_parts.specs.declared.refusal.Refusal.{Refusal}
 use Rattle.bq_parts.specs.declared.refusal.Refusal.TheVariants as no
 use Rattle.bq_parts.specs.Refusals.{is_for}
 use Rattle.bq_machine.specs.declared.loading_calls.LoadRefused.{LoadRefused}

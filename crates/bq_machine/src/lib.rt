@@ -9,6 +9,7 @@ mod closed;
 pub mod loading_calls;
 mod lobby_calls;
 pub mod locks;
+mod needs;
 mod opened;
 mod pulling_calls;
 mod running_calls;

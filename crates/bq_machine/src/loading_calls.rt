@@ -17,7 +17,7 @@ use bq_disc::RunQueue;
 use bq_history::Receipt;
 use bq_load::{LoadFault, load};
 use bq_parts::{Event, Hook, Policy, Refusal};
-use bq_recording::{Caller, Seat, Spare, need_own, one_spare};
+use bq_recording::{Caller, Seat, Spare, one_spare};
 use bq_tie::Naming;
 use std::alloc::{AllocError, Global};
 use std::sync::Wait;
@@ -183,9 +183,8 @@ impl<Q: RunQueue + Drop, K: Clock + Drop, N: Naming + Counting, const P: usize> 
         ensures event { result.entry.event ≡ Event.Install processor hook generation spare.installed.policy }
     {
         spare.installed.set_generation(generation);
-        let mut guard = self.cpus[usize::from(processor)].lock(rt);
+        let mut guard = self.lock_processor(rt, processor);
         let place = &mut *guard;
-        need_own(rt, place.cell.content.number, processor);
         self.recorder.install(rt, working, place, hook, spare)
     }
 }

@@ -1,6 +1,7 @@
 //! The calls of the lobby alone: tasks come to the machine, and leave it.
-ghost use Rattle.std.specs.Prelude.{◌≡◌, ◌∷◌, ◌++◌, [], None, IfOk, IfErr, OnErr};
+ghost use Rattle.std.specs.Prelude.{◌≡◌, ◌≤◌, ◌∷◌, ◌++◌, [], None, IfOk, IfErr, OnErr, true};
 ghost use Rattle.bq_parts.specs.Refusals.{argument_refusal};
+ghost use Rattle.bq_parts.specs.Moves.{admitted};
 ghost use Rattle.bq_machine.specs.Calls.{IsCallRefused};
 
 use crate::clock::Clock;
@@ -8,12 +9,41 @@ use crate::locks::Machine;
 use bq_cells::{Record, record_room};
 use bq_counters::Naming as Counting;
 use bq_disc::RunQueue;
-use bq_history::Receipt;
-use bq_parts::{Event, Refusal, argument_refusal, new_task};
+use bq_history::{Receipt, Room};
+use bq_parts::{Event, Refusal, Unlinked, argument_refusal, new_task};
 use bq_recording::Seat;
 use bq_tie::Naming;
 use std::alloc::Global;
 use std::sync::Wait;
+
+/// A new task of a machine of so many processors; and there is room for the record of its admission.
+fn new_task_with_room(
+    alloc: Global,
+    room: &mut Room<Record>,
+    count: usize,
+    task: u16,
+    nice: i8,
+    mask: u64,
+    slice: u64,
+) -> Result<Unlinked, Refusal>
+    requires few { count ≤ 64 }
+    ensures ready { IfOk result (λ _. room.new ≡ true) }
+    ensures new { IfOk result (λ t. t ≡ admitted count task nice mask slice) }
+    ensures passed { IfOk result (λ _. argument_refusal count (Event.Admit task nice mask slice) ≡ None) }
+    ensures refused { IfErr result (IsCallRefused count (Event.Admit task nice mask slice)) }
+{
+    let event = Event::Admit {
+        task,
+        nice,
+        mask,
+        slice,
+    };
+    if let Some(refusal) = argument_refusal(count, &event) {
+        return Err(refusal);
+    }
+    record_room(alloc, room)?;
+    new_task(alloc, count, task, nice, mask, slice).map_err(|_| Refusal::OutOfMemory)
+}
 
 impl<Q: RunQueue + Drop, K: Clock + Drop, N: Naming + Counting, const P: usize> Machine<
     Q,
@@ -42,19 +72,8 @@ impl<Q: RunQueue + Drop, K: Clock + Drop, N: Naming + Counting, const P: usize> 
         ensures refused { IfErr result (IsCallRefused P (Event.Admit task nice mask slice)) }
         ensures err { OnErr result (seat.new ≡ seat.old) }
     {
-        let event = Event::Admit {
-            task,
-            nice,
-            mask,
-            slice,
-        };
-        if let Some(refusal) = argument_refusal(self.cpus.len(), &event) {
-            return Err(refusal);
-        }
-        record_room(alloc, &mut seat.first)?;
-        let Ok(new) = new_task(alloc, self.cpus.len(), task, nice, mask, slice) else {
-            return Err(Refusal::OutOfMemory);
-        };
+        let count = self.cpus.len();
+        let new = new_task_with_room(alloc, &mut seat.first, count, task, nice, mask, slice)?;
         let mut guard = self.lobby.lock(rt);
         let place = &mut *guard;
         Ok(

@@ -1,14 +1,18 @@
 //! The locks. Their order is: processors by rising number, the lobby, inboxes, the journal.
 ghost use Rattle.std.specs.Prelude.{◌≡◌, ◌≤◌, ◌<◌, vec_len};
+ghost use Rattle.std.specs.Sync.Mutex.{mutex_guard_value};
 
 use crate::clock::Clock;
 use bq_cells::{NumberedCpu, NumberedInbox, OneLobby};
 use bq_closing::Room;
 use bq_counters::Naming as Counting;
 use bq_disc::RunQueue;
-use bq_recording::{Place, Recorder, Seat};
+use bq_recording::{Place, Recorder, Seat, need_own};
 use bq_tie::Naming;
-use std::sync::Mutex;
+use std::sync::{Mutex, MutexGuard, Wait};
+
+/// A processor whose lock is held.
+pub(crate) type LockedProcessor<'a, Q, N> = MutexGuard<'a, Place<NumberedCpu<Q>, N>>;
 
 /// The machine that `N` names, of `P` processors.
 #[derive(Drop)]
@@ -39,5 +43,29 @@ impl<Q: RunQueue + Drop, K: Clock + Drop, N: Naming + Counting, const P: usize> 
         ensures { seat.new ≡ seat.old }
     {
         seat.counter(&self.recorder.counters, counter)
+    }
+
+    /// Locks a processor.
+    pub(crate) fn lock_processor<R: Wait>(&self, rt: &R, processor: u8) -> LockedProcessor<'_, Q, N>
+        requires inside { processor < P }
+        ensures own { (mutex_guard_value result).number ≡ processor }
+    {
+        let guard = self.cpus[usize::from(processor)].lock(rt);
+        need_own(rt, guard.cell.content.number, processor);
+        guard
+    }
+
+    /// Locks the inbox of a processor.
+    pub(crate) fn lock_inbox<R: Wait>(
+        &self,
+        rt: &R,
+        processor: u8,
+    ) -> MutexGuard<'_, Place<NumberedInbox, N>>
+        requires inside { processor < P }
+        ensures own { (mutex_guard_value result).number ≡ processor }
+    {
+        let guard = self.inboxes[usize::from(processor)].lock(rt);
+        need_own(rt, guard.cell.content.number, processor);
+        guard
     }
 }

@@ -1,18 +1,18 @@
 //! A pull: a processor takes a task from the queue of another. Both are locked, by rising number.
-ghost use Rattle.std.specs.Prelude.{◌≡◌, ◌≢◌, ◌<◌, ◌∷◌, ◌++◌, ℕ, [], None, IfOk, IfErr, OnErr, is_some, true};
-ghost use Rattle.bq_seats.specs.Calls.{account_of};
+ghost use Rattle.std.specs.Prelude.{◌≡◌, ◌≢◌, ◌<◌, ◌∷◌, ◌++◌, ℕ, [], None, Some, IfOk, IfErr, OnOk, OnErr};
+ghost use Rattle.std.specs.Sync.Mutex.{mutex_guard_value};
 ghost use Rattle.bq_parts.specs.Refusals.{argument_refusal};
-ghost use Rattle.bq_cells.specs.Parts.{told_calls};
 ghost use Rattle.bq_machine.specs.Calls.{IsCallRefused};
 
 use crate::clock::Clock;
-use crate::locks::Machine;
-use bq_cells::{CallRooms, Record, call_rooms, record_room};
+use crate::locks::{LockedProcessor, Machine};
+use crate::needs::rooms_of_event;
+use bq_cells::Record;
 use bq_counters::Naming as Counting;
 use bq_disc::RunQueue;
-use bq_history::{Receipt, Room};
+use bq_history::Receipt;
 use bq_parts::{Event, Refusal};
-use bq_recording::{Caller, Seat, need_own};
+use bq_recording::Seat;
 use bq_tie::Naming;
 use std::alloc::Global;
 use std::sync::Wait;
@@ -41,6 +41,32 @@ impl<Q: RunQueue + Drop, K: Clock + Drop, N: Naming + Counting, const P: usize> 
         ensures refused { IfErr result (IsCallRefused P (Event.Pull processor from 0)) }
         ensures err { OnErr result (seat.new ≡ seat.old) }
     {
+        self.need_both(processor, from)?;
+        rooms_of_event(alloc, &mut seat.first, &mut seat.rooms)?;
+        let now = self.clock.now(processor);
+        let (mut guard, mut source_guard) = self.lock_both(rt, processor, from);
+        let place = &mut *guard;
+        let source = &mut *source_guard;
+        Ok(
+            self.recorder.pull(
+                rt,
+                &mut seat.working,
+                place,
+                source,
+                now,
+                &mut seat.first,
+                &mut seat.rooms,
+            ),
+        )
+    }
+
+    /// Refuses numbers that are none of a processor, and two equal ones.
+    fn need_both(&self, processor: u8, from: u8) -> Result<(), Refusal>
+        ensures inside { OnOk result ((processor < P) × (from < P)) }
+        ensures apart { OnOk result (processor ≢ from) }
+        ensures passed { OnOk result (argument_refusal P (Event.Pull processor from 0) ≡ None) }
+        ensures refused { IfErr result (λ e. argument_refusal P (Event.Pull processor from 0) ≡ Some e) }
+    {
         let count = self.cpus.len();
         if usize::from(processor) >= count || usize::from(from) >= count {
             return Err(Refusal::NoProcessor);
@@ -48,90 +74,27 @@ impl<Q: RunQueue + Drop, K: Clock + Drop, N: Naming + Counting, const P: usize> 
         if processor == from {
             return Err(Refusal::SameProcessor);
         }
-        record_room(alloc, &mut seat.first)?;
-        call_rooms(alloc, &mut seat.rooms)?;
-        let now = self.clock.now(processor);
+        Ok(())
+    }
+
+    /// Locks two processors, that of the lesser number first.
+    fn lock_both<R: Wait>(
+        &self,
+        rt: &R,
+        processor: u8,
+        from: u8,
+    ) -> (LockedProcessor<'_, Q, N>, LockedProcessor<'_, Q, N>)
+        requires inside { (processor < P) × (from < P) }
+        ensures own { (mutex_guard_value result.0).number ≡ processor }
+        ensures own_source { (mutex_guard_value result.1).number ≡ from }
+    {
         if processor < from {
-            return Ok(self.pull_upward(
-                rt,
-                &mut seat.working,
-                processor,
-                from,
-                now,
-                &mut seat.first,
-                &mut seat.rooms,
-            ));
+            let guard = self.lock_processor(rt, processor);
+            let source_guard = self.lock_processor(rt, from);
+            return (guard, source_guard);
         }
-        Ok(self.pull_downward(
-            rt,
-            &mut seat.working,
-            processor,
-            from,
-            now,
-            &mut seat.first,
-            &mut seat.rooms,
-        ))
-    }
-
-    /// Locks the puller first, whose number is the lesser.
-    fn pull_upward<R: Wait>(
-        &self,
-        rt: &R,
-        working: &mut Caller<N>,
-        processor: u8,
-        from: u8,
-        now: u64,
-        room: &mut Room<Record>,
-        rooms: &mut Option<CallRooms>,
-    ) -> Receipt<Record>
-        requires ready { room.old ≡ true }
-        requires calls { is_some rooms.old ≡ true }
-        requires tally { working.old.tally ≡ account_of told_calls working.old.caller.1 }
-        requires inside { processor < P }
-        requires inside_from { from < P }
-        requires apart { processor ≢ from }
-        ensures caller { working.new.caller ≡ (working.old.caller.0, working.old.caller.1 ++ result ∷ []) }
-        ensures tally { working.new.tally ≡ account_of told_calls working.new.caller.1 }
-        ensures event { result.entry.event ≡ Event.Pull processor from now }
-    {
-        let mut guard = self.cpus[usize::from(processor)].lock(rt);
-        let place = &mut *guard;
-        need_own(rt, place.cell.content.number, processor);
-        let mut source_guard = self.cpus[usize::from(from)].lock(rt);
-        let source = &mut *source_guard;
-        need_own(rt, source.cell.content.number, from);
-        self.recorder
-            .pull(rt, working, place, source, now, room, rooms)
-    }
-
-    /// Locks the source first, whose number is the lesser.
-    fn pull_downward<R: Wait>(
-        &self,
-        rt: &R,
-        working: &mut Caller<N>,
-        processor: u8,
-        from: u8,
-        now: u64,
-        room: &mut Room<Record>,
-        rooms: &mut Option<CallRooms>,
-    ) -> Receipt<Record>
-        requires ready { room.old ≡ true }
-        requires calls { is_some rooms.old ≡ true }
-        requires tally { working.old.tally ≡ account_of told_calls working.old.caller.1 }
-        requires inside { processor < P }
-        requires inside_from { from < P }
-        requires apart { processor ≢ from }
-        ensures caller { working.new.caller ≡ (working.old.caller.0, working.old.caller.1 ++ result ∷ []) }
-        ensures tally { working.new.tally ≡ account_of told_calls working.new.caller.1 }
-        ensures event { result.entry.event ≡ Event.Pull processor from now }
-    {
-        let mut source_guard = self.cpus[usize::from(from)].lock(rt);
-        let source = &mut *source_guard;
-        need_own(rt, source.cell.content.number, from);
-        let mut guard = self.cpus[usize::from(processor)].lock(rt);
-        let place = &mut *guard;
-        need_own(rt, place.cell.content.number, processor);
-        self.recorder
-            .pull(rt, working, place, source, now, room, rooms)
+        let source_guard = self.lock_processor(rt, from);
+        let guard = self.lock_processor(rt, processor);
+        (guard, source_guard)
     }
 }

@@ -1,17 +1,15 @@
 //! The calls of one processor: its clock ticks, its inbox's tasks enter, and its running task goes to sleep.
 ghost use Rattle.std.specs.Prelude.{◌≡◌, ◌∷◌, ◌++◌, ◌<◌, ℕ, [], IfOk, IfErr, OnErr};
-ghost use Rattle.bq_seats.specs.Calls.{account_of};
-ghost use Rattle.bq_cells.specs.Parts.{told_calls};
 ghost use Rattle.bq_machine.specs.Calls.{IsCallRefused};
 
 use crate::clock::Clock;
 use crate::locks::Machine;
-use bq_cells::{Record, call_rooms, record_room};
+use bq_cells::{Record, record_room};
 use bq_counters::Naming as Counting;
 use bq_disc::RunQueue;
 use bq_history::Receipt;
 use bq_parts::{Event, Refusal};
-use bq_recording::{Seat, need_own};
+use bq_recording::Seat;
 use bq_tie::Naming;
 use std::alloc::Global;
 use std::sync::Wait;
@@ -38,15 +36,9 @@ impl<Q: RunQueue + Drop, K: Clock + Drop, N: Naming + Counting, const P: usize> 
         ensures refused { IfErr result (IsCallRefused P (Event.Tick processor 0)) }
         ensures err { OnErr result (seat.new ≡ seat.old) }
     {
-        let index = usize::from(processor);
-        if index >= self.cpus.len() {
-            return Err(Refusal::NoProcessor);
-        }
-        record_room(alloc, &mut seat.first)?;
-        call_rooms(alloc, &mut seat.rooms)?;
-        let mut guard = self.cpus[index].lock(rt);
+        self.begin_call(alloc, &mut seat.first, &mut seat.rooms, processor)?;
+        let mut guard = self.lock_processor(rt, processor);
         let place = &mut *guard;
-        need_own(rt, place.cell.content.number, processor);
         let now = self.clock.now(processor);
         Ok(
             self.recorder.tick(
@@ -76,19 +68,12 @@ impl<Q: RunQueue + Drop, K: Clock + Drop, N: Naming + Counting, const P: usize> 
         ensures refused { IfErr result (IsCallRefused P (Event.Drain processor 0)) }
         ensures err { OnErr result (seat.new ≡ seat.old) }
     {
-        let index = usize::from(processor);
-        if index >= self.cpus.len() {
-            return Err(Refusal::NoProcessor);
-        }
-        record_room(alloc, &mut seat.first)?;
-        call_rooms(alloc, &mut seat.rooms)?;
-        let mut guard = self.cpus[index].lock(rt);
+        self.begin_call(alloc, &mut seat.first, &mut seat.rooms, processor)?;
+        let mut guard = self.lock_processor(rt, processor);
         let place = &mut *guard;
-        need_own(rt, place.cell.content.number, processor);
         let now = self.clock.now(processor);
-        let mut inbox_guard = self.inboxes[index].lock(rt);
+        let mut inbox_guard = self.lock_inbox(rt, processor);
         let inbox = &mut *inbox_guard;
-        need_own(rt, inbox.cell.content.number, processor);
         Ok(
             self.recorder.drain(
                 rt,
@@ -119,14 +104,10 @@ impl<Q: RunQueue + Drop, K: Clock + Drop, N: Naming + Counting, const P: usize> 
         ensures refused { IfErr result (IsCallRefused P (Event.Block processor 0)) }
         ensures err { OnErr result (seat.new ≡ seat.old) }
     {
-        let index = usize::from(processor);
-        if index >= self.cpus.len() {
-            return Err(Refusal::NoProcessor);
-        }
+        self.need_processor(processor)?;
         record_room(alloc, &mut seat.first)?;
-        let mut guard = self.cpus[index].lock(rt);
+        let mut guard = self.lock_processor(rt, processor);
         let place = &mut *guard;
-        need_own(rt, place.cell.content.number, processor);
         let now = self.clock.now(processor);
         let mut lobby_guard = self.lobby.lock(rt);
         let lobby = &mut *lobby_guard;

@@ -1,5 +1,5 @@
 //! A wake: a task of the lobby comes into a processor's hand, and is placed. The processor's lock is held throughout.
-ghost use Rattle.std.specs.Prelude.{◌≡◌, ◌∷◌, ◌++◌, ◌<◌, ◌⊎◌, ℕ, [], None, Some, IfOk, IfErr, IfSome, IsOk, IsSome, OnOk, OnErr, ◌↔◌, true};
+ghost use Rattle.std.specs.Prelude.{◌≡◌, ◌∷◌, ◌++◌, ◌<◌, ◌⊎◌, ℕ, [], None, Some, IfOk, IfErr, IfSome, IsOk, IsSome, OnOk, OnErr, ◌↔◌, is_some, true};
 ghost use Rattle.std.specs.Option.{option_to_list, option_map};
 ghost use Rattle.bq_history.specs.Items.{part_item};
 ghost use Rattle.bq_seats.specs.Calls.{account_of};
@@ -8,15 +8,17 @@ ghost use Rattle.bq_parts.specs.declared.refusal.Refusal.TheVariants as no;
 ghost use Rattle.bq_cells.specs.Parts.{cpu_part, told_calls};
 ghost use Rattle.bq_recording.specs.Placing.{IsPlaced};
 ghost use Rattle.bq_machine.specs.Calls.{IsCallRefused};
+ghost use Rattle.bq_machine.specs.Waking.{IsWake};
 
 use crate::clock::Clock;
 use crate::locks::Machine;
-use bq_cells::{Record, call_rooms, loads_room, record_room};
+use crate::needs::rooms_of_event;
+use bq_cells::{CallRooms, Record, loads_room, record_room};
 use bq_counters::Naming as Counting;
 use bq_disc::RunQueue;
 use bq_history::{Receipt, Room};
-use bq_parts::{Event, Loads, Refusal};
-use bq_recording::{Caller, CpuCell, Seat, need_own};
+use bq_parts::{Event, Loads, Refusal, argument_refusal};
+use bq_recording::{Caller, CpuCell, Seat};
 use bq_tie::Naming;
 use std::alloc::Global;
 use std::sync::Wait;
@@ -26,6 +28,32 @@ use std::sync::Wait;
 pub struct WakeReceipts {
     pub begin: Receipt<Record>,
     pub end: Option<Receipt<Record>>,
+}
+
+/// Room for the loads that the beginning of a wake tells, for its record and for its receipt.
+#[derive(Drop)]
+struct LoadRooms {
+    for_record: Box<Loads>,
+    for_receipt: Box<Loads>,
+}
+
+/// Room for both records of a wake, for the loads that the first tells, and for the calls of counters of the second.
+fn wake_rooms(
+    alloc: Global,
+    first: &mut Room<Record>,
+    second: &mut Room<Record>,
+    calls: &mut Option<CallRooms>,
+) -> Result<LoadRooms, Refusal>
+    ensures memory { IfErr result (λ refusal. refusal ≡ no.OutOfMemory) }
+    ensures ready { IfOk result (λ _. (first.new ≡ true) × (second.new ≡ true)) }
+    ensures calls { IfOk result (λ _. is_some calls.new ≡ true) }
+{
+    record_room(alloc, first)?;
+    rooms_of_event(alloc, second, calls)?;
+    Ok(LoadRooms {
+        for_record: loads_room(alloc)?,
+        for_receipt: loads_room(alloc)?,
+    })
 }
 
 impl<Q: RunQueue + Drop, K: Clock + Drop, N: Naming + Counting, const P: usize> Machine<
@@ -57,48 +85,64 @@ impl<Q: RunQueue + Drop, K: Clock + Drop, N: Naming + Counting, const P: usize> 
         ensures refused { IfErr result (IsCallRefused P (Event.BeginWake processor task)) }
         ensures err { OnErr result (seat.new ≡ seat.old) }
     {
-        let index = usize::from(processor);
-        if index >= self.cpus.len() {
-            return Err(Refusal::NoProcessor);
+        let event = Event::BeginWake { processor, task };
+        if let Some(refusal) = argument_refusal(self.cpus.len(), &event) {
+            return Err(refusal);
         }
-        if task >= 1024 {
-            return Err(Refusal::NoTask);
-        }
-        record_room(alloc, &mut seat.first)?;
-        record_room(alloc, &mut seat.second)?;
-        let for_record = loads_room(alloc)?;
-        let for_receipt = loads_room(alloc)?;
-        call_rooms(alloc, &mut seat.rooms)?;
-        let mut guard = self.cpus[index].lock(rt);
-        let place = &mut *guard;
-        need_own(rt, place.cell.content.number, processor);
-        let begin = self.begin_in_lobby(
+        let loads = wake_rooms(alloc, &mut seat.first, &mut seat.second, &mut seat.rooms)?;
+        Ok(self.wake_at(
             rt,
             &mut seat.working,
-            &mut place.cell,
+            processor,
             task,
+            loads,
             &mut seat.first,
-            for_record,
-            for_receipt,
-        );
+            &mut seat.second,
+            &mut seat.rooms,
+        ))
+    }
+
+    /// Both halves of a wake, under the lock of the processor.
+    fn wake_at<R: Wait>(
+        &self,
+        rt: &R,
+        working: &mut Caller<N>,
+        processor: u8,
+        task: u16,
+        loads: LoadRooms,
+        first: &mut Room<Record>,
+        second: &mut Room<Record>,
+        calls: &mut Option<CallRooms>,
+    ) -> WakeReceipts
+        requires inside { (processor < P) × (task < 1024) }
+        requires ready { (first.old ≡ true) × (second.old ≡ true) }
+        requires calls { is_some calls.old ≡ true }
+        requires tally { working.old.tally ≡ account_of told_calls working.old.caller.1 }
+        ensures caller { working.new.caller ≡ (working.old.caller.0, (working.old.caller.1 ++ result.begin ∷ []) ++ option_to_list result.end) }
+        ensures tally { working.new.tally ≡ account_of told_calls working.new.caller.1 }
+        ensures wake { IsWake (K.gives processor) processor task result }
+    {
+        let mut guard = self.lock_processor(rt, processor);
+        let place = &mut *guard;
+        let begin = self.begin_in_lobby(rt, working, &mut place.cell, task, first, loads);
         if begin.entry.reply.is_err() {
-            return Ok(WakeReceipts { begin, end: None });
+            return WakeReceipts { begin, end: None };
         }
         let now = self.clock.now(processor);
         let end = self.recorder.end_wake(
             rt,
-            &mut seat.working,
+            working,
             &mut place.cell,
             &self.inboxes,
             task,
             now,
-            &mut seat.second,
-            &mut seat.rooms,
+            second,
+            calls,
         );
-        Ok(WakeReceipts {
+        WakeReceipts {
             begin,
             end: Some(end),
-        })
+        }
     }
 
     /// The first half of a wake: the lobby is locked, and let go.
@@ -109,8 +153,7 @@ impl<Q: RunQueue + Drop, K: Clock + Drop, N: Naming + Counting, const P: usize> 
         cell: &mut CpuCell<Q, N>,
         task: u16,
         room: &mut Room<Record>,
-        for_record: Box<Loads>,
-        for_receipt: Box<Loads>,
+        loads: LoadRooms,
     ) -> Receipt<Record>
         requires seat { task < 1024 }
         requires ready { room.old ≡ true }
@@ -126,6 +169,10 @@ impl<Q: RunQueue + Drop, K: Clock + Drop, N: Naming + Counting, const P: usize> 
         ensures rests { OnErr result.entry.reply (cell.new.content.state.hand ≡ None) }
         ensures begun { IfErr result.entry.reply (λ e. (e ≡ no.NoTask) ⊎ (e ≡ no.NotBlocked)) }
     {
+        let LoadRooms {
+            for_record,
+            for_receipt,
+        } = loads;
         let mut guard = self.lobby.lock(rt);
         let lobby = &mut *guard;
         self.recorder.begin_wake(

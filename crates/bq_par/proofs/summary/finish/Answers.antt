@@ -1,4 +1,4 @@
-use Rattle.std.proofs.Common.{◌≡◌, ◌*◌, ℕ, List, length, map, rules, arith, sym, ap, ◌∙◌}
+use Rattle.std.proofs.Common.{◌≡◌, ◌*◌, ℕ, length, map, rules, arith, sym, ap, ◌∙◌}
 use Rattle.std.specs.List.{sum_by}
 use Rattle.bq_history.specs.History.{EachOnce, Stands, IsRising}
 use Rattle.bq_par.specs.Ticks.{one_tick, ticks_in, ticks_of}

@@ -1,6 +1,5 @@
-use Rattle.std.proofs.Common.{◌≡◌, ◌∷◌, ◌++◌, ◌<◌, ◌+◌, ◌-◌, [], List, length, slice_index_or, vec_len, vec_capacity, append_assoc, ap, sym, ◌∙◌, arith, rules, subst, ℕ}
+use Rattle.std.proofs.Common.{◌≡◌, ◌∷◌, ◌++◌, ◌<◌, ◌+◌, ◌-◌, [], List, length, slice_index_or, vec_len, append_assoc, ap, sym, ◌∙◌, arith, rules, subst, ℕ}
 use Rattle.std.specs.Prelude.{unwrap_or}
-use Rattle.std.specs.List.{All}
 use Rattle.std.proofs.lemmas.List.Elements.{All-take}
 use Rattle.bq_history.specs.declared.law.Receipt.{Receipt}
 use Rattle.bq_parts.specs.declared.event.Event.TheVariants.{Install}

@@ -1,0 +1,64 @@
+//! What each call at a processor begins with: whether there is that processor, and memory for what is recorded.
+ghost use Rattle.std.specs.Prelude.{◌≡◌, ◌<◌, ◌∷◌, [], Some, IfErr, OnOk, is_some, true};
+ghost use Rattle.bq_parts.specs.Refusals.{first_refusal, no_processor};
+ghost use Rattle.bq_parts.specs.declared.refusal.Refusal.TheVariants as no;
+ghost use Rattle.bq_machine.specs.Calls.{IsCallRefused};
+
+use crate::clock::Clock;
+use crate::locks::Machine;
+use bq_cells::{CallRooms, Record, call_rooms, record_room};
+use bq_counters::Naming as Counting;
+use bq_disc::RunQueue;
+use bq_history::Room;
+use bq_parts::{Event, Refusal};
+use bq_tie::Naming;
+use std::alloc::Global;
+
+/// Room for the record of an event, and for the calls of counters that it may tell.
+pub(crate) fn rooms_of_event(
+    alloc: Global,
+    room: &mut Room<Record>,
+    calls: &mut Option<CallRooms>,
+) -> Result<(), Refusal>
+    ensures memory { IfErr result (λ refusal. refusal ≡ no.OutOfMemory) }
+    ensures ready { OnOk result (room.new ≡ true) }
+    ensures calls { OnOk result (is_some calls.new ≡ true) }
+{
+    record_room(alloc, room)?;
+    call_rooms(alloc, calls)
+}
+
+impl<Q: RunQueue + Drop, K: Clock + Drop, N: Naming + Counting, const P: usize> Machine<
+    Q,
+    K,
+    N,
+    P,
+> {
+    /// Refuses a number that is none of a processor.
+    pub(crate) fn need_processor(&self, processor: u8) -> Result<(), Refusal>
+        ensures inside { OnOk result (processor < P) }
+        ensures refused { IfErr result (λ e. first_refusal (no_processor P processor ∷ []) ≡ Some e) }
+    {
+        if usize::from(processor) >= self.cpus.len() {
+            return Err(Refusal::NoProcessor);
+        }
+        Ok(())
+    }
+
+    /// What an event at a processor takes before the processor is locked.
+    pub(crate) fn begin_call(
+        &self,
+        alloc: Global,
+        room: &mut Room<Record>,
+        calls: &mut Option<CallRooms>,
+        processor: u8,
+    ) -> Result<(), Refusal>
+        ensures inside { OnOk result (processor < P) }
+        ensures ready { OnOk result (room.new ≡ true) }
+        ensures calls { OnOk result (is_some calls.new ≡ true) }
+        ensures refused { IfErr result (IsCallRefused P (Event.Tick processor 0)) }
+    {
+        self.need_processor(processor)?;
+        rooms_of_event(alloc, room, calls)
+    }
+}

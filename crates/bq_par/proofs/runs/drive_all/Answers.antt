@@ -1,0 +1,17 @@
+-- Threads may share the machine, as its queues may cross threads and its clock may be shared.
+use denote.Param.{param, number}
+use denote.Param.Send.{IsSync, sendable}
+use Rattle.std.proofs.Crossing.{crosses}
+use Rattle.bq_par.specs.contracts.metronome.Metronome as Metronome
+use Rattle.bq_par.specs.contracts.metronome.MetronomeClock.TheImpl as metronome
+use Rattle.bq_par.proofs.Shared.{machine_sync}
+use Rattle.bq_par.proofs.runs.drive_all.Goals as goal
+
+metronome_sync : IsSync Metronome.the_row
+metronome_sync = search (crosses, sendable) depth 20
+
+pub map_vec-requires-sync-F : goal.map_vec-requires-sync-F
+map_vec-requires-sync-F g c κs within =
+    let t = c.type_bounds.sync-T in
+    let m = machine_sync (param 0 g.row.Q) Metronome.the_row (param 1 g.row.N) (param 3 (number g.row.P)) (param 4 g.row.Q-R) metronome.ghosts g.N.Naming-1 g.N.Naming-2 g.Q.RunQueue g.Q.R.Rule c.type_bounds.send-Q metronome_sync in
+    search (crosses, sendable) depth 20

@@ -1,7 +1,0 @@
-use Rattle.bq_par.proofs.runs.on_eevdf.Given as goal
-
-abbrev pub ghosts-sized_eevdf-N-Naming-1 : goal.ghosts-sized_eevdf-N-Naming-1
-ghosts-sized_eevdf-N-Naming-1 g a = record { table = a.prepared.0 }
-
-abbrev pub ghosts-sized_eevdf-N-Naming-2 : goal.ghosts-sized_eevdf-N-Naming-2
-ghosts-sized_eevdf-N-Naming-2 g a = record { counters = a.unnamed.0 }
