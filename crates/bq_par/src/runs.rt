@@ -81,8 +81,12 @@ where
         ProcessorCount::Four => run_machine::<Q, N, T, 4>(rt, alloc, prepared, unnamed, ticks),
         ProcessorCount::Eight => run_machine::<Q, N, T, 8>(rt, alloc, prepared, unnamed, ticks),
         ProcessorCount::Sixteen => run_machine::<Q, N, T, 16>(rt, alloc, prepared, unnamed, ticks),
-        ProcessorCount::ThirtyTwo => run_machine::<Q, N, T, 32>(rt, alloc, prepared, unnamed, ticks),
-        ProcessorCount::SixtyFour => run_machine::<Q, N, T, 64>(rt, alloc, prepared, unnamed, ticks),
+        ProcessorCount::ThirtyTwo => run_machine::<Q, N, T, 32>(
+            rt, alloc, prepared, unnamed, ticks,
+        ),
+        ProcessorCount::SixtyFour => run_machine::<Q, N, T, 64>(
+            rt, alloc, prepared, unnamed, ticks,
+        ),
     }
 }
 
