@@ -208,7 +208,7 @@ pub(crate) fn size(table: &Table) -> Result<ProcessorCount, Why<'_>>
             None => Err(Why::NoSuch {
                 key: "processors",
                 value,
-                wanted: Wanted::ProcessorCount,
+                wanted: Wanted::Size,
             }),
         },
     }
