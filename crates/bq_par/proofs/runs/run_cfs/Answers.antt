@@ -15,6 +15,7 @@ use Rattle.bq_history.specs.declared.law.Receipt.{Receipt}
 use Rattle.bq_cells.specs.declared.record.Record.{Record}
 use Rattle.bq_par.proofs.Counts.{fresh_many, fresh_at}
 use Rattle.bq_par.proofs.Sent.{cfs_tree, cfs_queue, cfs_queue_send}
+use Rattle.bq_par.proofs.Seated.{seat_send, done_send}
 use Rattle.bq_par.proofs.Shared.{machine_sync}
 use Rattle.bq_par.proofs.runs.run_cfs.Goals as goal
 
@@ -26,6 +27,12 @@ map_vec-requires-sync-F g c κs within =
     let t = c.type_bounds.sync-T in
     let m = machine_sync cfs_queue Metronome.the_row (param 0 g.row.N) (param 2 (number g.row.P)) Cfs.the_row metronome.ghosts g.N.Naming-1 g.N.Naming-2 (ruled.ghosts cfs_tree Cfs.the_row (timeline.ghosts NoSums.the_row sums.ghosts timeline.no_dict) ruled.no_dict cfs.ghosts ruled.no_dict) cfs.ghosts cfs_queue_send metronome_sync in
     search (crosses, sendable) depth 20
+
+pub map_vec-requires-send-X : goal.map_vec-requires-send-X
+map_vec-requires-send-X g c κs within = search (done_send, crosses, sendable) depth 40
+
+pub map_vec-requires-send-J : goal.map_vec-requires-send-J
+map_vec-requires-send-J g c κs within = search (seat_send, sendable) depth 20
 
 pub map_vec-requires-after_bounds : goal.map_vec-requires-after_bounds
 map_vec-requires-after_bounds g c = λ κs within i x lt is.
