@@ -51,7 +51,7 @@ pub seat_send : (N : RattleType) (n : Naming.Ghosts N.Denot) (m : Counting.Ghost
 seat_send N n m =
     let spare = room_send Record.the_row record_send in
     view_send (seat.the_row Record.the_row Part.the_row Kept.the_row N told.ghosts n m) _ _ _ _ (declared_send (seat.the_type Record.the_row Part.the_row Kept.the_row N told.ghosts n m)
-        (search (working.the_send, crosses, sendable) depth 20, (spare, (spare, (calls_send, tt)))))
+    (search (working.the_send, crosses, sendable) depth 20, (spare, (spare, (calls_send, tt)))))
 
 receipt_send : IsSend (Receipt.the_row Record.the_row)
 receipt_send = search (receipt.the_send, record_send) depth 10
