@@ -4,6 +4,7 @@ use denote.Param.Send.{IsSync, sendable}
 use Rattle.std.proofs.Crossing.{crosses}
 use Rattle.bq_par.specs.contracts.metronome.Metronome as Metronome
 use Rattle.bq_par.specs.contracts.metronome.MetronomeClock.TheImpl as metronome
+use Rattle.bq_par.proofs.Seated.{seat_send, done_send}
 use Rattle.bq_par.proofs.Shared.{machine_sync}
 use Rattle.bq_par.proofs.runs.drive_all.Goals as goal
 
@@ -15,3 +16,9 @@ map_vec-requires-sync-F g c κs within =
     let t = c.type_bounds.sync-T in
     let m = machine_sync (param 0 g.row.Q) Metronome.the_row (param 1 g.row.N) (param 3 (number g.row.P)) (param 4 g.row.Q-R) metronome.ghosts g.N.Naming-1 g.N.Naming-2 g.Q.RunQueue g.Q.R.Rule c.type_bounds.send-Q metronome_sync in
     search (crosses, sendable) depth 20
+
+pub map_vec-requires-send-X : goal.map_vec-requires-send-X
+map_vec-requires-send-X g c κs within = search (done_send, crosses, sendable) depth 40
+
+pub map_vec-requires-send-J : goal.map_vec-requires-send-J
+map_vec-requires-send-J g c κs within = search (seat_send, sendable) depth 20
