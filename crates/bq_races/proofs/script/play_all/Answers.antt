@@ -1,12 +1,24 @@
 -- Threads may share the machine, as its queues, which have a gate, may cross threads, and its clock, which has one too, may be shared.
+use Rattle.std.proofs.Common.{rules, arith}
+use denote.RattleType.{RattleType}
 use denote.Param.{param, number}
 use denote.Param.Send.{IsSend, IsSync, sendable}
 use denote.Param.SendFields.{declared_send}
-use Rattle.std.proofs.Crossing.{crosses}
+use Rattle.std.proofs.Crossing.{crosses, Vec-send}
 use Rattle.bq_cfs.specs.contracts.rule.Cfs as Cfs
 use Rattle.bq_cfs.specs.contracts.rule.CfsRule.TheImpl as cfs
 use Rattle.bq_par.proofs.Sent.{cfs_queue_send}
+use Rattle.bq_par.proofs.Seated.{seat_send}
 use Rattle.bq_par.proofs.Shared.{machine_sync}
+use Rattle.bq_tie.specs.declared.law.Naming as Naming
+use Rattle.bq_counters.specs.declared.account.Naming as Counting
+use Rattle.bq_history.specs.History.{EachOnce}
+use Rattle.bq_history.specs.contracts.law.Receipt as Receipt
+use Rattle.bq_history.proofs.law.Receipt.TheSendSync as receipt
+use Rattle.bq_cells.specs.contracts.record.Record as Record
+use Rattle.bq_cells.proofs.Sent.{record_send}
+use Rattle.bq_races.specs.contracts.script.Job as Job
+use Rattle.bq_races.specs.contracts.script.Played as Played
 use Rattle.bq_races.proofs.gate.Gate.TheSendSync as gate
 use Rattle.bq_races.specs.contracts.held_queue.HeldQueue as Held
 use Rattle.bq_races.specs.contracts.held_queue.HeldQueueRunQueue.TheImpl as held
@@ -25,3 +37,25 @@ map_vec-requires-sync-F g c κs within =
     let t = c.type_bounds.sync-R in
     let m = machine_sync Held.the_row Counted.the_row (param 0 g.row.N) (number 4) Cfs.the_row clock.ghosts g.N.Naming-1 g.N.Naming-2 held.ghosts cfs.ghosts held_send clock_sync in
     search (crosses, sendable) depth 20
+
+receipt_send : IsSend (Receipt.the_row Record.the_row)
+receipt_send = search (receipt.the_send, record_send) depth 10
+
+-- a seat with what it is to do
+job_send : (N : RattleType) (n : Naming.Ghosts N.Denot) (m : Counting.Ghosts N.Denot) → IsSend (Job.the_row N n m)
+job_send N n m = declared_send (Job.the_type N n m) (seat_send N n m, (search (crosses, sendable) depth 40, tt))
+
+-- a seat that has come back, with its receipts
+played_send : (N : RattleType) (n : Naming.Ghosts N.Denot) (m : Counting.Ghosts N.Denot) → IsSend (Played.the_row N n m)
+played_send N n m = declared_send (Played.the_type N n m) (seat_send N n m, (Vec-send (Receipt.the_row Record.the_row) receipt_send, (search (crosses, sendable) depth 10, tt)))
+
+pub map_vec-requires-send-X : goal.map_vec-requires-send-X
+map_vec-requires-send-X g c κs within = search (played_send, crosses, sendable) depth 40
+
+pub map_vec-requires-send-J : goal.map_vec-requires-send-J
+map_vec-requires-send-J g c κs within = search (job_send, sendable) depth 20
+
+pub close-closed-requires : goal.close-closed-requires
+close-closed-requires g c =
+    let owned : EachOnce c.in_ok-machine.machine.recorder.history.callers c.in_turn-2.new.self.seats.items = rw (← c.deref.ensures.value) (c.owns.ensures.0 c.if-not-owns.false) in
+    (search rules, (omega arith, owned))
