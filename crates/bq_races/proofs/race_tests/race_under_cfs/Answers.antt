@@ -1,6 +1,7 @@
 -- Threads may share the machine, as its queues may cross threads and its clock may be shared.
+use denote.RattleType.{RattleType}
 use denote.Param.{param, number}
-use denote.Param.Send.{IsSync, sendable}
+use denote.Param.Send.{IsSend, IsSync, sendable}
 use denote.Param.SendFields.{declared_send}
 use Rattle.std.proofs.Crossing.{crosses}
 use Rattle.bq_disc.specs.contracts.ruled.RuledQueueRunQueue.TheImpl as ruled
@@ -14,6 +15,8 @@ use Rattle.bq_par.specs.contracts.metronome.MetronomeClock.TheImpl as metronome
 use Rattle.bq_par.proofs.Sent.{cfs_tree, cfs_queue, cfs_queue_send}
 use Rattle.bq_par.proofs.Seated.{seat_send}
 use Rattle.bq_par.proofs.Shared.{machine_sync}
+use Rattle.bq_tie.specs.declared.law.Naming as Naming
+use Rattle.bq_counters.specs.declared.account.Naming as Counting
 use Rattle.bq_races.specs.contracts.drawn.Racer as Racer
 use Rattle.bq_races.proofs.race_tests.race_under_cfs.Goals as goal
 
@@ -26,8 +29,12 @@ map_vec-requires-sync-F g c κs within =
     let m = machine_sync cfs_queue Metronome.the_row (param 0 g.row.N) (number 64) Cfs.the_row metronome.ghosts g.N.Naming-1 g.N.Naming-2 (ruled.ghosts cfs_tree Cfs.the_row (timeline.ghosts NoSums.the_row sums.ghosts timeline.no_dict) ruled.no_dict cfs.ghosts ruled.no_dict) cfs.ghosts cfs_queue_send metronome_sync in
     search (crosses, sendable) depth 20
 
+-- a seat with its seed
+racer_send : (N : RattleType) (n : Naming.Ghosts N.Denot) (m : Counting.Ghosts N.Denot) → IsSend (Racer.the_row N n m)
+racer_send N n m = declared_send (Racer.the_type N n m) (seat_send N n m, (search (crosses, sendable) depth 10, tt))
+
 pub map_vec-requires-send-X : goal.map_vec-requires-send-X
 map_vec-requires-send-X g c κs within = search (seat_send, crosses, sendable) depth 40
 
 pub map_vec-requires-send-J : goal.map_vec-requires-send-J
-map_vec-requires-send-J g c κs within = declared_send (Racer.the_type (param 0 g.row.N) g.N.Naming-1 g.N.Naming-2) (seat_send (param 0 g.row.N) g.N.Naming-1 g.N.Naming-2, (search (crosses, sendable) depth 10, tt))
+map_vec-requires-send-J g c κs within = search (racer_send, sendable) depth 20
