@@ -4,9 +4,10 @@ ghost use Rattle.bq_verify.specs.Causes.{cause_number};
 
 use bq_graph::cause::GraphCause;
 use bq_transfer::doubt::Doubt;
+use std::fmt;
 
 /// Why a program is refused.
-#[derive(Clone, Copy, Debug, PartialEq, Eq)]
+#[derive(Clone, Copy, PartialEq, Eq)]
 pub enum Cause {
     /// By its control graph, or by a single instruction.
     Graph(GraphCause),
@@ -22,6 +23,16 @@ impl Cause {
         match self {
             Cause::Graph(cause) => cause.number(),
             Cause::State(doubt) => doubt.number(),
+        }
+    }
+}
+
+/// The name of the one cause or of the other.
+impl fmt::Debug for Cause {
+    fn fmt<W: fmt::Write>(&self, f: &mut fmt::Formatter<W>) -> fmt::Result {
+        match self {
+            Cause::Graph(cause) => cause.fmt(f),
+            Cause::State(doubt) => doubt.fmt(f),
         }
     }
 }
