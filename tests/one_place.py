@@ -27,6 +27,13 @@ FACTS = [
 
 # What may stand in two places, and why.
 ALLOWED = {
+    'the word of a hook: bq_cli/src/asm_words.rt': 'the values that an option takes, beside the text of its refusal, which lists them',
+    'the word of a hook: bq_forms/src/summary.rt': 'keys of a form in JSON, which stay what they are whatever traces call a hook',
+    'the word of a hook: bq_forms/src/tables.rt': 'the column of a report, which stays what it is whatever traces call a hook',
+    'the word of a hook: bq_lines/src/lines.rt': 'the command `pull` of a trace, an event, whose word only happens to be that of a hook too',
+    'the word of a hook: bq_timeline/src/faults.rt': 'the command `pull` of a trace, an event, whose word only happens to be that of a hook too',
+    'the word of a hook: bq_why/src/happenings.rt': 'the name of an event, which only happens to be the word of a hook too',
+    'the same definition: bq_seeds/specs/Gathering.antt: schedule_with, bq_timeline/specs/Watching.antt: watched': "three lines over a trace's news and a schedule: no crate that stands on both lies below these two",
 }
 
 

@@ -9,7 +9,8 @@ use Rattle.std.specs.Str.Parse.{digits_value, AllDigits}
 use Rattle.std.proofs.lemmas.Fmt.{decimal_is_IsNumeral, decimal_by_steps, decimal_digit, decimal_step}
 use Rattle.std.proofs.lemmas.Bool.{and_from, and_parts, and_right, and_left, lt-ltb, le-leb, ne_eqb, leb-true, cases_lt}
 use Rattle.std.proofs.lemmas.Int.{ints}
-use Rattle.bq_asm.specs.Numbers.{number_of, below, magnitude_of, negative, imm_of, offset_of, distance_of, wide_of, register_of}
+use Rattle.bq_words.specs.Numbers.{number_of, below}
+use Rattle.bq_asm.specs.Numbers.{magnitude_of, negative, imm_of, offset_of, distance_of, wide_of, register_of}
 use Rattle.bq_asm.specs.Text.{signed_text}
 
 -- `0` to `9`

@@ -1,7 +1,6 @@
-pub mod NumberLemmas
 pub mod CountLemmas
 pub mod RoundTrip
-pub mod WordLemmas
+pub mod CommentLemmas
 pub mod JumpLemmas
 pub mod DraftLemmas
 pub mod ReadingLemmas

@@ -29,6 +29,7 @@ use Rattle.bq_insn.specs.declared.Insn.TheVariants as insn
 use Rattle.bq_insn.specs.Slots.{slots_of}
 use Rattle.bq_insn.specs.Spelling.{is_insn, slot_count}
 use Rattle.bq_insn.specs.Laws.{AllFit}
+use Rattle.bq_words.proofs.WordLemmas.{EndsWord, words-blank, words-word}
 use Rattle.bq_asm.specs.declared.mnemonic.Mnemonic.{Mnemonic}
 use Rattle.bq_asm.specs.declared.mnemonic.Mnemonic.TheVariants as name
 use Rattle.bq_asm.specs.declared.operand.Operand.{Operand}
@@ -38,7 +39,6 @@ use Rattle.bq_asm.specs.Text.{signed_text, operand_text, mnemonic_of, operands_o
 use Rattle.bq_asm.specs.Lines.{Line, Instruction, is_comment, is_blank, words, line_of, line_said, lines_of, last_word}
 use Rattle.bq_asm.specs.Assembly.{slots_of_line, places_from, distance_to, Says, AreNewLabels}
 use Rattle.bq_asm.specs.Laws.{ListingAssembles}
-use Rattle.bq_asm.proofs.WordLemmas.{EndsWord, words-blank, words-word}
 use Rattle.bq_asm.proofs.DigitLemmas.{is_digit, list_all-append, list_all-weaker, decimal_digits}
 use Rattle.bq_asm.proofs.AgainLemmas.{operands_good, listed_again}
 use Rattle.bq_asm.proofs.WellFormedLemmas.{Good}
@@ -155,25 +155,25 @@ no_blank (b ∷ w) h =
     let parts = and_parts (is_plain b) (list_all is_plain w) h in
     (not-true (is_blank b) (and_parts (not (is_blank b)) (is_inner b) parts.0).0, no_blank w parts.1)
 
-first_word : (w rest : List ℕ) → IsWord w → EndsWord rest → words (w ++ rest) ≡ w ∷ words rest
-first_word w rest h end = words-word w rest h.some (All-from_recursion (λ b. is_blank b ≡ false) w (no_blank w h.plain)) end
+first_word : (w rest : List ℕ) → IsWord w → EndsWord is_blank rest → words (w ++ rest) ≡ w ∷ words rest
+first_word w rest h end = words-word is_blank w rest h.some (All-from_recursion (λ b. is_blank b ≡ false) w (no_blank w h.plain)) end
 
-after_ends : (os : List Operand) → EndsWord (after_first os)
+after_ends : (os : List Operand) → EndsWord is_blank (after_first os)
 after_ends [] = tt
 after_ends (o ∷ os) = refl
 
 words_after : (os : List Operand) → AllByRecursion Good os → words (after_first os) ≡ map operand_text os
 words_after [] h = refl
 words_after (o ∷ os) h =
-    words-blank 44 (32 ∷ (operand_text o ++ after_first os)) refl ∙ words-blank 32 (operand_text o ++ after_first os) refl
+    words-blank is_blank 44 (32 ∷ (operand_text o ++ after_first os)) refl ∙ words-blank is_blank 32 (operand_text o ++ after_first os) refl
     ∙ first_word (operand_text o) (after_first os) (operand_word o h.0) (after_ends os) ∙ ap (λ ws. operand_text o ∷ ws) (words_after os h.1)
 
 words_operands : (os : List Operand) → AllByRecursion Good os → words (operands_text os) ≡ map operand_text os
 words_operands [] h = refl
 words_operands (o ∷ os) h =
-    words-blank 32 (operand_text o ++ after_first os) refl ∙ first_word (operand_text o) (after_first os) (operand_word o h.0) (after_ends os) ∙ ap (λ ws. operand_text o ∷ ws) (words_after os h.1)
+    words-blank is_blank 32 (operand_text o ++ after_first os) refl ∙ first_word (operand_text o) (after_first os) (operand_word o h.0) (after_ends os) ∙ ap (λ ws. operand_text o ∷ ws) (words_after os h.1)
 
-operands_end : (os : List Operand) → EndsWord (operands_text os)
+operands_end : (os : List Operand) → EndsWord is_blank (operands_text os)
 operands_end [] = tt
 operands_end (o ∷ os) = refl
 

@@ -7,7 +7,8 @@ use Rattle.std.specs.Str.Parse.{digits_value}
 use Rattle.std.specs.Char.{digit_value}
 use Rattle.std.proofs.lemmas.Bool.Decides.{nat_tests}
 use Rattle.std.proofs.lemmas.Int.{ints}
-use Rattle.bq_asm.specs.Numbers.{number_of, below, magnitude_of, negative, imm_of, offset_of, distance_of, wide_of, register_of}
+use Rattle.bq_words.specs.Numbers.{number_of, below}
+use Rattle.bq_asm.specs.Numbers.{magnitude_of, negative, imm_of, offset_of, distance_of, wide_of, register_of}
 
 below_limit : (limit : ℕ) (o : Option ℕ) → IfSome (below limit o) (λ n. n < limit)
 below_limit limit None = tt

@@ -5,7 +5,6 @@ pub mod Numbers
 pub mod Operands
 pub mod Text
 pub mod Lines
-pub mod Words
 pub mod Assembly
 pub mod Causes
 pub mod Faults

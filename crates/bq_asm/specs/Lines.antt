@@ -1,9 +1,10 @@
 -- What the lines of a program's text say. A line ends at a line feed or at the text's end, and loses one carriage return
 -- before the line feed. A semicolon begins a comment, and spaces, tabs and commas stand between words.
-use Rattle.std.specs.Prelude.{ℕ, ◌-◌, Bool, true, false, ◌||◌, ◌==◌, nat_lt, List, [], ◌∷◌, length, take, drop, slice_get, unwrap_or, filter, map, Option, Some, None, if◌then◌else◌, codes}
-use Rattle.std.specs.List.{slice_split, before_first}
+use Rattle.std.specs.Prelude.{ℕ, ◌-◌, Bool, true, false, ◌||◌, ◌==◌, List, [], ◌∷◌, length, take, drop, slice_get, unwrap_or, map, Option, Some, None, if◌then◌else◌, codes}
+use Rattle.std.specs.List.{before_first}
 use Rattle.std.specs.Str.{bytes_eq}
 use Rattle.std.specs.Str.Lines.{lines}
+use Rattle.bq_words.specs.Words.{words_by}
 
 abbrev pub is_comment : ℕ → Bool
 is_comment b = b == 59
@@ -14,7 +15,7 @@ is_blank b = (b == 32) || ((b == 9) || (b == 44))
 
 -- what stands between blanks
 abbrev pub words : List ℕ → List (List ℕ)
-words text = filter (λ word. nat_lt 0 (length word)) (slice_split is_blank text)
+words text = words_by is_blank text
 
 -- what a line says: nothing, a label that it sets, or an instruction by its first word and its operands
 pub data Line : Type 0 where

@@ -1,14 +1,25 @@
 //! The words of a line, and which words are names of labels.
-ghost use Rattle.std.specs.Prelude.{◌≡◌, ◌<◌, ◌∷◌, [], length, position, MatchOption};
+ghost use Rattle.std.specs.Prelude.{◌≡◌, ◌<◌, length, position, MatchOption};
 ghost use Rattle.std.specs.List.{list_all, before_first};
 ghost use Rattle.bq_asm.specs.Lines.{is_comment, is_blank, words};
 ghost use Rattle.bq_asm.specs.Operands.{is_letter, is_label_byte, is_label, texts};
-ghost use Rattle.bq_asm.specs.Words.{StartsWithWord, IsWordLen};
 
 use arrayvec::ArrayVec;
+use bq_words::{Blank, next_word_by};
 
 /// The most words of a line that says something: a first word and three operands.
 const WORDS: usize = 4;
+
+/// Spaces, tabs and commas stand between words.
+struct Separators;
+
+impl Blank for Separators {
+    ghost is_blank = { is_blank };
+
+    fn is_blank(byte: u8) -> bool {
+        byte == b' ' || byte == b'\t' || byte == b','
+    }
+}
 
 /// The line up to its comment.
 pub fn without_comment(line: &[u8]) -> &[u8]
@@ -32,7 +43,7 @@ pub fn words(text: &[u8]) -> Option<ArrayVec<&[u8], WORDS>>
 {
     let mut found = ArrayVec::new();
     let mut rest = text;
-    while let Some((word, more)) = next_word(rest) {
+    while let Some((word, more)) = next_word_by::<Separators>(rest) {
         if found.is_full() {
             return None;
         }
@@ -40,47 +51,6 @@ pub fn words(text: &[u8]) -> Option<ArrayVec<&[u8], WORDS>>
         rest = more;
     }
     Some(found)
-}
-
-/// The first word, and what follows it.
-fn next_word(text: &[u8]) -> Option<(&[u8], &[u8])>
-    ensures { MatchOption result (words text.now ≡ []) (λ p. words text.now ≡ p.0.now ∷ words p.1.now) }
-{
-    let text = without_blanks(text);
-    let len = word_len(text);
-    if len == 0 {
-        return None;
-    }
-    Some((&text[..len], &text[len..]))
-}
-
-fn without_blanks(text: &[u8]) -> &[u8]
-    ensures same { words result.now ≡ words text.now }
-    ensures word { StartsWithWord result.now }
-{
-    let mut rest = text;
-    while let [first, more @ ..] = rest {
-        if !is_blank(*first) {
-            return rest;
-        }
-        rest = more;
-    }
-    rest
-}
-
-fn word_len(text: &[u8]) -> usize
-    ensures word { IsWordLen text.now result }
-{
-    match text.iter().position(|b| is_blank(*b)) {
-        Some(at) => at,
-        None => text.len(),
-    }
-}
-
-fn is_blank(byte: u8) -> bool
-    ensures { result ≡ is_blank byte }
-{
-    byte == b' ' || byte == b'\t' || byte == b','
 }
 
 fn is_comment(byte: u8) -> bool

@@ -1,25 +1,8 @@
 //! The numbers and registers that words write.
-ghost use Rattle.std.specs.Prelude.{◌≡◌, ◌≤◌};
-ghost use Rattle.bq_asm.specs.Numbers.{number_of, magnitude_of, imm_of, offset_of, distance_of, wide_of, register_of, begins_number};
+ghost use Rattle.std.specs.Prelude.{◌≡◌};
+ghost use Rattle.bq_asm.specs.Numbers.{magnitude_of, imm_of, offset_of, distance_of, wide_of, register_of, begins_number};
 
-/// The number that the word writes in this base.
-fn number(word: &[u8], base: u32) -> Option<u64>
-    requires low { 2 ≤ base }
-    requires high { base ≤ 36 }
-    ensures { result ≡ number_of base word.now }
-{
-    if word.is_empty() {
-        return None;
-    }
-    let mut value: u64 = 0;
-    for byte in word {
-        let digit = char::from(*byte).to_digit(base)?;
-        value = value
-            .checked_mul(u64::from(base))?
-            .checked_add(u64::from(digit))?;
-    }
-    Some(value)
-}
+use bq_words::number;
 
 fn magnitude_of(word: &[u8]) -> Option<u64>
     ensures { result ≡ magnitude_of word.now }

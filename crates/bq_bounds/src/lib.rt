@@ -11,6 +11,7 @@ pub mod laws;
 pub mod running_task;
 pub mod seen;
 pub mod stretch;
+pub mod totals;
 pub mod watch;
 
 pub use bounds::Bounds;

@@ -1,14 +1,14 @@
 //! A stretch of events of one processor in which no task comes or goes, and what its tasks are owed in it.
 ghost use Rattle.std.specs.Prelude.{◌≡◌, ◌≤◌, ◌-◌, ◌^◌, length, min};
 ghost use Rattle.bq_weights.specs.VirtualTime.{IsWeight};
-ghost use Rattle.bq_disc.specs.Totals.{sums_of, HasBounds};
 ghost use Rattle.bq_bounds.specs.Glances.{at_most_owed};
 ghost use Rattle.bq_bounds.specs.Lags.{allowed, beginning, furthest, heaviest, lag_by, most_owed, stretched};
 
 use crate::charge::Charge;
 use crate::glance::Glance;
+use crate::totals::totals;
 use crate::watch::greater;
-use bq_disc::{Entity, Totals};
+use bq_disc::Entity;
 
 /// A stretch as it goes on. Under EEVDF no task gets further ahead of the mean in it than one was at its beginning, but for one
 /// rise of the clock between two decisions; so none is owed more than the others can be ahead by together.
@@ -127,21 +127,6 @@ impl Stretch {
         let together = rises + (others + own) / (1024 * whole);
         u64::try_from(together).unwrap_or(u64::MAX)
     }
-}
-
-/// What some tasks have together.
-fn totals(tasks: &[Entity]) -> Totals
-    requires { length tasks.now ≤ 1024 }
-    ensures sums { result ≡ sums_of tasks.now }
-    ensures bounds { HasBounds result }
-{
-    let mut totals = Totals::none();
-    let mut at = tasks.len();
-    while at > 0 {
-        at -= 1;
-        totals.add(&tasks[at]);
-    }
-    totals
 }
 
 /// The most that any of some tasks is ahead of a mean.

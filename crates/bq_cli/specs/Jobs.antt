@@ -6,9 +6,10 @@ use Rattle.bq_bpf.specs.declared.hook.Version.TheVariants.{First, Second}
 use Rattle.bq_bpf.specs.Hooks.{hook_word}
 use Rattle.bq_program.specs.Forms.{maps_text}
 use Rattle.bq_program.specs.declared.options.Options.{Options}
-use Rattle.bq_sizes.specs.Sizes.{rule_of, size_numbered}
-use Rattle.bq_sizes.specs.declared.processor_count.ProcessorCount.{ProcessorCount}
-use Rattle.bq_lines.specs.Numbers.{below, decimal_of, processor_of}
+use Rattle.bq_sizes.specs.Sizes.{rule_of}
+use Rattle.bq_words.specs.Numbers.{below}
+use Rattle.bq_lines.specs.Lines.{size_of}
+use Rattle.bq_lines.specs.Numbers.{decimal_of}
 use Rattle.bq_cli.specs.Program.{program}
 use Rattle.bq_cli.specs.declared.asked.Parallel.{Parallel}
 use Rattle.bq_cli.specs.declared.asked.Job.{Job}
@@ -28,14 +29,10 @@ pub record AreOptions (rows : List Row) (o : Options) : Type 0 where
 abbrev pub ticks_of : List ℕ → Option ℕ
 ticks_of word = below 1000001 (decimal_of word)
 
--- the size of so many processors, in decimal
-abbrev pub processors_of : List ℕ → Option ProcessorCount
-processors_of word = option_and_then size_numbered (processor_of word)
-
 -- the options of `par` have the values that were found
 pub record IsParallel (rows : List Row) (p : Parallel) : Type 0 where
   pub rule : option_and_then rule_of (first_of (codes "rule") rows) ≡ Some p.rule
-  pub size : option_and_then processors_of (first_of (codes "processors") rows) ≡ Some p.size
+  pub size : option_and_then size_of (first_of (codes "processors") rows) ≡ Some p.size
   pub ticks : option_and_then ticks_of (first_of (codes "ticks") rows) ≡ Some p.ticks
 
 -- a command by its name and what was found for its options

@@ -5,8 +5,9 @@ ghost use Rattle.clap.specs.Words.{found_of, rows_of};
 ghost use Rattle.bq_sizes.specs.Sizes.{rule_of};
 ghost use Rattle.bq_sizes.specs.declared.rule.Rule.{Rule as Way};
 ghost use Rattle.bq_sizes.specs.declared.processor_count.ProcessorCount.{ProcessorCount as Many};
+ghost use Rattle.bq_lines.specs.Lines.{size_of};
 ghost use Rattle.bq_cli.specs.declared.asked.Parallel.{Parallel as Asked};
-ghost use Rattle.bq_cli.specs.Jobs.{IsParallel, processors_of, ticks_of};
+ghost use Rattle.bq_cli.specs.Jobs.{IsParallel, ticks_of};
 
 use crate::asked::{JobFault, Parallel};
 use crate::asm_words::{refused, value};
@@ -51,8 +52,8 @@ fn rule_in(alloc: Global, word: Option<&str>) -> Result<Rule, JobFault>
 
 /// The number of processors that a word names.
 fn size_in(alloc: Global, word: Option<&str>) -> Result<ProcessorCount, JobFault>
-    ensures ok { IfOk result (λ s. option_and_then processors_of (option_map (λ (w : Bor (List ℕ)). w.now) word.entry) ≡ Some s) }
-    ensures taken { IfErr result (λ e. (s : Many) → option_and_then processors_of (option_map (λ (w : Bor (List ℕ)). w.now) word.entry) ≡ Some s → e ≡ JobFault.OutOfMemory) }
+    ensures ok { IfOk result (λ s. option_and_then size_of (option_map (λ (w : Bor (List ℕ)). w.now) word.entry) ≡ Some s) }
+    ensures taken { IfErr result (λ e. (s : Many) → option_and_then size_of (option_map (λ (w : Bor (List ℕ)). w.now) word.entry) ≡ Some s → e ≡ JobFault.OutOfMemory) }
 {
     let Some(word) = word else {
         return Err(refused(alloc, "processors", "", SIZES));
@@ -65,7 +66,7 @@ fn size_in(alloc: Global, word: Option<&str>) -> Result<ProcessorCount, JobFault
 
 /// The size of so many processors, in decimal.
 fn size_named(word: &[u8]) -> Option<ProcessorCount>
-    ensures { result ≡ processors_of word.now }
+    ensures { result ≡ size_of word.now }
 {
     ProcessorCount::of_number(numbers::processor(word)?)
 }

@@ -4,6 +4,7 @@ ghost use Rattle.clap.specs.Words.{app_of, rule_of, with_rule, with_subcommand};
 ghost use Rattle.clap.specs.declared.builder.command.Command.TheViews.{out-Command as fields_of};
 ghost use Rattle.bq_cli.specs.Program.{program, option_rule, needed_rule, asm_app, check_app, dis_app, par_app, replay_app, named_app, with_all, with_programs, with_worlds};
 
+use bq_options::texts;
 use clap::{Arg, Command};
 use std::alloc::{AllocError, Global};
 
@@ -18,13 +19,9 @@ fn asm_command<'a>(alloc: Global) -> Result<Command<'a>, AllocError>
         "Writes an image for this hook: place, preempt or pull",
     );
     let command = with_option(command, hook)?;
-    let maps = option(alloc, "maps", "MAPS").help(
-        "The value size and the entries of each map, as in 8:2,16:4",
-    );
+    let maps = option(alloc, "maps", "MAPS").help(texts::MAPS);
     let command = with_option(command, maps)?;
-    let format = option(alloc, "format", "FORMAT").help(
-        "The version of the image: 1, which it is without this, or 2",
-    );
+    let format = option(alloc, "format", "FORMAT").help(texts::FORMAT);
     with_option(command, format)
 }
 
@@ -137,17 +134,9 @@ fn with_worlds<'a>(alloc: Global) -> Result<Command<'a>, AllocError>
 fn with_all<'a>(alloc: Global) -> Result<Command<'a>, AllocError>
     ensures { IfOk result (λ c. app_of c ≡ with_all) }
 {
-    let timeline = named_command(
-        alloc,
-        "timeline",
-        "Reads a trace and shows its schedule in a form that people read",
-    );
+    let timeline = named_command(alloc, "timeline", texts::TIMELINE);
     let command = with_command(with_worlds(alloc)?, timeline)?;
-    let simulate = named_command(
-        alloc,
-        "simulate",
-        "Runs a workload and shows its schedule, or writes it as a trace",
-    );
+    let simulate = named_command(alloc, "simulate", texts::SIMULATE);
     let command = with_command(command, simulate)?;
     let run = named_command(alloc, "run", "Runs a policy once and says what it answers");
     let command = with_command(command, run)?;

@@ -8,10 +8,11 @@ use Rattle.bq_graph.specs.Paths.{IsGreatest, PathOut}
 use Rattle.bq_bpf.specs.Safe.{Safe}
 use Rattle.bq_load.specs.declared.fault.LoadFault.TheVariants as load
 use Rattle.bq_load.specs.Naming.{fault_text}
-use Rattle.bq_bpf.specs.Hooks.{hook_word, context_length_of}
+use Rattle.bq_bpf.specs.Hooks.{context_length_of}
 use Rattle.bq_verify.specs.Refusals.{IsRefusal}
 use Rattle.bq_bpf.specs.declared.hook.Hook.{Hook}
 use Rattle.bq_verify.specs.declared.refused.Refused.TheVariants as refused
+use Rattle.bq_program.specs.Check.{accepted_line}
 use Rattle.bq_policy_files.specs.declared.policy.Policy.{Policy}
 use Rattle.bq_explain.specs.declared.limits.Limits.{Limits}
 use Rattle.bq_explain.specs.declared.verdict.Verdict.{Verdict}
@@ -59,7 +60,7 @@ is_accepted other = false
 
 -- the line that tells a verdict
 abbrev pub verdict_line : Hook → Verdict → List ℕ
-verdict_line hook (Accepted budget) = codes "accepted " ++ (hook_word hook ++ (codes " budget " ++ (decimal budget ++ codes "\n")))
+verdict_line hook (Accepted budget) = accepted_line hook budget
 verdict_line hook (OverSteps budget most) = codes "refused limit steps " ++ (decimal budget ++ (codes " of " ++ (decimal most ++ codes "\n")))
 verdict_line hook (Forbidden helper) = codes "refused limit helper " ++ (signed_decimal helper ++ codes "\n")
 verdict_line hook (Refused slot cause) = codes "refused " ++ (fault_text (load.Refused slot cause) ++ codes "\n")

@@ -7,7 +7,7 @@ use crate::limits::Limits;
 use bq_bpf::Hook;
 use bq_load::LoadFault;
 use bq_policy_files::Policy;
-use bq_program::fault_text;
+use bq_program::{accepted_line, fault_text};
 use bq_verify::{Cause, Program, Refused, verify};
 use std::alloc::{AllocError, Global};
 
@@ -83,10 +83,7 @@ pub fn verdict_line(alloc: Global, hook: Hook, verdict: Verdict) -> Result<Strin
     ensures { IfOk result (λ text. string_bytes text ≡ verdict_line hook verdict) }
 {
     match verdict {
-        Verdict::Accepted { budget } => {
-            let hook = hook.word();
-            format!(in alloc; "accepted {hook} budget {budget}\n")
-        }
+        Verdict::Accepted { budget } => accepted_line(alloc, hook, budget),
         Verdict::OverSteps { budget, most } => {
             format!(in alloc; "refused limit steps {budget} of {most}\n")
         }

@@ -9,14 +9,12 @@ ghost use Rattle.bq_import.specs.Backward.{AreGood, IsBuilt, IsFront, IsLengthen
 ghost use Rattle.bq_import.specs.Faults.{IsFull};
 
 use crate::fault::Disorder;
+use bq_bpf::addresses::REFERENCE;
 use bq_insn::Insn;
 use std::alloc::Global;
 
 /// The most slots of a program.
 const MOST: usize = 4096;
-
-/// The reference of map 0; that of map `k` is `k` more.
-const FIRST_REFERENCE: u64 = 0x4000_0000_0000;
 
 /// A copy from its last slot to its first, and the slot of the original that each slot is a copy of.
 #[derive(Drop)]
@@ -128,10 +126,10 @@ fn wide_copy(dst: u8, value: u64, maps: usize) -> Insn
     requires { maps ≤ 8 }
     ensures { result ≡ wide_copy (is_reference maps value) dst value }
 {
-    if value >= FIRST_REFERENCE && value < FIRST_REFERENCE + maps as u64 {
+    if value >= REFERENCE && value < REFERENCE + maps as u64 {
         return Insn::MapRef {
             dst,
-            index: (value - FIRST_REFERENCE) as i32,
+            index: (value - REFERENCE) as i32,
         };
     }
     Insn::Imm64 { dst, value }

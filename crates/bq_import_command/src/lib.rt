@@ -6,6 +6,6 @@ mod command;
 mod settings;
 mod text;
 
-pub use command::{WordsFault, words};
+pub use command::words;
 pub use settings::{Settings, SettingsFault, Words};
 pub use text::{Refusal, imported};

@@ -1,4 +1,2 @@
 pub mod AllowedLemmas
 pub mod KeptLemmas
-pub mod NumberLemmas
-pub mod WordLemmas

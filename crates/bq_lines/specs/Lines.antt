@@ -2,10 +2,11 @@
 use Rattle.std.specs.Prelude.{ℕ, not, ◌||◌, nat_lt, List, [], ◌∷◌, length, Option, Some, None, if◌then◌else◌, codes, nat_eq, option_map, option_and_then}
 use Rattle.std.specs.List.{list_all, starts_with}
 use Rattle.std.specs.Str.{bytes_eq}
+use Rattle.bq_words.specs.Words.{words}
 use Rattle.bq_parts.specs.declared.event.Event.TheVariants.{Admit, Retire, Draw, Install, BeginWake, EndWake, Drain, Tick, Block, Pull}
 use Rattle.bq_bpf.specs.Hooks.{hook_of}
 use Rattle.bq_bpf.specs.declared.hook.Hook.{Hook}
-use Rattle.bq_lines.specs.Words.{words, is_allowed}
+use Rattle.bq_lines.specs.Bytes.{is_allowed}
 use Rattle.bq_lines.specs.Numbers.{decimal_of, processor_of, task_of, mask_of, nice_of}
 use Rattle.bq_sizes.specs.declared.processor_count.ProcessorCount.{ProcessorCount}
 use Rattle.bq_sizes.specs.Sizes.{rule_of, size_numbered}

@@ -2,15 +2,16 @@
 ghost use Rattle.std.specs.Prelude.{◌≡◌, ◌∷◌, ℕ, List, IfOk};
 ghost use Rattle.std.specs.Borrow.{Bor};
 ghost use Rattle.std.specs.Option.{option_map};
-ghost use Rattle.bq_lines.specs.Words.{words};
+ghost use Rattle.bq_words.specs.Words.{words};
 ghost use Rattle.bq_lines.specs.Lines.{machine_of, admit_of, retire_of, draw_of, install_words, install_of, begin_of, end_of, wake_of, drain_of, tick_of, block_of, pull_of, show_of, counter_of, plain_command_of, reading_of_words, reading_of, reading_heard};
 
 use crate::command::{Command, Reading};
 use crate::image::HexWord;
 use crate::numbers;
-use crate::words::{end_of_words, is_allowed_line, next_word};
+use crate::words::{end_of_words, is_allowed_line};
 use bq_core::{Event, Hook};
 use bq_sizes::{ProcessorCount, Rule};
+use bq_words::next_word;
 use std::alloc::{AllocError, Global};
 
 /// The longest line.

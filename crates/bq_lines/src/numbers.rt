@@ -1,25 +1,8 @@
 //! The numbers that words write.
-ghost use Rattle.std.specs.Prelude.{◌≡◌, ◌≤◌};
-ghost use Rattle.bq_lines.specs.Numbers.{number_of, decimal_of, processor_of, task_of, mask_of, nice_of};
+ghost use Rattle.std.specs.Prelude.{◌≡◌};
+ghost use Rattle.bq_lines.specs.Numbers.{decimal_of, processor_of, task_of, mask_of, nice_of};
 
-/// The number that the word writes in this base.
-fn number(word: &[u8], base: u32) -> Option<u64>
-    requires low { 2 ≤ base }
-    requires high { base ≤ 36 }
-    ensures { result ≡ number_of base word.now }
-{
-    if word.is_empty() {
-        return None;
-    }
-    let mut value: u64 = 0;
-    for byte in word {
-        let digit = char::from(*byte).to_digit(base)?;
-        value = value
-            .checked_mul(u64::from(base))?
-            .checked_add(u64::from(digit))?;
-    }
-    Some(value)
-}
+use bq_words::number;
 
 /// A generation, a slice or a clock reading: decimal, below 2^64.
 pub fn decimal(word: &[u8]) -> Option<u64>

@@ -12,9 +12,10 @@ use Rattle.bq_bpf.specs.declared.hook.Hook.{Hook}
 use Rattle.bq_bpf.specs.declared.hook.Hook.TheVariants.{Place, Preempt, Pull}
 use Rattle.bq_bpf.specs.declared.hook.Version.{Version}
 use Rattle.bq_bpf.specs.declared.hook.Version.TheVariants.{First, Second}
+use Rattle.bq_bpf.specs.Hooks.{version_number}
 use Rattle.bq_load.specs.declared.fault.LoadFault.{LoadFault}
 use Rattle.bq_load.specs.declared.fault.LoadFault.TheVariants as fault
-use Rattle.bq_load.specs.Layout.{magic, version_byte, hook_byte, shape_bytes, shapes_bytes, opening, Header, header_bytes, IsHeader}
+use Rattle.bq_load.specs.Layout.{magic, hook_byte, shape_bytes, shapes_bytes, opening, Header, header_bytes, IsHeader}
 use Rattle.bq_load.specs.Reading.{◌>>=◌, magic_at, version_at, hook_at, number_at, count_at, is_shape, shape_at, shapes_at, Spelled, header_at}
 use Rattle.bq_load.proofs.FieldLemmas.{is_shape-met, shape_facts}
 use Rattle.bq_load.proofs.HeaderLemmas.{length-shapes_bytes, regroup_header, after_slots, after_count, after_hook, after_version, after_magic}
@@ -40,7 +41,7 @@ magic_again rest =
     let long : ltb (length (magic ++ rest)) 4 ≡ false = le-ltb _ _ (omega (arith, length-append magic rest)) in
     rw long refl
 
-pub version_again : (v : Version) (rest : List ℕ) → version_at (version_byte v ∷ rest) ≡ Ok (v, rest)
+pub version_again : (v : Version) (rest : List ℕ) → version_at (version_number v ∷ rest) ≡ Ok (v, rest)
 unfolding version_at
 version_again First rest = refl
 version_again Second rest = refl
@@ -85,11 +86,11 @@ pub read_marked : (rest : List ℕ) → header_at (magic ++ rest) ≡ after_magi
 unfolding header_at
 read_marked rest = ap (λ (r : Result (List ℕ) LoadFault). r >>= after_magic) (magic_again rest)
 
-pub read_versioned : (v : Version) (rest : List ℕ) → header_at (magic ++ (version_byte v ∷ rest)) ≡ after_version (v, rest)
+pub read_versioned : (v : Version) (rest : List ℕ) → header_at (magic ++ (version_number v ∷ rest)) ≡ after_version (v, rest)
 read_versioned v rest =
-    read_marked (version_byte v ∷ rest) ∙ ap (λ (r : Result (Version × List ℕ) LoadFault). r >>= after_version) (version_again v rest)
+    read_marked (version_number v ∷ rest) ∙ ap (λ (r : Result (Version × List ℕ) LoadFault). r >>= after_version) (version_again v rest)
 
-pub read_hooked : (v : Version) (h : Hook) (rest : List ℕ) → header_at (magic ++ (version_byte v ∷ hook_byte h ∷ rest)) ≡ after_hook v (h, rest)
+pub read_hooked : (v : Version) (h : Hook) (rest : List ℕ) → header_at (magic ++ (version_number v ∷ hook_byte h ∷ rest)) ≡ after_hook v (h, rest)
 read_hooked v h rest =
     read_versioned v (hook_byte h ∷ rest) ∙ ap (λ (r : Result (Hook × List ℕ) LoadFault). r >>= after_hook v) (hook_again h rest)
 

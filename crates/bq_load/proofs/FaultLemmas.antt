@@ -14,9 +14,10 @@ use Rattle.bq_bpf.specs.declared.hook.Hook.{Hook}
 use Rattle.bq_bpf.specs.declared.hook.Hook.TheVariants.{Place, Preempt, Pull}
 use Rattle.bq_bpf.specs.declared.hook.Version.{Version}
 use Rattle.bq_bpf.specs.declared.hook.Version.TheVariants.{First, Second}
+use Rattle.bq_bpf.specs.Hooks.{version_number}
 use Rattle.bq_load.specs.declared.fault.LoadFault.{LoadFault}
 use Rattle.bq_load.specs.declared.fault.LoadFault.TheVariants as fault
-use Rattle.bq_load.specs.Layout.{magic, version_byte, hook_byte, shape_bytes, shapes_bytes, opening, Header, header_bytes, IsHeader}
+use Rattle.bq_load.specs.Layout.{magic, hook_byte, shape_bytes, shapes_bytes, opening, Header, header_bytes, IsHeader}
 use Rattle.bq_load.specs.Fields.{Front, Nothing, Marked, Versioned, Hooked, Mapped, Headed, IsGood, front_bytes, next_width, IsBadNext}
 use Rattle.bq_load.specs.Faults.{HasBadField, HasFaultyProgram, IsFault}
 use Rattle.bq_load.specs.Reading.{◌>>=◌, magic_at, version_at, hook_at, number_at, count_at, is_shape, shape_at, shapes_at, Spelled, header_at, ended, frame_at}
@@ -42,7 +43,7 @@ magic_bad field rest four bad =
     let no : bytes_eq field magic ≡ false = false_from_ne_true _ (λ e. bad ((bytes_eq-Decides field magic).0 e)) in
     rw (long, is, no) refl
 
-version_bad : (b : ℕ) (rest : List ℕ) → ((v : Version) → b ∷ [] ≢ version_byte v ∷ []) → version_at (b ∷ rest) ≡ Err fault.Version
+version_bad : (b : ℕ) (rest : List ℕ) → ((v : Version) → b ∷ [] ≢ version_number v ∷ []) → version_at (b ∷ rest) ≡ Err fault.Version
 unfolding version_at
 version_bad b rest bad =
     let one : (b == 1) ≡ false = ne_eqb _ _ (λ e. bad First (ap (λ (x : ℕ). x ∷ []) e)) in
@@ -148,13 +149,13 @@ unfolding header_at
 bad_at Nothing field rest fault.Magic fits good whole bad = ap (λ (r : Result (List ℕ) LoadFault). r >>= after_magic) (magic_bad field rest whole bad)
 bad_at Marked field rest fault.Version fits good whole bad =
     let one = one_byte field whole in
-    let worse : (v : Version) → one.0 ∷ [] ≢ version_byte v ∷ [] = λ v e. bad v (one.1 ∙ e) in
+    let worse : (v : Version) → one.0 ∷ [] ≢ version_number v ∷ [] = λ v e. bad v (one.1 ∙ e) in
     ap (λ (x : List ℕ). header_at (magic ++ (x ++ rest))) one.1 ∙ read_marked (one.0 ∷ rest)
     ∙ ap (λ (r : Result (Version × List ℕ) LoadFault). r >>= after_version) (version_bad one.0 rest worse)
 bad_at (Versioned v) field rest fault.Hook fits good whole bad =
     let one = one_byte field whole in
     let worse : (h : Hook) → one.0 ∷ [] ≢ hook_byte h ∷ [] = λ h e. bad h (one.1 ∙ e) in
-    ap (λ (x : List ℕ). header_at (magic ++ (version_byte v ∷ (x ++ rest)))) one.1 ∙ read_versioned v (one.0 ∷ rest)
+    ap (λ (x : List ℕ). header_at (magic ++ (version_number v ∷ (x ++ rest)))) one.1 ∙ read_versioned v (one.0 ∷ rest)
     ∙ ap (λ (r : Result (Hook × List ℕ) LoadFault). r >>= after_hook v) (hook_bad one.0 rest worse)
 bad_at (Hooked v h) field rest fault.Shape fits good whole bad =
     read_hooked v h (field ++ rest) ∙ ap (λ (r : Result (ℕ × List ℕ) LoadFault). r >>= after_count v h) (count_bad field rest fits whole bad)

@@ -16,9 +16,10 @@ use Rattle.bq_bpf.specs.declared.hook.Hook.{Hook}
 use Rattle.bq_bpf.specs.declared.hook.Hook.TheVariants.{Place, Preempt, Pull}
 use Rattle.bq_bpf.specs.declared.hook.Version.{Version}
 use Rattle.bq_bpf.specs.declared.hook.Version.TheVariants.{First, Second}
+use Rattle.bq_bpf.specs.Hooks.{version_number}
 use Rattle.bq_load.specs.declared.fault.LoadFault.{LoadFault}
 use Rattle.bq_load.specs.declared.fault.LoadFault.TheVariants as fault
-use Rattle.bq_load.specs.Layout.{magic, version_byte, hook_byte, shape_bytes, shapes_bytes}
+use Rattle.bq_load.specs.Layout.{magic, hook_byte, shape_bytes, shapes_bytes}
 use Rattle.bq_load.specs.Fields.{Front, Nothing, Marked, Versioned, Hooked, next_width, IsBadNext}
 pub use Rattle.bq_load.specs.Laws.{AreBytes}
 use Rattle.bq_load.specs.Reading.{◌>>=◌, magic_at, version_at, hook_at, number_at, count_at, is_shape, shape_at, shapes_at}
@@ -97,21 +98,21 @@ magic_err bytes f e =
 
 -- ---- the version
 
-pub version_ok : (bytes : List ℕ) (v : Version) (rest : List ℕ) → version_at bytes ≡ Ok (v, rest) → bytes ≡ version_byte v ∷ rest
+pub version_ok : (bytes : List ℕ) (v : Version) (rest : List ℕ) → version_at bytes ≡ Ok (v, rest) → bytes ≡ version_number v ∷ rest
 unfolding version_at
 version_ok [] v rest e = absurd cc
 version_ok (b ∷ bs) v rest e =
     elim (chosen (b == 1) (Ok (First, bs)) (cond (b == 2) (Ok (Second, bs)) (Err fault.Version)) (Ok (v, rest)) e) [
       | inl p ↦
           let is : b ≡ 1 = eqb-true _ _ p.0 in
-          subst (λ (x : Version × List ℕ). b ∷ bs ≡ version_byte x.0 ∷ x.1) (ok_is (First, bs) (v, rest) p.1) (ap (λ (x : ℕ). x ∷ bs) is)
+          subst (λ (x : Version × List ℕ). b ∷ bs ≡ version_number x.0 ∷ x.1) (ok_is (First, bs) (v, rest) p.1) (ap (λ (x : ℕ). x ∷ bs) is)
       | inr p ↦
           let g = met_ok (b == 2) fault.Version (Second, bs) (v, rest) p.1 in
           let is : b ≡ 2 = eqb-true _ _ g.0 in
-          subst (λ (x : Version × List ℕ). b ∷ bs ≡ version_byte x.0 ∷ x.1) g.1 (ap (λ (x : ℕ). x ∷ bs) is)
+          subst (λ (x : Version × List ℕ). b ∷ bs ≡ version_number x.0 ∷ x.1) g.1 (ap (λ (x : ℕ). x ∷ bs) is)
     ]
 
-no_version : (b : ℕ) → b ≢ 1 → b ≢ 2 → (v : Version) → b ∷ [] ≢ version_byte v ∷ []
+no_version : (b : ℕ) → b ≢ 1 → b ≢ 2 → (v : Version) → b ∷ [] ≢ version_number v ∷ []
 no_version b one two First e = one cc
 no_version b one two Second e = two cc
 

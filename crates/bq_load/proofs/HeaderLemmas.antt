@@ -7,9 +7,10 @@ use Rattle.bq_insn.specs.declared.fault.Cause.{Cause}
 use Rattle.bq_bpf.specs.declared.shape.MapShape.{MapShape}
 use Rattle.bq_bpf.specs.declared.hook.Hook.{Hook}
 use Rattle.bq_bpf.specs.declared.hook.Version.{Version}
+use Rattle.bq_bpf.specs.Hooks.{version_number}
 use Rattle.bq_load.specs.declared.fault.LoadFault.{LoadFault}
 use Rattle.bq_load.specs.declared.fault.LoadFault.TheVariants as fault
-use Rattle.bq_load.specs.Layout.{magic, version_byte, hook_byte, shape_bytes, shapes_bytes, opening, Header, header_bytes}
+use Rattle.bq_load.specs.Layout.{magic, hook_byte, shape_bytes, shapes_bytes, opening, Header, header_bytes}
 use Rattle.bq_load.specs.Fields.{Front, Nothing, Marked, Versioned, Hooked, Mapped, Headed, IsGood, front_bytes, IsBadNext}
 use Rattle.bq_load.specs.Faults.{HasBadField, IsFault}
 use Rattle.bq_load.specs.Headers.{HasHeader}
@@ -99,24 +100,24 @@ refused_maps v h n maps f fits few e =
           ]
     ]
 
-refused_count : (v : Version) (h : Hook) (rest : List ℕ) (f : LoadFault) → AreBytes rest → after_hook v (h, rest) ≡ Err f → IsRefused (magic ++ (version_byte v ∷ hook_byte h ∷ rest)) f
+refused_count : (v : Version) (h : Hook) (rest : List ℕ) (f : LoadFault) → AreBytes rest → after_hook v (h, rest) ≡ Err f → IsRefused (magic ++ (version_number v ∷ hook_byte h ∷ rest)) f
 refused_count v h rest f fits e =
     elim (bind_err (count_at rest) (after_count v h) f e) [
       | inl p ↦ record { front = Hooked v h; rest = rest; good = tt; bytes_are = refl; refused = count_err v h rest f fits p }
       | inr p ↦
           let c = count_ok rest p.0.0 p.0.1 fits p.1 in
           let after : AreBytes p.0.1 = AreBytes-after (to_le_bytes w16 p.0.0) p.0.1 (subst AreBytes c.0 fits) in
-          subst (λ (x : List ℕ). IsRefused (magic ++ (version_byte v ∷ hook_byte h ∷ x)) f) (sym c.0) (refused_maps v h p.0.0 p.0.1 f after c.1 p.2)
+          subst (λ (x : List ℕ). IsRefused (magic ++ (version_number v ∷ hook_byte h ∷ x)) f) (sym c.0) (refused_maps v h p.0.0 p.0.1 f after c.1 p.2)
     ]
 
-refused_hook : (v : Version) (rest : List ℕ) (f : LoadFault) → AreBytes rest → after_version (v, rest) ≡ Err f → IsRefused (magic ++ (version_byte v ∷ rest)) f
+refused_hook : (v : Version) (rest : List ℕ) (f : LoadFault) → AreBytes rest → after_version (v, rest) ≡ Err f → IsRefused (magic ++ (version_number v ∷ rest)) f
 refused_hook v rest f fits e =
     elim (bind_err (hook_at rest) (after_hook v) f e) [
       | inl p ↦ record { front = Versioned v; rest = rest; good = tt; bytes_are = refl; refused = hook_err v rest f p }
       | inr p ↦
           let is = hook_ok rest p.0.0 p.0.1 p.1 in
           let after : AreBytes p.0.1 = AreBytes-after (hook_byte p.0.0 ∷ []) p.0.1 (subst AreBytes is fits) in
-          subst (λ (x : List ℕ). IsRefused (magic ++ (version_byte v ∷ x)) f) (sym is) (refused_count v p.0.0 p.0.1 f after p.2)
+          subst (λ (x : List ℕ). IsRefused (magic ++ (version_number v ∷ x)) f) (sym is) (refused_count v p.0.0 p.0.1 f after p.2)
     ]
 
 refused_version : (rest : List ℕ) (f : LoadFault) → AreBytes rest → after_magic rest ≡ Err f → IsRefused (magic ++ rest) f
@@ -125,7 +126,7 @@ refused_version rest f fits e =
       | inl p ↦ record { front = Marked; rest = rest; good = tt; bytes_are = refl; refused = version_err rest f p }
       | inr p ↦
           let is = version_ok rest p.0.0 p.0.1 p.1 in
-          let after : AreBytes p.0.1 = AreBytes-after (version_byte p.0.0 ∷ []) p.0.1 (subst AreBytes is fits) in
+          let after : AreBytes p.0.1 = AreBytes-after (version_number p.0.0 ∷ []) p.0.1 (subst AreBytes is fits) in
           subst (λ (x : List ℕ). IsRefused (magic ++ x) f) (sym is) (refused_hook p.0.0 p.0.1 f after p.2)
     ]
 
@@ -159,25 +160,25 @@ read_maps v h n maps x fits few e =
       bytes_are = spelled_maps v h n maps s.0 k.0.0 g.0 k.0.1 s.1 s.2 w.0;
     })
 
-read_count : (v : Version) (h : Hook) (rest : List ℕ) (x : Spelled × List ℕ) → AreBytes rest → after_hook v (h, rest) ≡ Ok x → HasHeader (magic ++ (version_byte v ∷ hook_byte h ∷ rest)) x.0 x.1
+read_count : (v : Version) (h : Hook) (rest : List ℕ) (x : Spelled × List ℕ) → AreBytes rest → after_hook v (h, rest) ≡ Ok x → HasHeader (magic ++ (version_number v ∷ hook_byte h ∷ rest)) x.0 x.1
 read_count v h rest x fits e =
     let p = bind_ok (count_at rest) (after_count v h) x e in
     let c = count_ok rest p.0.0 p.0.1 fits p.1 in
     let after : AreBytes p.0.1 = AreBytes-after (to_le_bytes w16 p.0.0) p.0.1 (subst AreBytes c.0 fits) in
-    subst (λ (y : List ℕ). HasHeader (magic ++ (version_byte v ∷ hook_byte h ∷ y)) x.0 x.1) (sym c.0) (read_maps v h p.0.0 p.0.1 x after c.1 p.2)
+    subst (λ (y : List ℕ). HasHeader (magic ++ (version_number v ∷ hook_byte h ∷ y)) x.0 x.1) (sym c.0) (read_maps v h p.0.0 p.0.1 x after c.1 p.2)
 
-read_hook : (v : Version) (rest : List ℕ) (x : Spelled × List ℕ) → AreBytes rest → after_version (v, rest) ≡ Ok x → HasHeader (magic ++ (version_byte v ∷ rest)) x.0 x.1
+read_hook : (v : Version) (rest : List ℕ) (x : Spelled × List ℕ) → AreBytes rest → after_version (v, rest) ≡ Ok x → HasHeader (magic ++ (version_number v ∷ rest)) x.0 x.1
 read_hook v rest x fits e =
     let p = bind_ok (hook_at rest) (after_hook v) x e in
     let is = hook_ok rest p.0.0 p.0.1 p.1 in
     let after : AreBytes p.0.1 = AreBytes-after (hook_byte p.0.0 ∷ []) p.0.1 (subst AreBytes is fits) in
-    subst (λ (y : List ℕ). HasHeader (magic ++ (version_byte v ∷ y)) x.0 x.1) (sym is) (read_count v p.0.0 p.0.1 x after p.2)
+    subst (λ (y : List ℕ). HasHeader (magic ++ (version_number v ∷ y)) x.0 x.1) (sym is) (read_count v p.0.0 p.0.1 x after p.2)
 
 read_version : (rest : List ℕ) (x : Spelled × List ℕ) → AreBytes rest → after_magic rest ≡ Ok x → HasHeader (magic ++ rest) x.0 x.1
 read_version rest x fits e =
     let p = bind_ok (version_at rest) after_version x e in
     let is = version_ok rest p.0.0 p.0.1 p.1 in
-    let after : AreBytes p.0.1 = AreBytes-after (version_byte p.0.0 ∷ []) p.0.1 (subst AreBytes is fits) in
+    let after : AreBytes p.0.1 = AreBytes-after (version_number p.0.0 ∷ []) p.0.1 (subst AreBytes is fits) in
     subst (λ (y : List ℕ). HasHeader (magic ++ y) x.0 x.1) (sym is) (read_hook p.0.0 p.0.1 x after p.2)
 
 pub header_ok : (bytes : List ℕ) (x : Spelled × List ℕ) → AreBytes bytes → header_at bytes ≡ Ok x → HasHeader bytes x.0 x.1

@@ -4,9 +4,10 @@ use Rattle.std.specs.Int.{w16, to_le_bytes}
 use Rattle.bq_bpf.specs.declared.shape.MapShape.{MapShape}
 use Rattle.bq_bpf.specs.declared.hook.Hook.{Hook}
 use Rattle.bq_bpf.specs.declared.hook.Version.{Version}
+use Rattle.bq_bpf.specs.Hooks.{version_number}
 use Rattle.bq_load.specs.declared.fault.LoadFault.{LoadFault}
 use Rattle.bq_load.specs.declared.fault.LoadFault.TheVariants as fault
-use Rattle.bq_load.specs.Layout.{magic, version_byte, hook_byte, shape_bytes, shapes_bytes, opening, Header, header_bytes, IsHeader}
+use Rattle.bq_load.specs.Layout.{magic, hook_byte, shape_bytes, shapes_bytes, opening, Header, header_bytes, IsHeader}
 
 -- fields that stand so far: none, the letters, the version too, the hook too, the number of maps and some shapes too, all of the header
 pub data Front : Type 0 where
@@ -26,8 +27,8 @@ IsGood _ = Unit {0}
 abbrev pub front_bytes : Front → List ℕ
 front_bytes Nothing = []
 front_bytes Marked = magic
-front_bytes (Versioned version) = magic ++ (version_byte version ∷ [])
-front_bytes (Hooked version hook) = magic ++ (version_byte version ∷ hook_byte hook ∷ [])
+front_bytes (Versioned version) = magic ++ (version_number version ∷ [])
+front_bytes (Hooked version hook) = magic ++ (version_number version ∷ hook_byte hook ∷ [])
 front_bytes (Mapped version hook count shapes) = opening version hook count ++ shapes_bytes shapes
 front_bytes (Headed h) = header_bytes h
 
@@ -43,7 +44,7 @@ next_width (Headed h) = 8 * h.slots
 -- the next field is whole and spells nothing that may stand there
 abbrev pub IsBadNext : Front → List ℕ → LoadFault → Type 0
 IsBadNext Nothing field fault.Magic = field ≢ magic
-IsBadNext Marked field fault.Version = (version : Version) → field ≢ version_byte version ∷ []
+IsBadNext Marked field fault.Version = (version : Version) → field ≢ version_number version ∷ []
 IsBadNext (Versioned _) field fault.Hook = (hook : Hook) → field ≢ hook_byte hook ∷ []
 IsBadNext (Hooked _ _) field fault.Shape = (count : ℕ) → count ≤ 8 → field ≢ to_le_bytes w16 count
 IsBadNext (Mapped _ _ count shapes) field fault.Shape = (length shapes < count) × ((shape : MapShape) → field ≢ shape_bytes shape)

@@ -7,15 +7,11 @@ use Rattle.bq_bpf.specs.declared.shape.MapShape.{MapShape}
 use Rattle.bq_bpf.specs.declared.hook.Hook.{Hook}
 use Rattle.bq_bpf.specs.declared.hook.Hook.TheVariants.{Place, Preempt, Pull}
 use Rattle.bq_bpf.specs.declared.hook.Version.{Version}
-use Rattle.bq_bpf.specs.declared.hook.Version.TheVariants.{First, Second}
+use Rattle.bq_bpf.specs.Hooks.{version_number}
 
 -- BQPI
 abbrev pub magic : List ℕ
 magic = 0x42 ∷ 0x51 ∷ 0x50 ∷ 0x49 ∷ []
-
-abbrev pub version_byte : Version → ℕ
-version_byte First = 1
-version_byte Second = 2
 
 abbrev pub hook_byte : Hook → ℕ
 hook_byte Place = 0
@@ -31,7 +27,7 @@ shapes_bytes shapes = flat_map shape_bytes shapes
 
 -- what stands before the shapes
 abbrev pub opening : Version → Hook → ℕ → List ℕ
-opening version hook count = magic ++ (version_byte version ∷ hook_byte hook ∷ to_le_bytes w16 count)
+opening version hook count = magic ++ (version_number version ∷ hook_byte hook ∷ to_le_bytes w16 count)
 
 -- what stands before the program
 pub record Header : Type 0 where

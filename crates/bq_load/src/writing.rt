@@ -4,7 +4,7 @@ ghost use Rattle.std.specs.Int.{w32, to_le_bytes};
 ghost use Rattle.bq_insn.specs.Appending.{StartsWith};
 ghost use Rattle.bq_insn.specs.Faults.{is_length};
 ghost use Rattle.bq_load.specs.Answers.{AppendsImage};
-ghost use Rattle.bq_load.specs.Layout.{version_byte, hook_byte, shape_bytes, shapes_bytes, opening};
+ghost use Rattle.bq_load.specs.Layout.{hook_byte, shape_bytes, shapes_bytes, opening};
 ghost use Rattle.bq_load.specs.Writing.{written};
 
 use crate::image::Image;
@@ -64,22 +64,13 @@ fn opening(version: Version, hook: Hook, count: u16) -> [u8; 8]
         b'Q',
         b'P',
         b'I',
-        version_byte(version),
+        version.number(),
         hook_byte(hook),
         0,
         0,
     ];
     LittleEndian::write_u16(&mut bytes[6..], count);
     bytes
-}
-
-fn version_byte(version: Version) -> u8
-    ensures { result ≡ version_byte version }
-{
-    match version {
-        Version::First => 1,
-        Version::Second => 2,
-    }
 }
 
 fn hook_byte(hook: Hook) -> u8

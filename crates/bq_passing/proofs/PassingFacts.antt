@@ -29,7 +29,8 @@ use Rattle.bq_parts.specs.World.{World, processor, count_in, with_processor}
 use Rattle.bq_parts.specs.Choices.{Regime, Decision, SettlesBy, SettlesPreempt, policies}
 use Rattle.bq_parts.specs.Shares.{Ticks, Blocks, after_time}
 use Rattle.bq_parts.specs.Steps.{WorldStep}
-use Rattle.bq_passing.specs.Passing.{after_tick, after_block, DisciplinePasses, CfsPasses}
+use Rattle.bq_fair.specs.Histories.{ticked}
+use Rattle.bq_passing.specs.Passing.{after_block, DisciplinePasses, CfsPasses}
 
 -- The discipline's own answer
 
@@ -59,7 +60,7 @@ own_decision s cpu p (Some u) settled h e =
 -- Of the shares
 
 tick_share_leaves : (d : Discipline) (p q : Processor) (cpu now : ℕ) (calls : List Asked) (run : Option ℕ) (steps : ℕ) →
-    Ticks (policies d) cpu now p calls (Ticked run who.Discipline steps) q → q.running ≡ after_tick d p.running now
+    Ticks (policies d) cpu now p calls (Ticked run who.Discipline steps) q → q.running ≡ ticked d p.running now
 tick_share_leaves d p q cpu now calls run steps h =
     let c = after_time d now p in
     let by : h.0.by ≡ who.Discipline = let it = h.3 in cc in
@@ -83,7 +84,7 @@ written : (w w' v : World) (cpu : ℕ) (q : Processor) (o : Option Refusal) → 
 written w w' v cpu q o h e f = ap (λ (u : World). processor u cpu) e ∙ f ∙ there w cpu q (in_range (count_in w) cpu (nat_le (count_in w) cpu) o refl h)
 
 tick_leaves : (d : Discipline) (w w' : World) (cpu now : ℕ) (calls : List Asked) (run : Option ℕ) (steps : ℕ) →
-    WorldStep (policies d) w (Tick cpu now) calls (Ok (Ticked run who.Discipline steps)) w' → (processor w' cpu).running ≡ after_tick d (processor w cpu).running now
+    WorldStep (policies d) w (Tick cpu now) calls (Ok (Ticked run who.Discipline steps)) w' → (processor w' cpu).running ≡ ticked d (processor w cpu).running now
 tick_leaves d w w' cpu now calls run steps h =
     let k = h.1 in
     ap (λ (x : Processor). x.running) (written w w' _ cpu k.0 None h.0 k.2 refl) ∙ tick_share_leaves d (processor w cpu) k.0 cpu now calls run steps k.1

@@ -1,7 +1,8 @@
 -- What a Tick and a Block of the world leave at their processor, where the discipline alone decides.
 use Rattle.std.specs.Prelude.{◌≡◌, ℕ, ◌<◌, List, Option, None, Result, Ok}
 use Rattle.bq_disc.specs.Discipline.{Discipline}
-use Rattle.bq_disc.specs.OneProcessor.{Running, charge, start, decided, own_preempt}
+use Rattle.bq_disc.specs.OneProcessor.{Running, charge, start}
+use Rattle.bq_fair.specs.Histories.{ticked}
 use Rattle.bq_cfs.specs.Cfs.{cfs}
 use Rattle.bq_cfs.specs.Spread.{passed, Tick as TickAt, Block as BlockAt}
 use Rattle.bq_bpf.specs.declared.board.Call.{Call as Asked}
@@ -17,10 +18,6 @@ use Rattle.bq_parts.specs.Choices.{policies}
 use Rattle.bq_parts.specs.Shares.{Ticks, Blocks}
 use Rattle.bq_parts.specs.Steps.{WorldStep}
 
--- its time passes, and the discipline's own answer says whether the current task gives way
-abbrev pub after_tick : Discipline → Running → ℕ → Running
-after_tick d p now = let c = charge d p now in decided d c c.current (own_preempt d c.queue c.current)
-
 -- its time passes, the current task goes, and the queue's choice runs
 abbrev pub after_block : Discipline → Running → ℕ → Running
 after_block d p now = start d (record (charge d p now) { current = None })
@@ -29,11 +26,11 @@ after_block d p now = start d (record (charge d p now) { current = None })
 -- any parts of one
 pub record DisciplinePasses : Type 0 where
   pub tick_share : (d : Discipline) (p q : Processor) (cpu now : ℕ) (calls : List Asked) (run : Option ℕ) (steps : ℕ) →
-      Ticks (policies d) cpu now p calls (Ticked run who.Discipline steps) q → q.running ≡ after_tick d p.running now
+      Ticks (policies d) cpu now p calls (Ticked run who.Discipline steps) q → q.running ≡ ticked d p.running now
   pub block_share : (d : Discipline) (p q : Processor) (cpu now : ℕ) (seats seats' : List LobbyEntry) (reply : Reply) →
       Blocks d cpu now p seats (Ok reply) q seats' → q.running ≡ after_block d p.running now
   pub tick : (d : Discipline) (w w' : World) (cpu now : ℕ) (calls : List Asked) (run : Option ℕ) (steps : ℕ) →
-      WorldStep (policies d) w (Tick cpu now) calls (Ok (Ticked run who.Discipline steps)) w' → (processor w' cpu).running ≡ after_tick d (processor w cpu).running now
+      WorldStep (policies d) w (Tick cpu now) calls (Ok (Ticked run who.Discipline steps)) w' → (processor w' cpu).running ≡ ticked d (processor w cpu).running now
   pub block : (d : Discipline) (w w' : World) (cpu now : ℕ) (calls : List Asked) (task : ℕ) (run : Option ℕ) →
       WorldStep (policies d) w (Block cpu now) calls (Ok (Went task run)) w' → (processor w' cpu).running ≡ after_block d (processor w cpu).running now
 

@@ -1,2 +1,1 @@
 pub mod HeadLemmas
-pub mod WordLemmas

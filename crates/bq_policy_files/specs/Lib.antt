@@ -4,4 +4,3 @@ pub mod Marks
 pub mod Naming
 pub mod Settled
 pub mod Taking
-pub mod Words

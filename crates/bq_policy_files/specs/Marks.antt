@@ -2,9 +2,9 @@
 use Rattle.std.specs.Prelude.{◌≡◌, ℕ, Bool, true, false, ◌||◌, List, [], ◌∷◌, drop, Option, Some, None, if◌then◌else◌, codes, nat_eq}
 use Rattle.std.specs.List.{starts_with, flat_map}
 use Rattle.std.specs.Str.{bytes_eq}
+use Rattle.bq_words.specs.Words.{words}
 use Rattle.bq_policy_files.specs.declared.mark.Key.{Key}
 use Rattle.bq_policy_files.specs.declared.mark.Key.TheVariants as key
-use Rattle.bq_policy_files.specs.Words.{words}
 
 abbrev pub key_word : Key → List ℕ
 key_word key.Hook = codes "hook"

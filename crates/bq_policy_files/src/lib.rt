@@ -11,7 +11,6 @@ mod mark;
 mod policy;
 mod reading;
 mod settled;
-mod words;
 
 pub use fault::{HeadCause, HeadFault, PolicyFault};
 pub use head::Head;

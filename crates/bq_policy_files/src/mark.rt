@@ -1,11 +1,11 @@
 //! What one line of a text says of its program.
 ghost use Rattle.std.specs.Prelude.{◌≡◌, MatchOption, false};
 ghost use Rattle.std.specs.Str.{bytes_eq};
+ghost use Rattle.bq_words.specs.Words.{words};
 ghost use Rattle.bq_policy_files.specs.Heads.{IsMark};
 ghost use Rattle.bq_policy_files.specs.Marks.{is_key, key_word, mark_words};
-ghost use Rattle.bq_policy_files.specs.Words.{words};
 
-use crate::words::next_word;
+use bq_words::next_word;
 
 /// What a mark may speak of.
 #[derive(Clone, Copy, Debug, PartialEq, Eq)]

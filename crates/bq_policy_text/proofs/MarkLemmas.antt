@@ -16,6 +16,8 @@ use Rattle.bq_bpf.specs.declared.hook.Hook.{Hook}
 use Rattle.bq_bpf.specs.declared.hook.Hook.TheVariants.{Place, Preempt, Pull}
 use Rattle.bq_bpf.specs.declared.hook.Version.{Version}
 use Rattle.bq_bpf.specs.declared.hook.Version.TheVariants.{First, Second}
+use Rattle.bq_words.specs.Words.{is_space, words}
+use Rattle.bq_words.proofs.WordLemmas.{words-blank, words-word}
 use Rattle.bq_asm.specs.Lines.{Blank, line_said}
 use Rattle.bq_asm.proofs.DigitLemmas.{is_digit, list_all-append, list_all-weaker, decimal_digits}
 use Rattle.bq_policy_files.specs.declared.head.Head.{Head}
@@ -23,8 +25,6 @@ use Rattle.bq_policy_files.specs.declared.mark.Key.TheVariants as key
 use Rattle.bq_policy_files.specs.declared.policy.Policy.{Policy}
 use Rattle.bq_policy_files.specs.Heads.{SaysHead}
 use Rattle.bq_policy_files.specs.Marks.{key_word, mark_words}
-use Rattle.bq_policy_files.specs.Words.{is_blank, words}
-use Rattle.bq_policy_files.proofs.WordLemmas.{words-blank, words-word}
 use Rattle.bq_policy_files.proofs.HeadLemmas.{says_nothing, says_mark, says_no_mark}
 use Rattle.bq_policy_text.specs.Marks.{AreMarks, shape_text, more_maps, maps_mark, format_mark}
 use Rattle.bq_policy_text.proofs.BodyLemmas.{is_clean}
@@ -71,7 +71,7 @@ marks_ended p marks are =
 
 -- a byte of a word of a line
 abbrev is_plain : ℕ → Bool
-is_plain b = not (is_blank b) && is_clean b
+is_plain b = not (is_space b) && is_clean b
 
 digit_plain : (b : ℕ) → is_digit b ≡ true → is_plain b ≡ true
 digit_plain b h =
@@ -94,11 +94,11 @@ more_plain (s ∷ shapes) = list_all-append is_plain (shape_text s) (more_maps s
 text_plain : (first : MapShape) (rest : List MapShape) → list_all is_plain (shapes_text first rest) ≡ true
 text_plain first rest = list_all-append is_plain (shape_text first) (more_maps rest) (shape_plain first) (more_plain rest)
 
-no_blank : (w : List ℕ) → list_all is_plain w ≡ true → AllByRecursion (λ b. is_blank b ≡ false) w
+no_blank : (w : List ℕ) → list_all is_plain w ≡ true → AllByRecursion (λ b. is_space b ≡ false) w
 no_blank [] h = tt
 no_blank (b ∷ w) h =
     let parts = and_parts (is_plain b) (list_all is_plain w) h in
-    (not-true (is_blank b) (and_parts (not (is_blank b)) (is_clean b) parts.0).0, no_blank w parts.1)
+    (not-true (is_space b) (and_parts (not (is_space b)) (is_clean b) parts.0).0, no_blank w parts.1)
 
 hook_clean : (h : Hook) → list_all is_clean (hook_line h) ≡ true
 hook_clean Place = refl
@@ -108,7 +108,7 @@ hook_clean Pull = refl
 maps_clean : (shapes : List MapShape) → AreClean (maps_lines shapes)
 maps_clean [] = tt
 maps_clean (first ∷ rest) =
-    (list_all-weaker is_plain is_clean (λ b k. (and_parts (not (is_blank b)) (is_clean b) k).1) (shapes_text first rest) (text_plain first rest), tt)
+    (list_all-weaker is_plain is_clean (λ b k. (and_parts (not (is_space b)) (is_clean b) k).1) (shapes_text first rest) (text_plain first rest), tt)
 
 -- the lines of marks are clean
 pub marks_clean : (h : Hook) (shapes : List MapShape) (v : Version) → AreClean (mark_lines h shapes v)
@@ -139,10 +139,10 @@ maps_says : (first : MapShape) (rest : List MapShape) → mark_words (codes ";@ 
 maps_says first rest =
     let t = shapes_text first rest in
     let some : 0 < length t = text_some first rest in
-    let plain = All-from_recursion (λ b. is_blank b ≡ false) t (no_blank t (text_plain first rest)) in
-    ap (λ ws. Some ws) (words-blank 32 (codes "maps " ++ t) refl
-    ∙ words-word (codes "maps") (32 ∷ t) (omega arith) (All-from_recursion (λ b. is_blank b ≡ false) (codes "maps") (refl, (refl, (refl, (refl, tt))))) refl
-    ∙ ap (λ ws. codes "maps" ∷ ws) (words-blank 32 t refl ∙ ap words (sym (append-nil t)) ∙ words-word t [] some plain tt))
+    let plain = All-from_recursion (λ b. is_space b ≡ false) t (no_blank t (text_plain first rest)) in
+    ap (λ ws. Some ws) (words-blank is_space 32 (codes "maps " ++ t) refl
+    ∙ words-word is_space (codes "maps") (32 ∷ t) (omega arith) (All-from_recursion (λ b. is_space b ≡ false) (codes "maps") (refl, (refl, (refl, (refl, tt))))) refl
+    ∙ ap (λ ws. codes "maps" ∷ ws) (words-blank is_space 32 t refl ∙ ap words (sym (append-nil t)) ∙ words-word is_space t [] some plain tt))
 
 -- what was said, and what one line more says
 abbrev pub head_of : (h : Option Hook) (maps : Option (Vec MapShape Global)) (v : Option Version) → ForSome maps (λ shapes. length shapes.items ≤ 8) → Head

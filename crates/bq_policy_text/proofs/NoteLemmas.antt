@@ -10,10 +10,10 @@ use Rattle.bq_insn.specs.declared.Insn.{Insn}
 use Rattle.bq_insn.specs.Laws.{AllFit}
 use Rattle.bq_insn.specs.Slots.{slots_of}
 use Rattle.bq_insn.specs.Spelling.{insn_bytes, is_insn, slot_count}
+use Rattle.bq_words.proofs.WordLemmas.{words-blank}
 use Rattle.bq_asm.specs.Lines.{is_blank, is_comment, line_of, line_said, words}
 use Rattle.bq_asm.proofs.AssembledLemmas.{slot_count-cons}
 use Rattle.bq_asm.proofs.DigitLemmas.{list_all-append}
-use Rattle.bq_asm.proofs.WordLemmas.{words-blank}
 use Rattle.bq_policy_text.specs.Listed.{blanks_to, line_body, noted_line, noted_text}
 use Rattle.bq_policy_text.proofs.BodyLemmas.{is_clean, is_inner, body_inner, decimal_inner, inner_clean}
 use Rattle.bq_policy_text.proofs.LineLemmas.{AreClean, ended}
@@ -50,7 +50,7 @@ words_append xs ys =
 
 no_words : (n : ℕ) → words (replicate n 32) ≡ []
 no_words zero = refl
-no_words (suc n) = words-blank 32 (replicate n 32) refl ∙ no_words n
+no_words (suc n) = words-blank is_blank 32 (replicate n 32) refl ∙ no_words n
 
 -- blanks behind words say nothing
 words_blanks : (xs : List ℕ) (n : ℕ) → words (xs ++ replicate n 32) ≡ words xs

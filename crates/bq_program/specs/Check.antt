@@ -3,6 +3,7 @@ use Rattle.std.specs.Prelude.{◌≡◌, ◌≢◌, ℕ, Bool, true, false, List
 use Rattle.std.specs.Fmt.{decimal}
 use Rattle.bq_verify.specs.Accepted.{Accepted}
 use Rattle.bq_bpf.specs.Hooks.{hook_word}
+use Rattle.bq_bpf.specs.declared.hook.Hook.{Hook}
 use Rattle.bq_load.specs.declared.fault.LoadFault.{LoadFault}
 use Rattle.bq_load.specs.declared.fault.LoadFault.TheVariants as fault
 use Rattle.bq_load.specs.Answers.{Loads, IsUnloaded}
@@ -10,13 +11,17 @@ use Rattle.bq_load.specs.Naming.{fault_text}
 use Rattle.bq_program.specs.Refusals.{refusal}
 use Rattle.bq_program.specs.HexText.{SpellsBytes, IsNoHex}
 
+-- the line of a program that is accepted: its hook and its budget
+abbrev pub accepted_line : Hook → ℕ → List ℕ
+accepted_line hook budget = codes "accepted " ++ (hook_word hook ++ (codes " budget " ++ (decimal budget ++ codes "\n")))
+
 -- the bytes are an image whose program is accepted: its hook, and its budget, which is the longest path
 pub record IsAcceptedImage (text written : List ℕ) : Type 0 where
   pub bytes : List ℕ
   pub spells : SpellsBytes text bytes
   pub program : Accepted
   pub loads : Loads bytes program
-  pub line : written ≡ codes "accepted " ++ (hook_word program.hook ++ (codes " budget " ++ (decimal program.budget ++ codes "\n")))
+  pub line : written ≡ accepted_line program.hook program.budget
 
 -- no program is loaded from the bytes, for this fault, which is not want of memory
 abbrev pub IsFaultyImage : List ℕ → List ℕ → Type 0

@@ -3,11 +3,11 @@ ghost use Rattle.std.specs.Prelude.{◌≡◌, ◌≢◌, IfOk, OnOk};
 ghost use Rattle.std.specs.String.{string_bytes};
 ghost use Rattle.bq_load.specs.declared.fault.LoadFault.TheVariants.{OutOfMemory};
 ghost use Rattle.bq_load.specs.Naming.{fault_text};
-ghost use Rattle.bq_program.specs.Check.{CheckWrites};
+ghost use Rattle.bq_program.specs.Check.{CheckWrites, accepted_line};
 
 use crate::Answer;
 use crate::hex_text::bytes_of;
-use bq_load::{LoadFault, Numbered, load};
+use bq_load::{Hook, LoadFault, Numbered, load};
 use std::alloc::{AllocError, Global};
 
 /// The hook and the budget of the image whose bytes the hex text spells; else why it is refused. The budget is the
@@ -20,15 +20,22 @@ pub fn checked(alloc: Global, hex: &[u8]) -> Result<Answer, AllocError>
     };
     match load(alloc, bytes.as_slice()) {
         Ok(program) => {
-            let hook = program.hook().word();
-            let budget = program.budget();
-            Ok(Answer::accepted(format!(in alloc; "accepted {hook} budget {budget}\n")?))
+            let line = accepted_line(alloc, program.hook(), program.budget())?;
+            Ok(Answer::accepted(line))
         }
         Err(fault) => {
             let reason = fault_text(alloc, fault)?;
             Answer::refused(alloc, reason.as_str())
         }
     }
+}
+
+/// The line that tells of a program that is accepted: its hook and its budget.
+pub fn accepted_line(alloc: Global, hook: Hook, budget: u32) -> Result<String, AllocError>
+    ensures { IfOk result (λ text. string_bytes text ≡ accepted_line hook budget) }
+{
+    let hook = hook.word();
+    format!(in alloc; "accepted {hook} budget {budget}\n")
 }
 
 /// How a fault is named: the letter L and its number, and for a fault of the program its cause and its slot. Want of

@@ -16,7 +16,7 @@ mod shapes_text;
 pub use answer::Answer;
 pub use assembling::assembled;
 pub use bq_load::{Hook, Version};
-pub use checking::{checked, fault_text};
+pub use checking::{accepted_line, checked, fault_text};
 pub use form::Form;
 pub use hex_text::bytes_of;
 pub use image_form::ImageForm;

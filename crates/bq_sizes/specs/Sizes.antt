@@ -6,6 +6,11 @@ use Rattle.bq_sizes.specs.declared.rule.Rule.TheVariants.{Cfs, Eevdf}
 use Rattle.bq_sizes.specs.declared.processor_count.ProcessorCount.{ProcessorCount}
 use Rattle.bq_sizes.specs.declared.processor_count.ProcessorCount.TheVariants.{One, Two, Four, Eight, Sixteen, ThirtyTwo, SixtyFour}
 
+-- the word of a rule
+abbrev pub rule_word : Rule → List ℕ
+rule_word Cfs = codes "cfs"
+rule_word Eevdf = codes "eevdf"
+
 -- the rule that a word names
 abbrev pub rule_of : List ℕ → Option Rule
 rule_of word = if bytes_eq word (codes "cfs") then Some Cfs else if bytes_eq word (codes "eevdf") then Some Eevdf else None

@@ -1,6 +1,6 @@
 //! The rules by their words.
 ghost use Rattle.std.specs.Prelude.{◌≡◌};
-ghost use Rattle.bq_sizes.specs.Sizes.{rule_of};
+ghost use Rattle.bq_sizes.specs.Sizes.{rule_of, rule_word};
 
 /// How processors choose among their tasks.
 #[derive(Clone, Copy, Debug, PartialEq, Eq)]
@@ -12,6 +12,16 @@ pub enum Rule {
 }
 
 impl Rule {
+    /// The word that names it: `cfs` or `eevdf`.
+    pub fn word(self) -> &'static str
+        ensures { result.now ≡ rule_word self }
+    {
+        match self {
+            Rule::Cfs => "cfs",
+            Rule::Eevdf => "eevdf",
+        }
+    }
+
     /// The rule that a word names: `cfs` or `eevdf`.
     pub fn of_word(word: &[u8]) -> Option<Rule>
         ensures { result ≡ rule_of word.now }

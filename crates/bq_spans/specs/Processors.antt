@@ -1,7 +1,8 @@
 -- Sets of processors as words, and as bits: bit k is processor k.
 use Rattle.std.specs.Prelude.{ℕ, Bool, ◌==◌, ◌+◌, ◌-◌, ◌^◌, nat_lt, List, [], ◌∷◌, take, drop, position, bit_or, Option, Some, None, if◌then◌else◌, option_and_then}
 use Rattle.std.specs.List.{slice_split}
-use Rattle.bq_lines.specs.Numbers.{below, processor_of}
+use Rattle.bq_words.specs.Numbers.{below}
+use Rattle.bq_lines.specs.Numbers.{processor_of}
 
 -- a processor's number, which is below 64
 abbrev pub processor_below : List ℕ → Option ℕ

@@ -4,7 +4,7 @@ use Rattle.std.specs.List.{AllByRecursion, list_all}
 use Rattle.std.proofs.lemmas.Bool.{and_parts}
 use Rattle.std.proofs.lemmas.Bool.Decides.{nat_tests}
 use Rattle.std.proofs.lemmas.List.Elements.{All-from_recursion}
-use Rattle.bq_lines.specs.Words.{is_allowed}
+use Rattle.bq_lines.specs.Bytes.{is_allowed}
 use Rattle.bq_spelling.specs.Spelling.{asking_line, event_words, machine_line}
 use Rattle.bq_spelling.specs.Laws.{AreLines, EventsAreRead, MachinesAreRead, IsWholeLine}
 use Rattle.bq_spelling.proofs.PlainWords.{allowed-spaced}

@@ -8,7 +8,8 @@ use Rattle.std.specs.Fmt.{signed_decimal}
 use Rattle.std.specs.Str.Parse.{digits_value, AllDigits}
 use Rattle.std.proofs.lemmas.Bool.Decides.{nat_tests}
 use Rattle.std.proofs.lemmas.Fmt.{decimal_is_IsNumeral, length-decimal-le}
-use Rattle.bq_lines.specs.Numbers.{number_of, below, decimal_of, processor_of, task_of, mask_of, nice_of}
+use Rattle.bq_words.specs.Numbers.{number_of, below}
+use Rattle.bq_lines.specs.Numbers.{decimal_of, processor_of, task_of, mask_of, nice_of}
 use Rattle.bq_spelling.proofs.PlainWords.{is_plain, IsPlain}
 
 -- a digit is a plain byte

@@ -7,7 +7,8 @@ use Rattle.std.proofs.lemmas.List.Splits.{slice_split_at, slice_split_none}
 use Rattle.std.proofs.lemmas.List.Folds.{list_all-append}
 use Rattle.std.proofs.lemmas.Bool.Decides.{nat_tests}
 use Rattle.std.proofs.lemmas.Bool.{and_parts}
-use Rattle.bq_lines.specs.Words.{words, is_blank, is_allowed}
+use Rattle.bq_words.specs.Words.{words, is_space}
+use Rattle.bq_lines.specs.Bytes.{is_allowed}
 use Rattle.bq_spelling.specs.Spelling.{spaced_words}
 
 -- printable ASCII, and no space
@@ -19,8 +20,8 @@ pub record IsPlain (w : List ℕ) : Type 0 where
   pub some : 0 < length w
   pub each : list_all is_plain w ≡ true
 
-plain_not_blank : (b : ℕ) → is_plain b ≡ true → is_blank b ≡ false
-plain_not_blank b h = grind (arith, nat_tests)
+plain_no_space : (b : ℕ) → is_plain b ≡ true → is_space b ≡ false
+plain_no_space b h = grind (arith, nat_tests)
 
 plain_allowed : (b : ℕ) → is_plain b ≡ true → is_allowed b ≡ true
 plain_allowed b h = grind (arith, nat_tests)
@@ -33,8 +34,8 @@ of_each : (P : ℕ → Type 0) → ((b : ℕ) → is_plain b ≡ true → P b) �
 of_each P along [] h = tt
 of_each P along (b ∷ w) h = let parts = and_parts (is_plain b) (list_all is_plain w) h in (along b parts.0, of_each P along w parts.1)
 
-no_blank : (w : List ℕ) → IsPlain w → All (λ b. is_blank b ≡ false) w
-no_blank w h = All-from_recursion (λ b. is_blank b ≡ false) w (of_each (λ b. is_blank b ≡ false) plain_not_blank w h.each)
+no_space : (w : List ℕ) → IsPlain w → All (λ b. is_space b ≡ false) w
+no_space w h = All-from_recursion (λ b. is_space b ≡ false) w (of_each (λ b. is_space b ≡ false) plain_no_space w h.each)
 
 passes : (p : ℕ → Bool) (w : List ℕ) → AllByRecursion (λ b. p b ≡ true) w → list_all p w ≡ true
 passes p [] h = refl
@@ -48,11 +49,11 @@ kept_word w ws some = let e : ltb 0 (length w) ≡ true = grind (arith, nat_test
 
 -- a plain word and what follows a space after it
 words-plain : (w rest : List ℕ) → IsPlain w → words (w ++ 32 ∷ rest) ≡ w ∷ words rest
-words-plain w rest h = ap (filter (λ x. ltb 0 (length x))) (slice_split_at is_blank w 32 rest (no_blank w h) refl) ∙ kept_word w (words rest) h.some
+words-plain w rest h = ap (filter (λ x. ltb 0 (length x))) (slice_split_at is_space w 32 rest (no_space w h) refl) ∙ kept_word w (words rest) h.some
 
 -- a plain word alone
 words-last : (w : List ℕ) → IsPlain w → words w ≡ w ∷ []
-words-last w h = ap (filter (λ x. ltb 0 (length x))) (slice_split_none is_blank w (no_blank w h)) ∙ kept_word w [] h.some
+words-last w h = ap (filter (λ x. ltb 0 (length x))) (slice_split_none is_space w (no_space w h)) ∙ kept_word w [] h.some
 
 -- the words of a line of plain words are these
 pub words-spaced : (ws : List (List ℕ)) → AllByRecursion IsPlain ws → words (spaced_words ws) ≡ ws

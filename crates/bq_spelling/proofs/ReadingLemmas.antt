@@ -11,7 +11,7 @@ use Rattle.bq_bpf.specs.declared.hook.Hook.{Hook}
 use Rattle.bq_bpf.specs.declared.hook.Hook.TheVariants as hooks
 use Rattle.bq_parts.specs.declared.event.Event.{Event}
 use Rattle.bq_parts.specs.declared.event.Event.TheVariants.{Admit, Retire, Draw, Install, BeginWake, EndWake, Drain, Tick, Block, Pull}
-use Rattle.bq_sizes.specs.Sizes.{processors_in, rule_of, size_numbered}
+use Rattle.bq_sizes.specs.Sizes.{processors_in, rule_of, rule_word, size_numbered}
 use Rattle.bq_sizes.specs.declared.rule.Rule.{Rule}
 use Rattle.bq_sizes.specs.declared.rule.Rule.TheVariants.{Cfs, Eevdf}
 use Rattle.bq_sizes.specs.declared.processor_count.ProcessorCount.{ProcessorCount}
@@ -20,7 +20,7 @@ use Rattle.bq_lines.specs.Lines.{reading_of, reading_of_words, said, size_of, in
 use Rattle.bq_lines.specs.declared.command.Command.{Command}
 use Rattle.bq_lines.specs.declared.command.Command.TheVariants.{Does, Machine}
 use Rattle.bq_lines.specs.declared.command.Reading.TheVariants.{Says}
-use Rattle.bq_spelling.specs.Spelling.{HasFittingNumbers, event_words, image_word, rule_word, spaced_words}
+use Rattle.bq_spelling.specs.Spelling.{HasFittingNumbers, event_words, image_word, spaced_words}
 use Rattle.bq_spelling.specs.Laws.{CanStandInLine, asked, installing}
 use Rattle.bq_spelling.proofs.HexWords.{plain_hex, hex_not_none}
 use Rattle.bq_spelling.proofs.NumberWords.{plain_decimal, plain_signed, short_decimal, short_signed, decimal_of-decimal, processor_of-decimal, task_of-decimal, mask_of-decimal, nice_of-signed}

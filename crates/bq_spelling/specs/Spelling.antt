@@ -8,9 +8,8 @@ use Rattle.hex.specs.Hex.{encode_lower}
 use Rattle.bq_bpf.specs.Hooks.{hook_word}
 use Rattle.bq_parts.specs.declared.event.Event.{Event}
 use Rattle.bq_parts.specs.declared.event.Event.TheVariants.{Admit, Retire, Draw, Install, BeginWake, EndWake, Drain, Tick, Block, Pull}
-use Rattle.bq_sizes.specs.Sizes.{processors_in}
+use Rattle.bq_sizes.specs.Sizes.{processors_in, rule_word}
 use Rattle.bq_sizes.specs.declared.rule.Rule.{Rule}
-use Rattle.bq_sizes.specs.declared.rule.Rule.TheVariants.{Cfs, Eevdf}
 use Rattle.bq_sizes.specs.declared.processor_count.ProcessorCount.{ProcessorCount}
 
 -- words, a space between each two
@@ -38,11 +37,6 @@ event_words image (Pull c from now) = codes "pull" ∷ decimal c ∷ decimal fro
 -- the line that asks for an event, without what ends it
 abbrev pub asking_line : Option (List ℕ) → Event → List ℕ
 asking_line image event = spaced_words (event_words image event)
-
--- the word of a rule
-abbrev pub rule_word : Rule → List ℕ
-rule_word Cfs = codes "cfs"
-rule_word Eevdf = codes "eevdf"
 
 -- the line that asks for a machine
 abbrev pub machine_line : Rule → ProcessorCount → List ℕ

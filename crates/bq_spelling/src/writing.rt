@@ -2,7 +2,7 @@
 ghost use Rattle.std.specs.Prelude.{◌≡◌, ◌++◌, ◌∷◌, [], ℕ, List, OnOk, string_bytes};
 ghost use Rattle.std.specs.Borrow.{Bor};
 ghost use Rattle.std.specs.Option.{option_map};
-ghost use Rattle.bq_spelling.specs.Spelling.{HasFittingNumbers, asking_line, image_word, machine_line, rule_word};
+ghost use Rattle.bq_spelling.specs.Spelling.{HasFittingNumbers, asking_line, image_word, machine_line};
 
 use bq_core::Event;
 use bq_sizes::{ProcessorCount, Rule};
@@ -82,17 +82,7 @@ fn write_image(alloc: Global, text: &mut String, image: Option<&[u8]>) -> Result
 pub fn write_machine(text: &mut String, rule: Rule, size: ProcessorCount) -> Result<(), AllocError>
     ensures { OnOk result (string_bytes text.new ≡ string_bytes text.old ++ (machine_line rule size ++ 10 ∷ [])) }
 {
-    let rule = word(rule);
+    let rule = rule.word();
     let processors = size.processors();
     write!(text, "machine {rule} {processors}\n")
-}
-
-/// The word that names a rule.
-fn word(rule: Rule) -> &'static str
-    ensures { result.now ≡ rule_word rule }
-{
-    match rule {
-        Rule::Cfs => "cfs",
-        Rule::Eevdf => "eevdf",
-    }
 }

@@ -1,7 +1,8 @@
 //! The words after `simulate`.
 
-use bq_timeline::{Words, WordsFault};
-use clap::error::ErrorKind;
+use bq_core::Hook;
+use bq_options::{WordsFault, option, texts, word};
+use bq_timeline::{Words, shown_words, with_shown_options};
 use clap::{Arg, ArgAction, ArgMatches, Command};
 use std::alloc::{AllocError, Global};
 
@@ -29,7 +30,7 @@ pub fn study_words<'a>(alloc: Global, given: &'a [&'a str]) -> Result<StudyWords
     let command = command(alloc)?;
     match command.try_get_matches_from(given) {
         Ok(matches) => Ok(found(alloc, &matches)?),
-        Err(error) => Err(refusal(alloc, &error)),
+        Err(error) => Err(WordsFault::of(alloc, &error)),
     }
 }
 
@@ -40,9 +41,9 @@ fn found(alloc: Global, matches: &ArgMatches<'_>) -> Result<StudyWords, AllocErr
     let duration = word(alloc, matches, "duration")?;
     let seed = word(alloc, matches, "seed")?;
     let seeds = word(alloc, matches, "seeds")?;
-    let place = word(alloc, matches, "place")?;
-    let preempt = word(alloc, matches, "preempt")?;
-    let pull = word(alloc, matches, "pull")?;
+    let place = word(alloc, matches, Hook::Place.word())?;
+    let preempt = word(alloc, matches, Hook::Preempt.word())?;
+    let pull = word(alloc, matches, Hook::Pull.word())?;
     let against = all_words(alloc, matches, "against")?;
     let shown = shown_words(alloc, matches)?;
     Ok(StudyWords {
@@ -57,37 +58,6 @@ fn found(alloc: Global, matches: &ArgMatches<'_>) -> Result<StudyWords, AllocErr
         against,
         shown,
     })
-}
-
-/// The words that say how it is shown.
-fn shown_words(alloc: Global, matches: &ArgMatches<'_>) -> Result<Words, AllocError> {
-    let file = word(alloc, matches, "file")?;
-    let form = word(alloc, matches, "as")?;
-    let from = word(alloc, matches, "from")?;
-    let to = word(alloc, matches, "to")?;
-    let cpus = word(alloc, matches, "cpus")?;
-    let tasks = word(alloc, matches, "tasks")?;
-    let width = word(alloc, matches, "width")?;
-    Ok(Words {
-        file,
-        form,
-        from,
-        to,
-        cpus,
-        tasks,
-        width,
-    })
-}
-
-fn word(
-    alloc: Global,
-    matches: &ArgMatches<'_>,
-    option: &str,
-) -> Result<Option<String>, AllocError> {
-    match matches.get_str(option) {
-        None => Ok(None),
-        Some(word) => Ok(Some(String::from_str(alloc, word)?)),
-    }
 }
 
 /// The words of an option that may be given several times.
@@ -105,32 +75,22 @@ fn all_words(
     Ok(words)
 }
 
-/// The fault of words that clap refuses, with its text.
-fn refusal(alloc: Global, error: &clap::Error) -> WordsFault {
-    if error.kind() == ErrorKind::OutOfMemory {
-        return WordsFault::OutOfMemory;
-    }
-    match error.to_string(alloc) {
-        Ok(text) => WordsFault::Words(text),
-        Err(_) => WordsFault::OutOfMemory,
-    }
-}
-
 /// The options, as clap takes them. The words come without the program's name and `simulate`.
 fn command<'a>(alloc: Global) -> Result<Command<'a>, AllocError> {
-    let command = Command::new(alloc, "simulate").about(
-        "Runs a workload and shows its schedule, or writes it as a trace",
-    );
+    let command = Command::new(alloc, "simulate").about(texts::SIMULATE);
     let file = Arg::new(alloc, "file")
         .value_name("FILE")
         .help("The workload; standard input without it, or as -");
     let command = command.arg(file)?;
     let command = machine_options(alloc, command)?;
     let command = policy_options(alloc, command)?;
-    let command = shown_options(alloc, command)?;
+    let command = with_shown_options(alloc, command, FORMS)?;
     let command = command.bin_name("bqsim simulate")?;
     Ok(command.no_binary_name(true))
 }
+
+/// What `--as` may name.
+const FORMS: &str = "report (without it), trace, map, timehist, why, svg, perfetto, csv or json";
 
 /// What stands in the place of the workload's own machine.
 fn machine_options<'a>(alloc: Global, command: Command<'a>) -> Result<Command<'a>, AllocError> {
@@ -150,39 +110,16 @@ fn machine_options<'a>(alloc: Global, command: Command<'a>) -> Result<Command<'a
 
 /// What stands at the hooks.
 fn policy_options<'a>(alloc: Global, command: Command<'a>) -> Result<Command<'a>, AllocError> {
-    let place = option(alloc, "place", "POLICY").help(
+    let place = option(alloc, Hook::Place.word(), "POLICY").help(
         "A policy's file: an image, its hex, or assembler text with its head; at every processor",
     );
     let command = command.arg(place)?;
-    let preempt = option(alloc, "preempt", "POLICY").help("The same");
+    let preempt = option(alloc, Hook::Preempt.word(), "POLICY").help("The same");
     let command = command.arg(preempt)?;
-    let pull = option(alloc, "pull", "POLICY").help("The same");
+    let pull = option(alloc, Hook::Pull.word(), "POLICY").help("The same");
     let command = command.arg(pull)?;
     let against = option(alloc, "against", "POLICY")
         .help("Compares with these policies in place of the others, or with none; once a policy")
         .action(ArgAction::Append);
     command.arg(against)
-}
-
-/// How it is shown.
-fn shown_options<'a>(alloc: Global, command: Command<'a>) -> Result<Command<'a>, AllocError> {
-    let form = option(alloc, "as", "FORM").help(
-        "report (without it), trace, map, timehist, why, svg, perfetto, csv or json",
-    );
-    let command = command.arg(form)?;
-    let from = option(alloc, "from", "TIME").help("Shows what is from then on: 1500, 1.5ms, 2s");
-    let command = command.arg(from)?;
-    let to = option(alloc, "to", "TIME").help("Shows what is up to then");
-    let command = command.arg(to)?;
-    let cpus = option(alloc, "cpus", "LIST").help("Shows these processors alone, as in 0-3,8");
-    let command = command.arg(cpus)?;
-    let tasks = option(alloc, "tasks", "LIST").help("Shows these tasks alone, as in 1,4");
-    let command = command.arg(tasks)?;
-    let width = option(alloc, "width", "COLUMNS").help("How wide a map is, 80 without it");
-    command.arg(width)
-}
-
-/// An option that takes one value.
-fn option<'a>(alloc: Global, name: &'a str, value: &'a str) -> Arg<'a> {
-    Arg::new(alloc, name).long(name).value_name(value)
 }

@@ -2,8 +2,9 @@
 
 use bq_core::Hook;
 use bq_lines::numbers;
-use bq_lines::words::{is_allowed_line, next_word};
+use bq_lines::words::is_allowed_line;
 use bq_sizes::{ProcessorCount, Rule};
+use bq_words::next_word;
 use std::{fmt, str};
 
 /// What a word of a line is to be.

@@ -4,7 +4,7 @@ ghost use Rattle.bq_disc.specs.Tasks.{first_by, former, runs_before, due_before}
 ghost use Rattle.bq_disc.specs.Totals.{is_at_most_mean};
 ghost use Rattle.bq_trace.specs.Machines.{discipline_of};
 
-use crate::totals::totals;
+use bq_bounds::totals::totals;
 use bq_disc::Entity;
 use bq_sizes::Rule;
 

@@ -11,15 +11,13 @@ pub mod happenings;
 pub mod presence;
 pub mod reasons;
 pub mod table;
-pub mod totals;
 pub mod why_text;
 pub mod words_of;
 
 pub use answers::answer;
 pub use choices::choice;
 pub use happenings::{Because, InWords};
-pub use presence::present;
+pub use presence::{MOST, present};
 pub use reasons::{Reason, why};
 pub use table::{Row, rows};
-pub use totals::MOST;
 pub use why_text::{Why, place_of};

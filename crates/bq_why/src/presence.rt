@@ -2,10 +2,12 @@
 ghost use Rattle.std.specs.Prelude.{◌≡◌, ◌≤◌, ◌++◌, length, IfOk, OnOk};
 ghost use Rattle.bq_disc.specs.OneProcessor.{present_at};
 
-use crate::totals::MOST;
 use bq_core::Cpu;
 use bq_disc::{Entity, RunQueue};
 use std::alloc::{AllocError, Global};
+
+/// The most tasks that a processor may have: ids are 0 to 1023.
+pub const MOST: usize = 1024;
 
 /// The tasks that run or wait at a processor, the running one first, then by rising (v, id). Were there more than 1,024, some
 /// would be left out; there are only so many ids.

@@ -2,7 +2,7 @@
 ghost use Rattle.std.specs.Prelude.{◌≡◌, ◌≤◌, length, map, IfOk};
 ghost use Rattle.bq_why.specs.Rows.{row_of, row_by};
 
-use crate::totals::totals;
+use bq_bounds::totals::totals;
 use bq_disc::Entity;
 use std::alloc::{AllocError, Global};
 

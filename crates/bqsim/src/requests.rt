@@ -2,6 +2,7 @@
 
 use bq_cli::asked::{Job, JobFault};
 use bq_cli::job;
+use bq_options::WordsFault;
 use bq_policy_desk::{PolicyRequest, policy_request};
 use bq_study::{StudyWords, study_words};
 use bq_timeline::{Words, words};
@@ -106,8 +107,7 @@ fn takes_value(option: &str) -> bool {
 fn timeline_words<'a>(alloc: Global, given: &'a [&'a str]) -> Result<Request, JobFault> {
     match words(alloc, given) {
         Ok(words) => Ok(Request::Timeline(words)),
-        Err(bq_timeline::WordsFault::Words(text)) => Err(JobFault::Words(text)),
-        Err(bq_timeline::WordsFault::OutOfMemory) => Err(JobFault::OutOfMemory),
+        Err(fault) => Err(refused(fault)),
     }
 }
 
@@ -115,8 +115,7 @@ fn timeline_words<'a>(alloc: Global, given: &'a [&'a str]) -> Result<Request, Jo
 fn simulate_words<'a>(alloc: Global, given: &'a [&'a str]) -> Result<Request, JobFault> {
     match study_words(alloc, given) {
         Ok(words) => Ok(Request::Simulate(words)),
-        Err(bq_timeline::WordsFault::Words(text)) => Err(JobFault::Words(text)),
-        Err(bq_timeline::WordsFault::OutOfMemory) => Err(JobFault::OutOfMemory),
+        Err(fault) => Err(refused(fault)),
     }
 }
 
@@ -124,7 +123,14 @@ fn simulate_words<'a>(alloc: Global, given: &'a [&'a str]) -> Result<Request, Jo
 fn import_words<'a>(alloc: Global, given: &'a [&'a str]) -> Result<Request, JobFault> {
     match bq_import_command::words(alloc, given) {
         Ok(words) => Ok(Request::Import(words)),
-        Err(bq_import_command::WordsFault::Words(text)) => Err(JobFault::Words(text)),
-        Err(bq_import_command::WordsFault::OutOfMemory) => Err(JobFault::OutOfMemory),
+        Err(fault) => Err(refused(fault)),
+    }
+}
+
+/// The fault of a job by that of its words.
+fn refused(fault: WordsFault) -> JobFault {
+    match fault {
+        WordsFault::Words(text) => JobFault::Words(text),
+        WordsFault::OutOfMemory => JobFault::OutOfMemory,
     }
 }

@@ -1,6 +1,6 @@
 use Rattle.std.proofs.Common.{◌∙◌, sym}
 use Rattle.bq_asm.specs.Lines.{is_comment}
-use Rattle.bq_asm.proofs.WordLemmas.{before_first-some, before_first-none}
+use Rattle.bq_asm.proofs.CommentLemmas.{before_first-some, before_first-none}
 use Rattle.bq_asm.proofs.line.without_comment.Goals as goal
 
 pub returns-in-Some : goal.returns-in-Some

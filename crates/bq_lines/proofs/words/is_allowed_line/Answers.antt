@@ -1,4 +1,4 @@
-use Rattle.bq_lines.specs.Words.{is_allowed}
+use Rattle.bq_lines.specs.Bytes.{is_allowed}
 use Rattle.bq_lines.proofs.AllowedLemmas.{all_step, all_end}
 use Rattle.bq_lines.proofs.words.is_allowed_line.Goals as goal
 

@@ -1,0 +1,20 @@
+//! What some tasks have together.
+ghost use Rattle.std.specs.Prelude.{◌≡◌, ◌≤◌, length};
+ghost use Rattle.bq_disc.specs.Totals.{sums_of, HasBounds};
+
+use bq_disc::{Entity, Totals};
+
+/// The totals of some tasks.
+pub fn totals(tasks: &[Entity]) -> Totals
+    requires { length tasks.now ≤ 1024 }
+    ensures sums { result ≡ sums_of tasks.now }
+    ensures bounds { HasBounds result }
+{
+    let mut totals = Totals::none();
+    let mut at = tasks.len();
+    while at > 0 {
+        at -= 1;
+        totals.add(&tasks[at]);
+    }
+    totals
+}

@@ -1,0 +1,40 @@
+//! Why words are none of a command.
+
+use clap::error::ErrorKind;
+use std::alloc::{AllocError, AllocFailed, Global};
+use thiserror::Error;
+
+/// Why words are none of a command.
+#[derive(Debug, Drop, Error)]
+pub enum WordsFault {
+    /// They are refused, or they ask for help. The text says so, with its line ends.
+    #[error("{0}")]
+    Words(String),
+    #[error("out of memory")]
+    OutOfMemory,
+}
+
+impl WordsFault {
+    /// The fault of words that clap refuses, with its text.
+    pub fn of(alloc: Global, error: &clap::Error) -> WordsFault {
+        if error.kind() == ErrorKind::OutOfMemory {
+            return WordsFault::OutOfMemory;
+        }
+        match error.to_string(alloc) {
+            Ok(text) => WordsFault::Words(text),
+            Err(_) => WordsFault::OutOfMemory,
+        }
+    }
+}
+
+impl From<AllocError> for WordsFault {
+    fn from(_e: AllocError) -> WordsFault {
+        WordsFault::OutOfMemory
+    }
+}
+
+impl<T: Drop> From<AllocFailed<T>> for WordsFault {
+    fn from(_e: AllocFailed<T>) -> WordsFault {
+        WordsFault::OutOfMemory
+    }
+}

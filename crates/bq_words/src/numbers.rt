@@ -1,0 +1,22 @@
+//! The numbers that words write.
+ghost use Rattle.std.specs.Prelude.{◌≡◌, ◌≤◌};
+ghost use Rattle.bq_words.specs.Numbers.{number_of};
+
+/// The number that the word writes in this base, or `None` where it has no digit, has another byte, or does not fit 64 bits.
+pub fn number(word: &[u8], base: u32) -> Option<u64>
+    requires low { 2 ≤ base }
+    requires high { base ≤ 36 }
+    ensures { result ≡ number_of base word.now }
+{
+    if word.is_empty() {
+        return None;
+    }
+    let mut value: u64 = 0;
+    for byte in word {
+        let digit = char::from(*byte).to_digit(base)?;
+        value = value
+            .checked_mul(u64::from(base))?
+            .checked_add(u64::from(digit))?;
+    }
+    Some(value)
+}
