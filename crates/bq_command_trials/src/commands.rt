@@ -1,24 +1,15 @@
 //! Words that the program takes and words that it refuses, and a job that is done.
 
+use crate::done::{done, writes};
 use bq_cli::asked::{Job, JobFault};
 use bq_cli::{Counted, exit_status, job, perform};
-use std::str::from_utf8;
 use std::test::Fail;
 
 #[test]
 fn takes_the_words_of_a_replay(rt: HostRuntime) -> Result<(), Fail> {
-    let Ok(job) = job(rt.alloc(), &["replay"]) else {
-        return Err(Fail::from("the words were refused"));
-    };
-    let mut input = Counted::new(b"machine cfs 1\ndraw\nretire 7\n".as_slice());
-    let mut output = Counted::new(Vec::new(rt.alloc()));
-    let outcome = perform(&rt, rt.alloc(), &job, &mut input, &mut output);
-    assert_eq!(rt; exit_status(&outcome), 0);
-    let output = output.into_inner();
-    assert_eq!(rt;
-        from_utf8(output.as_slice())?,
-        "draw 1\nrefused C2 NoTask\n"
-    );
+    let read = b"machine cfs 1\ndraw\nretire 7\n".as_slice();
+    let done = done(&rt, rt.alloc(), &["replay"], read)?;
+    writes(&rt, &done, "draw 1\nrefused C2 NoTask\n", 0);
     Ok(())
 }
 
@@ -140,15 +131,8 @@ const DONE: [(&str, &str, u8, &str); 5] = [
 #[test]
 fn assembles_and_lists(rt: HostRuntime) -> Result<(), Fail> {
     for (word, read, status, written) in DONE {
-        let Ok(job) = job(rt.alloc(), &[word]) else {
-            return Err(Fail::from("the word was refused"));
-        };
-        let mut input = Counted::new(read.as_bytes());
-        let mut output = Counted::new(Vec::new(rt.alloc()));
-        let outcome = perform(&rt, rt.alloc(), &job, &mut input, &mut output);
-        assert_eq!(rt; exit_status(&outcome), status);
-        let output = output.into_inner();
-        assert_eq!(rt; from_utf8(output.as_slice())?, written);
+        let done = done(&rt, rt.alloc(), &[word], read.as_bytes())?;
+        writes(&rt, &done, written, status);
     }
     Ok(())
 }
@@ -184,16 +168,9 @@ fn processors_run_by_threads_of_their_own(rt: HostRuntime) -> Result<(), Fail> {
             "--ticks",
             ticks,
         ];
-        let Ok(job) = job(rt.alloc(), &words) else {
-            return Err(Fail::from("the words were refused"));
-        };
-        let mut input = Counted::new(b"not read".as_slice());
-        let mut output = Counted::new(Vec::new(rt.alloc()));
-        let outcome = perform(&rt, rt.alloc(), &job, &mut input, &mut output);
-        assert_eq!(rt; exit_status(&outcome), 0);
-        let output = output.into_inner();
-        assert_eq!(rt; from_utf8(output.as_slice())?, line);
-        assert_eq!(rt; input.into_inner(), b"not read".as_slice());
+        let done = done(&rt, rt.alloc(), &words, b"not read")?;
+        writes(&rt, &done, line, 0);
+        assert!(rt; done.is_unread);
     }
     Ok(())
 }

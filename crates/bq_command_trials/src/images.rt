@@ -1,48 +1,11 @@
 //! Images that are assembled and checked: words, what is read, and what is written. The values are worked by hand from the
 //! format, the rules of the verifier and the grammar of `--maps`.
 
-use bq_cli::asked::Job;
-use bq_cli::{Counted, exit_status, job, perform};
+use crate::done::{Done, done, writes};
 use std::alloc::Global;
-use std::process::Abort;
-use std::str::from_utf8;
 use std::sync::Wait;
 use std::test::Fail;
 use std::thread::Threads;
-
-/// What is written for an input, and the exit status.
-fn done<R: Threads + Wait + Sync>(
-    rt: &R,
-    alloc: Global,
-    words: &[&str],
-    input: &[u8],
-) -> Result<(String, u8), Fail> {
-    let Ok(job) = job(alloc, words) else {
-        return Err(Fail::from("the words were refused"));
-    };
-    done_by(rt, alloc, &job, input)
-}
-
-fn done_by<R: Threads + Wait + Sync>(
-    rt: &R,
-    alloc: Global,
-    job: &Job,
-    input: &[u8],
-) -> Result<(String, u8), Fail> {
-    let mut input = Counted::new(input);
-    let mut output = Counted::new(Vec::new(alloc));
-    let outcome = perform(rt, alloc, job, &mut input, &mut output);
-    let written = output.into_inner();
-    Ok((
-        String::from_str(alloc, from_utf8(written.as_slice())?)?,
-        exit_status(&outcome),
-    ))
-}
-
-fn writes(rt: &impl Abort, done: &(String, u8), text: &str, status: u8) {
-    assert!(rt; done.0.as_str() == text);
-    assert!(rt; done.1 == status);
-}
 
 /// Preempt, no maps: mov64 r0, 0; exit.
 const ZERO: &str = "425150490101000002000000b7000000000000009500000000000000";
@@ -137,38 +100,18 @@ const NO_MAPS: [&str; 19] = [
     "8:1,8:1,8:1,8:1,8:1,8:1,8:1,8:1,8:1",
 ];
 
-/// What is written, with nothing read.
-fn writes_unread<R: Threads + Wait + Sync>(
-    rt: &R,
-    alloc: Global,
-    words: &[&str],
-) -> Result<(String, u8), Fail> {
-    let Ok(job) = job(alloc, words) else {
-        return Err(Fail::from("the words were refused"));
-    };
-    let mut input = Counted::new(b"exit".as_slice());
-    let mut output = Counted::new(Vec::new(alloc));
-    let outcome = perform(rt, alloc, &job, &mut input, &mut output);
-    if input.into_inner() != b"exit".as_slice() {
-        return Err(Fail::from("the text was read"));
-    }
-    let written = output.into_inner();
-    Ok((
-        String::from_str(alloc, from_utf8(written.as_slice())?)?,
-        exit_status(&outcome),
-    ))
-}
-
 #[test]
 fn options_are_refused_before_the_text_is_read(rt: HostRuntime) -> Result<(), Fail> {
     for (words, line) in REFUSED {
-        let done = writes_unread(&rt, rt.alloc(), words)?;
+        let done = done(&rt, rt.alloc(), words, b"exit")?;
         writes(&rt, &done, line, 1);
+        assert!(rt; done.is_unread);
     }
     for maps in NO_MAPS {
         let words = ["asm", "--hook", "pull", "--maps", maps];
-        let done = writes_unread(&rt, rt.alloc(), &words)?;
+        let done = done(&rt, rt.alloc(), &words, b"exit")?;
         writes(&rt, &done, "refused maps\n", 1);
+        assert!(rt; done.is_unread);
     }
     Ok(())
 }
@@ -187,7 +130,7 @@ fn eight_maps_are_taken(rt: HostRuntime) -> Result<(), Fail> {
         ],
         b"mov64 r0, 0\nexit\n".as_slice(),
     )?;
-    let known = done(&rt, rt.alloc(), &["check"], image.0.as_bytes())?;
+    let known = done(&rt, rt.alloc(), &["check"], image.written.as_bytes())?;
     writes(&rt, &known, "accepted place budget 2\n", 0);
     Ok(())
 }
@@ -407,9 +350,9 @@ fn judged<R: Threads + Wait + Sync>(
     alloc: Global,
     words: &[&str],
     text: &str,
-) -> Result<(String, u8), Fail> {
+) -> Result<Done, Fail> {
     let image = done(rt, alloc, words, text.as_bytes())?;
-    done(rt, alloc, &["check"], image.0.as_bytes())
+    done(rt, alloc, &["check"], image.written.as_bytes())
 }
 
 #[test]

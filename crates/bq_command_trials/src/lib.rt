@@ -10,6 +10,8 @@ mod commands;
 #[cfg(test)]
 mod compiled;
 #[cfg(test)]
+mod done;
+#[cfg(test)]
 mod images;
 #[cfg(test)]
 mod slips;

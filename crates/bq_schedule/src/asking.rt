@@ -10,11 +10,11 @@ use bq_parts::Hook;
 
 impl Schedule {
     /// A hook of a processor came to its choice.
-    pub(crate) fn ask(&mut self, cpu: u8, decision: &Decision)
-        ensures { self.new ≡ asked cpu decision.now self.old }
+    pub(crate) fn ask(&mut self, processor: u8, decision: &Decision)
+        ensures { self.new ≡ asked processor decision.now self.old }
     {
-        if let Some(processor) = self.processors.get_mut(usize::from(cpu)) {
-            processor.ask(decision);
+        if let Some(figures) = self.processors.get_mut(usize::from(processor)) {
+            figures.ask(decision);
         }
     }
 }

@@ -18,11 +18,11 @@ impl Schedule {
         ensures figures { self.new ≡ read_at processor now self.old }
         ensures change { result ≡ read_told processor now self.old }
     {
-        let cpu = &mut self.processors[usize::from(processor)];
-        let reading = cpu.reading(processor, now);
-        let slice = slice_between(processor, reading.from, reading.to, cpu.running);
-        let run = ended_run(cpu.run, slice);
-        cpu.pass(reading.to, slice);
+        let figures = &mut self.processors[usize::from(processor)];
+        let reading = figures.reading(processor, now);
+        let slice = slice_between(processor, reading.from, reading.to, figures.running);
+        let run = ended_run(figures.run, slice);
+        figures.pass(reading.to, slice);
         self.charge(slice);
         Change {
             reading: Some(reading),

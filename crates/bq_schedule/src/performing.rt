@@ -102,21 +102,21 @@ impl Schedule {
     }
 
     /// A wake ended.
-    fn place(&mut self, cpu: u8, now: u64, decision: Decision, id: u16, to: u8) -> Change
-        requires { cpu < length self.old.processors }
-        ensures figures { self.new ≡ placed cpu now decision id to self.old }
-        ensures change { result ≡ placed_told cpu now decision id to self.old }
+    fn place(&mut self, processor: u8, now: u64, decision: Decision, id: u16, to: u8) -> Change
+        requires { processor < length self.old.processors }
+        ensures figures { self.new ≡ placed processor now decision id to self.old }
+        ensures change { result ≡ placed_told processor now decision id to self.old }
     {
-        let read = self.read(cpu, now);
-        let at = self.processor(cpu).last;
-        self.ask(cpu, &decision);
+        let read = self.read(processor, now);
+        let at = self.processor(processor).last;
+        self.ask(processor, &decision);
         self.come(id, to, at);
         self.wake(id, to, at);
         Change {
             decision: Some(decision),
             wake: Some(Wake {
                 task: id,
-                from: cpu,
+                from: processor,
                 to,
                 at,
             }),
@@ -125,28 +125,28 @@ impl Schedule {
     }
 
     /// All placed tasks entered, and a hook came to its choice.
-    fn drain(&mut self, cpu: u8, now: u64, decision: Decision, run: Option<u16>) -> Change
-        requires { cpu < length self.old.processors }
-        ensures figures { self.new ≡ emptied cpu (decided cpu now decision run self.old) }
-        ensures change { result ≡ decided_told cpu now decision run self.old }
+    fn drain(&mut self, processor: u8, now: u64, decision: Decision, run: Option<u16>) -> Change
+        requires { processor < length self.old.processors }
+        ensures figures { self.new ≡ emptied processor (decided processor now decision run self.old) }
+        ensures change { result ≡ decided_told processor now decision run self.old }
     {
-        let change = self.decide(cpu, now, decision, run);
-        let mut processor = self.processor(cpu);
-        processor.drains = processor.drains.saturating_add(1);
-        self.set_processor(cpu, processor);
+        let change = self.decide(processor, now, decision, run);
+        let mut figures = self.processor(processor);
+        figures.drains = figures.drains.saturating_add(1);
+        self.set_processor(processor, figures);
         change
     }
 
     /// A hook came to its choice, and this runs.
-    fn decide(&mut self, cpu: u8, now: u64, decision: Decision, run: Option<u16>) -> Change
-        requires { cpu < length self.old.processors }
-        ensures figures { self.new ≡ decided cpu now decision run self.old }
-        ensures change { result ≡ decided_told cpu now decision run self.old }
+    fn decide(&mut self, processor: u8, now: u64, decision: Decision, run: Option<u16>) -> Change
+        requires { processor < length self.old.processors }
+        ensures figures { self.new ≡ decided processor now decision run self.old }
+        ensures change { result ≡ decided_told processor now decision run self.old }
     {
-        let read = self.read(cpu, now);
-        let at = self.processor(cpu).last;
-        self.ask(cpu, &decision);
-        let (stop, start) = self.switch(Left::Preempted, cpu, at, run);
+        let read = self.read(processor, now);
+        let at = self.processor(processor).last;
+        self.ask(processor, &decision);
+        let (stop, start) = self.switch(Left::Preempted, processor, at, run);
         Change {
             decision: Some(decision),
             stop,
@@ -156,15 +156,15 @@ impl Schedule {
     }
 
     /// The running task went to sleep.
-    fn block(&mut self, cpu: u8, now: u64, id: u16, run: Option<u16>) -> Change
-        requires { cpu < length self.old.processors }
-        ensures figures { self.new ≡ blocked cpu now id run self.old }
-        ensures change { result ≡ blocked_told cpu now id run self.old }
+    fn block(&mut self, processor: u8, now: u64, id: u16, run: Option<u16>) -> Change
+        requires { processor < length self.old.processors }
+        ensures figures { self.new ≡ blocked processor now id run self.old }
+        ensures change { result ≡ blocked_told processor now id run self.old }
     {
-        let read = self.read(cpu, now);
-        let at = self.processor(cpu).last;
+        let read = self.read(processor, now);
+        let at = self.processor(processor).last;
         self.leave(id);
-        let (stop, start) = self.switch(Left::Blocked, cpu, at, run);
+        let (stop, start) = self.switch(Left::Blocked, processor, at, run);
         Change {
             stop,
             start,
@@ -175,22 +175,22 @@ impl Schedule {
     /// A task may have been pulled.
     fn pull(
         &mut self,
-        cpu: u8,
+        processor: u8,
         from: u8,
         now: u64,
         decision: Decision,
         task: Option<u16>,
         run: Option<u16>,
     ) -> Change
-        requires { cpu < length self.old.processors }
-        ensures figures { self.new ≡ pulled cpu now decision task run self.old }
-        ensures change { result ≡ pulled_told cpu from now decision task run self.old }
+        requires { processor < length self.old.processors }
+        ensures figures { self.new ≡ pulled processor now decision task run self.old }
+        ensures change { result ≡ pulled_told processor from now decision task run self.old }
     {
-        let read = self.read(cpu, now);
-        let at = self.processor(cpu).last;
-        self.ask(cpu, &decision);
-        let pull = self.take_over(task, from, cpu, at);
-        let (stop, start) = self.switch(Left::Preempted, cpu, at, run);
+        let read = self.read(processor, now);
+        let at = self.processor(processor).last;
+        self.ask(processor, &decision);
+        let pull = self.take_over(task, from, processor, at);
+        let (stop, start) = self.switch(Left::Preempted, processor, at, run);
         Change {
             decision: Some(decision),
             pull,
@@ -230,10 +230,10 @@ impl Schedule {
     }
 
     /// The wake of a placed task ended now.
-    fn wake(&mut self, id: u16, cpu: u8, now: u64)
-        ensures { self.new ≡ woken id cpu now self.old }
+    fn wake(&mut self, id: u16, processor: u8, now: u64)
+        ensures { self.new ≡ woken id processor now self.old }
     {
-        let drains = self.processor(cpu).drains;
+        let drains = self.processor(processor).drains;
         let mut task = self.task(id);
         task.wakes = task.wakes.saturating_add(1);
         task.woken = Some(now);

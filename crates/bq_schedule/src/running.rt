@@ -13,19 +13,22 @@ impl Schedule {
     pub(crate) fn switch(
         &mut self,
         left: Left,
-        cpu: u8,
+        processor: u8,
         now: u64,
         run: Option<u16>,
     ) -> (Option<Stop>, Option<Start>)
-        ensures figures { self.new ≡ switched left cpu now run self.old }
-        ensures stop { result.0 ≡ stop_at left cpu now run self.old }
-        ensures start { result.1 ≡ start_at left cpu now run self.old }
+        ensures figures { self.new ≡ switched left processor now run self.old }
+        ensures stop { result.0 ≡ stop_at left processor now run self.old }
+        ensures start { result.1 ≡ start_at left processor now run self.old }
     {
-        let running = self.processor(cpu).running;
+        let running = self.processor(processor).running;
         if is_run_by(running, run) {
             return (None, None);
         }
-        (self.stop(left, now, running), self.start(cpu, now, run))
+        (
+            self.stop(left, now, running),
+            self.start(processor, now, run),
+        )
     }
 
     /// What ran no longer does.
@@ -47,27 +50,27 @@ impl Schedule {
     }
 
     /// A task begins to run, or none.
-    fn start(&mut self, cpu: u8, now: u64, run: Option<u16>) -> Option<Start>
-        ensures figures { self.new ≡ started cpu now run self.old }
-        ensures start { result ≡ starts_as cpu now run self.old }
+    fn start(&mut self, processor: u8, now: u64, run: Option<u16>) -> Option<Start>
+        ensures figures { self.new ≡ started processor now run self.old }
+        ensures start { result ≡ starts_as processor now run self.old }
     {
-        let mut processor = self.processor(cpu);
+        let mut figures = self.processor(processor);
         let start = match run {
-            Some(id) => Some(self.begin(cpu, now, id)),
+            Some(id) => Some(self.begin(processor, now, id)),
             None => None,
         };
-        processor.run(start);
-        self.set_processor(cpu, processor);
+        figures.run(start);
+        self.set_processor(processor, figures);
         start
     }
 
     /// A task begins to run.
-    fn begin(&mut self, cpu: u8, now: u64, id: u16) -> Start
-        ensures figures { self.new ≡ begun cpu now id self.old }
-        ensures start { result ≡ start_of cpu id now (task_of self.old id) }
+    fn begin(&mut self, processor: u8, now: u64, id: u16) -> Start
+        ensures figures { self.new ≡ begun processor now id self.old }
+        ensures start { result ≡ start_of processor id now (task_of self.old id) }
     {
         let mut task = self.task(id);
-        let start = task.starting(cpu, now, id);
+        let start = task.starting(processor, now, id);
         task.start(&start);
         self.set_task(id, task);
         start

@@ -40,16 +40,16 @@ impl Schedule {
     pub fn new(alloc: Global, processors: u8) -> Result<Schedule, AllocError>
         ensures { IfOk result (λ s. s ≡ opening processors) }
     {
-        let mut cpus = Vec::with_capacity(alloc, usize::from(processors))?;
+        let mut figures = Vec::with_capacity(alloc, usize::from(processors))?;
         'processors: for _ in 0..processors {
-            cpus.push(ProcessorFigures::new())?;
+            figures.push(ProcessorFigures::new())?;
         }
         let mut tasks = Vec::with_capacity(alloc, TASKS)?;
         'tasks: for _ in 0..TASKS {
             tasks.push(TaskFigures::new())?;
         }
         Ok(Schedule {
-            processors: cpus,
+            processors: figures,
             tasks,
             refused: 0,
         })
@@ -104,10 +104,10 @@ impl Schedule {
         ensures { result ≡ undrained self.now id }
     {
         let task = self.task(id);
-        let cpu = task.place?;
+        let processor = task.place?;
         let drains = task.drains?;
-        if self.processor(cpu).drains == drains {
-            Some(cpu)
+        if self.processor(processor).drains == drains {
+            Some(processor)
         } else {
             None
         }

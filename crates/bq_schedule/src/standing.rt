@@ -11,9 +11,9 @@ impl Schedule {
         ensures { result ≡ fair_at self.now task.now task.now.place }
     {
         match task.place {
-            Some(cpu) => task
+            Some(processor) => task
                 .settled
-                .saturating_add(self.processor(cpu).pending(task)),
+                .saturating_add(self.processor(processor).pending(task)),
             None => task.settled,
         }
     }
@@ -23,38 +23,38 @@ impl Schedule {
         ensures { self.new ≡ leaves id self.old }
     {
         let mut task = self.task(id);
-        let Some(cpu) = task.place else {
+        let Some(processor) = task.place else {
             return;
         };
         task.settled = self.fair_of(&task);
         task.place = None;
         task.drains = None;
-        let mut figures = self.processor(cpu);
+        let mut figures = self.processor(processor);
         figures.leave(task.weight);
-        self.set_processor(cpu, figures);
+        self.set_processor(processor, figures);
         self.set_task(id, task);
     }
 
     /// A task that is runnable nowhere is runnable at a processor from now on.
-    fn join(&mut self, id: u16, cpu: u8, now: u64)
-        ensures { self.new ≡ joins id cpu now self.old }
+    fn join(&mut self, id: u16, processor: u8, now: u64)
+        ensures { self.new ≡ joins id processor now self.old }
     {
         let mut task = self.task(id);
-        let mut figures = self.processor(cpu);
-        task.place = Some(cpu);
+        let mut figures = self.processor(processor);
+        task.place = Some(processor);
         task.since = now;
         task.joined = figures.shared;
         figures.join(task.weight);
-        self.set_processor(cpu, figures);
+        self.set_processor(processor, figures);
         self.set_task(id, task);
     }
 
     /// A task comes to a processor from wherever it was.
-    pub(crate) fn come(&mut self, id: u16, cpu: u8, now: u64)
-        ensures { self.new ≡ comes id cpu now self.old }
+    pub(crate) fn come(&mut self, id: u16, processor: u8, now: u64)
+        ensures { self.new ≡ comes id processor now self.old }
     {
         self.leave(id);
-        self.join(id, cpu, now);
+        self.join(id, processor, now);
     }
 }
 
