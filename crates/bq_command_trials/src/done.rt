@@ -9,7 +9,8 @@ use std::test::Fail;
 use std::thread::Threads;
 
 /// What a command wrote, its exit status, and whether it read nothing.
-pub struct Done {
+#[derive(Drop)]
+pub struct Performed {
     pub written: String,
     pub status: u8,
     pub is_unread: bool,
@@ -21,7 +22,7 @@ pub fn done<R: Threads + Wait + Sync>(
     alloc: Global,
     words: &[&str],
     input: &[u8],
-) -> Result<Done, Fail> {
+) -> Result<Performed, Fail> {
     let Ok(job) = job(alloc, words) else {
         return Err(Fail::from("the words were refused"));
     };
@@ -29,7 +30,7 @@ pub fn done<R: Threads + Wait + Sync>(
     let mut output = Counted::new(Vec::new(alloc));
     let outcome = perform(rt, alloc, &job, &mut read, &mut output);
     let written = output.into_inner();
-    Ok(Done {
+    Ok(Performed {
         written: String::from_str(alloc, from_utf8(written.as_slice())?)?,
         status: exit_status(&outcome),
         is_unread: read.into_inner() == input,
@@ -37,7 +38,7 @@ pub fn done<R: Threads + Wait + Sync>(
 }
 
 /// It wrote this, and ended so.
-pub fn writes(rt: &impl Abort, done: &Done, text: &str, status: u8) {
+pub fn writes(rt: &impl Abort, done: &Performed, text: &str, status: u8) {
     assert!(rt; done.written.as_str() == text);
     assert!(rt; done.status == status);
 }

@@ -1,7 +1,7 @@
 //! Images that are assembled and checked: words, what is read, and what is written. The values are worked by hand from the
 //! format, the rules of the verifier and the grammar of `--maps`.
 
-use crate::done::{Done, done, writes};
+use crate::done::{Performed, done, writes};
 use std::alloc::Global;
 use std::sync::Wait;
 use std::test::Fail;
@@ -350,7 +350,7 @@ fn judged<R: Threads + Wait + Sync>(
     alloc: Global,
     words: &[&str],
     text: &str,
-) -> Result<Done, Fail> {
+) -> Result<Performed, Fail> {
     let image = done(rt, alloc, words, text.as_bytes())?;
     done(rt, alloc, &["check"], image.written.as_bytes())
 }
