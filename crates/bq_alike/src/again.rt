@@ -7,6 +7,7 @@ use std::alloc::AllocError;
 
 /// The same event once more. There is an error only where its policy would then stand in more places than can be
 /// counted.
+#[inline(always)]
 pub fn event_again(event: &Event) -> Result<Event, AllocError>
     ensures same { IfOk result (λ again. again ≡ event.now) }
     ensures counted { OnErr result (CarriesPolicy event.now) }

@@ -1,10 +1,14 @@
 //! What lies under each lock.
 
-use crate::law::Part;
+use crate::law::{Kept, Part};
+use crate::record::Record;
 use bq_disc::RunQueue;
-use bq_history::AsPart;
+use bq_history::{AsPart, Locked};
 use bq_order::{Holds, Placed};
 use bq_parts::{Cpu, Inbox, Lobby, Scratch};
+
+/// What lies under a lock: content with the holder of its part.
+pub type UnderLock<A, N> = Locked<A, Record, Part, Kept, N>;
 
 /// A processor and its number, with the space in which its policies run.
 #[derive(Drop)]

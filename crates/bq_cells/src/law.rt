@@ -5,7 +5,7 @@ ghost use Rattle.bq_cells.specs.Parts.{kept_by_block, kept_by_pull, one_less, on
 
 use crate::record::Record;
 use bq_disc::RunQueue;
-use bq_history::World;
+use bq_history::{History, World};
 use bq_parts::{Inbox, Loads, Lobby, Refusal, Reply};
 use std::marker::{Model, PhantomData};
 
@@ -106,6 +106,9 @@ impl Kept {
 pub struct Sched<Q> {
     of: PhantomData<Q>,
 }
+
+/// The history, as all callers share it.
+pub type Shared<Q, N> = History<Record, WorldState, Part, Kept, u64, Sched<Q>, N>;
 
 impl<Q: RunQueue> World<Record, WorldState, Part, Kept, u64> for Sched<Q> {
     ghost use Rattle.bq_parts.specs.World.{opening_world};

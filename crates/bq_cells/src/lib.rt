@@ -9,6 +9,6 @@ pub mod law;
 pub mod record;
 
 pub use bq_seats::{CallRooms, Calls, hold_calls};
-pub use cells::{NumberedCpu, NumberedInbox, OneLobby};
-pub use law::{CpuState, Kept, Part, Sched, WorldState};
+pub use cells::{NumberedCpu, NumberedInbox, OneLobby, UnderLock};
+pub use law::{CpuState, Kept, Part, Sched, Shared, WorldState};
 pub use record::{Record, call_rooms, loads_room, record_room};

@@ -14,31 +14,25 @@ ghost use Rattle.bq_closing.specs.AllParts.{all_parts};
 
 use crate::closed::Closed;
 use crate::room::Room;
-use bq_cells::{Kept, NumberedCpu, NumberedInbox, OneLobby, Part, Record, Sched, WorldState};
+use bq_cells::{Kept, NumberedCpu, NumberedInbox, OneLobby, Part, Record, Shared, UnderLock};
 use bq_core::Core;
 use bq_counters::{Counters, Naming as Counting};
 use bq_disc::RunQueue;
-use bq_history::{History, Item, Journal, Locked, gather};
+use bq_history::{Item, Journal, gather};
 use bq_order::contents_in_order;
 use bq_parts::{Cpu, Inbox, Lobby};
 use bq_seats::Seat;
 use bq_tie::{Holder, Naming};
 use std::sync::Mutex;
 
-/// What lies under a lock.
-type Place<A, N> = Locked<A, Record, Part, Kept, N>;
-
-/// What all threads share.
-type Shared<Q, N> = History<Record, WorldState, Part, Kept, u64, Sched<Q>, N>;
-
 /// All that the threads of a machine share, and the room for its end.
 #[derive(Drop)]
 pub struct Locks<Q: RunQueue + Drop, N: Naming + Counting, const P: usize> {
     pub history: Shared<Q, N>,
     pub counters: Counters<N>,
-    pub cpus: Vec<Mutex<Place<NumberedCpu<Q>, N>>>,
-    pub inboxes: Vec<Mutex<Place<NumberedInbox, N>>>,
-    pub lobby: Mutex<Place<OneLobby, N>>,
+    pub cpus: Vec<Mutex<UnderLock<NumberedCpu<Q>, N>>>,
+    pub inboxes: Vec<Mutex<UnderLock<NumberedInbox, N>>>,
+    pub lobby: Mutex<UnderLock<OneLobby, N>>,
     pub journal: Mutex<Journal<Record, Part, Kept, N>>,
     pub room: Mutex<Room<Q, P>>,
     pub ghost about: { history.about ≡ P },
@@ -99,8 +93,8 @@ pub fn close<Q: RunQueue + Drop, N: Naming + Counting, const P: usize>(
 fn all_out<Q: RunQueue + Drop, N: Naming + Counting>(
     history: &Shared<Q, N>,
     all: &mut Holder<Item<Record, Part, Kept>, N>,
-    cpus: Vec<Mutex<Place<NumberedCpu<Q>, N>>>,
-    inboxes: Vec<Mutex<Place<NumberedInbox, N>>>,
+    cpus: Vec<Mutex<UnderLock<NumberedCpu<Q>, N>>>,
+    inboxes: Vec<Mutex<UnderLock<NumberedInbox, N>>>,
     room_for_cpus: Vec<NumberedCpu<Q>>,
     room_for_inboxes: Vec<NumberedInbox>,
 ) -> (Vec<NumberedCpu<Q>>, Vec<NumberedInbox>)

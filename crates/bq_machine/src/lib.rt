@@ -15,12 +15,12 @@ mod pulling_calls;
 mod running_calls;
 pub mod waking_calls;
 
-pub use bq_cells::{Calls, CpuState, Kept, Part, Record, Sched, WorldState};
+pub use bq_cells::{Calls, CpuState, Kept, Part, Record, Sched, Shared, WorldState};
 pub use bq_closing::Closed;
 pub use bq_counters::{Naming as Counting, Unnamed};
 pub use bq_history::Receipt;
 pub use bq_opening::{Prepared, prepare};
-pub use bq_recording::{Seat, Shared};
+pub use bq_recording::Seat;
 pub use bq_tie::Naming;
 pub use clock::Clock;
 pub use loading_calls::{LoadReceipts, LoadRefused};

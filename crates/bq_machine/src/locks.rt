@@ -3,25 +3,25 @@ ghost use Rattle.std.specs.Prelude.{◌≡◌, ◌≤◌, ◌<◌, vec_len};
 ghost use Rattle.std.specs.Sync.Mutex.{mutex_guard_value};
 
 use crate::clock::Clock;
-use bq_cells::{NumberedCpu, NumberedInbox, OneLobby};
+use bq_cells::{NumberedCpu, NumberedInbox, OneLobby, UnderLock};
 use bq_closing::Room;
 use bq_counters::Naming as Counting;
 use bq_disc::RunQueue;
-use bq_recording::{Place, Recorder, Seat, need_own};
+use bq_recording::{Recorder, Seat, need_own};
 use bq_tie::Naming;
 use std::sync::{Mutex, MutexGuard, Wait};
 
 /// A processor whose lock is held.
-pub(crate) type LockedProcessor<'a, Q, N> = MutexGuard<'a, Place<NumberedCpu<Q>, N>>;
+pub(crate) type LockedProcessor<'a, Q, N> = MutexGuard<'a, UnderLock<NumberedCpu<Q>, N>>;
 
 /// The machine that `N` names, of `P` processors.
 #[derive(Drop)]
 pub struct Machine<Q: RunQueue + Drop, K: Clock + Drop, N: Naming + Counting, const P: usize> {
     pub(crate) clock: K,
     pub(crate) recorder: Recorder<Q, N>,
-    pub(crate) cpus: Vec<Mutex<Place<NumberedCpu<Q>, N>>>,
-    pub(crate) inboxes: Vec<Mutex<Place<NumberedInbox, N>>>,
-    pub(crate) lobby: Mutex<Place<OneLobby, N>>,
+    pub(crate) cpus: Vec<Mutex<UnderLock<NumberedCpu<Q>, N>>>,
+    pub(crate) inboxes: Vec<Mutex<UnderLock<NumberedInbox, N>>>,
+    pub(crate) lobby: Mutex<UnderLock<OneLobby, N>>,
     pub(crate) room: Mutex<Room<Q, P>>,
     pub(crate) seats: u64,
     ghost about: { recorder.history.about ≡ P },
@@ -60,7 +60,7 @@ impl<Q: RunQueue + Drop, K: Clock + Drop, N: Naming + Counting, const P: usize> 
         &self,
         rt: &R,
         processor: u8,
-    ) -> MutexGuard<'_, Place<NumberedInbox, N>>
+    ) -> MutexGuard<'_, UnderLock<NumberedInbox, N>>
         requires inside { processor < P }
         ensures own { (mutex_guard_value result).number ≡ processor }
     {

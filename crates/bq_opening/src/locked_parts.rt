@@ -4,11 +4,10 @@ ghost use Rattle.bq_history.specs.Items.{callers_from, part_item};
 ghost use Rattle.bq_cells.specs.Parts.{first_parts};
 ghost use Rattle.bq_cells.specs.Opened.{ItemOf, cpu_items, inbox_items};
 
-use bq_cells::{Kept, NumberedCpu, NumberedInbox, OneLobby, Part, Record};
+use bq_cells::{Kept, NumberedCpu, NumberedInbox, OneLobby, Part, Record, Shared, UnderLock};
 use bq_disc::RunQueue;
 use bq_history::{Item, Locked};
 use bq_parts::{Cpu, Inbox, Lobby, Scratch};
-use bq_recording::{Place, Shared};
 use bq_tie::{Holder, Naming};
 use std::alloc::{AllocError, Global};
 use std::sync::Mutex;
@@ -16,9 +15,9 @@ use std::sync::Mutex;
 /// The locks of all parts of a world.
 #[derive(Drop)]
 pub struct PartLocks<Q: RunQueue + Drop, N: Naming> {
-    pub lobby: Mutex<Place<OneLobby, N>>,
-    pub cpus: Vec<Mutex<Place<NumberedCpu<Q>, N>>>,
-    pub inboxes: Vec<Mutex<Place<NumberedInbox, N>>>,
+    pub lobby: Mutex<UnderLock<OneLobby, N>>,
+    pub cpus: Vec<Mutex<UnderLock<NumberedCpu<Q>, N>>>,
+    pub inboxes: Vec<Mutex<UnderLock<NumberedInbox, N>>>,
 }
 
 /// A lock for each part, from the parts at the start; what the callers hold is left. It takes memory for the locks and the lobby.
@@ -56,7 +55,7 @@ fn cpu_locks<Q: RunQueue + Drop, N: Naming>(
     history: &Shared<Q, N>,
     all: &mut Holder<Item<Record, Part, Kept>, N>,
     queues: Vec<Q>,
-) -> Result<Vec<Mutex<Place<NumberedCpu<Q>, N>>>, AllocError>
+) -> Result<Vec<Mutex<UnderLock<NumberedCpu<Q>, N>>>, AllocError>
     requires few { length queues.items ≤ 64 }
     requires empty { All (λ q. (Q.members q ≡ []) × (Q.kept_mark q ≡ 2 ^ 32)) queues.items }
     requires items { (rest : List ItemOf) × (all.old ≡ cpu_items 0 (length queues.items) ++ rest) }
@@ -83,7 +82,7 @@ fn inbox_locks<Q: RunQueue + Drop, N: Naming>(
     history: &Shared<Q, N>,
     all: &mut Holder<Item<Record, Part, Kept>, N>,
     count: u8,
-) -> Result<Vec<Mutex<Place<NumberedInbox, N>>>, AllocError>
+) -> Result<Vec<Mutex<UnderLock<NumberedInbox, N>>>, AllocError>
     requires { (rest : List ItemOf) × (all.old ≡ inbox_items 0 count ++ rest) }
     ensures locks { IfOk result (λ v. vec_len v ≡ count) }
     ensures rest { IfOk result (λ _. (rest : List ItemOf) → all.old ≡ inbox_items 0 count ++ rest → all.new ≡ rest) }

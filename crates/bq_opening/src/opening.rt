@@ -4,13 +4,13 @@ ghost use Rattle.bq_seats.specs.Calls.{fresh};
 
 use crate::locked_parts::{PartLocks, part_locks};
 use crate::prepared::Prepared;
-use bq_cells::{Kept, NumberedCpu, NumberedInbox, OneLobby};
+use bq_cells::{Kept, NumberedCpu, NumberedInbox, OneLobby, UnderLock};
 use bq_closing::Room;
 use bq_counters::{Naming as Counting, Unnamed};
 use bq_disc::RunQueue;
 use bq_history::Journal;
 use bq_parts::Loads;
-use bq_recording::{Place, Recorder, Seat};
+use bq_recording::{Recorder, Seat};
 use bq_seats::seats;
 use bq_tie::Naming;
 use std::alloc::{AllocError, Global};
@@ -21,9 +21,9 @@ use std::sync::Mutex;
 #[derive(Drop)]
 pub struct Opening<Q: RunQueue + Drop, N: Naming + Counting, const P: usize> {
     pub recorder: Recorder<Q, N>,
-    pub cpus: Vec<Mutex<Place<NumberedCpu<Q>, N>>>,
-    pub inboxes: Vec<Mutex<Place<NumberedInbox, N>>>,
-    pub lobby: Mutex<Place<OneLobby, N>>,
+    pub cpus: Vec<Mutex<UnderLock<NumberedCpu<Q>, N>>>,
+    pub inboxes: Vec<Mutex<UnderLock<NumberedInbox, N>>>,
+    pub lobby: Mutex<UnderLock<OneLobby, N>>,
     pub room: Mutex<Room<Q, P>>,
     pub seats: u64,
     ghost about: { recorder.history.about ≡ P },

@@ -1,2 +1,2 @@
+pub mod Ahead
 pub mod Brief
-pub mod Told

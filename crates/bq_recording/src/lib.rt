@@ -9,7 +9,8 @@ mod lobby;
 mod pulling;
 pub mod recorder;
 mod running;
+mod told;
 mod waking;
 
 pub use loading::{Spare, one_spare};
-pub use recorder::{Caller, CpuCell, Place, Recorder, Seat, Shared, need_own};
+pub use recorder::{Caller, CpuCell, Recorder, Seat, need_own};

@@ -6,9 +6,9 @@ ghost use Rattle.bq_parts.specs.Refusals.{argument_refusal};
 ghost use Rattle.bq_parts.specs.declared.reply.Reply.TheVariants.{Drawn};
 ghost use Rattle.bq_cells.specs.Parts.{told_calls};
 
-use crate::recorder::{Caller, Place, Recorder};
-use bq_alike::Answer;
-use bq_cells::{Calls, NumberedCpu, Record};
+use crate::recorder::{Caller, Recorder};
+use crate::told::{answer_twice, both_records, no_calls, quiet_twice};
+use bq_cells::{NumberedCpu, Record, UnderLock};
 use bq_counters::Naming as Counting;
 use bq_disc::RunQueue;
 use bq_history::{Receipt, Room};
@@ -58,6 +58,18 @@ pub fn one_spare(alloc: Global, policy: &Option<Policy>) -> Result<Spare, AllocE
     })
 }
 
+/// That a policy, or none, is installed.
+fn install_event(processor: u8, hook: Hook, generation: u64, policy: Option<Policy>) -> Event
+    ensures { result ≡ Event.Install processor hook generation policy }
+{
+    Event::Install {
+        processor,
+        hook,
+        generation,
+        policy,
+    }
+}
+
 impl<Q: RunQueue + Drop, N: Naming + Counting> Recorder<Q, N> {
     /// Commits that a number is drawn.
     pub fn draw<R: Wait>(
@@ -73,22 +85,13 @@ impl<Q: RunQueue + Drop, N: Naming + Counting> Recorder<Q, N> {
         ensures event { result.0.entry.event ≡ Event.Draw }
         ensures reply { result.0.entry.reply ≡ Ok (Drawn result.1) }
     {
-        let mut guard = self.journal.lock(rt);
+        let mut guard = self.lock_journal(rt);
         let journal = &mut *guard;
-        journal.need_room(rt);
         let mut kept = journal.kept().again();
         let generation = kept.drawn.saturating_add(1);
         kept.drawn = generation;
-        let logged = Record {
-            event: Event::Draw,
-            reply: Answer::of(&Ok(Reply::Drawn { generation })),
-            calls: Calls::none(),
-        };
-        let entry = Record {
-            event: Event::Draw,
-            reply: Answer::of(&Ok(Reply::Drawn { generation })),
-            calls: Calls::none(),
-        };
+        let reply = Ok(Reply::Drawn { generation });
+        let (logged, entry) = quiet_twice(Event::Draw, &reply);
         let receipt = working.commit(&self.history, journal, room, logged, entry, Some(kept));
         (receipt, generation)
     }
@@ -98,7 +101,7 @@ impl<Q: RunQueue + Drop, N: Naming + Counting> Recorder<Q, N> {
         &self,
         rt: &R,
         working: &mut Caller<N>,
-        place: &mut Place<NumberedCpu<Q>, N>,
+        place: &mut UnderLock<NumberedCpu<Q>, N>,
         hook: Hook,
         spare: Spare,
     ) -> Receipt<Record>
@@ -116,31 +119,15 @@ impl<Q: RunQueue + Drop, N: Naming + Counting> Recorder<Q, N> {
             mut room,
         } = spare;
         let generation = installed.generation();
-        let mut guard = self.journal.lock(rt);
+        let mut guard = self.lock_journal(rt);
         let journal = &mut *guard;
-        journal.need_room(rt);
         let drawn = journal.kept().drawn;
         let reply = place.cell.content.state.replace(hook, drawn, installed);
-        let logged = Record {
-            event: Event::Install {
-                processor,
-                hook,
-                generation,
-                policy: for_record,
-            },
-            reply: Answer::of(&reply),
-            calls: Calls::none(),
-        };
-        let entry = Record {
-            event: Event::Install {
-                processor,
-                hook,
-                generation,
-                policy: for_receipt,
-            },
-            reply: Answer::of(&reply),
-            calls: Calls::none(),
-        };
+        let events = (
+            install_event(processor, hook, generation, for_record),
+            install_event(processor, hook, generation, for_receipt),
+        );
+        let (logged, entry) = both_records(events, answer_twice(&reply), no_calls());
         working.commit_one(
             &self.history,
             journal,

@@ -5,9 +5,9 @@ ghost use Rattle.bq_parts.specs.Refusals.{argument_refusal};
 ghost use Rattle.bq_parts.specs.Moves.{admitted};
 ghost use Rattle.bq_cells.specs.Parts.{told_calls};
 
-use crate::recorder::{Caller, Place, Recorder};
-use bq_alike::Answer;
-use bq_cells::{Calls, OneLobby, Record};
+use crate::recorder::{Caller, Recorder};
+use crate::told::quiet_twice;
+use bq_cells::{OneLobby, Record, UnderLock};
 use bq_counters::Naming as Counting;
 use bq_disc::RunQueue;
 use bq_history::{Receipt, Room};
@@ -21,7 +21,7 @@ impl<Q: RunQueue + Drop, N: Naming + Counting> Recorder<Q, N> {
         &self,
         rt: &R,
         working: &mut Caller<N>,
-        place: &mut Place<OneLobby, N>,
+        place: &mut UnderLock<OneLobby, N>,
         task: u16,
         nice: i8,
         mask: u64,
@@ -38,29 +38,15 @@ impl<Q: RunQueue + Drop, N: Naming + Counting> Recorder<Q, N> {
         ensures event { result.entry.event ≡ Event.Admit task nice mask slice }
     {
         let reply = place.cell.content.state.admit(task, new);
-        let logged = Record {
-            event: Event::Admit {
-                task,
-                nice,
-                mask,
-                slice,
-            },
-            reply: Answer::of(&reply),
-            calls: Calls::none(),
+        let event = Event::Admit {
+            task,
+            nice,
+            mask,
+            slice,
         };
-        let entry = Record {
-            event: Event::Admit {
-                task,
-                nice,
-                mask,
-                slice,
-            },
-            reply: Answer::of(&reply),
-            calls: Calls::none(),
-        };
-        let mut guard = self.journal.lock(rt);
+        let (logged, entry) = quiet_twice(event, &reply);
+        let mut guard = self.lock_journal(rt);
         let journal = &mut *guard;
-        journal.need_room(rt);
         working.commit_one(
             &self.history,
             journal,
@@ -77,7 +63,7 @@ impl<Q: RunQueue + Drop, N: Naming + Counting> Recorder<Q, N> {
         &self,
         rt: &R,
         working: &mut Caller<N>,
-        place: &mut Place<OneLobby, N>,
+        place: &mut UnderLock<OneLobby, N>,
         task: u16,
         room: &mut Room<Record>,
     ) -> Receipt<Record>
@@ -89,19 +75,9 @@ impl<Q: RunQueue + Drop, N: Naming + Counting> Recorder<Q, N> {
         ensures event { result.entry.event ≡ Event.Retire task }
     {
         let reply = place.cell.content.state.retire(task);
-        let logged = Record {
-            event: Event::Retire { task },
-            reply: Answer::of(&reply),
-            calls: Calls::none(),
-        };
-        let entry = Record {
-            event: Event::Retire { task },
-            reply: Answer::of(&reply),
-            calls: Calls::none(),
-        };
-        let mut guard = self.journal.lock(rt);
+        let (logged, entry) = quiet_twice(Event::Retire { task }, &reply);
+        let mut guard = self.lock_journal(rt);
         let journal = &mut *guard;
-        journal.need_room(rt);
         working.commit_one(
             &self.history,
             journal,

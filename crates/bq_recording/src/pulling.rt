@@ -3,9 +3,9 @@ ghost use Rattle.std.specs.Prelude.{◌≡◌, ◌≢◌, ◌∷◌, ◌++◌, [
 ghost use Rattle.bq_seats.specs.Calls.{account_of};
 ghost use Rattle.bq_cells.specs.Parts.{told_calls};
 
-use crate::recorder::{Caller, Place, Recorder};
-use bq_alike::Answer;
-use bq_cells::{CallRooms, NumberedCpu, Record, hold_calls};
+use crate::recorder::{Caller, Recorder};
+use crate::told::told_twice;
+use bq_cells::{CallRooms, NumberedCpu, Record, UnderLock, hold_calls};
 use bq_counters::Naming as Counting;
 use bq_disc::RunQueue;
 use bq_history::{Receipt, Room, look_at_both};
@@ -19,8 +19,8 @@ impl<Q: RunQueue + Drop, N: Naming + Counting> Recorder<Q, N> {
         &self,
         rt: &R,
         working: &mut Caller<N>,
-        place: &mut Place<NumberedCpu<Q>, N>,
-        source: &mut Place<NumberedCpu<Q>, N>,
+        place: &mut UnderLock<NumberedCpu<Q>, N>,
+        source: &mut UnderLock<NumberedCpu<Q>, N>,
         now: u64,
         room: &mut Room<Record>,
         rooms: &mut Option<CallRooms>,
@@ -48,30 +48,17 @@ impl<Q: RunQueue + Drop, N: Naming + Counting> Recorder<Q, N> {
             &mut desk,
         );
         working.stand(desk);
-        let mut guard = self.journal.lock(rt);
+        let mut guard = self.lock_journal(rt);
         let journal = &mut *guard;
-        journal.need_room(rt);
         let kept = journal.kept().after_pull(processor, from, &reply);
         let reply = Ok(reply);
-        let (for_record, for_receipt) = hold_calls(rooms, content.scratch.calls());
-        let logged = Record {
-            event: Event::Pull {
-                processor,
-                from,
-                now,
-            },
-            reply: Answer::of(&reply),
-            calls: for_record,
+        let calls = hold_calls(rooms, content.scratch.calls());
+        let event = Event::Pull {
+            processor,
+            from,
+            now,
         };
-        let entry = Record {
-            event: Event::Pull {
-                processor,
-                from,
-                now,
-            },
-            reply: Answer::of(&reply),
-            calls: for_receipt,
-        };
+        let (logged, entry) = told_twice(event, &reply, calls);
         working.commit_two(
             &self.history,
             journal,

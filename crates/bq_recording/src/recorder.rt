@@ -1,13 +1,14 @@
 //! What all callers share beside the locks of the world's parts.
-ghost use Rattle.std.specs.Prelude.{◌≡◌, ◌≤◌};
+ghost use Rattle.std.specs.Prelude.{◌≡◌, ◌≤◌, ◌<◌, ◌+◌, ◌^◌, length};
+ghost use Rattle.std.specs.Sync.Mutex.{mutex_guard_value};
 
-use bq_cells::{Kept, NumberedCpu, Part, Record, Sched, WorldState};
+use bq_cells::{Kept, NumberedCpu, Part, Record, Shared};
 use bq_counters::{Counters, Naming as Counting};
 use bq_disc::RunQueue;
-use bq_history::{Cell, History, Journal, Locked};
+use bq_history::{Cell, Journal};
 use bq_seats::Working;
 use bq_tie::Naming;
-use std::sync::{Mutex, Wait};
+use std::sync::{Mutex, MutexGuard, Wait};
 
 /// A caller's end of a machine. Contracts see it as its number and its receipts, in order.
 pub type Seat<N> = bq_seats::Seat<Record, Part, Kept, N>;
@@ -15,14 +16,11 @@ pub type Seat<N> = bq_seats::Seat<Record, Part, Kept, N>;
 /// What a seat has while an event is under way.
 pub type Caller<N> = Working<Record, Part, Kept, N>;
 
-/// The history, as all callers share it.
-pub type Shared<Q, N> = History<Record, WorldState, Part, Kept, u64, Sched<Q>, N>;
-
-/// What lies under a lock.
-pub type Place<A, N> = Locked<A, Record, Part, Kept, N>;
-
 /// A processor whose lock is held: its hand may be full.
 pub type CpuCell<Q, N> = Cell<NumberedCpu<Q>, Record, Part, Kept, N>;
+
+/// The journal, whose lock is held.
+pub(crate) type LockedJournal<'a, N> = MutexGuard<'a, Journal<Record, Part, Kept, N>>;
 
 /// The history with its journal, and the counters. Each event of a machine is recorded by one call here, under the locks of
 /// all parts that it touches; the call takes the journal's lock last.
@@ -33,6 +31,18 @@ pub struct Recorder<Q: RunQueue + Drop, N: Naming + Counting> {
     pub journal: Mutex<Journal<Record, Part, Kept, N>>,
     pub ghost few: { history.about ≤ 64 },
     pub ghost same: { counters ≡ history.callers },
+}
+
+impl<Q: RunQueue + Drop, N: Naming + Counting> Recorder<Q, N> {
+    /// Locks the journal, and waits for ever where no record fits any more.
+    #[inline(always)]
+    pub(crate) fn lock_journal<R: Wait>(&self, rt: &R) -> LockedJournal<'_, N>
+        ensures { length (mutex_guard_value result).0 + 1 < 2 ^ 64 }
+    {
+        let guard = self.journal.lock(rt);
+        guard.need_room(rt);
+        guard
+    }
 }
 
 /// Waits for ever where a lock holds another's content.

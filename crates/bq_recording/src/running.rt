@@ -3,9 +3,9 @@ ghost use Rattle.std.specs.Prelude.{◌≡◌, ◌∷◌, ◌++◌, [], true, is
 ghost use Rattle.bq_seats.specs.Calls.{account_of};
 ghost use Rattle.bq_cells.specs.Parts.{told_calls};
 
-use crate::recorder::{Caller, Place, Recorder};
-use bq_alike::Answer;
-use bq_cells::{CallRooms, Calls, NumberedCpu, NumberedInbox, OneLobby, Record, hold_calls};
+use crate::recorder::{Caller, Recorder};
+use crate::told::{quiet_twice, told_twice};
+use bq_cells::{CallRooms, NumberedCpu, NumberedInbox, OneLobby, Record, UnderLock, hold_calls};
 use bq_counters::Naming as Counting;
 use bq_disc::RunQueue;
 use bq_history::{Receipt, Room, look_at_both};
@@ -19,7 +19,7 @@ impl<Q: RunQueue + Drop, N: Naming + Counting> Recorder<Q, N> {
         &self,
         rt: &R,
         working: &mut Caller<N>,
-        place: &mut Place<NumberedCpu<Q>, N>,
+        place: &mut UnderLock<NumberedCpu<Q>, N>,
         now: u64,
         room: &mut Room<Record>,
         rooms: &mut Option<CallRooms>,
@@ -41,20 +41,10 @@ impl<Q: RunQueue + Drop, N: Naming + Counting> Recorder<Q, N> {
             .tick(processor, now, &mut content.scratch, &mut desk);
         working.stand(desk);
         let reply = Ok(reply);
-        let (for_record, for_receipt) = hold_calls(rooms, content.scratch.calls());
-        let logged = Record {
-            event: Event::Tick { processor, now },
-            reply: Answer::of(&reply),
-            calls: for_record,
-        };
-        let entry = Record {
-            event: Event::Tick { processor, now },
-            reply: Answer::of(&reply),
-            calls: for_receipt,
-        };
-        let mut guard = self.journal.lock(rt);
+        let calls = hold_calls(rooms, content.scratch.calls());
+        let (logged, entry) = told_twice(Event::Tick { processor, now }, &reply, calls);
+        let mut guard = self.lock_journal(rt);
         let journal = &mut *guard;
-        journal.need_room(rt);
         working.commit_one(
             &self.history,
             journal,
@@ -71,8 +61,8 @@ impl<Q: RunQueue + Drop, N: Naming + Counting> Recorder<Q, N> {
         &self,
         rt: &R,
         working: &mut Caller<N>,
-        place: &mut Place<NumberedCpu<Q>, N>,
-        inbox: &mut Place<NumberedInbox, N>,
+        place: &mut UnderLock<NumberedCpu<Q>, N>,
+        inbox: &mut UnderLock<NumberedInbox, N>,
         now: u64,
         room: &mut Room<Record>,
         rooms: &mut Option<CallRooms>,
@@ -99,20 +89,10 @@ impl<Q: RunQueue + Drop, N: Naming + Counting> Recorder<Q, N> {
         );
         working.stand(desk);
         let reply = Ok(reply);
-        let (for_record, for_receipt) = hold_calls(rooms, content.scratch.calls());
-        let logged = Record {
-            event: Event::Drain { processor, now },
-            reply: Answer::of(&reply),
-            calls: for_record,
-        };
-        let entry = Record {
-            event: Event::Drain { processor, now },
-            reply: Answer::of(&reply),
-            calls: for_receipt,
-        };
-        let mut guard = self.journal.lock(rt);
+        let calls = hold_calls(rooms, content.scratch.calls());
+        let (logged, entry) = told_twice(Event::Drain { processor, now }, &reply, calls);
+        let mut guard = self.lock_journal(rt);
         let journal = &mut *guard;
-        journal.need_room(rt);
         working.commit_two(
             &self.history,
             journal,
@@ -130,8 +110,8 @@ impl<Q: RunQueue + Drop, N: Naming + Counting> Recorder<Q, N> {
         &self,
         rt: &R,
         working: &mut Caller<N>,
-        place: &mut Place<NumberedCpu<Q>, N>,
-        lobby: &mut Place<OneLobby, N>,
+        place: &mut UnderLock<NumberedCpu<Q>, N>,
+        lobby: &mut UnderLock<OneLobby, N>,
         now: u64,
         room: &mut Room<Record>,
     ) -> Receipt<Record>
@@ -148,19 +128,9 @@ impl<Q: RunQueue + Drop, N: Naming + Counting> Recorder<Q, N> {
             .content
             .state
             .block(&mut lobby.cell.content.state, processor, now);
-        let logged = Record {
-            event: Event::Block { processor, now },
-            reply: Answer::of(&reply),
-            calls: Calls::none(),
-        };
-        let entry = Record {
-            event: Event::Block { processor, now },
-            reply: Answer::of(&reply),
-            calls: Calls::none(),
-        };
-        let mut guard = self.journal.lock(rt);
+        let (logged, entry) = quiet_twice(Event::Block { processor, now }, &reply);
+        let mut guard = self.lock_journal(rt);
         let journal = &mut *guard;
-        journal.need_room(rt);
         let kept = journal.kept().after_block(processor, &reply);
         working.commit_two(
             &self.history,

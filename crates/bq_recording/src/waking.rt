@@ -1,21 +1,29 @@
 //! Both events of a wake: a task of the lobby comes into a processor's hand, and is placed.
-ghost use Rattle.std.specs.Prelude.{◌≡◌, ◌∷◌, ◌++◌, ◌<◌, ◌⊎◌, [], None, Some, IfErr, OnOk, OnErr, length, true, is_some};
+ghost use Rattle.std.specs.Prelude.{◌≡◌, ◌∷◌, ◌++◌, ◌<◌, ◌≤◌, ◌⊎◌, [], None, Some, IfErr, IfSome, OnOk, OnErr, length, true, is_some};
 ghost use Rattle.std.specs.Option.{option_map};
+ghost use Rattle.std.specs.Sync.Mutex.{mutex_guard_value};
 ghost use Rattle.bq_history.specs.Items.{part_item};
-ghost use Rattle.bq_seats.specs.Calls.{account_of};
+ghost use Rattle.bq_hooks.specs.OwnPlace.{HasPlace};
+ghost use Rattle.bq_seats.specs.Calls.{account_of, ahead};
+ghost use Rattle.bq_parts.specs.Choices.{policies};
+ghost use Rattle.bq_parts.specs.Shares.{Places};
 ghost use Rattle.bq_parts.specs.declared.refusal.Refusal.TheVariants as no;
 ghost use Rattle.bq_cells.specs.Parts.{cpu_part, told_calls};
 ghost use Rattle.bq_recording.specs.Placing.{IsPlaced};
 
-use crate::recorder::{Caller, CpuCell, Place, Recorder, need_own};
+use crate::recorder::{Caller, CpuCell, Recorder, need_own};
+use crate::told::{both_records, event_twice, no_calls, told_twice};
 use bq_alike::Answer;
-use bq_cells::{CallRooms, Calls, NumberedInbox, OneLobby, Record, hold_calls};
+use bq_cells::{CallRooms, NumberedCpu, NumberedInbox, OneLobby, Record, UnderLock, hold_calls};
 use bq_counters::Naming as Counting;
 use bq_disc::RunQueue;
 use bq_history::{Receipt, Room};
 use bq_parts::{Event, Loads, Placement, Reply};
 use bq_tie::Naming;
-use std::sync::{Mutex, Wait};
+use std::sync::{Mutex, MutexGuard, Wait};
+
+/// An inbox whose lock is held.
+type LockedInbox<'a, N> = MutexGuard<'a, UnderLock<NumberedInbox, N>>;
 
 impl<Q: RunQueue + Drop, N: Naming + Counting> Recorder<Q, N> {
     /// Commits that a wake began, under the locks of its processor and of the lobby. The loads are those that the journal
@@ -25,7 +33,7 @@ impl<Q: RunQueue + Drop, N: Naming + Counting> Recorder<Q, N> {
         rt: &R,
         working: &mut Caller<N>,
         cell: &mut CpuCell<Q, N>,
-        lobby: &mut Place<OneLobby, N>,
+        lobby: &mut UnderLock<OneLobby, N>,
         task: u16,
         room: &mut Room<Record>,
         for_record: Box<Loads>,
@@ -47,23 +55,18 @@ impl<Q: RunQueue + Drop, N: Naming + Counting> Recorder<Q, N> {
     {
         lobby.look(&self.history);
         let processor = cell.content.number;
-        let mut guard = self.journal.lock(rt);
+        let mut guard = self.lock_journal(rt);
         let journal = &mut *guard;
-        journal.need_room(rt);
         let reply = cell
             .content
             .state
             .begin_wake(&mut lobby.cell.content.state, task, &journal.kept().loads);
-        let logged = Record {
-            event: Event::BeginWake { processor, task },
-            reply: Answer::with_room(&reply, for_record),
-            calls: Calls::none(),
-        };
-        let entry = Record {
-            event: Event::BeginWake { processor, task },
-            reply: Answer::with_room(&reply, for_receipt),
-            calls: Calls::none(),
-        };
+        let events = event_twice(Event::BeginWake { processor, task });
+        let answers = (
+            Answer::with_room(&reply, for_record),
+            Answer::with_room(&reply, for_receipt),
+        );
+        let (logged, entry) = both_records(events, answers, no_calls());
         working.commit_two(
             &self.history,
             journal,
@@ -83,7 +86,7 @@ impl<Q: RunQueue + Drop, N: Naming + Counting> Recorder<Q, N> {
         rt: &R,
         working: &mut Caller<N>,
         cell: &mut CpuCell<Q, N>,
-        inboxes: &[Mutex<Place<NumberedInbox, N>>],
+        inboxes: &[Mutex<UnderLock<NumberedInbox, N>>],
         task: u16,
         now: u64,
         room: &mut Room<Record>,
@@ -104,29 +107,14 @@ impl<Q: RunQueue + Drop, N: Naming + Counting> Recorder<Q, N> {
     {
         cell.look(&self.history);
         let processor = cell.content.number;
-        let content = &mut cell.content;
-        content.scratch.clear();
-        let mut desk = working.sit(&self.counters);
-        let Some(placement) = content.state.end_wake(
-            processor,
-            inboxes.len(),
-            now,
-            &mut content.scratch,
-            &mut desk,
-        )
-        else {
-            unreachable!()
-        };
-        working.stand(desk);
         let Placement {
             task: woken,
             to,
             by,
             steps,
-        } = placement;
-        let mut guard = inboxes[usize::from(to)].lock(rt);
+        } = self.place_task(working, &mut cell.content, inboxes.len(), now);
+        let mut guard = lock_inbox(rt, inboxes, to);
         let inbox = &mut *guard;
-        need_own(rt, inbox.cell.content.number, to);
         inbox.look(&self.history);
         inbox.cell.content.state.push(woken);
         let reply = Ok(Reply::Placed {
@@ -135,20 +123,10 @@ impl<Q: RunQueue + Drop, N: Naming + Counting> Recorder<Q, N> {
             by,
             steps,
         });
-        let (for_record, for_receipt) = hold_calls(rooms, content.scratch.calls());
-        let logged = Record {
-            event: Event::EndWake { processor, now },
-            reply: Answer::of(&reply),
-            calls: for_record,
-        };
-        let entry = Record {
-            event: Event::EndWake { processor, now },
-            reply: Answer::of(&reply),
-            calls: for_receipt,
-        };
-        let mut guard = self.journal.lock(rt);
+        let calls = hold_calls(rooms, cell.content.scratch.calls());
+        let (logged, entry) = told_twice(Event::EndWake { processor, now }, &reply, calls);
+        let mut guard = self.lock_journal(rt);
         let journal = &mut *guard;
-        journal.need_room(rt);
         let mut kept = journal.kept().again();
         kept.one_more(to);
         working.commit_two(
@@ -162,4 +140,52 @@ impl<Q: RunQueue + Drop, N: Naming + Counting> Recorder<Q, N> {
             Some(kept),
         )
     }
+
+    /// The task in the hand is given, and it is chosen where it goes among so many processors.
+    fn place_task(
+        &self,
+        working: &mut Caller<N>,
+        content: &mut NumberedCpu<Q>,
+        count: usize,
+        now: u64,
+    ) -> Placement
+        requires few { count ≤ 64 }
+        requires hand { is_some content.old.state.hand ≡ true }
+        requires usable { IfSome content.old.state.hand (λ c. HasPlace count c.task) }
+        requires tally { working.old.tally ≡ account_of told_calls working.old.caller.1 }
+        ensures number { content.new.number ≡ content.old.number }
+        ensures share { Places (policies Q.R.discipline) count content.old.number now content.old.state content.new.scratch (Some result) content.new.state }
+        ensures below { result.to < count }
+        ensures caller { working.new.caller ≡ working.old.caller }
+        ensures tally { working.new.tally ≡ ahead told_calls working.new.caller.1 content.new.scratch }
+    {
+        content.scratch.clear();
+        let mut desk = working.sit(&self.counters);
+        let placement = content.state.end_wake(
+            content.number,
+            count,
+            now,
+            &mut content.scratch,
+            &mut desk,
+        );
+        working.stand(desk);
+        let Some(placement) = placement else {
+            unreachable!()
+        };
+        placement
+    }
+}
+
+/// Locks the inbox of a processor.
+fn lock_inbox<'a, N: Naming, R: Wait>(
+    rt: &R,
+    inboxes: &'a [Mutex<UnderLock<NumberedInbox, N>>],
+    processor: u8,
+) -> LockedInbox<'a, N>
+    requires { processor < length inboxes.now }
+    ensures { (mutex_guard_value result).number ≡ processor }
+{
+    let guard = inboxes[usize::from(processor)].lock(rt);
+    need_own(rt, guard.cell.content.number, processor);
+    guard
 }

@@ -1,8 +1,7 @@
-use Rattle.std.proofs.Common.{rules, FitsSigned, w8, ap, sym, ◌∙◌}
+use Rattle.std.proofs.Common.{rules, FitsSigned, w8}
 use Rattle.std.proofs.lemmas.Int.{to_z-of_z}
-use Rattle.bq_cells.specs.Parts.{lobby_part, told_calls}
+use Rattle.bq_cells.specs.Parts.{lobby_part}
 use Rattle.bq_cells.proofs.CallSteps.{admit_moves}
-use Rattle.bq_seats.specs.Calls.{ahead}
 use Rattle.bq_recording.proofs.Brief.{admits_brief}
 use Rattle.bq_recording.proofs.recorder.Recorder.admit.Goals as goal
 
@@ -14,15 +13,12 @@ commit_one-requires-clause-moves g c =
     let fits : FitsSigned w8 a.nice = search rules in (
       lobby_part own,
       c.place.invariant.0,
-      rw (c.of-2.ensures, c.none-2.ensures, to_z-of_z w8 a.nice fits)
+      rw (c.quiet_twice-logged.ensures.entry, to_z-of_z w8 a.nice fits)
           (admit_moves g.Q.R.Rule.discipline a.self.now.history.about a.task a.nice a.mask a.slice own c.admit-reply.new.self k c.admit-reply.result c.requires.fits (rw c.requires.new at c.admit-reply.ensures.share)),
     )
 
 pub commit_one-requires-clause-told : goal.commit_one-requires-clause-told
-commit_one-requires-clause-told g c = c.requires.tally ∙ ap (λ l. ahead told_calls c.args.working.now.caller.1 l) (sym c.none-2.ensures)
+commit_one-requires-clause-told g c = rw c.quiet_twice-logged.ensures.entry c.requires.tally
 
-pub of-requires : goal.of-requires
-of-requires g c = admits_brief c.args.task _ _ c.admit-reply.result c.admit-reply.new.self c.admit-reply.ensures.share
-
-pub of-requires-2 : goal.of-requires-2
-of-requires-2 g c = admits_brief c.args.task _ _ c.admit-reply.result c.admit-reply.new.self c.admit-reply.ensures.share
+pub quiet_twice-logged-requires-clause-answer : goal.quiet_twice-logged-requires-clause-answer
+quiet_twice-logged-requires-clause-answer g c = admits_brief c.args.task _ _ c.admit-reply.result c.admit-reply.new.self c.admit-reply.ensures.share

@@ -1,10 +1,9 @@
-use Rattle.std.proofs.Common.{ap, sym, ◌∙◌}
+use Rattle.std.proofs.Common.{◌∙◌}
 use Rattle.bq_parts.specs.Shares.{Begins}
-use Rattle.bq_cells.specs.Parts.{cpu_part, lobby_part, told_calls}
+use Rattle.bq_cells.specs.Parts.{cpu_part, lobby_part}
 use Rattle.bq_cells.proofs.Looked.{SeenLobby, seen_own}
 use Rattle.bq_cells.proofs.Woken.{begun_hand}
 use Rattle.bq_cells.proofs.CallSteps.{begin_moves}
-use Rattle.bq_seats.specs.Calls.{ahead}
 use Rattle.bq_recording.proofs.recorder.Recorder.begin_wake.Goals as goal
 
 pub commit_two-requires-clause-moves : goal.commit_two-requires-clause-moves
@@ -20,12 +19,12 @@ commit_two-requires-clause-moves g c =
       lobby_part hall,
       c.requires.says,
       c.lobby.invariant.0,
-      rw (c.none-2.ensures, c.with_room-2.ensures)
+      rw (c.both_records-logged.ensures.entry, c.event_twice-events.ensures.entry, c.with_room-2.ensures, c.no_calls.ensures.entry)
           (begin_moves d n own.number c.args.task own.state b.new.self hall b.new.lobby k b.result c.requires.seat share),
     )
 
 pub commit_two-requires-clause-told : goal.commit_two-requires-clause-told
-commit_two-requires-clause-told g c = c.requires.tally ∙ ap (λ l. ahead told_calls c.args.working.now.caller.1 l) (sym c.none-2.ensures)
+commit_two-requires-clause-told g c = rw (c.both_records-logged.ensures.entry, c.no_calls.ensures.entry) c.requires.tally
 
 pub returns-clause-hand : goal.returns-clause-hand
 returns-clause-hand g c =
@@ -38,4 +37,4 @@ returns-clause-hand g c =
     let there = c.lobby.view_is ∙ c.look.ensures.same in
     let seen : SeenLobby d n hall = rw there c.look.ensures.world in
     let share : Begins c.args.task k.loads own.state hall b.result b.new.self b.new.lobby = rw c.kept.ensures at b.ensures.share in
-    rw (c.commit_two.ensures.receipt.1, c.with_room-2.ensures, c.commit_two.ensures.a.0) (begun_hand c.args.task k.loads own.state hall b.result b.new.self b.new.lobby share (seen_own d n hall seen c.args.task))
+    rw (c.commit_two.ensures.receipt.1, c.both_records-logged.ensures.entry, c.with_room-2.ensures, c.commit_two.ensures.a.0) (begun_hand c.args.task k.loads own.state hall b.result b.new.self b.new.lobby share (seen_own d n hall seen c.args.task))

@@ -1,10 +1,8 @@
-use Rattle.std.proofs.Common.{◌≡◌, ◌∙◌, ap, sym}
+use Rattle.std.proofs.Common.{◌≡◌, ◌∙◌}
 use Rattle.bq_history.specs.Items.{kept_after}
 use Rattle.bq_cells.specs.Parts.{cpu_part, lobby_part, kept_by_block}
 use Rattle.bq_cells.proofs.Looked.{Seen, seen_seated}
 use Rattle.bq_cells.proofs.CallSteps.{block_moves}
-use Rattle.bq_seats.specs.Calls.{ahead}
-use Rattle.bq_cells.specs.Parts.{told_calls}
 use Rattle.bq_recording.proofs.Brief.{blocks_brief}
 use Rattle.bq_recording.proofs.recorder.Recorder.block.Goals as goal
 
@@ -30,15 +28,12 @@ commit_two-requires-clause-moves g c =
       lobby_part hall,
       c.place.invariant.0,
       c.lobby.invariant.0,
-      rw (c.of-2.ensures, c.none-2.ensures, after)
+      rw (c.quiet_twice-logged.ensures.entry, after)
           (block_moves d n own.number c.args.now own.state b.new.self hall b.new.lobby k b.result b.ensures.share),
     )
 
 pub commit_two-requires-clause-told : goal.commit_two-requires-clause-told
-commit_two-requires-clause-told g c = c.requires.tally ∙ ap (λ l. ahead told_calls c.args.working.now.caller.1 l) (sym c.none-2.ensures)
+commit_two-requires-clause-told g c = rw c.quiet_twice-logged.ensures.entry c.requires.tally
 
-pub of-requires : goal.of-requires
-of-requires g c = blocks_brief g.Q.R.Rule.discipline c.place.inside.cell.content.number c.args.now c.place.inside.cell.content.state c.lobby.inside.cell.content.state c.block-reply.result c.block-reply.new.self c.block-reply.new.lobby c.block-reply.ensures.share
-
-pub of-requires-2 : goal.of-requires-2
-of-requires-2 g c = blocks_brief g.Q.R.Rule.discipline c.place.inside.cell.content.number c.args.now c.place.inside.cell.content.state c.lobby.inside.cell.content.state c.block-reply.result c.block-reply.new.self c.block-reply.new.lobby c.block-reply.ensures.share
+pub quiet_twice-logged-requires-clause-answer : goal.quiet_twice-logged-requires-clause-answer
+quiet_twice-logged-requires-clause-answer g c = blocks_brief g.Q.R.Rule.discipline c.place.inside.cell.content.number c.args.now c.place.inside.cell.content.state c.lobby.inside.cell.content.state c.block-reply.result c.block-reply.new.self c.block-reply.new.lobby c.block-reply.ensures.share

@@ -1,10 +1,8 @@
 use Rattle.std.proofs.Common.{Ok, ◌≡◌, ℕ, ap, sym, subst, ◌∙◌}
-use Rattle.bq_parts.specs.Choices.{policies}
-use Rattle.bq_parts.specs.Shares.{Drains}
 use Rattle.bq_cells.specs.Parts.{cpu_part, inbox_part, HasPart}
 use Rattle.bq_cells.proofs.Looked.{SeenBoth, both_once, both_seated}
 use Rattle.bq_cells.proofs.CallSteps.{drain_moves}
-use Rattle.bq_recording.proofs.Told.{told_of}
+use Rattle.bq_recording.proofs.Ahead.{ahead_of}
 use Rattle.bq_alike.specs.Brief.{has_loads}
 use Rattle.bq_recording.proofs.recorder.Recorder.drain.Goals as goal
 
@@ -48,26 +46,22 @@ commit_two-requires-clause-moves g c =
     let there = c.inbox.view_is ∙ c.look_at_both.ensures.b in
     let same : box.number ≡ own.number = ap (λ x. x.number) there ∙ c.requires.own ∙ sym (ap (λ x. x.number) here) in
     let k = c.deref_mut-journal.result.now.1 in
-    let t = c.drain-reply in
-    let calls : c.hold_calls-for_record.result.1 ≡ t.new.scratch = c.hold_calls-for_record.ensures.receipt ∙ c.calls.ensures.value in
-    let share : Drains (policies d) own.number c.args.now own.state box.state c.hold_calls-for_record.result.1 t.result t.new.self = rw calls t.ensures.share in (
+    let t = c.drain-reply in (
       cpu_part own.number own.state,
       inbox_part box.number box.state,
       c.place.invariant.0,
       c.inbox.invariant.0,
-      rw (c.of-2.ensures, t.ensures.emptied, same) (drain_moves d n own.number c.args.now own.state t.new.self box.state c.hold_calls-for_record.result.1 k t.result share),
+      rw (c.told_twice-logged.ensures.entry, c.hold_calls-calls.ensures.receipt, c.calls.ensures.value, t.ensures.emptied, same)
+          (drain_moves d n own.number c.args.now own.state t.new.self box.state t.new.scratch k t.result t.ensures.share),
     )
 
 pub commit_two-requires-clause-told : goal.commit_two-requires-clause-told
 commit_two-requires-clause-told g c =
     let t = c.drain-reply in
-    let calls : c.hold_calls-for_record.result.1 ≡ t.new.scratch = c.hold_calls-for_record.ensures.receipt ∙ c.calls.ensures.value in
-    told_of (λ x. x.tally) c.sit-desk.result t.new.board c.args.working.now.caller.1 c.stand.new.self.caller.1 t.new.scratch c.hold_calls-for_record.result.1 c.stand.new.self.tally
+    rw (c.told_twice-logged.ensures.entry, c.hold_calls-calls.ensures.receipt, c.calls.ensures.value)
+    (ahead_of (λ x. x.tally) c.sit-desk.result t.new.board c.args.working.now.caller.1 c.stand.new.self.caller.1 t.new.scratch c.stand.new.self.tally
     (c.sit-desk.ensures.desk ∙ c.requires.tally) t.ensures.board c.stand.ensures.tally
-    (ap (λ x. x.1) (c.stand.ensures.caller ∙ c.sit-desk.ensures.caller)) calls
+    (ap (λ x. x.1) (c.stand.ensures.caller ∙ c.sit-desk.ensures.caller)))
 
-pub of-requires : goal.of-requires
-of-requires g c = ap (λ r. has_loads (Ok r)) c.drain-reply.ensures.share.3
-
-pub of-requires-2 : goal.of-requires-2
-of-requires-2 g c = ap (λ r. has_loads (Ok r)) c.drain-reply.ensures.share.3
+pub told_twice-logged-requires-clause-answer : goal.told_twice-logged-requires-clause-answer
+told_twice-logged-requires-clause-answer g c = ap (λ r. has_loads (Ok r)) c.drain-reply.ensures.share.3

@@ -1,4 +1,4 @@
-use Rattle.std.proofs.Common.{◌≡◌, length, ap, sym, ◌∙◌, arith, Some}
+use Rattle.std.proofs.Common.{◌≡◌, length, ap, ◌∙◌, arith, Some}
 use Rattle.std.specs.Option.{option_map}
 use Rattle.bq_parts.specs.declared.carried.Carried.{Carried}
 use Rattle.bq_parts.specs.Choices.{policies}
@@ -7,11 +7,10 @@ use Rattle.bq_cells.specs.Parts.{cpu_part, inbox_part}
 use Rattle.bq_cells.proofs.Looked.{Seen, SeenInbox, seen_usable, seen_few}
 use Rattle.bq_cells.proofs.Woken.{placed_own}
 use Rattle.bq_cells.proofs.CallSteps.{place_moves}
-use Rattle.bq_recording.proofs.Told.{told_of}
 use Rattle.bq_recording.proofs.recorder.Recorder.end_wake.Goals as goal
 
-pub end_wake-requires-clause-usable : goal.end_wake-requires-clause-usable
-end_wake-requires-clause-usable g c =
+pub place_task-woken-requires-clause-usable : goal.place_task-woken-requires-clause-usable
+place_task-woken-requires-clause-usable g c =
     let d = g.Q.R.Rule.discipline in
     let n = c.args.self.now.history.about in
     let own = c.look.new.self.content in
@@ -24,8 +23,8 @@ pub push-requires : goal.push-requires
 push-requires g c =
     let d = g.Q.R.Rule.discipline in
     let n = c.args.self.now.history.about in
-    let box = c.inbox-2.inside.cell.content in
-    let there = c.inbox-2.view_is ∙ c.look-2.ensures.same in
+    let box = c.inbox.inside.cell.content in
+    let there = c.inbox.view_is ∙ c.look-2.ensures.same in
     let seen : SeenInbox d n box.number box.state = rw there c.look-2.ensures.world in
     omega (arith, seen_few d n box.number box.state seen)
 
@@ -34,29 +33,24 @@ commit_two-requires-clause-moves g c =
     let d = g.Q.R.Rule.discipline in
     let n = c.args.self.now.history.about in
     let own = c.look.new.self.content in
-    let box = c.inbox-2.inside.cell.content in
+    let box = c.inbox.inside.cell.content in
     let k = c.deref_mut-journal.result.now.1 in
-    let x = c.in-Some.placement in
-    let q = c.end_wake.new.self in
-    let there = c.inbox-2.view_is ∙ c.look-2.ensures.same in
-    let same : box.number ≡ x.to = ap (λ b. b.number) (there ∙ sym c.inbox.view_is) ∙ c.need_own.ensures in
+    let p = c.place_task-woken in
+    let x = p.result in
+    let there = c.inbox.view_is ∙ c.look-2.ensures.same in
+    let same : box.number ≡ x.to = ap (λ b. b.number) (there ∙ c.deref_mut-inbox.ensures.value) ∙ c.lock_inbox-guard.ensures in
     let count : length c.args.inboxes.now ≡ n = c.requires.inboxes in
-    let calls : c.hold_calls-for_record.result.1 ≡ c.end_wake.new.scratch = c.hold_calls-for_record.ensures.receipt ∙ c.calls.ensures.value in
-    let share : Places (policies d) n own.number c.args.now own.state c.hold_calls-for_record.result.1 (Some x) q = rw calls (rw count at c.in-Some.ensures.share) in
+    let share : Places (policies d) n own.number c.args.now own.state p.new.content.scratch (Some x) p.new.content.state = rw count at p.ensures.share in
     let hand : option_map (λ (y : Carried). y.task.id) own.state.hand ≡ Some c.args.task = rw c.look.ensures.same c.requires.hand in
     let asked : c.args.task ≡ x.task.id = placed_own c.args.task own.state.hand share.0 x hand share.2 share.3 in (
       cpu_part own.number own.state,
       inbox_part box.number box.state,
       rw c.look.ensures.same c.requires.says,
-      c.inbox-2.invariant.0,
-      rw (c.of-2.ensures, c.one_more.ensures, c.again-kept.ensures, c.kept.ensures, c.push.ensures, same)
-          (place_moves d n own.number c.args.now c.args.task own.state q box.state c.hold_calls-for_record.result.1 k x asked share),
+      c.inbox.invariant.0,
+      rw (c.told_twice-logged.ensures.entry, c.hold_calls-calls.ensures.receipt, c.calls.ensures.value, c.one_more.ensures, c.again-kept.ensures, c.kept.ensures, c.push.ensures, p.ensures.number, same)
+          (place_moves d n own.number c.args.now c.args.task own.state p.new.content.state box.state p.new.content.scratch k x asked share),
     )
 
 pub commit_two-requires-clause-told : goal.commit_two-requires-clause-told
 commit_two-requires-clause-told g c =
-    let t = c.end_wake in
-    let calls : c.hold_calls-for_record.result.1 ≡ t.new.scratch = c.hold_calls-for_record.ensures.receipt ∙ c.calls.ensures.value in
-    told_of (λ x. x.tally) c.sit-desk.result t.new.board c.args.working.now.caller.1 c.stand.new.self.caller.1 t.new.scratch c.hold_calls-for_record.result.1 c.stand.new.self.tally
-    (c.sit-desk.ensures.desk ∙ c.requires.tally) t.ensures.board c.stand.ensures.tally
-    (ap (λ x. x.1) (c.stand.ensures.caller ∙ c.sit-desk.ensures.caller)) calls
+    rw (c.told_twice-logged.ensures.entry, c.hold_calls-calls.ensures.receipt, c.calls.ensures.value) c.place_task-woken.ensures.tally

@@ -1,13 +1,12 @@
-use Rattle.std.proofs.Common.{◌≡◌, ℕ, List, None, ap, subst, sym, ◌∙◌}
+use Rattle.std.proofs.Common.{◌≡◌, ℕ, List, None, ap, subst}
 use Rattle.bq_policies.specs.Answers.{fresh_maps}
 use Rattle.bq_policies.specs.Programs.{Program}
 use Rattle.bq_parts.specs.declared.event.Event.TheVariants.{Install}
 use Rattle.bq_parts.specs.Refusals.{argument_refusal}
 use Rattle.bq_parts.specs.Shares.{Installs}
 use Rattle.bq_core.proofs.Installs.{install_suits}
-use Rattle.bq_cells.specs.Parts.{cpu_part, told_calls}
+use Rattle.bq_cells.specs.Parts.{cpu_part}
 use Rattle.bq_cells.proofs.CallSteps.{install_moves}
-use Rattle.bq_seats.specs.Calls.{ahead}
 use Rattle.bq_recording.proofs.Brief.{installs_brief}
 use Rattle.bq_recording.proofs.recorder.Recorder.install.Goals as goal
 
@@ -32,15 +31,12 @@ commit_one-requires-clause-moves g c =
     let share = subst (λ (x : Program). Installs h k.drawn own.state x r q) whole had in (
       cpu_part own.number own.state,
       c.place.invariant.0,
-      rw (c.of-2.ensures, c.none-2.ensures, c.generation-generation.ensures.value, c.args.spare.receipt_is)
+      rw (c.both_records-logged.ensures.entry, c.install_event-2.ensures, c.answer_twice.ensures.entry, c.no_calls.ensures.entry, c.generation-generation.ensures.value, c.args.spare.receipt_is)
           (install_moves d n own.number i.generation h i.policy own.state q k r fits share),
     )
 
 pub commit_one-requires-clause-told : goal.commit_one-requires-clause-told
-commit_one-requires-clause-told g c = c.requires.tally ∙ ap (λ l. ahead told_calls c.args.working.now.caller.1 l) (sym c.none-2.ensures)
+commit_one-requires-clause-told g c = rw (c.both_records-logged.ensures.entry, c.no_calls.ensures.entry) c.requires.tally
 
-pub of-requires : goal.of-requires
-of-requires g c = installs_brief c.args.hook _ _ _ c.replace-reply.result c.replace-reply.new.self c.replace-reply.ensures.share
-
-pub of-requires-2 : goal.of-requires-2
-of-requires-2 g c = installs_brief c.args.hook _ _ _ c.replace-reply.result c.replace-reply.new.self c.replace-reply.ensures.share
+pub answer_twice-requires : goal.answer_twice-requires
+answer_twice-requires g c = installs_brief c.args.hook _ _ _ c.replace-reply.result c.replace-reply.new.self c.replace-reply.ensures.share

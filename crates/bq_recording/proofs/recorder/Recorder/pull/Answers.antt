@@ -1,12 +1,10 @@
 use Rattle.std.proofs.Common.{Ok, ◌≡◌, ◌≢◌, ap, ◌∙◌, arith}
-use Rattle.bq_parts.specs.Choices.{policies}
-use Rattle.bq_parts.specs.Shares.{Pulls}
 use Rattle.bq_history.specs.Items.{kept_after}
 use Rattle.bq_cells.specs.Parts.{cpu_part, kept_by_pull}
 use Rattle.bq_cells.proofs.Reached.{reached_sound}
 use Rattle.bq_cells.proofs.Looked.{SeenTwo, two_once, two_seated}
 use Rattle.bq_cells.proofs.PullSteps.{pull_moves}
-use Rattle.bq_recording.proofs.Told.{told_of}
+use Rattle.bq_recording.proofs.Ahead.{ahead_of}
 use Rattle.bq_alike.specs.Brief.{has_loads}
 use Rattle.bq_recording.proofs.recorder.Recorder.pull.Goals as goal
 
@@ -56,27 +54,22 @@ commit_two-requires-clause-moves g c =
     let apart : own.number ≢ other.number = rw (here, there) c.requires.apart in
     let k = c.deref_mut-journal.result.now.1 in
     let t = c.pull-reply in
-    let calls : c.hold_calls-for_record.result.1 ≡ t.new.scratch = c.hold_calls-for_record.ensures.receipt ∙ c.calls.ensures.value in
-    let share : Pulls (policies d) own.number other.number c.args.now own.state other.state c.hold_calls-for_record.result.1 t.result t.new.self t.new.source = rw calls t.ensures.share in
     let after : kept_after k c.after_pull-kept.result ≡ kept_by_pull own.number other.number t.result k = rw c.kept.ensures at c.after_pull-kept.ensures in (
       cpu_part own.number own.state,
       cpu_part other.number other.state,
       c.place.invariant.0,
       c.source.invariant.0,
-      rw (c.of-2.ensures, after)
-          (pull_moves d n own.number other.number c.args.now own.state t.new.self other.state t.new.source c.hold_calls-for_record.result.1 k t.result apart share),
+      rw (c.told_twice-logged.ensures.entry, c.hold_calls-calls.ensures.receipt, c.calls.ensures.value, after)
+          (pull_moves d n own.number other.number c.args.now own.state t.new.self other.state t.new.source t.new.scratch k t.result apart t.ensures.share),
     )
 
 pub commit_two-requires-clause-told : goal.commit_two-requires-clause-told
 commit_two-requires-clause-told g c =
     let t = c.pull-reply in
-    let calls : c.hold_calls-for_record.result.1 ≡ t.new.scratch = c.hold_calls-for_record.ensures.receipt ∙ c.calls.ensures.value in
-    told_of (λ x. x.tally) c.sit-desk.result t.new.board c.args.working.now.caller.1 c.stand.new.self.caller.1 t.new.scratch c.hold_calls-for_record.result.1 c.stand.new.self.tally
+    rw (c.told_twice-logged.ensures.entry, c.hold_calls-calls.ensures.receipt, c.calls.ensures.value)
+    (ahead_of (λ x. x.tally) c.sit-desk.result t.new.board c.args.working.now.caller.1 c.stand.new.self.caller.1 t.new.scratch c.stand.new.self.tally
     (c.sit-desk.ensures.desk ∙ c.requires.tally) t.ensures.board c.stand.ensures.tally
-    (ap (λ x. x.1) (c.stand.ensures.caller ∙ c.sit-desk.ensures.caller)) calls
+    (ap (λ x. x.1) (c.stand.ensures.caller ∙ c.sit-desk.ensures.caller)))
 
-pub of-requires : goal.of-requires
-of-requires g c = ap (λ r. has_loads (Ok r)) c.pull-reply.ensures.share.1.2
-
-pub of-requires-2 : goal.of-requires-2
-of-requires-2 g c = ap (λ r. has_loads (Ok r)) c.pull-reply.ensures.share.1.2
+pub told_twice-logged-requires-clause-answer : goal.told_twice-logged-requires-clause-answer
+told_twice-logged-requires-clause-answer g c = ap (λ r. has_loads (Ok r)) c.pull-reply.ensures.share.1.2

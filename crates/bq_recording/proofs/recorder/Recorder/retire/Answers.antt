@@ -1,12 +1,14 @@
-use Rattle.std.proofs.Common.{◌<◌, None, ap, sym, ◌∙◌}
-use Rattle.bq_seats.specs.Calls.{ahead}
+use Rattle.std.proofs.Common.{◌<◌, None}
 use Rattle.bq_parts.specs.declared.refusal.Refusal.TheVariants as no
 use Rattle.bq_core.proofs.Order.{passed}
 use Rattle.bq_parts.proofs.NumberTests.{within_of}
-use Rattle.bq_cells.specs.Parts.{lobby_part, told_calls}
+use Rattle.bq_cells.specs.Parts.{lobby_part}
 use Rattle.bq_cells.proofs.CallSteps.{retire_moves}
 use Rattle.bq_recording.proofs.Brief.{retires_brief}
 use Rattle.bq_recording.proofs.recorder.Recorder.retire.Goals as goal
+
+pub quiet_twice-logged-requires-clause-answer : goal.quiet_twice-logged-requires-clause-answer
+quiet_twice-logged-requires-clause-answer g c = retires_brief c.args.task _ c.retire-reply.result c.retire-reply.new.self c.retire-reply.ensures.share
 
 pub commit_one-requires-clause-moves : goal.commit_one-requires-clause-moves
 commit_one-requires-clause-moves g c =
@@ -16,15 +18,9 @@ commit_one-requires-clause-moves g c =
     let bound : a.task < 1024 = within_of a.task 1024 (passed _ no.NoTask None c.requires.fits).0 in (
       lobby_part own,
       c.place.invariant.0,
-      rw (c.of-2.ensures, c.none-2.ensures)
+      rw c.quiet_twice-logged.ensures.entry
           (retire_moves g.Q.R.Rule.discipline a.self.now.history.about a.task own c.retire-reply.new.self k c.retire-reply.result bound c.requires.fits c.retire-reply.ensures.share),
     )
 
 pub commit_one-requires-clause-told : goal.commit_one-requires-clause-told
-commit_one-requires-clause-told g c = c.requires.tally ∙ ap (λ l. ahead told_calls c.args.working.now.caller.1 l) (sym c.none-2.ensures)
-
-pub of-requires : goal.of-requires
-of-requires g c = retires_brief c.args.task _ c.retire-reply.result c.retire-reply.new.self c.retire-reply.ensures.share
-
-pub of-requires-2 : goal.of-requires-2
-of-requires-2 g c = retires_brief c.args.task _ c.retire-reply.result c.retire-reply.new.self c.retire-reply.ensures.share
+commit_one-requires-clause-told g c = rw c.quiet_twice-logged.ensures.entry c.requires.tally
