@@ -85,6 +85,16 @@ impl Answer {
         }
     }
 
+    /// That a clock has ticked: who runs from then on, who chose, and how many steps its policy took.
+    #[inline(always)]
+    pub fn ticked(run: Option<u16>, by: By, steps: u32) -> Answer
+        ensures { result ≡ Ok (reply.Ticked run by steps) }
+    {
+        Answer {
+            brief: Brief::Ticked { run, by, steps },
+        }
+    }
+
     /// An answer, with room for its loads where it has some.
     pub fn with_room(answer: &Result<Reply, Refusal>, room: Box<Loads>) -> Answer
         ensures { result ≡ answer.now }

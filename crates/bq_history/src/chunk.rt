@@ -34,13 +34,12 @@ impl<R: Drop> Chunk<R> {
     }
 
     /// One record more. It takes no memory.
+    #[inline(always)]
     pub(crate) fn push(&mut self, entry: R)
         requires { length self.old < 16 }
         ensures { self.new ≡ self.old ++ entry ∷ [] }
     {
-        if self.records.push(entry).is_err() {
-            unreachable!();
-        }
+        self.records.push_reserved(entry);
     }
 
     /// The record at a place, counted from 0, or none where there are not so many.

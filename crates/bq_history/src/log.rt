@@ -45,6 +45,7 @@ impl<R: Drop> Log<R> {
     }
 
     /// One more at the end. Where all chunks are full it comes into the spare one of the room. It takes no memory.
+    #[inline(always)]
     pub(crate) fn push(&mut self, entry: R, room: &mut Room<R>)
         requires fits { length self.old + 1 < 2 ^ 64 }
         requires ready { room.old ≡ true }
@@ -85,6 +86,7 @@ fn begun<R: Drop>(slip: Slip<Chunk<R>>, entry: R) -> Slip<Chunk<R>>
 }
 
 /// One record more in the last chunk, which has room for it.
+#[inline(always)]
 fn append<R: Drop>(chunks: &mut Chain<Chunk<R>>, entry: R)
     requires { (front : List (List R)) × (last : List R) × (chunks.old ≡ front ++ last ∷ []) × (length last < 16) }
     ensures { (front : List (List R)) (last : List R) → chunks.old ≡ front ++ last ∷ [] → chunks.new ≡ front ++ (last ++ entry ∷ []) ∷ [] }

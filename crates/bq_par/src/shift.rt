@@ -87,13 +87,15 @@ fn keep_wake(receipts: &mut Vec<Receipt<Record>>, woken: WakeReceipts) -> Result
 }
 
 /// One receipt more.
+#[inline(always)]
 #[tactic(auto, using(bq_tie::proofs::Moves::total_snoc))]
 fn keep(receipts: &mut Vec<Receipt<Record>>, receipt: Receipt<Record>) -> Result<(), Refusal>
     ensures items { OnOk result (receipts.new.items ≡ receipts.old.items ++ receipt ∷ []) }
     ensures ticks { OnOk result (ticks_of receipts.new.items ≡ ticks_of receipts.old.items + one_tick receipt.entry) }
 {
-    let Ok(()) = receipts.push(receipt) else {
+    if receipts.reserve(1).is_err() {
         return Err(Refusal::OutOfMemory);
-    };
+    }
+    receipts.push_reserved(receipt);
     Ok(())
 }

@@ -4,12 +4,13 @@ ghost use Rattle.bq_seats.specs.Calls.{account_of};
 ghost use Rattle.bq_cells.specs.Parts.{told_calls};
 
 use crate::recorder::{Caller, Recorder};
-use crate::told::{quiet_twice, told_twice};
+use crate::told::{both_records, event_twice, quiet_twice, told_twice};
+use bq_alike::Answer;
 use bq_cells::{CallRooms, NumberedCpu, NumberedInbox, OneLobby, Record, UnderLock, hold_calls};
 use bq_counters::Naming as Counting;
 use bq_disc::RunQueue;
 use bq_history::{Receipt, Room, look_at_both};
-use bq_parts::Event;
+use bq_parts::{Event, Reply};
 use bq_tie::Naming;
 use std::sync::Wait;
 
@@ -40,9 +41,16 @@ impl<Q: RunQueue + Drop, N: Naming + Counting> Recorder<Q, N> {
             .state
             .tick(processor, now, &mut content.scratch, &mut desk);
         working.stand(desk);
-        let reply = Ok(reply);
+        let Reply::Ticked { run, by, steps } = reply else {
+            unreachable!()
+        };
+        let events = event_twice(Event::Tick { processor, now });
+        let answers = (
+            Answer::ticked(run, by, steps),
+            Answer::ticked(run, by, steps),
+        );
         let calls = hold_calls(rooms, content.scratch.calls());
-        let (logged, entry) = told_twice(Event::Tick { processor, now }, &reply, calls);
+        let (logged, entry) = both_records(events, answers, calls);
         let mut guard = self.lock_journal(rt);
         let journal = &mut *guard;
         working.commit_one(
