@@ -1,9 +1,8 @@
-use Rattle.std.proofs.Common.{Ok, ◌∙◌, ap}
+use Rattle.std.proofs.Common.{◌∙◌, sym, ap}
 use Rattle.bq_cells.specs.Parts.{cpu_part}
 use Rattle.bq_cells.proofs.Looked.{Seen, seen_once, seen_seated}
 use Rattle.bq_cells.proofs.CallSteps.{tick_moves}
 use Rattle.bq_recording.proofs.Ahead.{ahead_of}
-use Rattle.bq_alike.specs.Brief.{has_loads}
 use Rattle.bq_recording.proofs.recorder.Recorder.tick.Goals as goal
 
 pub tick-reply-requires-clause-once : goal.tick-reply-requires-clause-once
@@ -24,9 +23,6 @@ tick-reply-requires-clause-seated g c =
     let seen : Seen d n own.number own.state = rw here c.look.ensures.world in
     seen_seated d n own.number own.state seen
 
-pub told_twice-logged-requires-clause-answer : goal.told_twice-logged-requires-clause-answer
-told_twice-logged-requires-clause-answer g c = ap (λ r. has_loads (Ok r)) c.tick-reply.ensures.share.3
-
 pub commit_one-requires-clause-moves : goal.commit_one-requires-clause-moves
 commit_one-requires-clause-moves g c =
     let own = c.place.inside.cell.content in
@@ -34,14 +30,14 @@ commit_one-requires-clause-moves g c =
     let t = c.tick-reply in (
       cpu_part own.number own.state,
       c.place.invariant.0,
-      rw (c.told_twice-logged.ensures.entry, c.hold_calls-calls.ensures.receipt, c.calls.ensures.value)
+      rw (c.both_records-logged.ensures.entry, c.event_twice-events.ensures.entry, c.ticked-2.ensures, sym c.in-Ticked.is, c.hold_calls-calls.ensures.receipt, c.calls.ensures.value)
           (tick_moves g.Q.R.Rule.discipline c.args.self.now.history.about own.number c.args.now own.state t.new.self t.new.scratch k t.result t.ensures.share),
     )
 
 pub commit_one-requires-clause-told : goal.commit_one-requires-clause-told
 commit_one-requires-clause-told g c =
     let t = c.tick-reply in
-    rw (c.told_twice-logged.ensures.entry, c.hold_calls-calls.ensures.receipt, c.calls.ensures.value)
+    rw (c.both_records-logged.ensures.entry, c.hold_calls-calls.ensures.receipt, c.calls.ensures.value)
     (ahead_of (λ x. x.tally) c.sit-desk.result t.new.board c.args.working.now.caller.1 c.stand.new.self.caller.1 t.new.scratch c.stand.new.self.tally
     (c.sit-desk.ensures.desk ∙ c.requires.tally) t.ensures.board c.stand.ensures.tally
     (ap (λ x. x.1) (c.stand.ensures.caller ∙ c.sit-desk.ensures.caller)))
