@@ -108,15 +108,21 @@ fn machine_options<'a>(alloc: Global, command: Command<'a>) -> Result<Command<'a
     command.arg(seeds)
 }
 
+/// The option that bears a hook's word.
+fn hook_option<'a>(alloc: Global, hook: Hook) -> Arg<'a> {
+    let word: &'a str = hook.word();
+    option(alloc, word, "POLICY")
+}
+
 /// What stands at the hooks.
 fn policy_options<'a>(alloc: Global, command: Command<'a>) -> Result<Command<'a>, AllocError> {
-    let place = option(alloc, Hook::Place.word(), "POLICY").help(
+    let place = hook_option(alloc, Hook::Place).help(
         "A policy's file: an image, its hex, or assembler text with its head; at every processor",
     );
     let command = command.arg(place)?;
-    let preempt = option(alloc, Hook::Preempt.word(), "POLICY").help("The same");
+    let preempt = hook_option(alloc, Hook::Preempt).help("The same");
     let command = command.arg(preempt)?;
-    let pull = option(alloc, Hook::Pull.word(), "POLICY").help("The same");
+    let pull = hook_option(alloc, Hook::Pull).help("The same");
     let command = command.arg(pull)?;
     let against = option(alloc, "against", "POLICY")
         .help("Compares with these policies in place of the others, or with none; once a policy")
