@@ -10,7 +10,9 @@ use Rattle.bq_load.specs.declared.fault.LoadFault.TheVariants as load
 use Rattle.bq_load.specs.Naming.{fault_text}
 use Rattle.bq_bpf.specs.Hooks.{context_length_of}
 use Rattle.bq_verify.specs.Refusals.{IsRefusal}
+use Rattle.bq_verify.specs.Straight.{IsStraightProgram}
 use Rattle.bq_bpf.specs.declared.hook.Hook.{Hook}
+use Rattle.bq_verify.specs.declared.cause.Cause.{Cause}
 use Rattle.bq_verify.specs.declared.refused.Refused.TheVariants as refused
 use Rattle.bq_program.specs.Check.{accepted_line}
 use Rattle.bq_policy_files.specs.declared.policy.Policy.{Policy}
@@ -22,6 +24,11 @@ use Rattle.bq_explain.specs.declared.verdict.Verdict.TheVariants.{Accepted, Over
 pub record IsSafePolicy (p : Policy) (budget : ℕ) : Type 0 where
   pub safe : Safe (spread p.insns.items) p.shapes.items (context_length_of p.hook p.version) budget
   pub longest : IsGreatest (PathOut (spread p.insns.items) 0) budget
+
+-- the verifier refuses the policy's program at that slot for that cause, which it does to no straight program
+pub record IsRefusedPolicy (p : Policy) (slot : ℕ) (cause : Cause) : Type 0 where
+  pub refusal : IsRefusal (spread p.insns.items) (refused.At slot cause)
+  pub not_straight : ¬ (IsStraightProgram (spread p.insns.items) p.shapes.items (context_length_of p.hook p.version))
 
 -- without a limit each budget is within it
 abbrev pub IsWithin : ℕ → Option ℕ → Type 0
@@ -52,7 +59,7 @@ abbrev pub IsVerdict : Policy → Limits → Verdict → Type 0
 IsVerdict p l (Accepted budget) = IsSafePolicy p budget × IsWithin budget l.steps × All (CallsNoOther (allowed l)) p.insns.items
 IsVerdict p l (OverSteps budget most) = IsSafePolicy p budget × (l.steps ≡ Some most) × (most < budget)
 IsVerdict p l (Forbidden helper) = (budget : ℕ) × IsSafePolicy p budget × IsWithin budget l.steps × IsCalledAgainst (allowed l) p.insns.items helper
-IsVerdict p l (Refused slot cause) = IsRefusal (spread p.insns.items) (refused.At slot cause)
+IsVerdict p l (Refused slot cause) = IsRefusedPolicy p slot cause
 
 abbrev pub is_accepted : Verdict → Bool
 is_accepted (Accepted budget) = true

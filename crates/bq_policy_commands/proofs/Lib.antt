@@ -1,3 +1,4 @@
+mod AcceptedLemmas
 mod DifferenceLemmas
 mod JudgeLemmas
 mod TraceLemmas

@@ -6,7 +6,7 @@ use Rattle.bq_insn.specs.Slots.{spread}
 use Rattle.bq_bpf.specs.declared.board.Call.{Call as Asked}
 use Rattle.bq_explain.specs.declared.verdict.Verdict.{Verdict}
 use Rattle.bq_explain.specs.declared.verdict.Verdict.TheVariants as verdict
-use Rattle.bq_explain.specs.Verdicts.{verdict_line}
+use Rattle.bq_explain.specs.Verdicts.{IsRefusedPolicy, IsSafePolicy, verdict_line}
 use Rattle.bq_one_run.specs.declared.inputs.Inputs.{Inputs}
 use Rattle.bq_maps.specs.Arrays.{Arrays}
 use Rattle.bq_bpf.specs.Runs.{start}
@@ -20,9 +20,7 @@ use Rattle.bq_one_run.specs.Words.{IsNumber}
 use Rattle.bq_verify.specs.declared.cause.Cause.{Cause}
 use Rattle.bq_verify.specs.Accepted.{Accepted}
 use Rattle.bq_bpf.specs.Hooks.{context_length_of}
-use Rattle.bq_verify.specs.Refusals.{IsRefusal}
 use Rattle.bq_bpf.specs.declared.hook.Hook.{Hook}
-use Rattle.bq_verify.specs.declared.refused.Refused.TheVariants as refused
 use Rattle.bq_policy_files.specs.declared.head.Head.{Head}
 use Rattle.bq_policy_files.specs.declared.policy.Policy.{Policy}
 use Rattle.bq_policy_files.specs.Files.{IsPolicy}
@@ -119,19 +117,20 @@ pub record IsProgramOf (p : Policy) (program : Accepted) : Type 0 where
 abbrev pub TellsVerdict : Hook → Verdict → List ℕ → Type 0
 TellsVerdict hook named text = (reason : List ℕ) × (text ≡ verdict_line hook named ++ reason)
 
--- the verifier refuses the policy, and the text begins with the line that says so
+-- the verifier refuses the policy, which it does to no straight program, and the text begins with the line that says so
 pub record IsUnaccepted (p : Policy) (told_as : Answered) : Type 0 where
   pub slot : ℕ
   pub cause : Cause
-  pub refusal : IsRefusal (spread p.insns.items) (refused.At slot cause)
+  pub refusal : IsRefusedPolicy p slot cause
   pub text : String Global
   pub is : told_as ≡ Refused text
   pub told : TellsVerdict p.hook (verdict.Refused slot cause) (string_bytes text)
 
--- the policy's program is accepted, and runs
+-- the policy's program is safe within its budget, which is the longest path, and runs
 pub record RunsAccepted (w : RunWords) (p : Policy) (told_as : Answered) : Type 0 where
   pub program : Accepted
   pub of : IsProgramOf p program
+  pub safe : IsSafePolicy p program.budget
   pub runs : RunsProgram w program told_as
 
 abbrev pub RunsPolicy : RunWords → Policy → Answered → Type 0

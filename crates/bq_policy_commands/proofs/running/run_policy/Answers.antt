@@ -1,9 +1,22 @@
-use Rattle.std.proofs.Common.{rules, ◌≡◌, ◌∙◌, List, inl, refl, subst}
-use Rattle.bq_insn.specs.declared.Insn.{Insn}
+use Rattle.std.proofs.Common.{rules, ◌≡◌, ◌∙◌, ap, inl, inr, refl}
+use Rattle.std.proofs.lemmas.Result.{IfOk-weaker}
 use Rattle.bq_insn.specs.Slots.{spread}
-use Rattle.bq_verify.specs.Refusals.{IsRefusal}
 use Rattle.bq_verify.specs.declared.refused.Refused.TheVariants as refused
+use Rattle.bq_policy_commands.specs.Running.{IsProgramOf, RunsPolicy, RunsProgram}
+use Rattle.bq_policy_commands.proofs.AcceptedLemmas.{refused_policy, runs_accepted, safe_policy}
 use Rattle.bq_policy_commands.proofs.running.run_policy.Goals as goal
+
+pub returns-in-Ok : goal.returns-in-Ok
+returns-in-Ok g c =
+    let of : IsProgramOf c.args.policy.now c.in-Ok.verified = record {
+      slots = c.in-Ok.ensures.slots ∙ ap spread (c.in_ok-from_slice.ensures.items ∙ c.as_slice.ensures.value);
+      shapes = c.in-Ok.ensures.shapes ∙ (c.in_ok-from_slice-2.ensures.items ∙ c.as_slice-2.ensures.value);
+      hook = c.in-Ok.ensures.hook;
+      version = c.in-Ok.ensures.version;
+    } in
+    let safe = safe_policy c.args.policy.now c.in-Ok.verified of c.in-Ok.ensures.safe c.in-Ok.ensures.budget in
+    IfOk-weaker c.run_verified.result (RunsProgram c.args.words.now c.in-Ok.verified) (RunsPolicy c.args.words.now c.args.policy.now)
+    (λ answer runs. inr (runs_accepted c.args.words.now c.args.policy.now c.in-Ok.verified answer of safe runs)) c.run_verified.ensures
 
 pub returns-in_ok-text-in-Err-At : goal.returns-in_ok-text-in-Err-At
 returns-in_ok-text-in-Err-At g c =
@@ -11,8 +24,8 @@ returns-in_ok-text-in-Err-At g c =
     inl record {
       slot = c.in-Err-At.slot;
       cause = c.in-Err-At.cause;
-      refusal = subst (IsRefusal (spread c.args.policy.now.insns.items)) named
-          (subst (λ (insns : List Insn). IsRefusal (spread insns) c.in-Err-At.field-0) (c.in_ok-from_slice.ensures.items ∙ c.as_slice.ensures.value) c.in-Err-At.ensures.refused);
+      refusal = refused_policy c.args.policy.now _ _ c.in-Err-At.field-0 c.in-Err-At.slot c.in-Err-At.cause (c.in_ok-from_slice.ensures.items ∙ c.as_slice.ensures.value)
+          (c.in_ok-from_slice-2.ensures.items ∙ c.as_slice-2.ensures.value) named c.in-Err-At.ensures.refused c.in-Err-At.ensures.accepts;
       text = c.in_ok-text-in-Err-At.text;
       is = refl;
       told = c.in_ok-text-in-Err-At.ensures;
