@@ -7,12 +7,13 @@ pub fn contexts_are_bytes()
     ensures { ContextsAreBytes }
 {}
 
-/// Each own choice is permitted.
+/// Each own choice is permitted: of a place where the task has a processor that it may use, and of a pull where no two tasks of
+/// the queue share an id.
 pub fn own_choices_are_permitted()
     ensures { OwnChoicesArePermitted }
 {}
 
-/// So what is settled is permitted.
+/// What is settled is permitted where the own choice is.
 pub fn settled_is_permitted()
     ensures { SettledIsPermitted }
 {}

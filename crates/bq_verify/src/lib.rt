@@ -1,7 +1,7 @@
 //! The verifier: what it accepts is safe.
 //!
 //! `verify` checks the control graph, then goes over the slots once and keeps what is known of
-//! registers and stack. A `Verified` is safe within its budget; the interpreter rests on that alone.
+//! registers and stack. A `Verified` is safe within its budget; the interpreter rests on that and on its flat form.
 #![tactic(auto)]
 
 pub mod cause;
