@@ -4,6 +4,7 @@ use Rattle.std.specs.Fmt.{decimal, signed_decimal}
 use Rattle.bq_insn.specs.declared.Insn.{Insn}
 use Rattle.bq_insn.specs.declared.Insn.TheVariants.{Call}
 use Rattle.bq_insn.specs.Slots.{spread}
+use Rattle.bq_graph.specs.Faults.{IsFaultless}
 use Rattle.bq_graph.specs.Paths.{IsGreatest, PathOut}
 use Rattle.bq_bpf.specs.Safe.{Safe}
 use Rattle.bq_load.specs.declared.fault.LoadFault.TheVariants as load
@@ -20,8 +21,9 @@ use Rattle.bq_explain.specs.declared.limits.Limits.{Limits}
 use Rattle.bq_explain.specs.declared.verdict.Verdict.{Verdict}
 use Rattle.bq_explain.specs.declared.verdict.Verdict.TheVariants.{Accepted, OverSteps, Forbidden, Refused}
 
--- the program is safe within its budget, which is the longest path
+-- the program's control graph has no fault, and it is safe within its budget, which is the longest path
 pub record IsSafePolicy (p : Policy) (budget : ℕ) : Type 0 where
+  pub faultless : IsFaultless (spread p.insns.items)
   pub safe : Safe (spread p.insns.items) p.shapes.items (context_length_of p.hook p.version) budget
   pub longest : IsGreatest (PathOut (spread p.insns.items) 0) budget
 

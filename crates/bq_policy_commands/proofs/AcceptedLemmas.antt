@@ -5,6 +5,7 @@ use Rattle.bq_insn.specs.Slots.{spread}
 use Rattle.bq_bpf.specs.declared.shape.MapShape.{MapShape}
 use Rattle.bq_bpf.specs.Hooks.{context_length_of}
 use Rattle.bq_bpf.specs.Safe.{Safe}
+use Rattle.bq_graph.specs.Faults.{IsFaultless}
 use Rattle.bq_graph.specs.Paths.{IsGreatest, PathOut}
 use Rattle.bq_verify.specs.Accepted.{Accepted}
 use Rattle.bq_verify.specs.declared.cause.Cause.{Cause}
@@ -19,8 +20,9 @@ use Rattle.bq_policy_commands.specs.declared.words.RunWords.{RunWords}
 use Rattle.bq_policy_commands.specs.Running.{IsProgramOf, RunsAccepted, RunsProgram}
 
 -- what is safe of a program, is so of the policy whose program it is
-pub safe_policy : (p : Policy) (program : Accepted) → IsProgramOf p program → Safe program.slots program.shapes (context_length_of program.hook program.version) program.budget → IsGreatest (PathOut program.slots 0) program.budget → IsSafePolicy p program.budget
-safe_policy p program of safe longest = record { safe = rw (sym of.slots, sym of.shapes, sym of.hook, sym of.version) safe; longest = rw (sym of.slots) longest }
+pub safe_policy : (p : Policy) (program : Accepted) → IsProgramOf p program → IsFaultless program.slots → Safe program.slots program.shapes (context_length_of program.hook program.version) program.budget → IsGreatest (PathOut program.slots 0) program.budget → IsSafePolicy p program.budget
+safe_policy p program of faultless safe longest =
+    record { faultless = rw (sym of.slots) faultless; safe = rw (sym of.slots, sym of.shapes, sym of.hook, sym of.version) safe; longest = rw (sym of.slots) longest }
 
 -- the run of a policy's program is that of the policy
 pub runs_accepted : (w : RunWords) (p : Policy) (program : Accepted) (told_as : Answered) → IsProgramOf p program → IsSafePolicy p program.budget → RunsProgram w program told_as → RunsAccepted w p told_as
