@@ -9,7 +9,7 @@ use Rattle.bq_bpf.specs.declared.board.Call.{Call as Asked}
 use Rattle.bq_bpf.specs.declared.hook.Hook.{Hook}
 use Rattle.bq_verify.specs.Accepted.{Accepted}
 use Rattle.bq_policies.specs.Answers.{fresh_maps}
-use Rattle.bq_policies.specs.Programs.{Program}
+use Rattle.bq_policies.specs.Attachments.{Attached}
 use Rattle.bq_parts.specs.declared.event.Event.TheVariants.{Admit, Retire, Draw, Install, BeginWake, EndWake, Tick, Drain, Block}
 use Rattle.bq_parts.specs.declared.reply.Reply.{Reply}
 use Rattle.bq_parts.specs.declared.reply.Reply.TheVariants.{Drawn, Placed}
@@ -175,7 +175,7 @@ module _ (d : Discipline) (n : ℕ) where
       moves_none d n g k (record k { drawn = g }) (record { event = Draw; reply = Ok (Drawn g); calls = [] })
       (λ w s kw. ((rw (← kw) (refl, (refl, refl, refl)), refl, tt), ap (λ (x : Kept). record x { drawn = g }) kw))
 
-  install_size : (h : Hook) (drawn : ℕ) (p : Processor) (new : Program) (r : Result Reply Refusal) (q : Processor) → Installs h drawn p new r q → size_of q ≡ size_of p
+  install_size : (h : Hook) (drawn : ℕ) (p : Processor) (new : Attached) (r : Result Reply Refusal) (q : Processor) → Installs h drawn p new r q → size_of q ≡ size_of p
   install_size h drawn p new (Ok r) q i = ap size_of i.2
   install_size h drawn p new (Err e) q i = ap size_of i.1
 

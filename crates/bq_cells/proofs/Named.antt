@@ -4,7 +4,7 @@ use Rattle.std.specs.Prelude.{Result, Ok, Err, IfErr, slice_index_or, is_some}
 use Rattle.bq_disc.specs.Tasks.{Task}
 use Rattle.bq_disc.specs.Discipline.{Discipline}
 use Rattle.bq_bpf.specs.declared.hook.Hook.{Hook}
-use Rattle.bq_policies.specs.Programs.{Program, at_hook}
+use Rattle.bq_policies.specs.Attachments.{Attached, at_hook}
 use Rattle.bq_parts.specs.declared.carried.Carried.{Carried}
 use Rattle.bq_parts.specs.declared.reply.Reply.{Reply}
 use Rattle.bq_parts.specs.declared.refusal.Refusal.{Refusal}
@@ -53,8 +53,8 @@ pub begins_named : (id : ℕ) (loads : List ℕ) (p : Processor) (l : List Lobby
 begins_named id loads p l (Ok r) q m b = tt
 begins_named id loads p l (Err e) q m b = begin_named (slice_index_or l id Absent) p.hand e b.0
 
-pub installs_named : (h : Hook) (drawn : ℕ) (p : Processor) (new : Program) (r : Result Reply Refusal) (q : Processor) → Installs h drawn p new r q → IsNamed r
+pub installs_named : (h : Hook) (drawn : ℕ) (p : Processor) (new : Attached) (r : Result Reply Refusal) (q : Processor) → Installs h drawn p new r q → IsNamed r
 installs_named h drawn p new (Ok r) q i = tt
 installs_named h drawn p new (Err e) q i =
-    let newest = (at_hook h p.programs).generation in
+    let newest = (at_hook h p.hooks).generation in
     first_named _ (no.Older newest) e _ (λ h. cc) (first_named _ no.NotDrawn e None (λ h. cc) (none_named e)) i.0

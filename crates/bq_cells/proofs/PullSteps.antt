@@ -9,7 +9,7 @@ use Rattle.bq_disc.specs.Movable.{is_movable_to}
 use Rattle.bq_disc.specs.Discipline.{Discipline, left_at}
 use Rattle.bq_disc.specs.OneProcessor.{Running, present_at}
 use Rattle.bq_bpf.specs.declared.board.Call.{Call as Asked}
-use Rattle.bq_policies.specs.Programs.{Programs}
+use Rattle.bq_policies.specs.Attachments.{Attachments}
 use Rattle.bq_hooks.specs.declared.settled.By.{By}
 use Rattle.bq_hooks.specs.Contexts.{or_nobody}
 use Rattle.bq_hooks.specs.Permitted.{may_pull, task_numbered}
@@ -35,11 +35,11 @@ use Rattle.bq_cells.proofs.Shapes.{MovesHere, moves_two_cpus}
 use Rattle.bq_cells.proofs.CallSteps.{ones, length_is, time_size, kept_same, kept_less, kept_more}
 
 -- the puller has one more, if a task is taken
-puller_size : (d : Discipline) (now : ℕ) (p o : Processor) (task : Option ℕ) (programs : Programs) →
+puller_size : (d : Discipline) (now : ℕ) (p o : Processor) (task : Option ℕ) (hooks : Attachments) →
     let c = after_time d now p in
     let taken = taken_from (remarked d o).running task in
-    size_of (record c { running = started_if_idle d (with_pulled d c.running taken) c.running.current; programs = programs }) ≡ size_of p + length (option_to_list taken)
-puller_size d now p o task programs =
+    size_of (record c { running = started_if_idle d (with_pulled d c.running taken) c.running.current; hooks = hooks }) ≡ size_of p + length (option_to_list taken)
+puller_size d now p o task hooks =
     let c = after_time d now p in
     let taken = taken_from (remarked d o).running task in
     omega (
@@ -81,7 +81,7 @@ chosen_there : (d : Discipline) (cpu from now id : ℕ) (p o : Processor) (settl
 chosen_there d cpu from now id p o settled once h e =
     let c = after_time d now p in
     let s = remarked d o in
-    let may = settled_permitted (policies d) _ c.programs.pull c.running.last cpu (may_pull cpu s.running.queue) (or_nobody (own_pull cpu c s)) settled (own_pull_permitted cpu c s once) h in
+    let may = settled_permitted (policies d) _ c.hooks.pull c.running.last cpu (may_pull cpu s.running.queue) (or_nobody (own_pull cpu c s)) settled (own_pull_permitted cpu c s once) h in
     taken_one cpu id s.running (may_pull_names cpu s.running.queue settled.choice id may e)
 
 -- a processor beside one that was written
@@ -123,7 +123,7 @@ module _ (d : Discipline) (n : ℕ) where
       λ id e. ap (λ (z : Option ℕ). length (option_to_list (taken_from source.running z))) e ∙ chosen_there d c b now id p o u.0 once u.1.0 e in
       rw u.1.2 (
       kept_by_task w c b p q o r k task _ u.0.by u.0.steps (length (option_to_list taken)) s kw here at there at' apart
-      (ap size_of u.1.3 ∙ puller_size d now p o task (record (after_time d now p).programs { pull = u.0.program }))
+      (ap size_of u.1.3 ∙ puller_size d now p o task (record (after_time d now p).hooks { pull = u.0.attached }))
       (ap (λ (y : Processor). size_of y + length (option_to_list taken)) u.1.4 ∙ source_size d o task)
       some
       (λ e. none_taken source.running task e)

@@ -8,7 +8,7 @@ use Rattle.std.specs.contracts.option.Option as Option
 use Rattle.arrayvec.proofs.array_vec.ArrayVec.TheSendSync as list
 use Rattle.bq_disc.proofs.node.Node.TheLaws.TheKnot as knot
 use Rattle.bq_disc.specs.declared.queue.RunQueue as Queue
-use Rattle.bq_disc.specs.declared.rule.Rule as Rule
+use Rattle.bq_disc.specs.declared.discipline.Discipline
 use Rattle.bq_bpf.proofs.board.Call.TheSendSync as call
 use Rattle.bq_hooks.proofs.loads.Loads.TheSendSync as loads
 use Rattle.bq_policies.proofs.hooks.Hooks.TheSendSync as hooks
@@ -32,15 +32,15 @@ unlinked_send = search (crosses, knot.crosses, sendable) depth 60 fits 20000
 carried_send : IsSend (Option.the_row Carried.the_row)
 carried_send = search (crosses, knot.crosses, loads.the_send, sendable) depth 60 fits 20000
 
-inside_send : (Q R : RattleType) (g : Queue.Ghosts Q.Denot R.Denot) (h : Rule.Ghosts R.Denot) → IsSend Q → IsSend (inside.the_row Q R g h)
+inside_send : (Q R : RattleType) (g : Queue.Ghosts Q.Denot R.Denot) (h : Discipline.Ghosts R.Denot) → IsSend Q → IsSend (inside.the_row Q R g h)
 inside_send Q R g h s = declared_send (inside.the_type Q R g h) (as_row_send (row_field Q) s, (unlinked_send, (search sendable, (carried_send, (hooks.the_send, tt)))))
 
 -- a processor may, where its queue may
-pub cpu_send : (Q R : RattleType) (g : Queue.Ghosts Q.Denot R.Denot) (h : Rule.Ghosts R.Denot) → IsSend Q → IsSend (Cpu.the_row Q R g h)
+pub cpu_send : (Q R : RattleType) (g : Queue.Ghosts Q.Denot R.Denot) (h : Discipline.Ghosts R.Denot) → IsSend Q → IsSend (Cpu.the_row Q R g h)
 cpu_send Q R g h s = view_send (inside.the_row Q R g h) _ _ _ _ (inside_send Q R g h s)
 
 -- a processor with its number
-pub numbered_send : (Q R : RattleType) (g : Queue.Ghosts Q.Denot R.Denot) (h : Rule.Ghosts R.Denot) → IsSend Q → IsSend (Numbered.the_row Q R g h)
+pub numbered_send : (Q R : RattleType) (g : Queue.Ghosts Q.Denot R.Denot) (h : Discipline.Ghosts R.Denot) → IsSend Q → IsSend (Numbered.the_row Q R g h)
 numbered_send Q R g h s = declared_send (Numbered.the_type Q R g h) (search sendable, (cpu_send Q R g h s, (scratch.the_send, tt)))
 
 -- an inbox with its number

@@ -13,7 +13,7 @@ use Rattle.bq_parts.specs.Processors.{Processor, opening, count_of, in_hand}
 use Rattle.bq_parts.specs.World.{World, processor, inbox, seat, with_processor, with_inbox}
 use Rattle.bq_parts.specs.Refusals.{is_absent, is_away}
 use Rattle.bq_disc.specs.Movable.{is_movable_to}
-use Rattle.bq_policies.specs.Programs.{Programs}
+use Rattle.bq_policies.specs.Attachments.{Attachments}
 use Rattle.bq_hooks.specs.Contexts.{as_number}
 use Rattle.bq_hooks.specs.OwnPlace.{allows, HasPlace}
 use Rattle.bq_hooks.specs.Permitted.{may_pull, task_numbered}
@@ -52,8 +52,8 @@ pub draw_tidy : (count : ℕ) (w : World) (n : ℕ) → IsTidy count [] w → Is
 draw_tidy count w n y = record { many = y.many; boxes = y.boxes; away = y.away; blocked = y.blocked; hand = y.hand; present = y.present; placed = y.placed }
 
 -- what stands at the hooks moves no task
-pub install_tidy : (count : ℕ) (w : World) (cpu : ℕ) (programs : Programs) → IsTidy count [] w → cpu < count → IsTidy count [] (with_processor w cpu (record (processor w cpu) { programs = programs }))
-install_tidy count w cpu programs y l = running_tidy count [] [] w cpu (record (processor w cpu) { programs = programs }) y l refl (λ g. refl) refl
+pub install_tidy : (count : ℕ) (w : World) (cpu : ℕ) (hooks : Attachments) → IsTidy count [] w → cpu < count → IsTidy count [] (with_processor w cpu (record (processor w cpu) { hooks = hooks }))
+install_tidy count w cpu hooks y l = running_tidy count [] [] w cpu (record (processor w cpu) { hooks = hooks }) y l refl (λ g. refl) refl
 
 -- an empty hand has no task
 no_hand : (o : Option Carried) → is_some o ≡ false → o ≡ None
@@ -74,12 +74,12 @@ begin_wake_tidy count w cpu id t loads y l e empty =
     (y.present cpu)
 
 -- a task goes from the hand to an inbox that suits it
-pub end_wake_tidy : (d : Discipline) (count : ℕ) (w : World) (cpu now to : ℕ) (carried : Carried) (programs : Programs) → IsTidy count [] w → cpu < count → (processor w cpu).hand ≡ Some carried → to < count →
+pub end_wake_tidy : (d : Discipline) (count : ℕ) (w : World) (cpu now to : ℕ) (carried : Carried) (hooks : Attachments) → IsTidy count [] w → cpu < count → (processor w cpu).hand ≡ Some carried → to < count →
     allows carried.task.mask to ≡ true →
-    IsTidy count [] (with_inbox (with_processor w cpu (record (charged_at d w cpu now) { hand = None; programs = programs })) to (inbox w to ++ carried.task ∷ []))
-end_wake_tidy d count w cpu now to carried programs y l e k a =
+    IsTidy count [] (with_inbox (with_processor w cpu (record (charged_at d w cpu now) { hand = None; hooks = hooks })) to (inbox w to ++ carried.task ∷ []))
+end_wake_tidy d count w cpu now to carried hooks y l e k a =
     let p : Processor = processor w cpu in
-    let q : Processor = record (charged_at d w cpu now) { hand = None; programs = programs } in
+    let q : Processor = record (charged_at d w cpu now) { hand = None; hooks = hooks } in
     let had : (i : ℕ) → count_of i (in_hand p) ≡ count_of i (carried.task ∷ []) = λ i. ap (λ o. count_of i (option_to_list (option_map (λ (c : Carried). c.task) o))) e in
     let place : HasPlace count carried.task = y.hand cpu carried e in
     let free : IsTidy count (carried.task ∷ []) (with_processor w cpu q) =
@@ -138,17 +138,17 @@ taken_fits count cpu from n p None fit may e = refl
 taken_fits count cpu from n p (Some id) fit may e = taken_by_cases count cpu from id p (with_id id p.queue) fit (may_pull_names cpu p.queue n id may e) refl
 
 -- a task goes from another processor's queue to this one's
-pub pull_tidy : (d : Discipline) (count : ℕ) (w : World) (cpu from now n : ℕ) (task : Option ℕ) (programs : Programs) → IsTidy count [] w → cpu < count → from < count → cpu ≢ from →
+pub pull_tidy : (d : Discipline) (count : ℕ) (w : World) (cpu from now n : ℕ) (task : Option ℕ) (hooks : Attachments) → IsTidy count [] w → cpu < count → from < count → cpu ≢ from →
     may_pull cpu (processor w from).running.queue n ≡ true → task_numbered n ≡ task →
     IsTidy count [] (with_processor (with_processor w cpu (record (charged_at d w cpu now) {
       running = started_if_idle d (with_pulled d (charged_at d w cpu now).running (taken_from (marked d (processor w from).running) task)) (charged_at d w cpu now).running.current;
-      programs = programs;
+      hooks = hooks;
     })) from (record (processor w from) { running = without_task (marked d (processor w from).running) task }))
-pull_tidy d count w cpu from now n task programs y l k apart may e =
+pull_tidy d count w cpu from now n task hooks y l k apart may e =
     let p : Processor = charged_at d w cpu now in
     let source : Running = marked d (processor w from).running in
     let taken : List Task = option_to_list (taken_from source task) in
-    let here : Processor = record p { running = started_if_idle d (with_pulled d p.running (taken_from source task)) p.running.current; programs = programs } in
+    let here : Processor = record p { running = started_if_idle d (with_pulled d p.running (taken_from source task)) p.running.current; hooks = hooks } in
     let there : Processor = record (processor w from) { running = without_task source task } in
     let mid : World = with_processor w from there in
     let free : IsTidy count taken mid = running_tidy count [] taken w from there y k refl (λ g. omega (arith, tally-without_task g source task)) refl in

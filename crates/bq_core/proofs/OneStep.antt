@@ -13,7 +13,7 @@ use Rattle.bq_interp.proofs.OneRunLemmas.{one_run}
 use Rattle.bq_bpf.specs.declared.hook.Version.{Version}
 use Rattle.bq_bpf.specs.declared.hook.Version.TheVariants.{First, Second}
 use Rattle.bq_verify.specs.Accepted.{Accepted}
-use Rattle.bq_policies.specs.Programs.{Program}
+use Rattle.bq_policies.specs.Attachments.{Attached}
 use Rattle.bq_hooks.specs.Contexts.{PlaceFacts, PreemptFacts, PullFacts, preempt_bytes, pull_bytes, as_number, or_nobody}
 use Rattle.bq_hooks.specs.OwnPlace.{own_place}
 use Rattle.bq_hooks.specs.Permitted.{may_place, may_preempt, may_pull}
@@ -41,26 +41,26 @@ place_small : (f : PlaceFacts) (version : Version) → length (place_bytes f ver
 place_small f First = omega (arith, length-place_bytes_first f)
 place_small f Second = omega (arith, length-place_bytes_second f)
 
-same_settled : (x y : Decision) → x.choice ≡ y.choice → x.by ≡ y.by → x.steps ≡ y.steps → x.calls ≡ y.calls → x.program ≡ y.program → x ≡ y
-same_settled x y choice by steps calls program =
+same_settled : (x y : Decision) → x.choice ≡ y.choice → x.by ≡ y.by → x.steps ≡ y.steps → x.calls ≡ y.calls → x.attached ≡ y.attached → x ≡ y
+same_settled x y choice by steps calls attached =
     ap (λ c. record x { choice = c }) choice
     ∙ ap (λ b. record x { choice = y.choice; by = b }) by
     ∙ ap (λ n. record x { choice = y.choice; by = y.by; steps = n }) steps
     ∙ ap (λ c. record x { choice = y.choice; by = y.by; steps = y.steps; calls = c }) calls
-    ∙ ap (λ p. record y { program = p }) program
+    ∙ ap (λ p. record y { attached = p }) attached
 
 module _ (d : Discipline) where
-  settles_one : (policy : Option Accepted) (context : Version → List ℕ) (program : Program) (now cpu : ℕ) (permitted : ℕ → Bool) (own : ℕ) (x y : Decision) → ((version : Version) → length (context version) < 2 ^ 16) →
-      SettlesBy (policies d) policy context program now cpu permitted own x → SettlesBy (policies d) policy context program now cpu permitted own y → AnswerAlike x.calls y.calls → x ≡ y
-  settles_one None context program now cpu permitted own x y small h k alike = h ∙ sym k
-  settles_one (Some p) context program now cpu permitted own x y small h k alike =
-      let one = one_run (setting_of p (context p.version) now cpu) (start program.maps) x.steps y.steps x.calls y.calls h.0 k.0 h.1 k.1 (small p.version) h.2 k.2 alike in
+  settles_one : (policy : Option Accepted) (context : Version → List ℕ) (attached : Attached) (now cpu : ℕ) (permitted : ℕ → Bool) (own : ℕ) (x y : Decision) → ((version : Version) → length (context version) < 2 ^ 16) →
+      SettlesBy (policies d) policy context attached now cpu permitted own x → SettlesBy (policies d) policy context attached now cpu permitted own y → AnswerAlike x.calls y.calls → x ≡ y
+  settles_one None context attached now cpu permitted own x y small h k alike = h ∙ sym k
+  settles_one (Some p) context attached now cpu permitted own x y small h k alike =
+      let one = one_run (setting_of p (context p.version) now cpu) (start attached.maps) x.steps y.steps x.calls y.calls h.0 k.0 h.1 k.1 (small p.version) h.2 k.2 alike in
       same_settled x y
       (h.4 ∙ ap (λ r. (chosen permitted (Some r) own).choice) one.2 ∙ sym k.4)
       (h.5 ∙ ap (λ r. (chosen permitted (Some r) own).by) one.2 ∙ sym k.5)
       one.0
       one.1
-      (h.3 ∙ ap (λ maps. record program { maps = maps }) one.3 ∙ sym k.3)
+      (h.3 ∙ ap (λ maps. record attached { maps = maps }) one.3 ∙ sym k.3)
 
   preempt_one : (cpu : ℕ) (p : Processor) (o : Option Task) (x y : Decision) → SettlesPreempt (policies d) cpu p o x → SettlesPreempt (policies d) cpu p o y → AnswerAlike x.calls y.calls → x ≡ y
   preempt_one cpu p None x y h k alike = h ∙ sym k
@@ -68,20 +68,20 @@ module _ (d : Discipline) where
       let queue = p.running.queue in
       let own = own_preempt d queue (Some t) in
       let facts : PreemptFacts = record { processor = cpu; queue = queue; current = t; choice = d.choice queue; own = own } in
-      settles_one p.programs.preempt.policy (λ version. preempt_bytes facts) p.programs.preempt p.running.last cpu may_preempt (as_number own) x y (λ version. omega (arith, length-preempt_bytes facts)) h k alike
+      settles_one p.hooks.preempt.policy (λ version. preempt_bytes facts) p.hooks.preempt p.running.last cpu may_preempt (as_number own) x y (λ version. omega (arith, length-preempt_bytes facts)) h k alike
 
   place_one : (count cpu : ℕ) (p : Processor) (carried : Carried) (x y : Decision) → SettlesPlace (policies d) count cpu p carried x → SettlesPlace (policies d) count cpu p carried y → AnswerAlike x.calls y.calls → x ≡ y
   place_one count cpu p carried x y h k alike =
       let own = unwrap_or (own_place count carried.loads carried.task) 0 in
       let facts : PlaceFacts = record { task = carried.task; waking = cpu; processors = count; own = own; loads = carried.loads } in
-      settles_one p.programs.place.policy (place_bytes facts) p.programs.place p.running.last cpu (may_place count carried.task) own x y (place_small facts) h k alike
+      settles_one p.hooks.place.policy (place_bytes facts) p.hooks.place p.running.last cpu (may_place count carried.task) own x y (place_small facts) h k alike
 
   pull_one : (cpu from : ℕ) (p other : Processor) (x y : Decision) → SettlesPull (policies d) cpu from p other x → SettlesPull (policies d) cpu from p other y → AnswerAlike x.calls y.calls → x ≡ y
   pull_one cpu from p other x y h k alike =
       let queue = other.running.queue in
       let own = own_pull cpu p other in
       let facts : PullFacts = record { puller = cpu; source = from; puller_size = size_of p; source_size = size_of other; movable = movable_to cpu queue; own = own } in
-      settles_one p.programs.pull.policy (λ version. pull_bytes facts) p.programs.pull p.running.last cpu (may_pull cpu queue) (or_nobody own) x y (λ version. omega (arith, length-pull_bytes facts)) h k alike
+      settles_one p.hooks.pull.policy (λ version. pull_bytes facts) p.hooks.pull p.running.last cpu (may_pull cpu queue) (or_nobody own) x y (λ version. omega (arith, length-pull_bytes facts)) h k alike
 
   decides_one : (cpu : ℕ) (p : Processor) (x y : Decision) (q q' : Processor) → Decides (policies d) cpu p x q → Decides (policies d) cpu p y q' → AnswerAlike x.calls y.calls → (x ≡ y) × (q ≡ q')
   decides_one cpu p x y q q' h k alike =

@@ -8,7 +8,7 @@ use Rattle.bq_bpf.specs.declared.board.Call.{Call as Asked}
 use Rattle.bq_bpf.specs.declared.hook.Hook.{Hook}
 use Rattle.bq_verify.specs.Accepted.{Accepted}
 use Rattle.bq_policies.specs.Answers.{fresh_maps}
-use Rattle.bq_policies.specs.Programs.{Program, with_program}
+use Rattle.bq_policies.specs.Attachments.{Attached, with_attached}
 use Rattle.bq_hooks.specs.Contexts.{or_nobody}
 use Rattle.bq_hooks.specs.OwnPlace.{own_place, HasPlace}
 use Rattle.bq_hooks.specs.Permitted.{may_place, may_pull, task_numbered}
@@ -88,9 +88,9 @@ retire_keeps s w id calls r w' y k =
 install_keeps : (s : Regime) (w : World) (cpu : ℕ) (hook : Hook) (g : ℕ) (policy : Option Accepted) (calls : List Asked) (r : Reply) (w' : World) → IsTidy (count_in w) [] w → refusal w (Install cpu hook g policy) ≡ None →
     Performs s w (Install cpu hook g policy) calls r w' → Keeps w w'
 install_keeps s w cpu hook g policy calls r w' y h k =
-    let new : Program = record { policy = policy; generation = g; maps = fresh_maps policy } in
+    let new : Attached = record { policy = policy; generation = g; maps = fresh_maps policy } in
     let l = (there (count_in w) cpu _ (accepted w (Install cpu hook g policy) h).0).0 in
-    rw (k.3, k.1.2) (Events.install_tidy (count_in w) w cpu (with_program hook (processor w cpu).programs new) y l)
+    rw (k.3, k.1.2) (Events.install_tidy (count_in w) w cpu (with_attached hook (processor w cpu).hooks new) y l)
 
 begin_wake_keeps : (s : Regime) (w : World) (cpu id : ℕ) (calls : List Asked) (r : Reply) (w' : World) → IsTidy (count_in w) [] w → refusal w (BeginWake cpu id) ≡ None →
     Performs s w (BeginWake cpu id) calls r w' → Keeps w w'
@@ -110,10 +110,10 @@ end_wake_keeps s w cpu now calls r w' y h k =
     let carried : Carried = b.0 in
     let settled : Decision = b.1 in
     let own : ℕ = unwrap_or (own_place (count_in w) carried.loads carried.task) 0 in
-    let goes = settled_permitted s (place_bytes (record { task = carried.task; waking = cpu; processors = count_in w; own = own; loads = carried.loads })) p.programs.place p.running.last cpu (may_place (count_in w) carried.task) own settled
+    let goes = settled_permitted s (place_bytes (record { task = carried.task; waking = cpu; processors = count_in w; own = own; loads = carried.loads })) p.hooks.place p.running.last cpu (may_place (count_in w) carried.task) own settled
     (own_place_permitted (count_in w) carried.loads carried.task (y.hand cpu carried b.2)) b.4.0 in
     let fits = may_place_fits (count_in w) carried.task to (subst (λ n. may_place (count_in w) carried.task n ≡ true) (sym b.4.1) goes) in
-    rw (k.4, b.4.5, b.3) (Events.end_wake_tidy s.discipline (count_in w) w cpu now to carried (record p.programs { place = settled.program }) y l b.2 fits.0 fits.1)
+    rw (k.4, b.4.5, b.3) (Events.end_wake_tidy s.discipline (count_in w) w cpu now to carried (record p.hooks { place = settled.attached }) y l b.2 fits.0 fits.1)
 
 drain_keeps : (s : Regime) (w : World) (cpu now : ℕ) (calls : List Asked) (r : Reply) (w' : World) → IsTidy (count_in w) [] w → refusal w (Drain cpu now) ≡ None → Performs s w (Drain cpu now) calls r w' → Keeps w w'
 drain_keeps s w cpu now calls r w' y h k =
@@ -142,8 +142,8 @@ pull_keeps s w cpu from now calls r w' o y h k =
     let x = k.2 in
     let settled : Decision = x.0 in
     let once : HasEachOnce source.running.queue = each_once_queue (processor w from).running (each_once_running w from o) in
-    let may = settled_permitted s _ p.programs.pull p.running.last cpu (may_pull cpu source.running.queue) (or_nobody (own_pull cpu p source)) settled (own_pull_permitted cpu p source once) x.1.0 in
-    rw (k.3, x.1.3, x.1.4) (Events.pull_tidy s.discipline (count_in w) w cpu from now settled.choice (task_numbered settled.choice) (record p.programs { pull = settled.program }) y f.0 g.0 apart may refl)
+    let may = settled_permitted s _ p.hooks.pull p.running.last cpu (may_pull cpu source.running.queue) (or_nobody (own_pull cpu p source)) settled (own_pull_permitted cpu p source once) x.1.0 in
+    rw (k.3, x.1.3, x.1.4) (Events.pull_tidy s.discipline (count_in w) w cpu from now settled.choice (task_numbered settled.choice) (record p.hooks { pull = settled.attached }) y f.0 g.0 apart may refl)
 
 -- an event that is not refused keeps a world tidy
 performs_tidy : (s : Regime) (w : World) (e : Event) (calls : List Asked) (r : Reply) (w' : World) → IsOrderly w → IsTidy (count_in w) [] w → refusal w e ≡ None → Performs s w e calls r w' → Keeps w w'

@@ -11,7 +11,7 @@ use Rattle.bq_bpf.specs.declared.hook.Hook.{Hook}
 use Rattle.bq_bpf.specs.declared.hook.Hook.TheVariants.{Place, Preempt, Pull}
 use Rattle.bq_bpf.specs.declared.hook.Version.{Version}
 use Rattle.bq_verify.specs.Accepted.{Accepted}
-use Rattle.bq_policies.specs.Programs.{Program, Programs, no_programs, with_program}
+use Rattle.bq_policies.specs.Attachments.{Attached, Attachments, none_attached, with_attached}
 use Rattle.bq_hooks.specs.Permitted.{task_numbered}
 use Rattle.bq_policies.specs.Standing.{IsEquipped, MayStand, AreReady}
 use Rattle.bq_parts.specs.declared.event.Event.{Event}
@@ -26,7 +26,7 @@ use Rattle.bq_parts.specs.Steps.{Performs}
 
 pub record IsWell (p : Processor) : Type 0 where
   pub rising : IsRising p.running.queue
-  pub ready : AreReady p.programs
+  pub ready : AreReady p.hooks
 
 abbrev pub AllWell : World → Type 0
 AllWell w = (cpu : ℕ) → IsWell (processor w cpu)
@@ -47,7 +47,7 @@ well_at w cpu q all well = at_set (λ n (p : Processor). IsWell p) w.processors 
 pub opening_well : IsWell opening
 opening_well = record { rising = tt; ready = none }
   where
-    none : AreReady no_programs
+    none : AreReady none_attached
     none Place = (tt, tt)
     none Preempt = (tt, tt)
     none Pull = (tt, tt)
@@ -93,28 +93,28 @@ rising_taken p (Some id) h = IsRising-without id p.queue h
 -- Hooks
 
 -- something else that may stand there
-ready_with : (programs : Programs) (hook : Hook) (new : Program) → AreReady programs → MayStand hook new → AreReady (with_program hook programs new)
-ready_with programs Place new h m Place = m
-ready_with programs Place new h m Preempt = h Preempt
-ready_with programs Place new h m Pull = h Pull
-ready_with programs Preempt new h m Place = h Place
-ready_with programs Preempt new h m Preempt = m
-ready_with programs Preempt new h m Pull = h Pull
-ready_with programs Pull new h m Place = h Place
-ready_with programs Pull new h m Preempt = h Preempt
-ready_with programs Pull new h m Pull = m
+ready_with : (hooks : Attachments) (hook : Hook) (new : Attached) → AreReady hooks → MayStand hook new → AreReady (with_attached hook hooks new)
+ready_with hooks Place new h m Place = m
+ready_with hooks Place new h m Preempt = h Preempt
+ready_with hooks Place new h m Pull = h Pull
+ready_with hooks Preempt new h m Place = h Place
+ready_with hooks Preempt new h m Preempt = m
+ready_with hooks Preempt new h m Pull = h Pull
+ready_with hooks Pull new h m Place = h Place
+ready_with hooks Pull new h m Preempt = h Preempt
+ready_with hooks Pull new h m Pull = m
 
 -- a policy that was asked stands there as before, with maps of its shapes
-settled_stands : (s : Regime) (hook : Hook) (policy : Option Accepted) (context : Version → List ℕ) (program : Program) (now cpu : ℕ) (permitted : ℕ → Bool) (own : ℕ) (settled : Decision) →
-    program.policy ≡ policy → SettlesBy s policy context program now cpu permitted own settled → MayStand hook program → MayStand hook settled.program
-settled_stands s hook None context program now cpu permitted own settled is h m = rw h m
-settled_stands s hook (Some p) context program now cpu permitted own settled is h m =
-    let had : IsEquipped (Some p) program.maps = subst (λ (o : Option Accepted). IsEquipped o program.maps) is m.1 in
+settled_stands : (s : Regime) (hook : Hook) (policy : Option Accepted) (context : Version → List ℕ) (attached : Attached) (now cpu : ℕ) (permitted : ℕ → Bool) (own : ℕ) (settled : Decision) →
+    attached.policy ≡ policy → SettlesBy s policy context attached now cpu permitted own settled → MayStand hook attached → MayStand hook settled.attached
+settled_stands s hook None context attached now cpu permitted own settled is h m = rw h m
+settled_stands s hook (Some p) context attached now cpu permitted own settled is h m =
+    let had : IsEquipped (Some p) attached.maps = subst (λ (o : Option Accepted). IsEquipped o attached.maps) is m.1 in
     rw h.3 (m.0, subst (λ (o : Option Accepted). IsEquipped o h.1) (sym is) (had.0, h.7))
 
-preempt_stands : (s : Regime) (cpu : ℕ) (p : Processor) (o : Option Task) (settled : Decision) → SettlesPreempt s cpu p o settled → AreReady p.programs → MayStand Preempt settled.program
+preempt_stands : (s : Regime) (cpu : ℕ) (p : Processor) (o : Option Task) (settled : Decision) → SettlesPreempt s cpu p o settled → AreReady p.hooks → MayStand Preempt settled.attached
 preempt_stands s cpu p None settled h ready = rw h (ready Preempt)
-preempt_stands s cpu p (Some t) settled h ready = settled_stands s Preempt p.programs.preempt.policy _ p.programs.preempt p.running.last cpu _ _ settled refl h (ready Preempt)
+preempt_stands s cpu p (Some t) settled h ready = settled_stands s Preempt p.hooks.preempt.policy _ p.hooks.preempt p.running.last cpu _ _ settled refl h (ready Preempt)
 
 -- Processors
 
@@ -122,7 +122,7 @@ decides_well : (s : Regime) (cpu : ℕ) (p : Processor) (settled : Decision) (q 
 decides_well s cpu p settled q h well =
     let q' : IsWell (decided_by s p settled) = record {
       rising = rising_decided s.discipline p.running p.running.current (settled.choice == 1) well.rising;
-      ready = ready_with p.programs Preempt settled.program well.ready (preempt_stands s cpu p p.running.current settled h.0 well.ready);
+      ready = ready_with p.hooks Preempt settled.attached well.ready (preempt_stands s cpu p p.running.current settled h.0 well.ready);
     } in
     subst IsWell (sym h.1) q'
 
@@ -139,7 +139,7 @@ performs_well s w (event.Install cpu h g policy) calls r w' all k =
     let p = processor w cpu in
     let well = all cpu in
     let i = k.1 in
-    let q : IsWell k.0 = rw i.2 (record { rising = well.rising; ready = ready_with p.programs h _ well.ready i.3 }) in
+    let q : IsWell k.0 = rw i.2 (record { rising = well.rising; ready = ready_with p.hooks h _ well.ready i.3 }) in
     rw k.3 (well_at w cpu k.0 all q)
 performs_well s w (event.BeginWake cpu id) calls r w' all k =
     let well = all cpu in
@@ -150,8 +150,8 @@ performs_well s w (event.EndWake cpu now) calls r w' all k =
     let c = after_time s.discipline now p in
     let well = all cpu in
     let b = k.2 in
-    let new = settled_stands s Place c.programs.place.policy _ c.programs.place c.running.last cpu _ _ b.1 refl b.4.0 (well.ready Place) in
-    let q : IsWell k.1 = rw b.4.5 (record { rising = well.rising; ready = ready_with c.programs Place b.1.program well.ready new }) in
+    let new = settled_stands s Place c.hooks.place.policy _ c.hooks.place c.running.last cpu _ _ b.1 refl b.4.0 (well.ready Place) in
+    let q : IsWell k.1 = rw b.4.5 (record { rising = well.rising; ready = ready_with c.hooks Place b.1.attached well.ready new }) in
     rw k.4 (well_at w cpu k.1 all q)
 performs_well s w (event.Drain cpu now) calls r w' all k =
     let c = after_time s.discipline now (processor w cpu) in
@@ -176,10 +176,10 @@ performs_well s w (event.Pull cpu from now) calls r w' all k =
     let taken = taken_from source task in
     let well = all cpu in
     let there = all from in
-    let new = settled_stands s Pull c.programs.pull.policy _ c.programs.pull c.running.last cpu _ _ x.0 refl x.1.0 (well.ready Pull) in
+    let new = settled_stands s Pull c.hooks.pull.policy _ c.hooks.pull c.running.last cpu _ _ x.0 refl x.1.0 (well.ready Pull) in
     let q : IsWell k.0 = rw x.1.3 (record {
       rising = rising_started d (with_pulled d c.running taken) c.running.current (rising_pulled d c.running taken well.rising);
-      ready = ready_with c.programs Pull x.0.program well.ready new;
+      ready = ready_with c.hooks Pull x.0.attached well.ready new;
     }) in
     let o : IsWell k.1 = rw x.1.4 (record { rising = rising_taken source task there.rising; ready = there.ready }) in
     rw k.3 (well_at (with_processor w cpu k.0) from k.1 (well_at w cpu k.0 all q) o)

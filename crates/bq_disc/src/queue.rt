@@ -9,7 +9,7 @@ ghost use Rattle.bq_disc.specs.Discipline.{Discipline, charged, entered_by, left
 ghost use Rattle.bq_disc.specs.Chains.{task_of, IsLone};
 ghost use Rattle.bq_disc.specs.Pulls.{pull_of};
 
-use crate::{Movable, Node, Rule};
+use crate::{Discipline, Movable, Node};
 
 /// How a task comes into a queue.
 #[derive(Clone, Copy)]
@@ -22,7 +22,7 @@ pub enum Entry {
 
 /// A set of tasks with distinct ids, under a rule. No call takes memory: nodes move.
 pub trait RunQueue {
-    type R: Rule;
+    type R: Discipline;
 
     /// The tasks, by rising (v, id).
     ghost members: { Self → List Task };

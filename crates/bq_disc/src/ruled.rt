@@ -2,12 +2,12 @@
 ghost use Rattle.std.specs.Prelude.{◌≡◌, ◌^◌};
 ghost use Rattle.bq_disc.specs.Queues.{Queue};
 
-use crate::{Chain, Movable, Node, Rule, RunQueue, Timeline};
+use crate::{Chain, Discipline, Movable, Node, RunQueue, Timeline};
 use std::marker::{Model, PhantomData};
 
 /// A timeline with the mark that a rule keeps for it.
 #[derive(Drop)]
-pub struct RuledQueue<T: Timeline, R: Rule> {
+pub struct RuledQueue<T: Timeline, R: Discipline> {
     tasks: T,
     mark: u64,
     rule: PhantomData<R>,
@@ -16,7 +16,7 @@ pub struct RuledQueue<T: Timeline, R: Rule> {
 /// The plain queue, a list of boxes, under any rule.
 pub type List<R> = RuledQueue<Chain, R>;
 
-impl<T: Timeline, R: Rule> Model for RuledQueue<T, R> {
+impl<T: Timeline, R: Discipline> Model for RuledQueue<T, R> {
     ghost use Rattle.std.specs.Prelude.{◌≤◌, ◌^◌};
     ghost use Rattle.bq_disc.specs.Queues.{Queue, coded_queue};
 
@@ -29,7 +29,7 @@ impl<T: Timeline, R: Rule> Model for RuledQueue<T, R> {
     ghost invariant = { λ q. q.mark ≤ 2 ^ 62 };
 }
 
-impl<T: Timeline, R: Rule> RunQueue for RuledQueue<T, R> {
+impl<T: Timeline, R: Discipline> RunQueue for RuledQueue<T, R> {
     type R = R;
 
     ghost members = { λ q. q.members };

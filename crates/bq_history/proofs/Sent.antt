@@ -7,8 +7,8 @@ use Rattle.std.proofs.Crossing.{crosses}
 use Rattle.bq_tie.specs.declared.law.Naming as Naming
 use Rattle.bq_tie.proofs.holder.Holder.TheSendSync as holder
 use Rattle.bq_history.specs.contracts.law.Item as Item
-use Rattle.bq_history.specs.contracts.chain.Chain as Chain
-use Rattle.bq_history.specs.contracts.chain.Chain.TheInside as chain
+use Rattle.bq_history.specs.contracts.chain.GrowingList
+use Rattle.bq_history.specs.contracts.chain.GrowingList.TheInside as chain
 use Rattle.bq_history.specs.contracts.chunk.Chunk as Chunk
 use Rattle.bq_history.specs.contracts.chunk.Chunk.TheInside as chunk
 use Rattle.bq_history.specs.contracts.log.Log as Log
@@ -20,7 +20,7 @@ use Rattle.bq_history.proofs.chain.Node.TheLaws.TheKnot as knot
 chain_inside : (T : RattleType) → IsSend T → IsSend (chain.the_row T)
 chain_inside T s = search (crosses, knot.crosses, sendable) depth 60 fits 20000
 
-chain_send : (T : RattleType) → IsSend T → IsSend (Chain.the_row T)
+chain_send : (T : RattleType) → IsSend T → IsSend (GrowingList.the_row T)
 chain_send T s = view_send (chain.the_row T) _ _ _ _ (chain_inside T s)
 
 chunk_inside : (R : RattleType) → IsSend R → IsSend (chunk.the_row R)

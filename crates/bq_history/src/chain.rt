@@ -49,15 +49,15 @@ impl<T: Drop> Slip<T> {
 
 /// Items, linked from the last to the first, so that one is added at once and without memory. Contracts see them in the
 /// order in which they were added.
-pub struct Chain<T: Drop> {
+pub struct GrowingList<T: Drop> {
     pub(crate) last: Link<T>,
     len: u64,
 }
 
 /// One node after another, so that a long list does not need a deep stack.
-impl<T: Drop> Drop for Chain<T> {
+impl<T: Drop> Drop for GrowingList<T> {
     fn drop(self) {
-        let Chain { last, len: _ } = self;
+        let GrowingList { last, len: _ } = self;
         let mut rest = last;
         while let Some(mut node) = rest {
             rest = node.next.take();
@@ -65,7 +65,7 @@ impl<T: Drop> Drop for Chain<T> {
     }
 }
 
-impl<T: Drop> Model for Chain<T> {
+impl<T: Drop> Model for GrowingList<T> {
     ghost use Rattle.std.specs.Prelude.{◌≡◌, List, length, reverse};
     ghost use Rattle.bq_history.specs.Chains.{chain_behind};
 
@@ -76,12 +76,12 @@ impl<T: Drop> Model for Chain<T> {
     ghost invariant = { λ r. r.len ≡ length (chain_behind r.last) };
 }
 
-impl<T: Drop> Chain<T> {
+impl<T: Drop> GrowingList<T> {
     /// No item.
-    pub(crate) fn new() -> Chain<T>
+    pub(crate) fn new() -> GrowingList<T>
         ensures { result ≡ [] }
     {
-        Chain { last: None, len: 0 }
+        GrowingList { last: None, len: 0 }
     }
 
     /// One more at the end. It takes no memory.
@@ -100,7 +100,7 @@ impl<T: Drop> Chain<T> {
         ensures chain { chain_behind result.0 ≡ self }
         ensures len { result.1 ≡ length self }
     {
-        let Chain { last, len } = self;
+        let GrowingList { last, len } = self;
         (reversed(last), len)
     }
 }

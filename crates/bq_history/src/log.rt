@@ -3,7 +3,7 @@ ghost use Rattle.std.specs.Prelude.{◌≡◌, ◌+◌, ◌<◌, ◌^◌, [], �
 ghost use Rattle.bq_history.specs.Chains.{chain_behind};
 ghost use Rattle.bq_history.specs.Chunks.{joined, AreChunks};
 
-use crate::chain::{Chain, Link, Slip};
+use crate::chain::{GrowingList, Link, Slip};
 use crate::chunk::{CHUNK, Chunk};
 use crate::room::Room;
 use std::marker::Model;
@@ -11,7 +11,7 @@ use std::marker::Model;
 /// Records, in chunks of which each but the last is full. Contracts see the records in the order in which they were added.
 #[derive(Drop)]
 pub struct Log<R: Drop> {
-    chunks: Chain<Chunk<R>>,
+    chunks: GrowingList<Chunk<R>>,
     len: u64,
 }
 
@@ -32,7 +32,7 @@ impl<R: Drop> Log<R> {
         ensures { result ≡ [] }
     {
         Log {
-            chunks: Chain::new(),
+            chunks: GrowingList::new(),
             len: 0,
         }
     }
@@ -87,7 +87,7 @@ fn begun<R: Drop>(slip: Slip<Chunk<R>>, entry: R) -> Slip<Chunk<R>>
 
 /// One record more in the last chunk, which has room for it.
 #[inline(always)]
-fn append<R: Drop>(chunks: &mut Chain<Chunk<R>>, entry: R)
+fn append<R: Drop>(chunks: &mut GrowingList<Chunk<R>>, entry: R)
     requires { (front : List (List R)) × (last : List R) × (chunks.old ≡ front ++ last ∷ []) × (length last < 16) }
     ensures { (front : List (List R)) (last : List R) → chunks.old ≡ front ++ last ∷ [] → chunks.new ≡ front ++ (last ++ entry ∷ []) ∷ [] }
 {

@@ -11,10 +11,10 @@ use Rattle.bq_tree.specs.contracts.summary.NoSums as NoSums
 use Rattle.bq_tree.specs.contracts.summary.NoSumsSummary.TheImpl as no_sums
 use Rattle.bq_tree.specs.contracts.summary.Sums as Sums
 use Rattle.bq_tree.specs.contracts.summary.SumsSummary.TheImpl as sums
-use Rattle.bq_cfs.specs.contracts.rule.Cfs as Cfs
-use Rattle.bq_cfs.specs.contracts.rule.CfsRule.TheImpl as cfs
-use Rattle.bq_eevdf.specs.contracts.rule.Eevdf as Eevdf
-use Rattle.bq_eevdf.specs.contracts.rule.EevdfRule.TheImpl as eevdf
+use Rattle.bq_cfs.specs.contracts.discipline.Cfs as Cfs
+use Rattle.bq_cfs.specs.contracts.discipline.CfsDiscipline.TheImpl as cfs
+use Rattle.bq_eevdf.specs.contracts.discipline.Eevdf as Eevdf
+use Rattle.bq_eevdf.specs.contracts.discipline.EevdfDiscipline.TheImpl as eevdf
 
 cfs_tree_send : IsSend (Tree.the_row NoSums.the_row no_sums.ghosts)
 cfs_tree_send = search (crosses, knot.crosses, sendable) depth 60 fits 20000

@@ -6,7 +6,7 @@ use denote.Param.SendFields.{declared_sync, as_row_sync}
 use Rattle.std.proofs.Crossing.{crosses, Vec-sync}
 use Rattle.std.specs.contracts.sync.Mutex as Mutex
 use Rattle.bq_disc.specs.declared.queue.RunQueue as Queue
-use Rattle.bq_disc.specs.declared.rule.Rule as Rule
+use Rattle.bq_disc.specs.declared.discipline.Discipline
 use Rattle.bq_tie.specs.declared.law.Naming as Naming
 use Rattle.bq_tie.proofs.owner.Owner.TheSendSync as owner
 use Rattle.bq_counters.specs.declared.account.Naming as Counting
@@ -40,7 +40,7 @@ tasks_send : IsSend Inbox.the_row
 tasks_send = search (crosses, knot.crosses, sendable) depth 60 fits 20000
 
 -- what all callers share beside the locks of the parts
-recorder_sync : (Q N R : RattleType) (n : Naming.Ghosts N.Denot) (m : Counting.Ghosts N.Denot) (g : Queue.Ghosts Q.Denot R.Denot) (h : Rule.Ghosts R.Denot) → IsSync (Recorder.the_row Q N R n m g h)
+recorder_sync : (Q N R : RattleType) (n : Naming.Ghosts N.Denot) (m : Counting.Ghosts N.Denot) (g : Queue.Ghosts Q.Denot R.Denot) (h : Discipline.Ghosts R.Denot) → IsSync (Recorder.the_row Q N R n m g h)
 recorder_sync Q N R n m g h =
     let journals = Journal.the_row Record.the_row Part.the_row Kept.the_row N n in
     declared_sync (Recorder.the_type Q N R n m g h) (
@@ -52,7 +52,7 @@ recorder_sync Q N R n m g h =
     )
 
 -- a machine may be shared
-pub machine_sync : (Q K N P R : RattleType) (k : Clock.Ghosts K.Denot) (n : Naming.Ghosts N.Denot) (m : Counting.Ghosts N.Denot) (g : Queue.Ghosts Q.Denot R.Denot) (h : Rule.Ghosts R.Denot) → IsSend Q → IsSync K → IsSync (Machine.the_row Q K N P R g h k n m)
+pub machine_sync : (Q K N P R : RattleType) (k : Clock.Ghosts K.Denot) (n : Naming.Ghosts N.Denot) (m : Counting.Ghosts N.Denot) (g : Queue.Ghosts Q.Denot R.Denot) (h : Discipline.Ghosts R.Denot) → IsSend Q → IsSync K → IsSync (Machine.the_row Q K N P R g h k n m)
 machine_sync Q K N P R k n m g h s y =
     let cpu = Numbered.the_row Q R g h in
     let a = cpu_part.ghosts Q R g cpu_part.no_dict h cpu_part.no_dict in

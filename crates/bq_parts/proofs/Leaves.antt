@@ -31,5 +31,5 @@ current_seated d p now t s e =
 -- what is placed is one of those processors
 pub placed_fits : (d : Discipline) (count cpu : ℕ) (p : Processor) (carried : Carried) (settled : Decision) → HasPlace count carried.task → SettlesPlace (policies d) count cpu p carried settled → settled.choice < count
 placed_fits d count cpu p carried settled h k =
-    let goes = settled_permitted (policies d) _ p.programs.place p.running.last cpu (may_place count carried.task) _ settled (own_place_permitted count carried.loads carried.task h) k in
+    let goes = settled_permitted (policies d) _ p.hooks.place p.running.last cpu (may_place count carried.task) _ settled (own_place_permitted count carried.loads carried.task h) k in
     (may_place_fits count carried.task settled.choice goes).0

@@ -10,7 +10,7 @@ use Rattle.bq_disc.specs.Pulls.{movable, pulled_before}
 use Rattle.bq_disc.specs.Movable.{is_movable_to}
 use Rattle.bq_bpf.specs.declared.hook.Version.{Version}
 use Rattle.bq_verify.specs.Accepted.{Accepted}
-use Rattle.bq_policies.specs.Programs.{Program}
+use Rattle.bq_policies.specs.Attachments.{Attached}
 use Rattle.bq_hooks.specs.Contexts.{nobody, or_nobody}
 use Rattle.bq_hooks.specs.OwnPlace.{own_place, allows, HasPlace}
 use Rattle.bq_hooks.specs.Permitted.{may_place, may_pull, task_numbered}
@@ -29,15 +29,15 @@ by_test false permitted r0 own e o = o
 pub answered : (permitted : ℕ → Bool) (r0 own : ℕ) → permitted own ≡ true → permitted (chosen permitted (Some r0) own).choice ≡ true
 answered permitted r0 own o = by_test (permitted r0) permitted r0 own refl o
 
-settles_by : (s : Regime) (policy : Option Accepted) (context : Version → List ℕ) (program : Program) (now cpu : ℕ) (permitted : ℕ → Bool) (own : ℕ) (settled : Decision) →
-    permitted own ≡ true → SettlesBy s policy context program now cpu permitted own settled → permitted settled.choice ≡ true
-settles_by s None context program now cpu permitted own settled o h = ap (λ (x : Decision). permitted x.choice) h ∙ o
-settles_by s (Some policy) context program now cpu permitted own settled o h = ap permitted h.4 ∙ answered permitted h.0 own o
+settles_by : (s : Regime) (policy : Option Accepted) (context : Version → List ℕ) (attached : Attached) (now cpu : ℕ) (permitted : ℕ → Bool) (own : ℕ) (settled : Decision) →
+    permitted own ≡ true → SettlesBy s policy context attached now cpu permitted own settled → permitted settled.choice ≡ true
+settles_by s None context attached now cpu permitted own settled o h = ap (λ (x : Decision). permitted x.choice) h ∙ o
+settles_by s (Some policy) context attached now cpu permitted own settled o h = ap permitted h.4 ∙ answered permitted h.0 own o
 
 -- where the own choice is permitted, what is settled is
-pub settled_permitted : (s : Regime) (context : Version → List ℕ) (program : Program) (now cpu : ℕ) (permitted : ℕ → Bool) (own : ℕ) (settled : Decision) →
-    permitted own ≡ true → Settles s context program now cpu permitted own settled → permitted settled.choice ≡ true
-settled_permitted s context program now cpu permitted own settled o h = settles_by s program.policy context program now cpu permitted own settled o h
+pub settled_permitted : (s : Regime) (context : Version → List ℕ) (attached : Attached) (now cpu : ℕ) (permitted : ℕ → Bool) (own : ℕ) (settled : Decision) →
+    permitted own ≡ true → Settles s context attached now cpu permitted own settled → permitted settled.choice ≡ true
+settled_permitted s context attached now cpu permitted own settled o h = settles_by s attached.policy context attached now cpu permitted own settled o h
 
 both : (a b : Bool) → (a && b) ≡ true → (a ≡ true) × (b ≡ true)
 both true b h = (refl, h)

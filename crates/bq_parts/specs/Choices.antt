@@ -11,7 +11,7 @@ use Rattle.bq_bpf.specs.declared.hook.Version.TheVariants.{First, Second}
 use Rattle.bq_verify.specs.Accepted.{Accepted}
 use Rattle.bq_bpf.specs.Memory.{HaveShapes}
 use Rattle.bq_policies.specs.Answers.{Answers, IsWithin}
-use Rattle.bq_policies.specs.Programs.{Program}
+use Rattle.bq_policies.specs.Attachments.{Attached}
 use Rattle.bq_hooks.specs.declared.settled.By.{By}
 use Rattle.bq_hooks.specs.declared.settled.By.TheVariants as who
 use Rattle.bq_hooks.specs.Contexts.{PlaceFacts, place_bytes_first, place_bytes_second, preempt_bytes, pull_bytes, as_number, or_nobody}
@@ -37,24 +37,24 @@ pub record Decision : Type 0 where
   pub by : By
   pub steps : ℕ
   pub calls : List Asked
-  pub program : Program
+  pub attached : Attached
 
 -- no policy was asked
-abbrev pub unasked : ℕ → Program → Decision
-unasked own program = record { choice = own; by = who.Discipline; steps = 0; calls = []; program = program }
+abbrev pub unasked : ℕ → Attached → Decision
+unasked own attached = record { choice = own; by = who.Discipline; steps = 0; calls = []; attached = attached }
 
 -- r0 where it is permitted, and else the own choice. The maps stay as the policy left them, either way: they keep their
 -- shapes. The policy answers within its budget, with sixteen calls of counters at most
-abbrev pub SettlesBy : Regime → Option Accepted → (Version → List ℕ) → Program → ℕ → ℕ → (ℕ → Bool) → ℕ → Decision → Type 0
-SettlesBy s None context program now cpu permitted own settled = settled ≡ unasked own program
-SettlesBy s (Some policy) context program now cpu permitted own settled =
-    (r0 : ℕ) × (maps : List (List ℕ)) × s.Answers policy (context policy.version) program.maps now cpu r0 maps settled.steps settled.calls
-    × (settled.program ≡ record program { maps = maps })
+abbrev pub SettlesBy : Regime → Option Accepted → (Version → List ℕ) → Attached → ℕ → ℕ → (ℕ → Bool) → ℕ → Decision → Type 0
+SettlesBy s None context attached now cpu permitted own settled = settled ≡ unasked own attached
+SettlesBy s (Some policy) context attached now cpu permitted own settled =
+    (r0 : ℕ) × (maps : List (List ℕ)) × s.Answers policy (context policy.version) attached.maps now cpu r0 maps settled.steps settled.calls
+    × (settled.attached ≡ record attached { maps = maps })
     × (settled.choice ≡ (chosen permitted (Some r0) own).choice) × (settled.by ≡ (chosen permitted (Some r0) own).by)
     × IsWithin policy settled.steps settled.calls × HaveShapes policy.shapes maps
 
-abbrev pub Settles : Regime → (Version → List ℕ) → Program → ℕ → ℕ → (ℕ → Bool) → ℕ → Decision → Type 0
-Settles s context program = SettlesBy s program.policy context program
+abbrev pub Settles : Regime → (Version → List ℕ) → Attached → ℕ → ℕ → (ℕ → Bool) → ℕ → Decision → Type 0
+Settles s context attached = SettlesBy s attached.policy context attached
 
 -- the context of a placement, by the version of the policy's image
 abbrev pub place_bytes : PlaceFacts → Version → List ℕ
@@ -66,16 +66,16 @@ abbrev pub SettlesPlace : Regime → ℕ → ℕ → Processor → Carried → D
 SettlesPlace s count cpu p carried settled =
     let own = unwrap_or (own_place count carried.loads carried.task) 0 in
     let context = place_bytes (record { task = carried.task; waking = cpu; processors = count; own = own; loads = carried.loads }) in
-    Settles s context p.programs.place p.running.last cpu (may_place count carried.task) own settled
+    Settles s context p.hooks.place p.running.last cpu (may_place count carried.task) own settled
 
 -- a preemption is settled: where nothing runs no policy is asked; else it is answered by 0 or 1
 abbrev pub SettlesPreempt : Regime → ℕ → Processor → Option Task → Decision → Type 0
-SettlesPreempt s cpu p None settled = settled ≡ unasked 0 p.programs.preempt
+SettlesPreempt s cpu p None settled = settled ≡ unasked 0 p.hooks.preempt
 SettlesPreempt s cpu p (Some current) settled =
     let queue = p.running.queue in
     let own = own_preempt s.discipline queue (Some current) in
     let context = preempt_bytes (record { processor = cpu; queue = queue; current = current; choice = s.discipline.choice queue; own = own }) in
-    Settles s (λ version. context) p.programs.preempt p.running.last cpu may_preempt (as_number own) settled
+    Settles s (λ version. context) p.hooks.preempt p.running.last cpu may_preempt (as_number own) settled
 
 -- where the other processor has at least two tasks more, its movable one of greatest (v, id)
 abbrev pub own_pull : ℕ → Processor → Processor → Option ℕ
@@ -87,12 +87,12 @@ SettlesPull s cpu from p other settled =
     let queue = other.running.queue in
     let own = own_pull cpu p other in
     let context = pull_bytes (record { puller = cpu; source = from; puller_size = size_of p; source_size = size_of other; movable = movable_to cpu queue; own = own }) in
-    Settles s (λ version. context) p.programs.pull p.running.last cpu (may_pull cpu queue) (or_nobody own) settled
+    Settles s (λ version. context) p.hooks.pull p.running.last cpu (may_pull cpu queue) (or_nobody own) settled
 
 -- Decide: who runs after a preemption was settled, and what stands at the hook
 abbrev pub decided_by : Regime → Processor → Decision → Processor
 decided_by s p settled =
     record p {
       running = decided s.discipline p.running p.running.current (settled.choice == 1);
-      programs = record p.programs { preempt = settled.program };
+      hooks = record p.hooks { preempt = settled.attached };
     }

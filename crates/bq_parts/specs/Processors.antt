@@ -3,17 +3,17 @@ use Rattle.std.specs.Prelude.{◌≡◌, ℕ, ◌+◌, ◌≤◌, List, [], ◌�
 use Rattle.std.specs.Option.{option_map, option_to_list}
 use Rattle.bq_disc.specs.Tasks.{Task, has_id}
 use Rattle.bq_disc.specs.OneProcessor.{Running, at_rest, present_at}
-use Rattle.bq_policies.specs.Programs.{Programs, no_programs}
+use Rattle.bq_policies.specs.Attachments.{Attachments, none_attached}
 use Rattle.bq_parts.specs.declared.carried.Carried.{Carried}
 
 pub record Processor : Type 0 where
   pub running : Running
   pub hand : Option Carried
-  pub programs : Programs
+  pub hooks : Attachments
 
 -- nothing has come to it, and nothing is installed
 abbrev pub opening : Processor
-opening = record { running = at_rest; hand = None; programs = no_programs }
+opening = record { running = at_rest; hand = None; hooks = none_attached }
 
 -- the task in a hand
 abbrev pub in_hand : Processor → List Task

@@ -6,7 +6,7 @@ use Rattle.bq_parts.specs.declared.lobby_entry.LobbyEntry.TheVariants.{Absent, B
 use Rattle.bq_bpf.specs.declared.hook.Hook.{Hook}
 use Rattle.bq_bpf.specs.declared.hook.Hook.TheVariants as hooks
 use Rattle.bq_verify.specs.Accepted.{Accepted}
-use Rattle.bq_policies.specs.Programs.{at_hook}
+use Rattle.bq_policies.specs.Attachments.{at_hook}
 use Rattle.bq_parts.specs.declared.event.Event.{Event}
 use Rattle.bq_parts.specs.declared.event.Event.TheVariants.{Admit, Retire, Draw, Install, BeginWake, EndWake, Drain, Tick, Block, Pull}
 use Rattle.bq_parts.specs.declared.refusal.Refusal.{Refusal}
@@ -75,7 +75,7 @@ abbrev pub state_refusal : World → Event → Option Refusal
 state_refusal w (Admit id nice mask slice) = first_refusal ((not (is_absent (seat w id)), no.TaskExists) ∷ [])
 state_refusal w (Retire id) = retire_refusal (seat w id)
 state_refusal w Draw = None
-state_refusal w (Install cpu h g policy) = install_refusal (at_hook h (processor w cpu).programs).generation w.drawn g
+state_refusal w (Install cpu h g policy) = install_refusal (at_hook h (processor w cpu).hooks).generation w.drawn g
 state_refusal w (BeginWake cpu id) = begin_refusal (seat w id) (processor w cpu).hand
 state_refusal w (EndWake cpu now) = first_refusal ((is_none (processor w cpu).hand, no.NothingInHand) ∷ [])
 state_refusal w (Drain cpu now) = None

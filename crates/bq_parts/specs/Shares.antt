@@ -15,7 +15,7 @@ use Rattle.bq_parts.specs.declared.carried.Carried.{Carried}
 use Rattle.bq_parts.specs.declared.wakes.Placement.{Placement}
 use Rattle.bq_parts.specs.Refusals.{is_absent, retire_refusal, begin_refusal, install_refusal}
 use Rattle.bq_bpf.specs.declared.hook.Hook.{Hook}
-use Rattle.bq_policies.specs.Programs.{Program, at_hook, with_program}
+use Rattle.bq_policies.specs.Attachments.{Attached, at_hook, with_attached}
 use Rattle.bq_policies.specs.Standing.{MayStand}
 use Rattle.bq_hooks.specs.Permitted.{task_numbered}
 use Rattle.bq_parts.specs.Choices.{Regime, Decision, SettlesPlace, SettlesPreempt, SettlesPull, decided_by}
@@ -81,13 +81,13 @@ Places s count cpu now p calls (Some x) q =
     × (let c = after_time s.discipline now p in
     SettlesPlace s count cpu c carried settled
     × (x.to ≡ settled.choice) × (x.by ≡ settled.by) × (x.steps ≡ settled.steps) × (calls ≡ settled.calls)
-    × (q ≡ record c { hand = None; programs = record c.programs { place = settled.program } }))
+    × (q ≡ record c { hand = None; hooks = record c.hooks { place = settled.attached } }))
 
 -- something else that may stand there stands at a hook, where so many numbers were drawn
-abbrev pub Installs : Hook → ℕ → Processor → Program → Result Reply Refusal → Processor → Type 0
+abbrev pub Installs : Hook → ℕ → Processor → Attached → Result Reply Refusal → Processor → Type 0
 Installs h drawn p new (Ok r) q =
-    (install_refusal (at_hook h p.programs).generation drawn new.generation ≡ None) × (r ≡ Installed) × (q ≡ record p { programs = with_program h p.programs new }) × MayStand h new
-Installs h drawn p new (Err e) q = (install_refusal (at_hook h p.programs).generation drawn new.generation ≡ Some e) × (q ≡ p)
+    (install_refusal (at_hook h p.hooks).generation drawn new.generation ≡ None) × (r ≡ Installed) × (q ≡ record p { hooks = with_attached h p.hooks new }) × MayStand h new
+Installs h drawn p new (Err e) q = (install_refusal (at_hook h p.hooks).generation drawn new.generation ≡ Some e) × (q ≡ p)
 
 -- a task of another processor's queue enters this one's; where nothing runs, the choice does
 abbrev pub Pulls : Regime → ℕ → ℕ → ℕ → Processor → Processor → List Asked → Reply → Processor → Processor → Type 0
@@ -100,6 +100,6 @@ Pulls s cpu from now p other calls r q other' =
     × (calls ≡ settled.calls) × (r ≡ Moved task (id_of q.running.current) settled.by settled.steps)
     × (q ≡ record c {
       running = started_if_idle s.discipline (with_pulled s.discipline c.running (taken_from source.running task)) c.running.current;
-      programs = record c.programs { pull = settled.program };
+      hooks = record c.hooks { pull = settled.attached };
     })
     × (other' ≡ record source { running = without_task source.running task }))

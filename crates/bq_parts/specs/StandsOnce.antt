@@ -54,4 +54,4 @@ pub record IsOrderly (w : World) : Type 0 where
   -- each queue rises by (v, id)
   pub rising : (cpu : ℕ) → IsRising (processor w cpu).running.queue
   -- whatever stands at a hook was accepted for it, and its maps have its shapes
-  pub ready : (cpu : ℕ) → AreReady (processor w cpu).programs
+  pub ready : (cpu : ℕ) → AreReady (processor w cpu).hooks

@@ -74,8 +74,8 @@ impl<Q: RunQueue> Cpu<Q> {
         requires few { count ≤ 64 }
         requires usable { HasPlace count carried.now.task }
         requires unasked { scratch.old ≡ [] }
-        ensures settled { SettlesPlace (policies Q.R.discipline) count processor self.old carried.now (record { choice = result.choice; by = result.by; steps = result.steps; calls = scratch.new; program = self.new.programs.place }) }
-        ensures rest { self.new ≡ record self.old { programs = record self.old.programs { place = self.new.programs.place } } }
+        ensures settled { SettlesPlace (policies Q.R.discipline) count processor self.old carried.now (record { choice = result.choice; by = result.by; steps = result.steps; calls = scratch.new; attached = self.new.hooks.place }) }
+        ensures rest { self.new ≡ record self.old { hooks = record self.old.hooks { place = self.new.hooks.place } } }
         ensures board { Through B.leads board.old scratch.new board.new }
     {
         let task = &carried.task.node().entity;
@@ -103,11 +103,11 @@ impl<Q: RunQueue> Cpu<Q> {
         scratch: &mut Scratch,
         board: &mut B,
     ) -> Done
-        requires version { Some version ≡ option_map (λ p. p.version) self.old.programs.place.policy }
-        ensures answers { IfSome self.old.programs.place.policy (λ p. Answers p (place_bytes facts.now version) self.old.programs.place.maps self.old.running.last processor result.r0 self.new.programs.place.maps result.steps scratch.new) }
-        ensures within { IfSome self.old.programs.place.policy (λ p. IsWithin p result.steps scratch.new) }
-        ensures shapes { IfSome self.old.programs.place.policy (λ p. HaveShapes p.shapes self.new.programs.place.maps) }
-        ensures rest { self.new ≡ record self.old { programs = record self.old.programs { place = record self.old.programs.place { maps = self.new.programs.place.maps } } } }
+        requires version { Some version ≡ option_map (λ p. p.version) self.old.hooks.place.policy }
+        ensures answers { IfSome self.old.hooks.place.policy (λ p. Answers p (place_bytes facts.now version) self.old.hooks.place.maps self.old.running.last processor result.r0 self.new.hooks.place.maps result.steps scratch.new) }
+        ensures within { IfSome self.old.hooks.place.policy (λ p. IsWithin p result.steps scratch.new) }
+        ensures shapes { IfSome self.old.hooks.place.policy (λ p. HaveShapes p.shapes self.new.hooks.place.maps) }
+        ensures rest { self.new ≡ record self.old { hooks = record self.old.hooks { place = record self.old.hooks.place { maps = self.new.hooks.place.maps } } } }
         ensures board { Through B.leads board.old scratch.new board.new }
     {
         let env = self.env(processor);
@@ -135,8 +135,8 @@ impl<Q: RunQueue> Cpu<Q> {
         requires distinct { HasDistinctIds self.old.running.queue }
         requires few { length self.old.running.queue < 2 ^ 32 }
         requires unasked { scratch.old ≡ [] }
-        ensures settled { SettlesPreempt (policies Q.R.discipline) processor self.old self.old.running.current (record { choice = as_number result.choice; by = result.by; steps = result.steps; calls = scratch.new; program = self.new.programs.preempt }) }
-        ensures rest { self.new ≡ record self.old { programs = record self.old.programs { preempt = self.new.programs.preempt } } }
+        ensures settled { SettlesPreempt (policies Q.R.discipline) processor self.old self.old.running.current (record { choice = as_number result.choice; by = result.by; steps = result.steps; calls = scratch.new; attached = self.new.hooks.preempt }) }
+        ensures rest { self.new ≡ record self.old { hooks = record self.old.hooks { preempt = self.new.hooks.preempt } } }
         ensures board { Through B.leads board.old scratch.new board.new }
     {
         let Some(current) = &self.current else {
@@ -172,8 +172,8 @@ impl<Q: RunQueue> Cpu<Q> {
         requires once { HasEachOnce (present_at self.old.running) }
         requires seated { HasSeatedIds (present_at self.old.running) }
         requires unasked { scratch.old ≡ [] }
-        ensures settled { SettlesPreempt (policies Q.R.discipline) processor self.old self.old.running.current (record { choice = as_number result.choice; by = result.by; steps = result.steps; calls = scratch.new; program = self.new.programs.preempt }) }
-        ensures decided { self.new ≡ decided_by (policies Q.R.discipline) self.old (record { choice = as_number result.choice; by = result.by; steps = result.steps; calls = scratch.new; program = self.new.programs.preempt }) }
+        ensures settled { SettlesPreempt (policies Q.R.discipline) processor self.old self.old.running.current (record { choice = as_number result.choice; by = result.by; steps = result.steps; calls = scratch.new; attached = self.new.hooks.preempt }) }
+        ensures decided { self.new ≡ decided_by (policies Q.R.discipline) self.old (record { choice = as_number result.choice; by = result.by; steps = result.steps; calls = scratch.new; attached = self.new.hooks.preempt }) }
         ensures board { Through B.leads board.old scratch.new board.new }
     {
         let preempted = self.choose_preempt(processor, scratch, board);
@@ -187,7 +187,7 @@ impl<Q: RunQueue> Cpu<Q> {
 
     /// Whether a policy chooses the task to pull.
     pub fn asks_pull(&self) -> bool
-        ensures { result ≡ is_some self.now.programs.pull.policy }
+        ensures { result ≡ is_some self.now.hooks.pull.policy }
     {
         self.hooks.version(Hook::Pull).is_some()
     }
@@ -225,11 +225,11 @@ impl<Q: RunQueue> Cpu<Q> {
         scratch: &mut Scratch,
         board: &mut B,
     ) -> Done
-        requires there { is_some self.old.programs.pull.policy ≡ true }
-        ensures answers { IfSome self.old.programs.pull.policy (λ p. Answers p context.now self.old.programs.pull.maps self.old.running.last processor result.r0 self.new.programs.pull.maps result.steps scratch.new) }
-        ensures within { IfSome self.old.programs.pull.policy (λ p. IsWithin p result.steps scratch.new) }
-        ensures shapes { IfSome self.old.programs.pull.policy (λ p. HaveShapes p.shapes self.new.programs.pull.maps) }
-        ensures rest { self.new ≡ record self.old { programs = record self.old.programs { pull = record self.old.programs.pull { maps = self.new.programs.pull.maps } } } }
+        requires there { is_some self.old.hooks.pull.policy ≡ true }
+        ensures answers { IfSome self.old.hooks.pull.policy (λ p. Answers p context.now self.old.hooks.pull.maps self.old.running.last processor result.r0 self.new.hooks.pull.maps result.steps scratch.new) }
+        ensures within { IfSome self.old.hooks.pull.policy (λ p. IsWithin p result.steps scratch.new) }
+        ensures shapes { IfSome self.old.hooks.pull.policy (λ p. HaveShapes p.shapes self.new.hooks.pull.maps) }
+        ensures rest { self.new ≡ record self.old { hooks = record self.old.hooks { pull = record self.old.hooks.pull { maps = self.new.hooks.pull.maps } } } }
         ensures board { Through B.leads board.old scratch.new board.new }
     {
         let env = self.env(processor);

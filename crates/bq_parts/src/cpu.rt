@@ -8,7 +8,7 @@ ghost use Rattle.bq_disc.specs.Pulls.{pull_of};
 ghost use Rattle.bq_disc.specs.Discipline.{left_at};
 ghost use Rattle.bq_disc.specs.Chains.{task_of, chain_behind, IsStraightBehind};
 ghost use Rattle.bq_disc.specs.OneProcessor.{charge, marked, start, switched, enter_all, entered, present_at};
-ghost use Rattle.bq_policies.specs.Programs.{at_hook, with_program, IsFor};
+ghost use Rattle.bq_policies.specs.Attachments.{at_hook, with_attached, IsFor};
 ghost use Rattle.bq_policies.specs.Standing.{WasAnswered};
 ghost use Rattle.bq_parts.specs.Processors.{opening, load_of, size_of, count_of, HasEachOnce};
 ghost use Rattle.bq_parts.specs.Moves.{taken_from, without_task, with_pulled, started_if_idle};
@@ -38,7 +38,7 @@ impl<Q: RunQueue> Model for Cpu<Q> {
 
     ghost Value = { Processor };
 
-    ghost view = { λ c. record { running = record { queue = Q.members c.queue; kept = Q.kept_mark c.queue; current = c.current; last = c.last }; hand = c.hand; programs = c.hooks } };
+    ghost view = { λ c. record { running = record { queue = Q.members c.queue; kept = Q.kept_mark c.queue; current = c.current; last = c.last }; hand = c.hand; hooks = c.hooks } };
 
     ghost invariant = { λ c. c.last < 2 ^ 48 };
 }
@@ -111,7 +111,7 @@ impl<Q: RunQueue> Cpu<Q> {
 
     /// The generation that stands at a hook, 0 where nothing was installed.
     pub fn generation(&self, hook: Hook) -> u64
-        ensures { result ≡ (at_hook hook self.now.programs).generation }
+        ensures { result ≡ (at_hook hook self.now.hooks).generation }
     {
         self.hooks.generation(hook)
     }
@@ -119,7 +119,7 @@ impl<Q: RunQueue> Cpu<Q> {
     /// What the policy at a hook answered when it was asked last: a run of it gives so, in so many steps. `None` where it was
     /// not asked since it was installed.
     pub fn answered(&self, hook: Hook) -> Option<Done>
-        ensures { WasAnswered (at_hook hook self.now.programs).policy result }
+        ensures { WasAnswered (at_hook hook self.now.hooks).policy result }
     {
         self.hooks.answered(hook)
     }
@@ -281,7 +281,7 @@ impl<Q: RunQueue> Cpu<Q> {
     /// Something else stands at a hook from now on.
     pub fn install(&mut self, hook: Hook, installed: Installed)
         requires { IsFor hook installed.policy }
-        ensures { self.new ≡ record self.old { programs = with_program hook self.old.programs installed } }
+        ensures { self.new ≡ record self.old { hooks = with_attached hook self.old.hooks installed } }
     {
         self.hooks.install(hook, installed);
     }

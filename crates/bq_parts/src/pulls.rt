@@ -59,8 +59,8 @@ impl<Q: RunQueue> Cpu<Q> {
         requires few_from { size_of source.now ≤ 1024 }
         requires distinct { HasDistinctIds source.now.running.queue }
         requires unasked { scratch.old ≡ [] }
-        ensures settled { (choice : ℕ) × SettlesPull (policies Q.R.discipline) processor from self.old source.now (record { choice = choice; by = result.by; steps = result.steps; calls = scratch.new; program = self.new.programs.pull }) × (result.choice ≡ task_numbered choice) }
-        ensures rest { self.new ≡ record self.old { programs = record self.old.programs { pull = self.new.programs.pull } } }
+        ensures settled { (choice : ℕ) × SettlesPull (policies Q.R.discipline) processor from self.old source.now (record { choice = choice; by = result.by; steps = result.steps; calls = scratch.new; attached = self.new.hooks.pull }) × (result.choice ≡ task_numbered choice) }
+        ensures rest { self.new ≡ record self.old { hooks = record self.old.hooks { pull = self.new.hooks.pull } } }
         ensures board { Through B.leads board.old scratch.new board.new }
     {
         let size = self.size();

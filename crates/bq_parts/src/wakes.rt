@@ -2,7 +2,7 @@
 ghost use Rattle.std.specs.Prelude.{◌≡◌, ◌≤◌, ◌<◌, [], IfSome};
 ghost use Rattle.bq_bpf.specs.Counters.{Through};
 ghost use Rattle.bq_hooks.specs.OwnPlace.{HasPlace};
-ghost use Rattle.bq_policies.specs.Programs.{IsFor};
+ghost use Rattle.bq_policies.specs.Attachments.{IsFor};
 ghost use Rattle.bq_parts.specs.Choices.{policies};
 ghost use Rattle.bq_parts.specs.Shares.{Begins, Installs, Places};
 

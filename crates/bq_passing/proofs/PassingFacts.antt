@@ -12,7 +12,7 @@ use Rattle.bq_cfs.specs.Spread.{passed, departed, Block as BlockAt}
 use Rattle.bq_bpf.specs.declared.board.Call.{Call as Asked}
 use Rattle.bq_bpf.specs.declared.hook.Version.{Version}
 use Rattle.bq_verify.specs.Accepted.{Accepted}
-use Rattle.bq_policies.specs.Programs.{Program}
+use Rattle.bq_policies.specs.Attachments.{Attached}
 use Rattle.bq_hooks.specs.declared.settled.By.TheVariants as who
 use Rattle.bq_hooks.specs.Contexts.{as_number}
 use Rattle.bq_hooks.specs.Permitted.{may_preempt}
@@ -39,10 +39,10 @@ own_by_test true permitted r0 own e h = let it = rw e at h in cc
 own_by_test false permitted r0 own e h = rw e refl
 
 -- a choice that was the discipline's own is its own
-own_choice : (s : Regime) (policy : Option Accepted) (context : Version → List ℕ) (program : Program) (now cpu : ℕ) (permitted : ℕ → Bool) (own : ℕ) (settled : Decision) →
-    SettlesBy s policy context program now cpu permitted own settled → settled.by ≡ who.Discipline → settled.choice ≡ own
-own_choice s None context program now cpu permitted own settled h e = ap (λ (x : Decision). x.choice) h
-own_choice s (Some policy) context program now cpu permitted own settled h e = h.4 ∙ own_by_test (permitted h.0) permitted h.0 own refl (sym h.5 ∙ e)
+own_choice : (s : Regime) (policy : Option Accepted) (context : Version → List ℕ) (attached : Attached) (now cpu : ℕ) (permitted : ℕ → Bool) (own : ℕ) (settled : Decision) →
+    SettlesBy s policy context attached now cpu permitted own settled → settled.by ≡ who.Discipline → settled.choice ≡ own
+own_choice s None context attached now cpu permitted own settled h e = ap (λ (x : Decision). x.choice) h
+own_choice s (Some policy) context attached now cpu permitted own settled h e = h.4 ∙ own_by_test (permitted h.0) permitted h.0 own refl (sym h.5 ∙ e)
 
 as_bool : (b : Bool) → (as_number b == 1) ≡ b
 as_bool true = refl
@@ -54,7 +54,7 @@ pub own_decision : (s : Regime) (cpu : ℕ) (p : Processor) (o : Option Task) (s
 own_decision s cpu p None settled h e = refl
 own_decision s cpu p (Some u) settled h e =
     let own = own_preempt s.discipline p.running.queue (Some u) in
-    let choice = own_choice s p.programs.preempt.policy _ p.programs.preempt p.running.last cpu may_preempt (as_number own) settled h e in
+    let choice = own_choice s p.hooks.preempt.policy _ p.hooks.preempt p.running.last cpu may_preempt (as_number own) settled h e in
     ap (λ b. decided s.discipline p.running (Some u) b) (ap (λ k. k == 1) choice ∙ as_bool own)
 
 -- Of the shares

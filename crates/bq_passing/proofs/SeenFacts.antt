@@ -153,7 +153,7 @@ pull_seen d at w cpu from now q other calls r o l apart h =
     let queue = (running_at w from).queue in
     let once = each_once_queue (running_at w from) (each_once_running w from o) in
     let may : may_pull cpu queue settled.choice ≡ true =
-    settled_permitted (policies d) _ c.programs.pull c.running.last cpu (may_pull cpu queue) (or_nobody (own_pull cpu c source)) settled (own_pull_permitted cpu c source once) h.1.0 in
+    settled_permitted (policies d) _ c.hooks.pull c.running.last cpu (may_pull cpu queue) (or_nobody (own_pull cpu c source)) settled (own_pull_permitted cpu c source once) h.1.0 in
     subst (λ x. running_at (with_processor (with_processor w cpu q) from other) at ≡ after d (running_at w at) (steps_at d at w (Pull cpu from now) (Ok x))) (sym h.1.2)
     (pull_cases d w cpu from at q other (Pass now ∷ entry d c.running (taken_from source.running task) ++ begins c.running.current) (leaving task) (at == cpu) (at == from) refl refl apart l
     (ap (λ (x : Processor). x.running) h.1.3 ∙ entered_then d c.running (taken_from source.running task) c.running.current refl)

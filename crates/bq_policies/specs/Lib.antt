@@ -1,4 +1,4 @@
-pub mod Programs
 pub mod Answers
-pub mod Standing
+pub mod Attachments
 pub mod Laws
+pub mod Standing

@@ -7,7 +7,7 @@ use Rattle.bq_bpf.specs.Hooks.{context_length_of}
 use Rattle.bq_bpf.specs.declared.board.Call.{Call as Asked}
 use Rattle.bq_interp.specs.declared.runs.Done.{Done}
 use Rattle.bq_policies.specs.Answers.{Answers, IsWithin}
-use Rattle.bq_policies.specs.Programs.{Program, Programs, at_hook, IsFor}
+use Rattle.bq_policies.specs.Attachments.{Attached, Attachments, at_hook, IsFor}
 
 -- the policy is within the limits of images, and safe within its budget
 abbrev pub WasAccepted : Accepted → Type 0
@@ -19,12 +19,12 @@ IsEquipped None maps = Unit {0}
 IsEquipped (Some policy) maps = WasAccepted policy × HaveShapes policy.shapes maps
 
 -- and it was accepted for that hook
-abbrev pub MayStand : Hook → Program → Type 0
-MayStand hook program = IsFor hook program.policy × IsEquipped program.policy program.maps
+abbrev pub MayStand : Hook → Attached → Type 0
+MayStand hook attached = IsFor hook attached.policy × IsEquipped attached.policy attached.maps
 
 -- whatever stands at the hooks of a processor may stand there
-abbrev pub AreReady : Programs → Type 0
-AreReady programs = (hook : Hook) → MayStand hook (at_hook hook programs)
+abbrev pub AreReady : Attachments → Type 0
+AreReady hooks = (hook : Hook) → MayStand hook (at_hook hook hooks)
 
 -- a run of the policy on a context of its length gives that answer, in so many steps
 pub record HasAnswered (policy : Accepted) (done : Done) : Type 0 where

@@ -6,7 +6,7 @@ ghost use Rattle.bq_bpf.specs.Hooks.{context_length_of};
 ghost use Rattle.bq_bpf.specs.Memory.{HaveShapes};
 ghost use Rattle.bq_policies.specs.Answers.{Answers, IsWithin};
 ghost use Rattle.bq_policies.specs.Standing.{WasAnswered};
-ghost use Rattle.bq_policies.specs.Programs.{no_programs, at_hook, with_program, IsFor};
+ghost use Rattle.bq_policies.specs.Attachments.{none_attached, at_hook, with_attached, IsFor};
 
 use crate::{Hook, Installed, Scratch, Version};
 use bq_bpf::Board;
@@ -22,10 +22,10 @@ pub struct Hooks {
 }
 
 impl Model for Hooks {
-    ghost use Rattle.bq_policies.specs.Programs.{Programs, IsFor};
+    ghost use Rattle.bq_policies.specs.Attachments.{Attachments, IsFor};
     ghost use Rattle.bq_bpf.specs.declared.hook.Hook.TheVariants.{Place, Preempt, Pull};
 
-    ghost Value = { Programs };
+    ghost Value = { Attachments };
 
     ghost view = { λ h. record { place = h.place; preempt = h.preempt; pull = h.pull } };
 
@@ -35,7 +35,7 @@ impl Model for Hooks {
 impl Hooks {
     /// Hooks at which nothing was installed yet.
     pub fn new() -> Hooks
-        ensures { result ≡ no_programs }
+        ensures { result ≡ none_attached }
     {
         Hooks {
             place: Installed::nothing(),
@@ -58,7 +58,7 @@ impl Hooks {
     /// Something else stands at a hook from now on.
     pub fn install(&mut self, hook: Hook, installed: Installed)
         requires { IsFor hook installed.policy }
-        ensures { self.new ≡ with_program hook self.old installed }
+        ensures { self.new ≡ with_attached hook self.old installed }
     {
         match hook {
             Hook::Place => self.place = installed,
@@ -105,7 +105,7 @@ impl Hooks {
         ensures answers { IfSome (at_hook hook self.old).policy (λ p. Answers p context.now (at_hook hook self.old).maps env.now env.processor result.r0 (at_hook hook self.new).maps result.steps scratch.new) }
         ensures within { IfSome (at_hook hook self.old).policy (λ p. IsWithin p result.steps scratch.new) }
         ensures shapes { IfSome (at_hook hook self.old).policy (λ p. HaveShapes p.shapes (at_hook hook self.new).maps) }
-        ensures stays { self.new ≡ with_program hook self.old (record (at_hook hook self.old) { maps = (at_hook hook self.new).maps }) }
+        ensures stays { self.new ≡ with_attached hook self.old (record (at_hook hook self.old) { maps = (at_hook hook self.new).maps }) }
         ensures board { Through B.leads board.old scratch.new board.new }
     {
         match hook {

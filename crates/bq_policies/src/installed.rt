@@ -6,7 +6,7 @@ ghost use Rattle.bq_bpf.specs.Hooks.{context_length_of};
 ghost use Rattle.bq_bpf.specs.Memory.{HaveShapes};
 ghost use Rattle.bq_policies.specs.Answers.{Answers, IsWithin, fresh_maps};
 ghost use Rattle.bq_policies.specs.Standing.{IsEquipped, WasAnswered};
-ghost use Rattle.bq_policies.specs.Programs.{no_program};
+ghost use Rattle.bq_policies.specs.Attachments.{nothing_attached};
 
 use crate::{Policy, Scratch};
 use bq_bpf::{Board, Version};
@@ -25,10 +25,10 @@ pub struct Installed {
 }
 
 impl Model for Installed {
-    ghost use Rattle.bq_policies.specs.Programs.{Program, policy_in, maps_in};
+    ghost use Rattle.bq_policies.specs.Attachments.{Attached, policy_in, maps_in};
     ghost use Rattle.bq_policies.specs.Standing.{IsEquipped, WasAnswered};
 
-    ghost Value = { Program };
+    ghost Value = { Attached };
 
     ghost view = { λ i. record { policy = policy_in i.equipped; generation = i.generation; maps = maps_in i.equipped } };
 
@@ -38,7 +38,7 @@ impl Model for Installed {
 impl Installed {
     /// Nothing.
     pub fn nothing() -> Installed
-        ensures { result ≡ no_program }
+        ensures { result ≡ nothing_attached }
     {
         Installed {
             equipped: None,

@@ -16,7 +16,7 @@ use Rattle.bq_policy_files.specs.declared.fault.HeadFault.{HeadFault}
 use Rattle.bq_policy_files.specs.declared.fault.HeadFault.TheVariants.{At, OutOfMemory}
 use Rattle.bq_asm.specs.Lines.{is_instruction, line_said}
 use Rattle.bq_policy_files.specs.Files.{IsTextFault, instruction_lines}
-use Rattle.bq_policy_files.specs.Settled.{IsUnsettled}
+use Rattle.bq_policy_files.specs.Combining.{IsUncombinable}
 use Rattle.bq_policy_files.specs.declared.fault.PolicyFault.{PolicyFault}
 use Rattle.bq_policy_files.specs.declared.fault.PolicyFault.TheVariants as fault
 use Rattle.bq_policy_files.specs.Heads.{IsHeadFault, IsSaid, Names, SaysHead}
@@ -161,13 +161,13 @@ lines_without yielded line numbers said says =
     sym (ap (instruction_lines 1) (map-append (λ (l : Bor (List ℕ)). l.now) yielded (line ∷ [])) ∙ more_lines 1 before line.now ∙ (λ i. sym said i ++ one i) ∙ append-nil numbers)
 
 -- what is wrong with a text whose parts are right
-pub unsettled : (text : List ℕ) (given said : Head) (named : PolicyFault) → SaysHead (lines text) said → IsUnsettled given said named → IsTextFault text given named
-unsettled text given said (fault.Disagrees key) head h = (said, head, h)
-unsettled text given said fault.NoHook head h = (said, head, h.0, h.1)
-unsettled text given said fault.OutOfMemory head h = tt
-unsettled text given said fault.Text head h = absurd h
-unsettled text given said fault.Hex head h = absurd h
-unsettled text given said (fault.Head line cause) head h = absurd h
-unsettled text given said (fault.Assembly line cause) head h = absurd h
-unsettled text given said (fault.Image named) head h = absurd h
-unsettled text given said (fault.Program slot cause) head h = absurd h
+pub uncombinable : (text : List ℕ) (given said : Head) (named : PolicyFault) → SaysHead (lines text) said → IsUncombinable given said named → IsTextFault text given named
+uncombinable text given said (fault.Disagrees key) head h = (said, head, h)
+uncombinable text given said fault.NoHook head h = (said, head, h.0, h.1)
+uncombinable text given said fault.OutOfMemory head h = tt
+uncombinable text given said fault.Text head h = absurd h
+uncombinable text given said fault.Hex head h = absurd h
+uncombinable text given said (fault.Head line cause) head h = absurd h
+uncombinable text given said (fault.Assembly line cause) head h = absurd h
+uncombinable text given said (fault.Image named) head h = absurd h
+uncombinable text given said (fault.Program slot cause) head h = absurd h

@@ -76,7 +76,7 @@ DiffersIn key.Maps given hook maps format = Differ (maps_in given) maps
 DiffersIn key.Format given hook maps format = Differ given.format format
 
 -- together they name this hook, these maps and this version; without a word of them there are no maps, and the version is 1
-pub record Settles (given said : Head) (hook : Hook) (shapes : List MapShape) (version : Version) : Type 0 where
+pub record CombineTo (given said : Head) (hook : Hook) (shapes : List MapShape) (version : Version) : Type 0 where
   pub agrees : Agrees given said.hook (maps_in said) said.format
   pub hook_is : either given.hook said.hook ≡ Some hook
   pub shapes_are : shapes ≡ unwrap_or (either (maps_in given) (maps_in said)) []
@@ -99,7 +99,7 @@ pub record IsOfText (bytes : List ℕ) (given : Head) (p : Policy) : Type 0 wher
   pub text : IsUtf8 bytes
   pub said : Head
   pub head : SaysHead (lines bytes) said
-  pub settles : Settles given said p.hook p.shapes.items p.version
+  pub combined : CombineTo given said p.hook p.shapes.items p.version
   pub assembles : Assembles bytes p.insns.items
   pub lines : p.lines.items ≡ instruction_lines 1 (lines bytes)
 

@@ -1,6 +1,6 @@
+pub mod Combining
 pub mod Files
 pub mod Heads
 pub mod Marks
 pub mod Naming
-pub mod Settled
 pub mod Taking

@@ -4,13 +4,13 @@
 //! `read_policy` tells the three apart by their first bytes, and refuses a file that disagrees with what was asked for.
 #![tactic(auto)]
 
+mod combined;
 mod fault;
 mod head;
 mod kind;
 mod mark;
 mod policy;
 mod reading;
-mod settled;
 
 pub use fault::{HeadCause, HeadFault, PolicyFault};
 pub use head::Head;

@@ -5,11 +5,11 @@ ghost use Rattle.bq_insn.specs.Laws.{AllFit};
 ghost use Rattle.bq_policy_files.specs.Files.{IsImageFault, IsOfImage, IsOfText, IsPolicy, IsPolicyFault, IsTextFault, instruction_lines};
 ghost use Rattle.bq_policy_files.specs.Heads.{IsHeadFault, SaysHead};
 
+use crate::combined::{combine, difference};
 use crate::fault::{HeadFault, PolicyFault};
 use crate::head::Head;
 use crate::kind::{Kind, kind_of};
 use crate::policy::Policy;
-use crate::settled::{difference, settle};
 use bq_asm::{assemble, says_instruction};
 use bq_insn::decode::decode;
 use bq_load::{Image, read_image};
@@ -80,11 +80,11 @@ fn from_str(alloc: Global, text: &str, given: &Head) -> Result<Policy, PolicyFau
     let said = read_head(alloc, text)?;
     let insns = assemble(alloc, text)?;
     let lines = lines_of(alloc, text)?;
-    match settle(alloc, given, &said) {
+    match combine(alloc, given, &said) {
         Ok(settled) => Ok(Policy {
-            hook: settled.hook,
-            version: settled.version,
-            shapes: settled.shapes,
+            hook: combined.hook,
+            version: combined.version,
+            shapes: combined.shapes,
             insns,
             lines,
         }),

@@ -20,7 +20,7 @@ use Rattle.bq_policy_files.specs.declared.fault.PolicyFault.TheVariants as fault
 use Rattle.bq_policy_files.specs.declared.head.Head.{Head}
 use Rattle.bq_policy_files.specs.declared.kind.Kind.TheVariants as kind
 use Rattle.bq_policy_files.specs.declared.policy.Policy.{Policy}
-use Rattle.bq_policy_files.specs.Files.{Agrees, IsFaultOfKind, IsOfKind, IsOfText, IsTextFault, Settles, either, kind_of, maps_in}
+use Rattle.bq_policy_files.specs.Files.{Agrees, IsFaultOfKind, IsOfKind, IsOfText, IsTextFault, CombineTo, either, kind_of, maps_in}
 use Rattle.bq_policy_files.specs.Heads.{SaysHead}
 use Rattle.bq_policy_text.specs.ReadBack.{AsksNothing, IsFileOf, IsFrom, IsSame}
 use Rattle.bq_policy_text.proofs.LineLemmas.{AreClean, ended, lines_ended, text_ended, clean_append}
@@ -94,8 +94,8 @@ agrees_nothing h hook maps format a = record {
   formats = rw a.format tt;
 }
 
-settles_policy : (p : Policy) (h : Head) → AsksNothing h → Settles h (said_of p) p.hook p.shapes.items p.version
-settles_policy p h a = record {
+combine_to_policy : (p : Policy) (h : Head) → AsksNothing h → CombineTo h (said_of p) p.hook p.shapes.items p.version
+combine_to_policy p h a = record {
   agrees = agrees_nothing h (Some p.hook) (maps_in (said_of p)) (format_said p.version) a;
   hook_is = rw a.hook refl;
   shapes_are = rw a.maps (shapes_said p p.shapes.items refl);
@@ -111,10 +111,10 @@ same_read : (p q : Policy) (ls : List (List ℕ)) (h : Head) → AllFit p.insns.
 same_read p q ls h fit are a o =
     let says = says_again p ls are in
     let all = lines (text_of p ls) in
-    let hook : o.said.hook ≡ Some q.hook = subst (λ x. either x o.said.hook ≡ Some q.hook) a.hook o.settles.hook_is in
+    let hook : o.said.hook ≡ Some q.hook = subst (λ x. either x o.said.hook ≡ Some q.hook) a.hook o.combined.hook_is in
     let same_hook : Some q.hook ≡ Some p.hook = sym hook ∙ one_hook all o.said (said_of p) o.head says in
-    let shapes : q.shapes.items ≡ unwrap_or (maps_in o.said) [] = subst (λ x. q.shapes.items ≡ unwrap_or (either (option_map (λ s. s.items) x) (maps_in o.said)) []) a.maps o.settles.shapes_are in
-    let version : q.version ≡ unwrap_or o.said.format First = subst (λ x. q.version ≡ unwrap_or (either x o.said.format) First) a.format o.settles.version_is in
+    let shapes : q.shapes.items ≡ unwrap_or (maps_in o.said) [] = subst (λ x. q.shapes.items ≡ unwrap_or (either (option_map (λ s. s.items) x) (maps_in o.said)) []) a.maps o.combined.shapes_are in
+    let version : q.version ≡ unwrap_or o.said.format First = subst (λ x. q.version ≡ unwrap_or (either x o.said.format) First) a.format o.combined.version_is in
     record {
       hook = cc;
       version = version ∙ ap (λ x. unwrap_or x First) (one_format all o.said (said_of p) o.head says) ∙ sym (version_said p.version);
@@ -126,13 +126,13 @@ same_read p q ls h fit are a o =
 is_read : (p q : Policy) (ls : List (List ℕ)) (h : Head) → AllFit p.insns.items → AreLines p.insns.items ls → AsksNothing h → IsFrom (text_of p ls) p q → IsOfText (text_of p ls) h q
 is_read p q ls h fit are a f =
     let marks = mark_lines p.hook p.shapes.items p.version in
-    let first : Settles h (said_of p) q.hook p.shapes.items p.version = subst (λ x. Settles h (said_of p) x p.shapes.items p.version) (sym f.same.hook) (settles_policy p h a) in
-    let second : Settles h (said_of p) q.hook q.shapes.items p.version = subst (λ x. Settles h (said_of p) q.hook x p.version) (sym f.same.shapes) first in
+    let first : CombineTo h (said_of p) q.hook p.shapes.items p.version = subst (λ x. CombineTo h (said_of p) x p.shapes.items p.version) (sym f.same.hook) (combine_to_policy p h a) in
+    let second : CombineTo h (said_of p) q.hook q.shapes.items p.version = subst (λ x. CombineTo h (said_of p) q.hook x p.version) (sym f.same.shapes) first in
     record {
       text = text_ended (marks ++ ls) (clean_append marks ls (marks_clean p.hook p.shapes.items p.version) are.clean);
       said = said_of p;
       head = says_again p ls are;
-      settles = subst (λ x. Settles h (said_of p) q.hook q.shapes.items x) (sym f.same.version) second;
+      combined = subst (λ x. CombineTo h (said_of p) q.hook q.shapes.items x) (sym f.same.version) second;
       assembles = subst (Assembles (text_of p ls)) (sym f.same.insns) (assembles_again p ls fit are);
       lines = f.lines;
     }

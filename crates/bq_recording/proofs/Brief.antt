@@ -8,7 +8,7 @@ use Rattle.bq_parts.specs.declared.reply.Reply.{Reply}
 use Rattle.bq_parts.specs.declared.refusal.Refusal.{Refusal}
 use Rattle.bq_parts.specs.Processors.{Processor}
 use Rattle.bq_parts.specs.Shares.{Admits, Retires, Blocks, Installs}
-use Rattle.bq_policies.specs.Programs.{Program}
+use Rattle.bq_policies.specs.Attachments.{Attached}
 use Rattle.bq_bpf.specs.declared.hook.Hook.{Hook}
 
 pub admits_brief : (id : ℕ) (t : Task) (seats : List LobbyEntry) (a : Result Reply Refusal) (seats' : List LobbyEntry) → Admits id t seats a seats' → has_loads a ≡ false
@@ -23,6 +23,6 @@ pub blocks_brief : (d : Discipline) (cpu now : ℕ) (p : Processor) (seats : Lis
 blocks_brief d cpu now p seats (Ok r) q seats' s = ap (λ (x : Reply). has_loads (Ok x)) s.1.2
 blocks_brief d cpu now p seats (Err e) q seats' s = refl
 
-pub installs_brief : (h : Hook) (drawn : ℕ) (p : Processor) (new : Program) (a : Result Reply Refusal) (q : Processor) → Installs h drawn p new a q → has_loads a ≡ false
+pub installs_brief : (h : Hook) (drawn : ℕ) (p : Processor) (new : Attached) (a : Result Reply Refusal) (q : Processor) → Installs h drawn p new a q → has_loads a ≡ false
 installs_brief h drawn p new (Ok r) q s = ap (λ (x : Reply). has_loads (Ok x)) s.1
 installs_brief h drawn p new (Err e) q s = refl

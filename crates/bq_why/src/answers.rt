@@ -1,6 +1,6 @@
 //! What policies answered.
 ghost use Rattle.std.specs.Prelude.{IfSome};
-ghost use Rattle.bq_policies.specs.Programs.{at_hook};
+ghost use Rattle.bq_policies.specs.Attachments.{at_hook};
 ghost use Rattle.bq_policies.specs.Standing.{HasAnswered};
 
 use bq_core::{Cpu, Hook};
@@ -10,7 +10,7 @@ use bq_disc::RunQueue;
 /// stands there gives that number in so many.
 #[tactic(auto, using(crate::proofs::AnsweredFacts::answered_by))]
 pub fn answer<Q: RunQueue>(cpu: &Cpu<Q>, hook: Hook, steps: u32) -> Option<u64>
-    ensures { IfSome result (λ r0. IfSome (at_hook hook cpu.now.programs).policy
+    ensures { IfSome result (λ r0. IfSome (at_hook hook cpu.now.hooks).policy
         (λ policy. HasAnswered policy (record { r0 = r0; steps = steps }))) }
 {
     match cpu.answered(hook) {

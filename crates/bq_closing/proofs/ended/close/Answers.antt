@@ -28,7 +28,7 @@ core_of-requires g c =
     let ps = all_parts seats c.all_out-cpus.result.0.items c.all_out-cpus.result.1.items as_cpu as_inbox in
     let is = c.all_out-cpus.ensures.parts seats first in
     let all = c.all_out-cpus.new.all in
-    let k = known g.Q.R.Rule.discipline g.row.P c.args.locks.history.about c.close-log.result.0 all ps c.into_inner-journal.result.1 c.args.locks.about is c.close-log.ensures.world in
+    let k = known g.Q.R.Discipline.discipline g.row.P c.args.locks.history.about c.close-log.result.0 all ps c.into_inner-journal.result.1 c.args.locks.about is c.close-log.ensures.world in
     let s = k.2 in (
       search rules,
       (
@@ -55,7 +55,7 @@ returns-clause-history g c =
     let ps = all_parts seats c.all_out-cpus.result.0.items c.all_out-cpus.result.1.items as_cpu as_inbox in
     let is = c.all_out-cpus.ensures.parts seats first in
     let all = c.all_out-cpus.new.all in
-    let d = g.Q.R.Rule.discipline in
+    let d = g.Q.R.Discipline.discipline in
     let k = known d g.row.P c.args.locks.history.about c.close-log.result.0 all ps c.into_inner-journal.result.1 c.args.locks.about is c.close-log.ensures.world in
     let s = k.2 in
     let same : c.core_of.result ≡ k.0 = c.core_of.ensures k.0 s.many s.boxes (k.3 ∙ ap (λ j. j.drawn) (sym c.kept.ensures)) k.4 in

@@ -8,7 +8,7 @@ abbrev pub invariant-loop-node : goal.invariant-loop-node
 invariant-loop-node g l =
     let members = g.Q.RunQueue.members in
     let kept = g.Q.RunQueue.kept_mark in
-    let d = g.Q.R.Rule.discipline in
+    let d = g.Q.R.Discipline.discipline in
     record {
       straight : IsStraightBehind l.rest;
       same_mark : kept l.queue ≡ kept l.fn.queue;

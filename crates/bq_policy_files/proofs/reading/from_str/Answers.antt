@@ -1,4 +1,4 @@
-use Rattle.bq_policy_files.proofs.HeadLemmas.{unsettled}
+use Rattle.bq_policy_files.proofs.HeadLemmas.{uncombinable}
 use Rattle.bq_policy_files.proofs.reading.from_str.Goals as goal
 
 pub returns-in-Ok-clause-policy : goal.returns-in-Ok-clause-policy
@@ -6,10 +6,10 @@ returns-in-Ok-clause-policy c = record {
   text = c.utf8.text;
   said = c.in_ok-said.said;
   head = c.in_ok-said.ensures.head;
-  settles = c.in-Ok.ensures.ok;
+  combined = c.in-Ok.ensures.ok;
   assembles = c.in_ok-insns.ensures.assembles;
   lines = c.in_ok-lines.ensures;
 }
 
 pub returns-clause-fault : goal.returns-clause-fault
-returns-clause-fault c = unsettled c.args.text.now c.args.given.now c.in_ok-said.said c.in-Err.fault c.in_ok-said.ensures.head c.in-Err.ensures.err
+returns-clause-fault c = uncombinable c.args.text.now c.args.given.now c.in_ok-said.said c.in-Err.fault c.in_ok-said.ensures.head c.in-Err.ensures.err

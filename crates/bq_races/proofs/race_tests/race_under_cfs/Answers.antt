@@ -8,8 +8,8 @@ use Rattle.bq_disc.specs.contracts.ruled.RuledQueueRunQueue.TheImpl as ruled
 use Rattle.bq_tree.specs.contracts.index.TreeTimeline.TheImpl as timeline
 use Rattle.bq_tree.specs.contracts.summary.NoSums as NoSums
 use Rattle.bq_tree.specs.contracts.summary.NoSumsSummary.TheImpl as sums
-use Rattle.bq_cfs.specs.contracts.rule.Cfs as Cfs
-use Rattle.bq_cfs.specs.contracts.rule.CfsRule.TheImpl as cfs
+use Rattle.bq_cfs.specs.contracts.discipline.Cfs as Cfs
+use Rattle.bq_cfs.specs.contracts.discipline.CfsDiscipline.TheImpl as cfs
 use Rattle.bq_par.specs.contracts.metronome.Metronome as Metronome
 use Rattle.bq_par.specs.contracts.metronome.MetronomeClock.TheImpl as metronome
 use Rattle.bq_par.proofs.Sent.{cfs_tree, cfs_queue, cfs_queue_send}

@@ -8,8 +8,8 @@ use Rattle.bq_disc.specs.contracts.ruled.RuledQueueRunQueue.TheImpl as ruled
 use Rattle.bq_tree.specs.contracts.index.TreeTimeline.TheImpl as timeline
 use Rattle.bq_tree.specs.contracts.summary.Sums as Sums
 use Rattle.bq_tree.specs.contracts.summary.SumsSummary.TheImpl as sums
-use Rattle.bq_eevdf.specs.contracts.rule.Eevdf as Eevdf
-use Rattle.bq_eevdf.specs.contracts.rule.EevdfRule.TheImpl as eevdf
+use Rattle.bq_eevdf.specs.contracts.discipline.Eevdf as Eevdf
+use Rattle.bq_eevdf.specs.contracts.discipline.EevdfDiscipline.TheImpl as eevdf
 use Rattle.bq_par.specs.contracts.metronome.Metronome as Metronome
 use Rattle.bq_par.specs.contracts.metronome.MetronomeClock.TheImpl as metronome
 use Rattle.bq_par.proofs.Sent.{eevdf_tree, eevdf_queue, eevdf_queue_send}

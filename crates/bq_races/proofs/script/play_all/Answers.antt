@@ -5,8 +5,8 @@ use denote.Param.{param, number}
 use denote.Param.Send.{IsSend, IsSync, sendable}
 use denote.Param.SendFields.{declared_send}
 use Rattle.std.proofs.Crossing.{crosses, Vec-send}
-use Rattle.bq_cfs.specs.contracts.rule.Cfs as Cfs
-use Rattle.bq_cfs.specs.contracts.rule.CfsRule.TheImpl as cfs
+use Rattle.bq_cfs.specs.contracts.discipline.Cfs as Cfs
+use Rattle.bq_cfs.specs.contracts.discipline.CfsDiscipline.TheImpl as cfs
 use Rattle.bq_par.proofs.Sent.{cfs_queue_send}
 use Rattle.bq_par.proofs.Seated.{seat_send}
 use Rattle.bq_par.proofs.Shared.{machine_sync}

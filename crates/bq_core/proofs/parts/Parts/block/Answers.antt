@@ -27,6 +27,6 @@ returns g c =
     let at = rw c.from.ensures at c.index_mut-cpu.ensures.value in
     let place : c.index_mut-cpu.result.now ≡ processor w cpu = rw items at (get_or_read c.self.inside.cpus.items cpu c.index_mut-cpu.result.now inside at opening) in
     let seats = ap (λ (v : World). v.seats) c.self.view_is in
-    let step = blocks_at g.Q.R.Rule.discipline w _ cpu c.args.now c.block.result c.block.new.self _ _ c.block.new.lobby c.requires.inside place seats c.block.ensures.share
+    let step = blocks_at g.Q.R.Discipline.discipline w _ cpu c.args.now c.block.result c.block.new.self _ _ c.block.new.lobby c.requires.inside place seats c.block.ensures.share
     (write_back_lobby _ w _ cpu c.block.new.self c.block.new.lobby c.self.view_is c.from.ensures) in
     record { step = step }

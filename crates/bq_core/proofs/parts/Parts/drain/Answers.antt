@@ -48,5 +48,5 @@ returns-clause-step g c =
     let inside_boxes : cpu < length c.self.inside.inboxes.items = omega (arith, inside, c.self.invariant.0, c.self.invariant.1) in
     let at_box = rw c.from.ensures at c.index_mut-inbox.ensures.value in
     let box : c.index_mut-inbox.result.now ≡ inbox w cpu = rw boxes at (get_or_read c.self.inside.inboxes.items cpu c.index_mut-inbox.result.now inside_boxes at_box []) in
-    drains_at g.Q.R.Rule.discipline w _ cpu c.args.now _ _ c.drain.new.self _ _ c.requires.inside place box c.drain.ensures.share
+    drains_at g.Q.R.Discipline.discipline w _ cpu c.args.now _ _ c.drain.new.self _ _ c.requires.inside place box c.drain.ensures.share
     (write_back_both _ w _ _ cpu _ _ _ _ c.self.view_is c.from-2.ensures c.from.ensures refl c.drain.ensures.emptied)

@@ -47,5 +47,5 @@ returns-clause-step g c =
     let inside_boxes : to < length c.self.inside.inboxes.items = omega (arith, c.from-2.ensures, c.in-Some.ensures.below, n, c.self.invariant.0, c.self.invariant.1) in
     let box : c.index_mut.result.now ≡ inbox w to = rw boxes at (get_or_read c.self.inside.inboxes.items to c.index_mut.result.now inside_boxes c.index_mut.ensures.value []) in
     let box_to : c.index_mut.result.now ≡ inbox w placed.to = box ∙ ap (λ i. inbox w i) c.from-2.ensures in
-    places_at g.Q.R.Rule.discipline w _ cpu c.args.now c.len-count.result c.id-id.result c.end_wake.new.scratch placed c.end_wake.new.self c.index_mut-cpu.result.now c.index_mut.result.now c.requires.inside place count c.id-id.ensures box_to c.in-Some.ensures.share
+    places_at g.Q.R.Discipline.discipline w _ cpu c.args.now c.len-count.result c.id-id.result c.end_wake.new.scratch placed c.end_wake.new.self c.index_mut-cpu.result.now c.index_mut.result.now c.requires.inside place count c.id-id.ensures box_to c.in-Some.ensures.share
     (write_back_inbox _ w _ cpu _ _ _ _ _ _ c.self.view_is c.from.ensures c.from-2.ensures refl c.push.ensures)

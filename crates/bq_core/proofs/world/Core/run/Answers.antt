@@ -5,7 +5,7 @@ use Rattle.bq_core.proofs.Order.{run_keeps}
 use Rattle.bq_core.proofs.world.Core.run.Goals as goal
 
 pub returns-in_default-clause-throughout : goal.returns-in_default-clause-throughout
-returns-in_default-clause-throughout g c = run_keeps (policies g.Q.R.Rule.discipline) c.args.self.now c.args.events.items (subst IsOrderly c.self.view_is c.self.invariant)
+returns-in_default-clause-throughout g c = run_keeps (policies g.Q.R.Discipline.discipline) c.args.self.now c.args.events.items (subst IsOrderly c.self.view_is c.self.invariant)
 
 pub returns-clause-throughout : goal.returns-clause-throughout
-returns-clause-throughout g c = run_keeps (policies g.Q.R.Rule.discipline) c.args.self.now c.args.events.items (subst IsOrderly c.self.view_is c.self.invariant)
+returns-clause-throughout g c = run_keeps (policies g.Q.R.Discipline.discipline) c.args.self.now c.args.events.items (subst IsOrderly c.self.view_is c.self.invariant)

@@ -7,7 +7,7 @@ use Rattle.bq_core.proofs.world.Core.run_all.Goals as goal
 
 pub loop-event-preserved : goal.loop-event-preserved
 loop-event-preserved g c =
-    let s = policies g.Q.R.Rule.discipline in
+    let s = policies g.Q.R.Discipline.discipline in
     let at = c.loop-event in
     let e = c.in-Some.event in
     let ok : is_ok c.push.result ≡ true = c.is_err.ensures.negation ∙ ap not c.if-is_err.false in

@@ -14,7 +14,7 @@ invariant-loop-event g l =
       whole : l.yielded ++ rest ≡ into_iter_items l.initial.event-iterator;
       left : into_iter_len l.event-iterator ≡ length rest;
       room : vec_len l.answers + length rest ≤ vec_capacity l.answers;
-      ran : (calls : List (List Asked)) × WorldRun (policies g.Q.R.Rule.discipline) l.fn.self l.yielded calls l.answers.items l.self
+      ran : (calls : List (List Asked)) × WorldRun (policies g.Q.R.Discipline.discipline) l.fn.self l.yielded calls l.answers.items l.self
           × ThroughAll g.B.Board.leads l.fn.board calls l.board;
       orderly : IsOrderly l.self;
     }

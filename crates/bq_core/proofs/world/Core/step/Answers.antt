@@ -4,8 +4,8 @@ use Rattle.bq_core.proofs.world.Core.step.Goals as goal
 
 pub invariant_of-self : goal.invariant_of-self
 invariant_of-self g c =
-    step_keeps (policies g.Q.R.Rule.discipline) c.self.inside.parts c.args.event c.step.new.scratch c.step.result c.step.new.self c.step.ensures.step c.self.invariant
+    step_keeps (policies g.Q.R.Discipline.discipline) c.self.inside.parts c.args.event c.step.new.scratch c.step.result c.step.new.self c.step.ensures.step c.self.invariant
 
 pub returns-clause-orderly : goal.returns-clause-orderly
 returns-clause-orderly g c =
-    step_keeps (policies g.Q.R.Rule.discipline) c.self.inside.parts c.args.event c.step.new.scratch c.step.result c.step.new.self c.step.ensures.step c.self.invariant
+    step_keeps (policies g.Q.R.Discipline.discipline) c.self.inside.parts c.args.event c.step.new.scratch c.step.result c.step.new.self c.step.ensures.step c.self.invariant

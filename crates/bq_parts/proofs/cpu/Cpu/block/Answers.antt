@@ -9,7 +9,7 @@ use Rattle.bq_parts.proofs.cpu.Cpu.block.Goals as goal
 
 pub seat-requires : goal.seat-requires
 seat-requires g c =
-    let d = g.Q.R.Rule.discipline in
+    let d = g.Q.R.Discipline.discipline in
     let cpu = c.args.processor in
     let p = charge d c.args.self.now.running c.args.now in
     let left : Some c.in-Some.task ≡ option_map (λ t. as_it_leaves p cpu t) p.current = c.in-Some.ensures.task ∙ ap (λ (x : Processor). option_map (λ t. as_it_leaves x.running cpu t) x.running.current) c.charge.ensures in

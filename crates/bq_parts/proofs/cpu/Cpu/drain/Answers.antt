@@ -5,7 +5,7 @@ use Rattle.bq_parts.proofs.cpu.Cpu.drain.Goals as goal
 
 pub enter_all-requires-clause-apart : goal.enter_all-requires-clause-apart
 enter_all-requires-clause-apart g c = λ id.
-    let d = g.Q.R.Rule.discipline in
+    let d = g.Q.R.Discipline.discipline in
     let p = c.args.self.now.running in
     let xs = c.args.inbox.now in
     rw (c.charge.ensures, c.take_all-tasks.ensures.tasks)
@@ -13,7 +13,7 @@ enter_all-requires-clause-apart g c = λ id.
 
 pub decide-preempted-requires-clause-once : goal.decide-preempted-requires-clause-once
 decide-preempted-requires-clause-once g c =
-    let d = g.Q.R.Rule.discipline in
+    let d = g.Q.R.Discipline.discipline in
     let p = c.args.self.now.running in
     let xs = c.args.inbox.now in
     rw (c.enter_all.ensures, c.charge.ensures, c.take_all-tasks.ensures.tasks)
@@ -21,7 +21,7 @@ decide-preempted-requires-clause-once g c =
 
 pub decide-preempted-requires-clause-seated : goal.decide-preempted-requires-clause-seated
 decide-preempted-requires-clause-seated g c =
-    let d = g.Q.R.Rule.discipline in
+    let d = g.Q.R.Discipline.discipline in
     let p = c.args.self.now.running in
     let xs = c.args.inbox.now in
     rw (c.enter_all.ensures, c.charge.ensures, c.take_all-tasks.ensures.tasks)

@@ -11,27 +11,27 @@ use Rattle.bq_parts.proofs.cpu.Cpu.end_wake.Goals as goal
 
 pub returns-clause-share : goal.returns-clause-share
 returns-clause-share g c =
-    let d = g.Q.R.Rule.discipline in
+    let d = g.Q.R.Discipline.discipline in
     let cpu = c.args.processor in
     let now = c.args.now in
     let p : Processor = record (after_time d now c.args.self.now) { hand = None } in
     let carried = c.in-Some.carried in
     let placed = c.choose_place-placed in
-    let settled : Decision = record { choice = placed.result.choice; by = placed.result.by; steps = placed.result.steps; calls = placed.new.scratch; program = placed.new.self.programs.place } in
+    let settled : Decision = record { choice = placed.result.choice; by = placed.result.by; steps = placed.result.steps; calls = placed.new.scratch; attached = placed.new.self.hooks.place } in
     let charged : c.charge.new.self ≡ p = c.charge.ensures ∙ ap (λ (x : Processor). record x { running = charge d x.running now }) c.release.ensures.left in
     let settles = subst (λ (x : Processor). SettlesPlace (policies d) c.args.count cpu x carried settled) charged placed.ensures.settled in
     let hand : c.args.self.now.hand ≡ Some carried = sym c.in-Some.ensures.carried in
-    (carried, settled, hand, refl, (settles, refl, refl, refl, refl, placed.ensures.rest ∙ ap (λ (x : Processor). record x { programs = record x.programs { place = settled.program } }) charged))
+    (carried, settled, hand, refl, (settles, refl, refl, refl, refl, placed.ensures.rest ∙ ap (λ (x : Processor). record x { hooks = record x.hooks { place = settled.attached } }) charged))
 
 pub returns-clause-below : goal.returns-clause-below
 returns-clause-below g c =
-    let d = g.Q.R.Rule.discipline in
+    let d = g.Q.R.Discipline.discipline in
     let cpu = c.args.processor in
     let now = c.args.now in
     let p : Processor = record (after_time d now c.args.self.now) { hand = None } in
     let carried = c.in-Some.carried in
     let placed = c.choose_place-placed in
-    let settled : Decision = record { choice = placed.result.choice; by = placed.result.by; steps = placed.result.steps; calls = placed.new.scratch; program = placed.new.self.programs.place } in
+    let settled : Decision = record { choice = placed.result.choice; by = placed.result.by; steps = placed.result.steps; calls = placed.new.scratch; attached = placed.new.self.hooks.place } in
     let charged : c.charge.new.self ≡ p = c.charge.ensures ∙ ap (λ (x : Processor). record x { running = charge d x.running now }) c.release.ensures.left in
     let settles = subst (λ (x : Processor). SettlesPlace (policies d) c.args.count cpu x carried settled) charged placed.ensures.settled in
     let hand : c.args.self.now.hand ≡ Some carried = sym c.in-Some.ensures.carried in

@@ -4,7 +4,7 @@ use Rattle.bq_parts.proofs.Pulling.{few_puller, few_source, source_distinct, tak
 use Rattle.bq_parts.proofs.cpu.Cpu.pull.Goals as goal
 
 pub choose_pull-pulled-requires-clause-few : goal.choose_pull-pulled-requires-clause-few
-choose_pull-pulled-requires-clause-few g c = rw c.charge.ensures (few_puller g.Q.R.Rule.discipline c.args.self.now.running c.args.source.now.running c.args.now c.requires.once c.requires.seated)
+choose_pull-pulled-requires-clause-few g c = rw c.charge.ensures (few_puller g.Q.R.Discipline.discipline c.args.self.now.running c.args.source.now.running c.args.now c.requires.once c.requires.seated)
 
 pub choose_pull-pulled-requires-clause-few_from : goal.choose_pull-pulled-requires-clause-few_from
 choose_pull-pulled-requires-clause-few_from g c = rw c.remark.ensures (few_source c.args.self.now.running c.args.source.now.running c.requires.once c.requires.seated)
@@ -14,11 +14,11 @@ choose_pull-pulled-requires-clause-distinct g c = rw c.remark.ensures (source_di
 
 pub take_task-run-requires : goal.take_task-run-requires
 take_task-run-requires g c =
-    let d = g.Q.R.Rule.discipline in
+    let d = g.Q.R.Discipline.discipline in
     let p = c.args.self.now.running in
     let q = c.args.source.now.running in
     let task = c.choose_pull-pulled.result.choice in
     let free = taken_fresh d p q c.args.now task c.requires.once in
-    let queue = ap (λ (x : Processor). x.running.queue) (c.choose_pull-pulled.ensures.rest ∙ ap (λ (x : Processor). record x { programs = record x.programs { pull = c.choose_pull-pulled.new.self.programs.pull } }) c.charge.ensures) in
+    let queue = ap (λ (x : Processor). x.running.queue) (c.choose_pull-pulled.ensures.rest ∙ ap (λ (x : Processor). record x { hooks = record x.hooks { pull = c.choose_pull-pulled.new.self.hooks.pull } }) c.charge.ensures) in
     let source = c.remark.ensures in
     record { fresh = rw (source, queue) free }

@@ -10,7 +10,7 @@ use Rattle.bq_parts.proofs.cpu.Cpu.switch.Goals as goal
 
 pub returns-in_default-next : goal.returns-in_default-next
 returns-in_default-next g c =
-    let d = g.Q.R.Rule.discipline in
+    let d = g.Q.R.Discipline.discipline in
     let p = c.args.self.now in
     let t = c.in-Some.current in
     let current : p.running.current ≡ Some t = ap (λ (q : Processor). q.running.current) (sym c.self.view_is) ∙ c.in-Some.is in
@@ -20,7 +20,7 @@ returns-in_default-next g c =
 
 pub returns-in_default-take : goal.returns-in_default-take
 returns-in_default-take g c =
-    let d = g.Q.R.Rule.discipline in
+    let d = g.Q.R.Discipline.discipline in
     let p = c.args.self.now in
     let t = c.in-Some.current in
     let id = c.in-Some-next.id in
@@ -43,7 +43,7 @@ insert-requires-clause-fresh g c =
 
 pub returns-in-Some-replace : goal.returns-in-Some-replace
 returns-in-Some-replace g c =
-    let d = g.Q.R.Rule.discipline in
+    let d = g.Q.R.Discipline.discipline in
     let p = c.args.self.now in
     let t = c.in-Some.current in
     let n = task_of c.in-Some-take.next.value in

@@ -14,7 +14,7 @@ commit_one-requires-clause-moves g c =
       lobby_part own,
       c.place.invariant.0,
       rw (c.quiet_twice-logged.ensures.entry, to_z-of_z w8 a.nice fits)
-          (admit_moves g.Q.R.Rule.discipline a.self.now.history.about a.task a.nice a.mask a.slice own c.admit-reply.new.self k c.admit-reply.result c.requires.fits (rw c.requires.new at c.admit-reply.ensures.share)),
+          (admit_moves g.Q.R.Discipline.discipline a.self.now.history.about a.task a.nice a.mask a.slice own c.admit-reply.new.self k c.admit-reply.result c.requires.fits (rw c.requires.new at c.admit-reply.ensures.share)),
     )
 
 pub commit_one-requires-clause-told : goal.commit_one-requires-clause-told

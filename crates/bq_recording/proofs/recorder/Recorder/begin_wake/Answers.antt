@@ -8,7 +8,7 @@ use Rattle.bq_recording.proofs.recorder.Recorder.begin_wake.Goals as goal
 
 pub commit_two-requires-clause-moves : goal.commit_two-requires-clause-moves
 commit_two-requires-clause-moves g c =
-    let d = g.Q.R.Rule.discipline in
+    let d = g.Q.R.Discipline.discipline in
     let n = c.args.self.now.history.about in
     let own = c.args.cell.now.content in
     let hall = c.lobby.inside.cell.content.state in
@@ -28,7 +28,7 @@ commit_two-requires-clause-told g c = rw (c.both_records-logged.ensures.entry, c
 
 pub returns-clause-hand : goal.returns-clause-hand
 returns-clause-hand g c =
-    let d = g.Q.R.Rule.discipline in
+    let d = g.Q.R.Discipline.discipline in
     let n = c.args.self.now.history.about in
     let own = c.args.cell.now.content in
     let hall = c.lobby.inside.cell.content.state in

@@ -8,7 +8,7 @@ use Rattle.bq_recording.proofs.recorder.Recorder.block.Goals as goal
 
 pub block-reply-requires : goal.block-reply-requires
 block-reply-requires g c =
-    let d = g.Q.R.Rule.discipline in
+    let d = g.Q.R.Discipline.discipline in
     let n = c.args.self.now.history.about in
     let own = c.place.inside.cell.content in
     let here = c.place.view_is ∙ c.look.ensures.same in
@@ -17,7 +17,7 @@ block-reply-requires g c =
 
 pub commit_two-requires-clause-moves : goal.commit_two-requires-clause-moves
 commit_two-requires-clause-moves g c =
-    let d = g.Q.R.Rule.discipline in
+    let d = g.Q.R.Discipline.discipline in
     let n = c.args.self.now.history.about in
     let own = c.place.inside.cell.content in
     let hall = c.lobby.inside.cell.content.state in
@@ -36,4 +36,4 @@ pub commit_two-requires-clause-told : goal.commit_two-requires-clause-told
 commit_two-requires-clause-told g c = rw c.quiet_twice-logged.ensures.entry c.requires.tally
 
 pub quiet_twice-logged-requires-clause-answer : goal.quiet_twice-logged-requires-clause-answer
-quiet_twice-logged-requires-clause-answer g c = blocks_brief g.Q.R.Rule.discipline c.place.inside.cell.content.number c.args.now c.place.inside.cell.content.state c.lobby.inside.cell.content.state c.block-reply.result c.block-reply.new.self c.block-reply.new.lobby c.block-reply.ensures.share
+quiet_twice-logged-requires-clause-answer g c = blocks_brief g.Q.R.Discipline.discipline c.place.inside.cell.content.number c.args.now c.place.inside.cell.content.state c.lobby.inside.cell.content.state c.block-reply.result c.block-reply.new.self c.block-reply.new.lobby c.block-reply.ensures.share

@@ -8,7 +8,7 @@ use Rattle.bq_recording.proofs.recorder.Recorder.drain.Goals as goal
 
 pub drain-reply-requires-clause-once : goal.drain-reply-requires-clause-once
 drain-reply-requires-clause-once g c =
-    let d = g.Q.R.Rule.discipline in
+    let d = g.Q.R.Discipline.discipline in
     let n = c.args.self.now.history.about in
     let own = c.place.inside.cell.content in
     let box = c.inbox.inside.cell.content in
@@ -23,7 +23,7 @@ drain-reply-requires-clause-once g c =
 
 pub drain-reply-requires-clause-seated : goal.drain-reply-requires-clause-seated
 drain-reply-requires-clause-seated g c =
-    let d = g.Q.R.Rule.discipline in
+    let d = g.Q.R.Discipline.discipline in
     let n = c.args.self.now.history.about in
     let own = c.place.inside.cell.content in
     let box = c.inbox.inside.cell.content in
@@ -38,7 +38,7 @@ drain-reply-requires-clause-seated g c =
 
 pub commit_two-requires-clause-moves : goal.commit_two-requires-clause-moves
 commit_two-requires-clause-moves g c =
-    let d = g.Q.R.Rule.discipline in
+    let d = g.Q.R.Discipline.discipline in
     let n = c.args.self.now.history.about in
     let own = c.place.inside.cell.content in
     let box = c.inbox.inside.cell.content in

@@ -11,7 +11,7 @@ use Rattle.bq_recording.proofs.recorder.Recorder.end_wake.Goals as goal
 
 pub place_task-woken-requires-clause-usable : goal.place_task-woken-requires-clause-usable
 place_task-woken-requires-clause-usable g c =
-    let d = g.Q.R.Rule.discipline in
+    let d = g.Q.R.Discipline.discipline in
     let n = c.args.self.now.history.about in
     let own = c.look.new.self.content in
     let was = c.args.cell.now.content in
@@ -21,7 +21,7 @@ place_task-woken-requires-clause-usable g c =
 
 pub push-requires : goal.push-requires
 push-requires g c =
-    let d = g.Q.R.Rule.discipline in
+    let d = g.Q.R.Discipline.discipline in
     let n = c.args.self.now.history.about in
     let box = c.inbox.inside.cell.content in
     let there = c.inbox.view_is ∙ c.look-2.ensures.same in
@@ -30,7 +30,7 @@ push-requires g c =
 
 pub commit_two-requires-clause-moves : goal.commit_two-requires-clause-moves
 commit_two-requires-clause-moves g c =
-    let d = g.Q.R.Rule.discipline in
+    let d = g.Q.R.Discipline.discipline in
     let n = c.args.self.now.history.about in
     let own = c.look.new.self.content in
     let box = c.inbox.inside.cell.content in

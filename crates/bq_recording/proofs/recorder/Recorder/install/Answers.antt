@@ -1,6 +1,6 @@
 use Rattle.std.proofs.Common.{◌≡◌, ℕ, List, None, ap, subst}
 use Rattle.bq_policies.specs.Answers.{fresh_maps}
-use Rattle.bq_policies.specs.Programs.{Program}
+use Rattle.bq_policies.specs.Attachments.{Attached}
 use Rattle.bq_parts.specs.declared.event.Event.TheVariants.{Install}
 use Rattle.bq_parts.specs.Refusals.{argument_refusal}
 use Rattle.bq_parts.specs.Shares.{Installs}
@@ -17,7 +17,7 @@ replace-reply-requires g c =
 
 pub commit_one-requires-clause-moves : goal.commit_one-requires-clause-moves
 commit_one-requires-clause-moves g c =
-    let d = g.Q.R.Rule.discipline in
+    let d = g.Q.R.Discipline.discipline in
     let n = c.args.self.now.history.about in
     let h = c.args.hook in
     let i = c.args.spare.installed in
@@ -28,7 +28,7 @@ commit_one-requires-clause-moves g c =
     let fits : argument_refusal n (Install own.number h i.generation i.policy) ≡ None = rw c.place.view_is c.requires.fits in
     let whole : i ≡ record { policy = i.policy; generation = i.generation; maps = fresh_maps i.policy } = ap (λ (m : List (List ℕ)). record { policy = i.policy; generation = i.generation; maps = m }) c.args.spare.fresh in
     let had : Installs h k.drawn own.state i r q = rw c.kept.ensures at c.replace-reply.ensures.share in
-    let share = subst (λ (x : Program). Installs h k.drawn own.state x r q) whole had in (
+    let share = subst (λ (x : Attached). Installs h k.drawn own.state x r q) whole had in (
       cpu_part own.number own.state,
       c.place.invariant.0,
       rw (c.both_records-logged.ensures.entry, c.install_event-2.ensures, c.answer_twice.ensures.entry, c.no_calls.ensures.entry, c.generation-generation.ensures.value, c.args.spare.receipt_is)

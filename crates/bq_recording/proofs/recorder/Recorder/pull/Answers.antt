@@ -10,7 +10,7 @@ use Rattle.bq_recording.proofs.recorder.Recorder.pull.Goals as goal
 
 pub pull-reply-requires-clause-inside : goal.pull-reply-requires-clause-inside
 pull-reply-requires-clause-inside g c =
-    let d = g.Q.R.Rule.discipline in
+    let d = g.Q.R.Discipline.discipline in
     let n = c.args.self.now.history.about in
     let own = c.place.inside.cell.content in
     let here = c.place.view_is ∙ c.look_at_both.ensures.a in
@@ -21,7 +21,7 @@ pull-reply-requires-clause-inside g c =
 
 pub pull-reply-requires-clause-once : goal.pull-reply-requires-clause-once
 pull-reply-requires-clause-once g c =
-    let d = g.Q.R.Rule.discipline in
+    let d = g.Q.R.Discipline.discipline in
     let n = c.args.self.now.history.about in
     let own = c.place.inside.cell.content in
     let other = c.source.inside.cell.content in
@@ -33,7 +33,7 @@ pull-reply-requires-clause-once g c =
 
 pub pull-reply-requires-clause-seated : goal.pull-reply-requires-clause-seated
 pull-reply-requires-clause-seated g c =
-    let d = g.Q.R.Rule.discipline in
+    let d = g.Q.R.Discipline.discipline in
     let n = c.args.self.now.history.about in
     let own = c.place.inside.cell.content in
     let other = c.source.inside.cell.content in
@@ -45,7 +45,7 @@ pull-reply-requires-clause-seated g c =
 
 pub commit_two-requires-clause-moves : goal.commit_two-requires-clause-moves
 commit_two-requires-clause-moves g c =
-    let d = g.Q.R.Rule.discipline in
+    let d = g.Q.R.Discipline.discipline in
     let n = c.args.self.now.history.about in
     let own = c.place.inside.cell.content in
     let other = c.source.inside.cell.content in

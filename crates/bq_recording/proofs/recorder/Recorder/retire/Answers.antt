@@ -19,7 +19,7 @@ commit_one-requires-clause-moves g c =
       lobby_part own,
       c.place.invariant.0,
       rw c.quiet_twice-logged.ensures.entry
-          (retire_moves g.Q.R.Rule.discipline a.self.now.history.about a.task own c.retire-reply.new.self k c.retire-reply.result bound c.requires.fits c.retire-reply.ensures.share),
+          (retire_moves g.Q.R.Discipline.discipline a.self.now.history.about a.task own c.retire-reply.new.self k c.retire-reply.result bound c.requires.fits c.retire-reply.ensures.share),
     )
 
 pub commit_one-requires-clause-told : goal.commit_one-requires-clause-told

@@ -7,7 +7,7 @@ use Rattle.bq_recording.proofs.recorder.Recorder.tick.Goals as goal
 
 pub tick-reply-requires-clause-once : goal.tick-reply-requires-clause-once
 tick-reply-requires-clause-once g c =
-    let d = g.Q.R.Rule.discipline in
+    let d = g.Q.R.Discipline.discipline in
     let n = c.args.self.now.history.about in
     let own = c.place.inside.cell.content in
     let here = c.place.view_is ∙ c.look.ensures.same in
@@ -16,7 +16,7 @@ tick-reply-requires-clause-once g c =
 
 pub tick-reply-requires-clause-seated : goal.tick-reply-requires-clause-seated
 tick-reply-requires-clause-seated g c =
-    let d = g.Q.R.Rule.discipline in
+    let d = g.Q.R.Discipline.discipline in
     let n = c.args.self.now.history.about in
     let own = c.place.inside.cell.content in
     let here = c.place.view_is ∙ c.look.ensures.same in
@@ -31,7 +31,7 @@ commit_one-requires-clause-moves g c =
       cpu_part own.number own.state,
       c.place.invariant.0,
       rw (c.both_records-logged.ensures.entry, c.event_twice-events.ensures.entry, c.ticked-2.ensures, sym c.in-Ticked.is, c.hold_calls-calls.ensures.receipt, c.calls.ensures.value)
-          (tick_moves g.Q.R.Rule.discipline c.args.self.now.history.about own.number c.args.now own.state t.new.self t.new.scratch k t.result t.ensures.share),
+          (tick_moves g.Q.R.Discipline.discipline c.args.self.now.history.about own.number c.args.now own.state t.new.self t.new.scratch k t.result t.ensures.share),
     )
 
 pub commit_one-requires-clause-told : goal.commit_one-requires-clause-told

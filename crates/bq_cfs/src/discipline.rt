@@ -7,7 +7,7 @@ ghost use Rattle.bq_disc.specs.Chains.{task_of};
 ghost use Rattle.bq_cfs.specs.Cfs.{cfs, least};
 ghost use Rattle.bq_cfs.specs.Lawful.{cfs_lawful};
 
-use bq_disc::{Node, Rule, RuledQueue, Timeline};
+use bq_disc::{Discipline, Node, RuledQueue, Timeline};
 use bq_tree::{NoSums, Tree};
 
 /// The current task gives way to one that is more than this behind it.
@@ -41,7 +41,7 @@ fn first(current: Option<&Node>, queue: Option<(u64, u16)>) -> Option<(u64, u16)
     }
 }
 
-impl Rule for Cfs {
+impl Discipline for Cfs {
     ghost discipline = { cfs };
 
     fn choice<T: Timeline>(current: Option<&Node>, queue: &T) -> Option<u16> {

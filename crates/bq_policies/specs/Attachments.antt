@@ -1,35 +1,35 @@
--- What stands at the hooks of a processor.
+-- What is attached at the hooks of a processor.
 use Rattle.std.specs.Prelude.{◌≡◌, ℕ, List, [], Option, Some, None}
 use Rattle.bq_bpf.specs.declared.hook.Hook.{Hook}
 use Rattle.bq_bpf.specs.declared.hook.Hook.TheVariants.{Place, Preempt, Pull}
 use Rattle.bq_verify.specs.Accepted.{Accepted}
 
--- what stands at a hook: a policy or none, its generation, and its own maps' bytes
-pub record Program : Type 0 where
+-- what is attached at a hook: a policy or none, its generation, and its own maps' bytes
+pub record Attached : Type 0 where
   pub policy : Option Accepted
   pub generation : ℕ
   pub maps : List (List ℕ)
 
-pub record Programs : Type 0 where
-  pub place : Program
-  pub preempt : Program
-  pub pull : Program
+pub record Attachments : Type 0 where
+  pub place : Attached
+  pub preempt : Attached
+  pub pull : Attached
 
-abbrev pub no_program : Program
-no_program = record { policy = None; generation = 0; maps = [] }
+abbrev pub nothing_attached : Attached
+nothing_attached = record { policy = None; generation = 0; maps = [] }
 
-abbrev pub no_programs : Programs
-no_programs = record { place = no_program; preempt = no_program; pull = no_program }
+abbrev pub none_attached : Attachments
+none_attached = record { place = nothing_attached; preempt = nothing_attached; pull = nothing_attached }
 
-abbrev pub at_hook : Hook → Programs → Program
+abbrev pub at_hook : Hook → Attachments → Attached
 at_hook Place ps = ps.place
 at_hook Preempt ps = ps.preempt
 at_hook Pull ps = ps.pull
 
-abbrev pub with_program : Hook → Programs → Program → Programs
-with_program Place ps new = record ps { place = new }
-with_program Preempt ps new = record ps { preempt = new }
-with_program Pull ps new = record ps { pull = new }
+abbrev pub with_attached : Hook → Attachments → Attached → Attachments
+with_attached Place ps new = record ps { place = new }
+with_attached Preempt ps new = record ps { preempt = new }
+with_attached Pull ps new = record ps { pull = new }
 
 -- a policy, if there is one, was verified for that hook
 abbrev pub IsFor : Hook → Option Accepted → Type 0

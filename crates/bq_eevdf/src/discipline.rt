@@ -8,7 +8,7 @@ ghost use Rattle.bq_disc.specs.Dues.{first_due};
 ghost use Rattle.bq_eevdf.specs.Eevdf.{eevdf, eligible, is_other};
 ghost use Rattle.bq_eevdf.specs.Lawful.{eevdf_lawful};
 
-use bq_disc::{Due, Node, Rule, RuledQueue, Timeline, Totals};
+use bq_disc::{Discipline, Due, Node, RuledQueue, Timeline, Totals};
 use bq_tree::{Sums, Tree};
 
 /// The rule of earliest eligible virtual deadline first (sched-eevdf.rst; Stoica and Abdel-Wahab 1995, section 3).
@@ -62,7 +62,7 @@ fn is_other(chosen: Option<u16>, current: &Node) -> bool
     }
 }
 
-impl Rule for Eevdf {
+impl Discipline for Eevdf {
     ghost discipline = { eevdf };
 
     fn choice<T: Timeline>(current: Option<&Node>, queue: &T) -> Option<u16> {

@@ -3,7 +3,7 @@ use Rattle.bq_disc.specs.Chains.{task_of}
 use Rattle.bq_disc.specs.Totals.{is_at_most_mean}
 use Rattle.bq_disc.specs.Dues.{earliest_of}
 use Rattle.bq_eevdf.proofs.EevdfLaws.{earliest_with}
-use Rattle.bq_eevdf.proofs.rule.earliest.Goals as goal
+use Rattle.bq_eevdf.proofs.discipline.earliest.Goals as goal
 
 pub returns : goal.returns
 returns g c =

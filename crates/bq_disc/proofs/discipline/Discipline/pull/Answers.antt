@@ -1,6 +1,6 @@
 use Rattle.std.proofs.Common.{◌-◌, ◌≤◌, ◌∙◌, arith}
 use Rattle.bq_disc.proofs.PullFacts.{pulls_first_named}
-use Rattle.bq_disc.proofs.rule.Rule.pull.Goals as goal
+use Rattle.bq_disc.proofs.discipline.Discipline.pull.Goals as goal
 
 pub returns : goal.returns
 returns g c =

@@ -1,7 +1,7 @@
 //! What was asked for and what a file says, together.
 ghost use Rattle.std.specs.Prelude.{◌≡◌, ◌≤◌, ◌↔◌, length, IfOk, IfErr, IsTrue, MatchBool, MatchOption};
-ghost use Rattle.bq_policy_files.specs.Files.{Agree, Agrees, Differ, DiffersIn, Settles, shapes_in};
-ghost use Rattle.bq_policy_files.specs.Settled.{IsUnsettled};
+ghost use Rattle.bq_policy_files.specs.Files.{Agree, Agrees, Differ, DiffersIn, CombineTo, shapes_in};
+ghost use Rattle.bq_policy_files.specs.Combining.{IsUncombinable};
 
 use crate::fault::PolicyFault;
 use crate::head::Head;
@@ -12,7 +12,7 @@ use std::alloc::Global;
 
 /// The hook, the shapes of the maps and the version.
 #[derive(Debug, Drop)]
-pub(crate) struct Settled {
+pub(crate) struct Combined {
     pub hook: Hook,
     pub shapes: Vec<MapShape>,
     pub version: Version,
@@ -20,9 +20,9 @@ pub(crate) struct Settled {
 }
 
 /// What both say together, if they do not differ and one of them names the hook.
-pub(crate) fn settle(alloc: Global, given: &Head, said: &Head) -> Result<Settled, PolicyFault>
-    ensures ok { IfOk result (λ s. Settles given.now said.now s.hook s.shapes.items s.version) }
-    ensures err { IfErr result (IsUnsettled given.now said.now) }
+pub(crate) fn combine(alloc: Global, given: &Head, said: &Head) -> Result<Combined, PolicyFault>
+    ensures ok { IfOk result (λ s. CombineTo given.now said.now s.hook s.shapes.items s.version) }
+    ensures err { IfErr result (IsUncombinable given.now said.now) }
 {
     if let Some(key) = difference(given, said.hook, &said.maps, said.format) {
         return Err(PolicyFault::Disagrees(key));
@@ -36,7 +36,7 @@ pub(crate) fn settle(alloc: Global, given: &Head, said: &Head) -> Result<Settled
         (None, Some(shapes)) => Vec::from_slice(alloc, shapes.as_slice())?,
         (None, None) => Vec::new(alloc),
     };
-    Ok(Settled {
+    Ok(Combined {
         hook,
         shapes,
         version,

@@ -13,7 +13,7 @@ use crate::{Node, Timeline};
 const WORTH_A_PULL: usize = 2;
 
 /// A discipline, with its choices over any timeline.
-pub trait Rule {
+pub trait Discipline {
     /// The discipline's definitions.
     ghost discipline: { Discipline };
 

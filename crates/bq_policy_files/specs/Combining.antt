@@ -6,8 +6,8 @@ use Rattle.bq_policy_files.specs.declared.head.Head.{Head}
 use Rattle.bq_policy_files.specs.Files.{DiffersIn, maps_in}
 
 -- they differ, or neither names the hook; want of memory says nothing of them
-abbrev pub IsUnsettled : Head → Head → PolicyFault → Type 0
-IsUnsettled given said (fault.Disagrees key) = DiffersIn key given said.hook (maps_in said) said.format
-IsUnsettled given said fault.NoHook = (given.hook ≡ None) × (said.hook ≡ None)
-IsUnsettled given said fault.OutOfMemory = Unit {0}
-IsUnsettled given said other = ⊥
+abbrev pub IsUncombinable : Head → Head → PolicyFault → Type 0
+IsUncombinable given said (fault.Disagrees key) = DiffersIn key given said.hook (maps_in said) said.format
+IsUncombinable given said fault.NoHook = (given.hook ≡ None) × (said.hook ≡ None)
+IsUncombinable given said fault.OutOfMemory = Unit {0}
+IsUncombinable given said other = ⊥
