@@ -81,7 +81,7 @@ fn from_str(alloc: Global, text: &str, given: &Head) -> Result<Policy, PolicyFau
     let insns = assemble(alloc, text)?;
     let lines = lines_of(alloc, text)?;
     match combine(alloc, given, &said) {
-        Ok(settled) => Ok(Policy {
+        Ok(combined) => Ok(Policy {
             hook: combined.hook,
             version: combined.version,
             shapes: combined.shapes,
