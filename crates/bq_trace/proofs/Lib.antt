@@ -1,4 +1,5 @@
 pub mod ChainLemmas
+pub mod NumberTexts
 pub mod QueueWalks
 pub mod ReplayLemmas
 pub mod SessionLemmas

@@ -1,54 +1,115 @@
 //! The lines that a trace is answered by.
-ghost use Rattle.std.specs.Prelude.{◌≡◌, ◌++◌, Some, OnOk, Ok, Err, string_bytes};
-ghost use Rattle.bq_trace.specs.Texts.{task_text, who_text, spaced, event_line, bad_line, counter_line};
+ghost use Rattle.std.specs.Prelude.{◌≡◌, ◌<◌, ◌+◌, ◌++◌, ◌∷◌, [], OnOk, Ok, Err, codes, string_bytes};
+ghost use Rattle.std.specs.Fmt.{decimal};
+ghost use Rattle.bq_parts.specs.declared.reply.Reply.TheVariants.{Begun, Placed, Blocked};
+ghost use Rattle.bq_trace.specs.Texts.{task_text, who_text, run_text, spaced, reply_text, event_line, bad_line, counter_line};
 
 use bq_core::{By, Refusal, Reply};
 use std::alloc::AllocError;
-use std::fmt;
 
-/// A task or `none`.
-#[derive(Clone, Copy)]
-struct OrNone(Option<u16>);
+/// Adds one digit.
+fn write_digit(text: &mut String, digit: u32) -> Result<(), AllocError>
+    requires { digit < 10 }
+    ensures { OnOk result (string_bytes text.new ≡ string_bytes text.old ++ (48 + digit) ∷ []) }
+{
+    text.push(char::from(b'0' + digit as u8))
+}
 
-impl fmt::Display for OrNone {
-    ghost output = { λ r. Some (task_text r.0) };
+/// Adds a number of any size.
+#[inline(never)]
+fn write_large(text: &mut String, number: u32) -> Result<(), AllocError>
+    ensures { OnOk result (string_bytes text.new ≡ string_bytes text.old ++ decimal number) }
+{
+    write!(text, "{number}")
+}
 
-    fn fmt<W: fmt::Write>(&self, f: &mut fmt::Formatter<W>) -> fmt::Result {
-        match self.0 {
-            None => write!(f, "none"),
-            Some(task) => write!(f, "{task}"),
-        }
+/// Adds a number. One of a digit or two, as most ids, loads and steps are, takes no formatter.
+fn write_number(text: &mut String, number: u32) -> Result<(), AllocError>
+    ensures { OnOk result (string_bytes text.new ≡ string_bytes text.old ++ decimal number) }
+{
+    if number < 10 {
+        return write_digit(text, number);
+    }
+    if number < 100 {
+        write_digit(text, number / 10)?;
+        return write_digit(text, number % 10);
+    }
+    write_large(text, number)
+}
+
+/// Adds a task or `none`.
+fn write_task(text: &mut String, task: Option<u16>) -> Result<(), AllocError>
+    ensures { OnOk result (string_bytes text.new ≡ string_bytes text.old ++ task_text task) }
+{
+    match task {
+        None => text.push_str("none"),
+        Some(task) => write_number(text, u32::from(task)),
     }
 }
 
-/// Whose choice it was.
-#[derive(Clone, Copy)]
-struct Whose(By);
-
-impl fmt::Display for Whose {
-    ghost output = { λ w. Some (who_text w.0) };
-
-    fn fmt<W: fmt::Write>(&self, f: &mut fmt::Formatter<W>) -> fmt::Result {
-        match self.0 {
-            By::Policy => write!(f, "policy"),
-            By::Discipline => write!(f, "rule"),
-        }
+/// Adds numbers, a space before each.
+fn write_spaced(text: &mut String, numbers: &[u16]) -> Result<(), AllocError>
+    ensures { OnOk result (string_bytes text.new ≡ string_bytes text.old ++ spaced numbers.now) }
+{
+    for number in numbers {
+        text.push_str(" ")?;
+        write_number(text, u32::from(*number))?;
     }
+    Ok(())
 }
 
-/// Numbers, a space before each.
-#[derive(Clone, Copy)]
-struct Spaced<'a>(&'a [u16]);
-
-impl fmt::Display for Spaced<'_> {
-    ghost output = { λ s. Some (spaced s.0.now) };
-
-    fn fmt<W: fmt::Write>(&self, f: &mut fmt::Formatter<W>) -> fmt::Result {
-        for number in self.0 {
-            write!(f, " {number}")?;
-        }
-        Ok(())
+/// Adds whose choice it was and after how many steps of a policy, and ends the line.
+fn write_choice(text: &mut String, by: By, steps: u32) -> Result<(), AllocError>
+    ensures { OnOk result (string_bytes text.new ≡ string_bytes text.old ++ (codes " by " ++ (who_text by ++ (codes " steps " ++ (decimal steps ++ codes "\n"))))) }
+{
+    match by {
+        By::Policy => text.push_str(" by policy steps ")?,
+        By::Discipline => text.push_str(" by rule steps ")?,
     }
+    write_number(text, steps)?;
+    text.push_str("\n")
+}
+
+/// Adds who runs, by whose choice, and after how many steps of a policy, and ends the line.
+fn write_run(text: &mut String, run: Option<u16>, by: By, steps: u32) -> Result<(), AllocError>
+    ensures { OnOk result (string_bytes text.new ≡ string_bytes text.old ++ (run_text run by steps ++ codes "\n")) }
+{
+    text.push_str(" run ")?;
+    write_task(text, run)?;
+    write_choice(text, by, steps)
+}
+
+/// Adds the line of a wake that has begun.
+fn write_begun(text: &mut String, task: u16, loads: &[u16]) -> Result<(), AllocError>
+    ensures { OnOk result (string_bytes text.new ≡ string_bytes text.old ++ (reply_text (Begun task loads.now) ++ codes "\n")) }
+{
+    text.push_str("begin ")?;
+    write_number(text, u32::from(task))?;
+    text.push_str(" loads")?;
+    write_spaced(text, loads)?;
+    text.push_str("\n")
+}
+
+/// Adds the line of a task that is placed.
+fn write_placed(text: &mut String, task: u16, to: u8, by: By, steps: u32) -> Result<(), AllocError>
+    ensures { OnOk result (string_bytes text.new ≡ string_bytes text.old ++ (reply_text (Placed task to by steps) ++ codes "\n")) }
+{
+    text.push_str("end ")?;
+    write_number(text, u32::from(task))?;
+    text.push_str(" to ")?;
+    write_number(text, u32::from(to))?;
+    write_choice(text, by, steps)
+}
+
+/// Adds the line of a task that sleeps.
+fn write_blocked(text: &mut String, task: u16, run: Option<u16>) -> Result<(), AllocError>
+    ensures { OnOk result (string_bytes text.new ≡ string_bytes text.old ++ (reply_text (Blocked task run) ++ codes "\n")) }
+{
+    text.push_str("block ")?;
+    write_number(text, u32::from(task))?;
+    text.push_str(" run ")?;
+    write_task(text, run)?;
+    text.push_str("\n")
 }
 
 /// Adds the line that answers an event.
@@ -69,48 +130,37 @@ fn write_reply(text: &mut String, reply: &Reply) -> Result<(), AllocError>
         Reply::Retired => write!(text, "retire ok\n"),
         Reply::Drawn { generation } => write!(text, "draw {generation}\n"),
         Reply::Installed => write!(text, "install ok\n"),
-        Reply::Begun { task, loads } => {
-            let loads = Spaced(loads.as_slice());
-            write!(text, "begin {task} loads{loads}\n")
-        }
+        Reply::Begun { task, loads } => write_begun(text, *task, loads.as_slice()),
         Reply::Placed {
             task,
             to,
             by,
             steps,
-        } => {
-            let who = Whose(*by);
-            write!(text, "end {task} to {to} by {who} steps {steps}\n")
-        }
+        } => write_placed(text, *task, *to, *by, *steps),
         Reply::Drained {
             count,
             run,
             by,
             steps,
         } => {
-            let run = OrNone(*run);
-            let who = Whose(*by);
-            write!(text, "drain {count} run {run} by {who} steps {steps}\n")
+            text.push_str("drain ")?;
+            write_number(text, *count)?;
+            write_run(text, *run, *by, *steps)
         }
         Reply::Ticked { run, by, steps } => {
-            let run = OrNone(*run);
-            let who = Whose(*by);
-            write!(text, "tick run {run} by {who} steps {steps}\n")
+            text.push_str("tick")?;
+            write_run(text, *run, *by, *steps)
         }
-        Reply::Blocked { task, run } => {
-            let run = OrNone(*run);
-            write!(text, "block {task} run {run}\n")
-        }
+        Reply::Blocked { task, run } => write_blocked(text, *task, *run),
         Reply::Pulled {
             task,
             run,
             by,
             steps,
         } => {
-            let task = OrNone(*task);
-            let run = OrNone(*run);
-            let who = Whose(*by);
-            write!(text, "pull {task} run {run} by {who} steps {steps}\n")
+            text.push_str("pull ")?;
+            write_task(text, *task)?;
+            write_run(text, *run, *by, *steps)
         }
     }
 }
