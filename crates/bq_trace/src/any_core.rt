@@ -73,14 +73,15 @@ impl<Q: RunQueue> SizedCore<Q> {
     fn step(&mut self, alloc: Global, event: Event, board: &mut Plain) -> Result<Reply, Refusal>
         ensures { Advances (policies Q.R.discipline) self.old board.old event result self.new board.new }
     {
+        // Each arm returns by itself, since a reply is large and would else be moved once more.
         match &mut self.core {
-            Cores::One(core) => step(core, alloc, event, board),
-            Cores::Two(core) => step(core, alloc, event, board),
-            Cores::Four(core) => step(core, alloc, event, board),
-            Cores::Eight(core) => step(core, alloc, event, board),
-            Cores::Sixteen(core) => step(core, alloc, event, board),
-            Cores::ThirtyTwo(core) => step(core, alloc, event, board),
-            Cores::SixtyFour(core) => step(core, alloc, event, board),
+            Cores::One(core) => return core.step(alloc, event, board),
+            Cores::Two(core) => return core.step(alloc, event, board),
+            Cores::Four(core) => return core.step(alloc, event, board),
+            Cores::Eight(core) => return core.step(alloc, event, board),
+            Cores::Sixteen(core) => return core.step(alloc, event, board),
+            Cores::ThirtyTwo(core) => return core.step(alloc, event, board),
+            Cores::SixtyFour(core) => return core.step(alloc, event, board),
         }
     }
 
@@ -97,18 +98,6 @@ impl<Q: RunQueue> SizedCore<Q> {
             Cores::SixtyFour(core) => cpu(core, number),
         }
     }
-}
-
-/// Does an event.
-fn step<Q: RunQueue, const P: usize>(
-    core: &mut Core<Q, P>,
-    alloc: Global,
-    event: Event,
-    board: &mut Plain,
-) -> Result<Reply, Refusal>
-    ensures { Advances (policies Q.R.discipline) core.old board.old event result core.new board.new }
-{
-    core.step(alloc, event, board)
 }
 
 /// A processor, if the core has it.
@@ -195,8 +184,8 @@ impl AnyCore {
         ensures { Moves self.old event result self.new }
     {
         match &mut self.core {
-            Ruled::Cfs(core) => core.step(alloc, event, &mut self.board),
-            Ruled::Eevdf(core) => core.step(alloc, event, &mut self.board),
+            Ruled::Cfs(core) => return core.step(alloc, event, &mut self.board),
+            Ruled::Eevdf(core) => return core.step(alloc, event, &mut self.board),
         }
     }
 
