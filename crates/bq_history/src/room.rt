@@ -32,14 +32,26 @@ impl<R: Drop> Room<R> {
     }
 
     /// Makes it ready, which takes memory only where it is not. Where the growth is refused it is as it was.
+    #[inline(always)]
     pub fn prepare(&mut self, alloc: Global) -> Result<(), AllocError>
         ensures ready { OnOk result (self.new ≡ true) }
         ensures err { OnErr result (self.new ≡ self.old) }
     {
-        if self.spare.is_none() {
-            let chunk = Chunk::new(alloc)?;
-            self.spare = Some(Slip::new(alloc, chunk)?);
+        if self.spare.is_some() {
+            return Ok(());
         }
+        self.fill(alloc)
+    }
+
+    /// Makes the spare chunk. It stands apart, as just one record in 16 takes one, and the others only look.
+    #[cold]
+    #[inline(never)]
+    fn fill(&mut self, alloc: Global) -> Result<(), AllocError>
+        ensures ready { OnOk result (self.new ≡ true) }
+        ensures err { OnErr result (self.new ≡ self.old) }
+    {
+        let chunk = Chunk::new(alloc)?;
+        self.spare = Some(Slip::new(alloc, chunk)?);
         Ok(())
     }
 

@@ -44,9 +44,14 @@ impl Calls {
     }
 
     /// Whether these are the same calls, with the same answers.
+    #[inline(always)]
     pub fn is_same(&self, other: &Calls) -> bool
         ensures { IsTrue result ↔ (self.now ≡ other.now) }
     {
+        // as most events have none, and lists are compared item by item
+        if self.list.is_none() && other.list.is_none() {
+            return true;
+        }
         self.as_slice() == other.as_slice()
     }
 }
@@ -59,7 +64,9 @@ pub struct CallRooms {
 }
 
 impl CallRooms {
-    /// Rooms in which nothing stands.
+    /// Rooms in which nothing stands. Only events with calls use them up, so they are seldom made.
+    #[cold]
+    #[inline(never)]
     pub fn new(alloc: Global) -> Result<CallRooms, AllocError> {
         let record = Box::new(alloc, ArrayVec::new())?;
         let receipt = Box::new(alloc, ArrayVec::new())?;
@@ -68,6 +75,7 @@ impl CallRooms {
 }
 
 /// These calls, for the record and for the receipt. Where there are none the rooms stay for another event.
+#[inline(always)]
 pub fn hold_calls(rooms: &mut Option<CallRooms>, calls: &[Call]) -> (Calls, Calls)
     requires few { length calls.now ≤ 16 }
     requires ready { is_some rooms.old ≡ true }
@@ -77,6 +85,17 @@ pub fn hold_calls(rooms: &mut Option<CallRooms>, calls: &[Call]) -> (Calls, Call
     if calls.is_empty() {
         return (Calls::none(), Calls::none());
     }
+    filled_twice(rooms, calls)
+}
+
+/// The same of some calls. It stands apart, as most events have none.
+#[inline(never)]
+fn filled_twice(rooms: &mut Option<CallRooms>, calls: &[Call]) -> (Calls, Calls)
+    requires few { length calls.now ≤ 16 }
+    requires ready { is_some rooms.old ≡ true }
+    ensures record { result.0 ≡ calls.now }
+    ensures receipt { result.1 ≡ calls.now }
+{
     let Some(CallRooms { record, receipt }) = rooms.take() else {
         unreachable!()
     };
