@@ -36,6 +36,7 @@ impl Compared for Record {
 }
 
 /// Room for a record, where there is none yet.
+#[inline(always)]
 pub fn record_room(alloc: Global, room: &mut Room<Record>) -> Result<(), Refusal>
     ensures memory { IfErr result (λ refusal. refusal ≡ no.OutOfMemory) }
     ensures ready { OnOk result (room.new ≡ true) }
@@ -44,6 +45,7 @@ pub fn record_room(alloc: Global, room: &mut Room<Record>) -> Result<(), Refusal
 }
 
 /// Room for the calls of counters of an event, once for its record and once for its receipt, where there is none yet.
+#[inline(always)]
 pub fn call_rooms(alloc: Global, rooms: &mut Option<CallRooms>) -> Result<(), Refusal>
     ensures memory { IfErr result (λ refusal. refusal ≡ no.OutOfMemory) }
     ensures ready { OnOk result (is_some rooms.new ≡ true) }
