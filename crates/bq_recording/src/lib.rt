@@ -13,4 +13,4 @@ mod told;
 mod waking;
 
 pub use loading::{Spare, one_spare};
-pub use recorder::{Caller, CpuCell, Recorder, Seat, need_own};
+pub use recorder::{Caller, CpuCell, Recorder, Seat, lock, need_own};

@@ -39,9 +39,18 @@ impl<Q: RunQueue + Drop, N: Naming + Counting> Recorder<Q, N> {
     pub(crate) fn lock_journal<R: Wait>(&self, rt: &R) -> LockedJournal<'_, N>
         ensures { length (mutex_guard_value result).0 + 1 < 2 ^ 64 }
     {
-        let guard = self.journal.lock(rt);
+        let guard = lock(rt, &self.journal);
         guard.need_room(rt);
         guard
+    }
+}
+
+/// Takes a lock that is mostly free: then it is taken in place, and a call is made only to wait for it.
+#[inline(always)]
+pub fn lock<'a, R: Wait, T>(rt: &R, of: &'a Mutex<T>) -> MutexGuard<'a, T> {
+    match of.try_lock() {
+        Some(guard) => guard,
+        None => of.lock(rt),
     }
 }
 

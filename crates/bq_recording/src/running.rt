@@ -16,6 +16,7 @@ use std::sync::Wait;
 
 impl<Q: RunQueue + Drop, N: Naming + Counting> Recorder<Q, N> {
     /// Commits a tick, under the lock of its processor.
+    #[inline(always)]
     pub fn tick<R: Wait>(
         &self,
         rt: &R,
