@@ -7,7 +7,7 @@ use bq_cells::{NumberedCpu, NumberedInbox, OneLobby, UnderLock};
 use bq_closing::Room;
 use bq_counters::Naming as Counting;
 use bq_disc::RunQueue;
-use bq_recording::{Recorder, Seat, need_own};
+use bq_recording::{Recorder, Seat, lock, need_own};
 use bq_tie::Naming;
 use std::sync::{Mutex, MutexGuard, Wait};
 
@@ -46,11 +46,12 @@ impl<Q: RunQueue + Drop, K: Clock + Drop, N: Naming + Counting, const P: usize> 
     }
 
     /// Locks a processor.
+    #[inline(always)]
     pub(crate) fn lock_processor<R: Wait>(&self, rt: &R, processor: u8) -> LockedProcessor<'_, Q, N>
         requires inside { processor < P }
         ensures own { (mutex_guard_value result).number ≡ processor }
     {
-        let guard = self.cpus[usize::from(processor)].lock(rt);
+        let guard = lock(rt, &self.cpus[usize::from(processor)]);
         need_own(rt, guard.cell.content.number, processor);
         guard
     }
@@ -64,7 +65,7 @@ impl<Q: RunQueue + Drop, K: Clock + Drop, N: Naming + Counting, const P: usize> 
         requires inside { processor < P }
         ensures own { (mutex_guard_value result).number ≡ processor }
     {
-        let guard = self.inboxes[usize::from(processor)].lock(rt);
+        let guard = lock(rt, &self.inboxes[usize::from(processor)]);
         need_own(rt, guard.cell.content.number, processor);
         guard
     }

@@ -15,6 +15,7 @@ use bq_tie::Naming;
 use std::alloc::Global;
 
 /// Room for the record of an event, and for the calls of counters that it may tell.
+#[inline(always)]
 pub(crate) fn rooms_of_event(
     alloc: Global,
     room: &mut Room<Record>,
@@ -35,6 +36,7 @@ impl<Q: RunQueue + Drop, K: Clock + Drop, N: Naming + Counting, const P: usize> 
     P,
 > {
     /// Refuses a number that is none of a processor.
+    #[inline(always)]
     pub(crate) fn need_processor(&self, processor: u8) -> Result<(), Refusal>
         ensures inside { OnOk result (processor < P) }
         ensures refused { IfErr result (λ e. first_refusal (no_processor P processor ∷ []) ≡ Some e) }
@@ -46,6 +48,7 @@ impl<Q: RunQueue + Drop, K: Clock + Drop, N: Naming + Counting, const P: usize> 
     }
 
     /// What an event at a processor takes before the processor is locked.
+    #[inline(always)]
     pub(crate) fn begin_call(
         &self,
         alloc: Global,

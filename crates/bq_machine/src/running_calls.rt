@@ -23,6 +23,7 @@ impl<Q: RunQueue + Drop, K: Clock + Drop, N: Naming + Counting, const P: usize> 
     /// The clock of a processor ticks, and it is decided who runs. It takes memory for the record.
     ///
     /// A number that is none of a processor is refused, and want of memory is; then nothing is recorded.
+    #[inline(always)]
     pub fn tick<R: Wait>(
         &self,
         rt: &R,
