@@ -42,11 +42,38 @@ pub fn drive<Q: RunQueue + Drop, K: Clock + Drop, N: Naming + Counting, R: Wait,
         return Err(Refusal::OutOfMemory);
     };
     start(rt, alloc, machine, &mut seat, &mut receipts, processor)?;
-    'ticks: for _ in 0..ticks {
-        let ticked = machine.tick(rt, alloc, &mut seat, processor)?;
-        keep(&mut receipts, ticked)?;
-    }
+    tick_all(
+        rt,
+        alloc,
+        machine,
+        &mut seat,
+        &mut receipts,
+        processor,
+        ticks,
+    )?;
     Ok(Done { seat, receipts })
+}
+
+/// Lets a processor tick so often. It stands apart, so that the compiler keeps what the loop needs in registers.
+#[inline(never)]
+fn tick_all<Q: RunQueue + Drop, K: Clock + Drop, N: Naming + Counting, R: Wait, const P: usize>(
+    rt: &R,
+    alloc: Global,
+    machine: &Machine<Q, K, N, P>,
+    seat: &mut Seat<N>,
+    receipts: &mut Vec<Receipt<Record>>,
+    processor: u8,
+    ticks: u32,
+) -> Result<(), Refusal>
+    requires { seat.old.1 ≡ receipts.old.items }
+    ensures held { OnOk result (seat.new.1 ≡ receipts.new.items) }
+    ensures ticks { OnOk result (ticks_of receipts.new.items ≡ ticks_of receipts.old.items + ticks) }
+{
+    'ticks: for _ in 0..ticks {
+        let ticked = machine.tick(rt, alloc, seat, processor)?;
+        keep(receipts, ticked)?;
+    }
+    Ok(())
 }
 
 /// Admits the task whose id is a processor's number, wakes it there and drains it.
