@@ -1,12 +1,14 @@
 -- A refusal and what is said of it are an explanation.
 use Rattle.std.proofs.Common.{◌≡◌, ℕ, false, refl, Option, None, Some, IfSome, Result, Ok, Err, IfOk}
+use Rattle.std.specs.String.{string_bytes}
 use Rattle.bq_verify.specs.declared.cause.Cause.{Cause}
 use Rattle.bq_policy_files.specs.declared.policy.Policy.{Policy}
 use Rattle.bq_explain.specs.declared.explanation.Explained.{Explained}
 use Rattle.bq_explain.specs.declared.limits.Limits.{Limits}
 use Rattle.bq_explain.specs.declared.verdict.Verdict.TheVariants.{Refused}
 use Rattle.bq_explain.specs.Explained.{Explains, HasKnown, HasNeed}
-use Rattle.bq_explain.specs.Verdicts.{IsRefusedPolicy}
+use Rattle.bq_explain.specs.Beginnings.{BeginsWith}
+use Rattle.bq_explain.specs.Verdicts.{IsRefusedPolicy, verdict_line}
 
 -- two facts of what is there give a third
 pub both : {X : Type 0} (o : Option X) {P Q R : X → Type 0} → IfSome o P → IfSome o Q → ((x : X) → P x → Q x → R x) → IfSome o R
@@ -14,11 +16,12 @@ both None p q f = _
 both (Some x) p q f = f x p q
 
 -- the verdict is the refusal, and the lines on the state are those of its slot
-pub explains_refusal : {E : Type 0} (p : Policy) (l : Limits) (slot : ℕ) (cause : Cause) (r : Result Explained E) → IsRefusedPolicy p slot cause → IfOk r (λ e. e.accepted ≡ false) → IfOk r (HasKnown p slot) → IfOk r (HasNeed p slot cause) → IfOk r (Explains p l)
-explains_refusal p l slot cause (Err e) refused accepted known need = _
-explains_refusal p l slot cause (Ok e) refused accepted known need = record {
+pub explains_refusal : {E : Type 0} (p : Policy) (l : Limits) (slot : ℕ) (cause : Cause) (r : Result Explained E) → IsRefusedPolicy p slot cause → IfOk r (λ e. e.accepted ≡ false) → IfOk r (λ e. BeginsWith (string_bytes e.text) (verdict_line p.hook (Refused slot cause))) → IfOk r (HasKnown p slot) → IfOk r (HasNeed p slot cause) → IfOk r (Explains p l)
+explains_refusal p l slot cause (Err e) refused accepted begins known need = _
+explains_refusal p l slot cause (Ok e) refused accepted begins known need = record {
   verdict = Refused slot cause;
   is_verdict = refused;
   accepted = accepted;
+  begins = begins;
   known_of = both e.known known need (λ told known_is need_is. record { slot = slot; cause = cause; refused = refl; known_is = known_is; need_is = need_is });
 }

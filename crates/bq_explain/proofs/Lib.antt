@@ -1,3 +1,4 @@
+pub mod BeginningLemmas
 pub mod ExplainLemmas
 pub mod KnownLemmas
 pub mod RunLemmas

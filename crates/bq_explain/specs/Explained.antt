@@ -18,6 +18,7 @@ use Rattle.bq_explain.specs.declared.verdict.Verdict.{Verdict}
 use Rattle.bq_explain.specs.declared.verdict.Verdict.TheVariants.{Refused}
 use Rattle.bq_needs.specs.Needs.{IsNeed}
 use Rattle.bq_explain.specs.Telling.{TellsState}
+use Rattle.bq_explain.specs.Beginnings.{BeginsWith, first_words}
 use Rattle.bq_explain.specs.Texts.{IsViewText}
 use Rattle.bq_explain.specs.Verdicts.{IsVerdict, is_accepted}
 
@@ -65,10 +66,11 @@ pub record IsKnownOf (p : Policy) (verdict : Verdict) (text known : List ℕ) : 
   pub known_is : IsKnown p slot text known
   pub need_is : IsNeedAt p slot cause text known
 
--- the verdict is that of the verifier and the limits; where lines on the state are told, they hold at the slot of the refusal, and the need before them is
+-- the verdict is that of the verifier and the limits, and the text begins with it; where lines on the state are told, they hold at the slot of the refusal, and the need before them is
 -- one that what they tell does not give
 pub record Explains (p : Policy) (l : Limits) (e : Explained) : Type 0 where
   pub verdict : Verdict
   pub is_verdict : IsVerdict p l verdict
   pub accepted : e.accepted ≡ is_accepted verdict
+  pub begins : BeginsWith (string_bytes e.text) (first_words p verdict)
   pub known_of : IfSome e.known (λ known. IsKnownOf p verdict (string_bytes e.text) (string_bytes known))

@@ -1,3 +1,4 @@
+pub mod Beginnings
 pub mod Explained
 pub mod Telling
 pub mod Texts

@@ -1,10 +1,11 @@
 //! A policy's verdict with its explanation.
-ghost use Rattle.std.specs.Prelude.{◌≡◌, ◌≤◌, IfOk, None, Some, false, true, length};
+ghost use Rattle.std.specs.Prelude.{◌≡◌, ◌≤◌, IfOk, None, Some, false, true, length, string_bytes};
 ghost use Rattle.bq_insn.specs.Spelling.{is_well_formed};
 ghost use Rattle.bq_insn.specs.Slots.{spread};
 ghost use Rattle.bq_bpf.specs.Hooks.{context_length_of};
 ghost use Rattle.bq_verify.specs.KnownAt.{CoversRuns};
 ghost use Rattle.bq_bpf.specs.Steps.{instruction_at};
+ghost use Rattle.bq_explain.specs.Beginnings.{BeginsWith};
 ghost use Rattle.bq_explain.specs.Explained.{Explains, HasKnown, HasNeed};
 
 use crate::advice::{graph_advice, state_advice};
@@ -76,6 +77,7 @@ fn refused(
     cause: Cause,
 ) -> Result<Explained, AllocError>
     ensures accepted { IfOk result (λ e. e.accepted ≡ false) }
+    ensures begins { IfOk result (λ e. BeginsWith (string_bytes e.text) (string_bytes line)) }
     ensures known { IfOk result (HasKnown policy.now slot) }
     ensures need { IfOk result (HasNeed policy.now slot cause) }
 {
@@ -101,6 +103,7 @@ fn refused(
 /// A refusal of which no more is told.
 fn alone(line: String) -> Explained
     ensures accepted { result.accepted ≡ false }
+    ensures text { result.text ≡ line }
     ensures known { result.known ≡ None }
 {
     Explained {
@@ -119,6 +122,7 @@ fn reasons(
 ) -> Result<Explained, AllocError>
     requires { instruction_at (spread policy.now.insns.items) fault.slot ≡ Some fault.insn }
     ensures accepted { IfOk result (λ e. e.accepted ≡ false) }
+    ensures begins { IfOk result (λ e. BeginsWith (string_bytes e.text) head.now) }
     ensures known { IfOk result (HasKnown policy.now fault.slot) }
     ensures need { IfOk result (HasNeed policy.now fault.slot fault.cause) }
 {
@@ -148,6 +152,7 @@ fn state_reasons(
     requires here { instruction_at (spread policy.now.insns.items) fault.slot ≡ Some fault.insn }
     requires covers { CoversRuns (spread policy.now.insns.items) policy.now.shapes.items (context_length_of policy.now.hook policy.now.version) fault.slot view.now }
     ensures accepted { IfOk result (λ e. e.accepted ≡ false) }
+    ensures begins { IfOk result (λ e. BeginsWith (string_bytes e.text) head.now) }
     ensures known { IfOk result (HasKnown policy.now fault.slot) }
     ensures need { IfOk result (HasNeed policy.now fault.slot fault.cause) }
 {

@@ -1,28 +1,37 @@
 //! What is said of a program that is accepted.
+ghost use Rattle.std.specs.Prelude.{◌≡◌, IfOk, string_bytes};
+ghost use Rattle.bq_explain.specs.Beginnings.{BeginsWith, accepted_words, maps_text};
+
 use bq_bpf::MapShape;
 use bq_bpf::helper::{ADD_COUNTER, LOOKUP, NOW, PROCESSOR, READ_COUNTER, UPDATE};
 use bq_insn::Insn;
 use bq_policy_files::Policy;
+use bq_policy_text::more_maps;
 use std::alloc::{AllocError, Global};
 
 /// The helpers that there are, by their numbers.
 const HELPERS: [i32; 6] = [LOOKUP, UPDATE, NOW, PROCESSOR, ADD_COUNTER, READ_COUNTER];
 
 /// The one line on an accepted program: its hook, budget, version, maps, helpers, calls of counters and slots.
-pub(crate) fn summary(alloc: Global, policy: &Policy, budget: u32) -> Result<String, AllocError> {
-    let hook = policy.hook.word();
-    let version = policy.version.number();
+pub(crate) fn summary(alloc: Global, policy: &Policy, budget: u32) -> Result<String, AllocError>
+    ensures { IfOk result (λ text. BeginsWith (string_bytes text) (accepted_words policy.now budget)) }
+{
+    let words = accepted_words(alloc, policy, budget)?;
     let insns = policy.insns.as_slice();
-    let mut text = format!(in alloc;
-        "accepted {hook} budget {budget} of 4096, version {version}, maps "
-    )?;
-    write_maps(policy.shapes.as_slice(), &mut text)?;
-    text.push_str(", helpers ")?;
-    write_helpers(insns, &mut text)?;
+    let helpers = helpers_text(alloc, insns)?;
     let counters = counter_calls(insns);
     let slots = slot_count(insns);
-    write!(text, ", counters {counters}, slots {slots}\n")?;
-    Ok(text)
+    format!(in alloc; "{words}, helpers {helpers}, counters {counters}, slots {slots}\n")
+}
+
+/// Its hook, its budget, its version and its maps.
+fn accepted_words(alloc: Global, policy: &Policy, budget: u32) -> Result<String, AllocError>
+    ensures { IfOk result (λ text. string_bytes text ≡ accepted_words policy.now budget) }
+{
+    let hook = policy.hook.word();
+    let version = policy.version.number();
+    let maps = maps_text(alloc, policy.shapes.as_slice())?;
+    format!(in alloc; "accepted {hook} budget {budget} of 4096, version {version}, maps {maps}")
 }
 
 /// How many slots the instructions take.
@@ -34,23 +43,24 @@ fn slot_count(insns: &[Insn]) -> usize {
     count
 }
 
-/// The shapes of the maps, as `--maps` takes them.
-pub(crate) fn write_maps(shapes: &[MapShape], text: &mut String) -> Result<(), AllocError> {
-    if shapes.is_empty() {
-        return text.push_str("none");
-    }
-    for (number, shape) in shapes.iter().enumerate() {
-        if number > 0 {
-            text.push_str(",")?;
+/// The shapes of the maps, as `--maps` takes them, or `none`.
+fn maps_text(alloc: Global, shapes: &[MapShape]) -> Result<String, AllocError>
+    ensures { IfOk result (λ text. string_bytes text ≡ maps_text shapes.now) }
+{
+    match shapes {
+        [] => String::from_str(alloc, "none"),
+        [first, rest @ ..] => {
+            let size = first.value_size;
+            let entries = first.entries;
+            let more = more_maps(alloc, rest)?;
+            format!(in alloc; "{size}:{entries}{more}")
         }
-        let size = shape.value_size;
-        let entries = shape.entries;
-        write!(text, "{size}:{entries}")?;
     }
-    Ok(())
 }
 
-fn write_helpers(insns: &[Insn], text: &mut String) -> Result<(), AllocError> {
+/// The helpers that are called, by their numbers, or `none`.
+fn helpers_text(alloc: Global, insns: &[Insn]) -> Result<String, AllocError> {
+    let mut text = String::new(alloc);
     let mut some = false;
     for number in HELPERS {
         if calls(insns, number) {
@@ -61,10 +71,10 @@ fn write_helpers(insns: &[Insn], text: &mut String) -> Result<(), AllocError> {
             some = true;
         }
     }
-    if some {
-        return Ok(());
+    if !some {
+        text.push_str("none")?;
     }
-    text.push_str("none")
+    Ok(text)
 }
 
 fn calls(insns: &[Insn], number: i32) -> bool {

@@ -8,4 +8,4 @@ mod listing;
 mod policy_marks;
 
 pub use listing::policy_text;
-pub use policy_marks::marks;
+pub use policy_marks::{marks, more_maps};

@@ -32,8 +32,8 @@ fn maps_mark(alloc: Global, shapes: &[MapShape]) -> Result<String, AllocError>
     }
 }
 
-/// The maps after the first, each after a comma.
-fn more_maps(alloc: Global, shapes: &[MapShape]) -> Result<String, AllocError>
+/// The maps after the first, each after a comma: the size of a value and the number of entries with a colon between.
+pub fn more_maps(alloc: Global, shapes: &[MapShape]) -> Result<String, AllocError>
     ensures { IfOk result (λ text. string_bytes text ≡ more_maps shapes.now) }
 {
     let mut text = String::new(alloc);
