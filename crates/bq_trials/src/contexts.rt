@@ -225,12 +225,21 @@ fn a_pull_of_one_of_two(rt: HostRuntime) -> Result<(), Fail> {
 0000000001000000 ; its v
 ";
     let shown = bytes_of(rt.alloc(), shown)?;
+    begins(&rt, &context, shown.as_slice());
+    Ok(())
+}
+
+/// The first 64 bytes of a pull's context are these, and the others 0.
+fn begins(rt: &impl Abort, context: &[u8; 160], shown: &[u8]) {
     let (first, rest) = context.split_at(64);
-    assert_eq!(rt; first, shown.as_slice());
+    assert_eq!(rt; first, shown);
     for byte in rest {
         assert_eq!(rt; *byte, 0);
     }
-    Ok(())
+}
+
+fn is_settled(rt: &impl Abort, choice: &Choice<Option<u16>>, value: Option<u16>, by: By) {
+    assert_eq!(rt; *choice, Choice { value, by });
 }
 
 /// Tasks 2 and 3 may be pulled by processor 1, and task 1 may not.
@@ -251,14 +260,13 @@ fn pulls_that_are_permitted(rt: HostRuntime) -> io::Result<()> {
         (Some(7), Some(3), By::Discipline),
     ];
     for (r0, value, by) in cases {
-        assert_eq!(rt; settle_pull(r0, &queue, 1, Some(3)), Choice { value, by });
+        is_settled(&rt, &settle_pull(r0, &queue, 1, Some(3)), value, by);
     }
-    assert_eq!(rt;
-        settle_pull(Some(1), &queue, 1, None),
-        Choice {
-            value: None,
-            by: By::Discipline
-        }
+    is_settled(
+        &rt,
+        &settle_pull(Some(1), &queue, 1, None),
+        None,
+        By::Discipline,
     );
     Ok(())
 }

@@ -76,65 +76,113 @@ fn ask(installed: &mut Installed, scratch: &mut Scratch, board: &mut Plain) -> O
     Some((done.r0, done.steps))
 }
 
+/// The policy, or why the test ends here.
+fn accepted(alloc: Global, text: &str, shapes: &[MapShape]) -> Result<Policy, Fail> {
+    match policy(alloc, text, shapes)? {
+        Some(policy) => Ok(policy),
+        None => Err(Fail::from("not accepted")),
+    }
+}
+
+/// One map of 8 bytes and 1 entry.
+fn one_entry() -> Result<MapShape, Fail> {
+    match MapShape::new(8, 1) {
+        Some(shape) => Ok(shape),
+        None => Err(Fail::from("no shape")),
+    }
+}
+
+// What is asserted stands in functions of its own, which hold none of the policies: a proof of an assertion carries all that the
+// function would drop.
+
+/// What stands there gives that answer in so many steps.
+fn answers(
+    rt: &impl Abort,
+    installed: &mut Installed,
+    scratch: &mut Scratch,
+    board: &mut Plain,
+    answer: (u64, u32),
+) {
+    assert_eq!(rt; ask(installed, scratch, board), Some(answer));
+}
+
+fn is_of_generation(rt: &impl Abort, installed: &Installed, generation: u64) {
+    assert_eq!(rt; installed.generation(), generation);
+}
+
+fn keeps_no_call(rt: &impl Abort, scratch: &Scratch) {
+    assert!(rt; scratch.calls().is_empty());
+}
+
 #[test]
 fn maps_of_their_own(rt: HostRuntime) -> Result<(), Fail> {
     let alloc = rt.alloc();
-    let Some(shape) = MapShape::new(8, 1) else {
-        panic!(&rt; "no shape");
-    };
-    let Some(counts) = policy(alloc, COUNTS, &[shape])? else {
-        panic!(&rt; "not accepted");
-    };
+    let counts = accepted(alloc, COUNTS, &[one_entry()?])?;
     let mut scratch = Scratch::new();
     let mut board = Plain::new();
     let mut first = Installed::new(alloc, Some(counts.clone()?), 1)?;
     let mut second = Installed::new(alloc, Some(counts), 1)?;
-    assert_eq!(&rt; first.generation(), 1);
-    assert_eq!(&rt; ask(&mut first, &mut scratch, &mut board), Some((0, 12)));
-    assert_eq!(&rt; ask(&mut first, &mut scratch, &mut board), Some((1, 12)));
-    assert_eq!(&rt; ask(&mut second, &mut scratch, &mut board), Some((0, 12)));
-    assert_eq!(&rt; ask(&mut first, &mut scratch, &mut board), Some((2, 12)));
-    assert!(&rt; scratch.calls().is_empty());
+    is_of_generation(&rt, &first, 1);
+    answers(&rt, &mut first, &mut scratch, &mut board, (0, 12));
+    answers(&rt, &mut first, &mut scratch, &mut board, (1, 12));
+    answers(&rt, &mut second, &mut scratch, &mut board, (0, 12));
+    answers(&rt, &mut first, &mut scratch, &mut board, (2, 12));
+    keeps_no_call(&rt, &scratch);
     Ok(())
 }
 
-#[test]
-fn counters_of_all(rt: HostRuntime) -> Result<(), Fail> {
-    let alloc = rt.alloc();
-    let Some(adds) = policy(alloc, ADDS, &[])? else {
-        panic!(&rt; "not accepted");
-    };
-    let mut scratch = Scratch::new();
-    let mut board = Plain::new();
-    let mut installed = Installed::new(alloc, Some(adds), 1)?;
-    assert_eq!(&rt; ask(&mut installed, &mut scratch, &mut board), Some((0, 5)));
-    assert_eq!(&rt; ask(&mut installed, &mut scratch, &mut board), Some((0, 5)));
+/// A run added 5 to counter 3, and the board has 10 there.
+fn added_last(rt: &impl Abort, scratch: &Scratch, board: &Plain) {
     let second = Call::Add {
         counter: 3,
         amount: 5,
         answer: 5,
     };
-    assert_eq!(&rt; scratch.calls().len(), 1);
-    assert!(&rt; scratch.calls().first() == Some(&second));
-    assert_eq!(&rt; board.value(3), 10);
+    assert_eq!(rt; scratch.calls().len(), 1);
+    assert!(rt; scratch.calls().first() == Some(&second));
+    assert_eq!(rt; board.value(3), 10);
+}
+
+#[test]
+fn counters_of_all(rt: HostRuntime) -> Result<(), Fail> {
+    let alloc = rt.alloc();
+    let adds = accepted(alloc, ADDS, &[])?;
+    let mut scratch = Scratch::new();
+    let mut board = Plain::new();
+    let mut installed = Installed::new(alloc, Some(adds), 1)?;
+    answers(&rt, &mut installed, &mut scratch, &mut board, (0, 5));
+    answers(&rt, &mut installed, &mut scratch, &mut board, (0, 5));
+    added_last(&rt, &scratch, &board);
     scratch.clear();
-    assert!(&rt; scratch.calls().is_empty());
+    keeps_no_call(&rt, &scratch);
     Ok(())
+}
+
+/// Hooks at which a policy of generation 7 stands.
+fn equipped(alloc: Global, policy: Policy) -> Result<Hooks, AllocError> {
+    let mut hooks = Hooks::new();
+    let hook = policy.hook();
+    hooks.install(hook, Installed::new(alloc, Some(policy), 7)?);
+    Ok(hooks)
+}
+
+fn preempt_is_of_generation(rt: &impl Abort, hooks: &Hooks, generation: u64) {
+    assert_eq!(rt; hooks.generation(Hook::Preempt), generation);
+}
+
+/// What stands at the other hooks, and of which version the policy at this one is.
+fn preempt_alone_is_equipped(rt: &impl Abort, hooks: &Hooks) {
+    assert_eq!(rt; hooks.generation(Hook::Place), 0);
+    assert!(rt; hooks.version(Hook::Preempt) == Some(Version::First));
+    assert!(rt; hooks.version(Hook::Pull).is_none());
 }
 
 #[test]
 fn three_hooks(rt: HostRuntime) -> Result<(), Fail> {
     let alloc = rt.alloc();
-    let Some(adds) = policy(alloc, ADDS, &[])? else {
-        panic!(&rt; "not accepted");
-    };
-    let mut hooks = Hooks::new();
-    assert_eq!(&rt; hooks.generation(Hook::Preempt), 0);
-    let hook = adds.hook();
-    hooks.install(hook, Installed::new(alloc, Some(adds), 7)?);
-    assert_eq!(&rt; hooks.generation(Hook::Preempt), 7);
-    assert_eq!(&rt; hooks.generation(Hook::Place), 0);
-    assert!(&rt; hooks.version(Hook::Preempt) == Some(Version::First));
-    assert!(&rt; hooks.version(Hook::Pull).is_none());
+    preempt_is_of_generation(&rt, &Hooks::new(), 0);
+    let hooks = equipped(alloc, accepted(alloc, ADDS, &[])?)?;
+    preempt_is_of_generation(&rt, &hooks, 7);
+    preempt_alone_is_equipped(&rt, &hooks);
     Ok(())
 }

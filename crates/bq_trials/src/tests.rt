@@ -1,8 +1,9 @@
 //! The queues on the tree beside the plain list, and worked rows whose values come from outside this program.
 
 ghost use Rattle.bq_weights.specs.VirtualTime.{IsWeight};
+ghost use Rattle.bq_disc.specs.Chains.{IsLone};
 
-use crate::answer::{perform, put};
+use crate::answer::{Answer, perform, put};
 use crate::command::Draws;
 use bq_cfs::{Cfs, CfsQueue};
 use bq_disc::{Entity, Entry, List, Node, RuledQueue, RunQueue};
@@ -11,6 +12,22 @@ use bq_tree::{NoSums, Tree};
 use std::alloc::{AllocError, Global};
 use std::io;
 use std::process::Abort;
+
+// What is asserted stands in functions of its own, which hold no queue: a proof of an assertion carries all that the function
+// would drop.
+
+/// An answer to a command, how many tasks a queue then has, and the mark that it keeps.
+type Told = (Answer, usize, u64);
+
+fn told_alike(rt: &impl Abort, row: u32, a: &Told, b: &Told) {
+    assert_eq!(rt; a.0, b.0, "command {row}");
+    assert_eq!(rt; a.1, b.1, "command {row}");
+    assert_eq!(rt; a.2, b.2, "command {row}");
+}
+
+fn is_full(rt: &impl Abort, len: usize) {
+    assert!(rt; len > 100);
+}
 
 /// Gives a list of commands to two queues, and compares each answer.
 fn agree<A: RunQueue + Drop, B: RunQueue + Drop>(
@@ -27,11 +44,11 @@ fn agree<A: RunQueue + Drop, B: RunQueue + Drop>(
         let command = draws.command();
         let from_a = perform(alloc, &mut a, &mut current_a, &command)?;
         let from_b = perform(alloc, &mut b, &mut current_b, &command)?;
-        assert_eq!(rt; from_a, from_b, "command {row}");
-        assert_eq!(rt; a.len(), b.len(), "command {row}");
-        assert_eq!(rt; a.kept(), b.kept(), "command {row}");
+        let from_a = (from_a, a.len(), a.kept());
+        let from_b = (from_b, b.len(), b.kept());
+        told_alike(rt, row, &from_a, &from_b);
     }
-    assert!(rt; a.len() > 100);
+    is_full(rt, a.len());
     Ok(())
 }
 
@@ -57,6 +74,10 @@ fn a_tree_without_sums_answers_as_the_list(rt: HostRuntime) -> io::Result<()> {
 /// A queue's task of nice 0: its id, v and deadline.
 type Row = (u16, u64, u64);
 
+fn is_fresh(rt: &impl Abort, fresh: bool, id: u16) {
+    assert!(rt; fresh, "task {id}");
+}
+
 /// A queue that holds some tasks of one weight.
 fn queue_of<Q: RunQueue + Drop>(
     rt: &impl Abort,
@@ -72,9 +93,17 @@ fn queue_of<Q: RunQueue + Drop>(
         let mut entity = Entity::new(id, weight, 1, 3_000_000);
         entity.set_times(v.min(1 << 62), deadline.min(1 << 62));
         let fresh = put(alloc, &mut queue, entity)?;
-        assert!(rt; fresh, "task {id}");
+        is_fresh(rt, fresh, id);
     }
     Ok(queue)
+}
+
+fn is_marked(rt: &impl Abort, mark: u64, expected: u64) {
+    assert_eq!(rt; mark, expected);
+}
+
+fn is_chosen(rt: &impl Abort, chosen: Option<u16>, expected: Option<u16>) {
+    assert_eq!(rt; chosen, expected);
 }
 
 /// What a set of tasks of nice 0 chooses, and its mark, by the tree and by the list.
@@ -87,10 +116,10 @@ fn chooses(
 ) -> Result<(), AllocError> {
     let mut tree: EevdfQueue = queue_of(rt, alloc, 1024, rows)?;
     let mut list: List<Eevdf> = queue_of(rt, alloc, 1024, rows)?;
-    assert_eq!(rt; tree.choice(None), Some(chosen));
-    assert_eq!(rt; list.choice(None), Some(chosen));
-    assert_eq!(rt; tree.mark(None), mark);
-    assert_eq!(rt; list.mark(None), mark);
+    is_chosen(rt, tree.choice(None), Some(chosen));
+    is_chosen(rt, list.choice(None), Some(chosen));
+    is_marked(rt, tree.mark(None), mark);
+    is_marked(rt, list.mark(None), mark);
     Ok(())
 }
 
@@ -111,6 +140,14 @@ fn rows_of_the_choice_under_eevdf(rt: HostRuntime) -> io::Result<()> {
     Ok(())
 }
 
+fn has_so_many(rt: &impl Abort, len: usize, expected: usize) {
+    assert_eq!(rt; len, expected);
+}
+
+fn is_there(rt: &impl Abort, there: bool) {
+    assert!(rt; there);
+}
+
 /// Sums of 1,024 greatest tasks fit: all are eligible, since none is past the mean, and of equal deadlines the least id
 /// is chosen.
 #[test]
@@ -121,14 +158,13 @@ fn greatest_tasks_are_all_eligible(rt: HostRuntime) -> io::Result<()> {
         entity.set_times(1 << 62, 1 << 62);
         put(rt.alloc(), &mut queue, entity)?;
     }
-    assert_eq!(rt; queue.len(), 1024);
-    assert_eq!(rt; queue.mark(None), 1 << 62);
+    has_so_many(&rt, queue.len(), 1024);
+    is_marked(&rt, queue.mark(None), 1 << 62);
     for id in 0..1024 {
-        assert_eq!(rt; queue.choice(None), Some(id));
-        let node = queue.take(id);
-        assert!(rt; node.is_some());
+        is_chosen(&rt, queue.choice(None), Some(id));
+        is_there(&rt, queue.take(id).is_some());
     }
-    assert_eq!(rt; queue.choice(None), None);
+    is_chosen(&rt, queue.choice(None), None);
     Ok(())
 }
 
@@ -162,29 +198,45 @@ fn rows_of_the_wake_entry(rt: HostRuntime) {
     }
 }
 
+fn wants_to_give_way(rt: &impl Abort, wants: bool, expected: bool) {
+    assert!(rt; wants == expected);
+}
+
+/// A task that begins at 2^32.
+fn started(weight: u32) -> Node
+    requires { IsWeight weight }
+    ensures lone { IsLone result }
+{
+    let mut node = Node::new(1, weight, 1, 3_000_000);
+    node.entity.set_times(4294967296, 0);
+    node
+}
+
 /// The current task gives way only beyond 1,000,000, and its time counts by its weight.
 #[test]
 fn rows_of_cfs(rt: HostRuntime) -> io::Result<()> {
     let mut queue: CfsQueue = queue_of(&rt, rt.alloc(), 1024, &[(2, 4294967296, 0)])?;
-    let mut node = Node::new(1, 1024, 1, 3_000_000);
-    node.entity.set_times(4294967296, 0);
-    assert_eq!(rt; queue.choice(Some(&node)), Some(1));
+    let mut node = started(1024);
+    is_chosen(&rt, queue.choice(Some(&node)), Some(1));
     queue.charge(&mut node, 1_000_000);
-    assert!(rt; !queue.wants_preempt(&node));
+    wants_to_give_way(&rt, queue.wants_preempt(&node), false);
     queue.charge(&mut node, 1);
-    assert!(rt; queue.wants_preempt(&node));
-    assert_eq!(rt; queue.next(&node), Some(2));
-    assert_eq!(rt; queue.mark(Some(&node)), 4294967296);
-    let mut empty = CfsQueue::empty();
-    let mut node = Node::new(1, 335, 1, 3_000_000);
-    node.entity.set_times(4294967296, 0);
-    empty.charge(&mut node, 10_000_000);
-    assert_eq!(rt; empty.mark(Some(&node)), 4325534460);
-    let mut node = Node::new(1, 1024, 1, 3_000_000);
-    node.entity.set_times(4294967296, 0);
-    empty.charge(&mut node, (1 << 48) - 1);
-    assert_eq!(rt; node.entity.v(), 281479271677951);
-    assert_eq!(rt; empty.mark(Some(&node)), 281479271677951);
-    assert_eq!(rt; empty.mark(None), 281479271677951);
+    wants_to_give_way(&rt, queue.wants_preempt(&node), true);
+    is_chosen(&rt, queue.next(&node), Some(2));
+    is_marked(&rt, queue.mark(Some(&node)), 4294967296);
+    marks_of_a_task_alone(&rt);
     Ok(())
+}
+
+/// A queue without others has its mark at the task that has run, and keeps it.
+fn marks_of_a_task_alone(rt: &impl Abort) {
+    let mut empty = CfsQueue::empty();
+    let mut node = started(335);
+    empty.charge(&mut node, 10_000_000);
+    is_marked(rt, empty.mark(Some(&node)), 4325534460);
+    let mut node = started(1024);
+    empty.charge(&mut node, (1 << 48) - 1);
+    is_marked(rt, node.entity.v(), 281479271677951);
+    is_marked(rt, empty.mark(Some(&node)), 281479271677951);
+    is_marked(rt, empty.mark(None), 281479271677951);
 }
