@@ -18,8 +18,8 @@ insert_into-grew-requires g t c =
     let side = subst (λ o. IsSide known o c.args.link.now) (sym counts.left) (left_side_of known c.args.link.now n root c.requires.rising) in λ κs below.
     (omega (arith, side.lower), (below, (c.requires.lone, (side.tree, (side.rising, (omega (arith, side.lower), omega (arith, side.fewer)))))))
 
-pub returns-then-not-grew-clause-tree : goal.returns-then-not-grew-clause-tree
-returns-then-not-grew-clause-tree g t c =
+pub returns-then-not-grew : goal.returns-then-not-grew
+returns-then-not-grew g t c =
     let known = g.S.Summary.knows in
     let n = c.deref_mut-root.result.now in
     let k = c.count_in.new.root in
@@ -29,10 +29,16 @@ returns-then-not-grew-clause-tree g t c =
     let test : runs_before x (out-Node k).entity ≡ true = ap (λ (m : Node). runs_before (out-Node m).entity (out-Node k).entity) (sym c.deref-2.ensures) ∙ sym c.if-runs_before.ensures in
     let grows = grows_left known c.args.link.now n k x c.insert_into-grew.new.link root counts c.insert_into-grew.ensures.tree c.insert_into-grew.ensures.order test in
     let stays = stays_left known c.args.link.now n k x c.insert_into-grew.new.link root counts grows.fork c.insert_into-grew.ensures.not_lower (sym c.insert_into-grew.ensures.grows ∙ c.if-not-grew.true) in
-    stays.tree
+    record {
+      tree = stays.tree;
+      order = grows.order;
+      not_lower = omega (arith, stays.height);
+      at_most_one_higher = omega (arith, stays.height);
+      grows = not_higher _ _ stays.height;
+    }
 
-pub returns-then-not-grew-clause-order : goal.returns-then-not-grew-clause-order
-returns-then-not-grew-clause-order g t c =
+pub settle-requires : goal.settle-requires
+settle-requires g t c =
     let known = g.S.Summary.knows in
     let n = c.deref_mut-root.result.now in
     let k = c.count_in.new.root in
@@ -41,92 +47,13 @@ returns-then-not-grew-clause-order g t c =
     let counts : CountsIn known n k x = subst (λ (m : Node). CountsIn known n k (out-Node m).entity) c.deref.ensures c.count_in.ensures in
     let test : runs_before x (out-Node k).entity ≡ true = ap (λ (m : Node). runs_before (out-Node m).entity (out-Node k).entity) (sym c.deref-2.ensures) ∙ sym c.if-runs_before.ensures in
     let grows = grows_left known c.args.link.now n k x c.insert_into-grew.new.link root counts c.insert_into-grew.ensures.tree c.insert_into-grew.ensures.order test in
-    grows.order
-
-pub returns-then-not-grew-clause-not_lower : goal.returns-then-not-grew-clause-not_lower
-returns-then-not-grew-clause-not_lower g t c =
-    let known = g.S.Summary.knows in
-    let n = c.deref_mut-root.result.now in
-    let k = c.count_in.new.root in
-    let x = task_of c.args.node.value in
-    let root = root_behind known c.args.link.now c.in-Some.root n c.in-Some.is c.deref_mut-root.ensures.value c.requires.tree in
-    let counts : CountsIn known n k x = subst (λ (m : Node). CountsIn known n k (out-Node m).entity) c.deref.ensures c.count_in.ensures in
-    let test : runs_before x (out-Node k).entity ≡ true = ap (λ (m : Node). runs_before (out-Node m).entity (out-Node k).entity) (sym c.deref-2.ensures) ∙ sym c.if-runs_before.ensures in
-    let grows = grows_left known c.args.link.now n k x c.insert_into-grew.new.link root counts c.insert_into-grew.ensures.tree c.insert_into-grew.ensures.order test in
-    let stays = stays_left known c.args.link.now n k x c.insert_into-grew.new.link root counts grows.fork c.insert_into-grew.ensures.not_lower (sym c.insert_into-grew.ensures.grows ∙ c.if-not-grew.true) in
-    omega (arith, stays.height)
-
-pub returns-then-not-grew-clause-at_most_one_higher : goal.returns-then-not-grew-clause-at_most_one_higher
-returns-then-not-grew-clause-at_most_one_higher g t c =
-    let known = g.S.Summary.knows in
-    let n = c.deref_mut-root.result.now in
-    let k = c.count_in.new.root in
-    let x = task_of c.args.node.value in
-    let root = root_behind known c.args.link.now c.in-Some.root n c.in-Some.is c.deref_mut-root.ensures.value c.requires.tree in
-    let counts : CountsIn known n k x = subst (λ (m : Node). CountsIn known n k (out-Node m).entity) c.deref.ensures c.count_in.ensures in
-    let test : runs_before x (out-Node k).entity ≡ true = ap (λ (m : Node). runs_before (out-Node m).entity (out-Node k).entity) (sym c.deref-2.ensures) ∙ sym c.if-runs_before.ensures in
-    let grows = grows_left known c.args.link.now n k x c.insert_into-grew.new.link root counts c.insert_into-grew.ensures.tree c.insert_into-grew.ensures.order test in
-    let stays = stays_left known c.args.link.now n k x c.insert_into-grew.new.link root counts grows.fork c.insert_into-grew.ensures.not_lower (sym c.insert_into-grew.ensures.grows ∙ c.if-not-grew.true) in
-    omega (arith, stays.height)
-
-pub returns-then-not-grew-clause-grows : goal.returns-then-not-grew-clause-grows
-returns-then-not-grew-clause-grows g t c =
-    let known = g.S.Summary.knows in
-    let n = c.deref_mut-root.result.now in
-    let k = c.count_in.new.root in
-    let x = task_of c.args.node.value in
-    let root = root_behind known c.args.link.now c.in-Some.root n c.in-Some.is c.deref_mut-root.ensures.value c.requires.tree in
-    let counts : CountsIn known n k x = subst (λ (m : Node). CountsIn known n k (out-Node m).entity) c.deref.ensures c.count_in.ensures in
-    let test : runs_before x (out-Node k).entity ≡ true = ap (λ (m : Node). runs_before (out-Node m).entity (out-Node k).entity) (sym c.deref-2.ensures) ∙ sym c.if-runs_before.ensures in
-    let grows = grows_left known c.args.link.now n k x c.insert_into-grew.new.link root counts c.insert_into-grew.ensures.tree c.insert_into-grew.ensures.order test in
-    let stays = stays_left known c.args.link.now n k x c.insert_into-grew.new.link root counts grows.fork c.insert_into-grew.ensures.not_lower (sym c.insert_into-grew.ensures.grows ∙ c.if-not-grew.true) in
-    not_higher _ _ stays.height
-
-pub settle-requires-clause-fork : goal.settle-requires-clause-fork
-settle-requires-clause-fork g t c =
-    let known = g.S.Summary.knows in
-    let n = c.deref_mut-root.result.now in
-    let k = c.count_in.new.root in
-    let x = task_of c.args.node.value in
-    let root = root_behind known c.args.link.now c.in-Some.root n c.in-Some.is c.deref_mut-root.ensures.value c.requires.tree in
-    let counts : CountsIn known n k x = subst (λ (m : Node). CountsIn known n k (out-Node m).entity) c.deref.ensures c.count_in.ensures in
-    let test : runs_before x (out-Node k).entity ≡ true = ap (λ (m : Node). runs_before (out-Node m).entity (out-Node k).entity) (sym c.deref-2.ensures) ∙ sym c.if-runs_before.ensures in
-    let grows = grows_left known c.args.link.now n k x c.insert_into-grew.new.link root counts c.insert_into-grew.ensures.tree c.insert_into-grew.ensures.order test in
-    grows.fork
-
-pub settle-requires-clause-near : goal.settle-requires-clause-near
-settle-requires-clause-near g t c =
-    let known = g.S.Summary.knows in
-    let n = c.deref_mut-root.result.now in
-    let k = c.count_in.new.root in
-    let x = task_of c.args.node.value in
-    let root = root_behind known c.args.link.now c.in-Some.root n c.in-Some.is c.deref_mut-root.ensures.value c.requires.tree in
-    let counts : CountsIn known n k x = subst (λ (m : Node). CountsIn known n k (out-Node m).entity) c.deref.ensures c.count_in.ensures in
     let rises = rises_left known c.args.link.now n k x c.insert_into-grew.new.link root counts c.insert_into-grew.ensures.not_lower c.insert_into-grew.ensures.at_most_one_higher in
-    rises.near
-
-pub settle-requires-clause-low : goal.settle-requires-clause-low
-settle-requires-clause-low g t c =
-    let known = g.S.Summary.knows in
-    let n = c.deref_mut-root.result.now in
-    let k = c.count_in.new.root in
-    let x = task_of c.args.node.value in
-    let root = root_behind known c.args.link.now c.in-Some.root n c.in-Some.is c.deref_mut-root.ensures.value c.requires.tree in
-    let counts : CountsIn known n k x = subst (λ (m : Node). CountsIn known n k (out-Node m).entity) c.deref.ensures c.count_in.ensures in
-    let rises = rises_left known c.args.link.now n k x c.insert_into-grew.new.link root counts c.insert_into-grew.ensures.not_lower c.insert_into-grew.ensures.at_most_one_higher in
-    omega (arith, rises.low)
-
-pub settle-requires-clause-few : goal.settle-requires-clause-few
-settle-requires-clause-few g t c =
-    let known = g.S.Summary.knows in
-    let n = c.deref_mut-root.result.now in
-    let k = c.count_in.new.root in
-    let x = task_of c.args.node.value in
-    let root = root_behind known c.args.link.now c.in-Some.root n c.in-Some.is c.deref_mut-root.ensures.value c.requires.tree in
-    let counts : CountsIn known n k x = subst (λ (m : Node). CountsIn known n k (out-Node m).entity) c.deref.ensures c.count_in.ensures in
-    let test : runs_before x (out-Node k).entity ≡ true = ap (λ (m : Node). runs_before (out-Node m).entity (out-Node k).entity) (sym c.deref-2.ensures) ∙ sym c.if-runs_before.ensures in
-    let grows = grows_left known c.args.link.now n k x c.insert_into-grew.new.link root counts c.insert_into-grew.ensures.tree c.insert_into-grew.ensures.order test in
-    omega (arith, grows.few)
+    record {
+      fork = grows.fork;
+      near = rises.near;
+      low = omega (arith, rises.low);
+      few = omega (arith, grows.few);
+    }
 
 pub returns-then-runs_before-clause-order : goal.returns-then-runs_before-clause-order
 returns-then-runs_before-clause-order g t c =
@@ -173,8 +100,8 @@ insert_into-grew-requires-2 g t c =
     let side = subst (λ o. IsSide known o c.args.link.now) (sym counts.right) (right_side_of known c.args.link.now n root c.requires.rising) in λ κs below.
     (omega (arith, side.lower), (below, (c.requires.lone, (side.tree, (side.rising, (omega (arith, side.lower), omega (arith, side.fewer)))))))
 
-pub returns-then-not-grew-2-clause-tree : goal.returns-then-not-grew-2-clause-tree
-returns-then-not-grew-2-clause-tree g t c =
+pub returns-then-not-grew-2 : goal.returns-then-not-grew-2
+returns-then-not-grew-2 g t c =
     let known = g.S.Summary.knows in
     let n = c.deref_mut-root.result.now in
     let k = c.count_in.new.root in
@@ -184,10 +111,16 @@ returns-then-not-grew-2-clause-tree g t c =
     let test : runs_before x (out-Node k).entity ≡ false = ap (λ (m : Node). runs_before (out-Node m).entity (out-Node k).entity) (sym c.deref-2.ensures) ∙ sym c.if-runs_before.ensures in
     let grows = grows_right known c.args.link.now n k x c.insert_into-grew-2.new.link root c.requires.rising counts c.insert_into-grew-2.ensures.tree c.insert_into-grew-2.ensures.order test in
     let stays = stays_right known c.args.link.now n k x c.insert_into-grew-2.new.link root counts grows.fork c.insert_into-grew-2.ensures.not_lower (sym c.insert_into-grew-2.ensures.grows ∙ c.if-not-grew-2.true) in
-    stays.tree
+    record {
+      tree = stays.tree;
+      order = grows.order;
+      not_lower = omega (arith, stays.height);
+      at_most_one_higher = omega (arith, stays.height);
+      grows = not_higher _ _ stays.height;
+    }
 
-pub returns-then-not-grew-2-clause-order : goal.returns-then-not-grew-2-clause-order
-returns-then-not-grew-2-clause-order g t c =
+pub settle-requires-2 : goal.settle-requires-2
+settle-requires-2 g t c =
     let known = g.S.Summary.knows in
     let n = c.deref_mut-root.result.now in
     let k = c.count_in.new.root in
@@ -196,92 +129,13 @@ returns-then-not-grew-2-clause-order g t c =
     let counts : CountsIn known n k x = subst (λ (m : Node). CountsIn known n k (out-Node m).entity) c.deref.ensures c.count_in.ensures in
     let test : runs_before x (out-Node k).entity ≡ false = ap (λ (m : Node). runs_before (out-Node m).entity (out-Node k).entity) (sym c.deref-2.ensures) ∙ sym c.if-runs_before.ensures in
     let grows = grows_right known c.args.link.now n k x c.insert_into-grew-2.new.link root c.requires.rising counts c.insert_into-grew-2.ensures.tree c.insert_into-grew-2.ensures.order test in
-    grows.order
-
-pub returns-then-not-grew-2-clause-not_lower : goal.returns-then-not-grew-2-clause-not_lower
-returns-then-not-grew-2-clause-not_lower g t c =
-    let known = g.S.Summary.knows in
-    let n = c.deref_mut-root.result.now in
-    let k = c.count_in.new.root in
-    let x = task_of c.args.node.value in
-    let root = root_behind known c.args.link.now c.in-Some.root n c.in-Some.is c.deref_mut-root.ensures.value c.requires.tree in
-    let counts : CountsIn known n k x = subst (λ (m : Node). CountsIn known n k (out-Node m).entity) c.deref.ensures c.count_in.ensures in
-    let test : runs_before x (out-Node k).entity ≡ false = ap (λ (m : Node). runs_before (out-Node m).entity (out-Node k).entity) (sym c.deref-2.ensures) ∙ sym c.if-runs_before.ensures in
-    let grows = grows_right known c.args.link.now n k x c.insert_into-grew-2.new.link root c.requires.rising counts c.insert_into-grew-2.ensures.tree c.insert_into-grew-2.ensures.order test in
-    let stays = stays_right known c.args.link.now n k x c.insert_into-grew-2.new.link root counts grows.fork c.insert_into-grew-2.ensures.not_lower (sym c.insert_into-grew-2.ensures.grows ∙ c.if-not-grew-2.true) in
-    omega (arith, stays.height)
-
-pub returns-then-not-grew-2-clause-at_most_one_higher : goal.returns-then-not-grew-2-clause-at_most_one_higher
-returns-then-not-grew-2-clause-at_most_one_higher g t c =
-    let known = g.S.Summary.knows in
-    let n = c.deref_mut-root.result.now in
-    let k = c.count_in.new.root in
-    let x = task_of c.args.node.value in
-    let root = root_behind known c.args.link.now c.in-Some.root n c.in-Some.is c.deref_mut-root.ensures.value c.requires.tree in
-    let counts : CountsIn known n k x = subst (λ (m : Node). CountsIn known n k (out-Node m).entity) c.deref.ensures c.count_in.ensures in
-    let test : runs_before x (out-Node k).entity ≡ false = ap (λ (m : Node). runs_before (out-Node m).entity (out-Node k).entity) (sym c.deref-2.ensures) ∙ sym c.if-runs_before.ensures in
-    let grows = grows_right known c.args.link.now n k x c.insert_into-grew-2.new.link root c.requires.rising counts c.insert_into-grew-2.ensures.tree c.insert_into-grew-2.ensures.order test in
-    let stays = stays_right known c.args.link.now n k x c.insert_into-grew-2.new.link root counts grows.fork c.insert_into-grew-2.ensures.not_lower (sym c.insert_into-grew-2.ensures.grows ∙ c.if-not-grew-2.true) in
-    omega (arith, stays.height)
-
-pub returns-then-not-grew-2-clause-grows : goal.returns-then-not-grew-2-clause-grows
-returns-then-not-grew-2-clause-grows g t c =
-    let known = g.S.Summary.knows in
-    let n = c.deref_mut-root.result.now in
-    let k = c.count_in.new.root in
-    let x = task_of c.args.node.value in
-    let root = root_behind known c.args.link.now c.in-Some.root n c.in-Some.is c.deref_mut-root.ensures.value c.requires.tree in
-    let counts : CountsIn known n k x = subst (λ (m : Node). CountsIn known n k (out-Node m).entity) c.deref.ensures c.count_in.ensures in
-    let test : runs_before x (out-Node k).entity ≡ false = ap (λ (m : Node). runs_before (out-Node m).entity (out-Node k).entity) (sym c.deref-2.ensures) ∙ sym c.if-runs_before.ensures in
-    let grows = grows_right known c.args.link.now n k x c.insert_into-grew-2.new.link root c.requires.rising counts c.insert_into-grew-2.ensures.tree c.insert_into-grew-2.ensures.order test in
-    let stays = stays_right known c.args.link.now n k x c.insert_into-grew-2.new.link root counts grows.fork c.insert_into-grew-2.ensures.not_lower (sym c.insert_into-grew-2.ensures.grows ∙ c.if-not-grew-2.true) in
-    not_higher _ _ stays.height
-
-pub settle-requires-2-clause-fork : goal.settle-requires-2-clause-fork
-settle-requires-2-clause-fork g t c =
-    let known = g.S.Summary.knows in
-    let n = c.deref_mut-root.result.now in
-    let k = c.count_in.new.root in
-    let x = task_of c.args.node.value in
-    let root = root_behind known c.args.link.now c.in-Some.root n c.in-Some.is c.deref_mut-root.ensures.value c.requires.tree in
-    let counts : CountsIn known n k x = subst (λ (m : Node). CountsIn known n k (out-Node m).entity) c.deref.ensures c.count_in.ensures in
-    let test : runs_before x (out-Node k).entity ≡ false = ap (λ (m : Node). runs_before (out-Node m).entity (out-Node k).entity) (sym c.deref-2.ensures) ∙ sym c.if-runs_before.ensures in
-    let grows = grows_right known c.args.link.now n k x c.insert_into-grew-2.new.link root c.requires.rising counts c.insert_into-grew-2.ensures.tree c.insert_into-grew-2.ensures.order test in
-    grows.fork
-
-pub settle-requires-2-clause-near : goal.settle-requires-2-clause-near
-settle-requires-2-clause-near g t c =
-    let known = g.S.Summary.knows in
-    let n = c.deref_mut-root.result.now in
-    let k = c.count_in.new.root in
-    let x = task_of c.args.node.value in
-    let root = root_behind known c.args.link.now c.in-Some.root n c.in-Some.is c.deref_mut-root.ensures.value c.requires.tree in
-    let counts : CountsIn known n k x = subst (λ (m : Node). CountsIn known n k (out-Node m).entity) c.deref.ensures c.count_in.ensures in
     let rises = rises_right known c.args.link.now n k x c.insert_into-grew-2.new.link root counts c.insert_into-grew-2.ensures.not_lower c.insert_into-grew-2.ensures.at_most_one_higher in
-    rises.near
-
-pub settle-requires-2-clause-low : goal.settle-requires-2-clause-low
-settle-requires-2-clause-low g t c =
-    let known = g.S.Summary.knows in
-    let n = c.deref_mut-root.result.now in
-    let k = c.count_in.new.root in
-    let x = task_of c.args.node.value in
-    let root = root_behind known c.args.link.now c.in-Some.root n c.in-Some.is c.deref_mut-root.ensures.value c.requires.tree in
-    let counts : CountsIn known n k x = subst (λ (m : Node). CountsIn known n k (out-Node m).entity) c.deref.ensures c.count_in.ensures in
-    let rises = rises_right known c.args.link.now n k x c.insert_into-grew-2.new.link root counts c.insert_into-grew-2.ensures.not_lower c.insert_into-grew-2.ensures.at_most_one_higher in
-    omega (arith, rises.low)
-
-pub settle-requires-2-clause-few : goal.settle-requires-2-clause-few
-settle-requires-2-clause-few g t c =
-    let known = g.S.Summary.knows in
-    let n = c.deref_mut-root.result.now in
-    let k = c.count_in.new.root in
-    let x = task_of c.args.node.value in
-    let root = root_behind known c.args.link.now c.in-Some.root n c.in-Some.is c.deref_mut-root.ensures.value c.requires.tree in
-    let counts : CountsIn known n k x = subst (λ (m : Node). CountsIn known n k (out-Node m).entity) c.deref.ensures c.count_in.ensures in
-    let test : runs_before x (out-Node k).entity ≡ false = ap (λ (m : Node). runs_before (out-Node m).entity (out-Node k).entity) (sym c.deref-2.ensures) ∙ sym c.if-runs_before.ensures in
-    let grows = grows_right known c.args.link.now n k x c.insert_into-grew-2.new.link root c.requires.rising counts c.insert_into-grew-2.ensures.tree c.insert_into-grew-2.ensures.order test in
-    omega (arith, grows.few)
+    record {
+      fork = grows.fork;
+      near = rises.near;
+      low = omega (arith, rises.low);
+      few = omega (arith, grows.few);
+    }
 
 pub returns-clause-order : goal.returns-clause-order
 returns-clause-order g t c =

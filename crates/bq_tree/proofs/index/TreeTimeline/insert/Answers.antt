@@ -1,4 +1,4 @@
-use Rattle.std.proofs.Common.{◌≡◌, ◌<◌, ◌^◌, None, ℕ, List, slice_index, ap, subst, ◌∙◌, arith}
+use Rattle.std.proofs.Common.{rules, ◌≡◌, ◌<◌, ◌^◌, None, ℕ, List, slice_index, ap, subst, ◌∙◌, arith}
 use Rattle.bq_disc.specs.Tasks.{Task, with_id}
 use Rattle.bq_disc.specs.Queues.{key_of}
 use Rattle.bq_disc.specs.Chains.{task_of}
@@ -10,8 +10,8 @@ use Rattle.bq_tree.proofs.HeightFacts.{low_of_many}
 use Rattle.bq_tree.proofs.IndexFacts.{room, sound_inserted}
 use Rattle.bq_tree.proofs.index.TreeTimeline.insert.Goals as goal
 
-pub insert_into-requires-clause-low : goal.insert_into-requires-clause-low
-insert_into-requires-clause-low g c =
+pub insert_into-requires : goal.insert_into-requires
+insert_into-requires g c =
     let s = c.self.invariant in
     let t = task_of c.args.node.value in
     let xs = in_order_behind c.self.inside.root in
@@ -20,18 +20,13 @@ insert_into-requires-clause-low g c =
     let fresh : with_id t.id xs ≡ None = rw c.self.view_is c.requires.fresh in
     let few = room t xs s.distinct s.small fresh small in
     let low = low_of_many g.S.Summary.knows c.self.inside.root s.tree (omega (arith, few)) in
-    omega (arith, low)
-
-pub insert_into-requires-clause-few : goal.insert_into-requires-clause-few
-insert_into-requires-clause-few g c =
-    let s = c.self.invariant in
-    let t = task_of c.args.node.value in
-    let xs = in_order_behind c.self.inside.root in
-    let key : c.key-key.result ≡ key_of t = c.key-key.ensures.value ∙ ap (λ (m : Node). key_of (out-Node m).entity) c.deref.ensures in
-    let small : t.id < 2 ^ 16 = subst (λ (k : ℕ × ℕ). k.1 < 2 ^ 16) key c.key-key.ensures.small in
-    let fresh : with_id t.id xs ≡ None = rw c.self.view_is c.requires.fresh in
-    let few = room t xs s.distinct s.small fresh small in
-    few
+    record {
+      lone = search rules;
+      tree = search rules;
+      rising = search rules;
+      low = omega (arith, low);
+      few = few;
+    }
 
 pub invariant_of-self : goal.invariant_of-self
 invariant_of-self g c =
