@@ -4,9 +4,9 @@ use crate::image::HexWord;
 use bq_core::{Event, Hook};
 use bq_sizes::{ProcessorCount, Rule};
 
-/// What a line may ask.
+/// What a line may ask. An image stays where the line has it.
 #[derive(Drop)]
-pub enum Command {
+pub enum Command<'a> {
     /// A machine is made.
     Machine {
         rule: Rule,
@@ -25,7 +25,7 @@ pub enum Command {
         processor: u8,
         hook: Hook,
         generation: u64,
-        image: HexWord,
+        image: HexWord<'a>,
     },
     /// A processor is shown.
     Show {
@@ -39,11 +39,11 @@ pub enum Command {
 
 /// What a line is.
 #[derive(Drop)]
-pub enum Reading {
+pub enum Reading<'a> {
     /// It has no words, or is a comment.
     Skipped,
     /// It says nothing known.
     Bad,
     /// It asks for this.
-    Says(Command),
+    Says(Command<'a>),
 }

@@ -1,36 +1,34 @@
 //! An image as a line of a trace writes it.
-ghost use Rattle.std.specs.Prelude.{◌≡◌, IfOk};
+ghost use Rattle.std.specs.Prelude.{◌≡◌};
 
-use std::alloc::{AllocError, Global};
 use std::marker::Model;
 
-/// The word that spells an image in hex, if it spells any. Contracts see its bytes.
+/// The word of a line that spells an image in hex, if it spells any. Contracts see its bytes.
 #[derive(Drop)]
-pub struct HexWord {
-    word: Vec<u8>,
+pub struct HexWord<'a> {
+    word: &'a [u8],
 }
 
-impl Model for HexWord {
+impl<'a> Model for HexWord<'a> {
     ghost use Rattle.std.specs.Prelude.{List, ℕ};
 
     ghost Value = { List ℕ };
 
-    ghost view = { λ h. h.word.items };
+    ghost view = { λ h. h.word.now };
 }
 
-impl HexWord {
-    /// The word once more, in memory of its own.
-    pub fn new(alloc: Global, word: &[u8]) -> Result<HexWord, AllocError>
-        ensures { IfOk result (λ h. h ≡ word.now) }
+impl<'a> HexWord<'a> {
+    /// The word of these bytes.
+    pub fn new(word: &'a [u8]) -> HexWord<'a>
+        ensures { result ≡ word.now }
     {
-        let word = word.to_vec(alloc)?;
-        Ok(HexWord { word })
+        HexWord { word }
     }
 
     /// Its bytes.
-    pub fn as_bytes(&self) -> &[u8]
+    pub fn as_bytes(&self) -> &'a [u8]
         ensures { result.now ≡ self.now }
     {
-        self.word.as_slice()
+        self.word
     }
 }

@@ -1,9 +1,9 @@
 //! What a line of a trace says.
-ghost use Rattle.std.specs.Prelude.{◌≡◌, ◌∷◌, ℕ, List, IfOk};
+ghost use Rattle.std.specs.Prelude.{◌≡◌, ◌∷◌, ℕ, List};
 ghost use Rattle.std.specs.Borrow.{Bor};
 ghost use Rattle.std.specs.Option.{option_map};
 ghost use Rattle.bq_words.specs.Words.{words};
-ghost use Rattle.bq_lines.specs.Lines.{machine_of, admit_of, retire_of, draw_of, install_words, install_of, begin_of, end_of, wake_of, drain_of, tick_of, block_of, pull_of, show_of, counter_of, plain_command_of, reading_of_words, reading_of, reading_heard};
+ghost use Rattle.bq_lines.specs.Lines.{machine_of, admit_of, retire_of, draw_of, install_words, install_of, begin_of, end_of, wake_of, drain_of, tick_of, block_of, pull_of, show_of, counter_of, command_of, machine_words, admit_words, one_task, one_number, processor_and_task, processor_and_time, wake_words, pull_words, said, reading_of_words, reading_of, reading_heard};
 
 use crate::command::{Command, Reading};
 use crate::image::HexWord;
@@ -12,58 +12,52 @@ use crate::words::{end_of_words, is_allowed_line};
 use bq_core::{Event, Hook};
 use bq_sizes::{ProcessorCount, Rule};
 use bq_words::next_word;
-use std::alloc::{AllocError, Global};
 
 /// The longest line.
 pub const LONGEST: usize = 131_072;
 
-/// What a line says, without what ends it. It takes memory for an image alone.
+/// What a line says, without what ends it.
 #[tactic(auto, unfolding(crate::specs::Lines::reading_of))]
-pub fn read_line(alloc: Global, line: &[u8]) -> Result<Reading, AllocError>
-    ensures { IfOk result (λ reading. reading ≡ reading_of line.now) }
+pub fn read_line(line: &[u8]) -> Reading<'_>
+    ensures { result ≡ reading_of line.now }
 {
     if line.len() > LONGEST || !is_allowed_line(line) {
-        return Ok(Reading::Bad);
+        return Reading::Bad;
     }
-    read_words(alloc, line)
+    read_words(line)
 }
 
-/// What is said by what is heard of a line: nothing is heard of one that is too long. It takes memory for an image alone.
-pub fn read_heard(alloc: Global, heard: Option<&[u8]>) -> Result<Reading, AllocError>
-    ensures { IfOk result (λ reading. reading ≡ reading_heard (option_map (λ (l : Bor (List ℕ)). l.now) heard.entry)) }
+/// What is said by what is heard of a line: nothing is heard of one that is too long.
+pub fn read_heard(heard: Option<&[u8]>) -> Reading<'_>
+    ensures { result ≡ reading_heard (option_map (λ (l : Bor (List ℕ)). l.now) heard.entry) }
 {
     match heard {
-        None => Ok(Reading::Bad),
-        Some(line) => read_line(alloc, line),
+        None => Reading::Bad,
+        Some(line) => read_line(line),
     }
 }
 
 /// What a line of allowed bytes says.
-fn read_words(alloc: Global, line: &[u8]) -> Result<Reading, AllocError>
-    ensures { IfOk result (λ reading. reading ≡ reading_of_words (words line.now)) }
+fn read_words(line: &[u8]) -> Reading<'_>
+    ensures { result ≡ reading_of_words (words line.now) }
 {
     let Some((name, operands)) = next_word(line) else {
-        return Ok(Reading::Skipped);
+        return Reading::Skipped;
     };
     if name.starts_with(b"#") {
-        return Ok(Reading::Skipped);
+        return Reading::Skipped;
     }
-    let said = if name == b"install".as_slice() {
-        install(alloc, operands)?
-    } else {
-        command(name, operands)
-    };
-    match said {
-        Some(command) => Ok(Reading::Says(command)),
-        None => Ok(Reading::Bad),
-    }
+    command(name, operands)
 }
 
-/// The command of this name, which is not `install`.
-fn command(name: &[u8], operands: &[u8]) -> Option<Command>
-    ensures { result ≡ plain_command_of name.now (words operands.now) }
+/// What is said by the name of a command and the words after it. Each command is made where it is answered, since it would
+/// else be moved on the way of each line.
+fn command<'a>(name: &[u8], operands: &'a [u8]) -> Reading<'a>
+    ensures { result ≡ said (command_of name.now (words operands.now)) }
 {
-    if name == b"machine".as_slice() {
+    if name == b"install".as_slice() {
+        install(operands)
+    } else if name == b"machine".as_slice() {
         machine(operands)
     } else if name == b"admit".as_slice() {
         admit(operands)
@@ -90,23 +84,25 @@ fn command(name: &[u8], operands: &[u8]) -> Option<Command>
     } else if name == b"counter".as_slice() {
         counter(operands)
     } else {
-        None
+        Reading::Bad
     }
 }
 
-fn machine(operands: &[u8]) -> Option<Command>
-    ensures { result ≡ machine_of (words operands.now) }
+/// A rule and a number of processors.
+fn machine_words(operands: &[u8]) -> Option<(Rule, ProcessorCount)>
+    ensures { result ≡ machine_words (words operands.now) }
 {
     let (first, rest) = next_word(operands)?;
     let (second, rest) = next_word(rest)?;
     end_of_words(rest)?;
     let rule = Rule::of_word(first)?;
     let size = ProcessorCount::of_number(numbers::processor(second)?)?;
-    Some(Command::Machine { rule, size })
+    Some((rule, size))
 }
 
-fn admit(operands: &[u8]) -> Option<Command>
-    ensures { result ≡ admit_of (words operands.now) }
+/// A task, its nice value, its mask and its slice.
+fn admit_words(operands: &[u8]) -> Option<(u16, i8, u64, u64)>
+    ensures { result ≡ admit_words (words operands.now) }
 {
     let (first, rest) = next_word(operands)?;
     let (second, rest) = next_word(rest)?;
@@ -117,31 +113,10 @@ fn admit(operands: &[u8]) -> Option<Command>
     let nice = numbers::nice(second)?;
     let mask = numbers::mask(third)?;
     let slice = numbers::decimal(fourth)?;
-    Some(Command::Does(Event::Admit {
-        task,
-        nice,
-        mask,
-        slice,
-    }))
+    Some((task, nice, mask, slice))
 }
 
-fn retire(operands: &[u8]) -> Option<Command>
-    ensures { result ≡ retire_of (words operands.now) }
-{
-    let (first, rest) = next_word(operands)?;
-    end_of_words(rest)?;
-    let task = numbers::task(first)?;
-    Some(Command::Does(Event::Retire { task }))
-}
-
-fn draw(operands: &[u8]) -> Option<Command>
-    ensures { result ≡ draw_of (words operands.now) }
-{
-    end_of_words(operands)?;
-    Some(Command::Does(Event::Draw))
-}
-
-/// The words of an `install`: the processor, the generation, the hook, and what spells an image.
+/// A processor, a generation, a hook, and the word that spells an image.
 fn install_words(operands: &[u8]) -> Option<(u8, u64, Hook, &[u8])>
     ensures { option_map (λ w. (w.0, w.1, w.2, w.3.now)) result ≡ install_words (words operands.now) }
 {
@@ -156,53 +131,51 @@ fn install_words(operands: &[u8]) -> Option<(u8, u64, Hook, &[u8])>
     Some((processor, generation, hook, image))
 }
 
-fn install(alloc: Global, operands: &[u8]) -> Result<Option<Command>, AllocError>
-    ensures { IfOk result (λ said. said ≡ install_of (words operands.now)) }
+/// A task.
+fn one_task(operands: &[u8]) -> Option<u16>
+    ensures { result ≡ one_task (words operands.now) }
 {
-    let Some((processor, generation, hook, image)) = install_words(operands) else {
-        return Ok(None);
-    };
-    if image == b"none".as_slice() {
-        return Ok(Some(Command::Does(Event::Install {
-            processor,
-            hook,
-            generation,
-            policy: None,
-        })));
-    }
-    let image = HexWord::new(alloc, image)?;
-    Ok(Some(Command::Load {
-        processor,
-        hook,
-        generation,
-        image,
-    }))
+    let (first, rest) = next_word(operands)?;
+    end_of_words(rest)?;
+    numbers::task(first)
 }
 
-fn begin(operands: &[u8]) -> Option<Command>
-    ensures { result ≡ begin_of (words operands.now) }
+/// A processor, or a counter.
+fn one_number(operands: &[u8]) -> Option<u8>
+    ensures { result ≡ one_number (words operands.now) }
+{
+    let (first, rest) = next_word(operands)?;
+    end_of_words(rest)?;
+    numbers::processor(first)
+}
+
+/// A processor and a task.
+fn processor_and_task(operands: &[u8]) -> Option<(u8, u16)>
+    ensures { result ≡ processor_and_task (words operands.now) }
 {
     let (first, rest) = next_word(operands)?;
     let (second, rest) = next_word(rest)?;
     end_of_words(rest)?;
     let processor = numbers::processor(first)?;
     let task = numbers::task(second)?;
-    Some(Command::Does(Event::BeginWake { processor, task }))
+    Some((processor, task))
 }
 
-fn end(operands: &[u8]) -> Option<Command>
-    ensures { result ≡ end_of (words operands.now) }
+/// A processor and a clock reading.
+fn processor_and_time(operands: &[u8]) -> Option<(u8, u64)>
+    ensures { result ≡ processor_and_time (words operands.now) }
 {
     let (first, rest) = next_word(operands)?;
     let (second, rest) = next_word(rest)?;
     end_of_words(rest)?;
     let processor = numbers::processor(first)?;
     let now = numbers::decimal(second)?;
-    Some(Command::Does(Event::EndWake { processor, now }))
+    Some((processor, now))
 }
 
-fn wake(operands: &[u8]) -> Option<Command>
-    ensures { result ≡ wake_of (words operands.now) }
+/// A processor, a task and a clock reading.
+fn wake_words(operands: &[u8]) -> Option<(u8, u16, u64)>
+    ensures { result ≡ wake_words (words operands.now) }
 {
     let (first, rest) = next_word(operands)?;
     let (second, rest) = next_word(rest)?;
@@ -211,48 +184,12 @@ fn wake(operands: &[u8]) -> Option<Command>
     let processor = numbers::processor(first)?;
     let task = numbers::task(second)?;
     let now = numbers::decimal(third)?;
-    Some(Command::Wake {
-        processor,
-        task,
-        now,
-    })
+    Some((processor, task, now))
 }
 
-fn drain(operands: &[u8]) -> Option<Command>
-    ensures { result ≡ drain_of (words operands.now) }
-{
-    let (first, rest) = next_word(operands)?;
-    let (second, rest) = next_word(rest)?;
-    end_of_words(rest)?;
-    let processor = numbers::processor(first)?;
-    let now = numbers::decimal(second)?;
-    Some(Command::Does(Event::Drain { processor, now }))
-}
-
-fn tick(operands: &[u8]) -> Option<Command>
-    ensures { result ≡ tick_of (words operands.now) }
-{
-    let (first, rest) = next_word(operands)?;
-    let (second, rest) = next_word(rest)?;
-    end_of_words(rest)?;
-    let processor = numbers::processor(first)?;
-    let now = numbers::decimal(second)?;
-    Some(Command::Does(Event::Tick { processor, now }))
-}
-
-fn block(operands: &[u8]) -> Option<Command>
-    ensures { result ≡ block_of (words operands.now) }
-{
-    let (first, rest) = next_word(operands)?;
-    let (second, rest) = next_word(rest)?;
-    end_of_words(rest)?;
-    let processor = numbers::processor(first)?;
-    let now = numbers::decimal(second)?;
-    Some(Command::Does(Event::Block { processor, now }))
-}
-
-fn pull(operands: &[u8]) -> Option<Command>
-    ensures { result ≡ pull_of (words operands.now) }
+/// Two processors and a clock reading.
+fn pull_words(operands: &[u8]) -> Option<(u8, u8, u64)>
+    ensures { result ≡ pull_words (words operands.now) }
 {
     let (first, rest) = next_word(operands)?;
     let (second, rest) = next_word(rest)?;
@@ -261,27 +198,161 @@ fn pull(operands: &[u8]) -> Option<Command>
     let processor = numbers::processor(first)?;
     let from = numbers::processor(second)?;
     let now = numbers::decimal(third)?;
-    Some(Command::Does(Event::Pull {
+    Some((processor, from, now))
+}
+
+fn machine(operands: &[u8]) -> Reading<'_>
+    ensures { result ≡ said (machine_of (words operands.now)) }
+{
+    match machine_words(operands) {
+        Some((rule, size)) => Reading::Says(Command::Machine { rule, size }),
+        None => Reading::Bad,
+    }
+}
+
+fn admit(operands: &[u8]) -> Reading<'_>
+    ensures { result ≡ said (admit_of (words operands.now)) }
+{
+    match admit_words(operands) {
+        Some((task, nice, mask, slice)) => Reading::Says(Command::Does(Event::Admit {
+            task,
+            nice,
+            mask,
+            slice,
+        })),
+        None => Reading::Bad,
+    }
+}
+
+fn retire(operands: &[u8]) -> Reading<'_>
+    ensures { result ≡ said (retire_of (words operands.now)) }
+{
+    match one_task(operands) {
+        Some(task) => Reading::Says(Command::Does(Event::Retire { task })),
+        None => Reading::Bad,
+    }
+}
+
+fn draw(operands: &[u8]) -> Reading<'_>
+    ensures { result ≡ said (draw_of (words operands.now)) }
+{
+    match end_of_words(operands) {
+        Some(()) => Reading::Says(Command::Does(Event::Draw)),
+        None => Reading::Bad,
+    }
+}
+
+fn install(operands: &[u8]) -> Reading<'_>
+    ensures { result ≡ said (install_of (words operands.now)) }
+{
+    let Some((processor, generation, hook, image)) = install_words(operands) else {
+        return Reading::Bad;
+    };
+    if image == b"none".as_slice() {
+        return Reading::Says(Command::Does(Event::Install {
+            processor,
+            hook,
+            generation,
+            policy: None,
+        }));
+    }
+    Reading::Says(Command::Load {
         processor,
-        from,
-        now,
-    }))
+        hook,
+        generation,
+        image: HexWord::new(image),
+    })
 }
 
-fn show(operands: &[u8]) -> Option<Command>
-    ensures { result ≡ show_of (words operands.now) }
+fn begin(operands: &[u8]) -> Reading<'_>
+    ensures { result ≡ said (begin_of (words operands.now)) }
 {
-    let (first, rest) = next_word(operands)?;
-    end_of_words(rest)?;
-    let processor = numbers::processor(first)?;
-    Some(Command::Show { processor })
+    match processor_and_task(operands) {
+        Some((processor, task)) => {
+            Reading::Says(Command::Does(Event::BeginWake { processor, task }))
+        }
+        None => Reading::Bad,
+    }
 }
 
-fn counter(operands: &[u8]) -> Option<Command>
-    ensures { result ≡ counter_of (words operands.now) }
+fn end(operands: &[u8]) -> Reading<'_>
+    ensures { result ≡ said (end_of (words operands.now)) }
 {
-    let (first, rest) = next_word(operands)?;
-    end_of_words(rest)?;
-    let counter = numbers::processor(first)?;
-    Some(Command::Counter { counter })
+    match processor_and_time(operands) {
+        Some((processor, now)) => {
+            Reading::Says(Command::Does(Event::EndWake { processor, now }))
+        }
+        None => Reading::Bad,
+    }
+}
+
+fn wake(operands: &[u8]) -> Reading<'_>
+    ensures { result ≡ said (wake_of (words operands.now)) }
+{
+    match wake_words(operands) {
+        Some((processor, task, now)) => Reading::Says(Command::Wake {
+            processor,
+            task,
+            now,
+        }),
+        None => Reading::Bad,
+    }
+}
+
+fn drain(operands: &[u8]) -> Reading<'_>
+    ensures { result ≡ said (drain_of (words operands.now)) }
+{
+    match processor_and_time(operands) {
+        Some((processor, now)) => Reading::Says(Command::Does(Event::Drain { processor, now })),
+        None => Reading::Bad,
+    }
+}
+
+fn tick(operands: &[u8]) -> Reading<'_>
+    ensures { result ≡ said (tick_of (words operands.now)) }
+{
+    match processor_and_time(operands) {
+        Some((processor, now)) => Reading::Says(Command::Does(Event::Tick { processor, now })),
+        None => Reading::Bad,
+    }
+}
+
+fn block(operands: &[u8]) -> Reading<'_>
+    ensures { result ≡ said (block_of (words operands.now)) }
+{
+    match processor_and_time(operands) {
+        Some((processor, now)) => Reading::Says(Command::Does(Event::Block { processor, now })),
+        None => Reading::Bad,
+    }
+}
+
+fn pull(operands: &[u8]) -> Reading<'_>
+    ensures { result ≡ said (pull_of (words operands.now)) }
+{
+    match pull_words(operands) {
+        Some((processor, from, now)) => Reading::Says(Command::Does(Event::Pull {
+            processor,
+            from,
+            now,
+        })),
+        None => Reading::Bad,
+    }
+}
+
+fn show(operands: &[u8]) -> Reading<'_>
+    ensures { result ≡ said (show_of (words operands.now)) }
+{
+    match one_number(operands) {
+        Some(processor) => Reading::Says(Command::Show { processor }),
+        None => Reading::Bad,
+    }
+}
+
+fn counter(operands: &[u8]) -> Reading<'_>
+    ensures { result ≡ said (counter_of (words operands.now)) }
+{
+    match one_number(operands) {
+        Some(counter) => Reading::Says(Command::Counter { counter }),
+        None => Reading::Bad,
+    }
 }

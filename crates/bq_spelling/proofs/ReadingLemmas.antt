@@ -101,16 +101,16 @@ of_one : {A : Type 0} (f : A → Command) (a : Option A) (x : A) → a ≡ Some 
 of_one f a x ea = rw ea refl
 
 of_two : {A B : Type 0} (f : A → B → Command) (a : Option A) (b : Option B) (x : A) (y : B) → a ≡ Some x → b ≡ Some y
-    → said (option_and_then (λ x. option_map (λ y. f x y) b) a) ≡ Says (f x y)
+    → said (option_map (λ (w : A × B). f w.0 w.1) (option_and_then (λ x. option_map (λ y. (x, y)) b) a)) ≡ Says (f x y)
 of_two f a b x y ea eb = rw (ea, eb) refl
 
 of_three : {A B C : Type 0} (f : A → B → C → Command) (a : Option A) (b : Option B) (c : Option C) (x : A) (y : B) (z : C) → a ≡ Some x → b ≡ Some y → c ≡ Some z
-    → said (option_and_then (λ x. option_and_then (λ y. option_map (λ z. f x y z) c) b) a) ≡ Says (f x y z)
+    → said (option_map (λ (w : A × B × C). f w.0 w.1 w.2) (option_and_then (λ x. option_and_then (λ y. option_map (λ z. (x, y, z)) c) b) a)) ≡ Says (f x y z)
 of_three f a b c x y z ea eb ec = rw (ea, eb, ec) refl
 
 of_four : {A B C D : Type 0} (f : A → B → C → D → Command) (a : Option A) (b : Option B) (c : Option C) (d : Option D) (x : A) (y : B) (z : C) (w : D)
     → a ≡ Some x → b ≡ Some y → c ≡ Some z → d ≡ Some w
-    → said (option_and_then (λ x. option_and_then (λ y. option_and_then (λ z. option_map (λ w. f x y z w) d) c) b) a) ≡ Says (f x y z w)
+    → said (option_map (λ (w : A × B × C × D). f w.0 w.1 w.2 w.3) (option_and_then (λ x. option_and_then (λ y. option_and_then (λ z. option_map (λ w. (x, y, z, w)) d) c) b) a)) ≡ Says (f x y z w)
 of_four f a b c d x y z w ea eb ec ed = rw (ea, eb, ec, ed) refl
 
 -- an install that brings an image, or `none`

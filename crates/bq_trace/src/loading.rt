@@ -24,10 +24,10 @@ impl AnyCore {
         processor: u8,
         hook: Hook,
         generation: u64,
-        image: &HexWord,
+        image: HexWord<'_>,
         sink: &mut S,
     ) -> Result<(), AllocError>
-        ensures { OnOk result (Gets S.takes sink.old sink.new (λ told. LoadHappens self.old number processor hook generation image.now told self.new)) }
+        ensures { OnOk result (Gets S.takes sink.old sink.new (λ told. LoadHappens self.old number processor hook generation image.entry told self.new)) }
     {
         let bytes = match hex::decode(alloc, image.as_bytes()) {
             Ok(bytes) => bytes,

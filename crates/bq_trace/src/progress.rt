@@ -73,11 +73,11 @@ impl AnyCore {
         alloc: Global,
         number: u64,
         line: Option<&[u8]>,
-        reading: Reading,
+        reading: Reading<'_>,
         sink: &mut S,
     ) -> Result<bool, AllocError>
         ensures { IfOk result (λ bad. Gets S.takes sink.old sink.new
-            (λ told. Tells (Phase.Running self.old) number (option_map (λ (l : Bor (List ℕ)). l.now) line.entry) reading told (Phase.Running self.new) bad)) }
+            (λ told. Tells (Phase.Running self.old) number (option_map (λ (l : Bor (List ℕ)). l.now) line.entry) reading.entry told (Phase.Running self.new) bad)) }
     {
         match reading {
             Reading::Skipped => {
@@ -106,7 +106,7 @@ impl AnyCore {
                     image,
                 },
             ) => {
-                self.install_image(alloc, number, processor, hook, generation, &image, sink)?;
+                self.install_image(alloc, number, processor, hook, generation, image, sink)?;
                 Ok(false)
             }
             Reading::Says(Command::Counter { counter }) => {
@@ -146,11 +146,11 @@ fn first_phase<S: Sink>(
     alloc: Global,
     number: u64,
     line: Option<&[u8]>,
-    reading: Reading,
+    reading: Reading<'_>,
     sink: &mut S,
 ) -> Result<(Phase, bool), AllocError>
     ensures { IfOk result (λ first. Gets S.takes sink.old sink.new
-        (λ told. Tells Phase.Waiting number (option_map (λ (l : Bor (List ℕ)). l.now) line.entry) reading told first.0 first.1)) }
+        (λ told. Tells Phase.Waiting number (option_map (λ (l : Bor (List ℕ)). l.now) line.entry) reading.entry told first.0 first.1)) }
 {
     match reading {
         Reading::Skipped => {
@@ -179,11 +179,11 @@ impl Phase {
         alloc: Global,
         number: u64,
         line: Option<&[u8]>,
-        reading: Reading,
+        reading: Reading<'_>,
         sink: &mut S,
     ) -> Result<bool, AllocError>
         ensures { IfOk result (λ bad. Gets S.takes sink.old sink.new
-            (λ told. Tells Phase.Waiting number (option_map (λ (l : Bor (List ℕ)). l.now) line.entry) reading told self.new bad)) }
+            (λ told. Tells Phase.Waiting number (option_map (λ (l : Bor (List ℕ)). l.now) line.entry) reading.entry told self.new bad)) }
     {
         let (phase, bad) = first_phase(alloc, number, line, reading, sink)?;
         *self = phase;
@@ -196,11 +196,11 @@ impl Phase {
         alloc: Global,
         number: u64,
         line: Option<&[u8]>,
-        reading: Reading,
+        reading: Reading<'_>,
         sink: &mut S,
     ) -> Result<bool, AllocError>
         ensures { IfOk result (λ bad. Gets S.takes sink.old sink.new
-            (λ told. Tells self.old number (option_map (λ (l : Bor (List ℕ)). l.now) line.entry) reading told self.new bad)) }
+            (λ told. Tells self.old number (option_map (λ (l : Bor (List ℕ)). l.now) line.entry) reading.entry told self.new bad)) }
     {
         match self {
             Phase::Over => Ok(false),
@@ -247,9 +247,10 @@ impl Progress {
         ensures { OnOk result (Gets S.takes sink.old sink.new
             (λ told. TellsHeard self.old (option_map (λ (l : Bor (List ℕ)). l.now) line.entry) told self.new)) }
     {
-        let reading = read_heard(alloc, line)?;
         self.line = self.line.saturating_add(1);
-        let bad = self.phase.answer(alloc, self.line, line, reading, sink)?;
+        let bad = self
+            .phase
+            .answer(alloc, self.line, line, read_heard(line), sink)?;
         self.clean = self.clean && !bad;
         Ok(())
     }

@@ -58,23 +58,34 @@ fn write_spaced(text: &mut String, numbers: &[u16]) -> Result<(), AllocError>
     Ok(())
 }
 
+/// Ends the line of a choice that no policy was asked for, as most are.
+fn write_unasked(text: &mut String) -> Result<(), AllocError>
+    ensures { OnOk result (string_bytes text.new ≡ string_bytes text.old ++ codes " by rule steps 0\n") }
+{
+    text.push_str(" by rule steps 0\n")
+}
+
 /// Adds whose choice it was and after how many steps of a policy, and ends the line.
 fn write_choice(text: &mut String, by: By, steps: u32) -> Result<(), AllocError>
     ensures { OnOk result (string_bytes text.new ≡ string_bytes text.old ++ (codes " by " ++ (who_text by ++ (codes " steps " ++ (decimal steps ++ codes "\n"))))) }
 {
     match by {
+        By::Discipline => {
+            if steps == 0 {
+                return write_unasked(text);
+            }
+            text.push_str(" by rule steps ")?
+        }
         By::Policy => text.push_str(" by policy steps ")?,
-        By::Discipline => text.push_str(" by rule steps ")?,
     }
     write_number(text, steps)?;
     text.push_str("\n")
 }
 
 /// Adds who runs, by whose choice, and after how many steps of a policy, and ends the line.
-fn write_run(text: &mut String, run: Option<u16>, by: By, steps: u32) -> Result<(), AllocError>
-    ensures { OnOk result (string_bytes text.new ≡ string_bytes text.old ++ (run_text run by steps ++ codes "\n")) }
+fn write_runner(text: &mut String, run: Option<u16>, by: By, steps: u32) -> Result<(), AllocError>
+    ensures { OnOk result (string_bytes text.new ≡ string_bytes text.old ++ (task_text run ++ (codes " by " ++ (who_text by ++ (codes " steps " ++ (decimal steps ++ codes "\n")))))) }
 {
-    text.push_str(" run ")?;
     write_task(text, run)?;
     write_choice(text, by, steps)
 }
@@ -145,11 +156,12 @@ fn write_reply(text: &mut String, reply: &Reply) -> Result<(), AllocError>
         } => {
             text.push_str("drain ")?;
             write_number(text, *count)?;
-            write_run(text, *run, *by, *steps)
+            text.push_str(" run ")?;
+            write_runner(text, *run, *by, *steps)
         }
         Reply::Ticked { run, by, steps } => {
-            text.push_str("tick")?;
-            write_run(text, *run, *by, *steps)
+            text.push_str("tick run ")?;
+            write_runner(text, *run, *by, *steps)
         }
         Reply::Blocked { task, run } => write_blocked(text, *task, *run),
         Reply::Pulled {
@@ -160,7 +172,8 @@ fn write_reply(text: &mut String, reply: &Reply) -> Result<(), AllocError>
         } => {
             text.push_str("pull ")?;
             write_task(text, *task)?;
-            write_run(text, *run, *by, *steps)
+            text.push_str(" run ")?;
+            write_runner(text, *run, *by, *steps)
         }
     }
 }
