@@ -6,6 +6,7 @@ ghost use Rattle.std.specs.Str.Lines.{strip_carriage_return};
 ghost use Rattle.bq_lines.specs.Kept.{IsOneLine, StandsFor, heard};
 
 use crate::lines::LONGEST;
+use memchr::memchr;
 use std::alloc::{AllocError, Global};
 use std::marker::Model;
 
@@ -113,7 +114,7 @@ fn line_feed(bytes: &[u8]) -> Option<usize>
         × (bytes.now ≡ take at bytes.now ++ 10 ∷ drop (at + 1) bytes.now)) }
     ensures none { IfNone result (IsOneLine bytes.now) }
 {
-    bytes.iter().position(|b| *b == b'\n')
+    memchr(b'\n', bytes)
 }
 
 /// The first line, and what follows its line feed.
