@@ -7,4 +7,6 @@ mod hostile;
 #[cfg(test)]
 mod images;
 #[cfg(test)]
+mod readers;
+#[cfg(test)]
 mod runs;

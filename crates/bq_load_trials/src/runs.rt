@@ -47,37 +47,46 @@ fn run_on(
     verified: &Verified,
     board: &mut Plain,
     stack: &mut Stack,
-) -> Result<Option<Ran>, AllocError> {
-    let mut maps = Maps::new(alloc, verified.shapes())?;
+) -> Result<Ran, Fail> {
     let context = context();
     if context.len() != context_length(verified.hook(), verified.version()) {
-        return Ok(None);
+        return Err(Fail::from("a context of another length"));
     }
+    let mut maps = Maps::new(alloc, verified.shapes())?;
     let env = Env {
         now: 0x1_2345_6789,
         processor: 7,
     };
-    Ok(Some(run(verified, &context, &mut maps, stack, env, board)))
+    Ok(run(verified, &context, &mut maps, stack, env, board))
 }
 
 /// The program's answer and steps, on a stack of that byte.
-fn ran(alloc: Global, verified: &Verified, byte: u8) -> Result<Option<(u64, u32)>, AllocError> {
+fn ran(alloc: Global, verified: &Verified, byte: u8) -> Result<(u64, u32), Fail> {
     let mut board = Plain::new();
     let mut stack = Stack::from_bytes([byte; 512]);
-    match run_on(alloc, verified, &mut board, &mut stack)? {
-        Some(done) => Ok(Some((done.r0, done.steps))),
-        None => Ok(None),
-    }
+    let done = run_on(alloc, verified, &mut board, &mut stack)?;
+    Ok((done.r0, done.steps))
 }
 
-/// The program answers that in so many steps, on two stacks of different bytes.
-fn expect(rt: &impl Abort, alloc: Global, text: &str, r0: u64, steps: u32) -> Result<(), Fail> {
-    let verified = accepted(alloc, text)?;
+/// The program has that answer and so many steps, on two stacks of different bytes.
+fn answers_so(
+    rt: &impl Abort,
+    alloc: Global,
+    verified: &Verified,
+    answer: (u64, u32),
+    text: &str,
+) -> Result<(), Fail> {
     for byte in [0x00, 0xa5] {
-        let ran = ran(alloc, &verified, byte)?;
-        assert_eq!(rt; ran, Some((r0, steps)), "{text}");
+        let ran = ran(alloc, verified, byte)?;
+        assert_eq!(rt; ran, answer, "{text}");
     }
     Ok(())
+}
+
+/// The program answers that in so many steps.
+fn expect(rt: &impl Abort, alloc: Global, text: &str, r0: u64, steps: u32) -> Result<(), Fail> {
+    let verified = accepted(alloc, text)?;
+    answers_so(rt, alloc, &verified, (r0, steps), text)
 }
 
 /// A program without its exit, what it answers, and in how many steps.
@@ -133,7 +142,7 @@ const OTHERS: [Row; 9] = [
 
 fn answers(rt: &impl Abort, alloc: Global, rows: &[Row]) -> Result<(), Fail> {
     for (text, r0, steps) in rows {
-        let text = format!(in alloc; "{text}\nexit\n")?;
+        let text = repeated(alloc, text, 1, "\n", "exit\n")?;
         expect(rt, alloc, text.as_str(), *r0, *steps)?;
     }
     Ok(())
@@ -191,14 +200,19 @@ fn repeated(
     Ok(all)
 }
 
+/// The program may take so many instructions.
+fn has_budget(rt: &impl Abort, verified: &Verified, budget: u32) {
+    assert_eq!(rt; verified.budget(), budget);
+}
+
 /// A program of many paths: 2,047 branches that are all taken.
 #[test]
 fn branches_taken(rt: HostRuntime) -> Result<(), Fail> {
     let pair = "jeq64 r0, 0, +1\nadd64 r0, 1\n";
     let text = repeated(rt.alloc(), "mov64 r0, 0\n", 2047, pair, "exit\n")?;
     let verified = accepted(rt.alloc(), text.as_str())?;
-    assert_eq!(rt; verified.budget(), 4096);
-    expect(&rt, rt.alloc(), text.as_str(), 0, 2049)
+    has_budget(&rt, &verified, 4096);
+    answers_so(&rt, rt.alloc(), &verified, (0, 2049), "many branches")
 }
 
 /// Whether these are so many adds of 5 to counter 3, from 0 on.
@@ -218,26 +232,37 @@ fn adds_in_turn(calls: &[Call]) -> bool {
     true
 }
 
+/// The run took fifty steps and sixteen adds.
+fn is_sixteen_adds(rt: &impl Abort, done: &Ran) {
+    assert_eq!(rt; (done.steps, done.calls.len()), (50, 16));
+    assert!(rt; adds_in_turn(done.calls.as_slice()));
+}
+
+/// Adds sixteen times five onto counter 3.
+fn adds(rt: &impl Abort, alloc: Global, board: &mut Plain, stack: &mut Stack) -> Result<(), Fail> {
+    let add = "mov64 r1, 3\nmov64 r2, 5\ncall 100\n";
+    let text = repeated(alloc, "", 16, add, "mov64 r0, 0\nexit\n")?;
+    let verified = accepted(alloc, text.as_str())?;
+    has_budget(rt, &verified, 50);
+    let done = run_on(alloc, &verified, board, stack)?;
+    is_sixteen_adds(rt, &done);
+    Ok(())
+}
+
+/// What counter 3 is read to be, and in how many steps.
+fn counter(alloc: Global, board: &mut Plain, stack: &mut Stack) -> Result<(u64, u32), Fail> {
+    let verified = accepted(alloc, "mov64 r1, 3\ncall 101\nexit\n")?;
+    let done = run_on(alloc, &verified, board, stack)?;
+    Ok((done.r0, done.steps))
+}
+
 /// Sixteen times five onto counter 3, which is read then.
 #[test]
 fn counters(rt: HostRuntime) -> Result<(), Fail> {
-    let alloc = rt.alloc();
-    let add = "mov64 r1, 3\nmov64 r2, 5\ncall 100\n";
-    let text = repeated(alloc, "", 16, add, "mov64 r0, 0\nexit\n")?;
-    let adds = accepted(alloc, text.as_str())?;
-    assert_eq!(&rt; adds.budget(), 50);
     let mut board = Plain::new();
     let mut stack = Stack::new();
-    let Some(done) = run_on(alloc, &adds, &mut board, &mut stack)? else {
-        panic!(&rt; "not run");
-    };
-    assert_eq!(&rt; done.steps, 50);
-    assert_eq!(&rt; done.calls.len(), 16);
-    assert!(&rt; adds_in_turn(done.calls.as_slice()));
-    let reads = accepted(alloc, "mov64 r1, 3\ncall 101\nexit\n")?;
-    let Some(last) = run_on(alloc, &reads, &mut board, &mut stack)? else {
-        panic!(&rt; "not run");
-    };
-    assert_eq!(&rt; (last.r0, last.steps), (80, 3));
+    adds(&rt, rt.alloc(), &mut board, &mut stack)?;
+    let last = counter(rt.alloc(), &mut board, &mut stack)?;
+    assert_eq!(rt; last, (80, 3));
     Ok(())
 }
