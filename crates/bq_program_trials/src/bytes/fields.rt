@@ -1,7 +1,6 @@
 // Every opcode, with each field that its form uses and each bit that it does not.
-ghost use Rattle.std.specs.Prelude.{◌<◌};
 
-use super::{comes_back, fault_of, spelled};
+use super::{comes_back, fault_of, is_fault, spelled};
 use bq_insn::fault::{Cause, DecodeFault};
 use std::alloc::Global;
 use std::process::Abort;
@@ -72,45 +71,70 @@ fn refused_with(
     place: usize,
     bits: u64,
     cause: Cause,
-) -> Result<(), Fail>
-    requires { place < 2 }
-{
+) -> Result<(), Fail> {
     let expected = Some(DecodeFault::At { slot: 0, cause });
     for bit in 0..64u32 {
         if bits >> bit & 1 == 1 {
             let mut changed = slots;
-            changed[place] |= 1 << bit;
-            assert_eq!(rt; fault_of(rt.alloc(), changed.as_slice())?, expected);
+            if let Some(slot) = changed.get_mut(place) {
+                *slot |= 1 << bit;
+            }
+            let fault = fault_of(rt.alloc(), changed.as_slice())?;
+            is_fault(rt, fault, expected, place);
         }
     }
     Ok(())
 }
 
-/// Each opcode of the row is accepted with its fields, refused with each bit that must be zero, and with register 11.
-fn row_holds(rt: &(impl Abort + AllocGlobal), row: &Row) -> Result<(), Fail> {
-    let fault = DecodeFault::At {
-        slot: 0,
-        cause: Cause::Register,
-    };
-    for opcode in &row.opcodes {
-        let slot = u64::from(*opcode) << 56 | row.fields;
-        comes_back(rt, &[slot])?;
-        refused_with(rt, [slot, 0], 0, row.unused, Cause::Field)?;
-        for (field, ones) in [(DST, 0x000b_0000_0000_0000), (SRC, 0x00b0_0000_0000_0000)] {
-            if row.unused & field == 0 && *opcode != 0x85 {
-                assert_eq!(rt; fault_of(rt.alloc(), &[slot | ones])?, Some(fault));
-            }
+/// The opcode is accepted with the fields of the row, refused with each bit that must be zero, and with register 11.
+fn opcode_holds(
+    rt: &(impl Abort + AllocGlobal),
+    opcode: u8,
+    fields: u64,
+    unused: u64,
+) -> Result<(), Fail> {
+    let slot = u64::from(opcode) << 56 | fields;
+    comes_back(rt, &[slot])?;
+    refused_with(rt, [slot, 0], 0, unused, Cause::Field)?;
+    for (field, ones) in [(DST, 0x000b_0000_0000_0000), (SRC, 0x00b0_0000_0000_0000)] {
+        if unused & field == 0 && opcode != 0x85 {
+            is_refused(rt, slot | ones, Cause::Register)?;
         }
     }
     Ok(())
+}
+
+/// The slot is refused for that.
+fn is_refused(rt: &(impl Abort + AllocGlobal), slot: u64, cause: Cause) -> Result<(), Fail> {
+    let fault = fault_of(rt.alloc(), &[slot])?;
+    is_fault(rt, fault, Some(DecodeFault::At { slot: 0, cause }), 0);
+    Ok(())
+}
+
+/// Each opcode of the row holds.
+fn row_holds(rt: &(impl Abort + AllocGlobal), row: &Row) -> Result<(), Fail> {
+    for opcode in &row.opcodes {
+        opcode_holds(rt, *opcode, row.fields, row.unused)?;
+    }
+    Ok(())
+}
+
+/// Whether the line spells a row, which holds then.
+fn line_holds(rt: &(impl Abort + AllocGlobal), line: &str) -> Result<bool, Fail> {
+    match row_of(rt.alloc(), line)? {
+        Some(row) => {
+            row_holds(rt, &row)?;
+            Ok(true)
+        }
+        None => Ok(false),
+    }
 }
 
 #[test]
 fn unused_fields_are_zero(rt: HostRuntime) -> Result<(), Fail> {
     let mut rows = 0u32;
     for line in FORMS.lines() {
-        if let Some(row) = row_of(rt.alloc(), line)? {
-            row_holds(&rt, &row)?;
+        if line_holds(&rt, line)? {
             rows = rows.saturating_add(1);
         }
     }
@@ -118,46 +142,65 @@ fn unused_fields_are_zero(rt: HostRuntime) -> Result<(), Fail> {
     Ok(())
 }
 
+/// Two slots, which of them has these bits, and the cause for which they are refused with each.
+const PAIRS: [([u64; 2], usize, u64, Cause); 6] = [
+    (NUMBER, 0, 0x0000_ffff_0000_0000, Cause::Field),
+    (NUMBER, 1, 0xffff_ffff_0000_0000, Cause::Field),
+    (MAP, 0, 0x0000_ffff_0000_0000, Cause::Field),
+    (MAP, 1, 0xffff_ffff_ffff_ffff, Cause::Field),
+    // the source field of a call and of a wide instruction names its kind
+    (CALL, 0, SRC, Cause::Offset),
+    (NUMBER, 0, SRC, Cause::Offset),
+];
+
+/// A number in two slots.
+const NUMBER: [u64; 2] = [0x1801_0000_fdff_ffff, 0x0000_0000_feff_ffff];
+
+/// A map.
+const MAP: [u64; 2] = [0x1851_0000_0300_0000, 0x0000_0000_0000_0000];
+
+/// A call, and an exit.
+const CALL: [u64; 2] = [0x8500_0000_0100_0000, 0x9500_0000_0000_0000];
+
 #[test]
 fn unused_fields_of_two_slots_are_zero(rt: HostRuntime) -> Result<(), Fail> {
-    // a number in two slots, and a map
-    let number = [0x1801_0000_fdff_ffff, 0x0000_0000_feff_ffff];
-    comes_back(&rt, &number)?;
-    refused_with(&rt, number, 0, 0x0000_ffff_0000_0000, Cause::Field)?;
-    refused_with(&rt, number, 1, 0xffff_ffff_0000_0000, Cause::Field)?;
-    let map = [0x1851_0000_0300_0000, 0x0000_0000_0000_0000];
-    comes_back(&rt, &map)?;
-    refused_with(&rt, map, 0, 0x0000_ffff_0000_0000, Cause::Field)?;
-    refused_with(&rt, map, 1, 0xffff_ffff_ffff_ffff, Cause::Field)?;
-    // the source field of a call and of a wide instruction names its kind
-    let call = [0x8500_0000_0100_0000, 0x9500_0000_0000_0000];
-    refused_with(&rt, call, 0, SRC, Cause::Offset)?;
-    refused_with(&rt, number, 0, SRC, Cause::Offset)?;
+    comes_back(&rt, &NUMBER)?;
+    comes_back(&rt, &MAP)?;
+    for (slots, place, bits, cause) in &PAIRS {
+        refused_with(&rt, *slots, *place, *bits, *cause)?;
+    }
     Ok(())
 }
 
-#[test]
-fn no_other_opcode_is_accepted(rt: HostRuntime) -> Result<(), Fail> {
-    let mut known = Vec::new(rt.alloc());
+/// The opcodes of the forms, and the one of a wide instruction.
+fn known_opcodes(alloc: Global) -> Result<Vec<u8>, Fail> {
+    let mut known = Vec::new(alloc);
     known.push(0x18)?;
     for line in FORMS.lines() {
-        if let Some(row) = row_of(rt.alloc(), line)? {
+        if let Some(row) = row_of(alloc, line)? {
             known.extend_from_slice(row.opcodes.as_slice())?;
         }
     }
-    let expected = Some(DecodeFault::At {
-        slot: 0,
-        cause: Cause::Opcode,
-    });
+    Ok(known)
+}
+
+/// How many opcodes are known; each other is refused.
+fn count_known(rt: &(impl Abort + AllocGlobal), known: &[u8]) -> Result<usize, Fail> {
     let mut accepted = 0usize;
     for opcode in 0..=255u8 {
         if known.contains(&opcode) {
             accepted = accepted.wrapping_add(1);
         } else {
-            let slot = u64::from(opcode) << 56;
-            assert_eq!(rt; fault_of(rt.alloc(), &[slot])?, expected, "at {opcode}");
+            is_refused(rt, u64::from(opcode) << 56, Cause::Opcode)?;
         }
     }
+    Ok(accepted)
+}
+
+#[test]
+fn no_other_opcode_is_accepted(rt: HostRuntime) -> Result<(), Fail> {
+    let known = known_opcodes(rt.alloc())?;
+    let accepted = count_known(&rt, known.as_slice())?;
     assert_eq!(rt; accepted, 117);
     Ok(())
 }
