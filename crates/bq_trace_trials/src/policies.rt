@@ -1,16 +1,8 @@
 //! Worked traces in which policies choose, with values from outside this program. Images are those of the format: their
 //! programs are short enough to read as bytes.
 
-use bq_trace::{Counted, Session, replay};
+use crate::cases::{Case, replays, replays_in_pieces};
 use std::test::Fail;
-
-/// A trace, what it is answered, and whether no line was bad.
-#[derive(Drop)]
-struct Case {
-    trace: &'static str,
-    answers: &'static str,
-    clean: bool,
-}
 
 /// A policy's map is kept from run to run, each processor has maps of its own, and a new policy begins with zeros.
 const A_MAP_IS_KEPT: Case = Case {
@@ -414,34 +406,10 @@ const CASES: [Case; 10] = [
 
 #[test]
 fn answers_traces_with_policies(rt: HostRuntime) -> Result<(), Fail> {
-    for case in &CASES {
-        let mut input = Counted::new(case.trace.as_bytes());
-        let mut output = Counted::new(Vec::new(rt.alloc()));
-        let clean = replay(rt.alloc(), &mut input, &mut output)?;
-        let output = output.into_inner();
-        assert_eq!(rt;
-            output.as_slice(),
-            case.answers.as_bytes(),
-            "{}",
-            case.trace
-        );
-        assert_eq!(rt; clean, case.clean);
-    }
-    Ok(())
+    replays(&rt, rt.alloc(), &CASES)
 }
 
 #[test]
 fn answers_policies_the_same_in_pieces(rt: HostRuntime) -> Result<(), Fail> {
-    for case in &CASES {
-        let mut output = Counted::new(Vec::new(rt.alloc()));
-        let mut session = Session::new(rt.alloc());
-        for piece in case.trace.as_bytes().chunks(7) {
-            session = session.feed(piece, &mut output)?;
-        }
-        let clean = session.finish(&mut output)?;
-        let output = output.into_inner();
-        assert_eq!(rt; output.as_slice(), case.answers.as_bytes());
-        assert_eq!(rt; clean, case.clean);
-    }
-    Ok(())
+    replays_in_pieces(&rt, rt.alloc(), &CASES, 7)
 }

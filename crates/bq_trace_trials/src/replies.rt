@@ -1,18 +1,12 @@
 //! Worked traces, with values from outside this program.
 
-use bq_trace::{Counted, ReplayFault, Session, replay};
+use crate::cases::{Answered, Case, answered, is_answered, replays, replays_in_pieces};
+use bq_trace::{Counted, ReplayFault, replay};
+use std::alloc::{AllocError, Global};
 use std::io;
 use std::io::{Error, ErrorKind, Read, Write};
-use std::str::from_utf8;
+use std::process::Abort;
 use std::test::Fail;
-
-/// A trace, what it is answered, and whether no line was bad.
-#[derive(Drop)]
-struct Case {
-    trace: &'static str,
-    answers: &'static str,
-    clean: bool,
-}
 
 /// One task of nice 5 on one processor: 10,000,000 ns at weight 335 are 30,567,164 of virtual time.
 const ONE_TASK: Case = Case {
@@ -253,72 +247,46 @@ const CASES: [Case; 11] = [
 
 #[test]
 fn answers_worked_traces(rt: HostRuntime) -> Result<(), Fail> {
-    for case in &CASES {
-        let mut input = Counted::new(case.trace.as_bytes());
-        let mut output = Counted::new(Vec::new(rt.alloc()));
-        let clean = replay(rt.alloc(), &mut input, &mut output)?;
-        let output = output.into_inner();
-        assert_eq!(rt;
-            output.as_slice(),
-            case.answers.as_bytes(),
-            "{}",
-            case.trace
-        );
-        assert_eq!(rt; clean, case.clean);
-    }
-    Ok(())
+    replays(&rt, rt.alloc(), &CASES)
 }
 
 #[test]
 fn answers_the_same_in_pieces(rt: HostRuntime) -> Result<(), Fail> {
-    for case in &CASES {
-        for size in [1, 7, 4096] {
-            let mut output = Counted::new(Vec::new(rt.alloc()));
-            let mut session = Session::new(rt.alloc());
-            for piece in case.trace.as_bytes().chunks(size) {
-                session = session.feed(piece, &mut output)?;
-            }
-            let clean = session.finish(&mut output)?;
-            let output = output.into_inner();
-            assert_eq!(rt;
-                output.as_slice(),
-                case.answers.as_bytes(),
-                "in pieces of {size}"
-            );
-            assert_eq!(rt; clean, case.clean);
-        }
+    for size in [1, 7, 4096] {
+        replays_in_pieces(&rt, rt.alloc(), &CASES, size)?;
     }
     Ok(())
 }
 
 /// A line of so many bytes `#`, ended by this.
-fn comment(rt: &HostRuntime, len: usize, end: &str) -> Result<Vec<u8>, Fail> {
-    let mut line = Vec::new(rt.alloc());
-    for _ in 0..len {
-        line.push(b'#')?;
-    }
+fn comment(alloc: Global, len: usize, end: &str) -> Result<Vec<u8>, AllocError> {
+    let mut line = vec![in alloc; b'#'; len]?;
     line.extend_from_slice(end.as_bytes())?;
     Ok(line)
 }
 
+/// What such a line is answered.
+fn comment_answered(alloc: Global, len: usize, end: &str) -> Result<Answered, Fail> {
+    let line = comment(alloc, len, end)?;
+    answered(alloc, line.as_slice())
+}
+
+/// Lengths of lines, their ends, and what they are answered.
+const LONG_LINES: [(usize, &str, &str); 7] = [
+    (131_072, "\n", ""),
+    (131_072, "\r\n", ""),
+    (131_072, "", ""),
+    (131_073, "\n", "bad 1\n"),
+    (131_072, "\r", "bad 1\n"),
+    (131_073, "", "bad 1\n"),
+    (300_000, "\n", "bad 1\n"),
+];
+
 #[test]
 fn calls_longer_lines_bad(rt: HostRuntime) -> Result<(), Fail> {
-    for (len, end, answers) in [
-        (131_072, "\n", ""),
-        (131_072, "\r\n", ""),
-        (131_072, "", ""),
-        (131_073, "\n", "bad 1\n"),
-        (131_072, "\r", "bad 1\n"),
-        (131_073, "", "bad 1\n"),
-        (300_000, "\n", "bad 1\n"),
-    ] {
-        let line = comment(&rt, len, end)?;
-        let mut input = Counted::new(line.as_slice());
-        let mut output = Counted::new(Vec::new(rt.alloc()));
-        let clean = replay(rt.alloc(), &mut input, &mut output)?;
-        let output = output.into_inner();
-        assert_eq!(rt; output.as_slice(), answers.as_bytes(), "{len}{end}");
-        assert_eq!(rt; clean, answers.is_empty());
+    for (len, end, answers) in &LONG_LINES {
+        let found = comment_answered(rt.alloc(), *len, end)?;
+        is_answered(&rt, &found, answers, answers.is_empty(), end);
     }
     Ok(())
 }
@@ -379,37 +347,55 @@ impl Write for Filling {
     }
 }
 
+/// How a replay ended, and what was written by then.
+type Ended = (Result<bool, ReplayFault>, Vec<u8>);
+
+/// It ended by that fault, and this was written.
+fn ends_by(rt: &impl Abort, ended: &Ended, fault: ReplayFault, written: &[u8]) {
+    assert_eq!(rt; ended.0, Err(fault));
+    assert_eq!(rt; ended.1.as_slice(), written);
+}
+
+/// How a replay of what is read ends.
+fn ended_reading(alloc: Global, input: Dripping<'_>) -> Ended {
+    let mut input = Counted::new(input);
+    let mut output = Counted::new(Vec::new(alloc));
+    let outcome = replay(alloc, &mut input, &mut output);
+    (outcome, output.into_inner())
+}
+
+/// How a replay of a task ends, where it is written to that.
+fn ended_writing(alloc: Global, output: Filling) -> Ended {
+    let mut input = Counted::new(ONE_TASK.trace.as_bytes());
+    let mut output = Counted::new(output);
+    let outcome = replay(alloc, &mut input, &mut output);
+    let Filling { taken, .. } = output.into_inner();
+    (outcome, taken)
+}
+
 #[test]
-fn ends_at_a_failed_read(rt: HostRuntime) -> Result<(), Fail> {
+fn ends_at_a_failed_read(rt: HostRuntime) {
     for (by_lines, size, reads) in [(true, 4096, 2), (false, 40, 1)] {
-        let mut input = Counted::new(Dripping {
+        let input = Dripping {
             rest: ONE_TASK.trace.as_bytes(),
             by_lines,
             size,
             reads,
-        });
-        let mut output = Counted::new(Vec::new(rt.alloc()));
-        let outcome = replay(rt.alloc(), &mut input, &mut output);
-        assert_eq!(rt; outcome, Err(ReplayFault::Read));
-        let output = output.into_inner();
-        assert_eq!(rt; output.as_slice(), b"admit ok\n".as_slice());
+        };
+        let ended = ended_reading(rt.alloc(), input);
+        ends_by(&rt, &ended, ReplayFault::Read, b"admit ok\n".as_slice());
     }
-    Ok(())
 }
 
 #[test]
-fn ends_at_a_failed_write(rt: HostRuntime) -> Result<(), Fail> {
+fn ends_at_a_failed_write(rt: HostRuntime) {
     for fails in [true, false] {
-        let mut input = Counted::new(ONE_TASK.trace.as_bytes());
-        let mut output = Counted::new(Filling {
+        let output = Filling {
             taken: Vec::new(rt.alloc()),
             room: 5,
             fails,
-        });
-        let outcome = replay(rt.alloc(), &mut input, &mut output);
-        assert_eq!(rt; outcome, Err(ReplayFault::Write));
-        let output = output.into_inner();
-        assert_eq!(rt; output.taken.as_slice(), b"admit".as_slice());
+        };
+        let ended = ended_writing(rt.alloc(), output);
+        ends_by(&rt, &ended, ReplayFault::Write, b"admit".as_slice());
     }
-    Ok(())
 }

@@ -1,0 +1,70 @@
+//! What traces are answered, whole and in pieces.
+ghost use Rattle.std.specs.Prelude.{◌≤◌};
+
+use bq_trace::{Counted, Session, replay};
+use std::alloc::Global;
+use std::process::Abort;
+use std::test::Fail;
+
+/// A trace, what it is answered, and whether no line was bad.
+#[derive(Clone, Copy)]
+pub struct Case {
+    pub trace: &'static str,
+    pub answers: &'static str,
+    pub clean: bool,
+}
+
+/// What was written, and whether no line was bad.
+pub type Answered = (Vec<u8>, bool);
+
+/// What a trace is answered as a whole.
+pub fn answered(alloc: Global, trace: &[u8]) -> Result<Answered, Fail> {
+    let mut input = Counted::new(trace);
+    let mut output = Counted::new(Vec::new(alloc));
+    let clean = replay(alloc, &mut input, &mut output)?;
+    Ok((output.into_inner(), clean))
+}
+
+/// What a trace is answered in pieces of that size.
+pub fn answered_in_pieces(alloc: Global, trace: &[u8], size: usize) -> Result<Answered, Fail>
+    requires { 1 ≤ size }
+{
+    let mut output = Counted::new(Vec::new(alloc));
+    let mut session = Session::new(alloc);
+    for piece in trace.chunks(size) {
+        session = session.feed(piece, &mut output)?;
+    }
+    let clean = session.finish(&mut output)?;
+    Ok((output.into_inner(), clean))
+}
+
+/// That was written, and there was a bad line or none.
+pub fn is_answered(rt: &impl Abort, found: &Answered, answers: &str, clean: bool, about: &str) {
+    assert_eq!(rt; found.0.as_slice(), answers.as_bytes(), "{about}");
+    assert_eq!(rt; found.1, clean);
+}
+
+/// Each trace as a whole is answered so.
+pub fn replays(rt: &impl Abort, alloc: Global, cases: &[Case]) -> Result<(), Fail> {
+    for case in cases {
+        let found = answered(alloc, case.trace.as_bytes())?;
+        is_answered(rt, &found, case.answers, case.clean, case.trace);
+    }
+    Ok(())
+}
+
+/// Each trace in pieces of that size is answered so.
+pub fn replays_in_pieces(
+    rt: &impl Abort,
+    alloc: Global,
+    cases: &[Case],
+    size: usize,
+) -> Result<(), Fail>
+    requires { 1 ≤ size }
+{
+    for case in cases {
+        let found = answered_in_pieces(alloc, case.trace.as_bytes(), size)?;
+        is_answered(rt, &found, case.answers, case.clean, case.trace);
+    }
+    Ok(())
+}
