@@ -26,7 +26,7 @@ pub fn answered(alloc: Global, trace: &[u8]) -> Result<Answered, Fail> {
 }
 
 /// What a trace is answered in pieces of that size.
-pub fn answered_in_pieces(alloc: Global, trace: &[u8], size: usize) -> Result<Answered, Fail>
+fn answered_in_pieces(alloc: Global, trace: &[u8], size: usize) -> Result<Answered, Fail>
     requires { 1 ≤ size }
 {
     let mut output = Counted::new(Vec::new(alloc));
@@ -40,30 +40,26 @@ pub fn answered_in_pieces(alloc: Global, trace: &[u8], size: usize) -> Result<An
 
 /// That was written, and there was a bad line or none.
 pub fn is_answered(rt: &impl Abort, found: &Answered, answers: &str, clean: bool, about: &str) {
-    assert_eq!(rt; found.0.as_slice(), answers.as_bytes(), "{about}");
-    assert_eq!(rt; found.1, clean);
+    assert_eq!(rt;
+        (found.0.as_slice(), found.1),
+        (answers.as_bytes(), clean),
+        "{about}"
+    );
 }
 
-/// Each trace as a whole is answered so.
-pub fn replays(rt: &impl Abort, alloc: Global, cases: &[Case]) -> Result<(), Fail> {
-    for case in cases {
-        let found = answered(alloc, case.trace.as_bytes())?;
-        is_answered(rt, &found, case.answers, case.clean, case.trace);
+/// What a trace is answered in pieces of that size, or as a whole where it is 0.
+fn answered_in(alloc: Global, trace: &[u8], size: usize) -> Result<Answered, Fail> {
+    if size == 0 {
+        answered(alloc, trace)
+    } else {
+        answered_in_pieces(alloc, trace, size)
     }
-    Ok(())
 }
 
-/// Each trace in pieces of that size is answered so.
-pub fn replays_in_pieces(
-    rt: &impl Abort,
-    alloc: Global,
-    cases: &[Case],
-    size: usize,
-) -> Result<(), Fail>
-    requires { 1 ≤ size }
-{
+/// Each trace is answered so, in pieces of that size, or as a whole where it is 0.
+pub fn replays(rt: &impl Abort, alloc: Global, cases: &[Case], size: usize) -> Result<(), Fail> {
     for case in cases {
-        let found = answered_in_pieces(alloc, case.trace.as_bytes(), size)?;
+        let found = answered_in(alloc, case.trace.as_bytes(), size)?;
         is_answered(rt, &found, case.answers, case.clean, case.trace);
     }
     Ok(())

@@ -1,7 +1,9 @@
 //! Worked traces in which policies choose, with values from outside this program. Images are those of the format: their
 //! programs are short enough to read as bytes.
 
-use crate::cases::{Case, replays, replays_in_pieces};
+use crate::cases::{Case, replays};
+use std::alloc::Global;
+use std::process::Abort;
 use std::test::Fail;
 
 /// A policy's map is kept from run to run, each processor has maps of its own, and a new policy begins with zeros.
@@ -404,12 +406,17 @@ const CASES: [Case; 10] = [
     UNLOADED,
 ];
 
+/// Each trace is answered so, in pieces of that size, or as a whole where it is 0.
+fn cases_hold(rt: &impl Abort, alloc: Global, size: usize) -> Result<(), Fail> {
+    replays(rt, alloc, &CASES, size)
+}
+
 #[test]
 fn answers_traces_with_policies(rt: HostRuntime) -> Result<(), Fail> {
-    replays(&rt, rt.alloc(), &CASES)
+    cases_hold(&rt, rt.alloc(), 0)
 }
 
 #[test]
 fn answers_policies_the_same_in_pieces(rt: HostRuntime) -> Result<(), Fail> {
-    replays_in_pieces(&rt, rt.alloc(), &CASES, 7)
+    cases_hold(&rt, rt.alloc(), 7)
 }

@@ -1,6 +1,6 @@
 //! Worked traces, with values from outside this program.
 
-use crate::cases::{Answered, Case, answered, is_answered, replays, replays_in_pieces};
+use crate::cases::{Answered, Case, answered, is_answered, replays};
 use bq_trace::{Counted, ReplayFault, replay};
 use std::alloc::{AllocError, Global};
 use std::io;
@@ -245,15 +245,20 @@ const CASES: [Case; 11] = [
     NUMBERS,
 ];
 
+/// Each trace is answered so, in pieces of that size, or as a whole where it is 0.
+fn cases_hold(rt: &impl Abort, alloc: Global, size: usize) -> Result<(), Fail> {
+    replays(rt, alloc, &CASES, size)
+}
+
 #[test]
 fn answers_worked_traces(rt: HostRuntime) -> Result<(), Fail> {
-    replays(&rt, rt.alloc(), &CASES)
+    cases_hold(&rt, rt.alloc(), 0)
 }
 
 #[test]
 fn answers_the_same_in_pieces(rt: HostRuntime) -> Result<(), Fail> {
     for size in [1, 7, 4096] {
-        replays_in_pieces(&rt, rt.alloc(), &CASES, size)?;
+        cases_hold(&rt, rt.alloc(), size)?;
     }
     Ok(())
 }
@@ -352,8 +357,7 @@ type Ended = (Result<bool, ReplayFault>, Vec<u8>);
 
 /// It ended by that fault, and this was written.
 fn ends_by(rt: &impl Abort, ended: &Ended, fault: ReplayFault, written: &[u8]) {
-    assert_eq!(rt; ended.0, Err(fault));
-    assert_eq!(rt; ended.1.as_slice(), written);
+    assert_eq!(rt; (ended.0, ended.1.as_slice()), (Err(fault), written));
 }
 
 /// How a replay of what is read ends.
