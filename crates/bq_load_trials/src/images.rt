@@ -1,6 +1,7 @@
 // Images by their bytes: what is loaded, with its budget, and what is refused, with slot and cause.
 // The images and their answers are worked by hand from the format and the rules of the verifier.
 
+use bq_bpf::MapShape;
 use bq_insn::fault::Cause as Code;
 use bq_load::{Hook, Image, LoadFault, Version, load, read_image, write_image};
 use bq_verify::{Cause, Doubt, GraphCause};
@@ -72,7 +73,7 @@ fn loads(
     answer: Result<u32, LoadFault>,
     row: (usize, usize),
 ) {
-    assert_eq!(rt; budget(alloc, image), answer, "image {row:?}");
+    assert_eq!(rt; budget(alloc, image), answer, "image {} {}", row.0, row.1);
 }
 
 /// The bytes with one of them changed.
@@ -301,16 +302,32 @@ fn the_version_says_how_long_the_context_is(rt: HostRuntime) -> Result<(), Fail>
     Ok(())
 }
 
-/// The image is that of the counting program.
-fn is_counting(rt: &impl Abort, image: &Image) {
+/// The map has one entry of 8 bytes.
+fn is_small(rt: &impl Abort, shape: MapShape) {
+    assert_eq!(rt; (shape.value_size, shape.entries), (8, 1));
+}
+
+/// The image is for the hook preempt, in the first version, and has one map.
+fn is_headed(rt: &impl Abort, image: &Image) {
+    let maps = image.shapes.len();
     assert_eq!(rt;
-        (image.version, image.hook, image.shapes.len()),
+        (image.version, image.hook, maps),
         (Version::First, Hook::Preempt, 1)
     );
+}
+
+/// The image is that of the counting program.
+fn is_counting(rt: &impl Abort, image: &Image) {
+    is_headed(rt, image);
     for shape in &image.shapes {
-        assert_eq!(rt; (shape.value_size, shape.entries), (8, 1));
+        is_small(rt, *shape);
     }
-    assert_eq!(rt; image.program.as_slice(), &COUNTING[16..]);
+    are_bytes(rt, image.program.as_slice(), &COUNTING[16..]);
+}
+
+/// They are these bytes.
+fn are_bytes(rt: &impl Abort, found: &[u8], expected: &[u8]) {
+    assert_eq!(rt; found, expected);
 }
 
 /// The image written behind one byte, if it has few maps and a program of whole slots.
@@ -326,8 +343,7 @@ fn written(alloc: Global, image: &Image) -> Result<Option<Vec<u8>>, AllocError> 
 
 /// The bytes are one byte, and the image of the counting program.
 fn is_written(rt: &impl Abort, out: &[u8]) {
-    assert_eq!(rt; out.len(), 137);
-    assert_eq!(rt; &out[1..], COUNTING.as_slice());
+    assert_eq!(rt; (out.len(), out.get(1..)), (137, Some(COUNTING.as_slice())));
 }
 
 #[test]
