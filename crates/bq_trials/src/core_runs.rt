@@ -11,6 +11,7 @@ use bq_eevdf::EevdfQueue;
 use bq_load::load;
 use bq_trace::texts::write_answer;
 use std::alloc::Global;
+use std::process::Abort;
 use std::test::Fail;
 
 /// Preempt, one map of 8 bytes and 1 entry: answers the old value of its entry and adds one to it, or answers 2.
@@ -50,6 +51,26 @@ const FIRST_TASK: &str = "42515049 01 02 0000 02000000  b700000001000000 9500000
 
 const SECOND_TASK: &str = "42515049 01 02 0000 02000000  b700000002000000 9500000000000000";
 
+/// An event that is told without a policy of its own, so that rows of events own nothing. Admitted tasks are of nice 0.
+#[derive(Clone, Copy)]
+enum Told {
+    /// A task, its mask and its slice.
+    Admit(u16, u64, u64),
+    Draw,
+    /// At a processor's hook, as a generation: the policy of this image, or none.
+    Install(u8, Hook, u64, Option<&'static str>),
+    /// A task comes into the hand of processor 0.
+    BeginWake(u16),
+    /// And it is placed, at this time.
+    EndWake(u64),
+    /// At processor 0, as are the next two.
+    Drain(u64),
+    Tick(u64),
+    Block(u64),
+    /// Processor 1 pulls from this one, at time 0.
+    Pull(u8),
+}
+
 /// The policy of an image.
 fn policy(alloc: Global, image: &str) -> Result<Option<Policy>, Fail> {
     let image = bytes_of(alloc, image)?;
@@ -59,33 +80,51 @@ fn policy(alloc: Global, image: &str) -> Result<Option<Policy>, Fail> {
     }
 }
 
-fn admit(task: u16, mask: u64, slice: u64) -> Event {
-    Event::Admit {
-        task,
-        nice: 0,
-        mask,
-        slice,
+/// The policy of an image, if there is an image.
+fn policy_told(alloc: Global, image: Option<&str>) -> Result<Option<Policy>, Fail> {
+    match image {
+        None => Ok(None),
+        Some(image) => policy(alloc, image),
     }
 }
 
-fn install(processor: u8, hook: Hook, generation: u64, policy: Option<Policy>) -> Event {
-    Event::Install {
-        processor,
-        hook,
-        generation,
-        policy,
+/// The event that a row tells.
+fn event(alloc: Global, told: Told) -> Result<Event, Fail> {
+    let processor = 0;
+    Ok(match told {
+        Told::Admit(task, mask, slice) => Event::Admit {
+            task,
+            nice: 0,
+            mask,
+            slice,
+        },
+        Told::Draw => Event::Draw,
+        Told::Install(processor, hook, generation, image) => Event::Install {
+            processor,
+            hook,
+            generation,
+            policy: policy_told(alloc, image)?,
+        },
+        Told::BeginWake(task) => Event::BeginWake { processor, task },
+        Told::EndWake(now) => Event::EndWake { processor, now },
+        Told::Drain(now) => Event::Drain { processor, now },
+        Told::Tick(now) => Event::Tick { processor, now },
+        Told::Block(now) => Event::Block { processor, now },
+        Told::Pull(from) => Event::Pull {
+            processor: 1,
+            from,
+            now: 0,
+        },
+    })
+}
+
+/// The events that some rows tell, in their order.
+fn events(alloc: Global, rows: &[Told]) -> Result<Vec<Event>, Fail> {
+    let mut events = Vec::new(alloc);
+    for told in rows {
+        events.push(event(alloc, *told)?)?;
     }
-}
-
-fn tick(processor: u8, now: u64) -> Event {
-    Event::Tick { processor, now }
-}
-
-/// Both halves of a wake at processor 0.
-fn wake(events: &mut Vec<Event>, task: u16, now: u64) -> Result<(), Fail> {
-    events.push(Event::BeginWake { processor: 0, task })?;
-    events.push(Event::EndWake { processor: 0, now })?;
-    Ok(())
+    Ok(events)
 }
 
 /// The lines that answer some events.
@@ -107,128 +146,127 @@ fn lines<Q: RunQueue + Drop, const P: usize>(
     Ok(text)
 }
 
+fn are_lines(rt: &impl Abort, lines: &str, expected: &str) {
+    assert_eq!(rt; lines, expected);
+}
+
+/// A core answers the events of some rows by these lines.
+fn is_answered<Q: RunQueue + Drop, const P: usize>(
+    rt: &impl Abort,
+    alloc: Global,
+    rows: &[Told],
+    board: &mut Plain,
+    expected: &str,
+) -> Result<(), Fail>
+    requires { P ≤ 64 }
+{
+    let events = events(alloc, rows)?;
+    let lines = lines::<Q, P>(alloc, events, board)?;
+    are_lines(rt, lines.as_str(), expected);
+    Ok(())
+}
+
 #[test]
 fn a_map_is_written_and_read_back(rt: HostRuntime) -> Result<(), Fail> {
-    let alloc = rt.alloc();
-    let mut events = Vec::new(alloc);
-    events.push(admit(1, 1, 3_000_000))?;
-    events.push(admit(2, 1, 3_000_000))?;
-    events.push(Event::Draw)?;
-    events.push(install(0, Hook::Preempt, 1, policy(alloc, COUNTING)?))?;
-    wake(&mut events, 1, 0)?;
-    wake(&mut events, 2, 0)?;
-    events.push(Event::Drain {
-        processor: 0,
-        now: 0,
-    })?;
-    events.push(tick(0, 0))?;
-    events.push(tick(0, 0))?;
-    events.push(tick(0, 0))?;
-    events.push(install(0, Hook::Preempt, 1, None))?;
-    let mut board = Plain::new();
-    assert_eq!(&rt;
-        lines::<CfsQueue, 2>(alloc, events, &mut board)?.as_str(),
-        "\
+    let rows = [
+        Told::Admit(1, 1, 3_000_000),
+        Told::Admit(2, 1, 3_000_000),
+        Told::Draw,
+        Told::Install(0, Hook::Preempt, 1, Some(COUNTING)),
+        Told::BeginWake(1),
+        Told::EndWake(0),
+        Told::BeginWake(2),
+        Told::EndWake(0),
+        Told::Drain(0),
+        Told::Tick(0),
+        Told::Tick(0),
+        Told::Tick(0),
+        Told::Install(0, Hook::Preempt, 1, None),
+    ];
+    let expected = "\
 admit ok\nadmit ok\ndraw 1\ninstall ok\nbegin 1 loads 0 0\nend 1 to 0 by rule steps 0\nbegin 2 loads 1 0\n\
 end 2 to 0 by rule steps 0\ndrain 2 run 1 by rule steps 0\ntick run 1 by policy steps 12\n\
-tick run 2 by policy steps 12\ntick run 2 by rule steps 12\nrefused C12 Older 1\n"
-    );
-    Ok(())
+tick run 2 by policy steps 12\ntick run 2 by rule steps 12\nrefused C12 Older 1\n";
+    is_answered::<CfsQueue, 2>(&rt, rt.alloc(), &rows, &mut Plain::new(), expected)
 }
 
 #[test]
 fn the_earliest_deadline_is_not_eligible(rt: HostRuntime) -> Result<(), Fail> {
-    let alloc = rt.alloc();
-    let mut events = Vec::new(alloc);
-    events.push(admit(1, 1, 3_000_000))?;
-    events.push(admit(2, 1, 100_000))?;
-    wake(&mut events, 1, 0)?;
-    wake(&mut events, 2, 0)?;
-    events.push(Event::Drain {
-        processor: 0,
-        now: 0,
-    })?;
-    events.push(tick(0, 100_000))?;
-    events.push(Event::Block {
-        processor: 0,
-        now: 100_000,
-    })?;
-    events.push(tick(0, 200_000))?;
-    wake(&mut events, 1, 200_000)?;
-    let mut board = Plain::new();
-    assert_eq!(&rt;
-        lines::<EevdfQueue, 1>(alloc, events, &mut board)?.as_str(),
-        "\
+    let rows = [
+        Told::Admit(1, 1, 3_000_000),
+        Told::Admit(2, 1, 100_000),
+        Told::BeginWake(1),
+        Told::EndWake(0),
+        Told::BeginWake(2),
+        Told::EndWake(0),
+        Told::Drain(0),
+        Told::Tick(100_000),
+        Told::Block(100_000),
+        Told::Tick(200_000),
+        Told::BeginWake(1),
+        Told::EndWake(200_000),
+    ];
+    let expected = "\
 admit ok\nadmit ok\nbegin 1 loads 0\nend 1 to 0 by rule steps 0\nbegin 2 loads 1\nend 2 to 0 by rule steps 0\n\
 drain 2 run 2 by rule steps 0\ntick run 1 by rule steps 0\nblock 1 run 2\ntick run 2 by rule steps 0\n\
-begin 1 loads 1\nend 1 to 0 by rule steps 0\n"
-    );
-    Ok(())
+begin 1 loads 1\nend 1 to 0 by rule steps 0\n";
+    is_answered::<EevdfQueue, 1>(&rt, rt.alloc(), &rows, &mut Plain::new(), expected)
 }
 
 #[test]
 fn an_emptier_processor_pulls(rt: HostRuntime) -> Result<(), Fail> {
-    let alloc = rt.alloc();
-    let pull = |from: u8| Event::Pull {
-        processor: 1,
-        from,
-        now: 0,
-    };
-    let mut events = Vec::new(alloc);
-    events.push(admit(1, 1, 3_000_000))?;
-    events.push(admit(2, 3, 3_000_000))?;
-    events.push(admit(3, 3, 3_000_000))?;
-    events.push(Event::Draw)?;
-    events.push(install(0, Hook::Place, 1, policy(alloc, FIRST_PROCESSOR)?))?;
-    wake(&mut events, 1, 0)?;
-    wake(&mut events, 2, 0)?;
-    wake(&mut events, 3, 0)?;
-    events.push(Event::Drain {
-        processor: 0,
-        now: 0,
-    })?;
-    events.push(pull(0))?;
-    events.push(pull(0))?;
-    events.push(Event::Draw)?;
-    events.push(install(1, Hook::Pull, 2, policy(alloc, FIRST_TASK)?))?;
-    events.push(pull(0))?;
-    events.push(Event::Draw)?;
-    events.push(install(1, Hook::Pull, 3, policy(alloc, SECOND_TASK)?))?;
-    events.push(pull(0))?;
-    events.push(pull(1))?;
-    let mut board = Plain::new();
-    assert_eq!(&rt;
-        lines::<CfsQueue, 2>(alloc, events, &mut board)?.as_str(),
-        "\
+    let rows = [
+        Told::Admit(1, 1, 3_000_000),
+        Told::Admit(2, 3, 3_000_000),
+        Told::Admit(3, 3, 3_000_000),
+        Told::Draw,
+        Told::Install(0, Hook::Place, 1, Some(FIRST_PROCESSOR)),
+        Told::BeginWake(1),
+        Told::EndWake(0),
+        Told::BeginWake(2),
+        Told::EndWake(0),
+        Told::BeginWake(3),
+        Told::EndWake(0),
+        Told::Drain(0),
+        Told::Pull(0),
+        Told::Pull(0),
+        Told::Draw,
+        Told::Install(1, Hook::Pull, 2, Some(FIRST_TASK)),
+        Told::Pull(0),
+        Told::Draw,
+        Told::Install(1, Hook::Pull, 3, Some(SECOND_TASK)),
+        Told::Pull(0),
+        Told::Pull(1),
+    ];
+    let expected = "\
 admit ok\nadmit ok\nadmit ok\ndraw 1\ninstall ok\nbegin 1 loads 0 0\nend 1 to 0 by policy steps 2\n\
 begin 2 loads 1 0\nend 2 to 0 by policy steps 2\nbegin 3 loads 2 0\nend 3 to 0 by policy steps 2\n\
 drain 3 run 1 by rule steps 0\npull 3 run 3 by rule steps 0\npull none run 3 by rule steps 0\ndraw 2\ninstall ok\n\
-pull none run 3 by rule steps 2\ndraw 3\ninstall ok\npull 2 run 3 by policy steps 2\nrefused C9 SameProcessor\n"
-    );
-    Ok(())
+pull none run 3 by rule steps 2\ndraw 3\ninstall ok\npull 2 run 3 by policy steps 2\nrefused C9 SameProcessor\n";
+    is_answered::<CfsQueue, 2>(&rt, rt.alloc(), &rows, &mut Plain::new(), expected)
+}
+
+fn is_counted(rt: &impl Abort, count: u64, expected: u64) {
+    assert_eq!(rt; count, expected);
 }
 
 #[test]
 fn what_policies_add_stands_on_the_board(rt: HostRuntime) -> Result<(), Fail> {
-    let alloc = rt.alloc();
-    let mut events = Vec::new(alloc);
-    events.push(admit(1, 1, 3_000_000))?;
-    events.push(Event::Draw)?;
-    events.push(install(0, Hook::Preempt, 1, policy(alloc, ADDING)?))?;
-    wake(&mut events, 1, 0)?;
-    events.push(Event::Drain {
-        processor: 0,
-        now: 0,
-    })?;
-    events.push(tick(0, 0))?;
-    events.push(tick(0, 0))?;
-    let mut board = Plain::new();
-    assert_eq!(&rt;
-        lines::<EevdfQueue, 1>(alloc, events, &mut board)?.as_str(),
-        "\
+    let rows = [
+        Told::Admit(1, 1, 3_000_000),
+        Told::Draw,
+        Told::Install(0, Hook::Preempt, 1, Some(ADDING)),
+        Told::BeginWake(1),
+        Told::EndWake(0),
+        Told::Drain(0),
+        Told::Tick(0),
+        Told::Tick(0),
+    ];
+    let expected = "\
 admit ok\ndraw 1\ninstall ok\nbegin 1 loads 0\nend 1 to 0 by rule steps 0\ndrain 1 run 1 by rule steps 0\n\
-tick run 1 by policy steps 5\ntick run 1 by policy steps 5\n"
-    );
-    assert_eq!(&rt; board.read(3), 10);
+tick run 1 by policy steps 5\ntick run 1 by policy steps 5\n";
+    let mut board = Plain::new();
+    is_answered::<EevdfQueue, 1>(&rt, rt.alloc(), &rows, &mut board, expected)?;
+    is_counted(&rt, board.read(3), 10);
     Ok(())
 }
