@@ -3,14 +3,15 @@
 
 ghost use Rattle.std.specs.Prelude.{◌≤◌};
 
+use crate::asserting::{is_number, is_text};
 use crate::hex_text::bytes_of;
 use bq_cfs::CfsQueue;
-use bq_core::{Board, Core, Event, Hook, Plain, Policy};
+use bq_core::{Board, Core, Event, Hook, Plain, Policy, Refusal, Reply};
 use bq_disc::RunQueue;
 use bq_eevdf::EevdfQueue;
 use bq_load::load;
 use bq_trace::texts::write_answer;
-use std::alloc::Global;
+use std::alloc::{AllocError, Global};
 use std::process::Abort;
 use std::test::Fail;
 
@@ -71,6 +72,9 @@ enum Told {
     Pull(u8),
 }
 
+/// What a core answers an event.
+type Answer = Result<Reply, Refusal>;
+
 /// The policy of an image.
 fn policy(alloc: Global, image: &str) -> Result<Option<Policy>, Fail> {
     let image = bytes_of(alloc, image)?;
@@ -127,27 +131,40 @@ fn events(alloc: Global, rows: &[Told]) -> Result<Vec<Event>, Fail> {
     Ok(events)
 }
 
-/// The lines that answer some events.
-fn lines<Q: RunQueue + Drop, const P: usize>(
+/// What a core answers some events.
+fn answers<Q: RunQueue + Drop, const P: usize>(
     alloc: Global,
     events: Vec<Event>,
     board: &mut Plain,
-) -> Result<String, Fail>
+) -> Result<Vec<Answer>, Fail>
     requires { P ≤ 64 }
 {
     let mut core = Core::<Q, P>::new(alloc)?;
-    let Ok(answers) = core.run(alloc, events, board) else {
-        return Err(Fail::from("want of memory"));
-    };
+    match core.run(alloc, events, board) {
+        Ok(answers) => Ok(answers),
+        Err(_) => Err(Fail::from("want of memory")),
+    }
+}
+
+/// The lines of some answers.
+fn lines(alloc: Global, answers: &[Answer]) -> Result<String, AllocError> {
     let mut text = String::new(alloc);
-    for answer in &answers {
+    for answer in answers {
         write_answer(&mut text, answer)?;
     }
     Ok(text)
 }
 
-fn are_lines(rt: &impl Abort, lines: &str, expected: &str) {
-    assert_eq!(rt; lines, expected);
+/// Some answers have these lines.
+fn are_lines(
+    rt: &impl Abort,
+    alloc: Global,
+    answers: &[Answer],
+    expected: &str,
+) -> Result<(), Fail> {
+    let text = lines(alloc, answers)?;
+    is_text(rt, text.as_str(), expected);
+    Ok(())
 }
 
 /// A core answers the events of some rows by these lines.
@@ -160,10 +177,8 @@ fn is_answered<Q: RunQueue + Drop, const P: usize>(
 ) -> Result<(), Fail>
     requires { P ≤ 64 }
 {
-    let events = events(alloc, rows)?;
-    let lines = lines::<Q, P>(alloc, events, board)?;
-    are_lines(rt, lines.as_str(), expected);
-    Ok(())
+    let answers = answers::<Q, P>(alloc, events(alloc, rows)?, board)?;
+    are_lines(rt, alloc, answers.as_slice(), expected)
 }
 
 #[test]
@@ -246,10 +261,6 @@ pull none run 3 by rule steps 2\ndraw 3\ninstall ok\npull 2 run 3 by policy step
     is_answered::<CfsQueue, 2>(&rt, rt.alloc(), &rows, &mut Plain::new(), expected)
 }
 
-fn is_counted(rt: &impl Abort, count: u64, expected: u64) {
-    assert_eq!(rt; count, expected);
-}
-
 #[test]
 fn what_policies_add_stands_on_the_board(rt: HostRuntime) -> Result<(), Fail> {
     let rows = [
@@ -267,6 +278,6 @@ admit ok\ndraw 1\ninstall ok\nbegin 1 loads 0\nend 1 to 0 by rule steps 0\ndrain
 tick run 1 by policy steps 5\ntick run 1 by policy steps 5\n";
     let mut board = Plain::new();
     is_answered::<EevdfQueue, 1>(&rt, rt.alloc(), &rows, &mut board, expected)?;
-    is_counted(&rt, board.read(3), 10);
+    is_number(&rt, board.read(3), 10);
     Ok(())
 }

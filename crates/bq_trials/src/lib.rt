@@ -6,6 +6,8 @@
 #[cfg(test)]
 mod answer;
 #[cfg(test)]
+mod asserting;
+#[cfg(test)]
 mod command;
 #[cfg(test)]
 mod contexts;

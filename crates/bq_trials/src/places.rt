@@ -1,7 +1,9 @@
 // Contexts of places, permitted answers and own places. Expected bytes are written field by field from the tables of
 // docs/CONTEXTS.md; each load is its processor's number and one more.
 
-use crate::hex_text::bytes_of;
+ghost use Rattle.std.specs.Prelude.{◌≤◌, length};
+
+use crate::asserting::{are_bytes_of, is_byte};
 use bq_disc::Entity;
 use bq_hooks::{
     By, Choice, Loads, Place, own_place, place_ctx, settle_place, settle_preempt, wide_place_ctx,
@@ -22,24 +24,44 @@ fn rising(count: u16) -> Loads {
 }
 
 /// Compares a context with its first 40 bytes and the loads of so many processors behind them.
-fn shows(rt: &impl Abort, context: &[u8], header: &[u8], processors: usize) {
-    assert_eq!(rt; header.len(), 40);
-    for (at, byte) in context.iter().enumerate() {
-        let expected = match header.get(at) {
-            Some(byte) => usize::from(*byte),
-            None => load_byte(at.saturating_sub(40), processors),
-        };
-        assert_eq!(rt; usize::from(*byte), expected, "byte {at}");
+fn shows(
+    rt: &impl Abort,
+    alloc: Global,
+    context: &[u8],
+    header: &str,
+    processors: usize,
+) -> Result<(), Fail>
+    requires { 40 ≤ length context.now }
+{
+    let (first, loads) = context.split_at(40);
+    are_bytes_of(rt, alloc, first, header)?;
+    for (at, byte) in loads.iter().enumerate() {
+        is_byte(rt, at, *byte, load_byte(at, processors));
     }
+    Ok(())
 }
 
-/// A byte of the loads of so many processors, each of which is its processor's number and one more.
-fn load_byte(at: usize, processors: usize) -> usize {
-    if at % 4 == 0 && at / 4 < processors {
-        (at / 4).saturating_add(1)
+/// A byte of the loads of so many processors, 64 at most, each of which is its processor's number and one more.
+fn load_byte(at: usize, processors: usize) -> u8 {
+    if at % 4 == 0 && at / 4 < processors.min(64) {
+        (at / 4 + 1) as u8
     } else {
         0
     }
+}
+
+/// Compares the context of version 1.
+fn first_shows(rt: &impl Abort, alloc: Global, facts: &Place, header: &str) -> Result<(), Fail> {
+    let mut context = [0xaa; 104];
+    place_ctx(facts, &mut context);
+    shows(rt, alloc, &context, header, facts.processors.min(16))
+}
+
+/// And that of version 2.
+fn second_shows(rt: &impl Abort, alloc: Global, facts: &Place, header: &str) -> Result<(), Fail> {
+    let mut context = [0xaa; 296];
+    wide_place_ctx(facts, &mut context);
+    shows(rt, alloc, &context, header, facts.processors.min(64))
 }
 
 /// Compares both contexts of a place.
@@ -50,15 +72,8 @@ fn both_show(
     first: &str,
     second: &str,
 ) -> Result<(), Fail> {
-    let mut context = [0xaa; 104];
-    place_ctx(facts, &mut context);
-    let first = bytes_of(alloc, first)?;
-    shows(rt, &context, first.as_slice(), facts.processors.min(16));
-    let mut context = [0xaa; 296];
-    wide_place_ctx(facts, &mut context);
-    let second = bytes_of(alloc, second)?;
-    shows(rt, &context, second.as_slice(), facts.processors.min(64));
-    Ok(())
+    first_shows(rt, alloc, facts, first)?;
+    second_shows(rt, alloc, facts, second)
 }
 
 /// On one processor both versions show the same.

@@ -1,5 +1,6 @@
 // Policies are asked at their hooks: what they answer, in how many steps, and which maps and counters they see.
 
+use crate::asserting::{is_number, is_true};
 use bq_asm::assemble;
 use bq_bpf::{Call, MapShape, Plain, context_length};
 use bq_policies::{Env, Hook, Hooks, Installed, Policy, Scratch, Version};
@@ -92,9 +93,6 @@ fn one_entry() -> Result<MapShape, Fail> {
     }
 }
 
-// What is asserted stands in functions of its own, which hold none of the policies: a proof of an assertion carries all that the
-// function would drop.
-
 /// What stands there gives that answer in so many steps.
 fn answers(
     rt: &impl Abort,
@@ -106,83 +104,93 @@ fn answers(
     assert_eq!(rt; ask(installed, scratch, board), Some(answer));
 }
 
-fn is_of_generation(rt: &impl Abort, installed: &Installed, generation: u64) {
-    assert_eq!(rt; installed.generation(), generation);
+/// Two places at which one policy stands, as generation 1.
+fn two_places(alloc: Global, policy: Policy) -> Result<(Installed, Installed), AllocError> {
+    let first = Installed::new(alloc, Some(policy.clone()?), 1)?;
+    let second = Installed::new(alloc, Some(policy), 1)?;
+    Ok((first, second))
 }
 
-fn keeps_no_call(rt: &impl Abort, scratch: &Scratch) {
-    assert!(rt; scratch.calls().is_empty());
+/// Where one policy stands twice each counts on its own.
+fn count_apart(
+    rt: &impl Abort,
+    first: &mut Installed,
+    second: &mut Installed,
+    scratch: &mut Scratch,
+) {
+    let mut board = Plain::new();
+    is_number(rt, first.generation(), 1);
+    answers(rt, first, scratch, &mut board, (0, 12));
+    answers(rt, first, scratch, &mut board, (1, 12));
+    answers(rt, second, scratch, &mut board, (0, 12));
+    answers(rt, first, scratch, &mut board, (2, 12));
+    is_true(rt, scratch.calls().is_empty());
 }
 
 #[test]
 fn maps_of_their_own(rt: HostRuntime) -> Result<(), Fail> {
     let alloc = rt.alloc();
     let counts = accepted(alloc, COUNTS, &[one_entry()?])?;
-    let mut scratch = Scratch::new();
-    let mut board = Plain::new();
-    let mut first = Installed::new(alloc, Some(counts.clone()?), 1)?;
-    let mut second = Installed::new(alloc, Some(counts), 1)?;
-    is_of_generation(&rt, &first, 1);
-    answers(&rt, &mut first, &mut scratch, &mut board, (0, 12));
-    answers(&rt, &mut first, &mut scratch, &mut board, (1, 12));
-    answers(&rt, &mut second, &mut scratch, &mut board, (0, 12));
-    answers(&rt, &mut first, &mut scratch, &mut board, (2, 12));
-    keeps_no_call(&rt, &scratch);
+    let (mut first, mut second) = two_places(alloc, counts)?;
+    count_apart(&rt, &mut first, &mut second, &mut Scratch::new());
     Ok(())
 }
 
-/// A run added 5 to counter 3, and the board has 10 there.
-fn added_last(rt: &impl Abort, scratch: &Scratch, board: &Plain) {
+/// A run added 5 to counter 3.
+fn added_five(rt: &impl Abort, calls: &[Call]) {
     let second = Call::Add {
         counter: 3,
         amount: 5,
         answer: 5,
     };
-    assert_eq!(rt; scratch.calls().len(), 1);
-    assert!(rt; scratch.calls().first() == Some(&second));
-    assert_eq!(rt; board.value(3), 10);
+    is_number(rt, calls.len() as u64, 1);
+    is_true(rt, calls.first() == Some(&second));
+}
+
+/// A policy that adds 5 to counter 3 is asked twice.
+fn adds_twice(rt: &impl Abort, installed: &mut Installed, scratch: &mut Scratch) {
+    let mut board = Plain::new();
+    answers(rt, installed, scratch, &mut board, (0, 5));
+    answers(rt, installed, scratch, &mut board, (0, 5));
+    added_five(rt, scratch.calls());
+    is_number(rt, board.value(3), 10);
+    scratch.clear();
+    is_true(rt, scratch.calls().is_empty());
 }
 
 #[test]
 fn counters_of_all(rt: HostRuntime) -> Result<(), Fail> {
     let alloc = rt.alloc();
     let adds = accepted(alloc, ADDS, &[])?;
-    let mut scratch = Scratch::new();
-    let mut board = Plain::new();
     let mut installed = Installed::new(alloc, Some(adds), 1)?;
-    answers(&rt, &mut installed, &mut scratch, &mut board, (0, 5));
-    answers(&rt, &mut installed, &mut scratch, &mut board, (0, 5));
-    added_last(&rt, &scratch, &board);
-    scratch.clear();
-    keeps_no_call(&rt, &scratch);
+    adds_twice(&rt, &mut installed, &mut Scratch::new());
     Ok(())
 }
 
-/// Hooks at which a policy of generation 7 stands.
-fn equipped(alloc: Global, policy: Policy) -> Result<Hooks, AllocError> {
-    let mut hooks = Hooks::new();
+/// At its hook a policy of generation 7 stands.
+fn equip(alloc: Global, hooks: &mut Hooks, policy: Policy) -> Result<(), AllocError> {
     let hook = policy.hook();
     hooks.install(hook, Installed::new(alloc, Some(policy), 7)?);
-    Ok(hooks)
+    Ok(())
 }
 
-fn preempt_is_of_generation(rt: &impl Abort, hooks: &Hooks, generation: u64) {
-    assert_eq!(rt; hooks.generation(Hook::Preempt), generation);
-}
-
-/// What stands at the other hooks, and of which version the policy at this one is.
+/// What stands at the hooks once a policy stands at this one, and of which version it is.
 fn preempt_alone_is_equipped(rt: &impl Abort, hooks: &Hooks) {
-    assert_eq!(rt; hooks.generation(Hook::Place), 0);
-    assert!(rt; hooks.version(Hook::Preempt) == Some(Version::First));
-    assert!(rt; hooks.version(Hook::Pull).is_none());
+    is_number(rt, hooks.generation(Hook::Preempt), 7);
+    is_number(rt, hooks.generation(Hook::Place), 0);
+    is_true(rt, hooks.version(Hook::Preempt) == Some(Version::First));
+    is_true(rt, hooks.version(Hook::Pull).is_none());
+}
+
+/// At hooks where nothing stands a policy is installed.
+fn are_equipped(rt: &impl Abort, alloc: Global, hooks: &mut Hooks) -> Result<(), Fail> {
+    is_number(rt, hooks.generation(Hook::Preempt), 0);
+    equip(alloc, hooks, accepted(alloc, ADDS, &[])?)?;
+    preempt_alone_is_equipped(rt, hooks);
+    Ok(())
 }
 
 #[test]
 fn three_hooks(rt: HostRuntime) -> Result<(), Fail> {
-    let alloc = rt.alloc();
-    preempt_is_of_generation(&rt, &Hooks::new(), 0);
-    let hooks = equipped(alloc, accepted(alloc, ADDS, &[])?)?;
-    preempt_is_of_generation(&rt, &hooks, 7);
-    preempt_alone_is_equipped(&rt, &hooks);
-    Ok(())
+    are_equipped(&rt, rt.alloc(), &mut Hooks::new())
 }
