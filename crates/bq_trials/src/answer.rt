@@ -1,64 +1,50 @@
-//! What a run queue answers.
+//! What a run queue answers, as numbers.
 ghost use Rattle.std.specs.Prelude.{◌≡◌, ◌<◌, ◌^◌};
 ghost use Rattle.bq_disc.specs.Chains.{task_of, IsLone};
 
-use crate::command::Command;
+use crate::command::{Command, Newcomer};
 use bq_disc::{Entity, Entry, Node, RunQueue};
 use std::alloc::{AllocError, Global};
 
-/// What tells one task from another, and where it stands.
-#[derive(Clone, Copy, Debug, PartialEq, Eq)]
-pub(crate) struct Figures {
-    pub id: u16,
-    pub v: u64,
-    pub deadline: u64,
-    pub rel: i64,
+/// A part of an answer as numbers; those that it does not need are 0.
+type Part = [i128; 5];
+
+/// What a queue answers a command, which task is then its first, and how many tasks it then has and the mark that it keeps.
+pub(crate) type Answer = [Part; 3];
+
+const NOTHING: Part = [0; 5];
+
+/// What tells a task from others, and where it stands.
+fn told_of(entity: &Entity) -> Part {
+    [
+        1,
+        i128::from(entity.id()),
+        i128::from(entity.v()),
+        i128::from(entity.deadline()),
+        i128::from(entity.rel()),
+    ]
 }
 
-/// A queue's answer to a command.
-#[derive(Clone, Copy, Debug, PartialEq, Eq)]
-pub(crate) enum Answer {
-    /// The task that was moved, charged or found.
-    Task(Option<Figures>),
-    /// The choice over queue and current, that of the queue alone, whom the current gives way to, and whether it wants to.
-    Choices {
-        chosen: Option<u16>,
-        queued: Option<u16>,
-        next: Option<u16>,
-        wants: bool,
-    },
-    Mark(u64),
-    /// The task after another, and the first.
-    Tasks(Option<Figures>, Option<Figures>),
-    /// How many may go, the ids of the first eight in base 1024 by 1 more, and whether one may go.
-    Movable {
-        count: u32,
-        first: u128,
-        moves: bool,
-    },
-}
-
-fn told_of(entity: &Entity) -> Figures {
-    Figures {
-        id: entity.id(),
-        v: entity.v(),
-        deadline: entity.deadline(),
-        rel: entity.rel(),
-    }
-}
-
-/// The answer that names a task, if there is one.
-fn shown(entity: Option<Entity>) -> Option<Figures> {
+/// The task that was moved, charged or found; nothing where there is none.
+fn shown(entity: Option<Entity>) -> Part {
     match entity {
-        None => None,
-        Some(entity) => Some(told_of(&entity)),
+        None => NOTHING,
+        Some(entity) => told_of(&entity),
     }
 }
 
-fn figures_of(node: Option<&Node>) -> Option<Figures> {
+fn node_shown(node: Option<&Node>) -> Part {
     match node {
-        None => None,
-        Some(node) => Some(told_of(&node.entity)),
+        None => NOTHING,
+        Some(node) => told_of(&node.entity),
+    }
+}
+
+/// An id and one more, or 0 where there is none.
+fn id_shown(id: Option<u16>) -> i128 {
+    match id {
+        None => 0,
+        Some(id) => i128::from(id) + 1,
     }
 }
 
@@ -106,23 +92,20 @@ fn next_of<Q: RunQueue>(queue: &Q, current: &Option<Entity>) -> Option<u16> {
     }
 }
 
-fn choices<Q: RunQueue>(queue: &Q, current: &Option<Entity>) -> Answer {
-    let queued = queue.choice(None);
+/// The choice over queue and current, that of the queue alone, whom the current gives way to, and whether it wants to.
+fn choices<Q: RunQueue>(queue: &Q, current: &Option<Entity>) -> Part {
+    let queued = id_shown(queue.choice(None));
     match current {
-        None => Answer::Choices {
-            chosen: queued,
-            queued,
-            next: queued,
-            wants: false,
-        },
+        None => [queued, queued, queued, 0, 0],
         Some(entity) => {
             let node = node_of(entity);
-            Answer::Choices {
-                chosen: queue.choice(Some(&node)),
+            [
+                id_shown(queue.choice(Some(&node))),
                 queued,
-                next: queue.next(&node),
-                wants: queue.wants_preempt(&node),
-            }
+                id_shown(queue.next(&node)),
+                i128::from(queue.wants_preempt(&node)),
+                0,
+            ]
         }
     }
 }
@@ -134,19 +117,27 @@ fn mark<Q: RunQueue>(queue: &mut Q, current: &Option<Entity>) -> u64 {
     }
 }
 
-fn movable<Q: RunQueue>(queue: &Q, processor: u8, id: u16) -> Answer
+/// Some ids in base 1024 by 1 more.
+fn ids_shown(ids: &[u16]) -> i128 {
+    let mut shown = 0i128;
+    for id in ids {
+        shown = shown.wrapping_mul(1024).wrapping_add(i128::from(*id) + 1);
+    }
+    shown
+}
+
+/// How many may go, the ids of the first eight, and whether one may go.
+fn movable<Q: RunQueue>(queue: &Q, processor: u8, id: u16) -> Part
     requires { processor < 64 }
 {
     let found = queue.movable(processor);
-    let mut first = 0u128;
-    for id in found.first.as_slice() {
-        first = first.wrapping_mul(1024).wrapping_add(u128::from(*id) + 1);
-    }
-    Answer::Movable {
-        count: found.count,
-        first,
-        moves: queue.is_movable(id, processor),
-    }
+    [
+        i128::from(found.count),
+        ids_shown(found.first.as_slice()),
+        i128::from(queue.is_movable(id, processor)),
+        0,
+        0,
+    ]
 }
 
 /// A task that leaves takes along how far it is from the mark.
@@ -183,66 +174,84 @@ fn run_next<Q: RunQueue>(
     Ok(*current)
 }
 
+/// A task as it enters, woken or pulled.
+fn entered<Q: RunQueue>(queue: &Q, entity: &Entity, pulled: bool) -> Entity {
+    let mut node = node_of(entity);
+    queue.enter(&mut node, if pulled { Entry::Pull } else { Entry::Wake });
+    node.entity
+}
+
+/// The task that a newcomer is.
+fn task_told(newcomer: &Newcomer) -> Entity {
+    let mut entity = Entity::new(
+        newcomer.id,
+        newcomer.weight.clamp(15, 88761),
+        newcomer.mask,
+        newcomer.slice.clamp(100_000, 100_000_000),
+    );
+    entity.set_rel(newcomer.rel);
+    entity
+}
+
 /// A task enters, unless it is there or runs.
 fn enter<Q: RunQueue>(
     alloc: Global,
     queue: &mut Q,
-    entity: &Entity,
-    pulled: bool,
-) -> Result<Option<Entity>, AllocError> {
-    let mut node = node_of(entity);
-    queue.enter(&mut node, if pulled { Entry::Pull } else { Entry::Wake });
-    let entity = node.entity;
-    if !put(alloc, queue, entity)? {
-        return Ok(None);
+    current: &Option<Entity>,
+    newcomer: &Newcomer,
+) -> Result<Part, AllocError> {
+    if runs(current, newcomer.id) {
+        return Ok(NOTHING);
     }
-    Ok(Some(entity))
+    let entity = entered(queue, &task_told(newcomer), newcomer.pulled);
+    Ok(if put(alloc, queue, entity)? {
+        told_of(&entity)
+    } else {
+        NOTHING
+    })
+}
+
+/// The current task has run for a time.
+fn charge<Q: RunQueue>(queue: &Q, current: &mut Option<Entity>, time: u64) -> Part {
+    *current = charged(queue, *current, time % (1 << 48));
+    shown(*current)
+}
+
+/// A task leaves the queue.
+fn take<Q: RunQueue>(queue: &mut Q, id: u16) -> Part {
+    let task = taken(queue, id);
+    shown(left(queue, task))
 }
 
 /// What a queue answers a command, which may change it and the current task.
+fn answered<Q: RunQueue>(
+    alloc: Global,
+    queue: &mut Q,
+    current: &mut Option<Entity>,
+    command: &Command,
+) -> Result<Part, AllocError> {
+    Ok(match command {
+        Command::Insert(newcomer) => enter(alloc, queue, current, newcomer)?,
+        Command::Next => shown(run_next(alloc, queue, current)?),
+        Command::Take { id } => take(queue, *id),
+        Command::Choose => choices(queue, current),
+        Command::Charge { time } => charge(queue, current, *time),
+        Command::Mark => [i128::from(mark(queue, current)), 0, 0, 0, 0],
+        Command::Leave => shown(left(queue, current.take())),
+        Command::After { v, id } => node_shown(queue.after(Some((*v, *id)))),
+        Command::Movable { processor, id } => movable(queue, *processor % 64, *id),
+    })
+}
+
+/// Does a command, and tells what the queue answers and how it then stands.
 pub(crate) fn perform<Q: RunQueue>(
     alloc: Global,
     queue: &mut Q,
     current: &mut Option<Entity>,
     command: &Command,
 ) -> Result<Answer, AllocError> {
-    match *command {
-        Command::Insert {
-            id,
-            weight,
-            mask,
-            slice,
-            rel,
-            pulled,
-        } => {
-            if runs(current, id) {
-                return Ok(Answer::Task(None));
-            }
-            let mut entity = Entity::new(
-                id,
-                weight.clamp(15, 88761),
-                mask,
-                slice.clamp(100_000, 100_000_000),
-            );
-            entity.set_rel(rel);
-            Ok(Answer::Task(shown(enter(alloc, queue, &entity, pulled)?)))
-        }
-        Command::Take { id } => {
-            let task = taken(queue, id);
-            Ok(Answer::Task(shown(left(queue, task))))
-        }
-        Command::Choose => Ok(choices(queue, current)),
-        Command::Next => Ok(Answer::Task(shown(run_next(alloc, queue, current)?))),
-        Command::Charge { time } => {
-            *current = charged(queue, *current, time % (1 << 48));
-            Ok(Answer::Task(shown(*current)))
-        }
-        Command::Mark => Ok(Answer::Mark(mark(queue, current))),
-        Command::Leave => Ok(Answer::Task(shown(left(queue, current.take())))),
-        Command::After { v, id } => Ok(Answer::Tasks(
-            figures_of(queue.after(Some((v, id)))),
-            figures_of(queue.after(None)),
-        )),
-        Command::Movable { processor, id } => Ok(movable(queue, processor % 64, id)),
-    }
+    let answer = answered(alloc, queue, current, command)?;
+    let first = node_shown(queue.after(None));
+    let size = [queue.len() as i128, i128::from(queue.kept()), 0, 0, 0];
+    Ok([answer, first, size])
 }

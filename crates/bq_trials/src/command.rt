@@ -2,44 +2,38 @@
 ghost use Rattle.std.specs.Prelude.{◌≡◌, ◌<◌, ◌≤◌};
 ghost use Rattle.bq_weights.specs.VirtualTime.{IsWeight};
 
+/// A task that may enter, woken or pulled, by how far it was from the mark when it left.
+#[derive(Clone, Copy)]
+pub(crate) struct Newcomer {
+    pub id: u16,
+    pub weight: u32,
+    pub mask: u64,
+    pub slice: u64,
+    pub rel: i64,
+    pub pulled: bool,
+}
+
 /// What a queue is told, or asked. A task is named by its id.
 #[derive(Clone, Copy)]
 pub(crate) enum Command {
-    /// A task that is not there enters, woken or pulled, by how far it was from the mark when it left.
-    Insert {
-        id: u16,
-        weight: u32,
-        mask: u64,
-        slice: u64,
-        rel: i64,
-        pulled: bool,
-    },
+    /// A task enters, unless it is there or runs.
+    Insert(Newcomer),
     /// A task leaves.
-    Take {
-        id: u16,
-    },
+    Take { id: u16 },
     /// Who should run, and whether the current task gives way, and to whom?
     Choose,
     /// The current task and the next change places; where nothing runs the choice runs.
     Next,
     /// The current task has run for so many nanoseconds.
-    Charge {
-        time: u64,
-    },
+    Charge { time: u64 },
     /// The mark is computed anew.
     Mark,
     /// The current task leaves to sleep.
     Leave,
-    /// Which task follows this one, and which is the first?
-    After {
-        v: u64,
-        id: u16,
-    },
+    /// Which task follows this one?
+    After { v: u64, id: u16 },
     /// Which tasks may go to a processor, and may this one?
-    Movable {
-        processor: u8,
-        id: u16,
-    },
+    Movable { processor: u8, id: u16 },
 }
 
 /// A list of commands without end, the same each time: D. H. Lehmer's method, by the constants of Knuth's MMIX.
@@ -80,8 +74,8 @@ impl Draws {
         bq_weights::weight(self.below(40) as i8 - 20)
     }
 
-    fn insert(&mut self) -> Command {
-        Command::Insert {
+    fn newcomer(&mut self) -> Newcomer {
+        Newcomer {
             id: self.id(),
             weight: self.weight(),
             mask: self.below(16),
@@ -110,7 +104,7 @@ impl Draws {
                 processor: self.below(4) as u8,
                 id: self.id(),
             },
-            _ => self.insert(),
+            _ => Command::Insert(self.newcomer()),
         }
     }
 }

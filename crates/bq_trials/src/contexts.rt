@@ -2,12 +2,12 @@
 //! docs/CONTEXTS.md.
 
 use crate::answer::put;
-use crate::hex_text::bytes_of;
+use crate::asserting::{are_bytes_of, is_byte};
 use bq_cfs::{Cfs, CfsQueue};
 use bq_disc::{Entity, List, RunQueue};
 use bq_eevdf::{Eevdf, EevdfQueue};
 use bq_hooks::{By, Choice, Preempt, Pull, preempt_ctx, pull_ctx, settle_pull};
-use std::alloc::Global;
+use std::alloc::{AllocError, Global};
 use std::io;
 use std::process::Abort;
 use std::test::Fail;
@@ -19,15 +19,8 @@ fn task(id: u16, v: u64, deadline: u64) -> Entity {
     entity
 }
 
-/// Compares the context of a preemption at processor 0.
-fn preemption_shows<Q: RunQueue>(
-    rt: &impl Abort,
-    alloc: Global,
-    queue: &Q,
-    current: &Entity,
-    own: bool,
-    expected: &str,
-) -> Result<(), Fail> {
+/// The context of a preemption at processor 0.
+fn preemption<Q: RunQueue>(rt: &impl Abort, queue: &Q, current: &Entity, own: bool) -> [u8; 56] {
     // a queue's ids are distinct, as this call tells
     let _ = queue.after(None);
     assert!(rt; queue.len() < 1024);
@@ -39,15 +32,12 @@ fn preemption_shows<Q: RunQueue>(
     };
     let mut context = [0xaa; 56];
     preempt_ctx(&facts, &mut context);
-    let expected = bytes_of(alloc, expected)?;
-    assert_eq!(rt; context.as_slice(), expected.as_slice());
-    Ok(())
+    context
 }
 
 /// Task 1 has run for a millisecond beside task 2, which is the queue's choice.
-fn beside_one<Q: RunQueue + Drop>(rt: &impl Abort, alloc: Global) -> Result<(), Fail> {
-    let mut queue = Q::empty();
-    put(alloc, &mut queue, task(2, 4294967296, 0))?;
+fn beside_one<Q: RunQueue>(rt: &impl Abort, alloc: Global, queue: &mut Q) -> Result<(), Fail> {
+    put(alloc, queue, task(2, 4294967296, 0))?;
     let expected = "\
 00000000         ; the processor
 01000000         ; how many tasks wait
@@ -61,20 +51,18 @@ fn beside_one<Q: RunQueue + Drop>(rt: &impl Abort, alloc: Global) -> Result<(), 
 00000000         ; the own answer
 00000000
 ";
-    let current = task(1, 4295967296, 0);
-    preemption_shows(rt, alloc, &queue, &current, false, expected)
+    let context = preemption(rt, queue, &task(1, 4295967296, 0), false);
+    are_bytes_of(rt, alloc, &context, expected)
 }
 
 #[test]
 fn a_preemption_beside_one_task(rt: HostRuntime) -> Result<(), Fail> {
-    beside_one::<CfsQueue>(&rt, rt.alloc())?;
-    beside_one::<List<Cfs>>(&rt, rt.alloc())?;
-    Ok(())
+    beside_one(&rt, rt.alloc(), &mut CfsQueue::empty())?;
+    beside_one(&rt, rt.alloc(), &mut List::<Cfs>::empty())
 }
 
 /// Alone, task 513 sees none beside it.
-fn alone<Q: RunQueue + Drop>(rt: &impl Abort, alloc: Global) -> Result<(), Fail> {
-    let queue = Q::empty();
+fn alone<Q: RunQueue>(rt: &impl Abort, alloc: Global, queue: &Q) -> Result<(), Fail> {
     let expected = "\
 00000000         ; the processor
 00000000         ; how many tasks wait
@@ -88,26 +76,18 @@ ffffffff         ; no choice
 01000000         ; the own answer
 00000000
 ";
-    let current = task(513, 1 << 62, (1 << 62) - 1);
-    preemption_shows(rt, alloc, &queue, &current, true, expected)
+    let context = preemption(rt, queue, &task(513, 1 << 62, (1 << 62) - 1), true);
+    are_bytes_of(rt, alloc, &context, expected)
 }
 
 #[test]
 fn a_preemption_of_a_task_alone(rt: HostRuntime) -> Result<(), Fail> {
-    alone::<EevdfQueue>(&rt, rt.alloc())?;
-    alone::<List<Eevdf>>(&rt, rt.alloc())?;
-    Ok(())
+    alone(&rt, rt.alloc(), &EevdfQueue::empty())?;
+    alone(&rt, rt.alloc(), &List::<Eevdf>::empty())
 }
 
-/// Compares the context of a pull by processor 1 from processor 0, where three tasks run or wait and none does here.
-fn pull_shows<Q: RunQueue>(
-    rt: &impl Abort,
-    alloc: Global,
-    queue: &Q,
-    own: Option<u16>,
-    header: &str,
-    shown: &[u16],
-) -> Result<(), Fail> {
+/// The context of a pull by processor 1 from processor 0, where three tasks run or wait and none does here.
+fn pull<Q: RunQueue>(queue: &Q, own: Option<u16>) -> [u8; 160] {
     let _ = queue.after(None);
     let facts = Pull {
         puller: 1,
@@ -119,22 +99,34 @@ fn pull_shows<Q: RunQueue>(
     };
     let mut context = [0xaa; 160];
     pull_ctx(&facts, &mut context);
-    let header = bytes_of(alloc, header)?;
-    assert_eq!(rt; header.len(), 32);
-    for (at, byte) in context.iter().enumerate() {
-        let expected = match header.get(at) {
-            Some(byte) => *byte,
-            None => match shown.get(at.saturating_sub(32) / 16) {
-                None => 0,
-                Some(id) => byte_of(*id, at % 16),
-            },
-        };
-        assert_eq!(rt; *byte, expected, "byte {at}");
+    context
+}
+
+/// Compares the context of such a pull with its first 32 bytes and the tasks that are shown behind them.
+fn pull_shows(
+    rt: &impl Abort,
+    alloc: Global,
+    context: &[u8; 160],
+    header: &str,
+    shown: &[u16],
+) -> Result<(), Fail> {
+    let (first, tasks) = context.split_at(32);
+    are_bytes_of(rt, alloc, first, header)?;
+    for (at, byte) in tasks.iter().enumerate() {
+        is_byte(rt, at, *byte, byte_shown(shown, at));
     }
     Ok(())
 }
 
-/// A byte of what is shown of a task of nice 0 whose v is 2^32 and its id.
+/// A byte of what is shown of some tasks of nice 0, each of which has its v at 2^32 and its id.
+fn byte_shown(shown: &[u16], at: usize) -> u8 {
+    match shown.get(at / 16) {
+        None => 0,
+        Some(id) => byte_of(*id, at % 16),
+    }
+}
+
+/// A byte of what is shown of one of them.
 fn byte_of(id: u16, at: usize) -> u8 {
     match at {
         0 | 8 => (id % 256) as u8,
@@ -145,11 +137,9 @@ fn byte_of(id: u16, at: usize) -> u8 {
     }
 }
 
-/// Tasks that may be pulled are shown from the greatest (v, id) on, eight at most.
-fn movable<Q: RunQueue + Drop>(rt: &impl Abort, alloc: Global) -> Result<(), Fail> {
-    let mut queue = Q::empty();
-    put(alloc, &mut queue, Entity::new(1, 1024, 1, 3_000_000))?;
-    let none = "\
+/// Of a queue whose only task is not permitted there none is shown.
+fn none_is_shown<Q: RunQueue>(rt: &impl Abort, alloc: Global, queue: &Q) -> Result<(), Fail> {
+    let header = "\
 01000000 ; the puller
 00000000 ; the other
 00000000 ; how many tasks the puller has
@@ -159,11 +149,12 @@ fn movable<Q: RunQueue + Drop>(rt: &impl Abort, alloc: Global) -> Result<(), Fai
 ffffffff ; no own choice
 00000000
 ";
-    pull_shows(rt, alloc, &queue, None, none, &[])?;
-    for id in 2..11 {
-        put(alloc, &mut queue, task(id, 4294967296 + u64::from(id), 0))?;
-    }
-    let nine = "\
+    pull_shows(rt, alloc, &pull(queue, None), header, &[])
+}
+
+/// Of nine tasks that may be pulled eight are shown.
+fn eight_are_shown<Q: RunQueue>(rt: &impl Abort, alloc: Global, queue: &Q) -> Result<(), Fail> {
+    let header = "\
 01000000 ; the puller
 00000000 ; the other
 00000000 ; how many tasks the puller has
@@ -173,41 +164,41 @@ ffffffff ; no own choice
 0a000000 ; the own choice
 00000000
 ";
-    pull_shows(
-        rt,
-        alloc,
-        &queue,
-        Some(10),
-        nine,
-        &[10, 9, 8, 7, 6, 5, 4, 3],
-    )
+    let shown = [10, 9, 8, 7, 6, 5, 4, 3];
+    pull_shows(rt, alloc, &pull(queue, Some(10)), header, &shown)
+}
+
+/// Tasks that may be pulled are shown from the greatest (v, id) on, eight at most.
+fn movable<Q: RunQueue>(rt: &impl Abort, alloc: Global, queue: &mut Q) -> Result<(), Fail> {
+    put(alloc, queue, Entity::new(1, 1024, 1, 3_000_000))?;
+    none_is_shown(rt, alloc, queue)?;
+    for id in 2..11 {
+        put(alloc, queue, task(id, 4294967296 + u64::from(id), 0))?;
+    }
+    eight_are_shown(rt, alloc, queue)
 }
 
 #[test]
 fn pulls_of_many_tasks(rt: HostRuntime) -> Result<(), Fail> {
-    movable::<CfsQueue>(&rt, rt.alloc())?;
-    movable::<EevdfQueue>(&rt, rt.alloc())?;
-    movable::<List<Cfs>>(&rt, rt.alloc())?;
+    movable(&rt, rt.alloc(), &mut CfsQueue::empty())?;
+    movable(&rt, rt.alloc(), &mut EevdfQueue::empty())?;
+    movable(&rt, rt.alloc(), &mut List::<Cfs>::empty())
+}
+
+/// The first 64 bytes of a pull's context are these, and the others 0.
+fn begins(rt: &impl Abort, alloc: Global, context: &[u8; 160], shown: &str) -> Result<(), Fail> {
+    let (first, rest) = context.split_at(64);
+    are_bytes_of(rt, alloc, first, shown)?;
+    for (at, byte) in rest.iter().enumerate() {
+        is_byte(rt, at, *byte, 0);
+    }
     Ok(())
 }
 
-/// Of two tasks that wait at the mark beside one that may not be pulled the one of the greater id is shown first.
-#[test]
-fn a_pull_of_one_of_two(rt: HostRuntime) -> Result<(), Fail> {
-    let mut queue = CfsQueue::empty();
-    put(rt.alloc(), &mut queue, task(2, 4294967296, 0))?;
-    put(rt.alloc(), &mut queue, task(3, 4294967296, 0))?;
-    let _ = queue.after(None);
-    let facts = Pull {
-        puller: 1,
-        source: 0,
-        puller_size: 0,
-        source_size: 3,
-        queue: &queue,
-        own: Some(3),
-    };
-    let mut context = [0xaa; 160];
-    pull_ctx(&facts, &mut context);
+/// Tasks 2 and 3 wait at the mark.
+fn one_of_two(rt: &impl Abort, alloc: Global, queue: &mut CfsQueue) -> Result<(), Fail> {
+    put(alloc, queue, task(2, 4294967296, 0))?;
+    put(alloc, queue, task(3, 4294967296, 0))?;
     let shown = "\
 01000000         ; the puller
 00000000         ; the other
@@ -224,18 +215,13 @@ fn a_pull_of_one_of_two(rt: HostRuntime) -> Result<(), Fail> {
 00040000         ; its weight
 0000000001000000 ; its v
 ";
-    let shown = bytes_of(rt.alloc(), shown)?;
-    begins(&rt, &context, shown.as_slice());
-    Ok(())
+    begins(rt, alloc, &pull(queue, Some(3)), shown)
 }
 
-/// The first 64 bytes of a pull's context are these, and the others 0.
-fn begins(rt: &impl Abort, context: &[u8; 160], shown: &[u8]) {
-    let (first, rest) = context.split_at(64);
-    assert_eq!(rt; first, shown);
-    for byte in rest {
-        assert_eq!(rt; *byte, 0);
-    }
+/// Of two tasks that wait at the mark beside one that may not be pulled the one of the greater id is shown first.
+#[test]
+fn a_pull_of_one_of_two(rt: HostRuntime) -> Result<(), Fail> {
+    one_of_two(&rt, rt.alloc(), &mut CfsQueue::empty())
 }
 
 fn is_settled(rt: &impl Abort, choice: &Choice<Option<u16>>, value: Option<u16>, by: By) {
@@ -243,30 +229,34 @@ fn is_settled(rt: &impl Abort, choice: &Choice<Option<u16>>, value: Option<u16>,
 }
 
 /// Tasks 2 and 3 may be pulled by processor 1, and task 1 may not.
+fn fill(alloc: Global, queue: &mut CfsQueue) -> Result<(), AllocError> {
+    for (id, mask) in [(1, 1), (2, 3), (3, 3)] {
+        put(alloc, queue, Entity::new(id, 1024, mask, 3_000_000))?;
+    }
+    Ok(())
+}
+
+fn are_settled(rt: &impl Abort, queue: &CfsQueue) {
+    let cases = [
+        (None, Some(3), Some(3), By::Discipline),
+        (Some(1), Some(3), Some(3), By::Discipline),
+        (Some(2), Some(3), Some(2), By::Policy),
+        (Some(3), Some(3), Some(3), By::Policy),
+        (Some(4294967295), Some(3), None, By::Policy),
+        (Some(u64::MAX), Some(3), Some(3), By::Discipline),
+        (Some(65538), Some(3), Some(3), By::Discipline),
+        (Some(7), Some(3), Some(3), By::Discipline),
+        (Some(1), None, None, By::Discipline),
+    ];
+    for (r0, own, value, by) in cases {
+        is_settled(rt, &settle_pull(r0, queue, 1, own), value, by);
+    }
+}
+
 #[test]
 fn pulls_that_are_permitted(rt: HostRuntime) -> io::Result<()> {
     let mut queue = CfsQueue::empty();
-    put(rt.alloc(), &mut queue, Entity::new(1, 1024, 1, 3_000_000))?;
-    put(rt.alloc(), &mut queue, Entity::new(2, 1024, 3, 3_000_000))?;
-    put(rt.alloc(), &mut queue, Entity::new(3, 1024, 3, 3_000_000))?;
-    let cases = [
-        (None, Some(3), By::Discipline),
-        (Some(1), Some(3), By::Discipline),
-        (Some(2), Some(2), By::Policy),
-        (Some(3), Some(3), By::Policy),
-        (Some(4294967295), None, By::Policy),
-        (Some(u64::MAX), Some(3), By::Discipline),
-        (Some(65538), Some(3), By::Discipline),
-        (Some(7), Some(3), By::Discipline),
-    ];
-    for (r0, value, by) in cases {
-        is_settled(&rt, &settle_pull(r0, &queue, 1, Some(3)), value, by);
-    }
-    is_settled(
-        &rt,
-        &settle_pull(Some(1), &queue, 1, None),
-        None,
-        By::Discipline,
-    );
+    fill(rt.alloc(), &mut queue)?;
+    are_settled(&rt, &queue);
     Ok(())
 }
