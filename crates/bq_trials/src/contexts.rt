@@ -36,8 +36,9 @@ fn preemption<Q: RunQueue>(rt: &impl Abort, queue: &Q, current: &Entity, own: bo
 }
 
 /// Task 1 has run for a millisecond beside task 2, which is the queue's choice.
-fn beside_one<Q: RunQueue>(rt: &impl Abort, alloc: Global, queue: &mut Q) -> Result<(), Fail> {
-    put(alloc, queue, task(2, 4294967296, 0))?;
+fn beside_one<Q: RunQueue + Drop>(rt: &impl Abort, alloc: Global) -> Result<(), Fail> {
+    let mut queue = Q::empty();
+    put(alloc, &mut queue, task(2, 4294967296, 0))?;
     let expected = "\
 00000000         ; the processor
 01000000         ; how many tasks wait
@@ -51,18 +52,18 @@ fn beside_one<Q: RunQueue>(rt: &impl Abort, alloc: Global, queue: &mut Q) -> Res
 00000000         ; the own answer
 00000000
 ";
-    let context = preemption(rt, queue, &task(1, 4295967296, 0), false);
+    let context = preemption(rt, &queue, &task(1, 4295967296, 0), false);
     are_bytes_of(rt, alloc, &context, expected)
 }
 
 #[test]
 fn a_preemption_beside_one_task(rt: HostRuntime) -> Result<(), Fail> {
-    beside_one(&rt, rt.alloc(), &mut CfsQueue::empty())?;
-    beside_one(&rt, rt.alloc(), &mut List::<Cfs>::empty())
+    beside_one::<CfsQueue>(&rt, rt.alloc())?;
+    beside_one::<List<Cfs>>(&rt, rt.alloc())
 }
 
 /// Alone, task 513 sees none beside it.
-fn alone<Q: RunQueue>(rt: &impl Abort, alloc: Global, queue: &Q) -> Result<(), Fail> {
+fn alone<Q: RunQueue + Drop>(rt: &impl Abort, alloc: Global) -> Result<(), Fail> {
     let expected = "\
 00000000         ; the processor
 00000000         ; how many tasks wait
@@ -76,14 +77,14 @@ ffffffff         ; no choice
 01000000         ; the own answer
 00000000
 ";
-    let context = preemption(rt, queue, &task(513, 1 << 62, (1 << 62) - 1), true);
+    let context = preemption(rt, &Q::empty(), &task(513, 1 << 62, (1 << 62) - 1), true);
     are_bytes_of(rt, alloc, &context, expected)
 }
 
 #[test]
 fn a_preemption_of_a_task_alone(rt: HostRuntime) -> Result<(), Fail> {
-    alone(&rt, rt.alloc(), &EevdfQueue::empty())?;
-    alone(&rt, rt.alloc(), &List::<Eevdf>::empty())
+    alone::<EevdfQueue>(&rt, rt.alloc())?;
+    alone::<List<Eevdf>>(&rt, rt.alloc())
 }
 
 /// The context of a pull by processor 1 from processor 0, where three tasks run or wait and none does here.
@@ -178,11 +179,16 @@ fn movable<Q: RunQueue>(rt: &impl Abort, alloc: Global, queue: &mut Q) -> Result
     eight_are_shown(rt, alloc, queue)
 }
 
+/// A queue is empty before they are put there.
+fn movable_of_empty<Q: RunQueue + Drop>(rt: &impl Abort, alloc: Global) -> Result<(), Fail> {
+    movable(rt, alloc, &mut Q::empty())
+}
+
 #[test]
 fn pulls_of_many_tasks(rt: HostRuntime) -> Result<(), Fail> {
-    movable(&rt, rt.alloc(), &mut CfsQueue::empty())?;
-    movable(&rt, rt.alloc(), &mut EevdfQueue::empty())?;
-    movable(&rt, rt.alloc(), &mut List::<Cfs>::empty())
+    movable_of_empty::<CfsQueue>(&rt, rt.alloc())?;
+    movable_of_empty::<EevdfQueue>(&rt, rt.alloc())?;
+    movable_of_empty::<List<Cfs>>(&rt, rt.alloc())
 }
 
 /// The first 64 bytes of a pull's context are these, and the others 0.
@@ -196,7 +202,7 @@ fn begins(rt: &impl Abort, alloc: Global, context: &[u8; 160], shown: &str) -> R
 }
 
 /// Tasks 2 and 3 wait at the mark.
-fn one_of_two(rt: &impl Abort, alloc: Global, queue: &mut CfsQueue) -> Result<(), Fail> {
+fn one_of_two<Q: RunQueue>(rt: &impl Abort, alloc: Global, queue: &mut Q) -> Result<(), Fail> {
     put(alloc, queue, task(2, 4294967296, 0))?;
     put(alloc, queue, task(3, 4294967296, 0))?;
     let shown = "\
@@ -229,14 +235,14 @@ fn is_settled(rt: &impl Abort, choice: &Choice<Option<u16>>, value: Option<u16>,
 }
 
 /// Tasks 2 and 3 may be pulled by processor 1, and task 1 may not.
-fn fill(alloc: Global, queue: &mut CfsQueue) -> Result<(), AllocError> {
+fn fill<Q: RunQueue>(alloc: Global, queue: &mut Q) -> Result<(), AllocError> {
     for (id, mask) in [(1, 1), (2, 3), (3, 3)] {
         put(alloc, queue, Entity::new(id, 1024, mask, 3_000_000))?;
     }
     Ok(())
 }
 
-fn are_settled(rt: &impl Abort, queue: &CfsQueue) {
+fn are_settled<Q: RunQueue>(rt: &impl Abort, queue: &Q) {
     let cases = [
         (None, Some(3), Some(3), By::Discipline),
         (Some(1), Some(3), Some(3), By::Discipline),
@@ -253,10 +259,19 @@ fn are_settled(rt: &impl Abort, queue: &CfsQueue) {
     }
 }
 
+/// Which of the three are pulled.
+fn fill_and_settle<Q: RunQueue>(
+    rt: &impl Abort,
+    alloc: Global,
+    queue: &mut Q,
+) -> Result<(), AllocError> {
+    fill(alloc, queue)?;
+    are_settled(rt, queue);
+    Ok(())
+}
+
 #[test]
 fn pulls_that_are_permitted(rt: HostRuntime) -> io::Result<()> {
-    let mut queue = CfsQueue::empty();
-    fill(rt.alloc(), &mut queue)?;
-    are_settled(&rt, &queue);
+    fill_and_settle(&rt, rt.alloc(), &mut CfsQueue::empty())?;
     Ok(())
 }

@@ -96,22 +96,22 @@ fn fill<Q: RunQueue>(
     Ok(())
 }
 
-/// What an empty queue chooses once these tasks are there, and its mark.
-fn chooses_of<Q: RunQueue>(
+/// What a queue of some tasks of nice 0 chooses, and its mark.
+fn chooses_of<Q: RunQueue + Drop>(
     rt: &impl Abort,
     alloc: Global,
-    queue: &mut Q,
     rows: &[Row],
     chosen: u16,
     mark: u64,
 ) -> Result<(), AllocError> {
-    fill(rt, alloc, queue, rows)?;
+    let mut queue = Q::empty();
+    fill(rt, alloc, &mut queue, rows)?;
     is_task(rt, queue.choice(None), Some(chosen));
     is_number(rt, queue.mark(None), mark);
     Ok(())
 }
 
-/// What a set of tasks of nice 0 chooses, and its mark, by the tree and by the list.
+/// By the tree and by the list.
 fn chooses(
     rt: &impl Abort,
     alloc: Global,
@@ -119,8 +119,8 @@ fn chooses(
     chosen: u16,
     mark: u64,
 ) -> Result<(), AllocError> {
-    chooses_of(rt, alloc, &mut EevdfQueue::empty(), rows, chosen, mark)?;
-    chooses_of(rt, alloc, &mut List::<Eevdf>::empty(), rows, chosen, mark)
+    chooses_of::<EevdfQueue>(rt, alloc, rows, chosen, mark)?;
+    chooses_of::<List<Eevdf>>(rt, alloc, rows, chosen, mark)
 }
 
 /// The earliest deadline is chosen while it is eligible, and once its task is past the mean the other one is; of equal
@@ -141,7 +141,7 @@ fn rows_of_the_choice_under_eevdf(rt: HostRuntime) -> io::Result<()> {
 }
 
 /// Puts 1,024 greatest tasks into a queue.
-fn fill_with_greatest(alloc: Global, queue: &mut EevdfQueue) -> Result<(), AllocError> {
+fn fill_with_greatest<Q: RunQueue>(alloc: Global, queue: &mut Q) -> Result<(), AllocError> {
     for id in 0..1024 {
         let mut entity = Entity::new(1023 - id, 88761, 1, 3_000_000);
         entity.set_times(1 << 62, 1 << 62);
@@ -151,7 +151,7 @@ fn fill_with_greatest(alloc: Global, queue: &mut EevdfQueue) -> Result<(), Alloc
 }
 
 /// They are chosen by their ids, until none is left.
-fn are_chosen_in_order(rt: &impl Abort, queue: &mut EevdfQueue) {
+fn are_chosen_in_order<Q: RunQueue>(rt: &impl Abort, queue: &mut Q) {
     for id in 0..1024 {
         is_task(rt, queue.choice(None), Some(id));
         is_true(rt, queue.take(id).is_some());
@@ -159,15 +159,24 @@ fn are_chosen_in_order(rt: &impl Abort, queue: &mut EevdfQueue) {
     is_task(rt, queue.choice(None), None);
 }
 
+/// An empty queue has room for them, and all are eligible.
+fn greatest_fit<Q: RunQueue>(
+    rt: &impl Abort,
+    alloc: Global,
+    queue: &mut Q,
+) -> Result<(), AllocError> {
+    fill_with_greatest(alloc, queue)?;
+    is_number(rt, queue.len() as u64, 1024);
+    is_number(rt, queue.mark(None), 1 << 62);
+    are_chosen_in_order(rt, queue);
+    Ok(())
+}
+
 /// Sums of 1,024 greatest tasks fit: all are eligible, since none is past the mean, and of equal deadlines the least id
 /// is chosen.
 #[test]
 fn greatest_tasks_are_all_eligible(rt: HostRuntime) -> io::Result<()> {
-    let mut queue = EevdfQueue::empty();
-    fill_with_greatest(rt.alloc(), &mut queue)?;
-    is_number(&rt, queue.len() as u64, 1024);
-    is_number(&rt, queue.mark(None), 1 << 62);
-    are_chosen_in_order(&rt, &mut queue);
+    greatest_fit(&rt, rt.alloc(), &mut EevdfQueue::empty())?;
     Ok(())
 }
 
@@ -186,7 +195,7 @@ fn wakes<Q: RunQueue>(
     is_number(rt, node.entity.deadline(), deadline);
 }
 
-fn wake_under_eevdf(rt: &impl Abort, queue: &EevdfQueue) {
+fn wake_under_eevdf<Q: RunQueue>(rt: &impl Abort, queue: &Q) {
     let rows = [
         (1024, 100_000, 250_000, 4295067296, 4295167296),
         (1024, 100_000, -250_000, 4294867296, 4294967296),
@@ -198,7 +207,7 @@ fn wake_under_eevdf(rt: &impl Abort, queue: &EevdfQueue) {
     }
 }
 
-fn wake_under_cfs(rt: &impl Abort, queue: &CfsQueue) {
+fn wake_under_cfs<Q: RunQueue>(rt: &impl Abort, queue: &Q) {
     let rows = [
         (250_000, 4295217296),
         (-3_000_000, 4291967296),
@@ -227,7 +236,7 @@ fn started(weight: u32) -> Node
 }
 
 /// The current task gives way to another only beyond 1,000,000.
-fn gives_way(rt: &impl Abort, queue: &mut CfsQueue, node: &mut Node) {
+fn gives_way<Q: RunQueue>(rt: &impl Abort, queue: &mut Q, node: &mut Node) {
     is_task(rt, queue.choice(Some(node)), Some(1));
     queue.charge(node, 1_000_000);
     is_true(rt, !queue.wants_preempt(node));
@@ -237,31 +246,38 @@ fn gives_way(rt: &impl Abort, queue: &mut CfsQueue, node: &mut Node) {
     is_number(rt, queue.mark(Some(node)), 4294967296);
 }
 
+/// Task 1 runs beside task 2.
+fn gives_way_to_one<Q: RunQueue + Drop>(rt: &impl Abort, alloc: Global) -> Result<(), AllocError> {
+    let mut queue = Q::empty();
+    fill(rt, alloc, &mut queue, &[(2, 4294967296, 0)])?;
+    gives_way(rt, &mut queue, &mut started(1024));
+    Ok(())
+}
+
 /// A queue without others has its mark at the task that has run.
-fn mark_follows(rt: &impl Abort, queue: &mut CfsQueue, node: &mut Node) {
+fn mark_follows<Q: RunQueue>(rt: &impl Abort, queue: &mut Q, node: &mut Node) {
     queue.charge(node, 10_000_000);
     is_number(rt, queue.mark(Some(node)), 4325534460);
 }
 
 /// And it keeps it.
-fn mark_stays(rt: &impl Abort, queue: &mut CfsQueue, node: &mut Node) {
+fn mark_stays<Q: RunQueue>(rt: &impl Abort, queue: &mut Q, node: &mut Node) {
     queue.charge(node, (1 << 48) - 1);
     is_number(rt, node.entity.v(), 281479271677951);
     is_number(rt, queue.mark(Some(node)), 281479271677951);
     is_number(rt, queue.mark(None), 281479271677951);
 }
 
-fn marks_of_a_task_alone(rt: &impl Abort, queue: &mut CfsQueue) {
-    mark_follows(rt, queue, &mut started(335));
-    mark_stays(rt, queue, &mut started(1024));
+fn marks_of_a_task_alone<Q: RunQueue + Drop>(rt: &impl Abort) {
+    let mut queue = Q::empty();
+    mark_follows(rt, &mut queue, &mut started(335));
+    mark_stays(rt, &mut queue, &mut started(1024));
 }
 
 /// The current task gives way only beyond 1,000,000, and its time counts by its weight.
 #[test]
 fn rows_of_cfs(rt: HostRuntime) -> io::Result<()> {
-    let mut queue = CfsQueue::empty();
-    fill(&rt, rt.alloc(), &mut queue, &[(2, 4294967296, 0)])?;
-    gives_way(&rt, &mut queue, &mut started(1024));
-    marks_of_a_task_alone(&rt, &mut CfsQueue::empty());
+    gives_way_to_one::<CfsQueue>(&rt, rt.alloc())?;
+    marks_of_a_task_alone::<CfsQueue>(&rt);
     Ok(())
 }
