@@ -1,18 +1,17 @@
 // Files, words and answers. The numbers were counted by hand.
 
 use bq_policy_commands::{
-    Answered, CheckWords, ListWords, PolicyWords, RunWords, TellingWords, check, list,
-    options_complaint, run,
+    Answered, CheckWords, ListWords, PolicyWords, RunWords, TellingWords, check, list, run,
 };
-use bq_program::{Hook, Options, Version};
 use std::alloc::{AllocError, Global};
 use std::cell::Cell;
 use std::io;
+use std::process::Abort;
 use std::test::Fail;
 use std::time::{Clock, Duration};
 
 /// The policy that answers the processor which the task last left.
-const KEEP_HOME: &str = ";@ hook place\nldxw r0, [r1+28]\nexit\n";
+pub const KEEP_HOME: &str = ";@ hook place\nldxw r0, [r1+28]\nexit\n";
 
 /// Adds 1 to counter 0, and answers 1.
 const COUNTS: &str = ";@ hook preempt\nmov64 r1, 0\nmov64 r2, 1\ncall 100\nmov64 r0, 1\nexit\n";
@@ -39,7 +38,7 @@ impl Clock for Ticking {
     }
 }
 
-fn text_of(alloc: Global, word: &str) -> Result<Option<String>, AllocError> {
+pub fn text_of(alloc: Global, word: &str) -> Result<Option<String>, AllocError> {
     if word.is_empty() {
         return Ok(None);
     }
@@ -74,7 +73,7 @@ fn told(alloc: Global, answer: Answered) -> Result<String, AllocError> {
 }
 
 /// The policy, the words for hook, limit of steps, helpers, a letter for the form, and what is told.
-const CHECKED: [(&str, &str, &str, &str, &str, &str); 12] = [
+static CHECKED: [(&str, &str, &str, &str, &str, &str); 12] = [
     (KEEP_HOME, "", "", "", "", "D accepted place budget 2\n"),
     (
         KEEP_HOME,
@@ -145,161 +144,50 @@ const CHECKED: [(&str, &str, &str, &str, &str, &str); 12] = [
     ),
 ];
 
-/// Texts of `--maps`, and what is wrong with them. A value has 8 to 256 bytes in eights, a map 1 to 256 entries, a program 8 maps at most.
-const MAPS: [(&str, &str); 15] = [
-    (
-        "7:2",
-        "--maps: part 1 \"7:2\": the size of a value is 8 to 256, a multiple of 8 (got 7)",
-    ),
-    (
-        "8:2,264:1",
-        "--maps: part 2 \"264:1\": the size of a value is 8 to 256, a multiple of 8 (got 264)",
-    ),
-    (
-        "8:2,16:4,12:1",
-        "--maps: part 3 \"12:1\": the size of a value is 8 to 256, a multiple of 8 (got 12)",
-    ),
-    (
-        "0:1",
-        "--maps: part 1 \"0:1\": the size of a value is 8 to 256, a multiple of 8 (got 0)",
-    ),
-    // 65544 is 8 and 2^16
-    (
-        "65544:1",
-        "--maps: part 1 \"65544:1\": the size of a value is 8 to 256, a multiple of 8 (got 65544)",
-    ),
-    (
-        "+8:1",
-        "--maps: part 1 \"+8:1\": the size of a value is 8 to 256, a multiple of 8 (got +8)",
-    ),
-    (
-        ":2",
-        "--maps: part 1 \":2\": the size of a value is 8 to 256, a multiple of 8 (got nothing)",
-    ),
-    (
-        "8:0",
-        "--maps: part 1 \"8:0\": the number of entries is 1 to 256 (got 0)",
-    ),
-    (
-        "8:257",
-        "--maps: part 1 \"8:257\": the number of entries is 1 to 256 (got 257)",
-    ),
-    (
-        "8:",
-        "--maps: part 1 \"8:\": the number of entries is 1 to 256 (got nothing)",
-    ),
-    (
-        "8",
-        "--maps: part 1 \"8\": a map is the size of a value, a colon and the number of entries, as 8:2",
-    ),
-    (
-        "8:2:4",
-        "--maps: part 1 \"8:2:4\": a map is the size of a value, a colon and the number of entries, as 8:2",
-    ),
-    (
-        "8:2,,8:2",
-        "--maps: part 2 is empty: a map is the size of a value, a colon and the number of entries, as 8:2",
-    ),
-    (
-        "",
-        "--maps: part 1 is empty: a map is the size of a value, a colon and the number of entries, as 8:2",
-    ),
-    (
-        "8:1,8:1,8:1,8:1,8:1,8:1,8:1,8:1,8:1",
-        "--maps: 9 maps; a program has 8 at most",
-    ),
-];
-
-#[test]
-fn maps_are_judged_part_by_part(rt: HostRuntime) -> Result<(), Fail> {
-    let alloc = rt.alloc();
-    for (maps, wanted) in MAPS {
-        let options = Options {
-            hook: Some(Hook::Place),
-            maps: Some(String::from_str(alloc, maps)?),
-            format: None,
-        };
-        match options_complaint(alloc, &options)? {
-            Some(why) => assert_eq!(rt; why.as_str(), wanted),
-            None => return Err(Fail::from("nothing was said")),
-        }
-        let mut policy = policy_words(alloc, "p.s", "")?;
-        policy.maps = Some(String::from_str(alloc, maps)?);
-        let words = CheckWords {
-            policy,
-            is_explained: false,
-            is_json: false,
-            max_steps: None,
-            helpers: None,
-        };
-        match check(alloc, &words, KEEP_HOME.as_bytes())? {
-            Answered::Words(why) => assert_eq!(rt; why.as_str(), wanted),
-            _ => return Err(Fail::from("the words were taken")),
-        }
-    }
-    Ok(())
+/// The words of `check`, of a letter for its form.
+fn check_words(
+    alloc: Global,
+    hook: &str,
+    steps: &str,
+    helpers: &str,
+    form: &str,
+) -> Result<CheckWords, AllocError> {
+    Ok(CheckWords {
+        policy: policy_words(alloc, "p.s", hook)?,
+        is_explained: form == "e",
+        is_json: form == "j",
+        max_steps: text_of(alloc, steps)?,
+        helpers: text_of(alloc, helpers)?,
+    })
 }
 
-/// The options of `asm` without a hook, and what is wrong with them.
-#[test]
-fn options_without_a_hook_are_told(rt: HostRuntime) -> Result<(), Fail> {
-    let alloc = rt.alloc();
-    let cases = [
-        (
-            true,
-            None,
-            "--maps: only an image has maps; say its hook too, as --hook place",
-        ),
-        (
-            false,
-            Some(Version::Second),
-            "--format: only an image has a version; say its hook too, as --hook place",
-        ),
-    ];
-    for (has_maps, format, wanted) in cases {
-        let maps = if has_maps {
-            Some(String::from_str(alloc, "8:2")?)
-        } else {
-            None
-        };
-        let options = Options {
-            hook: None,
-            maps,
-            format,
-        };
-        match options_complaint(alloc, &options)? {
-            Some(why) => assert_eq!(rt; why.as_str(), wanted),
-            None => return Err(Fail::from("nothing was said")),
-        }
-    }
-    let nothing = Options {
-        hook: None,
-        maps: None,
-        format: None,
-    };
-    assert!(rt; options_complaint(alloc, &nothing)?.is_none());
-    Ok(())
+/// What `check` tells of a policy.
+fn checked(alloc: Global, words: &CheckWords, policy: &str) -> Result<String, AllocError> {
+    told(alloc, check(alloc, words, policy.as_bytes())?)
+}
+
+/// What is said is this.
+pub fn is_said(rt: &impl Abort, said: &str, wanted: &str) {
+    assert_eq!(rt; said, wanted);
+}
+
+/// What is told of a policy begins so.
+fn begins(rt: &impl Abort, policy: &str, answer: &str, wanted: &str) {
+    assert!(rt; answer.starts_with(wanted), "{policy}: {answer}");
 }
 
 #[test]
 fn checks_say_what_is_wrong(rt: HostRuntime) -> Result<(), Fail> {
-    let alloc = rt.alloc();
-    for (policy, hook, steps, helpers, form, wanted) in CHECKED {
-        let words = CheckWords {
-            policy: policy_words(alloc, "p.s", hook)?,
-            is_explained: form == "e",
-            is_json: form == "j",
-            max_steps: text_of(alloc, steps)?,
-            helpers: text_of(alloc, helpers)?,
-        };
-        let answer = told(alloc, check(alloc, &words, policy.as_bytes())?)?;
-        assert!(rt; answer.as_str().starts_with(wanted), "{policy}: {answer}");
+    for (policy, hook, steps, helpers, form, wanted) in &CHECKED {
+        let words = check_words(rt.alloc(), hook, steps, helpers, form)?;
+        let answer = checked(rt.alloc(), &words, policy)?;
+        begins(&rt, policy, answer.as_str(), wanted);
     }
     Ok(())
 }
 
 /// The policy, its fields, an entry, a counter, the processor, a letter for the form, how often, and what is told.
-const RUN: [(&str, &str, &str, &str, &str, &str, &str, &str); 10] = [
+static RUN: [(&str, &str, &str, &str, &str, &str, &str, &str); 10] = [
     // Of words for the same field, counter or entry the last counts.
     (
         KEEP_HOME,
@@ -405,43 +293,78 @@ const RUN: [(&str, &str, &str, &str, &str, &str, &str, &str); 10] = [
     ),
 ];
 
+/// Whether a run is traced, and how often it is made.
+fn telling_words(alloc: Global, form: &str, repeat: &str) -> Result<TellingWords, AllocError> {
+    Ok(TellingWords {
+        is_traced: form == "t",
+        repeat: text_of(alloc, repeat)?,
+    })
+}
+
+/// The words of `run` without a file, of texts with blanks between.
+fn run_words(
+    alloc: Global,
+    telling: TellingWords,
+    fields: &str,
+    entries: &str,
+    counters: &str,
+    processor: &str,
+) -> Result<RunWords, AllocError> {
+    Ok(RunWords {
+        policy: PolicyWords {
+            file: None,
+            hook: None,
+            maps: None,
+            format: None,
+        },
+        telling,
+        context: None,
+        fields: words_of(alloc, fields)?,
+        entries: words_of(alloc, entries)?,
+        counters: words_of(alloc, counters)?,
+        time: None,
+        processor: text_of(alloc, processor)?,
+    })
+}
+
+/// What `run` tells of a policy.
+fn ran(
+    alloc: Global,
+    clock: &Ticking,
+    words: &RunWords,
+    policy: &str,
+) -> Result<String, AllocError> {
+    told(alloc, run(alloc, clock, words, policy.as_bytes())?)
+}
+
 #[test]
 fn runs_tell_what_came_of_them(rt: HostRuntime) -> Result<(), Fail> {
     let alloc = rt.alloc();
     let clock = Ticking {
         readings: Cell::new(0),
     };
-    for (policy, fields, entry, counter, processor, form, repeat, wanted) in RUN {
-        let words = RunWords {
-            policy: policy_words(alloc, "", "")?,
-            telling: TellingWords {
-                is_traced: form == "t",
-                repeat: text_of(alloc, repeat)?,
-            },
-            context: None,
-            fields: words_of(alloc, fields)?,
-            entries: words_of(alloc, entry)?,
-            counters: words_of(alloc, counter)?,
-            time: None,
-            processor: text_of(alloc, processor)?,
-        };
-        let answer = told(alloc, run(alloc, &clock, &words, policy.as_bytes())?)?;
-        assert!(rt; answer.as_str().starts_with(wanted), "{policy}: {answer}");
+    for (policy, fields, entries, counters, processor, form, repeat, wanted) in &RUN {
+        let telling = telling_words(alloc, form, repeat)?;
+        let words = run_words(alloc, telling, fields, entries, counters, processor)?;
+        let answer = ran(alloc, &clock, &words, policy)?;
+        begins(&rt, policy, answer.as_str(), wanted);
     }
     Ok(())
 }
 
+/// What `list` tells of a policy.
+fn listed(alloc: Global, words: &ListWords, policy: &str) -> Result<String, AllocError> {
+    told(alloc, list(alloc, words, policy.as_bytes())?)
+}
+
 #[test]
 fn listings_are_policies_again(rt: HostRuntime) -> Result<(), Fail> {
-    let alloc = rt.alloc();
     let words = ListWords {
-        policy: policy_words(alloc, "-", "")?,
+        policy: policy_words(rt.alloc(), "-", "")?,
         has_slots: false,
     };
-    let answer = told(alloc, list(alloc, &words, KEEP_HOME.as_bytes())?)?;
-    assert_eq!(rt;
-        answer.as_str(),
-        "D ;@ hook place\nldxw r0, [r1+28]\nexit\n"
-    );
+    let answer = listed(rt.alloc(), &words, KEEP_HOME)?;
+    let wanted = "D ;@ hook place\nldxw r0, [r1+28]\nexit\n";
+    is_said(&rt, answer.as_str(), wanted);
     Ok(())
 }

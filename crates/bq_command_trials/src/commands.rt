@@ -1,28 +1,33 @@
 //! Words that the program takes and words that it refuses, and a job that is done.
 
-use crate::done::{done, writes};
+use crate::done::{Performed, do_job, gives, gives_unread};
 use bq_cli::asked::{Job, JobFault};
-use bq_cli::{Counted, exit_status, job, perform};
+use bq_cli::job;
+use std::alloc::Global;
+use std::process::Abort;
 use std::test::Fail;
 
 #[test]
 fn takes_the_words_of_a_replay(rt: HostRuntime) -> Result<(), Fail> {
     let read = b"machine cfs 1\ndraw\nretire 7\n".as_slice();
-    let done = done(&rt, rt.alloc(), &["replay"], read)?;
-    writes(&rt, &done, "draw 1\nrefused C2 NoTask\n", 0);
-    Ok(())
+    let text = "draw 1\nrefused C2 NoTask\n";
+    gives(&rt, rt.alloc(), &["replay"], read, text, 0)
+}
+
+/// It ended so.
+fn ends_by(rt: &impl Abort, done: &Performed, status: u8) {
+    assert_eq!(rt; done.status, status);
 }
 
 #[test]
-fn ends_by_one_where_a_line_is_bad(rt: HostRuntime) {
-    let mut input = Counted::new(b"draw\n".as_slice());
-    let mut output = Counted::new(Vec::new(rt.alloc()));
-    let outcome = perform(&rt, rt.alloc(), &Job::Replay, &mut input, &mut output);
-    assert_eq!(rt; exit_status(&outcome), 1);
+fn ends_by_one_where_a_line_is_bad(rt: HostRuntime) -> Result<(), Fail> {
+    let done = do_job(&rt, rt.alloc(), &Job::Replay, b"draw\n".as_slice())?;
+    ends_by(&rt, &done, 1);
+    Ok(())
 }
 
 /// What some words are told, and where in the text.
-const TOLD: [(&[&str], &str); 29] = [
+static TOLD: [(&[&str], &str); 29] = [
     (&[], "Usage: bqsim"),
     (&["--help"], "Usage: bqsim"),
     (&["help"], "Usage: bqsim"),
@@ -100,22 +105,32 @@ const TOLD: [(&[&str], &str); 29] = [
     ),
 ];
 
+/// The text that these words are told.
+fn text_told(alloc: Global, words: &[&str]) -> Result<String, Fail> {
+    match job(alloc, words) {
+        Err(JobFault::Words(text)) => Ok(text),
+        _ => Err(Fail::from("the words were taken")),
+    }
+}
+
+/// The text that these words are told has this in it, and its last line ends.
+fn has(rt: &impl Abort, words: &[&str], text: &str, told: &str) {
+    assert!(rt;
+        text.contains(told) && text.ends_with("\n"),
+        "{words:?}: {text}"
+    );
+}
+
 #[test]
 fn tells_other_words(rt: HostRuntime) -> Result<(), Fail> {
-    for (words, told) in TOLD {
-        match job(rt.alloc(), words) {
-            Err(JobFault::Words(text)) => {
-                assert!(rt; text.as_str().contains(told), "{words:?}: {text}");
-                assert!(rt; text.as_str().ends_with("\n"), "{words:?}: {text}");
-            }
-            _ => return Err(Fail::from("the words were taken")),
-        }
+    for (words, told) in &TOLD {
+        has(&rt, words, text_told(rt.alloc(), words)?.as_str(), told);
     }
     Ok(())
 }
 
 /// Words, what is read, the exit status, and what is written.
-const DONE: [(&str, &str, u8, &str); 5] = [
+static DONE: [(&str, &str, u8, &str); 5] = [
     (
         "asm",
         "mov64 r0, 1\nja end\nend:\nexit\n",
@@ -130,16 +145,15 @@ const DONE: [(&str, &str, u8, &str); 5] = [
 
 #[test]
 fn assembles_and_lists(rt: HostRuntime) -> Result<(), Fail> {
-    for (word, read, status, written) in DONE {
-        let done = done(&rt, rt.alloc(), &[word], read.as_bytes())?;
-        writes(&rt, &done, written, status);
+    for (word, read, status, written) in &DONE {
+        gives(&rt, rt.alloc(), &[word], read.as_bytes(), written, *status)?;
     }
     Ok(())
 }
 
 /// A rule, a number of processors and one of ticks, and what is written. Of each processor an admit, both halves of a wake, a
 /// drain and its ticks are recorded.
-const PARALLEL: [(&str, &str, &str, &str); 9] = [
+static PARALLEL: [(&str, &str, &str, &str); 9] = [
     (
         "cfs",
         "4",
@@ -158,7 +172,7 @@ const PARALLEL: [(&str, &str, &str, &str); 9] = [
 
 #[test]
 fn processors_run_by_threads_of_their_own(rt: HostRuntime) -> Result<(), Fail> {
-    for (rule, processors, ticks, line) in PARALLEL {
+    for (rule, processors, ticks, line) in &PARALLEL {
         let words = [
             "par",
             "--rule",
@@ -168,9 +182,7 @@ fn processors_run_by_threads_of_their_own(rt: HostRuntime) -> Result<(), Fail> {
             "--ticks",
             ticks,
         ];
-        let done = done(&rt, rt.alloc(), &words, b"not read")?;
-        writes(&rt, &done, line, 0);
-        assert!(rt; done.is_unread);
+        gives_unread(&rt, rt.alloc(), &words, b"not read", line, 0)?;
     }
     Ok(())
 }

@@ -3,10 +3,11 @@
 use bq_import_command::{Settings, Words, imported};
 use bq_policy_files::{Head, read_policy};
 use std::alloc::Global;
+use std::process::Abort;
 use std::test::Fail;
 
 /// The bytes of a program in hex, an instruction a line, and its text after the line that names the hook.
-const IMPORTED: [(&str, &str); 7] = [
+static IMPORTED: [(&str, &str); 7] = [
     // the exit at slot 3 is shared: slot 5 jumps back to it. It comes to stand behind both that go on to it, and a jump to
     // what follows goes no slot on
     (
@@ -46,7 +47,7 @@ const IMPORTED: [(&str, &str); 7] = [
 ];
 
 /// The bytes of a program that is refused, and why.
-const REFUSED: [(&str, &str); 15] = [
+static REFUSED: [(&str, &str); 15] = [
     // r0 counts to 4
     (
         "b400000000000000\n0400000001000000\n5600feff04000000\n9500000000000000",
@@ -125,32 +126,60 @@ fn settings(alloc: Global) -> Result<Settings, Fail> {
     Ok(Settings::of(alloc, &words)?)
 }
 
+/// The text that a program is imported as.
+fn text_of(alloc: Global, program: &[u8]) -> Result<String, Fail> {
+    Ok(imported(alloc, &settings(alloc)?, program)?)
+}
+
+/// What a program is refused for.
+fn refusal_of(alloc: Global, program: &[u8]) -> Result<String, Fail> {
+    match imported(alloc, &settings(alloc)?, program) {
+        Ok(_) => Err(Fail::from("it was imported")),
+        Err(refusal) => Ok(format!(in alloc; "{refusal}")?),
+    }
+}
+
+/// A text with its three lines of settings before it.
+fn headed(alloc: Global, listing: &str) -> Result<String, Fail> {
+    Ok(format!(in alloc; ";@ hook preempt\n;@ maps 8:1,16:4\n;@ format 2\n{listing}")?)
+}
+
+/// What is said of a program is what was wanted.
+fn is_said(rt: &impl Abort, program: &str, said: &str, wanted: &str) {
+    assert_eq!(rt; said, wanted, "{program}");
+}
+
+/// Whether a text assembles.
+fn assembles(alloc: Global, text: &str) -> bool {
+    read_policy(alloc, text.as_bytes(), &Head::nothing()).is_ok()
+}
+
+/// The text that a program is imported as is a policy.
+fn is_policy(rt: &impl Abort, alloc: Global, program: &str, text: &str) {
+    assert!(rt; assembles(alloc, text), "{program}: it does not assemble");
+}
+
+/// A program is imported as this listing with its settings, which is a policy.
+fn is_imported(rt: &impl Abort, alloc: Global, program: &str, listing: &str) -> Result<(), Fail> {
+    let text = text_of(alloc, program.as_bytes())?;
+    is_said(rt, program, text.as_str(), headed(alloc, listing)?.as_str());
+    is_policy(rt, alloc, program, text.as_str());
+    Ok(())
+}
+
 #[test]
 fn programs_in_order(rt: HostRuntime) -> Result<(), Fail> {
-    let alloc = rt.alloc();
-    let settings = settings(alloc)?;
-    for (hex, listing) in IMPORTED {
-        let text = imported(alloc, &settings, hex.as_bytes())?;
-        let wanted = format!(in alloc;
-            ";@ hook preempt\n;@ maps 8:1,16:4\n;@ format 2\n{listing}"
-        )?;
-        assert_eq!(rt; text.as_str(), wanted.as_str(), "{hex}");
-        let policy = read_policy(alloc, text.as_bytes(), &Head::nothing());
-        assert!(rt; policy.is_ok(), "{hex}: it does not assemble");
+    for (hex, listing) in &IMPORTED {
+        is_imported(&rt, rt.alloc(), hex, listing)?;
     }
     Ok(())
 }
 
 #[test]
 fn refusals_in_words(rt: HostRuntime) -> Result<(), Fail> {
-    let alloc = rt.alloc();
-    let settings = settings(alloc)?;
-    for (hex, words) in REFUSED {
-        let Err(refusal) = imported(alloc, &settings, hex.as_bytes()) else {
-            return Err(Fail::from("it was imported"));
-        };
-        let said = format!(in alloc; "{refusal}")?;
-        assert_eq!(rt; said.as_str(), words, "{hex}");
+    for (hex, words) in &REFUSED {
+        let said = refusal_of(rt.alloc(), hex.as_bytes())?;
+        is_said(&rt, hex, said.as_str(), words);
     }
     Ok(())
 }
@@ -158,10 +187,9 @@ fn refusals_in_words(rt: HostRuntime) -> Result<(), Fail> {
 // two instructions as bytes, whose text is that of their hex
 #[test]
 fn bytes_as_they_are(rt: HostRuntime) -> Result<(), Fail> {
-    let alloc = rt.alloc();
     let bytes = [0xb4, 0, 0, 0, 1, 0, 0, 0, 0x95, 0, 0, 0, 0, 0, 0, 0];
-    let text = imported(alloc, &settings(alloc)?, bytes.as_slice())?;
+    let text = text_of(rt.alloc(), bytes.as_slice())?;
     let wanted = ";@ hook preempt\n;@ maps 8:1,16:4\n;@ format 2\nmov32 r0, 1\nexit\n";
-    assert_eq!(rt; text.as_str(), wanted);
+    is_said(&rt, "bytes", text.as_str(), wanted);
     Ok(())
 }

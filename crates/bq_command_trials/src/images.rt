@@ -1,8 +1,9 @@
 //! Images that are assembled and checked: words, what is read, and what is written. The values are worked by hand from the
 //! format, the rules of the verifier and the grammar of `--maps`.
 
-use crate::done::{Performed, done, writes};
-use std::alloc::Global;
+use crate::done::{done, gives, gives_unread};
+use std::alloc::{AllocError, Global};
+use std::process::Abort;
 use std::sync::Wait;
 use std::test::Fail;
 use std::thread::Threads;
@@ -19,57 +20,48 @@ const COUNTING_TEXT: &str =
     "stw [r10-4], 0\nldmap r1, 0\nmov64 r2, r10\nadd64 r2, -4\ncall 1\njne64 r0, 0, +2\nmov64 r0, 2\n\
 exit\nldxdw r3, [r0+0]\nmov64 r4, r3\nadd64 r4, 1\nstxdw [r0+0], r4\nmov64 r0, r3\nexit\n";
 
-#[test]
-fn images_are_assembled(rt: HostRuntime) -> Result<(), Fail> {
-    let zero = done(
-        &rt,
-        rt.alloc(),
-        &["asm", "--hook", "preempt"],
-        b"mov64 r0, 0\nexit\n".as_slice(),
-    )?;
-    writes(
-        &rt,
-        &zero,
+/// The words, a text, what is written, and the exit status.
+static ASSEMBLED: [(&[&str], &str, &str, u8); 3] = [
+    (
+        PREEMPT,
+        "mov64 r0, 0\nexit\n",
         "425150490101000002000000b7000000000000009500000000000000\n",
         0,
-    );
-    let counting = done(
-        &rt,
-        rt.alloc(),
-        &["asm", "--hook", "preempt", "--maps", "8:1"],
-        COUNTING_TEXT.as_bytes(),
-    )?;
-    writes(
-        &rt,
-        &counting,
-        format!(in rt.alloc(); "{COUNTING}\n")?.as_str(),
-        0,
-    );
-    let maps = done(
-        &rt,
-        rt.alloc(),
+    ),
+    (
         &["asm", "--format=2", "--maps=8:2,16:4", "--hook=pull"],
-        b"mov64 r0, 0\nexit\n".as_slice(),
-    )?;
-    writes(
-        &rt,
-        &maps,
+        "mov64 r0, 0\nexit\n",
         "42515049020202000800020010000400\
 02000000b7000000000000009500000000000000\n",
         0,
-    );
-    let faulty = done(
+    ),
+    (
+        &["asm", "--hook", "pull"],
+        "mov64 r11, 1",
+        "refused A1 1\n",
+        1,
+    ),
+];
+
+#[test]
+fn images_are_assembled(rt: HostRuntime) -> Result<(), Fail> {
+    for (words, text, written, status) in &ASSEMBLED {
+        gives(&rt, rt.alloc(), words, text.as_bytes(), written, *status)?;
+    }
+    let words = ["asm", "--hook", "preempt", "--maps", "8:1"];
+    let written = format!(in rt.alloc(); "{COUNTING}\n")?;
+    gives(
         &rt,
         rt.alloc(),
-        &["asm", "--hook", "pull"],
-        b"mov64 r11, 1".as_slice(),
-    )?;
-    writes(&rt, &faulty, "refused A1 1\n", 1);
-    Ok(())
+        &words,
+        COUNTING_TEXT.as_bytes(),
+        written.as_str(),
+        0,
+    )
 }
 
 /// Options that are refused, and the line that says so.
-const REFUSED: [(&[&str], &str); 5] = [
+static REFUSED: [(&[&str], &str); 5] = [
     (&["asm", "--maps", "8:1"], "refused maps\n"),
     (&["asm", "--format", "1"], "refused format\n"),
     (&["asm", "--format", "2"], "refused format\n"),
@@ -78,7 +70,7 @@ const REFUSED: [(&[&str], &str); 5] = [
 ];
 
 /// Maps that are refused beside a hook.
-const NO_MAPS: [&str; 19] = [
+static NO_MAPS: [&str; 19] = [
     "",
     "8",
     "8:",
@@ -102,41 +94,32 @@ const NO_MAPS: [&str; 19] = [
 
 #[test]
 fn options_are_refused_before_the_text_is_read(rt: HostRuntime) -> Result<(), Fail> {
-    for (words, line) in REFUSED {
-        let done = done(&rt, rt.alloc(), words, b"exit")?;
-        writes(&rt, &done, line, 1);
-        assert!(rt; done.is_unread);
+    for (words, line) in &REFUSED {
+        gives_unread(&rt, rt.alloc(), words, b"exit", line, 1)?;
     }
-    for maps in NO_MAPS {
+    for maps in &NO_MAPS {
         let words = ["asm", "--hook", "pull", "--maps", maps];
-        let done = done(&rt, rt.alloc(), &words, b"exit")?;
-        writes(&rt, &done, "refused maps\n", 1);
-        assert!(rt; done.is_unread);
+        gives_unread(&rt, rt.alloc(), &words, b"exit", "refused maps\n", 1)?;
     }
     Ok(())
 }
 
 #[test]
 fn eight_maps_are_taken(rt: HostRuntime) -> Result<(), Fail> {
-    let image = done(
+    let maps = "8:1,16:2,24:3,32:4,40:5,48:6,256:256,0008:001";
+    let words = ["asm", "--hook", "place", "--maps", maps];
+    is_judged(
         &rt,
         rt.alloc(),
-        &[
-            "asm",
-            "--hook",
-            "place",
-            "--maps",
-            "8:1,16:2,24:3,32:4,40:5,48:6,256:256,0008:001",
-        ],
-        b"mov64 r0, 0\nexit\n".as_slice(),
-    )?;
-    let known = done(&rt, rt.alloc(), &["check"], image.written.as_bytes())?;
-    writes(&rt, &known, "accepted place budget 2\n", 0);
-    Ok(())
+        &words,
+        "mov64 r0, 0\nexit\n",
+        "accepted place budget 2\n",
+        0,
+    )
 }
 
 /// A hex text, and what `check` writes.
-const CHECKED: [(&str, &str, u8); 16] = [
+static CHECKED: [(&str, &str, u8); 16] = [
     (ZERO, "accepted preempt budget 2\n", 0),
     (COUNTING, "accepted preempt budget 12\n", 0),
     (
@@ -200,15 +183,14 @@ const CHECKED: [(&str, &str, u8); 16] = [
 
 #[test]
 fn images_are_checked(rt: HostRuntime) -> Result<(), Fail> {
-    for (hex, line, status) in CHECKED {
-        let known = done(&rt, rt.alloc(), &["check"], hex.as_bytes())?;
-        writes(&rt, &known, line, status);
+    for (hex, line, status) in &CHECKED {
+        gives(&rt, rt.alloc(), &["check"], hex.as_bytes(), line, *status)?;
     }
     Ok(())
 }
 
 /// A hex digit of the counting image, what stands there instead, and what `check` writes.
-const CHANGED: [(usize, u8, &str); 6] = [
+static CHANGED: [(usize, u8, &str); 6] = [
     (57, b'1', "refused L8 V8 1\n"),
     (105, b'8', "refused L8 V8 5\n"),
     (133, b'1', "refused L8 V3 9\n"),
@@ -217,15 +199,20 @@ const CHANGED: [(usize, u8, &str); 6] = [
     (242, b'a', "refused L8 V9 14\n"),
 ];
 
+/// The counting image with another digit there.
+fn changed(alloc: Global, at: usize, digit: u8) -> Result<Vec<u8>, AllocError> {
+    let mut hex = Vec::from_slice(alloc, COUNTING.as_bytes())?;
+    if let Some(place) = hex.get_mut(at) {
+        *place = digit;
+    }
+    Ok(hex)
+}
+
 #[test]
 fn changed_images_are_refused(rt: HostRuntime) -> Result<(), Fail> {
-    for (at, digit, line) in CHANGED {
-        let mut hex = Vec::from_slice(rt.alloc(), COUNTING.as_bytes())?;
-        if let Some(place) = hex.get_mut(at) {
-            *place = digit;
-        }
-        let known = done(&rt, rt.alloc(), &["check"], hex.as_slice())?;
-        writes(&rt, &known, line, 1);
+    for (at, digit, line) in &CHANGED {
+        let hex = changed(rt.alloc(), *at, *digit)?;
+        gives(&rt, rt.alloc(), &["check"], hex.as_slice(), line, 1)?;
     }
     Ok(())
 }
@@ -234,16 +221,27 @@ fn changed_images_are_refused(rt: HostRuntime) -> Result<(), Fail> {
 fn cut_images_are_refused(rt: HostRuntime) -> Result<(), Fail> {
     let mut cut = Vec::new(rt.alloc());
     for byte in COUNTING.as_bytes().chunks_exact(2) {
-        let known = done(&rt, rt.alloc(), &["check"], cut.as_slice())?;
-        writes(&rt, &known, "refused L5\n", 1);
+        gives(
+            &rt,
+            rt.alloc(),
+            &["check"],
+            cut.as_slice(),
+            "refused L5\n",
+            1,
+        )?;
         cut.extend_from_slice(byte)?;
     }
-    assert_eq!(rt; cut.len(), 272);
+    has_length(&rt, cut.as_slice(), 272);
     Ok(())
 }
 
+/// So many bytes are there.
+fn has_length(rt: &impl Abort, bytes: &[u8], length: usize) {
+    assert_eq!(rt; bytes.len(), length);
+}
+
 /// The words that make an image of a text, the text, and what `check` writes.
-const JUDGED: [(&[&str], &str, &str); 20] = [
+static JUDGED: [(&[&str], &str, &str); 20] = [
     (
         PREEMPT,
         "ja +1\nlddw r1, 0\nmov64 r0, 0\nexit",
@@ -344,30 +342,44 @@ and64 r6, 15\nadd64 r0, r6\nldxdw r0, [r0+0]\nexit",
 
 const PREEMPT: &[&str] = &["asm", "--hook", "preempt"];
 
-/// What `check` writes for the image of a text.
-fn judged<R: Threads + Wait + Sync>(
+/// The image that these words make of a text is judged so: `check` writes this and ends so.
+fn is_judged<R: Abort + Threads + Wait + Sync>(
     rt: &R,
     alloc: Global,
     words: &[&str],
     text: &str,
-) -> Result<Performed, Fail> {
+    line: &str,
+    status: u8,
+) -> Result<(), Fail> {
     let image = done(rt, alloc, words, text.as_bytes())?;
-    done(rt, alloc, &["check"], image.written.as_bytes())
+    gives(
+        rt,
+        alloc,
+        &["check"],
+        image.written.as_bytes(),
+        line,
+        status,
+    )
 }
 
 #[test]
 fn programs_are_judged(rt: HostRuntime) -> Result<(), Fail> {
-    for (words, text, line) in JUDGED {
-        let known = judged(&rt, rt.alloc(), words, text)?;
+    for (words, text, line) in &JUDGED {
         let status = if line.starts_with("accepted") { 0 } else { 1 };
-        writes(&rt, &known, line, status);
+        is_judged(&rt, rt.alloc(), words, text, line, status)?;
     }
     Ok(())
 }
 
-/// A part so many times, and then an end.
-fn repeated(alloc: Global, part: &str, times: usize, end: &str) -> Result<String, Fail> {
-    let mut text = String::new(alloc);
+/// A begin, a part so many times, and then an end.
+fn repeated(
+    alloc: Global,
+    begin: &str,
+    part: &str,
+    times: usize,
+    end: &str,
+) -> Result<String, Fail> {
+    let mut text = String::from_str(alloc, begin)?;
     for _ in 0..times {
         text.push_str(part)?;
     }
@@ -375,45 +387,64 @@ fn repeated(alloc: Global, part: &str, times: usize, end: &str) -> Result<String
     Ok(text)
 }
 
-#[test]
-fn long_programs_are_judged(rt: HostRuntime) -> Result<(), Fail> {
-    let counters = "mov64 r1, 3\nmov64 r2, 5\ncall 100\n";
-    let sixteen = repeated(rt.alloc(), counters, 16, "mov64 r0, 0\nexit\n")?;
-    writes(
-        &rt,
-        &judged(&rt, rt.alloc(), PREEMPT, sixteen.as_str())?,
+/// Three instructions that add to a counter.
+const ADDS: &str = "mov64 r1, 3\nmov64 r2, 5\ncall 100\n";
+
+/// The begin of a text, a part of it, how often that stands there, its end, what `check` writes, and the exit status.
+static LONG: [(&str, &str, usize, &str, &str, u8); 4] = [
+    (
+        "",
+        ADDS,
+        16,
+        "mov64 r0, 0\nexit\n",
         "accepted preempt budget 50\n",
         0,
-    );
-    let seventeen = repeated(rt.alloc(), counters, 17, "mov64 r0, 0\nexit\n")?;
-    writes(
-        &rt,
-        &judged(&rt, rt.alloc(), PREEMPT, seventeen.as_str())?,
+    ),
+    (
+        "",
+        ADDS,
+        17,
+        "mov64 r0, 0\nexit\n",
         "refused L8 V11 50\n",
         1,
-    );
-    let full = repeated(rt.alloc(), "mov64 r0, 0\n", 4095, "exit\n")?;
-    writes(
-        &rt,
-        &judged(&rt, rt.alloc(), PREEMPT, full.as_str())?,
+    ),
+    (
+        "",
+        "mov64 r0, 0\n",
+        4095,
+        "exit\n",
         "accepted preempt budget 4096\n",
         0,
-    );
-    let pairs = repeated(rt.alloc(), "jeq64 r0, 0, +1\nadd64 r0, 1\n", 2047, "exit\n")?;
-    let text = format!(in rt.alloc(); "mov64 r0, 0\n{pairs}")?;
-    writes(
-        &rt,
-        &judged(&rt, rt.alloc(), PREEMPT, text.as_str())?,
+    ),
+    (
+        "mov64 r0, 0\n",
+        "jeq64 r0, 0, +1\nadd64 r0, 1\n",
+        2047,
+        "exit\n",
         "accepted preempt budget 4096\n",
         0,
-    );
-    let over = repeated(rt.alloc(), "b700000000000000", 4096, "9500000000000000")?;
-    let image = format!(in rt.alloc(); "425150490101000001100000{over}")?;
-    writes(
+    ),
+];
+
+#[test]
+fn long_programs_are_judged(rt: HostRuntime) -> Result<(), Fail> {
+    for (begin, part, times, end, line, status) in &LONG {
+        let text = repeated(rt.alloc(), begin, part, *times, end)?;
+        is_judged(&rt, rt.alloc(), PREEMPT, text.as_str(), line, *status)?;
+    }
+    let image = repeated(
+        rt.alloc(),
+        "425150490101000001100000",
+        "b700000000000000",
+        4096,
+        "9500000000000000",
+    )?;
+    gives(
         &rt,
-        &done(&rt, rt.alloc(), &["check"], image.as_bytes())?,
+        rt.alloc(),
+        &["check"],
+        image.as_bytes(),
         "refused L7 I1 0\n",
         1,
-    );
-    Ok(())
+    )
 }

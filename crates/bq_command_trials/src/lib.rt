@@ -14,4 +14,6 @@ mod done;
 #[cfg(test)]
 mod images;
 #[cfg(test)]
+mod options;
+#[cfg(test)]
 mod slips;

@@ -1,12 +1,22 @@
 // The usual slips: the text of a policy, and what is said of it. The slots, lines and numbers were counted by hand.
 
 use bq_complaints::complaint;
-use bq_explain::{Limits, explain};
+use bq_explain::{Explained, Limits, explain};
 use bq_policy_files::{Head, read_policy};
+use std::alloc::Global;
+use std::process::Abort;
 use std::test::Fail;
 
+/// What is explained of the policy of this text.
+fn explained(alloc: Global, text: &str) -> Result<Explained, Fail> {
+    match read_policy(alloc, text.as_bytes(), &Head::nothing()) {
+        Ok(policy) => Ok(explain(alloc, &policy, &Limits::none())?),
+        Err(_) => Err(Fail::from("the text is no policy")),
+    }
+}
+
 /// What a policy's text is, and what its explanation says: the first line, and words of the others.
-const REFUSED: [(&str, &str, &str, &str); 14] = [
+static REFUSED: [(&str, &str, &str, &str); 14] = [
     // r1 after a call
     (
         ";@ hook preempt\ncall 5\nldxw r0, [r1+48]\nexit\n",
@@ -107,24 +117,30 @@ const REFUSED: [(&str, &str, &str, &str); 14] = [
     ),
 ];
 
+/// What is said of a text begins so.
+fn begins(rt: &impl Abort, text: &str, said: &str, first: &str) {
+    assert!(rt; said.starts_with(first), "{text}: {said}");
+}
+
+/// What is said of a text has these words in it.
+fn has(rt: &impl Abort, text: &str, said: &str, words: &str) {
+    assert!(rt; said.contains(words), "{text}: {said}");
+}
+
 #[test]
 fn refusals_say_what_helps(rt: HostRuntime) -> Result<(), Fail> {
-    let nothing = Head::nothing();
-    for (text, first, need, help) in REFUSED {
-        let Ok(policy) = read_policy(rt.alloc(), text.as_bytes(), &nothing) else {
-            return Err(Fail::from("the text is no policy"));
-        };
-        let said = explain(rt.alloc(), &policy, &Limits::none())?;
+    for (text, first, need, help) in &REFUSED {
+        let said = explained(rt.alloc(), text)?;
         let said = said.text.as_str();
-        assert!(rt; said.starts_with(first), "{text}: {said}");
-        assert!(rt; said.contains(need), "{text}: {said}");
-        assert!(rt; said.contains(help), "{text}: {said}");
+        begins(&rt, text, said, first);
+        has(&rt, text, said, need);
+        has(&rt, text, said, help);
     }
     Ok(())
 }
 
 /// Texts that do not assemble, and what is said of them.
-const COMPLAINED: [(&str, &str); 14] = [
+static COMPLAINED: [(&str, &str); 14] = [
     (
         "mov r0, 1\nexit\n",
         "line 1: unknown word \"mov\", did you mean \"mov64\"?\n",
@@ -185,13 +201,18 @@ const COMPLAINED: [(&str, &str); 14] = [
     ),
 ];
 
+/// What is said of a text that does not assemble.
+fn complained(alloc: Global, text: &str) -> Result<String, Fail> {
+    match complaint(alloc, text.as_bytes())? {
+        Some(said) => Ok(said),
+        None => Err(Fail::from("nothing was said")),
+    }
+}
+
 #[test]
 fn complaints_name_what_is_wrong(rt: HostRuntime) -> Result<(), Fail> {
-    for (text, told) in COMPLAINED {
-        match complaint(rt.alloc(), text.as_bytes())? {
-            Some(said) => assert!(rt; said.as_str().contains(told), "{text}: {said}"),
-            None => return Err(Fail::from("nothing was said")),
-        }
+    for (text, told) in &COMPLAINED {
+        has(&rt, text, complained(rt.alloc(), text)?.as_str(), told);
     }
     Ok(())
 }
@@ -213,17 +234,18 @@ line 6, slot 4:  ldxw r0, [r1+40]
 fn a_refusal_is_told_whole(rt: HostRuntime) -> Result<(), Fail> {
     let text =
         ";@ hook place\nldxw r2, [r1+0]\nand64 r2, 31\nlsh64 r2, 2\nadd64 r1, r2\nldxw r0, [r1+40]\nexit\n";
-    let Ok(policy) = read_policy(rt.alloc(), text.as_bytes(), &Head::nothing()) else {
-        return Err(Fail::from("the text is no policy"));
-    };
-    let said = explain(rt.alloc(), &policy, &Limits::none())?;
-    assert_eq!(rt; said.text.as_str(), WHOLE);
+    is_whole(&rt, explained(rt.alloc(), text)?.text.as_str(), WHOLE);
     Ok(())
+}
+
+/// What is said is this.
+fn is_whole(rt: &impl Abort, said: &str, whole: &str) {
+    assert_eq!(rt; said, whole);
 }
 
 /// Policies that are refused at their `ldxdw r0, [r7+0]`, and the lines on registers and stack there. The bytes of the stack are those that were
 /// stored, counted from its end; the word in them is kept where eight were stored at a multiple of 8.
-const KNOWN: [(&str, &str); 3] = [
+static KNOWN: [(&str, &str); 3] = [
     // the 8 bytes below the end, and 2 apart from them
     (
         ";@ hook preempt\nmov64 r6, 7\nstxdw [r10-8], r6\nsth [r10-16], 1\nldxdw r0, [r7+0]\nexit\n",
@@ -241,18 +263,19 @@ const KNOWN: [(&str, &str); 3] = [
     ),
 ];
 
+/// The lines on the state are these, and stand in the whole text.
+fn is_known(rt: &impl Abort, text: &str, said: &Explained, told: &str) {
+    match &said.known {
+        Some(known) => is_whole(rt, known.as_str(), told),
+        None => panic!(rt; "{text}: nothing is told of the state"),
+    }
+    has(rt, text, said.text.as_str(), told);
+}
+
 #[test]
 fn the_state_is_told(rt: HostRuntime) -> Result<(), Fail> {
-    for (text, told) in KNOWN {
-        let Ok(policy) = read_policy(rt.alloc(), text.as_bytes(), &Head::nothing()) else {
-            return Err(Fail::from("the text is no policy"));
-        };
-        let said = explain(rt.alloc(), &policy, &Limits::none())?;
-        match &said.known {
-            Some(known) => assert!(rt; known.as_str() == told, "{text}: {known}"),
-            None => return Err(Fail::from("nothing is told of the state")),
-        }
-        assert!(rt; said.text.as_str().contains(told));
+    for (text, told) in &KNOWN {
+        is_known(&rt, text, &explained(rt.alloc(), text)?, told);
     }
     Ok(())
 }
@@ -261,14 +284,15 @@ fn the_state_is_told(rt: HostRuntime) -> Result<(), Fail> {
 #[test]
 fn accepted_tells_all(rt: HostRuntime) -> Result<(), Fail> {
     let text = ";@ hook place\n;@ maps 8:1\nldxw r0, [r1+28]\ncall 8\nexit\n";
-    let Ok(policy) = read_policy(rt.alloc(), text.as_bytes(), &Head::nothing()) else {
-        return Err(Fail::from("the text is no policy"));
-    };
-    let said = explain(rt.alloc(), &policy, &Limits::none())?;
-    assert!(rt; said.accepted);
-    assert_eq!(rt;
-        said.text.as_str(),
-        "accepted place budget 3 of 4096, version 1, maps 8:1, helpers 8, counters 0, slots 3\n"
-    );
+    let whole =
+        "accepted place budget 3 of 4096, version 1, maps 8:1, helpers 8, counters 0, slots 3\n";
+    let said = explained(rt.alloc(), text)?;
+    is_accepted(&rt, &said);
+    is_whole(&rt, said.text.as_str(), whole);
     Ok(())
+}
+
+/// The policy is accepted.
+fn is_accepted(rt: &impl Abort, said: &Explained) {
+    assert!(rt; said.accepted);
 }
