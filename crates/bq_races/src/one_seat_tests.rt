@@ -124,22 +124,6 @@ fn has_both(
     stands && !closed.confirms(&idle)
 }
 
-/// The receipts of a block and a pull, if these and all other calls are answered as they should.
-fn called<N: Naming + Counting, R: Wait>(
-    rt: &R,
-    alloc: Global,
-    machine: &Single<N>,
-    seat: &mut Seat<N>,
-) -> Option<(Receipt<Record>, Receipt<Record>)> {
-    let idle = machine.block(rt, alloc, seat, 0).ok()?;
-    let pulled = machine.pull(rt, alloc, seat, 1, 0).ok()?;
-    if is_idle(&idle) && is_pull_of_none(&pulled) && answers(rt, alloc, machine, seat) {
-        Some((idle, pulled))
-    } else {
-        None
-    }
-}
-
 fn rows<N: Naming + Counting, R: Wait>(
     rt: &R,
     alloc: Global,
@@ -154,16 +138,21 @@ fn rows<N: Naming + Counting, R: Wait>(
     let Some(mut seat) = seats.pop() else {
         return Ok(false);
     };
-    let called = called(rt, alloc, &machine, &mut seat);
+    let (Ok(idle), Ok(pulled)) = (
+        machine.block(rt, alloc, &mut seat, 0),
+        machine.pull(rt, alloc, &mut seat, 1, 0),
+    ) else {
+        return Ok(false);
+    };
+    let well = is_idle(&idle)
+        && is_pull_of_none(&pulled)
+        && answers(rt, alloc, &machine, &mut seat);
     seats.push(seat)?;
     if !machine.owns(&seats) {
         return Ok(false);
     }
     let closed = machine.close(seats);
-    match called {
-        Some((idle, pulled)) => Ok(has_both(&closed, idle, pulled)),
-        None => Ok(false),
-    }
+    Ok(well && has_both(&closed, idle, pulled))
 }
 
 #[test]

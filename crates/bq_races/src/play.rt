@@ -1,7 +1,7 @@
 // What threads do with their seats.
 
 use crate::gate::Gate;
-use std::alloc::{AllocError, Global};
+use std::alloc::Global;
 use std::sync::Arc;
 
 /// A call at processor 0 that is held.
@@ -53,26 +53,5 @@ impl Script {
             at_once: Vec::new(alloc),
             after: Vec::new(alloc),
         }
-    }
-
-    /// These two at once.
-    pub fn of_two(alloc: Global, one: Play, other: Play) -> Result<Script, AllocError> {
-        let mut script = Script::new(alloc);
-        script.at_once.push(one)?;
-        script.at_once.push(other)?;
-        Ok(script)
-    }
-
-    /// The lives of tasks at all four processors at once, each of so many ticks. The masks allow any processor, or their own.
-    pub fn of_lives(alloc: Global, ticks: u32, is_bound: bool) -> Result<Script, AllocError> {
-        let mut script = Script::new(alloc);
-        for processor in 0..4u8 {
-            script.at_once.push(Play::Life {
-                processor,
-                mask: if is_bound { 1 << processor } else { u64::MAX },
-                ticks,
-            })?;
-        }
-        Ok(script)
     }
 }

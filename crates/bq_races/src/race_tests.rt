@@ -10,7 +10,6 @@ use bq_machine::{Closed, Counting, Machine, Naming, Prepared, Seat, Unnamed, pre
 use bq_par::Metronome;
 use std::alloc::Global;
 use std::marker::Brand;
-use std::process::Abort;
 use std::sync::Wait;
 use std::test::Fail;
 use std::thread::{Threads, map_vec};
@@ -87,23 +86,13 @@ fn race_under_eevdf<N: Naming + Counting + Send + Sync, R: Threads + Wait + Sync
     Ok(machine.close(seats))
 }
 
-/// So many events are enough.
-fn is_long(rt: &impl Abort, events: u64) {
-    assert!(rt; events >= EVENTS, "{events} events");
-}
-
-/// The history was replayed.
-fn is_right(rt: &impl Abort, is_replayed: bool) {
-    assert!(rt; is_replayed);
-}
-
 #[test]
 fn a_race_under_cfs_is_replayed(rt: HostRuntime) -> Result<(), Fail> {
     let alloc = rt.alloc();
     let (prepared, unnamed) = prepare::<CfsQueue>(alloc, 64, THREADS)?;
     let closed = race_under_cfs::<Brand, _>(&rt, alloc, prepared, unnamed)?;
-    is_long(&rt, closed.len());
-    is_right(&rt, is_replayed(alloc, closed)?);
+    assert!(&rt; closed.len() >= EVENTS, "{} events", closed.len());
+    assert!(&rt; is_replayed(alloc, closed)?);
     Ok(())
 }
 
@@ -112,7 +101,7 @@ fn a_race_under_eevdf_is_replayed(rt: HostRuntime) -> Result<(), Fail> {
     let alloc = rt.alloc();
     let (prepared, unnamed) = prepare::<EevdfQueue>(alloc, 64, THREADS)?;
     let closed = race_under_eevdf::<Brand, _>(&rt, alloc, prepared, unnamed)?;
-    is_long(&rt, closed.len());
-    is_right(&rt, is_replayed(alloc, closed)?);
+    assert!(&rt; closed.len() >= EVENTS, "{} events", closed.len());
+    assert!(&rt; is_replayed(alloc, closed)?);
     Ok(())
 }

@@ -3,7 +3,7 @@ ghost use Rattle.std.specs.Prelude.{◌≤◌};
 
 use bq_alike::{event_again, is_same_answer};
 use bq_bpf::Call;
-use bq_core::{Board, Core, Event, Hook, Plain, Refusal, Reply};
+use bq_core::{Board, Core, Event, Hook, Plain};
 use bq_disc::RunQueue;
 use bq_machine::Closed;
 use bq_trace::shows::write_processor;
@@ -80,47 +80,24 @@ pub fn is_replayed<Q: RunQueue + Drop, const P: usize>(
 {
     let mut core = Core::<Q, P>::new(alloc)?;
     let mut sums = [0u64; 64];
-    if !is_followed(alloc, &mut core, &closed, &mut sums)? {
-        return Ok(false);
-    }
-    let is_sum = sums.as_slice() == closed.counters.as_slice();
-    let Closed { core: end, .. } = closed;
-    Ok(is_sum && is_same_world(alloc, core, end)?)
-}
-
-/// Whether the core answers each event of the history as the machine did. What the calls add is added.
-fn is_followed<Q: RunQueue + Drop, const P: usize>(
-    alloc: Global,
-    core: &mut Core<Q, P>,
-    closed: &Closed<Q, P>,
-    sums: &mut [u64; 64],
-) -> Result<bool, Fail> {
     for place in 0..closed.len() {
         let Some((event, reply, calls)) = closed.logged(place) else {
             return Ok(false);
         };
-        if !is_answered(alloc, core, event_again(event)?, &reply, calls) {
+        let mut board = Recorded {
+            calls,
+            made: 0,
+            is_same: true,
+        };
+        let answer = core.step(alloc, event_again(event)?, &mut board);
+        if !is_same_answer(&answer, &reply) || !board.was_followed() {
             return Ok(false);
         }
-        add_all(sums, calls);
+        add_all(&mut sums, calls);
     }
-    Ok(true)
-}
-
-/// Whether the core answers the event so, and makes just these calls of counters.
-fn is_answered<Q: RunQueue + Drop, const P: usize>(
-    alloc: Global,
-    core: &mut Core<Q, P>,
-    event: Event,
-    reply: &Result<Reply, Refusal>,
-    calls: &[Call],
-) -> bool {
-    let mut board = Recorded {
-        calls,
-        made: 0,
-        is_same: true,
-    };
-    is_same_answer(&core.step(alloc, event, &mut board), reply) && board.was_followed()
+    let is_sum = sums.as_slice() == closed.counters.as_slice();
+    let Closed { core: end, .. } = closed;
+    Ok(is_sum && is_same_world(alloc, core, end)?)
 }
 
 /// Adds what the calls add, modulo 2^64.
@@ -185,49 +162,27 @@ fn last_events(alloc: Global, processors: u8) -> Result<Vec<Event>, Fail> {
     Ok(events)
 }
 
-/// What the processors of a core are shown as.
-fn shown<Q: RunQueue + Drop, const P: usize>(
-    alloc: Global,
-    core: &Core<Q, P>,
-) -> Result<String, Fail> {
-    let mut text = String::new(alloc);
-    for number in 0..core.processors() {
-        let number = number as u8;
-        write_processor(&mut text, number, core.cpu(number))?;
-    }
-    Ok(text)
-}
-
-/// Whether the processors of two cores have policies of the same numbers.
-fn has_same_numbers<Q: RunQueue + Drop, const P: usize>(
-    core: &Core<Q, P>,
-    other: &Core<Q, P>,
-) -> bool {
-    let count = core.processors();
-    if count != other.processors() {
-        return false;
-    }
-    for number in 0..count {
-        let number = number as u8;
-        let (cpu, other_cpu) = (core.cpu(number), other.cpu(number));
-        for hook in [Hook::Place, Hook::Preempt, Hook::Pull] {
-            if cpu.generation(hook) != other_cpu.generation(hook) {
-                return false;
-            }
-        }
-    }
-    true
-}
-
 /// Whether the processors of two cores are shown the same, and have policies of the same numbers.
 fn is_shown_the_same<Q: RunQueue + Drop, const P: usize>(
     alloc: Global,
     core: &Core<Q, P>,
     other: &Core<Q, P>,
 ) -> Result<bool, Fail> {
-    if !has_same_numbers(core, other) {
+    let (mut text, mut other_text) = (String::new(alloc), String::new(alloc));
+    let count = core.processors();
+    if count != other.processors() {
         return Ok(false);
     }
-    let text = shown(alloc, core)?;
-    Ok(text == shown(alloc, other)?)
+    for number in 0..count {
+        let number = number as u8;
+        let (cpu, other_cpu) = (core.cpu(number), other.cpu(number));
+        for hook in [Hook::Place, Hook::Preempt, Hook::Pull] {
+            if cpu.generation(hook) != other_cpu.generation(hook) {
+                return Ok(false);
+            }
+        }
+        write_processor(&mut text, number, cpu)?;
+        write_processor(&mut other_text, number, other_cpu)?;
+    }
+    Ok(text == other_text)
 }
