@@ -38,6 +38,7 @@ impl Clock for Ticking {
     }
 }
 
+/// A copy of a word; nothing where it is empty.
 pub fn text_of(alloc: Global, word: &str) -> Result<Option<String>, AllocError> {
     if word.is_empty() {
         return Ok(None);

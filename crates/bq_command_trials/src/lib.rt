@@ -1,14 +1,11 @@
 //! Tests alone, of the commands: their words, what they read and write, images that are assembled and checked, what `check`,
-//! `run` and `dis` answer to policies' files, the usual slips with the message that each gets, and compiled programs with the
-//! text that each is imported as. The library itself is empty.
+//! `run` and `dis` answer to policies' files, and the usual slips with the message that each gets. The library itself is empty.
 #![tactic(auto)]
 
 #[cfg(test)]
 mod answers;
 #[cfg(test)]
 mod commands;
-#[cfg(test)]
-mod compiled;
 #[cfg(test)]
 mod done;
 #[cfg(test)]
