@@ -25,33 +25,39 @@ pub number_again : (width : ℕ) (bytes : List ℕ) → width ≤ length bytes �
 unfolding number_at
 number_again width bytes h = rw (le-ltb _ _ h) refl
 
+-- a number below 2 to the 16th that two bytes spell is read again, and the rest is left
 pub half_again : (n : ℕ) (rest : List ℕ) → n < 2 ^ 16 → number_at 2 (to_le_bytes w16 n ++ rest) ≡ Ok (n, rest)
 half_again n rest lt =
     number_again 2 (to_le_bytes w16 n ++ rest) (omega (arith, length-append (to_le_bytes w16 n) rest))
     ∙ ap (λ (m : ℕ). Ok (m, rest)) (little_number-reads_back 2 n rest lt)
 
+-- a number below 2 to the 32nd that four bytes spell is read again, and the rest is left
 pub word_again : (n : ℕ) (rest : List ℕ) → n < 2 ^ 32 → number_at 4 (to_le_bytes w32 n ++ rest) ≡ Ok (n, rest)
 word_again n rest lt =
     number_again 4 (to_le_bytes w32 n ++ rest) (omega (arith, length-append (to_le_bytes w32 n) rest))
     ∙ ap (λ (m : ℕ). Ok (m, rest)) (little_number-reads_back 4 n rest lt)
 
+-- the letters are read again, and what stands after them is left
 pub magic_again : (rest : List ℕ) → magic_at (magic ++ rest) ≡ Ok rest
 unfolding magic_at
 magic_again rest =
     let long : ltb (length (magic ++ rest)) 4 ≡ false = le-ltb _ _ (omega (arith, length-append magic rest)) in
     rw long refl
 
+-- a version's number is read again as that version, and the rest is left
 pub version_again : (v : Version) (rest : List ℕ) → version_at (version_number v ∷ rest) ≡ Ok (v, rest)
 unfolding version_at
 version_again First rest = refl
 version_again Second rest = refl
 
+-- a hook's byte is read again as that hook, and the rest is left
 pub hook_again : (h : Hook) (rest : List ℕ) → hook_at (hook_byte h ∷ rest) ≡ Ok (h, rest)
 unfolding hook_at
 hook_again Place rest = refl
 hook_again Preempt rest = refl
 hook_again Pull rest = refl
 
+-- a number of at most 8 maps is read again, and the rest is left
 pub count_again : (n : ℕ) (rest : List ℕ) → n ≤ 8 → count_at (to_le_bytes w16 n ++ rest) ≡ Ok (n, rest)
 unfolding count_at
 count_again n rest few =
@@ -59,6 +65,7 @@ count_again n rest few =
     let met : nat_le n 8 ≡ true = le-leb _ _ few in
     ap (λ (r : Result (ℕ × List ℕ) LoadFault). r >>= λ count. cond (nat_le count.0 8) (Ok count) (Err fault.Shape)) read ∙ rw met refl
 
+-- the bytes of a shape are read again as one, and the rest is left
 pub shape_again : (s : MapShape) (rest : List ℕ) → shape_at (shape_bytes s ++ rest) ≡ Ok rest
 unfolding shape_at
 shape_again s rest =
@@ -70,6 +77,7 @@ shape_again s rest =
     ∙ ap (λ (r : Result (ℕ × List ℕ) LoadFault). r >>= λ entries. cond (is_shape s.value_size entries.0) (Ok entries.1) (Err fault.Shape)) entries
     ∙ ap (λ (b : Bool). cond b (Ok rest) (Err fault.Shape)) met
 
+-- the bytes of some shapes are read again as so many, and the rest is left
 pub shapes_again : (shapes : List MapShape) (rest : List ℕ) → shapes_at (length shapes) (shapes_bytes shapes ++ rest) ≡ Ok rest
 unfolding shapes_at
 shapes_again [] rest = refl
@@ -82,18 +90,22 @@ shapes_again (s ∷ shapes) rest =
 
 -- ---- the fields so far give what is read of the rest
 
+-- where the letters stand, the header is read on from the version
 pub read_marked : (rest : List ℕ) → header_at (magic ++ rest) ≡ after_magic rest
 unfolding header_at
 read_marked rest = ap (λ (r : Result (List ℕ) LoadFault). r >>= after_magic) (magic_again rest)
 
+-- where letters and version stand, the header is read on from the hook
 pub read_versioned : (v : Version) (rest : List ℕ) → header_at (magic ++ (version_number v ∷ rest)) ≡ after_version (v, rest)
 read_versioned v rest =
     read_marked (version_number v ∷ rest) ∙ ap (λ (r : Result (Version × List ℕ) LoadFault). r >>= after_version) (version_again v rest)
 
+-- where letters, version and hook stand, the header is read on from the number of maps
 pub read_hooked : (v : Version) (h : Hook) (rest : List ℕ) → header_at (magic ++ (version_number v ∷ hook_byte h ∷ rest)) ≡ after_hook v (h, rest)
 read_hooked v h rest =
     read_versioned v (hook_byte h ∷ rest) ∙ ap (λ (r : Result (Hook × List ℕ) LoadFault). r >>= after_hook v) (hook_again h rest)
 
+-- where all up to a number of at most 8 maps stands, the header is read on from the shapes
 pub read_counted : (v : Version) (h : Hook) (n : ℕ) (rest : List ℕ) → n ≤ 8 → header_at (opening v h n ++ rest) ≡ after_count v h (n, rest)
 read_counted v h n rest few =
     read_hooked v h (to_le_bytes w16 n ++ rest) ∙ ap (λ (r : Result (ℕ × List ℕ) LoadFault). r >>= after_count v h) (count_again n rest few)
@@ -102,6 +114,7 @@ read_counted v h n rest few =
 abbrev pub spelled : Header → Spelled
 spelled h = record { version = h.version; hook = h.hook; shapes = shapes_bytes h.shapes; slots = h.slots }
 
+-- the bytes of a good header are read again as what it spells, and the rest is left
 pub header_again : (h : Header) (rest : List ℕ) → IsHeader h → header_at (header_bytes h ++ rest) ≡ Ok (spelled h, rest)
 header_again h rest good =
     let n = length h.shapes in

@@ -185,6 +185,7 @@ cut_at (Headed h) part good short = header_again h part good
 
 -- ---- the first fault of bytes is what reading them gives
 
+-- a good header with less behind it than its program has is read as cut
 pub frame_short : (h : Header) (rest : List ℕ) → IsHeader h → length rest < 8 * h.slots → frame_at (header_bytes h ++ rest) ≡ Err fault.Cut
 unfolding frame_at
 frame_short h rest good short =
@@ -218,6 +219,7 @@ abbrev pub IsFound : List ℕ → LoadFault → Type 0
 IsFound bytes (fault.Decode slot Length) = HasFaultyProgram bytes slot Length
 IsFound bytes f = frame_at bytes ≡ Err f
 
+-- a fault of the bytes is found: reading them gives it, or it is that of the program's length
 pub fault_again : (bytes : List ℕ) (f : LoadFault) → AreBytes bytes → IsFault bytes f → IsFound bytes f
 fault_again bytes fault.Cut fits b = ap frame_at b.bytes_are ∙ cut_again b.front b.part b.good b.short
 fault_again bytes fault.Rest fits b = ap frame_at b.bytes_are ∙ frame_long b.header b.rest b.good b.more

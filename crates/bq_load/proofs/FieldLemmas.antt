@@ -25,16 +25,20 @@ pub use Rattle.bq_load.specs.Laws.{AreBytes}
 use Rattle.bq_load.specs.Reading.{◌>>=◌, magic_at, version_at, hook_at, number_at, count_at, is_shape, shape_at, shapes_at}
 use Rattle.bq_load.proofs.ReadingLemmas.{bind_ok, met_ok, ok_is, IsNumber, number_ok}
 
+-- numbers of which each fits in 8 bits are bytes
 pub AreBytes-fit : (bytes : List ℕ) → ((i : ℕ) → Fits w8 (slice_index_or bytes i 0)) → AreBytes bytes
 AreBytes-fit bytes h i = Fits-lt-pow (h i)
 
+-- bytes without the first of them are bytes
 pub AreBytes-rest : (b : ℕ) (bytes : List ℕ) → AreBytes (b ∷ bytes) → AreBytes bytes
 AreBytes-rest b bytes h i = h (suc i)
 
+-- what stands after a front of bytes is bytes
 pub AreBytes-after : (front rest : List ℕ) → AreBytes (front ++ rest) → AreBytes rest
 AreBytes-after [] rest h = h
 AreBytes-after (b ∷ front) rest h = AreBytes-after front rest (AreBytes-rest b (front ++ rest) h)
 
+-- what stands before a rest of bytes is bytes
 pub AreBytes-front : (front rest : List ℕ) → AreBytes (front ++ rest) → AreBytes front
 AreBytes-front [] rest h i = lit< tt
 AreBytes-front (b ∷ front) rest h zero = h 0
@@ -54,14 +58,16 @@ bind_err (Err d) f e h = inl cc
 abbrev failed : {A : Type 0} → LoadFault → Result A LoadFault
 failed f = Err f
 
+-- two results that are the same failure name the same fault
 pub err_is : {A : Type 0} (f g : LoadFault) → failed {A = A} f ≡ failed {A = A} g → f ≡ g
 err_is f g e = cc
 
--- a test that found something, and one that was not met
+-- a failure where a test finds something: the test found it, and the fault is its own
 pub guard_err : {A : Type 0} (b : Bool) (d f : LoadFault) (x : A) → cond b (Err d) (Ok x) ≡ Err f → (b ≡ true) × (d ≡ f)
 guard_err true d f x e = (refl, cc)
 guard_err false d f x e = absurd cc
 
+-- a failure where a test is not met: the test was not met, and the fault is its own
 pub met_err : {A : Type 0} (b : Bool) (d f : LoadFault) (x : A) → cond b (Ok x) (Err d) ≡ Err f → (b ≡ false) × (d ≡ f)
 met_err true d f x e = absurd cc
 met_err false d f x e = (refl, cc)
@@ -73,6 +79,7 @@ chosen false x y z e = inr (refl, e)
 
 -- ---- the letters
 
+-- where the letters were read, they stand there, and what was left stands after them
 pub magic_ok : (bytes rest : List ℕ) → magic_at bytes ≡ Ok rest → bytes ≡ magic ++ rest
 unfolding magic_at
 magic_ok bytes rest e =
@@ -84,6 +91,7 @@ magic_ok bytes rest e =
           sym (take-append-drop 4 bytes) ∙ ap (λ (x : List ℕ). x ++ drop 4 bytes) is ∙ ap (λ (x : List ℕ). magic ++ x) g.1
     ]
 
+-- where reading the letters failed, the bytes are fewer than four, or the first four are others
 pub magic_err : (bytes : List ℕ) (f : LoadFault) → magic_at bytes ≡ Err f → IsRefusedField Nothing bytes f
 unfolding magic_at
 magic_err bytes f e =
@@ -98,6 +106,7 @@ magic_err bytes f e =
 
 -- ---- the version
 
+-- where a version was read, its number stands there, and what was left stands after it
 pub version_ok : (bytes : List ℕ) (v : Version) (rest : List ℕ) → version_at bytes ≡ Ok (v, rest) → bytes ≡ version_number v ∷ rest
 unfolding version_at
 version_ok [] v rest e = absurd cc
@@ -116,6 +125,7 @@ no_version : (b : ℕ) → b ≢ 1 → b ≢ 2 → (v : Version) → b ∷ [] �
 no_version b one two First e = one cc
 no_version b one two Second e = two cc
 
+-- where reading a version failed, there is no byte, or the first one is the number of none
 pub version_err : (bytes : List ℕ) (f : LoadFault) → version_at bytes ≡ Err f → IsRefusedField Marked bytes f
 unfolding version_at
 version_err [] f e = inl (sym (err_is {A = Version × List ℕ} fault.Cut f e), omega arith)
@@ -129,6 +139,7 @@ version_err (b ∷ bs) f e =
 
 -- ---- the hook
 
+-- where a hook was read, its byte stands there, and what was left stands after it
 pub hook_ok : (bytes : List ℕ) (h : Hook) (rest : List ℕ) → hook_at bytes ≡ Ok (h, rest) → bytes ≡ hook_byte h ∷ rest
 unfolding hook_at
 hook_ok [] h rest e = absurd cc
@@ -153,6 +164,7 @@ no_hook b zero' one two Place e = zero' cc
 no_hook b zero' one two Preempt e = one cc
 no_hook b zero' one two Pull e = two cc
 
+-- where reading a hook failed, there is no byte, or the first one is that of none
 pub hook_err : (v : Version) (bytes : List ℕ) (f : LoadFault) → hook_at bytes ≡ Err f → IsRefusedField (Versioned v) bytes f
 unfolding hook_at
 hook_err v [] f e = inl (sym (err_is {A = Hook × List ℕ} fault.Cut f e), omega arith)
@@ -169,12 +181,14 @@ hook_err v (b ∷ bs) f e =
 
 -- ---- numbers
 
+-- reading a number fails only as cut, where there are fewer bytes than it has
 pub number_err : (width : ℕ) (bytes : List ℕ) (f : LoadFault) → number_at width bytes ≡ Err f → (f ≡ fault.Cut) × (length bytes < width)
 unfolding number_at
 number_err width bytes f e =
     let g = guard_err (ltb (length bytes) width) fault.Cut f (little_number width bytes, drop width bytes) e in
     (sym g.1, ltb-true _ _ g.0)
 
+-- a number that was read from two bytes is below 2 to the 16th, and stands there before what was left
 pub half_ok : (bytes : List ℕ) (n : ℕ) (rest : List ℕ) → AreBytes bytes → IsNumber 2 bytes n rest → (bytes ≡ to_le_bytes w16 n ++ rest) × (n < 2 ^ 16)
 half_ok (a ∷ b ∷ bs) n rest fits r =
     let fa : a < 256 = fits 0 in
@@ -187,6 +201,7 @@ half_ok (a ∷ b ∷ bs) n rest fits r =
 half_ok (a ∷ []) n rest fits r = absurd (omega (arith, r.long))
 half_ok [] n rest fits r = absurd (omega (arith, r.long))
 
+-- a number that was read from four bytes is below 2 to the 32nd, and stands there before what was left
 pub word_ok : (bytes : List ℕ) (n : ℕ) (rest : List ℕ) → AreBytes bytes → IsNumber 4 bytes n rest → (bytes ≡ to_le_bytes w32 n ++ rest) × (n < 2 ^ 32)
 word_ok (a ∷ b ∷ c ∷ d ∷ bs) n rest fits r =
     let fa : a < 256 = fits 0 in
@@ -211,6 +226,7 @@ one_half m n lm ln e = sym (from_le_bytes-to_le_bytes_2 m lm) ∙ ap (from_le_by
 
 -- ---- the number of maps
 
+-- a number of maps that was read is at most 8, and stands there before what was left
 pub count_ok : (bytes : List ℕ) (n : ℕ) (rest : List ℕ) → AreBytes bytes → count_at bytes ≡ Ok (n, rest) → (bytes ≡ to_le_bytes w16 n ++ rest) × (n ≤ 8)
 unfolding count_at
 count_ok bytes n rest fits e =
@@ -219,6 +235,7 @@ count_ok bytes n rest fits e =
     let made = half_ok bytes a.0.0 a.0.1 fits (number_ok 2 bytes a.0.0 a.0.1 a.1) in
     subst (λ (x : ℕ × List ℕ). (bytes ≡ to_le_bytes w16 x.0 ++ x.1) × (x.0 ≤ 8)) g.1 (made.0, leb-true _ _ g.0)
 
+-- where reading the number of maps failed, its two bytes are cut, or spell no number up to 8
 pub count_err : (v : Version) (h : Hook) (bytes : List ℕ) (f : LoadFault) → AreBytes bytes → count_at bytes ≡ Err f → IsRefusedField (Hooked v h) bytes f
 unfolding count_at
 count_err v h bytes f fits e =
@@ -247,6 +264,7 @@ shape_of size entries h = record {
   greatest_entries = h.greatest_entries;
 }
 
+-- the bytes of a shape that is made of two numbers are those of the numbers
 pub shape_of-bytes : (size entries : ℕ) (h : IsShape size entries) → shape_bytes (shape_of size entries h) ≡ to_le_bytes w16 size ++ to_le_bytes w16 entries
 unfolding shape_of
 shape_of-bytes size entries h = refl
@@ -256,6 +274,7 @@ both true true e = (refl, refl)
 both true false e = absurd cc
 both false b e = absurd cc
 
+-- two numbers that pass the test of a shape are within its limits
 pub shape_is : (size entries : ℕ) → is_shape size entries ≡ true → IsShape size entries
 shape_is size entries e =
     let a = both (nat_le 8 size && (nat_le size 256 && (size % 8 == 0))) (nat_le 1 entries && nat_le entries 256) e in
@@ -270,6 +289,7 @@ shape_is size entries e =
       greatest_entries = leb-true _ _ d.1;
     }
 
+-- two numbers within the limits of a shape pass its test
 pub is_shape-met : (size entries : ℕ) → IsShape size entries → is_shape size entries ≡ true
 is_shape-met size entries h =
     let a : nat_le 8 size ≡ true = le-leb _ _ h.least_size in
@@ -294,6 +314,7 @@ pub record IsRead (bytes rest : List ℕ) (size entries : ℕ) : Type 0 where
   pub size_fits : size < 2 ^ 16
   pub entries_fit : entries < 2 ^ 16
 
+-- two numbers that were read, from two bytes each, stand there one after the other, and are below 2 to the 16th
 pub two_halves : (bytes : List ℕ) (size entries : ℕ) (middle rest : List ℕ) → AreBytes bytes → number_at 2 bytes ≡ Ok (size, middle) → number_at 2 middle ≡ Ok (entries, rest) → IsRead bytes rest size entries
 two_halves bytes size entries middle rest fits e f =
     let a = half_ok bytes size middle fits (number_ok 2 bytes size middle e) in
@@ -305,6 +326,7 @@ two_halves bytes size entries middle rest fits e f =
       entries_fit = b.1;
     }
 
+-- where a shape was read, the bytes of one stand there, and what was left stands after them
 pub shape_ok : (bytes rest : List ℕ) → AreBytes bytes → shape_at bytes ≡ Ok rest → (s : MapShape) × (bytes ≡ shape_bytes s ++ rest)
 unfolding shape_at shape_of
 shape_ok bytes rest fits e =
@@ -332,6 +354,7 @@ no_shape size entries ls le out s e =
     let yes : is_shape size entries ≡ true = rw (a, b) (is_shape-met s.value_size s.entries facts) in
     absurd cc
 
+-- where reading a shape failed, it is cut, or its four bytes are those of none
 pub shape_err : (bytes : List ℕ) (f : LoadFault) → AreBytes bytes → shape_at bytes ≡ Err f → IsRefusedShape bytes f
 unfolding shape_at
 shape_err bytes f fits e =
@@ -349,6 +372,7 @@ shape_err bytes f fits e =
       ]
     ]
 
+-- where so many shapes were read, the bytes of as many stand there, and what was left stands after them
 pub shapes_ok : (n : ℕ) (bytes rest : List ℕ) → AreBytes bytes → shapes_at n bytes ≡ Ok rest → (shapes : List MapShape) × (length shapes ≡ n) × (bytes ≡ shapes_bytes shapes ++ rest)
 unfolding shapes_at
 shapes_ok zero bytes rest fits e = ([], refl, ok_is bytes rest e)
@@ -368,6 +392,7 @@ pub record HasRefusedShape (n : ℕ) (bytes : List ℕ) (f : LoadFault) : Type 0
   pub bytes_are : bytes ≡ shapes_bytes shapes ++ rest
   pub refused : IsRefusedShape rest f
 
+-- where reading so many shapes failed, fewer of them stand there, and the next one is cut or bad
 pub shapes_err : (n : ℕ) (bytes : List ℕ) (f : LoadFault) → AreBytes bytes → shapes_at n bytes ≡ Err f → HasRefusedShape n bytes f
 unfolding shapes_at
 shapes_err zero bytes f fits e = absurd cc

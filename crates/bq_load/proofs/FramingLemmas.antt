@@ -32,6 +32,7 @@ ended_ok x y e =
       ]
     ]
 
+-- a header and a program that were read are the bytes
 pub frame_ok : (bytes : List ℕ) (x : Spelled × List ℕ) → AreBytes bytes → frame_at bytes ≡ Ok x → Frames bytes x.0 x.1
 unfolding frame_at
 frame_ok bytes x fits e =
@@ -61,6 +62,7 @@ ended_err bytes x f there e =
       ]
     ]
 
+-- what reading header and program fails with is a fault of the bytes
 pub frame_err : (bytes : List ℕ) (f : LoadFault) → AreBytes bytes → frame_at bytes ≡ Err f → IsFault bytes f
 unfolding frame_at
 frame_err bytes f fits e =
@@ -71,6 +73,7 @@ frame_err bytes f fits e =
 
 -- ---- faults that are answered
 
+-- no bad field is named as want of memory
 pub no_memory : (front : Front) (field : List ℕ) → IsBadNext front field fault.OutOfMemory → ⊥
 no_memory Nothing field h = h
 no_memory Marked field h = h
@@ -79,6 +82,7 @@ no_memory (Hooked v k) field h = h
 no_memory (Mapped v k n s) field h = h
 no_memory (Headed k) field h = h
 
+-- a fault of the bytes says why no image is read of them
 pub unread : (bytes : List ℕ) (f : LoadFault) → IsFault bytes f → IsUnread bytes f
 unread bytes fault.OutOfMemory b = absurd (no_memory b.front b.field b.bad)
 unread bytes fault.Magic b = b
@@ -95,9 +99,11 @@ unread bytes (fault.Refused slot cause) b = b
 no_length : (n : ℕ) → (n ≡ 0) ⊎ (4096 < n) → ((8 * n % 8 == 0) && (nat_le 1 (8 * n) && nat_le (8 * n) 32768)) ≡ false
 no_length n h = grind (arith, nat_tests)
 
+-- eight bytes for each of more than 4096 slots are no length of a program
 pub bad_length_of : (n slots : ℕ) → n ≡ 8 * slots → 4096 < slots → ((n % 8 == 0) && (nat_le 1 n && nat_le n 32768)) ≡ false
 bad_length_of n slots whole over = subst (λ (m : ℕ). ((m % 8 == 0) && (nat_le 1 m && nat_le m 32768)) ≡ false) (sym whole) (no_length slots (inr over))
 
+-- a program of no slot, or of more than 4096, has the fault of its length
 pub bad_length : (bytes : List ℕ) (s : Spelled) (program : List ℕ) → Frames bytes s program → (s.slots ≡ 0) ⊎ (4096 < s.slots) → HasFaultyProgram bytes 0 Length
 bad_length bytes s program frames out = record {
   header = with_shapes s frames.shapes;
@@ -114,6 +120,7 @@ same_header s shapes others same =
     ap (λ (n : ℕ). opening s.version s.hook n ++ (shapes_bytes shapes ++ to_le_bytes w32 s.slots)) count
     ∙ ap (λ (x : List ℕ). opening s.version s.hook (length others) ++ (x ++ to_le_bytes w32 s.slots)) same
 
+-- a header and its program of 1 to 4096 slots are an image of any shapes that have the header's bytes
 pub is_image : (bytes : List ℕ) (s : Spelled) (program : List ℕ) (shapes : List MapShape) → HasParts bytes s program → s.shapes ≡ shapes_bytes shapes → IsImage bytes s.version s.hook shapes program
 is_image bytes s program shapes parts is =
     let frames = parts.frames in
@@ -132,6 +139,7 @@ is_image bytes s program shapes parts is =
       };
     }
 
+-- a header and its program of 1 to 4096 slots are some image
 pub has_image : (bytes : List ℕ) (s : Spelled) (program : List ℕ) → HasParts bytes s program → HasImage bytes
 has_image bytes s program parts = record {
   version = s.version;

@@ -64,18 +64,23 @@ from_shape v h n rest f few r = record {
 
 -- ---- what is read after each field
 
+-- behind the shapes: the number of slots, and the header is whole
 abbrev pub after_slots : Version → Hook → ℕ → List ℕ → List ℕ → Result (Spelled × List ℕ) LoadFault
 after_slots v h n maps after = number_at 4 after >>= λ slots. Ok (record { version = v; hook = h; shapes = take (4 * n) maps; slots = slots.0 }, slots.1)
 
+-- behind the number of maps: as many shapes, and what follows them
 abbrev pub after_count : Version → Hook → (ℕ × List ℕ) → Result (Spelled × List ℕ) LoadFault
 after_count v h count = shapes_at count.0 count.1 >>= λ after. after_slots v h count.0 count.1 after
 
+-- behind the hook: the number of maps, and what follows it
 abbrev pub after_hook : Version → (Hook × List ℕ) → Result (Spelled × List ℕ) LoadFault
 after_hook v hook = count_at hook.1 >>= λ count. after_count v hook.0 count
 
+-- behind the version: the hook, and what follows it
 abbrev pub after_version : (Version × List ℕ) → Result (Spelled × List ℕ) LoadFault
 after_version version = hook_at version.1 >>= λ hook. after_hook version.0 hook
 
+-- behind the letters: the version, and what follows it
 abbrev pub after_magic : List ℕ → Result (Spelled × List ℕ) LoadFault
 after_magic rest = version_at rest >>= λ version. after_version version
 
@@ -130,6 +135,7 @@ refused_version rest f fits e =
           subst (λ (x : List ℕ). IsRefused (magic ++ x) f) (sym is) (refused_hook p.0.0 p.0.1 f after p.2)
     ]
 
+-- where reading a header failed, good fields stand there, and the one behind them is cut or bad
 pub header_err : (bytes : List ℕ) (f : LoadFault) → AreBytes bytes → header_at bytes ≡ Err f → IsRefused bytes f
 unfolding header_at
 header_err bytes f fits e =
@@ -181,6 +187,7 @@ read_version rest x fits e =
     let after : AreBytes p.0.1 = AreBytes-after (version_number p.0.0 ∷ []) p.0.1 (subst AreBytes is fits) in
     subst (λ (y : List ℕ). HasHeader (magic ++ y) x.0 x.1) (sym is) (read_hook p.0.0 p.0.1 x after p.2)
 
+-- a header that was read stands there, and what was left stands after it
 pub header_ok : (bytes : List ℕ) (x : Spelled × List ℕ) → AreBytes bytes → header_at bytes ≡ Ok x → HasHeader bytes x.0 x.1
 unfolding header_at
 header_ok bytes x fits e =
@@ -191,6 +198,7 @@ header_ok bytes x fits e =
 
 -- ---- which fault that is
 
+-- no bad field is named as cut
 pub no_cut : (front : Front) (field : List ℕ) → IsBadNext front field fault.Cut → ⊥
 no_cut Nothing field h = h
 no_cut Marked field h = h
@@ -199,6 +207,7 @@ no_cut (Hooked v k) field h = h
 no_cut (Mapped v k n s) field h = h
 no_cut (Headed k) field h = h
 
+-- no bad field is named as bytes after the end
 pub no_rest : (front : Front) (field : List ℕ) → IsBadNext front field fault.Rest → ⊥
 no_rest Nothing field h = h
 no_rest Marked field h = h
@@ -207,6 +216,7 @@ no_rest (Hooked v k) field h = h
 no_rest (Mapped v k n s) field h = h
 no_rest (Headed k) field h = h
 
+-- no bad field is named as a fault of the program
 pub no_decode : (slot : ℕ) (cause : Cause) (front : Front) (field : List ℕ) → IsBadNext front field (fault.Decode slot cause) → ⊥
 no_decode slot cause Nothing field h = h
 no_decode slot cause Marked field h = h
@@ -227,6 +237,7 @@ bad_field bytes (fault.Decode slot cause) b = absurd (no_decode slot cause b.fro
 bad_field bytes (fault.Refused slot cause) b = b
 bad_field bytes fault.OutOfMemory b = b
 
+-- where a field behind good ones is cut or bad, that is a fault of the bytes
 pub refused_is : (bytes : List ℕ) (f : LoadFault) → IsRefused bytes f → IsFault bytes f
 refused_is bytes f r =
     elim r.refused [

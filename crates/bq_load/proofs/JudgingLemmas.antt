@@ -33,16 +33,19 @@ take_past (suc n) (x ∷ a) b h =
     let e : n - length a ≡ suc n - suc (length a) = omega arith in
     ap (λ (l : List ℕ). x ∷ l) (take_past n a b (omega arith)) ∙ ap (λ (m : ℕ). x ∷ (a ++ take m b)) e
 
+-- two lists of bytes, one after the other, are bytes
 pub AreBytes-append : (a b : List ℕ) → AreBytes a → AreBytes b → AreBytes (a ++ b)
 AreBytes-append [] b ha hb i = hb i
 AreBytes-append (x ∷ a) b ha hb zero = ha 0
 AreBytes-append (x ∷ a) b ha hb (suc i) = AreBytes-append a b (λ j. ha (suc j)) hb i
 
+-- the first few of some bytes are bytes
 pub AreBytes-take : (n : ℕ) (a : List ℕ) → AreBytes a → AreBytes (take n a)
 AreBytes-take n a h = AreBytes-front (take n a) (drop n a) (subst AreBytes (sym (take-append-drop n a)) h)
 
 -- ---- headers
 
+-- a header has twelve bytes, and four for each shape
 pub length-header_bytes : (h : Header) → length (header_bytes h) ≡ 12 + 4 * length h.shapes
 length-header_bytes h =
     let opened : length (opening h.version h.hook (length h.shapes)) ≡ 8 = refl in
@@ -56,6 +59,7 @@ length-header_bytes h =
       length-shapes_bytes h.shapes,
     )
 
+-- a good header has at most 44 bytes
 pub header_fits : (h : Header) → IsHeader h → length (header_bytes h) ≤ 44
 header_fits h good = omega (arith, length-header_bytes h, good.few)
 
@@ -84,6 +88,7 @@ short_front (Mapped v h n shapes) rest good short e =
     )
 short_front (Headed h) rest good short e = absurd (let ok = header_again h rest good in cc)
 
+-- bytes whose header is read as cut are fewer than 44
 pub cut_is_short : (bytes : List ℕ) → AreBytes bytes → header_at bytes ≡ Err fault.Cut → length bytes < 44
 cut_is_short bytes fits e =
     let r = header_err bytes fault.Cut fits e in
@@ -108,6 +113,7 @@ front_too_long held piece l =
     ap (λ (x : List ℕ). take 44 (x ++ piece)) l.held_is ∙ ap (take 44) (append_assoc (header_bytes l.header) l.part piece)
     ∙ take_past 44 (header_bytes l.header) (l.part ++ piece) (header_fits l.header l.good)
 
+-- where the first 44 bytes of held and piece are refused, no program that is too long is held
 pub not_too_long : (held piece : List ℕ) (f : LoadFault) → header_at (take 44 (held ++ piece)) ≡ Err f → IsTooLong held → ⊥
 not_too_long held piece f e l =
     let ok = ap header_at (front_too_long held piece l) ∙ header_again l.header (take (44 - length (header_bytes l.header)) (l.part ++ piece)) l.good in
@@ -128,6 +134,7 @@ pub record Joined (front held piece bytes : List ℕ) (past : ℕ) (s : Spelled)
   pub bytes_are : bytes ++ piece ≡ header_bytes header ++ tail
   pub long_is : (l : IsTooLong held) → l.header ≡ header
 
+-- the header of the first 44 bytes is that of all bytes, and of a program held that is too long
 pub joined : (held piece bytes : List ℕ) (past : ℕ) (s : Spelled) (r : List ℕ) → HasHeader (take 44 (held ++ piece)) s r → Holds held past bytes → Joined (take 44 (held ++ piece)) held piece bytes past s r
 joined held piece bytes past s r there h = elim h.only [ inl e ↦ whole e | inr l ↦ counted l ]
   where
@@ -203,11 +210,13 @@ field_of bytes f other r =
       }
     ]
 
+-- what the first 44 bytes are refused for, unless they are cut, no further bytes take away
 pub refused_final : (held piece : List ℕ) (f : LoadFault) → AreBytes (take 44 (held ++ piece)) → f ≢ fault.Cut → header_at (take 44 (held ++ piece)) ≡ Err f → IsFinal f
 refused_final held piece f fits other e =
     let b = field_of (take 44 (held ++ piece)) f other (header_err (take 44 (held ++ piece)) f fits e) in
     final_field b.front b.field f b.bad
 
+-- what the first 44 bytes are refused for, unless they are cut, is a fault of all bytes that stays
 pub refused_stays : (held piece bytes : List ℕ) (past : ℕ) (f : LoadFault) → AreBytes (take 44 (held ++ piece)) → f ≢ fault.Cut → header_at (take 44 (held ++ piece)) ≡ Err f → Holds held past bytes → HasFailed (bytes ++ piece) f
 refused_stays held piece bytes past f fits other e h =
     let b = field_of (take 44 (held ++ piece)) f other (header_err (take 44 (held ++ piece)) f fits e) in
@@ -218,6 +227,7 @@ refused_stays held piece bytes past f fits other e h =
 
 -- ---- a header that is still cut
 
+-- where the header is still cut, what is held with the whole piece stands for all bytes
 pub cut_stands : (held piece bytes : List ℕ) (past : ℕ) → header_at (take 44 (held ++ piece)) ≡ Err fault.Cut → Holds held past bytes
     → Holds (held ++ take (length piece) piece) (past + (length piece - length piece)) (bytes ++ piece)
 cut_stands held piece bytes past e h =
@@ -237,12 +247,14 @@ cut_is_all held piece fits e =
     let all : length (held ++ piece) < 44 = omega (arith, length-take 44 (held ++ piece)) in
     (take_all 44 (held ++ piece) (omega arith), all)
 
+-- where the header is still cut, held bytes and piece are together fewer than 44
 pub cut_bounded : (held piece : List ℕ) → AreBytes (take 44 (held ++ piece)) → header_at (take 44 (held ++ piece)) ≡ Err fault.Cut → length held + length piece < 44
 cut_bounded held piece fits e = omega (arith, (cut_is_all held piece fits e).1, length-append held piece)
 
 cut_is_not_final : (f : LoadFault) → fault.Cut ≡ f → IsFinal f → ⊥
 cut_is_not_final f e final = subst IsFinal (sym e) final
 
+-- where the header is still cut, all bytes have no fault that stays
 pub cut_going : (held piece bytes : List ℕ) (past : ℕ) (f : LoadFault) → AreBytes (take 44 (held ++ piece)) → header_at (take 44 (held ++ piece)) ≡ Err fault.Cut → Holds held past bytes → AreBytes (bytes ++ piece) → HasFailed (bytes ++ piece) f → ⊥
 cut_going held piece bytes past f fits e h whole_fits failed =
     let none = only_held held bytes past (not_too_long held piece fault.Cut e) h in
@@ -311,6 +323,7 @@ up_to_header held piece whole h tail kept good over is bytes_are reach =
       held_is = sym first ∙ second;
     }
 
+-- of a program that is too long, what is held with the header's last bytes, and a count of the others, stands for all bytes
 pub counted_stands : (front held piece bytes : List ℕ) (past : ℕ) (s : Spelled) (r : List ℕ) (kept : ℕ) (j : Joined front held piece bytes past s r) → 4096 < s.slots → kept ≡ length (header_bytes j.header) - length held
     → Holds held past bytes → Holds (held ++ take kept piece) (past + (length piece - kept)) (bytes ++ piece)
 counted_stands front held piece bytes past s r kept j over kept_is h =
@@ -347,22 +360,26 @@ pub length-tail : (front held piece bytes : List ℕ) (past : ℕ) (s : Spelled)
 length-tail front held piece bytes past s r j h =
     omega (arith, ap length j.bytes_are, length-append bytes piece, length-append (header_bytes j.header) j.tail, ap length h.bytes_are, length-append held h.rest, h.counted)
 
+-- the first bytes are as many as those of their header and what was left behind it
 pub length-front : (front held piece bytes : List ℕ) (past : ℕ) (s : Spelled) (r : List ℕ) (j : Joined front held piece bytes past s r) → length front ≡ length (header_bytes j.header) + length r
 length-front front held piece bytes past s r j = omega (arith, ap length j.front_is, length-append (header_bytes j.header) r)
 
 -- ---- for the code
 
+-- the first 44 of held bytes and a piece are bytes
 pub first_bytes : (held piece : List ℕ) → AreBytes held → AreBytes piece → AreBytes (take 44 (held ++ piece))
 first_bytes held piece hh hp = AreBytes-take 44 (held ++ piece) (AreBytes-append held piece hh hp)
 
 pub record Begins (held piece r : List ℕ) : Type 0 where
   pub rest : length r ≤ length (take 44 (held ++ piece))
 
+-- what a header leaves of the first 44 bytes is no longer than they are
 pub begins : (held piece : List ℕ) (s : Spelled) (r : List ℕ) → AreBytes (take 44 (held ++ piece)) → header_at (take 44 (held ++ piece)) ≡ Ok (s, r) → Begins held piece r
 begins held piece s r fits e =
     let there = header_ok (take 44 (held ++ piece)) (s, r) fits e in
     record { rest = omega (arith, ap length there.bytes_are, length-append (header_bytes (with_shapes s there.shapes)) r) }
 
+-- the header that was read of the first 44 bytes is that of all bytes
 pub joined_to : (held piece bytes : List ℕ) (past : ℕ) (s : Spelled) (r : List ℕ) → AreBytes (take 44 (held ++ piece)) → header_at (take 44 (held ++ piece)) ≡ Ok (s, r) → Holds held past bytes → Joined (take 44 (held ++ piece)) held piece bytes past s r
 joined_to held piece bytes past s r fits e h = joined held piece bytes past s r (header_ok (take 44 (held ++ piece)) (s, r) fits e) h
 

@@ -14,6 +14,7 @@ use Rattle.bq_load.proofs.AgainLemmas.{spelled}
 use Rattle.bq_load.proofs.FaultLemmas.{IsFound, fault_again}
 use Rattle.bq_load.proofs.UniqueLemmas.{frame_again, one_frame}
 
+-- bytes that are two images have one version, one hook, the same shapes and the same program
 pub one_image : OneImage
 one_image bytes v w h k a b p q x y =
     let same = one_frame bytes (record { version = v; hook = h; shapes = a; slots = x.slots }) (record { version = w; hook = k; shapes = b; slots = y.slots }) p q x.framed y.framed in (
@@ -31,6 +32,7 @@ good_length n slots whole some most = grind (arith, nat_tests)
 not_both : (bytes : List ℕ) (x : Spelled × List ℕ) (f : LoadFault) → frame_at bytes ≡ Ok x → frame_at bytes ≡ Err f → ⊥
 not_both bytes x f e g = cc
 
+-- where header and program are the bytes, reading them does not fail
 pub framed_is_found : (bytes : List ℕ) (h : Header) (program : List ℕ) (f : LoadFault) → IsFramed bytes h program → frame_at bytes ≡ Err f → ⊥
 framed_is_found bytes h program f framed e = not_both bytes (spelled h, program) f (frame_again bytes h program framed) e
 
@@ -46,6 +48,7 @@ no_fault : (bytes : List ℕ) (h : Header) (program : List ℕ) (f : LoadFault) 
 no_fault bytes h program (fault.Decode slot Length) framed some most b = whole_program bytes h program slot framed some most b
 no_fault bytes h program f framed some most b = framed_is_found bytes h program _ framed b
 
+-- bytes that are an image have no fault
 pub no_image_is_faulty : NoImageIsFaulty
 no_image_is_faulty bytes v h shapes program f fits image b =
     no_fault bytes (record { version = v; hook = h; shapes = shapes; slots = image.slots }) program f image.framed image.some image.most (fault_again bytes f fits b)
@@ -63,5 +66,6 @@ same_faults bytes (fault.Decode slot Length) g b d = of_length bytes slot g b d
 same_faults bytes f (fault.Decode slot Length) b d = sym (of_length bytes slot f d b)
 same_faults bytes f g b d = same_found bytes f g b d
 
+-- two first faults of the same bytes are one
 pub one_fault : OneFault
 one_fault bytes f g fits b d = same_faults bytes f g (fault_again bytes f fits b) (fault_again bytes g fits d)

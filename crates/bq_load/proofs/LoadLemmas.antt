@@ -41,6 +41,7 @@ use Rattle.bq_load.proofs.HeaderLemmas.{no_decode}
 use Rattle.bq_load.proofs.LawLemmas.{no_image_is_faulty}
 use Rattle.bq_load.proofs.UniqueLemmas.{one_shapes, one_frame}
 
+-- no bad field is named as a refusal of the verifier
 pub no_refusal : (slot : ℕ) (cause : Reason) (front : Front) (field : List ℕ) → IsBadNext front field (fault.Refused slot cause) → ⊥
 no_refusal slot cause Nothing field h = h
 no_refusal slot cause Marked field h = h
@@ -117,6 +118,7 @@ loaded bytes s code insns shapes v parts is well_formed numbers shapes-are slots
 
 -- ---- straight programs
 
+-- bytes that are an image of a straight program have no fault
 pub straight_bytes : (bytes : List ℕ) (f : LoadFault) → AreBytes bytes → HasStraightProgram bytes → IsFault bytes f → ⊥
 straight_bytes bytes f fits st b = no_image_is_faulty bytes st.version st.hook st.shapes (spelling st.insns) f fits st.image b
 
@@ -138,6 +140,7 @@ is_of bytes s code st parts =
       shapes = parts.frames.shapes_are ∙ ap (λ (h : Header). shapes_bytes h.shapes) same.0;
     }
 
+-- the program of a straight image is refused for nothing but want of memory
 pub straight_code : (bytes : List ℕ) (s : Spelled) (code : List ℕ) (f : DecodeFault) → HasParts bytes s code → HasStraightProgram bytes → IsProgramFault code f → of_program f ≡ fault.OutOfMemory
 straight_code bytes s code program.OutOfMemory parts st b = refl
 straight_code bytes s code (program.At slot cause) parts st b =
@@ -147,6 +150,7 @@ straight_code bytes s code (program.At slot cause) parts st b =
 all_insns : (insns : List Insn) → is_well_formed insns ≡ true → list_all is_insn insns ≡ true
 all_insns insns h = (both (list_all is_insn insns) (nat_le 1 (slot_count insns) && nat_le (slot_count insns) 4096) h).0
 
+-- instructions and shapes that were read of a straight image are a straight program for its hook and version
 pub straight_program : (bytes : List ℕ) (s : Spelled) (code : List ℕ) (insns : List Insn) (shapes : List MapShape) → HasParts bytes s code → HasStraightProgram bytes
     → code ≡ spelling insns → is_well_formed insns ≡ true → AllFit insns → s.shapes ≡ shapes_bytes shapes → IsStraightProgram (spread insns) shapes (context_length_of s.hook s.version)
 straight_program bytes s code insns shapes parts st is well_formed numbers shapes-are =

@@ -143,6 +143,7 @@ graph_fault bytes slot cause (Err fault.Shape) fits b a = absurd (framed bytes f
 graph_fault bytes slot cause (Err fault.Cut) fits b a = absurd (framed bytes fault.Cut _ _ b.program.image.framed (record { at = fault_again bytes fault.Cut fits a }))
 graph_fault bytes slot cause (Err fault.Rest) fits b a = absurd (framed bytes fault.Rest _ _ b.program.image.framed (record { at = fault_again bytes fault.Rest fits a }))
 
+-- bytes with a fault of their own, of their program or its graph are answered by it, or by want of memory
 pub one_answer : OneAnswer
 one_answer bytes fault.Magic answer fits of b a = at_stop bytes fault.Magic answer fits (record { at = fault_again bytes fault.Magic fits b }) a
 one_answer bytes fault.Version answer fits of b a = at_stop bytes fault.Version answer fits (record { at = fault_again bytes fault.Version fits b }) a
@@ -158,6 +159,7 @@ one_answer bytes fault.OutOfMemory answer fits of b a = absurd of
 one_greatest : (P : ℕ → Type 0) (m n : ℕ) → IsGreatest P m → IsGreatest P n → m ≡ n
 one_greatest P m n a b = let below = a.bounds n b.holds in let above = b.bounds m a.holds in omega (arith, below, above)
 
+-- two programs that are loaded from the same bytes are one, with one budget
 pub one_loaded : OneLoaded
 one_loaded bytes v w a b =
     let images = one_image bytes v.version w.version v.hook w.hook v.shapes w.shapes (spelling a.insns) (spelling b.insns) a.image b.image in

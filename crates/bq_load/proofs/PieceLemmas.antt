@@ -27,6 +27,7 @@ answer bytes fits (Ok x) e =
       ]
     ]
 
+-- bytes are an image or have a first fault
 pub each_is_answered : EachIsAnswered
 each_is_answered bytes fits = answer bytes fits (frame_at bytes) refl
 
@@ -38,5 +39,6 @@ joins (piece ∷ pieces) old new bytes h takes =
     append_assoc bytes piece (flat_map (λ piece. piece) pieces) ∙ ap (λ (x : List ℕ). bytes ++ x) (sym (flat_map-cons (λ (piece : List ℕ). piece) piece pieces)) in
     subst (λ (x : List ℕ). StandsFor new x) regrouped (joins pieces takes.0 new (bytes ++ piece) (takes.1 bytes h) takes.2)
 
+-- a reader that took pieces from the start on stands for all of them together
 pub pieces_join : PiecesJoin
 pieces_join pieces fed takes = joins pieces unfed fed [] (record { rest = []; bytes_are = refl; counted = refl; only = inl refl }) takes

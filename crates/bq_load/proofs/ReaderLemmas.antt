@@ -44,12 +44,15 @@ failed_of fed bytes f e h = subst (λ (o : Option LoadFault). stands fed.held fe
 stands_failed : (fed : Fed) (bytes : List ℕ) (f : LoadFault) → fed.failed ≡ Some f → HasFailed bytes f → StandsFor fed bytes
 stands_failed fed bytes f e h = subst (λ (o : Option LoadFault). stands fed.held fed.past o bytes) (sym e) h
 
+-- a reader that has failed stands for any further piece too, and stays as it is
 pub failed_goes_on : (fed : Fed) (piece : List ℕ) (f : LoadFault) → fed.failed ≡ Some f → GoesOn fed piece fed
 failed_goes_on fed piece f e bytes h = stands_failed fed (bytes ++ piece) f e (failed_stays bytes piece f (failed_of fed bytes f e h))
 
+-- the fault that a reader has answered is the only one that stays, of its bytes and any further piece
 pub failed_exact : (fed : Fed) (piece : List ℕ) (f : LoadFault) → fed.failed ≡ Some f → (bytes : List ℕ) (g : LoadFault) → StandsFor fed bytes → AreBytes (bytes ++ piece) → HasFailed (bytes ++ piece) g → f ≡ g
 failed_exact fed piece f e bytes g h fits d = one_fault (bytes ++ piece) f g fits (failed_stays bytes piece f (failed_of fed bytes f e h)).1 d.1
 
+-- the fault that a reader has answered is one of the bytes that it stands for
 pub failed_is : (fed : Fed) (f : LoadFault) → fed.failed ≡ Some f → (bytes : List ℕ) → StandsFor fed bytes → IsFault bytes f
 failed_is fed f e bytes h = (failed_of fed bytes f e h).1
 
@@ -58,6 +61,7 @@ none_of : (o : Option LoadFault) → ((f : LoadFault) → o ≡ Some f → ⊥) 
 none_of None h = refl
 none_of (Some f) h = absurd (h f refl)
 
+-- a reader that has not failed holds the bytes that it stands for, or has counted those past what it holds
 pub holds_of : (fed : Fed) (held : List ℕ) (past : ℕ) (failed : Option LoadFault) (bytes : List ℕ) → record { held = held; past = past; failed = failed } ≡ fed → ((f : LoadFault) → failed ≡ Some f → ⊥) → StandsFor fed bytes → Holds held past bytes
 holds_of fed held past failed bytes view not_failed h =
     let moved : StandsFor (record { held = held; past = past; failed = failed }) bytes = subst (λ (x : Fed). StandsFor x bytes) (sym view) h in
@@ -65,9 +69,11 @@ holds_of fed held past failed bytes view not_failed h =
 
 -- ---- a program that is too long
 
+-- where bytes were counted beyond those held, a program that is too long is held
 pub past_header : (held bytes : List ℕ) (past : ℕ) → 0 < past → Holds held past bytes → IsTooLong held
 past_header held bytes past some h = elim h.only [ inl none ↦ absurd (omega arith) | inr l ↦ l ]
 
+-- where bytes were counted beyond those held, reading the header of those does not fail
 pub past_read : (held bytes : List ℕ) (past : ℕ) (f : LoadFault) → 0 < past → Holds held past bytes → header_at held ≡ Err f → ⊥
 past_read held bytes past f some h e =
     let l = past_header held bytes past some h in
@@ -101,16 +107,19 @@ tail_of held bytes past s part fits e some h =
       long = omega (arith, length-append part h.rest, h.counted);
     }
 
+-- where the program's bytes, held and counted, are fewer than its slots need, the bytes are cut
 pub past_cut : (held bytes : List ℕ) (past : ℕ) (s : Spelled) (part : List ℕ) → AreBytes held → header_at held ≡ Ok (s, part) → 0 < past → length part + past < 8 * s.slots → Holds held past bytes → IsCut bytes
 past_cut held bytes past s part fits e some short h =
     let t = tail_of held bytes past s part fits e some h in
     record { front = Headed t.header; part = t.tail; good = t.good; bytes_are = t.bytes_are; short = omega (arith, short, t.long, t.slots_are) }
 
+-- where the program's bytes, held and counted, are more than its slots need, bytes stand after the end
 pub past_more : (held bytes : List ℕ) (past : ℕ) (s : Spelled) (part : List ℕ) → AreBytes held → header_at held ≡ Ok (s, part) → 0 < past → 8 * s.slots < length part + past → Holds held past bytes → HasMore bytes
 past_more held bytes past s part fits e some long h =
     let t = tail_of held bytes past s part fits e some h in
     record { header = t.header; rest = t.tail; good = t.good; bytes_are = t.bytes_are; more = omega (arith, long, t.long, t.slots_are) }
 
+-- where the program's bytes, held and counted, are as many as its slots need, its length is the fault
 pub past_length : (held bytes : List ℕ) (past : ℕ) (s : Spelled) (part : List ℕ) → AreBytes held → header_at held ≡ Ok (s, part) → 0 < past → length part + past ≡ 8 * s.slots → Holds held past bytes → HasFaultyProgram bytes 0 Length
 past_length held bytes past s part fits e some whole h =
     let t = tail_of held bytes past s part fits e some h in

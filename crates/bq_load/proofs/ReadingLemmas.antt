@@ -14,6 +14,7 @@ bind_ok (Err d) f y e = absurd cc
 abbrev done : {A : Type 0} → A → Result A LoadFault
 done x = Ok x
 
+-- two results that are the same success have the same value
 pub ok_is : {A : Type 0} (x y : A) → done x ≡ done y → x ≡ y
 ok_is x y e = cc
 
@@ -33,6 +34,7 @@ pub record IsNumber (width : ℕ) (bytes : List ℕ) (n : ℕ) (rest : List ℕ)
   pub is : little_number width bytes ≡ n
   pub after : drop width bytes ≡ rest
 
+-- a number that was read is what its bytes spell, they are all there, and what was left follows them
 pub number_ok : (width : ℕ) (bytes : List ℕ) (n : ℕ) (rest : List ℕ) → number_at width bytes ≡ Ok (n, rest) → IsNumber width bytes n rest
 unfolding number_at
 number_ok width bytes n rest e =

@@ -70,6 +70,7 @@ frame_again bytes h program framed =
     ∙ ap (λ (r : Result (Spelled × List ℕ) LoadFault). r >>= ended) (header_again h program framed.header)
     ∙ rw (low, high) refl
 
+-- bytes are at most one header with its program
 pub one_frame : (bytes : List ℕ) (h k : Header) (p q : List ℕ) → IsFramed bytes h p → IsFramed bytes k q → (h ≡ k) × (p ≡ q)
 one_frame bytes h k p q a b =
     let same : (spelled h, p) ≡ (spelled k, q) = ok_is (spelled h, p) (spelled k, q) (sym (frame_again bytes h p a) ∙ frame_again bytes k q b) in

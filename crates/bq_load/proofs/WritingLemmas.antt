@@ -18,6 +18,7 @@ at_least_one n h = grind (arith, nat_tests)
 at_most : (n : ℕ) → ((n % 8 == 0) && (nat_le 1 n && nat_le n 32768)) ≡ true → n / 8 ≤ 4096
 at_most n h = grind (arith, nat_tests)
 
+-- what is written for an image of at most 8 maps, and of a program of good length, is that image
 pub is_written : (image : Image) → length image.shapes.items ≤ 8 → is_length image.program.items ≡ true → Spells (written image) image
 is_written image few whole =
     let slots = length image.program.items / 8 in
