@@ -32,6 +32,7 @@ filter-one_if : (y : Slice) (b : Bool) → cond b (y ∷ []) [] ≡ option_to_li
 filter-one_if y true = refl
 filter-one_if y false = refl
 
+-- of at most one slice, those at a processor are that slice, if it is there
 pub filter-one : (cpu : ℕ) (o : Option Slice) → filter (is_at cpu) (option_to_list o) ≡ option_to_list (at_only cpu o)
 filter-one cpu None = refl
 filter-one cpu (Some y) = filter-one_if y (is_at cpu y)
@@ -69,6 +70,7 @@ next_shown past cpu None = omega arith
 next_shown past cpu (Some x) =
     next_at x past cpu (runner x.cpu past) (ltb (clock x.cpu past) (reading (clock x.cpu past) x.now)) (eqb x.cpu cpu) refl (eqb_tells x.cpu cpu) refl
 
+-- the slices of a processor do not overlap, and end by its last reading
 pub stand_apart : (past : History) (cpu : ℕ) → StandApart (slices_at cpu past) × All (λ (s : Slice). s.to ≤ clock cpu past) (slices_at cpu past)
 stand_apart [] cpu = (tt, All-nil (λ (s : Slice). s.to ≤ 0))
 stand_apart (m ∷ past) cpu =

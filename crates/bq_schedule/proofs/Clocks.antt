@@ -85,6 +85,7 @@ shows-admitted id s t a b = (works-then s (leaves id s) t (works-leaves id s) a,
 inside_of : (a b : ℕ) → ltb a b ≡ true → a < b
 inside_of a b e = grind (arith, nat_tests)
 
+-- a reply to an event whose processor is there does to the works, and to who runs, what it shows
 pub shows-performed : (s : Figures) (e : Event) (r : Reply) → is_there s e ≡ true → Shows s (performed s e r) (sight e r)
 shows-performed s (Admit id nice mask slice) Admitted there = shows-admitted id s _ (works-with_task (leaves id s) id _ refl) (running-with_task (leaves id s) id _)
 shows-performed s (EndWake cpu now) (Placed task to by steps) there = shows-placed cpu now (record { hook = Place; by = by; steps = steps }) task to s
@@ -120,12 +121,14 @@ count-shown : (s s' : Figures) (o : Option Sight) → Shows s s' o → length s'
 count-shown s s' None h = h.0.count
 count-shown s s' (Some x) h = h.0.count ∙ count-read_at x.cpu x.now s
 
+-- after an event and its answer there are as many processors as before
 pub count-after : (s : Figures) (e : Event) (a : Result Reply Refusal) → IsWithin (length s.processors) (sight_of e a) → length (after s e a).processors ≡ length s.processors
 count-after s e a h = count-shown s (after s e a) (sight_of e a) (shows-after s e a h)
 
 within_same : (n k : ℕ) (o : Option Sight) → n ≡ k → IsWithin k o → IsWithin n o
 within_same n k o e h = rw e h
 
+-- the figures of a history have as many processors as its world
 pub count-figures : (count : ℕ) (past : History) → IsOf count past → length (figures count past).processors ≡ count
 count-figures count [] h = length-replicate count unread
 count-figures count (m ∷ past) h =
@@ -153,6 +156,7 @@ works-read_at cpu now j s inside false (inr other) =
 pub read_there : (cpu now : ℕ) (s : Figures) → cpu < length s.processors → processor_of (read_at cpu now s) cpu ≡ processor_read cpu (processor_of s cpu) now
 read_there cpu now s inside = works-read_at cpu now cpu s inside true (inl (refl, refl))
 
+-- after a reading its processor has what the reading makes of it, and each other what it had
 pub processor-read_at : (cpu now j : ℕ) (s : Figures) → j < length s.processors →
     processor_of (read_at cpu now s) j ≡ cond (eqb cpu j) (processor_read cpu (processor_of s cpu) now) (processor_of s j)
 processor-read_at cpu now j s inside = works-read_at cpu now j s inside (eqb cpu j) (eqb_tells cpu j)
@@ -194,6 +198,7 @@ who-shown s s' (Some x) j h = who-at x.run s s' x.cpu j (eqb x.cpu j) (eqb_tells
 opening-at : (count cpu : ℕ) → cpu < count → processor_of (opening count) cpu ≡ unread
 opening-at count cpu inside = get_or-replicate count cpu unread unread inside
 
+-- the figures' last reading of each processor, and who runs there, are those of the history
 pub clocks : (count : ℕ) (past : History) (cpu : ℕ) → IsOf count past → cpu < count →
     ((processor_of (figures count past) cpu).last ≡ clock cpu past) × (who (processor_of (figures count past) cpu) ≡ runner cpu past)
 clocks count [] cpu h inside = (ap (λ (p : ProcessorFigures). p.last) (opening-at count cpu inside), ap who (opening-at count cpu inside))

@@ -105,6 +105,7 @@ joined-if : (s : Figures) (id cpu now : ℕ) (b : Bool) → Purses.IsSound s →
 joined-if s id cpu now b h at (inl past) = joined-outside s id cpu (processor_joined (processor_of s cpu) (task_of s id).weight) _ h past.1 refl refl
 joined-if s id cpu now b h at (inr inside) = joined-inside s id cpu (processor_joined (processor_of s cpu) (task_of s id).weight) _ h inside.1 at refl refl refl refl refl refl
 
+-- where a task that is nowhere joins a processor, all stays sound, and each task has what it had
 pub joined : (s : Figures) (id cpu now : ℕ) → Purses.IsSound s → (task_of s id).place ≡ None → Stays s (joins id cpu now s)
 joined s id cpu now h at = joined-if s id cpu now (leb (length s.tasks) id) h at (leb_tells (length s.tasks) id)
 
@@ -149,5 +150,6 @@ admitted-if : (s : Figures) (id : ℕ) (nice : ℤ) (b : Bool) → Purses.IsSoun
 admitted-if s id nice b h at (inl past) = admitted-outside s id _ h past.1
 admitted-if s id nice b h at (inr inside) = admitted-inside s id _ h inside.1 at at (weight_at-le nice) refl
 
+-- where a task that is nowhere is admitted, all stays sound, and each task has what it had
 pub is_admitted : (s : Figures) (id : ℕ) (nice : ℤ) → Purses.IsSound s → (task_of s id).place ≡ None → Stays s (admitted id nice s)
 is_admitted s id nice h at = admitted-if s id nice (leb (length s.tasks) id) h at (leb_tells (length s.tasks) id)

@@ -28,6 +28,7 @@ get_or-set_case f xs i j y d b c e (inl same) (inr inside) =
 get_or-set_case f xs i j y d b c e (inl same) (inl past) = ap (λ l. f (get_or l j d)) (set_past xs i y past.1)
 get_or-set_case f xs i j y d b c e (inr other) within = ap f (get_or-set_other xs i j y d other.1)
 
+-- where a place is set to what f cannot tell from what was there, f reads each place as before
 pub get_or-set_like : {X Y : Type 0} (f : X → Y) (xs : List X) (i j : ℕ) (y d : X) → f y ≡ f (get_or xs i d) → f (get_or (slice_set xs i y) j d) ≡ f (get_or xs j d)
 get_or-set_like f xs i j y d e = get_or-set_case f xs i j y d (eqb j i) (leb (length xs) i) e (eqb_tells j i) (leb_tells (length xs) i)
 
@@ -50,6 +51,7 @@ pub record Works : Type 0 where
   pub shared : ℕ
   pub unshared : ℕ
 
+-- of a processor's figures, those that only a reading of its clock changes
 abbrev pub works : ProcessorFigures → Works
 works p = record { first = p.first; last = p.last; run = p.run; busy = p.busy; shared = p.shared; unshared = p.unshared }
 
@@ -73,15 +75,19 @@ pub record KeepsWorks (s s' : Figures) : Type 0 where
 pub record KeepsRunning (s s' : Figures) : Type 0 where
   pub at : (j : ℕ) → (processor_of s' j).running ≡ (processor_of s j).running
 
+-- what changes nothing keeps the works
 pub works-id : (s : Figures) → KeepsWorks s s
 works-id s = record { at = λ j. refl; count = refl; tasks = refl; times = λ id. refl }
 
+-- two changes that keep the works keep them one after the other
 pub works-then : (s t u : Figures) → KeepsWorks s t → KeepsWorks t u → KeepsWorks s u
 works-then s t u a b = record { at = λ j. b.at j ∙ a.at j; count = b.count ∙ a.count; tasks = b.tasks ∙ a.tasks; times = λ id. b.times id ∙ a.times id }
 
+-- two changes that keep who runs keep it one after the other
 pub running-then : (s t u : Figures) → KeepsRunning s t → KeepsRunning t u → KeepsRunning s u
 running-then s t u a b = record { at = λ j. b.at j ∙ a.at j }
 
+-- what changes nothing keeps who runs
 pub running-id : (s : Figures) → KeepsRunning s s
 running-id s = record { at = λ j. refl }
 
@@ -89,6 +95,7 @@ running-id s = record { at = λ j. refl }
 pub works-with_processor : (s : Figures) (i : ℕ) (p : ProcessorFigures) → works p ≡ works (processor_of s i) → KeepsWorks s (with_processor s i p)
 works-with_processor s i p e = record { at = λ j. processor_kept works s i j p e; count = length-set s.processors i p; tasks = refl; times = λ id. refl }
 
+-- a processor that is set, where the same runs as before, keeps who runs
 pub running-with_processor : (s : Figures) (i : ℕ) (p : ProcessorFigures) → p.running ≡ (processor_of s i).running → KeepsRunning s (with_processor s i p)
 running-with_processor s i p e = record { at = λ j. processor_kept (λ q. q.running) s i j p e }
 
@@ -96,13 +103,15 @@ running-with_processor s i p e = record { at = λ j. processor_kept (λ q. q.run
 pub works-with_task : (s : Figures) (i : ℕ) (t : TaskFigures) → t.time ≡ (task_of s i).time → KeepsWorks s (with_task s i t)
 works-with_task s i t e = record { at = λ j. refl; count = refl; tasks = length-set s.tasks i t; times = λ id. task_kept (λ u. u.time) s i id t e }
 
+-- a task that is set keeps who runs
 pub running-with_task : (s : Figures) (i : ℕ) (t : TaskFigures) → KeepsRunning s (with_task s i t)
 running-with_task s i t = record { at = λ j. refl }
 
--- the moves
+-- a decision that is counted keeps the works
 pub works-asked : (cpu : ℕ) (d : Decision) (s : Figures) → KeepsWorks s (asked cpu d s)
 works-asked cpu d s = works-with_processor s cpu _ (works-processor_asked (processor_of s cpu) d d.hook)
 
+-- a decision that is counted keeps who runs
 pub running-asked : (cpu : ℕ) (d : Decision) (s : Figures) → KeepsRunning s (asked cpu d s)
 running-asked cpu d s = running-with_processor s cpu _ (running-processor_asked (processor_of s cpu) d d.hook)
 
@@ -114,28 +123,35 @@ running-left_from : (id : ℕ) (s : Figures) (place : Option ℕ) → KeepsRunni
 running-left_from id s None = running-id s
 running-left_from id s (Some cpu) = running-then _ _ _ (running-with_processor s cpu _ refl) (running-with_task _ id _)
 
+-- a task that leaves its processor keeps the works
 pub works-leaves : (id : ℕ) (s : Figures) → KeepsWorks s (leaves id s)
 works-leaves id s = works-left_from id s (task_of s id).place
 
+-- a task that leaves its processor keeps who runs
 pub running-leaves : (id : ℕ) (s : Figures) → KeepsRunning s (leaves id s)
 running-leaves id s = running-left_from id s (task_of s id).place
 
+-- a task that joins a processor keeps the works
 pub works-joins : (id cpu now : ℕ) (s : Figures) → KeepsWorks s (joins id cpu now s)
 works-joins id cpu now s = works-then _ _ _ (works-with_processor s cpu _ refl) (works-with_task _ id _ refl)
 
 running-joins : (id cpu now : ℕ) (s : Figures) → KeepsRunning s (joins id cpu now s)
 running-joins id cpu now s = running-then _ _ _ (running-with_processor s cpu _ refl) (running-with_task _ id _)
 
+-- a task that comes from wherever it was keeps the works
 pub works-comes : (id cpu now : ℕ) (s : Figures) → KeepsWorks s (comes id cpu now s)
 works-comes id cpu now s = works-then _ _ _ (works-leaves id s) (works-joins id cpu now (leaves id s))
 
+-- a task that comes from wherever it was keeps who runs
 pub running-comes : (id cpu now : ℕ) (s : Figures) → KeepsRunning s (comes id cpu now s)
 running-comes id cpu now s = running-then _ _ _ (running-leaves id s) (running-joins id cpu now (leaves id s))
 
+-- a task that is pulled, if there is one, keeps the works
 pub works-taken : (cpu now : ℕ) (task : Option ℕ) (s : Figures) → KeepsWorks s (taken cpu now task s)
 works-taken cpu now None s = works-id s
 works-taken cpu now (Some id) s = works-then _ _ _ (works-with_task s id _ refl) (works-comes id cpu now (waited_there id now s))
 
+-- a task that is pulled, if there is one, keeps who runs
 pub running-taken : (cpu now : ℕ) (task : Option ℕ) (s : Figures) → KeepsRunning s (taken cpu now task s)
 running-taken cpu now None s = running-id s
 running-taken cpu now (Some id) s = running-then _ _ _ (running-with_task s id _) (running-comes id cpu now (waited_there id now s))
@@ -178,6 +194,7 @@ works-switched_if true left cpu now run s = works-id s
 works-switched_if false left cpu now run s =
     works-then _ _ _ (works-stopped left now (processor_of s cpu).running s) (works-started cpu now run (stopped left now (processor_of s cpu).running s))
 
+-- a switch to a task, or to none, keeps the works
 pub works-switched : (left : Left) (cpu now : ℕ) (run : Option ℕ) (s : Figures) → KeepsWorks s (switched left cpu now run s)
 works-switched left cpu now run s = works-switched_if (is_run_by (processor_of s cpu).running run) left cpu now run s
 
@@ -190,10 +207,12 @@ abbrev pub RunsAs : Option (Option ℕ) → ℕ → Figures → Figures → Type
 RunsAs None cpu s s' = KeepsRunning s s'
 RunsAs (Some run) cpu s s' = (who (processor_of s' cpu) ≡ run) × ((j : ℕ) → j ≢ cpu → (processor_of s' j).running ≡ (processor_of s j).running)
 
+-- what is told of who runs holds too where a step stands before it that keeps who runs
 pub runs-after : (o : Option (Option ℕ)) (cpu : ℕ) (s t u : Figures) → KeepsRunning s t → RunsAs o cpu t u → RunsAs o cpu s u
 runs-after None cpu s t u a b = running-then s t u a b
 runs-after (Some run) cpu s t u a b = (b.0, λ j ne. b.1 j ne ∙ a.at j)
 
+-- what is told of who runs holds too where a step follows it that keeps who runs
 pub runs-before : (o : Option (Option ℕ)) (cpu : ℕ) (s t u : Figures) → RunsAs o cpu s t → KeepsRunning t u → RunsAs o cpu s u
 runs-before None cpu s t u a b = running-then s t u a b
 runs-before (Some run) cpu s t u a b = (ap (option_map (λ (x : Start). x.task)) (b.at cpu) ∙ a.0, λ j ne. b.at j ∙ a.1 j ne)
@@ -224,6 +243,7 @@ runs-switched_if false left cpu now run s e inside =
     let inside' : cpu < length t.processors = omega (arith, (works-stopped left now (processor_of s cpu).running s).count) in
     runs-after (Some run) cpu s t (started cpu now run t) (running-stopped left now (processor_of s cpu).running s) (runs-started cpu now run t inside')
 
+-- after a switch the processor runs whom it was to run, and the others whom they ran
 pub runs-switched : (left : Left) (cpu now : ℕ) (run : Option ℕ) (s : Figures) → cpu < length s.processors → RunsAs (Some run) cpu s (switched left cpu now run s)
 runs-switched left cpu now run s inside = runs-switched_if (is_run_by (processor_of s cpu).running run) left cpu now run s refl inside
 
@@ -231,6 +251,7 @@ running-with_charged : (s : Figures) (o : Option Slice) → KeepsRunning s (with
 running-with_charged s None = running-id s
 running-with_charged s (Some x) = running-with_task s x.task _
 
+-- a reading of a clock keeps who runs
 pub running-read_at : (cpu now : ℕ) (s : Figures) → KeepsRunning s (read_at cpu now s)
 running-read_at cpu now s = running-then _ _ _ (running-with_processor s cpu _ refl) (running-with_charged _ _)
 
@@ -238,9 +259,11 @@ count-with_charged : (s : Figures) (o : Option Slice) → (with_charged s o).pro
 count-with_charged s None = refl
 count-with_charged s (Some x) = refl
 
+-- a reading sets the processor whose clock is read, and no other
 pub processors-read_at : (cpu now : ℕ) (s : Figures) → (read_at cpu now s).processors ≡ slice_set s.processors cpu (processor_read cpu (processor_of s cpu) now)
 processors-read_at cpu now s = count-with_charged _ _
 
+-- after a reading there are as many processors as before
 pub count-read_at : (cpu now : ℕ) (s : Figures) → length (read_at cpu now s).processors ≡ length s.processors
 count-read_at cpu now s = ap (λ (l : List ProcessorFigures). length l) (processors-read_at cpu now s) ∙ length-set s.processors cpu _
 
@@ -248,5 +271,6 @@ tasks-with_charged : (s : Figures) (o : Option Slice) → length (with_charged s
 tasks-with_charged s None = refl
 tasks-with_charged s (Some x) = length-set s.tasks x.task _
 
+-- after a reading there are as many tasks as before
 pub tasks-read_at : (cpu now : ℕ) (s : Figures) → length (read_at cpu now s).tasks ≡ length s.tasks
 tasks-read_at cpu now s = tasks-with_charged (with_processor s cpu (processor_read cpu (processor_of s cpu) now)) _

@@ -151,6 +151,7 @@ only-there cpu j from to None false e = refl
 only-there cpu j from to (Some id) true e = only-cond (ltb from to) cpu j id from to true e
 only-there cpu j from to (Some id) false e = only-cond (ltb from to) cpu j id from to false e
 
+-- the runs told of a processor, and the one that may go on, are those that its slices make
 abbrev pub Told : ℕ → ℕ → History → Type 0
 Told count cpu past = AreRuns (told_runs count cpu past) (processor_of (figures count past) cpu).run (slices_at cpu past)
 
@@ -201,5 +202,6 @@ told count (m ∷ past) cpu h inside =
     same_runs _ _ _ _ _ _ refl refl is
     (told-step count past cpu (after s m.event m.answer) o (change s m.event m.answer).run h.1 h.0 inside (shows-after s m.event m.answer w) (seen-change s m.event m.answer w) (told count past cpu h.1 inside))
 
+-- in each history the runs told of a processor, with the last one, are the runs of its slices
 pub tells_runs : TellsRuns
 tells_runs count past cpu h inside = (told count past cpu h inside).all

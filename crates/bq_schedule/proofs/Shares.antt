@@ -38,6 +38,7 @@ weight_at_if : (b : Bool) (n : ℕ) → n ≤ 88761 → cond b 0 n ≤ 88761
 weight_at_if true n h = omega arith
 weight_at_if false n h = h
 
+-- no nice value has a weight above 88761
 pub weight_at-le : (nice : ℤ) → weight_at nice ≤ 88761
 weight_at-le nice = weight_at_if _ (weight_of nice) (weight_of-le nice)
 
@@ -79,13 +80,15 @@ weight-le s id cpu inside = get_or-le-sum_by (weight_there cpu) s.tasks id unkno
 eqb_refl : (a : ℕ) → eqb a a ≡ true
 eqb_refl a = grind (arith, nat_tests)
 
--- a task has its weight where it is, and none elsewhere
+-- a task has its weight where it is
 pub weight-here : (cpu : ℕ) (t : TaskFigures) → t.place ≡ Some cpu → weight_there cpu t ≡ t.weight
 weight-here cpu t e = ap (λ o. cond (is_place cpu o) t.weight 0) e ∙ ap (λ b. cond b t.weight 0) (eqb_refl cpu)
 
+-- a task has no weight at a processor where it is not
 pub weight-elsewhere : (cpu k : ℕ) (t : TaskFigures) (b : Bool) → t.place ≡ Some k → eqb k cpu ≡ false → weight_there cpu t ≡ 0
 weight-elsewhere cpu k t b e ne = ap (λ o. cond (is_place cpu o) t.weight 0) e ∙ ap (λ b. cond b t.weight 0) ne
 
+-- a task that is nowhere has no weight at any processor
 pub weight-nowhere : (cpu : ℕ) (t : TaskFigures) → t.place ≡ None → weight_there cpu t ≡ 0
 weight-nowhere cpu t e = ap (λ o. cond (is_place cpu o) t.weight 0) e
 
@@ -125,6 +128,7 @@ weights-left s s' id cpu j false w (inr e) is inside at old sums new =
 abbrev pub worth : (ℕ → ℕ) → Purses.Purse → ℕ
 worth f u = Purses.worth_at f u u.place
 
+-- what had been given when a purse came is no more than what is given where it is
 abbrev pub Joined : (ℕ → ℕ) → Purses.Purse → Type 0
 Joined f u = Purses.JoinedBy f u u.place
 
@@ -187,6 +191,7 @@ left-if s id (Some cpu) h at small =
     let is : Purses.raw s id ≡ t.settled + t.weight * (Purses.shared_at s cpu - t.joined) = ap (λ o. Purses.worth_at (Purses.shared_at s) (Purses.purse t) o) at in
     left-one s id cpu (processor_left (processor_of s cpu) t.weight) (record t { settled = fair_at s t (Some cpu); place = None; drains = None }) h at refl refl refl refl (omega (arith, is, small))
 
+-- a task that leaves is nowhere, all stays sound, and each has what it had, where what it has fits in 128 bits
 pub left : (s : Figures) (id : ℕ) → Purses.IsSound s → Purses.raw s id ≤ 340282366920938463463374607431768211455 → Leaves id s (leaves id s)
 left s id h small = left-if s id (task_of s id).place h refl small
 

@@ -31,6 +31,7 @@ time_in-more : (chosen : Slice → Bool) (xs : List Slice) (o : Option Slice) �
 time_in-more chosen xs None = ap (time_in chosen) (append-nil xs) ∙ omega arith
 time_in-more chosen xs (Some s) = sum_by_push (time_if chosen) xs s
 
+-- each slice is chosen
 abbrev pub any : Slice → Bool
 any s = true
 
@@ -53,6 +54,7 @@ sums_alike f (x ∷ xs) (y ∷ ys) e h =
     let tails : length xs ≡ length ys = omega arith in
     omega (arith, sum_by-cons f x xs, sum_by-cons f y ys, h 0, sums_alike f xs ys tails (λ j. h (suc j)))
 
+-- the last reading of a processor
 abbrev pub last_of : ProcessorFigures → ℕ
 last_of p = p.last
 
@@ -154,6 +156,7 @@ tasks-shown : (s s' : Figures) (o : Option Sight) → Shows s s' o → length s'
 tasks-shown s s' None h = h.0.tasks
 tasks-shown s s' (Some x) h = h.0.tasks ∙ tasks-read_at x.cpu x.now s
 
+-- the figures of a history have 1024 tasks
 pub tasks-figures : (count : ℕ) (past : History) → IsOf count past → length (figures count past).tasks ≡ 1024
 tasks-figures count [] h = length-replicate 1024 unknown
 tasks-figures count (m ∷ past) h =
@@ -172,6 +175,7 @@ fits-next chosen count past m few h =
       clocks-are-short count (m ∷ past) few h,
     )
 
+-- the time of a task is the sum of its slices
 pub times : (count : ℕ) (past : History) → count ≤ 255 → IsOf count past → (id : ℕ) → id < 1024 → (task_of (figures count past) id).time ≡ time_in (is_of id) (slices past)
 times count [] few h id inside = ap (λ (t : TaskFigures). t.time) (get_or-replicate 1024 id unknown unknown inside)
 times count (m ∷ past) few h id inside =
@@ -225,6 +229,7 @@ busy-shown s s' (Some x) j inside fits h =
     ∙ counted-is (eqb x.cpu j) (processor_of s j).busy (length_of (slice_at x.cpu p x.now)) fits'
     ∙ omega (arith, at)
 
+-- the busy time of a processor is the sum of its slices
 pub busy : (count : ℕ) (past : History) → count ≤ 255 → IsOf count past → (cpu : ℕ) → cpu < count → (processor_of (figures count past) cpu).busy ≡ time_in (is_at cpu) (slices past)
 busy count [] few h cpu inside = ap (λ (p : ProcessorFigures). p.busy) (get_or-replicate count cpu unread unread inside)
 busy count (m ∷ past) few h cpu inside =
@@ -242,6 +247,7 @@ busy count (m ∷ past) few h cpu inside =
       busy-shown s (after s m.event m.answer) o cpu inside' fits (shows-after s m.event m.answer (within-figures count past m h)),
     )
 
+-- the times of tasks and the busy times of processors are the sums of their slices
 pub adds_up : (count : ℕ) (past : History) → count ≤ 255 → IsOf count past →
     ((id : ℕ) → id < 1024 → (task_of (figures count past) id).time ≡ time_in (is_of id) (slices past))
     × ((cpu : ℕ) → cpu < count → (processor_of (figures count past) cpu).busy ≡ time_in (is_at cpu) (slices past))

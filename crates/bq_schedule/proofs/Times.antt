@@ -57,6 +57,7 @@ stretch_is : (cpu from to : ℕ) (running : Option Start) → slice_between cpu 
 stretch_is cpu from to None = refl
 stretch_is cpu from to (Some start) = refl
 
+-- the slice that figures show of a sight is the one that their history shows
 pub shown-seen : (count : ℕ) (past : History) (o : Option Sight) → IsOf count past → IsWithin count o → slice_seen (figures count past) o ≡ slice_shown past o
 shown-seen count past None h w = refl
 shown-seen count past (Some x) h w =
@@ -66,8 +67,10 @@ shown-seen count past (Some x) h w =
     ∙ ap (λ n. stretch x.cpu (who p) n (reading n x.now)) c.0
     ∙ ap (λ y. stretch x.cpu y (clock x.cpu past) (reading (clock x.cpu past) x.now)) c.1
 
+-- the slice that is told of a moment is the one that it ends
 pub told : (count : ℕ) (past : History) (m : Moment) → IsOf count (m ∷ past) → (change (figures count past) m.event m.answer).slice ≡ slice_shown past (sight_of m.event m.answer)
 told count past m h = seen-change (figures count past) m.event m.answer (within-figures count past m h) ∙ shown-seen count past (sight_of m.event m.answer) h.1 h.0
 
+-- the slices up to a moment are those before it, and then the one that is told of it
 pub tells : (count : ℕ) (past : History) (m : Moment) → IsOf count (m ∷ past) → slices (m ∷ past) ≡ slices past ++ option_to_list (change (figures count past) m.event m.answer).slice
 tells count past m h = ap (λ o. slices past ++ option_to_list o) (sym (told count past m h))

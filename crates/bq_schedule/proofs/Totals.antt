@@ -313,6 +313,7 @@ ahead-if s cpu j shared busy part time busy' false (inl e) f is now more le = ab
 ahead-if s cpu j shared busy part time busy' true (inr e) f is now more le = absurd (cc)
 ahead-if s cpu j shared busy part time busy' false (inr e) f is now more le = omega (arith, f.ahead j, is, now)
 
+-- a reading leaves all full, and gives each task its part by its weight there, if busy times stay short
 pub reads : (cpu now : ℕ) (s : Figures) → IsFull s → cpu < length s.processors → IsShort (read_at cpu now s) → Reads cpu now s
 reads cpu now s f inside short =
     let r = read_at cpu now s in
@@ -418,10 +419,12 @@ step count past m few h f =
     let w = within-figures count past m h in
     rises s (after s m.event m.answer) (sight_of m.event m.answer) f (is_short count past few h.1) (is_short count (m ∷ past) few h) w (goes-after s m.event m.answer w)
 
+-- in each history what tasks have, and what is left over, is what was run
 pub full : (count : ℕ) (past : History) → count ≤ 255 → IsOf count past → IsFull (figures count past)
 full count [] few h = opening-full count
 full count (m ∷ past) few h = (step count past m few h (full count past few h.1)).full
 
+-- the fair time of a task rises at each reading by its share of the slice, and by nothing else
 pub shares_out : SharesOut
 shares_out count past m id few h =
     let s = figures count past in
@@ -431,6 +434,7 @@ shares_out count past m id few h =
     fair-raw s' id k.full (is_short count (m ∷ past) few h) ∙ k.raws id
     ∙ ap (λ n. n + share s (sight_of m.event m.answer) id) (sym (fair-raw s id f (is_short count past few h.1)))
 
+-- all fair times, and what was not shared out, are the time in which any task ran, in parts of a nanosecond
 pub adds_up_fair_times : AddsUpFairTimes
 adds_up_fair_times count past few h =
     let s = figures count past in

@@ -142,6 +142,7 @@ abbrev pub wake_seen : ℕ → Figures → Event → Result Reply Refusal → Op
 wake_seen j s (EndWake cpu now) (Ok (Placed task to by steps)) = cond (eqb task j) (Some (time_at cpu now s)) None
 wake_seen j s e a = None
 
+-- a task begins to run with a sight, by who ran in the figures
 abbrev pub begins_seen : ℕ → Figures → Option Sight → Bool
 begins_seen j s None = false
 begins_seen j s (Some x) = begins_as j (who (processor_of s x.cpu)) x.run
@@ -331,6 +332,7 @@ latency-shown count past (Some x) start h w inside t =
       t.2.late ∙ ap (option_map (λ (woken : ℕ). start.at - woken)) (awaits count past start.task h inside),
     )
 
+-- where a start is told its task begins to run, and its latency is the distance from the wake that still waits
 pub tells_latencies : TellsLatencies
 tells_latencies count past m start h inside e =
     latency-shown count past (sight_of m.event m.answer) start h.1 h.0 inside (starts-told (figures count past) m.event m.answer start e)

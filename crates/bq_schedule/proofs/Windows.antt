@@ -21,6 +21,7 @@ abbrev pub IsFilled : Option ℕ → ℕ → ℕ → Option Start → Type 0
 IsFilled None last busy running = (busy ≡ 0) × (running ≡ None)
 IsFilled (Some first) last busy running = first + busy ≤ last
 
+-- nothing ran at a processor before its first reading, and since then no more than its clock rose
 abbrev pub Filled : ProcessorFigures → Type 0
 Filled p = IsFilled p.first p.last p.busy p.running
 
@@ -81,6 +82,7 @@ filled-shown : (s s' : Figures) (o : Option Sight) (j : ℕ) → j < length s.pr
 filled-shown s s' None j inside h f = same_works (processor_of s j) (processor_of s' j) (h.0.at j) (h.1.at j) f
 filled-shown s s' (Some x) j inside h f = filled-there s s' x j (eqb x.cpu j) refl inside h f (eqb_tells x.cpu j)
 
+-- in each history no processor ran before its first reading, nor longer since then than its clock rose
 pub filled : (count : ℕ) (past : History) (cpu : ℕ) → IsOf count past → cpu < count → Filled (processor_of (figures count past) cpu)
 filled count [] cpu h inside =
     let P : ProcessorFigures → Type 0 = λ p. Filled p in
@@ -94,6 +96,7 @@ fills_if : (first : Option ℕ) (p : ProcessorFigures) → p.first ≡ first →
 fills_if None p e h = rw e (omega (arith, h.0))
 fills_if (Some first) p e h = rw e (omega (arith, h))
 
+-- the slices of a processor and its idle time fill the time from its first reading to the last
 pub fills_window : FillsWindow
 fills_window count past cpu few h inside =
     let p = processor_of (figures count past) cpu in

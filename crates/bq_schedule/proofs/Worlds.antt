@@ -29,9 +29,11 @@ use Rattle.bq_schedule.specs.Slices.{Sight, sight, sight_of, clock_after, clock,
 use Rattle.bq_schedule.specs.Laws.{IsWithin, IsOf, grown, IsCharged}
 use Rattle.bq_schedule.proofs.Frames.{get_or-set_like}
 
+-- the last reading of a processor's clock
 abbrev pub last_at : World → ℕ → ℕ
 last_at w j = (processor w j).running.last
 
+-- who runs at a processor
 abbrev pub who_at : World → ℕ → Option ℕ
 who_at w j = id_of (processor w j).running.current
 
@@ -145,6 +147,7 @@ accepted w e h = neither (argument_refusal (count_in w) e) (state_refusal w e) h
 shown_as : (w w' : World) (e : Event) (r x : Reply) → r ≡ x → Shown w w' (sight e x) → Shown w w' (sight e r)
 shown_as w w' e r x h k = rw h k
 
+-- an event that is performed does to the clocks, and to who runs, what its reply shows
 pub shown-performs : (s : Regime) (w : World) (e : Event) (calls : List Asked) (r : Reply) (w' : World) → refusal w e ≡ None → Performs s w e calls r w' → Shown w w' (sight e r)
 shown-performs s w (Admit id nice mask slice) calls r w' h k =
     shown_as w w' (Admit id nice mask slice) r Admitted k.1.1 (like w w w' None (ap (λ (v : World). v.processors) (sym k.3)) (same w))
@@ -269,6 +272,7 @@ opening-told count = record {
   who = λ j inside. ap (λ (p : Processor). id_of p.running.current) (get_or-replicate count j opening opening inside);
 }
 
+-- in each history of a world every processor's last reading, and its current task, are those of the history
 pub is_charged : IsCharged
 is_charged d count es calls answers w' run =
     let t = told-run count (under_any_answers d) (opening_world count) [] es calls answers w' (opening-told count) run in
