@@ -151,7 +151,7 @@ weight_of_purse cpu u = cond (is_place cpu u.place) u.weight 0
 pub weights-kept : (s s' : Figures) (cpu : ℕ) → KeepsPurses s s' → weights_at s' cpu ≡ weights_at s cpu
 weights-kept s s' cpu k = sums_like (weight_there cpu) (weight_there cpu) unknown s'.tasks s.tasks k.tasks (λ j. ap (weight_of_purse cpu) (k.purses j))
 
--- a task that is not runnable no longer than its processor has given something
+-- what had been given where a task came to stand is no more than what is given there now
 abbrev pub JoinedBy : (ℕ → ℕ) → Purse → Option ℕ → Type 0
 JoinedBy shared u None = Unit {0}
 JoinedBy shared u (Some cpu) = u.joined ≤ shared cpu

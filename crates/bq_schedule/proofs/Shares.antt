@@ -1,4 +1,4 @@
--- Fair times rise by what readings give, and add up.
+-- The weights at each processor, and what a task that leaves one keeps of its fair time.
 use Rattle.std.proofs.Common.{◌≡◌, ◌≢◌, ℕ, ◌+◌, ◌-◌, ◌*◌, ◌<◌, ◌≤◌, max, Bool, true, false, List, [], ◌∷◌, length, get_or, Option, Some, None, refl, sym, ap, ◌∙◌, ◌⊎◌, inl, inr, eqb, leb, cond, zero, suc, get_or-set_same, get_or-set_other, arith}
 use Rattle.std.specs.Prelude.{slice_set, ℤ, pos, negsuc}
 use Rattle.std.proofs.lemmas.Bool.Decides.{eqb_tells, leb_tells, nat_tests}
