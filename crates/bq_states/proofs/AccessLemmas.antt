@@ -47,6 +47,7 @@ pub context_byte : (shapes : List MapShape) (context_length : ℕ) (f : Setting)
 context_byte shapes context_length f s i suits lt =
     let e = slice_get-get_or f.context i 0 lt in (get_or f.context i 0, e, suits.context_bytes i _ e)
 
+-- each byte of an entry inside its map is there, and is below 256
 pub entry_byte : (shapes : List MapShape) (s : State) (f : Setting) (m first i : ℕ) → HaveShapes shapes s.maps → first + i < length (slice_index_or s.maps m []) → (b : ℕ) × (byte_at f s (InEntry m first) i ≡ Some b) × (b < 256)
 entry_byte shapes s f m first i have lt =
     let e = slice_get-get_or (slice_index_or s.maps m []) (first + i) 0 lt in (get_or (slice_index_or s.maps m []) (first + i) 0, e, have.bytes m (first + i) _ e)
@@ -57,6 +58,7 @@ entry_inside shapes maps m first size have entry =
     let more = mul-le-mul_left entry.shape.value_size (let p : entry.number + 1 ≤ entry.shape.entries = omega (arith, entry.there) in p) in
     omega (arith, entry.first_is, entry.size_is, have.sizes m entry.shape entry.known, more)
 
+-- an entry begins within the first 65536 bytes of its map
 pub entry_low : (shapes : List MapShape) (m first size : ℕ) → IsEntry shapes m first size → first ≤ 65536
 entry_low shapes m first size entry =
     let number : entry.number ≤ 256 = omega (arith, entry.there, entry.shape.greatest_entries) in

@@ -160,6 +160,7 @@ some_is a b e = cc
 pub register_word : (s : State) (r n : ℕ) → r < 11 → s.register r ≡ Some n → HasWord s r n
 register_word s r n low is = (λ lt. is, λ j e. absurd (let no : ⊥ = omega (arith, e, low) in no))
 
+-- a register that has the word of another one has each word that the other one is known to have
 pub register_copy : (s : State) (to from n m : ℕ) → to < 11 → from < 11 → s.register from ≡ Some n → s.register to ≡ Some n → HasWord s from m → HasWord s to m
 register_copy s to from n m low low' is to_is has =
     let same : n ≡ m = some_is n m (sym is ∙ has.0 low') in

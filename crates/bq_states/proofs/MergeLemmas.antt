@@ -14,15 +14,18 @@ use Rattle.bq_states.specs.Parts.{AllowsPart}
 use Rattle.bq_states.proofs.CopyLemmas.{copies_kept}
 use Rattle.bq_states.specs.AbstractStates.{Holds, Keeps, Contains, Allows}
 
+-- every word of what is known is allowed by it
 pub Allows-same : (k : Option AbstractValue) → Allows k k
 Allows-same None = tt
 Allows-same (Some k) = λ shapes word d. d
 
+-- what is known of a register is true too where more words are allowed
 pub Holds-more : (shapes : List MapShape) (a b : Option AbstractValue) (v : Option ℕ) → Allows a b → Holds shapes a v → Holds shapes b v
 Holds-more shapes a None v more h = tt
 Holds-more shapes None (Some b) v more h = absurd more
 Holds-more shapes (Some a) (Some b) v more h = (h.0, h.1, more shapes h.0 h.2)
 
+-- what is known of eight bytes of the stack is true too where more words are allowed
 pub Keeps-more : (shapes : List MapShape) (a b : Option AbstractValue) (stack : ℕ → Option ℕ) (j : ℕ) → Allows a b → Keeps shapes a stack j → Keeps shapes b stack j
 Keeps-more shapes a None stack j more h = tt
 Keeps-more shapes None (Some b) stack j more h = absurd more
@@ -47,6 +50,7 @@ Allows-set xs i k x from lt h e = rw (e, get_or-set_same xs i x None lt) h
 pub some_same : {A : Type 0} (o : Option A) (a b : A) → o ≡ Some a → o ≡ Some b → a ≡ b
 some_same o a b p q = cc
 
+-- an option that holds a value is not empty
 pub some_none : {A : Type 0} (o : Option A) (a : A) → o ≡ Some a → o ≡ None → ⊥
 some_none o a p q = cc
 

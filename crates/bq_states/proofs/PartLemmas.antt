@@ -111,9 +111,11 @@ related_all R old now i none long long' before k = related_by R old now i none l
 pub part_read : (now : List (Option Part)) (i : ℕ) (a : Option Part) → i < length now → a ≡ get_or now i a → get_or now i None ≡ a
 part_read now i a lt is = sym (get_or_read now i a lt is None)
 
+-- where nothing is known of a part, nothing need be known of it
 pub allows_none : AllowsPart None None
 allows_none = record { has = λ stack h. h }
 
+-- a part of which nothing is known outlives each write
 pub outlives_none : (from to : ℕ) → Outlives from to None None
 outlives_none from to = record { has = λ stack at bytes low high h. h }
 

@@ -13,6 +13,7 @@ use Rattle.bq_states.specs.Copies.{PartsSlots}
 use Rattle.bq_states.specs.Parts.{Outlives}
 use Rattle.bq_states.proofs.CopyLemmas.{copies_written, parts_less}
 
+-- bytes that were set anew in a range were set anew in a wider one
 pub marks_wider : (old new : List Bool) (from to o e : ℕ) → o ≤ from → to ≤ e → Marks old new from to → Marks old new o e
 marks_wider old new from to o e low high marks i is = at (marks i is)
   where
@@ -20,6 +21,7 @@ marks_wider old new from to o e low high marks i is = at (marks i is)
     at (inl (le, lt)) = inl (omega arith, omega arith)
     at (inr was) = inr was
 
+-- what was forgotten of a range was forgotten of a narrower one
 pub forgets_less : (old new : List (Option AbstractValue)) (from to o e : ℕ) → from ≤ o → e ≤ to → Forgets old new from to → Forgets old new o e
 forgets_less old new from to o e low high forgets j = at (forgets j)
   where

@@ -59,6 +59,7 @@ covers_written f v w s at bytes small same marks forgets parts copies covers = r
   copies = copies;
 }
 
+-- the bytes of a number, the low one first, are each the byte of that place
 pub low_at : (a n v i : ℕ) → i < n → slice_index (bytes_low_first a n v) i ≡ byte_of (a + i) v
 low_at a zero v i lt = absurd (omega arith)
 low_at a (suc n) v zero lt = ap (λ (x : ℕ). byte_of x v) (omega arith)

@@ -289,6 +289,7 @@ first_below = omega arith
 sum_of : (r at : ℕ) (back : List ℕ) → IsPointerFrom program Stack 512 r at back → IsMoveOnStack program at W64 Add r (Imm (neg_ℤ (pos 8)))
 sum_of r at back from = record { whole = refl; is_sum = refl; distance = neg_ℤ (pos 8); by_distance = refl; base = 512; from = (back, from); at = 504; at_is = refl; below = omega arith; small = omega arith }
 
+-- the program that updates an entry, adds to a counter and reads it is straight
 pub calling_is_straight : CallingIsStraight
 calling_is_straight = (
   refl,

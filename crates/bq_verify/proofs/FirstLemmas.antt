@@ -39,11 +39,13 @@ same_place slots a b j k first second (inl lt) back = absurd (not_before slots a
 same_place slots a b j k first second (inr le) (inl lt) = absurd (not_before slots b a k j second first lt)
 same_place slots a b j k first second (inr le) (inr ge) = omega arith
 
+-- two faults that are each the first of a program agree in cause and slot
 pub one_first_fault : OneFirstFault
 one_first_fault slots a b j k first second =
     let places = same_place slots a b j k first second (cases_lt (place_of a) (place_of b)) (cases_lt (place_of b) (place_of a)) in
     let causes : a ≡ b = sym (at_place slots a j first.1.0) ∙ ap cause_at places ∙ at_place slots b k second.1.0 in
     (causes, same_slot slots a j k first (subst (λ (c : GraphCause). IsFirstFault slots c k) (sym causes) second) (cases_lt j k) (cases_lt k j))
 
+-- a program without faults has no first one
 pub faultless_has_none : FaultlessHasNone
 faultless_has_none slots cause slot faultless first = faultless cause slot first.1.0

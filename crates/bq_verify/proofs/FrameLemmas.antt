@@ -18,6 +18,7 @@ use Rattle.bq_graph.specs.Faults.{IsFaultless, destination_of}
 use Rattle.bq_graph.proofs.EdgeLemmas.{some_same, some_none}
 use Rattle.bq_verify.specs.Control.{SparesFrame}
 
+-- each instruction of a well-formed program is in range
 pub all_insns : (insns : List Insn) → is_well_formed insns ≡ true → list_all is_insn insns ≡ true
 all_insns insns h = (both (list_all is_insn insns) (nat_le 1 (slot_count insns) && nat_le (slot_count insns) 4096) h).0
 
@@ -85,6 +86,7 @@ below slots slot r insn faultless here writes le (inr ge) =
     let ten : r ≡ 10 = omega arith in
     absurd (faultless Frame slot (record { insn = insn; here = here; writes = subst (λ (n : ℕ). destination_of insn ≡ Some n) ten writes }))
 
+-- instructions in range, without a fault of the graph, write only registers below 10
 pub spares_frame : (insns : List Insn) (slots : List (Option Insn)) → slots ≡ spread insns → list_all is_insn insns ≡ true → IsFaultless slots → SparesFrame slots
 spares_frame insns slots same all faultless slot insn here r writes =
     let good = subst (λ (s : List (Option Insn)). AreInsns s) (sym same) (spread_insns insns all) slot insn here in

@@ -17,21 +17,26 @@ use Rattle.bq_graph.proofs.SpreadLemmas.{spread_begins}
 use Rattle.bq_graph.proofs.HeightLemmas.{heights_fall, heights_positive}
 use Rattle.bq_verify.specs.Control.{AreHeights, AreMade}
 
+-- in the slots of a program the next instruction begins where the one before it ends
 pub whole_at : (insns : List Insn) (slots : List (Option Insn)) → slots ≡ spread insns → IsWhole slots
 whole_at insns slots same = subst (λ (s : List (Option Insn)). IsWhole s) (sym same) (spread_begins insns).whole
 
+-- an instruction begins at the first slot of a program that has slots
 pub first_at : (insns : List Insn) (slots : List (Option Insn)) → slots ≡ spread insns → 0 < length slots → IsStart slots 0
 first_at insns slots same = subst (λ (s : List (Option Insn)). 0 < length s → IsStart s 0) (sym same) (spread_begins insns).first
 
+-- the graph of a program without faults may be walked
 pub sound_at : (insns : List Insn) (slots : List (Option Insn)) → slots ≡ spread insns → IsFaultless slots → IsSound slots
 sound_at insns slots same faultless = sound_graph slots (whole_at insns slots same) (faultless Jump) (faultless NoExit)
 
+-- the measured numbers fall along each edge, and are positive where an instruction begins
 pub heights_are : (slots : List (Option Insn)) (heights : List ℕ) → IsSound slots → Measured slots 0 heights → AreHeights slots heights
 heights_are slots heights sound measured = record {
   fall = heights_fall slots sound heights measured;
   positive = λ slot insn here. heights_positive slots heights measured slot (record { insn = insn; here = here });
 }
 
+-- the number measured at the first slot is the length of the longest path out of the program
 pub budget_at : (insns : List Insn) (slots : List (Option Insn)) (heights : List ℕ) → slots ≡ spread insns → 0 < length slots → Measured slots 0 heights → IsGreatest (PathOut slots 0) (slice_index heights 0)
 budget_at insns slots heights same some measured = measured 0 zero-le (first_at insns slots same some)
 
@@ -40,6 +45,7 @@ abbrev pub count_in : Option ℕ → ℕ
 count_in None = 0
 count_in (Some n) = n
 
+-- the number that a pass forwards left at the slot
 abbrev pub made_of : List (Option ℕ) → ℕ → ℕ
 made_of most k = count_in (slice_index_or most k None)
 
@@ -80,5 +86,6 @@ module _ (slots : List (Option Insn)) (most : List (Option ℕ)) (faultless : Is
       few = λ from to edge. not_late from edge.insn edge.here edge.asks (cases_lt (made_of most from) 16);
     }
 
+-- in a program without faults the most calls on the way to a slot grow along the edges, and stay few enough
 pub made_are : (slots : List (Option Insn)) (most : List (Option ℕ)) → IsSound slots → IsFaultless slots → ((k : ℕ) → IsMost slots k (slice_index_or most k None)) → AreMade slots (made_of most)
 made_are slots most sound faultless counted = made_by slots most faultless counted sound

@@ -156,10 +156,12 @@ short_setting slots shapes n m f le p = record {
   processor_fits = p.processor_fits;
 }
 
+-- a program that is safe on a context of some length is safe on a longer one
 pub safe_on_longer : SafeOnLonger
 safe_on_longer slots shapes n m budget le few safe f maps setting have =
     well_longer f n (rw setting.context_long few) (start maps) budget (safe (shortened f n) maps (short_setting slots shapes n m f le setting) have)
 
+-- what a run on the first bytes of a context gives, a run on the whole of it gives
 pub runs_on_longer : RunsOnLonger
 runs_on_longer f n steps calls answer maps after (k, t, is, chain, ends) =
     (k, t, is, chain_longer f n (start maps) k calls t chain, ends_longer f n t answer after ends)

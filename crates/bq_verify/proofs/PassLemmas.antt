@@ -32,9 +32,11 @@ use Rattle.bq_states.proofs.MergeLemmas.{some_none}
 use Rattle.bq_states.proofs.LearnLemmas.{covers_learn, found_at}
 use Rattle.bq_verify.proofs.ChainLemmas.{goes_well}
 
+-- a view that is right about a state is right about it at every slot
 pub Contains-at : (f : Setting) (v : AbstractState) (s : State) (slot : ℕ) → Contains f v s → Contains f v (record s { slot = slot })
 Contains-at f v s slot covers = record { registers = covers.registers; set = covers.set; kept = covers.kept; parts = covers.parts; maps = covers.maps; copies = covers.copies }
 
+-- a setting of the program is one that views with these maps and this length of context speak of
 pub suits : (slots : List (Option Insn)) (shapes : List MapShape) (context_length : ℕ) (f : Setting) → IsSetting slots shapes context_length f → Suits shapes context_length f
 suits slots shapes context_length f setting = record {
   shapes_are = setting.shapes_are;
@@ -208,12 +210,14 @@ module _ (slots : List (Option Insn)) (shapes : List MapShape) (context_length :
   pub rest_before : PassesOn slots shapes context_length slot K L → RestIsSafe slots shapes context_length heights made (slot + 1) L → RestIsSafe slots shapes context_length heights made slot K
   rest_before passes rest f s setting le begins known = at_state passes rest f s _ setting le begins known (eqb_tells s.slot slot)
 
+-- where no view waits, none is right about the state
 pub no_view : (f : Setting) (s : State) (waiting : Option (Box AbstractState Global)) → waiting ≡ None → IsIn f waiting s → ⊥
 no_view f s waiting none here = rw none at here
 
 not_true : (live : Bool) → live ≡ false → live ≡ true → ⊥
 not_true live a b = cc
 
+-- a view that waits at the slot of a state waits at each slot equal to it
 pub moved : (f : Setting) (s : State) (pending : List (Option (Box AbstractState Global))) (slot : ℕ) → s.slot ≡ slot → WaitsBoxed f pending s → IsIn f (slice_index_or pending slot None) s
 moved f s pending slot same waits = subst (λ (n : ℕ). IsIn f (slice_index_or pending n None) s) same waits
 

@@ -42,8 +42,10 @@ limits : (b : Bool) (n : ℕ) → (b && (nat_le 1 n && nat_le n 4096)) ≡ true 
 limits true n h = (grind (arith, nat_tests), grind (arith, nat_tests))
 limits false n h = absurd (let no : ⊥ = cc in no)
 
+-- a well-formed program has a slot
 pub some_slots : (insns : List Insn) → is_well_formed insns ≡ true → 0 < length (spread insns)
 some_slots insns whole = let n = (limits _ (slot_count insns) whole).0 in omega (arith, spread_long insns)
 
+-- a well-formed program has at most 4096 slots
 pub few_slots : (insns : List Insn) → is_well_formed insns ≡ true → length (spread insns) ≤ 4096
 few_slots insns whole = let n = (limits _ (slot_count insns) whole).1 in omega (arith, spread_long insns)

@@ -27,12 +27,15 @@ AllAt P n [] = Unit {0}
 AllAt P n (None ∷ rest) = AllAt P (n + 1) rest
 AllAt P n (Some insn ∷ rest) = P n insn × AllAt P (n + 1) rest
 
+-- two instructions that stand in one place are the same
 pub some_same : (a b : Insn) → Some a ≡ Some b → a ≡ b
 some_same a b e = cc
 
+-- where no instruction stands there is none to be found
 pub no_insn : (a : Insn) → None ≡ Some a → ⊥
 no_insn a e = cc
 
+-- what is true of all instructions and their slots is true of the one at a given slot
 pub at_slot : (P : ℕ → Insn → Type 0) (n : ℕ) (slots : List (Option Insn)) → AllAt P n slots → (k : ℕ) (insn : Insn) → instruction_at slots k ≡ Some insn → P (n + k) insn
 at_slot P n [] all k insn here = absurd (no_insn insn here)
 at_slot P n (None ∷ rest) all zero insn here = absurd (no_insn insn here)
@@ -64,6 +67,7 @@ made_before slots makes leaves first slot later made rest path ends =
     (λ from to held edge p same. let m : makes (instruction_at slots from) ≡ true = made from (subst (λ (n : ℕ). IsEdge slots from n) same edge) in rw m refl)
     rest 0 first path (λ same. absurd (omega arith)) ends
 
+-- one of two holds where the second does
 pub or_true : (b : Bool) → (b || true) ≡ true
 or_true true = refl
 or_true false = refl
@@ -83,12 +87,15 @@ made_first slots makes made slot later rest path ends =
 abbrev before : ℕ → ℕ
 before k = slice_index (0 ∷ 0 ∷ 0 ∷ 1 ∷ 3 ∷ 4 ∷ 5 ∷ 6 ∷ 7 ∷ 6 ∷ 9 ∷ []) k
 
+-- an instruction that jumps nowhere jumps no given distance
 pub no_distance : (d : ℤ) → None ≡ Some d → ⊥
 no_distance d e = cc
 
+-- two distances of one jump are equal
 pub one_distance : (d e : ℤ) → Some d ≡ Some e → d ≡ e
 one_distance d e same = cc
 
+-- false is not true
 pub not_false : false ≡ true → ⊥
 not_false e = cc
 
@@ -154,9 +161,11 @@ to_9 = record {
 to_10 : Path program 0 10
 to_10 = on 9 _ refl refl to_9
 
+-- an instruction that writes no register does not write a given one
 pub no_register : (n : ℕ) → None ≡ Some n → ⊥
 no_register n e = cc
 
+-- a register below 10 is not register 10
 pub not_frame : (r : ℕ) → r < 10 → Some r ≡ Some 10 → ⊥
 not_frame r lt e = let ten : ℕ = 10 in let same : r ≡ 10 = cc in omega arith
 
@@ -254,6 +263,7 @@ module _ (shape : MapShape) where
   in_entry : IsInEntry program (shape ∷ []) 7 0 Double (pos 0)
   in_entry = record { map = 0; shape = shape; known = refl; entry = (6 ∷ 5 ∷ 4 ∷ 3 ∷ 1 ∷ [], entry_7); at = 0; off_is = refl; inside = shape.least_size }
 
+-- the program that looks an entry up, tests the answer and loads from it is straight
 pub worked_is_straight : WorkedIsStraight
 worked_is_straight = (
   refl,
