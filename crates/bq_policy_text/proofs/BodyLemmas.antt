@@ -38,6 +38,7 @@ digit_inner b h =
     let high : b ≤ 57 = leb-true b 57 parts.1 in
     (λ i. not (ne_eqb b 59 (λ e. omega arith) i) && (lt-ltb b 128 (omega arith) i && (not (ne_eqb b 10 (λ e. omega arith) i) && not (ne_eqb b 13 (λ e. omega arith) i))))
 
+-- the digits of a number end no line and begin no comment
 pub decimal_inner : (n : ℕ) → n < 2 ^ 64 → list_all is_inner (decimal n) ≡ true
 decimal_inner n h = list_all-weaker is_digit is_inner digit_inner (decimal n) (decimal_digits n h)
 
@@ -111,5 +112,6 @@ body_begins i h = go (name_of (mnemonic_of i)) (first_word i h)
         let all = (and_parts (nat_lt 0 (length (b ∷ bs))) (list_all is_inner (b ∷ bs)) h).1 in
         (b, bs ++ operands_text (operands_of i), refl, (and_parts (is_inner b) (list_all is_inner bs) all).0)
 
+-- bytes that end no line and begin no comment end no line
 pub inner_clean : (bs : List ℕ) → list_all is_inner bs ≡ true → list_all is_clean bs ≡ true
 inner_clean bs h = list_all-weaker is_inner is_clean (λ b k. (and_parts (not (b == 59)) (is_clean b) k).1) bs h

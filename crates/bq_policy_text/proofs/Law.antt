@@ -24,6 +24,7 @@ program_lines true insns h k =
     let few = leb-true (slot_count insns) 4096 (and_parts (nat_le 1 (slot_count insns)) (nat_le (slot_count insns) 4096) parts.1).1 in
     (noted_lines 0 insns, noted_ended 0 insns, noted_are insns few parts.0 k)
 
+-- what is listed of a policy is its file, with slots and bytes and without
 pub listing_is_read_back : ListingIsReadBack
 listing_is_read_back p has_slots text fit listed =
     let ls = program_lines has_slots p.insns.items p.whole fit in

@@ -16,6 +16,7 @@ use Rattle.bq_policy_text.proofs.BodyLemmas.{is_clean}
 abbrev pub ended : List (List ℕ) → List ℕ
 ended ls = flat_map (λ l. l ++ 10 ∷ []) ls
 
+-- no byte of the lines ends a line, and all are ascii
 abbrev pub AreClean : List (List ℕ) → Type 0
 AreClean ls = AllByRecursion (λ l. list_all is_clean l ≡ true) ls
 
@@ -76,6 +77,7 @@ text_ended ls h = IsUtf8-from_ascii (ended ls) (IsAscii-from_all (ended ls) (All
 pub ended_append : (xs ys : List (List ℕ)) → ended (xs ++ ys) ≡ ended xs ++ ended ys
 ended_append xs ys = flat_map-append (λ l. l ++ 10 ∷ []) xs ys
 
+-- lines whose bytes end no line and others of that kind are such together
 pub clean_append : (xs ys : List (List ℕ)) → AreClean xs → AreClean ys → AreClean (xs ++ ys)
 clean_append [] ys h k = k
 clean_append (x ∷ xs) ys h k = (h.0, clean_append xs ys h.1 k)

@@ -50,6 +50,7 @@ bodies_no_marks (i ∷ insns) h =
     let begins = body_begins i parts.0 in
     (ap mark_words begins.2 ∙ no_mark begins.0 begins.1 begins.3, bodies_no_marks insns parts.1)
 
+-- the lines of a listing say what the texts of its instructions say
 pub bodies_said : (insns : List Insn) → list_all is_insn insns ≡ true → AllFit insns → lines_of (listing_text insns) ≡ map line_said (map line_body insns)
 bodies_said insns h k = ap (λ t. map line_said (lines t)) (listing_ended insns) ∙ ap (map line_said) (lines_ended (map line_body insns) (bodies_clean insns h k))
 

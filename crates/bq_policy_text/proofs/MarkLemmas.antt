@@ -31,17 +31,21 @@ use Rattle.bq_policy_text.proofs.BodyLemmas.{is_clean}
 use Rattle.bq_policy_text.proofs.LineLemmas.{AreClean, ended}
 use Rattle.bq_policy_text.proofs.ShapeLemmas.{names_shapes, shapes_text}
 
+-- the mark that says the hook
 abbrev pub hook_line : Hook → List ℕ
 hook_line h = codes ";@ hook " ++ hook_word h
 
+-- the mark that says the maps, if there are some
 abbrev pub maps_lines : List MapShape → List (List ℕ)
 maps_lines [] = []
 maps_lines (first ∷ rest) = (codes ";@ maps " ++ shapes_text first rest) ∷ []
 
+-- the mark that says the version, if it is the second
 abbrev pub format_lines : Version → List (List ℕ)
 format_lines First = []
 format_lines Second = codes ";@ format 2" ∷ []
 
+-- all marks of a policy, in order
 abbrev pub mark_lines : Hook → List MapShape → Version → List (List ℕ)
 mark_lines h shapes v = hook_line h ∷ (maps_lines shapes ++ format_lines v)
 
@@ -153,19 +157,24 @@ abbrev pub maps_said : Vec MapShape Global → List MapShape → Option (Vec Map
 maps_said shapes [] = None
 maps_said shapes (first ∷ rest) = Some shapes
 
+-- the version, if it is the second
 abbrev pub format_said : Version → Option Version
 format_said First = None
 format_said Second = Some Second
 
+-- if maps are said, they are at most eight
 abbrev pub AreFew : Option (Vec MapShape Global) → Type 0
 AreFew maps = ForSome maps (λ shapes. length shapes.items ≤ 8)
 
+-- of maps that are not said there are not too many
 pub none_few : AreFew None
 none_few = λ shapes e. absurd (let none : None ≡ Some shapes = e in cc)
 
+-- at most eight maps that are said are not too many
 pub some_few : (shapes : Vec MapShape Global) → length shapes.items ≤ 8 → AreFew (Some shapes)
 some_few shapes h = λ x e. let same : shapes ≡ x = cc in subst (λ (v : Vec MapShape Global). length v.items ≤ 8) same h
 
+-- at most eight maps are not too many, whether they are said or not
 pub few_said : (shapes : Vec MapShape Global) (items : List MapShape) → length shapes.items ≤ 8 → AreFew (maps_said shapes items)
 few_said shapes [] h = none_few
 few_said shapes (first ∷ rest) h = some_few shapes h

@@ -115,10 +115,12 @@ note_clean slot i h =
 abbrev noted_body : ℕ → Insn → List ℕ
 noted_body slot i = line_body i ++ (blanks_to 32 (line_body i) ++ note_of slot i)
 
+-- the lines of the instructions with their comments, where the first stands at that slot
 abbrev pub noted_lines : ℕ → List Insn → List (List ℕ)
 noted_lines slot [] = []
 noted_lines slot (i ∷ insns) = noted_body slot i ∷ noted_lines (slot + slots_of i) insns
 
+-- the listing with comments is made of these lines
 pub noted_ended : (slot : ℕ) (insns : List Insn) → noted_text slot insns ≡ ended (noted_lines slot insns)
 noted_ended slot [] = refl
 noted_ended slot (i ∷ insns) =

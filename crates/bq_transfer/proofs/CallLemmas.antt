@@ -48,6 +48,7 @@ called_at shapes old cleared register answer k r b c lt clears h d (inr (e, othe
 called_at shapes old cleared register answer k r b c lt clears h d (inr (e, other)) (inr (e', high)) =
     rw (e, e', get_or-set_other cleared 0 r (Some k) None other, clears.others r (omega arith)) h
 
+-- after a call the view that forgot registers 1 to 5 and knows the answer in register 0 is right
 pub covers_called : (f : Setting) (v : AbstractState) (s : State) (cleared : List (Option AbstractValue)) (parts : List ℕ) (answer : ℕ) (k : AbstractValue) → 0 < length cleared → Clears v.registers cleared → PartsFirst v.classes parts → Contains f v s → Describes f.shapes k answer → Contains f (record v { registers = slice_set cleared 0 (Some k); classes = slice_set parts 0 0 }) (called s answer)
 covers_called f v s cleared parts answer k lt clears first covers d = record {
   registers = λ r. called_at f.shapes v.registers cleared s.register answer k r _ _ lt clears (covers.registers r) d (eqb_tells r 0) (leb_tells (suc r) 6);

@@ -18,6 +18,7 @@ use Rattle.bq_states.specs.Copies.{AreCopies, HasWord}
 use Rattle.bq_states.specs.AbstractStates.{Describes, Holds, Contains, Suits, knowing}
 use Rattle.bq_transfer.specs.Transfers.{Transfers}
 
+-- a register that is set is a first operand of any operation
 pub left_from_set : (o : Operation) (v : Option ℕ) (a : ℕ) → v ≡ Some a → IsLeft o v a
 left_from_set op.Mov v a e = tt
 left_from_set _ v a e = e
@@ -26,6 +27,7 @@ put_at : (shapes : List MapShape) (regs : List (Option AbstractValue)) (register
 put_at shapes regs register dst n k r b lt h d (inl (e, same)) = rw (e, same, get_or-set_same regs dst (Some k) None lt) (n, refl, d)
 put_at shapes regs register dst n k r b lt h d (inr (e, other)) = rw (e, get_or-set_other regs dst r (Some k) None other) h
 
+-- a view that learns the word which a register was given stays right
 pub covers_put : (f : Setting) (v : AbstractState) (s : State) (slots dst n : ℕ) (k : AbstractValue) → dst < length v.registers → Contains f v s → Describes f.shapes k n → Contains f (knowing v dst k) (put s slots dst n)
 covers_put f v s slots dst n k lt covers d = record {
   registers = λ r. put_at f.shapes v.registers s.register dst n k r _ lt (covers.registers r) d (eqb_tells r dst);

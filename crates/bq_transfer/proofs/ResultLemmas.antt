@@ -14,24 +14,29 @@ use Rattle.bq_states.specs.declared.abstract_state.AbstractValue.{AbstractValue}
 use Rattle.bq_states.specs.AbstractStates.{Describes, IsEntryBase}
 use Rattle.bq_states.proofs.WordLemmas.{number_within, number_is}
 
+-- a word plus a number is of the same kind, and its offset is in a range that holds the sums
 pub moved_up : (shapes : List MapShape) (kind : Kind) (r t : Range) (x y : ℕ) (b : Range) → Describes shapes (record { kind = kind; offset = r }) x → Within b y → ((u v : ℕ) → Within r u → Within b v → Within t ((u + v) % 2 ^ 64)) → Describes shapes (record { kind = kind; offset = t }) (alu_result W64 op.Add x y)
 unfolding operate
 moved_up shapes kind r t x y b d w sums =
     record { base = d.base; offset = (d.offset + y) % 2 ^ 64; is_base = d.is_base; within = sums d.offset y d.within w; word_is = omega (arith, d.word_is) }
 
+-- a word less a number is of the same kind, and its offset is in a range that holds the differences
 pub moved_down : (shapes : List MapShape) (kind : Kind) (r t : Range) (x y : ℕ) (b : Range) → Describes shapes (record { kind = kind; offset = r }) x → Within b y → ((u v : ℕ) → Within r u → Within b v → Within t ((u + (2 ^ 64 - v)) % 2 ^ 64)) → Describes shapes (record { kind = kind; offset = t }) (alu_result W64 op.Sub x y)
 unfolding operate
 moved_down shapes kind r t x y b d w differences =
     let fits = b.fits in
     record { base = d.base; offset = (d.offset + (2 ^ 64 - y)) % 2 ^ 64; is_base = d.is_base; within = differences d.offset y d.within w; word_is = omega (arith, d.word_is, w) }
 
+-- a move of all 64 bits gives the word that is moved
 pub same_word : (x y : ℕ) → y < 2 ^ 64 → alu_result W64 op.Mov x y ≡ y
 unfolding operate
 same_word x y h = omega arith
 
+-- a word that is moved whole is described as before
 pub copied_word : (shapes : List MapShape) (k : AbstractValue) (x y : ℕ) → Describes shapes k y → Describes shapes k (alu_result W64 op.Mov x y)
 copied_word shapes k x y d = rw (same_word x y (omega (arith, d.word_is))) d
 
+-- what a move of 32 bits gives does not depend on its first operand
 pub left_is_free : (x y : ℕ) → alu_result W32 op.Mov x y ≡ alu_result W32 op.Mov y y
 unfolding operate
 left_is_free x y = refl
@@ -59,18 +64,22 @@ entry_side shapes m left right a b is whole kind none d e differ =
     choose (inl zero_base) = absurd (differ (let w = d.within in omega (arith, d.word_is, zero_word shapes right b kind none e, w)))
     choose (inr entry) = entry
 
+-- a test for equality that holds says that the numbers are equal
 pub equal_true : (a b : ℕ) → a < 2 ^ 64 → b < 2 ^ 64 → taken W64 cond.Equal a b ≡ true → a ≡ b
 unfolding compares
 equal_true a b p q h = grind (arith, nat_tests)
 
+-- a test for equality that fails says that the numbers differ
 pub equal_false : (a b : ℕ) → a < 2 ^ 64 → b < 2 ^ 64 → taken W64 cond.Equal a b ≡ false → a ≢ b
 unfolding compares
 equal_false a b p q h = grind (arith, nat_tests)
 
+-- a test for difference that holds says that the numbers differ
 pub unequal_true : (a b : ℕ) → a < 2 ^ 64 → b < 2 ^ 64 → taken W64 cond.NotEqual a b ≡ true → a ≢ b
 unfolding compares
 unequal_true a b p q h = grind (arith, nat_tests)
 
+-- a test for difference that fails says that the numbers are equal
 pub unequal_false : (a b : ℕ) → a < 2 ^ 64 → b < 2 ^ 64 → taken W64 cond.NotEqual a b ≡ false → a ≡ b
 unfolding compares
 unequal_false a b p q h = grind (arith, nat_tests)

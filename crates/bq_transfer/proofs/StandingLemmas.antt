@@ -284,6 +284,7 @@ knowing_made s view dst k there stands = record {
 pub made_classes : (s : Standing) (old new : AbstractState) (dst : ℕ) (classes : List ℕ) → IsMade s old new dst → IsMade s old (record new { classes = classes }) dst
 made_classes s old new dst classes made = record { given = made.given; kept = made.kept; set_same = made.set_same; kept_same = made.kept_same }
 
+-- a view that learns a number in a register has a number there, and all else as before
 pub knowing_given : (view : AbstractState) (dst : ℕ) (k : AbstractValue) → dst < length view.registers → k.kind ≡ Number → IsGiven view (knowing view dst k) dst
 knowing_given view dst k there number = knowing_made Scalar view dst k there number
 
@@ -296,13 +297,15 @@ called_by s view registers classes k there clears stands = record {
   kept_same = refl;
 }
 
--- the address of an entry, and a look-up's answer
+-- a word known as the address of an entry is sure to be the pointer to its start
 pub entry_stands : (map : ℕ) (range : Range) → range.lo ≡ 0 → range.hi ≡ 0 → Stands (Pointer (Entry map) 0) (Some (record { kind = Entry map; offset = range }))
 entry_stands map range lo hi = (refl, λ e. let refuted : ⊥ = cc in refuted, lo, hi)
 
+-- a word known as a look-up's answer is sure to be the answer of the map of that number
 pub answer_stands : (map m : ℕ) (range : Range) → map ≡ m → range.lo ≡ 0 → range.hi ≡ 0 → Stands (Pointer (EntryOrNull m) 0) (Some (record { kind = EntryOrNull map; offset = range }))
 answer_stands map m range same lo hi = (ap (λ (n : ℕ). EntryOrNull n) same, λ e. let refuted : ⊥ = cc in refuted, lo, hi)
 
+-- the first operand that is ready is a number, unless the operation is a MOV
 pub left_scalar : (op : Operation) (view : AbstractState) (dst : ℕ) → (op ≡ Mov → ⊥) → IsLeftReady op view dst → StandsAt Scalar view dst
 left_scalar Mov view dst other ready = absurd (other refl)
 left_scalar _ view dst other ready = ready

@@ -128,6 +128,7 @@ stores_in_entry shapes context_length dst off size k at kind m view entry finds 
       λ n is. absurd (let no : ⊥ = cc in no),
     )
 
+-- where an immediate can be stored, the instruction that stores it leads to the view after it
 pub carries_imm : (shapes : List MapShape) (context_length dst : ℕ) (off imm : ℤ) (size : Size) (k : AbstractValue) (old new : AbstractState) (slot : Option ℕ) → ((f : Setting) → Describes f.shapes k (word_of imm)) → Stores shapes context_length dst off size k old new slot → Transfers shapes context_length (StoreImm size dst off imm) old new
 carries_imm shapes context_length dst off imm size k old new slot word stores f s suits covers =
     let on = stores f s (word_of imm) suits covers (word f) in
@@ -137,6 +138,7 @@ carries_imm shapes context_length dst off imm size k old new slot word stores f 
 pub covers_classes : (f : Setting) (v : AbstractState) (t : State) (classes : List ℕ) → AreCopies classes t → Contains f v t → Contains f (record v { classes = classes }) t
 covers_classes f v t classes copies covers = record { registers = covers.registers; set = covers.set; kept = covers.kept; parts = covers.parts; maps = covers.maps; copies = copies }
 
+-- where a register can be stored, the instruction leads to the view after it, with classes that are right there
 pub carries_reg : (shapes : List MapShape) (context_length dst src : ℕ) (off : ℤ) (size : Size) (k : AbstractValue) (old new : AbstractState) (slot : Option ℕ) (classes : List ℕ) → ((f : Setting) (s : State) → Contains f old s → (v : ℕ) × (s.register src ≡ Some v) × Describes f.shapes k v) → Stores shapes context_length dst off size k old new slot → ((t : State) (v : ℕ) → AreCopies new.classes t → t.register src ≡ Some v → ((n : ℕ) → slot ≡ Some n → HasWord t (11 + n) v) → AreCopies classes t) → Transfers shapes context_length (StoreReg size dst off src) old (record new { classes = classes })
 carries_reg shapes context_length dst src off size k old new slot classes word stores linked f s suits covers =
     let v = word f s covers in
