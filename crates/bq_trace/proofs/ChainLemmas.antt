@@ -15,6 +15,7 @@ AnswersAll-append p m q [] ys t u h k =
 AnswersAll-append p m q (x ∷ xs) ys t u h k =
     (h.0, h.1, h.2 ++ u, h.3, AnswersAll-append h.0 m q xs ys h.2 u h.4 k, ap (λ l. l ++ u) h.5 ∙ append_assoc h.1 h.2 u)
 
+-- the text that answers a line answers the list of it alone
 pub AnswersAll-one : (p q : Progress) (line text : List ℕ) → AnswersLine p line text q → AnswersAll p (line ∷ []) text q
 AnswersAll-one p q line text h = (q, text, [], h, (refl, refl), sym (append-nil text))
 

@@ -27,6 +27,7 @@ pub record Underway (from to old new : Option (List ℕ)) (s : TracePosition) : 
   pub stands : StandsFor s.begun rest
   pub added : Appends old new output
 
+-- at the start nothing has been read and nothing answered
 pub Underway-none : (from old : Option (List ℕ)) (s : TracePosition) → s.progress ≡ start → s.begun ≡ Some [] → Underway from from old old s
 Underway-none from old s first empty = record {
   input = [];
@@ -52,6 +53,7 @@ with_feeds-join begun piece rest more last ended others first second =
     sym (append_assoc begun piece more) ∙ ap (λ l. l ++ more) first ∙ append_assoc (with_feeds ended) rest more ∙ ap (λ l. with_feeds ended ++ l) second
     ∙ sym (append_assoc (with_feeds ended) (with_feeds others) last) ∙ ap (λ l. l ++ last) (sym (flat_map-append (λ line. line ++ 10 ∷ []) ended others))
 
+-- a piece and another one that goes on from its rest are one piece, answered by both texts
 pub Continues-join : (s t u : TracePosition) (begun piece more text others : List ℕ) → (h : Continues s begun piece text t) → Continues t h.rest more others u → Continues s begun (piece ++ more) (text ++ others) u
 Continues-join s t u begun piece more text others h k = record {
   ended = h.ended ++ k.ended;
@@ -63,6 +65,7 @@ Continues-join s t u begun piece more text others h k = record {
   stands = k.stands;
 }
 
+-- a piece that is read and fed to the session leaves the replay underway
 pub Underway-more : (from mid to old now new : Option (List ℕ)) (s t : TracePosition) (piece : List ℕ) → (h : Underway from mid old now s) → Consumes mid to piece → Feeds s h.rest piece t now new → Underway from to old new t
 Underway-more from mid to old now new s t piece h consumed fed = record {
   input = h.input ++ piece;
@@ -78,6 +81,7 @@ Underway-more from mid to old now new s t piece h consumed fed = record {
   added = Appends-trans old now new h.output fed.text h.added fed.added;
 }
 
+-- a replay whose reader has no more and whose last line is answered is done
 pub Underway-ends : (from mid to old now new : Option (List ℕ)) (s : TracePosition) (clean : Bool) → (h : Underway from mid old now s) → Consumes mid to [] → IsAtEnd to → Finishes s h.rest now new clean → Replays from to old new clean
 Underway-ends from mid to old now new s clean h consumed at_end f = record {
   input = h.input;
@@ -93,6 +97,7 @@ Underway-ends from mid to old now new s clean h consumed at_end f = record {
   };
 }
 
+-- where a piece breaks off, a beginning of the answers to what was read was written
 pub Underway-breaks : (from mid to old now new : Option (List ℕ)) (s : TracePosition) (piece : List ℕ) → (h : Underway from mid old now s) → Consumes mid to piece → BreaksOff s h.rest piece now new → ReplaysInPart from to old new
 Underway-breaks from mid to old now new s piece h consumed b = record {
   input = h.input ++ piece;
@@ -116,6 +121,7 @@ Underway-breaks from mid to old now new s piece h consumed b = record {
   };
 }
 
+-- where the reader gives nothing more, a beginning of the answers to what it gave was written
 pub Underway-stops : (from mid to old new : Option (List ℕ)) (s : TracePosition) → (h : Underway from mid old new s) → Keeps mid to → ReplaysInPart from to old new
 Underway-stops from mid to old new s h kept = record {
   input = h.input;

@@ -63,6 +63,7 @@ finishes_part s t begun answers old new a part = record {
   part = part;
 }
 
+-- what holds anyhow holds where the result is an error
 pub on_err : {T E P : Type 0} (r : Result T E) → P → OnErr r P
 on_err (Ok x) p = tt
 on_err (Err e) p = p

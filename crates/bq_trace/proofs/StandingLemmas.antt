@@ -20,6 +20,7 @@ Story-append p m q [] ys t u h k =
 Story-append p m q (x ∷ xs) ys t u h k =
     (h.0, h.1, h.2 ++ u, h.3, Story-append h.0 m q xs ys h.2 u h.4 k, ap (λ l. l ++ u) h.5 ∙ append_assoc h.1 h.2 u)
 
+-- what comes of a line is the story of it alone
 pub Story-one : (p q : Progress) (line : List ℕ) (told : Told) → TellsLine p line told q → Story p (line ∷ []) told q
 Story-one p q line told h = (q, told, [], h, (refl, refl), sym (append-nil told))
 
@@ -34,6 +35,7 @@ pub record SoFar {S : Type 0} (takes : S → ℕ → News → S → Type 0) (s :
   pub stands : StandsFor t.begun current
   pub taken : TakesAll takes old told new
 
+-- before the first byte of a piece no line is told, and the line that had begun stands
 pub SoFar-none : {S : Type 0} (takes : S → ℕ → News → S → Type 0) (s : TracePosition) (begun piece : List ℕ) (old : S) → StandsFor s.begun begun
     → SoFar takes s (begun ++ piece) s piece old old
 SoFar-none takes s begun piece old h = record {

@@ -3,6 +3,7 @@ use Rattle.std.proofs.Common.{◌≡◌, ℕ, List, [], ◌∷◌, ◌++◌, ref
 use Rattle.std.specs.Prelude.{OnOk}
 use Rattle.bq_trace.specs.News.{News, Told, TakesAll, Gets, text_of, texts}
 
+-- what takes some news and then others takes them all
 pub TakesAll-append : {S : Type 0} (takes : S → ℕ → News → S → Type 0) (a b c : S) (xs ys : Told) → TakesAll takes a xs b → TakesAll takes b ys c → TakesAll takes a (xs ++ ys) c
 TakesAll-append takes a b c [] ys h k = subst (λ s. TakesAll takes s ys c) h k
 TakesAll-append takes a b c ((n, x) ∷ xs) ys h k = (h.0, h.1, TakesAll-append takes h.0 b c xs ys h.2 k)
@@ -20,6 +21,7 @@ pub gets_two : {S : Type 0} (takes : S → ℕ → News → S → Type 0) (a b c
     → Holds ((n, x) ∷ (n, y) ∷ []) → Gets takes a c Holds
 gets_two takes a b c n x y Holds h k l = record { told = (n, x) ∷ (n, y) ∷ []; taken = (b, h, (c, k, refl)); holds = l }
 
+-- the texts of news and of others behind are those of both, joined
 pub texts-append : (xs ys : Told) → texts (xs ++ ys) ≡ texts xs ++ texts ys
 texts-append [] ys = refl
 texts-append ((n, x) ∷ xs) ys = ap (λ l. text_of n x ++ l) (texts-append xs ys) ∙ sym (append_assoc (text_of n x) (texts xs) (texts ys))
@@ -30,6 +32,7 @@ pub added_by : {S : Type 0} (bytes : S → List ℕ) (old new : S) (told : Told)
 added_by bytes old new [] h = ap bytes h ∙ sym (append-nil (bytes old))
 added_by bytes old new ((n, x) ∷ more) h = added_by bytes h.0 new more h.2 ∙ ap (λ l. l ++ texts more) h.1 ∙ append_assoc (bytes old) (text_of n x) (texts more)
 
+-- what follows from a fact of a successful result holds of it too
 pub on_ok : {T E P Q : Type 0} (r : Result T E) → (P → Q) → OnOk r P → OnOk r Q
 on_ok (Ok x) along p = along p
 on_ok (Err e) along p = tt
