@@ -49,6 +49,7 @@ either_due : (ss rs : List Step) (t : Bool) → EntersDue ss → EntersDue rs �
 either_due ss rs true h k = h
 either_due ss rs false h k = k
 
+-- where whoever enters over some steps and over others is due, so is whoever enters over all of them
 pub append_due : (ss rs : List Step) → EntersDue ss → EntersDue rs → EntersDue (ss ++ rs)
 append_due [] rs h k = k
 append_due (Pass now ∷ ss) rs h k = append_due ss rs h k

@@ -46,6 +46,7 @@ entries_new d P k p kept (t ∷ tasks) once w =
     λ id. omega (arith, once id, count_of-append id (present_at p) (t ∷ tasks), count_of-append id (present_at next) tasks, count_entered id u p.queue p.current) in
     (new, entries_new d P k next kept tasks rest w.1)
 
+-- where whoever enters over some steps, and over others after them, is new, so is whoever enters over all
 pub new_append : (d : Discipline) (p : Running) (ss rs : List Step) → EachEntersNew d p ss → EachEntersNew d (after d p ss) rs → EachEntersNew d p (ss ++ rs)
 new_append d p [] rs h k = k
 new_append d p (s ∷ ss) rs h k = (h.0, new_append d (stepped d p s) ss rs h.1 k)

@@ -127,5 +127,6 @@ blocked w w' cpu now calls (Err r) l h =
       | inr e ↦ absurd e.0
     ])
 
+-- under CFS a Tick and a Block of the world are the events of its laws
 pub cfs_passes : CfsPasses
 cfs_passes = record { tick = tick_leaves cfs; block = blocked }

@@ -45,6 +45,7 @@ use Rattle.bq_passing.proofs.PassingFacts.{discipline_passes, own_decision}
 
 -- What is read of a world after a processor was written
 
+-- numbers that the test finds equal are equal
 pub same_number : (a b : ℕ) → (a == b) ≡ true → a ≡ b
 same_number a b e = grind (arith, nat_tests)
 
@@ -72,6 +73,7 @@ seen_there d w cpu at q ss true e l h =
     subst (λ n. running_at (with_processor w cpu q) n ≡ after d (running_at w n) ss) (sym same) (at_itself w cpu q (subst (λ n. n < count_in w) same l) ∙ h same)
 seen_there d w cpu at q ss false e l h = at_another w cpu at q (other_number at cpu e)
 
+-- the tasks at a processor of an orderly world have distinct ids
 pub distinct_at : (w : World) (cpu : ℕ) → IsOrderly w → HasDistinctIds (present_at (running_at w cpu))
 distinct_at w cpu o = HasDistinctIds-from_counts (present_at (running_at w cpu)) (each_once_running w cpu o)
 
@@ -168,6 +170,7 @@ pulls_apart w cpu from now h =
 
 -- Each event
 
+-- what an event of an orderly world leaves at a processor is what its steps there leave
 pub event_is_steps : EventIsSteps
 event_is_steps d at w w' e calls (Err r) o l h alone = ap (λ v. running_at v at) h.1
 event_is_steps d at w w' (Admit id nice mask slice) calls (Ok r) o l h alone = ap (λ v. running_at v at) h.1.3
@@ -198,6 +201,7 @@ after-append : (d : Discipline) (p : Running) (ss rs : List Step) → after d p 
 after-append d p [] rs = refl
 after-append d p (s ∷ ss) rs = after-append d (stepped d p s) ss rs
 
+-- what a history of an orderly world leaves at a processor is what its steps there leave
 pub history_is_steps : HistoryIsSteps
 history_is_steps d at w w' [] [] [] ss o l h = ap (λ v. running_at v at) h.0 ∙ ap (λ xs. after d (running_at w at) xs) (sym h.1)
 history_is_steps d at w w' (e ∷ es) (calls ∷ more) (a ∷ answers) ss o l h =

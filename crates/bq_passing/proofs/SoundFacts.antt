@@ -30,6 +30,7 @@ use Rattle.bq_passing.proofs.SeenFacts.{by_arguments}
 
 -- Lists of tasks
 
+-- the fact is true of each of the tasks
 abbrev pub Each : (Task → Type 0) → List Task → Type 0
 Each P xs = AllByRecursion P xs
 
@@ -37,6 +38,7 @@ each_found_by : (P : Task → Type 0) (b : Bool) (x t : Task) (o : Option Task) 
 each_found_by P true x t o h rest e = let same : x ≡ t = cc in subst P same h
 each_found_by P false x t o h rest e = rest e
 
+-- what is true of each task is true of the one that is found by its id
 pub each_found : (P : Task → Type 0) (id : ℕ) (xs : List Task) (t : Task) → Each P xs → with_id id xs ≡ Some t → P t
 each_found P id [] t h e = cc
 each_found P id (x ∷ xs) t h e = each_found_by P (has_id id x) x t (with_id id xs) h.0 (each_found P id xs t h.1) e
@@ -70,6 +72,7 @@ pub record IsKept (d : Discipline) (P : Task → Type 0) : Type 0 where
   pub woken : (mark : ℕ) (t : Task) → IsWeight t.weight → P (woken d mark t)
   pub pulled : (mark : ℕ) (t : Task) → IsWeight t.weight → P (pulled d mark t)
 
+-- the weight is one of the table's range
 abbrev pub HasWeight : Task → Type 0
 HasWeight t = IsWeight t.weight
 
@@ -90,6 +93,7 @@ charged_current : (d : Discipline) (P : Task → Type 0) → IsKept d P → (o :
 charged_current d P k None x c u e = cc
 charged_current d P k (Some t) x c u e = let same : charged d t x ≡ u = cc in subst P same (k.charged t x (c t refl))
 
+-- what is true of the one that runs and of those in the queue stays so when the time passes
 pub holds_charge : (d : Discipline) (P : Task → Type 0) → IsKept d P → (p : Running) (now : ℕ) → Holds P p → Holds P (charge d p now)
 holds_charge d P k p now h = record { current = charged_current d P k p.current _ h.current; queue = h.queue }
 
@@ -260,6 +264,7 @@ same_everywhere x zero i = refl
 same_everywhere x (suc n) zero = refl
 same_everywhere x (suc n) (suc i) = same_everywhere x n i
 
+-- in the opening world, where no task is, any fact is kept of every task
 pub opening_sound : (P : Task → Type 0) (count : ℕ) → IsSoundWorld P (opening_world count)
 opening_sound P count = record {
   running = λ cpu. rw (same_everywhere {X = Processor} opening count cpu) (record { current = λ t e. cc; queue = tt });

@@ -101,6 +101,7 @@ cfs_keeps = record {
 apart_by : (m r av bv iv jv uv tv x : ℕ) → uv ≡ av + iv → tv ≡ bv + jv → av + iv ≤ jv + m + x → uv + bv ≤ tv + m + x
 apart_by m r av bv iv jv uv tv x e f h = omega arith
 
+-- under CFS two tasks that stay at a processor of the world are served in proportion
 pub cfs_world_serves : CfsWorldServes
 cfs_world_serves count at r i j w w' earlier es before calls given answers ss a b run l seen room within si sj f g =
     let k = reached cfs InRange cfs_keeps count w earlier before given run in
@@ -144,6 +145,7 @@ history_due at w w' es more answers ss h = absurd h
 deadlines_at : (w : World) (at : ℕ) → IsOrderly w → IsSoundWorld IsTimed w → HasDeadlines (running_at w at)
 deadlines_at w at o s = λ i x l. let t = each_at IsTimed w at o s i x l in (t.due.low, t.due.high)
 
+-- under EEVDF two tasks that stay at a processor of the world are served in proportion
 pub eevdf_world_serves : EevdfWorldServes
 eevdf_world_serves count at r i j w w' earlier es before calls given answers ss a b run l seen room within si sj f g =
     let k = reached eevdf IsTimed eevdf_keeps count w earlier before given run in

@@ -10,9 +10,11 @@ use Rattle.bq_spelling.specs.Laws.{AreLines, EventsAreRead, MachinesAreRead, IsW
 use Rattle.bq_spelling.proofs.PlainWords.{allowed-spaced}
 use Rattle.bq_spelling.proofs.ReadingLemmas.{reading-spaced, plain_words, room_words, words_say, machine_words, plain_machine, room_machine, machine_says}
 
+-- the line that asks for an event is read as just that
 pub events_are_read : EventsAreRead
 events_are_read image event can fits = reading-spaced (event_words image event) (plain_words image event can fits) (room_words image event can fits) ∙ words_say image event can fits
 
+-- the line that asks for a machine is read as just that
 pub machines_are_read : MachinesAreRead
 machines_are_read rule size = reading-spaced (machine_words rule size) (plain_machine rule size) (room_machine rule size) ∙ machine_says rule size
 
@@ -39,6 +41,7 @@ allowed_whole line h = record {
   same = rw (nowhere line (length line - 1) (of_each (λ b. eqb b 13 ≡ false) no_return line h)) refl;
 }
 
+-- the text that asks for an event or for a machine is one whole line
 pub are_lines : AreLines
 are_lines = record {
   events = λ image event can fits. allowed_whole (asking_line image event) (allowed-spaced (event_words image event) (plain_words image event can fits));

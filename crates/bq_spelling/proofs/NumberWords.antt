@@ -24,10 +24,11 @@ digits_pass : (ds : List ℕ) → AllDigits 10 ds → list_all (λ c. ltb (digit
 digits_pass [] h = refl
 digits_pass (c ∷ ds) h = let first : ltb (digit_value c) 10 ≡ true = let d = h.0 in grind (arith, nat_tests) in rw first (digits_pass ds h.1)
 
--- a number is a plain word, and no longer than twenty digits
+-- a number of 64 bits is a plain word
 pub plain_decimal : (n : ℕ) → n < 2 ^ 64 → IsPlain (decimal n)
 plain_decimal n h = let numeral = (decimal_is_IsNumeral n h).0 in record { some = numeral.0; each = digits_plain (decimal n) numeral.1 }
 
+-- a number of 64 bits is no longer than twenty digits
 pub short_decimal : (n : ℕ) → n < 2 ^ 64 → length (decimal n) ≤ 20
 short_decimal n h = length-decimal-le 20 n (lit< tt) (omega (arith)) h
 
@@ -49,9 +50,11 @@ below-Some limit n o is h = ap (below limit) is ∙ within (ltb n limit) (grind 
     within : (b : Bool) → b ≡ true → cond b (Some n) None ≡ Some n
     within b e = rw e refl
 
+-- the number of a processor is read back from its digits
 pub processor_of-decimal : (n : ℕ) → n < 2 ^ 8 → processor_of (decimal n) ≡ Some n
 processor_of-decimal n h = below-Some (2 ^ 8) n _ (decimal_of-decimal n (omega arith)) h
 
+-- the number of a task is read back from its digits
 pub task_of-decimal : (n : ℕ) → n < 2 ^ 16 → task_of (decimal n) ≡ Some n
 task_of-decimal n h = below-Some (2 ^ 16) n _ (decimal_of-decimal n (omega arith)) h
 
@@ -71,6 +74,7 @@ no_hex_mark (c ∷ d ∷ ds) h =
     two true b e = rw e refl
     two false b e = refl
 
+-- a mask is read back from its digits
 pub mask_of-decimal : (n : ℕ) → n < 2 ^ 64 → mask_of (decimal n) ≡ Some n
 mask_of-decimal n h = rw (no_hex_mark (decimal n) (decimal_is_IsNumeral n h).0.1) (decimal_of-decimal n h)
 
@@ -81,14 +85,17 @@ no_minus (c ∷ ds) h =
     let other : eqb 45 c ≡ false = let digit = h.0 in grind (arith, nat_tests) in
     rw other refl
 
+-- a nice value is read back from its sign and digits
 pub nice_of-signed : (z : ℤ) → FitsSigned w8 z → nice_of (signed_decimal z) ≡ Some z
 nice_of-signed (pos n) h = rw (no_minus (decimal n) (decimal_is_IsNumeral n (omega arith)).0.1) (ap (option_map (λ n. pos n)) (below-Some 128 n _ (decimal_of-decimal n (omega arith)) (omega arith)))
 nice_of-signed (negsuc n) h = ap (option_map (λ n. neg_ℤ (pos n))) (below-Some 129 (suc n) _ (decimal_of-decimal (suc n) (omega arith)) (omega arith))
 
+-- a number of eight bits, with its sign, is a plain word
 pub plain_signed : (z : ℤ) → FitsSigned w8 z → IsPlain (signed_decimal z)
 plain_signed (pos n) h = plain_decimal n (omega arith)
 plain_signed (negsuc n) h = let rest = plain_decimal (suc n) (omega arith) in record { some = omega arith; each = rest.each }
 
+-- a number of eight bits, with its sign, is no longer than 21 bytes
 pub short_signed : (z : ℤ) → FitsSigned w8 z → length (signed_decimal z) ≤ 21
 short_signed (pos n) h = let short = short_decimal n (omega arith) in omega arith
 short_signed (negsuc n) h = let short = short_decimal (suc n) (omega arith) in omega arith

@@ -75,6 +75,7 @@ abbrev pub room : List (List ℕ) → ℕ
 room [] = 0
 room (w ∷ ws) = length w + (1 + room ws)
 
+-- a line is no longer than the room for its words
 pub length-spaced : (ws : List (List ℕ)) → length (spaced_words ws) ≤ room ws
 length-spaced [] = omega arith
 length-spaced (w ∷ []) = omega arith

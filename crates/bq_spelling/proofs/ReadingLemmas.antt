@@ -160,9 +160,11 @@ short_rule : (rule : Rule) → length (rule_word rule) ≤ 5
 short_rule Cfs = lit≤ tt
 short_rule Eevdf = lit≤ tt
 
+-- the words of a machine are plain
 pub plain_machine : (rule : Rule) (size : ProcessorCount) → AllByRecursion IsPlain (machine_words rule size)
 plain_machine rule size = let small = small_size size in (known (codes "machine") refl, (plain_rule rule, (plain_decimal (processors_in size) (omega arith), tt)))
 
+-- a line has room for the words of a machine
 pub room_machine : (rule : Rule) (size : ProcessorCount) → room (machine_words rule size) ≤ 131072
 room_machine rule size =
     let small = small_size size in
