@@ -19,10 +19,12 @@ use Rattle.bq_parts.specs.Shares.{Admits, Retires, Blocks, Begins, Installs}
 abbrev pub IsNamed : Result Reply Refusal → Type 0
 IsNamed r = IfErr r (λ e. e ≢ no.OutOfMemory)
 
+-- no task is refused to be admitted for want of memory
 pub admits_named : (id : ℕ) (t : Task) (l : List LobbyEntry) (r : Result Reply Refusal) (m : List LobbyEntry) → Admits id t l r m → IsNamed r
 admits_named id t l (Ok r) m a = tt
 admits_named id t l (Err e) m a = subst (λ x. x ≢ no.OutOfMemory) (sym a.1) (λ h. cc)
 
+-- no block is refused for want of memory
 pub blocks_named : (d : Discipline) (c now : ℕ) (p : Processor) (l : List LobbyEntry) (r : Result Reply Refusal) (q : Processor) (m : List LobbyEntry) → Blocks d c now p l r q m → IsNamed r
 blocks_named d c now p l (Ok r) q m b = tt
 blocks_named d c now p l (Err e) q m b = subst (λ x. x ≢ no.OutOfMemory) (sym b.1) (λ h. cc)
@@ -41,6 +43,7 @@ none_named e h = absurd (let no : ⊥ = cc in no)
 retire_named : (s : LobbyEntry) (e : Refusal) → retire_refusal s ≡ Some e → e ≢ no.OutOfMemory
 retire_named s e h = first_named (is_absent s) no.NoTask e _ (λ h. cc) (first_named (is_away s) no.NotBlocked e None (λ h. cc) (none_named e)) h
 
+-- no task is refused to be retired for want of memory
 pub retires_named : (id : ℕ) (l : List LobbyEntry) (r : Result Reply Refusal) (m : List LobbyEntry) → Retires id l r m → IsNamed r
 retires_named id l (Ok r) m a = tt
 retires_named id l (Err e) m a = retire_named (slice_index_or l id Absent) e a.0
@@ -49,10 +52,12 @@ begin_named : (s : LobbyEntry) (hand : Option Carried) (e : Refusal) → begin_r
 begin_named s hand e h =
     first_named (is_absent s) no.NoTask e _ (λ h. cc) (first_named (is_away s) no.NotBlocked e _ (λ h. cc) (first_named (is_some hand) no.InHand e None (λ h. cc) (none_named e))) h
 
+-- no wake is refused to begin for want of memory
 pub begins_named : (id : ℕ) (loads : List ℕ) (p : Processor) (l : List LobbyEntry) (r : Result Reply Refusal) (q : Processor) (m : List LobbyEntry) → Begins id loads p l r q m → IsNamed r
 begins_named id loads p l (Ok r) q m b = tt
 begins_named id loads p l (Err e) q m b = begin_named (slice_index_or l id Absent) p.hand e b.0
 
+-- no policy is refused to be installed for want of memory
 pub installs_named : (h : Hook) (drawn : ℕ) (p : Processor) (new : Attached) (r : Result Reply Refusal) (q : Processor) → Installs h drawn p new r q → IsNamed r
 installs_named h drawn p new (Ok r) q i = tt
 installs_named h drawn p new (Err e) q i =

@@ -58,6 +58,7 @@ no_lobby : (l : _) (c n : ℕ) → count (same_part (part.Lobby l)) (cpus_from c
 no_lobby l c zero = refl
 no_lobby l c (suc n) = let h = no_lobby l (c + 1) n in omega arith
 
+-- each part stands at most once among the first ones
 pub once : (n : ℕ) (x : Part) → count (same_part x) (first_parts n) ≤ 1
 once n (part.Cpu d r) =
     let a = count-append (same_part (part.Cpu d r)) (cpus_from 0 n) (inboxes_from 0 n) in
@@ -89,6 +90,7 @@ inboxes_there : (all c n : ℕ) → c + n ≡ all → Each (HasPart (opening_wor
 inboxes_there all c zero e = tt
 inboxes_there all c (suc n) e = ((rw length-replicate (omega arith), all_same [] all c), inboxes_there all (c + 1) n (omega arith))
 
+-- each of the first parts is one that the opening world has
 pub parts_there : (n : ℕ) → Each (HasPart (opening_world n)) (first_parts n)
 parts_there n = (refl, each-append (HasPart (opening_world n)) (cpus_from 0 n) (inboxes_from 0 n) (cpus_there n 0 n (omega arith)) (inboxes_there n 0 n (omega arith)))
 
@@ -96,9 +98,11 @@ parts_there n = (refl, each-append (HasPart (opening_world n)) (cpus_from 0 n) (
 more : (i n : ℕ) → i < n → n - i ≡ suc (n - (i + 1))
 more i n b = omega arith
 
+-- of the processors' items that are left the next comes first, and then the others
 pub cpu_turn : (i n : ℕ) (rest : List ItemOf) → i < n → cpu_items i (n - i) ++ rest ≡ part_item (part.Cpu i opening) ∷ (cpu_items (i + 1) (n - (i + 1)) ++ rest)
 cpu_turn i n rest b = ap (λ (k : ℕ). cpu_items i k ++ rest) (more i n b)
 
+-- of the inboxes' items that are left the next comes first, and then the others
 pub inbox_turn : (i n : ℕ) (rest : List ItemOf) → i < n → inbox_items i (n - i) ++ rest ≡ part_item (part.Inbox i []) ∷ (inbox_items (i + 1) (n - (i + 1)) ++ rest)
 inbox_turn i n rest b = ap (λ (k : ℕ). inbox_items i k ++ rest) (more i n b)
 
@@ -111,5 +115,6 @@ inboxes_next : (c n : ℕ) (rest : List ItemOf) → map part_item (inboxes_from 
 inboxes_next c zero rest = refl
 inboxes_next c (suc n) rest = ap (λ ys. part_item (part.Inbox c []) ∷ ys) (inboxes_next (c + 1) n rest)
 
+-- the items of processors and inboxes are those of all processors, and then those of all inboxes
 pub in_order : (n : ℕ) (rest : List ItemOf) → map part_item (cpus_from 0 n ++ inboxes_from 0 n) ++ rest ≡ cpu_items 0 n ++ (inbox_items 0 n ++ rest)
 in_order n rest = cpus_first 0 n (inboxes_from 0 n) rest ∙ ap (λ ys. cpu_items 0 n ++ ys) (inboxes_next 0 n rest)

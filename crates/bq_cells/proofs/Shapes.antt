@@ -23,10 +23,11 @@ same_self (part.Lobby l) = refl
 apart : (d c : ℕ) → cond {A = ℕ} (eqb d c) 1 0 ≡ 0 → d ≢ c
 apart d c none e = let one : cond {A = ℕ} (eqb d c) 1 0 ≡ 1 = ap (λ (b : Bool). cond {A = ℕ} b 1 0) (eq-eqb d c e) in omega arith
 
--- a processor that was written, and another one
+-- a processor that was written is there, and is what was written
 pub written : (w : World) (c : ℕ) (q : Processor) → c < count_in w → (c < count_in (with_processor w c q)) × (processor (with_processor w c q) c ≡ q)
 written w c q l = (rw length-set l, get_or-set_same w.processors c q opening l)
 
+-- where another processor was written, a processor is there as before
 pub unwritten : (w : World) (c d : ℕ) (q r : Processor) → d ≢ c → (d < count_in w) × (processor w d ≡ r) → (d < count_in (with_processor w c q)) × (processor (with_processor w c q) d ≡ r)
 unwritten w c d q r n f = (rw length-set f.0, get_or-set_other w.processors c d q opening n ∙ f.1)
 

@@ -44,6 +44,7 @@ wide_good : (maps : ℕ) (few : maps ≤ 8) (b : Bool) (dst value : ℕ) → is_
 wide_good maps few false dst value e r fits = (r, fits)
 wide_good maps few true dst value e r fits = let there = (refers maps value e).there in (r, omega (arith, ints, there, few))
 
+-- the copy of an instruction in range, whose jump fits 16 bits, is in range
 pub copied_good : (maps : ℕ) → maps ≤ 8 → (insn : Insn) (z : ℤ) → FitsSigned w16 z → is_insn insn ≡ true → Fits insn → (is_insn (copied maps insn z) ≡ true) × Fits (copied maps insn z)
 copied_good maps few (Goto off) z near good fits = (refl, near)
 copied_good maps few (Goto32 imm) z near good fits = (refl, omega (arith, ints, near))

@@ -30,6 +30,7 @@ pub record Refers (maps value : ℕ) : Type 0 where
   pub there : value - reference 0 < maps
   pub is : reference (value - reference 0) ≡ value
 
+-- a number that tests as a reference is that of a map which is there
 pub refers : (maps value : ℕ) → is_reference maps value ≡ true → Refers maps value
 refers maps value e =
     let both = true_and _ _ e in

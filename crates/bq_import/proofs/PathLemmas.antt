@@ -34,6 +34,7 @@ wide_shape : (b : Bool) (dst value : ℕ) (distance : ℤ) → HasShape (Imm64 d
 wide_shape true dst value distance = record { on = refl; long = refl; jumps = λ far e. absurd (none_some far e); stays = λ e. e }
 wide_shape false dst value distance = record { on = refl; long = refl; jumps = λ far e. absurd (none_some far e); stays = λ e. e }
 
+-- a copy goes on where its instruction does, is as long, and jumps where it jumps
 pub shape_of : (maps : ℕ) (insn : Insn) (distance : ℤ) → HasShape insn (copied maps insn distance) distance
 shape_of maps (Alu w op dst src) distance = plain (Alu w op dst src) distance refl
 shape_of maps (MovSx w bits dst src) distance = plain (MovSx w bits dst src) distance refl
@@ -158,6 +159,7 @@ module _ (maps : ℕ) (old new : List (Option Insn)) (origin : List ℕ) (copy :
       let same : at.original ≡ Exit = copied_exit maps at.original at.distance (some_same _ (copied maps at.original at.distance) Exit at.copy out.exits) in
       record { rest = there.rest; is_path = there.is_path; exits = at.here ∙ ap (λ (i : Insn). Some i) same; count_is = out.count_is ∙ ap suc there.long }
 
+-- the longest path of a copy has as many instructions as that of its original
 pub same_budget : SameBudget
 same_budget maps old new origin copy budget = (
   λ most. record { holds = out_ahead maps old new origin copy budget most.holds; bounds = λ n out. most.bounds n (out_behind maps old new origin copy n out) },
@@ -217,5 +219,6 @@ module _ (maps : ℕ) (old new : List (Option Insn)) (origin : List ℕ) (copy :
       let past = out.past in
       let no : ⊥ = omega (arith, inside, past, is') in no
 
+-- a copy's jumps lead to later instructions, and none of its instructions goes on past the end
 pub goes_forward : GoesForward
 goes_forward maps old new origin copy = (edge_later maps old new origin copy, no_bad_jump maps old new origin copy, none_runs_out maps old new origin copy)

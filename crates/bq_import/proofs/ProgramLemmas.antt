@@ -45,9 +45,11 @@ limits : (b : Bool) (n : ℕ) → (b && (nat_le 1 n && nat_le n 4096)) ≡ true 
 limits true n h = (refl, grind (arith, nat_tests), grind (arith, nat_tests))
 limits false n h = absurd (let never : ⊥ = cc in never)
 
+-- a well-formed program has at most 4096 slots
 pub few_slots : (insns : List Insn) → is_well_formed insns ≡ true → length (spread insns) ≤ 4096
 few_slots insns whole = let n = (limits _ (slot_count insns) whole).2 in omega (arith, spread_long insns)
 
+-- a well-formed program has a slot
 pub some_slots : (insns : List Insn) → is_well_formed insns ≡ true → 0 < length (spread insns)
 some_slots insns whole = let n = (limits _ (slot_count insns) whole).1 in omega (arith, spread_long insns)
 
@@ -68,6 +70,7 @@ all_good (i ∷ rest) all fits zero insn here =
     subst (λ (k : Insn). (is_insn k ≡ true) × Fits k) (some_same _ i insn refl here) ((both (is_insn i) (list_all is_insn rest) all).0, fits.0)
 all_good (i ∷ rest) all fits (suc slot) insn here = gap_good (slots_of i - 1) (spread rest) (all_good rest (both (is_insn i) (list_all is_insn rest) all).1 fits.1) slot insn here
 
+-- the instructions of a well-formed program whose numbers fit are in range
 pub are_good : (insns : List Insn) → is_well_formed insns ≡ true → AllFit insns → AreGood (spread insns)
 are_good insns whole fits = all_good insns (limits _ (slot_count insns) whole).0 fits
 

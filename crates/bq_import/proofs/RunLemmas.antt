@@ -82,6 +82,7 @@ module _ (maps : ℕ) (old new : List (Option Insn)) (origin : List ℕ) (copy :
         let well = safe (moved t there.slot) there.chain in
         record { short = well.short; few = well.few; on = on_behind t there.slot there.stands well.on }
 
+-- a copy gives what its original gives, in as many steps and with the same calls
 pub same_runs : SameRuns
 same_runs maps old new origin copy f contents n calls answer after as_many =
     (runs_ahead maps old new origin copy f as_many contents n calls answer after, runs_behind maps old new origin copy f as_many contents n calls answer after)
@@ -101,6 +102,7 @@ setting_beside old new shapes context f p = record {
 its_own : (slots : List (Option Insn)) (f : Setting) → f.slots ≡ slots → f ≡ beside f slots
 its_own slots f e = ap (λ (v : List (Option Insn)). beside f v) e
 
+-- a copy is safe within a budget just where its original is
 pub same_safety : SameSafety
 same_safety maps old new origin copy shapes context budget as_many = (
   λ safe f contents setting have n calls t chain.
