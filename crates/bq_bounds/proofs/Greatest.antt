@@ -23,6 +23,7 @@ one_more c g past false e h =
     let lt : g.difference ≤ c.difference = grind (arith, nat_tests) in
     ((0, omega arith, refl), (omega arith, weaker g.difference c.difference past lt h.1))
 
+-- what is kept of some charges is one of them, and none has a greater difference
 pub keeps_the_greatest : KeepsTheGreatest
 keeps_the_greatest c [] = ((0, omega arith, refl), (omega arith, tt))
 keeps_the_greatest c (d ∷ past) = let g = greater (greatest_of past) d in one_more c g (d ∷ past) (leb c.difference g.difference) refl (keeps_the_greatest d past)

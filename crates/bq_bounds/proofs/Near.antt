@@ -22,6 +22,7 @@ use Rattle.bq_bounds.proofs.Passes.{ran_at}
 some_same : (a b : Task) → Some a ≡ Some b → a ≡ b
 some_same a b e = cc
 
+-- under CFS the task that runs stays near each one that waits
 pub cfs_stays_near : CfsStaysNear
 cfs_stays_near p nows j a b u distinct weight decides there runs =
     let q = stepped cfs p Decide in
@@ -55,19 +56,23 @@ mean_at p a v now nows e low ends =
     let P : Option Task → Type 0 = λ o. total_weight (present o p.queue) * v ≤ weighted_sum (present o p.queue) → v ≤ (after eevdf (record p { current = o }) (map Pass (now ∷ nows))).kept in
     subst P (sym e) (mean p.queue p.kept a p.last v now nows low ends)
 
--- a decision keeps the weights and the sum
+-- a decision keeps the weight of all that are present
 pub weight_stays : (p : Running) → total_weight (present_at (stepped eevdf p Decide)) ≡ total_weight (present_at p)
 weight_stays p = total_weight-sum (present_at (stepped eevdf p Decide)) ∙ sum_decided (λ (t : Task). t.weight) eevdf p.queue p.kept p.current p.last (own_preempt eevdf p.queue p.current) ∙ sym (total_weight-sum (present_at p))
 
+-- a decision keeps the weighted sum of all that are present
 pub sum_stays : (p : Running) → weighted_sum (present_at (stepped eevdf p Decide)) ≡ weighted_sum (present_at p)
 sum_stays p = weighted_sum-sum (present_at (stepped eevdf p Decide)) ∙ sum_decided (λ (t : Task). t.weight * t.v) eevdf p.queue p.kept p.current p.last (own_preempt eevdf p.queue p.current) ∙ sym (weighted_sum-sum (present_at p))
 
+-- a task that is eligible is at most at the mean
 pub at_most : (xs : List Task) (t : Task) → is_eligible xs t ≡ true → total_weight xs * t.v ≤ weighted_sum xs
 at_most xs t h = grind (arith, nat_tests)
 
+-- a place that is at most at the mean of a weight and a sum is so where both stay the same
 pub kept_at_most : (W W' M M' v : ℕ) → W' ≡ W → M' ≡ M → W * v ≤ M → W' * v ≤ M'
 kept_at_most W W' M M' v e f h = omega (arith, ap (λ n. n * v) e)
 
+-- under EEVDF the task that runs stays near the mean
 pub eevdf_stays_near : EevdfStaysNear
 eevdf_stays_near p now nows a u distinct weight ends decides runs =
     let q = stepped eevdf p Decide in

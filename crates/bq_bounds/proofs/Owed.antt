@@ -213,6 +213,7 @@ finish r a W q j b f low same law =
     let all : W * a ≡ weight_at q * a = ap (λ n. n * a) (sym same) in
     rw (mean_is j xs b f) (behind_by (weight_at q) (moment_at q) b.weight b.v a r (length xs - 2) o (leb (moment_at q / weight_at q) b.v) refl (omega arith) (omega arith) (rw all at law))
 
+-- under EEVDF, while none comes and none goes, no task is owed more than is allowed
 pub eevdf_owes_within : EevdfOwesWithin
 eevdf_owes_within r p ss j b s k d f =
     let w = well_formed p s in

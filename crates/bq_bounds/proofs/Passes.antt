@@ -48,6 +48,7 @@ ran d q kept a last (now ∷ nows) low =
       later = let more = rest.later in omega arith;
     }
 
+-- the current task of a processor still runs after some readings of the clock, and moved no more than these allow
 pub ran_at : (d : Discipline) (p : Running) (a : Task) (nows : List ℕ) → p.current ≡ Some a → 15 ≤ a.weight → Ran d p a nows
 ran_at d p a nows e low =
     let P : Option Task → Type 0 = λ o. Ran d (record p { current = o }) a nows in

@@ -76,6 +76,7 @@ unseen c rise g s l best t xs e low seen =
     let below = raised (min (at_most_owed g s) (2 ^ 64 - 1)) best.difference (most_owed z (t ∷ xs)) low most in
     ap (λ (k : Lags). record k { stretch = Some (decided_in c z) }) (owing_stays l best (most_owed z (t ∷ xs)) e below)
 
+-- where a stretch goes on and none can be owed more than the greatest, only the stretch and the count change
 pub taken_unseen : (c : Course) (rise : ℕ) (g : Glance) (s : Stretch) (l : Lags) (best : Charge) (xs : List Task) → (c ≡ Breaks → ⊥) → l.greatest ≡ Some best → min (at_most_owed g s) (2 ^ 64 - 1) ≤ best.difference → IsGlance g (Some s) xs →
     lags_by c (Some s) rise xs l ≡ record l { stretch = Some (decided_in c (stretched rise s)); measured = one_more l.measured }
 taken_unseen c rise g s l best [] goes e low seen = absurd seen

@@ -5,9 +5,11 @@ use Rattle.std.specs.Str.{bytes_eq}
 use Rattle.bq_one_run.specs.declared.fields.Width.{Width}
 use Rattle.bq_one_run.specs.Fields.{NamedField, row_named, row_of}
 
+-- a row as the code's table has it
 abbrev pub Row : Type 0
 Row = Bor (List ℕ) × ℕ × Width × ℕ × ℕ
 
+-- the first row of a name is the same in the code's table and in the definition's
 pub same_row : (rows : List Row) (name : List ℕ) → row_named (map row_of rows) name ≡ option_map row_of (find (λ (r : Row). bytes_eq r.0.now name) rows)
 same_row [] name = refl
 same_row (row ∷ rows) name = go (bytes_eq row.0.now name) (same_row rows name)

@@ -47,9 +47,11 @@ any_kept cpu r0 (x ∷ xs) d = go (eqb x.id r0) (can_use cpu x) refl refl (any_k
     go false true e k rest = rw e rest
     go false false e k rest = rest
 
+-- an id is among those of the tasks that may go to a processor just where the task of that id may go there
 pub any_movable : (cpu r0 : ℕ) (queue : List Task) → HasDistinctIds queue → list_any (names r0) (ids (movable_to cpu queue)) ≡ is_movable_to cpu r0 queue
 any_movable cpu r0 queue d = any_reverse r0 (filter (can_use cpu) queue) ∙ any_kept cpu r0 queue d
 
+-- the ids of the tasks fit 16 bits
 abbrev pub AreSmall : List Task → Type 0
 AreSmall xs = AllByRecursion (λ (t : Task). t.id < 2 ^ 16) xs
 

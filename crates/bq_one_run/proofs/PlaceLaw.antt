@@ -68,6 +68,7 @@ word_by_test : (b : Bool) → IsWordOn b (cond b Permitted NotPermitted)
 word_by_test true = refl
 word_by_test false = refl
 
+-- the word on a place is the rule's, if the context shows that processor or the whole machine
 pub place_is_rules : (limit : ℕ) (f : PlaceFacts) (r0 : ℕ) → limit ≤ 64 → (r0 < limit) ⊎ (f.processors ≤ limit) → IsWordOn (may_place f.processors f.task r0) (place_word (place_bytes_below limit f) r0)
 place_is_rules limit f r0 h t =
     let same : place_permits (place_bytes_below limit f) r0 ≡ may_place f.processors f.task r0 = permits_is limit f r0 h ∙ ap (λ b. b && allows f.task.mask r0) (tells_of limit f.processors r0 t) in
@@ -90,5 +91,6 @@ place_permitted limit f r0 h e =
     let below : r0 < limit = grind (arith, nat_tests) in
     subst (IsWordOn (may_place f.processors f.task r0)) e (place_is_rules limit f r0 h (inl below))
 
+-- the word on a preemption is the rule's
 pub preempt_is_rules : (r0 : ℕ) → IsWordOn (may_preempt r0) (preempt_word r0)
 preempt_is_rules r0 = word_by_test (may_preempt r0)

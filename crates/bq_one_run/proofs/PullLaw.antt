@@ -110,6 +110,7 @@ word_is_rules false false false r0 xs n s h =
     let few : length xs ≤ 8 = grind (arith, nat_tests) in
     ap (list_any (λ id. id == r0)) (sym (take_all 8 xs few)) ∙ s
 
+-- the word on a pull is the rule's, or that the task is not shown
 pub pull_is_rules : (queue : List Task) (f : PullFacts) (r0 : ℕ) → IsPullFrom queue f → IsWordOn (may_pull f.puller queue r0) (pull_word (pull_bytes f) r0)
 pull_is_rules queue f r0 h =
     let small : AreSmall f.movable = subst AreSmall (sym h.movable) (movable_small f.puller queue h.small) in
@@ -126,6 +127,7 @@ is_not_shown false true hides h = cc
 is_not_shown false false true h = refl
 is_not_shown false false false h = cc
 
+-- a task is said not to be shown only where more than eight may go
 pub not_shown : (queue : List Task) (f : PullFacts) (r0 : ℕ) → IsPullFrom queue f → pull_word (pull_bytes f) r0 ≡ NotShown → 8 < length f.movable
 not_shown queue f r0 h e =
     let hides : nat_lt (min (length f.movable) 8) (length f.movable) ≡ true = sym (hidden_are f h.few) ∙ is_not_shown (r0 == nobody) (shows_task (pull_bytes f) r0) (hides_tasks (pull_bytes f)) e in
