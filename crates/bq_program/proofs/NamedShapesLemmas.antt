@@ -36,6 +36,7 @@ next_shape [] (s ∷ named) x rest h = (s, cc)
 next_shape (d ∷ done) [] x rest h = cc
 next_shape (d ∷ done) (s ∷ named) x rest h = next_shape done named x rest cc
 
+-- a text of which the next part is no shape names no shapes
 pub no_shape_next : (text rest part : List ℕ) (done : List MapShape) (others : List (List ℕ)) → Names text done rest → parts 44 rest ≡ part ∷ others
     → ((s : MapShape) → numbers_in part ≡ numbers_of s → ⊥) → NamesNoShapes text
 no_shape_next text rest part done others so_far here none shapes named =

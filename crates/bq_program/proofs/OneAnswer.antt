@@ -59,6 +59,7 @@ same_assembly form text x y p q =
     let bytes : p.bytes ≡ q.bytes = one_spelling form q.insns p.bytes q.bytes (subst (λ l. SpellsForm form l p.bytes) insns p.spells) q.spells in
     p.line ∙ ap (λ b. encode_lower b ++ codes "\n") bytes ∙ sym q.line
 
+-- in each form a text is either assembled or refused, and with one text
 pub one_assembly : OneAssembly
 one_assembly form text true true x y p q = (refl, same_assembly form text x y p q)
 one_assembly form text true false x y p q = absurd (assembled_or_refused form text x y p q)
@@ -85,6 +86,7 @@ one_hex_refusal text x y (inr p) (inr q) =
     p.5 ∙ ap (λ n. refusal (cause_and_place (codes "I") (dis_number p.3) n)) same.0
     ∙ ap (λ c. refusal (cause_and_place (codes "I") (dis_number c) q.2)) same.1 ∙ sym q.5
 
+-- a text is either listed or refused, and with one text
 pub one_listing : OneListing
 one_listing text true true x y p q =
     let bytes : spelling p.0 ≡ spelling q.0 = cc (p.1, q.1) in

@@ -56,21 +56,25 @@ number_from-large n word large =
 number_from-all : (word : List ℕ) → 0 < length word → number_of word ≡ number_from 0 word
 number_from-all word h = let e : ltb 0 (length word) ≡ true = grind (arith, nat_tests) in rw e refl
 
+-- a digit at a place of the word is taken in, and the bytes behind it are left
 pub number_step : (value i : ℕ) (word : List ℕ) → i < length word → digit_value (get_or word i 0) < 10
     → number_from value (drop i word) ≡ number_from (value * 10 + digit_value (get_or word i 0)) (drop (i + 1) word)
 number_step value i word h digit =
     ap (number_from value) (at_drop i word h) ∙ number_from-digit value (get_or word i 0) (drop (i + 1) word) digit
 
+-- a word with a byte that is no digit is no number
 pub number_stops : (value i : ℕ) (word : List ℕ) → number_from 0 word ≡ number_from value (drop i word) → i < length word → 10 ≤ digit_value (get_or word i 0) → number_of word ≡ None
 number_stops value i word so_far h other =
     number_from-all word (omega arith) ∙ so_far ∙ ap (number_from value) (at_drop i word h) ∙ number_from-other value (get_or word i 0) (drop (i + 1) word) other
 
+-- a word of which the first digits are too large for 16 bits is no number
 pub number_too_large : (value i : ℕ) (word : List ℕ) → number_from 0 word ≡ number_from value (drop i word) → i < length word → digit_value (get_or word i 0) < 10
     → 2 ^ 16 ≤ value * 10 + digit_value (get_or word i 0) → number_of word ≡ None
 number_too_large value i word so_far h digit large =
     number_from-all word (omega arith) ∙ so_far ∙ number_step value i word h digit
     ∙ number_from-large (value * 10 + digit_value (get_or word i 0)) (drop (i + 1) word) large
 
+-- a word of which all digits were taken in is what they came to
 pub number_whole : (value i : ℕ) (word : List ℕ) → number_from 0 word ≡ number_from value (drop i word) → 0 < length word → length word ≤ i → value < 2 ^ 16 → number_of word ≡ Some value
 number_whole value i word so_far some end fits =
     number_from-all word some ∙ so_far ∙ ap (number_from value) (drop_all i word end) ∙ whole

@@ -14,9 +14,11 @@ abbrev pub number_from : ℕ → ℕ → List ℕ → Option ℕ
 number_from base n word =
     cond (list_all (λ c. ltb (digit_value c) base) word && ltb (digits_value_after base n word) (2 ^ 64)) (Some (digits_value_after base n word)) None
 
+-- a digit counts behind what came before it
 pub number_from-digit : (base n c : ℕ) (word : List ℕ) → digit_value c < base → number_from base n (c ∷ word) ≡ number_from base (n * base + digit_value c) word
 number_from-digit base n c word h = let e : ltb (digit_value c) base ≡ true = grind (arith, nat_tests) in rw e refl
 
+-- a byte that is no digit leaves no number
 pub number_from-other : (base n c : ℕ) (word : List ℕ) → base ≤ digit_value c → number_from base n (c ∷ word) ≡ None
 number_from-other base n c word h = let e : ltb (digit_value c) base ≡ false = grind (arith, nat_tests) in rw e refl
 
@@ -28,6 +30,7 @@ grows base n (c ∷ word) h =
     let product = mul-le-mul_left n h in
     omega arith
 
+-- what is too large for 64 bits is no number, whatever follows
 pub number_from-large : (base n : ℕ) (word : List ℕ) → 1 ≤ base → 2 ^ 64 ≤ n → number_from base n word ≡ None
 number_from-large base n word h large =
     let more = grows base n word h in
@@ -38,27 +41,32 @@ number_from-large base n word h large =
     none_of true = refl
     none_of false = refl
 
+-- the number of a word is what its bytes write after 0
 pub number_from-all : (base : ℕ) (word : List ℕ) → 0 < length word → number_of base word ≡ number_from base 0 word
 number_from-all base word h = let e : ltb 0 (length word) ≡ true = grind (arith, nat_tests) in rw e refl
 
 at_drop : (i : ℕ) (word : List ℕ) → i < length word → drop i word ≡ get_or word i 0 ∷ drop (i + 1) word
 at_drop i word h = drop-cons word i 0 h ∙ ap (λ k. get_or word i 0 ∷ drop k word) (sym (add-one i))
 
+-- a digit at a place of the word is taken in, and the bytes behind it are left
 pub number_step : (base value i : ℕ) (word : List ℕ) → i < length word → digit_value (get_or word i 0) < base
     → number_from base value (drop i word) ≡ number_from base (value * base + digit_value (get_or word i 0)) (drop (i + 1) word)
 number_step base value i word h digit =
     ap (number_from base value) (at_drop i word h) ∙ number_from-digit base value (get_or word i 0) (drop (i + 1) word) digit
 
+-- a word with a byte that is no digit is no number
 pub number_stops : (base value i : ℕ) (word : List ℕ) → number_from base 0 word ≡ number_from base value (drop i word) → i < length word → base ≤ digit_value (get_or word i 0) → number_of base word ≡ None
 number_stops base value i word so_far h other =
     number_from-all base word (omega arith) ∙ so_far ∙ ap (number_from base value) (at_drop i word h) ∙ number_from-other base value (get_or word i 0) (drop (i + 1) word) other
 
+-- a word of which the first digits are too large for 64 bits is no number
 pub number_too_large : (base value i : ℕ) (word : List ℕ) → number_from base 0 word ≡ number_from base value (drop i word) → i < length word → digit_value (get_or word i 0) < base
     → 2 ^ 64 ≤ value * base + digit_value (get_or word i 0) → number_of base word ≡ None
 number_too_large base value i word so_far h digit large =
     number_from-all base word (omega arith) ∙ so_far ∙ number_step base value i word h digit
     ∙ number_from-large base (value * base + digit_value (get_or word i 0)) (drop (i + 1) word) (omega arith) large
 
+-- a word of which all digits were taken in is what they came to
 pub number_whole : (base value i : ℕ) (word : List ℕ) → number_from base 0 word ≡ number_from base value (drop i word) → 0 < length word → length word ≤ i → value < 2 ^ 64 → number_of base word ≡ Some value
 number_whole base value i word so_far some end fits =
     number_from-all base word some ∙ so_far ∙ ap (number_from base value) (drop_all i word end) ∙ whole
