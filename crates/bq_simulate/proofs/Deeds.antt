@@ -72,6 +72,7 @@ Lived-weaker takes kinds A B weaker x y s t goes drawn had =
     let h = goes drawn had in
     record { deeds = h.deeds; after = h.after; pace = h.pace; seed = h.seed; streams = h.streams; tells = h.tells; are = weaker h.deeds h.are }
 
+-- what holds of its events holds in other words
 pub Befell-weaker : {S : Type 0} (takes : S → ℕ → News → S → Type 0) (A B : List Deed → Type 0) → ((xs : List Deed) → A xs → B xs) → (x y : S) (s t : Simulation) → Befell takes A x s y t → Befell takes B x s y t
 Befell-weaker takes A B weaker x y s t befell kinds = Lived-weaker takes kinds A B weaker x y s t (befell kinds)
 
@@ -106,6 +107,7 @@ pub Lived-after : {S : Type 0} (takes : S → ℕ → News → S → Type 0) (ki
 Lived-after takes kinds A x y s t u same more =
     Lived-join takes kinds AreNone A A (λ xs ys none are. subst (λ (l : List Deed). A (l ++ ys)) (sym none) are) x x y s t u (Lived-same takes AreNone refl x s t same kinds) more
 
+-- what befell after nothing was done befell from before it
 pub Befell-after : {S : Type 0} (takes : S → ℕ → News → S → Type 0) (A : List Deed → Type 0) (x y : S) (s t u : Simulation) → Same s t → Befell takes A x t y u → Befell takes A x s y u
 Befell-after takes A x y s t u same more kinds = Lived-after takes kinds A x y s t u same (more kinds)
 
@@ -122,6 +124,7 @@ Opening-join takes kinds = Lived-join takes kinds AreOfOpening AreOfOpening AreO
 pub Follow-same : {S : Type 0} (takes : S → ℕ → News → S → Type 0) (a b : Option Action) (processor now : ℕ) (x y : S) (s t : Simulation) → a ≡ b → Befell takes (Follow b processor now) x s y t → Befell takes (Follow a processor now) x s y t
 Follow-same takes a b processor now x y s t is befell = subst (λ (o : Option Action). Befell takes (Follow o processor now) x s y t) (sym is) befell
 
+-- where twice nothing was done, nothing was done
 pub Same-join : (s t u : Simulation) → Same s t → Same t u → Same s u
 Same-join s t u first more = record {
   driver = more.driver ∙ first.driver;
@@ -129,6 +132,7 @@ Same-join s t u first more = record {
   stays = record { pace = more.stays.pace ∙ first.stays.pace; seed = more.stays.seed ∙ first.stays.seed; streams = more.stays.streams ∙ first.stays.streams };
 }
 
+-- in one simulation nothing was done
 pub Same-here : (s : Simulation) → Same s s
 Same-here s = record { driver = refl; accounts = refl; stays = record { pace = refl; seed = refl; streams = refl } }
 
@@ -136,6 +140,7 @@ Same-here s = record { driver = refl; accounts = refl; stays = record { pace = r
 abbrev pub both : List Course → List Lane → Accounts
 both cs ls = record { courses = cs; lanes = ls }
 
+-- accounts of equal courses and equal lanes are equal
 pub same_accounts : (cs ds : List Course) (ls ms : List Lane) → cs ≡ ds → ls ≡ ms → both cs ls ≡ both ds ms
 same_accounts cs ds ls ms e f = ap (λ x. both x ls) e ∙ ap (both ds) f
 

@@ -73,10 +73,11 @@ same_tick end processor a b same =
     let tick : ℕ → Event = λ c. Tick c end in
     ap (λ (o : Option Lane). map tick (cond (option_map_or (λ (lane : Lane). is_some lane.run) o false) (processor ∷ []) [])) same
 
--- one that runs something ticks, and no other
+-- a processor that runs something ticks at the end
 pub busy_tick : (end processor : ℕ) (a : Accounts) → is_busy a processor ≡ true → last_ticks end (processor ∷ []) a ≡ Tick processor end ∷ []
 busy_tick end processor a busy = ap (λ b. map (λ c. Tick c end) (cond b (processor ∷ []) [])) busy
 
+-- a processor that runs nothing doesn't tick at the end
 pub idle_tick : (end processor : ℕ) (a : Accounts) → is_busy a processor ≡ false → last_ticks end (processor ∷ []) a ≡ []
 idle_tick end processor a idle = ap (λ b. map (λ c. Tick c end) (cond b (processor ∷ []) [])) idle
 

@@ -76,6 +76,7 @@ drew task asked s length t d drawn had =
       seed = d.seed;
     }
 
+-- where a length is drawn if one is asked for, it is the next of that task's stream, and nothing else changes
 pub gave : (task : ℕ) (asked : Option Length) (s : Simulation) (length : ℕ) (t : Simulation) → DrawsFor task asked s length t → (drawn : List ℕ) → HasDrawn s drawn → Gave task asked s drawn length t
 gave task None s length t h drawn had = record {
   value = h.0;

@@ -9,6 +9,7 @@ use Rattle.bq_trace.specs.News.{News, Told, Gets, Skipped}
 use Rattle.bq_trace.proofs.TakingLemmas.{TakesAll-append}
 use Rattle.bq_study.specs.Traces.{AreNames, NamesTask, skipped}
 
+-- where nothing is told no task is named
 pub no_names : AreNames []
 no_names = record { lines = []; tells = refl; named = tt; utf8 = tt }
 
@@ -39,5 +40,6 @@ names_lines images [] h = refl
 names_lines images (line ∷ lines) h =
     ap (λ b. cond b (line ∷ []) [] ++ told_lines images (map skipped lines)) (is_utf8-from_IsUtf8 line h.0) ∙ ap (λ l. line ∷ l) (names_lines images lines h.1)
 
+-- the lines that tell the comments which name tasks are these comments
 pub lines_named : (images : ByHook) (told : Told) (h : AreNames told) → told_lines images told ≡ h.lines
 lines_named images told h = ap (told_lines images) h.tells ∙ names_lines images h.lines h.utf8

@@ -34,6 +34,7 @@ trace_written none named whole w images empty same g h =
           ∙ ap (λ (at : ByHook). with_feeds (g.holds.lines ++ told_lines at h.told)) as_images;
     }
 
+-- the text that tells a simulation is answered by the answers that it got, and leaves the same machine
 pub traces_are_replayed : TracesAreReplayed
 traces_are_replayed w images text t names from =
     let s = t.simulation in
