@@ -88,7 +88,7 @@ kept_gives shapes context_length view dst src off at slot k finds single here th
       kept_word f.shapes k s slot keeps,
     )
 
--- a load of a whole slot whose word is known gives that word, in the register and in its place
+-- a load of a slot whose word is known gives a word as known, the one that stands there
 pub kept_load : (shapes : List MapShape) (context_length : ℕ) (view : AbstractState) (size : Size) (signed : Bool) (dst src : ℕ) (off : ℤ) (kind : Kind) (at : Range) (k : AbstractValue) → FindsPlace shapes context_length view src off size kind at → (kind ≡ Stack) × (size ≡ Double) × (signed ≡ false) × (at.lo ≡ at.hi) × (slot : ℕ) × (slot < 64) × (at.lo ≡ 8 * slot) × (slice_index_or view.kept slot None ≡ Some k) → dst < 10 → (f : Setting) (s : State) → Suits shapes context_length f → Contains f view s → (n : ℕ) × Does f (Load size signed dst src off) s (put s 1 dst n) × Describes f.shapes k n × ((place : ℕ) → at.lo ≡ 8 * place → HasWord s (11 + place) n)
 kept_load shapes context_length view size signed dst src off kind at k finds (stack, double, plain, single, slot, inside, here, there) target f s suits covers =
     let finds' : FindsPlace shapes context_length view src off Double Stack at = subst (λ (z : Size). FindsPlace shapes context_length view src off z Stack at) double (subst (λ (x : Kind). FindsPlace shapes context_length view src off size x at) stack finds) in

@@ -24,11 +24,11 @@ pub sum_is : (x y : ℕ) → alu_result W64 Add x y ≡ (x + y) % 2 ^ 64
 unfolding operate
 sum_is x y = let e : alu_result W64 Add x y ≡ (x % 2 ^ 64 + y % 2 ^ 64) % 2 ^ 64 = refl in omega (arith, e)
 
--- a pointer into the stack and a distance, where both places are on the stack
+-- the sum of an offset into the stack and a distance that leads into it is the place
 pub moved_is : (base at : ℕ) (off : ℤ) → base ≤ 512 → at ≤ 512 → pos at ≡ (pos base +ℤ off) → alu_result W64 Add base (word_of off) ≡ at
 moved_is base at off low high is = let e : (base + word_of off) % 2 ^ 64 ≡ at = omega (arith, ints) in sum_is base (word_of off) ∙ e
 
--- the offset of a pointer and that of an instruction, which fits 16 bits
+-- the sum of an offset and an instruction's own, which fits 16 bits, is the place
 pub place_is : (base at : ℕ) (off : ℤ) → SFits w16 off → at < 2 ^ 64 → pos at ≡ (pos base +ℤ off) → alu_result W64 Add base (word_of off) ≡ at
 place_is base at off fits small is = let e : (base + word_of off) % 2 ^ 64 ≡ at = omega (arith, ints) in sum_is base (word_of off) ∙ e
 
