@@ -9,6 +9,7 @@ use Rattle.bq_agenda.specs.Minima.{IsLess, HasMinima, HasPlaces, IsFirst, AreNev
 pub below-half : (k : ℕ) → (k ≡ 2 * (k / 2)) ⊎ (k ≡ 2 * (k / 2) + 1)
 below-half k = elim (cases_lt (2 * (k / 2)) k) [ inl more ↦ inr (omega arith) | inr same ↦ inl (omega arith) ]
 
+-- a number that is less than or equal to the two below it is so to each of them
 pub less-below : (xs : List ℕ) (h k : ℕ) → IsLess xs h → (k ≡ 2 * h) ⊎ (k ≡ 2 * h + 1) → get_or xs h 0 ≤ get_or xs k 0
 less-below xs h k less (inl even) = let same : get_or xs k 0 ≡ get_or xs (2 * h) 0 = ap (λ i. get_or xs i 0) even in omega (arith, less, same)
 less-below xs h k less (inr odd) = let same : get_or xs k 0 ≡ get_or xs (2 * h + 1) 0 = ap (λ i. get_or xs i 0) odd in omega (arith, less, same)
@@ -48,10 +49,11 @@ leaf-of (suc n) k xs m h low high =
       | inr leaf ↦ (k - 2048, omega arith, ap (λ i. get_or xs i 0) (let e : 2048 + (k - 2048) ≡ k = omega arith in e))
     ]
 
--- where all numbers are alike each is less than or equal to the two below it
+-- where all numbers are never due each of them is
 pub all-never : (xs : List ℕ) → xs ≡ replicate 4096 never → (k : ℕ) → k < 4096 → get_or xs k 0 ≡ never
 all-never xs is k h = rw is (get_or-replicate 4096 k never 0 h)
 
+-- where all numbers are never due each is less than or equal to the two below it
 pub never-minima : (xs : List ℕ) → xs ≡ replicate 4096 never → HasMinima xs
 never-minima xs is k low high =
     let here : get_or xs k 0 ≡ never = all-never xs is k (omega arith) in
@@ -59,15 +61,17 @@ never-minima xs is k low high =
     let right : get_or xs (2 * k + 1) 0 ≡ never = all-never xs is (2 * k + 1) (omega arith) in
     omega (arith, here, left, right)
 
+-- where all numbers are never due no place is due
 pub never-places : (xs : List ℕ) → xs ≡ replicate 4096 never → AreNever xs
 never-places xs is place h = all-never xs is (2048 + place) (omega arith)
 
--- what the root says
+-- where the root is never due no place is
 pub nothing-due : (xs : List ℕ) → HasMinima xs → HasPlaces xs → get_or xs 1 0 ≡ never → AreNever xs
 nothing-due xs m places root place h =
     let up : get_or xs 1 0 ≤ get_or xs (2048 + place) 0 = root-bounds 4096 (2048 + place) xs m (omega arith) (omega arith) (omega arith) in
     elim (places place h) [ inl none ↦ none | inr (seat, small) ↦ absurd (omega (arith, up, root, small)) ]
 
+-- where the root is due, it has the time and the place of what is due first
 pub first-due : (xs : List ℕ) → HasMinima xs → HasPlaces xs → get_or xs 1 0 ≢ never → IsFirst xs (get_or xs 1 0 / 2048) (get_or xs 1 0 % 2048)
 first-due xs m places due =
     let leaf : (place : ℕ) × (place < 2048) × (get_or xs (2048 + place) 0 ≡ get_or xs 1 0) = leaf-of 4096 1 xs m (omega arith) (omega arith) (omega arith) in

@@ -12,6 +12,7 @@ current_begins : (V : ℕ) (o : Option Task) (q : List Task) → All (λ t. t.v 
 current_begins V None q h = tt
 current_begins V (Some t) q h = omega (arith, All-head (λ (s : Task). s.v ≤ V) t q h, bound-least V (t ∷ q))
 
+-- where no task present is beyond V, the processor is within V, by whatever the clock rises
 pub begins_within : BeginsWithin
 begins_within V d p h = record {
   current = current_begins V p.current p.queue h;

@@ -24,5 +24,6 @@ first_in id (e ∷ entries) = go (bytes_eq e.0.now id) (first_in id entries)
     go true more = slice_get-map (λ s. s.now) e.1.vals.items 0
     go false more = more
 
+-- the first value of an option is the same among the rows as among what the parse found
 pub first_value_is : (f : Found) (id : List ℕ) → first_of id (rows_of f) ≡ first_value f id
 first_value_is f id = first_in id f.entries.items

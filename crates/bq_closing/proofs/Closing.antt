@@ -107,6 +107,7 @@ module _ {A B : Type 0} (s : List LobbyEntry) (xs : List A) (ys : List B) (at : 
 pub parts_are : (v : List ItemOf) (ps : List Part) → v ≡ map part_item ps → parts_of v ≡ ps
 parts_are v ps is = ap (λ (l : List ItemOf). parts_of l) is ∙ parts_back ps
 
+-- where all items are those of parts, they are the items of the parts that they hold
 pub only_parts : (v : List ItemOf) (ps : List Part) → v ≡ map part_item ps → v ≡ map part_item (parts_of v)
 only_parts v ps is = is ∙ ap (λ (l : List Part). map part_item l) (sym (parts_are v ps is))
 

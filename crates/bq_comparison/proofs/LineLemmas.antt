@@ -6,6 +6,7 @@ use Rattle.bq_figures.specs.declared.summing.Row.{Row}
 use Rattle.bq_comparison.specs.declared.line.Line.{Line}
 use Rattle.bq_comparison.specs.Lines.{Selects, beside, row_at}
 
+-- a line more at the end that is shown is selected too
 pub Selects-take : (P : Line → Type 0) (xs ys : List Line) (x : Line) → Selects P xs ys → P x → Selects P (xs ++ x ∷ []) (ys ++ x ∷ [])
 Selects-take P [] ys x h shown = inl (shown, ([], ap (λ l. l ++ x ∷ []) h, refl))
 Selects-take P (z ∷ zs) ys x h shown =
@@ -14,6 +15,7 @@ Selects-take P (z ∷ zs) ys x h shown =
       | inr b ↦ inr (b.0, Selects-take P zs ys x b.1 shown)
     ]
 
+-- a line more at the end that is not shown is left out
 pub Selects-leave : (P : Line → Type 0) (xs ys : List Line) (x : Line) → Selects P xs ys → ¬ P x → Selects P (xs ++ x ∷ []) ys
 Selects-leave P [] ys x h hidden = inr (hidden, h)
 Selects-leave P (z ∷ zs) ys x h hidden =
@@ -22,6 +24,7 @@ Selects-leave P (z ∷ zs) ys x h hidden =
       | inr b ↦ inr (b.0, Selects-leave P zs ys x b.1 hidden)
     ]
 
+-- a row more at the end stands beside the one at its place
 pub beside-more : (place : ℕ) (rows : List Row) (row : Row) (theirs : Option (Vec Row Global))
     → beside place (rows ++ row ∷ []) theirs ≡ beside place rows theirs ++ record { ours = row; theirs = row_at theirs (place + length rows) } ∷ []
 beside-more place [] row theirs = grind (arith, common_steps)

@@ -6,6 +6,7 @@ use Rattle.bq_trace.specs.News.{News, Told, TakesAll, Gets}
 use Rattle.bq_driver.specs.declared.driver.Driver.{Driver}
 use Rattle.bq_driver.specs.Drives.{Does, Drives, Drove, Went}
 
+-- a sink that takes some news and then others takes them all
 pub TakesAll-append : {S : Type 0} (takes : S → ℕ → News → S → Type 0) (a b c : S) (xs ys : Told) → TakesAll takes a xs b → TakesAll takes b ys c → TakesAll takes a (xs ++ ys) c
 TakesAll-append takes a b c [] ys h k = subst (λ s. TakesAll takes s ys c) h k
 TakesAll-append takes a b c ((n, x) ∷ xs) ys h k = (h.0, h.1, TakesAll-append takes h.0 b c xs ys h.2 k)
@@ -47,8 +48,10 @@ Drove-two takes a b c d m e x y reply first second = Drove-join takes a b c d m 
 pub Went-of : {S : Type 0} (takes : S → ℕ → News → S → Type 0) (a b : S) (d e : Driver) (xs : List Event) → Drove takes a d xs b e → Went takes a d b e
 Went-of takes a b d e xs drove = (xs, drove)
 
+-- where nothing was done a sink is told of no events
 pub Went-none : {S : Type 0} (takes : S → ℕ → News → S → Type 0) (s : S) (d e : Driver) → e ≡ d → Went takes s d s e
 Went-none takes s d e same = let P : Driver → Type 0 = λ x. Went takes s d s x in subst P (sym same) ([], Drove-none takes s d)
 
+-- a sink that is told of some events and then of others is told of some
 pub Went-join : {S : Type 0} (takes : S → ℕ → News → S → Type 0) (a b c : S) (d m e : Driver) → Went takes a d b m → Went takes b m c e → Went takes a d c e
 Went-join takes a b c d m e first second = (first.0 ++ second.0, Drove-join takes a b c d m e first.0 second.0 first.1 second.1)

@@ -10,6 +10,7 @@ use Rattle.bq_eevdf.specs.Eevdf.{is_eligible, eligible}
 use Rattle.bq_disc.proofs.MeanFacts.{least_at_most_mean}
 use Rattle.bq_eevdf.specs.Laws.{LeastIsEligible}
 
+-- of some tasks the one of least v is eligible
 pub least_is_eligible : LeastIsEligible
 least_is_eligible xs t c h = least_at_most_mean xs t h
 

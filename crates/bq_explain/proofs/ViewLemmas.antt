@@ -26,6 +26,7 @@ pub tells_slot : (f : Setting) (s : State) (before : List ℕ) (j : ℕ) (known 
 tells_slot f s before j None holds told = subst (λ (t : List ℕ). TellsKept f s t) (sym (append-nil before)) told
 tells_slot f s before j (Some k) (n, describes, bytes) told = one_kept f s before (known_text k) j n told bytes (says_known k f.shapes n describes)
 
+-- the lines of the words that a view keeps tell what the stack of each state of it has
 pub tells_kept : (f : Setting) (s : State) (v : AbstractState) → Contains f v s → (n : ℕ) → TellsKept f s (kept_below n v.kept)
 tells_kept f s v covers zero = no_kept f s
 tells_kept f s v covers (suc n) =
@@ -37,6 +38,7 @@ tells_runs s is (no_run set) = no_run_told s
 tells_runs s is (one_run set before first past rest some inside all) =
     one_run_told s before first past (tells_runs s is rest) some inside (λ i from to. is i (all i from to))
 
+-- the line of the bytes that a view knows to be set tells bytes that are set in each state of it
 pub tells_stack : (f : Setting) (s : State) (v : AbstractState) (text : List ℕ) → Contains f v s → IsStackText v.set text → TellsStack s text
 tells_stack f s v text covers (inl none) = inl none
 tells_stack f s v text covers (inr (runs, is, are)) =

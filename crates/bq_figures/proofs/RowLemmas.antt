@@ -5,6 +5,7 @@ use Rattle.bq_figures.specs.declared.runs.Run.{Run}
 use Rattle.bq_figures.specs.declared.summing.Row.{Row}
 use Rattle.bq_figures.specs.Rows.{AreRowsFrom, IsRow, numbers_at}
 
+-- rows of some figures and the row of one figure more are the rows of all
 pub AreRowsFrom-push : (place : ℕ) (runs : List Run) (figures : List Figure) (rows : List Row) (f : Figure) (row : Row)
     → AreRowsFrom place runs figures rows → IsRow f (numbers_at (place + length figures) runs) row → AreRowsFrom place runs (figures ++ f ∷ []) (rows ++ row ∷ [])
 AreRowsFrom-push place runs [] [] f row h more =

@@ -24,6 +24,7 @@ needs_quotes-digits (c ∷ cs) h =
 field_text-decimal : (n : ℕ) → n < 2 ^ 64 → field_text default_writer (decimal n) ≡ decimal n
 field_text-decimal n h = rw (needs_quotes-digits (decimal n) (digits_decimal (numerals_by_value _ tells_all_ascii_digits) n h)) refl
 
+-- a row of four numbers is written as these, a comma between each two, and a line feed behind
 pub row_text-decimals : (a b c d : ℕ) → a < 2 ^ 64 → b < 2 ^ 64 → c < 2 ^ 64 → d < 2 ^ 64
     → row_text default_writer (decimal a ∷ decimal b ∷ decimal c ∷ decimal d ∷ [])
     ≡ decimal a ++ (codes "," ++ (decimal b ++ (codes "," ++ (decimal c ++ (codes "," ++ (decimal d ++ codes "\n"))))))

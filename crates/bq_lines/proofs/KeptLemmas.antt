@@ -39,9 +39,11 @@ length-strip line = stripped (eqb (slice_index line (length line - 1)) 13)
     stripped true = grind (arith, common_steps)
     stripped false = omega arith
 
+-- of a line of which nothing is kept nothing is heard
 pub heard-unkept : (line : List ℕ) → StandsFor None line → heard line ≡ None
 heard-unkept line h = heard-long line (omega (arith, length_unkept line h))
 
+-- of a line of which nothing is kept nothing is heard without its carriage return either
 pub heard-strip_unkept : (line : List ℕ) → StandsFor None line → heard (strip_carriage_return line) ≡ None
 heard-strip_unkept line h = heard-long (strip_carriage_return line) (omega (arith, length_unkept line h, length-strip line))
 

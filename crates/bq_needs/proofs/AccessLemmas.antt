@@ -22,6 +22,7 @@ last_between lo hi d ordered fits small wraps = omega arith
 small_distance : (off : ℤ) → SFits w16 off → word_of off < 2 ^ 64
 small_distance off fits = omega (arith, ints)
 
+-- where the ends of a range are turned round, one of its words comes to the greatest that there is
 pub reaches_last : (off : ℤ) (offsets : Range) → SFits w16 off → address_of offsets.hi off < address_of offsets.lo off → ReachesLast off offsets
 reaches_last off offsets fits wraps =
     let last = last_between offsets.lo offsets.hi (word_of off) offsets.ordered offsets.fits (small_distance off fits) wraps in

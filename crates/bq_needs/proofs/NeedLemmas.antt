@@ -54,12 +54,14 @@ lacking_not_good p view insn a k why is known lacks good =
     let same : shown.0 ≡ k = same_known _ _ (sym shown.1 ∙ known) in
     lacks_not_shown p view a k why lacks (subst (λ (x : AbstractValue). IsShown p view a x) same shown.2)
 
+-- an access by a register of which nothing is known is not good
 pub unset_not_good : (p : Policy) (view : AbstractState) (insn : Insn) (a : Access) → access_of insn ≡ Some a → known_in view a.register ≡ None → ¬ (IsGoodAccess p view insn)
 unset_not_good p view insn a is unset good = let known = (good a is).1 in cc
 
 same_access : (a b : Access) → Some a ≡ Some b → a ≡ b
 same_access a b e = cc
 
+-- an access that is shown by what is known of its register is good
 pub shown_good : (p : Policy) (view : AbstractState) (insn : Insn) (a : Access) (k : AbstractValue) → access_of insn ≡ Some a → known_in view a.register ≡ Some k → IsShown p view a k → IsGoodAccess p view insn
 shown_good p view insn a k is known shown b other =
     let same : a ≡ b = same_access a b (sym is ∙ other) in
@@ -116,6 +118,7 @@ no_length (x ∷ l) none = absurd (omega arith)
 pub told_not_known : (view : AbstractState) (insn : Insn) (told : List ℕ) → told ≡ unset_below 11 view insn → told ≢ [] → ¬ (AreKnown view insn)
 told_not_known view insn told is some known = some (is ∙ none_below view insn 11 known)
 
+-- where no register is told, each that is read is known
 pub empty_known : (view : AbstractState) (insn : Insn) (told : List ℕ) → told ≡ unset_below 11 view insn → told ≡ [] → AreKnown view insn
 empty_known view insn told is none = all_known view insn 11 (sym is ∙ none)
 
@@ -161,6 +164,7 @@ one_wanted wanted.Read wanted.Update e = absurd (omega (arith, ints))
 one_wanted wanted.Read wanted.Add e = absurd (omega (arith, ints))
 one_wanted wanted.Read wanted.Read e = refl
 
+-- a helper whose arguments are given is given what it wants, as no other helper has its number
 pub gives_helper : (p : Policy) (view : AbstractState) (helper : ℤ) (w : Wanted) → helper ≡ helper_of w → AreGiven p view w → GivesHelper p view helper
 gives_helper p view helper w is given other same = subst (λ (x : Wanted). AreGiven p view x) (one_wanted w other (sym is ∙ same)) given
 

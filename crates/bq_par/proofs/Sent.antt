@@ -19,9 +19,11 @@ use Rattle.bq_eevdf.specs.contracts.discipline.EevdfDiscipline.TheImpl as eevdf
 cfs_tree_send : IsSend (Tree.the_row NoSums.the_row no_sums.ghosts)
 cfs_tree_send = search (crosses, knot.crosses, sendable) depth 60 fits 20000
 
+-- the type of a tree without sums
 abbrev pub cfs_tree : RattleType
 cfs_tree = Tree.the_row NoSums.the_row no_sums.ghosts
 
+-- the type of a queue under CFS
 abbrev pub cfs_queue : RattleType
 cfs_queue = Ruled.the_row cfs_tree Cfs.the_row (timeline.ghosts NoSums.the_row no_sums.ghosts timeline.no_dict) cfs.ghosts
 
@@ -32,9 +34,11 @@ cfs_queue_send = sent.the_send cfs_tree Cfs.the_row (timeline.ghosts NoSums.the_
 eevdf_tree_send : IsSend (Tree.the_row Sums.the_row sums.ghosts)
 eevdf_tree_send = search (crosses, knot.crosses, sendable) depth 60 fits 20000
 
+-- the type of a tree with sums
 abbrev pub eevdf_tree : RattleType
 eevdf_tree = Tree.the_row Sums.the_row sums.ghosts
 
+-- the type of a queue under EEVDF
 abbrev pub eevdf_queue : RattleType
 eevdf_queue = Ruled.the_row eevdf_tree Eevdf.the_row (timeline.ghosts Sums.the_row sums.ghosts timeline.no_dict) eevdf.ghosts
 

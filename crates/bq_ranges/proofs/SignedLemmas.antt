@@ -98,12 +98,14 @@ ends_meet w half c goes a b P (Some r) s u p q says ends = (at r.lo ends.0, at r
     at : (x : ℕ) → P x → Within a x × (compares w c x b ≡ goes)
     at x h = let here = says x h in (here.0, goes_signed w half c goes x b s (omega arith) q u here.1)
 
--- the signed order goes on from word to word
+-- a word that is at most another, by sign, is at most what that one is at most
 pub at_most_trans : (half a b c : ℕ) → IsSignedAtMost half a b → IsSignedAtMost half b c → IsSignedAtMost half a c
 at_most_trans half a b c p q = grind arith
 
+-- a word that is below another, by sign, is below what that one is at most
 pub below_at_most : (half a b c : ℕ) → IsSignedBelow half a b → IsSignedAtMost half b c → IsSignedBelow half a c
 below_at_most half a b c p q = grind arith
 
+-- a word that is at most another, by sign, is below what that one is below
 pub at_most_below : (half a b c : ℕ) → IsSignedAtMost half a b → IsSignedBelow half b c → IsSignedBelow half a c
 at_most_below half a b c p q = grind arith

@@ -164,11 +164,13 @@ same_numbers (Tick c now) h = h
 same_numbers (Block c now) h = h
 same_numbers (Pull c from now) h = h
 
+-- the lines that tell news and others behind are those of both, one after another
 pub told_lines-append : (images : ByHook) (xs ys : Told) → told_lines images (xs ++ ys) ≡ told_lines images xs ++ told_lines images ys
 told_lines-append images [] ys = refl
 told_lines-append images ((n, x) ∷ xs) ys =
     ap (λ l. news_lines images x ++ l) (told_lines-append images xs ys) ∙ sym (append_assoc (news_lines images x) (told_lines images xs) (told_lines images ys))
 
+-- of news that fit each of two parts fits
 pub AreFitting-parts : (xs ys : Told) → AreFitting (xs ++ ys) → AreFitting xs × AreFitting ys
 AreFitting-parts [] ys h = (tt, h)
 AreFitting-parts ((n, x) ∷ xs) ys h = let parts = AreFitting-parts xs ys h.1 in ((h.0, parts.0), parts.1)
@@ -223,6 +225,7 @@ comments_whole : (comments : List (List ℕ)) (ls : List (List ℕ)) → AllByRe
 comments_whole [] ls h k = k
 comments_whole (line ∷ comments) ls h k = (h.0.whole, comments_whole comments ls h.1 k)
 
+-- the lines that ask for events which were done are answered by the answers that these got
 pub texts_are_replayed : TextsAreReplayed
 texts_are_replayed images comments rule size d e events first more skipped starts drives from fits =
     let rest = goes images d e events more (one_more (skips comments 0 skipped).0) drives from fits in

@@ -37,6 +37,7 @@ writes_more images old mid new n x more h k = record {
   fits = (h.fits, k.fits);
 }
 
+-- what the text takes of one piece of news
 abbrev pub Takes : TraceText → ℕ → News → TraceText → Type 0
 Takes old n news new = (new.images ≡ old.images) × Writes (image_at old.images) (string_bytes old.text) news (string_bytes new.text)
 

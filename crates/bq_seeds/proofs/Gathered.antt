@@ -11,10 +11,12 @@ use Rattle.bq_seeds.specs.Gathering.{IsGathered, delays_after, delays_with, sche
 abbrev pub Takes : Gatherer → ℕ → News → Gatherer → Type 0
 Takes old n news new = (new.schedule ≡ schedule_with old.schedule news) × (new.delays.items ≡ old.delays.items ++ delays_with old.schedule news)
 
+-- the schedule of a gatherer that took some news is the one after them
 pub schedule-after : (old new : Gatherer) (told : Told) → TakesAll Takes old told new → new.schedule ≡ schedule_after old.schedule told
 schedule-after old new [] h = ap (λ (g : Gatherer). g.schedule) h
 schedule-after old new ((n, x) ∷ more) h = schedule-after h.0 new more h.2 ∙ ap (λ s. schedule_after s more) h.1.0
 
+-- the delays of a gatherer that took some news are the ones before and those of the news
 pub delays-after : (old new : Gatherer) (told : Told) → TakesAll Takes old told new → new.delays.items ≡ old.delays.items ++ delays_after old.schedule told
 delays-after old new [] h = ap (λ (g : Gatherer). g.delays.items) h ∙ sym (append-nil old.delays.items)
 delays-after old new ((n, x) ∷ more) h =

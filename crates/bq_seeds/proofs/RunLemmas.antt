@@ -17,6 +17,7 @@ ran w figures seed (x ∷ xs) h =
     subst (λ s. IfOk r (IsRun (with_seed w s) figures)) (omega arith) (h (suc i) r there) in
     (subst P (omega arith) (h zero (Ok x) refl), ran w figures (seed + 1) xs rest)
 
+-- runs with some seeds, and results with the seeds after them that are runs, are runs together
 pub AreRuns-append : (w : Workload) (figures : List Figure) (seed : ℕ) (runs more : List Run)
     → AreRuns w figures seed runs → AreResults w figures (seed + length runs) (map Ok more) → AreRuns w figures seed (runs ++ more)
 AreRuns-append w figures seed [] more h k =
@@ -34,6 +35,7 @@ pub Comes-more : (before after : List Run) (results : List (Result Run SimulateF
 Comes-more before after results run (more, ok, is) =
     (more ++ run ∷ [], ap (λ l. l ++ Ok run ∷ []) ok ∙ sym (map-append ended more (run ∷ [])), ap (λ l. l ++ run ∷ []) is ∙ append_assoc before more (run ∷ []))
 
+-- of no results nothing comes
 pub Comes-none : (before : List Run) → Comes before [] before
 Comes-none before = ([], refl, sym (append-nil before))
 

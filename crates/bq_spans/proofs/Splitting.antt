@@ -14,6 +14,7 @@ split_none (x ∷ xs) h = by (is_comma x) (split_none xs) h
     by true ih k = absurd (omega arith)
     by false ih k = ap (onto_first x) (ih (omega arith))
 
+-- a word without a comma is its only part
 pub split_nowhere : (xs : List ℕ) → None ≡ position is_comma xs → slice_split is_comma xs ≡ xs ∷ []
 split_nowhere xs e = split_none xs (long (nat_lt (position_or_len is_comma xs) (length xs)) refl e)
   where

@@ -30,24 +30,26 @@ ends-none (v ∷ []) h = refl
 ends-none (v ∷ w ∷ []) h = absurd (h refl)
 ends-none (v ∷ w ∷ x ∷ vs) h = refl
 
--- one more action of a list, and what is none
+-- the next value of a list is an action, and the others are read behind it
 pub actions-more : (names : List (String Global)) (acts : List Action) (vs : List Value) (i : ℕ) (v : Value) (a : Action) → i < length vs → v ≡ get_or vs i v → Some a ≡ action_of names (view v) → actions_of names acts (items_view (drop i vs)) ≡ actions_of names (acts ++ a ∷ []) (items_view (drop (i + 1) vs))
 actions-more names acts vs i v a h e f =
     ap (actions_of names acts) (items_view-drop vs i v h)
     ∙ ap (option_and_then (λ (b : Action). actions_of names (acts ++ b ∷ []) (items_view (drop (i + 1) vs)))) (ap (λ (w : Value). action_of names (view w)) (sym e) ∙ sym f)
 
+-- where the next value of a list is no action, the list is none
 pub actions-none : (names : List (String Global)) (acts : List Action) (vs : List Value) (i : ℕ) (v : Value) → i < length vs → v ≡ get_or vs i v → None ≡ action_of names (view v) → actions_of names acts (items_view (drop i vs)) ≡ None
 actions-none names acts vs i v h e f =
     ap (actions_of names acts) (items_view-drop vs i v h)
     ∙ ap (option_and_then (λ (b : Action). actions_of names (acts ++ b ∷ []) (items_view (drop (i + 1) vs)))) (ap (λ (w : Value). action_of names (view w)) (sym e) ∙ sym f)
 
--- one more kind, and one more name
+-- some values that are kinds of tasks, and one more, are the kinds and one more
 pub AreKinds-more : (names : List (String Global)) (all : ℕ) (vs : List Value) (ks : List TaskKind) (v : Value) (k : TaskKind) → AreKinds names all (items_view vs) ks → (ms : Members) → as_table (view v) ≡ Some ms → IsKind names all ms k → AreKinds names all (items_view (vs ++ v ∷ [])) (ks ++ k ∷ [])
 AreKinds-more names all [] [] v k h ms t d = ((ms, t, d), tt)
 AreKinds-more names all [] (l ∷ ks) v k h ms t d = absurd h
 AreKinds-more names all (w ∷ vs) [] v k h ms t d = absurd h
 AreKinds-more names all (w ∷ vs) (l ∷ ks) v k h ms t d = (h.0, AreKinds-more names all vs ks v k h.1 ms t d)
 
+-- some values that are names, and one more, are the names and one more
 pub AreNames-more : (vs : List Value) (ns : List (String Global)) (v : Value) (n : String Global) → AreNames (items_view vs) ns → name_in (view v) ≡ Some (string_bytes n) → AreNames (items_view (vs ++ v ∷ [])) (ns ++ n ∷ [])
 AreNames-more [] [] v n h e = (e, tt)
 AreNames-more [] (m ∷ ns) v n h e = absurd h
