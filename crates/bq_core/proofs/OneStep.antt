@@ -194,5 +194,6 @@ module _ (d : Discipline) where
   step_one w e calls calls' (Ok r) (Err r') u u' h k m m' alike = absurd (not_both _ r' h.0 (refused w e calls' r' u' k m'))
   step_one w e calls calls' (Err r) (Ok r') u u' h k m m' alike = absurd (not_both _ r k.0 (refused w e calls r u h m))
 
+-- two steps by one event from one world are one, where the counters answered alike and memory was not wanting
 pub step_is_one : StepIsOne
 step_is_one d = step_one d

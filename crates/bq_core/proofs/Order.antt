@@ -184,15 +184,18 @@ run_keeps s w (e ∷ es) o zero [] [] w' run = subst IsOrderly (sym run) o
 run_keeps s w (e ∷ es) o (suc n) (calls ∷ more) (a ∷ answers) w' run = run_keeps s run.0 es (step_keeps s w e calls a run.0 run.1 o) n more answers w' run.2
 run_keeps s w es o n calls answers w' run = absurd run
 
--- the laws as they are promised
+-- under every discipline each step keeps a world in order
 pub step_keeps_order : StepKeepsOrder
 step_keeps_order d = step_keeps (policies d)
 
+-- so does each step when a policy may answer anything at all
 pub step_keeps_order_anyhow : StepKeepsOrderAnyhow
 step_keeps_order_anyhow d = step_keeps (under_any_answers d)
 
+-- under every discipline events one after another keep a world in order, after each of them
 pub run_keeps_order : RunKeepsOrder
 run_keeps_order d = run_keeps (policies d)
 
+-- under every discipline each world that events leave of the opening one is in order
 pub history_is_orderly : HistoryIsOrderly
 history_is_orderly d n es = run_keeps (policies d) (opening_world n) es (opening_is_orderly n)

@@ -41,16 +41,18 @@ any_default [] i e d h = absurd (omega arith)
 any_default (x ∷ xs) zero e d h = refl
 any_default (x ∷ xs) (suc i) e d h = any_default xs i e d (omega arith)
 
--- what is read of the two parts
+-- the first of the two parts has at a place below the cut what the whole list has there
 pub at_low : {X : Type 0} (xs ys : List X) (i k j m : ℕ) (e d : X) → ys ≡ take m xs → m ≡ j → k ≡ i → i < j → i < length xs → get_or ys k e ≡ get_or xs i d
 at_low xs ys i k j m e d f g h l n = rw (f, g, h) (read_low xs i j e l ∙ any_default xs i e d n)
 
+-- the second part has at its beginning what the whole list has at the cut
 pub at_high : {X : Type 0} (xs ys : List X) (j m : ℕ) (e d : X) → ys ≡ drop m xs → m ≡ j → j < length xs → get_or ys 0 e ≡ get_or xs j d
 at_high xs ys j m e d f g n = rw (f, g) (read_high xs j e ∙ any_default xs j e d n)
 
--- and what the parts make once each has one place written
+-- the parts, once a place of the first and then the beginning of the second are written, make the list written at both
 pub joined : {X : Type 0} (xs ys zs : List X) (i j k m : ℕ) (a b : X) → ys ≡ take m xs → zs ≡ drop m xs → m ≡ j → k ≡ i → i < j → set ys k a ++ set zs 0 b ≡ set (set xs i a) j b
 joined xs ys zs i j k m a b e f g h l = rw (e, f, g, h) (set_two xs i j a b l)
 
+-- so they do where the list is written first at the cut and then at the place below it
 pub joined_back : {X : Type 0} (xs ys zs : List X) (i j k m : ℕ) (a b : X) → ys ≡ take m xs → zs ≡ drop m xs → m ≡ i → k ≡ j → j < i → set ys k b ++ set zs 0 a ≡ set (set xs i a) j b
 joined_back xs ys zs i j k m a b e f g h l = rw (e, f, g, h) (set_two_back xs i j a b l)

@@ -22,6 +22,7 @@ pub through_more : {B : Type 0} (leads : B → Asked → B → Type 0) (old mid 
 through_more leads old mid new [] c all next = (new, subst (λ b. Through leads b c new) all next, refl)
 through_more leads old mid new (k ∷ calls) c all next = (all.0, all.1, through_more leads all.0 mid new calls c all.2 next)
 
+-- a list of length zero is the empty one
 pub nothing_left : {X : Type 0} (xs : List X) → length xs ≡ 0 → xs ≡ []
 nothing_left [] h = refl
 nothing_left (x ∷ xs) h = absurd (omega arith)

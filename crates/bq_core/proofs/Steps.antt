@@ -38,6 +38,7 @@ still_runs d w cpu now t h =
     let at : (o : Option Task) (f : Task → Task) → Some t ≡ option_map f o → is_none o ≡ false = elim [ None ↦ λ f k. (cc) | Some s ↦ λ f k. refl ] in
     at (processor w cpu).running.current _ h
 
+-- a block where nothing runs is refused, and the world stays as it was
 pub block_idle : (d : Discipline) (w : World) (cpu now : ℕ) → cpu < count_in w → (processor w cpu).running.current ≡ None →
     WorldStep (policies d) w (Block cpu now) [] (Err no.Idle) w
 block_idle d w cpu now h e = (refl, refl, inl (rw (within w cpu h, e) refl))

@@ -28,6 +28,7 @@ pub record IsWell (p : Processor) : Type 0 where
   pub rising : IsRising p.running.queue
   pub ready : AreReady p.hooks
 
+-- every processor of a world is so
 abbrev pub AllWell : World → Type 0
 AllWell w = (cpu : ℕ) → IsWell (processor w cpu)
 

@@ -96,22 +96,27 @@ count_of-entered id d kept queue tasks = omega (arith, count_is id (entered d ke
 same_count : (id : ℕ) (p q : Running) → Tallies.tally (ones id) (present_at q) ≡ Tallies.tally (ones id) (present_at p) → count_of id (present_at q) ≡ count_of id (present_at p)
 same_count id p q h = omega (arith, count_is id (present_at p), count_is id (present_at q), h)
 
--- to charge, to start, to switch and to decide keep each count
+-- to charge the current task keeps how often each id stands there
 pub keeps_charge : (id : ℕ) (d : Discipline) (p : Running) (now : ℕ) → count_of id (present_at (charge d p now)) ≡ count_of id (present_at p)
 keeps_charge id d p now = same_count id p (charge d p now) (Tallies.tally-charge (ones id) d p now)
 
+-- a task of the queue that comes to run, where nothing ran, keeps how often each id stands there
 pub keeps_run_id : (id : ℕ) (p : Running) (o : Option ℕ) → p.current ≡ None → count_of id (present_at (run_id p o)) ≡ count_of id (present_at p)
 keeps_run_id id p o e = same_count id p (run_id p o) (Tallies.tally-run_id (ones id) p o e)
 
+-- to start the queue's choice, where nothing ran, keeps how often each id stands there
 pub keeps_start : (id : ℕ) (d : Discipline) (p : Running) → p.current ≡ None → count_of id (present_at (start d p)) ≡ count_of id (present_at p)
 keeps_start id d p e = same_count id p (start d p) (Tallies.tally-start (ones id) d p e)
 
+-- to exchange the current task for the one of an id, if the queue has it, keeps how often each id stands there
 pub keeps_exchange : (id j : ℕ) (p : Running) (old : Task) (o : Option Task) → p.current ≡ Some old → with_id j p.queue ≡ o → count_of id (present_at (exchanged p old o)) ≡ count_of id (present_at p)
 keeps_exchange id j p old o e h = same_count id p (exchanged p old o) (Tallies.tally-exchanged (ones id) j p old o e h)
 
+-- to switch from the current task, if any, to the next one keeps how often each id stands there
 pub keeps_switched : (id : ℕ) (d : Discipline) (p : Running) (o : Option Task) → p.current ≡ o → count_of id (present_at (switched d p o)) ≡ count_of id (present_at p)
 keeps_switched id d p o e = same_count id p (switched d p o) (Tallies.tally-switched (ones id) d p o e)
 
+-- to decide who runs keeps how often each id stands there, whatever the answer
 pub keeps_decided : (id : ℕ) (d : Discipline) (p : Running) (o : Option Task) (gives_way : Bool) → p.current ≡ o → count_of id (present_at (decided d p o gives_way)) ≡ count_of id (present_at p)
 keeps_decided id d p o b e = same_count id p (decided d p o b) (Tallies.tally-decided (ones id) d p o b e)
 
@@ -120,22 +125,26 @@ pub count_of-enter_all : (id : ℕ) (d : Discipline) (p : Running) (tasks : List
 count_of-enter_all id d p tasks =
     omega (arith, count_is id (present_at (enter_all d p tasks)), count_is id (present_at p), count_is id tasks, Tallies.tally-enter_all (ones id) d p tasks)
 
--- and so each task that stood once still does
+-- where each task stands once, each still does after a charge
 pub HasEachOnce-charge : (d : Discipline) (p : Running) (now : ℕ) → HasEachOnce (present_at p) → HasEachOnce (present_at (charge d p now))
 HasEachOnce-charge d p now h = λ id. omega (arith, h id, keeps_charge id d p now)
 
+-- where each task stands once and nothing runs, each still does once the queue's choice has started
 pub HasEachOnce-start : (d : Discipline) (p : Running) → p.current ≡ None → HasEachOnce (present_at p) → HasEachOnce (present_at (start d p))
 HasEachOnce-start d p e h = λ id. omega (arith, h id, keeps_start id d p e)
 
+-- where each task stands once, each still does after it is decided who runs
 pub HasEachOnce-decided : (d : Discipline) (p : Running) (gives_way : Bool) → HasEachOnce (present_at p) → HasEachOnce (present_at (decided d p p.current gives_way))
 HasEachOnce-decided d p b h = λ id. omega (arith, h id, keeps_decided id d p p.current b refl)
 
+-- if those present and those that come have each task once together, each stands once when they have entered
 pub HasEachOnce-enter_all : (d : Discipline) (p : Running) (tasks : List Task) → HasEachOnce (present_at p ++ tasks) → HasEachOnce (present_at (enter_all d p tasks))
 HasEachOnce-enter_all d p tasks h = λ id. omega (arith, h id, count_of-append id (present_at p) tasks, count_of-enter_all id d p tasks)
 
--- of two lists together each has each task once
+-- the left part of a list that has each task once has each once too
 pub HasEachOnce-left : (xs ys : List Task) → HasEachOnce (xs ++ ys) → HasEachOnce xs
 HasEachOnce-left xs ys h = λ id. omega (arith, h id, count_of-append id xs ys)
 
+-- the right part of a list that has each task once has each once too
 pub HasEachOnce-right : (xs ys : List Task) → HasEachOnce (xs ++ ys) → HasEachOnce ys
 HasEachOnce-right xs ys h = λ id. omega (arith, h id, count_of-append id xs ys)

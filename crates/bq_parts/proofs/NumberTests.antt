@@ -3,18 +3,22 @@ use Rattle.std.proofs.Common.{◌≡◌, ◌≢◌, ℕ, ◌<◌, true, false, a
 use Rattle.std.specs.Prelude.{◌==◌, nat_le, nat_lt}
 use Rattle.std.proofs.lemmas.Bool.Decides.{nat_tests}
 
--- each test with what it says, and the other way round
+-- a test for below that holds says that the one number is below the other
 pub below_of : (m n : ℕ) → nat_lt m n ≡ true → m < n
 below_of m n h = grind (arith, nat_tests)
 
+-- a number that is below another passes the test for below
 pub below_to : (m n : ℕ) → m < n → nat_lt m n ≡ true
 below_to m n h = grind (arith, nat_tests)
 
+-- a test for at most that fails says that the second number is below the first
 pub within_of : (m n : ℕ) → nat_le n m ≡ false → m < n
 within_of m n h = grind (arith, nat_tests)
 
+-- a test for equality that fails says that the two numbers differ
 pub differs : (m n : ℕ) → (m == n) ≡ false → m ≢ n
 differs m n h = grind (arith, nat_tests)
 
+-- numbers that differ fail the test for equality
 pub differ_to : (m n : ℕ) → m ≢ n → (m == n) ≡ false
 differ_to m n h = grind (arith, nat_tests)

@@ -83,6 +83,7 @@ none_beyond_at w cpu id l o h =
     let p : Processor = processor w cpu in
     omega (arith, none_beyond w id l o h, held_le id w.processors cpu, placed_le id w.inboxes cpu, count_of-held_by id p, count_of-append id (present_at p.running) (inbox w cpu))
 
+-- the tasks that run or wait at a processor have ids of seats
 pub seated_running : (w : World) (cpu : ℕ) → length w.seats ≡ 1024 → IsOrderly w → HasSeatedIds (present_at (processor w cpu).running)
 seated_running w cpu l o = λ id h. omega (arith, none_beyond_at w cpu id l o h, count_of-append id (present_at (processor w cpu).running) (inbox w cpu))
 

@@ -12,10 +12,11 @@ use Rattle.bq_parts.proofs.Tallies.{with_id-id}
 use Rattle.bq_parts.proofs.Counts.{one, one_self, count_of-append, count_of-without, queue_le_present, with_id-absent, each_once_queue, HasEachOnce-left, HasEachOnce-right, HasDistinctIds-from_counts}
 use Rattle.bq_parts.proofs.Once.{few_below}
 
--- seated ids of two lists together are those of each
+-- where all ids of two lists together are seated, those of the left one are
 pub seated_left : (xs ys : List Task) → HasSeatedIds (xs ++ ys) → HasSeatedIds xs
 seated_left xs ys h = λ id l. omega (arith, h id l, count_of-append id xs ys)
 
+-- where all ids of two lists together are seated, those of the right one are
 pub seated_right : (xs ys : List Task) → HasSeatedIds (xs ++ ys) → HasSeatedIds ys
 seated_right xs ys h = λ id l. omega (arith, h id l, count_of-append id xs ys)
 
@@ -27,12 +28,13 @@ size_by_case : (f : Task → Task) (o : Option Task) (queue : List Task) → len
 size_by_case f None queue = refl
 size_by_case f (Some t) queue = refl
 
--- neither processor is too large to be counted
+-- the puller, once charged, has no more tasks than there are seats
 pub few_puller : (d : Discipline) (p q : Running) (now : ℕ) → HasEachOnce (present_at p ++ present_at q) → HasSeatedIds (present_at p ++ present_at q) → length (present_at (charge d p now)) ≤ 1024
 few_puller d p q now h k =
     let same : length (present_at (charge d p now)) ≡ length (present_at p) = size_by_case _ p.current p.queue in
     omega (arith, same, few_running p (HasEachOnce-left (present_at p) (present_at q) h) (seated_left (present_at p) (present_at q) k))
 
+-- the source has no more tasks than there are seats either
 pub few_source : (p q : Running) → HasEachOnce (present_at p ++ present_at q) → HasSeatedIds (present_at p ++ present_at q) → length (present_at q) ≤ 1024
 few_source p q h k = few_running q (HasEachOnce-right (present_at p) (present_at q) h) (seated_right (present_at p) (present_at q) k)
 
