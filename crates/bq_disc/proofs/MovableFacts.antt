@@ -28,6 +28,7 @@ append_nothing : (xs : List ℕ) → xs ++ [] ≡ xs
 append_nothing [] = refl
 append_nothing (x ∷ xs) = ap (λ l. x ∷ l) (append_nothing xs)
 
+-- to look at no task adds nothing to what was found, of which at most eight ids are kept
 pub Adds-none : (processor : ℕ) (a : Movable) → length a.first.items ≤ 8 → Adds processor [] a a
 Adds-none processor a h = record {
   count = omega arith;
@@ -35,6 +36,7 @@ Adds-none processor a h = record {
   fits = h;
 }
 
+-- a task that may not go to the processor adds nothing
 pub Adds-other : (processor : ℕ) (t : Task) (a : Movable) → can_use processor t ≡ false → length a.first.items ≤ 8 → Adds processor (t ∷ []) a a
 Adds-other processor t a e h =
     let none : movable_to processor (t ∷ []) ≡ [] = rw e refl in
@@ -45,6 +47,7 @@ Adds-other processor t a e h =
       fits = h;
     }
 
+-- a task that may go is counted, and its id comes behind those kept, where they are fewer than eight
 pub Adds-more : (processor : ℕ) (t : Task) (a b : Movable) → can_use processor t ≡ true → b.count ≡ a.count + 1 → b.first.items ≡ a.first.items ++ t.id ∷ [] → length a.first.items < 8 → Adds processor (t ∷ []) a b
 Adds-more processor t a b e count first h =
     let one : movable_to processor (t ∷ []) ≡ t ∷ [] = rw e refl in
@@ -55,6 +58,7 @@ Adds-more processor t a b e count first h =
       fits = rw first (omega arith);
     }
 
+-- a task that may go is only counted, where eight ids are kept
 pub Adds-full : (processor : ℕ) (t : Task) (a b : Movable) → can_use processor t ≡ true → b.count ≡ a.count + 1 → b.first.items ≡ a.first.items → length a.first.items ≡ 8 → Adds processor (t ∷ []) a b
 Adds-full processor t a b e count first h =
     let one : movable_to processor (t ∷ []) ≡ t ∷ [] = rw e refl in
@@ -86,5 +90,6 @@ fewer : (p : Task → Bool) (xs : List Task) → length (filter p xs) ≤ length
 fewer p [] = omega arith
 fewer p (x ∷ xs) = kept_by_test (p x) x xs (filter p xs) (fewer p xs)
 
+-- no more tasks may go to a processor than there are
 pub few_movable : (processor : ℕ) (xs : List Task) → length (movable_to processor xs) ≤ length xs
 few_movable processor xs = omega (arith, length-reverse (filter (can_use processor) xs), fewer (can_use processor) xs)

@@ -55,6 +55,7 @@ none_greater processor queue =
     (λ t. (u : Task) → Contains queue u → can_use processor u ≡ true → runs_before t u ≡ false)
     (λ t h u c k. h u (filter-Contains (can_use processor) queue u c.0 c.1 c.2 k)) (first_by-least pulled_before pulled_before-IsOrder (movable processor queue))
 
+-- the rule by which a task is pulled meets the laws of pulling
 pub pull_is_lawful : IsLawfulPull pull_of
 pull_is_lawful = record {
   exists = λ processor size from queue t l c k.

@@ -48,6 +48,7 @@ length-ids (x ∷ xs) = ap suc (length-ids xs)
 pub length-few : (xs : List Task) → HasDistinctIds xs → HasSmallIds xs → length xs ≤ 2 ^ 16
 length-few xs d s = rw length-ids at (length-le_from_distinct_below (ids xs) (2 ^ 16) (distinct xs d) (λ q h. small xs q s h))
 
+-- what is found by an id stays when a task of another id comes
 pub with_id-place_other : (i : ℕ) (t : Task) (xs : List Task) → eqb t.id i ≡ false → with_id i (place t xs) ≡ with_id i xs
 with_id-place_other i t [] h = rw h refl
 with_id-place_other i t (x ∷ xs) h =
@@ -56,6 +57,7 @@ with_id-place_other i t (x ∷ xs) h =
       | false ↦ ap (λ o. cond (eqb x.id i) (Some x) o) (with_id-place_other i t xs h)
     ]
 
+-- ids stay distinct when a task comes whose id none has yet
 pub HasDistinctIds-place : (t : Task) (xs : List Task) → with_id t.id xs ≡ None → HasDistinctIds xs → HasDistinctIds (place t xs)
 HasDistinctIds-place t [] n d = (refl, tt)
 HasDistinctIds-place t (x ∷ xs) n d =
@@ -65,6 +67,7 @@ HasDistinctIds-place t (x ∷ xs) n d =
       | false ↦ (with_id-place_other x.id t xs (eqb_comm x.id t.id s.0) ∙ d.0, HasDistinctIds-place t xs s.1 d.1)
     ]
 
+-- ids still fit 16 bits when a task comes whose id does
 pub HasSmallIds-place : (t : Task) (xs : List Task) → t.id < 2 ^ 16 → HasSmallIds xs → HasSmallIds (place t xs)
 HasSmallIds-place t [] l s = (l, tt)
 HasSmallIds-place t (x ∷ xs) l s =
@@ -73,6 +76,7 @@ HasSmallIds-place t (x ∷ xs) l s =
       | false ↦ (s.0, HasSmallIds-place t xs l s.1)
     ]
 
+-- a task that comes makes a queue longer by one
 pub length-place : (t : Task) (xs : List Task) → length (place t xs) ≡ length xs + 1
 length-place t [] = refl
 length-place t (x ∷ xs) =
@@ -81,6 +85,7 @@ length-place t (x ∷ xs) =
       | false ↦ omega (arith, length-place t xs)
     ]
 
+-- an id that no task has, none has once a task has left
 pub with_id-without : (i j : ℕ) (xs : List Task) → with_id i xs ≡ None → with_id i (without j xs) ≡ None
 with_id-without i j [] h = refl
 with_id-without i j (x ∷ xs) h =
@@ -90,6 +95,7 @@ with_id-without i j (x ∷ xs) h =
       | false ↦ rw s.0 (with_id-without i j xs s.1)
     ]
 
+-- ids stay distinct when a task leaves
 pub HasDistinctIds-without : (j : ℕ) (xs : List Task) → HasDistinctIds xs → HasDistinctIds (without j xs)
 HasDistinctIds-without j [] d = tt
 HasDistinctIds-without j (x ∷ xs) d =
@@ -98,6 +104,7 @@ HasDistinctIds-without j (x ∷ xs) d =
       | false ↦ (with_id-without x.id j xs d.0, HasDistinctIds-without j xs d.1)
     ]
 
+-- ids still fit 16 bits when a task leaves
 pub HasSmallIds-without : (j : ℕ) (xs : List Task) → HasSmallIds xs → HasSmallIds (without j xs)
 HasSmallIds-without j [] d = tt
 HasSmallIds-without j (x ∷ xs) d =

@@ -89,6 +89,7 @@ kept_distinct : (b : Bool) (x : Task) (xs : List Task) → with_id x.id xs ≡ N
 kept_distinct true x xs n d = (n, d)
 kept_distinct false x xs n d = d
 
+-- of tasks with distinct ids, those that pass a test have distinct ids
 pub HasDistinctIds-filter : (p : Task → Bool) (xs : List Task) → HasDistinctIds xs → HasDistinctIds (filter p xs)
 HasDistinctIds-filter p [] d = tt
 HasDistinctIds-filter p (x ∷ xs) d = kept_distinct (p x) x (filter p xs) (filter_none p x.id xs d.0) (HasDistinctIds-filter p xs d.1)

@@ -11,9 +11,11 @@ use Rattle.bq_disc.specs.Orders.{Contains-first, Contains-later}
 abbrev pub SameById : List Task → List Task → Type 0
 SameById xs ys = (id : ℕ) → with_id id xs ≡ with_id id ys
 
+-- numbers that pass the test for equality are one
 pub is_same : (a b : ℕ) → eqb a b ≡ true → a ≡ b
 is_same a b h = grind (arith, nat_tests)
 
+-- numbers that are one pass the test for equality
 pub same_is : (a b : ℕ) → a ≡ b → eqb a b ≡ true
 same_is a b h = grind (arith, nat_tests)
 
@@ -48,6 +50,7 @@ here_or_later : (b : Bool) (x t : Task) (xs : List Task) (i : ℕ) → cond b (S
 here_or_later true x t xs i h rest = (0, omega arith, cc)
 here_or_later false x t xs i h rest = let l = rest h in (suc l.0, omega (arith, l.1), l.2)
 
+-- the task that is found by an id is one of the list
 pub Contains-with_id : (i : ℕ) (xs : List Task) (t : Task) → with_id i xs ≡ Some t → Contains xs t
 Contains-with_id i [] t h = cc
 Contains-with_id i (x ∷ xs) t h = here_or_later (eqb x.id i) x t xs i h (Contains-with_id i xs t)
@@ -77,6 +80,7 @@ pub record IsOrder (before : Task → Task → Bool) : Type 0 where
   pub passes_on : (a b c : Task) → before a b ≡ false → before b c ≡ false → before a c ≡ false
   pub apart : (a b : Task) → before a b ≡ false → before b a ≡ false → a.id ≡ b.id
 
+-- to compare tasks by v, and where these are equal by id, is an order
 pub runs_before-IsOrder : IsOrder runs_before
 runs_before-IsOrder = record {
   one_way = λ a b h. grind (arith, nat_tests);
@@ -84,6 +88,7 @@ runs_before-IsOrder = record {
   apart = λ a b h k. grind (arith, nat_tests);
 }
 
+-- to compare tasks by deadline, and where these are equal by id, is an order
 pub due_before-IsOrder : IsOrder due_before
 due_before-IsOrder = record {
   one_way = λ a b h. grind (arith, nat_tests);

@@ -3,6 +3,7 @@ use Rattle.bq_hooks.specs.Laws.{ContextsAreBytes}
 use Rattle.bq_hooks.proofs.Lengths.{length-place_bytes_first, length-place_bytes_second, length-preempt_bytes, length-pull_bytes}
 use Rattle.bq_hooks.proofs.Members.{place_bytes-fit, preempt_bytes-fit, pull_bytes-fit}
 
+-- a context of each hook has its length, and holds nothing but bytes
 pub contexts_are_bytes : ContextsAreBytes
 contexts_are_bytes = record {
   place_first = λ f. (length-place_bytes_first f, place_bytes-fit 16 f);

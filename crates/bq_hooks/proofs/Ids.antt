@@ -12,5 +12,6 @@ nobody_there : (id : ℕ) (xs : List Task) → HasSmallIds xs → 2 ^ 16 ≤ id 
 nobody_there id [] h k = refl
 nobody_there id (x ∷ xs) h k = rw (other id x h.0 k) (nobody_there id xs h.1 k)
 
+-- a number too great for 16 bits names no task that may go to the puller
 pub absent_beyond : (puller id : ℕ) (xs : List Task) → HasSmallIds xs → 2 ^ 16 ≤ id → is_movable_to puller id xs ≡ false
 absent_beyond puller id xs h k = rw (nobody_there id xs h k) refl

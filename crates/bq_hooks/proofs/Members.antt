@@ -85,11 +85,14 @@ read [] i b h e = cc
 read (x ∷ xs) zero b h e = let same : x ≡ b = cc in subst (λ y. y < 256) same h.0
 read (x ∷ xs) (suc i) b h e = read xs i b h.1 e
 
+-- what is read anywhere in a place context is below 256
 pub place_bytes-fit : (limit : ℕ) (f : PlaceFacts) (i b : ℕ) → slice_get (place_bytes_below limit f) i ≡ Some b → b < 256
 place_bytes-fit limit f i b e = read (place_bytes_below limit f) i b (place_is limit f).all e
 
+-- what is read anywhere in a preempt context is below 256
 pub preempt_bytes-fit : (f : PreemptFacts) (i b : ℕ) → slice_get (preempt_bytes f) i ≡ Some b → b < 256
 preempt_bytes-fit f i b e = read (preempt_bytes f) i b (preempt_is f).all e
 
+-- what is read anywhere in a pull context is below 256
 pub pull_bytes-fit : (f : PullFacts) (i b : ℕ) → slice_get (pull_bytes f) i ≡ Some b → b < 256
 pull_bytes-fit f i b e = read (pull_bytes f) i b (pull_is f).all e

@@ -37,6 +37,7 @@ pull_by_case puller queue (Some t) d h =
     let found = with_id-Contains queue t h.0.0 d h.0.1 h.0.2 in
     rw (found, h.1) (or_true (t.id == nobody))
 
+-- each own choice is permitted: the place where the mask has one, the answer about giving way, and the pull
 pub own_choices_are_permitted : OwnChoicesArePermitted
 own_choices_are_permitted = record {
   place = place_permitted;
@@ -49,6 +50,7 @@ by_test : (b : Bool) (permitted : ℕ → Bool) (r0 own : ℕ) → permitted r0 
 by_test true permitted r0 own e h = e
 by_test false permitted r0 own e h = h
 
+-- what is settled of an answer and an own choice is permitted, if the own choice is
 pub settled_is_permitted : SettledIsPermitted
 settled_is_permitted permitted None own h = h
 settled_is_permitted permitted (Some r0) own h = by_test (permitted r0) permitted r0 own refl h

@@ -5,6 +5,7 @@ use Rattle.std.specs.List.{flat_map, range_with_len}
 use Rattle.bq_hooks.specs.Contexts.{PlaceFacts, place_header, place_bytes_below, if_shown, if_any_shown, u32_bytes, u64_bytes}
 use Rattle.bq_hooks.proofs.Filling.{more, piece_filled, pieces_filled}
 
+-- once the eight fields are written one behind another, the first 40 bytes are the header of a place context
 pub header_filled : (limit : ℕ) (f : PlaceFacts) (c0 c1 c2 c3 c4 c5 c6 c7 c8 : List ℕ) (id weight mask slice waking prev shown own : ℕ) →
     id ≡ f.task.id → take 4 c1 ≡ take 0 c0 ++ u32_bytes id →
     weight ≡ f.task.weight → take 8 c2 ≡ take 4 c1 ++ u32_bytes weight →

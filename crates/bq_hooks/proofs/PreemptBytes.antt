@@ -5,6 +5,7 @@ use Rattle.bq_disc.specs.Tasks.{Task}
 use Rattle.bq_hooks.specs.Contexts.{PreemptFacts, preempt_bytes, u32_bytes, u64_bytes, task_bytes, nobody, as_number}
 use Rattle.bq_hooks.proofs.Filling.{more, filled_whole}
 
+-- once all fields are written one behind another, the 56 bytes are the preempt context of what they show
 pub preempt_filled : (f : PreemptFacts) (c0 c1 c2 c3 c4 c5 c6 c7 c8 c9 : List ℕ) (processor waiting id weight v deadline own : ℕ) (choice : Option Task) →
     processor ≡ f.processor → take 4 c1 ≡ take 0 c0 ++ u32_bytes processor →
     waiting ≡ length f.queue → take 8 c2 ≡ take 4 c1 ++ u32_bytes waiting →

@@ -6,6 +6,7 @@ use Rattle.bq_disc.specs.Tasks.{Task}
 use Rattle.bq_hooks.specs.Contexts.{PullFacts, pull_header, pull_bytes, task_bytes, u32_bytes, or_nobody}
 use Rattle.bq_hooks.proofs.Filling.{more, piece_filled, pieces_filled}
 
+-- once seven fields and a zero are written one behind another, the first 32 bytes are the header of a pull context
 pub header_filled : (f : PullFacts) (c0 c1 c2 c3 c4 c5 c6 c7 c8 : List ℕ) (puller source puller_size source_size count shown own : ℕ) →
     puller ≡ f.puller → take 4 c1 ≡ take 0 c0 ++ u32_bytes puller →
     source ≡ f.source → take 8 c2 ≡ take 4 c1 ++ u32_bytes source →
