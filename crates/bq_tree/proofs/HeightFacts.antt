@@ -11,6 +11,7 @@ abbrev fewest_two : ℕ → ℕ × ℕ
 fewest_two zero = (0, 1)
 fewest_two (suc n) = let p = fewest_two n in (p.1, p.0 + p.1 + 1)
 
+-- the fewest nodes of a balanced tree of some height
 abbrev pub fewest : ℕ → ℕ
 fewest n = (fewest_two n).0
 
@@ -55,6 +56,7 @@ mutual
   fewest_held knows None' h = omega arith
   fewest_held knows (Some' p n) h = fewest_node knows n h
 
+-- a tree has at least the fewest nodes that one of its height may have
 pub fewest_behind : (knows : Knowledge) (o : Option (Box Node Global)) → IsTreeBehind knows o → fewest (height_behind o) ≤ length (in_order_behind o)
 fewest_behind knows None h = omega arith
 fewest_behind knows (Some b) h = fewest_node knows b.value h

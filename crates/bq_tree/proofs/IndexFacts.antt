@@ -15,6 +15,7 @@ use Rattle.bq_tree.proofs.SoundFacts.{Knows-place, Knows-drop, without-split}
 apart_by : (i id k : ℕ) → i ≡ id → eqb k id ≡ false → k ≢ i
 apart_by i id k same e = λ q. grind (arith, nat_tests)
 
+-- a time written at one id leaves what the table has at another
 pub set_apart : (xs : List ℕ) (i id k v : ℕ) → i ≡ id → eqb k id ≡ false → slice_index (slice_set xs i v) k ≡ slice_index xs k
 set_apart xs i id k v same e = let ne = apart_by i id k same e in rw get_or-set_other refl
 
@@ -32,6 +33,7 @@ first_placed t (x ∷ xs) =
       | false ↦ refl
     ]
 
+-- with a task of a new id in its place a tree is sound again, if its first key and its table were renewed for that task
 pub sound_inserted : (knows : Knowledge) (len : ℕ) (old new : Option (Box Node Global)) (least : Option (ℕ × ℕ)) (key : ℕ × ℕ) (times later : List ℕ) (t : Task) → IsSound knows old len least times → key ≡ lesser_of (key_of t) least → key.0 ≤ 2 ^ 62 → IsTreeBehind knows new → in_order_behind new ≡ place t (in_order_behind old) → with_id t.id (in_order_behind old) ≡ None → t.id < 2 ^ 16 → ((xs : List Task) → with_id t.id xs ≡ None → Knows times xs → Knows later xs) → (t.id < 1024 → slice_index later t.id ≡ t.v) → IsSound knows new (len + 1) (Some key) later
 sound_inserted knows len old new least key times later t s lesser high tree e n l others here =
     let xs = in_order_behind old in

@@ -100,6 +100,7 @@ pub record Rises (link : Option (Box Node Global)) (m : Node) : Type 0 where
 max-comm : (a b : ℕ) → max a b ≡ max b a
 max-comm a b = omega arith
 
+-- where a task that runs before the root's came to the left side, the root with that side has all tasks and this one
 pub grows_left : (knows : Knowledge) (link : Option (Box Node Global)) (n k : Node) (t : Task) (new : Option (Box Node Global)) → IsRootBehind knows link n → CountsIn knows n k t → IsTreeBehind knows new → in_order_behind new ≡ place t (in_order_behind (out-Node k).left) → runs_before t (out-Node k).entity ≡ true → Grows knows link (on_left k new) t
 grows_left knows link n k t new behind c side e b =
     let r = root_of knows n behind.tree in
@@ -108,6 +109,7 @@ grows_left knows link n k t new behind c side e b =
     let fork = IsFork-made knows (out-Node k).entity new (out-Node k).right (out-Node k).due (out-Node k).totals (out-Node k).height side (subst (IsTreeBehind knows) (sym c.right) r.right) (subst IsBounded (sym c.task) r.bounded) known in
     grown knows link n (on_left k new) t behind fork (in_order-made (out-Node k).entity new (out-Node k).right (out-Node k).due (out-Node k).totals (out-Node k).height ∙ all)
 
+-- where a task that does not run before the root's came to the right side, the root with that side has all and this one
 pub grows_right : (knows : Knowledge) (link : Option (Box Node Global)) (n k : Node) (t : Task) (new : Option (Box Node Global)) → IsRootBehind knows link n → IsRising (in_order_behind link) → CountsIn knows n k t → IsTreeBehind knows new → in_order_behind new ≡ place t (in_order_behind (out-Node k).right) → runs_before t (out-Node k).entity ≡ false → Grows knows link (on_right k new) t
 grows_right knows link n k t new behind rising c side e b =
     let r = root_of knows n behind.tree in
@@ -116,6 +118,7 @@ grows_right knows link n k t new behind rising c side e b =
     let fork = IsFork-made knows (out-Node k).entity (out-Node k).left new (out-Node k).due (out-Node k).totals (out-Node k).height (subst (IsTreeBehind knows) (sym c.left) r.left) side (subst IsBounded (sym c.task) r.bounded) known in
     grown knows link n (on_right k new) t behind fork (in_order-made (out-Node k).entity (out-Node k).left new (out-Node k).due (out-Node k).totals (out-Node k).height ∙ all)
 
+-- where the left side rose by one level at most, so does the root, once it is balanced
 pub rises_left : (knows : Knowledge) (link : Option (Box Node Global)) (n k : Node) (t : Task) (new : Option (Box Node Global)) → IsRootBehind knows link n → CountsIn knows n k t → height_behind (out-Node k).left ≤ height_behind new → height_behind new ≤ height_behind (out-Node k).left + 1 → Rises link (on_left k new)
 rises_left knows link n k t new behind c low high =
     let r = root_of knows n behind.tree in
@@ -129,6 +132,7 @@ rises_left knows link n k t new behind c low high =
       rises = rw (left, right) h.rises;
     }
 
+-- where the right side rose by one level at most, so does the root, once it is balanced
 pub rises_right : (knows : Knowledge) (link : Option (Box Node Global)) (n k : Node) (t : Task) (new : Option (Box Node Global)) → IsRootBehind knows link n → CountsIn knows n k t → height_behind (out-Node k).right ≤ height_behind new → height_behind new ≤ height_behind (out-Node k).right + 1 → Rises link (on_right k new)
 rises_right knows link n k t new behind c low high =
     let r = root_of knows n behind.tree in
@@ -147,6 +151,7 @@ rises_right knows link n k t new behind c low high =
 not_grown : (a b : ℕ) → a ≤ b → nat_lt a b ≡ false → b ≡ a
 not_grown a b l e = grind (arith, nat_tests)
 
+-- of two heights that are equal the one is not below the other, by the test
 pub not_higher : (a b : ℕ) → b ≡ a → false ≡ nat_lt a b
 not_higher a b e = grind (arith, nat_tests)
 
@@ -155,6 +160,7 @@ pub record Stays (knows : Knowledge) (link : Option (Box Node Global)) (m : Node
   pub tree : IsTree knows m
   pub height : height_of m ≡ height_behind link
 
+-- where the left side did not rise, the root with it is a tree as high as before
 pub stays_left : (knows : Knowledge) (link : Option (Box Node Global)) (n k : Node) (t : Task) (new : Option (Box Node Global)) → IsRootBehind knows link n → CountsIn knows n k t → IsFork knows (on_left k new) → height_behind (out-Node k).left ≤ height_behind new → nat_lt (height_behind (out-Node k).left) (height_behind new) ≡ false → Stays knows link (on_left k new)
 stays_left knows link n k t new behind c fork low test =
     let r = root_of knows n behind.tree in
@@ -166,6 +172,7 @@ stays_left knows link n k t new behind c fork low test =
       height = height_is (on_left k new) ∙ height-made (out-Node k).entity new (out-Node k).right (out-Node k).due (out-Node k).totals (out-Node k).height ∙ c.height ∙ sym behind.height;
     }
 
+-- where the right side did not rise, the root with it is a tree as high as before
 pub stays_right : (knows : Knowledge) (link : Option (Box Node Global)) (n k : Node) (t : Task) (new : Option (Box Node Global)) → IsRootBehind knows link n → CountsIn knows n k t → IsFork knows (on_right k new) → height_behind (out-Node k).right ≤ height_behind new → nat_lt (height_behind (out-Node k).right) (height_behind new) ≡ false → Stays knows link (on_right k new)
 stays_right knows link n k t new behind c fork low test =
     let r = root_of knows n behind.tree in

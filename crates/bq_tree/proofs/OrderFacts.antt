@@ -29,17 +29,21 @@ none_join : (x : Task) (xs ys : List Task) → NoneRunsBefore x xs → NoneRunsB
 none_join x [] ys h k = k
 none_join x (y ∷ xs) ys h k = (h.0, none_join x xs ys h.1 k)
 
+-- the front of a list that rises does so too
 pub IsRising-left : (xs ys : List Task) → IsRising (xs ++ ys) → IsRising xs
 IsRising-left [] ys h = tt
 IsRising-left (x ∷ xs) ys h = (none_front x xs ys h.0, IsRising-left xs ys h.1)
 
+-- what is behind the front of a list that rises does so too
 pub IsRising-right : (xs ys : List Task) → IsRising (xs ++ ys) → IsRising ys
 IsRising-right [] ys h = h
 IsRising-right (x ∷ xs) ys h = IsRising-right xs ys h.1
 
+-- in a list that rises, no task behind one runs before it
 pub IsRising-after : (xs : List Task) (x : Task) (ys : List Task) → IsRising (xs ++ x ∷ ys) → NoneRunsBefore x ys
 IsRising-after xs x ys h = (IsRising-right xs (x ∷ ys) h).0
 
+-- in a list that rises, a task runs before none in front of it
 pub IsRising-before : (xs : List Task) (x : Task) (ys : List Task) → IsRising (xs ++ x ∷ ys) → RunsBeforeNone x xs
 IsRising-before [] x ys h = tt
 IsRising-before (y ∷ xs) x ys h = ((none_back y xs (x ∷ ys) h.0).0, IsRising-before xs x ys h.1)
@@ -66,6 +70,7 @@ rising_by_test : (b : Bool) (t x : Task) (xs : List Task) → runs_before t x �
 rising_by_test true t x xs e h p = ((before_not t x e, none_later t x xs e h.0), h)
 rising_by_test false t x xs e h p = (none_place x t xs e h.0, p)
 
+-- a list that rises still does with one more task in its place
 pub IsRising-place : (t : Task) (xs : List Task) → IsRising xs → IsRising (place t xs)
 IsRising-place t [] h = (tt, tt)
 IsRising-place t (x ∷ xs) h = rising_by_test (runs_before t x) t x xs refl h (IsRising-place t xs h.1)

@@ -25,6 +25,7 @@ pub record CanRemove (s : Totals) (t : Task) : Type 0 where
   pub weight : t.weight ≤ s.weight
   pub moment : t.weight * t.v ≤ s.moment
 
+-- the totals of a root that still counts a task are large enough to take it away
 pub can_remove : (n : Node) (t : Task) → StillCounts knows_sums n t → CanRemove (out-Node n).totals t
 can_remove n t s =
     let e = totals_with n t s in
@@ -34,6 +35,7 @@ can_remove n t s =
       moment = omega (arith, ap (λ (r : Totals). r.moment) e);
     }
 
+-- totals that become the root's with the task added, where the root still counts it, are those of what is left
 pub totals_without : (n : Node) (t : Task) (new : Totals) → StillCounts knows_sums n t → added new t ≡ (out-Node n).totals → new ≡ sums_of (hanging n)
 totals_without n t new s e = added-cancel new (sums_of (hanging n)) t (e ∙ totals_with n t s)
 
@@ -90,6 +92,7 @@ hanging-kept m k h =
     ∙ ap (λ e. in_order_behind (out-Node m).left ++ e ∷ in_order_behind (out-Node k).right) h.task
     ∙ ap (λ o. in_order_behind (out-Node m).left ++ (out-Node m).entity ∷ in_order_behind o) h.right
 
+-- where the root comes after (v, id), a task that was taken out of its left side is taken out of the whole
 pub loses_left : (knows : Knowledge) (link : Option (Box Node Global)) (n k : Node) (new : Option (Box Node Global)) (v id : ℕ) (t : Task) → IsRootBehind knows link n → IsRising (in_order_behind link) → comes_after v id (out-Node n).entity ≡ true → Takes v id (in_order_behind (out-Node n).left) (Some t) (in_order_behind new) → KeepsSides (on_left n new) k → Loses link k v id t
 loses_left knows link n k new v id t root rising after taken kept =
     let e = (out-Node n).entity in
@@ -98,6 +101,7 @@ loses_left knows link n k new v id t root rising after taken kept =
     let left = hanging-kept (on_left n new) k kept ∙ hanging-made e new (out-Node n).right (out-Node n).due (out-Node n).totals (out-Node n).height in
     loses knows link n k v id t (in_order_behind new ++ e ∷ right) root left (Takes-left v id (in_order_behind (out-Node n).left) e right (Some t) (in_order_behind new) rises after taken)
 
+-- where the root comes before (v, id), a task that was taken out of its right side is taken out of the whole
 pub loses_right : (knows : Knowledge) (link : Option (Box Node Global)) (n k : Node) (new : Option (Box Node Global)) (v id : ℕ) (t : Task) → IsRootBehind knows link n → IsRising (in_order_behind link) → comes_after v id (out-Node n).entity ≡ false → is_at v id (out-Node n).entity ≡ false → Takes v id (in_order_behind (out-Node n).right) (Some t) (in_order_behind new) → KeepsSides (on_right n new) k → Loses link k v id t
 loses_right knows link n k new v id t root rising after other taken kept =
     let e = (out-Node n).entity in
@@ -119,6 +123,7 @@ keeps knows link b n m v id e f root same absent =
       taken = (subst (IsAbsent v id) (sym whole) absent, ap in_order same ∙ sym root.order);
     }
 
+-- where the root comes after (v, id) and its left side has no task there, the link stays and the whole has none there
 pub keeps_left : (knows : Knowledge) (link : Option (Box Node Global)) (b : Box Node Global) (n : Node) (new : Option (Box Node Global)) (v id : ℕ) → link ≡ Some b → n ≡ b.value → IsRootBehind knows link n → IsRising (in_order_behind link) → comes_after v id (out-Node n).entity ≡ true → new ≡ (out-Node n).left → Takes v id (in_order_behind (out-Node n).left) None (in_order_behind new) → Keeps link b (on_left n new) v id
 keeps_left knows link b n new v id e f root rising after same taken =
     let x = (out-Node n).entity in
@@ -126,6 +131,7 @@ keeps_left knows link b n new v id e f root rising after same taken =
     let whole = Takes-left v id (in_order_behind (out-Node n).left) x (in_order_behind (out-Node n).right) None (in_order_behind new) rises after taken in
     keeps knows link b n (on_left n new) v id e f root (ap (λ o. on_left n o) same ∙ on_left-same n) whole.0
 
+-- where the root comes before (v, id) and its right side has no task there, the link stays and the whole has none there
 pub keeps_right : (knows : Knowledge) (link : Option (Box Node Global)) (b : Box Node Global) (n : Node) (new : Option (Box Node Global)) (v id : ℕ) → link ≡ Some b → n ≡ b.value → IsRootBehind knows link n → IsRising (in_order_behind link) → comes_after v id (out-Node n).entity ≡ false → is_at v id (out-Node n).entity ≡ false → new ≡ (out-Node n).right → Takes v id (in_order_behind (out-Node n).right) None (in_order_behind new) → Keeps link b (on_right n new) v id
 keeps_right knows link b n new v id e f root rising after other same taken =
     let x = (out-Node n).entity in

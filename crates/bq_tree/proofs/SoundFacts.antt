@@ -7,6 +7,7 @@ use Rattle.bq_disc.proofs.QueueFacts.{without-absent}
 use Rattle.bq_tree.specs.Taking.{is_at, IsAbsent, Takes, Finds}
 use Rattle.bq_tree.specs.Sound.{Knows}
 
+-- a table that has the v of some tasks and of one more has them all once that one is in its place
 pub Knows-place : (times : List ℕ) (t : Task) (xs : List Task) → (t.id < 1024 → slice_index times t.id ≡ t.v) → Knows times xs → Knows times (place t xs)
 Knows-place times t [] h k = (h, tt)
 Knows-place times t (x ∷ xs) h k =
@@ -15,6 +16,7 @@ Knows-place times t (x ∷ xs) h k =
       | false ↦ (k.0, Knows-place times t xs h k.1)
     ]
 
+-- a table that has the v of some tasks has those of all but one of them
 pub Knows-drop : (times : List ℕ) (xs : List Task) (t : Task) (ys : List Task) → Knows times (xs ++ t ∷ ys) → Knows times (xs ++ ys)
 Knows-drop times [] t ys k = k.1
 Knows-drop times (x ∷ xs) t ys k = (k.0, Knows-drop times xs t ys k.1)
@@ -42,7 +44,6 @@ pub time_known : (times : List ℕ) (id : ℕ) (xs : List Task) → id < 1024 �
 time_known times id [] l k = tt
 time_known times id (x ∷ xs) l k = time_by_test (has_id id x) times id x (with_id id xs) refl l k.0 (time_known times id xs l k.1)
 
--- a task that stands in a list with distinct ids is the one of its id
 id_by_test : (b : Bool) (x t : Task) (rest without_rest : List Task) (o : Option Task) → has_id t.id x ≡ b → (o ≡ Some t) → with_id x.id rest ≡ None → (b ≡ true → with_id x.id rest ≡ with_id t.id rest) → with_id t.id rest ≡ o → cond b (Some x) o ≡ Some t
 id_by_test true x t rest wr o e h n same f = let g = same refl in cc
 id_by_test false x t rest wr o e h n same f = h
@@ -53,6 +54,7 @@ same_id x t e = grind (arith, nat_tests)
 itself : (t : Task) → has_id t.id t ≡ true
 itself t = grind (arith, nat_tests)
 
+-- in a list with distinct ids a task that stands there is the one of its id
 pub with_id-split : (xs : List Task) (t : Task) (ys : List Task) → HasDistinctIds (xs ++ t ∷ ys) → with_id t.id (xs ++ t ∷ ys) ≡ Some t
 with_id-split [] t ys d = let e = itself t in rw e refl
 with_id-split (x ∷ xs) t ys d =
@@ -63,6 +65,7 @@ out_by_test : (b : Bool) (x t : Task) (rest less : List Task) → has_id t.id x 
 out_by_test true x t rest less e n s = let same = ap (λ i. with_id i rest) (same_id x t e) in cc
 out_by_test false x t rest less e n s = refl
 
+-- in a list with distinct ids, the tasks without the id of one are those in front of it and those behind it
 pub without-split : (xs : List Task) (t : Task) (ys : List Task) → HasDistinctIds (xs ++ t ∷ ys) → without t.id (xs ++ t ∷ ys) ≡ xs ++ ys
 without-split [] t ys d = let e = itself t in rw e refl
 without-split (x ∷ xs) t ys d =

@@ -9,10 +9,12 @@ use Rattle.bq_disc.proofs.DueFacts.{first_due-cons}
 use Rattle.bq_disc.specs.declared.due.Due.{Due}
 use Rattle.bq_disc.specs.declared.totals.Totals.{Totals}
 
+-- two lists joined weigh what both weigh together
 pub total_weight-append : (xs ys : List Task) → total_weight (xs ++ ys) ≡ total_weight xs + total_weight ys
 total_weight-append [] ys = omega arith
 total_weight-append (x ∷ xs) ys = omega (arith, total_weight-append xs ys)
 
+-- the weighted sum of two lists joined is what theirs are together
 pub weighted_sum-append : (xs ys : List Task) → weighted_sum (xs ++ ys) ≡ weighted_sum xs + weighted_sum ys
 weighted_sum-append [] ys = omega arith
 weighted_sum-append (x ∷ xs) ys = let e = weighted_sum-append xs ys in omega arith
@@ -39,6 +41,7 @@ assoc_by_tests x y z false true d p q r = rw (p, q) refl
 assoc_by_tests x y z false false true p q r = let t = is_earlier-trans_not x y z p q in cc
 assoc_by_tests x y z false false false p q r = rw (p, q, r, p) refl
 
+-- the earliest of three is the same whichever two are compared first
 pub earlier_of-assoc : (x y z : Due) → earlier_of (earlier_of x y) z ≡ earlier_of x (earlier_of y z)
 earlier_of-assoc x y z = assoc_by_tests x y z (is_earlier y x) (is_earlier z y) (is_earlier z x) refl refl refl
 
@@ -60,6 +63,7 @@ comm_by_tests x y true false p q = rw (p, q) refl
 comm_by_tests x y false true p q = rw (p, q) refl
 comm_by_tests x y false false p q = rw (p, q) (same_due x y q p)
 
+-- the earlier of two is the same in either order
 pub earlier_of-comm : (x y : Due) → earlier_of x y ≡ earlier_of y x
 earlier_of-comm x y = comm_by_tests x y (is_earlier y x) (is_earlier x y) refl refl
 
@@ -68,6 +72,7 @@ earliest_of-sooner x None b = refl
 earliest_of-sooner x (Some y) None = refl
 earliest_of-sooner x (Some y) (Some z) = sym (earlier_of-assoc x y z)
 
+-- the first due of two lists joined is the sooner of the first of each
 pub first_due-append : (xs ys : List Task) → first_due (xs ++ ys) ≡ sooner_of (first_due xs) (first_due ys)
 first_due-append [] ys = refl
 first_due-append (x ∷ xs) ys =
@@ -76,6 +81,7 @@ first_due-append (x ∷ xs) ys =
     ∙ ap (λ d. Some d) (earliest_of-sooner (due_of x) (first_due xs) (first_due ys))
     ∙ ap (λ o. sooner_of o (first_due ys)) (sym (first_due-cons x xs))
 
+-- the earliest of a node and its two sides is the same, whether the left side is compared last or right after the node
 pub fork_of : (d : Due) (a b : Option Due) → sooner_of a (Some (earliest_of d b)) ≡ Some (earliest_of (earliest_of d a) b)
 fork_of d None b = refl
 fork_of d (Some x) None = ap (λ e. Some e) (earlier_of-comm x d)
@@ -134,12 +140,14 @@ added-cancel s r t e =
     let count = ap (λ (q : Totals). q.count) e in
     same_sums _ _ _ _ _ _ (omega arith) (omega arith) (omega arith)
 
+-- the first due of a list is the earlier of one of its tasks and the first of all others
 pub first_due-cut : (xs : List Task) (t : Task) (ys : List Task) → first_due (xs ++ t ∷ ys) ≡ Some (earliest_of (due_of t) (first_due (xs ++ ys)))
 first_due-cut xs t ys =
     first_due-fork xs t ys
     ∙ ap (λ d. Some d) (sym (earliest_of-sooner (due_of t) (first_due xs) (first_due ys)))
     ∙ ap (λ o. Some (earliest_of (due_of t) o)) (sym (first_due-append xs ys))
 
+-- whether two have one deadline and one id
 abbrev pub is_same_due : Due → Due → Bool
 is_same_due a b = a.deadline == b.deadline && a.id == b.id
 

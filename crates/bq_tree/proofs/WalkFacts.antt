@@ -26,9 +26,11 @@ pub find-back : (p : Task → Bool) (xs ys : List Task) → find p xs ≡ None �
 find-back p [] ys h = refl
 find-back p (x ∷ xs) ys h = back_by_test (p x) x (find p xs) (find p (xs ++ ys)) (find p ys) h (find-back p xs ys)
 
+-- where none of the front passes the test, the task behind it that does is found
 pub find-here : (p : Task → Bool) (xs : List Task) (x : Task) (ys : List Task) → find p xs ≡ None → p x ≡ true → find p (xs ++ x ∷ ys) ≡ Some x
 find-here p xs x ys h e = find-back p xs (x ∷ ys) h ∙ rw e refl
 
+-- where none of the front nor the task behind it passes the test, what is found is found in the rest
 pub find-later : (p : Task → Bool) (xs : List Task) (x : Task) (ys : List Task) → find p xs ≡ None → p x ≡ false → find p (xs ++ x ∷ ys) ≡ find p ys
 find-later p xs x ys h e = find-back p xs (x ∷ ys) h ∙ rw e refl
 
