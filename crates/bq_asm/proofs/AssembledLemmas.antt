@@ -43,6 +43,7 @@ clean_from before (line ∷ lines) h =
       clean_from (before ++ line ∷ []) lines (subst IsClean (sym (append_assoc before (line ∷ []) lines)) h),
     )
 
+-- of lines without a fault, each has no cause by the lines before it
 pub clean_after : (lines : List Line) → IsClean lines → IsCleanAfter [] lines
 clean_after lines h = clean_from [] lines h
 
@@ -72,6 +73,7 @@ new_labels before (Instruction first operands ∷ lines) slot h =
     subst (λ ls. AreNewLabels ls (keys_of (places_from (slot + slots_of_line line) lines))) (labels_more before line ∙ append-nil (labels_in before))
     (new_labels (before ++ line ∷ []) lines (slot + slots_of_line line) h.1)
 
+-- lines without a fault set labels that are names, and none of them twice
 pub clean_labels : (lines : List Line) → IsClean lines → AreNewLabels [] (keys_of (places_from 0 lines))
 clean_labels lines h = new_labels [] lines 0 (clean_after lines h)
 
@@ -82,6 +84,7 @@ slots_of-spelled (insn.Branch w o d (Imm n) off) = refl
 slots_of-spelled (insn.Branch w o d (Reg s) off) = refl
 slots_of-spelled i = refl
 
+-- an instruction before others takes its own slots beside theirs
 pub slot_count-cons : (i : Insn) (insns : List Insn) → slot_count (i ∷ insns) ≡ slots_of i + slot_count insns
 slot_count-cons i insns = length-append (spelled i) (flat_map spelled insns) ∙ ap (λ n. n + slot_count insns) (slots_of-spelled i)
 
@@ -89,6 +92,7 @@ slot_count-cons i insns = length-append (spelled i) (flat_map spelled insns) ∙
 pub slots_same : (first : List ℕ) (operands : List (List ℕ)) (d : Option ℤ) (i : Insn) → instruction_of first operands d ≡ Ok i → slots_of_line (Instruction first operands) ≡ slots_of i
 slots_same first operands d i h = let again = read_again first operands d i h in ap slots_read again.read ∙ again.slots
 
+-- the instructions that lines say take as many slots as the lines
 pub says_count : (places : List (List ℕ × ℕ)) (slot : ℕ) (lines : List Line) (insns : List Insn) → Says places slot lines insns → slot_count insns ≡ slots_in lines
 says_count places slot [] [] h = refl
 says_count places slot [] (i ∷ insns) h = absurd h
@@ -112,6 +116,7 @@ lookup_near limit name (p ∷ places) h = by (bytes_eq name p.0) (lookup_near li
     by true rest = h.0
     by false rest = rest
 
+-- where all labels and the slot behind a jump lie within 4096 slots, the distance to a label fits a near target
 pub distance_fits : (places : List (List ℕ × ℕ)) (slot : ℕ) (name : List ℕ) → AllByRecursion (λ p. p.1 ≤ 4096) places → slot + 1 ≤ 4096 → DistanceFits (distance_to places slot name)
 distance_fits places slot name h k = by (lookup (bytes_eq name) places) (lookup_near 4096 name places h)
   where
@@ -128,6 +133,7 @@ some_slots (insn.Imm64 d v) = omega arith
 some_slots (insn.MapRef d n) = omega arith
 some_slots i = omega arith
 
+-- the instructions that lines say within 4096 slots are in range, and their numbers are of their fields' types
 pub says_fine : (places : List (List ℕ × ℕ)) (slot : ℕ) (lines : List Line) (insns : List Insn) → AllByRecursion (λ p. p.1 ≤ 4096) places → slot + slot_count insns ≤ 4096 → Says places slot lines insns → AreFine insns
 says_fine places slot [] [] near few h = record { in_range = refl; fit = tt }
 says_fine places slot [] (i ∷ insns) near few h = absurd h

@@ -23,6 +23,7 @@ readable before Blank h = tt
 readable before (Label name) h = tt
 readable before (Instruction first operands) h = read_from_cause (slots_in before) (instruction_of first operands (Some (pos 0))) h
 
+-- at a place within the lines stands what is read there, whatever is given for one past their end
 pub line_at : (lines : List Line) (k : ℕ) (d : Line) → k < length lines → slice_get lines k ≡ Some (get_or lines k d)
 line_at lines k d h = grind (arith, gets)
 
@@ -30,9 +31,11 @@ line_at lines k d h = grind (arith, gets)
 pub fault_at-is : (lines : List Line) (k : ℕ) (d : Line) → k < length lines → fault_at lines (suc k) ≡ cause_at (take k lines) (get_or lines k d)
 fault_at-is lines k d h = ap (option_and_then (cause_at (take k lines))) (line_at lines k d h)
 
+-- each of some lines without a fault can be read
 pub readable_from_clean : (lines : List Line) → IsClean lines → AllByRecursion IsReadable lines
 readable_from_clean lines clean = recursion_from_All IsReadable lines (λ k d h. readable (take k lines) (get_or lines k d) (sym (fault_at-is lines k d h) ∙ clean (suc k)))
 
+-- the first jump whose label is set nowhere, its line counted from 1, is the first cause of a missing label
 pub first_from_missing : (lines : List Line) (line : ℕ) → IsFirstMissing (labels_in lines) lines 1 line → IsFirst (missing_at lines) line LabelMissing
 first_from_missing lines line m =
     let here : line ≡ suc m.index = let at = m.at in omega arith in

@@ -12,6 +12,7 @@ before_first-some p text at h = by (nat_lt (position_or_len p text) (length text
     by true e = let same : position_or_len p text ≡ at = cc in ap (λ n. take n text) (sym same)
     by false e = absurd (let no : None ≡ Some at = e in cc)
 
+-- where no byte of a text passes, all of it stands before the first that would
 pub before_first-none : (p : ℕ → Bool) (text : List ℕ) → position p text ≡ None → text ≡ before_first p text
 before_first-none p text h = by (nat_lt (position_or_len p text) (length text)) refl h
   where

@@ -18,6 +18,7 @@ word_wins : (r : Result Operand Cause) → with_next r (Err cause.Word) ≡ Err 
 word_wins (Ok o) = refl
 word_wins (Err c) = ap (λ (x : Cause). Err x) (lesser_word c)
 
+-- more words or fewer than there are operands are refused for a word, whatever they write
 pub count_wrong : (ks : List Kind) (ws : List (List ℕ)) (d : Option ℤ) → (length ws ≡ length ks → ⊥) → each_operand ks ws d ≡ Err cause.Word
 count_wrong [] [] d h = absurd (h refl)
 count_wrong [] (w ∷ ws) d h = refl

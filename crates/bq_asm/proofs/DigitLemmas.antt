@@ -20,12 +20,14 @@ is_digit b = nat_le 48 b && nat_le b 57
 digit_is : (n : ℕ) → n < 10 → is_digit (48 + n) ≡ true
 digit_is n h = and_from (nat_le 48 (48 + n)) (nat_le (48 + n) 57) (le-leb 48 (48 + n) (omega arith)) (le-leb (48 + n) 57 (omega arith))
 
+-- where all elements of two lists pass a test, all of the two joined do
 pub list_all-append : (p : ℕ → Bool) (xs ys : List ℕ) → list_all p xs ≡ true → list_all p ys ≡ true → list_all p (xs ++ ys) ≡ true
 list_all-append p [] ys h k = k
 list_all-append p (x ∷ xs) ys h k =
     let parts = and_parts (p x) (list_all p xs) h in
     and_from (p x) (list_all p (xs ++ ys)) parts.0 (list_all-append p xs ys parts.1 k)
 
+-- where all elements pass a test, they pass each weaker one
 pub list_all-weaker : (p q : ℕ → Bool) → ((b : ℕ) → p b ≡ true → q b ≡ true) → (xs : List ℕ) → list_all p xs ≡ true → list_all q xs ≡ true
 list_all-weaker p q f [] h = refl
 list_all-weaker p q f (x ∷ xs) h =
@@ -46,6 +48,7 @@ all_below : (cs : List ℕ) → AllDigits 10 cs → list_all (λ c. nat_lt (digi
 all_below [] h = refl
 all_below (c ∷ cs) h = and_from (nat_lt (digit_value c) 10) (list_all (λ c. nat_lt (digit_value c) 10) cs) (lt-ltb (digit_value c) 10 h.0) (all_below cs h.1)
 
+-- the decimal digits of a number below 2^64 are read as that number
 pub number_of-decimal : (n : ℕ) → n < 2 ^ 64 → number_of 10 (decimal n) ≡ Some n
 number_of-decimal n h =
     let is = decimal_is_IsNumeral n h in
@@ -69,6 +72,7 @@ no_prefix (b ∷ c ∷ bs) h =
     let high : c ≤ 57 = leb-true c 57 (and_parts (nat_le 48 c) (nat_le c 57) second).1 in
     and_right (nat_eq 48 b) (nat_eq 120 c && true) (and_left (nat_eq 120 c) true (ne_eqb 120 c (λ e. omega arith)))
 
+-- so they are where a prefix of hex digits could stand
 pub magnitude_of-decimal : (n : ℕ) → n < 2 ^ 64 → magnitude_of (decimal n) ≡ Some n
 magnitude_of-decimal n h =
     ap (λ b. if b then number_of 16 (drop 2 (decimal n)) else number_of 10 (decimal n)) (no_prefix (decimal n) (decimal_digits n h)) ∙ number_of-decimal n h
@@ -77,13 +81,14 @@ first_no_sign : (bs : List ℕ) (s : ℕ) → 0 < length bs → list_all is_digi
 first_no_sign [] s some h lt = absurd (omega arith)
 first_no_sign (b ∷ bs) s some h lt = no_sign b bs s (and_parts (is_digit b) (list_all is_digit bs) h).0 lt
 
+-- a number in decimal begins with no byte that comes before the digits, as signs do
 pub decimal_no_sign : (n s : ℕ) → n < 2 ^ 64 → s < 48 → starts_with nat_eq (decimal n) (s ∷ []) ≡ false
 decimal_no_sign n s h lt = first_no_sign (decimal n) s (decimal_is_IsNumeral n h).0.0 (decimal_digits n h) lt
 
 below_is : (limit n : ℕ) (o : Option ℕ) → o ≡ Some n → n < limit → below limit o ≡ Some n
 below_is limit n o h lt = ap (below limit) h ∙ ap (λ b. if b then Some n else None) (lt-ltb n limit lt)
 
--- the numbers of immediates, offsets and distances
+-- a number of 32 bits, with a minus where it is negative, is read as itself where an immediate stands
 pub imm_of-signed : (z : ℤ) → FitsSigned w32 z → imm_of (signed_decimal z) ≡ Some z
 imm_of-signed (pos n) h =
     let lt : n < 2 ^ 31 = omega (arith, ints, h) in
@@ -94,6 +99,7 @@ imm_of-signed (negsuc n) h =
     let lt : suc n < 2 ^ 31 + 1 = omega (arith, ints, h) in
     ap (option_map negative) (below_is (2 ^ 31 + 1) (suc n) (magnitude_of (decimal (suc n))) (magnitude_of-decimal (suc n) (omega arith)) lt)
 
+-- a number of 16 bits with its sign is read as itself where an offset stands
 pub offset_of-signed : (z : ℤ) → FitsSigned w16 z → offset_of (signed_text z) ≡ Some z
 offset_of-signed (pos n) h =
     let lt : n < 2 ^ 15 = omega (arith, ints, h) in
@@ -102,6 +108,7 @@ offset_of-signed (negsuc n) h =
     let lt : suc n < 2 ^ 15 + 1 = omega (arith, ints, h) in
     ap (option_map negative) (below_is (2 ^ 15 + 1) (suc n) (magnitude_of (decimal (suc n))) (magnitude_of-decimal (suc n) (omega arith)) lt)
 
+-- a number of 32 bits with its sign is read as itself where a distance stands
 pub distance_of-signed : (z : ℤ) → FitsSigned w32 z → distance_of (signed_text z) ≡ Some z
 distance_of-signed (pos n) h =
     let lt : n < 2 ^ 31 = omega (arith, ints, h) in
@@ -110,6 +117,7 @@ distance_of-signed (negsuc n) h =
     let lt : suc n < 2 ^ 31 + 1 = omega (arith, ints, h) in
     ap (option_map negative) (below_is (2 ^ 31 + 1) (suc n) (magnitude_of (decimal (suc n))) (magnitude_of-decimal (suc n) (omega arith)) lt)
 
+-- a number below 2^64 in decimal is read as itself where a wide number stands
 pub wide_of-decimal : (n : ℕ) → n < 2 ^ 64 → wide_of (decimal n) ≡ Some n
 wide_of-decimal n h =
     let word = decimal n in
@@ -121,6 +129,7 @@ register_digit r h =
     let back : (48 + r) - 48 ≡ r = omega arith in
     ap (λ b. if b then Some ((48 + r) - 48) else None) (digit_is r h) ∙ ap (λ n. Some n) back
 
+-- the letter r and a number up to 10 in decimal are read as that register
 pub register_of-decimal : (r : ℕ) → r ≤ 10 → register_of (codes "r" ++ decimal r) ≡ Some r
 register_of-decimal r h = ⊎_elim
     (λ lt. ap (λ ds. register_of (codes "r" ++ ds)) (decimal_digit r lt) ∙ register_digit r lt)

@@ -27,10 +27,12 @@ use Rattle.bq_asm.specs.declared.draft.Draft.{Draft}
 use Rattle.bq_asm.specs.Draft.{TakesLine}
 use Rattle.bq_asm.specs.Jumps.{Awaited, awaited_by, places_of, draft_of, drafts_of, jump_at, jumps_from}
 
+-- lines joined to others take the slots of both
 pub slots_in-append : (xs ys : List Line) → slots_in (xs ++ ys) ≡ slots_in xs + slots_in ys
 slots_in-append [] ys = sym (zero-add (slots_in ys))
 slots_in-append (x ∷ xs) ys = ap (λ n. slots_of_line x + n) (slots_in-append xs ys) ∙ sym (add_assoc (slots_of_line x) (slots_in xs) (slots_in ys))
 
+-- the labels of lines joined to others are those of both, the others' counted from the slots of the first on
 pub places_from-append : (slot : ℕ) (xs ys : List Line) → places_from slot (xs ++ ys) ≡ places_from slot xs ++ places_from (slot + slots_in xs) ys
 places_from-append slot [] ys = ap (λ n. places_from n ys) (omega arith)
 places_from-append slot (x ∷ xs) ys =
@@ -38,6 +40,7 @@ places_from-append slot (x ∷ xs) ys =
     ap (λ ps. place_at slot x ++ ps) (places_from-append (slot + slots_of_line x) xs ys ∙ ap (λ n. places_from (slot + slots_of_line x) xs ++ places_from n ys) same)
     ∙ sym (append_assoc (place_at slot x) (places_from (slot + slots_of_line x) xs) (places_from (slot + (slots_of_line x + slots_in xs)) ys))
 
+-- the jumps of lines joined to others are those of both, the others' numbered from where the first end
 pub jumps_from-append : (index slot number : ℕ) (xs ys : List Line) → jumps_from index slot number (xs ++ ys)
     ≡ jumps_from index slot number xs ++ jumps_from (index + length (drafts_of xs)) (slot + slots_in xs) (number + length xs) ys
 jumps_from-append index slot number [] ys =
@@ -60,19 +63,23 @@ pub label_known : (name : List ℕ) (es : List (Bor (List ℕ) × ℕ)) (places 
 label_known name es places same =
     ap is_some (sym (lookup_places name es)) ∙ is_some-lookup (bytes_eq name) (map (λ e. (e.0.now, e.1)) es) ∙ ap (λ ps. list_any (bytes_eq name) (keys_of ps)) same
 
+-- with the label of one line more, set at the slots so far, a map has the labels of all lines
 pub labels_more : (es : List (Bor (List ℕ) × ℕ)) (name : Bor (List ℕ)) (slot : ℕ) (before : List Line) → map (λ e. (e.0.now, e.1)) es ≡ places_from 0 before → slot ≡ slots_in before
     → map (λ e. (e.0.now, e.1)) (es ++ (name, slot) ∷ []) ≡ places_from 0 (before ++ Label name.now ∷ [])
 labels_more es name slot before same at =
     let here : slot ≡ 0 + slots_in before = omega arith in
     map-append (λ e. (e.0.now, e.1)) es ((name, slot) ∷ []) ∙ (λ i. same i ++ (name.now, here i) ∷ []) ∙ sym (places_from-append 0 before (Label name.now ∷ []))
 
+-- the slots so far and those of one line more are the slots of all lines
 pub slots_more : (slots : ℕ) (before : List Line) (line : Line) → slots ≡ slots_in before → slots + slots_of_line line ≡ slots_in (before ++ line ∷ [])
 slots_more slots before line same = let more = slots_in-append before (line ∷ []) in omega arith
 
+-- the instructions so far and that of one line more are those of all lines
 pub drafts_more : (insns : List Insn) (before : List Line) (line : Line) → insns ≡ drafts_of before → insns ++ draft_of line ≡ drafts_of (before ++ line ∷ [])
 drafts_more insns before line same =
     ap (λ is. is ++ draft_of line) same ∙ ap (λ is. drafts_of before ++ is) (sym (append-nil (draft_of line))) ∙ sym (flat_map-append draft_of before (line ∷ []))
 
+-- the jumps so far and that of one line more are those of all lines
 pub jumps_more : (jumps : List Awaited) (index slots number : ℕ) (before : List Line) (line : Line) → jumps ≡ jumps_from 0 0 1 before → index ≡ length (drafts_of before) → slots ≡ slots_in before → number ≡ length before + 1
     → jumps ++ jump_at index slots number line ≡ jumps_from 0 0 1 (before ++ line ∷ [])
 jumps_more jumps index slots number before line same place slot count =
@@ -88,17 +95,20 @@ pub cause_of_label-is : (before : List (List ℕ)) (name : List ℕ) (known : Bo
 cause_of_label-is before name known valid test =
     ap (λ b. if b then (if list_any (bytes_eq name) before then Some LabelTwice else None) else Some Word) valid ∙ ap (λ b. if b then Some LabelTwice else None) test
 
+-- a place that the test for something fails is none
 pub none_from_is_some : (o : Option ℕ) → is_some o ≡ false → o ≡ None
 none_from_is_some None h = refl
 none_from_is_some (Some n) h = absurd (let e : true ≡ false = h in cc)
 
--- a line that says no instruction leaves these as they are
+-- a line that takes no slot leaves the slots as they are
 pub slots_kept : (slots : ℕ) (before : List Line) (line : Line) → slots ≡ slots_in before → slots_of_line line ≡ 0 → slots ≡ slots_in (before ++ line ∷ [])
 slots_kept slots before line same none = let more = slots_more slots before line same in omega arith
 
+-- a line that says no instruction leaves the instructions as they are
 pub drafts_kept : (insns : List Insn) (before : List Line) (line : Line) → insns ≡ drafts_of before → draft_of line ≡ [] → insns ≡ drafts_of (before ++ line ∷ [])
 drafts_kept insns before line same none = sym (append-nil insns) ∙ ap (λ is. insns ++ is) (sym none) ∙ drafts_more insns before line same
 
+-- a line that has no jump to a label leaves the jumps as they are
 pub jumps_kept : (jumps : List Awaited) (before : List Line) (line : Line) → jumps ≡ jumps_from 0 0 1 before → ((i s n : ℕ) → jump_at i s n line ≡ []) → jumps ≡ jumps_from 0 0 1 (before ++ line ∷ [])
 jumps_kept jumps before line same none =
     let index = length (drafts_of before) in
@@ -106,6 +116,7 @@ jumps_kept jumps before line same none =
     let number = length before + 1 in
     sym (append-nil jumps) ∙ ap (λ js. jumps ++ js) (sym (none index slots number)) ∙ jumps_more jumps index slots number before line same refl refl refl
 
+-- a line that sets no label leaves the labels as they are
 pub places_kept : (places : List (List ℕ × ℕ)) (before : List Line) (line : Line) → places ≡ places_from 0 before → ((slot : ℕ) → place_at slot line ≡ []) → places ≡ places_from 0 (before ++ line ∷ [])
 places_kept places before line same none =
     same ∙ sym (append-nil (places_from 0 before)) ∙ ap (λ ps. places_from 0 before ++ ps) (sym (append-nil []) ∙ ap (λ ps. ps ++ []) (sym (none (0 + slots_in before))))
@@ -117,7 +128,7 @@ insn_fits slots i read is fits =
     let e : nat_le (slots + slots_of i) 4096 ≡ true = grind (arith, nat_tests) in
     ap (cause_of_insn slots) is ∙ ap (λ b. if b then None else Some Slots) e
 
--- the words of a line are a first one and operands, or none
+-- a line with words says what the first of them and the others as operands say
 pub line_of-first : (words : List (Bor (List ℕ))) (d : Bor (List ℕ)) → 1 ≤ length words
     → line_of (texts words) ≡ said (get_or words 0 d).now (texts (take (length words - 1) (drop 1 words))) (label_set (get_or words 0 d).now (texts (take (length words - 1) (drop 1 words))))
 line_of-first [] d h = absurd (omega arith)
@@ -125,6 +136,7 @@ line_of-first (first ∷ operands) d h =
     let all : take (length (first ∷ operands) - 1) operands ≡ operands = take_all (length (first ∷ operands) - 1) operands (omega arith) in
     ap (λ os. said first.now (texts os) (label_set first.now (texts os))) (sym all)
 
+-- a line without words says nothing
 pub line_of-none : (words : List (Bor (List ℕ))) → length words < 1 → line_of (texts words) ≡ Blank
 line_of-none [] h = refl
 line_of-none (w ∷ ws) h = absurd (omega arith)

@@ -43,6 +43,7 @@ says_unique places slot (Instruction first operands ∷ lines) (i ∷ a) (j ∷ 
     let rest = says_unique places (slot + slots_of i) lines a b h.1 (subst (λ x. Says places (slot + slots_of x) lines b) (sym same) k.1) in
     λ n. same n ∷ rest n
 
+-- a text stands for at most one list of instructions
 pub one_program : OneProgram
 one_program text a b h k = says_unique (places_from 0 (lines_of text)) 0 (lines_of text) a b h.says k.says
 
@@ -132,6 +133,7 @@ missing_none : (text : List ℕ) (insns : List Insn) → Assembles text insns �
 missing_none text insns h zero = refl
 missing_none text insns h (suc k) = none_missing (places_from 0 (lines_of text)) 0 (lines_of text) insns h.says k
 
+-- a text that stands for instructions has no fault
 pub no_program_is_faulty : NoProgramIsFaulty
 no_program_is_faulty text insns line c h f =
     let clean = assembled_clean text insns h in
@@ -149,6 +151,7 @@ one_first f m n c d h k = ⊎_elim
     (λ apart. ⊎_elim (λ lt. absurd (none_is_some (f m) c (k.1 m lt) h.0)) (λ gt. absurd (none_is_some (f n) d (h.1 n gt) k.0)) apart)
     (cases_order m n)
 
+-- a text has at most one fault: one line, and there one cause
 pub one_fault : OneFault
 one_fault text m n c d h k = ⊎_elim
     (λ a. ⊎_elim (λ b. one_first (fault_at lines) m n c d a b)
@@ -189,6 +192,7 @@ clean_few before (line ∷ lines) few h =
     let rest = clean_few (before ++ line ∷ []) lines (omega (arith, more, here)) h.1 in
     omega (arith, more, rest)
 
+-- each text stands for instructions or has a fault
 pub each_text_is_judged : EachTextIsJudged
 unfolding IsNoneBelow
 each_text_is_judged text = ⊎_elim (λ none. clean (all_clean lines (length lines) refl (λ k le. none k (omega arith)))) (λ found. inr (found.0, found.1, inl found.2)) (sought (fault_at lines) (suc (length lines)))
@@ -227,5 +231,6 @@ entry_name word m (e ∷ es) h k =
         sym ((bytes_eq-Decides e.0 word).0 t) ∙ (bytes_eq-Decides e.0 (name_of e.1)).0 named ∙ ap name_of same
     by false t named found rest = rest found
 
+-- a first word that says something is the name of what it says
 pub one_name : OneName
 one_name word m h = entry_name word m table refl h

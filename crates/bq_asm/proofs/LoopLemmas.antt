@@ -22,6 +22,7 @@ use Rattle.bq_asm.proofs.CleanLemmas.{fault_at-is}
 abbrev pub said_so_far : List (Bor (List ℕ)) → List Line
 said_so_far yielded = map (λ line. line_said line.now) yielded
 
+-- the bytes of the lines so far say what these lines say
 pub said_is : (yielded : List (Bor (List ℕ))) → map line_said (map (λ line. line.now) yielded) ≡ said_so_far yielded
 said_is [] = refl
 said_is (line ∷ yielded) = ap (λ ls. line_said line.now ∷ ls) (said_is yielded)

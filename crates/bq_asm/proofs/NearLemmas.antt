@@ -20,12 +20,14 @@ All-seen {A} {B} P f xs ys same h = All-from_recursion (λ x. P (f x)) xs (each 
     each [] k = tt
     each (z ∷ zs) k = (k.0, each zs k.1)
 
+-- where lines end within a limit, each label that they set lies within it
 pub places_near : (limit slot : ℕ) (lines : List Line) → slot + slots_in lines ≤ limit → AllByRecursion (λ p. p.1 ≤ limit) (places_from slot lines)
 places_near limit slot [] h = tt
 places_near limit slot (Blank ∷ lines) h = places_near limit (slot + 0) lines (omega arith)
 places_near limit slot (Label name ∷ lines) h = (omega arith, places_near limit (slot + 0) lines (omega arith))
 places_near limit slot (Instruction first operands ∷ lines) h = places_near limit (slot + slots_of_line (Instruction first operands)) lines (omega arith)
 
+-- a jump whose next slot is within a limit, and which is one of so many instructions
 abbrev pub IsNear : ℕ → ℕ → Awaited → Type 0
 IsNear limit count jump = (jump.next ≤ limit) × (jump.index < count)
 
@@ -38,6 +40,7 @@ read_near : (limit count index slot line : ℕ) (operands : List (List ℕ)) (re
 read_near limit count index slot line operands (Err c) more h k rest = rest
 read_near limit count index slot line operands (Ok i) more h k rest = awaited_near limit count index (slot + slots_of i) line (target_of i operands) more h (omega arith) rest
 
+-- where lines end within a limit, each of their jumps to labels does, and is one of their instructions
 pub jumps_near : (limit count index slot number : ℕ) (lines : List Line) → slot + slots_in lines ≤ limit → index + length (drafts_of lines) ≤ count → AllByRecursion (IsNear limit count) (jumps_from index slot number lines)
 jumps_near limit count index slot number [] h k = tt
 jumps_near limit count index slot number (Blank ∷ lines) h k = jumps_near limit count (index + 0) (slot + 0) (number + 1) lines (omega arith) (omega arith)

@@ -14,15 +14,18 @@ use Rattle.bq_asm.specs.Operands.{number_place, register_place, source_place, is
 use Rattle.bq_asm.specs.Text.{signed_text, operand_text}
 use Rattle.bq_asm.proofs.DigitLemmas.{is_digit, decimal_digits, list_all-weaker, imm_of-signed, offset_of-signed, distance_of-signed, wide_of-decimal, register_of-decimal}
 
+-- the text of a register is read as that register where a register stands
 pub register_again : (r : ℕ) (d : Option ℤ) → r ≤ 10 → operand_of kind.Register (operand_text (operand.Register r)) d ≡ Ok (operand.Register r)
 register_again r d h = ap register_place (register_of-decimal r h)
 
+-- the text of a register is read as that register where a source stands
 pub source_register_again : (r : ℕ) (d : Option ℤ) → r ≤ 10 → operand_of kind.Source (operand_text (operand.Register r)) d ≡ Ok (operand.Register r)
 source_register_again r d h = ap (λ o. source_place o (operand_text (operand.Register r))) (register_of-decimal r h)
 
 number_is : (z : ℤ) → FitsSigned w32 z → number_place (option_map (λ z. operand.Number z) (imm_of (signed_decimal z))) (signed_decimal z) ≡ Ok (operand.Number z)
 number_is z h = ap (λ o. number_place (option_map (λ z. operand.Number z) o) (signed_decimal z)) (imm_of-signed z h)
 
+-- the text of a number is read as that number where a number stands
 pub number_again : (z : ℤ) (d : Option ℤ) → FitsSigned w32 z → operand_of kind.Number (operand_text (operand.Number z)) d ≡ Ok (operand.Number z)
 number_again z d h = number_is z h
 
@@ -44,9 +47,11 @@ signed_no_register : (z : ℤ) → FitsSigned w32 z → register_of (signed_deci
 signed_no_register (pos n) h = digits_no_register (decimal n) (decimal_digits n (omega (arith, ints, h)))
 signed_no_register (negsuc n) h = no_register 45 (decimal (suc n)) (λ e. omega arith)
 
+-- the text of a number is read as that number where a source stands, since it is no register
 pub source_number_again : (z : ℤ) (d : Option ℤ) → FitsSigned w32 z → operand_of kind.Source (operand_text (operand.Number z)) d ≡ Ok (operand.Number z)
 source_number_again z d h = ap (λ o. source_place o (signed_decimal z)) (signed_no_register z h) ∙ number_is z h
 
+-- the text of a wide number is read as that number where a wide one stands
 pub wide_again : (n : ℕ) (d : Option ℤ) → n < 2 ^ 64 → operand_of kind.Wide (operand_text (operand.Wide n)) d ≡ Ok (operand.Wide n)
 wide_again n d h = ap (λ o. number_place (option_map (λ n. operand.Wide n) o) (decimal n)) (wide_of-decimal n h)
 
@@ -61,12 +66,14 @@ signed_no_label : (z : ℤ) → is_label (signed_text z) ≡ false
 signed_no_label (pos n) = sign_no_label 43 (decimal n) refl
 signed_no_label (negsuc n) = sign_no_label 45 (decimal (suc n)) refl
 
+-- the text of a near target is read as its distance, and not as a label
 pub near_again : (z : ℤ) (d : Option ℤ) → FitsSigned w16 z → operand_of kind.Near (operand_text (operand.Near z)) d ≡ Ok (operand.Near z)
 near_again z d h =
     let word = signed_text z in
     ap (λ b. if b then label_place (option_map (λ z. operand.Near z) d) else number_place (option_map (λ z. operand.Near z) (offset_of word)) word) (signed_no_label z)
     ∙ ap (λ o. number_place (option_map (λ z. operand.Near z) o) word) (offset_of-signed z h)
 
+-- the text of a far target is read as its distance, and not as a label
 pub far_again : (z : ℤ) (d : Option ℤ) → FitsSigned w32 z → operand_of kind.Far (operand_text (operand.Far z)) d ≡ Ok (operand.Far z)
 far_again z d h =
     let word = signed_text z in
@@ -125,6 +132,7 @@ inner_again : (r : ℕ) (z : ℤ) → r ≤ 10 → FitsSigned w16 z → memory_p
 inner_again r (pos n) h k = cut_base r 43 (decimal n) (pos n) h refl (offset_of-signed (pos n) k)
 inner_again r (negsuc n) h k = cut_base r 45 (decimal (suc n)) (negsuc n) h refl (offset_of-signed (negsuc n) k)
 
+-- the text of a base and an offset in brackets is read as that place in memory
 pub memory_again : (r : ℕ) (z : ℤ) (d : Option ℤ) → r ≤ 10 → FitsSigned w16 z → operand_of kind.Memory (operand_text (operand.Memory r z)) d ≡ Ok (operand.Memory r z)
 memory_again r z d h k =
     let regrouped : decimal r ++ (signed_text z ++ codes "]") ≡ (decimal r ++ signed_text z) ++ codes "]" = sym (append_assoc (decimal r) (signed_text z) (codes "]")) in

@@ -39,6 +39,7 @@ either : {A : Type 0} (P : A → Type 0) (b : Bool) (x y : Option A) → IfSome 
 either P true x y h k = h
 either P false x y h k = k
 
+-- what is read as an immediate fits 32 bits with a sign
 pub imm_fits : (w : List ℕ) → IfSome (imm_of w) (FitsSigned w32)
 imm_fits w =
     let minus = below (2 ^ 31 + 1) (magnitude_of (drop 1 w)) in
@@ -47,6 +48,7 @@ imm_fits w =
     (mapped (λ n. n < 2 ^ 31 + 1) (FitsSigned w32) negative negative_fits minus (below_limit (2 ^ 31 + 1) (magnitude_of (drop 1 w))))
     (mapped (λ n. n < 2 ^ 31) (FitsSigned w32) (λ n. pos n) positive_fits plain (below_limit (2 ^ 31) (magnitude_of w)))
 
+-- what is read as a distance fits 32 bits with a sign
 pub distance_fits : (w : List ℕ) → IfSome (distance_of w) (FitsSigned w32)
 distance_fits w =
     let size = magnitude_of (drop 1 w) in
@@ -57,6 +59,7 @@ distance_fits w =
     (mapped (λ n. n < 2 ^ 31 + 1) (FitsSigned w32) negative negative_fits minus (below_limit (2 ^ 31 + 1) size))
     (either (FitsSigned w32) (starts_with nat_eq w (codes "+")) (option_map (λ n. pos n) plus) None (mapped (λ n. n < 2 ^ 31) (FitsSigned w32) (λ n. pos n) positive_fits plus (below_limit (2 ^ 31) size)) tt)
 
+-- what is read as an offset fits 16 bits with a sign
 pub offset_fits : (w : List ℕ) → IfSome (offset_of w) (FitsSigned w16)
 offset_fits w =
     let size = magnitude_of (drop 1 w) in
@@ -86,6 +89,7 @@ at_most o h = by (below 1 o) h
     by None k = tt
     by (Some n) k = omega arith
 
+-- what is read as a wide number fits 64 bits
 pub wide_fits : (w : List ℕ) → IfSome (wide_of w) (λ n. n < 2 ^ 64)
 wide_fits w = either (λ n. n < 2 ^ 64) (starts_with nat_eq w (codes "-")) (below 1 (magnitude_of (drop 1 w))) (magnitude_of w) (at_most (magnitude_of (drop 1 w)) (below_limit 1 (magnitude_of (drop 1 w)))) (magnitude_fits w)
 
@@ -98,6 +102,7 @@ one_digit r d = by (r == 114) (nat_le 48 d) (nat_le d 57) refl
     by true false c e = tt
     by false b c e = tt
 
+-- what is read as a register is one of r0 to r10
 pub register_fits : (w : List ℕ) → IfSome (register_of w) (λ r. r ≤ 10)
 register_fits (r ∷ d ∷ []) = one_digit r d
 register_fits (r ∷ d ∷ e ∷ []) = either (λ r. r ≤ 10) ((r == 114) && ((d == 49) && (e == 48))) (Some 10) None (omega arith) tt

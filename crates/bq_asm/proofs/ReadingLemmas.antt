@@ -23,6 +23,7 @@ use Rattle.bq_asm.specs.Numbers.{register_of, offset_of, distance_of}
 use Rattle.bq_asm.specs.Jumps.{is_jump, target_of, aimed}
 use Rattle.bq_asm.proofs.CountLemmas.{count_wrong}
 
+-- whether a first word says a jump
 abbrev pub jumps : Mnemonic → Bool
 jumps name.Goto = true
 jumps name.Goto32 = true
@@ -78,6 +79,7 @@ pub made_from : (m : Mnemonic) (r : Result (List Operand) Cause) (i : Insn) → 
 made_from m (Err c) i h = absurd (let e : Err c ≡ Ok i = h in cc)
 made_from m (Ok os) i h = (os, refl, some_from_ok (insn_from m os) i h)
 
+-- an instruction that is made is a jump, and has its size, by its first word
 pub made_shape : (m : Mnemonic) (r : Result (List Operand) Cause) (i : Insn) → made m r ≡ Ok i → HasShape m i
 made_shape m r i h = let from = made_from m r i h in shaped_by m from.0 i from.2
 
@@ -111,6 +113,7 @@ pub record IsSteady (m : Mnemonic) (operands : List (List ℕ)) : Type 0 where
   pub same : (d e : Option ℤ) → read m operands d ≡ read m operands e
   pub none : (i : Insn) → read m operands (Some (pos 0)) ≡ Ok i → target_of i operands ≡ None
 
+-- what is read, with this distance where it is a jump
 abbrev pub aimed_by : ℤ → Result Insn Cause → Result Insn Cause
 aimed_by z (Ok i) = Ok (aimed i z)
 aimed_by z (Err c) = Err c
@@ -231,6 +234,7 @@ module _ (width : Width) (cond : Condition) where
         never = λ i h. branch_never first second cause.LabelMissing i (sym (at None) ∙ h);
       })
 
+-- either the distance does not matter for what is read, or a label stands in the target's place
 pub depends : (m : Mnemonic) (operands : List (List ℕ)) → IsSteady m operands ⊎ IsAimed m operands
 unfolding is_steady
 depends name.Goto [] = inl (miscounted name.Goto [] (λ e. omega arith))
@@ -310,12 +314,14 @@ read_again first operands d i h = by (named first) refl h
         (λ a. let j = awaited m a d k in sized m j.0 n k j.1)
         (depends m operands)
 
+-- a jump takes one slot
 pub jump_slots : (i : Insn) → is_jump i ≡ true → slots_of i ≡ 1
 jump_slots (insn.Goto off) h = refl
 jump_slots (insn.Goto32 n) h = refl
 jump_slots (insn.Branch w c d src off) h = refl
 jump_slots i h = not_false h
 
+-- a jump takes the same slots whatever its distance, and other instructions do not change
 pub aimed_slots : (i : Insn) (z : ℤ) → slots_of (aimed i z) ≡ slots_of i
 aimed_slots (insn.Goto off) z = refl
 aimed_slots (insn.Goto32 n) z = refl

@@ -30,6 +30,7 @@ use Rattle.bq_asm.proofs.ReadingLemmas.{made_from}
 abbrev pub DistanceFits : Option ℤ → Type 0
 DistanceFits d = IfSome d (FitsSigned w16)
 
+-- the numbers of an operand are in the ranges of its kind
 abbrev pub Good : Operand → Type 0
 Good (operand.Register r) = r ≤ 10
 Good (operand.Number z) = FitsSigned w32 z
