@@ -33,12 +33,14 @@ pub record IsLevel (E r : ℕ) (p : Running) : Type 0 where
   pub runs : (t : Task) → p.current ≡ Some t → weight_at p * t.v ≤ moment_at p + E
   pub each : (i : ℕ) (t : Task) → task_at i p ≡ Some t → weight_at p * t.v ≤ moment_at p + most_ahead E r (weight_at p) t.weight
 
+-- at a balanced processor the task that runs and the task of each id keep their bounds
 pub level : (E r : ℕ) (p : Running) → IsBalanced E r p → IsLevel E r p
 level E r p b = record {
   runs = λ t e. of_some (λ x. weight_at p * x.v ≤ moment_at p + E) p.current t b.current e;
   each = λ i t f. of_each (λ x. weight_at p * x.v ≤ moment_at p + most_ahead E r (weight_at p) x.weight) p i t b.each f;
 }
 
+-- a well formed processor where the task that runs and the task of each id keep their bounds is balanced
 pub balanced : (E r : ℕ) (p : Running) → IsWellFormed p → IsLevel E r p → IsBalanced E r p
 balanced E r p w l = record {
   current = IfSome-from (λ t. weight_at p * t.v ≤ moment_at p + E) p.current l.runs;
@@ -55,6 +57,7 @@ moment_up_by d p now (Some t) e w =
     let up : t.v ≤ min (t.v + vdelta_of (rise p now) t.weight) (2 ^ 62) = omega arith in
     omega (arith, weighted_sum-busy d p now t e, mul-le-mul_left t.weight up)
 
+-- a Tick does not lower the sum of weight times v
 pub moment_up : (d : Discipline) (p : Running) (now : ℕ) → IsWellFormed p → moment_at p ≤ moment_at (ticked d p now)
 moment_up d p now w = moment_up_by d p now p.current refl w
 
@@ -108,18 +111,21 @@ level_ticked E r p now s w l le =
           rw (total_weight-ticked eevdf p now, rs.weight) h;
     }
 
+-- where no task is ahead of the mean by more than E, the processor is balanced
 pub begins_balanced : BeginsBalanced
 begins_balanced E r p h = record {
   current = IfSome-from (λ t. weight_at p * t.v ≤ moment_at p + E) p.current (λ t e. of_each (λ x. weight_at p * x.v ≤ moment_at p + E) p t.id t h (current_present p.queue p.kept p.current p.last t e));
   each = All-weaker (λ x. weight_at p * x.v ≤ moment_at p + E) (λ x. weight_at p * x.v ≤ moment_at p + most_ahead E r (weight_at p) x.weight) (λ x k. omega arith) (present_at p) h;
 }
 
+-- a Tick at which the clock rises by at most r keeps a processor sound and balanced
 pub stays_balanced : StaysBalanced
 stays_balanced E r p now s b le =
     let w = well_formed p s in
     let next = well_formed_ticked eevdf p now w in
     (sound (ticked eevdf p now) next, balanced E r (ticked eevdf p now) next (level_ticked E r p now s w (level E r p b) le))
 
+-- any number of Ticks at which the clock rises by at most r keep a processor sound and balanced
 pub history_stays_balanced : HistoryStaysBalanced
 history_stays_balanced E r p [] s b le = (s, b)
 history_stays_balanced E r p (now ∷ nows) s b le =

@@ -123,6 +123,7 @@ fair_ticked V r p now w fair le = record {
       omega arith;
 }
 
+-- any number of Ticks at which the clock rises by at most r keep each task as near the others
 pub fair_history : (V r : ℕ) (p : Running) (nows : List ℕ) → IsWellFormed p → IsFair V r p → RisesByAtMost r cfs p nows → IsFair V r (history cfs p nows)
 fair_history V r p [] w fair le = fair
 fair_history V r p (now ∷ nows) w fair le =

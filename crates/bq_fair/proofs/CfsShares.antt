@@ -28,9 +28,11 @@ shares N r (x ∷ xs) h =
     let product = ap (λ k. 1024 * r * k) n in
     omega arith
 
+-- where N is at most what was served and the most at the start, the bound by N is one by these
 pub share_by : (M W N most B s r n : ℕ) → M + B ≤ W * N + 1024 * r * n → N ≤ s + most → M + B ≤ W * (s + most) + 1024 * r * n
 share_by M W N most B s r n h le = omega (arith, mul-le-mul_left W le)
 
+-- under CFS each task is served its share of what is booked, but for a bound that the history does not move
 pub serves_its_share : CfsServesItsShare
 serves_its_share V r p nows j b s room h le f =
     let w = well_formed p s in
@@ -46,18 +48,21 @@ serves_its_share V r p nows j b s room h le f =
     let v = u.2 in
     share_by (moment_at p) (weight_at p) N (max V (b.v + 1000000)) (booked cfs p nows) (served j cfs p nows) r (length (present_at p)) m (omega arith)
 
+-- where no v is below L, the weighted sum is at least L times the weights together
 pub least_under : (L : ℕ) (xs : List Task) → AllByRecursion (λ t. L ≤ t.v) xs → total_weight xs * L ≤ weighted_sum xs
 least_under L [] h = omega arith
 least_under L (x ∷ xs) h =
     let here = mul-le-mul_left x.weight h.0 in
     omega (arith, here, least_under L xs h.1)
 
+-- where a task was served nothing, the bound on what is booked is one on the time that passes
 pub waiting_by : (M W L S g most B A s r n c : ℕ) → s ≡ 0 → W * L ≤ M → most ≤ L + S + g → M + B ≤ W * (s + most) + 1024 * r * n → A ≤ B + c → A ≤ W * (S + g) + 1024 * r * n + c
 waiting_by M W L S g most B A s r n c none low le h near =
     let nothing : s + most ≤ L + S + g = omega arith in
     let product = mul-le-mul_left W nothing in
     omega arith
 
+-- under CFS, while a task is served nothing the clock rises by no more than a bound
 pub cfs_waiting : CfsWaiting
 cfs_waiting L S r p nows j b s room h le busy f none =
     let V = L + S in

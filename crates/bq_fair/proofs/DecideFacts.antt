@@ -27,5 +27,6 @@ decided_keeps d q kept (Some u) last true h =
       last = last_exchanged q kept last u (with_id i q);
     }
 
+-- a decision keeps who is present, whatever the answer is
 pub keeps_present : (d : Discipline) (p : Running) (b : Bool) → HasDistinctIds (present_at p) → KeepsPresent p (decided d p p.current b)
 keeps_present d p b h = decided_keeps d p.queue p.kept p.current p.last b h

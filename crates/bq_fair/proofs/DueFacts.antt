@@ -51,9 +51,11 @@ charged_dues t x ends h =
     let r = renewed_by_test t.v v t.slice t.weight t.deadline (nat_le t.deadline v) refl low high (omega arith) (omega arith) in
     record { due = record { low = r.0; high = r.1 }; up = r.2 }
 
+-- a task that is charged is still due no earlier than it stands, and no later than one slice from there
 pub charged_due : (t : Task) (x : ℕ) → t.v ≤ 2 ^ 62 → IsDue t → IsDue (charged eevdf t x)
 charged_due t x ends h = (charged_dues t x ends h).due
 
+-- the deadline of a task does not fall as it is charged
 pub charged_later : (t : Task) (x : ℕ) → t.v ≤ 2 ^ 62 → IsDue t → t.deadline ≤ (charged eevdf t x).deadline
 charged_later t x ends h = (charged_dues t x ends h).up
 
@@ -88,6 +90,7 @@ before_due_by xs m t false e c first dm dt =
     let low = dt.low in
     omega arith
 
+-- the eligible task that is due first stands no later than any is due
 pub before_due : (xs : List Task) (m t : Task) (j : ℕ) → HasDistinctIds xs → earliest xs ≡ Some m → with_id j xs ≡ Some t → IsDue m → IsDue t → m.v ≤ t.deadline
 before_due xs m t j d e f dm dt =
     let c = Contains-with_id j xs t f in
@@ -141,11 +144,13 @@ timely_ticked V r p now w timely le =
           omega arith;
     }
 
+-- any number of Ticks at which the clock rises by at most r keep each task as near the deadlines
 pub timely_history : (V r : ℕ) (p : Running) (nows : List ℕ) → IsWellFormed p → IsTimely V r p → RisesByAtMost r eevdf p nows → IsTimely V r (history eevdf p nows)
 timely_history V r p [] w timely le = timely
 timely_history V r p (now ∷ nows) w timely le =
     timely_history V r (ticked eevdf p now) nows (well_formed_ticked eevdf p now w) (timely_ticked V r p now w timely le.0) le.1
 
+-- where no v is beyond V at the start, none is beyond V or a deadline by more than one rise
 pub timely_at_start : (V r : ℕ) (p : Running) → HasDeadlines p → All (λ t. t.v ≤ V) (present_at p) → IsTimely V r p
 timely_at_start V r p due h =
     let two : Task → Type 0 = λ x. (x.v ≤ x.deadline) × (x.deadline ≤ x.v + vdelta_of x.slice x.weight) in
@@ -155,6 +160,7 @@ timely_at_start V r p due h =
       each = λ i j u t f g. let le = of_each (λ (x : Task). x.v ≤ V) p i u h f in omega arith;
     }
 
+-- where no v is beyond V at the start, none is ever beyond V or another's deadline by more than one rise
 pub none_is_beyond_a_deadline : NoneIsBeyondADeadline
 none_is_beyond_a_deadline V r p nows s due h le =
     let w = well_formed p s in

@@ -20,6 +20,7 @@ weighted_sum-charged : (p : Running) (now : ℕ) → weighted_sum (present_at (t
 weighted_sum-charged p now =
     weighted_sum-sum (present_at (ticked eevdf p now)) ∙ sum_ticked (λ (t : Task). t.weight * t.v) eevdf p now ∙ sym (weighted_sum-sum (present_at (charge eevdf p now)))
 
+-- under EEVDF the task that runs after a Tick is eligible
 pub tick_runs_eligible : TickRunsEligible
 tick_runs_eligible p now s =
     let c = charge eevdf p now in

@@ -12,6 +12,7 @@ use Rattle.bq_fair.proofs.WorkFacts.{moves_the_sum, books_the_time}
 use Rattle.bq_fair.proofs.BalanceFacts.{history_stays_balanced}
 use Rattle.bq_fair.proofs.OwedFacts.{none_is_owed_long}
 
+-- under EEVDF each task is served its share of what is booked, but for what it may be owed
 pub serves_its_share : EevdfServesItsShare
 serves_its_share E r p nows j b s room bal le f =
     let w = well_formed p s in
@@ -25,6 +26,7 @@ serves_its_share E r p nows j b s room bal le f =
 proportion_by : (w W x y M A B : ℕ) → W * x ≤ M + A → w * M ≤ w * (W * y) + B → w * (W * x) ≤ w * (W * y) + w * A + B
 proportion_by w W x y M A B ahead owed = omega (arith, mul-le-mul_left w ahead)
 
+-- under EEVDF a task comes beyond another by no more than it may be ahead and the other may be owed
 pub serves_in_proportion : EevdfServesInProportion
 serves_in_proportion E r p nows i j a b s room bal le f g =
     let w = well_formed p s in
@@ -46,6 +48,7 @@ waiting_by w M W v A B c s rest none near owed =
     let product = mul-le-mul_left w near in
     omega arith
 
+-- under EEVDF, while a task is served nothing the clock rises by no more than a bound
 pub eevdf_waiting : EevdfWaiting
 eevdf_waiting E r p nows j b s room bal le busy f none =
     let owed = serves_its_share E r p nows j b s room bal le f in

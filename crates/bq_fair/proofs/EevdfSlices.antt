@@ -19,6 +19,7 @@ use Rattle.bq_fair.proofs.DueFacts.{timely_history, timely_at_start}
 owed_by : (M W N most r n : ℕ) → M ≤ W * N + 1024 * r * n → N ≤ most → M ≤ W * most + 1024 * r * n
 owed_by M W N most r n h le = omega (arith, mul-le-mul_left W le)
 
+-- what a task is owed is bounded by its own slice or where all began, and by a rise for each task
 pub owed_by_slices : EevdfOwedBySlices
 owed_by_slices V r p nows j b s due h le f =
     let w = well_formed p s in
@@ -31,6 +32,7 @@ owed_by_slices V r p nows j b s due h le f =
     let high = (timely.due j b f).high in
     owed_by (moment_at q) (weight_at q) N (max V (b.v + vdelta_of b.slice b.weight)) r (length (present_at q)) sum (omega arith)
 
+-- each task is served its share of what is booked, but for its slice or where all began, and a rise for each task
 pub shares_by_slices : EevdfSharesBySlices
 shares_by_slices V r p nows j b s room due h le f =
     let w = well_formed p s in
@@ -48,6 +50,7 @@ shares_by_slices V r p nows j b s room due h le f =
     let high_own = rw (u.3, u.4) at high in
     share_by (moment_at p) (weight_at p) N (max V (b.v + vdelta_of b.slice b.weight)) (booked eevdf p nows) (served j eevdf p nows) r (length (present_at p)) m (omega arith)
 
+-- while a task is served nothing the clock rises by no more than its slice, the spread at the start and rises allow
 pub waits_by_slices : EevdfWaitsBySlices
 waits_by_slices L S r p nows j b s room due h le busy f none =
     let V = L + S in

@@ -27,6 +27,7 @@ chosen_by xs (Some m) h d =
 earliest_is_chosen : (xs : List Task) → HasDistinctIds xs → IfSome (earliest xs) (IsChosen xs)
 earliest_is_chosen xs d = chosen_by xs (earliest xs) (first_by-member due_before (eligible xs)) d
 
+-- of the tasks of a list that are eligible, this one is due first
 abbrev pub IsEarliestOf : List Task → Task → Type 0
 IsEarliestOf xs t = earliest xs ≡ Some t
 

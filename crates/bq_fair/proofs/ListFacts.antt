@@ -15,11 +15,12 @@ All-from_ids P xs d h = λ k x l.
     let c = Contains-get_or xs k x l in
     h t.id t (with_id-Contains xs t c.0 d c.1 c.2)
 
--- of a value that is there, in two ways
+-- what holds if a value is there holds of the value that is there
 pub of_some : (P : Task → Type 0) (o : Option Task) (t : Task) → IfSome o P → o ≡ Some t → P t
 of_some P None t h e = cc
 of_some P (Some x) t h e = let same : x ≡ t = cc in rw same at h
 
+-- what holds of whatever value is there holds if one is there
 pub IfSome-from : (P : Task → Type 0) (o : Option Task) → ((t : Task) → o ≡ Some t → P t) → IfSome o P
 IfSome-from P None h = tt
 IfSome-from P (Some x) h = h x refl

@@ -27,6 +27,7 @@ owed_by W M w v T S B split sum h =
     let b = ap (λ n. n * M) split in
     omega arith
 
+-- at a balanced processor none is owed more than what the others are ahead by together
 pub none_is_owed_more : NoneIsOwedMore
 none_is_owed_more E r p j b s bal f =
     let xs = present_at p in
@@ -67,6 +68,7 @@ none_ahead : (E r W : ℕ) (xs : List Task) → length xs ≡ 0 → ahead_togeth
 none_ahead E r W [] h = refl
 none_ahead E r W (x ∷ xs) h = cc
 
+-- where n are present, none is owed more than n - 2 rises, its own share of one, and E for the weight of the others
 pub none_is_owed_long : NoneIsOwedLong
 none_is_owed_long E r p j b s bal f =
     let xs = present_at p in

@@ -36,6 +36,7 @@ pub record IsWellFormed (p : Running) : Type 0 where
   pub weights : (i : ℕ) (t : Task) → task_at i p ≡ Some t → IsWeight t.weight
   pub ends : (i : ℕ) (t : Task) → task_at i p ≡ Some t → t.v ≤ 2 ^ 62
 
+-- a sound processor is well formed, the task of each id being one that is present
 pub well_formed : (p : Running) → IsSound p → IsWellFormed p
 well_formed p s = record {
   distinct = s.distinct;
@@ -50,6 +51,7 @@ pub record Rises (d : Discipline) (p : Running) (now i : ℕ) (t u : Task) : Typ
   pub slice : u.slice ≡ t.slice
   pub most : charge_of i p now ≤ vdelta_of (rise p now) t.weight
 
+-- as time passes a task's v rises by its charge, which is no more than the rise takes, and its weight and slice stay
 pub rises : (d : Discipline) (p : Running) (now i : ℕ) (t u : Task) → t.v ≤ 2 ^ 62 → Change d p now i t u → Rises d p now i t u
 rises d p now i t u h (Stays e z) =
     let v : u.v ≡ t.v = ap (λ (x : Task). x.v) e in
@@ -88,6 +90,7 @@ HasRoomAt last t = 15 * t.v + 1024 * (2 ^ 48 - 1 - last) ≤ 15 * 2 ^ 62
 abbrev pub EachHasRoom : Running → Type 0
 EachHasRoom p = (i : ℕ) (t : Task) → task_at i p ≡ Some t → HasRoomAt p.last t
 
+-- where all that are present have room, the task of each id has
 pub each_has_room : (p : Running) → HasRoom p → EachHasRoom p
 each_has_room p h = λ i t f. of_each (HasRoomAt p.last) p i t h f
 
@@ -98,6 +101,7 @@ roomy last now v w c low le room =
     let most : 15 * c ≤ x * 1024 = omega (arith, vdelta_of-least x w low) in
     (omega arith, omega arith)
 
+-- a Tick leaves room for each task that had it
 pub room_ticked : (d : Discipline) (p : Running) (now : ℕ) → IsWellFormed p → EachHasRoom p → EachHasRoom (ticked d p now)
 room_ticked d p now w room i u f =
     let b = came d p now i u w.distinct f in
@@ -114,6 +118,7 @@ room_ticked d p now w room i u f =
 abbrev pub GotTo : Discipline → Running → List ℕ → ℕ → Task → Type 0
 GotTo d p nows i t = (u : Task) × (task_at i (history d p nows) ≡ Some u) × (u.v ≡ t.v + served i d p nows) × (u.weight ≡ t.weight) × (u.slice ≡ t.slice)
 
+-- a task with room gets in a history as far as it is served, with its weight and slice
 pub got_to : (d : Discipline) (p : Running) (nows : List ℕ) (i : ℕ) (t : Task) → IsWellFormed p → EachHasRoom p → task_at i p ≡ Some t → GotTo d p nows i t
 got_to d p [] i t w room f = (t, f, omega arith, refl, refl)
 got_to d p (now ∷ nows) i t w room f =
@@ -126,6 +131,7 @@ got_to d p (now ∷ nows) i t w room f =
     let rest = g.2 in
     (g.0, g.1, omega arith, g.3 ∙ r.weight, g.4 ∙ r.slice)
 
+-- any number of Ticks keep the processor well formed
 pub well_formed_history : (d : Discipline) (p : Running) (nows : List ℕ) → IsWellFormed p → IsWellFormed (history d p nows)
 well_formed_history d p [] w = w
 well_formed_history d p (now ∷ nows) w = well_formed_history d (ticked d p now) nows (well_formed_ticked d p now w)

@@ -103,6 +103,7 @@ entered_came : (d : Discipline) (p : Running) (t : Task) (i : ℕ) (u : Task) �
 entered_came d p t i u (inl f) = Was f
 entered_came d p t i u (inr e) = Entered (ap (λ x. Enter x) e)
 
+-- a task that is present after a step entered by it, or was there before, and was charged where time passed
 pub step_came : (d : Discipline) (p : Running) (s : Step) (i : ℕ) (u : Task) → HasDistinctIds (present_at p) → EntersNew p s → task_at i (stepped d p s) ≡ Some u → Came d p s i u
 step_came d p (Pass now) i u h n f = let c = charge_came d p now i u f in Charged now c.0 refl c.1 c.2
 step_came d p Decide i u h n f = Was (sym ((keeps_present d p (own_preempt d p.queue p.current) h).same i) ∙ f)
@@ -118,6 +119,7 @@ Goes d p (Enter x) i t u = u ≡ t
 Goes d p (Leave k) i t u = u ≡ t
 Goes d p Mark i t u = u ≡ t
 
+-- a task that was there is there after the step, and changed in no other way
 abbrev pub Going : Discipline → Running → Step → ℕ → Task → Option Task → Type 0
 Going d p s i t o = (u : Task) × (o ≡ Some u) × Goes d p s i t u
 

@@ -47,6 +47,7 @@ sum_run : (f : Task → ℕ) (q : List Task) (kept last : ℕ) (i : Option ℕ) 
 sum_run f q kept last None = refl
 sum_run f q kept last (Some i) = sum_started f i q (with_id i q) refl
 
+-- a decision leaves each sum over those that are present
 pub sum_decided : (f : Task → ℕ) (d : Discipline) (q : List Task) (kept : ℕ) (o : Option Task) (last : ℕ) (b : Bool) → (let p : Running = record { queue = q; kept = kept; current = o; last = last } in sum_over f (present_at (decided d p o b)) ≡ sum_over f (present_at p))
 sum_decided f d q kept None last b = sum_run f q kept last (id_of (d.choice q))
 sum_decided f d q kept (Some u) last false = refl
@@ -79,24 +80,27 @@ sum_idle f d p now e = sum_ticked f d p now ∙ charge_idle f d p.queue p.kept p
 pub sum_busy : (f : Task → ℕ) (d : Discipline) (p : Running) (now : ℕ) (t : Task) → p.current ≡ Some t → sum_over f (present_at (ticked d p now)) + f t ≡ sum_over f (present_at p) + f (charged d t (rise p now))
 sum_busy f d p now t e = ap (λ n. n + f t) (sum_ticked f d p now) ∙ charge_busy f d p.queue p.kept p.current p.last now t e
 
--- a sum of what a charge leaves as it is stays
 sum_stays_by : (f : Task → ℕ) (d : Discipline) (p : Running) (now : ℕ) (o : Option Task) → p.current ≡ o → ((t : Task) (n : ℕ) → f (charged d t n) ≡ f t) → sum_over f (present_at (ticked d p now)) ≡ sum_over f (present_at p)
 sum_stays_by f d p now None e h = sum_idle f d p now e
 sum_stays_by f d p now (Some t) e h = omega (arith, sum_busy f d p now t e, h t (rise p now))
 
+-- a Tick leaves a sum of what a charge leaves as it is
 pub sum_stays : (f : Task → ℕ) (d : Discipline) (p : Running) (now : ℕ) → ((t : Task) (n : ℕ) → f (charged d t n) ≡ f t) → sum_over f (present_at (ticked d p now)) ≡ sum_over f (present_at p)
 sum_stays f d p now h = sum_stays_by f d p now p.current refl h
 
 -- The totals as sums
 
+-- the weights together are the sum of each weight
 pub total_weight-sum : (xs : List Task) → total_weight xs ≡ sum_over (λ t. t.weight) xs
 total_weight-sum [] = refl
 total_weight-sum (x ∷ xs) = ap (λ n. x.weight + n) (total_weight-sum xs)
 
+-- the weighted sum is the sum of each weight times v
 pub weighted_sum-sum : (xs : List Task) → weighted_sum xs ≡ sum_over (λ t. t.weight * t.v) xs
 weighted_sum-sum [] = refl
 weighted_sum-sum (x ∷ xs) = ap (λ n. x.weight * x.v + n) (weighted_sum-sum xs)
 
+-- how many tasks there are is the sum of one for each
 pub length-sum : (xs : List Task) → length xs ≡ sum_over (λ t. 1) xs
 length-sum [] = refl
 length-sum (x ∷ xs) = omega (arith, length-sum xs)
@@ -113,15 +117,17 @@ pub weighted_sum-busy : (d : Discipline) (p : Running) (now : ℕ) (t : Task) �
 weighted_sum-busy d p now t e =
     omega (arith, sum_busy (λ (x : Task). x.weight * x.v) d p now t e, weighted_sum-sum (present_at (ticked d p now)), weighted_sum-sum (present_at p))
 
+-- where nothing runs a Tick leaves the weighted sum
 pub weighted_sum-idle : (d : Discipline) (p : Running) (now : ℕ) → p.current ≡ None → weighted_sum (present_at (ticked d p now)) ≡ weighted_sum (present_at p)
 weighted_sum-idle d p now e =
     weighted_sum-sum (present_at (ticked d p now)) ∙ sum_idle (λ (x : Task). x.weight * x.v) d p now e ∙ sym (weighted_sum-sum (present_at p))
 
--- a Tick leaves how many are present, and so does a history
+-- a Tick leaves how many are present
 length-ticked : (d : Discipline) (p : Running) (now : ℕ) → length (present_at (ticked d p now)) ≡ length (present_at p)
 length-ticked d p now =
     length-sum (present_at (ticked d p now)) ∙ sum_stays (λ t. 1) d p now (λ t n. refl) ∙ sym (length-sum (present_at p))
 
+-- any number of Ticks leave how many are present
 pub length-history : (d : Discipline) (p : Running) (nows : List ℕ) → length (present_at (history d p nows)) ≡ length (present_at p)
 length-history d p [] = refl
 length-history d p (now ∷ nows) = length-history d (ticked d p now) nows ∙ length-ticked d p now

@@ -35,6 +35,7 @@ cfs_reach = record {
       rw f at (each-with_id (λ (x : Task). m.v ≤ x.v + 1000000) j (present_at p) (of_some (IsNearEach (present_at p)) (stepped cfs p Decide).current m (runs_near_each p w.distinct) e));
 }
 
+-- under CFS a task that stays gets beyond another by no more than at the start, or 1,000,000, and one rise
 pub cfs_serves_throughout : CfsServesThroughout
 cfs_serves_throughout r p ss i j a b s room new le f g si sj =
     let w = well_formed p s in
@@ -64,6 +65,7 @@ eevdf_reach = record {
       before_due (present_at p) m t j w.distinct first f (h m.id m (chosen_present (present_at p) m w.distinct first)) (h j t f);
 }
 
+-- under EEVDF a task that stays gets beyond another by no more than at the start, or its slice, and one rise
 pub eevdf_serves_throughout : EevdfServesThroughout
 eevdf_serves_throughout r p ss i j a b s room due new of le f g si sj =
     let w = well_formed p s in

@@ -28,6 +28,7 @@ OfEntered P Decide = Unit {0}
 OfEntered P (Leave k) = Unit {0}
 OfEntered P Mark = Unit {0}
 
+-- the premise holds of each task that enters by some steps
 abbrev pub OfEachEntered : (Task → Type 0) → List Step → Type 0
 OfEachEntered P [] = Unit {0}
 OfEachEntered P (s ∷ ss) = OfEntered P s × OfEachEntered P ss
@@ -218,6 +219,7 @@ moves d p (Enter x) i t u w f room g = stands d p (Enter x) i t u g refl refl ro
 moves d p (Leave k) i t u w f room g = stands d p (Leave k) i t u g refl refl room
 moves d p Mark i t u w f room g = stands d p Mark i t u g refl refl room
 
+-- a task that stays and has room gets by some steps as far as it is served, with its weight and slice
 pub got_by : (d : Discipline) (p : Running) (ss : List Step) (i : ℕ) (t : Task) → IsWellFormed p → EachEntersNew d p ss → StaysThroughout i ss → HasRoomAt p.last t → task_at i p ≡ Some t → GotBy d p ss i t
 got_by d p [] i t w new si room f = (t, f, omega arith, refl, refl)
 got_by d p (s ∷ ss) i t w new si room f =
@@ -230,6 +232,7 @@ got_by d p (s ∷ ss) i t w new si room f =
 
 -- Served in proportion
 
+-- of two tasks that stay, one gets no further than V or what the other reaches in the end, and one rise
 pub served_near : (d : Discipline) (reach : Task → ℕ) (P : Task → Type 0) → IsReach d reach P → (V r : ℕ) (p : Running) (ss : List Step) (i j : ℕ) (a b : Task) → IsWellFormed p → Each P p → a.v ≤ V → EachEntersNew d p ss → OfEachEntered P ss → DecidesWithin r d 0 p ss → StaysThroughout i ss → StaysThroughout j ss → HasRoomAt p.last a → HasRoomAt p.last b → task_at i p ≡ Some a → task_at j p ≡ Some b → (t : Task) × (t.v ≡ b.v + served_by j d p ss) × (t.weight ≡ b.weight) × (t.slice ≡ b.slice) × (a.v + served_by i d p ss ≤ max V (reach t) + vdelta_of r a.weight) × P t
 served_near d reach P law V r p ss i j a b w h high new of le si sj ra rb f g =
     let end = ever_close d reach P law V r p ss i j a b w h high new of le si sj f g in

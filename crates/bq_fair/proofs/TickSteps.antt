@@ -34,6 +34,7 @@ none_leaves : (i : ℕ) (nows : List ℕ) → StaysThroughout i (steps_of nows)
 none_leaves i [] = tt
 none_leaves i (now ∷ nows) = (refl, (refl, none_leaves i nows))
 
+-- under CFS a task gets over Ticks beyond another by no more than at the start, or 1,000,000, and one rise
 pub cfs_serves_in_proportion : CfsServesInProportion
 cfs_serves_in_proportion r p nows i j a b s room le f g =
     let law = cfs_serves_throughout r p (steps_of nows) i j a b s room (none_enters cfs p nows) (within r cfs p nows le) f g (none_leaves i nows) (none_leaves j nows) in
@@ -41,11 +42,13 @@ cfs_serves_in_proportion r p nows i j a b s room le f g =
     let two = served_same j cfs p nows in
     omega arith
 
+-- under CFS a task is served more than another by no more than it began behind, 1,000,000 and one rise
 pub cfs_serves_within : CfsServesWithin
 cfs_serves_within S r p nows i j a b s room le f g near =
     let law = cfs_serves_in_proportion r p nows i j a b s room le f g in
     omega arith
 
+-- under EEVDF a task gets over Ticks beyond another by no more than at the start, or its slice, and one rise
 pub eevdf_serves_by_slices : EevdfServesBySlices
 eevdf_serves_by_slices r p nows i j a b s room due le f g =
     let law = eevdf_serves_throughout r p (steps_of nows) i j a b s room due (none_enters eevdf p nows) (none_due nows) (within r eevdf p nows le) f g (none_leaves i nows) (none_leaves j nows) in

@@ -34,6 +34,7 @@ stays_busy_by d q kept (Some t) last now h =
     let c = charge d p now in
     stays_busy_at d c.queue c.kept c.current c.last refl
 
+-- where a task runs, one runs after a Tick
 pub stays_busy : (d : Discipline) (p : Running) (now : ℕ) → IsSome p.current → IsSome (ticked d p now).current
 stays_busy d p now h = stays_busy_by d p.queue p.kept p.current p.last now h
 
@@ -72,6 +73,7 @@ books d p (now ∷ nows) w h =
     let c = rest.2 in
     (omega arith, omega arith, omega arith)
 
+-- where a task runs, what Ticks book is the time that passes, but for less than a weight lost at each
 pub books_the_time : BooksTheTime
 books_the_time d p nows s h = let b = books d p nows (well_formed p s) h in (b.1, b.2)
 
@@ -99,5 +101,6 @@ moves d p (now ∷ nows) w room =
     let m = rest.0 in
     (omega arith, rest.1 ∙ total_weight-ticked d p now)
 
+-- what Ticks book is what the weighted sum rises by, and the weights together stay
 pub moves_the_sum : MovesTheSum
 moves_the_sum d p nows s room = moves d p nows (well_formed p s) (each_has_room p room)
