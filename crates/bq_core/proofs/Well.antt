@@ -28,7 +28,7 @@ pub record IsWell (p : Processor) : Type 0 where
   pub rising : IsRising p.running.queue
   pub ready : AreReady p.hooks
 
--- every processor of a world is so
+-- the queue of every processor rises, and whatever stands at its hooks may stand there
 abbrev pub AllWell : World → Type 0
 AllWell w = (cpu : ℕ) → IsWell (processor w cpu)
 
