@@ -1,3 +1,2 @@
 pub mod AnswerFacts
-pub mod FoundLemmas
 pub mod ParWords

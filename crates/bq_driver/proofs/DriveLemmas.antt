@@ -2,14 +2,10 @@
 use Rattle.std.proofs.Common.{◌≡◌, ℕ, List, [], ◌∷◌, ◌++◌, refl, sym, ◌∙◌, ap, subst, append_assoc, append-nil}
 use Rattle.bq_parts.specs.declared.event.Event.{Event}
 use Rattle.bq_parts.specs.declared.reply.Reply.{Reply}
-use Rattle.bq_trace.specs.News.{News, Told, TakesAll, Gets}
+use Rattle.bq_trace.specs.News.{News, Told, Gets}
+use Rattle.bq_trace.proofs.TakingLemmas.{TakesAll-append}
 use Rattle.bq_driver.specs.declared.driver.Driver.{Driver}
 use Rattle.bq_driver.specs.Drives.{Does, Drives, Drove, Went}
-
--- a sink that takes some news and then others takes them all
-pub TakesAll-append : {S : Type 0} (takes : S → ℕ → News → S → Type 0) (a b c : S) (xs ys : Told) → TakesAll takes a xs b → TakesAll takes b ys c → TakesAll takes a (xs ++ ys) c
-TakesAll-append takes a b c [] ys h k = subst (λ s. TakesAll takes s ys c) h k
-TakesAll-append takes a b c ((n, x) ∷ xs) ys h k = (h.0, h.1, TakesAll-append takes h.0 b c xs ys h.2 k)
 
 -- events one after another, and then others
 pub Drives-append : (d m e : Driver) (xs ys : List Event) (told more : Told) → Drives d xs told m → Drives m ys more e → Drives d (xs ++ ys) (told ++ more) e

@@ -1,57 +1,16 @@
 -- What is known of a well-formed program's slots.
-use Rattle.std.proofs.Common.{◌≡◌, ℕ, zero, suc, ◌-◌, ◌<◌, ◌≤◌, Bool, true, false, List, [], ◌∷◌, ◌++◌, Option, Some, None, length, replicate, refl, arith, ap, ◌∙◌, subst, length-append}
+use Rattle.std.proofs.Common.{◌≡◌, ℕ, zero, suc, ◌-◌, ◌<◌, ◌≤◌, Bool, true, false, List, [], ◌∷◌, ◌++◌, Option, Some, None, length, replicate, refl, arith, ap, ◌∙◌, subst}
 use Rattle.std.specs.Prelude.{nat_le, ◌&&◌}
-use Rattle.std.specs.List.{flat_map, list_all}
-use Rattle.std.proofs.lemmas.List.{length-replicate, length-reverse}
+use Rattle.std.specs.List.{list_all}
+use Rattle.std.proofs.lemmas.List.{length-reverse}
 use Rattle.std.proofs.lemmas.Bool.Decides.{nat_tests}
 use Rattle.bq_insn.specs.declared.Insn.{Insn}
-use Rattle.bq_insn.specs.declared.Insn.TheVariants.{Alu, MovSx, Neg, End, Load, StoreImm, StoreReg, Imm64, MapRef, Goto, Goto32, Branch, Call, Exit}
-use Rattle.bq_insn.specs.declared.Source.TheVariants.{Imm, Reg}
 use Rattle.bq_insn.specs.Slots.{slots_of, spread}
 use Rattle.bq_insn.specs.Laws.{Fits, AllFit}
-use Rattle.bq_insn.specs.Spelling.{spelled, slot_count, is_insn, is_well_formed}
+use Rattle.bq_insn.specs.Spelling.{slot_count, is_insn, is_well_formed}
 use Rattle.bq_graph.proofs.EdgeLemmas.{some_same, some_none}
+use Rattle.bq_graph.proofs.SlotLemmas.{spread_long}
 use Rattle.bq_import.specs.Backward.{AreGood, IsBuilt, IsFront, insns_of}
-
--- one instruction
-one_long : (i : Insn) → suc (slots_of i - 1) ≡ length (spelled i)
-one_long (Alu w o d (Imm n)) = refl
-one_long (Alu w o d (Reg s)) = refl
-one_long (MovSx w b d s) = refl
-one_long (Neg w d) = refl
-one_long (End k b d) = refl
-one_long (Load z g d s off) = refl
-one_long (StoreImm z d off n) = refl
-one_long (StoreReg z d off s) = refl
-one_long (Imm64 d v) = refl
-one_long (MapRef d i) = refl
-one_long (Goto off) = refl
-one_long (Goto32 n) = refl
-one_long (Branch w c d (Imm n) off) = refl
-one_long (Branch w c d (Reg s) off) = refl
-one_long (Call h) = refl
-one_long Exit = refl
-
--- a whole program
-pub spread_long : (insns : List Insn) → length (spread insns) ≡ slot_count insns
-spread_long [] = refl
-spread_long (i ∷ rest) =
-    let more = spread_long rest in
-    let one = one_long i in
-    let gap = length-replicate {A = Option Insn} (slots_of i - 1) None in
-    omega (arith, length-append (Some i ∷ replicate (slots_of i - 1) None) (spread rest), length-append (spelled i) (flat_map spelled rest), gap)
-
-limits : (b : Bool) (n : ℕ) → (b && (nat_le 1 n && nat_le n 4096)) ≡ true → (b ≡ true) × (1 ≤ n) × (n ≤ 4096)
-limits true n h = (refl, grind (arith, nat_tests), grind (arith, nat_tests))
-limits false n h = absurd (let never : ⊥ = cc in never)
-
--- a well-formed program has at most 4096 slots
-pub few_slots : (insns : List Insn) → is_well_formed insns ≡ true → length (spread insns) ≤ 4096
-few_slots insns whole = let n = (limits _ (slot_count insns) whole).2 in omega (arith, spread_long insns)
-
--- a well-formed program has a slot
-pub some_slots : (insns : List Insn) → is_well_formed insns ≡ true → 0 < length (spread insns)
-some_slots insns whole = let n = (limits _ (slot_count insns) whole).1 in omega (arith, spread_long insns)
 
 both : (a b : Bool) → (a && b) ≡ true → (a ≡ true) × (b ≡ true)
 both true true e = (refl, refl)
@@ -72,7 +31,7 @@ all_good (i ∷ rest) all fits (suc slot) insn here = gap_good (slots_of i - 1) 
 
 -- the instructions of a well-formed program whose numbers fit are in range
 pub are_good : (insns : List Insn) → is_well_formed insns ≡ true → AllFit insns → AreGood (spread insns)
-are_good insns whole fits = all_good insns (limits _ (slot_count insns) whole).0 fits
+are_good insns whole fits = all_good insns (both (list_all is_insn insns) (nat_le 1 (slot_count insns) && nat_le (slot_count insns) 4096) whole).0 fits
 
 -- the other way: a program of so many slots, all in range
 pub well_formed : (insns : List Insn) → list_all is_insn insns ≡ true → 0 < length (spread insns) → length (spread insns) ≤ 4096 → is_well_formed insns ≡ true

@@ -6,9 +6,9 @@ use Rattle.bq_parts.specs.declared.event.Event.{Event}
 use Rattle.bq_parts.specs.declared.event.Event.TheVariants.{BeginWake, EndWake, Drain}
 use Rattle.bq_parts.specs.declared.reply.Reply.{Reply}
 use Rattle.bq_trace.specs.News.{News, Told}
+use Rattle.bq_trace.proofs.TakingLemmas.{TakesAll-append}
 use Rattle.bq_driver.specs.declared.driver.Driver.{Driver}
 use Rattle.bq_driver.specs.Drives.{Did, Does, Drives, Drove}
-use Rattle.bq_driver.proofs.DriveLemmas.{TakesAll-append}
 use Rattle.bq_draws.specs.Streams.{stream_of_task}
 use Rattle.bq_actions.specs.declared.action.Action.{Action}
 use Rattle.bq_actions.specs.declared.workload.TaskKind.{TaskKind}

@@ -2,10 +2,10 @@
 use Rattle.std.proofs.Common.{◌≡◌, ℕ, List, [], ◌++◌, ap, refl, ◌∙◌, subst}
 use Rattle.bq_actions.specs.declared.workload.Workload.{Workload}
 use Rattle.bq_trace.specs.News.{News, Gets}
+use Rattle.bq_trace.proofs.TakingLemmas.{TakesAll-append}
 use Rattle.bq_sizes.specs.Sizes.{processors_in}
 use Rattle.bq_driver.specs.declared.driver.Driver.{Driver}
 use Rattle.bq_driver.specs.Drives.{Starts}
-use Rattle.bq_driver.proofs.DriveLemmas.{TakesAll-append}
 use Rattle.bq_roster.specs.Accounts.{Accounts, accounts_of}
 use Rattle.bq_roster.specs.declared.roster.Pace.{Pace}
 use Rattle.bq_simulate.specs.declared.simulation.Simulation.{Simulation}

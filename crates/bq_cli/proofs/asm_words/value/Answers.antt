@@ -1,6 +1,6 @@
 use Rattle.std.proofs.Common.{◌∙◌, sym}
 use Rattle.clap.specs.Matches.{found_of}
-use Rattle.bq_cli.proofs.FoundLemmas.{first_value_is}
+use Rattle.bq_options.proofs.FoundLemmas.{first_value_is}
 use Rattle.bq_cli.proofs.asm_words.value.Goals as goal
 
 pub returns : goal.returns

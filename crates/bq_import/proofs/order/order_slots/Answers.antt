@@ -3,11 +3,12 @@ use Rattle.bq_insn.specs.declared.Insn.{Insn}
 use Rattle.bq_insn.specs.Slots.{spread}
 use Rattle.bq_insn.specs.Spelling.{is_well_formed}
 use Rattle.bq_graph.specs.Edges.{IsStart, IsWhole}
+use Rattle.bq_graph.proofs.SlotLemmas.{few_slots, some_slots}
 use Rattle.bq_graph.proofs.SpreadLemmas.{spread_begins}
 use Rattle.bq_import.specs.Copies.{IsCopy}
 use Rattle.bq_import.specs.Backward.{AreGood}
 use Rattle.bq_import.proofs.OrderLemmas.{is_copy}
-use Rattle.bq_import.proofs.ProgramLemmas.{few_slots, some_slots, are_good, formed}
+use Rattle.bq_import.proofs.ProgramLemmas.{are_good, formed}
 use Rattle.bq_import.proofs.order.order_slots.Goals as goal
 
 pub check-requires-clause-short : goal.check-requires-clause-short

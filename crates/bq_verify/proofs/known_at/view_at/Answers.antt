@@ -1,5 +1,5 @@
 use Rattle.bq_verify.proofs.FrameLemmas.{all_insns}
-use Rattle.bq_verify.proofs.SlotLemmas.{some_slots, few_slots}
+use Rattle.bq_graph.proofs.SlotLemmas.{some_slots, few_slots}
 use Rattle.bq_verify.proofs.known_at.view_at.Goals as goal
 
 pub known_in_slots-requires-clause-some : goal.known_in_slots-requires-clause-some
