@@ -8,28 +8,21 @@ use Rattle.bq_load.proofs.FieldLemmas.{AreBytes-fit}
 use Rattle.bq_load.proofs.JudgingLemmas.{first_bytes, refused_final, refused_stays, cut_stands, cut_bounded, cut_going, begins, joined_to, length-front, length-tail, past_fails, within_going, counted_stands, kept_stands, not_over}
 use Rattle.bq_load.proofs.judging.judge.Goals as goal
 
-pub returns-in-Cut-clause-bounded : goal.returns-in-Cut-clause-bounded
-returns-in-Cut-clause-bounded c = λ few.
+pub returns-in-Cut : goal.returns-in-Cut
+returns-in-Cut c =
     let held = c.args.held.now in
     let piece = c.args.piece.now in
     let fits : AreBytes (take 44 (held ++ piece)) = first_bytes held piece (AreBytes-fit held c.type_inv.held) (AreBytes-fit piece c.type_inv.piece) in
     let read : header_at (take 44 (held ++ piece)) ≡ Err fault.Cut = ap header_at (sym (c.as_slice.ensures.value ∙ c.front_of-front.ensures)) ∙ c.in-Err.ensures ∙ ap (λ f. Err f) c.in-Cut.is in
-    omega (arith, cut_bounded held piece fits read)
-
-pub returns-in-Cut-clause-stands : goal.returns-in-Cut-clause-stands
-returns-in-Cut-clause-stands c = λ bytes h.
-    let held = c.args.held.now in
-    let piece = c.args.piece.now in
-    let read : header_at (take 44 (held ++ piece)) ≡ Err fault.Cut = ap header_at (sym (c.as_slice.ensures.value ∙ c.front_of-front.ensures)) ∙ c.in-Err.ensures ∙ ap (λ f. Err f) c.in-Cut.is in
-    cut_stands held piece bytes c.args.past read h
-
-pub returns-in-Cut-clause-going : goal.returns-in-Cut-clause-going
-returns-in-Cut-clause-going c = λ bytes f h whole failed.
-    let held = c.args.held.now in
-    let piece = c.args.piece.now in
-    let fits : AreBytes (take 44 (held ++ piece)) = first_bytes held piece (AreBytes-fit held c.type_inv.held) (AreBytes-fit piece c.type_inv.piece) in
-    let read : header_at (take 44 (held ++ piece)) ≡ Err fault.Cut = ap header_at (sym (c.as_slice.ensures.value ∙ c.front_of-front.ensures)) ∙ c.in-Err.ensures ∙ ap (λ f. Err f) c.in-Cut.is in
-    cut_going held piece bytes c.args.past f fits read h whole failed
+    record {
+      within = omega arith;
+      counts = omega (arith, c.ranges.past.fits);
+      bounded = λ few. omega (arith, cut_bounded held piece fits read);
+      stands = λ bytes h. cut_stands held piece bytes c.args.past read h;
+      going = λ bytes f h whole failed. cut_going held piece bytes c.args.past f fits read h whole failed;
+      stays = tt;
+      failed = tt;
+    }
 
 pub returns-in_default : goal.returns-in_default
 returns-in_default c =
@@ -125,35 +118,40 @@ returns-then-header-gt4096-clause-going c = λ bytes f h whole failed.
     ) in
     within_going (bytes ++ piece) j.header j.tail f j.good j.bytes_are within whole failed
 
-pub returns-clause-stands : goal.returns-clause-stands
-returns-clause-stands c = λ bytes h.
+pub returns : goal.returns
+returns c =
     let held = c.args.held.now in
     let piece = c.args.piece.now in
+    let front = take 44 (held ++ piece) in
     let s = spelled_of c.in-Ok.read.0 in
-    let fits : AreBytes (take 44 (held ++ piece)) = first_bytes held piece (AreBytes-fit held c.type_inv.held) (AreBytes-fit piece c.type_inv.piece) in
-    let read : header_at (take 44 (held ++ piece)) ≡ Ok (s, c.in-Ok.read.1.now) = ap header_at (sym (c.as_slice.ensures.value ∙ c.front_of-front.ensures)) ∙ c.in-Ok.ensures in
-    let j = joined_to held piece bytes c.args.past s c.in-Ok.read.1.now fits read h in
-    kept_stands held piece bytes c.args.past (not_over (take 44 (held ++ piece)) held piece bytes c.args.past s c.in-Ok.read.1.now j c.if-header-gt4096.false) h
-
-pub returns-clause-going : goal.returns-clause-going
-returns-clause-going c = λ bytes f h whole failed.
-    let held = c.args.held.now in
-    let piece = c.args.piece.now in
-    let s = spelled_of c.in-Ok.read.0 in
-    let fits : AreBytes (take 44 (held ++ piece)) = first_bytes held piece (AreBytes-fit held c.type_inv.held) (AreBytes-fit piece c.type_inv.piece) in
-    let read : header_at (take 44 (held ++ piece)) ≡ Ok (s, c.in-Ok.read.1.now) = ap header_at (sym (c.as_slice.ensures.value ∙ c.front_of-front.ensures)) ∙ c.in-Ok.ensures in
-    let j = joined_to held piece bytes c.args.past s c.in-Ok.read.1.now fits read h in
-    let within : length j.tail ≤ 8 * j.header.slots =
-    omega (
-      arith,
-      c.if-length-begin.false,
-      c.saturating_add.ensures,
-      c.saturating_add-length.ensures,
-      c.len.ensures.value,
-      ap length c.front_of-front.ensures,
-      length-front (take 44 (held ++ piece)) held piece bytes c.args.past s c.in-Ok.read.1.now j,
-      length-tail (take 44 (held ++ piece)) held piece bytes c.args.past s c.in-Ok.read.1.now j h,
-      j.slots_are,
-      j.good.slots,
-    ) in
-    within_going (bytes ++ piece) j.header j.tail f j.good j.bytes_are within whole failed
+    let rest = c.in-Ok.read.1.now in
+    let fits : AreBytes front = first_bytes held piece (AreBytes-fit held c.type_inv.held) (AreBytes-fit piece c.type_inv.piece) in
+    let read : header_at front ≡ Ok (s, rest) = ap header_at (sym (c.as_slice.ensures.value ∙ c.front_of-front.ensures)) ∙ c.in-Ok.ensures in
+    let long : length c.front_of-front.result.items ≡ length front = ap length c.front_of-front.ensures in
+    record {
+      within = omega arith;
+      counts = omega (arith, c.ranges.past.fits);
+      bounded = λ few.
+          omega (arith, few, c.if-length-begin.false, c.if-header-gt4096.false, c.saturating_add.ensures, c.saturating_add-length.ensures, c.len.ensures.value, long, length-take 44 (held ++ piece));
+      stands = λ bytes h.
+          let j = joined_to held piece bytes c.args.past s rest fits read h in
+          kept_stands held piece bytes c.args.past (not_over front held piece bytes c.args.past s rest j c.if-header-gt4096.false) h;
+      going = λ bytes f h whole failed.
+          let j = joined_to held piece bytes c.args.past s rest fits read h in
+          let within : length j.tail ≤ 8 * j.header.slots =
+          omega (
+            arith,
+            c.if-length-begin.false,
+            c.saturating_add.ensures,
+            c.saturating_add-length.ensures,
+            c.len.ensures.value,
+            long,
+            length-front front held piece bytes c.args.past s rest j,
+            length-tail front held piece bytes c.args.past s rest j h,
+            j.slots_are,
+            j.good.slots,
+          ) in
+          within_going (bytes ++ piece) j.header j.tail f j.good j.bytes_are within whole failed;
+      stays = tt;
+      failed = tt;
+    }
