@@ -16,6 +16,14 @@ use bq_states::abstract_state::{AbstractState, Kind};
 use bq_states::places::{bound, stays};
 use bq_states::registers::known;
 
+/// What an instruction loads or stores: so many bytes, at that distance from where a register points.
+#[derive(Clone, Copy, Debug)]
+pub struct Access {
+    pub size: Size,
+    pub base: u8,
+    pub off: i16,
+}
+
 /// Where an access goes: what the pointer counts from, and the offsets from there.
 #[derive(Clone, Copy, Debug)]
 pub struct Location {
@@ -23,22 +31,20 @@ pub struct Location {
     pub at: Range,
 }
 
-/// Where an access by a register goes, if it stays inside.
+/// Where an access goes, if it stays inside.
 pub fn locate(
     view: &AbstractState,
     shapes: &[MapShape],
     context: usize,
-    size: Size,
-    register: u8,
-    off: i16,
+    access: Access,
 ) -> Result<Location, Doubt>
     requires context { context < 2 ^ 16 }
-    ensures finds { IfOk result (λ p. FindsPlace shapes.now context view.now register off size p.kind p.at) }
+    ensures finds { IfOk result (λ p. FindsPlace shapes.now context view.now access.base access.off access.size p.kind p.at) }
     ensures doubts { IfErr result (λ doubt. (insn : Insn) → IsAccess insn → ReadsOperand insn → MayDoubt doubt insn) }
-    ensures accepts { (kind : Base) (place : ℕ) → IsPlaced shapes.now context view.now size register off kind place → IsOk result }
-    ensures there { IfOk result (λ p. (kind : Base) (place : ℕ) → IsPlaced shapes.now context view.now size register off kind place → (p.kind ≡ kind) × (p.at.lo ≡ place) × (p.at.hi ≡ place)) }
+    ensures accepts { (kind : Base) (place : ℕ) → IsPlaced shapes.now context view.now access.size access.base access.off kind place → IsOk result }
+    ensures there { IfOk result (λ p. (kind : Base) (place : ℕ) → IsPlaced shapes.now context view.now access.size access.base access.off kind place → (p.kind ≡ kind) × (p.at.lo ≡ place) × (p.at.hi ≡ place)) }
 {
-    let Some(base) = known(view, register) else {
+    let Some(base) = known(view, access.base) else {
         return Err(Doubt::Unset);
     };
     let Some(bound) = bound(base.kind, shapes, context) else {
@@ -48,12 +54,12 @@ pub fn locate(
         Width::W64,
         Operation::Add,
         base.offset,
-        Range::single(word_of_distance(off)),
+        Range::single(word_of_distance(access.off)),
     );
     if bound > 0x1_0000 {
         return Err(Doubt::Access);
     }
-    if !stays(at, size, bound) {
+    if !stays(at, access.size, bound) {
         return Err(Doubt::Access);
     }
     Ok(Location {

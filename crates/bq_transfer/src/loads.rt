@@ -12,7 +12,7 @@ ghost use Rattle.bq_states.specs.Standing.{IsGiven};
 ghost use Rattle.bq_transfer.specs.Ready.{IsReadable};
 ghost use Rattle.bq_transfer.specs.Transfers.{Transfers};
 
-use crate::access::{Location, locate};
+use crate::access::{Access, Location, locate};
 use crate::doubt::Doubt;
 use bq_bpf::MapShape;
 use bq_insn::{Bits, Insn, Size, Width};
@@ -28,26 +28,24 @@ pub fn load(
     view: &mut AbstractState,
     shapes: &[MapShape],
     context: usize,
-    size: Size,
+    access: Access,
     signed: bool,
     dst: u8,
-    src: u8,
-    off: i16,
 ) -> Result<(), Doubt>
     requires context { context < 2 ^ 16 }
     requires below { dst < 10 }
-    ensures transfers { OnOk result (Transfers shapes.now context (Insn.Load size signed dst src off) view.old view.new) }
-    ensures doubts { IfErr result (λ doubt. MayDoubt doubt (Insn.Load size signed dst src off)) }
-    ensures accepts { IsReadable shapes.now context view.old size src off → IsOk result × IsGiven view.old view.new dst }
+    ensures transfers { OnOk result (Transfers shapes.now context (Insn.Load access.size signed dst access.base access.off) view.old view.new) }
+    ensures doubts { IfErr result (λ doubt. MayDoubt doubt (Insn.Load access.size signed dst access.base access.off)) }
+    ensures accepts { IsReadable shapes.now context view.old access.size access.base access.off → IsOk result × IsGiven view.old view.new dst }
 {
-    let found = locate(view, shapes, context, size, src, off)?;
-    if let Some(word) = kept_at(view, found, size, signed) {
+    let found = locate(view, shapes, context, access)?;
+    if let Some(word) = kept_at(view, found, access.size, signed) {
         learn(view, dst, word);
         let slot = found.at.lo as usize / 8;
         link(&mut view.classes, usize::from(dst), 11 + slot);
         return Ok(());
     }
-    if !is_readable(view, found.kind, found.at, size) {
+    if !is_readable(view, found.kind, found.at, access.size) {
         return Err(Doubt::Access);
     }
     learn(
@@ -55,7 +53,7 @@ pub fn load(
         dst,
         AbstractValue {
             kind: Kind::Number,
-            offset: loads(reads_at(view, found, size), size, signed),
+            offset: loads(reads_at(view, found, access.size), access.size, signed),
         },
     );
     Ok(())

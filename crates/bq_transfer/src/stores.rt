@@ -14,7 +14,7 @@ ghost use Rattle.bq_states.specs.Standing.{IsStoredAt, Scalar, StandsAt};
 ghost use Rattle.bq_transfer.specs.Transfers.{Transfers, IsWholeSlot, Stores};
 ghost use Rattle.bq_states.specs.AbstractStates.{Contains, Describes};
 
-use crate::access::locate;
+use crate::access::{Access, locate};
 use crate::doubt::Doubt;
 use bq_bpf::MapShape;
 use bq_insn::{Insn, Size};
@@ -31,22 +31,20 @@ pub fn store_imm(
     view: &mut AbstractState,
     shapes: &[MapShape],
     context: usize,
-    size: Size,
-    dst: u8,
-    off: i16,
+    access: Access,
     imm: i32,
 ) -> Result<(), Doubt>
     requires context { context < 2 ^ 16 }
-    ensures transfers { OnOk result (Transfers shapes.now context (Insn.StoreImm size dst off imm) view.old view.new) }
-    ensures doubts { IfErr result (λ doubt. MayDoubt doubt (Insn.StoreImm size dst off imm)) }
-    ensures accepts { (place : ℕ) → IsPlaced shapes.now context view.old size dst off Kind.Stack place → IsOk result × IsStoredAt view.old view.new place (place + byte_count size) }
-    ensures entry { (map place : ℕ) → IsPlaced shapes.now context view.old size dst off (Kind.Entry map) place → IsOk result × (view.new ≡ view.old) }
+    ensures transfers { OnOk result (Transfers shapes.now context (Insn.StoreImm access.size access.base access.off imm) view.old view.new) }
+    ensures doubts { IfErr result (λ doubt. MayDoubt doubt (Insn.StoreImm access.size access.base access.off imm)) }
+    ensures accepts { (place : ℕ) → IsPlaced shapes.now context view.old access.size access.base access.off Kind.Stack place → IsOk result × IsStoredAt view.old view.new place (place + byte_count access.size) }
+    ensures entry { (map place : ℕ) → IsPlaced shapes.now context view.old access.size access.base access.off (Kind.Entry map) place → IsOk result × (view.new ≡ view.old) }
 {
     let word = AbstractValue {
         kind: Kind::Number,
         offset: Range::single(word_of_imm(imm)),
     };
-    store(view, shapes, context, size, dst, off, word)?;
+    store(view, shapes, context, access, word)?;
     Ok(())
 }
 
@@ -62,21 +60,19 @@ pub fn store_reg(
     view: &mut AbstractState,
     shapes: &[MapShape],
     context: usize,
-    size: Size,
-    dst: u8,
-    off: i16,
+    access: Access,
     src: u8,
 ) -> Result<(), Doubt>
     requires context { context < 2 ^ 16 }
-    ensures transfers { OnOk result (Transfers shapes.now context (Insn.StoreReg size dst off src) view.old view.new) }
-    ensures doubts { IfErr result (λ doubt. MayDoubt doubt (Insn.StoreReg size dst off src)) }
-    ensures accepts { StandsAt Scalar view.old src → (place : ℕ) → IsPlaced shapes.now context view.old size dst off Kind.Stack place → IsOk result × IsStoredAt view.old view.new place (place + byte_count size) }
-    ensures entry { StandsAt Scalar view.old src → (map place : ℕ) → IsPlaced shapes.now context view.old size dst off (Kind.Entry map) place → IsOk result × (view.new ≡ view.old) }
+    ensures transfers { OnOk result (Transfers shapes.now context (Insn.StoreReg access.size access.base access.off src) view.old view.new) }
+    ensures doubts { IfErr result (λ doubt. MayDoubt doubt (Insn.StoreReg access.size access.base access.off src)) }
+    ensures accepts { StandsAt Scalar view.old src → (place : ℕ) → IsPlaced shapes.now context view.old access.size access.base access.off Kind.Stack place → IsOk result × IsStoredAt view.old view.new place (place + byte_count access.size) }
+    ensures entry { StandsAt Scalar view.old src → (map place : ℕ) → IsPlaced shapes.now context view.old access.size access.base access.off (Kind.Entry map) place → IsOk result × (view.new ≡ view.old) }
 {
     let Some(word) = known(view, src) else {
         return Err(Doubt::Unset);
     };
-    let slot = store(view, shapes, context, size, dst, off, word)?;
+    let slot = store(view, shapes, context, access, word)?;
     link_slot(&mut view.classes, slot, src);
     Ok(())
 }
@@ -102,22 +98,20 @@ fn store(
     view: &mut AbstractState,
     shapes: &[MapShape],
     context: usize,
-    size: Size,
-    dst: u8,
-    off: i16,
+    access: Access,
     word: AbstractValue,
 ) -> Result<Option<usize>, Doubt>
     requires context { context < 2 ^ 16 }
-    ensures stores { IfOk result (Stores shapes.now context dst off size word view.old view.new) }
+    ensures stores { IfOk result (Stores shapes.now context access.base access.off access.size word view.old view.new) }
     ensures inside { IfOk result (λ slot. IfSome slot (λ n. n < 64)) }
     ensures doubts { IfErr result (λ doubt. (insn : Insn) → IsAccess insn → ReadsOperand insn → (word.kind ≢ Kind.Number → UsesWord insn) → MayDoubt doubt insn) }
-    ensures accepts { word.kind ≡ Kind.Number → (place : ℕ) → IsPlaced shapes.now context view.old size dst off Kind.Stack place → IsOk result × IsStoredAt view.old view.new place (place + byte_count size) }
-    ensures entry { word.kind ≡ Kind.Number → (map place : ℕ) → IsPlaced shapes.now context view.old size dst off (Kind.Entry map) place → IsOk result × (view.new ≡ view.old) × IfOk result (λ slot. slot ≡ None) }
+    ensures accepts { word.kind ≡ Kind.Number → (place : ℕ) → IsPlaced shapes.now context view.old access.size access.base access.off Kind.Stack place → IsOk result × IsStoredAt view.old view.new place (place + byte_count access.size) }
+    ensures entry { word.kind ≡ Kind.Number → (map place : ℕ) → IsPlaced shapes.now context view.old access.size access.base access.off (Kind.Entry map) place → IsOk result × (view.new ≡ view.old) × IfOk result (λ slot. slot ≡ None) }
 {
-    let found = locate(view, shapes, context, size, dst, off)?;
+    let found = locate(view, shapes, context, access)?;
     match found.kind {
         Kind::Stack => {
-            let slot = store_on_stack(view, found.at, size, word)?;
+            let slot = store_on_stack(view, found.at, access.size, word)?;
             Ok(slot)
         }
         Kind::Entry(_) => {

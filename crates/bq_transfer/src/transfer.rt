@@ -7,6 +7,7 @@ ghost use Rattle.bq_transfer.specs.After.{After};
 ghost use Rattle.bq_states.specs.Standing.{Fact, Has};
 ghost use Rattle.bq_transfer.specs.Ready.{IsTransferred, IsReady, WritesBelowFrame};
 
+use crate::access::Access;
 use crate::alu::alu;
 use crate::calls::{call, map_ref};
 use crate::doubt::Doubt;
@@ -55,19 +56,40 @@ pub fn transfer(
             dst,
             src,
             off,
-        } => load(view, shapes, context, size, signed, dst, src, off)?,
+        } => {
+            let access = Access {
+                size,
+                base: src,
+                off,
+            };
+            load(view, shapes, context, access, signed, dst)?
+        }
         Insn::StoreImm {
             size,
             dst,
             off,
             imm,
-        } => store_imm(view, shapes, context, size, dst, off, imm)?,
+        } => {
+            let access = Access {
+                size,
+                base: dst,
+                off,
+            };
+            store_imm(view, shapes, context, access, imm)?
+        }
         Insn::StoreReg {
             size,
             dst,
             off,
             src,
-        } => store_reg(view, shapes, context, size, dst, off, src)?,
+        } => {
+            let access = Access {
+                size,
+                base: dst,
+                off,
+            };
+            store_reg(view, shapes, context, access, src)?
+        }
         Insn::MapRef { dst, index } => map_ref(view, shapes, dst, index)?,
         Insn::Call { helper } => call(view, shapes, context, helper)?,
         Insn::Goto { .. } | Insn::Goto32 { .. } | Insn::Branch { .. } | Insn::Exit => {

@@ -1,11 +1,6 @@
-use Rattle.std.proofs.Common.{◌≡◌, ◌<◌, ◌*◌, ◌/◌, ℕ, ℤ, false, true, length, subst, sym, ◌∙◌, arith, rules}
-use mir.Syntax.{w16}
-use mir.Val.{SFits, to_z, of_z}
-use Rattle.std.proofs.lemmas.Int.{ints}
+use Rattle.std.proofs.Common.{◌≡◌, ◌<◌, ◌*◌, ◌/◌, ℕ, false, true, length, subst, sym, ◌∙◌, arith, rules}
 use Rattle.bq_states.specs.Copies.{HasWord}
-use Rattle.bq_transfer.specs.Transfers.{FindsPlace}
 use Rattle.bq_insn.specs.declared.Insn.TheVariants.{Load}
-use Rattle.bq_transfer.specs.Ready.{IsPlaced}
 use Rattle.bq_states.proofs.PartLemmas.{read_numbers}
 use Rattle.bq_transfer.proofs.PlaceLemmas.{stack_inside}
 use Rattle.bq_transfer.proofs.PutLemmas.{carries_linked, carries_put}
@@ -14,47 +9,35 @@ use Rattle.bq_transfer.proofs.loads.load.Goals as goal
 
 pub returns-in-Some-clause-transfers : goal.returns-in-Some-clause-transfers
 returns-in-Some-clause-transfers c =
-    let fits : SFits w16 c.args.off = search rules in
-    let same : to_z w16 (of_z w16 c.args.off) ≡ c.args.off = omega (arith, ints) in
-    let finds = subst (λ (off : ℤ). FindsPlace c.args.shapes.now c.args.context c.args.view.now c.args.src off c.args.size c.in_ok-found.found.kind c.in_ok-found.found.at) same c.in_ok-found.ensures.finds in
     let there : c.args.dst < length c.args.view.now.registers = omega (arith, c.requires.below) in
     let slot : ℕ = c.in_ok-found.found.at.lo / 8 in
     let to : c.from.result ≡ c.args.dst = search rules in
     let first : c.in_ok-found.found.at.lo ≡ 8 * slot = omega (arith, c.in-Some.ensures.6) in
-    let gives = kept_load c.args.shapes.now c.args.context c.args.view.now c.args.size c.args.signed c.args.dst c.args.src c.args.off c.in_ok-found.found.kind c.in_ok-found.found.at c.in-Some.word
-    finds c.in-Some.ensures c.requires.below in
+    let gives = kept_load c.args.shapes.now c.args.context c.args.view.now c.args.access.size c.args.signed c.args.dst c.args.access.base c.args.access.off c.in_ok-found.found.kind c.in_ok-found.found.at c.in-Some.word
+    c.in_ok-found.ensures.finds c.in-Some.ensures c.requires.below in
     let linked = rw c.learn.ensures.is at c.link.ensures in
     rw c.learn.ensures.is
-    (carries_linked c.args.shapes.now c.args.context (Load c.args.size c.args.signed c.args.dst c.args.src c.args.off) c.args.view.now c.args.dst slot c.in-Some.word c.link.new.classes there (omega (arith, c.requires.below))
+    (carries_linked c.args.shapes.now c.args.context (Load c.args.access.size c.args.signed c.args.dst c.args.access.base c.args.access.off) c.args.view.now c.args.dst slot c.in-Some.word c.link.new.classes there (omega (arith, c.requires.below))
     (λ f s suits covers. let given = gives f s suits covers in (given.0, given.1, given.2, given.3 slot first))
     (λ t n copies has copy. linked t n copies has (λ m h. subst (λ (p : ℕ). HasWord t p m) (sym to) (copy m h))))
 
 pub returns-clause-transfers : goal.returns-clause-transfers
 returns-clause-transfers c =
-    let fits : SFits w16 c.args.off = search rules in
-    let same : to_z w16 (of_z w16 c.args.off) ≡ c.args.off = omega (arith, ints) in
-    let finds = subst (λ (off : ℤ). FindsPlace c.args.shapes.now c.args.context c.args.view.now c.args.src off c.args.size c.in_ok-found.found.kind c.in_ok-found.found.at) same c.in_ok-found.ensures.finds in
     let there : c.args.dst < length c.args.view.now.registers = omega (arith, c.requires.below) in
     rw c.learn-2.ensures.is
-    (carries_put c.args.shapes.now c.args.context (Load c.args.size c.args.signed c.args.dst c.args.src c.args.off) c.args.view.now c.args.dst _ there
-    (load_gives c.args.shapes.now c.args.context c.args.view.now c.args.size c.args.signed c.args.dst c.args.src c.args.off c.in_ok-found.found.kind c.in_ok-found.found.at c.loads.result
-    finds (search rules)
-    (λ f s word bytes r covers long small is within. c.loads.ensures _ (read_numbers c.in_ok-found.found.kind c.in_ok-found.found.at c.reads_at.result c.args.size f s _ bytes c.args.view.now.parts r c.reads_at.ensures.any c.reads_at.ensures.stack covers.parts long small is within)) c.requires.below))
+    (carries_put c.args.shapes.now c.args.context (Load c.args.access.size c.args.signed c.args.dst c.args.access.base c.args.access.off) c.args.view.now c.args.dst _ there
+    (load_gives c.args.shapes.now c.args.context c.args.view.now c.args.access.size c.args.signed c.args.dst c.args.access.base c.args.access.off c.in_ok-found.found.kind c.in_ok-found.found.at c.loads.result
+    c.in_ok-found.ensures.finds (search rules)
+    (λ f s word bytes r covers long small is within. c.loads.ensures _ (read_numbers c.in_ok-found.found.kind c.in_ok-found.found.at c.reads_at.result c.args.access.size f s _ bytes c.args.view.now.parts r c.reads_at.ensures.any c.reads_at.ensures.stack covers.parts long small is within)) c.requires.below))
 
 pub returns-in_err-found-clause-accepts : goal.returns-in_err-found-clause-accepts
 returns-in_err-found-clause-accepts c = λ ready.
-    let fits : SFits w16 c.args.off = search rules in
-    let same : to_z w16 (of_z w16 c.args.off) ≡ c.args.off = omega (arith, ints) in
-    let placed = subst (λ (off : ℤ). IsPlaced c.args.shapes.now c.args.context c.args.view.now c.args.size c.args.src off ready.kind ready.at) (sym same) ready.placed in
-    absurd (let ok : false ≡ true = c.in_err-found.ensures.accepts ready.kind ready.at placed in let no : ⊥ = cc in no)
+    absurd (let ok : false ≡ true = c.in_err-found.ensures.accepts ready.kind ready.at ready.placed in let no : ⊥ = cc in no)
 
 pub returns-then-not-is_readable-clause-accepts : goal.returns-then-not-is_readable-clause-accepts
 returns-then-not-is_readable-clause-accepts c = λ ready.
-    let fits : SFits w16 c.args.off = search rules in
-    let same : to_z w16 (of_z w16 c.args.off) ≡ c.args.off = omega (arith, ints) in
-    let placed = subst (λ (off : ℤ). IsPlaced c.args.shapes.now c.args.context c.args.view.now c.args.size c.args.src off ready.kind ready.at) (sym same) ready.placed in
-    let there = c.in_ok-found.ensures.there ready.kind ready.at placed in
-    let inside = stack_inside c.args.shapes.now c.args.context c.args.view.now c.args.size c.args.src c.args.off ready.kind ready.at in
+    let there = c.in_ok-found.ensures.there ready.kind ready.at ready.placed in
+    let inside = stack_inside c.args.shapes.now c.args.context c.args.view.now c.args.access.size c.args.access.base c.args.access.off ready.kind ready.at in
     let yes : c.is_readable.result ≡ true = c.is_readable.ensures.found
     (λ e. let under = inside (sym there.0 ∙ e) ready.placed in omega (arith, there.2, under))
     (λ e i le lt. ready.set (sym there.0 ∙ e) i (omega (arith, there.1)) (omega (arith, there.2))) in

@@ -1,59 +1,36 @@
-use Rattle.std.proofs.Common.{◌≡◌, ℤ, false, true, refl, sym, subst, arith, rules}
-use mir.Syntax.{w16}
-use mir.Val.{SFits, to_z, of_z}
-use Rattle.std.proofs.lemmas.Int.{ints}
-use Rattle.bq_transfer.specs.Transfers.{FindsPlace}
+use Rattle.std.proofs.Common.{◌≡◌, false, true, refl}
 use Rattle.bq_states.specs.declared.abstract_state.Kind.TheVariants.{Entry, Stack}
-use Rattle.bq_transfer.specs.Ready.{IsPlaced}
 use Rattle.bq_transfer.proofs.PlaceLemmas.{stack_inside}
 use Rattle.bq_transfer.proofs.WriteLemmas.{stores_on_stack, stores_in_entry}
 use Rattle.bq_transfer.proofs.stores.store.Goals as goal
 
 pub returns-in_ok-slot-in-Stack-clause-stores : goal.returns-in_ok-slot-in-Stack-clause-stores
 returns-in_ok-slot-in-Stack-clause-stores c =
-    let fits : SFits w16 c.args.off = search rules in
-    let same : to_z w16 (of_z w16 c.args.off) ≡ c.args.off = omega (arith, ints) in
-    let finds = subst (λ (off : ℤ). FindsPlace c.args.shapes.now c.args.context c.args.view.now c.args.dst off c.args.size c.in_ok-found.found.kind c.in_ok-found.found.at) same c.in_ok-found.ensures.finds in
-    stores_on_stack c.args.shapes.now c.args.context c.args.dst c.args.off c.args.size c.args.word c.in_ok-found.found.at c.in_ok-found.found.kind c.args.view.now c.store_on_stack.new.view c.in_ok-slot-in-Stack.slot c.in_ok-slot-in-Stack.ensures.slot c.in-Stack.is finds c.in_ok-slot-in-Stack.ensures.covers
+    stores_on_stack c.args.shapes.now c.args.context c.args.access.base c.args.access.off c.args.access.size c.args.word c.in_ok-found.found.at c.in_ok-found.found.kind c.args.view.now c.store_on_stack.new.view c.in_ok-slot-in-Stack.slot c.in_ok-slot-in-Stack.ensures.slot c.in-Stack.is c.in_ok-found.ensures.finds c.in_ok-slot-in-Stack.ensures.covers
 
 pub returns-else-ne-clause-stores : goal.returns-else-ne-clause-stores
 returns-else-ne-clause-stores c =
-    let fits : SFits w16 c.args.off = search rules in
-    let same : to_z w16 (of_z w16 c.args.off) ≡ c.args.off = omega (arith, ints) in
-    let finds = subst (λ (off : ℤ). FindsPlace c.args.shapes.now c.args.context c.args.view.now c.args.dst off c.args.size c.in_ok-found.found.kind c.in_ok-found.found.at) same c.in_ok-found.ensures.finds in
-    stores_in_entry c.args.shapes.now c.args.context c.args.dst c.args.off c.args.size c.args.word c.in_ok-found.found.at c.in_ok-found.found.kind _ c.args.view.now c.in-Entry.is finds
+    stores_in_entry c.args.shapes.now c.args.context c.args.access.base c.args.access.off c.args.access.size c.args.word c.in_ok-found.found.at c.in_ok-found.found.kind _ c.args.view.now c.in-Entry.is c.in_ok-found.ensures.finds
 
 pub returns-in_err-found-clause-accepts : goal.returns-in_err-found-clause-accepts
 returns-in_err-found-clause-accepts c = λ number place placed.
-    let fits : SFits w16 c.args.off = search rules in
-    let same : to_z w16 (of_z w16 c.args.off) ≡ c.args.off = omega (arith, ints) in
-    let at_off = subst (λ (off : ℤ). IsPlaced c.args.shapes.now c.args.context c.args.view.now c.args.size c.args.dst off Stack place) (sym same) placed in
-    absurd (let ok : false ≡ true = c.in_err-found.ensures.accepts Stack place at_off in let no : ⊥ = cc in no)
+    absurd (let ok : false ≡ true = c.in_err-found.ensures.accepts Stack place placed in let no : ⊥ = cc in no)
 
 pub returns-in_err-slot-in-Stack-clause-accepts : goal.returns-in_err-slot-in-Stack-clause-accepts
 returns-in_err-slot-in-Stack-clause-accepts c = λ number place placed.
-    let fits : SFits w16 c.args.off = search rules in
-    let same : to_z w16 (of_z w16 c.args.off) ≡ c.args.off = omega (arith, ints) in
-    let at_off = subst (λ (off : ℤ). IsPlaced c.args.shapes.now c.args.context c.args.view.now c.args.size c.args.dst off Stack place) (sym same) placed in
-    let there = c.in_ok-found.ensures.there Stack place at_off in
-    let inside = stack_inside c.args.shapes.now c.args.context c.args.view.now c.args.size c.args.dst c.args.off Stack place refl placed in
+    let there = c.in_ok-found.ensures.there Stack place placed in
+    let inside = stack_inside c.args.shapes.now c.args.context c.args.view.now c.args.access.size c.args.access.base c.args.access.off Stack place refl placed in
     absurd (let ok : false ≡ true = (c.in_err-slot-in-Stack.ensures.accepts number place there.1 there.2 inside).0 in let no : ⊥ = cc in no)
 
 pub returns-in_ok-slot-in-Stack-clause-accepts : goal.returns-in_ok-slot-in-Stack-clause-accepts
 returns-in_ok-slot-in-Stack-clause-accepts c = λ number place placed.
-    let fits : SFits w16 c.args.off = search rules in
-    let same : to_z w16 (of_z w16 c.args.off) ≡ c.args.off = omega (arith, ints) in
-    let at_off = subst (λ (off : ℤ). IsPlaced c.args.shapes.now c.args.context c.args.view.now c.args.size c.args.dst off Stack place) (sym same) placed in
-    let there = c.in_ok-found.ensures.there Stack place at_off in
-    let inside = stack_inside c.args.shapes.now c.args.context c.args.view.now c.args.size c.args.dst c.args.off Stack place refl placed in
+    let there = c.in_ok-found.ensures.there Stack place placed in
+    let inside = stack_inside c.args.shapes.now c.args.context c.args.view.now c.args.access.size c.args.access.base c.args.access.off Stack place refl placed in
     (refl, (c.in_ok-slot-in-Stack.ensures.accepts number place there.1 there.2 inside).1)
 
 pub returns-else-ne-clause-accepts : goal.returns-else-ne-clause-accepts
 returns-else-ne-clause-accepts c = λ number place placed.
-    let fits : SFits w16 c.args.off = search rules in
-    let same : to_z w16 (of_z w16 c.args.off) ≡ c.args.off = omega (arith, ints) in
-    let at_off = subst (λ (off : ℤ). IsPlaced c.args.shapes.now c.args.context c.args.view.now c.args.size c.args.dst off Stack place) (sym same) placed in
-    let there = c.in_ok-found.ensures.there Stack place at_off in
+    let there = c.in_ok-found.ensures.there Stack place placed in
     absurd (let kind : c.in_ok-found.found.kind ≡ Stack = there.0 in let no : ⊥ = cc in no)
 
 pub returns-in_default : goal.returns-in_default
@@ -62,38 +39,23 @@ returns-in_default c = record {
   inside = tt;
   doubts = λ insn access reads uses. access;
   accepts = λ number place placed.
-      let fits : SFits w16 c.args.off = search rules in
-      let same : to_z w16 (of_z w16 c.args.off) ≡ c.args.off = omega (arith, ints) in
-      let at_off = subst (λ (off : ℤ). IsPlaced c.args.shapes.now c.args.context c.args.view.now c.args.size c.args.dst off Stack place) (sym same) placed in
-      let there = c.in_ok-found.ensures.there Stack place at_off in
+      let there = c.in_ok-found.ensures.there Stack place placed in
       absurd (c.in_default.not-Stack there.0);
   entry = λ number map place placed.
-      let fits : SFits w16 c.args.off = search rules in
-      let same : to_z w16 (of_z w16 c.args.off) ≡ c.args.off = omega (arith, ints) in
-      let at_off = subst (λ (off : ℤ). IsPlaced c.args.shapes.now c.args.context c.args.view.now c.args.size c.args.dst off (Entry map) place) (sym same) placed in
-      let there = c.in_ok-found.ensures.there (Entry map) place at_off in
+      let there = c.in_ok-found.ensures.there (Entry map) place placed in
       absurd (c.in_default.not-Entry map there.0);
 }
 
 pub returns-in_err-found-clause-entry : goal.returns-in_err-found-clause-entry
 returns-in_err-found-clause-entry c = λ number map place placed.
-    let fits : SFits w16 c.args.off = search rules in
-    let same : to_z w16 (of_z w16 c.args.off) ≡ c.args.off = omega (arith, ints) in
-    let at_off = subst (λ (off : ℤ). IsPlaced c.args.shapes.now c.args.context c.args.view.now c.args.size c.args.dst off (Entry map) place) (sym same) placed in
-    absurd (let ok : false ≡ true = c.in_err-found.ensures.accepts (Entry map) place at_off in let no : ⊥ = cc in no)
+    absurd (let ok : false ≡ true = c.in_err-found.ensures.accepts (Entry map) place placed in let no : ⊥ = cc in no)
 
 pub returns-in_err-slot-in-Stack-clause-entry : goal.returns-in_err-slot-in-Stack-clause-entry
 returns-in_err-slot-in-Stack-clause-entry c = λ number map place placed.
-    let fits : SFits w16 c.args.off = search rules in
-    let same : to_z w16 (of_z w16 c.args.off) ≡ c.args.off = omega (arith, ints) in
-    let at_off = subst (λ (off : ℤ). IsPlaced c.args.shapes.now c.args.context c.args.view.now c.args.size c.args.dst off (Entry map) place) (sym same) placed in
-    let there = c.in_ok-found.ensures.there (Entry map) place at_off in
+    let there = c.in_ok-found.ensures.there (Entry map) place placed in
     absurd (let kind : c.in_ok-found.found.kind ≡ Entry map = there.0 in let no : ⊥ = cc in no)
 
 pub returns-in_ok-slot-in-Stack-clause-entry : goal.returns-in_ok-slot-in-Stack-clause-entry
 returns-in_ok-slot-in-Stack-clause-entry c = λ number map place placed.
-    let fits : SFits w16 c.args.off = search rules in
-    let same : to_z w16 (of_z w16 c.args.off) ≡ c.args.off = omega (arith, ints) in
-    let at_off = subst (λ (off : ℤ). IsPlaced c.args.shapes.now c.args.context c.args.view.now c.args.size c.args.dst off (Entry map) place) (sym same) placed in
-    let there = c.in_ok-found.ensures.there (Entry map) place at_off in
+    let there = c.in_ok-found.ensures.there (Entry map) place placed in
     absurd (let kind : c.in_ok-found.found.kind ≡ Entry map = there.0 in let no : ⊥ = cc in no)
