@@ -17,8 +17,8 @@ ghost use Rattle.bq_states.specs.AbstractStates.{Contains};
 ghost use Rattle.bq_verify.specs.Control.{Goes, IsKnown, IsOnSide, PartsTo, WaitsBoxed};
 
 use crate::stop::Stop;
+use crate::subject::Subject;
 use crate::waiting::wait;
-use bq_bpf::MapShape;
 use bq_graph::passes::target;
 use bq_insn::{Condition, Insn, Source, Width};
 use bq_states::abstract_state::{AbstractState, AbstractValue, Kind};
@@ -30,62 +30,76 @@ use bq_transfer::sides::{right_side, side};
 use bq_transfer::transfer::transfer;
 use std::alloc::{AllocError, Global};
 
+/// What a branch asks: how so many bits of a register compare with an operand.
+#[derive(Clone, Copy)]
+struct Test {
+    width: Width,
+    cond: Condition,
+    dst: u8,
+    src: Source,
+}
+
+/// What is told of both operands on one side of a branch; of the left one `None` where control does not go there.
+#[derive(Clone, Copy)]
+struct Told {
+    dst: u8,
+    src: Source,
+    left: Option<AbstractValue>,
+    right: AbstractValue,
+}
+
 /// One slot where something is known: whether a view is transferred on to the next slot.
 pub fn visit(
     alloc: Global,
-    slots: &[Option<Insn>],
-    shapes: &[MapShape],
-    context: usize,
+    subject: &Subject,
     slot: usize,
     insn: Insn,
     view: &mut AbstractState,
     pending: &mut [Option<Box<AbstractState>>],
 ) -> Result<bool, Stop>
-    requires here { instruction_at slots.now slot ≡ Some insn }
-    requires inside { slot < length slots.now }
-    requires sound { IsSound slots.now }
-    requires room { length pending.old ≡ length slots.now }
-    requires short { length slots.now ≤ 4096 }
-    requires context { context < 2 ^ 16 }
-    requires few { length shapes.now ≤ 8 }
+    requires here { instruction_at subject.now.slots.now slot ≡ Some insn }
+    requires inside { slot < length subject.now.slots.now }
+    requires sound { IsSound subject.now.slots.now }
+    requires room { length pending.old ≡ length subject.now.slots.now }
+    requires short { length subject.now.slots.now ≤ 4096 }
+    requires context { subject.now.context < 2 ^ 16 }
+    requires few { length subject.now.shapes.now ≤ 8 }
     requires below { WritesBelowFrame insn }
     ensures long { length pending.new ≡ length pending.old }
-    ensures goes { IfOk result (λ live. ((f : Setting) (s : State) → WaitsBoxed f pending.old s → WaitsBoxed f pending.new s) × Goes slots.now shapes.now context slot view.old (IsKnown pending.new view.new live (slot + 1))) }
+    ensures goes { IfOk result (λ live. ((f : Setting) (s : State) → WaitsBoxed f pending.old s → WaitsBoxed f pending.new s) × Goes subject.now.slots.now subject.now.shapes.now subject.now.context slot view.old (IsKnown pending.new view.new live (slot + 1))) }
     ensures doubts { IfErr result (λ stop. MayStop stop insn) }
-    ensures accepts { IsReady shapes.now context view.old insn ⊎ IsReadyToAsk view.old insn → IfErr result IsWantOfMemory }
-    ensures sure { IsReady shapes.now context view.old insn ⊎ IsReadyToAsk view.old insn → IfOk result (GoesOnSure slots.now slot insn view.old pending.old pending.new view.new) }
+    ensures accepts { IsReady subject.now.shapes.now subject.now.context view.old insn ⊎ IsReadyToAsk view.old insn → IfErr result IsWantOfMemory }
+    ensures sure { IsReady subject.now.shapes.now subject.now.context view.old insn ⊎ IsReadyToAsk view.old insn → IfOk result (GoesOnSure subject.now.slots.now slot insn view.old pending.old pending.new view.new) }
 {
     if is_counter_call(insn) {
         ask(view, insn)?;
         return Ok(true);
     }
-    go_on(alloc, slots, shapes, context, slot, insn, view, pending)
+    go_on(alloc, subject, slot, insn, view, pending)
 }
 
 /// The same, of an instruction that calls no counter.
 fn go_on(
     alloc: Global,
-    slots: &[Option<Insn>],
-    shapes: &[MapShape],
-    context: usize,
+    subject: &Subject,
     slot: usize,
     insn: Insn,
     view: &mut AbstractState,
     pending: &mut [Option<Box<AbstractState>>],
 ) -> Result<bool, Stop>
-    requires here { instruction_at slots.now slot ≡ Some insn }
-    requires inside { slot < length slots.now }
-    requires sound { IsSound slots.now }
-    requires room { length pending.old ≡ length slots.now }
-    requires short { length slots.now ≤ 4096 }
-    requires context { context < 2 ^ 16 }
-    requires few { length shapes.now ≤ 8 }
+    requires here { instruction_at subject.now.slots.now slot ≡ Some insn }
+    requires inside { slot < length subject.now.slots.now }
+    requires sound { IsSound subject.now.slots.now }
+    requires room { length pending.old ≡ length subject.now.slots.now }
+    requires short { length subject.now.slots.now ≤ 4096 }
+    requires context { subject.now.context < 2 ^ 16 }
+    requires few { length subject.now.shapes.now ≤ 8 }
     requires below { WritesBelowFrame insn }
     ensures long { length pending.new ≡ length pending.old }
-    ensures goes { IfOk result (λ live. ((f : Setting) (s : State) → WaitsBoxed f pending.old s → WaitsBoxed f pending.new s) × Goes slots.now shapes.now context slot view.old (IsKnown pending.new view.new live (slot + 1))) }
+    ensures goes { IfOk result (λ live. ((f : Setting) (s : State) → WaitsBoxed f pending.old s → WaitsBoxed f pending.new s) × Goes subject.now.slots.now subject.now.shapes.now subject.now.context slot view.old (IsKnown pending.new view.new live (slot + 1))) }
     ensures doubts { IfErr result (λ stop. MayStop stop insn) }
-    ensures accepts { IsReady shapes.now context view.old insn → IfErr result IsWantOfMemory }
-    ensures sure { IsReady shapes.now context view.old insn → IfOk result (GoesOnSure slots.now slot insn view.old pending.old pending.new view.new) }
+    ensures accepts { IsReady subject.now.shapes.now subject.now.context view.old insn → IfErr result IsWantOfMemory }
+    ensures sure { IsReady subject.now.shapes.now subject.now.context view.old insn → IfOk result (GoesOnSure subject.now.slots.now slot insn view.old pending.old pending.new view.new) }
 {
     match insn {
         Insn::Exit => {
@@ -93,12 +107,12 @@ fn go_on(
             Ok(false)
         }
         Insn::Goto { off } => {
-            let to = target(slots, slot, insn, i64::from(off));
+            let to = target(subject.slots, slot, insn, i64::from(off));
             wait(alloc, pending, to, view)?;
             Ok(false)
         }
         Insn::Goto32 { imm } => {
-            let to = target(slots, slot, insn, i64::from(imm));
+            let to = target(subject.slots, slot, insn, i64::from(imm));
             wait(alloc, pending, to, view)?;
             Ok(false)
         }
@@ -109,11 +123,17 @@ fn go_on(
             src,
             off,
         } => {
-            let to = target(slots, slot, insn, i64::from(off));
-            branch(alloc, width, cond, dst, src, to, slot + 1, view, pending)
+            let to = target(subject.slots, slot, insn, i64::from(off));
+            let test = Test {
+                width,
+                cond,
+                dst,
+                src,
+            };
+            branch(alloc, test, to, slot + 1, view, pending)
         }
         _ => {
-            transfer(view, shapes, context, insn)?;
+            transfer(view, subject.shapes, subject.context, insn)?;
             let count = insn.slots();
             if count == 1 {
                 return Ok(true);
@@ -142,10 +162,7 @@ fn leave(view: &AbstractState) -> Result<(), Doubt>
 /// A branch: what is known where it is taken waits there, and the other side is transferred on.
 fn branch(
     alloc: Global,
-    width: Width,
-    cond: Condition,
-    dst: u8,
-    src: Source,
+    test: Test,
     to: usize,
     next: usize,
     view: &mut AbstractState,
@@ -154,28 +171,38 @@ fn branch(
     requires to { to < length pending.old }
     ensures long { length pending.new ≡ length pending.old }
     ensures parts { IfOk result (λ live. ((f : Setting) (s : State) → WaitsBoxed f pending.old s → WaitsBoxed f pending.new s)
-        × ((f : Setting) (s : State) → Contains f view.old s → PartsTo (IsKnown pending.new view.new live next) f s width cond dst src to next)) }
+        × ((f : Setting) (s : State) → Contains f view.old s → PartsTo (IsKnown pending.new view.new live next) f s test.width test.cond test.dst test.src to next)) }
     ensures doubts { IfErr result (λ stop. (insn : Insn) → ReadsOperand insn → UsesWord insn → MayStop stop insn) }
-    ensures accepts { dst < 10 → StandsAt Scalar view.old dst → IsScalarOperand view.old src → IfErr result IsWantOfMemory }
-    ensures checks { (map : ℕ) → dst < 10 → IsNullCheck width cond src → StandsAt (Pointer (Kind.EntryOrNull map) 0) view.old dst → IfErr result IsWantOfMemory }
-    ensures checked { (map : ℕ) → IsNullCheck width cond src → StandsAt (Pointer (Kind.EntryOrNull map) 0) view.old dst → IfOk result (λ live. (x : Fact) (k : ℕ) → HasWaiting x pending.old k → (k ≡ to → AfterTest x view.old dst map (is_found cond true)) → (k ≡ next → AfterTest x view.old dst map (is_found cond false)) → IsSureOf x pending.new view.new live next k) }
-    ensures sure { StandsAt Scalar view.old dst → IsScalarOperand view.old src → IfOk result (λ live. (x : Fact) (k : ℕ) → HasWaiting x pending.old k → ((k ≡ to) ⊎ (k ≡ next) → Outlasts x dst × IsLasting x × Has x view.old) → IsSureOf x pending.new view.new live next k) }
+    ensures accepts { test.dst < 10 → StandsAt Scalar view.old test.dst → IsScalarOperand view.old test.src → IfErr result IsWantOfMemory }
+    ensures checks { (map : ℕ) → test.dst < 10 → IsNullCheck test.width test.cond test.src → StandsAt (Pointer (Kind.EntryOrNull map) 0) view.old test.dst → IfErr result IsWantOfMemory }
+    ensures checked { (map : ℕ) → IsNullCheck test.width test.cond test.src → StandsAt (Pointer (Kind.EntryOrNull map) 0) view.old test.dst → IfOk result (λ live. (x : Fact) (k : ℕ) → HasWaiting x pending.old k → (k ≡ to → AfterTest x view.old test.dst map (is_found test.cond true)) → (k ≡ next → AfterTest x view.old test.dst map (is_found test.cond false)) → IsSureOf x pending.new view.new live next k) }
+    ensures sure { StandsAt Scalar view.old test.dst → IsScalarOperand view.old test.src → IfOk result (λ live. (x : Fact) (k : ℕ) → HasWaiting x pending.old k → ((k ≡ to) ⊎ (k ≡ next) → Outlasts x test.dst × IsLasting x × Has x view.old) → IsSureOf x pending.new view.new live next k) }
 {
-    let Some(right) = operand(view, src) else {
+    let Some(right) = operand(view, test.src) else {
         return Err(Stop::Doubted(Doubt::Unset));
     };
-    let Some(left) = known(view, dst) else {
+    let Some(left) = known(view, test.dst) else {
         return Err(Stop::Doubted(Doubt::Unset));
     };
-    if dst >= 10 {
+    if test.dst >= 10 {
         return Err(Stop::Doubted(Doubt::PointerUse));
     }
-    let yes = side(width, cond, left, src, right, true)?;
-    let no = side(width, cond, left, src, right, false)?;
-    let told = right_side(width, cond, left, right, true);
-    wait_on_side(alloc, pending, to, view, dst, src, yes, told)?;
-    let other = right_side(width, cond, left, right, false);
-    Ok(carry_on(view, dst, src, no, other))
+    let yes = side(test.width, test.cond, left, test.src, right, true)?;
+    let no = side(test.width, test.cond, left, test.src, right, false)?;
+    let taken = Told {
+        dst: test.dst,
+        src: test.src,
+        left: yes,
+        right: right_side(test.width, test.cond, left, right, true),
+    };
+    wait_on_side(alloc, pending, to, view, taken)?;
+    let other = Told {
+        dst: test.dst,
+        src: test.src,
+        left: no,
+        right: right_side(test.width, test.cond, left, right, false),
+    };
+    Ok(carry_on(view, other))
 }
 
 /// The view waits for the slot with what is told of both operands there, if control goes there.
@@ -184,41 +211,32 @@ fn wait_on_side(
     pending: &mut [Option<Box<AbstractState>>],
     slot: usize,
     view: &AbstractState,
-    dst: u8,
-    src: Source,
-    side: Option<AbstractValue>,
-    right: AbstractValue,
+    told: Told,
 ) -> Result<(), AllocError>
     requires here { slot < length pending.old }
-    requires dst { dst < 11 }
+    requires dst { told.dst < 11 }
     ensures long { length pending.new ≡ length pending.old }
     ensures kept { OnOk result ((f : Setting) (s : State) → WaitsBoxed f pending.old s → WaitsBoxed f pending.new s) }
-    ensures added { OnOk result ((f : Setting) (s : State) → s.slot ≡ slot → IsOnSide f view.now dst src side right s → WaitsBoxed f pending.new s) }
-    ensures has { OnOk result ((x : Fact) (k : ℕ) → HasWaiting x pending.old k → (k ≡ slot → HasOnSide x view.now dst side) → HasWaiting x pending.new k) }
+    ensures added { OnOk result ((f : Setting) (s : State) → s.slot ≡ slot → IsOnSide f view.now told.dst told.src told.left told.right s → WaitsBoxed f pending.new s) }
+    ensures has { OnOk result ((x : Fact) (k : ℕ) → HasWaiting x pending.old k → (k ≡ slot → HasOnSide x view.now told.dst told.left) → HasWaiting x pending.new k) }
 {
-    let Some(word) = side else {
+    let Some(left) = told.left else {
         return Ok(());
     };
-    let mut told = *view;
-    tell(&mut told, dst, src, word, right);
-    wait(alloc, pending, slot, &told)
+    let mut there = *view;
+    tell(&mut there, told.dst, told.src, left, told.right);
+    wait(alloc, pending, slot, &there)
 }
 
 /// The view is transferred on with what is told of both operands there, if control goes there.
-fn carry_on(
-    view: &mut AbstractState,
-    dst: u8,
-    src: Source,
-    side: Option<AbstractValue>,
-    right: AbstractValue,
-) -> bool
-    requires { dst < 11 }
-    ensures covers { (f : Setting) (s : State) → IsOnSide f view.old dst src side right s → (result ≡ true) × Contains f view.new s }
-    ensures has { (x : Fact) → HasOnSide x view.old dst side → result ≡ true → Has x view.new }
+fn carry_on(view: &mut AbstractState, told: Told) -> bool
+    requires { told.dst < 11 }
+    ensures covers { (f : Setting) (s : State) → IsOnSide f view.old told.dst told.src told.left told.right s → (result ≡ true) × Contains f view.new s }
+    ensures has { (x : Fact) → HasOnSide x view.old told.dst told.left → result ≡ true → Has x view.new }
 {
-    let Some(word) = side else {
+    let Some(left) = told.left else {
         return false;
     };
-    tell(view, dst, src, word, right);
+    tell(view, told.dst, told.src, left, told.right);
     true
 }

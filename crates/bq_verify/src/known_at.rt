@@ -14,10 +14,10 @@ ghost use Rattle.bq_verify.specs.KnownAt.{CoversRuns, RestIsCovered};
 use crate::pass::{pass_slot, start};
 use crate::program::{Program, check_graph};
 use crate::refused::Refused;
+use crate::subject::Subject;
 use crate::waiting::{arrive, nothing_waits};
-use bq_bpf::{MapShape, context_length};
+use bq_bpf::context_length;
 use bq_graph::layout::lay_out;
-use bq_insn::Insn;
 use bq_states::abstract_state::AbstractState;
 use std::alloc::{AllocError, Global};
 
@@ -57,14 +57,12 @@ fn known_in_slots(
         Err(Refused::OutOfMemory) => Err(AllocError),
         Err(Refused::At { .. }) => Ok(None),
         Ok(()) => {
-            let context = context_length(program.hook, program.version);
-            known_at(
-                alloc,
-                slots.as_slice(),
-                program.shapes.as_slice(),
-                context,
-                slot,
-            )
+            let subject = Subject {
+                slots: slots.as_slice(),
+                shapes: program.shapes.as_slice(),
+                context: context_length(program.hook, program.version),
+            };
+            known_at(alloc, &subject, slot)
         }
     }
 }
@@ -72,45 +70,41 @@ fn known_in_slots(
 /// The same, of a program whose control graph has no fault.
 fn known_at(
     alloc: Global,
-    slots: &[Option<Insn>],
-    shapes: &[MapShape],
-    context: usize,
+    subject: &Subject,
     slot: usize,
 ) -> Result<Option<AbstractState>, AllocError>
-    requires sound { IsSound slots.now }
-    requires first { IsStart slots.now 0 }
-    requires short { length slots.now ≤ 4096 }
-    requires context { context < 2 ^ 16 }
-    requires few { length shapes.now ≤ 8 }
-    requires frame { SparesFrame slots.now }
-    requires inside { slot < length slots.now }
-    ensures { IfOk result (λ known. IfSome known (CoversRuns slots.now shapes.now context slot)) }
+    requires sound { IsSound subject.now.slots.now }
+    requires first { IsStart subject.now.slots.now 0 }
+    requires short { length subject.now.slots.now ≤ 4096 }
+    requires context { subject.now.context < 2 ^ 16 }
+    requires few { length subject.now.shapes.now ≤ 8 }
+    requires frame { SparesFrame subject.now.slots.now }
+    requires inside { slot < length subject.now.slots.now }
+    ensures { IfOk result (λ known. IfSome known (CoversRuns subject.now.slots.now subject.now.shapes.now subject.now.context slot)) }
 {
-    let mut pending = nothing_waits(alloc, slots.len())?;
-    known_with(alloc, slots, shapes, context, slot, pending.as_mut_slice())
+    let mut pending = nothing_waits(alloc, subject.slots.len())?;
+    known_with(alloc, subject, slot, pending.as_mut_slice())
 }
 
 /// The same, where views wait in that list; none does so yet.
 fn known_with(
     alloc: Global,
-    slots: &[Option<Insn>],
-    shapes: &[MapShape],
-    context: usize,
+    subject: &Subject,
     slot: usize,
     pending: &mut [Option<Box<AbstractState>>],
 ) -> Result<Option<AbstractState>, AllocError>
-    requires sound { IsSound slots.now }
-    requires first { IsStart slots.now 0 }
-    requires short { length slots.now ≤ 4096 }
-    requires context { context < 2 ^ 16 }
-    requires few { length shapes.now ≤ 8 }
-    requires frame { SparesFrame slots.now }
-    requires inside { slot < length slots.now }
-    requires room { length pending.old ≡ length slots.now }
-    ensures { IfOk result (λ known. IfSome known (CoversRuns slots.now shapes.now context slot)) }
+    requires sound { IsSound subject.now.slots.now }
+    requires first { IsStart subject.now.slots.now 0 }
+    requires short { length subject.now.slots.now ≤ 4096 }
+    requires context { subject.now.context < 2 ^ 16 }
+    requires few { length subject.now.shapes.now ≤ 8 }
+    requires frame { SparesFrame subject.now.slots.now }
+    requires inside { slot < length subject.now.slots.now }
+    requires room { length pending.old ≡ length subject.now.slots.now }
+    ensures { IfOk result (λ known. IfSome known (CoversRuns subject.now.slots.now subject.now.shapes.now subject.now.context slot)) }
 {
     let mut view = start();
-    match pass_before(alloc, slots, shapes, context, slot, &mut view, pending) {
+    match pass_before(alloc, subject, slot, &mut view, pending) {
         Ok(live) => {
             if arrive(&mut view, live, pending, slot) {
                 Ok(Some(view))
@@ -126,27 +120,25 @@ fn known_with(
 /// All slots before that one.
 fn pass_before(
     alloc: Global,
-    slots: &[Option<Insn>],
-    shapes: &[MapShape],
-    context: usize,
+    subject: &Subject,
     until: usize,
     view: &mut AbstractState,
     pending: &mut [Option<Box<AbstractState>>],
 ) -> Result<bool, Refused>
-    requires sound { IsSound slots.now }
-    requires room { length pending.old ≡ length slots.now }
-    requires short { length slots.now ≤ 4096 }
-    requires context { context < 2 ^ 16 }
-    requires few { length shapes.now ≤ 8 }
-    requires frame { SparesFrame slots.now }
-    requires inside { until < length slots.now }
+    requires sound { IsSound subject.now.slots.now }
+    requires room { length pending.old ≡ length subject.now.slots.now }
+    requires short { length subject.now.slots.now ≤ 4096 }
+    requires context { subject.now.context < 2 ^ 16 }
+    requires few { length subject.now.shapes.now ≤ 8 }
+    requires frame { SparesFrame subject.now.slots.now }
+    requires inside { until < length subject.now.slots.now }
     ensures long { length pending.new ≡ length pending.old }
-    ensures covered { IfOk result (λ live. (seen : Knowledge) → RestIsCovered slots.now shapes.now context until seen until (IsKnown pending.new view.new live until)
-        → RestIsCovered slots.now shapes.now context until seen 0 (IsKnown pending.old view.old true 0)) }
+    ensures covered { IfOk result (λ live. (seen : Knowledge) → RestIsCovered subject.now.slots.now subject.now.shapes.now subject.now.context until seen until (IsKnown pending.new view.new live until)
+        → RestIsCovered subject.now.slots.now subject.now.shapes.now subject.now.context until seen 0 (IsKnown pending.old view.old true 0)) }
 {
     let mut live = true;
     for slot in 0..until {
-        live = pass_slot(alloc, slots, shapes, context, slot, view, live, pending)?;
+        live = pass_slot(alloc, subject, slot, view, live, pending)?;
     }
     Ok(live)
 }

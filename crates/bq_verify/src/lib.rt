@@ -12,6 +12,7 @@ mod pass;
 pub mod program;
 pub mod refused;
 mod stop;
+mod subject;
 pub mod verified;
 mod waiting;
 

@@ -15,10 +15,9 @@ ghost use Rattle.bq_verify.specs.Control.{AreHeights, AreMade, IsKnown, PassesOn
 
 use crate::flow::visit;
 use crate::refused::{Refused, refuse};
+use crate::subject::Subject;
 use crate::waiting::{arrive, nothing_waits};
-use bq_bpf::MapShape;
 use bq_graph::edges::instruction;
-use bq_insn::Insn;
 use bq_ranges::Range;
 use bq_states::abstract_state::{AbstractState, AbstractValue, Kind, Part};
 use bq_states::registers::learn;
@@ -26,64 +25,48 @@ use std::alloc::Global;
 
 /// Whether the program is safe within the height of its first slot.
 ///
-/// `slots` is a program whose control graph has no fault, and `heights` the longest paths from its slots.
-pub fn judge(
-    alloc: Global,
-    slots: &[Option<Insn>],
-    shapes: &[MapShape],
-    context: usize,
-    heights: &[u32],
-) -> Result<(), Refused>
-    requires sound { IsSound slots.now }
-    requires heights { AreHeights slots.now heights.now }
-    requires made { (made : ℕ → ℕ) × AreMade slots.now made }
-    requires first { IsStart slots.now 0 }
-    requires short { length slots.now ≤ 4096 }
-    requires context { context < 2 ^ 16 }
-    requires few { length shapes.now ≤ 8 }
-    requires frame { SparesFrame slots.now }
-    ensures safe { OnOk result (Safe slots.now shapes.now context (slice_index heights.now 0)) }
-    ensures stopped { IfErr result (IsStopped slots.now) }
-    ensures accepts { IsStraightProgram slots.now shapes.now context → IfErr result IsOutOfMemory }
+/// The control graph of `subject` has no fault, and `heights` are the longest paths from its slots.
+pub fn judge(alloc: Global, subject: &Subject, heights: &[u32]) -> Result<(), Refused>
+    requires sound { IsSound subject.now.slots.now }
+    requires heights { AreHeights subject.now.slots.now heights.now }
+    requires made { (made : ℕ → ℕ) × AreMade subject.now.slots.now made }
+    requires first { IsStart subject.now.slots.now 0 }
+    requires short { length subject.now.slots.now ≤ 4096 }
+    requires context { subject.now.context < 2 ^ 16 }
+    requires few { length subject.now.shapes.now ≤ 8 }
+    requires frame { SparesFrame subject.now.slots.now }
+    ensures safe { OnOk result (Safe subject.now.slots.now subject.now.shapes.now subject.now.context (slice_index heights.now 0)) }
+    ensures stopped { IfErr result (IsStopped subject.now.slots.now) }
+    ensures accepts { IsStraightProgram subject.now.slots.now subject.now.shapes.now subject.now.context → IfErr result IsOutOfMemory }
 {
-    let mut pending = nothing_waits(alloc, slots.len())?;
+    let mut pending = nothing_waits(alloc, subject.slots.len())?;
     let mut view = start();
-    pass(
-        alloc,
-        slots,
-        shapes,
-        context,
-        heights,
-        &mut view,
-        pending.as_mut_slice(),
-    )?;
+    pass(alloc, subject, heights, &mut view, pending.as_mut_slice())?;
     Ok(())
 }
 
 /// All slots.
 fn pass(
     alloc: Global,
-    slots: &[Option<Insn>],
-    shapes: &[MapShape],
-    context: usize,
+    subject: &Subject,
     heights: &[u32],
     view: &mut AbstractState,
     pending: &mut [Option<Box<AbstractState>>],
 ) -> Result<(), Refused>
-    requires sound { IsSound slots.now }
-    requires heights { AreHeights slots.now heights.now }
-    requires room { length pending.old ≡ length slots.now }
-    requires short { length slots.now ≤ 4096 }
-    requires context { context < 2 ^ 16 }
-    requires few { length shapes.now ≤ 8 }
-    requires frame { SparesFrame slots.now }
-    ensures safe { OnOk result ((made : ℕ → ℕ) → AreMade slots.now made → RestIsSafe slots.now shapes.now context heights.now made 0 (IsKnown pending.old view.old true 0)) }
-    ensures stopped { IfErr result (IsStopped slots.now) }
-    ensures accepts { IsStraightProgram slots.now shapes.now context → IsSure slots.now pending.old view.old true 0 → IfErr result IsOutOfMemory }
+    requires sound { IsSound subject.now.slots.now }
+    requires heights { AreHeights subject.now.slots.now heights.now }
+    requires room { length pending.old ≡ length subject.now.slots.now }
+    requires short { length subject.now.slots.now ≤ 4096 }
+    requires context { subject.now.context < 2 ^ 16 }
+    requires few { length subject.now.shapes.now ≤ 8 }
+    requires frame { SparesFrame subject.now.slots.now }
+    ensures safe { OnOk result ((made : ℕ → ℕ) → AreMade subject.now.slots.now made → RestIsSafe subject.now.slots.now subject.now.shapes.now subject.now.context heights.now made 0 (IsKnown pending.old view.old true 0)) }
+    ensures stopped { IfErr result (IsStopped subject.now.slots.now) }
+    ensures accepts { IsStraightProgram subject.now.slots.now subject.now.shapes.now subject.now.context → IsSure subject.now.slots.now pending.old view.old true 0 → IfErr result IsOutOfMemory }
 {
     let mut live = true;
-    for slot in 0..slots.len() {
-        live = pass_slot(alloc, slots, shapes, context, slot, view, live, pending)?;
+    for slot in 0..subject.slots.len() {
+        live = pass_slot(alloc, subject, slot, view, live, pending)?;
     }
     Ok(())
 }
@@ -91,34 +74,32 @@ fn pass(
 /// One slot: whether a view is transferred on to the next.
 pub(crate) fn pass_slot(
     alloc: Global,
-    slots: &[Option<Insn>],
-    shapes: &[MapShape],
-    context: usize,
+    subject: &Subject,
     slot: usize,
     view: &mut AbstractState,
     live: bool,
     pending: &mut [Option<Box<AbstractState>>],
 ) -> Result<bool, Refused>
-    requires sound { IsSound slots.now }
-    requires here { slot < length slots.now }
-    requires room { length pending.old ≡ length slots.now }
-    requires short { length slots.now ≤ 4096 }
-    requires context { context < 2 ^ 16 }
-    requires few { length shapes.now ≤ 8 }
-    requires frame { SparesFrame slots.now }
+    requires sound { IsSound subject.now.slots.now }
+    requires here { slot < length subject.now.slots.now }
+    requires room { length pending.old ≡ length subject.now.slots.now }
+    requires short { length subject.now.slots.now ≤ 4096 }
+    requires context { subject.now.context < 2 ^ 16 }
+    requires few { length subject.now.shapes.now ≤ 8 }
+    requires frame { SparesFrame subject.now.slots.now }
     ensures long { length pending.new ≡ length pending.old }
-    ensures passes { IfOk result (λ on. PassesOn slots.now shapes.now context slot (IsKnown pending.old view.old live slot) (IsKnown pending.new view.new on (slot + 1))) }
-    ensures stopped { IfErr result (IsStopped slots.now) }
-    ensures accepts { IsStraightProgram slots.now shapes.now context → IsSure slots.now pending.old view.old live slot → IfErr result IsOutOfMemory }
-    ensures sure { IsStraightProgram slots.now shapes.now context → IsSure slots.now pending.old view.old live slot → IfOk result (λ on. IsSure slots.now pending.new view.new on (slot + 1)) }
+    ensures passes { IfOk result (λ on. PassesOn subject.now.slots.now subject.now.shapes.now subject.now.context slot (IsKnown pending.old view.old live slot) (IsKnown pending.new view.new on (slot + 1))) }
+    ensures stopped { IfErr result (IsStopped subject.now.slots.now) }
+    ensures accepts { IsStraightProgram subject.now.slots.now subject.now.shapes.now subject.now.context → IsSure subject.now.slots.now pending.old view.old live slot → IfErr result IsOutOfMemory }
+    ensures sure { IsStraightProgram subject.now.slots.now subject.now.shapes.now subject.now.context → IsSure subject.now.slots.now pending.old view.old live slot → IfOk result (λ on. IsSure subject.now.slots.now pending.new view.new on (slot + 1)) }
 {
     if !arrive(view, live, pending, slot) {
         return Ok(false);
     }
-    let Some(insn) = instruction(slots, slot) else {
+    let Some(insn) = instruction(subject.slots, slot) else {
         return Ok(false);
     };
-    match visit(alloc, slots, shapes, context, slot, insn, view, pending) {
+    match visit(alloc, subject, slot, insn, view, pending) {
         Ok(on) => Ok(on),
         Err(stop) => Err(refuse(slot, stop)),
     }

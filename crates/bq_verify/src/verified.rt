@@ -2,6 +2,7 @@
 
 use crate::pass::judge;
 use crate::refused::Refused;
+use crate::subject::Subject;
 use bq_bpf::{Hook, MapShape, Version, context_length};
 use bq_insn::Insn;
 use bq_packed::{Packed, pack_all};
@@ -125,8 +126,12 @@ impl Verified {
         ensures stopped { IfErr result (IsStopped slots.items) }
         ensures accepts { IsStraightProgram slots.items shapes.items (context_length_of hook version) → IfErr result IsOutOfMemory }
     {
-        let context = context_length(hook, version);
-        judge(alloc, slots.as_slice(), shapes.as_slice(), context, heights)?;
+        let subject = Subject {
+            slots: slots.as_slice(),
+            shapes: shapes.as_slice(),
+            context: context_length(hook, version),
+        };
+        judge(alloc, &subject, heights)?;
         let code = pack_all(alloc, slots.as_slice())?;
         let budget = heights[0];
         Ok(Verified {

@@ -27,9 +27,9 @@ returns-in_ok-wait-in-Goto-clause-goes c =
     let distance : c.from.result ≡ c.in-Goto.off = search rules in
     let fits : SFits w16 c.in-Goto.off = search rules in
     let leads : LeadsTo c.args.slot c.in-Goto.off c.target-to.result = omega (arith, ints, c.target-to.ensures.to) in
-    let here : instruction_at c.args.slots.now c.args.slot ≡ Some (Goto c.in-Goto.off) = rw c.in-Goto.is at c.requires.here in (
+    let here : instruction_at c.args.subject.now.slots.now c.args.slot ≡ Some (Goto c.in-Goto.off) = rw c.in-Goto.is at c.requires.here in (
       c.in_ok-wait-in-Goto.ensures.kept,
-      goes_there c.args.slots.now c.args.shapes.now c.args.context c.args.slot c.args.view.now (IsKnown c.wait.new.pending c.args.view.now false (c.args.slot + 1))
+      goes_there c.args.subject.now.slots.now c.args.subject.now.shapes.now c.args.subject.now.context c.args.slot c.args.view.now (IsKnown c.wait.new.pending c.args.view.now false (c.args.slot + 1))
           c.in-Goto.off c.target-to.result here leads (λ f s at covers. inl (c.in_ok-wait-in-Goto.ensures.added f s at covers)),
     )
 
@@ -38,17 +38,17 @@ returns-in_ok-wait-in-Goto32-clause-goes c =
     let distance : c.from-in-Goto32.result ≡ c.in-Goto32.imm = search rules in
     let fits : SFits w32 c.in-Goto32.imm = search rules in
     let leads : LeadsTo c.args.slot c.in-Goto32.imm c.target-to-in-Goto32.result = omega (arith, ints, c.target-to-in-Goto32.ensures.to) in
-    let here : instruction_at c.args.slots.now c.args.slot ≡ Some (Goto32 c.in-Goto32.imm) = rw c.in-Goto32.is at c.requires.here in (
+    let here : instruction_at c.args.subject.now.slots.now c.args.slot ≡ Some (Goto32 c.in-Goto32.imm) = rw c.in-Goto32.is at c.requires.here in (
       c.in_ok-wait-in-Goto32.ensures.kept,
-      goes_far c.args.slots.now c.args.shapes.now c.args.context c.args.slot c.args.view.now (IsKnown c.wait-in-Goto32.new.pending c.args.view.now false (c.args.slot + 1))
+      goes_far c.args.subject.now.slots.now c.args.subject.now.shapes.now c.args.subject.now.context c.args.slot c.args.view.now (IsKnown c.wait-in-Goto32.new.pending c.args.view.now false (c.args.slot + 1))
           c.in-Goto32.imm c.target-to-in-Goto32.result here leads (λ f s at covers. inl (c.in_ok-wait-in-Goto32.ensures.added f s at covers)),
     )
 
 pub wait-requires-in_default : goal.wait-requires-in_default
 wait-requires-in_default c =
-    let edge : IsEdge c.args.slots.now c.args.slot (c.args.slot + slots_of c.args.insn) =
+    let edge : IsEdge c.args.subject.now.slots.now c.args.slot (c.args.slot + slots_of c.args.insn) =
     record { insn = c.args.insn; here = c.requires.here; leaves = c.in_ok-transfer-in_default.ensures.straight c.args.slot } in
-    let inside : c.args.slot + slots_of c.args.insn < length c.args.slots.now = start_inside c.args.slots.now _ (c.requires.sound.forward c.args.slot (c.args.slot + slots_of c.args.insn) edge).1 in
+    let inside : c.args.slot + slots_of c.args.insn < length c.args.subject.now.slots.now = start_inside c.args.subject.now.slots.now _ (c.requires.sound.forward c.args.slot (c.args.slot + slots_of c.args.insn) edge).1 in
     record { here = rw (c.slots-count.ensures, c.requires.room) inside }
 
 pub returns-in_ok-wait-in_default : goal.returns-in_ok-wait-in_default
@@ -56,7 +56,7 @@ returns-in_ok-wait-in_default c = record {
   long = search rules;
   goes = (
     c.in_ok-wait-in_default.ensures.kept,
-    goes_on c.args.slots.now c.args.shapes.now c.args.context c.args.slot c.args.view.now (IsKnown c.wait-in_default.new.pending c.transfer.new.view false (c.args.slot + 1))
+    goes_on c.args.subject.now.slots.now c.args.subject.now.shapes.now c.args.subject.now.context c.args.slot c.args.view.now (IsKnown c.wait-in_default.new.pending c.transfer.new.view false (c.args.slot + 1))
         c.args.insn c.transfer.new.view c.requires.here c.in_ok-transfer-in_default.ensures.straight c.in_ok-transfer-in_default.ensures.transfers
         (λ f s at covers. inl (c.in_ok-wait-in_default.ensures.added f s (rw c.slots-count.ensures at) covers)),
   );
@@ -78,11 +78,11 @@ returns-in-Branch-clause-goes c =
     let distance : c.from-in-Branch.result ≡ c.in-Branch.off = search rules in
     let fits : SFits w16 c.in-Branch.off = search rules in
     let leads : LeadsTo c.args.slot c.in-Branch.off c.target-to-in-Branch.result = omega (arith, ints, c.target-to-in-Branch.ensures.to) in
-    let here : instruction_at c.args.slots.now c.args.slot ≡ Some (Branch c.in-Branch.width c.in-Branch.cond c.in-Branch.dst c.in-Branch.src c.in-Branch.off) = rw c.in-Branch.is at c.requires.here in
+    let here : instruction_at c.args.subject.now.slots.now c.args.slot ≡ Some (Branch c.in-Branch.width c.in-Branch.cond c.in-Branch.dst c.in-Branch.src c.in-Branch.off) = rw c.in-Branch.is at c.requires.here in
     IfOk-weaker c.branch-alloc.result _ _
     (λ live parts. (
       parts.0,
-      goes_apart c.args.slots.now c.args.shapes.now c.args.context c.args.slot c.args.view.now (IsKnown c.branch-alloc.new.pending c.branch-alloc.new.view live (c.args.slot + 1))
+      goes_apart c.args.subject.now.slots.now c.args.subject.now.shapes.now c.args.subject.now.context c.args.slot c.args.view.now (IsKnown c.branch-alloc.new.pending c.branch-alloc.new.view live (c.args.slot + 1))
           c.in-Branch.width c.in-Branch.cond c.in-Branch.dst c.in-Branch.src c.in-Branch.off c.target-to-in-Branch.result here leads parts.1,
     ))
     c.branch-alloc.ensures.parts
@@ -92,7 +92,7 @@ returns-then-count-eq1 c = record {
   long = search rules;
   goes = (
     λ f s waits. waits,
-    goes_on c.args.slots.now c.args.shapes.now c.args.context c.args.slot c.args.view.now (IsKnown c.args.pending.now c.transfer.new.view true (c.args.slot + 1))
+    goes_on c.args.subject.now.slots.now c.args.subject.now.shapes.now c.args.subject.now.context c.args.slot c.args.view.now (IsKnown c.args.pending.now c.transfer.new.view true (c.args.slot + 1))
         c.args.insn c.transfer.new.view c.requires.here c.in_ok-transfer-in_default.ensures.straight c.in_ok-transfer-in_default.ensures.transfers
         (λ f s at covers. inr (refl, at ∙ ap (λ (n : ℕ). c.args.slot + n) one, covers)),
   );
@@ -116,13 +116,13 @@ returns-in_ok-wait-in-Goto-clause-sure c = λ ready x k waits after.
     let distance : c.from.result ≡ c.in-Goto.off = search rules in
     let fits : SFits w16 c.in-Goto.off = search rules in
     let leads : LeadsTo c.args.slot c.in-Goto.off c.target-to.result = omega (arith, ints, c.target-to.ensures.to) in
-    let here : instruction_at c.args.slots.now c.args.slot ≡ Some (Goto c.in-Goto.off) = rw c.in-Goto.is at c.requires.here in
-    let edge : IsEdge c.args.slots.now c.args.slot c.target-to.result = record { insn = Goto c.in-Goto.off; here = here; leaves = inr (c.in-Goto.off, refl, leads) } in
+    let here : instruction_at c.args.subject.now.slots.now c.args.slot ≡ Some (Goto c.in-Goto.off) = rw c.in-Goto.is at c.requires.here in
+    let edge : IsEdge c.args.subject.now.slots.now c.args.slot c.target-to.result = record { insn = Goto c.in-Goto.off; here = here; leaves = inr (c.in-Goto.off, refl, leads) } in
     record {
       waiting = c.in_ok-wait-in-Goto.ensures.has x k waits
           (λ same.
           has_left x c.args.slot k (Goto c.in-Goto.off) c.args.view.now (λ r gives. some_none _ _ gives refl) (λ n r gives. gives) (λ kind o r gives. gives) (λ i stores. stores)
-          (subst (λ (i : Insn). After x c.args.slot k i c.args.view.now) c.in-Goto.is (after (subst (λ (n : ℕ). IsEdge c.args.slots.now c.args.slot n) (sym same) edge))));
+          (subst (λ (i : Insn). After x c.args.slot k i c.args.view.now) c.in-Goto.is (after (subst (λ (n : ℕ). IsEdge c.args.subject.now.slots.now c.args.slot n) (sym same) edge))));
       transferred = λ live. absurd (let no : ⊥ = cc in no);
     }
 
@@ -131,13 +131,13 @@ returns-in_ok-wait-in-Goto32-clause-sure c = λ ready x k waits after.
     let distance : c.from-in-Goto32.result ≡ c.in-Goto32.imm = search rules in
     let fits : SFits w32 c.in-Goto32.imm = search rules in
     let leads : LeadsTo c.args.slot c.in-Goto32.imm c.target-to-in-Goto32.result = omega (arith, ints, c.target-to-in-Goto32.ensures.to) in
-    let here : instruction_at c.args.slots.now c.args.slot ≡ Some (Goto32 c.in-Goto32.imm) = rw c.in-Goto32.is at c.requires.here in
-    let edge : IsEdge c.args.slots.now c.args.slot c.target-to-in-Goto32.result = record { insn = Goto32 c.in-Goto32.imm; here = here; leaves = inr (c.in-Goto32.imm, refl, leads) } in
+    let here : instruction_at c.args.subject.now.slots.now c.args.slot ≡ Some (Goto32 c.in-Goto32.imm) = rw c.in-Goto32.is at c.requires.here in
+    let edge : IsEdge c.args.subject.now.slots.now c.args.slot c.target-to-in-Goto32.result = record { insn = Goto32 c.in-Goto32.imm; here = here; leaves = inr (c.in-Goto32.imm, refl, leads) } in
     record {
       waiting = c.in_ok-wait-in-Goto32.ensures.has x k waits
           (λ same.
           has_left x c.args.slot k (Goto32 c.in-Goto32.imm) c.args.view.now (λ r gives. some_none _ _ gives refl) (λ n r gives. gives) (λ kind o r gives. gives) (λ i stores. stores)
-          (subst (λ (i : Insn). After x c.args.slot k i c.args.view.now) c.in-Goto32.is (after (subst (λ (n : ℕ). IsEdge c.args.slots.now c.args.slot n) (sym same) edge))));
+          (subst (λ (i : Insn). After x c.args.slot k i c.args.view.now) c.in-Goto32.is (after (subst (λ (n : ℕ). IsEdge c.args.subject.now.slots.now c.args.slot n) (sym same) edge))));
       transferred = λ live. absurd (let no : ⊥ = cc in no);
     }
 
@@ -147,15 +147,15 @@ returns-in-Branch-clause-sure c = λ ready.
     let fits : SFits w16 c.in-Branch.off = search rules in
     let leads : LeadsTo c.args.slot c.in-Branch.off c.target-to-in-Branch.result = omega (arith, ints, c.target-to-in-Branch.ensures.to) in
     let insn : Insn = Branch c.in-Branch.width c.in-Branch.cond c.in-Branch.dst c.in-Branch.src c.in-Branch.off in
-    let here : instruction_at c.args.slots.now c.args.slot ≡ Some insn = rw c.in-Branch.is at c.requires.here in
-    let there : IsEdge c.args.slots.now c.args.slot c.target-to-in-Branch.result = record { insn = insn; here = here; leaves = inr (c.in-Branch.off, refl, leads) } in
-    let next : IsEdge c.args.slots.now c.args.slot (c.args.slot + 1) = record { insn = insn; here = here; leaves = inl (refl, refl) } in
-    let needs = subst (λ (i : Insn). IsReady c.args.shapes.now c.args.context c.args.view.now i) c.in-Branch.is ready in
+    let here : instruction_at c.args.subject.now.slots.now c.args.slot ≡ Some insn = rw c.in-Branch.is at c.requires.here in
+    let there : IsEdge c.args.subject.now.slots.now c.args.slot c.target-to-in-Branch.result = record { insn = insn; here = here; leaves = inr (c.in-Branch.off, refl, leads) } in
+    let next : IsEdge c.args.subject.now.slots.now c.args.slot (c.args.slot + 1) = record { insn = insn; here = here; leaves = inl (refl, refl) } in
+    let needs = subst (λ (i : Insn). IsReady c.args.subject.now.shapes.now c.args.subject.now.context c.args.view.now i) c.in-Branch.is ready in
     elim needs.1 [
       | inl numbers ↦
           IfOk-weaker c.branch-alloc.result _ _
           (λ live sure x k waits after.
-          let left = λ (edge : IsEdge c.args.slots.now c.args.slot k).
+          let left = λ (edge : IsEdge c.args.subject.now.slots.now c.args.slot k).
           let after' = subst (λ (i : Insn). After x c.args.slot k i c.args.view.now) c.in-Branch.is (after edge) in
           let on : Outlasts x c.in-Branch.dst × IsLasting x × Has x c.args.view.now = (
             outlasts x c.args.slot k c.in-Branch.width c.in-Branch.cond c.in-Branch.dst c.in-Branch.src c.in-Branch.off c.args.view.now after',
@@ -165,27 +165,27 @@ returns-in-Branch-clause-sure c = λ ready.
           on in
           sure x k waits
           (λ either. elim either [
-            | inl same ↦ left (subst (λ (n : ℕ). IsEdge c.args.slots.now c.args.slot n) (sym same) there)
-            | inr same ↦ left (subst (λ (n : ℕ). IsEdge c.args.slots.now c.args.slot n) (sym same) next)
+            | inl same ↦ left (subst (λ (n : ℕ). IsEdge c.args.subject.now.slots.now c.args.slot n) (sym same) there)
+            | inr same ↦ left (subst (λ (n : ℕ). IsEdge c.args.subject.now.slots.now c.args.slot n) (sym same) next)
           ]))
           (c.branch-alloc.ensures.sure numbers.0 numbers.1)
       | inr check ↦
           IfOk-weaker c.branch-alloc.result _ _
           (λ live sure x k waits after.
-          let tested = λ (found : Bool) (edge : IsEdge c.args.slots.now c.args.slot k) (side : IsFoundSide c.in-Branch.cond c.in-Branch.off c.args.slot k → found ≡ true).
+          let tested = λ (found : Bool) (edge : IsEdge c.args.subject.now.slots.now c.args.slot k) (side : IsFoundSide c.in-Branch.cond c.in-Branch.off c.args.slot k → found ≡ true).
           has_tested x c.args.slot k c.in-Branch.width c.in-Branch.cond c.in-Branch.dst c.in-Branch.src c.in-Branch.off check.1 found c.args.view.now check.2 side
           (subst (λ (i : Insn). After x c.args.slot k i c.args.view.now) c.in-Branch.is (after edge)) in
           sure x k waits
           (λ same.
           let at = subst (λ (n : ℕ). LeadsTo c.args.slot c.in-Branch.off n) (sym same) leads in
-          tested (is_found c.in-Branch.cond true) (subst (λ (n : ℕ). IsEdge c.args.slots.now c.args.slot n) (sym same) there) (found_there c.in-Branch.cond c.in-Branch.off c.args.slot k at))
-          (λ same. tested (is_found c.in-Branch.cond false) (subst (λ (n : ℕ). IsEdge c.args.slots.now c.args.slot n) (sym same) next) (found_next c.in-Branch.cond c.in-Branch.off c.args.slot k same)))
+          tested (is_found c.in-Branch.cond true) (subst (λ (n : ℕ). IsEdge c.args.subject.now.slots.now c.args.slot n) (sym same) there) (found_there c.in-Branch.cond c.in-Branch.off c.args.slot k at))
+          (λ same. tested (is_found c.in-Branch.cond false) (subst (λ (n : ℕ). IsEdge c.args.subject.now.slots.now c.args.slot n) (sym same) next) (found_next c.in-Branch.cond c.in-Branch.off c.args.slot k same)))
           (c.branch-alloc.ensures.checked check.1 check.0 check.2)
     ]
 
 pub returns-in-Branch-clause-accepts : goal.returns-in-Branch-clause-accepts
 returns-in-Branch-clause-accepts c = λ ready.
-    let needs = subst (λ (i : Insn). IsReady c.args.shapes.now c.args.context c.args.view.now i) c.in-Branch.is ready in
+    let needs = subst (λ (i : Insn). IsReady c.args.subject.now.shapes.now c.args.subject.now.context c.args.view.now i) c.in-Branch.is ready in
     elim needs.1 [
       | inl numbers ↦ c.branch-alloc.ensures.accepts needs.0 numbers.0 numbers.1
       | inr check ↦ c.branch-alloc.ensures.checks check.1 needs.0 check.0 check.2

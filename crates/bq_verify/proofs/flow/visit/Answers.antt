@@ -13,30 +13,30 @@ use Rattle.bq_verify.proofs.flow.visit.Goals as goal
 pub returns-then-is_counter_call-clause-goes : goal.returns-then-is_counter_call-clause-goes
 returns-then-is_counter_call-clause-goes c = (
   λ f s waits. waits,
-  goes_asking c.args.slots.now c.args.shapes.now c.args.context c.args.slot c.args.view.now (IsKnown c.args.pending.now c.ask.new.view true (c.args.slot + 1))
+  goes_asking c.args.subject.now.slots.now c.args.subject.now.shapes.now c.args.subject.now.context c.args.slot c.args.view.now (IsKnown c.args.pending.now c.ask.new.view true (c.args.slot + 1))
       c.args.insn c.ask.new.view c.requires.here (c.is_counter_call.ensures.is c.if-is_counter_call.true) c.in_ok-ask.ensures.asks
       (λ f s at covers. inr (refl, at, covers)),
 )
 
 pub returns-in_err-ask-clause-accepts : goal.returns-in_err-ask-clause-accepts
 returns-in_err-ask-clause-accepts c = λ ready.
-    let a = asked c.args.shapes.now c.args.context c.args.view.now c.args.insn (c.is_counter_call.ensures.is c.if-is_counter_call.true) ready in
+    let a = asked c.args.subject.now.shapes.now c.args.subject.now.context c.args.view.now c.args.insn (c.is_counter_call.ensures.is c.if-is_counter_call.true) ready in
     absurd (let ok : false ≡ true = (c.in_err-ask.ensures.accepts a.helper a.is a.needs).0 in let no : ⊥ = cc in no)
 
 pub returns-then-is_counter_call-clause-sure : goal.returns-then-is_counter_call-clause-sure
 returns-then-is_counter_call-clause-sure c = λ ready x k waits after.
-    let a = asked c.args.shapes.now c.args.context c.args.view.now c.args.insn (c.is_counter_call.ensures.is c.if-is_counter_call.true) ready in
-    let here : instruction_at c.args.slots.now c.args.slot ≡ Some (Call a.helper) = c.requires.here ∙ ap (λ (i : Insn). Some i) a.is in
+    let a = asked c.args.subject.now.shapes.now c.args.subject.now.context c.args.view.now c.args.insn (c.is_counter_call.ensures.is c.if-is_counter_call.true) ready in
+    let here : instruction_at c.args.subject.now.slots.now c.args.slot ≡ Some (Call a.helper) = c.requires.here ∙ ap (λ (i : Insn). Some i) a.is in
     record {
       waiting = waits;
       transferred = λ live same.
-          let edge : IsEdge c.args.slots.now c.args.slot k = record { insn = Call a.helper; here = here; leaves = inl (refl, same) } in
+          let edge : IsEdge c.args.subject.now.slots.now c.args.slot k = record { insn = Call a.helper; here = here; leaves = inl (refl, same) } in
           has_answered x c.args.slot k a.helper c.args.view.now c.ask.new.view a.other (c.in_ok-ask.ensures.accepts a.helper a.is a.needs).1
           (subst (λ (i : Insn). After x c.args.slot k i c.args.view.now) a.is (after edge));
     }
 
 pub returns-clause-accepts : goal.returns-clause-accepts
-returns-clause-accepts c = λ ready. c.go_on.ensures.accepts (not_asked c.args.shapes.now c.args.context c.args.view.now c.args.insn (λ call. let yes' = c.is_counter_call.ensures.only call in let no : ⊥ = cc in no) ready)
+returns-clause-accepts c = λ ready. c.go_on.ensures.accepts (not_asked c.args.subject.now.shapes.now c.args.subject.now.context c.args.view.now c.args.insn (λ call. let yes' = c.is_counter_call.ensures.only call in let no : ⊥ = cc in no) ready)
 
 pub returns-clause-sure : goal.returns-clause-sure
-returns-clause-sure c = λ ready. c.go_on.ensures.sure (not_asked c.args.shapes.now c.args.context c.args.view.now c.args.insn (λ call. let yes' = c.is_counter_call.ensures.only call in let no : ⊥ = cc in no) ready)
+returns-clause-sure c = λ ready. c.go_on.ensures.sure (not_asked c.args.subject.now.shapes.now c.args.subject.now.context c.args.view.now c.args.insn (λ call. let yes' = c.is_counter_call.ensures.only call in let no : ⊥ = cc in no) ready)

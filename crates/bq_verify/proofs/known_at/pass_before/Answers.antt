@@ -11,7 +11,7 @@ loop-slot-preserved c =
       long = search rules;
       rest = λ seen rest.
           c.loop-slot.invariant.rest seen
-          (covered_before c.args.slots.now c.args.shapes.now c.args.context c.requires.sound c.requires.context c.args.until seen c.loop-slot.slot
+          (covered_before c.args.subject.now.slots.now c.args.subject.now.shapes.now c.args.subject.now.context c.requires.sound c.requires.context c.args.until seen c.loop-slot.slot
           (IsKnown c.loop-slot.pending c.loop-slot.view c.loop-slot.live c.loop-slot.slot)
           (IsKnown c.pass_slot.new.pending c.pass_slot.new.view c.in_ok-live.live (c.loop-slot.slot + 1))
           before c.in_ok-live.ensures.passes rest);
@@ -21,4 +21,4 @@ pub returns-clause-covered : goal.returns-clause-covered
 returns-clause-covered c = λ seen rest.
     let same : c.args.until ≡ c.loop-slot.slot = omega arith in
     c.loop-slot.invariant.rest seen
-    (subst (λ (n : ℕ). RestIsCovered c.args.slots.now c.args.shapes.now c.args.context c.args.until seen n (IsKnown c.loop-slot.pending c.loop-slot.view c.loop-slot.live n)) same rest)
+    (subst (λ (n : ℕ). RestIsCovered c.args.subject.now.slots.now c.args.subject.now.shapes.now c.args.subject.now.context c.args.until seen n (IsKnown c.loop-slot.pending c.loop-slot.view c.loop-slot.live n)) same rest)

@@ -9,7 +9,7 @@ loop-slot-preserved c = record {
   long = search rules;
   rest = λ made rise rest.
       c.loop-slot.invariant.rest made rise
-      (rest_before c.args.slots.now c.args.shapes.now c.args.context c.args.heights.now made c.requires.sound c.requires.heights rise c.loop-slot.slot
+      (rest_before c.args.subject.now.slots.now c.args.subject.now.shapes.now c.args.subject.now.context c.args.heights.now made c.requires.sound c.requires.heights rise c.loop-slot.slot
       (IsKnown c.loop-slot.pending c.loop-slot.view c.loop-slot.live c.loop-slot.slot)
       (IsKnown c.pass_slot.new.pending c.pass_slot.new.view c.in_ok-live.live (c.loop-slot.slot + 1))
       c.in_ok-live.ensures.passes rest);
@@ -18,7 +18,7 @@ loop-slot-preserved c = record {
 
 pub returns-clause-safe : goal.returns-clause-safe
 returns-clause-safe c = λ made rise.
-    c.loop-slot.invariant.rest made rise (rest_at_end c.args.slots.now c.args.shapes.now c.args.context c.args.heights.now made c.loop-slot.slot _ (omega arith))
+    c.loop-slot.invariant.rest made rise (rest_at_end c.args.subject.now.slots.now c.args.subject.now.shapes.now c.args.subject.now.context c.args.heights.now made c.loop-slot.slot _ (omega arith))
 
 pub returns-in_err-live-clause-accepts : goal.returns-in_err-live-clause-accepts
 returns-in_err-live-clause-accepts c = λ straight begins.
