@@ -26,8 +26,8 @@ use Rattle.bq_asm.specs.Names.{name_of}
 use Rattle.bq_asm.specs.Operands.{operand_of, each_operand, with_next, kind_list, kinds_of, made, instruction_of, instruction_from}
 use Rattle.bq_asm.specs.Text.{operand_text, source_operand, mnemonic_of, operands_of}
 use Rattle.bq_asm.proofs.OperandLemmas.{register_again, source_register_again, number_again, source_number_again, wide_again, near_again, far_again, memory_again}
-use Rattle.bq_asm.proofs.WellFormedLemmas.{Good}
-use Rattle.bq_asm.proofs.RoundTrip.{insn_from-parts, named-again}
+use Rattle.bq_asm.proofs.WellFormedLemmas.{IsInRange}
+use Rattle.bq_asm.proofs.RoundTripLemmas.{insn_from-parts, named-again}
 
 -- which operands stand in which places
 has_kind : Kind → Operand → Bool
@@ -50,7 +50,7 @@ no : {P : Type 0} → false ≡ true → P
 no h = absurd (let e : false ≡ true = h in cc)
 
 -- an operand's text is read as that operand
-again : (k : Kind) (o : Operand) (d : Option ℤ) → has_kind k o ≡ true → Good o → operand_of k (operand_text o) d ≡ Ok o
+again : (k : Kind) (o : Operand) (d : Option ℤ) → has_kind k o ≡ true → IsInRange o → operand_of k (operand_text o) d ≡ Ok o
 unfolding has_kind
 again kind.Register (operand.Register r) d h g = register_again r d g
 again kind.Source (operand.Register r) d h g = source_register_again r d g
@@ -62,7 +62,7 @@ again kind.Near (operand.Near z) d h g = near_again z d g
 again kind.Far (operand.Far z) d h g = far_again z d g
 again k o d h g = no h
 
-each_again : (ks : List Kind) (os : List Operand) (d : Option ℤ) → have_kinds ks os ≡ true → AllByRecursion Good os → each_operand ks (map operand_text os) d ≡ Ok os
+each_again : (ks : List Kind) (os : List Operand) (d : Option ℤ) → have_kinds ks os ≡ true → AllByRecursion IsInRange os → each_operand ks (map operand_text os) d ≡ Ok os
 unfolding have_kinds
 each_again [] [] d h g = refl
 each_again [] (o ∷ os) d h g = no h
@@ -115,12 +115,12 @@ loaded Half false d s off h = both d s h
 loaded Word false d s off h = both d s h
 loaded Double false d s off h = both d s h
 
-source_good : (src : Source) → is_source src ≡ true → SourceFits src → Good (source_operand src)
+source_good : (src : Source) → is_source src ≡ true → SourceFits src → IsInRange (source_operand src)
 source_good (Imm n) h k = k
 source_good (Reg r) h k = in_range r h
 
 -- the operands of an instruction in range are in range
-pub operands_good : (i : Insn) → is_insn i ≡ true → Fits i → AllByRecursion Good (operands_of i)
+pub operands_good : (i : Insn) → is_insn i ≡ true → Fits i → AllByRecursion IsInRange (operands_of i)
 operands_good (insn.Alu w o d src) h k = let parts = and_parts (is_register d) (is_source src) h in (in_range d parts.0, (source_good src parts.1 k, tt))
 operands_good (insn.MovSx w b d s) h k = let two = extended w b d s h in (two.first, (two.second, tt))
 operands_good (insn.Neg w d) h k = (in_range d h, tt)

@@ -22,7 +22,7 @@ use Rattle.bq_asm.specs.Assembly.{slots_read, slots_of_line, place_at, places_fr
 use Rattle.bq_asm.specs.Faults.{slots_in, labels_in, cause_of_label, cause_of_insn, cause_at, IsClean}
 use Rattle.bq_asm.proofs.DraftLemmas.{places_from-append}
 use Rattle.bq_asm.proofs.CleanLemmas.{fault_at-is}
-use Rattle.bq_asm.proofs.NearLemmas.{places_near}
+use Rattle.bq_asm.proofs.WithinLemmas.{places_within}
 use Rattle.bq_asm.proofs.ReadingLemmas.{read_again}
 use Rattle.bq_asm.proofs.WellFormedLemmas.{DistanceFits, instruction_fine}
 
@@ -56,21 +56,21 @@ label_is before name h = by (is_label name) (list_any (bytes_eq name) before) h
     by false b k = absurd (let no : Some Word ≡ None = k in cc)
 
 -- the labels of one line more
-pub labels_more : (before : List Line) (line : Line) → labels_in (before ++ line ∷ []) ≡ labels_in before ++ keys_of (place_at (slots_in before) line)
-labels_more before line =
+pub labels_in-more : (before : List Line) (line : Line) → labels_in (before ++ line ∷ []) ≡ labels_in before ++ keys_of (place_at (slots_in before) line)
+labels_in-more before line =
     ap keys_of (places_from-append 0 before (line ∷ []) ∙ ap (λ ps. places_from 0 before ++ ps) (append-nil (place_at (0 + slots_in before) line) ∙ ap (λ n. place_at n line) (omega arith)))
     ∙ map-append (λ e. e.0) (places_from 0 before) (place_at (slots_in before) line)
 
 new_labels : (before lines : List Line) (slot : ℕ) → IsCleanAfter before lines → AreNewLabels (labels_in before) (keys_of (places_from slot lines))
 new_labels before [] slot h = tt
 new_labels before (Blank ∷ lines) slot h =
-    subst (λ ls. AreNewLabels ls (keys_of (places_from (slot + 0) lines))) (labels_more before Blank ∙ append-nil (labels_in before)) (new_labels (before ++ Blank ∷ []) lines (slot + 0) h.1)
+    subst (λ ls. AreNewLabels ls (keys_of (places_from (slot + 0) lines))) (labels_in-more before Blank ∙ append-nil (labels_in before)) (new_labels (before ++ Blank ∷ []) lines (slot + 0) h.1)
 new_labels before (Label name ∷ lines) slot h =
     let is = label_is (labels_in before) name h.0 in
-    (is.0, is.1, subst (λ ls. AreNewLabels ls (keys_of (places_from (slot + 0) lines))) (labels_more before (Label name)) (new_labels (before ++ Label name ∷ []) lines (slot + 0) h.1))
+    (is.0, is.1, subst (λ ls. AreNewLabels ls (keys_of (places_from (slot + 0) lines))) (labels_in-more before (Label name)) (new_labels (before ++ Label name ∷ []) lines (slot + 0) h.1))
 new_labels before (Instruction first operands ∷ lines) slot h =
     let line = Instruction first operands in
-    subst (λ ls. AreNewLabels ls (keys_of (places_from (slot + slots_of_line line) lines))) (labels_more before line ∙ append-nil (labels_in before))
+    subst (λ ls. AreNewLabels ls (keys_of (places_from (slot + slots_of_line line) lines))) (labels_in-more before line ∙ append-nil (labels_in before))
     (new_labels (before ++ line ∷ []) lines (slot + slots_of_line line) h.1)
 
 -- lines without a fault set labels that are names, and none of them twice
@@ -117,8 +117,8 @@ lookup_near limit name (p ∷ places) h = by (bytes_eq name p.0) (lookup_near li
     by false rest = rest
 
 -- where all labels and the slot behind a jump lie within 4096 slots, the distance to a label fits a near target
-pub distance_fits : (places : List (List ℕ × ℕ)) (slot : ℕ) (name : List ℕ) → AllByRecursion (λ p. p.1 ≤ 4096) places → slot + 1 ≤ 4096 → DistanceFits (distance_to places slot name)
-distance_fits places slot name h k = by (lookup (bytes_eq name) places) (lookup_near 4096 name places h)
+pub label_distance_fits : (places : List (List ℕ × ℕ)) (slot : ℕ) (name : List ℕ) → AllByRecursion (λ p. p.1 ≤ 4096) places → slot + 1 ≤ 4096 → DistanceFits (distance_to places slot name)
+label_distance_fits places slot name h k = by (lookup (bytes_eq name) places) (lookup_near 4096 name places h)
   where
     by : (o : Option ℕ) → IfSome o (λ at. at ≤ 4096) → IfSome (option_map (λ at. pos at -ℤ pos (slot + 1)) o) (FitsSigned w16)
     by None l = tt
@@ -143,7 +143,7 @@ says_fine places slot (Label name ∷ lines) insns near few h = says_fine places
 says_fine places slot (Instruction first operands ∷ lines) (i ∷ insns) near few h =
     let sum = slot_count-cons i insns in
     let one = some_slots i in
-    let fine = instruction_fine first operands (distance_to places slot (last_word operands)) i (distance_fits places slot (last_word operands) near (omega (arith, sum, one))) h.0 in
+    let fine = instruction_fine first operands (distance_to places slot (last_word operands)) i (label_distance_fits places slot (last_word operands) near (omega (arith, sum, one))) h.0 in
     let rest = says_fine places (slot + slots_of i) lines insns near (omega (arith, sum)) h.1 in
     record { in_range = ap (λ b. b && list_all is_insn insns) fine.in_range ∙ rest.in_range; fit = (fine.fits, rest.fit) }
 
@@ -158,7 +158,7 @@ pub assembles_well_formed : (text : List ℕ) (insns : List Insn) → Assembles 
 assembles_well_formed text insns h =
     let count = says_count (places_from 0 (lines_of text)) 0 (lines_of text) insns h.says in
     let few = h.few in
-    let near = places_near 4096 0 (lines_of text) (omega (arith, count, few)) in
+    let near = places_within 4096 0 (lines_of text) (omega (arith, count, few)) in
     let fine = says_fine (places_from 0 (lines_of text)) 0 (lines_of text) insns near (omega (arith, few)) h.says in
     (well_formed insns fine.in_range h.some h.few, fine.fit)
 

@@ -64,9 +64,9 @@ label_known name es places same =
     ap is_some (sym (lookup_places name es)) ∙ is_some-lookup (bytes_eq name) (map (λ e. (e.0.now, e.1)) es) ∙ ap (λ ps. list_any (bytes_eq name) (keys_of ps)) same
 
 -- with the label of one line more, set at the slots so far, a map has the labels of all lines
-pub labels_more : (es : List (Bor (List ℕ) × ℕ)) (name : Bor (List ℕ)) (slot : ℕ) (before : List Line) → map (λ e. (e.0.now, e.1)) es ≡ places_from 0 before → slot ≡ slots_in before
+pub draft_labels_more : (es : List (Bor (List ℕ) × ℕ)) (name : Bor (List ℕ)) (slot : ℕ) (before : List Line) → map (λ e. (e.0.now, e.1)) es ≡ places_from 0 before → slot ≡ slots_in before
     → map (λ e. (e.0.now, e.1)) (es ++ (name, slot) ∷ []) ≡ places_from 0 (before ++ Label name.now ∷ [])
-labels_more es name slot before same at =
+draft_labels_more es name slot before same at =
     let here : slot ≡ 0 + slots_in before = omega arith in
     map-append (λ e. (e.0.now, e.1)) es ((name, slot) ∷ []) ∙ (λ i. same i ++ (name.now, here i) ∷ []) ∙ sym (places_from-append 0 before (Label name.now ∷ []))
 

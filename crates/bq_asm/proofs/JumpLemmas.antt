@@ -22,5 +22,5 @@ lookup_near limit test (e ∷ es) h = by (test e.0) (lookup_near limit test es h
     by false rest = rest
 
 -- what is found in a map is at most what all its entries are at most
-pub found_near : (limit : ℕ) (test : Bor (List ℕ) → Bool) (es : List (Bor (List ℕ) × ℕ)) (found : Option ℕ) → All (λ e. e.1 ≤ limit) es → found ≡ lookup test es → IfSome found (λ n. n ≤ limit)
-found_near limit test es found h same = subst (λ o. IfSome o (λ n. n ≤ limit)) (sym same) (lookup_near limit test es (recursion_from_All (λ e. e.1 ≤ limit) es h))
+pub found_within : (limit : ℕ) (test : Bor (List ℕ) → Bool) (es : List (Bor (List ℕ) × ℕ)) (found : Option ℕ) → All (λ e. e.1 ≤ limit) es → found ≡ lookup test es → IfSome found (λ n. n ≤ limit)
+found_within limit test es found h same = subst (λ o. IfSome o (λ n. n ≤ limit)) (sym same) (lookup_near limit test es (recursion_from_All (λ e. e.1 ≤ limit) es h))

@@ -25,8 +25,8 @@ use Rattle.bq_asm.proofs.DraftLemmas.{slots_in-append, insn_fits, cause_of_label
 use Rattle.bq_asm.proofs.ReadingLemmas.{read_again}
 use Rattle.bq_asm.proofs.PassLemmas.{missing_in, Passes}
 use Rattle.bq_asm.proofs.CleanLemmas.{fault_at-is, first_from_missing, passes_all}
-use Rattle.bq_asm.proofs.AssembledLemmas.{IsCleanAfter, clean_after, labels_more, slot_count-cons, slots_same, says_count, assembles_from, fits_from_cause}
-use Rattle.bq_asm.proofs.LoopLemmas.{all_clean}
+use Rattle.bq_asm.proofs.AssembledLemmas.{IsCleanAfter, clean_after, labels_in-more, slot_count-cons, slots_same, says_count, assembles_from, fits_from_cause}
+use Rattle.bq_asm.proofs.LineByLineLemmas.{all_clean}
 
 -- the same lines say the same
 says_unique : (places : List (List ℕ × ℕ)) (slot : ℕ) (lines : List Line) (a b : List Insn) → Says places slot lines a → Says places slot lines b → a ≡ b
@@ -54,7 +54,7 @@ clean_said places slot before [] insns at new says few = tt
 clean_said places slot before (Blank ∷ lines) insns at new says few =
     let next : slot ≡ slots_in (before ++ Blank ∷ []) = let more = slots_in-append before (Blank ∷ []) in omega arith in
     let same : slot + 0 ≡ slot = omega arith in
-    let labels = sym (labels_more before Blank ∙ append-nil (labels_in before)) in (
+    let labels = sym (labels_in-more before Blank ∙ append-nil (labels_in before)) in (
       refl,
       clean_said places slot (before ++ Blank ∷ []) lines insns next
           (subst (λ ls. AreNewLabels ls (keys_of (places_from slot lines))) labels (subst (λ n. AreNewLabels (labels_in before) (keys_of (places_from n lines))) same new)) says few,
@@ -62,7 +62,7 @@ clean_said places slot before (Blank ∷ lines) insns at new says few =
 clean_said places slot before (Label name ∷ lines) insns at new says few =
     let next : slot ≡ slots_in (before ++ Label name ∷ []) = let more = slots_in-append before (Label name ∷ []) in omega arith in
     let same : slot + 0 ≡ slot = omega arith in
-    let labels = sym (labels_more before (Label name)) in (
+    let labels = sym (labels_in-more before (Label name)) in (
       cause_of_label-is (labels_in before) name false new.0 new.1,
       clean_said places slot (before ++ Label name ∷ []) lines insns next
           (subst (λ ls. AreNewLabels ls (keys_of (places_from slot lines))) labels (subst (λ n. AreNewLabels (labels_in before ++ name ∷ []) (keys_of (places_from n lines))) same new.2)) says few,
@@ -76,7 +76,7 @@ clean_said places slot before (Instruction first operands ∷ lines) (i ∷ insn
     let fits : slots_in before + slots_of again.insn ≤ 4096 = omega (arith, at, sum, few, size) in
     let taken = slots_same first operands (distance_to places slot (last_word operands)) i says.0 in
     let next : slot + slots_of i ≡ slots_in (before ++ line ∷ []) = let more = slots_in-append before (line ∷ []) in omega (arith, at, taken, more) in
-    let labels = sym (labels_more before line ∙ append-nil (labels_in before)) in (
+    let labels = sym (labels_in-more before line ∙ append-nil (labels_in before)) in (
       insn_fits (slots_in before) again.insn (instruction_of first operands (Some (pos 0))) again.read fits,
       clean_said places (slot + slots_of i) (before ++ line ∷ []) lines insns next
           (subst (λ ls. AreNewLabels ls (keys_of (places_from (slot + slots_of i) lines))) labels (subst (λ n. AreNewLabels (labels_in before) (keys_of (places_from (slot + n) lines))) taken new)) says.1 (omega (arith, sum, few)),

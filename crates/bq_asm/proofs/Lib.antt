@@ -1,5 +1,5 @@
 pub mod CountLemmas
-pub mod RoundTrip
+pub mod RoundTripLemmas
 pub mod CommentLemmas
 pub mod JumpLemmas
 pub mod DraftLemmas
@@ -7,10 +7,10 @@ pub mod ReadingLemmas
 pub mod RangeLemmas
 pub mod WellFormedLemmas
 pub mod PassLemmas
-pub mod NearLemmas
+pub mod WithinLemmas
 pub mod CleanLemmas
 pub mod AssembledLemmas
-pub mod LoopLemmas
+pub mod LineByLineLemmas
 pub mod LawLemmas
 pub mod DigitLemmas
 pub mod OperandLemmas

@@ -41,7 +41,7 @@ use Rattle.bq_asm.specs.Assembly.{slots_of_line, places_from, distance_to, Says,
 use Rattle.bq_asm.specs.Laws.{ListingAssembles}
 use Rattle.bq_asm.proofs.DigitLemmas.{is_digit, list_all-append, list_all-weaker, decimal_digits}
 use Rattle.bq_asm.proofs.AgainLemmas.{operands_good, listed_again}
-use Rattle.bq_asm.proofs.WellFormedLemmas.{Good}
+use Rattle.bq_asm.proofs.WellFormedLemmas.{IsInRange}
 
 -- a byte that ends no line and begins no comment
 abbrev is_inner : ℕ → Bool
@@ -141,7 +141,7 @@ memory_word r z h k = record {
   plain = list_all-append is_plain (decimal r) (signed_text z ++ codes "]") (decimal_plain r (omega arith)) (list_all-append is_plain (signed_text z) (codes "]") (near_word z k).plain refl);
 }
 
-operand_word : (o : Operand) → Good o → IsWord (operand_text o)
+operand_word : (o : Operand) → IsInRange o → IsWord (operand_text o)
 operand_word (operand.Register r) h = register_word r h
 operand_word (operand.Number z) h = signed_decimal_word z h
 operand_word (operand.Wide n) h = decimal_word n h
@@ -162,13 +162,13 @@ after_ends : (os : List Operand) → EndsWord is_blank (after_first os)
 after_ends [] = tt
 after_ends (o ∷ os) = refl
 
-words_after : (os : List Operand) → AllByRecursion Good os → words (after_first os) ≡ map operand_text os
+words_after : (os : List Operand) → AllByRecursion IsInRange os → words (after_first os) ≡ map operand_text os
 words_after [] h = refl
 words_after (o ∷ os) h =
     words-blank is_blank 44 (32 ∷ (operand_text o ++ after_first os)) refl ∙ words-blank is_blank 32 (operand_text o ++ after_first os) refl
     ∙ first_word (operand_text o) (after_first os) (operand_word o h.0) (after_ends os) ∙ ap (λ ws. operand_text o ∷ ws) (words_after os h.1)
 
-words_operands : (os : List Operand) → AllByRecursion Good os → words (operands_text os) ≡ map operand_text os
+words_operands : (os : List Operand) → AllByRecursion IsInRange os → words (operands_text os) ≡ map operand_text os
 words_operands [] h = refl
 words_operands (o ∷ os) h =
     words-blank is_blank 32 (operand_text o ++ after_first os) refl ∙ first_word (operand_text o) (after_first os) (operand_word o h.0) (after_ends os) ∙ ap (λ ws. operand_text o ∷ ws) (words_after os h.1)
@@ -193,7 +193,7 @@ name_some m = omega arith
 abbrev body_of : Insn → List ℕ
 body_of i = name_of (mnemonic_of i) ++ operands_text (operands_of i)
 
-words_of-body : (i : Insn) → AllByRecursion Good (operands_of i) → words (body_of i) ≡ name_of (mnemonic_of i) ∷ map operand_text (operands_of i)
+words_of-body : (i : Insn) → AllByRecursion IsInRange (operands_of i) → words (body_of i) ≡ name_of (mnemonic_of i) ∷ map operand_text (operands_of i)
 words_of-body i h =
     let m = mnemonic_of i in
     first_word (name_of m) (operands_text (operands_of i)) (record { some = name_some m; plain = name_plain m }) (operands_end (operands_of i)) ∙ ap (λ ws. name_of m ∷ ws) (words_operands (operands_of i) h)
@@ -202,15 +202,15 @@ words_of-body i h =
 plain_inner : (w : List ℕ) → list_all is_plain w ≡ true → list_all is_inner w ≡ true
 plain_inner w h = list_all-weaker is_plain is_inner inner_from_plain w h
 
-after_inner : (os : List Operand) → AllByRecursion Good os → list_all is_inner (after_first os) ≡ true
+after_inner : (os : List Operand) → AllByRecursion IsInRange os → list_all is_inner (after_first os) ≡ true
 after_inner [] h = refl
 after_inner (o ∷ os) h = list_all-append is_inner (operand_text o) (after_first os) (plain_inner (operand_text o) (operand_word o h.0).plain) (after_inner os h.1)
 
-operands_inner : (os : List Operand) → AllByRecursion Good os → list_all is_inner (operands_text os) ≡ true
+operands_inner : (os : List Operand) → AllByRecursion IsInRange os → list_all is_inner (operands_text os) ≡ true
 operands_inner [] h = refl
 operands_inner (o ∷ os) h = list_all-append is_inner (operand_text o) (after_first os) (plain_inner (operand_text o) (operand_word o h.0).plain) (after_inner os h.1)
 
-body_inner : (i : Insn) → AllByRecursion Good (operands_of i) → list_all is_inner (body_of i) ≡ true
+body_inner : (i : Insn) → AllByRecursion IsInRange (operands_of i) → list_all is_inner (body_of i) ≡ true
 body_inner i h = list_all-append is_inner (name_of (mnemonic_of i)) (operands_text (operands_of i)) (plain_inner (name_of (mnemonic_of i)) (name_plain (mnemonic_of i))) (operands_inner (operands_of i) h)
 
 no_comment : (bs : List ℕ) → list_all is_inner bs ≡ true → position_or_len is_comment bs ≡ length bs
@@ -225,7 +225,7 @@ without_comment : (bs : List ℕ) → list_all is_inner bs ≡ true → before_f
 without_comment bs h = ap (λ n. take n bs) (no_comment bs h) ∙ take_all (length bs) bs (omega arith)
 
 -- the instruction that a line says, by its words
-line_said-body : (i : Insn) → AllByRecursion Good (operands_of i) → line_said (body_of i) ≡ Instruction (name_of (mnemonic_of i)) (map operand_text (operands_of i))
+line_said-body : (i : Insn) → AllByRecursion IsInRange (operands_of i) → line_said (body_of i) ≡ Instruction (name_of (mnemonic_of i)) (map operand_text (operands_of i))
 line_said-body i h = ap (λ bs. line_of (words bs)) (without_comment (body_of i) (body_inner i h)) ∙ ap line_of (words_of-body i h) ∙ lone i
   where
     lone : (i : Insn) → line_of (name_of (mnemonic_of i) ∷ map operand_text (operands_of i)) ≡ Instruction (name_of (mnemonic_of i)) (map operand_text (operands_of i))

@@ -24,11 +24,11 @@ use Rattle.bq_asm.specs.Jumps.{is_jump, target_of, aimed}
 use Rattle.bq_asm.proofs.CountLemmas.{count_wrong}
 
 -- whether a first word says a jump
-abbrev pub jumps : Mnemonic → Bool
-jumps name.Goto = true
-jumps name.Goto32 = true
-jumps (name.Branch w c) = true
-jumps m = false
+abbrev pub is_jump_name : Mnemonic → Bool
+is_jump_name name.Goto = true
+is_jump_name name.Goto32 = true
+is_jump_name (name.Branch w c) = true
+is_jump_name m = false
 
 -- how many slots an instruction takes is known by its first word
 abbrev pub size_of : Mnemonic → ℕ
@@ -38,7 +38,7 @@ size_of m = 1
 
 -- an instruction is a jump and has its size by its first word
 pub record HasShape (m : Mnemonic) (i : Insn) : Type 0 where
-  pub jump : is_jump i ≡ jumps m
+  pub jump : is_jump i ≡ is_jump_name m
   pub size : slots_of i ≡ size_of m
 
 IfShape : Mnemonic → Option Insn → Type 0
@@ -121,7 +121,7 @@ aimed_by z (Err c) = Err c
 -- a label stands in the target's place
 pub record IsAimed (m : Mnemonic) (operands : List (List ℕ)) : Type 0 where
   pub label : is_label (last_word operands) ≡ true
-  pub jump : jumps m ≡ true
+  pub jump : is_jump_name m ≡ true
   pub set : (z : ℤ) → read m operands (Some z) ≡ aimed_by z (read m operands (Some (pos 0)))
   pub unset : (i : Insn) → read m operands (Some (pos 0)) ≡ Ok i → read m operands None ≡ Err cause.LabelMissing
   pub never : (i : Insn) → read m operands None ≡ Ok i → ⊥
@@ -136,7 +136,7 @@ no_label i operands h = ap (λ b. if is_jump i then (if b then Some (last_word o
 no_jump : (i : Insn) (operands : List (List ℕ)) → is_jump i ≡ false → target_of i operands ≡ None
 no_jump i operands h = ap (λ b. if b then (if is_label (last_word operands) then Some (last_word operands) else None) else None) h
 
-steady_name : (m : Mnemonic) (operands : List (List ℕ)) → jumps m ≡ false → list_all is_steady (kind_list (kinds_of m)) ≡ true → IsSteady m operands
+steady_name : (m : Mnemonic) (operands : List (List ℕ)) → is_jump_name m ≡ false → list_all is_steady (kind_list (kinds_of m)) ≡ true → IsSteady m operands
 steady_name m operands plain ks = record {
   same = λ d e. ap (made m) (steady_operands (kind_list (kinds_of m)) operands d e ks);
   none = λ i h. no_jump i operands ((made_shape m (each_operand (kind_list (kinds_of m)) operands (Some (pos 0))) i h).jump ∙ plain);
@@ -235,20 +235,20 @@ module _ (width : Width) (cond : Condition) where
       })
 
 -- either the distance does not matter for what is read, or a label stands in the target's place
-pub depends : (m : Mnemonic) (operands : List (List ℕ)) → IsSteady m operands ⊎ IsAimed m operands
+pub steady_or_aimed : (m : Mnemonic) (operands : List (List ℕ)) → IsSteady m operands ⊎ IsAimed m operands
 unfolding is_steady
-depends name.Goto [] = inl (miscounted name.Goto [] (λ e. omega arith))
-depends name.Goto (w ∷ []) = goto w (is_label w) refl
-depends name.Goto (w ∷ v ∷ ws) = inl (miscounted name.Goto (w ∷ v ∷ ws) (λ e. omega arith))
-depends name.Goto32 [] = inl (miscounted name.Goto32 [] (λ e. omega arith))
-depends name.Goto32 (w ∷ []) = goto32 w (is_label w) refl
-depends name.Goto32 (w ∷ v ∷ ws) = inl (miscounted name.Goto32 (w ∷ v ∷ ws) (λ e. omega arith))
-depends (name.Branch x c) [] = inl (miscounted (name.Branch x c) [] (λ e. omega arith))
-depends (name.Branch x c) (a ∷ []) = inl (miscounted (name.Branch x c) (a ∷ []) (λ e. omega arith))
-depends (name.Branch x c) (a ∷ b ∷ []) = inl (miscounted (name.Branch x c) (a ∷ b ∷ []) (λ e. omega arith))
-depends (name.Branch x c) (a ∷ b ∷ w ∷ []) = branch_depends x c a b w (is_label w) refl
-depends (name.Branch x c) (a ∷ b ∷ w ∷ v ∷ ws) = inl (miscounted (name.Branch x c) (a ∷ b ∷ w ∷ v ∷ ws) (λ e. omega arith))
-depends m operands = inl (steady_name m operands refl refl)
+steady_or_aimed name.Goto [] = inl (miscounted name.Goto [] (λ e. omega arith))
+steady_or_aimed name.Goto (w ∷ []) = goto w (is_label w) refl
+steady_or_aimed name.Goto (w ∷ v ∷ ws) = inl (miscounted name.Goto (w ∷ v ∷ ws) (λ e. omega arith))
+steady_or_aimed name.Goto32 [] = inl (miscounted name.Goto32 [] (λ e. omega arith))
+steady_or_aimed name.Goto32 (w ∷ []) = goto32 w (is_label w) refl
+steady_or_aimed name.Goto32 (w ∷ v ∷ ws) = inl (miscounted name.Goto32 (w ∷ v ∷ ws) (λ e. omega arith))
+steady_or_aimed (name.Branch x c) [] = inl (miscounted (name.Branch x c) [] (λ e. omega arith))
+steady_or_aimed (name.Branch x c) (a ∷ []) = inl (miscounted (name.Branch x c) (a ∷ []) (λ e. omega arith))
+steady_or_aimed (name.Branch x c) (a ∷ b ∷ []) = inl (miscounted (name.Branch x c) (a ∷ b ∷ []) (λ e. omega arith))
+steady_or_aimed (name.Branch x c) (a ∷ b ∷ w ∷ []) = branch_depends x c a b w (is_label w) refl
+steady_or_aimed (name.Branch x c) (a ∷ b ∷ w ∷ v ∷ ws) = inl (miscounted (name.Branch x c) (a ∷ b ∷ w ∷ v ∷ ws) (λ e. omega arith))
+steady_or_aimed m operands = inl (steady_name m operands refl refl)
 
 -- no label stands in the target's place, and the distance does not matter
 pub record IsPlain (first : List ℕ) (operands : List (List ℕ)) (i : Insn) : Type 0 where
@@ -278,7 +278,7 @@ targets first operands i h = by (named first) refl h
           unset = ap (λ x. instruction_from x operands None) n ∙ a.unset i k;
           set = λ z. ap (λ x. instruction_from x operands (Some z)) n ∙ a.set z ∙ ap (aimed_by z) k;
         }))
-        (depends m operands)
+        (steady_or_aimed m operands)
 
 abbrev what_is_read : Mnemonic → List (List ℕ) → Option ℤ → Result Insn Cause
 what_is_read m operands d = read m operands d
@@ -312,7 +312,7 @@ read_again first operands d i h = by (named first) refl h
     by (Some m) n k = ⊎_elim
         (λ s. sized m i n k (s.same (Some (pos 0)) d ∙ k))
         (λ a. let j = awaited m a d k in sized m j.0 n k j.1)
-        (depends m operands)
+        (steady_or_aimed m operands)
 
 -- a jump takes one slot
 pub jump_slots : (i : Insn) → is_jump i ≡ true → slots_of i ≡ 1

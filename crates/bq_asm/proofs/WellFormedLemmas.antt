@@ -31,82 +31,82 @@ abbrev pub DistanceFits : Option ℤ → Type 0
 DistanceFits d = IfSome d (FitsSigned w16)
 
 -- the numbers of an operand are in the ranges of its kind
-abbrev pub Good : Operand → Type 0
-Good (operand.Register r) = r ≤ 10
-Good (operand.Number z) = FitsSigned w32 z
-Good (operand.Wide n) = n < 2 ^ 64
-Good (operand.Memory r z) = (r ≤ 10) × FitsSigned w16 z
-Good (operand.Near z) = FitsSigned w16 z
-Good (operand.Far z) = FitsSigned w32 z
+abbrev pub IsInRange : Operand → Type 0
+IsInRange (operand.Register r) = r ≤ 10
+IsInRange (operand.Number z) = FitsSigned w32 z
+IsInRange (operand.Wide n) = n < 2 ^ 64
+IsInRange (operand.Memory r z) = (r ≤ 10) × FitsSigned w16 z
+IsInRange (operand.Near z) = FitsSigned w16 z
+IsInRange (operand.Far z) = FitsSigned w32 z
 
 abbrev refused : Bool → Result Operand Cause
 refused b = if b then Err cause.Number else Err cause.Word
 
-refused_good : (b : Bool) → IfOk (refused b) Good
+refused_good : (b : Bool) → IfOk (refused b) IsInRange
 refused_good true = tt
 refused_good false = tt
 
-number_good : (o : Option Operand) (w : List ℕ) → IfSome o Good → IfOk (number_place o w) Good
+number_good : (o : Option Operand) (w : List ℕ) → IfSome o IsInRange → IfOk (number_place o w) IsInRange
 number_good (Some o) w h = h
 number_good None w h = refused_good (begins_number w)
 
-module _ {A : Type 0} (P : A → Type 0) (f : A → Operand) (h : (x : A) → P x → Good (f x)) where
-  mapped : (o : Option A) → IfSome o P → IfSome (option_map f o) Good
+module _ {A : Type 0} (P : A → Type 0) (f : A → Operand) (h : (x : A) → P x → IsInRange (f x)) where
+  mapped : (o : Option A) → IfSome o P → IfSome (option_map f o) IsInRange
   mapped None k = tt
   mapped (Some x) k = h x k
 
-register_good : (o : Option ℕ) → IfSome o (λ r. r ≤ 10) → IfOk (register_place o) Good
+register_good : (o : Option ℕ) → IfSome o (λ r. r ≤ 10) → IfOk (register_place o) IsInRange
 register_good None h = tt
 register_good (Some r) h = h
 
-imm_good : (w : List ℕ) → IfSome (option_map (λ z. operand.Number z) (imm_of w)) Good
+imm_good : (w : List ℕ) → IfSome (option_map (λ z. operand.Number z) (imm_of w)) IsInRange
 imm_good w = mapped (FitsSigned w32) (λ z. operand.Number z) (λ z h. h) (imm_of w) (imm_fits w)
 
-source_good : (o : Option ℕ) (w : List ℕ) → IfSome o (λ r. r ≤ 10) → IfOk (source_place o w) Good
+source_good : (o : Option ℕ) (w : List ℕ) → IfSome o (λ r. r ≤ 10) → IfOk (source_place o w) IsInRange
 source_good (Some r) w h = h
 source_good None w h = number_good (option_map (λ z. operand.Number z) (imm_of w)) w (imm_good w)
 
 zero_fits : FitsSigned w16 (pos 0)
 zero_fits = omega (arith, ints)
 
-based_good : (o : Option ℕ) (rest : List ℕ) → IfSome o (λ r. r ≤ 10) → IfOk (based o rest) Good
+based_good : (o : Option ℕ) (rest : List ℕ) → IfSome o (λ r. r ≤ 10) → IfOk (based o rest) IsInRange
 based_good None rest h = tt
 based_good (Some r) rest h = by (length rest == 0)
   where
-    by : (b : Bool) → IfOk (if b then Ok (operand.Memory r (pos 0)) else number_place (option_map (λ z. operand.Memory r z) (offset_of rest)) rest) Good
+    by : (b : Bool) → IfOk (if b then Ok (operand.Memory r (pos 0)) else number_place (option_map (λ z. operand.Memory r z) (offset_of rest)) rest) IsInRange
     by true = (h, zero_fits)
     by false = number_good (option_map (λ z. operand.Memory r z) (offset_of rest)) rest (mapped (FitsSigned w16) (λ z. operand.Memory r z) (λ z k. (h, k)) (offset_of rest) (offset_fits rest))
 
-cut_good : (at : Option ℕ) (inner : List ℕ) → IfOk (cut_at at inner) Good
+cut_good : (at : Option ℕ) (inner : List ℕ) → IfOk (cut_at at inner) IsInRange
 cut_good None inner = based_good (register_of inner) [] (register_fits inner)
 cut_good (Some i) inner = based_good (register_of (take i inner)) (drop i inner) (register_fits (take i inner))
 
-memory_good : (o : Option (List ℕ)) → IfOk (memory_place o) Good
+memory_good : (o : Option (List ℕ)) → IfOk (memory_place o) IsInRange
 memory_good None = tt
 memory_good (Some inner) = cut_good (position is_sign inner) inner
 
-label_good : (o : Option Operand) → IfSome o Good → IfOk (label_place o) Good
+label_good : (o : Option Operand) → IfSome o IsInRange → IfOk (label_place o) IsInRange
 label_good None h = tt
 label_good (Some o) h = h
 
 wider : (z : ℤ) → FitsSigned w16 z → FitsSigned w32 z
 wider z h = omega (arith, ints, h)
 
-near_good : (w : List ℕ) (d : Option ℤ) → DistanceFits d → IfOk (operand_of kind.Near w d) Good
+near_good : (w : List ℕ) (d : Option ℤ) → DistanceFits d → IfOk (operand_of kind.Near w d) IsInRange
 near_good w d h = by (is_label w)
   where
-    by : (b : Bool) → IfOk (if b then label_place (option_map (λ z. operand.Near z) d) else number_place (option_map (λ z. operand.Near z) (offset_of w)) w) Good
+    by : (b : Bool) → IfOk (if b then label_place (option_map (λ z. operand.Near z) d) else number_place (option_map (λ z. operand.Near z) (offset_of w)) w) IsInRange
     by true = label_good (option_map (λ z. operand.Near z) d) (mapped (FitsSigned w16) (λ z. operand.Near z) (λ z k. k) d h)
     by false = number_good (option_map (λ z. operand.Near z) (offset_of w)) w (mapped (FitsSigned w16) (λ z. operand.Near z) (λ z k. k) (offset_of w) (offset_fits w))
 
-far_good : (w : List ℕ) (d : Option ℤ) → DistanceFits d → IfOk (operand_of kind.Far w d) Good
+far_good : (w : List ℕ) (d : Option ℤ) → DistanceFits d → IfOk (operand_of kind.Far w d) IsInRange
 far_good w d h = by (is_label w)
   where
-    by : (b : Bool) → IfOk (if b then label_place (option_map (λ z. operand.Far z) d) else number_place (option_map (λ z. operand.Far z) (distance_of w)) w) Good
+    by : (b : Bool) → IfOk (if b then label_place (option_map (λ z. operand.Far z) d) else number_place (option_map (λ z. operand.Far z) (distance_of w)) w) IsInRange
     by true = label_good (option_map (λ z. operand.Far z) d) (mapped (FitsSigned w16) (λ z. operand.Far z) (λ z k. wider z k) d h)
     by false = number_good (option_map (λ z. operand.Far z) (distance_of w)) w (mapped (FitsSigned w32) (λ z. operand.Far z) (λ z k. k) (distance_of w) (distance_fits w))
 
-operand_good : (k : Kind) (w : List ℕ) (d : Option ℤ) → DistanceFits d → IfOk (operand_of k w d) Good
+operand_good : (k : Kind) (w : List ℕ) (d : Option ℤ) → DistanceFits d → IfOk (operand_of k w d) IsInRange
 operand_good kind.Register w d h = register_good (register_of w) (register_fits w)
 operand_good kind.Source w d h = source_good (register_of w) w (register_fits w)
 operand_good kind.Number w d h = number_good (option_map (λ z. operand.Number z) (imm_of w)) w (imm_good w)
@@ -116,15 +116,15 @@ operand_good kind.Near w d h = near_good w d h
 operand_good kind.Far w d h = far_good w d h
 
 AllGood : List Operand → Type 0
-AllGood os = AllByRecursion Good os
+AllGood os = AllByRecursion IsInRange os
 
-next_good : (a : Result Operand Cause) (b : Result (List Operand) Cause) → IfOk a Good → IfOk b (AllByRecursion Good) → IfOk (with_next a b) (AllByRecursion Good)
+next_good : (a : Result Operand Cause) (b : Result (List Operand) Cause) → IfOk a IsInRange → IfOk b (AllByRecursion IsInRange) → IfOk (with_next a b) (AllByRecursion IsInRange)
 next_good (Ok o) (Ok os) h k = (h, k)
 next_good (Ok o) (Err c) h k = tt
 next_good (Err c) (Ok os) h k = tt
 next_good (Err c) (Err d) h k = tt
 
-operands_good : (ks : List Kind) (ws : List (List ℕ)) (d : Option ℤ) → DistanceFits d → IfOk (each_operand ks ws d) (AllByRecursion Good)
+operands_good : (ks : List Kind) (ws : List (List ℕ)) (d : Option ℤ) → DistanceFits d → IfOk (each_operand ks ws d) (AllByRecursion IsInRange)
 operands_good [] [] d h = tt
 operands_good [] (w ∷ ws) d h = tt
 operands_good (k ∷ ks) [] d h = tt
@@ -163,7 +163,7 @@ one_register r h = both (is_register r) true (register_is r h) refl
 no : {P : Type 0} → false ≡ true → P
 no h = absurd (let e : false ≡ true = h in cc)
 
-insn_fine : (m : Mnemonic) (os : List Operand) → is_name m ≡ true → AllByRecursion Good os → IfFine (insn_from m os)
+insn_fine : (m : Mnemonic) (os : List Operand) → is_name m ≡ true → AllByRecursion IsInRange os → IfFine (insn_from m os)
 unfolding is_name IfFine
 insn_fine (name.Alu w o) (operand.Register d ∷ operand.Number n ∷ []) h g = record { in_range = one_register d g.0; fits = g.1.0 }
 insn_fine (name.Alu w o) (operand.Register d ∷ operand.Register s ∷ []) h g = record { in_range = two_registers d s g.0 g.1.0; fits = tt }
@@ -212,11 +212,11 @@ is_named : (word : List ℕ) → IfSome (named word) (λ m. is_name m ≡ true)
 unfolding is_name
 is_named word = entries_named word table refl
 
-made_fine : (m : Mnemonic) (r : Result (List Operand) Cause) (i : Insn) → is_name m ≡ true → IfOk r (AllByRecursion Good) → made m r ≡ Ok i → IsFine i
+made_fine : (m : Mnemonic) (r : Result (List Operand) Cause) (i : Insn) → is_name m ≡ true → IfOk r (AllByRecursion IsInRange) → made m r ≡ Ok i → IsFine i
 unfolding IfFine
 made_fine m r i h g e =
     let from = made_from m r i e in
-    subst IfFine from.2 (insn_fine m from.0 h (subst (λ x. IfOk x (AllByRecursion Good)) from.1 g))
+    subst IfFine from.2 (insn_fine m from.0 h (subst (λ x. IfOk x (AllByRecursion IsInRange)) from.1 g))
 
 -- what words say is in range
 pub instruction_fine : (first : List ℕ) (operands : List (List ℕ)) (d : Option ℤ) (i : Insn) → DistanceFits d → instruction_of first operands d ≡ Ok i → IsFine i

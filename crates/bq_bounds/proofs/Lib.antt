@@ -1,6 +1,6 @@
-pub mod Passes
-pub mod Near
-pub mod Greatest
-pub mod Owed
-pub mod FromTheBack
-pub mod Unseen
+pub mod PassLemmas
+pub mod NearnessLemmas
+pub mod GreatestLemmas
+pub mod OwedLemmas
+pub mod FromTheBackLemmas
+pub mod UnchangedLagLemmas

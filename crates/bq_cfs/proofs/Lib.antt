@@ -1,7 +1,7 @@
-pub mod CfsLaws
-pub mod BoundFacts
-pub mod MoveFacts
-pub mod LevelFacts
-pub mod SpreadBegins
-pub mod SpreadStays
-pub mod LeastFacts
+pub mod CfsLawLemmas
+pub mod BoundLemmas
+pub mod MoveLemmas
+pub mod LevelLemmas
+pub mod SpreadBeginLemmas
+pub mod SpreadStayLemmas
+pub mod LeastLemmas

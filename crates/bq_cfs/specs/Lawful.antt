@@ -3,7 +3,7 @@ use Rattle.std.specs.Prelude.{refl}
 use Rattle.bq_disc.specs.Tasks.{runs_before}
 use Rattle.bq_disc.specs.Discipline.{IsLawful}
 use Rattle.bq_disc.specs.Orders.{first_by-member, first_by-exists}
-use Rattle.bq_disc.proofs.SetFacts.{first_by-same, runs_before-IsOrder}
+use Rattle.bq_disc.proofs.SetLemmas.{first_by-same, runs_before-IsOrder}
 use Rattle.bq_cfs.specs.Cfs.{cfs}
 
 pub cfs_lawful : IsLawful cfs

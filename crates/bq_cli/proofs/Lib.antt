@@ -1,2 +1,2 @@
-pub mod AnswerFacts
-pub mod ParWords
+pub mod AnswerLemmas
+pub mod ParWordLemmas

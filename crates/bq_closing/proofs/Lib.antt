@@ -1,2 +1,2 @@
-pub mod Closing
-pub mod Sent
+pub mod ClosingLemmas
+pub mod SendLemmas

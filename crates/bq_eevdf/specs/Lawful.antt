@@ -6,9 +6,9 @@ use Rattle.bq_disc.specs.Queues.{HasDistinctIds}
 use Rattle.bq_disc.specs.Discipline.{IsLawful, SameSet}
 use Rattle.bq_disc.specs.Orders.{first_by-member, first_by-exists}
 use Rattle.bq_disc.specs.Totals.{total_weight, weighted_sum, is_at_most_mean}
-use Rattle.bq_disc.proofs.SetFacts.{first_by-same, due_before-IsOrder, IfSome-weaker}
-use Rattle.bq_disc.proofs.SameSums.{total_weight-same, weighted_sum-same, Contains-filter, HasDistinctIds-filter, SameSet-filter}
-use Rattle.bq_disc.proofs.MeanFacts.{someone_at_most_mean}
+use Rattle.bq_disc.proofs.SetLemmas.{first_by-same, due_before-IsOrder, IfSome-weaker}
+use Rattle.bq_disc.proofs.SameSumLemmas.{total_weight-same, weighted_sum-same, Contains-filter, HasDistinctIds-filter, SameSet-filter}
+use Rattle.bq_disc.proofs.MeanLemmas.{someone_at_most_mean}
 use Rattle.bq_eevdf.specs.Eevdf.{is_eligible, eligible, earliest, eevdf}
 
 same_eligible : (xs ys : List Task) → HasDistinctIds xs → HasDistinctIds ys → SameSet xs ys → eligible xs ≡ filter (is_eligible ys) xs

@@ -17,7 +17,7 @@ use Rattle.bq_graph.proofs.SoundLemmas.{slots_positive}
 use Rattle.bq_import.specs.Copies.{is_reference, wide_copy, copied, Stands}
 use Rattle.bq_import.specs.Backward.{AreGood, JumpsBack, GoesBack, IsPlaced, insns_of, IsBuilt, Keeps, IsLengthened, MayStand}
 use Rattle.bq_import.proofs.CopyLemmas.{refers}
-use Rattle.bq_import.proofs.PathLemmas.{shape_of}
+use Rattle.bq_import.proofs.PathLemmas.{copy_has_shape}
 
 append_right : {A : Type 0} (xs ys : List A) (n : ℕ) (d : A) → length xs ≤ n → get_or (xs ++ ys) n d ≡ get_or ys (n - length xs) d
 append_right xs ys n d le =
@@ -224,7 +224,7 @@ module _ (maps : ℕ) (old back : List (Option Insn)) (origins : List ℕ) (from
   unfolding second
   spread_again =
       ap spread insns_are
-      ∙ (ap (λ (n : ℕ). (Some (copied maps insn distance) ∷ replicate (n - 1) None) ++ spread (insns_of back)) (shape_of maps insn distance).long
+      ∙ (ap (λ (n : ℕ). (Some (copied maps insn distance) ∷ replicate (n - 1) None) ++ spread (insns_of back)) (copy_has_shape maps insn distance).long
       ∙ (ap (λ (xs : List (Option Insn)). (Some (copied maps insn distance) ∷ second) ++ xs) built.spread_is
       ∙ sym reversed))
 

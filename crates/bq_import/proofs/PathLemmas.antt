@@ -35,21 +35,21 @@ wide_shape true dst value distance = record { on = refl; long = refl; jumps = λ
 wide_shape false dst value distance = record { on = refl; long = refl; jumps = λ far e. absurd (none_some far e); stays = λ e. e }
 
 -- a copy goes on where its instruction does, is as long, and jumps where it jumps
-pub shape_of : (maps : ℕ) (insn : Insn) (distance : ℤ) → HasShape insn (copied maps insn distance) distance
-shape_of maps (Alu w op dst src) distance = plain (Alu w op dst src) distance refl
-shape_of maps (MovSx w bits dst src) distance = plain (MovSx w bits dst src) distance refl
-shape_of maps (Neg w dst) distance = plain (Neg w dst) distance refl
-shape_of maps (End kind bits dst) distance = plain (End kind bits dst) distance refl
-shape_of maps (Load size signed dst src off) distance = plain (Load size signed dst src off) distance refl
-shape_of maps (StoreImm size dst off imm) distance = plain (StoreImm size dst off imm) distance refl
-shape_of maps (StoreReg size dst off src) distance = plain (StoreReg size dst off src) distance refl
-shape_of maps (MapRef dst index) distance = plain (MapRef dst index) distance refl
-shape_of maps (Call helper) distance = plain (Call helper) distance refl
-shape_of maps Exit distance = plain Exit distance refl
-shape_of maps (Imm64 dst value) distance = wide_shape (is_reference maps value) dst value distance
-shape_of maps (Goto off) distance = record { on = refl; long = refl; jumps = λ far e. refl; stays = λ e. absurd (some_none off e) }
-shape_of maps (Goto32 imm) distance = record { on = refl; long = refl; jumps = λ far e. refl; stays = λ e. absurd (some_none imm e) }
-shape_of maps (Branch w c dst src off) distance = record { on = refl; long = refl; jumps = λ far e. refl; stays = λ e. absurd (some_none off e) }
+pub copy_has_shape : (maps : ℕ) (insn : Insn) (distance : ℤ) → HasShape insn (copied maps insn distance) distance
+copy_has_shape maps (Alu w op dst src) distance = plain (Alu w op dst src) distance refl
+copy_has_shape maps (MovSx w bits dst src) distance = plain (MovSx w bits dst src) distance refl
+copy_has_shape maps (Neg w dst) distance = plain (Neg w dst) distance refl
+copy_has_shape maps (End kind bits dst) distance = plain (End kind bits dst) distance refl
+copy_has_shape maps (Load size signed dst src off) distance = plain (Load size signed dst src off) distance refl
+copy_has_shape maps (StoreImm size dst off imm) distance = plain (StoreImm size dst off imm) distance refl
+copy_has_shape maps (StoreReg size dst off src) distance = plain (StoreReg size dst off src) distance refl
+copy_has_shape maps (MapRef dst index) distance = plain (MapRef dst index) distance refl
+copy_has_shape maps (Call helper) distance = plain (Call helper) distance refl
+copy_has_shape maps Exit distance = plain Exit distance refl
+copy_has_shape maps (Imm64 dst value) distance = wide_shape (is_reference maps value) dst value distance
+copy_has_shape maps (Goto off) distance = record { on = refl; long = refl; jumps = λ far e. refl; stays = λ e. absurd (some_none off e) }
+copy_has_shape maps (Goto32 imm) distance = record { on = refl; long = refl; jumps = λ far e. refl; stays = λ e. absurd (some_none imm e) }
+copy_has_shape maps (Branch w c dst src off) distance = record { on = refl; long = refl; jumps = λ far e. refl; stays = λ e. absurd (some_none off e) }
 
 module _ (maps : ℕ) (old new : List (Option Insn)) (origin : List ℕ) (copy : IsCopy maps old new origin) where
   record EdgeAhead (slot to : ℕ) : Type 0 where
@@ -65,7 +65,7 @@ module _ (maps : ℕ) (old new : List (Option Insn)) (origin : List ℕ) (copy :
   edge_ahead : (slot from to : ℕ) → Stands new origin slot from → IsEdge old from to → EdgeAhead slot to
   edge_ahead slot from to stands edge =
       let at = copy.each slot from stands in
-      let shape = shape_of maps at.original at.distance in
+      let shape = copy_has_shape maps at.original at.distance in
       let same = some_same _ edge.insn at.original edge.here at.here in
       elim edge.leaves [
         | inl (on, is) ↦
@@ -93,7 +93,7 @@ module _ (maps : ℕ) (old new : List (Option Insn)) (origin : List ℕ) (copy :
   edge_behind : (slot from landing : ℕ) → Stands new origin slot from → IsEdge new slot landing → EdgeBehind from landing
   edge_behind slot from landing stands edge =
       let at = copy.each slot from stands in
-      let shape = shape_of maps at.original at.distance in
+      let shape = copy_has_shape maps at.original at.distance in
       let same = some_same _ edge.insn (copied maps at.original at.distance) edge.here at.copy in
       elim edge.leaves [
         | inl (on, is) ↦
@@ -174,7 +174,7 @@ module _ (maps : ℕ) (old new : List (Option Insn)) (origin : List ℕ) (copy :
   edge_later : (from to : ℕ) → IsEdge new from to → (from < to) × IsStart new to
   edge_later from to edge =
       let at = copy.each from _ (at_start new origin from (record { insn = edge.insn; here = edge.here })) in
-      let shape = shape_of maps at.original at.distance in
+      let shape = copy_has_shape maps at.original at.distance in
       let same = some_same _ edge.insn (copied maps at.original at.distance) edge.here at.copy in
       elim edge.leaves [
         | inl (on, is) ↦
@@ -197,7 +197,7 @@ module _ (maps : ℕ) (old new : List (Option Insn)) (origin : List ℕ) (copy :
   no_bad_jump : (slot : ℕ) → IsBadJump new slot → ⊥
   no_bad_jump slot bad =
       let at = copy.each slot _ (at_start new origin slot (record { insn = bad.insn; here = bad.here })) in
-      let shape = shape_of maps at.original at.distance in
+      let shape = copy_has_shape maps at.original at.distance in
       let same = some_same _ bad.insn (copied maps at.original at.distance) bad.here at.copy in
       let is' : distance_of (copied maps at.original at.distance) ≡ Some bad.distance = ap distance_of (sym same) ∙ bad.jumps in
       elim (far_of maps old new origin copy (distance_of at.original)) [
@@ -211,7 +211,7 @@ module _ (maps : ℕ) (old new : List (Option Insn)) (origin : List ℕ) (copy :
   none_runs_out : (slot : ℕ) → RunsOut new slot → ⊥
   none_runs_out slot out =
       let at = copy.each slot _ (at_start new origin slot (record { insn = out.insn; here = out.here })) in
-      let shape = shape_of maps at.original at.distance in
+      let shape = copy_has_shape maps at.original at.distance in
       let same = some_same _ out.insn (copied maps at.original at.distance) out.here at.copy in
       let on' : goes_on at.original ≡ true = sym shape.on ∙ (ap goes_on (sym same) ∙ out.on) in
       let is' : slots_of out.insn ≡ slots_of at.original = ap slots_of same ∙ shape.long in

@@ -4,10 +4,10 @@ pub mod ComputeLemmas
 pub mod MemoryLemmas
 pub mod AccessLemmas
 pub mod HelpLemmas
-pub mod RunLemmas
+pub mod ChainLemmas
 pub mod PackedLemmas
 pub mod OneRunLemmas
-pub mod PlaceLemmas
+pub mod PassLemmas
 pub mod PerformLemmas
 pub mod RunningLemmas
 pub mod MomentLemmas

@@ -18,7 +18,7 @@ use Rattle.bq_load.specs.declared.fault.LoadFault.TheVariants as fault
 use Rattle.bq_load.specs.Layout.{magic, hook_byte, shape_bytes, shapes_bytes, opening, Header, header_bytes, IsHeader}
 use Rattle.bq_load.specs.Reading.{◌>>=◌, magic_at, version_at, hook_at, number_at, count_at, is_shape, shape_at, shapes_at, Spelled, header_at}
 use Rattle.bq_load.proofs.FieldLemmas.{is_shape-met, shape_facts}
-use Rattle.bq_load.proofs.HeaderLemmas.{length-shapes_bytes, regroup_header, after_slots, after_count, after_hook, after_version, after_magic}
+use Rattle.bq_load.proofs.HeaderLemmas.{length-shapes_bytes, regroup_header, after_shapes, after_count, after_hook, after_version, after_magic}
 
 -- a number with enough bytes
 pub number_again : (width : ℕ) (bytes : List ℕ) → width ≤ length bytes → number_at width bytes ≡ Ok (little_number width bytes, drop width bytes)
@@ -122,6 +122,6 @@ header_again h rest good =
     let front : take (4 * n) maps ≡ shapes_bytes h.shapes = take_at (shapes_bytes h.shapes) (to_le_bytes w32 h.slots ++ rest) (4 * n) (length-shapes_bytes h.shapes) in
     ap header_at (sym (regroup_header h rest))
     ∙ read_counted h.version h.hook n maps good.few
-    ∙ ap (λ (r : Result (List ℕ) LoadFault). r >>= after_slots h.version h.hook n maps) (shapes_again h.shapes (to_le_bytes w32 h.slots ++ rest))
+    ∙ ap (λ (r : Result (List ℕ) LoadFault). r >>= after_shapes h.version h.hook n maps) (shapes_again h.shapes (to_le_bytes w32 h.slots ++ rest))
     ∙ ap (λ (r : Result (ℕ × List ℕ) LoadFault). r >>= λ slots. Ok (record { version = h.version; hook = h.hook; shapes = take (4 * n) maps; slots = slots.0 }, slots.1)) (word_again h.slots rest good.slots)
     ∙ ap (λ (s : List ℕ). Ok (record { version = h.version; hook = h.hook; shapes = s; slots = h.slots }, rest)) front

@@ -21,8 +21,8 @@ use Rattle.bq_load.specs.Layout.{magic, hook_byte, shape_bytes, shapes_bytes, op
 use Rattle.bq_load.specs.Fields.{Front, Nothing, Marked, Versioned, Hooked, Mapped, Headed, IsGood, front_bytes, next_width, IsBadNext}
 use Rattle.bq_load.specs.Faults.{HasBadField, HasFaultyProgram, IsFault}
 use Rattle.bq_load.specs.Reading.{◌>>=◌, magic_at, version_at, hook_at, number_at, count_at, is_shape, shape_at, shapes_at, Spelled, header_at, ended, frame_at}
-use Rattle.bq_load.proofs.FieldLemmas.{AreBytes, AreBytes-front, AreBytes-after, half_ok, shape_is, shape_of, shape_of-bytes}
-use Rattle.bq_load.proofs.HeaderLemmas.{after_slots, after_count, after_hook, after_version, after_magic}
+use Rattle.bq_load.proofs.FieldLemmas.{AreBytes, AreBytes-front, AreBytes-after, half_ok, is_shape-limits, shape_of, shape_of-bytes}
+use Rattle.bq_load.proofs.HeaderLemmas.{after_shapes, after_count, after_hook, after_version, after_magic}
 use Rattle.bq_load.proofs.AgainLemmas.{spelled, number_again, half_again, shape_again, shapes_again, read_marked, read_versioned, read_hooked, read_counted, header_again}
 
 -- ---- a bad or cut field gives its fault
@@ -98,7 +98,7 @@ shape_bad (a ∷ b ∷ c ∷ d ∷ []) rest fits four bad =
     let entries = two_bytes (c ∷ d ∷ []) rest (AreBytes-after (a ∷ b ∷ []) (c ∷ d ∷ []) fits) refl in
     let joined : a ∷ b ∷ c ∷ d ∷ [] ≡ to_le_bytes w16 size.0 ++ to_le_bytes w16 entries.0 =
     ap (λ (x : List ℕ). x ++ (c ∷ d ∷ [])) size.2 ∙ ap (λ (x : List ℕ). to_le_bytes w16 size.0 ++ x) entries.2 in
-    let out : is_shape size.0 entries.0 ≡ false = false_from_ne_true _ (λ e. bad (shape_of size.0 entries.0 (shape_is size.0 entries.0 e)) (joined ∙ sym (shape_of-bytes size.0 entries.0 (shape_is size.0 entries.0 e)))) in
+    let out : is_shape size.0 entries.0 ≡ false = false_from_ne_true _ (λ e. bad (shape_of size.0 entries.0 (is_shape-limits size.0 entries.0 e)) (joined ∙ sym (shape_of-bytes size.0 entries.0 (is_shape-limits size.0 entries.0 e)))) in
     ap (λ (r : Result (ℕ × List ℕ) LoadFault). r >>= λ size. number_at 2 size.1 >>= λ entries. cond (is_shape size.0 entries.0) (Ok entries.1) (Err fault.Shape)) size.3
     ∙ ap (λ (r : Result (ℕ × List ℕ) LoadFault). r >>= λ entries. cond (is_shape size.0 entries.0) (Ok entries.1) (Err fault.Shape)) entries.3
     ∙ ap (λ (t : Bool). cond t (Ok rest) (Err fault.Shape)) out
@@ -134,7 +134,7 @@ shapes_stop (suc n) (s ∷ shapes) rest f h e =
 slots_cut : (v : Version) (h : Hook) (n : ℕ) (shapes : List MapShape) (part : List ℕ) → n ≡ length shapes → length part < 4 → after_count v h (n, shapes_bytes shapes ++ part) ≡ Err fault.Cut
 slots_cut v h n shapes part is short =
     let maps : List ℕ = shapes_bytes shapes ++ part in
-    ap (λ (r : Result (List ℕ) LoadFault). r >>= after_slots v h n maps) (ap (λ (m : ℕ). shapes_at m maps) is ∙ shapes_again shapes part)
+    ap (λ (r : Result (List ℕ) LoadFault). r >>= after_shapes v h n maps) (ap (λ (m : ℕ). shapes_at m maps) is ∙ shapes_again shapes part)
     ∙ ap (λ (r : Result (ℕ × List ℕ) LoadFault). r >>= λ slots. Ok (record { version = v; hook = h; shapes = take (4 * n) maps; slots = slots.0 }, slots.1)) (number_cut 4 part short)
 
 one_byte : (field : List ℕ) → length field ≡ 1 → (b : ℕ) × (field ≡ b ∷ [])
@@ -161,7 +161,7 @@ bad_at (Hooked v h) field rest fault.Shape fits good whole bad =
     read_hooked v h (field ++ rest) ∙ ap (λ (r : Result (ℕ × List ℕ) LoadFault). r >>= after_count v h) (count_bad field rest fits whole bad)
 bad_at (Mapped v h n shapes) field rest fault.Shape fits good whole bad =
     ap header_at (append_assoc (opening v h n) (shapes_bytes shapes) (field ++ rest)) ∙ read_counted v h n (shapes_bytes shapes ++ (field ++ rest)) good.0
-    ∙ ap (λ (r : Result (List ℕ) LoadFault). r >>= after_slots v h n (shapes_bytes shapes ++ (field ++ rest))) (shapes_stop n shapes (field ++ rest) fault.Shape bad.0 (shape_bad field rest fits whole bad.1))
+    ∙ ap (λ (r : Result (List ℕ) LoadFault). r >>= after_shapes v h n (shapes_bytes shapes ++ (field ++ rest))) (shapes_stop n shapes (field ++ rest) fault.Shape bad.0 (shape_bad field rest fits whole bad.1))
 bad_at front field rest f fits good whole bad = absurd bad
 
 -- good fields and then less than the next; behind the header that is the program
@@ -178,7 +178,7 @@ cut_at (Hooked v h) part good short = read_hooked v h part ∙ ap (λ (r : Resul
 cut_at (Mapped v h n shapes) part good short =
     ap header_at (append_assoc (opening v h n) (shapes_bytes shapes) part) ∙ read_counted v h n (shapes_bytes shapes ++ part) good.0
     ∙ elim (cases_lt (length shapes) n) [
-      | inl lt ↦ ap (λ (r : Result (List ℕ) LoadFault). r >>= after_slots v h n (shapes_bytes shapes ++ part)) (shapes_stop n shapes part fault.Cut lt (shape_cut part short))
+      | inl lt ↦ ap (λ (r : Result (List ℕ) LoadFault). r >>= after_shapes v h n (shapes_bytes shapes ++ part)) (shapes_stop n shapes part fault.Cut lt (shape_cut part short))
       | inr le ↦ slots_cut v h n shapes part (omega (arith, good.1)) short
     ]
 cut_at (Headed h) part good short = header_again h part good

@@ -275,8 +275,8 @@ both true false e = absurd cc
 both false b e = absurd cc
 
 -- two numbers that pass the test of a shape are within its limits
-pub shape_is : (size entries : ℕ) → is_shape size entries ≡ true → IsShape size entries
-shape_is size entries e =
+pub is_shape-limits : (size entries : ℕ) → is_shape size entries ≡ true → IsShape size entries
+is_shape-limits size entries e =
     let a = both (nat_le 8 size && (nat_le size 256 && (size % 8 == 0))) (nat_le 1 entries && nat_le entries 256) e in
     let b = both (nat_le 8 size) (nat_le size 256 && (size % 8 == 0)) a.0 in
     let c = both (nat_le size 256) (size % 8 == 0) b.1 in
@@ -334,7 +334,7 @@ shape_ok bytes rest fits e =
     let b = bind_ok (number_at 2 a.0.1) (λ entries. cond (is_shape a.0.0 entries.0) (Ok entries.1) (Err fault.Shape)) rest a.2 in
     let g = met_ok (is_shape a.0.0 b.0.0) fault.Shape b.0.1 rest b.2 in
     let read = two_halves bytes a.0.0 b.0.0 a.0.1 b.0.1 fits a.1 b.1 in
-    let s = shape_of a.0.0 b.0.0 (shape_is a.0.0 b.0.0 g.0) in
+    let s = shape_of a.0.0 b.0.0 (is_shape-limits a.0.0 b.0.0 g.0) in
     let is : bytes ≡ shape_bytes s ++ b.0.1 = read.bytes_are in
     (s, subst (λ (r : List ℕ). bytes ≡ shape_bytes s ++ r) g.1 is)
 

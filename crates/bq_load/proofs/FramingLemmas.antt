@@ -83,16 +83,16 @@ no_memory (Mapped v k n s) field h = h
 no_memory (Headed k) field h = h
 
 -- a fault of the bytes says why no image is read of them
-pub unread : (bytes : List ℕ) (f : LoadFault) → IsFault bytes f → IsUnread bytes f
-unread bytes fault.OutOfMemory b = absurd (no_memory b.front b.field b.bad)
-unread bytes fault.Magic b = b
-unread bytes fault.Version b = b
-unread bytes fault.Hook b = b
-unread bytes fault.Shape b = b
-unread bytes fault.Cut b = b
-unread bytes fault.Rest b = b
-unread bytes (fault.Decode slot cause) b = b
-unread bytes (fault.Refused slot cause) b = b
+pub fault_is_unread : (bytes : List ℕ) (f : LoadFault) → IsFault bytes f → IsUnread bytes f
+fault_is_unread bytes fault.OutOfMemory b = absurd (no_memory b.front b.field b.bad)
+fault_is_unread bytes fault.Magic b = b
+fault_is_unread bytes fault.Version b = b
+fault_is_unread bytes fault.Hook b = b
+fault_is_unread bytes fault.Shape b = b
+fault_is_unread bytes fault.Cut b = b
+fault_is_unread bytes fault.Rest b = b
+fault_is_unread bytes (fault.Decode slot cause) b = b
+fault_is_unread bytes (fault.Refused slot cause) b = b
 
 -- ---- programs that are too short or too long
 

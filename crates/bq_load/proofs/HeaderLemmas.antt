@@ -65,12 +65,12 @@ from_shape v h n rest f few r = record {
 -- ---- what is read after each field
 
 -- behind the shapes: the number of slots, and the header is whole
-abbrev pub after_slots : Version → Hook → ℕ → List ℕ → List ℕ → Result (Spelled × List ℕ) LoadFault
-after_slots v h n maps after = number_at 4 after >>= λ slots. Ok (record { version = v; hook = h; shapes = take (4 * n) maps; slots = slots.0 }, slots.1)
+abbrev pub after_shapes : Version → Hook → ℕ → List ℕ → List ℕ → Result (Spelled × List ℕ) LoadFault
+after_shapes v h n maps after = number_at 4 after >>= λ slots. Ok (record { version = v; hook = h; shapes = take (4 * n) maps; slots = slots.0 }, slots.1)
 
 -- behind the number of maps: as many shapes, and what follows them
 abbrev pub after_count : Version → Hook → (ℕ × List ℕ) → Result (Spelled × List ℕ) LoadFault
-after_count v h count = shapes_at count.0 count.1 >>= λ after. after_slots v h count.0 count.1 after
+after_count v h count = shapes_at count.0 count.1 >>= λ after. after_shapes v h count.0 count.1 after
 
 -- behind the hook: the number of maps, and what follows it
 abbrev pub after_hook : Version → (Hook × List ℕ) → Result (Spelled × List ℕ) LoadFault
@@ -88,7 +88,7 @@ after_magic rest = version_at rest >>= λ version. after_version version
 
 refused_maps : (v : Version) (h : Hook) (n : ℕ) (maps : List ℕ) (f : LoadFault) → AreBytes maps → n ≤ 8 → after_count v h (n, maps) ≡ Err f → IsRefused (opening v h n ++ maps) f
 refused_maps v h n maps f fits few e =
-    elim (bind_err (shapes_at n maps) (after_slots v h n maps) f e) [
+    elim (bind_err (shapes_at n maps) (after_shapes v h n maps) f e) [
       | inl p ↦ from_shape v h n maps f few (shapes_err n maps f fits p)
       | inr p ↦
           let s = shapes_ok n maps p.0 fits p.1 in
@@ -151,7 +151,7 @@ header_err bytes f fits e =
 
 read_maps : (v : Version) (h : Hook) (n : ℕ) (maps : List ℕ) (x : Spelled × List ℕ) → AreBytes maps → n ≤ 8 → after_count v h (n, maps) ≡ Ok x → HasHeader (opening v h n ++ maps) x.0 x.1
 read_maps v h n maps x fits few e =
-    let g = bind_ok (shapes_at n maps) (after_slots v h n maps) x e in
+    let g = bind_ok (shapes_at n maps) (after_shapes v h n maps) x e in
     let s = shapes_ok n maps g.0 fits g.1 in
     let after : AreBytes g.0 = AreBytes-after (shapes_bytes s.0) g.0 (subst AreBytes s.2 fits) in
     let k = bind_ok (number_at 4 g.0) (λ slots. Ok (record { version = v; hook = h; shapes = take (4 * n) maps; slots = slots.0 }, slots.1)) x g.2 in

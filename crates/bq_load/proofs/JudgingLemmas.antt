@@ -135,8 +135,8 @@ pub record Joined (front held piece bytes : List ℕ) (past : ℕ) (s : Spelled)
   pub long_is : (l : IsTooLong held) → l.header ≡ header
 
 -- the header of the first 44 bytes is that of all bytes, and of a program held that is too long
-pub joined : (held piece bytes : List ℕ) (past : ℕ) (s : Spelled) (r : List ℕ) → HasHeader (take 44 (held ++ piece)) s r → Holds held past bytes → Joined (take 44 (held ++ piece)) held piece bytes past s r
-joined held piece bytes past s r there h = elim h.only [ inl e ↦ whole e | inr l ↦ counted l ]
+pub header_of_all : (held piece bytes : List ℕ) (past : ℕ) (s : Spelled) (r : List ℕ) → HasHeader (take 44 (held ++ piece)) s r → Holds held past bytes → Joined (take 44 (held ++ piece)) held piece bytes past s r
+header_of_all held piece bytes past s r there h = elim h.only [ inl e ↦ whole e | inr l ↦ counted l ]
   where
     header : Header
     header = with_shapes s there.shapes
@@ -374,14 +374,14 @@ pub record Begins (held piece r : List ℕ) : Type 0 where
   pub rest : length r ≤ length (take 44 (held ++ piece))
 
 -- what a header leaves of the first 44 bytes is no longer than they are
-pub begins : (held piece : List ℕ) (s : Spelled) (r : List ℕ) → AreBytes (take 44 (held ++ piece)) → header_at (take 44 (held ++ piece)) ≡ Ok (s, r) → Begins held piece r
-begins held piece s r fits e =
+pub rest_is_within : (held piece : List ℕ) (s : Spelled) (r : List ℕ) → AreBytes (take 44 (held ++ piece)) → header_at (take 44 (held ++ piece)) ≡ Ok (s, r) → Begins held piece r
+rest_is_within held piece s r fits e =
     let there = header_ok (take 44 (held ++ piece)) (s, r) fits e in
     record { rest = omega (arith, ap length there.bytes_are, length-append (header_bytes (with_shapes s there.shapes)) r) }
 
 -- the header that was read of the first 44 bytes is that of all bytes
-pub joined_to : (held piece bytes : List ℕ) (past : ℕ) (s : Spelled) (r : List ℕ) → AreBytes (take 44 (held ++ piece)) → header_at (take 44 (held ++ piece)) ≡ Ok (s, r) → Holds held past bytes → Joined (take 44 (held ++ piece)) held piece bytes past s r
-joined_to held piece bytes past s r fits e h = joined held piece bytes past s r (header_ok (take 44 (held ++ piece)) (s, r) fits e) h
+pub read_header_of_all : (held piece bytes : List ℕ) (past : ℕ) (s : Spelled) (r : List ℕ) → AreBytes (take 44 (held ++ piece)) → header_at (take 44 (held ++ piece)) ≡ Ok (s, r) → Holds held past bytes → Joined (take 44 (held ++ piece)) held piece bytes past s r
+read_header_of_all held piece bytes past s r fits e h = header_of_all held piece bytes past s r (header_ok (take 44 (held ++ piece)) (s, r) fits e) h
 
 -- the first bytes of both, part after part
 pub front_joined : (held piece : List ℕ) (old new : ℕ) (none one two : List ℕ) → none ≡ [] → old ≡ min (length held) 44 → new ≡ min (length piece) (44 - old) → one ≡ none ++ take old held → two ≡ one ++ take new piece → two ≡ take 44 (held ++ piece)

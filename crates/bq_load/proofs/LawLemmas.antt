@@ -33,8 +33,8 @@ not_both : (bytes : List ℕ) (x : Spelled × List ℕ) (f : LoadFault) → fram
 not_both bytes x f e g = cc
 
 -- where header and program are the bytes, reading them does not fail
-pub framed_is_found : (bytes : List ℕ) (h : Header) (program : List ℕ) (f : LoadFault) → IsFramed bytes h program → frame_at bytes ≡ Err f → ⊥
-framed_is_found bytes h program f framed e = not_both bytes (spelled h, program) f (frame_again bytes h program framed) e
+pub framed_does_not_fail : (bytes : List ℕ) (h : Header) (program : List ℕ) (f : LoadFault) → IsFramed bytes h program → frame_at bytes ≡ Err f → ⊥
+framed_does_not_fail bytes h program f framed e = not_both bytes (spelled h, program) f (frame_again bytes h program framed) e
 
 whole_program : (bytes : List ℕ) (h : Header) (program : List ℕ) (slot : ℕ) → IsFramed bytes h program → 1 ≤ h.slots → h.slots ≤ 4096 → HasFaultyProgram bytes slot Length → ⊥
 whole_program bytes h program slot framed some most b =
@@ -46,7 +46,7 @@ whole_program bytes h program slot framed some most b =
 
 no_fault : (bytes : List ℕ) (h : Header) (program : List ℕ) (f : LoadFault) → IsFramed bytes h program → 1 ≤ h.slots → h.slots ≤ 4096 → IsFound bytes f → ⊥
 no_fault bytes h program (fault.Decode slot Length) framed some most b = whole_program bytes h program slot framed some most b
-no_fault bytes h program f framed some most b = framed_is_found bytes h program _ framed b
+no_fault bytes h program f framed some most b = framed_does_not_fail bytes h program _ framed b
 
 -- bytes that are an image have no fault
 pub no_image_is_faulty : NoImageIsFaulty
@@ -59,7 +59,7 @@ same_found bytes f g e d = cc
 
 of_length : (bytes : List ℕ) (slot : ℕ) (g : LoadFault) → HasFaultyProgram bytes slot Length → IsFound bytes g → fault.Decode slot Length ≡ g
 of_length bytes slot (fault.Decode other Length) b d = ap (λ (n : ℕ). fault.Decode n Length) (b.faulty.0 ∙ sym d.faulty.0)
-of_length bytes slot g b d = absurd (framed_is_found bytes b.header b.program _ b.framed d)
+of_length bytes slot g b d = absurd (framed_does_not_fail bytes b.header b.program _ b.framed d)
 
 same_faults : (bytes : List ℕ) (f g : LoadFault) → IsFound bytes f → IsFound bytes g → f ≡ g
 same_faults bytes (fault.Decode slot Length) g b d = of_length bytes slot g b d

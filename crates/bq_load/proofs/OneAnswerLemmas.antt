@@ -29,7 +29,7 @@ use Rattle.bq_load.specs.Laws.{AreBytes, IsAnswer, OneAnswer, OneLoaded}
 use Rattle.bq_load.specs.Layout.{Header, IsFramed}
 use Rattle.bq_load.specs.Reading.{frame_at}
 use Rattle.bq_load.proofs.FaultLemmas.{fault_again}
-use Rattle.bq_load.proofs.LawLemmas.{framed_is_found, one_image}
+use Rattle.bq_load.proofs.LawLemmas.{framed_does_not_fail, one_image}
 use Rattle.bq_load.proofs.UniqueLemmas.{one_frame}
 use Rattle.bq_bpf.specs.declared.hook.Hook.{Hook}
 use Rattle.bq_bpf.specs.declared.hook.Version.{Version}
@@ -80,16 +80,16 @@ IsOnly f answer = (answer ≡ Err f) ⊎ (answer ≡ Err fault.OutOfMemory)
 
 stopped : (bytes : List ℕ) (f g : LoadFault) → Stops bytes f → Stops bytes g ⊎ Stands bytes → IsOnly f (Err g)
 stopped bytes f g at (inl other) = inl (ap (λ (x : LoadFault). Err x) (same_stop bytes f g at.at other.at))
-stopped bytes f g at (inr there) = absurd (framed_is_found bytes there.header there.program f there.framed at.at)
+stopped bytes f g at (inr there) = absurd (framed_does_not_fail bytes there.header there.program f there.framed at.at)
 
 -- reading stops at a fault: it is the answer
 at_stop : (bytes : List ℕ) (f : LoadFault) (answer : Result Accepted LoadFault) → AreBytes bytes → Stops bytes f → IsAnswer bytes answer → IsOnly f answer
-at_stop bytes f (Ok v) fits at a = absurd (framed_is_found bytes _ _ f a.image.framed at.at)
+at_stop bytes f (Ok v) fits at a = absurd (framed_does_not_fail bytes _ _ f a.image.framed at.at)
 at_stop bytes f (Err g) fits at a = stopped bytes f g at (by_fault bytes g fits a)
 
 -- header and program are there, so reading does not stop
 framed : (bytes : List ℕ) (f : LoadFault) (h : Header) (program : List ℕ) → IsFramed bytes h program → Stops bytes f → ⊥
-framed bytes f h program there at = framed_is_found bytes h program f there at.at
+framed bytes f h program there at = framed_does_not_fail bytes h program f there at.at
 
 as_program : (bytes : List ℕ) (v : Accepted) (l : Loads bytes v) → HasProgram bytes l.insns
 as_program bytes v l = record { version = v.version; hook = v.hook; shapes = v.shapes; image = l.image; well_formed = l.well_formed; numbers = l.numbers }
@@ -100,12 +100,12 @@ faulty bytes slot cause (Ok v) fits b a = absurd (no_faulty bytes a.insns slot c
 faulty bytes slot cause (Err (fault.Decode t d)) fits b a = inl (ap (λ (x : LoadFault). Err x) (one_faulty bytes slot t cause d b a))
 faulty bytes slot cause (Err (fault.Refused t d)) fits b a = absurd (no_faulty bytes a.0.insns slot cause b a.0.program)
 faulty bytes slot cause (Err fault.OutOfMemory) fits b a = inr refl
-faulty bytes slot cause (Err fault.Magic) fits b a = absurd (framed_is_found bytes b.header b.program fault.Magic b.framed (fault_again bytes fault.Magic fits a))
-faulty bytes slot cause (Err fault.Version) fits b a = absurd (framed_is_found bytes b.header b.program fault.Version b.framed (fault_again bytes fault.Version fits a))
-faulty bytes slot cause (Err fault.Hook) fits b a = absurd (framed_is_found bytes b.header b.program fault.Hook b.framed (fault_again bytes fault.Hook fits a))
-faulty bytes slot cause (Err fault.Shape) fits b a = absurd (framed_is_found bytes b.header b.program fault.Shape b.framed (fault_again bytes fault.Shape fits a))
-faulty bytes slot cause (Err fault.Cut) fits b a = absurd (framed_is_found bytes b.header b.program fault.Cut b.framed (fault_again bytes fault.Cut fits a))
-faulty bytes slot cause (Err fault.Rest) fits b a = absurd (framed_is_found bytes b.header b.program fault.Rest b.framed (fault_again bytes fault.Rest fits a))
+faulty bytes slot cause (Err fault.Magic) fits b a = absurd (framed_does_not_fail bytes b.header b.program fault.Magic b.framed (fault_again bytes fault.Magic fits a))
+faulty bytes slot cause (Err fault.Version) fits b a = absurd (framed_does_not_fail bytes b.header b.program fault.Version b.framed (fault_again bytes fault.Version fits a))
+faulty bytes slot cause (Err fault.Hook) fits b a = absurd (framed_does_not_fail bytes b.header b.program fault.Hook b.framed (fault_again bytes fault.Hook fits a))
+faulty bytes slot cause (Err fault.Shape) fits b a = absurd (framed_does_not_fail bytes b.header b.program fault.Shape b.framed (fault_again bytes fault.Shape fits a))
+faulty bytes slot cause (Err fault.Cut) fits b a = absurd (framed_does_not_fail bytes b.header b.program fault.Cut b.framed (fault_again bytes fault.Cut fits a))
+faulty bytes slot cause (Err fault.Rest) fits b a = absurd (framed_does_not_fail bytes b.header b.program fault.Rest b.framed (fault_again bytes fault.Rest fits a))
 
 -- bytes are at most one program
 one_list : (bytes : List ℕ) (a b : List Insn) → HasProgram bytes a → HasProgram bytes b → a ≡ b

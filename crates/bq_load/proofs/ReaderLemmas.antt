@@ -62,21 +62,21 @@ none_of None h = refl
 none_of (Some f) h = absurd (h f refl)
 
 -- a reader that has not failed holds the bytes that it stands for, or has counted those past what it holds
-pub holds_of : (fed : Fed) (held : List ℕ) (past : ℕ) (failed : Option LoadFault) (bytes : List ℕ) → record { held = held; past = past; failed = failed } ≡ fed → ((f : LoadFault) → failed ≡ Some f → ⊥) → StandsFor fed bytes → Holds held past bytes
-holds_of fed held past failed bytes view not_failed h =
+pub not_failed_holds : (fed : Fed) (held : List ℕ) (past : ℕ) (failed : Option LoadFault) (bytes : List ℕ) → record { held = held; past = past; failed = failed } ≡ fed → ((f : LoadFault) → failed ≡ Some f → ⊥) → StandsFor fed bytes → Holds held past bytes
+not_failed_holds fed held past failed bytes view not_failed h =
     let moved : StandsFor (record { held = held; past = past; failed = failed }) bytes = subst (λ (x : Fed). StandsFor x bytes) (sym view) h in
     subst (λ (o : Option LoadFault). stands held past o bytes) (none_of failed not_failed) moved
 
 -- ---- a program that is too long
 
 -- where bytes were counted beyond those held, a program that is too long is held
-pub past_header : (held bytes : List ℕ) (past : ℕ) → 0 < past → Holds held past bytes → IsTooLong held
-past_header held bytes past some h = elim h.only [ inl none ↦ absurd (omega arith) | inr l ↦ l ]
+pub past_is_too_long : (held bytes : List ℕ) (past : ℕ) → 0 < past → Holds held past bytes → IsTooLong held
+past_is_too_long held bytes past some h = elim h.only [ inl none ↦ absurd (omega arith) | inr l ↦ l ]
 
 -- where bytes were counted beyond those held, reading the header of those does not fail
-pub past_read : (held bytes : List ℕ) (past : ℕ) (f : LoadFault) → 0 < past → Holds held past bytes → header_at held ≡ Err f → ⊥
-past_read held bytes past f some h e =
-    let l = past_header held bytes past some h in
+pub past_header_is_read : (held bytes : List ℕ) (past : ℕ) (f : LoadFault) → 0 < past → Holds held past bytes → header_at held ≡ Err f → ⊥
+past_header_is_read held bytes past f some h e =
+    let l = past_is_too_long held bytes past some h in
     let ok = ap header_at l.held_is ∙ header_again l.header l.part l.good in
     absurd cc
 
@@ -92,7 +92,7 @@ record HasTail (bytes : List ℕ) (slots past : ℕ) (part : List ℕ) : Type 0 
 
 tail_of : (held bytes : List ℕ) (past : ℕ) (s : Spelled) (part : List ℕ) → AreBytes held → header_at held ≡ Ok (s, part) → 0 < past → Holds held past bytes → HasTail bytes s.slots past part
 tail_of held bytes past s part fits e some h =
-    let l = past_header held bytes past some h in
+    let l = past_is_too_long held bytes past some h in
     let there = header_ok held (s, part) fits e in
     let header = with_shapes s there.shapes in
     let same = one_header l.header header l.part part l.good there.good (sym l.held_is ∙ there.bytes_are) in

@@ -1,1 +1,1 @@
-pub mod Installed
+pub mod InstallLemmas

@@ -1,1 +1,1 @@
-mod Ratios
+mod RatioLemmas

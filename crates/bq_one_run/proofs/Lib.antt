@@ -1,6 +1,6 @@
 mod FieldLemmas
 mod InTurnLemmas
-mod MovableIds
-mod PlaceLaw
-mod PullLaw
+mod MovableIdLemmas
+mod PlaceLawLemmas
+mod PullLawLemmas
 mod ShownLemmas

@@ -1,6 +1,6 @@
-pub mod PassingFacts
-pub mod SeenFacts
-pub mod SoundFacts
-pub mod NewFacts
-pub mod DueFacts
-pub mod WorldFacts
+pub mod PassingLemmas
+pub mod SeenLemmas
+pub mod SoundLemmas
+pub mod NewLemmas
+pub mod DueLemmas
+pub mod WorldLemmas

@@ -7,6 +7,6 @@ use Rattle.bq_policy_files.specs.Files.{IsPolicyFault}
 use Rattle.bq_policy_commands.specs.Disagreeing.{IsDifference, differing}
 
 -- the mark that a fault of the file names is the one from which the words differ
-pub of_fault : (bytes : List ℕ) (h : Head) (named : PolicyFault) (told : Option Key) → IsPolicyFault bytes h named → told ≡ differing named → IsDifference bytes h told
-of_fault bytes h named None is e = inr (inr (named, is, sym e))
-of_fault bytes h named (Some key) is e = (named, is, sym e)
+pub IsDifference-of_fault : (bytes : List ℕ) (h : Head) (named : PolicyFault) (told : Option Key) → IsPolicyFault bytes h named → told ≡ differing named → IsDifference bytes h told
+IsDifference-of_fault bytes h named None is e = inr (inr (named, is, sym e))
+IsDifference-of_fault bytes h named (Some key) is e = (named, is, sym e)

@@ -19,8 +19,8 @@ use Rattle.bq_asm.specs.Named.{entry_with, table}
 use Rattle.bq_asm.specs.Text.{signed_text, operand_text, mnemonic_of, operands_of, after_first, operands_text}
 use Rattle.bq_asm.proofs.DigitLemmas.{is_digit, list_all-append, list_all-weaker, decimal_digits}
 use Rattle.bq_asm.proofs.AgainLemmas.{operands_good}
-use Rattle.bq_asm.proofs.RoundTrip.{named-again}
-use Rattle.bq_asm.proofs.WellFormedLemmas.{Good}
+use Rattle.bq_asm.proofs.RoundTripLemmas.{named-again}
+use Rattle.bq_asm.proofs.WellFormedLemmas.{IsInRange}
 use Rattle.bq_policy_text.specs.Listed.{line_body}
 
 -- an ASCII byte that ends no line
@@ -78,7 +78,7 @@ memory_inner : (r : ℕ) (z : ℤ) → r ≤ 10 → FitsSigned w16 z → list_al
 memory_inner r z h k =
     list_all-append is_inner (decimal r) (signed_text z ++ codes "]") (decimal_inner r (omega arith)) (list_all-append is_inner (signed_text z) (codes "]") (near_inner z k) refl)
 
-operand_inner : (o : Operand) → Good o → list_all is_inner (operand_text o) ≡ true
+operand_inner : (o : Operand) → IsInRange o → list_all is_inner (operand_text o) ≡ true
 operand_inner (operand.Register r) h = decimal_inner r (omega arith)
 operand_inner (operand.Number z) h = signed_decimal_inner z h
 operand_inner (operand.Wide n) h = decimal_inner n h
@@ -86,11 +86,11 @@ operand_inner (operand.Memory r z) h = memory_inner r z h.0 h.1
 operand_inner (operand.Near z) h = near_inner z h
 operand_inner (operand.Far z) h = signed_inner z h
 
-after_inner : (os : List Operand) → AllByRecursion Good os → list_all is_inner (after_first os) ≡ true
+after_inner : (os : List Operand) → AllByRecursion IsInRange os → list_all is_inner (after_first os) ≡ true
 after_inner [] h = refl
 after_inner (o ∷ os) h = list_all-append is_inner (operand_text o) (after_first os) (operand_inner o h.0) (after_inner os h.1)
 
-operands_inner : (os : List Operand) → AllByRecursion Good os → list_all is_inner (operands_text os) ≡ true
+operands_inner : (os : List Operand) → AllByRecursion IsInRange os → list_all is_inner (operands_text os) ≡ true
 operands_inner [] h = refl
 operands_inner (o ∷ os) h = list_all-append is_inner (operand_text o) (after_first os) (operand_inner o h.0) (after_inner os h.1)
 

@@ -2,11 +2,11 @@ pub mod BodyLemmas
 pub mod LineLemmas
 pub mod ShapeLemmas
 pub mod MarkLemmas
-pub mod OneHead
-pub mod NoFault
-pub mod ReadBack
-pub mod ListedLines
+pub mod OneHeadLemmas
+pub mod NoFaultLemmas
+pub mod ReadBackLemmas
+pub mod ListedLineLemmas
 pub mod NoteLemmas
 pub mod NotedLemmas
 pub mod PaddingLemmas
-pub mod Law
+pub mod LawLemmas

@@ -167,21 +167,21 @@ abbrev pub AreFew : Option (Vec MapShape Global) → Type 0
 AreFew maps = ForSome maps (λ shapes. length shapes.items ≤ 8)
 
 -- of maps that are not said there are not too many
-pub none_few : AreFew None
-none_few = λ shapes e. absurd (let none : None ≡ Some shapes = e in cc)
+pub AreFew-none : AreFew None
+AreFew-none = λ shapes e. absurd (let none : None ≡ Some shapes = e in cc)
 
 -- at most eight maps that are said are not too many
-pub some_few : (shapes : Vec MapShape Global) → length shapes.items ≤ 8 → AreFew (Some shapes)
-some_few shapes h = λ x e. let same : shapes ≡ x = cc in subst (λ (v : Vec MapShape Global). length v.items ≤ 8) same h
+pub AreFew-some : (shapes : Vec MapShape Global) → length shapes.items ≤ 8 → AreFew (Some shapes)
+AreFew-some shapes h = λ x e. let same : shapes ≡ x = cc in subst (λ (v : Vec MapShape Global). length v.items ≤ 8) same h
 
 -- at most eight maps are not too many, whether they are said or not
-pub few_said : (shapes : Vec MapShape Global) (items : List MapShape) → length shapes.items ≤ 8 → AreFew (maps_said shapes items)
-few_said shapes [] h = none_few
-few_said shapes (first ∷ rest) h = some_few shapes h
+pub AreFew-said : (shapes : Vec MapShape Global) (items : List MapShape) → length shapes.items ≤ 8 → AreFew (maps_said shapes items)
+AreFew-said shapes [] h = AreFew-none
+AreFew-said shapes (first ∷ rest) h = AreFew-some shapes h
 
 -- the head that the marks say
 abbrev pub said_of : Policy → Head
-said_of p = head_of (Some p.hook) (maps_said p.shapes p.shapes.items) (format_said p.version) (few_said p.shapes p.shapes.items p.few)
+said_of p = head_of (Some p.hook) (maps_said p.shapes p.shapes.items) (format_said p.version) (AreFew-said p.shapes p.shapes.items p.few)
 
 hook_of_word : (h : Hook) → hook_of (hook_word h) ≡ Some h
 hook_of_word Place = refl
@@ -189,7 +189,7 @@ hook_of_word Preempt = refl
 hook_of_word Pull = refl
 
 begun : Head
-begun = head_of None None None none_few
+begun = head_of None None None AreFew-none
 
 says_hook : (h : Hook) (few : AreFew None) → SaysHead (hook_line h ∷ []) (head_of (Some h) None None few)
 unfolding begun
@@ -200,8 +200,8 @@ says_maps : (h : Hook) (shapes : Vec MapShape Global) (items : List MapShape) (f
 says_maps h shapes [] few eight e = says_hook h few
 says_maps h shapes (first ∷ rest) few eight e =
     let names : NamesShapes (shapes_text first rest) shapes.items = subst (NamesShapes (shapes_text first rest)) (sym e) (names_shapes first rest eight) in
-    says_mark (head_of (Some h) None None none_few) (head_of (Some h) (Some shapes) None few) key.Maps (hook_line h ∷ []) (codes ";@ maps " ++ shapes_text first rest) (shapes_text first rest)
-    (shapes, refl, names, refl, refl, refl) (maps_says first rest) (says_hook h none_few)
+    says_mark (head_of (Some h) None None AreFew-none) (head_of (Some h) (Some shapes) None few) key.Maps (hook_line h ∷ []) (codes ";@ maps " ++ shapes_text first rest) (shapes_text first rest)
+    (shapes, refl, names, refl, refl, refl) (maps_says first rest) (says_hook h AreFew-none)
 
 says_format : (h : Hook) (maps : Option (Vec MapShape Global)) (v : Version) (few : ForSome maps (λ shapes. length shapes.items ≤ 8)) (before : List (List ℕ)) →
     SaysHead before (head_of (Some h) maps None few) → SaysHead (before ++ format_lines v) (head_of (Some h) maps (format_said v) few)
@@ -222,5 +222,5 @@ says_others head before (l ∷ others) h s =
 pub says_policy : (p : Policy) (others : List (List ℕ)) → AreNoMarks others → SaysHead (mark_lines p.hook p.shapes.items p.version ++ others) (said_of p)
 says_policy p others h =
     says_others (said_of p) (mark_lines p.hook p.shapes.items p.version) others h
-    (says_format p.hook (maps_said p.shapes p.shapes.items) p.version (few_said p.shapes p.shapes.items p.few) (hook_line p.hook ∷ maps_lines p.shapes.items)
-    (says_maps p.hook p.shapes p.shapes.items (few_said p.shapes p.shapes.items p.few) p.few refl))
+    (says_format p.hook (maps_said p.shapes p.shapes.items) p.version (AreFew-said p.shapes p.shapes.items p.few) (hook_line p.hook ∷ maps_lines p.shapes.items)
+    (says_maps p.hook p.shapes p.shapes.items (AreFew-said p.shapes p.shapes.items p.few) p.few refl))

@@ -17,9 +17,9 @@ use Rattle.bq_asm.proofs.DigitLemmas.{list_all-append}
 use Rattle.bq_policy_text.specs.Listed.{blanks_to, line_body, noted_line, noted_text}
 use Rattle.bq_policy_text.proofs.BodyLemmas.{is_clean, is_inner, body_inner, decimal_inner, inner_clean}
 use Rattle.bq_policy_text.proofs.LineLemmas.{AreClean, ended}
-use Rattle.bq_policy_text.proofs.ListedLines.{bodies_said, body_no_mark}
+use Rattle.bq_policy_text.proofs.ListedLineLemmas.{bodies_said, body_no_mark}
 use Rattle.bq_policy_text.proofs.MarkLemmas.{AreNoMarks}
-use Rattle.bq_policy_text.proofs.ReadBack.{AreLines}
+use Rattle.bq_policy_text.proofs.ReadBackLemmas.{AreLines}
 
 onto_more : {X : Type 0} (x : X) (ps qs : List (List X)) → 0 < length ps → onto_first x (ps ++ qs) ≡ onto_first x ps ++ qs
 onto_more x [] qs h = absurd (omega arith)

@@ -1,5 +1,5 @@
 pub mod CheckLemmas
 pub mod FormLemmas
 pub mod NamedShapesLemmas
-pub mod OneAnswer
+pub mod OneAnswerLemmas
 pub mod ShapesTextLemmas

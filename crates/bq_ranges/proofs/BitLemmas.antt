@@ -13,7 +13,7 @@ use Rattle.bq_insn.specs.declared.Width.{Width}
 use Rattle.bq_insn.specs.declared.Width.TheVariants.{W32, W64}
 use Rattle.bq_ranges.specs.Within.{Within}
 use Rattle.bq_ranges.specs.declared.range.Range.{Range}
-use Rattle.bq_ranges.proofs.Outcomes.{kept, quotients_between}
+use Rattle.bq_ranges.proofs.OutcomeLemmas.{kept, quotients_between}
 
 -- a number that goes into n is no more than what goes into n below most
 multiple_below : (z most n : ℕ) → 0 < n → z % n ≡ 0 → z ≤ most → z ≤ most - most % n

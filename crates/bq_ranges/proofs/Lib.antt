@@ -1,4 +1,4 @@
-pub mod Outcomes
+pub mod OutcomeLemmas
 pub mod TightLemmas
 pub mod TestLemmas
 pub mod MoveLemmas

@@ -1,2 +1,2 @@
-pub mod Ahead
-pub mod Brief
+pub mod AheadLemmas
+pub mod BriefLemmas

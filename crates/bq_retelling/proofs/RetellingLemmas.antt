@@ -23,7 +23,7 @@ use Rattle.bq_load.specs.Layout.{Header, IsFramed, header_bytes}
 use Rattle.bq_load.proofs.JudgingLemmas.{header_fits, length-header_bytes}
 use Rattle.bq_spelling.specs.Spelling.{HasFittingNumbers, asking_line, machine_line}
 use Rattle.bq_spelling.specs.Laws.{CanStandInLine, IsWholeLine, asked}
-use Rattle.bq_spelling.proofs.LineLaws.{are_lines, events_are_read, machines_are_read}
+use Rattle.bq_spelling.proofs.LineLawLemmas.{are_lines, events_are_read, machines_are_read}
 use Rattle.bq_trace.specs.Bare.{bare}
 use Rattle.bq_trace.specs.Counts.{one_more}
 use Rattle.bq_trace.specs.Doing.{DoesAndAnswers}

@@ -1,2 +1,2 @@
-mod Gathered
+mod GatheringLemmas
 mod RunLemmas

@@ -1,7 +1,7 @@
 pub mod BoundLemmas
-pub mod Deeds
+pub mod DeedLemmas
 pub mod KindLemmas
-pub mod Lanes
+pub mod LaneLemmas
 pub mod StepLemmas
 pub mod StreamLemmas
-pub mod Wholes
+pub mod WholeLemmas

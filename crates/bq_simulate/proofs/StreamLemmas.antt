@@ -77,15 +77,15 @@ drew task asked s length t d drawn had =
     }
 
 -- where a length is drawn if one is asked for, it is the next of that task's stream, and nothing else changes
-pub gave : (task : ℕ) (asked : Option Length) (s : Simulation) (length : ℕ) (t : Simulation) → DrawsFor task asked s length t → (drawn : List ℕ) → HasDrawn s drawn → Gave task asked s drawn length t
-gave task None s length t h drawn had = record {
+pub gives_if_asked : (task : ℕ) (asked : Option Length) (s : Simulation) (length : ℕ) (t : Simulation) → DrawsFor task asked s length t → (drawn : List ℕ) → HasDrawn s drawn → Gave task asked s drawn length t
+gives_if_asked task None s length t h drawn had = record {
   value = h.0;
   streams = ap (λ (x : Simulation). x.streams.items) h.1 ∙ had ∙ ap (λ (x : Simulation). streams_after x.seed 0 drawn) (sym h.1);
   driver = ap (λ (x : Simulation). x.driver) h.1;
   roster = ap (λ (x : Simulation). x.roster) h.1;
   seed = ap (λ (x : Simulation). x.seed) h.1;
 }
-gave task (Some asked) s length t h drawn had = drew task asked s length t h drawn had
+gives_if_asked task (Some asked) s length t h drawn had = drew task asked s length t h drawn had
 
 -- the stream of the next task is there
 pub opened-streams : (s t : Simulation) (drawn : List ℕ) → t.seed ≡ s.seed → t.streams.items ≡ s.streams.items ++ stream_of_task s.seed (length s.streams.items) ∷ [] → HasDrawn s drawn → HasDrawn t (drawn ++ 0 ∷ [])

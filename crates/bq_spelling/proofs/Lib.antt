@@ -1,5 +1,5 @@
-pub mod HexWords
-pub mod LineLaws
-pub mod NumberWords
-pub mod PlainWords
+pub mod HexWordLemmas
+pub mod LineLawLemmas
+pub mod NumberWordLemmas
+pub mod PlainWordLemmas
 pub mod ReadingLemmas

@@ -22,9 +22,9 @@ use Rattle.bq_lines.specs.declared.command.Command.TheVariants.{Does, Machine}
 use Rattle.bq_lines.specs.declared.command.Reading.TheVariants.{Says}
 use Rattle.bq_spelling.specs.Spelling.{HasFittingNumbers, event_words, image_word, spaced_words}
 use Rattle.bq_spelling.specs.Laws.{CanStandInLine, asked, installing}
-use Rattle.bq_spelling.proofs.HexWords.{plain_hex, hex_not_none}
-use Rattle.bq_spelling.proofs.NumberWords.{plain_decimal, plain_signed, short_decimal, short_signed, decimal_of-decimal, processor_of-decimal, task_of-decimal, mask_of-decimal, nice_of-signed}
-use Rattle.bq_spelling.proofs.PlainWords.{IsPlain, is_plain, room, words-spaced, allowed-spaced, length-spaced}
+use Rattle.bq_spelling.proofs.HexWordLemmas.{plain_hex, hex_not_none}
+use Rattle.bq_spelling.proofs.NumberWordLemmas.{plain_decimal, plain_signed, short_decimal, short_signed, decimal_of-decimal, processor_of-decimal, task_of-decimal, mask_of-decimal, nice_of-signed}
+use Rattle.bq_spelling.proofs.PlainWordLemmas.{IsPlain, is_plain, room, words-spaced, allowed-spaced, length-spaced}
 
 -- a line of plain words that is short enough says what its words say
 pub reading-spaced : (ws : List (List ℕ)) → AllByRecursion IsPlain ws → room ws ≤ 131072 → reading_of (spaced_words ws) ≡ reading_of_words ws

@@ -60,10 +60,10 @@ covers_written f v w s at bytes small same marks forgets parts copies covers = r
 }
 
 -- the bytes of a number, the low one first, are each the byte of that place
-pub low_at : (a n v i : ℕ) → i < n → slice_index (bytes_low_first a n v) i ≡ byte_of (a + i) v
-low_at a zero v i lt = absurd (omega arith)
-low_at a (suc n) v zero lt = ap (λ (x : ℕ). byte_of x v) (omega arith)
-low_at a (suc n) v (suc i) lt = low_at (suc a) n v i (omega arith) ∙ ap (λ (x : ℕ). byte_of x v) (omega arith)
+pub low_first_byte : (a n v i : ℕ) → i < n → slice_index (bytes_low_first a n v) i ≡ byte_of (a + i) v
+low_first_byte a zero v i lt = absurd (omega arith)
+low_first_byte a (suc n) v zero lt = ap (λ (x : ℕ). byte_of x v) (omega arith)
+low_first_byte a (suc n) v (suc i) lt = low_first_byte (suc a) n v i (omega arith) ∙ ap (λ (x : ℕ). byte_of x v) (omega arith)
 
 -- a byte that is written
 pub inside : (stack : ℕ → Option ℕ) (at : ℕ) (bytes : List ℕ) (i : ℕ) → i < length bytes → ((at ≤ at + i) × (at + i < at + length bytes) × (stack_with stack at bytes (at + i) ≡ Some (slice_index bytes (at + i - at)))) ⊎ (((at + i < at) ⊎ (at + length bytes ≤ at + i)) × (stack_with stack at bytes (at + i) ≡ stack (at + i))) → stack_with stack at bytes (at + i) ≡ Some (slice_index bytes i)
@@ -75,7 +75,7 @@ inside stack at bytes i lt (inr (inr past, e)) = absurd (omega arith)
 pub stored_bytes : (stack : ℕ → Option ℕ) (j v : ℕ) (bytes : List ℕ) → bytes ≡ bytes_low_first 0 8 v → length bytes ≡ 8 → (i : ℕ) → i < 8 → stack_with stack (8 * j) bytes (8 * j + i) ≡ Some (byte_of i v)
 stored_bytes stack j v bytes is long i lt =
     inside stack (8 * j) bytes i (omega arith) (stack_cases stack (8 * j) bytes (8 * j + i))
-    ∙ ap Some (ap (λ (x : List ℕ). slice_index x i) is ∙ (low_at 0 8 v i lt ∙ ap (λ (x : ℕ). byte_of x v) (omega arith)))
+    ∙ ap Some (ap (λ (x : List ℕ). slice_index x i) is ∙ (low_first_byte 0 8 v i lt ∙ ap (λ (x : ℕ). byte_of x v) (omega arith)))
 
 -- such a word is kept there
 pub Keeps-stored : (shapes : List MapShape) (k : AbstractValue) (stack : ℕ → Option ℕ) (j v : ℕ) (bytes : List ℕ) → bytes ≡ bytes_low_first 0 8 v → length bytes ≡ 8 → Describes shapes k v → Keeps shapes (Some k) (stack_with stack (8 * j) bytes) j

@@ -17,14 +17,14 @@ number_within shapes k word e d =
     rw same d.within
 
 -- a number of a range is a word that is known as a number of that range
-pub number_is : (shapes : List MapShape) (r : Range) (word : ℕ) → Within r word → Describes shapes (record { kind = Number; offset = r }) word
-number_is shapes r word w =
+pub describes_number : (shapes : List MapShape) (r : Range) (word : ℕ) → Within r word → Describes shapes (record { kind = Number; offset = r }) word
+describes_number shapes r word w =
     let fits = r.fits in
     record { base = 0; offset = word; is_base = refl; within = w; word_is = omega (arith, w) }
 
 -- a word that is known to be in a range is known to be in a wider one
-pub wider : (shapes : List MapShape) (kind : Kind) (k : AbstractValue) (r : Range) (word : ℕ) → k.kind ≡ kind → ((x : ℕ) → Within k.offset x → Within r x) → Describes shapes k word → Describes shapes (record { kind = kind; offset = r }) word
-wider shapes kind k r word e more d = record { base = d.base; offset = d.offset; is_base = rw e at d.is_base; within = more d.offset d.within; word_is = d.word_is }
+pub describes_wider : (shapes : List MapShape) (kind : Kind) (k : AbstractValue) (r : Range) (word : ℕ) → k.kind ≡ kind → ((x : ℕ) → Within k.offset x → Within r x) → Describes shapes k word → Describes shapes (record { kind = kind; offset = r }) word
+describes_wider shapes kind k r word e more d = record { base = d.base; offset = d.offset; is_base = rw e at d.is_base; within = more d.offset d.within; word_is = d.word_is }
 
 -- a word that is described has at most 64 bits
 pub word_fits : (shapes : List MapShape) (k : AbstractValue) (a : ℕ) → Describes shapes k a → a < 2 ^ 64

@@ -1,12 +1,12 @@
 pub mod ChainLemmas
-pub mod NumberTexts
-pub mod QueueWalks
+pub mod NumberTextLemmas
+pub mod QueueWalkLemmas
 pub mod ReplayLemmas
 pub mod SessionLemmas
 pub mod ShowLemmas
 pub mod StandingLemmas
-pub mod StoryTexts
+pub mod StoryTextLemmas
 pub mod TakingLemmas
 pub mod WakeLemmas
-pub mod WholeSessions
+pub mod WholeSessionLemmas
 pub mod WritingLemmas

@@ -64,6 +64,6 @@ finishes_part s t begun answers old new a part = record {
 }
 
 -- what holds anyhow holds where the result is an error
-pub on_err : {T E P : Type 0} (r : Result T E) → P → OnErr r P
-on_err (Ok x) p = tt
-on_err (Err e) p = p
+pub OnErr-anyhow : {T E P : Type 0} (r : Result T E) → P → OnErr r P
+OnErr-anyhow (Ok x) p = tt
+OnErr-anyhow (Err e) p = p

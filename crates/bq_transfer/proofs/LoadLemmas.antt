@@ -5,7 +5,7 @@ use Rattle.bq_insn.specs.declared.Insn.TheVariants.{Load}
 use Rattle.bq_insn.specs.declared.Size.{Size}
 use Rattle.bq_insn.specs.declared.Size.TheVariants.{Double}
 use Rattle.std.specs.Int.{byte_at as byte_of, bytes_low_first}
-use Rattle.bq_states.proofs.StoreLemmas.{low_at}
+use Rattle.bq_states.proofs.StoreLemmas.{low_first_byte}
 use Rattle.bq_insn.specs.Slots.{byte_count}
 use Rattle.bq_alu.specs.Meaning.{word_of}
 use Rattle.bq_bpf.specs.declared.shape.MapShape.{MapShape}
@@ -20,7 +20,7 @@ use Rattle.bq_states.specs.declared.abstract_state.Kind.{Kind}
 use Rattle.bq_states.specs.declared.abstract_state.Kind.TheVariants.{Number, Stack}
 use Rattle.bq_states.specs.AbstractStates.{Describes, Contains, Keeps, Suits, IsOfKind, Bounds}
 use Rattle.bq_transfer.specs.Transfers.{FindsPlace}
-use Rattle.bq_states.proofs.WordLemmas.{number_is}
+use Rattle.bq_states.proofs.WordLemmas.{describes_number}
 use Rattle.bq_states.proofs.AccessLemmas.{good_at, number_of_word, read_bytes, region_byte}
 use Rattle.bq_states.proofs.LearnLemmas.{found_at}
 
@@ -57,7 +57,7 @@ reads_place shapes context_length view size src off kind at finds set f s suits 
 pub load_gives : (shapes : List MapShape) (context_length : ℕ) (view : AbstractState) (size : Size) (signed : Bool) (dst src : ℕ) (off : ℤ) (kind : Kind) (at numbers : Range) → FindsPlace shapes context_length view src off size kind at → (kind ≡ Stack → (o i : ℕ) → Within at o → i < byte_count size → slice_index_or view.set (o + i) false ≡ true) → ((f : Setting) (s : State) (word : ℕ) (bytes : List ℕ) (r : Reads f s (address_of word off) bytes) → Contains f view s → length bytes ≡ byte_count size → number_of bytes < 256 ^ byte_count size → IsOfKind kind r.region → Within at r.offset → Within numbers (loaded size signed (number_of bytes))) → dst < 10 → (f : Setting) (s : State) → Suits shapes context_length f → Contains f view s → (n : ℕ) × Does f (Load size signed dst src off) s (put s 1 dst n) × Describes f.shapes (record { kind = Number; offset = numbers }) n
 load_gives shapes context_length view size signed dst src off kind at numbers finds set fits target f s suits covers =
     let read = reads_place shapes context_length view size src off kind at finds set f s suits covers in
-    (loaded size signed (number_of read.1), (read.0, read.1, read.2, read.3, read.4, target, refl), number_is f.shapes numbers _ (fits f s read.0 read.1 read.4 covers read.3 read.5 read.6 read.7))
+    (loaded size signed (number_of read.1), (read.0, read.1, read.2, read.3, read.4, target, refl), describes_number f.shapes numbers _ (fits f s read.0 read.1 read.4 covers read.3 read.5 read.6 read.7))
 
 -- a word that is kept in a slot is there
 kept_word : (shapes : List MapShape) (k : AbstractValue) (s : State) (slot : ℕ) → (keeps : Keeps shapes (Some k) s.stack slot) → HasWord s (11 + slot) keeps.0
@@ -83,7 +83,7 @@ kept_gives shapes context_length view dst src off at slot k finds single here th
     let stack = subst (λ (r : Region). IsGood f (address_of found.0 off) 8 r found.2) found.5 found.4 in
     let is = number_of_word n small in (
       n,
-      (found.0, bytes, found.3, refl, record { region = InStack; offset = found.2; good = stack; set = λ i h. rw same (keeps.2 i h ∙ ap Some (sym (low_at 0 8 n i h ∙ ap (λ (x : ℕ). byte_of x n) (omega arith)))) }, target, rw is refl),
+      (found.0, bytes, found.3, refl, record { region = InStack; offset = found.2; good = stack; set = λ i h. rw same (keeps.2 i h ∙ ap Some (sym (low_first_byte 0 8 n i h ∙ ap (λ (x : ℕ). byte_of x n) (omega arith)))) }, target, rw is refl),
       keeps.1,
       kept_word f.shapes k s slot keeps,
     )

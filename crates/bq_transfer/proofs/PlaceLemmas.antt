@@ -25,12 +25,12 @@ unfolding operate
 sum_is x y = let e : alu_result W64 Add x y ≡ (x % 2 ^ 64 + y % 2 ^ 64) % 2 ^ 64 = refl in omega (arith, e)
 
 -- the sum of an offset into the stack and a distance that leads into it is the place
-pub moved_is : (base at : ℕ) (off : ℤ) → base ≤ 512 → at ≤ 512 → pos at ≡ (pos base +ℤ off) → alu_result W64 Add base (word_of off) ≡ at
-moved_is base at off low high is = let e : (base + word_of off) % 2 ^ 64 ≡ at = omega (arith, ints) in sum_is base (word_of off) ∙ e
+pub sum_on_stack : (base at : ℕ) (off : ℤ) → base ≤ 512 → at ≤ 512 → pos at ≡ (pos base +ℤ off) → alu_result W64 Add base (word_of off) ≡ at
+sum_on_stack base at off low high is = let e : (base + word_of off) % 2 ^ 64 ≡ at = omega (arith, ints) in sum_is base (word_of off) ∙ e
 
 -- the sum of an offset and an instruction's own, which fits 16 bits, is the place
-pub place_is : (base at : ℕ) (off : ℤ) → SFits w16 off → at < 2 ^ 64 → pos at ≡ (pos base +ℤ off) → alu_result W64 Add base (word_of off) ≡ at
-place_is base at off fits small is = let e : (base + word_of off) % 2 ^ 64 ≡ at = omega (arith, ints) in sum_is base (word_of off) ∙ e
+pub sum_with_short_offset : (base at : ℕ) (off : ℤ) → SFits w16 off → at < 2 ^ 64 → pos at ≡ (pos base +ℤ off) → alu_result W64 Add base (word_of off) ≡ at
+sum_with_short_offset base at off fits small is = let e : (base + word_of off) % 2 ^ 64 ≡ at = omega (arith, ints) in sum_is base (word_of off) ∙ e
 
 option_same : (a b : ℕ) (v : Option ℕ) → Some a ≡ v → v ≡ Some b → a ≡ b
 option_same a b v p q = let e : Some a ≡ Some b = p ∙ q in cc
@@ -43,7 +43,7 @@ placed_in shapes context view size r off kind at short placed known is bound bou
     let same : bound ≡ placed.bound = option_same bound placed.bound _ (bound_is ∙ ap (λ (k : Kind). bound_of shapes context k) stands.0) placed.bound_is in
     let fits : at < 2 ^ 64 = omega (arith, placed.inside) in
     let sums : alu_result W64 Add known.offset.lo word ≡ at =
-    ap (λ (n : ℕ). alu_result W64 Add n word) stands.2 ∙ ap (λ (n : ℕ). alu_result W64 Add placed.base n) word_is ∙ place_is placed.base at off short fits placed.at_is in
+    ap (λ (n : ℕ). alu_result W64 Add n word) stands.2 ∙ ap (λ (n : ℕ). alu_result W64 Add placed.base n) word_is ∙ sum_with_short_offset placed.base at off short fits placed.at_is in
     (stands.0, low single ∙ sums, high single ∙ sums, omega (arith, placed.inside))
 
 -- on the stack an access stays below 512

@@ -12,7 +12,7 @@ use Rattle.bq_states.specs.declared.abstract_state.Kind.{Kind}
 use Rattle.bq_states.specs.declared.abstract_state.Kind.TheVariants.{Number, Entry, EntryOrNull}
 use Rattle.bq_states.specs.declared.abstract_state.AbstractValue.{AbstractValue}
 use Rattle.bq_states.specs.AbstractStates.{Describes, IsEntryBase}
-use Rattle.bq_states.proofs.WordLemmas.{number_within, number_is}
+use Rattle.bq_states.proofs.WordLemmas.{number_within, describes_number}
 
 -- a word plus a number is of the same kind, and its offset is in a range that holds the sums
 pub moved_up : (shapes : List MapShape) (kind : Kind) (r t : Range) (x y : ℕ) (b : Range) → Describes shapes (record { kind = kind; offset = r }) x → Within b y → ((u v : ℕ) → Within r u → Within b v → Within t ((u + v) % 2 ^ 64)) → Describes shapes (record { kind = kind; offset = t }) (alu_result W64 op.Add x y)
@@ -28,18 +28,18 @@ moved_down shapes kind r t x y b d w differences =
     record { base = d.base; offset = (d.offset + (2 ^ 64 - y)) % 2 ^ 64; is_base = d.is_base; within = differences d.offset y d.within w; word_is = omega (arith, d.word_is, w) }
 
 -- a move of all 64 bits gives the word that is moved
-pub same_word : (x y : ℕ) → y < 2 ^ 64 → alu_result W64 op.Mov x y ≡ y
+pub move_is_right : (x y : ℕ) → y < 2 ^ 64 → alu_result W64 op.Mov x y ≡ y
 unfolding operate
-same_word x y h = omega arith
+move_is_right x y h = omega arith
 
 -- a word that is moved whole is described as before
 pub copied_word : (shapes : List MapShape) (k : AbstractValue) (x y : ℕ) → Describes shapes k y → Describes shapes k (alu_result W64 op.Mov x y)
-copied_word shapes k x y d = rw (same_word x y (omega (arith, d.word_is))) d
+copied_word shapes k x y d = rw (move_is_right x y (omega (arith, d.word_is))) d
 
 -- what a move of 32 bits gives does not depend on its first operand
-pub left_is_free : (x y : ℕ) → alu_result W32 op.Mov x y ≡ alu_result W32 op.Mov y y
+pub move_ignores_left : (x y : ℕ) → alu_result W32 op.Mov x y ≡ alu_result W32 op.Mov y y
 unfolding operate
-left_is_free x y = refl
+move_ignores_left x y = refl
 
 -- the number 0, as a look-up's result may be compared with it
 zero_word : (shapes : List MapShape) (k : AbstractValue) (b : ℕ) → k.kind ≡ Number → k.offset.hi ≡ 0 → Describes shapes k b → b ≡ 0
@@ -47,7 +47,7 @@ zero_word shapes k b kind none d = let w = number_within shapes k b kind d in om
 
 -- a result that is 0
 pub null_side : (shapes : List MapShape) (k : AbstractValue) (a b : ℕ) → k.kind ≡ Number → k.offset.hi ≡ 0 → Describes shapes k b → a ≡ b → Describes shapes (record { kind = Number; offset = k.offset }) a
-null_side shapes k a b kind none d same = rw same (number_is shapes k.offset b (number_within shapes k b kind d))
+null_side shapes k a b kind none d same = rw same (describes_number shapes k.offset b (number_within shapes k b kind d))
 
 -- a result that isn't
 pub entry_side : (shapes : List MapShape) (m : ℕ) (left right : AbstractValue) (a b : ℕ) → left.kind ≡ EntryOrNull m → left.offset.hi ≡ 0 → right.kind ≡ Number → right.offset.hi ≡ 0 → Describes shapes left a → Describes shapes right b → a ≢ b → Describes shapes (record { kind = Entry m; offset = left.offset }) a

@@ -23,7 +23,7 @@ use Rattle.bq_states.specs.declared.abstract_state.AbstractState.{AbstractState}
 use Rattle.bq_states.specs.declared.abstract_state.AbstractValue.{AbstractValue}
 use Rattle.bq_states.specs.AbstractStates.{Contains, Describes, Keeps, IsOfKind, keeping}
 use Rattle.bq_transfer.specs.Transfers.{FindsPlace, IsWholeSlot, Stores, Transfers}
-use Rattle.bq_states.proofs.StoreLemmas.{low_at, stored_bytes}
+use Rattle.bq_states.proofs.StoreLemmas.{low_first_byte, stored_bytes}
 use Rattle.bq_states.specs.Copies.{AreCopies, HasWord}
 use Rattle.bq_states.proofs.AccessLemmas.{entry_inside}
 
@@ -43,7 +43,7 @@ pub low_small : (size : Size) (v k : ℕ) → slice_index (low_bytes size v) k <
 low_small size v k = at (cases_lt k (byte_count size))
   where
     at : (k < byte_count size) ⊎ (byte_count size ≤ k) → slice_index (low_bytes size v) k < 256
-    at (inl lt) = let e = low_at 0 (byte_count size) v k lt in rw e (byte_small (0 + k) v)
+    at (inl lt) = let e = low_first_byte 0 (byte_count size) v k lt in rw e (byte_small (0 + k) v)
     at (inr past) =
         let beyond : length (low_bytes size v) ≤ k = omega (arith, low_long size v) in
         rw (get_or_past (low_bytes size v) k 0 beyond) (omega arith)

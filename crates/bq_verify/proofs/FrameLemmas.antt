@@ -19,8 +19,8 @@ use Rattle.bq_graph.proofs.EdgeLemmas.{some_same, some_none}
 use Rattle.bq_verify.specs.Control.{SparesFrame}
 
 -- each instruction of a well-formed program is in range
-pub all_insns : (insns : List Insn) → is_well_formed insns ≡ true → list_all is_insn insns ≡ true
-all_insns insns h = (both (list_all is_insn insns) (nat_le 1 (slot_count insns) && nat_le (slot_count insns) 4096) h).0
+pub well_formed_in_range : (insns : List Insn) → is_well_formed insns ≡ true → list_all is_insn insns ≡ true
+well_formed_in_range insns h = (both (list_all is_insn insns) (nat_le 1 (slot_count insns) && nat_le (slot_count insns) 4096) h).0
 
 -- each instruction of the slots is in range
 abbrev AreInsns : List (Option Insn) → Type 0

@@ -18,16 +18,16 @@ use Rattle.bq_graph.proofs.HeightLemmas.{heights_fall, heights_positive}
 use Rattle.bq_verify.specs.Control.{AreHeights, AreMade}
 
 -- in the slots of a program the next instruction begins where the one before it ends
-pub whole_at : (insns : List Insn) (slots : List (Option Insn)) → slots ≡ spread insns → IsWhole slots
-whole_at insns slots same = subst (λ (s : List (Option Insn)). IsWhole s) (sym same) (spread_begins insns).whole
+pub spread_whole : (insns : List Insn) (slots : List (Option Insn)) → slots ≡ spread insns → IsWhole slots
+spread_whole insns slots same = subst (λ (s : List (Option Insn)). IsWhole s) (sym same) (spread_begins insns).whole
 
 -- an instruction begins at the first slot of a program that has slots
-pub first_at : (insns : List Insn) (slots : List (Option Insn)) → slots ≡ spread insns → 0 < length slots → IsStart slots 0
-first_at insns slots same = subst (λ (s : List (Option Insn)). 0 < length s → IsStart s 0) (sym same) (spread_begins insns).first
+pub spread_first : (insns : List Insn) (slots : List (Option Insn)) → slots ≡ spread insns → 0 < length slots → IsStart slots 0
+spread_first insns slots same = subst (λ (s : List (Option Insn)). 0 < length s → IsStart s 0) (sym same) (spread_begins insns).first
 
 -- the graph of a program without faults may be walked
-pub sound_at : (insns : List Insn) (slots : List (Option Insn)) → slots ≡ spread insns → IsFaultless slots → IsSound slots
-sound_at insns slots same faultless = sound_graph slots (whole_at insns slots same) (faultless Jump) (faultless NoExit)
+pub faultless_sound : (insns : List Insn) (slots : List (Option Insn)) → slots ≡ spread insns → IsFaultless slots → IsSound slots
+faultless_sound insns slots same faultless = sound_graph slots (spread_whole insns slots same) (faultless Jump) (faultless NoExit)
 
 -- the measured numbers fall along each edge, and are positive where an instruction begins
 pub heights_are : (slots : List (Option Insn)) (heights : List ℕ) → IsSound slots → Measured slots 0 heights → AreHeights slots heights
@@ -37,8 +37,8 @@ heights_are slots heights sound measured = record {
 }
 
 -- the number measured at the first slot is the length of the longest path out of the program
-pub budget_at : (insns : List Insn) (slots : List (Option Insn)) (heights : List ℕ) → slots ≡ spread insns → 0 < length slots → Measured slots 0 heights → IsGreatest (PathOut slots 0) (slice_index heights 0)
-budget_at insns slots heights same some measured = measured 0 zero-le (first_at insns slots same some)
+pub first_height_is_longest : (insns : List Insn) (slots : List (Option Insn)) (heights : List ℕ) → slots ≡ spread insns → 0 < length slots → Measured slots 0 heights → IsGreatest (PathOut slots 0) (slice_index heights 0)
+first_height_is_longest insns slots heights same some measured = measured 0 zero-le (spread_first insns slots same some)
 
 -- the number that a pass forwards left, 0 where there is none
 abbrev pub count_in : Option ℕ → ℕ
@@ -46,8 +46,8 @@ count_in None = 0
 count_in (Some n) = n
 
 -- the number that a pass forwards left at the slot
-abbrev pub made_of : List (Option ℕ) → ℕ → ℕ
-made_of most k = count_in (slice_index_or most k None)
+abbrev pub most_calls_at : List (Option ℕ) → ℕ → ℕ
+most_calls_at most k = count_in (slice_index_or most k None)
 
 asks_of : (insn : Insn) → IsCounterCall insn → asks_counter insn ≡ true
 asks_of (Call h) (inl e) = rw e refl
@@ -56,36 +56,36 @@ asks_of _ counter = absurd counter
 
 module _ (slots : List (Option Insn)) (most : List (Option ℕ)) (faultless : IsFaultless slots) (counted : (k : ℕ) → IsMost slots k (slice_index_or most k None)) where
   -- each instruction has the greatest number of calls on the way to it
-  at_start : (k : ℕ) → IsStart slots k → IsGreatest (CallsOnWay slots k) (made_of most k)
+  at_start : (k : ℕ) → IsStart slots k → IsGreatest (CallsOnWay slots k) (most_calls_at most k)
   at_start k begins = by (slice_index_or most k None) refl
     where
-      by : (v : Option ℕ) → slice_index_or most k None ≡ v → IsGreatest (CallsOnWay slots k) (made_of most k)
+      by : (v : Option ℕ) → slice_index_or most k None ≡ v → IsGreatest (CallsOnWay slots k) (most_calls_at most k)
       by None e = absurd (faultless Unreached k (record { start = begins; none = subst (λ (o : Option ℕ). IsMost slots k o) e (counted k) }))
       by (Some n) e = subst (λ (m : ℕ). IsGreatest (CallsOnWay slots k) m) (sym (ap count_in e)) (subst (λ (o : Option ℕ). IsMost slots k o) e (counted k))
 
   module _ (sound : IsSound slots) where
-    along : (from to : ℕ) → IsEdge slots from to → made_of most from + calls_of (instruction_at slots from) ≤ made_of most to
+    along : (from to : ℕ) → IsEdge slots from to → most_calls_at most from + calls_of (instruction_at slots from) ≤ most_calls_at most to
     along from to edge =
         let before = at_start from (record { insn = edge.insn; here = edge.here }) in
-        (at_start to (sound.forward from to edge).1).bounds (made_of most from + calls_of (instruction_at slots from)) (extend slots from to (made_of most from) before.holds edge)
+        (at_start to (sound.forward from to edge).1).bounds (most_calls_at most from + calls_of (instruction_at slots from)) (extend slots from to (most_calls_at most from) before.holds edge)
 
-    not_late : (from : ℕ) (insn : Insn) → instruction_at slots from ≡ Some insn → IsCounterCall insn → (made_of most from < 16) ⊎ (16 ≤ made_of most from) → made_of most from < 16
+    not_late : (from : ℕ) (insn : Insn) → instruction_at slots from ≡ Some insn → IsCounterCall insn → (most_calls_at most from < 16) ⊎ (16 ≤ most_calls_at most from) → most_calls_at most from < 16
     not_late from insn here counter (inl few) = few
     not_late from insn here counter (inr many) =
-        absurd (faultless Counters from (late_by slots from (made_of most from) insn here (asks_of insn counter) (at_start from (record { insn = insn; here = here })) many))
+        absurd (faultless Counters from (late_by slots from (most_calls_at most from) insn here (asks_of insn counter) (at_start from (record { insn = insn; here = here })) many))
 
     one_more : (from : ℕ) (insn : Insn) → instruction_at slots from ≡ Some insn → IsCounterCall insn → calls_of (instruction_at slots from) ≡ 1
     one_more from insn here counter = rw (here, asks_of insn counter) refl
 
-    pub made_by : AreMade slots (made_of most)
+    pub made_by : AreMade slots (most_calls_at most)
     made_by = record {
       kept = λ from to edge. let more = along from to edge in omega arith;
       risen = λ from to edge.
           let more = along from to (record { insn = edge.insn; here = edge.here; leaves = edge.leaves }) in
           let one = one_more from edge.insn edge.here edge.asks in omega arith;
-      few = λ from to edge. not_late from edge.insn edge.here edge.asks (cases_lt (made_of most from) 16);
+      few = λ from to edge. not_late from edge.insn edge.here edge.asks (cases_lt (most_calls_at most from) 16);
     }
 
 -- in a program without faults the most calls on the way to a slot grow along the edges, and stay few enough
-pub made_are : (slots : List (Option Insn)) (most : List (Option ℕ)) → IsSound slots → IsFaultless slots → ((k : ℕ) → IsMost slots k (slice_index_or most k None)) → AreMade slots (made_of most)
-made_are slots most sound faultless counted = made_by slots most faultless counted sound
+pub most_calls_are_made : (slots : List (Option Insn)) (most : List (Option ℕ)) → IsSound slots → IsFaultless slots → ((k : ℕ) → IsMost slots k (slice_index_or most k None)) → AreMade slots (most_calls_at most)
+most_calls_are_made slots most sound faultless counted = made_by slots most faultless counted sound

@@ -18,7 +18,7 @@ use Rattle.bq_states.specs.AbstractStates.{Contains}
 use Rattle.bq_verify.specs.Control.{IsKnown, LeadsOn, PassesOn}
 use Rattle.bq_verify.specs.KnownAt.{CoversRuns, RestIsCovered}
 use Rattle.bq_verify.proofs.ChainLemmas.{no_step, one_step}
-use Rattle.bq_verify.proofs.PassLemmas.{moved, no_view}
+use Rattle.bq_verify.proofs.PassLemmas.{waits_at_slot, none_waits}
 
 -- a write leaves the slot
 same_slot : (s : State) (region : Region) (offset : ℕ) (bytes : List ℕ) → (written s region offset bytes).slot ≡ s.slot
@@ -146,7 +146,7 @@ module _ (slots : List (Option Insn)) (shapes : List MapShape) (context_length :
       subst (Contains f seen) (sym is) (is_seen (arrives f s known) there)
     where
       is_seen : IsKnown after seen arrived target f s → s.slot ≡ target → Contains f seen s
-      is_seen (inl waits) there = absurd (no_view f s (slice_index_or after target None) empty (moved f s after target there waits))
+      is_seen (inl waits) there = absurd (none_waits f s (slice_index_or after target None) empty (waits_at_slot f s after target there waits))
       is_seen (inr (e, same, covers)) there = covers
 
 -- a view that covers the rest from the start covers the runs

@@ -211,15 +211,15 @@ module _ (slots : List (Option Insn)) (shapes : List MapShape) (context_length :
   rest_before passes rest f s setting le begins known = at_state passes rest f s _ setting le begins known (eqb_tells s.slot slot)
 
 -- where no view waits, none is right about the state
-pub no_view : (f : Setting) (s : State) (waiting : Option (Box AbstractState Global)) → waiting ≡ None → IsIn f waiting s → ⊥
-no_view f s waiting none here = rw none at here
+pub none_waits : (f : Setting) (s : State) (waiting : Option (Box AbstractState Global)) → waiting ≡ None → IsIn f waiting s → ⊥
+none_waits f s waiting none here = rw none at here
 
 not_true : (live : Bool) → live ≡ false → live ≡ true → ⊥
 not_true live a b = cc
 
 -- a view that waits at the slot of a state waits at each slot equal to it
-pub moved : (f : Setting) (s : State) (pending : List (Option (Box AbstractState Global))) (slot : ℕ) → s.slot ≡ slot → WaitsBoxed f pending s → IsIn f (slice_index_or pending slot None) s
-moved f s pending slot same waits = subst (λ (n : ℕ). IsIn f (slice_index_or pending n None) s) same waits
+pub waits_at_slot : (f : Setting) (s : State) (pending : List (Option (Box AbstractState Global))) (slot : ℕ) → s.slot ≡ slot → WaitsBoxed f pending s → IsIn f (slice_index_or pending slot None) s
+waits_at_slot f s pending slot same waits = subst (λ (n : ℕ). IsIn f (slice_index_or pending n None) s) same waits
 
 module _ (slots : List (Option Insn)) (shapes : List MapShape) (context_length slot : ℕ) (pending : List (Option (Box AbstractState Global))) (view : AbstractState) (live : Bool) (K : Setting → State → Type 0) (empty : slice_index_or pending slot None ≡ None) (arrives : (f : Setting) (s : State) → K f s → IsKnown pending view live slot f s) where
   -- nothing is known at the slot
@@ -231,7 +231,7 @@ module _ (slots : List (Option Insn)) (shapes : List MapShape) (context_length s
       side (inr (e, same, covers)) other = absurd (other same)
 
       here : IsKnown pending view live slot f s → s.slot ≡ slot → ⊥
-      here (inl waits) same = no_view f s (slice_index_or pending slot None) empty (moved f s pending slot same waits)
+      here (inl waits) same = none_waits f s (slice_index_or pending slot None) empty (waits_at_slot f s pending slot same waits)
       here (inr (e, same', covers)) same = not_true live dead e
 
   -- no instruction begins at the slot
@@ -250,7 +250,7 @@ module _ (slots : List (Option Insn)) (shapes : List MapShape) (context_length s
       side (inr (e, same, covers)) other = absurd (other same)
 
       here : IsKnown pending view live slot f s → s.slot ≡ slot → LeadsOn (IsKnown new after on (slot + 1)) f s
-      here (inl waits) same = absurd (no_view f s (slice_index_or pending slot None) empty (moved f s pending slot same waits))
+      here (inl waits) same = absurd (none_waits f s (slice_index_or pending slot None) empty (waits_at_slot f s pending slot same waits))
       here (inr (e, same', covers)) same = goes f s setting same covers
 
 -- no instruction begins past the end

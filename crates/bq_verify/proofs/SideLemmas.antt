@@ -105,21 +105,21 @@ lasting_after (IsSetAt i) slot k w c dst src off view after = tt
 lasting_after (IsPlainAt j) slot k w c dst src off view after = tt
 
 -- an instruction that is no EXIT, no jump and no branch is transferred
-pub carried_of : (insn : Insn) → (insn ≡ Exit → ⊥) → ((off : ℤ) → insn ≡ Goto off → ⊥) → ((imm : ℤ) → insn ≡ Goto32 imm → ⊥) → ((w : Width) (c : Condition) (d : ℕ) (s : Source) (off : ℤ) → insn ≡ Branch w c d s off → ⊥) → IsTransferred insn
-carried_of (Goto off) e g h b = g off refl
-carried_of (Goto32 imm) e g h b = h imm refl
-carried_of (Branch w c d s off) e g h b = b w c d s off refl
-carried_of Exit e g h b = e refl
-carried_of _ e g h b = tt
+pub transferred_if_no_jump : (insn : Insn) → (insn ≡ Exit → ⊥) → ((off : ℤ) → insn ≡ Goto off → ⊥) → ((imm : ℤ) → insn ≡ Goto32 imm → ⊥) → ((w : Width) (c : Condition) (d : ℕ) (s : Source) (off : ℤ) → insn ≡ Branch w c d s off → ⊥) → IsTransferred insn
+transferred_if_no_jump (Goto off) e g h b = g off refl
+transferred_if_no_jump (Goto32 imm) e g h b = h imm refl
+transferred_if_no_jump (Branch w c d s off) e g h b = b w c d s off refl
+transferred_if_no_jump Exit e g h b = e refl
+transferred_if_no_jump _ e g h b = tt
 
 -- where the test jumps to the side on which the operands differ, they differ when it is true
-pub found_there : (c : Condition) (off : ℤ) (slot k : ℕ) → LeadsTo slot off k → IsFoundSide c off slot k → is_found c true ≡ true
-found_there Equal off slot k leads side = absurd (side.1 leads)
-found_there NotEqual off slot k leads side = refl
-found_there _ off slot k leads side = absurd side
+pub differ_if_jumps : (c : Condition) (off : ℤ) (slot k : ℕ) → LeadsTo slot off k → IsFoundSide c off slot k → is_found c true ≡ true
+differ_if_jumps Equal off slot k leads side = absurd (side.1 leads)
+differ_if_jumps NotEqual off slot k leads side = refl
+differ_if_jumps _ off slot k leads side = absurd side
 
 -- where control goes on to the side on which the operands differ, they differ when the test is false
-pub found_next : (c : Condition) (off : ℤ) (slot k : ℕ) → k ≡ slot + 1 → IsFoundSide c off slot k → is_found c false ≡ true
-found_next Equal off slot k next side = refl
-found_next NotEqual off slot k next side = absurd (side.1 next)
-found_next _ off slot k next side = absurd side
+pub differ_if_goes_on : (c : Condition) (off : ℤ) (slot k : ℕ) → k ≡ slot + 1 → IsFoundSide c off slot k → is_found c false ≡ true
+differ_if_goes_on Equal off slot k next side = refl
+differ_if_goes_on NotEqual off slot k next side = absurd (side.1 next)
+differ_if_goes_on _ off slot k next side = absurd side

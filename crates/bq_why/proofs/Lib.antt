@@ -1,2 +1,2 @@
-pub mod FromTheBack
-pub mod AnsweredFacts
+pub mod FromTheBackLemmas
+pub mod AnsweredLemmas

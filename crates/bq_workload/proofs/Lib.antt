@@ -1,1 +1,1 @@
-pub mod Entries
+pub mod EntryLemmas

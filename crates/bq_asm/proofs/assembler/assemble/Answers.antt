@@ -10,7 +10,7 @@ use Rattle.bq_asm.specs.Lines.{line_said, lines_of}
 use Rattle.bq_asm.specs.Faults.{fault_at, cause_at, IsFault}
 use Rattle.bq_asm.specs.Assembly.{Assembles}
 use Rattle.bq_asm.specs.Draft.{Describes}
-use Rattle.bq_asm.proofs.LoopLemmas.{said_so_far, next_fault, more_clean, first_fault, assembled, unassembled}
+use Rattle.bq_asm.proofs.LineByLineLemmas.{said_so_far, next_fault, more_clean, first_fault, assembled, unassembled}
 use Rattle.bq_asm.proofs.AssembledLemmas.{assembles_well_formed}
 use Rattle.bq_asm.proofs.assembler.assemble.Goals as goal
 

@@ -1,5 +1,5 @@
 -- Events keep a processor within its bound, one after another.
-use Rattle.bq_cfs.proofs.SpreadStays.{history_stays_within}
+use Rattle.bq_cfs.proofs.SpreadStayLemmas.{history_stays_within}
 use Rattle.bq_cfs.proofs.laws.history_stays_within.Goals as goal
 
 pub returns : goal.returns

@@ -1,5 +1,5 @@
 -- An event keeps a processor within its bound.
-use Rattle.bq_cfs.proofs.SpreadStays.{stays_within}
+use Rattle.bq_cfs.proofs.SpreadStayLemmas.{stays_within}
 use Rattle.bq_cfs.proofs.laws.stays_within.Goals as goal
 
 pub returns : goal.returns

@@ -2,7 +2,7 @@ use Rattle.std.proofs.Common.{◌≡◌, [], subst, refl, rules, arith, take, ap
 use Rattle.std.specs.Io.KnownBytes.{Consumes, IsAtEnd}
 use Rattle.std.proofs.KnownBytes.{Consumes-trans}
 use Rattle.bq_trace.specs.Counts.{inner_of}
-use Rattle.bq_trace.proofs.SessionLemmas.{on_err}
+use Rattle.bq_trace.proofs.SessionLemmas.{OnErr-anyhow}
 use Rattle.bq_cli.specs.Performing.{GivesSome}
 use Rattle.bq_cli.proofs.whole.read_whole.Goals as goal
 
@@ -20,7 +20,7 @@ returns-in_err-extend_from_slice-clause-part g c =
     let from = g.R.Read.remaining (inner_of c.args.input.now) in
     let to = g.R.Read.remaining (inner_of c.read.new.self) in
     let some : GivesSome from to = (_, Consumes-trans _ _ _ _ _ c.loop.invariant.consumed c.in_ok-count.ensures.bytes.0) in
-    on_err _ some
+    OnErr-anyhow _ some
 
 pub loop-preserved : goal.loop-preserved
 loop-preserved g c =

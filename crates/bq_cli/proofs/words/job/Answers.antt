@@ -4,7 +4,7 @@ use Rattle.std.proofs.lemmas.Result.{err_from_is_err_and}
 use Rattle.clap.specs.Words.{Row, Text, found_of, rows_of, subcommand_name_of, subcommand_rows_of}
 use Rattle.clap.specs.declared.parser.matches.ArgMatches.TheViews.{out-ArgMatches, out-SubCommand}
 use Rattle.std.specs.Box.{box_value}
-use Rattle.bq_cli.proofs.ParWords.{asked, entered}
+use Rattle.bq_cli.proofs.ParWordLemmas.{asked, entered}
 use Rattle.bq_cli.proofs.words.job.Goals as goal
 
 pub returns-in_err-parallel-clause-taken : goal.returns-in_err-parallel-clause-taken

@@ -1,7 +1,7 @@
 use Rattle.bq_cells.specs.Parts.{cpu_part, inbox_part}
 use Rattle.bq_cells.specs.declared.cells.NumberedCpu.{NumberedCpu}
 use Rattle.bq_cells.specs.declared.cells.NumberedInbox.{NumberedInbox}
-use Rattle.bq_closing.proofs.Closing.{gathered}
+use Rattle.bq_closing.proofs.ClosingLemmas.{gathered}
 use Rattle.bq_closing.proofs.ended.all_out.Goals as goal
 
 pub returns-clause-parts : goal.returns-clause-parts

@@ -8,7 +8,7 @@ use Rattle.bq_cells.specs.declared.cells.NumberedCpu.{NumberedCpu}
 use Rattle.bq_cells.specs.declared.cells.NumberedInbox.{NumberedInbox}
 use Rattle.bq_cells.specs.declared.cells.OneLobby.{OneLobby}
 use Rattle.bq_closing.specs.AllParts.{all_parts}
-use Rattle.bq_closing.proofs.Closing.{only_parts, once_known, known}
+use Rattle.bq_closing.proofs.ClosingLemmas.{only_parts, once_known, known}
 use Rattle.bq_closing.proofs.ended.close.Goals as goal
 
 pub close-log-requires-clause-parts : goal.close-log-requires-clause-parts

@@ -1,4 +1,4 @@
-use Rattle.bq_core.proofs.OneStep as OneStep
+use Rattle.bq_core.proofs.OneStepLemmas as OneStep
 use Rattle.bq_core.proofs.laws.step_is_one.Goals as goal
 
 pub returns : goal.returns

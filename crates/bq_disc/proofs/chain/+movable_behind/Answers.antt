@@ -1,6 +1,6 @@
 use Rattle.std.proofs.Common.{◌≡◌, [], ◌∷◌, length, ap, arith}
 use Rattle.bq_disc.specs.Chains.{task_of, chain_behind}
-use Rattle.bq_disc.proofs.MovableFacts.{Adds-append, few_movable}
+use Rattle.bq_disc.proofs.MovableLemmas.{Adds-append, few_movable}
 use Rattle.bq_disc.proofs.chain.+movable_behind.Goals as goal
 
 pub movable_behind-requires : goal.movable_behind-requires

@@ -1,5 +1,5 @@
 use Rattle.std.proofs.Common.{arith, ◌∙◌, sym}
-use Rattle.bq_draws.proofs.Digits.{fraction-step, fraction-end, room-step}
+use Rattle.bq_draws.proofs.DigitLemmas.{fraction-step, fraction-end, room-step}
 use Rattle.bq_draws.proofs.exponential.fraction.Goals as goal
 
 pub digits-preserved : goal.digits-preserved

@@ -2,7 +2,7 @@ use Rattle.std.proofs.Common.{◌≡◌, true, Some, ap, ◌∙◌}
 use Rattle.bq_disc.specs.Chains.{task_of}
 use Rattle.bq_disc.specs.Totals.{is_at_most_mean}
 use Rattle.bq_disc.specs.Dues.{earliest_of}
-use Rattle.bq_eevdf.proofs.EevdfLaws.{earliest_with}
+use Rattle.bq_eevdf.proofs.EevdfLawLemmas.{earliest_with}
 use Rattle.bq_eevdf.proofs.discipline.earliest.Goals as goal
 
 pub returns : goal.returns

@@ -1,5 +1,5 @@
 -- Where none is ahead by more than E, a processor is balanced.
-use Rattle.bq_fair.proofs.BalanceFacts.{begins_balanced}
+use Rattle.bq_fair.proofs.BalanceLemmas.{begins_balanced}
 use Rattle.bq_fair.proofs.laws.eevdf_begins_balanced.Goals as goal
 
 pub returns : goal.returns

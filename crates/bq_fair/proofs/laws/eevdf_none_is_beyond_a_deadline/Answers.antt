@@ -1,5 +1,5 @@
 -- None is beyond another's deadline by more than one rise.
-use Rattle.bq_fair.proofs.DueFacts.{none_is_beyond_a_deadline}
+use Rattle.bq_fair.proofs.DueLemmas.{none_is_beyond_a_deadline}
 use Rattle.bq_fair.proofs.laws.eevdf_none_is_beyond_a_deadline.Goals as goal
 
 pub returns : goal.returns

@@ -1,5 +1,5 @@
 -- Two tasks are served in proportion, but for a slice.
-use Rattle.bq_fair.proofs.TickSteps.{eevdf_serves_by_slices}
+use Rattle.bq_fair.proofs.TickStepLemmas.{eevdf_serves_by_slices}
 use Rattle.bq_fair.proofs.laws.eevdf_serves_by_slices.Goals as goal
 
 pub returns : goal.returns

@@ -1,5 +1,5 @@
 -- A task waits for a slice of each.
-use Rattle.bq_fair.proofs.EevdfSlices.{waits_by_slices}
+use Rattle.bq_fair.proofs.EevdfSliceLemmas.{waits_by_slices}
 use Rattle.bq_fair.proofs.laws.eevdf_waits_by_slices.Goals as goal
 
 pub returns : goal.returns

@@ -1,5 +1,5 @@
 -- Each event of a processor is some steps.
-use Rattle.bq_fair.proofs.EventFacts.{events_are_steps}
+use Rattle.bq_fair.proofs.EventLemmas.{events_are_steps}
 use Rattle.bq_fair.proofs.laws.events_are_steps.Goals as goal
 
 pub returns : goal.returns

@@ -1,5 +1,5 @@
 use Rattle.bq_hooks.specs.Contexts.{u32_bytes, u64_bytes}
-use Rattle.bq_hooks.proofs.Filling.{three}
+use Rattle.bq_hooks.proofs.FillingLemmas.{three}
 use Rattle.bq_hooks.proofs.fields.put_figures.Goals as goal
 
 pub returns : goal.returns

@@ -1,7 +1,7 @@
 use Rattle.std.proofs.Common.{◌-◌, drop, length, refl, arith}
 use Rattle.bq_hooks.specs.Contexts.{u64_bytes}
 use borrow.Rule.Slice.PartMut.{mid_of}
-use Rattle.bq_hooks.proofs.Filling.{filled}
+use Rattle.bq_hooks.proofs.FillingLemmas.{filled}
 use Rattle.bq_hooks.proofs.fields.put_u64.Goals as goal
 
 pub returns : goal.returns

@@ -1,6 +1,6 @@
 use Rattle.std.proofs.Common.{◌≡◌, Some, None, sym, ◌∙◌}
 use Rattle.bq_hooks.specs.OwnPlace.{own_place}
-use Rattle.bq_hooks.proofs.Places.{own_place_there, own_place_below}
+use Rattle.bq_hooks.proofs.PlaceLemmas.{own_place_there, own_place_below}
 use Rattle.bq_hooks.proofs.own_choice.own_place.Goals as goal
 
 pub unreachable-requires : goal.unreachable-requires

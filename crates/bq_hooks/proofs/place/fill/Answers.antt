@@ -1,6 +1,6 @@
 use Rattle.std.proofs.Common.{◌≡◌, ap, ◌∙◌, slice_index, arith}
 use Rattle.bq_hooks.specs.Contexts.{PlaceFacts}
-use Rattle.bq_hooks.proofs.PlaceBytes.{load_filled, place_filled}
+use Rattle.bq_hooks.proofs.PlaceByteLemmas.{load_filled, place_filled}
 use Rattle.bq_hooks.proofs.place.fill.Goals as goal
 
 pub loop-processor-preserved : goal.loop-processor-preserved

@@ -1,6 +1,6 @@
 use Rattle.std.proofs.Common.{◌≡◌, ◌%◌, ◌^◌, min, ap, ◌∙◌}
 use Rattle.bq_hooks.specs.Contexts.{PlaceFacts, if_shown, if_any_shown}
-use Rattle.bq_hooks.proofs.PlaceBytes.{header_filled}
+use Rattle.bq_hooks.proofs.PlaceByteLemmas.{place_header_filled}
 use Rattle.bq_hooks.proofs.place.put_header.Goals as goal
 
 pub returns : goal.returns
@@ -10,7 +10,7 @@ returns c =
     ∙ ap (λ (x : PlaceFacts). x.task.mask % 2 ^ min x.processors c.args.limit) c.facts.view_is in
     let prev = c.if_any_shown.ensures ∙ ap (if_any_shown c.args.limit) c.prev.ensures ∙ ap (λ (x : PlaceFacts). if_any_shown c.args.limit x.task.prev) c.facts.view_is in
     record {
-      filled = header_filled c.args.limit c.args.facts.now c.args.context.now c.put_u32.new.context c.put_u32-2.new.context c.put_u64.new.context c.put_u64-2.new.context c.put_u32-3.new.context
+      filled = place_header_filled c.args.limit c.args.facts.now c.args.context.now c.put_u32.new.context c.put_u32-2.new.context c.put_u64.new.context c.put_u64-2.new.context c.put_u32-3.new.context
           c.put_u32-4.new.context c.put_u32-5.new.context c.put_u32-6.new.context
           c.from.result c.weight.result c.low_bits.result c.slice.result c.if_shown.result c.if_any_shown.result c.min-shown.result c.if_shown-2.result
           (c.from.ensures ∙ c.id.ensures ∙ ap (λ (x : PlaceFacts). x.task.id) c.facts.view_is) c.put_u32.ensures.filled

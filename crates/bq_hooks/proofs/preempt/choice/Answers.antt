@@ -1,6 +1,6 @@
 use Rattle.std.proofs.Common.{◌≡◌, Some, sym, ◌∙◌}
 use Rattle.bq_disc.specs.Tasks.{id_of}
-use Rattle.bq_hooks.proofs.Chosen.{choice_found}
+use Rattle.bq_hooks.proofs.ChosenLemmas.{choice_found}
 use Rattle.bq_hooks.proofs.preempt.choice.Goals as goal
 
 pub returns : goal.returns

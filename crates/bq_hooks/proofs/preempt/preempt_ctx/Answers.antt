@@ -1,6 +1,6 @@
 use Rattle.std.proofs.Common.{length, ap, ◌∙◌, arith}
 use Rattle.bq_hooks.specs.Contexts.{PreemptFacts, as_number}
-use Rattle.bq_hooks.proofs.PreemptBytes.{preempt_filled}
+use Rattle.bq_hooks.proofs.PreemptByteLemmas.{preempt_filled}
 use Rattle.bq_hooks.proofs.preempt.preempt_ctx.Goals as goal
 
 pub returns : goal.returns

@@ -4,8 +4,8 @@ use Rattle.std.specs.Prelude.{option_and_then}
 use Rattle.bq_disc.specs.Tasks.{Task, with_id}
 use Rattle.bq_disc.specs.Movable.{movable_to}
 use Rattle.bq_hooks.specs.Contexts.{PullFacts, pull_header}
-use Rattle.bq_hooks.proofs.PullBytes.{header_filled, task_filled, pull_filled}
-use Rattle.bq_hooks.proofs.Shown.{movable_found, shown_at, length-shown}
+use Rattle.bq_hooks.proofs.PullByteLemmas.{pull_header_filled, task_filled, pull_filled}
+use Rattle.bq_hooks.proofs.ShownLemmas.{movable_found, shown_at, length-shown}
 use Rattle.bq_hooks.proofs.pull.pull_ctx.Goals as goal
 
 pub loop-at-init : goal.loop-at-init
@@ -21,7 +21,7 @@ loop-at-init g c =
       own = c.args.facts.now.own;
     } in
     let shown = c.len.ensures.value ∙ ap length c.movable-movable.ensures.first ∙ length-shown movable in
-    let filled = header_filled f c.args.context.now c.put_u32.new.context c.put_u32-2.new.context c.put_u32-3.new.context c.put_u32-4.new.context c.put_u32-5.new.context
+    let filled = pull_header_filled f c.args.context.now c.put_u32.new.context c.put_u32-2.new.context c.put_u32-3.new.context c.put_u32-4.new.context c.put_u32-5.new.context
     c.put_u32-6.new.context c.put_u32-7.new.context c.put_u32-8.new.context
     c.from.result c.from-2.result c.args.facts.now.puller_size c.args.facts.now.source_size c.movable-movable.result.count c.len.result c.or_nobody.result
     c.from.ensures c.put_u32.ensures.filled

@@ -1,12 +1,12 @@
 use Rattle.std.proofs.lemmas.Result.{err_from_is_err_and}
 use Rattle.bq_load.specs.Headers.{spelled_of}
-use Rattle.bq_load.proofs.FramingLemmas.{unread, is_image, has_image}
+use Rattle.bq_load.proofs.FramingLemmas.{fault_is_unread, is_image, has_image}
 use Rattle.bq_load.proofs.image.read_image.Goals as goal
 
 pub returns-in_err-header-clause-unread : goal.returns-in_err-header-clause-unread
 returns-in_err-header-clause-unread c =
     let p = err_from_is_err_and c.from_residual.result c.from_residual.ensures.1 in
-    rw (p.1, p.2) (unread c.args.bytes.now c.in_err-header.field-0.0 c.in_err-header.ensures.err)
+    rw (p.1, p.2) (fault_is_unread c.args.bytes.now c.in_err-header.field-0.0 c.in_err-header.ensures.err)
 
 pub shapes_in-requires : goal.shapes_in-requires
 shapes_in-requires c = (c.in_ok-header.ensures.ok.frames.shapes, c.in_ok-header.ensures.ok.frames.shapes_are)

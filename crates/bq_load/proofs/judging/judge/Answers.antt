@@ -5,7 +5,7 @@ use Rattle.bq_load.specs.Headers.{spelled_of}
 use Rattle.bq_load.specs.Laws.{AreBytes}
 use Rattle.bq_load.specs.Reading.{header_at}
 use Rattle.bq_load.proofs.FieldLemmas.{AreBytes-fit}
-use Rattle.bq_load.proofs.JudgingLemmas.{first_bytes, refused_final, refused_stays, cut_stands, cut_bounded, cut_going, begins, joined_to, length-front, length-tail, past_fails, within_going, counted_stands, kept_stands, not_over}
+use Rattle.bq_load.proofs.JudgingLemmas.{first_bytes, refused_final, refused_stays, cut_stands, cut_bounded, cut_going, rest_is_within, read_header_of_all, length-front, length-tail, past_fails, within_going, counted_stands, kept_stands, not_over}
 use Rattle.bq_load.proofs.judging.judge.Goals as goal
 
 pub returns-in-Cut : goal.returns-in-Cut
@@ -46,7 +46,7 @@ overflow_sub-begin c =
     let piece = c.args.piece.now in
     let fits : AreBytes (take 44 (held ++ piece)) = first_bytes held piece (AreBytes-fit held c.type_inv.held) (AreBytes-fit piece c.type_inv.piece) in
     let read : header_at (take 44 (held ++ piece)) ≡ Ok (spelled_of c.in-Ok.read.0, c.in-Ok.read.1.now) = ap header_at (sym (c.as_slice.ensures.value ∙ c.front_of-front.ensures)) ∙ c.in-Ok.ensures in
-    let long = begins held piece (spelled_of c.in-Ok.read.0) c.in-Ok.read.1.now fits read in
+    let long = rest_is_within held piece (spelled_of c.in-Ok.read.0) c.in-Ok.read.1.now fits read in
     omega (arith, long.rest, c.len.ensures.value, ap length c.front_of-front.ensures)
 
 pub returns-then-length-begin-clause-failed : goal.returns-then-length-begin-clause-failed
@@ -56,7 +56,7 @@ returns-then-length-begin-clause-failed c = λ bytes h.
     let s = spelled_of c.in-Ok.read.0 in
     let fits : AreBytes (take 44 (held ++ piece)) = first_bytes held piece (AreBytes-fit held c.type_inv.held) (AreBytes-fit piece c.type_inv.piece) in
     let read : header_at (take 44 (held ++ piece)) ≡ Ok (s, c.in-Ok.read.1.now) = ap header_at (sym (c.as_slice.ensures.value ∙ c.front_of-front.ensures)) ∙ c.in-Ok.ensures in
-    let j = joined_to held piece bytes c.args.past s c.in-Ok.read.1.now fits read h in
+    let j = read_header_of_all held piece bytes c.args.past s c.in-Ok.read.1.now fits read h in
     let more : 8 * j.header.slots < length j.tail =
     omega (
       arith,
@@ -84,7 +84,7 @@ returns-then-header-gt4096-clause-stands c = λ bytes h.
     let s = spelled_of c.in-Ok.read.0 in
     let fits : AreBytes (take 44 (held ++ piece)) = first_bytes held piece (AreBytes-fit held c.type_inv.held) (AreBytes-fit piece c.type_inv.piece) in
     let read : header_at (take 44 (held ++ piece)) ≡ Ok (s, c.in-Ok.read.1.now) = ap header_at (sym (c.as_slice.ensures.value ∙ c.front_of-front.ensures)) ∙ c.in-Ok.ensures in
-    let j = joined_to held piece bytes c.args.past s c.in-Ok.read.1.now fits read h in
+    let j = read_header_of_all held piece bytes c.args.past s c.in-Ok.read.1.now fits read h in
     counted_stands (take 44 (held ++ piece)) held piece bytes c.args.past s c.in-Ok.read.1.now c.saturating_sub.result j c.if-header-gt4096.true
     (omega (
       arith,
@@ -102,7 +102,7 @@ returns-then-header-gt4096-clause-going c = λ bytes f h whole failed.
     let s = spelled_of c.in-Ok.read.0 in
     let fits : AreBytes (take 44 (held ++ piece)) = first_bytes held piece (AreBytes-fit held c.type_inv.held) (AreBytes-fit piece c.type_inv.piece) in
     let read : header_at (take 44 (held ++ piece)) ≡ Ok (s, c.in-Ok.read.1.now) = ap header_at (sym (c.as_slice.ensures.value ∙ c.front_of-front.ensures)) ∙ c.in-Ok.ensures in
-    let j = joined_to held piece bytes c.args.past s c.in-Ok.read.1.now fits read h in
+    let j = read_header_of_all held piece bytes c.args.past s c.in-Ok.read.1.now fits read h in
     let within : length j.tail ≤ 8 * j.header.slots =
     omega (
       arith,
@@ -134,10 +134,10 @@ returns c =
       bounded = λ few.
           omega (arith, few, c.if-length-begin.false, c.if-header-gt4096.false, c.saturating_add.ensures, c.saturating_add-length.ensures, c.len.ensures.value, long, length-take 44 (held ++ piece));
       stands = λ bytes h.
-          let j = joined_to held piece bytes c.args.past s rest fits read h in
+          let j = read_header_of_all held piece bytes c.args.past s rest fits read h in
           kept_stands held piece bytes c.args.past (not_over front held piece bytes c.args.past s rest j c.if-header-gt4096.false) h;
       going = λ bytes f h whole failed.
-          let j = joined_to held piece bytes c.args.past s rest fits read h in
+          let j = read_header_of_all held piece bytes c.args.past s rest fits read h in
           let within : length j.tail ≤ 8 * j.header.slots =
           omega (
             arith,

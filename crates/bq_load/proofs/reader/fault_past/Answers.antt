@@ -2,11 +2,11 @@ use Rattle.std.proofs.Common.{arith}
 use Rattle.bq_load.specs.Headers.{spelled_of}
 use Rattle.bq_load.proofs.FieldLemmas.{AreBytes-fit}
 use Rattle.bq_load.proofs.HeaderLemmas.{header_ok}
-use Rattle.bq_load.proofs.ReaderLemmas.{past_read, past_cut, past_more, past_length}
+use Rattle.bq_load.proofs.ReaderLemmas.{past_header_is_read, past_cut, past_more, past_length}
 use Rattle.bq_load.proofs.reader.fault_past.Goals as goal
 
 pub returns-in-Err : goal.returns-in-Err
-returns-in-Err c = λ bytes h. absurd (past_read c.args.held.now bytes c.args.past c.in-Err.fault c.requires h c.in-Err.ensures)
+returns-in-Err c = λ bytes h. absurd (past_header_is_read c.args.held.now bytes c.args.past c.in-Err.fault c.requires h c.in-Err.ensures)
 
 pub returns-then-length-wanted : goal.returns-then-length-wanted
 returns-then-length-wanted c = λ bytes h.

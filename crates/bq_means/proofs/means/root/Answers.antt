@@ -1,5 +1,5 @@
 use Rattle.std.proofs.Common.{◌+◌, ◌*◌}
-use Rattle.bq_means.proofs.Ratios.{beyond, within}
+use Rattle.bq_means.proofs.RatioLemmas.{beyond, within}
 use Rattle.bq_means.proofs.means.root.Goals as goal
 
 pub returns : goal.returns

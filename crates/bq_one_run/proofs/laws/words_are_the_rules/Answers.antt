@@ -1,5 +1,5 @@
-use Rattle.bq_one_run.proofs.PlaceLaw.{place_is_rules, place_permitted, preempt_is_rules}
-use Rattle.bq_one_run.proofs.PullLaw.{pull_is_rules, not_shown}
+use Rattle.bq_one_run.proofs.PlaceLawLemmas.{place_is_rules, place_permitted, preempt_is_rules}
+use Rattle.bq_one_run.proofs.PullLawLemmas.{pull_is_rules, not_shown}
 use Rattle.bq_one_run.proofs.laws.words_are_the_rules.Goals as goal
 
 pub returns : goal.returns

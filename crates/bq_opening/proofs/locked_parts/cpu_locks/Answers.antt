@@ -5,7 +5,7 @@ use Rattle.bq_tie.specs.Whole.{first_of, others_of}
 use Rattle.bq_history.specs.Items.{part_item}
 use Rattle.bq_cells.specs.Parts.{cpu_part}
 use Rattle.bq_cells.specs.Opened.{cpu_items}
-use Rattle.bq_cells.proofs.Opening.{cpu_turn}
+use Rattle.bq_cells.proofs.OpeningLemmas.{cpu_turn}
 use Rattle.bq_opening.proofs.locked_parts.cpu_locks.Goals as goal
 
 pub over-requires-clause-empty : goal.over-requires-clause-empty

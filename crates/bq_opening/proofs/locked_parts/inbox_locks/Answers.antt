@@ -3,7 +3,7 @@ use Rattle.bq_tie.specs.Whole.{first_of, others_of}
 use Rattle.bq_history.specs.Items.{part_item}
 use Rattle.bq_cells.specs.Parts.{inbox_part}
 use Rattle.bq_cells.specs.Opened.{inbox_items}
-use Rattle.bq_cells.proofs.Opening.{inbox_turn}
+use Rattle.bq_cells.proofs.OpeningLemmas.{inbox_turn}
 use Rattle.bq_opening.proofs.locked_parts.inbox_locks.Goals as goal
 
 pub open-requires-clause-item : goal.open-requires-clause-item

@@ -1,7 +1,7 @@
 use Rattle.std.proofs.Common.{◌≡◌, length, map, sym, ap, subst, ◌∙◌}
 use Rattle.std.proofs.lemmas.List.{take_at}
 use Rattle.bq_order.specs.Places.{AreFrom}
-use Rattle.bq_order.proofs.Ordered.{is_list}
+use Rattle.bq_order.proofs.OrderedLemmas.{is_list}
 use Rattle.bq_order.proofs.contents.contents_in_order.Goals as goal
 
 pub returns : goal.returns

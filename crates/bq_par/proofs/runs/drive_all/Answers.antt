@@ -4,8 +4,8 @@ use denote.Param.Send.{IsSync, sendable}
 use Rattle.std.proofs.Crossing.{crosses}
 use Rattle.bq_par.specs.contracts.metronome.Metronome as Metronome
 use Rattle.bq_par.specs.contracts.metronome.MetronomeClock.TheImpl as metronome
-use Rattle.bq_par.proofs.Seated.{seat_send, done_send}
-use Rattle.bq_par.proofs.Shared.{machine_sync}
+use Rattle.bq_par.proofs.SeatLemmas.{seat_send, done_send}
+use Rattle.bq_par.proofs.SharingLemmas.{machine_sync}
 use Rattle.bq_par.proofs.runs.drive_all.Goals as goal
 
 metronome_sync : IsSync Metronome.the_row

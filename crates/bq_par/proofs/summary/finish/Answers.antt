@@ -2,7 +2,7 @@ use Rattle.std.proofs.Common.{◌≡◌, ◌*◌, ℕ, length, map, rules, arith
 use Rattle.std.specs.List.{sum_by}
 use Rattle.bq_history.specs.History.{EachOnce, Stands, IsRising}
 use Rattle.bq_par.specs.Ticks.{one_tick, ticks_in, ticks_of}
-use Rattle.bq_par.proofs.Counts.{all_items, same_many, total_map, total_times}
+use Rattle.bq_par.proofs.CountLemmas.{all_items, same_many, total_map, total_times}
 use Rattle.bq_par.proofs.summary.finish.Goals as goal
 
 pub close-closed-requires : goal.close-closed-requires

@@ -1,9 +1,9 @@
 use Rattle.std.proofs.Common.{◌≡◌, ◌<◌, ◌-◌, ap, sym, ◌∙◌, arith, rules, IfOk, length, vec_len, slice_index_or}
 use Rattle.std.specs.Prelude.{unwrap_or}
 use Rattle.std.proofs.lemmas.List.Elements.{All-take}
-use Rattle.bq_history.proofs.Recording.{each_more}
+use Rattle.bq_history.proofs.RecordingLemmas.{each_more}
 use Rattle.bq_par.specs.Ticks.{ticks_of}
-use Rattle.bq_par.proofs.Counts.{same_more}
+use Rattle.bq_par.proofs.CountLemmas.{same_more}
 use Rattle.bq_par.proofs.summary.returned.Goals as goal
 
 pub loop-one-preserved : goal.loop-one-preserved

@@ -1,6 +1,6 @@
 use Rattle.std.proofs.Common.{◌∙◌, arith}
 use Rattle.bq_disc.specs.Chains.{task_of}
-use Rattle.bq_parts.proofs.Counts.{with_id-absent, one_self, count_of-place}
+use Rattle.bq_parts.proofs.CountLemmas.{with_id-absent, one_self, count_of-place}
 use Rattle.bq_parts.proofs.cpu.enter_chain.Goals as goal
 
 pub insert-requires-clause-fresh : goal.insert-requires-clause-fresh

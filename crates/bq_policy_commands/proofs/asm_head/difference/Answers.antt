@@ -3,7 +3,7 @@ use Rattle.std.specs.declared.alloc.AllocError.{AllocError}
 use Rattle.std.specs.Prelude.{Option}
 use Rattle.bq_policy_files.specs.declared.mark.Key.{Key}
 use Rattle.bq_policy_commands.specs.Disagreeing.{IsDifference}
-use Rattle.bq_policy_commands.proofs.DifferenceLemmas.{of_fault}
+use Rattle.bq_policy_commands.proofs.DifferenceLemmas.{IsDifference-of_fault}
 use Rattle.bq_policy_commands.proofs.asm_head.difference.Goals.{in-Ok, in-Err-OutOfMemory, in-Err}
 use Rattle.bq_policy_commands.proofs.asm_head.difference.Goals as goal
 
@@ -13,5 +13,5 @@ returns c =
     elim c.match-read_policy.branch [
       | in-Ok w ↦ subst P (sym w.result-is) (inr (inl (w.in-Ok.field-0, w.in-Ok.ensures.policy)))
       | in-Err-OutOfMemory w ↦ subst P (sym w.result-is) tt
-      | in-Err w ↦ subst P (sym w.result-is) (of_fault c.args.text.now c.args.given.now w.in-Err.fault w.differing.result w.in-Err.ensures.fault w.differing.ensures)
+      | in-Err w ↦ subst P (sym w.result-is) (IsDifference-of_fault c.args.text.now c.args.given.now w.in-Err.fault w.differing.result w.in-Err.ensures.fault w.differing.ensures)
     ]

@@ -2,7 +2,7 @@ use Rattle.std.specs.Prelude.{string_bytes}
 use Rattle.std.proofs.lemmas.Result.{IfOk-weaker}
 use Rattle.bq_policy_text.specs.Listed.{IsListed}
 use Rattle.bq_policy_text.specs.ReadBack.{IsFileOf}
-use Rattle.bq_policy_text.proofs.Law.{listing_is_read_back}
+use Rattle.bq_policy_text.proofs.LawLemmas.{listing_is_read_back}
 use Rattle.bq_policy_text.proofs.listing.policy_text.Goals as goal
 
 pub returns-clause-file : goal.returns-clause-file

@@ -1,4 +1,4 @@
-use Rattle.bq_program.proofs.OneAnswer as answer
+use Rattle.bq_program.proofs.OneAnswerLemmas as answer
 use Rattle.bq_program.proofs.laws.one_assembly.Goals as goal
 
 pub returns : goal.returns

@@ -12,9 +12,9 @@ use Rattle.bq_cfs.specs.contracts.discipline.Cfs as Cfs
 use Rattle.bq_cfs.specs.contracts.discipline.CfsDiscipline.TheImpl as cfs
 use Rattle.bq_par.specs.contracts.metronome.Metronome as Metronome
 use Rattle.bq_par.specs.contracts.metronome.MetronomeClock.TheImpl as metronome
-use Rattle.bq_par.proofs.Sent.{cfs_tree, cfs_queue, cfs_queue_send}
-use Rattle.bq_par.proofs.Seated.{seat_send}
-use Rattle.bq_par.proofs.Shared.{machine_sync}
+use Rattle.bq_par.proofs.SendLemmas.{cfs_tree, cfs_queue, cfs_queue_send}
+use Rattle.bq_par.proofs.SeatLemmas.{seat_send}
+use Rattle.bq_par.proofs.SharingLemmas.{machine_sync}
 use Rattle.bq_tie.specs.declared.law.Naming as Naming
 use Rattle.bq_counters.specs.declared.account.Naming as Counting
 use Rattle.bq_races.specs.contracts.drawn.Racer as Racer

@@ -12,9 +12,9 @@ use Rattle.bq_eevdf.specs.contracts.discipline.Eevdf as Eevdf
 use Rattle.bq_eevdf.specs.contracts.discipline.EevdfDiscipline.TheImpl as eevdf
 use Rattle.bq_par.specs.contracts.metronome.Metronome as Metronome
 use Rattle.bq_par.specs.contracts.metronome.MetronomeClock.TheImpl as metronome
-use Rattle.bq_par.proofs.Sent.{eevdf_tree, eevdf_queue, eevdf_queue_send}
-use Rattle.bq_par.proofs.Seated.{seat_send}
-use Rattle.bq_par.proofs.Shared.{machine_sync}
+use Rattle.bq_par.proofs.SendLemmas.{eevdf_tree, eevdf_queue, eevdf_queue_send}
+use Rattle.bq_par.proofs.SeatLemmas.{seat_send}
+use Rattle.bq_par.proofs.SharingLemmas.{machine_sync}
 use Rattle.bq_tie.specs.declared.law.Naming as Naming
 use Rattle.bq_counters.specs.declared.account.Naming as Counting
 use Rattle.bq_races.specs.contracts.drawn.Racer as Racer

@@ -7,16 +7,16 @@ use denote.Param.SendFields.{declared_send}
 use Rattle.std.proofs.Crossing.{crosses, Vec-send}
 use Rattle.bq_cfs.specs.contracts.discipline.Cfs as Cfs
 use Rattle.bq_cfs.specs.contracts.discipline.CfsDiscipline.TheImpl as cfs
-use Rattle.bq_par.proofs.Sent.{cfs_queue_send}
-use Rattle.bq_par.proofs.Seated.{seat_send}
-use Rattle.bq_par.proofs.Shared.{machine_sync}
+use Rattle.bq_par.proofs.SendLemmas.{cfs_queue_send}
+use Rattle.bq_par.proofs.SeatLemmas.{seat_send}
+use Rattle.bq_par.proofs.SharingLemmas.{machine_sync}
 use Rattle.bq_tie.specs.declared.law.Naming as Naming
 use Rattle.bq_counters.specs.declared.account.Naming as Counting
 use Rattle.bq_history.specs.History.{EachOnce}
 use Rattle.bq_history.specs.contracts.law.Receipt as Receipt
 use Rattle.bq_history.proofs.law.Receipt.TheSendSync as receipt
 use Rattle.bq_cells.specs.contracts.record.Record as Record
-use Rattle.bq_cells.proofs.Sent.{record_send}
+use Rattle.bq_cells.proofs.SendLemmas.{record_send}
 use Rattle.bq_races.specs.contracts.script.Job as Job
 use Rattle.bq_races.specs.contracts.script.Played as Played
 use Rattle.bq_races.proofs.gate.Gate.TheSendSync as gate

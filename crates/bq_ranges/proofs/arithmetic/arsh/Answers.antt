@@ -2,7 +2,7 @@ use Rattle.std.proofs.Common.{◌≡◌, ◌<◌, ◌≤◌, ◌^◌, ◌%◌, a
 use Rattle.bq_alu.specs.Meaning.{bit_count, operate}
 use Rattle.bq_insn.specs.declared.Operation.TheVariants as op
 use Rattle.bq_ranges.proofs.BitLemmas.{plain_shift, sign_shifts}
-use Rattle.bq_ranges.proofs.Outcomes.{held, held_by_all}
+use Rattle.bq_ranges.proofs.OutcomeLemmas.{held, held_by_all}
 use Rattle.bq_ranges.proofs.arithmetic.arsh.Goals as goal
 
 pub returns-then-a-half : goal.returns-then-a-half

@@ -1,6 +1,6 @@
 use Rattle.std.proofs.Common.{◌≡◌, ◌^◌, ◌%◌, arith}
 use Rattle.bq_alu.specs.Meaning.{bit_count}
-use Rattle.bq_ranges.proofs.Outcomes.{shifts_up}
+use Rattle.bq_ranges.proofs.OutcomeLemmas.{shifts_up}
 use Rattle.bq_ranges.proofs.arithmetic.lsh.Goals as goal
 
 pub returns-then-a-greatest : goal.returns-then-a-greatest

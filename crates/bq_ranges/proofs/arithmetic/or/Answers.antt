@@ -1,6 +1,6 @@
 use Rattle.std.proofs.Common.{arith}
 use Rattle.std.proofs.lemmas.Nat.{or_lt}
-use Rattle.bq_ranges.proofs.Outcomes.{union_between}
+use Rattle.bq_ranges.proofs.OutcomeLemmas.{union_between}
 use Rattle.bq_ranges.proofs.arithmetic.or.Goals as goal
 
 pub returns : goal.returns

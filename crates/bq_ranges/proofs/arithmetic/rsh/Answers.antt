@@ -1,5 +1,5 @@
 use Rattle.std.proofs.Common.{arith}
-use Rattle.bq_ranges.proofs.Outcomes.{shifts_down}
+use Rattle.bq_ranges.proofs.OutcomeLemmas.{shifts_down}
 use Rattle.bq_ranges.proofs.arithmetic.rsh.Goals as goal
 
 pub returns-then-is_single-clause-holds : goal.returns-then-is_single-clause-holds

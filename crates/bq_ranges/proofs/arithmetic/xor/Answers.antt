@@ -1,6 +1,6 @@
 use Rattle.std.proofs.Common.{arith}
 use Rattle.std.proofs.lemmas.Nat.{xor_lt}
-use Rattle.bq_ranges.proofs.Outcomes.{difference_between}
+use Rattle.bq_ranges.proofs.OutcomeLemmas.{difference_between}
 use Rattle.bq_ranges.proofs.arithmetic.xor.Goals as goal
 
 pub returns : goal.returns

@@ -1,4 +1,4 @@
-use Rattle.bq_schedule.proofs.Sums.{adds_up}
+use Rattle.bq_schedule.proofs.SumLemmas.{adds_up}
 use Rattle.bq_schedule.proofs.laws.adds_up_slices.Goals as goal
 
 pub returns : goal.returns

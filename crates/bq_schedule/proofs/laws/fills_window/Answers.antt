@@ -1,4 +1,4 @@
-use Rattle.bq_schedule.proofs.Windows as Windows
+use Rattle.bq_schedule.proofs.WindowLemmas as Windows
 use Rattle.bq_schedule.proofs.laws.fills_window.Goals as goal
 
 pub returns : goal.returns

@@ -1,4 +1,4 @@
-use Rattle.bq_schedule.proofs.Worlds as Worlds
+use Rattle.bq_schedule.proofs.WorldLemmas as Worlds
 use Rattle.bq_schedule.proofs.laws.is_charged.Goals as goal
 
 pub returns : goal.returns

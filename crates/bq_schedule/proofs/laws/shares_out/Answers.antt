@@ -1,4 +1,4 @@
-use Rattle.bq_schedule.proofs.Totals as Totals
+use Rattle.bq_schedule.proofs.TotalLemmas as Totals
 use Rattle.bq_schedule.proofs.laws.shares_out.Goals as goal
 
 pub returns : goal.returns

@@ -1,4 +1,4 @@
-use Rattle.bq_schedule.proofs.Wakes as Wakes
+use Rattle.bq_schedule.proofs.WakeLemmas as Wakes
 use Rattle.bq_schedule.proofs.laws.tells_latencies.Goals as goal
 
 pub returns : goal.returns

@@ -1,4 +1,4 @@
-use Rattle.bq_seeds.proofs.Gathered.{gathered}
+use Rattle.bq_seeds.proofs.GatheringLemmas.{gathered}
 use Rattle.bq_seeds.proofs.gathering.gather.Goals as goal
 
 pub returns : goal.returns

@@ -1,5 +1,5 @@
 use Rattle.bq_simulate.specs.Simulations.{with_seed}
-use Rattle.bq_simulate.proofs.Wholes.{simulation-of}
+use Rattle.bq_simulate.proofs.WholeLemmas.{simulation-of}
 use Rattle.bq_simulate.proofs.following.simulate_seed.Goals as goal
 
 pub returns : goal.returns

@@ -1,6 +1,6 @@
 use Rattle.std.proofs.Common.{◌∙◌, sym, arith}
 use Rattle.std.proofs.lemmas.Grind.{common_steps}
-use Rattle.bq_spans.proofs.Splitting.{split_here, split_nowhere}
+use Rattle.bq_spans.proofs.SplittingLemmas.{split_here, split_nowhere}
 use Rattle.bq_spans.proofs.processors.first_part.Goals as goal
 
 pub returns-in-Some-clause-some : goal.returns-in-Some-clause-some

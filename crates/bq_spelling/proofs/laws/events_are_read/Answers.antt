@@ -1,4 +1,4 @@
-use Rattle.bq_spelling.proofs.LineLaws as LineLaws
+use Rattle.bq_spelling.proofs.LineLawLemmas as LineLaws
 use Rattle.bq_spelling.proofs.laws.events_are_read.Goals as goal
 
 pub returns : goal.returns

@@ -1,4 +1,4 @@
-use Rattle.bq_trace.proofs.WholeSessions as WholeSessions
+use Rattle.bq_trace.proofs.WholeSessionLemmas as WholeSessions
 use Rattle.bq_trace.proofs.laws.session_answers.Goals as goal
 
 pub returns : goal.returns

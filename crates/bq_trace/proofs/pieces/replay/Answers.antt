@@ -3,12 +3,12 @@ use Rattle.std.specs.Io.KnownBytes.{Consumes, IsAtEnd}
 use Rattle.std.proofs.KnownBytes.{Keeps-refl}
 use Rattle.std.proofs.lemmas.Result.{IfOk-weaker, on_err_weaker}
 use Rattle.bq_trace.specs.Counts.{inner_of}
-use Rattle.bq_trace.proofs.SessionLemmas.{on_err}
+use Rattle.bq_trace.proofs.SessionLemmas.{OnErr-anyhow}
 use Rattle.bq_trace.proofs.ReplayLemmas.{Underway-none, Underway-more, Underway-ends, Underway-breaks, Underway-stops}
 use Rattle.bq_trace.proofs.pieces.replay.Goals as goal
 
 pub returns-in_err-count-clause-part : goal.returns-in_err-count-clause-part
-returns-in_err-count-clause-part g c = on_err _ (Underway-stops _ _ _ _ _ _ c.loop.invariant.so_far c.in_err-count.ensures.bytes)
+returns-in_err-count-clause-part g c = OnErr-anyhow _ (Underway-stops _ _ _ _ _ _ c.loop.invariant.so_far c.in_err-count.ensures.bytes)
 
 pub returns-then-count-eq0-clause-ok : goal.returns-then-count-eq0-clause-ok
 returns-then-count-eq0-clause-ok g c =
@@ -32,7 +32,7 @@ returns-then-count-eq0-clause-part g c =
 pub returns-in_err-session-clause-part : goal.returns-in_err-session-clause-part
 returns-in_err-session-clause-part g c =
     let so_far = c.loop.invariant.so_far in
-    on_err _ (Underway-breaks _ _ _ _ _ _ _ _ so_far c.in_ok-count.ensures.bytes.0 (c.in_err-session.ensures.part so_far.rest so_far.stands))
+    OnErr-anyhow _ (Underway-breaks _ _ _ _ _ _ _ _ so_far c.in_ok-count.ensures.bytes.0 (c.in_err-session.ensures.part so_far.rest so_far.stands))
 
 pub loop-preserved : goal.loop-preserved
 loop-preserved g c =

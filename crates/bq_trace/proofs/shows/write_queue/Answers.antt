@@ -1,7 +1,7 @@
 use Rattle.std.proofs.Common.{◌++◌, ap}
 use Rattle.std.specs.Prelude.{string_bytes}
 use Rattle.bq_trace.specs.Texts.{spaced_entities}
-use Rattle.bq_trace.proofs.QueueWalks.{rest_after-none}
+use Rattle.bq_trace.proofs.QueueWalkLemmas.{rest_after-none}
 use Rattle.bq_trace.proofs.ShowLemmas.{writes_next, fewer_to_come, writes_all}
 use Rattle.bq_trace.proofs.shows.write_queue.Goals as goal
 

@@ -1,7 +1,7 @@
 use Rattle.std.proofs.Common.{◌≡◌, ◌++◌, length}
 use Rattle.std.specs.Prelude.{string_bytes}
 use Rattle.bq_trace.specs.Texts.{spaced_entities}
-use Rattle.bq_trace.proofs.QueueWalks.{rest_after}
+use Rattle.bq_trace.proofs.QueueWalkLemmas.{rest_after}
 use Rattle.bq_trace.proofs.shows.write_queue.Given as goal
 
 -- what is written and what is still to come are the whole

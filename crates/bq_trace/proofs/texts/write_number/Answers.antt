@@ -1,6 +1,6 @@
 use Rattle.std.proofs.Common.{rules}
 use Rattle.std.proofs.lemmas.Fmt.{decimal_digit}
-use Rattle.bq_trace.proofs.NumberTexts.{adds_two_digits}
+use Rattle.bq_trace.proofs.NumberTextLemmas.{adds_two_digits}
 use Rattle.bq_trace.proofs.texts.write_number.Goals as goal
 
 pub returns-then-number-lt10 : goal.returns-then-number-lt10

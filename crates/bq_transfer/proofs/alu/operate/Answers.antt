@@ -5,7 +5,7 @@ use Rattle.bq_states.specs.declared.abstract_state.Kind.TheVariants.{Stack}
 use Rattle.bq_states.specs.declared.abstract_state.AbstractValue.{AbstractValue}
 use Rattle.bq_states.specs.declared.abstract_state.AbstractState.{AbstractState}
 use Rattle.bq_states.specs.Standing.{IsMade, IsWord, Pointer, Stands}
-use Rattle.bq_transfer.proofs.PlaceLemmas.{moved_is}
+use Rattle.bq_transfer.proofs.PlaceLemmas.{sum_on_stack}
 use Rattle.bq_transfer.proofs.StandingLemmas.{knowing_made}
 use Rattle.bq_transfer.proofs.PutLemmas.{carries_put, left_from_set}
 use Rattle.bq_states.proofs.LearnLemmas.{found_at}
@@ -30,5 +30,5 @@ returns-clause-moves c = λ m.
     let left : Stands (Pointer Stack m.base) (Some c.in-Some-known.left) = subst (λ (v : Option AbstractValue). Stands (Pointer Stack m.base) v) (sym c.in-Some-known.ensures) m.stands in
     let right : IsWord (word_of m.distance) (Some c.in-Some.right) = c.in-Some.ensures.immediate m.distance m.by_distance in
     let moved = c.in-Some-combine.ensures.moves m.base (word_of m.distance) m.whole m.is_sum left right in
-    let stands : Stands (Pointer Stack m.at) (Some c.in-Some-combine.word) = subst (λ (n : ℕ). Stands (Pointer Stack n) (Some c.in-Some-combine.word)) (moved_is m.base m.at m.distance m.below m.small m.at_is) moved in
+    let stands : Stands (Pointer Stack m.at) (Some c.in-Some-combine.word) = subst (λ (n : ℕ). Stands (Pointer Stack n) (Some c.in-Some-combine.word)) (sum_on_stack m.base m.at m.distance m.below m.small m.at_is) moved in
     (refl, subst (λ (v : AbstractState). IsMade (Pointer Stack m.at) c.args.view.now v c.args.dst) (sym c.learn.ensures.is) (knowing_made (Pointer Stack m.at) c.args.view.now c.args.dst c.in-Some-combine.word there stands))

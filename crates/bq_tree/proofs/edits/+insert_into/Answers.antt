@@ -3,8 +3,8 @@ use Rattle.bq_disc.specs.Tasks.{runs_before}
 use Rattle.bq_disc.specs.Chains.{task_of}
 use Rattle.bq_tree.specs.Trees.{CountsIn}
 use Rattle.bq_disc.specs.declared.node.Node.{Node, out-Node}
-use Rattle.bq_tree.proofs.NodeFacts.{IsSide, root_behind, left_side_of, right_side_of}
-use Rattle.bq_tree.proofs.InsertFacts.{grows_left, grows_right, rises_left, rises_right, stays_left, stays_right, not_higher}
+use Rattle.bq_tree.proofs.NodeLemmas.{IsSide, root_behind, left_side_of, right_side_of}
+use Rattle.bq_tree.proofs.InsertLemmas.{grows_left, grows_right, rises_left, rises_right, stays_left, stays_right, not_below_from_equal}
 use Rattle.bq_tree.proofs.edits.+insert_into.Goals as goal
 
 pub insert_into-grew-requires : goal.insert_into-grew-requires
@@ -34,7 +34,7 @@ returns-then-not-grew g t c =
       order = grows.order;
       not_lower = omega (arith, stays.height);
       at_most_one_higher = omega (arith, stays.height);
-      grows = not_higher _ _ stays.height;
+      grows = not_below_from_equal _ _ stays.height;
     }
 
 pub settle-requires : goal.settle-requires
@@ -116,7 +116,7 @@ returns-then-not-grew-2 g t c =
       order = grows.order;
       not_lower = omega (arith, stays.height);
       at_most_one_higher = omega (arith, stays.height);
-      grows = not_higher _ _ stays.height;
+      grows = not_below_from_equal _ _ stays.height;
     }
 
 pub settle-requires-2 : goal.settle-requires-2

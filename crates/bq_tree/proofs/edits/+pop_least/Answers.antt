@@ -2,8 +2,8 @@ use Rattle.std.proofs.Common.{[], refl, sym, subst}
 use Rattle.bq_disc.specs.Chains.{task_of}
 use Rattle.bq_tree.specs.Trees.{StillCounts}
 use Rattle.bq_disc.specs.declared.node.Node.{Node, out-Node}
-use Rattle.bq_tree.proofs.NodeFacts.{root_behind, on_left}
-use Rattle.bq_tree.proofs.RemoveFacts.{still_left}
+use Rattle.bq_tree.proofs.NodeLemmas.{root_behind, on_left}
+use Rattle.bq_tree.proofs.RemoveLemmas.{still_left}
 use Rattle.bq_tree.proofs.edits.+pop_least.Goals as goal
 
 pub count_out-requires-clause-counts : goal.count_out-requires-clause-counts

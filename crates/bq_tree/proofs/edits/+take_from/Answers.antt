@@ -4,8 +4,8 @@ use Rattle.bq_disc.specs.Chains.{task_of}
 use Rattle.bq_tree.specs.Trees.{StillCounts}
 use Rattle.bq_disc.specs.declared.node.Node.{Node, out-Node}
 use Rattle.bq_tree.specs.Taking.{is_at}
-use Rattle.bq_tree.proofs.NodeFacts.{root_behind, left_side_of, right_side_of, on_left, on_right}
-use Rattle.bq_tree.proofs.RemoveFacts.{still_left, still_right, loses_left, loses_right, keeps_left, keeps_right}
+use Rattle.bq_tree.proofs.NodeLemmas.{root_behind, left_side_of, right_side_of, on_left, on_right}
+use Rattle.bq_tree.proofs.RemoveLemmas.{still_left, still_right, loses_left, loses_right, keeps_left, keeps_right}
 use Rattle.bq_tree.proofs.edits.+take_from.Goals as goal
 use Rattle.bq_tree.proofs.edits.+take_from.Goals.{then-height-before, else-height-before, then-height-before-2, else-height-before-2}
 

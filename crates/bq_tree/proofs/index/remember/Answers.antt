@@ -1,5 +1,5 @@
-use Rattle.bq_tree.proofs.SoundFacts.{Knows-other}
-use Rattle.bq_tree.proofs.IndexFacts.{set_apart}
+use Rattle.bq_tree.proofs.SoundLemmas.{Knows-other}
+use Rattle.bq_tree.proofs.IndexLemmas.{set_apart}
 use Rattle.bq_tree.proofs.index.remember.Goals as goal
 
 pub returns-then-place-lt-IDS-clause-others : goal.returns-then-place-lt-IDS-clause-others

@@ -1,6 +1,6 @@
 use Rattle.std.proofs.Common.{◌<◌, arith}
 use Rattle.bq_tree.specs.Trees.{in_order_behind}
-use Rattle.bq_tree.proofs.SoundFacts.{time_known}
+use Rattle.bq_tree.proofs.SoundLemmas.{time_known}
 use Rattle.bq_tree.proofs.index.time_of.Goals as goal
 
 pub returns-then-place-lt-IDS : goal.returns-then-place-lt-IDS

@@ -1,4 +1,4 @@
-use Rattle.bq_tree.proofs.BoundFacts.{bounded_node}
+use Rattle.bq_tree.proofs.BoundLemmas.{bounded_node}
 use Rattle.bq_tree.proofs.summary.add.Goals as goal
 
 pub add-requires-clause-bounds : goal.add-requires-clause-bounds

@@ -1,6 +1,6 @@
 use Rattle.std.proofs.Common.{sym, ◌∙◌}
 use Rattle.bq_disc.specs.declared.node.Node.{out-Node, roll-Node}
-use Rattle.bq_tree.proofs.RemoveFacts.{can_remove, totals_without, due_without}
+use Rattle.bq_tree.proofs.RemoveLemmas.{can_remove, totals_without, due_without}
 use Rattle.bq_tree.proofs.summary.remove.Goals as goal
 
 pub remove-requires-clause-weight : goal.remove-requires-clause-weight

@@ -1,4 +1,4 @@
-use Rattle.bq_tree.proofs.BoundFacts.{bounded_root}
+use Rattle.bq_tree.proofs.BoundLemmas.{bounded_root}
 use Rattle.bq_tree.proofs.summary.totals.Goals as goal
 
 pub returns-in-Some-clause-bounds : goal.returns-in-Some-clause-bounds

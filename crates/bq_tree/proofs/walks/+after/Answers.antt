@@ -3,8 +3,8 @@ use Rattle.bq_disc.specs.Queues.{comes_after}
 use Rattle.bq_disc.specs.Chains.{task_of}
 use Rattle.bq_disc.specs.Rising.{IsRising}
 use Rattle.bq_tree.specs.Trees.{in_order_behind}
-use Rattle.bq_tree.proofs.OrderFacts.{IsRising-left, IsRising-right, IsRising-before}
-use Rattle.bq_tree.proofs.WalkFacts.{find-front, find-here, find-later, none_after}
+use Rattle.bq_tree.proofs.OrderLemmas.{IsRising-left, IsRising-right, IsRising-before}
+use Rattle.bq_tree.proofs.WalkLemmas.{find-front, find-here, find-later, none_after}
 use Rattle.bq_tree.proofs.walks.+after.Goals as goal
 
 pub after-requires : goal.after-requires

@@ -5,9 +5,9 @@ use Rattle.bq_disc.specs.Dues.{due_of, first_due, earliest_of, sooner_of}
 use Rattle.bq_disc.specs.Rising.{IsRising}
 use Rattle.bq_tree.specs.Trees.{IsTree, IsTreeBehind, in_order_behind}
 use Rattle.bq_tree.specs.Knowing.{knows_sums}
-use Rattle.bq_tree.proofs.OrderFacts.{IsRising-left, IsRising-right}
-use Rattle.bq_tree.proofs.TotalsFacts.{first_due-fork, fork_of}
-use Rattle.bq_tree.proofs.WalkFacts.{passing, passing-left, passing-right}
+use Rattle.bq_tree.proofs.OrderLemmas.{IsRising-left, IsRising-right}
+use Rattle.bq_tree.proofs.TotalsLemmas.{first_due-fork, sooner_of-fork}
+use Rattle.bq_tree.proofs.WalkLemmas.{passing, passing-left, passing-right}
 use Rattle.bq_tree.proofs.walks.+earliest_from.Goals as goal
 
 pub earliest_from-requires : goal.earliest_from-requires
@@ -61,4 +61,4 @@ returns t c =
     let here : c.earliest-here.result ≡ earliest_of (earliest_of (due_of x) (first_due l)) c.args.found = c.earliest-here.ensures ∙ ap (λ d. earliest_of d c.args.found) both in
     let found = c.earliest_from-2.ensures ∙ ap (λ d. Some (earliest_of d (first_due rest))) here in
     let all = ap first_due (passing-right c.args.weight c.args.moment l x r rising below) ∙ first_due-fork l x rest in
-    rw whole (found ∙ sym (fork_of (earliest_of (due_of x) (first_due l)) c.args.found (first_due rest)) ∙ ap (λ o. sooner_of c.args.found o) (sym all))
+    rw whole (found ∙ sym (sooner_of-fork (earliest_of (due_of x) (first_due l)) c.args.found (first_due rest)) ∙ ap (λ o. sooner_of c.args.found o) (sym all))

@@ -4,9 +4,9 @@ use Rattle.bq_disc.specs.Totals.{is_at_most_mean}
 use Rattle.bq_disc.specs.Dues.{due_of, first_due, earliest_of}
 use Rattle.bq_disc.specs.Rising.{IsRising}
 use Rattle.bq_tree.specs.Trees.{in_order_behind}
-use Rattle.bq_tree.proofs.OrderFacts.{IsRising-left, IsRising-right}
-use Rattle.bq_tree.proofs.TotalsFacts.{first_due-fork}
-use Rattle.bq_tree.proofs.WalkFacts.{passing, passing-left, passing-right, all_pass-before}
+use Rattle.bq_tree.proofs.OrderLemmas.{IsRising-left, IsRising-right}
+use Rattle.bq_tree.proofs.TotalsLemmas.{first_due-fork}
+use Rattle.bq_tree.proofs.WalkLemmas.{passing, passing-left, passing-right, all_pass-before}
 use Rattle.bq_tree.proofs.walks.+earliest_of_all.Goals as goal
 
 pub earliest_of_all-found-requires : goal.earliest_of_all-found-requires

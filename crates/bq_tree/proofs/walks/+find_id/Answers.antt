@@ -3,7 +3,7 @@ use Rattle.std.proofs.lemmas.Bool.Decides.{nat_tests}
 use Rattle.bq_disc.specs.Tasks.{has_id}
 use Rattle.bq_disc.specs.Chains.{task_of}
 use Rattle.bq_tree.specs.Trees.{in_order_behind}
-use Rattle.bq_tree.proofs.WalkFacts.{find-front, find-here, find-later}
+use Rattle.bq_tree.proofs.WalkLemmas.{find-front, find-here, find-later}
 use Rattle.bq_tree.proofs.walks.+find_id.Goals as goal
 
 pub returns-in-Some-find_id : goal.returns-in-Some-find_id

@@ -4,7 +4,7 @@ use Rattle.bq_disc.specs.Chains.{task_of}
 use Rattle.bq_disc.specs.Rising.{IsRising}
 use Rattle.bq_tree.specs.Trees.{in_order_behind}
 use Rattle.bq_tree.specs.Taking.{is_at}
-use Rattle.bq_tree.proofs.OrderFacts.{IsRising-left, IsRising-right, Finds-left, Finds-right}
+use Rattle.bq_tree.proofs.OrderLemmas.{IsRising-left, IsRising-right, Finds-left, Finds-right}
 use Rattle.bq_tree.proofs.walks.+get_at.Goals as goal
 
 pub get_at-requires : goal.get_at-requires

@@ -2,7 +2,7 @@ use Rattle.std.proofs.Common.{◌≡◌, None, ◌∷◌, ◌++◌, length, leng
 use Rattle.bq_disc.specs.Queues.{follows}
 use Rattle.bq_disc.specs.Chains.{task_of}
 use Rattle.bq_tree.specs.Trees.{in_order, in_order_behind}
-use Rattle.bq_tree.proofs.WalkFacts.{find-front}
+use Rattle.bq_tree.proofs.WalkLemmas.{find-front}
 use Rattle.bq_tree.proofs.walks.+least_of.Goals as goal
 
 pub least_of-requires : goal.least_of-requires

@@ -1,7 +1,7 @@
 use Rattle.std.proofs.Common.{◌≡◌, [], ◌∷◌, ◌++◌, length, length-append, ap, arith}
 use Rattle.bq_disc.specs.Chains.{task_of}
 use Rattle.bq_tree.specs.Trees.{in_order_behind}
-use Rattle.bq_disc.proofs.MovableFacts.{Adds-append, few_movable}
+use Rattle.bq_disc.proofs.MovableLemmas.{Adds-append, few_movable}
 use Rattle.bq_tree.proofs.walks.+movable_into.Goals as goal
 
 pub movable_into-requires : goal.movable_into-requires

@@ -2,7 +2,7 @@ use Rattle.std.proofs.Common.{◌≡◌, ◌∷◌, ◌++◌, length, length-app
 use Rattle.bq_disc.specs.Chains.{task_of}
 use Rattle.bq_disc.specs.Totals.{sums_of, added, joined}
 use Rattle.bq_tree.specs.Trees.{in_order_behind}
-use Rattle.bq_tree.proofs.TotalsFacts.{sums_of-append}
+use Rattle.bq_tree.proofs.TotalsLemmas.{sums_of-append}
 use Rattle.bq_tree.proofs.walks.+totals_of_all.Goals as goal
 
 pub totals_of_all-rest-requires : goal.totals_of_all-rest-requires

@@ -7,7 +7,7 @@ use Rattle.bq_transfer.specs.Ready.{IsReady}
 use Rattle.bq_states.specs.Standing.{Has, Outlasts}
 use Rattle.bq_transfer.specs.Sides.{is_found}
 use Rattle.bq_states.proofs.MergeLemmas.{some_none}
-use Rattle.bq_verify.proofs.SideLemmas.{carried_of, found_next, found_there, has_tested, outlasts, lasting_after}
+use Rattle.bq_verify.proofs.SideLemmas.{transferred_if_no_jump, differ_if_goes_on, differ_if_jumps, has_tested, outlasts, lasting_after}
 use Rattle.bq_transfer.proofs.StandingLemmas.{has_left, not_both}
 use mir.Syntax.{w16, w32}
 use mir.Val.{SFits}
@@ -178,8 +178,8 @@ returns-in-Branch-clause-sure c = λ ready.
           sure x k waits
           (λ same.
           let at = subst (λ (n : ℕ). LeadsTo c.args.slot c.in-Branch.off n) (sym same) leads in
-          tested (is_found c.in-Branch.cond true) (subst (λ (n : ℕ). IsEdge c.args.subject.now.slots.now c.args.slot n) (sym same) there) (found_there c.in-Branch.cond c.in-Branch.off c.args.slot k at))
-          (λ same. tested (is_found c.in-Branch.cond false) (subst (λ (n : ℕ). IsEdge c.args.subject.now.slots.now c.args.slot n) (sym same) next) (found_next c.in-Branch.cond c.in-Branch.off c.args.slot k same)))
+          tested (is_found c.in-Branch.cond true) (subst (λ (n : ℕ). IsEdge c.args.subject.now.slots.now c.args.slot n) (sym same) there) (differ_if_jumps c.in-Branch.cond c.in-Branch.off c.args.slot k at))
+          (λ same. tested (is_found c.in-Branch.cond false) (subst (λ (n : ℕ). IsEdge c.args.subject.now.slots.now c.args.slot n) (sym same) next) (differ_if_goes_on c.in-Branch.cond c.in-Branch.off c.args.slot k same)))
           (c.branch-alloc.ensures.checked check.1 check.0 check.2)
     ]
 
@@ -192,4 +192,4 @@ returns-in-Branch-clause-accepts c = λ ready.
     ]
 
 pub transfer-requires-clause-transferred : goal.transfer-requires-clause-transferred
-transfer-requires-clause-transferred c = carried_of c.args.insn c.in_default.not-Exit c.in_default.not-Goto c.in_default.not-Goto32 c.in_default.not-Branch
+transfer-requires-clause-transferred c = transferred_if_no_jump c.args.insn c.in_default.not-Exit c.in_default.not-Goto c.in_default.not-Goto32 c.in_default.not-Branch

@@ -2,22 +2,22 @@ use Rattle.std.proofs.Common.{◌≡◌, ◌<◌, List, Option, length, sym, ap,
 use Rattle.bq_insn.specs.declared.Insn.{Insn}
 use Rattle.bq_insn.specs.Slots.{spread}
 use Rattle.bq_graph.specs.Faults.{IsFaultless}
-use Rattle.bq_verify.proofs.GraphLemmas.{whole_at, first_at, sound_at}
+use Rattle.bq_verify.proofs.GraphLemmas.{spread_whole, spread_first, faultless_sound}
 use Rattle.bq_verify.proofs.FrameLemmas.{spares_frame}
 use Rattle.bq_verify.proofs.known_at.known_in_slots.Goals as goal
 
 pub check_graph-requires-clause-whole : goal.check_graph-requires-clause-whole
-check_graph-requires-clause-whole c = whole_at _ _ (c.as_slice-2.ensures.value ∙ c.in_ok-slots.ensures)
+check_graph-requires-clause-whole c = spread_whole _ _ (c.as_slice-2.ensures.value ∙ c.in_ok-slots.ensures)
 
 pub known_at-requires-clause-sound : goal.known_at-requires-clause-sound
 known_at-requires-clause-sound c =
     let same = c.as_slice-2.ensures.value ∙ sym c.as_slice-in-Ok.ensures.value in
-    sound_at _ _ (c.as_slice-in-Ok.ensures.value ∙ c.in_ok-slots.ensures) (subst (λ (s : List (Option Insn)). IsFaultless s) same c.in-Ok.ensures.ok)
+    faultless_sound _ _ (c.as_slice-in-Ok.ensures.value ∙ c.in_ok-slots.ensures) (subst (λ (s : List (Option Insn)). IsFaultless s) same c.in-Ok.ensures.ok)
 
 pub known_at-requires-clause-first : goal.known_at-requires-clause-first
 known_at-requires-clause-first c =
     let same : c.as_slice-in-Ok.result.now ≡ spread c.args.program.now.insns.items = c.as_slice-in-Ok.ensures.value ∙ c.in_ok-slots.ensures ∙ ap spread c.as_slice.ensures.value in
-    first_at c.args.program.now.insns.items c.as_slice-in-Ok.result.now same (subst (λ (s : List (Option Insn)). 0 < length s) (sym same) c.requires.some)
+    spread_first c.args.program.now.insns.items c.as_slice-in-Ok.result.now same (subst (λ (s : List (Option Insn)). 0 < length s) (sym same) c.requires.some)
 
 pub known_at-requires-clause-frame : goal.known_at-requires-clause-frame
 known_at-requires-clause-frame c =

@@ -1,4 +1,4 @@
-use Rattle.bq_verify.proofs.FrameLemmas.{all_insns}
+use Rattle.bq_verify.proofs.FrameLemmas.{well_formed_in_range}
 use Rattle.bq_graph.proofs.SlotLemmas.{some_slots, few_slots}
 use Rattle.bq_verify.proofs.known_at.view_at.Goals as goal
 
@@ -9,4 +9,4 @@ pub known_in_slots-requires-clause-short : goal.known_in_slots-requires-clause-s
 known_in_slots-requires-clause-short c = few_slots c.args.program.now.insns.items c.requires.whole
 
 pub known_in_slots-requires-clause-registers : goal.known_in_slots-requires-clause-registers
-known_in_slots-requires-clause-registers c = all_insns c.args.program.now.insns.items c.requires.whole
+known_in_slots-requires-clause-registers c = well_formed_in_range c.args.program.now.insns.items c.requires.whole

@@ -1,4 +1,4 @@
-use Rattle.bq_verify.proofs.FrameLemmas.{all_insns}
+use Rattle.bq_verify.proofs.FrameLemmas.{well_formed_in_range}
 use Rattle.bq_graph.proofs.SlotLemmas.{some_slots, few_slots}
 use Rattle.bq_verify.proofs.program.verify.Goals as goal
 
@@ -9,4 +9,4 @@ pub verify_slots-requires-clause-short : goal.verify_slots-requires-clause-short
 verify_slots-requires-clause-short c = few_slots c.args.program.insns.items c.requires.whole
 
 pub verify_slots-requires-clause-registers : goal.verify_slots-requires-clause-registers
-verify_slots-requires-clause-registers c = all_insns c.args.program.insns.items c.requires.whole
+verify_slots-requires-clause-registers c = well_formed_in_range c.args.program.insns.items c.requires.whole

@@ -3,28 +3,28 @@ use Rattle.bq_insn.specs.declared.Insn.{Insn}
 use Rattle.bq_insn.specs.Slots.{spread}
 use Rattle.bq_graph.specs.Faults.{IsFaultless}
 use Rattle.bq_graph.specs.Passes.{Measured}
-use Rattle.bq_verify.proofs.GraphLemmas.{whole_at, first_at, sound_at, heights_are, budget_at}
+use Rattle.bq_verify.proofs.GraphLemmas.{spread_whole, spread_first, faultless_sound, heights_are, first_height_is_longest}
 use Rattle.bq_verify.specs.Control.{AreMade}
 use Rattle.bq_verify.proofs.FrameLemmas.{spares_frame}
 use Rattle.bq_verify.proofs.program.verify_slots.Goals as goal
 
 pub check_graph-requires-clause-whole : goal.check_graph-requires-clause-whole
-check_graph-requires-clause-whole c = whole_at _ _ (c.as_slice-2.ensures.value ∙ c.in_ok-slots.ensures)
+check_graph-requires-clause-whole c = spread_whole _ _ (c.as_slice-2.ensures.value ∙ c.in_ok-slots.ensures)
 
 pub heights_of-requires-clause-sound : goal.heights_of-requires-clause-sound
 heights_of-requires-clause-sound c =
     let same = c.as_slice-2.ensures.value ∙ sym c.as_slice-3.ensures.value in
-    sound_at _ _ (c.as_slice-3.ensures.value ∙ c.in_ok-slots.ensures) (subst (λ (s : List (Option Insn)). IsFaultless s) same c.in_ok-check_graph.ensures.ok)
+    faultless_sound _ _ (c.as_slice-3.ensures.value ∙ c.in_ok-slots.ensures) (subst (λ (s : List (Option Insn)). IsFaultless s) same c.in_ok-check_graph.ensures.ok)
 
 pub new-requires-clause-sound : goal.new-requires-clause-sound
 new-requires-clause-sound c =
-    sound_at _ _ c.in_ok-slots.ensures (subst (λ (s : List (Option Insn)). IsFaultless s) c.as_slice-2.ensures.value c.in_ok-check_graph.ensures.ok)
+    faultless_sound _ _ c.in_ok-slots.ensures (subst (λ (s : List (Option Insn)). IsFaultless s) c.as_slice-2.ensures.value c.in_ok-check_graph.ensures.ok)
 
 pub new-requires-clause-heights : goal.new-requires-clause-heights
 new-requires-clause-heights c =
     let measured = subst (λ (s : List (Option Insn)). Measured s 0 c.in_ok-heights.heights.items) c.as_slice-3.ensures.value c.in_ok-heights.ensures.measured in
     heights_are c.in_ok-slots.slots.items c.as_slice-4.result.now
-    (sound_at _ _ c.in_ok-slots.ensures (subst (λ (s : List (Option Insn)). IsFaultless s) c.as_slice-2.ensures.value c.in_ok-check_graph.ensures.ok))
+    (faultless_sound _ _ c.in_ok-slots.ensures (subst (λ (s : List (Option Insn)). IsFaultless s) c.as_slice-2.ensures.value c.in_ok-check_graph.ensures.ok))
     (subst (λ (h : List ℕ). Measured c.in_ok-slots.slots.items 0 h) (sym c.as_slice-4.ensures.value) measured)
 
 pub returns-in-Ok-clause-budget : goal.returns-in-Ok-clause-budget
@@ -33,7 +33,7 @@ returns-in-Ok-clause-budget c =
     let some : 0 < length c.in_ok-slots.slots.items = subst (λ (s : List (Option Insn)). 0 < length s) (sym same) c.requires.some in
     let measured = subst (λ (s : List (Option Insn)). Measured s 0 c.in_ok-heights.heights.items) c.as_slice-3.ensures.value c.in_ok-heights.ensures.measured in
     rw (c.in-Ok.ensures.slots, c.in-Ok.ensures.budget, c.as_slice-4.ensures.value)
-    (budget_at c.args.program.insns.items c.in_ok-slots.slots.items c.in_ok-heights.heights.items same some measured)
+    (first_height_is_longest c.args.program.insns.items c.in_ok-slots.slots.items c.in_ok-heights.heights.items same some measured)
 
 pub new-requires-clause-made : goal.new-requires-clause-made
 new-requires-clause-made c =
@@ -43,7 +43,7 @@ new-requires-clause-made c =
 pub new-requires-clause-first : goal.new-requires-clause-first
 new-requires-clause-first c =
     let same : c.in_ok-slots.slots.items ≡ spread c.args.program.insns.items = c.in_ok-slots.ensures ∙ ap spread c.as_slice.ensures.value in
-    first_at c.args.program.insns.items c.in_ok-slots.slots.items same (subst (λ (s : List (Option Insn)). 0 < length s) (sym same) c.requires.some)
+    spread_first c.args.program.insns.items c.in_ok-slots.slots.items same (subst (λ (s : List (Option Insn)). 0 < length s) (sym same) c.requires.some)
 
 pub new-requires-clause-frame : goal.new-requires-clause-frame
 new-requires-clause-frame c =

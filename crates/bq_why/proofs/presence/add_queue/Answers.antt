@@ -4,7 +4,7 @@ use Rattle.std.proofs.lemmas.Grind.{common_steps}
 use Rattle.bq_disc.specs.Tasks.{Task}
 use Rattle.bq_disc.specs.Queues.{follows, HasDistinctIds}
 use Rattle.bq_disc.specs.Rising.{IsRising}
-use Rattle.bq_trace.proofs.QueueWalks.{rest_after, rest_after-none, rest_after-next, rest_after-end}
+use Rattle.bq_trace.proofs.QueueWalkLemmas.{rest_after, rest_after-none, rest_after-next, rest_after-end}
 use Rattle.bq_why.proofs.presence.add_queue.Goals as goal
 
 -- one more task is added

@@ -1,5 +1,5 @@
 use Rattle.std.proofs.Common.{◌≡◌, ◌-◌, ◌≤◌, ◌++◌, length}
-use Rattle.bq_trace.proofs.QueueWalks.{rest_after}
+use Rattle.bq_trace.proofs.QueueWalkLemmas.{rest_after}
 use Rattle.bq_why.proofs.presence.add_queue.Given as goal
 
 -- what there is and what is still to come are all of them

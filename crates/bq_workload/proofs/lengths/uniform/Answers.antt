@@ -2,7 +2,7 @@ use Rattle.std.proofs.Common.{◌≡◌, ◌≢◌, ◌∙◌, ap, sym, Some, op
 use Rattle.toml.specs.Data.{as_array}
 use Rattle.toml.specs.View.{view, items_view}
 use Rattle.bq_workload.specs.Lengths.{ends_of}
-use Rattle.bq_workload.proofs.Entries.{ends-none}
+use Rattle.bq_workload.proofs.EntryLemmas.{ends-none}
 use Rattle.bq_workload.proofs.lengths.uniform.Goals as goal
 
 pub returns-in_default : goal.returns-in_default

@@ -1,5 +1,5 @@
 use Rattle.std.proofs.Common.{◌≡◌, ◌∙◌, sym, Some, slice_get, rules}
-use Rattle.bq_workload.proofs.Entries.{only-none, only-one}
+use Rattle.bq_workload.proofs.EntryLemmas.{only-none, only-one}
 use Rattle.bq_workload.proofs.tables.only.Goals as goal
 
 pub returns-then-len-ne1 : goal.returns-then-len-ne1

@@ -4,7 +4,7 @@ use Rattle.std.proofs.lemmas.List.{take_more}
 use Rattle.toml.specs.Data.{as_table}
 use Rattle.toml.specs.View.{view, table_view}
 use Rattle.toml.specs.declared.value.Value.{Value}
-use Rattle.bq_workload.proofs.Entries.{AreKinds-more}
+use Rattle.bq_workload.proofs.EntryLemmas.{AreKinds-more}
 use Rattle.bq_workload.proofs.workloads.kinds.Goals as goal
 
 pub loop-index-preserved : goal.loop-index-preserved

@@ -5,7 +5,7 @@ use Rattle.toml.specs.View.{view, table_view}
 use Rattle.toml.specs.declared.value.Value.{Value}
 use Rattle.bq_workload.specs.Fields.{name_of}
 use Rattle.bq_workload.specs.Workloads.{name_in}
-use Rattle.bq_workload.proofs.Entries.{AreNames-more}
+use Rattle.bq_workload.proofs.EntryLemmas.{AreNames-more}
 use Rattle.bq_workload.proofs.workloads.names.Goals as goal
 
 pub loop-index-preserved : goal.loop-index-preserved

@@ -1,6 +1,6 @@
 use Rattle.std.proofs.Common.{◌≡◌, ◌≢◌, ◌/◌, ◌%◌, ℕ, List, get_or, length, subst, sym, ◌∙◌, arith}
 use Rattle.bq_agenda.specs.Minima.{never, IsFirst, AreNever, HasMinima, HasPlaces}
-use Rattle.bq_agenda.proofs.Trees.{nothing-due, first-due, same-number}
+use Rattle.bq_agenda.proofs.TreeLemmas.{nothing-due, first-due, same-number}
 use Rattle.bq_agenda.proofs.agenda.Agenda.first.Goals as goal
 
 -- of the list that the agenda is

@@ -1,7 +1,7 @@
 use Rattle.std.proofs.Common.{◌≡◌, ap, ◌∙◌, replicate, arith, inl, length}
 use Rattle.std.proofs.lemmas.List.{length-replicate}
 use Rattle.bq_agenda.specs.Minima.{never}
-use Rattle.bq_agenda.proofs.Trees.{never-minima, never-places}
+use Rattle.bq_agenda.proofs.TreeLemmas.{never-minima, never-places}
 use Rattle.bq_agenda.proofs.agenda.Agenda.new.Goals as goal
 
 pub invariant_of-result : goal.invariant_of-result

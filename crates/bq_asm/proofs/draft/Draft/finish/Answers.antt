@@ -6,7 +6,7 @@ use Rattle.bq_asm.specs.Draft.{Fails}
 use Rattle.bq_asm.specs.Assembly.{places_from, Says}
 use Rattle.bq_asm.specs.Faults.{slots_in}
 use Rattle.bq_asm.specs.Jumps.{awaited_by, places_of, jumps_from, drafts_of, with_jumps}
-use Rattle.bq_asm.proofs.NearLemmas.{All-seen, places_near, jumps_near, IsNear}
+use Rattle.bq_asm.proofs.WithinLemmas.{All-seen, places_within, jumps_within, IsNear}
 use Rattle.bq_asm.proofs.CleanLemmas.{passes_all, first_from_missing}
 use Rattle.bq_asm.proofs.draft.Draft.finish.Goals as goal
 
@@ -15,7 +15,7 @@ set_jumps-requires-clause-labels c =
     let lines = c.requires.0 in
     let is = c.requires.1 in
     let few : 0 + slots_in lines ≤ 4096 = let same = is.slots in let few = c.args.self.few in omega (arith, same, few) in
-    All-seen (λ p. p.1 ≤ 4096) (λ e. (e.0.now, e.1)) c.args.self.labels.entries (places_from 0 lines) is.labels (places_near 4096 0 lines few)
+    All-seen (λ p. p.1 ≤ 4096) (λ e. (e.0.now, e.1)) c.args.self.labels.entries (places_from 0 lines) is.labels (places_within 4096 0 lines few)
 
 pub set_jumps-requires-clause-jumps : goal.set_jumps-requires-clause-jumps
 set_jumps-requires-clause-jumps c =
@@ -24,7 +24,7 @@ set_jumps-requires-clause-jumps c =
     let few : 0 + slots_in lines ≤ 4096 = let same = is.slots in let few = c.args.self.few in omega (arith, same, few) in
     let count = length c.as_mut_slice.result.now in
     let all : 0 + length (drafts_of lines) ≤ count = let same = ap length is.insns in let value = ap length c.as_mut_slice.ensures.value in omega (arith, same, value) in
-    All-seen (IsNear 4096 count) awaited_by c.as_slice.result.now (jumps_from 0 0 1 lines) (ap (map awaited_by) c.as_slice.ensures.value ∙ is.jumps) (jumps_near 4096 count 0 0 1 lines few all)
+    All-seen (IsNear 4096 count) awaited_by c.as_slice.result.now (jumps_from 0 0 1 lines) (ap (map awaited_by) c.as_slice.ensures.value ∙ is.jumps) (jumps_within 4096 count 0 0 1 lines few all)
 
 pub returns-in-Ok-clause-ok : goal.returns-in-Ok-clause-ok
 returns-in-Ok-clause-ok c = λ lines is clean.

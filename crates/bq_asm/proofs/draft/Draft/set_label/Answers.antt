@@ -6,7 +6,7 @@ use Rattle.bq_asm.specs.Lines.{Line, Label}
 use Rattle.bq_asm.specs.Faults.{labels_in, cause_at}
 use Rattle.bq_asm.specs.Assembly.{places_from}
 use Rattle.bq_asm.specs.Jumps.{awaited_by}
-use Rattle.bq_asm.proofs.DraftLemmas.{label_known, labels_more, slots_kept, drafts_kept, jumps_kept, cause_of_label-is, none_from_is_some}
+use Rattle.bq_asm.proofs.DraftLemmas.{label_known, draft_labels_more, slots_kept, drafts_kept, jumps_kept, cause_of_label-is, none_from_is_some}
 use Rattle.bq_asm.proofs.draft.Draft.set_label.Goals as goal
 
 pub returns-then-is_some-clause-fault : goal.returns-then-is_some-clause-fault
@@ -27,7 +27,7 @@ returns-clause-ok c = λ before is count.
     let new = c.in_ok-insert.ensures.entries ∙ insert_entry-new _ old.labels c.args.name old.slots (sym c.in_ok-insert.ensures.old ∙ absent) in (
       cause_of_label-is (labels_in before) name false (sym c.is_label.ensures ∙ c.if-not-is_label.false) (sym known ∙ sym (ap is_some c.in_ok-insert.ensures.old) ∙ ap is_some absent),
       record {
-        labels = ap (map (λ e. (e.0.now, e.1))) new ∙ labels_more old.labels.entries c.args.name old.slots before is.labels is.slots;
+        labels = ap (map (λ e. (e.0.now, e.1))) new ∙ draft_labels_more old.labels.entries c.args.name old.slots before is.labels is.slots;
         slots = slots_kept old.slots before (Label name) is.slots refl;
         insns = drafts_kept old.insns.items before (Label name) is.insns refl;
         jumps = jumps_kept (map awaited_by old.jumps.items) before (Label name) is.jumps (λ i s n. refl);

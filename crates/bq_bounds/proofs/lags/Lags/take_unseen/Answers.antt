@@ -4,7 +4,7 @@ use Rattle.bq_bounds.specs.declared.lags.Course.{Course}
 use Rattle.bq_bounds.specs.declared.lags.Course.TheVariants.{Breaks}
 use Rattle.bq_bounds.specs.Glances.{IsGlance, at_most_owed}
 use Rattle.bq_bounds.specs.LagWatches.{lags_by}
-use Rattle.bq_bounds.proofs.Unseen.{taken_unseen}
+use Rattle.bq_bounds.proofs.UnchangedLagLemmas.{only_stretch_changes}
 use Rattle.bq_bounds.proofs.lags.Lags.take_unseen.Goals as goal
 
 -- the stretch goes on as it would with these tasks
@@ -16,6 +16,6 @@ returns-clause-done c = λ xs _ seen.
     let goes : course ≡ Breaks → ⊥ = λ e. grind (arith, e, c.eq.ensures, c.if-eq.false) in
     let low : min (at_most_owed c.args.glance s) (2 ^ 64 - 1) ≤ c.in-Some-Some.greatest.difference = omega (arith, c.at_most_owed.ensures, c.if-at_most_owed-greatest.false) in
     let there = subst (λ (o : Option Stretch). IsGlance c.args.glance o xs) c.in-Some-Some.is-0 seen in
-    let same = taken_unseen course c.args.rise c.args.glance s l c.in-Some-Some.greatest xs goes c.in-Some-Some.is-1 low there in
+    let same = only_stretch_changes course c.args.rise c.args.glance s l c.in-Some-Some.greatest xs goes c.in-Some-Some.is-1 low there in
     let by = subst (λ (o : Option Stretch). lags_by course o c.args.rise xs l ≡ c.go_on_unseen.new.self) (sym c.in-Some-Some.is-0) (same ∙ sym c.go_on_unseen.ensures) in
     sym (subst (λ (k : Course). lags_by k l.stretch c.args.rise xs l ≡ c.go_on_unseen.new.self) c.course_of-course.ensures by)

@@ -1,6 +1,6 @@
 use Rattle.std.proofs.Common.{ap, sym, ◌∙◌, length, ◌≡◌, arith}
 use Rattle.bq_parts.specs.World.{World}
-use Rattle.bq_parts.proofs.Once.{few_at}
+use Rattle.bq_parts.proofs.OnceLemmas.{few_at}
 use Rattle.bq_core.proofs.parts.Parts.begin_wake.Goals as goal
 
 pub loads_of-loads-requires-clause-small : goal.loads_of-loads-requires-clause-small

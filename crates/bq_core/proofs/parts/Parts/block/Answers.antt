@@ -2,9 +2,9 @@ use Rattle.std.proofs.Common.{◌≡◌, ◌<◌, ap, sym, ◌∙◌, length}
 use Rattle.std.proofs.lemmas.List.{get_or_read}
 use Rattle.bq_parts.specs.Processors.{opening}
 use Rattle.bq_parts.specs.World.{World, processor}
-use Rattle.bq_parts.proofs.Once.{seated_running}
-use Rattle.bq_core.proofs.Steps.{write_back_lobby}
-use Rattle.bq_core.proofs.ShareSteps.{blocks_at}
+use Rattle.bq_parts.proofs.OnceLemmas.{seated_running}
+use Rattle.bq_core.proofs.StepLemmas.{write_back_lobby}
+use Rattle.bq_core.proofs.ShareStepLemmas.{blocks_at}
 use Rattle.bq_core.proofs.parts.Parts.block.Goals as goal
 
 pub block-requires : goal.block-requires

@@ -2,9 +2,9 @@ use Rattle.std.proofs.Common.{refl, ◌≡◌, ◌<◌, ap, sym, ◌∙◌, leng
 use Rattle.std.proofs.lemmas.List.{get_or_read}
 use Rattle.bq_parts.specs.Processors.{opening}
 use Rattle.bq_parts.specs.World.{World, processor, inbox}
-use Rattle.bq_parts.proofs.Once.{each_once_runnable, none_beyond_at}
-use Rattle.bq_core.proofs.Steps.{write_back_both}
-use Rattle.bq_core.proofs.ShareSteps.{drains_at}
+use Rattle.bq_parts.proofs.OnceLemmas.{each_once_runnable, none_beyond_at}
+use Rattle.bq_core.proofs.StepLemmas.{write_back_both}
+use Rattle.bq_core.proofs.ShareStepLemmas.{drains_at}
 use Rattle.bq_core.proofs.parts.Parts.drain.Goals as goal
 
 pub drain-requires-clause-once : goal.drain-requires-clause-once

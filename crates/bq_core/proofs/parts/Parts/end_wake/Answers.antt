@@ -3,9 +3,9 @@ use Rattle.std.proofs.lemmas.List.{get_or_read}
 use Rattle.bq_hooks.specs.OwnPlace.{HasPlace}
 use Rattle.bq_parts.specs.Processors.{opening}
 use Rattle.bq_parts.specs.World.{World, processor, inbox, count_in}
-use Rattle.bq_parts.proofs.Once.{few_at}
-use Rattle.bq_core.proofs.Steps.{write_back_inbox}
-use Rattle.bq_core.proofs.ShareSteps.{places_at, if_carried}
+use Rattle.bq_parts.proofs.OnceLemmas.{few_at}
+use Rattle.bq_core.proofs.StepLemmas.{write_back_inbox}
+use Rattle.bq_core.proofs.ShareStepLemmas.{places_at, if_carried}
 use Rattle.bq_core.proofs.parts.Parts.end_wake.Goals as goal
 
 pub end_wake-requires-clause-usable : goal.end_wake-requires-clause-usable

@@ -1,6 +1,6 @@
 use Rattle.std.proofs.Common.{◌≡◌, length, ap, sym, ◌∙◌}
 use Rattle.bq_parts.specs.World.{World}
-use Rattle.bq_parts.proofs.Once.{each_once_two, seated_two}
+use Rattle.bq_parts.proofs.OnceLemmas.{each_once_two, seated_two}
 use Rattle.bq_core.proofs.parts.Parts.pull.Goals as goal
 
 pub pull_between-requires-clause-once : goal.pull_between-requires-clause-once

@@ -2,7 +2,7 @@ use Rattle.std.proofs.Common.{◌≡◌, ◌<◌, ap, sym, ◌∙◌, length}
 use Rattle.std.proofs.lemmas.List.{get_or_read}
 use Rattle.bq_parts.specs.Processors.{opening}
 use Rattle.bq_parts.specs.World.{World, processor}
-use Rattle.bq_parts.proofs.Once.{each_once_running, seated_running}
+use Rattle.bq_parts.proofs.OnceLemmas.{each_once_running, seated_running}
 use Rattle.bq_core.proofs.parts.Parts.tick.Goals as goal
 
 pub tick-requires-clause-once : goal.tick-requires-clause-once

@@ -1,7 +1,7 @@
 use Rattle.std.proofs.Common.{sym, subst}
 use Rattle.bq_parts.specs.World.{World}
 use Rattle.bq_parts.specs.StandsOnce.{IsOrderly}
-use Rattle.bq_core.proofs.Order.{opening_is_orderly}
+use Rattle.bq_core.proofs.OrderLemmas.{opening_is_orderly}
 use Rattle.bq_core.proofs.world.Core.new.Goals as goal
 
 pub invariant_of-result : goal.invariant_of-result

@@ -1,7 +1,7 @@
 use Rattle.std.proofs.Common.{subst}
 use Rattle.bq_parts.specs.Choices.{policies}
 use Rattle.bq_parts.specs.StandsOnce.{IsOrderly}
-use Rattle.bq_core.proofs.Order.{run_keeps}
+use Rattle.bq_core.proofs.OrderLemmas.{run_keeps}
 use Rattle.bq_core.proofs.world.Core.run.Goals as goal
 
 pub returns-in_default-clause-throughout : goal.returns-in_default-clause-throughout

@@ -2,7 +2,7 @@ use Rattle.std.proofs.Common.{◌≡◌, ◌++◌, ◌∷◌, [], true, length, 
 use Rattle.std.specs.Prelude.{is_ok, not}
 use Rattle.std.specs.Vec.Iter.{into_iter_items}
 use Rattle.bq_parts.specs.Choices.{policies}
-use Rattle.bq_core.proofs.Runs.{run_more, through_more}
+use Rattle.bq_core.proofs.RunLemmas.{run_more, through_more}
 use Rattle.bq_core.proofs.world.Core.run_all.Goals as goal
 
 pub loop-event-preserved : goal.loop-event-preserved

@@ -1,5 +1,5 @@
 use Rattle.bq_parts.specs.Choices.{policies}
-use Rattle.bq_core.proofs.Order.{step_keeps}
+use Rattle.bq_core.proofs.OrderLemmas.{step_keeps}
 use Rattle.bq_core.proofs.world.Core.step.Goals as goal
 
 pub invariant_of-self : goal.invariant_of-self

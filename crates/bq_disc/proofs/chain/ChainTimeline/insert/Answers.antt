@@ -1,8 +1,8 @@
 use Rattle.std.proofs.Common.{◌≡◌, ◌<◌, ◌^◌, List, ap, ◌∙◌, arith}
 use Rattle.bq_disc.specs.Tasks.{Task, with_id}
 use Rattle.bq_disc.specs.Chains.{task_of}
-use Rattle.bq_disc.proofs.QueueFacts.{HasDistinctIds-place, HasSmallIds-place, length-place}
-use Rattle.bq_disc.proofs.RisingFacts.{IsRising-place}
+use Rattle.bq_disc.proofs.QueueLemmas.{HasDistinctIds-place, HasSmallIds-place, length-place}
+use Rattle.bq_disc.proofs.RisingLemmas.{IsRising-place}
 use Rattle.bq_disc.proofs.chain.ChainTimeline.insert.Goals as goal
 
 pub invariant_of-self : goal.invariant_of-self

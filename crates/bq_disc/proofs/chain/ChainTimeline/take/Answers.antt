@@ -1,8 +1,8 @@
 use Rattle.std.proofs.Common.{◌≡◌, None, IsSome, refl, sym, arith}
 use Rattle.bq_disc.specs.Tasks.{with_id}
 use Rattle.bq_disc.specs.Chains.{chain_behind}
-use Rattle.bq_disc.proofs.QueueFacts.{HasDistinctIds-without, HasSmallIds-without, length-without, without-absent}
-use Rattle.bq_disc.proofs.RisingFacts.{IsRising-without}
+use Rattle.bq_disc.proofs.QueueLemmas.{HasDistinctIds-without, HasSmallIds-without, length-without, without-absent}
+use Rattle.bq_disc.proofs.RisingLemmas.{IsRising-without}
 use Rattle.bq_disc.proofs.chain.ChainTimeline.take.Goals as goal
 
 pub invariant_of-self : goal.invariant_of-self

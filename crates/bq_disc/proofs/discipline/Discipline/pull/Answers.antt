@@ -1,5 +1,5 @@
 use Rattle.std.proofs.Common.{◌-◌, ◌≤◌, ◌∙◌, arith}
-use Rattle.bq_disc.proofs.PullFacts.{pulls_first_named}
+use Rattle.bq_disc.proofs.PullLemmas.{pulls_first_named}
 use Rattle.bq_disc.proofs.discipline.Discipline.pull.Goals as goal
 
 pub returns : goal.returns

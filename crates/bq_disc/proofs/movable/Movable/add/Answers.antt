@@ -1,7 +1,7 @@
 use Rattle.std.proofs.Common.{◌≡◌, length, ℕ, eqb, true, refl, arith}
 use Rattle.std.proofs.lemmas.Bool.Decides.{nat_tests}
 use Rattle.bq_disc.specs.Queues.{can_use}
-use Rattle.bq_disc.proofs.MovableFacts.{Adds-full}
+use Rattle.bq_disc.proofs.MovableLemmas.{Adds-full}
 use Rattle.bq_disc.proofs.movable.Movable.add.Goals as goal
 
 is_eight : (n : ℕ) → true ≡ eqb n 8 → n ≡ 8

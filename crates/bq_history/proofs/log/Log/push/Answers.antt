@@ -1,6 +1,6 @@
 use Rattle.std.proofs.Common.{◌≡◌, [], ◌∷◌, ◌++◌, length, sym, ap, ◌∙◌, arith, length-append}
 use Rattle.bq_history.specs.Chunks.{joined, AreChunks}
-use Rattle.bq_history.proofs.Chunking.{few_chunks, one_begun, joined_begun, last_open, one_more, joined_more}
+use Rattle.bq_history.proofs.ChunkingLemmas.{few_chunks, one_begun, joined_begun, last_open, one_more, joined_more}
 use Rattle.bq_history.proofs.log.Log.push.Goals as goal
 
 pub push-requires : goal.push-requires

@@ -5,7 +5,7 @@ use Rattle.bq_history.specs.declared.law.Receipt.{Receipt}
 use Rattle.bq_parts.specs.declared.event.Event.TheVariants.{Install}
 use Rattle.bq_cells.specs.declared.record.Record.{Record}
 use Rattle.bq_machine.specs.Calls.{AreInstalls}
-use Rattle.bq_machine.proofs.Installed.{installs_more}
+use Rattle.bq_machine.proofs.InstallLemmas.{installs_more}
 use Rattle.bq_machine.proofs.locks.Machine.install_all.Goals as goal
 
 pub keep-requires : goal.keep-requires

@@ -3,7 +3,7 @@ use Rattle.bq_tie.specs.Whole.{first_of, others_of}
 use Rattle.bq_history.specs.Items.{part_item, callers_from, journal_item}
 use Rattle.bq_parts.specs.World.{opening_world}
 use Rattle.bq_cells.specs.declared.law.Kept.{Kept}
-use Rattle.bq_cells.proofs.Loads.{opening_loads}
+use Rattle.bq_cells.proofs.LoadLemmas.{opening_loads}
 use Rattle.bq_cells.specs.Parts.{first_parts, kept_of}
 use Rattle.bq_opening.proofs.opening.Opening.over.Goals as goal
 

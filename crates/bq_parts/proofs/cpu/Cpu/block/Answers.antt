@@ -4,7 +4,7 @@ use Rattle.bq_disc.specs.Tasks.{Task}
 use Rattle.bq_disc.specs.OneProcessor.{charge}
 use Rattle.bq_parts.specs.Processors.{Processor}
 use Rattle.bq_parts.specs.Moves.{as_it_leaves}
-use Rattle.bq_parts.proofs.Leaves.{leaves, current_seated}
+use Rattle.bq_parts.proofs.LeaveLemmas.{leaves, current_seated}
 use Rattle.bq_parts.proofs.cpu.Cpu.block.Goals as goal
 
 pub seat-requires : goal.seat-requires

@@ -1,6 +1,6 @@
 use Rattle.std.proofs.Common.{arith}
-use Rattle.bq_parts.proofs.Counts.{each_once_queue, HasDistinctIds-from_counts, queue_le_present}
-use Rattle.bq_parts.proofs.Once.{few_below}
+use Rattle.bq_parts.proofs.CountLemmas.{each_once_queue, HasDistinctIds-from_counts, queue_le_present}
+use Rattle.bq_parts.proofs.OnceLemmas.{few_below}
 use Rattle.bq_parts.proofs.cpu.Cpu.decide.Goals as goal
 
 pub choose_preempt-preempted-requires-clause-distinct : goal.choose_preempt-preempted-requires-clause-distinct

@@ -1,6 +1,6 @@
 use Rattle.std.proofs.Common.{arith}
 use Rattle.bq_disc.specs.OneProcessor.{present_at, charge}
-use Rattle.bq_parts.proofs.Counts.{keeps_charge, count_of-append, count_of-enter_all, queue_le_present}
+use Rattle.bq_parts.proofs.CountLemmas.{keeps_charge, count_of-append, count_of-enter_all, queue_le_present}
 use Rattle.bq_parts.proofs.cpu.Cpu.drain.Goals as goal
 
 pub enter_all-requires-clause-apart : goal.enter_all-requires-clause-apart

@@ -6,7 +6,7 @@ use Rattle.bq_parts.specs.declared.carried.Carried.{Carried}
 use Rattle.bq_parts.specs.Processors.{Processor}
 use Rattle.bq_parts.specs.Choices.{Decision, SettlesPlace, policies}
 use Rattle.bq_parts.specs.Shares.{after_time}
-use Rattle.bq_parts.proofs.Leaves.{placed_fits}
+use Rattle.bq_parts.proofs.LeaveLemmas.{placed_fits}
 use Rattle.bq_parts.proofs.cpu.Cpu.end_wake.Goals as goal
 
 pub returns-clause-share : goal.returns-clause-share

@@ -2,10 +2,10 @@ use Rattle.std.proofs.Common.{◌≡◌, Some, ap, sym, ◌∙◌}
 use Rattle.bq_disc.specs.Tasks.{without, place}
 use Rattle.bq_disc.specs.Chains.{task_of}
 use Rattle.bq_disc.specs.OneProcessor.{Running}
-use Rattle.bq_disc.proofs.QueueFacts.{without-absent}
+use Rattle.bq_disc.proofs.QueueLemmas.{without-absent}
 use Rattle.bq_parts.specs.Processors.{Processor}
-use Rattle.bq_parts.proofs.Counts.{switched_same, switched_absent, switched_to, current_apart_without}
-use Rattle.bq_parts.proofs.Switching.{next_is_current, next_is_other}
+use Rattle.bq_parts.proofs.CountLemmas.{switched_same, switched_absent, switched_to, current_apart_without}
+use Rattle.bq_parts.proofs.SwitchingLemmas.{next_is_current, next_is_other}
 use Rattle.bq_parts.proofs.cpu.Cpu.switch.Goals as goal
 
 pub returns-in_default-next : goal.returns-in_default-next

@@ -1,5 +1,5 @@
 use Rattle.std.proofs.Common.{arith}
-use Rattle.bq_parts.proofs.Counts.{HasEachOnce-charge, keeps_charge}
+use Rattle.bq_parts.proofs.CountLemmas.{HasEachOnce-charge, keeps_charge}
 use Rattle.bq_parts.proofs.cpu.Cpu.tick.Goals as goal
 
 pub decide-preempted-requires-clause-once : goal.decide-preempted-requires-clause-once

@@ -1,8 +1,8 @@
 use Rattle.std.proofs.Common.{rules, FitsSigned, w8}
 use Rattle.std.proofs.lemmas.Int.{to_z-of_z}
 use Rattle.bq_cells.specs.Parts.{lobby_part}
-use Rattle.bq_cells.proofs.CallSteps.{admit_moves}
-use Rattle.bq_recording.proofs.Brief.{admits_brief}
+use Rattle.bq_cells.proofs.CallStepLemmas.{admit_moves}
+use Rattle.bq_recording.proofs.BriefLemmas.{admits_brief}
 use Rattle.bq_recording.proofs.recorder.Recorder.admit.Goals as goal
 
 pub commit_one-requires-clause-moves : goal.commit_one-requires-clause-moves

@@ -1,8 +1,8 @@
 use Rattle.std.proofs.Common.{Ok, ◌≡◌, ℕ, ap, sym, subst, ◌∙◌}
 use Rattle.bq_cells.specs.Parts.{cpu_part, inbox_part, HasPart}
-use Rattle.bq_cells.proofs.Looked.{SeenBoth, both_once, both_seated}
-use Rattle.bq_cells.proofs.CallSteps.{drain_moves}
-use Rattle.bq_recording.proofs.Ahead.{ahead_of}
+use Rattle.bq_cells.proofs.LookLemmas.{SeenBoth, both_once, both_seated}
+use Rattle.bq_cells.proofs.CallStepLemmas.{drain_moves}
+use Rattle.bq_recording.proofs.AheadLemmas.{ahead_of}
 use Rattle.bq_alike.specs.Brief.{has_loads}
 use Rattle.bq_recording.proofs.recorder.Recorder.drain.Goals as goal
 

@@ -4,9 +4,9 @@ use Rattle.bq_parts.specs.declared.carried.Carried.{Carried}
 use Rattle.bq_parts.specs.Choices.{policies}
 use Rattle.bq_parts.specs.Shares.{Places}
 use Rattle.bq_cells.specs.Parts.{cpu_part, inbox_part}
-use Rattle.bq_cells.proofs.Looked.{Seen, SeenInbox, seen_usable, seen_few}
-use Rattle.bq_cells.proofs.Woken.{placed_own}
-use Rattle.bq_cells.proofs.CallSteps.{place_moves}
+use Rattle.bq_cells.proofs.LookLemmas.{Seen, SeenInbox, seen_usable, seen_few}
+use Rattle.bq_cells.proofs.WakeLemmas.{placed_own}
+use Rattle.bq_cells.proofs.CallStepLemmas.{place_moves}
 use Rattle.bq_recording.proofs.recorder.Recorder.end_wake.Goals as goal
 
 pub place_task-woken-requires-clause-usable : goal.place_task-woken-requires-clause-usable

@@ -4,10 +4,10 @@ use Rattle.bq_policies.specs.Attachments.{Attached}
 use Rattle.bq_parts.specs.declared.event.Event.TheVariants.{Install}
 use Rattle.bq_parts.specs.Refusals.{argument_refusal}
 use Rattle.bq_parts.specs.Shares.{Installs}
-use Rattle.bq_core.proofs.Installs.{install_suits}
+use Rattle.bq_core.proofs.InstallLemmas.{install_suits}
 use Rattle.bq_cells.specs.Parts.{cpu_part}
-use Rattle.bq_cells.proofs.CallSteps.{install_moves}
-use Rattle.bq_recording.proofs.Brief.{installs_brief}
+use Rattle.bq_cells.proofs.CallStepLemmas.{install_moves}
+use Rattle.bq_recording.proofs.BriefLemmas.{installs_brief}
 use Rattle.bq_recording.proofs.recorder.Recorder.install.Goals as goal
 
 pub replace-reply-requires : goal.replace-reply-requires

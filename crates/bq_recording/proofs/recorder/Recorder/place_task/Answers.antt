@@ -1,5 +1,5 @@
 use Rattle.std.proofs.Common.{◌∙◌, ap}
-use Rattle.bq_recording.proofs.Ahead.{ahead_of}
+use Rattle.bq_recording.proofs.AheadLemmas.{ahead_of}
 use Rattle.bq_recording.proofs.recorder.Recorder.place_task.Goals as goal
 
 pub returns-clause-tally : goal.returns-clause-tally

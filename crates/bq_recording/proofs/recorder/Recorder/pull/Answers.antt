@@ -1,10 +1,10 @@
 use Rattle.std.proofs.Common.{Ok, ◌≡◌, ◌≢◌, ap, ◌∙◌, arith}
 use Rattle.bq_history.specs.Items.{kept_after}
 use Rattle.bq_cells.specs.Parts.{cpu_part, kept_by_pull}
-use Rattle.bq_cells.proofs.Reached.{reached_sound}
-use Rattle.bq_cells.proofs.Looked.{SeenTwo, two_once, two_seated}
-use Rattle.bq_cells.proofs.PullSteps.{pull_moves}
-use Rattle.bq_recording.proofs.Ahead.{ahead_of}
+use Rattle.bq_cells.proofs.ReachedLemmas.{reached_sound}
+use Rattle.bq_cells.proofs.LookLemmas.{SeenTwo, two_once, two_seated}
+use Rattle.bq_cells.proofs.PullStepLemmas.{pull_moves}
+use Rattle.bq_recording.proofs.AheadLemmas.{ahead_of}
 use Rattle.bq_alike.specs.Brief.{has_loads}
 use Rattle.bq_recording.proofs.recorder.Recorder.pull.Goals as goal
 

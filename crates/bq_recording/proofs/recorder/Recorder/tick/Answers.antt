@@ -1,8 +1,8 @@
 use Rattle.std.proofs.Common.{◌∙◌, sym, ap}
 use Rattle.bq_cells.specs.Parts.{cpu_part}
-use Rattle.bq_cells.proofs.Looked.{Seen, seen_once, seen_seated}
-use Rattle.bq_cells.proofs.CallSteps.{tick_moves}
-use Rattle.bq_recording.proofs.Ahead.{ahead_of}
+use Rattle.bq_cells.proofs.LookLemmas.{Seen, seen_once, seen_seated}
+use Rattle.bq_cells.proofs.CallStepLemmas.{tick_moves}
+use Rattle.bq_recording.proofs.AheadLemmas.{ahead_of}
 use Rattle.bq_recording.proofs.recorder.Recorder.tick.Goals as goal
 
 pub tick-reply-requires-clause-once : goal.tick-reply-requires-clause-once

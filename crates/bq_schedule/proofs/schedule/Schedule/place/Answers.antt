@@ -4,7 +4,7 @@ use Rattle.bq_schedule.specs.Figures.{Figures, processor_of}
 use Rattle.bq_schedule.specs.Passing.{read_at}
 use Rattle.bq_schedule.specs.Standing.{comes}
 use Rattle.bq_schedule.specs.Steps.{time_at, asked, woken}
-use Rattle.bq_schedule.proofs.Clocks.{read_there}
+use Rattle.bq_schedule.proofs.ClockLemmas.{read_there}
 use Rattle.bq_schedule.proofs.schedule.Schedule.place.Goals as goal
 
 -- the moment is what the processor's clock shows once it was read

@@ -1,6 +1,6 @@
 use Rattle.std.proofs.Common.{sym, ◌∙◌}
 use Rattle.std.proofs.lemmas.Slice.Eq.{slice_eq-Decides}
-use Rattle.bq_seats.proofs.SameCalls.{call_decides}
+use Rattle.bq_seats.proofs.SameCallLemmas.{call_decides}
 use Rattle.bq_seats.proofs.calls.Calls.is_same.Goals as goal
 
 pub returns : goal.returns

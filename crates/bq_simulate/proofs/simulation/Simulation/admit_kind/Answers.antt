@@ -1,7 +1,7 @@
 use Rattle.std.proofs.Common.{◌≡◌, ◌+◌, length, ap, ◌∙◌, arith}
 use Rattle.bq_roster.specs.declared.roster.Roster.{Roster}
 use Rattle.bq_simulate.specs.Steps.{AreOfOpening}
-use Rattle.bq_simulate.proofs.Deeds.{Lived-same, Lived-silent, Opening-join, Same-here}
+use Rattle.bq_simulate.proofs.DeedLemmas.{Lived-same, Lived-silent, Opening-join, Same-here}
 use Rattle.bq_simulate.proofs.KindLemmas.{nth-of-kind}
 use Rattle.bq_simulate.proofs.simulation.Simulation.admit_kind.Goals as goal
 

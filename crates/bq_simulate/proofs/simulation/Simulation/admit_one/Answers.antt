@@ -1,6 +1,6 @@
 use Rattle.std.proofs.Common.{refl}
 use Rattle.bq_simulate.specs.Steps.{AreOfOpening}
-use Rattle.bq_simulate.proofs.Deeds.{Lived-event}
+use Rattle.bq_simulate.proofs.DeedLemmas.{Lived-event}
 use Rattle.bq_simulate.proofs.simulation.Simulation.admit_one.Goals as goal
 
 pub returns-clause-befell : goal.returns-clause-befell

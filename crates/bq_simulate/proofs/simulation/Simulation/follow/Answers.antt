@@ -3,7 +3,7 @@ use Rattle.std.proofs.lemmas.Result.{on_ok_weaker}
 use Rattle.bq_actions.specs.declared.action.Action.{Action}
 use Rattle.bq_actions.specs.declared.action.Action.TheVariants.{Run, Sleep, Wait, Wake}
 use Rattle.bq_simulate.specs.Steps.{Follow}
-use Rattle.bq_simulate.proofs.Deeds.{Befell-after, Follow-same, Lived-same}
+use Rattle.bq_simulate.proofs.DeedLemmas.{Befell-after, Follow-same, Lived-same}
 use Rattle.bq_simulate.proofs.simulation.Simulation.follow.Goals as goal
 
 pub returns-in_ok-plan_end-in-Some-Run : goal.returns-in_ok-plan_end-in-Some-Run

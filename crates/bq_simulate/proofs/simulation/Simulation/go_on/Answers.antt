@@ -1,6 +1,6 @@
 use Rattle.std.proofs.Common.{◌≤◌, ◌+◌, arith}
 use Rattle.bq_simulate.specs.Steps.{AreMet, Meet}
-use Rattle.bq_simulate.proofs.Deeds.{Lived-join, Lived-same, Lived-weaker, Same-here}
+use Rattle.bq_simulate.proofs.DeedLemmas.{Lived-join, Lived-same, Lived-weaker, Same-here}
 use Rattle.bq_simulate.proofs.StepLemmas.{AreMet-more, AreMet-none, AreMet-within}
 use Rattle.bq_simulate.proofs.simulation.Simulation.go_on.Goals as goal
 

@@ -1,7 +1,7 @@
 use Rattle.std.proofs.Common.{refl, Some}
 use Rattle.bq_parts.specs.declared.event.Event.TheVariants.{Install}
 use Rattle.bq_simulate.specs.Steps.{AreOfOpening}
-use Rattle.bq_simulate.proofs.Deeds.{Lived-drove, Lived-same, Opening-join, Same-here}
+use Rattle.bq_simulate.proofs.DeedLemmas.{Lived-drove, Lived-same, Opening-join, Same-here}
 use Rattle.bq_simulate.proofs.simulation.Simulation.install_one.Goals as goal
 
 pub processors-preserved : goal.processors-preserved

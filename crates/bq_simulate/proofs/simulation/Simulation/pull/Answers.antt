@@ -3,7 +3,7 @@ use Rattle.std.proofs.lemmas.Result.{on_ok_weaker}
 use Rattle.bq_agenda.specs.declared.due.Due.TheVariants.{Pull}
 use Rattle.bq_simulate.specs.Simulations.{Same}
 use Rattle.bq_simulate.specs.Steps.{Meet}
-use Rattle.bq_simulate.proofs.Deeds.{Befell-after, Befell-weaker, Lived-same}
+use Rattle.bq_simulate.proofs.DeedLemmas.{Befell-after, Befell-weaker, Lived-same}
 use Rattle.bq_simulate.proofs.simulation.Simulation.pull.Goals as goal
 
 pub returns-in-Some : goal.returns-in-Some

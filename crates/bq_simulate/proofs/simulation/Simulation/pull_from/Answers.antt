@@ -4,7 +4,7 @@ use Rattle.bq_parts.specs.declared.event.Event.TheVariants.{Pull}
 use Rattle.bq_driver.specs.Drives.{runs_now}
 use Rattle.bq_roster.specs.Accounts.{Accounts, accounts_of, passed, switched}
 use Rattle.bq_simulate.specs.Steps.{AreJust}
-use Rattle.bq_simulate.proofs.Deeds.{Lived-event}
+use Rattle.bq_simulate.proofs.DeedLemmas.{Lived-event}
 use Rattle.bq_simulate.proofs.simulation.Simulation.pull_from.Goals as goal
 
 pub returns : goal.returns

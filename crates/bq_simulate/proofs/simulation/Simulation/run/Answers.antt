@@ -5,8 +5,8 @@ use Rattle.bq_simulate.specs.Bounds.{most_steps}
 use Rattle.bq_simulate.specs.Chronicles.{Deed}
 use Rattle.bq_simulate.specs.Simulations.{Proceeds}
 use Rattle.bq_simulate.specs.Steps.{AreJust, AreMet, AreOfOpening, all_processors, last_ticks}
-use Rattle.bq_simulate.proofs.Deeds.{Lived-join, Lived-then, Lived-weaker, Opening-join}
-use Rattle.bq_simulate.proofs.Wholes.{Proceeds-join}
+use Rattle.bq_simulate.proofs.DeedLemmas.{Lived-join, Lived-then, Lived-weaker, Opening-join}
+use Rattle.bq_simulate.proofs.WholeLemmas.{Proceeds-join}
 use Rattle.bq_simulate.proofs.simulation.Simulation.run.Goals as goal
 
 pub returns : goal.returns

@@ -3,7 +3,7 @@ use Rattle.bq_actions.specs.declared.action.Action.{Action}
 use Rattle.bq_actions.specs.declared.action.Length.{Length}
 use Rattle.bq_simulate.specs.Actions.{acted, asked_by}
 use Rattle.bq_simulate.specs.Simulations.{DrawsFor}
-use Rattle.bq_simulate.proofs.Deeds.{Silent-acts}
+use Rattle.bq_simulate.proofs.DeedLemmas.{Silent-acts}
 use Rattle.bq_simulate.proofs.simulation.Simulation.take_action.Goals as goal
 
 pub returns : goal.returns

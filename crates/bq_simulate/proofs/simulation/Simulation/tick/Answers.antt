@@ -3,8 +3,8 @@ use Rattle.std.specs.Prelude.{slice_get}
 use Rattle.bq_parts.specs.declared.event.Event.TheVariants.{Tick}
 use Rattle.bq_roster.specs.Accounts.{Accounts, accounts_of, switched}
 use Rattle.bq_simulate.specs.Steps.{AreJust}
-use Rattle.bq_simulate.proofs.Deeds.{Lived-event}
-use Rattle.bq_simulate.proofs.Lanes.{switched-others}
+use Rattle.bq_simulate.proofs.DeedLemmas.{Lived-event}
+use Rattle.bq_simulate.proofs.LaneLemmas.{switched-others}
 use Rattle.bq_simulate.proofs.simulation.Simulation.tick.Goals as goal
 
 pub returns-clause-befell : goal.returns-clause-befell

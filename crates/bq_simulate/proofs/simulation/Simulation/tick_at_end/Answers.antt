@@ -5,8 +5,8 @@ use Rattle.bq_parts.specs.declared.event.Event.TheVariants.{Tick}
 use Rattle.bq_roster.specs.Accounts.{accounts_of}
 use Rattle.bq_simulate.specs.Chronicles.{is_busy}
 use Rattle.bq_simulate.specs.Steps.{AreJust, last_ticks}
-use Rattle.bq_simulate.proofs.Deeds.{Befell-weaker, Lived-same, Same-here}
-use Rattle.bq_simulate.proofs.Lanes.{busy_at, busy_tick, idle_tick}
+use Rattle.bq_simulate.proofs.DeedLemmas.{Befell-weaker, Lived-same, Same-here}
+use Rattle.bq_simulate.proofs.LaneLemmas.{busy_at, busy_tick, idle_tick}
 use Rattle.bq_simulate.proofs.simulation.Simulation.tick_at_end.Goals as goal
 
 pub returns-in-Some-clause-befell : goal.returns-in-Some-clause-befell

@@ -5,7 +5,7 @@ use Rattle.bq_driver.proofs.DriveLemmas.{Drove-join, Drove-one}
 use Rattle.bq_roster.specs.declared.roster.Pace.{Pace}
 use Rattle.bq_roster.specs.Accounts.{Accounts, accounts_of, entered_by, of_task}
 use Rattle.bq_roster.specs.Courses.{woken}
-use Rattle.bq_simulate.proofs.Deeds.{Lived-wakes}
+use Rattle.bq_simulate.proofs.DeedLemmas.{Lived-wakes}
 use Rattle.bq_simulate.proofs.simulation.Simulation.wake.Goals as goal
 
 pub returns-clause-events : goal.returns-clause-events

@@ -1,7 +1,7 @@
 use Rattle.std.proofs.Common.{refl, inl, inr}
 use Rattle.std.proofs.lemmas.Result.{on_ok_weaker}
 use Rattle.bq_simulate.specs.Steps.{Wakes}
-use Rattle.bq_simulate.proofs.Deeds.{Befell-weaker, Lived-same}
+use Rattle.bq_simulate.proofs.DeedLemmas.{Befell-weaker, Lived-same}
 use Rattle.bq_simulate.proofs.simulation.Simulation.wake_next.Goals as goal
 
 pub returns-in-Waiting : goal.returns-in-Waiting

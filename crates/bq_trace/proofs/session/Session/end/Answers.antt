@@ -9,8 +9,8 @@ use Rattle.bq_trace.specs.Writing.{Adds, AppendsPart}
 use Rattle.bq_trace.specs.Feeding.{BreaksOff, Finishes}
 use Rattle.bq_trace.specs.Telling.{Story}
 use Rattle.bq_trace.specs.declared.trace_position.TracePosition.{TracePosition}
-use Rattle.bq_trace.proofs.StoryTexts.{gets_text, story_text}
-use Rattle.bq_trace.proofs.SessionLemmas.{on_err, feeds_none, finishes_part, finishes_all}
+use Rattle.bq_trace.proofs.StoryTextLemmas.{gets_text, story_text}
+use Rattle.bq_trace.proofs.SessionLemmas.{OnErr-anyhow, feeds_none, finishes_part, finishes_all}
 use Rattle.bq_trace.proofs.session.Session.end.Goals as goal
 
 pub returns-in_err-end-clause-part : goal.returns-in_err-end-clause-part
@@ -18,7 +18,7 @@ returns-in_err-end-clause-part g c =
     let s = c.args.self.now in
     let w = g.W.Write.contents (inner_of c.args.out.now) in
     let part : (begun : List ℕ) → StandsFor s.begun begun → BreaksOff s begun [] w w = λ begun h. feeds_none s begun [] w in
-    on_err _ part
+    OnErr-anyhow _ part
 
 pub returns-in_err-write_text-clause-part : goal.returns-in_err-write_text-clause-part
 returns-in_err-write_text-clause-part g c =
@@ -35,7 +35,7 @@ returns-in_err-write_text-clause-part g c =
     let added : Adds [] answers (λ l. AnswersAll s.progress (lines begun) l t.progress) = rw c.clear.ensures.bytes at told in
     finishes_part s t begun answers old new added written
     in
-    on_err _ (subst (λ (s : TracePosition). (begun : List ℕ) → StandsFor s.begun begun → BreaksOff s begun [] old new) c.self.view_is all)
+    OnErr-anyhow _ (subst (λ (s : TracePosition). (begun : List ℕ) → StandsFor s.begun begun → BreaksOff s begun [] old new) c.self.view_is all)
 
 pub returns-clause-ok : goal.returns-clause-ok
 returns-clause-ok g c =

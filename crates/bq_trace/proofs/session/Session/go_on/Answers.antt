@@ -7,8 +7,8 @@ use Rattle.bq_trace.specs.Writing.{Adds, AppendsPart}
 use Rattle.bq_trace.specs.Feeding.{Continues, Feeds, BreaksOff}
 use Rattle.bq_trace.specs.Telling.{GoesOn}
 use Rattle.bq_trace.specs.declared.trace_position.TracePosition.{TracePosition}
-use Rattle.bq_trace.proofs.StoryTexts.{gets_text, goes_on_text}
-use Rattle.bq_trace.proofs.SessionLemmas.{on_err, feeds_none, feeds_part, feeds_all}
+use Rattle.bq_trace.proofs.StoryTextLemmas.{gets_text, goes_on_text}
+use Rattle.bq_trace.proofs.SessionLemmas.{OnErr-anyhow, feeds_none, feeds_part, feeds_all}
 use Rattle.bq_trace.proofs.session.Session.go_on.Goals as goal
 
 pub returns-in_err-go_on-clause-part : goal.returns-in_err-go_on-clause-part
@@ -16,7 +16,7 @@ returns-in_err-go_on-clause-part g c =
     let s = c.args.self.now in
     let w = g.W.Write.contents (inner_of c.args.out.now) in
     let part : (begun : List ℕ) → StandsFor s.begun begun → BreaksOff s begun c.args.piece.now w w = λ begun h. feeds_none s begun c.args.piece.now w in
-    on_err _ part
+    OnErr-anyhow _ part
 
 pub returns-in_err-write_text-clause-part : goal.returns-in_err-write_text-clause-part
 returns-in_err-write_text-clause-part g c =
@@ -34,7 +34,7 @@ returns-in_err-write_text-clause-part g c =
     let added : Adds [] answers (λ l. Continues s begun piece l t) = rw c.clear.ensures.bytes at told in
     feeds_part s t begun piece answers old new added written
     in
-    on_err _ (subst (λ (s : TracePosition). (begun : List ℕ) → StandsFor s.begun begun → BreaksOff s begun piece old new) c.self.view_is all)
+    OnErr-anyhow _ (subst (λ (s : TracePosition). (begun : List ℕ) → StandsFor s.begun begun → BreaksOff s begun piece old new) c.self.view_is all)
 
 pub returns-clause-ok : goal.returns-clause-ok
 returns-clause-ok g c =

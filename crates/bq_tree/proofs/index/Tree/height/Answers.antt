@@ -1,6 +1,6 @@
 use Rattle.std.proofs.Common.{◌≤◌, length, arith}
 use Rattle.bq_tree.specs.Trees.{in_order_behind}
-use Rattle.bq_tree.proofs.HeightFacts.{low_of_few, full_behind}
+use Rattle.bq_tree.proofs.HeightLemmas.{low_of_few, full_behind}
 use Rattle.bq_tree.proofs.index.Tree.height.Goals as goal
 
 pub returns-clause-low : goal.returns-clause-low

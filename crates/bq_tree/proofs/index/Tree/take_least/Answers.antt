@@ -1,7 +1,7 @@
 use Rattle.std.proofs.Common.{arith}
 use Rattle.bq_tree.specs.Trees.{in_order_behind}
-use Rattle.bq_disc.proofs.QueueFacts.{length-few}
-use Rattle.bq_tree.proofs.HeightFacts.{low_of_many}
+use Rattle.bq_disc.proofs.QueueLemmas.{length-few}
+use Rattle.bq_tree.proofs.HeightLemmas.{low_of_many}
 use Rattle.bq_tree.proofs.index.Tree.take_least.Goals as goal
 
 pub pop_least-requires-clause-low : goal.pop_least-requires-clause-low

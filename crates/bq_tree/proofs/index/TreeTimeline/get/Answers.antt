@@ -1,7 +1,7 @@
 use Rattle.std.proofs.Common.{List, ap, ◌∙◌}
 use Rattle.bq_disc.specs.Tasks.{Task, with_id}
 use Rattle.bq_tree.specs.Trees.{in_order_behind}
-use Rattle.bq_tree.proofs.SoundFacts.{Finds-id}
+use Rattle.bq_tree.proofs.SoundLemmas.{Finds-id}
 use Rattle.bq_tree.proofs.index.TreeTimeline.get.Goals as goal
 
 pub returns-clause-task : goal.returns-clause-task

@@ -4,10 +4,10 @@ use Rattle.bq_disc.specs.Queues.{key_of}
 use Rattle.bq_disc.specs.Chains.{task_of}
 use Rattle.bq_tree.specs.Trees.{in_order_behind}
 use Rattle.bq_disc.specs.declared.node.Node.{Node, out-Node}
-use Rattle.bq_disc.proofs.QueueFacts.{length-few}
+use Rattle.bq_disc.proofs.QueueLemmas.{length-few}
 use Rattle.bq_tree.specs.Sound.{Knows, lesser_of}
-use Rattle.bq_tree.proofs.HeightFacts.{low_of_many}
-use Rattle.bq_tree.proofs.IndexFacts.{room, sound_inserted}
+use Rattle.bq_tree.proofs.HeightLemmas.{low_of_many}
+use Rattle.bq_tree.proofs.IndexLemmas.{room, sound_inserted}
 use Rattle.bq_tree.proofs.index.TreeTimeline.insert.Goals as goal
 
 pub insert_into-requires : goal.insert_into-requires

@@ -3,7 +3,7 @@ use Rattle.std.specs.Option.{option_map}
 use Rattle.bq_disc.specs.Tasks.{Task, first_by, runs_before}
 use Rattle.bq_disc.specs.Queues.{key_of}
 use Rattle.bq_tree.specs.Trees.{in_order_behind}
-use Rattle.bq_disc.proofs.RisingFacts.{head-first_by}
+use Rattle.bq_disc.proofs.RisingLemmas.{head-first_by}
 use Rattle.bq_tree.proofs.index.TreeTimeline.least.Goals as goal
 
 pub returns-clause-key : goal.returns-clause-key

@@ -2,10 +2,10 @@ use Rattle.std.proofs.Common.{rules, ◌≡◌, ◌+◌, ◌-◌, ◌∷◌, Lis
 use Rattle.bq_disc.specs.Tasks.{Task, with_id, without}
 use Rattle.bq_disc.specs.Chains.{task_of}
 use Rattle.bq_tree.specs.Trees.{in_order_behind}
-use Rattle.bq_disc.proofs.QueueFacts.{length-few, with_id-without_same}
-use Rattle.bq_tree.proofs.HeightFacts.{low_of_many}
-use Rattle.bq_tree.proofs.SoundFacts.{Takes-id}
-use Rattle.bq_tree.proofs.IndexFacts.{sound_taken, leads_on}
+use Rattle.bq_disc.proofs.QueueLemmas.{length-few, with_id-without_same}
+use Rattle.bq_tree.proofs.HeightLemmas.{low_of_many}
+use Rattle.bq_tree.proofs.SoundLemmas.{Takes-id}
+use Rattle.bq_tree.proofs.IndexLemmas.{sound_taken, leads_on}
 use Rattle.bq_tree.proofs.index.TreeTimeline.take.Goals as goal
 
 pub take_from-requires : goal.take_from-requires

@@ -1,4 +1,4 @@
-use Rattle.bq_tree.proofs.InsertFacts.{counted}
+use Rattle.bq_tree.proofs.InsertLemmas.{counted}
 use Rattle.bq_tree.proofs.summary.SumsSummary.count_in.Goals as goal
 
 pub returns : goal.returns

@@ -1,0 +1,186 @@
+-- What each event keeps of every processor: its queue rises, and whatever stands at its hooks may stand there.
+use Rattle.std.proofs.Common.{◌≡◌, ℕ, zero, suc, Bool, true, false, List, [], ◌∷◌, Option, Some, None, refl, sym, subst, get_or, set}
+use Rattle.std.specs.Prelude.{◌==◌}
+use Rattle.bq_disc.specs.Tasks.{Task, with_id, without, place, id_of}
+use Rattle.bq_disc.specs.Rising.{IsRising}
+use Rattle.bq_disc.specs.Discipline.{Discipline, woken, pulled, next_of}
+use Rattle.bq_disc.specs.OneProcessor.{Running, run_id, start, exchanged, switched, decided, entered}
+use Rattle.bq_disc.proofs.RisingLemmas.{IsRising-place, IsRising-without}
+use Rattle.bq_bpf.specs.declared.board.Call.{Call as Asked}
+use Rattle.bq_bpf.specs.declared.hook.Hook.{Hook}
+use Rattle.bq_bpf.specs.declared.hook.Hook.TheVariants.{Place, Preempt, Pull}
+use Rattle.bq_bpf.specs.declared.hook.Version.{Version}
+use Rattle.bq_verify.specs.Accepted.{Accepted}
+use Rattle.bq_policies.specs.Attachments.{Attached, Attachments, none_attached, with_attached}
+use Rattle.bq_hooks.specs.Permitted.{task_numbered}
+use Rattle.bq_policies.specs.Standing.{IsEquipped, MayStand, AreReady}
+use Rattle.bq_parts.specs.declared.event.Event.{Event}
+use Rattle.bq_parts.specs.declared.event.Event.TheVariants as event
+use Rattle.bq_parts.specs.declared.reply.Reply.{Reply}
+use Rattle.bq_parts.specs.Processors.{Processor, opening}
+use Rattle.bq_parts.specs.World.{World, processor, inbox, with_processor}
+use Rattle.bq_parts.specs.Choices.{Regime, Decision, SettlesBy, SettlesPreempt, decided_by}
+use Rattle.bq_parts.specs.Moves.{taken_from, without_task, with_pulled, started_if_idle}
+use Rattle.bq_parts.specs.Shares.{after_time, remarked, Decides}
+use Rattle.bq_parts.specs.Steps.{Performs}
+
+pub record IsWell (p : Processor) : Type 0 where
+  pub rising : IsRising p.running.queue
+  pub ready : AreReady p.hooks
+
+-- the queue of every processor rises, and whatever stands at its hooks may stand there
+abbrev pub AllWell : World → Type 0
+AllWell w = (cpu : ℕ) → IsWell (processor w cpu)
+
+-- a fact of each place of a list, after one place was written
+pub at_set : {X : Type 0} (Q : ℕ → X → Type 0) (xs : List X) (i : ℕ) (x d : X) → Q i x → ((j : ℕ) → Q j (get_or xs j d)) → (j : ℕ) → Q j (get_or (set xs i x) j d)
+at_set Q [] i x d q h j = h j
+at_set Q (y ∷ ys) zero x d q h zero = q
+at_set Q (y ∷ ys) zero x d q h (suc j) = h (suc j)
+at_set Q (y ∷ ys) (suc i) x d q h zero = h zero
+at_set Q (y ∷ ys) (suc i) x d q h (suc j) = at_set (λ n. Q (suc n)) ys i x d q (λ n. h (suc n)) j
+
+-- a processor is written
+pub well_at : (w : World) (cpu : ℕ) (q : Processor) → AllWell w → IsWell q → AllWell (with_processor w cpu q)
+well_at w cpu q all well = at_set (λ n (p : Processor). IsWell p) w.processors cpu q opening well all
+
+-- nothing stands at the opening
+pub opening_well : IsWell opening
+opening_well = record { rising = tt; ready = none }
+  where
+    none : AreReady none_attached
+    none Place = (tt, tt)
+    none Preempt = (tt, tt)
+    none Pull = (tt, tt)
+
+-- Queues
+
+rising_run : (p : Running) (o : Option ℕ) → IsRising p.queue → IsRising (run_id p o).queue
+rising_run p None h = h
+rising_run p (Some id) h = IsRising-without id p.queue h
+
+rising_exchanged : (p : Running) (old : Task) (o : Option Task) → IsRising p.queue → IsRising (exchanged p old o).queue
+rising_exchanged p old None h = h
+rising_exchanged p old (Some new) h = IsRising-place old (without new.id p.queue) (IsRising-without new.id p.queue h)
+
+rising_switched : (d : Discipline) (p : Running) (o : Option Task) → IsRising p.queue → IsRising (switched d p o).queue
+rising_switched d p None h = h
+rising_switched d p (Some t) h = rising_exchanged p t (with_id (next_of d t p.queue) p.queue) h
+
+rising_start : (d : Discipline) (p : Running) → IsRising p.queue → IsRising (start d p).queue
+rising_start d p h = rising_run p (id_of (d.choice p.queue)) h
+
+rising_decided : (d : Discipline) (p : Running) (o : Option Task) (gives_way : Bool) → IsRising p.queue → IsRising (decided d p o gives_way).queue
+rising_decided d p None b h = rising_start d p h
+rising_decided d p (Some t) true h = rising_switched d p (Some t) h
+rising_decided d p (Some t) false h = h
+
+rising_entered : (d : Discipline) (kept : ℕ) (queue tasks : List Task) → IsRising queue → IsRising (entered d kept queue tasks)
+rising_entered d kept queue [] h = h
+rising_entered d kept queue (t ∷ tasks) h = rising_entered d kept (place (woken d kept t) queue) tasks (IsRising-place (woken d kept t) queue h)
+
+rising_pulled : (d : Discipline) (p : Running) (o : Option Task) → IsRising p.queue → IsRising (with_pulled d p o).queue
+rising_pulled d p None h = h
+rising_pulled d p (Some t) h = IsRising-place (pulled d p.kept t) p.queue h
+
+rising_started : (d : Discipline) (p : Running) (o : Option Task) → IsRising p.queue → IsRising (started_if_idle d p o).queue
+rising_started d p None h = rising_start d p h
+rising_started d p (Some t) h = h
+
+rising_taken : (p : Running) (task : Option ℕ) → IsRising p.queue → IsRising (without_task p task).queue
+rising_taken p None h = h
+rising_taken p (Some id) h = IsRising-without id p.queue h
+
+-- Hooks
+
+-- something else that may stand there
+ready_with : (hooks : Attachments) (hook : Hook) (new : Attached) → AreReady hooks → MayStand hook new → AreReady (with_attached hook hooks new)
+ready_with hooks Place new h m Place = m
+ready_with hooks Place new h m Preempt = h Preempt
+ready_with hooks Place new h m Pull = h Pull
+ready_with hooks Preempt new h m Place = h Place
+ready_with hooks Preempt new h m Preempt = m
+ready_with hooks Preempt new h m Pull = h Pull
+ready_with hooks Pull new h m Place = h Place
+ready_with hooks Pull new h m Preempt = h Preempt
+ready_with hooks Pull new h m Pull = m
+
+-- a policy that was asked stands there as before, with maps of its shapes
+settled_stands : (s : Regime) (hook : Hook) (policy : Option Accepted) (context : Version → List ℕ) (attached : Attached) (now cpu : ℕ) (permitted : ℕ → Bool) (own : ℕ) (settled : Decision) →
+    attached.policy ≡ policy → SettlesBy s policy context attached now cpu permitted own settled → MayStand hook attached → MayStand hook settled.attached
+settled_stands s hook None context attached now cpu permitted own settled is h m = rw h m
+settled_stands s hook (Some p) context attached now cpu permitted own settled is h m =
+    let had : IsEquipped (Some p) attached.maps = subst (λ (o : Option Accepted). IsEquipped o attached.maps) is m.1 in
+    rw h.3 (m.0, subst (λ (o : Option Accepted). IsEquipped o h.1) (sym is) (had.0, h.7))
+
+preempt_stands : (s : Regime) (cpu : ℕ) (p : Processor) (o : Option Task) (settled : Decision) → SettlesPreempt s cpu p o settled → AreReady p.hooks → MayStand Preempt settled.attached
+preempt_stands s cpu p None settled h ready = rw h (ready Preempt)
+preempt_stands s cpu p (Some t) settled h ready = settled_stands s Preempt p.hooks.preempt.policy _ p.hooks.preempt p.running.last cpu _ _ settled refl h (ready Preempt)
+
+-- Processors
+
+decides_well : (s : Regime) (cpu : ℕ) (p : Processor) (settled : Decision) (q : Processor) → Decides s cpu p settled q → IsWell p → IsWell q
+decides_well s cpu p settled q h well =
+    let q' : IsWell (decided_by s p settled) = record {
+      rising = rising_decided s.discipline p.running p.running.current (settled.choice == 1) well.rising;
+      ready = ready_with p.hooks Preempt settled.attached well.ready (preempt_stands s cpu p p.running.current settled h.0 well.ready);
+    } in
+    subst IsWell (sym h.1) q'
+
+-- time changes neither
+time_well : (d : Discipline) (now : ℕ) (p : Processor) → IsWell p → IsWell (after_time d now p)
+time_well d now p well = record { rising = well.rising; ready = well.ready }
+
+-- an event that is not refused keeps all processors well
+pub performs_well : (s : Regime) (w : World) (e : Event) (calls : List Asked) (r : Reply) (w' : World) → AllWell w → Performs s w e calls r w' → AllWell w'
+performs_well s w (event.Admit id nice mask slice) calls r w' all k = rw k.3 all
+performs_well s w (event.Retire id) calls r w' all k = rw k.3 all
+performs_well s w event.Draw calls r w' all k = rw k.2 all
+performs_well s w (event.Install cpu h g policy) calls r w' all k =
+    let p = processor w cpu in
+    let well = all cpu in
+    let i = k.1 in
+    let q : IsWell k.0 = rw i.2 (record { rising = well.rising; ready = ready_with p.hooks h _ well.ready i.3 }) in
+    rw k.3 (well_at w cpu k.0 all q)
+performs_well s w (event.BeginWake cpu id) calls r w' all k =
+    let well = all cpu in
+    let q : IsWell k.0 = rw k.2.4 (record { rising = well.rising; ready = well.ready }) in
+    rw k.4 (well_at w cpu k.0 all q)
+performs_well s w (event.EndWake cpu now) calls r w' all k =
+    let p = processor w cpu in
+    let c = after_time s.discipline now p in
+    let well = all cpu in
+    let b = k.2 in
+    let new = settled_stands s Place c.hooks.place.policy _ c.hooks.place c.running.last cpu _ _ b.1 refl b.4.0 (well.ready Place) in
+    let q : IsWell k.1 = rw b.4.5 (record { rising = well.rising; ready = ready_with c.hooks Place b.1.attached well.ready new }) in
+    rw k.4 (well_at w cpu k.1 all q)
+performs_well s w (event.Drain cpu now) calls r w' all k =
+    let c = after_time s.discipline now (processor w cpu) in
+    let well = all cpu in
+    let q = decides_well s cpu _ k.1.0 k.0 k.1.1 (record { rising = rising_entered s.discipline c.running.kept c.running.queue (inbox w cpu) well.rising; ready = well.ready }) in
+    rw k.2 (well_at w cpu k.0 all q)
+performs_well s w (event.Tick cpu now) calls r w' all k =
+    rw k.2 (well_at w cpu k.0 all (decides_well s cpu _ k.1.0 k.0 k.1.1 (time_well s.discipline now (processor w cpu) (all cpu))))
+performs_well s w (event.Block cpu now) calls r w' all k =
+    let c = after_time s.discipline now (processor w cpu) in
+    let well = all cpu in
+    let gone : Running = record c.running { current = None } in
+    let q : IsWell k.0 = rw k.2.1.1 (record { rising = rising_start s.discipline gone well.rising; ready = well.ready }) in
+    rw k.4 (well_at w cpu k.0 all q)
+performs_well s w (event.Pull cpu from now) calls r w' all k =
+    let d = s.discipline in
+    let c = after_time d now (processor w cpu) in
+    let other = processor w from in
+    let x = k.2 in
+    let source : Running = (remarked d other).running in
+    let task = task_numbered x.0.choice in
+    let taken = taken_from source task in
+    let well = all cpu in
+    let there = all from in
+    let new = settled_stands s Pull c.hooks.pull.policy _ c.hooks.pull c.running.last cpu _ _ x.0 refl x.1.0 (well.ready Pull) in
+    let q : IsWell k.0 = rw x.1.3 (record {
+      rising = rising_started d (with_pulled d c.running taken) c.running.current (rising_pulled d c.running taken well.rising);
+      ready = ready_with c.hooks Pull x.0.attached well.ready new;
+    }) in
+    let o : IsWell k.1 = rw x.1.4 (record { rising = rising_taken source task there.rising; ready = there.ready }) in
+    rw k.3 (well_at (with_processor w cpu k.0) from k.1 (well_at w cpu k.0 all q) o)

@@ -1,0 +1,35 @@
+-- What an Install tells whose arguments nothing refuses.
+use Rattle.std.proofs.Common.{◌≡◌, ℕ, ◌<◌, true, Option, Some, None, refl}
+use Rattle.std.specs.Prelude.{not}
+use Rattle.bq_parts.specs.declared.event.Event.TheVariants.{Install}
+use Rattle.bq_bpf.specs.declared.hook.Hook.{Hook}
+use Rattle.bq_bpf.specs.declared.hook.Hook.TheVariants.{Place, Preempt, Pull}
+use Rattle.bq_verify.specs.Accepted.{Accepted}
+use Rattle.bq_policies.specs.Attachments.{IsFor}
+use Rattle.bq_parts.specs.declared.refusal.Refusal.TheVariants as no
+use Rattle.bq_parts.specs.Refusals.{argument_refusal, same_hook, is_for}
+use Rattle.bq_core.proofs.OrderLemmas.{there, passed, not_false}
+
+-- equal hooks are one
+one_hook : (a b : Hook) → same_hook a b ≡ true → b ≡ a
+one_hook Place Place h = refl
+one_hook Place Preempt h = cc
+one_hook Place Pull h = cc
+one_hook Preempt Place h = cc
+one_hook Preempt Preempt h = refl
+one_hook Preempt Pull h = cc
+one_hook Pull Place h = cc
+one_hook Pull Preempt h = cc
+one_hook Pull Pull h = refl
+
+for_by_case : (h : Hook) (o : Option Accepted) → is_for h o ≡ true → IsFor h o
+for_by_case h None e = tt
+for_by_case h (Some p) e = one_hook h p.hook e
+
+-- where no argument is refused the processor is there
+pub install_there : (count cpu g : ℕ) (h : Hook) (o : Option Accepted) → argument_refusal count (Install cpu h g o) ≡ None → cpu < count
+install_there count cpu g h o e = (there count cpu _ e).0
+
+-- and the policy was verified for the hook
+pub install_suits : (count cpu g : ℕ) (h : Hook) (o : Option Accepted) → argument_refusal count (Install cpu h g o) ≡ None → IsFor h o
+install_suits count cpu g h o e = for_by_case h o (not_false (is_for h o) (passed (not (is_for h o)) no.WrongHook None (there count cpu _ e).1).0)

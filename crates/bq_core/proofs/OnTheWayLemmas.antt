@@ -1,0 +1,225 @@
+-- Order while some tasks are on their way: they stand nowhere, and are counted beside those that stand.
+use Rattle.std.proofs.Common.{◌≡◌, ◌≢◌, ℕ, zero, suc, ◌+◌, ◌<◌, List, [], ◌∷◌, length, Some, None, refl, sym, subst, ap, ◌∙◌, arith, inl, inr, get_or, set}
+use Rattle.std.specs.Prelude.{All, replicate}
+use Rattle.std.specs.Option.{option_map, option_to_list}
+use Rattle.std.proofs.lemmas.List.{length-set, length-replicate, get_or_past}
+use Rattle.std.proofs.lemmas.Bool.{cases_lt}
+use Rattle.std.proofs.lemmas.Bool.Decides.{nat_tests}
+use Rattle.bq_disc.specs.Tasks.{Task}
+use Rattle.bq_disc.specs.OneProcessor.{present_at}
+use Rattle.bq_parts.specs.declared.carried.Carried.{Carried}
+use Rattle.bq_parts.specs.declared.lobby_entry.LobbyEntry.{LobbyEntry}
+use Rattle.bq_parts.specs.declared.lobby_entry.LobbyEntry.TheVariants.{Absent, Blocked, Away}
+use Rattle.bq_parts.specs.Processors.{Processor, opening, count_of, held_by, in_hand}
+use Rattle.bq_parts.specs.World.{World, processor, inbox, seat, count_in, with_processor, with_inbox, with_seats}
+use Rattle.bq_parts.specs.Refusals.{is_away}
+use Rattle.bq_hooks.specs.Contexts.{as_number}
+use Rattle.bq_hooks.specs.OwnPlace.{HasPlace}
+use Rattle.bq_parts.specs.StandsOnce.{held_count, placed_count, standing_count, runnable_at, IsOrderly}
+use Rattle.bq_core.proofs.EachProcessorLemmas.{AllWell, at_set}
+use Rattle.bq_core.proofs.SuitableTaskLemmas.{unsuited, Suits, none_unsuited, all_suit}
+use Rattle.bq_parts.proofs.TallyLemmas.{tally, tally-append}
+use Rattle.bq_parts.proofs.CountLemmas.{one, ones, one_self, count_of-tally}
+use Rattle.bq_parts.proofs.OnceLemmas.{count_of-held_by, as_number_le}
+
+-- one seat is written
+abbrev pub with_seat : World → ℕ → LobbyEntry → World
+with_seat w id s = with_seats w (set w.seats id s)
+
+-- order in a world of so many processors, with some tasks on their way
+pub record IsTidy (count : ℕ) (floating : List Task) (w : World) : Type 0 where
+  pub many : length w.processors ≡ count
+  pub boxes : length w.inboxes ≡ count
+  pub away : (id : ℕ) → standing_count id w + count_of id floating ≡ as_number (is_away (seat w id))
+  pub blocked : (id : ℕ) (t : Task) → seat w id ≡ Blocked t → (t.id ≡ id) × HasPlace count t
+  pub hand : (cpu : ℕ) (c : Carried) → (processor w cpu).hand ≡ Some c → HasPlace count c.task
+  pub present : (cpu : ℕ) → tally (unsuited count cpu) (present_at (processor w cpu).running) ≡ 0
+  pub placed : (cpu : ℕ) → tally (unsuited count cpu) (inbox w cpu) ≡ 0
+
+-- an orderly world is tidy with none on its way
+pub tidy_of : (w : World) → IsOrderly w → IsTidy (count_in w) [] w
+tidy_of w o =
+    let none : (cpu : ℕ) → tally (unsuited (count_in w) cpu) (runnable_at w cpu) ≡ 0 = λ cpu. none_unsuited (count_in w) cpu (runnable_at w cpu) (o.once.allowed cpu) (o.places.runnable cpu) in
+    let split : (cpu : ℕ) → tally (unsuited (count_in w) cpu) (runnable_at w cpu) ≡ tally (unsuited (count_in w) cpu) (present_at (processor w cpu).running) + tally (unsuited (count_in w) cpu) (inbox w cpu) =
+    λ cpu. tally-append (unsuited (count_in w) cpu) (present_at (processor w cpu).running) (inbox w cpu) in
+    record {
+      many = refl;
+      boxes = o.even;
+      away = λ id. omega (arith, o.once.away id);
+      blocked = λ id t e. (o.once.blocked id t e, o.places.in_lobby id t e);
+      hand = o.places.in_hand;
+      present = λ cpu. omega (arith, none cpu, split cpu);
+      placed = λ cpu. omega (arith, none cpu, split cpu);
+    }
+
+-- and the other way round, where all processors are well
+pub orderly_of : (w : World) → IsTidy (count_in w) [] w → AllWell w → IsOrderly w
+orderly_of w y well =
+    let all : (cpu : ℕ) → All (Suits (count_in w) cpu) (runnable_at w cpu) =
+    λ cpu. all_suit (count_in w) cpu (runnable_at w cpu) (omega (arith, tally-append (unsuited (count_in w) cpu) (present_at (processor w cpu).running) (inbox w cpu), y.present cpu, y.placed cpu)) in
+    record {
+      once = record {
+        away = λ id. omega (arith, y.away id);
+        blocked = λ id t e. (y.blocked id t e).0;
+        allowed = λ cpu k d l. (all cpu k d l).can;
+      };
+      places = record {
+        in_lobby = λ id t e. (y.blocked id t e).1;
+        in_hand = y.hand;
+        runnable = λ cpu k d l. (all cpu k d l).place;
+      };
+      even = y.boxes;
+      rising = λ cpu. (well cpu).rising;
+      ready = λ cpu. (well cpu).ready;
+    }
+
+-- an orderly world's processors are well
+pub well_of : (w : World) → IsOrderly w → AllWell w
+well_of w o cpu = record { rising = o.rising cpu; ready = o.ready cpu }
+
+-- a fact of each place of a list, after one place was written, where it may have been false
+at_set_else : {X : Type 0} (Q : ℕ → X → Type 0) (xs : List X) (i : ℕ) (x d : X) → i < length xs → Q i x → ((j : ℕ) → j ≢ i → Q j (get_or xs j d)) → (j : ℕ) → Q j (get_or (set xs i x) j d)
+at_set_else Q [] i x d l q h j = absurd (omega arith)
+at_set_else Q (y ∷ ys) zero x d l q h zero = q
+at_set_else Q (y ∷ ys) zero x d l q h (suc j) = h (suc j) (omega arith)
+at_set_else Q (y ∷ ys) (suc i) x d l q h zero = h zero (omega arith)
+at_set_else Q (y ∷ ys) (suc i) x d l q h (suc j) = at_set_else (λ n. Q (suc n)) ys i x d (omega arith) q (λ n e. h (suc n) (omega arith)) j
+
+-- a processor's tasks leave the count, and those of the new one come
+pub held_count-set : (id : ℕ) (ps : List Processor) (cpu : ℕ) (q : Processor) → cpu < length ps → held_count id (set ps cpu q) + count_of id (held_by (get_or ps cpu opening)) ≡ held_count id ps + count_of id (held_by q)
+held_count-set id [] cpu q l = absurd (omega arith)
+held_count-set id (p ∷ ps) zero q l = omega arith
+held_count-set id (p ∷ ps) (suc cpu) q l = omega (arith, held_count-set id ps cpu q (omega arith))
+
+-- and so do those of an inbox
+pub placed_count-set : (id : ℕ) (xss : List (List Task)) (cpu : ℕ) (tasks : List Task) → cpu < length xss → placed_count id (set xss cpu tasks) + count_of id (get_or xss cpu []) ≡ placed_count id xss + count_of id tasks
+placed_count-set id [] cpu tasks l = absurd (omega arith)
+placed_count-set id (xs ∷ xss) zero tasks l = omega arith
+placed_count-set id (xs ∷ xss) (suc cpu) tasks l = omega (arith, placed_count-set id xss cpu tasks (omega arith))
+
+-- a processor is written: its tasks come from those that were there and those on their way
+pub with_processor_tidy : (count : ℕ) (xs ys : List Task) (w : World) (cpu : ℕ) (q : Processor) → IsTidy count xs w → cpu < count →
+    ((id : ℕ) → count_of id (held_by q) + count_of id ys ≡ count_of id (held_by (processor w cpu)) + count_of id xs) →
+    ((c : Carried) → q.hand ≡ Some c → HasPlace count c.task) → tally (unsuited count cpu) (present_at q.running) ≡ 0 → IsTidy count ys (with_processor w cpu q)
+with_processor_tidy count xs ys w cpu q y l moved hand present =
+    let l' : cpu < length w.processors = omega (arith, y.many) in
+    record {
+      many = length-set w.processors cpu q ∙ y.many;
+      boxes = y.boxes;
+      away = λ id. omega (arith, y.away id, moved id, held_count-set id w.processors cpu q l');
+      blocked = y.blocked;
+      hand = at_set (λ n (p : Processor). (c : Carried) → p.hand ≡ Some c → HasPlace count c.task) w.processors cpu q opening hand y.hand;
+      present = at_set (λ n (p : Processor). tally (unsuited count n) (present_at p.running) ≡ 0) w.processors cpu q opening present y.present;
+      placed = y.placed;
+    }
+
+-- the tasks that run or wait there come from those and from those on their way, by every tally; the hand stays
+pub running_tidy : (count : ℕ) (xs ys : List Task) (w : World) (cpu : ℕ) (q : Processor) → IsTidy count xs w → cpu < count → q.hand ≡ (processor w cpu).hand →
+    ((g : ℕ → ℕ → ℕ) → tally g (present_at q.running) + tally g ys ≡ tally g (present_at (processor w cpu).running) + tally g xs) →
+    tally (unsuited count cpu) xs ≡ 0 → IsTidy count ys (with_processor w cpu q)
+running_tidy count xs ys w cpu q y l h moved fit =
+    let p : Processor = processor w cpu in
+    let hands : (id : ℕ) → count_of id (in_hand q) ≡ count_of id (in_hand p) = λ id. ap (λ o. count_of id (option_to_list (option_map (λ (c : Carried). c.task) o))) h in
+    with_processor_tidy count xs ys w cpu q y l
+    (λ id. omega (arith, count_of-held_by id q, count_of-held_by id p, hands id, count_of-tally id (present_at q.running), count_of-tally id (present_at p.running), count_of-tally id xs, count_of-tally id ys, moved (ones id)))
+    (λ c e. y.hand cpu c (sym h ∙ e))
+    (omega (arith, moved (unsuited count cpu), y.present cpu, fit))
+
+-- an inbox is written: its tasks come from those that were there and those on their way
+pub inbox_tidy : (count : ℕ) (xs ys : List Task) (w : World) (cpu : ℕ) (tasks : List Task) → IsTidy count xs w → cpu < count →
+    ((g : ℕ → ℕ → ℕ) → tally g tasks + tally g ys ≡ tally g (inbox w cpu) + tally g xs) → tally (unsuited count cpu) xs ≡ 0 → IsTidy count ys (with_inbox w cpu tasks)
+inbox_tidy count xs ys w cpu tasks y l moved fit =
+    let l' : cpu < length w.inboxes = omega (arith, y.boxes) in
+    record {
+      many = y.many;
+      boxes = length-set w.inboxes cpu tasks ∙ y.boxes;
+      away = λ id. omega (arith, y.away id, placed_count-set id w.inboxes cpu tasks l', count_of-tally id tasks, count_of-tally id (inbox w cpu), count_of-tally id xs, count_of-tally id ys, moved (ones id));
+      blocked = y.blocked;
+      hand = y.hand;
+      present = y.present;
+      placed = at_set (λ n (ts : List Task). tally (unsuited count n) ts ≡ 0) w.inboxes cpu tasks [] (omega (arith, moved (unsuited count cpu), y.placed cpu, fit)) y.placed;
+    }
+
+-- a seat is written, and is away afterwards if it was before
+pub seat_tidy : (count : ℕ) (xs : List Task) (w : World) (id : ℕ) (s : LobbyEntry) → IsTidy count xs w → as_number (is_away s) ≡ as_number (is_away (seat w id)) →
+    ((t : Task) → s ≡ Blocked t → (t.id ≡ id) × HasPlace count t) → IsTidy count xs (with_seat w id s)
+seat_tidy count xs w id s y same blocked = record {
+  many = y.many;
+  boxes = y.boxes;
+  away = at_set (λ j (x : LobbyEntry). standing_count j w + count_of j xs ≡ as_number (is_away x)) w.seats id s Absent (y.away id ∙ sym same) y.away;
+  blocked = at_set (λ j (x : LobbyEntry). (t : Task) → x ≡ Blocked t → (t.id ≡ j) × HasPlace count t) w.seats id s Absent blocked y.blocked;
+  hand = y.hand;
+  present = y.present;
+  placed = y.placed;
+}
+
+-- a task has no other id than its own
+other_id : (j : ℕ) (t : Task) → j ≢ t.id → one j t ≡ 0
+other_id j t n = grind (arith, nat_tests)
+
+-- a seat that is not absent is one of the lobby's
+past_seat : (w : World) (id : ℕ) → seat w id ≢ Absent → id < length w.seats
+past_seat w id n = elim (cases_lt id (length w.seats)) [ inl l ↦ l | inr g ↦ absurd (n (get_or_past w.seats id Absent g)) ]
+
+-- a task leaves the lobby
+pub leaves_lobby : (count : ℕ) (w : World) (id : ℕ) (t : Task) → IsTidy count [] w → seat w id ≡ Blocked t → IsTidy count (t ∷ []) (with_seat w id Away)
+leaves_lobby count w id t y e =
+    let same : t.id ≡ id = (y.blocked id t e).0 in
+    let asleep : as_number (is_away (seat w id)) ≡ 0 = ap (λ s. as_number (is_away s)) e in
+    let once : one id t ≡ 1 = subst (λ i. one i t ≡ 1) same (one_self t) in
+    let apart : (j : ℕ) → j ≢ id → one j t ≡ 0 = λ j n. other_id j t (λ h. n (h ∙ same)) in
+    record {
+      many = y.many;
+      boxes = y.boxes;
+      away = at_set_else (λ j (x : LobbyEntry). standing_count j w + count_of j (t ∷ []) ≡ as_number (is_away x)) w.seats id Away Absent (past_seat w id (λ h. cc)) (omega (arith, y.away id)) (λ j n. omega (arith, y.away j, apart j n));
+      blocked = at_set (λ j (x : LobbyEntry). (t : Task) → x ≡ Blocked t → (t.id ≡ j) × HasPlace count t) w.seats id Away Absent (λ t e. cc) y.blocked;
+      hand = y.hand;
+      present = y.present;
+      placed = y.placed;
+    }
+
+-- a task comes to the lobby
+pub enters_lobby : (count : ℕ) (w : World) (t new : Task) → IsTidy count (t ∷ []) w → new.id ≡ t.id → HasPlace count new → IsTidy count [] (with_seat w t.id (Blocked new))
+enters_lobby count w t new y same place =
+    let apart : (j : ℕ) → j ≢ t.id → one j t ≡ 0 = λ j n. other_id j t n in
+    let there : t.id < length w.seats = past_seat w t.id (λ h. absurd (omega (arith, y.away t.id, one_self t, ap (λ s. as_number (is_away s)) h))) in
+    record {
+      many = y.many;
+      boxes = y.boxes;
+      away = at_set_else (λ j (x : LobbyEntry). standing_count j w + 0 ≡ as_number (is_away x)) w.seats t.id (Blocked new) Absent there (omega (arith, y.away t.id, one_self t, as_number_le (is_away (seat w t.id)))) (λ j n. omega (arith, y.away j, apart j n));
+      blocked = at_set (λ j (x : LobbyEntry). (t : Task) → x ≡ Blocked t → (t.id ≡ j) × HasPlace count t) w.seats t.id (Blocked new) Absent (λ u e. let is : new ≡ u = cc in rw (← is) (same, place)) y.blocked;
+      hand = y.hand;
+      present = y.present;
+      placed = y.placed;
+    }
+
+-- at the opening no task stands anywhere
+standing_nowhere : (id n : ℕ) → held_count id (replicate n opening) ≡ 0
+standing_nowhere id zero = refl
+standing_nowhere id (suc n) = omega (arith, standing_nowhere id n)
+
+placed_nowhere : (id n : ℕ) → placed_count id (replicate n []) ≡ 0
+placed_nowhere id zero = refl
+placed_nowhere id (suc n) = omega (arith, placed_nowhere id n)
+
+-- of equals each place has the same, and beyond them too
+pub same_everywhere : {X : Type 0} (x : X) (n i : ℕ) → get_or (replicate n x) i x ≡ x
+same_everywhere x zero i = refl
+same_everywhere x (suc n) zero = refl
+same_everywhere x (suc n) (suc i) = same_everywhere x n i
+
+-- a world of so many seats that opens is tidy
+pub opening_tidy : (n seats : ℕ) → IsTidy n [] (record { processors = replicate n opening; inboxes = replicate n []; seats = replicate seats Absent; drawn = 0 })
+opening_tidy n seats =
+    let w : World = record { processors = replicate n opening; inboxes = replicate n []; seats = replicate seats Absent; drawn = 0 } in
+    let empty : (id : ℕ) → seat w id ≡ Absent = λ id. same_everywhere Absent seats id in
+    let rests : (cpu : ℕ) → processor w cpu ≡ opening = λ cpu. same_everywhere opening n cpu in
+    record {
+      many = length-replicate n opening;
+      boxes = length-replicate n [];
+      away = λ id. omega (arith, standing_nowhere id n, placed_nowhere id n, ap (λ s. as_number (is_away s)) (empty id));
+      blocked = λ id t e. let none : Absent ≡ Blocked t = sym (empty id) ∙ e in cc;
+      hand = λ cpu c e. let none : None ≡ Some c = sym (ap (λ (p : Processor). p.hand) (rests cpu)) ∙ e in cc;
+      present = λ cpu. ap (λ (p : Processor). tally (unsuited n cpu) (present_at p.running)) (rests cpu);
+      placed = λ cpu. ap (λ ts. tally (unsuited n cpu) ts) (same_everywhere [] n cpu);
+    }

@@ -1,0 +1,199 @@
+-- Where the counters answer alike, and memory is not wanting, two steps by one event from one world are one.
+use Rattle.std.proofs.Common.{◌≡◌, ℕ, ◌^◌, ◌<◌, Bool, List, Option, Some, None, refl, sym, subst, ap, ◌∙◌, length, arith, inl, inr}
+use Rattle.std.specs.Prelude.{Result, Ok, Err, unwrap_or}
+use Rattle.bq_disc.specs.Tasks.{Task}
+use Rattle.bq_disc.specs.Discipline.{Discipline}
+use Rattle.bq_disc.specs.Movable.{movable_to}
+use Rattle.bq_disc.specs.OneProcessor.{own_preempt}
+use Rattle.bq_bpf.specs.declared.board.Call.{Call as Asked}
+use Rattle.bq_bpf.specs.Runs.{start}
+use Rattle.bq_interp.specs.Laws.{AnswerAlike}
+use Rattle.bq_interp.specs.Chains.{setting_of}
+use Rattle.bq_interp.proofs.OneRunLemmas.{one_run}
+use Rattle.bq_bpf.specs.declared.hook.Version.{Version}
+use Rattle.bq_bpf.specs.declared.hook.Version.TheVariants.{First, Second}
+use Rattle.bq_verify.specs.Accepted.{Accepted}
+use Rattle.bq_policies.specs.Attachments.{Attached}
+use Rattle.bq_hooks.specs.Contexts.{PlaceFacts, PreemptFacts, PullFacts, preempt_bytes, pull_bytes, as_number, or_nobody}
+use Rattle.bq_hooks.specs.OwnPlace.{own_place}
+use Rattle.bq_hooks.specs.Permitted.{may_place, may_preempt, may_pull}
+use Rattle.bq_hooks.specs.Settled.{settled as chosen}
+use Rattle.bq_hooks.proofs.LengthLemmas.{length-place_bytes_first, length-place_bytes_second, length-preempt_bytes, length-pull_bytes}
+use Rattle.bq_parts.specs.declared.event.Event.{Event}
+use Rattle.bq_parts.specs.declared.event.Event.TheVariants.{Admit, Retire, Draw, Install, BeginWake, EndWake, Drain, Tick, Block, Pull}
+use Rattle.bq_parts.specs.declared.carried.Carried.{Carried}
+use Rattle.bq_parts.specs.declared.reply.Reply.{Reply}
+use Rattle.bq_parts.specs.declared.refusal.Refusal.{Refusal}
+use Rattle.bq_parts.specs.declared.lobby_entry.LobbyEntry.{LobbyEntry}
+use Rattle.bq_parts.specs.declared.lobby_entry.LobbyEntry.TheVariants.{Blocked}
+use Rattle.bq_parts.specs.declared.wakes.Placement.{Placement}
+use Rattle.bq_parts.specs.Processors.{Processor, size_of}
+use Rattle.bq_parts.specs.World.{World}
+use Rattle.bq_parts.specs.Refusals.{refusal}
+use Rattle.bq_parts.specs.Choices.{Decision, SettlesBy, SettlesPlace, SettlesPreempt, SettlesPull, place_bytes, own_pull, policies, decided_by}
+use Rattle.bq_parts.specs.Shares.{after_time, remarked, Decides, Ticks, Drains, Blocks, Begins, Places, Pulls}
+use Rattle.bq_parts.specs.Steps.{Performs, WorldStep}
+use Rattle.bq_core.specs.Laws.{HadMemory, StepIsOne}
+
+-- Decision choices
+
+place_small : (f : PlaceFacts) (version : Version) → length (place_bytes f version) < 2 ^ 16
+place_small f First = omega (arith, length-place_bytes_first f)
+place_small f Second = omega (arith, length-place_bytes_second f)
+
+same_settled : (x y : Decision) → x.choice ≡ y.choice → x.by ≡ y.by → x.steps ≡ y.steps → x.calls ≡ y.calls → x.attached ≡ y.attached → x ≡ y
+same_settled x y choice by steps calls attached =
+    ap (λ c. record x { choice = c }) choice
+    ∙ ap (λ b. record x { choice = y.choice; by = b }) by
+    ∙ ap (λ n. record x { choice = y.choice; by = y.by; steps = n }) steps
+    ∙ ap (λ c. record x { choice = y.choice; by = y.by; steps = y.steps; calls = c }) calls
+    ∙ ap (λ p. record y { attached = p }) attached
+
+module _ (d : Discipline) where
+  settles_one : (policy : Option Accepted) (context : Version → List ℕ) (attached : Attached) (now cpu : ℕ) (permitted : ℕ → Bool) (own : ℕ) (x y : Decision) → ((version : Version) → length (context version) < 2 ^ 16) →
+      SettlesBy (policies d) policy context attached now cpu permitted own x → SettlesBy (policies d) policy context attached now cpu permitted own y → AnswerAlike x.calls y.calls → x ≡ y
+  settles_one None context attached now cpu permitted own x y small h k alike = h ∙ sym k
+  settles_one (Some p) context attached now cpu permitted own x y small h k alike =
+      let one = one_run (setting_of p (context p.version) now cpu) (start attached.maps) x.steps y.steps x.calls y.calls h.0 k.0 h.1 k.1 (small p.version) h.2 k.2 alike in
+      same_settled x y
+      (h.4 ∙ ap (λ r. (chosen permitted (Some r) own).choice) one.2 ∙ sym k.4)
+      (h.5 ∙ ap (λ r. (chosen permitted (Some r) own).by) one.2 ∙ sym k.5)
+      one.0
+      one.1
+      (h.3 ∙ ap (λ maps. record attached { maps = maps }) one.3 ∙ sym k.3)
+
+  preempt_one : (cpu : ℕ) (p : Processor) (o : Option Task) (x y : Decision) → SettlesPreempt (policies d) cpu p o x → SettlesPreempt (policies d) cpu p o y → AnswerAlike x.calls y.calls → x ≡ y
+  preempt_one cpu p None x y h k alike = h ∙ sym k
+  preempt_one cpu p (Some t) x y h k alike =
+      let queue = p.running.queue in
+      let own = own_preempt d queue (Some t) in
+      let facts : PreemptFacts = record { processor = cpu; queue = queue; current = t; choice = d.choice queue; own = own } in
+      settles_one p.hooks.preempt.policy (λ version. preempt_bytes facts) p.hooks.preempt p.running.last cpu may_preempt (as_number own) x y (λ version. omega (arith, length-preempt_bytes facts)) h k alike
+
+  place_one : (count cpu : ℕ) (p : Processor) (carried : Carried) (x y : Decision) → SettlesPlace (policies d) count cpu p carried x → SettlesPlace (policies d) count cpu p carried y → AnswerAlike x.calls y.calls → x ≡ y
+  place_one count cpu p carried x y h k alike =
+      let own = unwrap_or (own_place count carried.loads carried.task) 0 in
+      let facts : PlaceFacts = record { task = carried.task; waking = cpu; processors = count; own = own; loads = carried.loads } in
+      settles_one p.hooks.place.policy (place_bytes facts) p.hooks.place p.running.last cpu (may_place count carried.task) own x y (place_small facts) h k alike
+
+  pull_one : (cpu from : ℕ) (p other : Processor) (x y : Decision) → SettlesPull (policies d) cpu from p other x → SettlesPull (policies d) cpu from p other y → AnswerAlike x.calls y.calls → x ≡ y
+  pull_one cpu from p other x y h k alike =
+      let queue = other.running.queue in
+      let own = own_pull cpu p other in
+      let facts : PullFacts = record { puller = cpu; source = from; puller_size = size_of p; source_size = size_of other; movable = movable_to cpu queue; own = own } in
+      settles_one p.hooks.pull.policy (λ version. pull_bytes facts) p.hooks.pull p.running.last cpu (may_pull cpu queue) (or_nobody own) x y (λ version. omega (arith, length-pull_bytes facts)) h k alike
+
+  decides_one : (cpu : ℕ) (p : Processor) (x y : Decision) (q q' : Processor) → Decides (policies d) cpu p x q → Decides (policies d) cpu p y q' → AnswerAlike x.calls y.calls → (x ≡ y) × (q ≡ q')
+  decides_one cpu p x y q q' h k alike =
+      let same = preempt_one cpu p p.running.current x y h.0 k.0 alike in
+      (same, h.1 ∙ ap (decided_by (policies d) p) same ∙ sym k.1)
+
+  -- Shares
+
+  -- what calls are alike, those of the settled choices are
+  alike_settled : (calls calls' : List Asked) (x y : Decision) → calls ≡ x.calls → calls' ≡ y.calls → AnswerAlike calls calls' → AnswerAlike x.calls y.calls
+  alike_settled calls calls' x y e f alike = subst (λ (c : List Asked). AnswerAlike x.calls c) f (subst (λ (c : List Asked). AnswerAlike c calls') e alike)
+
+  ticks_one : (cpu now : ℕ) (p : Processor) (calls calls' : List Asked) (r r' : Reply) (q q' : Processor) → Ticks (policies d) cpu now p calls r q → Ticks (policies d) cpu now p calls' r' q' → AnswerAlike calls calls' →
+      (r ≡ r') × (q ≡ q') × (calls ≡ calls')
+  ticks_one cpu now p calls calls' r r' q q' h k alike =
+      let same = decides_one cpu _ h.0 k.0 q q' h.1 k.1 (alike_settled calls calls' h.0 k.0 h.2 k.2 alike) in
+      (h.3 ∙ rw (same.0, same.1) refl ∙ sym k.3, same.1, h.2 ∙ ap (λ (x : Decision). x.calls) same.0 ∙ sym k.2)
+
+  drains_one : (cpu now : ℕ) (p : Processor) (tasks : List Task) (calls calls' : List Asked) (r r' : Reply) (q q' : Processor) → Drains (policies d) cpu now p tasks calls r q → Drains (policies d) cpu now p tasks calls' r' q' → AnswerAlike calls calls' →
+      (r ≡ r') × (q ≡ q') × (calls ≡ calls')
+  drains_one cpu now p tasks calls calls' r r' q q' h k alike =
+      let same = decides_one cpu _ h.0 k.0 q q' h.1 k.1 (alike_settled calls calls' h.0 k.0 h.2 k.2 alike) in
+      (h.3 ∙ rw (same.0, same.1) refl ∙ sym k.3, same.1, h.2 ∙ ap (λ (x : Decision). x.calls) same.0 ∙ sym k.2)
+
+  some_one : {X : Type 0} (x y : X) (o : Option X) → o ≡ Some x → o ≡ Some y → x ≡ y
+  some_one x y o e f = cc
+
+  blocked_one : (t u : Task) (s : LobbyEntry) → s ≡ Blocked t → s ≡ Blocked u → t ≡ u
+  blocked_one t u s e f = cc
+
+  blocks_one : (cpu now : ℕ) (p : Processor) (seats : List LobbyEntry) (r r' : Reply) (q q' : Processor) (left left' : List LobbyEntry) → Blocks d cpu now p seats (Ok r) q left → Blocks d cpu now p seats (Ok r') q' left' →
+      (r ≡ r') × (q ≡ q') × (left ≡ left')
+  blocks_one cpu now p seats r r' q q' left left' h k =
+      let task = some_one h.0 k.0 _ h.1.0 k.1.0 in
+      let cpus : q ≡ q' = h.1.1 ∙ sym k.1.1 in
+      (h.1.2 ∙ rw (task, cpus) refl ∙ sym k.1.2, cpus, h.1.3 ∙ rw task refl ∙ sym k.1.3)
+
+  begins_one : (id : ℕ) (loads : List ℕ) (p : Processor) (seats : List LobbyEntry) (r r' : Reply) (q q' : Processor) (left left' : List LobbyEntry) → Begins id loads p seats (Ok r) q left → Begins id loads p seats (Ok r') q' left' →
+      (r ≡ r') × (q ≡ q') × (left ≡ left')
+  begins_one id loads p seats r r' q q' left left' h k =
+      let task = blocked_one h.0 k.0 _ h.2 k.2 in
+      (h.3 ∙ sym k.3, h.4 ∙ rw task refl ∙ sym k.4, h.5 ∙ sym k.5)
+
+  places_one : (count cpu now : ℕ) (p : Processor) (calls calls' : List Asked) (x x' : Placement) (q q' : Processor) → Places (policies d) count cpu now p calls (Some x) q → Places (policies d) count cpu now p calls' (Some x') q' → AnswerAlike calls calls' →
+      (x ≡ x') × (q ≡ q') × (calls ≡ calls')
+  places_one count cpu now p calls calls' x x' q q' h k alike =
+      let c : Processor = after_time d now p in
+      let carried = some_one h.0 k.0 p.hand h.2 k.2 in
+      let there = subst (λ (x : Carried). SettlesPlace (policies d) count cpu c x k.1) (sym carried) k.4.0 in
+      let same = place_one count cpu c h.0 h.1 k.1 h.4.0 there (alike_settled calls calls' h.1 k.1 h.4.4 k.4.4 alike) in
+      let task : x.task ≡ x'.task = h.3 ∙ ap (λ (c : Carried). c.task) carried ∙ sym k.3 in
+      let to : x.to ≡ x'.to = h.4.1 ∙ ap (λ (s : Decision). s.choice) same ∙ sym k.4.1 in
+      let by : x.by ≡ x'.by = h.4.2 ∙ ap (λ (s : Decision). s.by) same ∙ sym k.4.2 in
+      let steps : x.steps ≡ x'.steps = h.4.3 ∙ ap (λ (s : Decision). s.steps) same ∙ sym k.4.3 in
+      (same_placement x x' task to by steps, h.4.5 ∙ rw same refl ∙ sym k.4.5, h.4.4 ∙ ap (λ (s : Decision). s.calls) same ∙ sym k.4.4)
+    where
+      same_placement : (x y : Placement) → x.task ≡ y.task → x.to ≡ y.to → x.by ≡ y.by → x.steps ≡ y.steps → x ≡ y
+      same_placement x y task to by steps =
+          ap (λ t. record x { task = t }) task ∙ ap (λ n. record x { task = y.task; to = n }) to ∙ ap (λ b. record x { task = y.task; to = y.to; by = b }) by ∙ ap (λ n. record y { steps = n }) steps
+
+  pulls_one : (cpu from now : ℕ) (p o : Processor) (calls calls' : List Asked) (r r' : Reply) (q q' u u' : Processor) → Pulls (policies d) cpu from now p o calls r q u → Pulls (policies d) cpu from now p o calls' r' q' u' → AnswerAlike calls calls' →
+      (r ≡ r') × (q ≡ q') × (u ≡ u') × (calls ≡ calls')
+  pulls_one cpu from now p o calls calls' r r' q q' u u' h k alike =
+      let same = pull_one cpu from (after_time d now p) (remarked d o) h.0 k.0 h.1.0 k.1.0 (alike_settled calls calls' h.0 k.0 h.1.1 k.1.1 alike) in
+      let here : q ≡ q' = h.1.3 ∙ rw same refl ∙ sym k.1.3 in
+      (h.1.2 ∙ rw (same, here) refl ∙ sym k.1.2, here, h.1.4 ∙ rw same refl ∙ sym k.1.4, h.1.1 ∙ ap (λ (x : Decision). x.calls) same ∙ sym k.1.1)
+
+  -- Events
+
+  performs_one : (w : World) (e : Event) (calls calls' : List Asked) (r r' : Reply) (u u' : World) → Performs (policies d) w e calls r u → Performs (policies d) w e calls' r' u' → AnswerAlike calls calls' →
+      (r ≡ r') × (u ≡ u') × (calls ≡ calls')
+  performs_one w (Admit id nice mask slice) calls calls' r r' u u' h k alike =
+      (h.1.1 ∙ sym k.1.1, h.3 ∙ rw (h.1.2, k.1.2) refl ∙ sym k.3, h.2 ∙ sym k.2)
+  performs_one w (Retire id) calls calls' r r' u u' h k alike = (h.1.1 ∙ sym k.1.1, h.3 ∙ rw (h.1.2, k.1.2) refl ∙ sym k.3, h.2 ∙ sym k.2)
+  performs_one w Draw calls calls' r r' u u' h k alike = (h.0 ∙ sym k.0, h.2 ∙ sym k.2, h.1 ∙ sym k.1)
+  performs_one w (Install cpu hook g policy) calls calls' r r' u u' h k alike = (h.1.1 ∙ sym k.1.1, h.3 ∙ rw (h.1.2, k.1.2) refl ∙ sym k.3, h.2 ∙ sym k.2)
+  performs_one w (BeginWake cpu id) calls calls' r r' u u' h k alike =
+      let same = begins_one id _ _ w.seats r r' h.0 k.0 h.1 k.1 h.2 k.2 in
+      (same.0, h.4 ∙ rw (same.1, same.2) refl ∙ sym k.4, h.3 ∙ sym k.3)
+  performs_one w (EndWake cpu now) calls calls' r r' u u' h k alike =
+      let same = places_one _ cpu now _ calls calls' h.0 k.0 h.1 k.1 h.2 k.2 alike in
+      (h.3 ∙ rw same.0 refl ∙ sym k.3, h.4 ∙ rw (same.0, same.1) refl ∙ sym k.4, same.2)
+  performs_one w (Drain cpu now) calls calls' r r' u u' h k alike =
+      let same = drains_one cpu now _ _ calls calls' r r' h.0 k.0 h.1 k.1 alike in
+      (same.0, h.2 ∙ rw same.1 refl ∙ sym k.2, same.2)
+  performs_one w (Tick cpu now) calls calls' r r' u u' h k alike =
+      let same = ticks_one cpu now _ calls calls' r r' h.0 k.0 h.1 k.1 alike in
+      (same.0, h.2 ∙ rw same.1 refl ∙ sym k.2, same.2)
+  performs_one w (Block cpu now) calls calls' r r' u u' h k alike =
+      let same = blocks_one cpu now _ w.seats r r' h.0 k.0 h.1 k.1 h.2 k.2 in
+      (same.0, h.4 ∙ rw (same.1, same.2) refl ∙ sym k.4, h.3 ∙ sym k.3)
+  performs_one w (Pull cpu from now) calls calls' r r' u u' h k alike =
+      let same = pulls_one cpu from now _ _ calls calls' r r' h.0 k.0 h.1 k.1 h.2 k.2 alike in
+      (same.0, h.3 ∙ rw (same.1, same.2) refl ∙ sym k.3, same.3)
+
+  -- a refusal is that of the world, where memory was not wanting
+  refused : (w : World) (e : Event) (calls : List Asked) (r : Refusal) (u : World) → WorldStep (policies d) w e calls (Err r) u → HadMemory (Err r) → refusal w e ≡ Some r
+  refused w e calls r u h some = elim h.2 [ inl f ↦ f | inr f ↦ absurd (some f.2) ]
+
+  not_both : (o : Option Refusal) (r : Refusal) → o ≡ None → o ≡ Some r → ⊥
+  not_both o r e f = cc
+
+  step_one : (w : World) (e : Event) (calls calls' : List Asked) (a a' : Result Reply Refusal) (u u' : World) → WorldStep (policies d) w e calls a u → WorldStep (policies d) w e calls' a' u' → HadMemory a → HadMemory a' → AnswerAlike calls calls' →
+      (a ≡ a') × (u ≡ u') × (calls ≡ calls')
+  step_one w e calls calls' (Ok r) (Ok r') u u' h k m m' alike =
+      let same = performs_one w e calls calls' r r' u u' h.1 k.1 alike in
+      (ap Ok same.0, same.1, same.2)
+  step_one w e calls calls' (Err r) (Err r') u u' h k m m' alike =
+      (ap Err (some_one r r' _ (refused w e calls r u h m) (refused w e calls' r' u' k m')), h.1 ∙ sym k.1, h.0 ∙ sym k.0)
+  step_one w e calls calls' (Ok r) (Err r') u u' h k m m' alike = absurd (not_both _ r' h.0 (refused w e calls' r' u' k m'))
+  step_one w e calls calls' (Err r) (Ok r') u u' h k m m' alike = absurd (not_both _ r k.0 (refused w e calls r u h m))
+
+-- two steps by one event from one world are one, where the counters answered alike and memory was not wanting
+pub step_is_one : StepIsOne
+step_is_one d = step_one d

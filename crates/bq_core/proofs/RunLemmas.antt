@@ -1,0 +1,28 @@
+-- Runs of events, one step after another.
+use Rattle.std.proofs.Common.{◌≡◌, List, [], ◌∷◌, ◌++◌, length, refl, subst, arith}
+use Rattle.std.specs.Prelude.{Result}
+use Rattle.bq_bpf.specs.declared.board.Call.{Call as Asked}
+use Rattle.bq_bpf.specs.Counters.{Through}
+use Rattle.bq_parts.specs.declared.event.Event.{Event}
+use Rattle.bq_parts.specs.declared.reply.Reply.{Reply}
+use Rattle.bq_parts.specs.declared.refusal.Refusal.{Refusal}
+use Rattle.bq_parts.specs.World.{World}
+use Rattle.bq_parts.specs.Choices.{Regime}
+use Rattle.bq_parts.specs.Steps.{WorldStep, WorldRun, ThroughAll}
+
+-- one more step
+pub run_more : (s : Regime) (w mid w' : World) (es : List Event) (e : Event) (calls : List (List Asked)) (c : List Asked) (answers : List (Result Reply Refusal)) (a : Result Reply Refusal) →
+    WorldRun s w es calls answers mid → WorldStep s mid e c a w' → WorldRun s w (es ++ e ∷ []) (calls ++ c ∷ []) (answers ++ a ∷ []) w'
+run_more s w mid w' [] e [] c [] a run step = (w', subst (λ v. WorldStep s v e c a w') run step, refl)
+run_more s w mid w' (x ∷ es) e (k ∷ calls) c (b ∷ answers) a run step = (run.0, run.1, run_more s run.0 mid w' es e calls c answers a run.2 step)
+run_more s w mid w' es e calls c answers a run step = absurd run
+
+-- and what it asked of the counters
+pub through_more : {B : Type 0} (leads : B → Asked → B → Type 0) (old mid new : B) (calls : List (List Asked)) (c : List Asked) → ThroughAll leads old calls mid → Through leads mid c new → ThroughAll leads old (calls ++ c ∷ []) new
+through_more leads old mid new [] c all next = (new, subst (λ b. Through leads b c new) all next, refl)
+through_more leads old mid new (k ∷ calls) c all next = (all.0, all.1, through_more leads all.0 mid new calls c all.2 next)
+
+-- a list of length zero is the empty one
+pub empty_from_length : {X : Type 0} (xs : List X) → length xs ≡ 0 → xs ≡ []
+empty_from_length [] h = refl
+empty_from_length (x ∷ xs) h = absurd (omega arith)

@@ -1,0 +1,119 @@
+-- A share is its event's step in any world that has the parts.
+use Rattle.std.proofs.Common.{◌≡◌, ◌≢◌, ℕ, ◌<◌, eqb, List, [], ◌∷◌, ◌++◌, false, Some, None, refl, sym, ap, ◌∙◌, inl, Option, arith}
+use Rattle.std.specs.Prelude.{ℤ, Result, Ok, Err, nat_le, IfSome}
+use Rattle.std.proofs.lemmas.Bool.Decides.{nat_tests}
+use Rattle.std.proofs.lemmas.List.{set-get_or}
+use Rattle.bq_disc.specs.Tasks.{Task}
+use Rattle.bq_disc.specs.Discipline.{Discipline}
+use Rattle.bq_bpf.specs.declared.board.Call.{Call as Asked}
+use Rattle.bq_parts.specs.declared.event.Event.TheVariants.{Admit, Retire, Install, BeginWake, EndWake, Drain, Tick, Block, Pull}
+use Rattle.bq_parts.specs.declared.reply.Reply.{Reply}
+use Rattle.bq_parts.specs.declared.reply.Reply.TheVariants.{Placed}
+use Rattle.bq_parts.specs.declared.refusal.Refusal.{Refusal}
+use Rattle.bq_parts.specs.declared.refusal.Refusal.TheVariants as no
+use Rattle.bq_parts.specs.declared.lobby_entry.LobbyEntry.{LobbyEntry}
+use Rattle.bq_parts.specs.Processors.{Processor, opening}
+use Rattle.bq_parts.specs.World.{World, processor, inbox, count_in, with_processor, with_inbox, with_seats, loads_of}
+use Rattle.bq_parts.specs.declared.wakes.Placement.{Placement}
+use Rattle.bq_parts.specs.declared.carried.Carried.{Carried}
+use Rattle.bq_parts.specs.Refusals.{argument_refusal}
+use Rattle.bq_parts.specs.Choices.{policies}
+use Rattle.bq_parts.specs.Moves.{admitted}
+use Rattle.bq_parts.specs.Steps.{WorldStep}
+use Rattle.bq_parts.specs.Shares.{Admits, Retires, Ticks, Drains, Blocks, Begins, Places, Installs, Pulls}
+use Rattle.bq_bpf.specs.declared.hook.Hook.{Hook}
+use Rattle.bq_verify.specs.Accepted.{Accepted}
+use Rattle.bq_policies.specs.Answers.{fresh_maps}
+use Rattle.bq_core.proofs.StepLemmas.{within, still_runs, block_idle}
+
+-- the number of a seat is not refused
+seated : (id : ℕ) → id < 1024 → nat_le 1024 id ≡ false
+seated id h = grind (arith, nat_tests)
+
+-- the lobby's share of an admission, done or refused, is the world's step, where no argument is refused
+pub admits_step : (d : Discipline) (w : World) (id : ℕ) (nice : ℤ) (mask slice : ℕ) (r : Result Reply Refusal) (seats : List LobbyEntry) → argument_refusal (count_in w) (Admit id nice mask slice) ≡ None →
+    Admits id (admitted (count_in w) id nice mask slice) w.seats r seats → WorldStep (policies d) w (Admit id nice mask slice) [] r (with_seats w seats)
+admits_step d w id nice mask slice (Ok r) seats h a = (rw (h, a.0) refl, (seats, a, refl, refl))
+admits_step d w id nice mask slice (Err e) seats h a = (refl, ap (with_seats w) a.2, inl (rw (h, a.0, a.1) refl))
+
+-- the lobby's share of a retirement, done or refused, is the world's step, where the id is that of a seat
+pub retires_step : (d : Discipline) (w : World) (id : ℕ) (r : Result Reply Refusal) (seats : List LobbyEntry) → id < 1024 → Retires id w.seats r seats → WorldStep (policies d) w (Retire id) [] r (with_seats w seats)
+retires_step d w id (Ok r) seats l b = (rw (seated id l, b.0) refl, (seats, b, refl, refl))
+retires_step d w id (Err e) seats l b = (refl, ap (with_seats w) b.1, inl (rw (seated id l, b.0) refl))
+
+-- a processor's share of a tick is the world's step, where the world has that processor
+pub ticks_step : (d : Discipline) (w : World) (cpu now : ℕ) (calls : List Asked) (r : Reply) (q : Processor) → cpu < count_in w → Ticks (policies d) cpu now (processor w cpu) calls r q →
+    WorldStep (policies d) w (Tick cpu now) calls (Ok r) (with_processor w cpu q)
+ticks_step d w cpu now calls r q h t = (rw (within w cpu h) refl, (q, t, refl))
+
+-- a processor's share of a drain is the world's step, which also empties its inbox
+pub drains_step : (d : Discipline) (w : World) (cpu now : ℕ) (calls : List Asked) (r : Reply) (q : Processor) → cpu < count_in w → Drains (policies d) cpu now (processor w cpu) (inbox w cpu) calls r q →
+    WorldStep (policies d) w (Drain cpu now) calls (Ok r) (with_inbox (with_processor w cpu q) cpu [])
+drains_step d w cpu now calls r q h t = (rw (within w cpu h) refl, (q, t, refl))
+
+-- a processor that is as it was
+same_processor : (w : World) (cpu : ℕ) (q : Processor) → q ≡ processor w cpu → with_processor w cpu q ≡ w
+same_processor w cpu q e = ap (with_processor w cpu) e ∙ ap (λ (x : List Processor). record w { processors = x }) (set-get_or w.processors cpu opening)
+
+-- and so is the lobby
+same_lobby_too : (w : World) (cpu : ℕ) (q : Processor) (seats : List LobbyEntry) → q ≡ processor w cpu → seats ≡ w.seats → with_seats (with_processor w cpu q) seats ≡ w
+same_lobby_too w cpu q seats e f = ap (with_seats (with_processor w cpu q)) f ∙ same_processor w cpu q e
+
+-- what a block makes of a processor and the lobby, done or refused, is the world's step
+pub blocks_step : (d : Discipline) (w : World) (cpu now : ℕ) (r : Result Reply Refusal) (q : Processor) (seats : List LobbyEntry) → cpu < count_in w → Blocks d cpu now (processor w cpu) w.seats r q seats →
+    WorldStep (policies d) w (Block cpu now) [] r (with_seats (with_processor w cpu q) seats)
+blocks_step d w cpu now (Ok r) q seats h b = (rw (within w cpu h, still_runs d w cpu now b.0 (sym b.1.0)) refl, (q, seats, b, refl, refl))
+blocks_step d w cpu now (Err e) q seats h b = (refl, same_lobby_too w cpu q seats b.2 b.3, rw b.1 (block_idle d w cpu now h b.0).2)
+
+-- what a wake's beginning makes of the hand and the lobby is the world's step, done or refused, for an id of a seat
+pub begins_step : (d : Discipline) (w : World) (cpu id : ℕ) (r : Result Reply Refusal) (q : Processor) (seats : List LobbyEntry) → cpu < count_in w → id < 1024 → Begins id (loads_of w.processors w.inboxes) (processor w cpu) w.seats r q seats →
+    WorldStep (policies d) w (BeginWake cpu id) [] r (with_seats (with_processor w cpu q) seats)
+begins_step d w cpu id (Ok r) q seats h l b = (rw (within w cpu h, seated id l, b.1) refl, (q, seats, b, refl, refl))
+begins_step d w cpu id (Err e) q seats h l b = (refl, same_lobby_too w cpu q seats b.1 b.2, inl (rw (within w cpu h, seated id l, b.0) refl))
+
+-- a processor's share of a wake's end is the world's step, which puts the task at the end of the chosen inbox
+pub places_step : (d : Discipline) (w : World) (cpu now : ℕ) (calls : List Asked) (x : Placement) (q : Processor) → cpu < count_in w → Places (policies d) (count_in w) cpu now (processor w cpu) calls (Some x) q →
+    WorldStep (policies d) w (EndWake cpu now) calls (Ok (Placed x.task.id x.to x.by x.steps)) (with_inbox (with_processor w cpu q) x.to (inbox w x.to ++ x.task ∷ []))
+places_step d w cpu now calls x q h k = (rw (within w cpu h, k.2) refl, (x, q, k, refl, refl))
+
+-- the same of a drain, where the parts are known by equations
+pub drains_at : (d : Discipline) (w w' : World) (cpu now : ℕ) (calls : List Asked) (r : Reply) (q p : Processor) (xs : List Task) → cpu < count_in w → p ≡ processor w cpu → xs ≡ inbox w cpu →
+    Drains (policies d) cpu now p xs calls r q → w' ≡ with_inbox (with_processor w cpu q) cpu [] → WorldStep (policies d) w (Drain cpu now) calls (Ok r) w'
+drains_at d w w' cpu now calls r q p xs h at box t e = rw e (drains_step d w cpu now calls r q h (rw (← at, ← box) t))
+
+-- and of a block
+pub blocks_at : (d : Discipline) (w w' : World) (cpu now : ℕ) (r : Result Reply Refusal) (q p : Processor) (seats seats' : List LobbyEntry) → cpu < count_in w → p ≡ processor w cpu → seats ≡ w.seats →
+    Blocks d cpu now p seats r q seats' → w' ≡ with_seats (with_processor w cpu q) seats' → WorldStep (policies d) w (Block cpu now) [] r w'
+blocks_at d w w' cpu now r q p seats seats' h at is b e = rw e (blocks_step d w cpu now r q seats' h (rw (← at, ← is) b))
+
+-- where no argument is refused, the generation alone is
+pub installs_step : (d : Discipline) (w : World) (cpu g : ℕ) (h : Hook) (o : Option Accepted) (r : Result Reply Refusal) (q : Processor) → argument_refusal (count_in w) (Install cpu h g o) ≡ None →
+    Installs h w.drawn (processor w cpu) (record { policy = o; generation = g; maps = fresh_maps o }) r q → WorldStep (policies d) w (Install cpu h g o) [] r (with_processor w cpu q)
+installs_step d w cpu g h o (Ok r) q l k = (rw (l, k.0) refl, (q, k, refl, refl))
+installs_step d w cpu g h o (Err e) q l k = (refl, same_processor w cpu q k.1, inl (rw (l, k.0) refl))
+
+apart : (cpu from : ℕ) → cpu ≢ from → eqb cpu from ≡ false
+apart cpu from h = grind (arith, nat_tests)
+
+-- what a pull makes of two processors that differ is the world's step
+pub pulls_step : (d : Discipline) (w : World) (cpu from now : ℕ) (calls : List Asked) (r : Reply) (q other : Processor) → cpu < count_in w → from < count_in w → cpu ≢ from →
+    Pulls (policies d) cpu from now (processor w cpu) (processor w from) calls r q other →
+    WorldStep (policies d) w (Pull cpu from now) calls (Ok r) (with_processor (with_processor w cpu q) from other)
+pulls_step d w cpu from now calls r q other h k n p = (rw (within w cpu h, within w from k, apart cpu from n) refl, (q, other, p, refl))
+
+-- the same of a wake's end, where the parts are known by equations
+pub places_at : (d : Discipline) (w w' : World) (cpu now count task : ℕ) (calls : List Asked) (x : Placement) (q p : Processor) (xs : List Task) → cpu < count_in w → p ≡ processor w cpu → count ≡ count_in w →
+    task ≡ x.task.id → xs ≡ inbox w x.to → Places (policies d) count cpu now p calls (Some x) q → w' ≡ with_inbox (with_processor w cpu q) x.to (xs ++ x.task ∷ []) →
+    WorldStep (policies d) w (EndWake cpu now) calls (Ok (Placed task x.to x.by x.steps)) w'
+places_at d w w' cpu now count task calls x q p xs h at many i box k e = rw (e, box, i) (places_step d w cpu now calls x q h (rw (← many, ← at) k))
+
+-- what every task in a hand meets, the one in it does
+pub if_carried : (o : Option Carried) (P : Carried → Type 0) → ((c : Carried) → o ≡ Some c → P c) → IfSome o P
+if_carried None P h = tt
+if_carried (Some c) P h = h c refl
+
+-- where the hand is empty nothing is placed
+pub places_none : (d : Discipline) (w : World) (cpu now : ℕ) (calls : List Asked) (q : Processor) → cpu < count_in w → Places (policies d) (count_in w) cpu now (processor w cpu) calls None q →
+    WorldStep (policies d) w (EndWake cpu now) calls (Err no.NothingInHand) (with_processor w cpu q)
+places_none d w cpu now calls q h k =
+    (k.0, same_processor w cpu q k.2, inl (rw (within w cpu h, k.1) refl))

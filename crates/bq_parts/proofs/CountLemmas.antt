@@ -1,0 +1,150 @@
+-- How many tasks of an id stand among some tasks.
+use Rattle.std.proofs.Common.{◌≡◌, ℕ, ◌+◌, ◌≤◌, Bool, true, false, cond, eqb, List, [], ◌∷◌, ◌++◌, Option, Some, None, refl, sym, ap, arith}
+use Rattle.std.proofs.lemmas.Bool.Decides.{nat_tests}
+use Rattle.bq_disc.specs.Tasks.{Task, has_id, with_id, without, place, present}
+use Rattle.bq_disc.specs.Queues.{HasDistinctIds}
+use Rattle.bq_disc.specs.Discipline.{Discipline, next_of}
+use Rattle.bq_disc.specs.OneProcessor.{Running, present_at, charge, start, run_id, switched, exchanged, decided, entered, enter_all}
+use Rattle.bq_parts.specs.Processors.{count_of, HasEachOnce}
+use Rattle.bq_parts.proofs.TallyLemmas
+
+-- 1 for a task of that id
+abbrev pub one : ℕ → Task → ℕ
+one id t = cond (has_id id t) 1 0
+
+-- 1 for that id
+abbrev pub ones : ℕ → ℕ → ℕ → ℕ
+ones id i mask = cond (eqb i id) 1 0
+
+-- a count is a tally
+pub count_of-tally : (id : ℕ) (xs : List Task) → count_of id xs ≡ TallyLemmas.tally (ones id) xs
+count_of-tally id [] = refl
+count_of-tally id (x ∷ xs) = ap (λ n. one id x + n) (count_of-tally id xs)
+
+-- those of two lists together
+pub count_of-append : (id : ℕ) (xs ys : List Task) → count_of id (xs ++ ys) ≡ count_of id xs + count_of id ys
+count_of-append id [] ys = omega arith
+count_of-append id (x ∷ xs) ys = omega (arith, count_of-append id xs ys)
+
+-- a task that comes is counted once more
+pub count_of-place : (id : ℕ) (t : Task) (xs : List Task) → count_of id (place t xs) ≡ one id t + count_of id xs
+count_of-place id t xs = omega (arith, count_of-tally id (place t xs), count_of-tally id xs, TallyLemmas.tally-place (ones id) t xs)
+
+-- what is taken was there once more
+pub count_of-without : (i j : ℕ) (xs : List Task) (t : Task) → with_id j xs ≡ Some t → count_of i xs ≡ one i t + count_of i (without j xs)
+count_of-without i j xs t h = omega (arith, count_of-tally i (without j xs), count_of-tally i xs, TallyLemmas.tally-without (ones i) j xs t h)
+
+-- a task has its own id
+pub one_self : (t : Task) → one t.id t ≡ 1
+one_self t = grind (arith, nat_tests)
+
+absent_by_test : (b : Bool) (x : Task) (n : ℕ) (o : Option Task) → cond b 1 0 + n ≡ 0 → (n ≡ 0 → o ≡ None) → cond b (Some x) o ≡ None
+absent_by_test true x n o h rest = absurd (omega arith)
+absent_by_test false x n o h rest = rest (omega arith)
+
+-- no task of that id is there
+pub with_id-absent : (id : ℕ) (xs : List Task) → count_of id xs ≡ 0 → with_id id xs ≡ None
+with_id-absent id [] h = refl
+with_id-absent id (x ∷ xs) h = absent_by_test (eqb x.id id) x (count_of id xs) (with_id id xs) h (with_id-absent id xs)
+
+-- the queue is a part of what is present
+pub queue_le_present : (id : ℕ) (o : Option Task) (xs : List Task) → count_of id xs ≤ count_of id (present o xs)
+queue_le_present id None xs = omega arith
+queue_le_present id (Some t) xs = omega arith
+
+-- what is present once is queued once
+pub each_once_queue : (p : Running) → HasEachOnce (present_at p) → HasEachOnce p.queue
+each_once_queue p h = λ id. omega (arith, h id, queue_le_present id p.current p.queue)
+
+-- a current task is not in the queue
+pub current_apart : (p : Running) (t : Task) → HasEachOnce (present_at p) → p.current ≡ Some t → with_id t.id p.queue ≡ None
+current_apart p t s e =
+    let h = s t.id in
+    let k : count_of t.id (t ∷ p.queue) ≤ 1 = rw e at h in
+    with_id-absent t.id p.queue (omega (arith, one_self t))
+
+-- the next is the current one: nothing changes
+pub switched_same : (d : Discipline) (p : Running) (t : Task) → HasEachOnce (present_at p) → p.current ≡ Some t → t.id ≡ next_of d t p.queue → switched d p p.current ≡ p
+switched_same d p t s e i = rw (e, ← i, current_apart p t s e) refl
+
+-- the next is not in the queue: nothing changes
+pub switched_absent : (d : Discipline) (p : Running) (t : Task) (id : ℕ) → p.current ≡ Some t → id ≡ next_of d t p.queue → with_id id p.queue ≡ None → switched d p p.current ≡ p
+switched_absent d p t id e i f = rw (e, ← i, f) refl
+
+-- the next runs, and the current one stands in the queue
+pub switched_to : (d : Discipline) (p : Running) (t n : Task) (id : ℕ) → p.current ≡ Some t → id ≡ next_of d t p.queue → Some n ≡ with_id id p.queue → switched d p p.current ≡ record p { current = Some n; queue = place t (without id p.queue) }
+switched_to d p t n id e i f = rw (e, ← i, ← f, TallyLemmas.with_id-id id p.queue n (sym f)) refl
+
+-- the current task is not in the rest of the queue either
+pub current_apart_without : (p : Running) (t n : Task) (id : ℕ) → HasEachOnce (present_at p) → p.current ≡ Some t → with_id id p.queue ≡ Some n → with_id t.id (without id p.queue) ≡ None
+current_apart_without p t n id s e f =
+    let h = s t.id in
+    let k : count_of t.id (t ∷ p.queue) ≤ 1 = rw e at h in
+    with_id-absent t.id (without id p.queue) (omega (arith, one_self t, count_of-without t.id id p.queue n f))
+
+-- tasks of which no id stands twice have distinct ids
+pub HasDistinctIds-from_counts : (xs : List Task) → HasEachOnce xs → HasDistinctIds xs
+HasDistinctIds-from_counts [] h = tt
+HasDistinctIds-from_counts (x ∷ xs) h =
+    (with_id-absent x.id xs (omega (arith, one_self x, h x.id)), HasDistinctIds-from_counts xs (λ id. omega (arith, h id)))
+
+-- woken tasks that enter come to those that were there
+pub count_of-entered : (id : ℕ) (d : Discipline) (kept : ℕ) (queue tasks : List Task) → count_of id (entered d kept queue tasks) ≡ count_of id queue + count_of id tasks
+count_of-entered id d kept queue tasks = omega (arith, count_of-tally id (entered d kept queue tasks), count_of-tally id queue, count_of-tally id tasks, TallyLemmas.tally-entered (ones id) d kept queue tasks)
+
+-- what stays by every tally stays by every count
+same_count : (id : ℕ) (p q : Running) → TallyLemmas.tally (ones id) (present_at q) ≡ TallyLemmas.tally (ones id) (present_at p) → count_of id (present_at q) ≡ count_of id (present_at p)
+same_count id p q h = omega (arith, count_of-tally id (present_at p), count_of-tally id (present_at q), h)
+
+-- to charge the current task keeps how often each id stands there
+pub keeps_charge : (id : ℕ) (d : Discipline) (p : Running) (now : ℕ) → count_of id (present_at (charge d p now)) ≡ count_of id (present_at p)
+keeps_charge id d p now = same_count id p (charge d p now) (TallyLemmas.tally-charge (ones id) d p now)
+
+-- a task of the queue that comes to run, where nothing ran, keeps how often each id stands there
+pub keeps_run_id : (id : ℕ) (p : Running) (o : Option ℕ) → p.current ≡ None → count_of id (present_at (run_id p o)) ≡ count_of id (present_at p)
+keeps_run_id id p o e = same_count id p (run_id p o) (TallyLemmas.tally-run_id (ones id) p o e)
+
+-- to start the queue's choice, where nothing ran, keeps how often each id stands there
+pub keeps_start : (id : ℕ) (d : Discipline) (p : Running) → p.current ≡ None → count_of id (present_at (start d p)) ≡ count_of id (present_at p)
+keeps_start id d p e = same_count id p (start d p) (TallyLemmas.tally-start (ones id) d p e)
+
+-- to exchange the current task for the one of an id, if the queue has it, keeps how often each id stands there
+pub keeps_exchanged : (id j : ℕ) (p : Running) (old : Task) (o : Option Task) → p.current ≡ Some old → with_id j p.queue ≡ o → count_of id (present_at (exchanged p old o)) ≡ count_of id (present_at p)
+keeps_exchanged id j p old o e h = same_count id p (exchanged p old o) (TallyLemmas.tally-exchanged (ones id) j p old o e h)
+
+-- to switch from the current task, if any, to the next one keeps how often each id stands there
+pub keeps_switched : (id : ℕ) (d : Discipline) (p : Running) (o : Option Task) → p.current ≡ o → count_of id (present_at (switched d p o)) ≡ count_of id (present_at p)
+keeps_switched id d p o e = same_count id p (switched d p o) (TallyLemmas.tally-switched (ones id) d p o e)
+
+-- to decide who runs keeps how often each id stands there, whatever the answer
+pub keeps_decided : (id : ℕ) (d : Discipline) (p : Running) (o : Option Task) (gives_way : Bool) → p.current ≡ o → count_of id (present_at (decided d p o gives_way)) ≡ count_of id (present_at p)
+keeps_decided id d p o b e = same_count id p (decided d p o b) (TallyLemmas.tally-decided (ones id) d p o b e)
+
+-- those that enter come to those that were there
+pub count_of-enter_all : (id : ℕ) (d : Discipline) (p : Running) (tasks : List Task) → count_of id (present_at (enter_all d p tasks)) ≡ count_of id (present_at p) + count_of id tasks
+count_of-enter_all id d p tasks =
+    omega (arith, count_of-tally id (present_at (enter_all d p tasks)), count_of-tally id (present_at p), count_of-tally id tasks, TallyLemmas.tally-enter_all (ones id) d p tasks)
+
+-- where each task stands once, each still does after a charge
+pub HasEachOnce-charge : (d : Discipline) (p : Running) (now : ℕ) → HasEachOnce (present_at p) → HasEachOnce (present_at (charge d p now))
+HasEachOnce-charge d p now h = λ id. omega (arith, h id, keeps_charge id d p now)
+
+-- where each task stands once and nothing runs, each still does once the queue's choice has started
+pub HasEachOnce-start : (d : Discipline) (p : Running) → p.current ≡ None → HasEachOnce (present_at p) → HasEachOnce (present_at (start d p))
+HasEachOnce-start d p e h = λ id. omega (arith, h id, keeps_start id d p e)
+
+-- where each task stands once, each still does after it is decided who runs
+pub HasEachOnce-decided : (d : Discipline) (p : Running) (gives_way : Bool) → HasEachOnce (present_at p) → HasEachOnce (present_at (decided d p p.current gives_way))
+HasEachOnce-decided d p b h = λ id. omega (arith, h id, keeps_decided id d p p.current b refl)
+
+-- if those present and those that come have each task once together, each stands once when they have entered
+pub HasEachOnce-enter_all : (d : Discipline) (p : Running) (tasks : List Task) → HasEachOnce (present_at p ++ tasks) → HasEachOnce (present_at (enter_all d p tasks))
+HasEachOnce-enter_all d p tasks h = λ id. omega (arith, h id, count_of-append id (present_at p) tasks, count_of-enter_all id d p tasks)
+
+-- the left part of a list that has each task once has each once too
+pub HasEachOnce-left : (xs ys : List Task) → HasEachOnce (xs ++ ys) → HasEachOnce xs
+HasEachOnce-left xs ys h = λ id. omega (arith, h id, count_of-append id xs ys)
+
+-- the right part of a list that has each task once has each once too
+pub HasEachOnce-right : (xs ys : List Task) → HasEachOnce (xs ++ ys) → HasEachOnce ys
+HasEachOnce-right xs ys h = λ id. omega (arith, h id, count_of-append id xs ys)

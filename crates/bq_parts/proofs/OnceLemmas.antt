@@ -1,0 +1,154 @@
+-- What an orderly world gives each processor: its tasks once, with small ids, and few of them.
+use Rattle.std.proofs.Common.{◌≡◌, ◌≢◌, ℕ, zero, suc, ◌+◌, ◌<◌, ◌≤◌, Bool, true, false, eqb, List, [], ◌∷◌, ◌++◌, length, refl, ap, ◌∙◌, arith, inl, inr, get_or, length-append, ◌||◌}
+use Rattle.std.specs.Prelude.{map}
+use Rattle.std.specs.List.{list_any, AllByRecursion, IsDistinct}
+use Rattle.std.proofs.lemmas.List.{get_or_past}
+use Rattle.std.proofs.lemmas.Map.Steps.{length-le_from_distinct_below}
+use Rattle.std.proofs.lemmas.Bool.{cases_lt}
+use Rattle.std.proofs.lemmas.Bool.Decides.{nat_tests}
+use Rattle.bq_disc.specs.Tasks.{Task}
+use Rattle.bq_disc.specs.OneProcessor.{present_at}
+use Rattle.bq_parts.specs.declared.lobby_entry.LobbyEntry.TheVariants.{Absent}
+use Rattle.bq_parts.specs.Processors.{Processor, opening, count_of, held_by, in_hand, HasEachOnce, HasSeatedIds}
+use Rattle.bq_parts.specs.World.{World, processor, inbox, seat}
+use Rattle.bq_parts.specs.Refusals.{is_away}
+use Rattle.bq_hooks.specs.Contexts.{as_number}
+use Rattle.bq_parts.specs.StandsOnce.{held_count, placed_count, standing_count, IsOrderly}
+use Rattle.bq_parts.proofs.CountLemmas.{one, one_self, count_of-append, HasEachOnce-left}
+
+-- a processor's tasks are among those of all
+pub held_le : (id : ℕ) (ps : List Processor) (cpu : ℕ) → count_of id (held_by (get_or ps cpu opening)) ≤ held_count id ps
+held_le id [] cpu = omega arith
+held_le id (p ∷ ps) zero = omega arith
+held_le id (p ∷ ps) (suc cpu) = omega (arith, held_le id ps cpu)
+
+-- those of two processors too
+pub held_two : (id : ℕ) (ps : List Processor) (a b : ℕ) → a ≢ b → count_of id (held_by (get_or ps a opening)) + count_of id (held_by (get_or ps b opening)) ≤ held_count id ps
+held_two id [] a b n = omega arith
+held_two id (p ∷ ps) zero zero n = absurd (n refl)
+held_two id (p ∷ ps) zero (suc b) n = omega (arith, held_le id ps b)
+held_two id (p ∷ ps) (suc a) zero n = omega (arith, held_le id ps a)
+held_two id (p ∷ ps) (suc a) (suc b) n = omega (arith, held_two id ps a b (λ e. n (ap suc e)))
+
+-- an inbox's tasks are among those of all inboxes
+pub placed_le : (id : ℕ) (xss : List (List Task)) (cpu : ℕ) → count_of id (get_or xss cpu []) ≤ placed_count id xss
+placed_le id [] cpu = omega arith
+placed_le id (xs ∷ xss) zero = omega arith
+placed_le id (xs ∷ xss) (suc cpu) = omega (arith, placed_le id xss cpu)
+
+-- a truth counts at most 1
+pub as_number_le : (b : Bool) → as_number b ≤ 1
+as_number_le true = omega arith
+as_number_le false = omega arith
+
+-- no id stands twice
+pub standing_once : (w : World) (id : ℕ) → IsOrderly w → standing_count id w ≤ 1
+standing_once w id o = omega (arith, o.once.away id, as_number_le (is_away (seat w id)))
+
+-- a processor's tasks are those present and the one in its hand
+pub count_of-held_by : (id : ℕ) (p : Processor) → count_of id (held_by p) ≡ count_of id (present_at p.running) + count_of id (in_hand p)
+count_of-held_by id p = count_of-append id (present_at p.running) (in_hand p)
+
+-- a processor has each of its tasks once, with those of its inbox and its hand
+pub once_at : (w : World) (cpu : ℕ) → IsOrderly w → HasEachOnce (present_at (processor w cpu).running ++ inbox w cpu ++ in_hand (processor w cpu))
+once_at w cpu o = λ id.
+    let p : Processor = processor w cpu in
+    omega (
+      arith,
+      standing_once w id o,
+      held_le id w.processors cpu,
+      placed_le id w.inboxes cpu,
+      count_of-held_by id p,
+      count_of-append id (present_at p.running ++ inbox w cpu) (in_hand p),
+      count_of-append id (present_at p.running) (inbox w cpu),
+    )
+
+-- without its hand
+pub each_once_runnable : (w : World) (cpu : ℕ) → IsOrderly w → HasEachOnce (present_at (processor w cpu).running ++ inbox w cpu)
+each_once_runnable w cpu o = HasEachOnce-left (present_at (processor w cpu).running ++ inbox w cpu) (in_hand (processor w cpu)) (once_at w cpu o)
+
+-- and without its inbox
+pub each_once_running : (w : World) (cpu : ℕ) → IsOrderly w → HasEachOnce (present_at (processor w cpu).running)
+each_once_running w cpu o = HasEachOnce-left (present_at (processor w cpu).running) (inbox w cpu) (each_once_runnable w cpu o)
+
+-- an id beyond the seats stands nowhere
+pub none_beyond : (w : World) (id : ℕ) → length w.seats ≡ 1024 → IsOrderly w → 1024 ≤ id → standing_count id w ≡ 0
+none_beyond w id l o h =
+    let past : seat w id ≡ Absent = get_or_past w.seats id Absent (omega arith) in
+    o.once.away id ∙ ap (λ s. as_number (is_away s)) past
+
+-- a processor's tasks have no id beyond the seats
+pub none_beyond_at : (w : World) (cpu id : ℕ) → length w.seats ≡ 1024 → IsOrderly w → 1024 ≤ id → count_of id (present_at (processor w cpu).running ++ inbox w cpu) ≡ 0
+none_beyond_at w cpu id l o h =
+    let p : Processor = processor w cpu in
+    omega (arith, none_beyond w id l o h, held_le id w.processors cpu, placed_le id w.inboxes cpu, count_of-held_by id p, count_of-append id (present_at p.running) (inbox w cpu))
+
+-- the tasks that run or wait at a processor have ids of seats
+pub seated_running : (w : World) (cpu : ℕ) → length w.seats ≡ 1024 → IsOrderly w → HasSeatedIds (present_at (processor w cpu).running)
+seated_running w cpu l o = λ id h. omega (arith, none_beyond_at w cpu id l o h, count_of-append id (present_at (processor w cpu).running) (inbox w cpu))
+
+-- the first of some tasks has an id below a bound from which none stands there
+head_below : (x : Task) (m n : ℕ) → (n ≤ x.id → one x.id x + m ≡ 0) → x.id < n
+head_below x m n h = elim (cases_lt x.id n) [ inl l ↦ l | inr g ↦ absurd (omega (arith, one_self x, h g)) ]
+
+-- two processors have each of their tasks once, together
+pub each_once_two : (w : World) (cpu from : ℕ) → cpu ≢ from → IsOrderly w → HasEachOnce (present_at (processor w cpu).running ++ present_at (processor w from).running)
+each_once_two w cpu from n o = λ id.
+    let p : Processor = processor w cpu in
+    let q : Processor = processor w from in
+    omega (
+      arith,
+      standing_once w id o,
+      held_two id w.processors cpu from n,
+      count_of-held_by id p,
+      count_of-held_by id q,
+      count_of-append id (present_at p.running) (present_at q.running),
+    )
+
+-- and none beyond the seats
+pub seated_two : (w : World) (cpu from : ℕ) → length w.seats ≡ 1024 → IsOrderly w → HasSeatedIds (present_at (processor w cpu).running ++ present_at (processor w from).running)
+seated_two w cpu from l o = λ id h.
+    omega (
+      arith,
+      seated_running w cpu l o id h,
+      seated_running w from l o id h,
+      count_of-append id (present_at (processor w cpu).running) (present_at (processor w from).running),
+    )
+
+abbrev ids : List Task → List ℕ
+ids xs = map (λ (t : Task). t.id) xs
+
+apart_step : (x : Task) (i : ℕ) (n : ℕ) → one i x + n ≡ 0 → eqb i x.id ≡ false
+apart_step x i n h = grind (arith, nat_tests)
+
+apart : (i : ℕ) (xs : List Task) → count_of i xs ≡ 0 → AllByRecursion (λ y. eqb i y ≡ false) (ids xs)
+apart i [] h = tt
+apart i (x ∷ xs) h = (apart_step x i (count_of i xs) h, apart i xs (omega arith))
+
+distinct : (xs : List Task) → HasEachOnce xs → IsDistinct eqb (ids xs)
+unfolding IsDistinct
+distinct [] h = tt
+distinct (x ∷ xs) h = (apart x.id xs (omega (arith, one_self x, h x.id)), distinct xs (λ id. omega (arith, h id)))
+
+below_by_test : (q i n : ℕ) (c b : Bool) → eqb q i ≡ b → i < n → (b || c) ≡ true → (c ≡ true → q < n) → q < n
+below_by_test q i n c true e l k rest = grind (arith, nat_tests)
+below_by_test q i n c false e l k rest = rest k
+
+all_below : (xs : List Task) (n q : ℕ) → ((id : ℕ) → n ≤ id → count_of id xs ≡ 0) → list_any (eqb q) (ids xs) ≡ true → q < n
+all_below [] n q h k = cc
+all_below (x ∷ xs) n q h k =
+    below_by_test q x.id n (list_any (eqb q) (ids xs)) (eqb q x.id) refl (head_below x (count_of x.id xs) n (h x.id)) k (all_below xs n q (λ id l. omega (arith, h id l)))
+
+length-ids : (xs : List Task) → length (ids xs) ≡ length xs
+length-ids [] = refl
+length-ids (x ∷ xs) = ap suc (length-ids xs)
+
+-- tasks with ids below n, of which none stands twice, are at most n
+pub few_below : (xs : List Task) (n : ℕ) → HasEachOnce xs → ((id : ℕ) → n ≤ id → count_of id xs ≡ 0) → length xs ≤ n
+few_below xs n h k = rw length-ids at (length-le_from_distinct_below (ids xs) n (distinct xs h) (λ q a. all_below xs n q k a))
+
+-- so a processor has at most 1024 tasks, with those of its inbox
+pub few_at : (w : World) (cpu : ℕ) → length w.seats ≡ 1024 → IsOrderly w → length (present_at (processor w cpu).running) + length (inbox w cpu) ≤ 1024
+few_at w cpu l o =
+    let xs : List Task = present_at (processor w cpu).running in
+    omega (arith, length-append xs (inbox w cpu), few_below (xs ++ inbox w cpu) 1024 (each_once_runnable w cpu o) (λ id h. none_beyond_at w cpu id l o h))

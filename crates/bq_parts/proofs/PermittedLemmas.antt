@@ -1,0 +1,158 @@
+-- A settled choice is permitted: a policy's by the test that it passed, and the discipline's own by what it is.
+use Rattle.std.proofs.Common.{◌≡◌, ℕ, ◌+◌, ◌<◌, ◌≤◌, Bool, true, false, cond, List, [], ◌∷◌, filter, Option, Some, None, refl, sym, subst, ap, ◌∙◌, arith}
+use Rattle.std.specs.Prelude.{◌||◌, ◌&&◌, ◌==◌, nat_lt, nat_le, is_some, unwrap_or}
+use Rattle.std.proofs.lemmas.Bool.Decides.{nat_tests}
+use Rattle.bq_hooks.specs.declared.settled.By.TheVariants as who
+use Rattle.std.specs.Option.{option_map_or}
+use Rattle.bq_disc.specs.Tasks.{Task, has_id, with_id, first_by, former, id_of}
+use Rattle.bq_disc.specs.Queues.{can_use}
+use Rattle.bq_disc.specs.Pulls.{movable, pulled_before}
+use Rattle.bq_disc.specs.Movable.{is_movable_to}
+use Rattle.bq_bpf.specs.declared.hook.Version.{Version}
+use Rattle.bq_verify.specs.Accepted.{Accepted}
+use Rattle.bq_policies.specs.Attachments.{Attached}
+use Rattle.bq_hooks.specs.Contexts.{nobody, or_nobody}
+use Rattle.bq_hooks.specs.OwnPlace.{own_place, allows, HasPlace}
+use Rattle.bq_hooks.specs.Permitted.{may_place, may_pull, task_numbered}
+use Rattle.bq_hooks.specs.Settled.{Settled as Chosen, settled as chosen}
+use Rattle.bq_hooks.proofs.PlaceLemmas.{own_place_there}
+use Rattle.bq_parts.specs.Processors.{Processor, count_of, size_of, HasEachOnce}
+use Rattle.bq_parts.specs.Choices.{Regime, Decision, SettlesBy, Settles, own_pull}
+use Rattle.bq_parts.proofs.CountLemmas.{one}
+use Rattle.bq_parts.proofs.NumberTestLemmas.{below_from_test, test_from_below}
+
+by_test : (b : Bool) (permitted : ℕ → Bool) (r0 own : ℕ) → permitted r0 ≡ b → permitted own ≡ true → permitted (cond {A = Chosen} b (record { choice = r0; by = who.Policy }) (record { choice = own; by = who.Discipline })).choice ≡ true
+by_test true permitted r0 own e o = e
+by_test false permitted r0 own e o = o
+
+-- an answer is the choice where it is permitted, and else the own choice is
+pub answered : (permitted : ℕ → Bool) (r0 own : ℕ) → permitted own ≡ true → permitted (chosen permitted (Some r0) own).choice ≡ true
+answered permitted r0 own o = by_test (permitted r0) permitted r0 own refl o
+
+settles_by : (s : Regime) (policy : Option Accepted) (context : Version → List ℕ) (attached : Attached) (now cpu : ℕ) (permitted : ℕ → Bool) (own : ℕ) (settled : Decision) →
+    permitted own ≡ true → SettlesBy s policy context attached now cpu permitted own settled → permitted settled.choice ≡ true
+settles_by s None context attached now cpu permitted own settled o h = ap (λ (x : Decision). permitted x.choice) h ∙ o
+settles_by s (Some policy) context attached now cpu permitted own settled o h = ap permitted h.4 ∙ answered permitted h.0 own o
+
+-- where the own choice is permitted, what is settled is
+pub settled_permitted : (s : Regime) (context : Version → List ℕ) (attached : Attached) (now cpu : ℕ) (permitted : ℕ → Bool) (own : ℕ) (settled : Decision) →
+    permitted own ≡ true → Settles s context attached now cpu permitted own settled → permitted settled.choice ≡ true
+settled_permitted s context attached now cpu permitted own settled o h = settles_by s attached.policy context attached now cpu permitted own settled o h
+
+both : (a b : Bool) → (a && b) ≡ true → (a ≡ true) × (b ≡ true)
+both true b h = (refl, h)
+both false b h = cc
+
+-- a place that is permitted is a processor of the machine that the mask allows
+pub may_place_fits : (count : ℕ) (t : Task) (p : ℕ) → may_place count t p ≡ true → (p < count) × (allows t.mask p ≡ true)
+may_place_fits count t p h = let b = both (nat_lt p count) (allows t.mask p) h in (below_from_test p count b.0, b.1)
+
+-- the own place is permitted
+pub own_place_permitted : (count : ℕ) (loads : List ℕ) (t : Task) → HasPlace count t → may_place count t (unwrap_or (own_place count loads t) 0) ≡ true
+own_place_permitted count loads t h =
+    let f = own_place_there count loads t h in
+    ap (λ o. may_place count t (unwrap_or o 0)) f.1 ∙ rw (test_from_below f.0 count f.2, f.3) refl
+
+or_true : (b : Bool) → (b || true) ≡ true
+or_true true = refl
+or_true false = refl
+
+-- a task is found at the head of a list by its own id
+itself : (t : Task) (o : Option Task) → is_some (cond (has_id t.id t) (Some t) o) ≡ true
+itself t o = let same : has_id t.id t ≡ true = grind (arith, nat_tests) in rw same refl
+
+-- one that is found in the rest of a list is found in the list
+later : (id : ℕ) (x : Task) (xs : List Task) → is_some (with_id id xs) ≡ true → is_some (with_id id (x ∷ xs)) ≡ true
+later id x xs h = elim (has_id id x) as (λ b. is_some (cond b (Some x) (with_id id xs)) ≡ true) [ true ↦ refl | false ↦ h ]
+
+former_there : (before : Task → Task → Bool) (x : Task) (o : Option Task) (xs : List Task) → ((y : Task) → o ≡ Some y → is_some (with_id y.id xs) ≡ true) → is_some (with_id (former before x o).id (x ∷ xs)) ≡ true
+former_there before x None xs h = itself x (with_id x.id xs)
+former_there before x (Some y) xs h =
+    elim (before y x) as (λ b. is_some (with_id (cond b y x).id (x ∷ xs)) ≡ true) [ true ↦ later y.id x xs (h y refl) | false ↦ itself x (with_id x.id xs) ]
+
+-- the first of some tasks stands among them
+first_there : (before : Task → Task → Bool) (xs : List Task) (m : Task) → first_by before xs ≡ Some m → is_some (with_id m.id xs) ≡ true
+first_there before [] m h = cc
+first_there before (x ∷ xs) m h =
+    let is : former before x (first_by before xs) ≡ m = cc in
+    subst (λ (y : Task). is_some (with_id y.id (x ∷ xs)) ≡ true) is (former_there before x (first_by before xs) xs (first_there before xs))
+
+counted_by_test : (b : Bool) (x : Task) (n : ℕ) (o : Option Task) → is_some (cond b (Some x) o) ≡ true → (is_some o ≡ true → 1 ≤ n) → 1 ≤ cond b 1 0 + n
+counted_by_test true x n o h rest = omega arith
+counted_by_test false x n o h rest = omega (arith, rest h)
+
+-- one that is found is counted
+counted : (id : ℕ) (xs : List Task) → is_some (with_id id xs) ≡ true → 1 ≤ count_of id xs
+counted id [] h = cc
+counted id (x ∷ xs) h = counted_by_test (has_id id x) x (count_of id xs) (with_id id xs) h (counted id xs)
+
+-- a filter leaves no more
+count_of-filter : (id : ℕ) (p : Task → Bool) (xs : List Task) → count_of id (filter p xs) ≤ count_of id xs
+count_of-filter id p [] = omega arith
+count_of-filter id p (x ∷ xs) =
+    elim (p x) as (λ b. count_of id (cond b (x ∷ filter p xs) (filter p xs)) ≤ count_of id (x ∷ xs)) [
+      | true ↦ omega (arith, count_of-filter id p xs)
+      | false ↦ omega (arith, count_of-filter id p xs)
+    ]
+
+movable_by_tests : (a b : Bool) (cpu id : ℕ) (x t : Task) (xs : List Task) → has_id id x ≡ a → can_use cpu x ≡ b → HasEachOnce (x ∷ xs) →
+    is_some (with_id id (cond b (x ∷ movable cpu xs) (movable cpu xs))) ≡ true → cond a (Some x) (with_id id xs) ≡ Some t →
+    (is_some (with_id id (movable cpu xs)) ≡ true → with_id id xs ≡ Some t → can_use cpu t ≡ true) → can_use cpu t ≡ true
+movable_by_tests true true cpu id x t xs e f once h k rest = let is : x ≡ t = cc in subst (λ y. can_use cpu y ≡ true) is f
+movable_by_tests true false cpu id x t xs e f once h k rest =
+    let here : one id x ≡ 1 = ap (λ b. cond b 1 0) e in
+    absurd (omega (arith, once id, here, counted id (movable cpu xs) h, count_of-filter id (can_use cpu) xs))
+movable_by_tests false true cpu id x t xs e f once h k rest =
+    let there : is_some (with_id id (movable cpu xs)) ≡ true = sym (ap (λ b. is_some (cond b (Some x) (with_id id (movable cpu xs)))) e) ∙ h in
+    rest there k
+movable_by_tests false false cpu id x t xs e f once h k rest = rest h k
+
+-- where ids stand once, the task of an id that may move may use the processor
+pub movable_can_use : (cpu id : ℕ) (queue : List Task) (t : Task) → HasEachOnce queue → is_some (with_id id (movable cpu queue)) ≡ true → with_id id queue ≡ Some t → can_use cpu t ≡ true
+movable_can_use cpu id [] t once h k = cc
+movable_can_use cpu id (x ∷ xs) t once h k =
+    movable_by_tests (has_id id x) (can_use cpu x) cpu id x t xs refl refl once h k (movable_can_use cpu id xs t (λ i. omega (arith, once i)))
+
+found_by_test : (b : Bool) (id : ℕ) (x : Task) (xs : List Task) → cond b (Some x) (with_id id xs) ≡ None → (with_id id xs ≡ None → count_of id xs ≡ 0) → cond b 1 0 + count_of id xs ≡ 0
+found_by_test true id x xs h rest = cc
+found_by_test false id x xs h rest = omega (arith, rest h)
+
+-- an id that is not found stands nowhere
+found : (id : ℕ) (xs : List Task) → with_id id xs ≡ None → count_of id xs ≡ 0
+found id [] h = refl
+found id (x ∷ xs) h = found_by_test (has_id id x) id x xs h (found id xs)
+
+movable_by_case : (cpu id : ℕ) (queue : List Task) (o : Option Task) → HasEachOnce queue → is_some (with_id id (movable cpu queue)) ≡ true → with_id id queue ≡ o → option_map_or (can_use cpu) o false ≡ true
+movable_by_case cpu id queue None once h e = absurd (omega (arith, found id queue e, counted id (movable cpu queue) h, count_of-filter id (can_use cpu) queue))
+movable_by_case cpu id queue (Some t) once h e = movable_can_use cpu id queue t once h e
+
+-- where ids stand once, a task that is found among the movable ones may be named
+named : (cpu id : ℕ) (queue : List Task) → HasEachOnce queue → is_some (with_id id (movable cpu queue)) ≡ true → is_movable_to cpu id queue ≡ true
+named cpu id queue once h = movable_by_case cpu id queue (with_id id queue) once h refl
+
+own_pull_by_case : (cpu : ℕ) (queue : List Task) (o : Option Task) → HasEachOnce queue → first_by pulled_before (movable cpu queue) ≡ o → may_pull cpu queue (or_nobody (id_of o)) ≡ true
+own_pull_by_case cpu queue None once e = refl
+own_pull_by_case cpu queue (Some m) once e =
+    ap (λ b. m.id == nobody || b) (named cpu m.id queue once (first_there pulled_before (movable cpu queue) m e)) ∙ or_true (m.id == nobody)
+
+own_pull_by_test : (b : Bool) (cpu : ℕ) (queue : List Task) → HasEachOnce queue → may_pull cpu queue (or_nobody (id_of (cond b (first_by pulled_before (movable cpu queue)) None))) ≡ true
+own_pull_by_test true cpu queue once = own_pull_by_case cpu queue (first_by pulled_before (movable cpu queue)) once refl
+own_pull_by_test false cpu queue once = refl
+
+-- the own choice of a task to pull is permitted
+pub own_pull_permitted : (cpu : ℕ) (p from : Processor) → HasEachOnce from.running.queue → may_pull cpu from.running.queue (or_nobody (own_pull cpu p from)) ≡ true
+own_pull_permitted cpu p from once = own_pull_by_test (nat_le (size_of p + 2) (size_of from)) cpu from.running.queue once
+
+numbered : (b : Bool) (n id : ℕ) (moves : Bool) → cond b None (Some n) ≡ Some id → (b || moves) ≡ true → (n ≡ id) × (moves ≡ true)
+numbered true n id moves e h = cc
+numbered false n id moves e h = (cc, h)
+
+-- a task of that number is then one that may move
+pub may_pull_names : (cpu : ℕ) (queue : List Task) (n id : ℕ) → may_pull cpu queue n ≡ true → task_numbered n ≡ Some id → is_movable_to cpu id queue ≡ true
+may_pull_names cpu queue n id h e =
+    let f = numbered (n == nobody) n id (is_movable_to cpu n queue) e h in
+    subst (λ i. is_movable_to cpu i queue ≡ true) f.0 f.1
+
+-- and the task of that id may use the processor
+pub may_go : (cpu id : ℕ) (queue : List Task) (t : Task) → is_movable_to cpu id queue ≡ true → with_id id queue ≡ Some t → can_use cpu t ≡ true
+may_go cpu id queue t h e = sym (ap (λ o. option_map_or (can_use cpu) o false) e) ∙ h

@@ -1,0 +1,17 @@
+-- What an account is ahead of its receipts by.
+use Rattle.std.proofs.Common.{◌≡◌, List, sym, ap, ◌∙◌}
+use Rattle.bq_bpf.specs.declared.board.Call.{Call}
+use Rattle.bq_bpf.specs.Counters.{Through}
+use Rattle.bq_history.specs.declared.law.Receipt.{Receipt}
+use Rattle.bq_counters.specs.declared.account.Account.{Account}
+use Rattle.bq_counters.specs.Sums.{calling}
+use Rattle.bq_seats.specs.Calls.{account_of, ahead}
+use Rattle.bq_seats.proofs.AccountLemmas.{goes_ahead}
+use Rattle.bq_cells.specs.declared.record.Record.{Record}
+use Rattle.bq_cells.specs.Parts.{told_calls}
+
+-- an account that went over a desk is ahead by the calls that were made there
+pub ahead_of : {B : Type 0} (account : B → Account) (b d : B) (xs ys : List (Receipt Record)) (made : List Call) (a : Account) → account b ≡ account_of told_calls xs →
+    Through (λ (old : B) (c : Call) (new : B). account new ≡ calling (account old) c) b made d → a ≡ account d → ys ≡ xs → a ≡ ahead told_calls ys made
+ahead_of account b d xs ys made a e t s same =
+    s ∙ (goes_ahead told_calls account b d xs made e t ∙ ap (λ zs. ahead told_calls zs made) (sym same))

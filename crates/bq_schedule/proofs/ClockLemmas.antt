@@ -1,0 +1,213 @@
+-- The clocks of a schedule, and who runs, are those of its history.
+use Rattle.std.proofs.Common.{◌≡◌, ◌≢◌, ℕ, ◌<◌, Bool, true, false, [], ◌∷◌, length, get_or, Option, Some, None, Result, Ok, Err, refl, sym, ap, ◌∙◌, ◌⊎◌, inl, inr, get_or-set_same, get_or-set_other, eqb, ltb, cond, arith}
+use Rattle.std.specs.Prelude.{unwrap_or, slice_set}
+use Rattle.std.proofs.lemmas.Bool.Decides.{eqb_tells, nat_tests}
+use Rattle.std.proofs.lemmas.List.{get_or-replicate, length-replicate}
+use Rattle.std.specs.Option.{option_map}
+use Rattle.bq_disc.specs.OneProcessor.{reading}
+use Rattle.bq_parts.specs.declared.event.Event.{Event}
+use Rattle.bq_parts.specs.declared.event.Event.TheVariants.{Admit, EndWake, Drain, Tick, Block, Pull}
+use Rattle.bq_parts.specs.declared.reply.Reply.{Reply}
+use Rattle.bq_parts.specs.declared.reply.Reply.TheVariants.{Admitted, Placed, Drained, Ticked, Blocked as Went, Pulled}
+use Rattle.bq_parts.specs.declared.refusal.Refusal.{Refusal}
+use Rattle.bq_bpf.specs.declared.hook.Hook.TheVariants.{Place, Preempt, Pull as OnPull}
+use Rattle.bq_schedule.specs.declared.change.Decision.{Decision}
+use Rattle.bq_schedule.specs.declared.change.Start.{Start}
+use Rattle.bq_schedule.specs.declared.change.Left.TheVariants.{Preempted, Blocked}
+use Rattle.bq_schedule.specs.declared.figures.ProcessorFigures.{ProcessorFigures}
+use Rattle.bq_schedule.specs.Moments.{Moment, History}
+use Rattle.bq_schedule.specs.Figures.{Figures, opening, unread, processor_of}
+use Rattle.bq_schedule.specs.Passing.{read_at, processor_read}
+use Rattle.bq_schedule.specs.Standing.{leaves, comes}
+use Rattle.bq_schedule.specs.Running.{switched}
+use Rattle.bq_schedule.specs.Slices.{Sight, sight, sight_of, clock_after, clock, runner_after, runner}
+use Rattle.bq_schedule.specs.Steps.{asked, taken, emptied, decided, placed, blocked, pulled, performed, time_at, is_there, after, figures}
+use Rattle.bq_schedule.specs.Laws.{IsWithin, IsOf}
+use Rattle.bq_schedule.proofs.FrameLemmas.{Works, who, KeepsWorks, KeepsRunning, RunsAs, works-then, works-id, works-with_task, works-with_processor, works-asked, works-leaves, works-comes, works-taken, works-switched, running-then, running-id, running-with_task, running-with_processor, running-asked, running-leaves, running-comes, running-taken, running-read_at, runs-after, runs-before, runs-switched, count-read_at, processors-read_at}
+
+-- what a reply does: the clock is read that it shows, and nothing else of the works changes; and it runs who it says
+abbrev pub Shows : Figures → Figures → Option Sight → Type 0
+Shows s s' None = KeepsWorks s s' × KeepsRunning s s'
+Shows s s' (Some x) = KeepsWorks (read_at x.cpu x.now s) s' × RunsAs x.run x.cpu s s'
+
+shows-placed : (cpu now : ℕ) (d : Decision) (id to : ℕ) (s : Figures) → Shows s (placed cpu now d id to s) (Some (record { cpu = cpu; now = now; run = None }))
+shows-placed cpu now d id to s =
+    let r = read_at cpu now s in
+    let a = asked cpu d r in
+    let at = time_at cpu now s in
+    let c = comes id to at a in (
+      works-then r a _ (works-asked cpu d r) (works-then a c _ (works-comes id to at a) (works-with_task c id _ refl)),
+      running-then s r _ (running-read_at cpu now s) (running-then r a _ (running-asked cpu d r) (running-then a c _ (running-comes id to at a) (running-with_task c id _))),
+    )
+
+shows-decided : (cpu now : ℕ) (d : Decision) (run : Option ℕ) (s : Figures) → cpu < length s.processors → Shows s (decided cpu now d run s) (Some (record { cpu = cpu; now = now; run = Some run }))
+shows-decided cpu now d run s inside =
+    let r = read_at cpu now s in
+    let a = asked cpu d r in
+    let at = time_at cpu now s in
+    let inside' : cpu < length a.processors = omega (arith, count-read_at cpu now s, (works-asked cpu d r).count) in (
+      works-then r a _ (works-asked cpu d r) (works-switched Preempted cpu at run a),
+      runs-after (Some run) cpu s a (switched Preempted cpu at run a) (running-then s r a (running-read_at cpu now s) (running-asked cpu d r)) (runs-switched Preempted cpu at run a inside'),
+    )
+
+shows-blocked : (cpu now id : ℕ) (run : Option ℕ) (s : Figures) → cpu < length s.processors → Shows s (blocked cpu now id run s) (Some (record { cpu = cpu; now = now; run = Some run }))
+shows-blocked cpu now id run s inside =
+    let r = read_at cpu now s in
+    let a = leaves id r in
+    let at = time_at cpu now s in
+    let inside' : cpu < length a.processors = omega (arith, count-read_at cpu now s, (works-leaves id r).count) in (
+      works-then r a _ (works-leaves id r) (works-switched Blocked cpu at run a),
+      runs-after (Some run) cpu s a (switched Blocked cpu at run a) (running-then s r a (running-read_at cpu now s) (running-leaves id r)) (runs-switched Blocked cpu at run a inside'),
+    )
+
+shows-pulled : (cpu now : ℕ) (d : Decision) (task run : Option ℕ) (s : Figures) → cpu < length s.processors → Shows s (pulled cpu now d task run s) (Some (record { cpu = cpu; now = now; run = Some run }))
+shows-pulled cpu now d task run s inside =
+    let r = read_at cpu now s in
+    let a = asked cpu d r in
+    let at = time_at cpu now s in
+    let k = taken cpu at task a in
+    let inside' : cpu < length k.processors = omega (arith, count-read_at cpu now s, (works-asked cpu d r).count, (works-taken cpu at task a).count) in (
+      works-then r a _ (works-asked cpu d r) (works-then a k _ (works-taken cpu at task a) (works-switched Preempted cpu at run k)),
+      runs-after (Some run) cpu s k (switched Preempted cpu at run k)
+          (running-then s r k (running-read_at cpu now s) (running-then r a k (running-asked cpu d r) (running-taken cpu at task a)))
+          (runs-switched Preempted cpu at run k inside'),
+    )
+
+shows-drained : (cpu now : ℕ) (d : Decision) (run : Option ℕ) (s : Figures) → cpu < length s.processors → Shows s (emptied cpu (decided cpu now d run s)) (Some (record { cpu = cpu; now = now; run = Some run }))
+shows-drained cpu now d run s inside =
+    let h = shows-decided cpu now d run s inside in
+    let q = decided cpu now d run s in
+    (works-then _ q _ h.0 (works-with_processor q cpu _ refl), runs-before (Some run) cpu s q (emptied cpu q) h.1 (running-with_processor q cpu _ refl))
+
+shows-admitted : (id : ℕ) (s : Figures) (t : Figures) → KeepsWorks (leaves id s) t → KeepsRunning (leaves id s) t → KeepsWorks s t × KeepsRunning s t
+shows-admitted id s t a b = (works-then s (leaves id s) t (works-leaves id s) a, running-then s (leaves id s) t (running-leaves id s) b)
+
+inside_of : (a b : ℕ) → ltb a b ≡ true → a < b
+inside_of a b e = grind (arith, nat_tests)
+
+-- a reply to an event whose processor is there does to the works, and to who runs, what it shows
+pub shows-performed : (s : Figures) (e : Event) (r : Reply) → is_there s e ≡ true → Shows s (performed s e r) (sight e r)
+shows-performed s (Admit id nice mask slice) Admitted there = shows-admitted id s _ (works-with_task (leaves id s) id _ refl) (running-with_task (leaves id s) id _)
+shows-performed s (EndWake cpu now) (Placed task to by steps) there = shows-placed cpu now (record { hook = Place; by = by; steps = steps }) task to s
+shows-performed s (Drain cpu now) (Drained count run by steps) there = shows-drained cpu now (record { hook = Preempt; by = by; steps = steps }) run s (inside_of cpu (length s.processors) there)
+shows-performed s (Tick cpu now) (Ticked run by steps) there = shows-decided cpu now (record { hook = Preempt; by = by; steps = steps }) run s (inside_of cpu (length s.processors) there)
+shows-performed s (Block cpu now) (Went task run) there = shows-blocked cpu now task run s (inside_of cpu (length s.processors) there)
+shows-performed s (Pull cpu from now) (Pulled task run by steps) there = shows-pulled cpu now (record { hook = OnPull; by = by; steps = steps }) task run s (inside_of cpu (length s.processors) there)
+shows-performed s e r there = (works-id s, running-id s)
+
+outside : (a b : ℕ) → ltb a b ≡ false → a < b → ⊥
+outside a b e h = grind (arith, nat_tests)
+
+-- where the event's processor is not there, nothing is shown of one that is
+shows-nothing : (s : Figures) (e : Event) (r : Reply) → is_there s e ≡ false → IsWithin (length s.processors) (sight e r) → Shows s s (sight e r)
+shows-nothing s (EndWake cpu now) (Placed task to by steps) none h = absurd (outside cpu (length s.processors) none h)
+shows-nothing s (Drain cpu now) (Drained count run by steps) none h = absurd (outside cpu (length s.processors) none h)
+shows-nothing s (Tick cpu now) (Ticked run by steps) none h = absurd (outside cpu (length s.processors) none h)
+shows-nothing s (Block cpu now) (Went task run) none h = absurd (outside cpu (length s.processors) none h)
+shows-nothing s (Pull cpu from now) (Pulled task run by steps) none h = absurd (outside cpu (length s.processors) none h)
+shows-nothing s e r none h = (works-id s, running-id s)
+
+shows-if : (b : Bool) (s : Figures) (e : Event) (r : Reply) → is_there s e ≡ b → IsWithin (length s.processors) (sight e r) → Shows s (cond b (performed s e r) s) (sight e r)
+shows-if true s e r there h = shows-performed s e r there
+shows-if false s e r there h = shows-nothing s e r there h
+
+-- each answer does to the works, and to who runs, what it shows
+pub shows-after : (s : Figures) (e : Event) (a : Result Reply Refusal) → IsWithin (length s.processors) (sight_of e a) → Shows s (after s e a) (sight_of e a)
+shows-after s e (Ok r) h = shows-if (is_there s e) s e r refl h
+shows-after s e (Err r) h = (record { at = λ j. refl; count = refl; tasks = refl; times = λ id. refl }, record { at = λ j. refl })
+
+-- how many processors there are stays
+count-shown : (s s' : Figures) (o : Option Sight) → Shows s s' o → length s'.processors ≡ length s.processors
+count-shown s s' None h = h.0.count
+count-shown s s' (Some x) h = h.0.count ∙ count-read_at x.cpu x.now s
+
+-- after an event and its answer there are as many processors as before
+pub count-after : (s : Figures) (e : Event) (a : Result Reply Refusal) → IsWithin (length s.processors) (sight_of e a) → length (after s e a).processors ≡ length s.processors
+count-after s e a h = count-shown s (after s e a) (sight_of e a) (shows-after s e a h)
+
+within_same : (n k : ℕ) (o : Option Sight) → n ≡ k → IsWithin k o → IsWithin n o
+within_same n k o e h = rw e h
+
+-- the figures of a history have as many processors as its world
+pub count-figures : (count : ℕ) (past : History) → IsOf count past → length (figures count past).processors ≡ count
+count-figures count [] h = length-replicate count unread
+count-figures count (m ∷ past) h =
+    let before : length (figures count past).processors ≡ count = count-figures count past h.1 in
+    count-after (figures count past) m.event m.answer (within_same _ _ _ before h.0) ∙ before
+
+-- the moment is within what the figures before it have
+pub within-figures : (count : ℕ) (past : History) (m : Moment) → IsOf count (m ∷ past) → IsWithin (length (figures count past).processors) (sight_of m.event m.answer)
+within-figures count past m h = within_same _ _ _ (count-figures count past h.1) h.0
+
+-- a reading at one processor leaves the works of the others
+works-read_at : (cpu now j : ℕ) (s : Figures) → j < length s.processors → (b : Bool) → ((b ≡ true) × (cpu ≡ j)) ⊎ ((b ≡ false) × (cpu ≢ j)) →
+    processor_of (read_at cpu now s) j ≡ cond b (processor_read cpu (processor_of s cpu) now) (processor_of s j)
+works-read_at cpu now j s inside true (inl same) =
+    ap (λ l. get_or l j unread) (processors-read_at cpu now s)
+    ∙ ap (λ k. get_or (slice_set s.processors k (processor_read cpu (processor_of s cpu) now)) j unread) same.1
+    ∙ get_or-set_same s.processors j (processor_read cpu (processor_of s cpu) now) unread inside
+works-read_at cpu now j s inside false (inl same) = absurd (cc)
+works-read_at cpu now j s inside true (inr other) = absurd (cc)
+works-read_at cpu now j s inside false (inr other) =
+    ap (λ l. get_or l j unread) (processors-read_at cpu now s)
+    ∙ get_or-set_other s.processors cpu j (processor_read cpu (processor_of s cpu) now) unread (λ e. other.1 (sym e))
+
+-- the processor that was read
+pub read_there : (cpu now : ℕ) (s : Figures) → cpu < length s.processors → processor_of (read_at cpu now s) cpu ≡ processor_read cpu (processor_of s cpu) now
+read_there cpu now s inside = works-read_at cpu now cpu s inside true (inl (refl, refl))
+
+-- after a reading its processor has what the reading makes of it, and each other what it had
+pub processor-read_at : (cpu now j : ℕ) (s : Figures) → j < length s.processors →
+    processor_of (read_at cpu now s) j ≡ cond (eqb cpu j) (processor_read cpu (processor_of s cpu) now) (processor_of s j)
+processor-read_at cpu now j s inside = works-read_at cpu now j s inside (eqb cpu j) (eqb_tells cpu j)
+
+last-cond : (b : Bool) (p q : ProcessorFigures) → (cond b p q).last ≡ cond b p.last q.last
+last-cond true p q = refl
+last-cond false p q = refl
+
+last-same : (cpu now j : ℕ) (s : Figures) (b : Bool) → ((b ≡ true) × (cpu ≡ j)) ⊎ ((b ≡ false) × (cpu ≢ j)) →
+    cond b (reading (processor_of s cpu).last now) (processor_of s j).last ≡ cond b (reading (processor_of s j).last now) (processor_of s j).last
+last-same cpu now j s true (inl same) = ap (λ k. reading (processor_of s k).last now) same.1
+last-same cpu now j s false (inl same) = refl
+last-same cpu now j s true (inr other) = absurd (cc)
+last-same cpu now j s false (inr other) = refl
+
+-- the last reading of each clock is the one that is shown
+pub last-shown : (s s' : Figures) (o : Option Sight) (j : ℕ) → j < length s.processors → Shows s s' o → (processor_of s' j).last ≡ clock_after j (processor_of s j).last o
+last-shown s s' None j inside h = ap (λ (w : Works). w.last) (h.0.at j)
+last-shown s s' (Some x) j inside h =
+    ap (λ (w : Works). w.last) (h.0.at j)
+    ∙ ap (λ (p : ProcessorFigures). p.last) (processor-read_at x.cpu x.now j s inside)
+    ∙ last-cond (eqb x.cpu j) _ _
+    ∙ last-same x.cpu x.now j s (eqb x.cpu j) (eqb_tells x.cpu j)
+
+who-at : (o : Option (Option ℕ)) (s s' : Figures) (cpu j : ℕ) (b : Bool) → ((b ≡ true) × (cpu ≡ j)) ⊎ ((b ≡ false) × (cpu ≢ j)) → RunsAs o cpu s s' →
+    who (processor_of s' j) ≡ cond b (unwrap_or o (who (processor_of s j))) (who (processor_of s j))
+who-at None s s' cpu j true t h = ap (option_map (λ (x : Start). x.task)) (h.at j)
+who-at None s s' cpu j false t h = ap (option_map (λ (x : Start). x.task)) (h.at j)
+who-at (Some run) s s' cpu j true (inl same) h = ap (λ k. who (processor_of s' k)) (sym same.1) ∙ h.0
+who-at (Some run) s s' cpu j false (inl same) h = absurd (cc)
+who-at (Some run) s s' cpu j true (inr other) h = absurd (cc)
+who-at (Some run) s s' cpu j false (inr other) h = ap (option_map (λ (x : Start). x.task)) (h.1 j (λ e. other.1 (sym e)))
+
+-- and who runs is who it says
+pub who-shown : (s s' : Figures) (o : Option Sight) (j : ℕ) → Shows s s' o → who (processor_of s' j) ≡ runner_after j (who (processor_of s j)) o
+who-shown s s' None j h = ap (option_map (λ (x : Start). x.task)) (h.1.at j)
+who-shown s s' (Some x) j h = who-at x.run s s' x.cpu j (eqb x.cpu j) (eqb_tells x.cpu j) h.1
+
+opening-at : (count cpu : ℕ) → cpu < count → processor_of (opening count) cpu ≡ unread
+opening-at count cpu inside = get_or-replicate count cpu unread unread inside
+
+-- the figures' last reading of each processor, and who runs there, are those of the history
+pub figures-clocks : (count : ℕ) (past : History) (cpu : ℕ) → IsOf count past → cpu < count →
+    ((processor_of (figures count past) cpu).last ≡ clock cpu past) × (who (processor_of (figures count past) cpu) ≡ runner cpu past)
+figures-clocks count [] cpu h inside = (ap (λ (p : ProcessorFigures). p.last) (opening-at count cpu inside), ap who (opening-at count cpu inside))
+figures-clocks count (m ∷ past) cpu h inside =
+    let s = figures count past in
+    let o = sight_of m.event m.answer in
+    let before = figures-clocks count past cpu h.1 inside in
+    let inside' : cpu < length s.processors = omega (arith, count-figures count past h.1) in
+    let shown : Shows s (after s m.event m.answer) o = shows-after s m.event m.answer (within-figures count past m h) in (
+      last-shown s _ o cpu inside' shown ∙ ap (λ n. clock_after cpu n o) before.0,
+      who-shown s _ o cpu shown ∙ ap (λ w. runner_after cpu w o) before.1,
+    )

@@ -1,0 +1,206 @@
+-- The weights at each processor, and what a task that leaves one keeps of its fair time.
+use Rattle.std.proofs.Common.{◌≡◌, ◌≢◌, ℕ, ◌+◌, ◌-◌, ◌*◌, ◌<◌, ◌≤◌, max, Bool, true, false, List, [], ◌∷◌, length, get_or, Option, Some, None, refl, sym, ap, ◌∙◌, ◌⊎◌, inl, inr, eqb, leb, cond, zero, suc, get_or-set_same, get_or-set_other, arith}
+use Rattle.std.specs.Prelude.{slice_set, ℤ, pos, negsuc}
+use Rattle.std.proofs.lemmas.Bool.Decides.{eqb_tells, leb_tells, nat_tests}
+use Rattle.std.proofs.lemmas.List.{get_or_past, length-set}
+use Rattle.std.proofs.lemmas.List.Sums.{sum_by-set, sum_by-le, get_or-le-sum_by}
+use Rattle.std.proofs.lemmas.List.Elements.{All-from_get_or}
+use Rattle.bq_weights.specs.VirtualTime.{weights, weight_of}
+use Rattle.bq_schedule.specs.declared.figures.TaskFigures.{TaskFigures}
+use Rattle.bq_schedule.specs.declared.figures.ProcessorFigures.{ProcessorFigures}
+use Rattle.bq_schedule.specs.Figures.{Figures, unread, unknown, processor_of, task_of, with_processor, with_task}
+use Rattle.bq_schedule.specs.Standing.{fair_at, processor_left, left_from, leaves}
+use Rattle.bq_schedule.specs.Steps.{weight_at}
+use Rattle.bq_schedule.specs.FairTimes.{is_place, weight_there, weights_at}
+use Rattle.bq_schedule.proofs.FrameLemmas.{processor_kept, task_kept}
+use Rattle.bq_schedule.proofs.PurseLemmas
+
+-- a weight is one of the table, or none
+most : List ℕ → ℕ
+most [] = 0
+most (x ∷ xs) = max x (most xs)
+
+get_or-le-most : (xs : List ℕ) (i : ℕ) → get_or xs i 0 ≤ most xs
+unfolding most
+get_or-le-most [] i = omega arith
+get_or-le-most (x ∷ xs) zero = omega arith
+get_or-le-most (x ∷ xs) (suc i) = omega (arith, get_or-le-most xs i)
+
+greatest : most weights ≡ 88761
+unfolding most
+greatest = refl
+
+weight_of-le : (nice : ℤ) → weight_of nice ≤ 88761
+weight_of-le (pos n) = omega (arith, greatest, get_or-le-most weights (20 + n))
+weight_of-le (negsuc n) = omega (arith, greatest, get_or-le-most weights (19 - n))
+
+weight_at_if : (b : Bool) (n : ℕ) → n ≤ 88761 → cond b 0 n ≤ 88761
+weight_at_if true n h = omega arith
+weight_at_if false n h = h
+
+-- no nice value has a weight above 88761
+pub weight_at-le : (nice : ℤ) → weight_at nice ≤ 88761
+weight_at-le nice = weight_at_if _ (weight_of nice) (weight_of-le nice)
+
+-- a task that is somewhere has a seat
+seated_by : (s : Figures) (id cpu : ℕ) (b : Bool) → (task_of s id).place ≡ Some cpu → ((b ≡ true) × (length s.tasks ≤ id)) ⊎ ((b ≡ false) × (id < length s.tasks)) → id < length s.tasks
+seated_by s id cpu b e (inl past) = let u : (task_of s id).place ≡ None = ap (λ (t : TaskFigures). t.place) (get_or_past s.tasks id unknown past.1) in cc
+seated_by s id cpu b e (inr inside) = inside.1
+
+seated : (s : Figures) (id cpu : ℕ) → (task_of s id).place ≡ Some cpu → id < length s.tasks
+seated s id cpu e = seated_by s id cpu (leb (length s.tasks) id) e (leb_tells (length s.tasks) id)
+
+-- one that has none has nothing
+pub unseated : (s : Figures) (id : ℕ) → length s.tasks ≤ id → task_of s id ≡ unknown
+unseated s id past = get_or_past s.tasks id unknown past
+
+-- where a task is set, what f reads of each task is what it was, or what it is set to
+pub set_reads : {Y : Type 0} (f : TaskFigures → Y) (s : Figures) (id j : ℕ) (t : TaskFigures) (b : Bool) → id < length s.tasks → ((b ≡ true) × (id ≡ j)) ⊎ ((b ≡ false) × (id ≢ j)) →
+    f (task_of (with_task s id t) j) ≡ cond b (f t) (f (task_of s j))
+set_reads f s id j t true inside (inl e) = ap (λ k. f (get_or (slice_set s.tasks id t) k unknown)) (sym e.1) ∙ ap f (get_or-set_same s.tasks id t unknown inside)
+set_reads f s id j t false inside (inl e) = absurd (cc)
+set_reads f s id j t true inside (inr e) = absurd (cc)
+set_reads f s id j t false inside (inr e) = ap f (get_or-set_other s.tasks id j t unknown (λ h. e.1 (sym h)))
+
+cond_same : (b : Bool) (m n : ℕ) → m ≡ n → cond b m n ≡ n
+cond_same true m n e = e
+cond_same false m n e = refl
+
+-- the weights at a processor, where a task is set
+pub weights-set : (s : Figures) (id cpu : ℕ) (t : TaskFigures) → id < length s.tasks → weights_at (with_task s id t) cpu + weight_there cpu (task_of s id) ≡ weights_at s cpu + weight_there cpu t
+weights-set s id cpu t inside = sum_by-set (weight_there cpu) s.tasks id t unknown inside
+
+there-le : (b : Bool) (n : ℕ) → n ≤ 88761 → cond b n 0 ≤ 88761
+there-le true n h = h
+there-le false n h = omega arith
+
+weight-le : (s : Figures) (id cpu : ℕ) → id < length s.tasks → weight_there cpu (task_of s id) ≤ weights_at s cpu
+weight-le s id cpu inside = get_or-le-sum_by (weight_there cpu) s.tasks id unknown inside
+
+eqb_refl : (a : ℕ) → eqb a a ≡ true
+eqb_refl a = grind (arith, nat_tests)
+
+-- a task has its weight where it is
+pub weight-here : (cpu : ℕ) (t : TaskFigures) → t.place ≡ Some cpu → weight_there cpu t ≡ t.weight
+weight-here cpu t e = ap (λ o. cond (is_place cpu o) t.weight 0) e ∙ ap (λ b. cond b t.weight 0) (eqb_refl cpu)
+
+-- a task has no weight at a processor where it is not
+pub weight-elsewhere : (cpu k : ℕ) (t : TaskFigures) (b : Bool) → t.place ≡ Some k → eqb k cpu ≡ false → weight_there cpu t ≡ 0
+weight-elsewhere cpu k t b e ne = ap (λ o. cond (is_place cpu o) t.weight 0) e ∙ ap (λ b. cond b t.weight 0) ne
+
+-- a task that is nowhere has no weight at any processor
+pub weight-nowhere : (cpu : ℕ) (t : TaskFigures) → t.place ≡ None → weight_there cpu t ≡ 0
+weight-nowhere cpu t e = ap (λ o. cond (is_place cpu o) t.weight 0) e
+
+-- what a processor's figures are after one is set
+pub set-there : (s : Figures) (i j : ℕ) (p : ProcessorFigures) (b : Bool) → j < length s.processors → ((b ≡ true) × (i ≡ j)) ⊎ ((b ≡ false) × (i ≢ j)) →
+    (processor_of (with_processor s i p) j).weight ≡ cond b p.weight (processor_of s j).weight
+set-there s i j p true inside (inl e) = ap (λ k. (get_or (slice_set s.processors k p) j unread).weight) e.1 ∙ ap (λ (q : ProcessorFigures). q.weight) (get_or-set_same s.processors j p unread inside)
+set-there s i j p false inside (inl e) = absurd (cc)
+set-there s i j p true inside (inr e) = absurd (cc)
+set-there s i j p false inside (inr e) = ap (λ (q : ProcessorFigures). q.weight) (get_or-set_other s.processors i j p unread (λ h. e.1 (sym h)))
+
+-- what was given at each processor is kept where a processor is set that has given the same
+pub shared-with_processor : (s : Figures) (i : ℕ) (p : ProcessorFigures) (j : ℕ) → p.shared ≡ PurseLemmas.shared_at s i → PurseLemmas.shared_at (with_processor s i p) j ≡ PurseLemmas.shared_at s j
+shared-with_processor s i p j e = processor_kept (λ (q : ProcessorFigures). q.shared) s i j p e
+
+-- a task leaves its processor: it keeps what it has, and its weight goes
+pub record Leaves (id : ℕ) (s s' : Figures) : Type 0 where
+  pub sound : PurseLemmas.IsSound s'
+  pub raws : (j : ℕ) → PurseLemmas.uncapped s' j ≡ PurseLemmas.uncapped s j
+  pub nowhere : (task_of s' id).place ≡ None
+
+weights-left : (s s' : Figures) (id cpu j : ℕ) (b : Bool) (w : ℕ) → ((b ≡ true) × (cpu ≡ j)) ⊎ ((b ≡ false) × (cpu ≢ j)) → eqb cpu j ≡ b → id < length s.tasks →
+    (task_of s id).place ≡ Some cpu → (processor_of s j).weight ≡ weights_at s j →
+    weights_at s' j + weight_there j (task_of s id) ≡ weights_at s j →
+    w ≡ cond b ((processor_of s cpu).weight - (task_of s id).weight) (processor_of s j).weight → w ≡ weights_at s' j
+weights-left s s' id cpu j true w (inl e) is inside at old sums new =
+    let same : (processor_of s cpu).weight ≡ (processor_of s j).weight = ap (λ k. (processor_of s k).weight) e.1 in
+    let here : weight_there j (task_of s id) ≡ (task_of s id).weight = weight-here j (task_of s id) (at ∙ ap (λ (k : ℕ). Some k) e.1) in
+    omega (arith, same, here, old, sums, new)
+weights-left s s' id cpu j false w (inl e) is inside at old sums new = absurd (cc)
+weights-left s s' id cpu j true w (inr e) is inside at old sums new = absurd (cc)
+weights-left s s' id cpu j false w (inr e) is inside at old sums new =
+    let here : weight_there j (task_of s id) ≡ 0 = weight-elsewhere j cpu (task_of s id) false at is in
+    omega (arith, here, old, sums, new)
+
+-- the fair time of a purse where it is
+abbrev pub worth : (ℕ → ℕ) → PurseLemmas.Purse → ℕ
+worth f u = PurseLemmas.worth_at f u u.place
+
+-- what had been given when a purse came is no more than what is given where it is
+abbrev pub HasJoined : (ℕ → ℕ) → PurseLemmas.Purse → Type 0
+HasJoined f u = PurseLemmas.JoinedBy f u u.place
+
+cond-joined : (f : ℕ → ℕ) (b : Bool) (u v : PurseLemmas.Purse) → HasJoined f u → HasJoined f v → HasJoined f (cond b u v)
+cond-joined f true u v h k = h
+cond-joined f false u v h k = k
+
+-- one purse is another, which came after what was given; so did the others
+pub joined-set : (s s' : Figures) (j : ℕ) (u : PurseLemmas.Purse) (b : Bool) → ((k : ℕ) → PurseLemmas.shared_at s' k ≡ PurseLemmas.shared_at s k) → PurseLemmas.purse (task_of s' j) ≡ cond b u (PurseLemmas.purse (task_of s j)) →
+    HasJoined (PurseLemmas.shared_at s) u → HasJoined (PurseLemmas.shared_at s) (PurseLemmas.purse (task_of s j)) → HasJoined (PurseLemmas.shared_at s') (PurseLemmas.purse (task_of s' j))
+joined-set s s' j u b gives is new old =
+    PurseLemmas.joined-more (PurseLemmas.shared_at s) (PurseLemmas.shared_at s') (PurseLemmas.purse (task_of s' j)) (task_of s' j).place (λ k. omega (arith, gives k))
+    (PurseLemmas.joined-same (PurseLemmas.shared_at s) (PurseLemmas.purse (task_of s' j)) (cond b u (PurseLemmas.purse (task_of s j))) is (cond-joined (PurseLemmas.shared_at s) b u (PurseLemmas.purse (task_of s j)) new old))
+
+worth-cond : (s : Figures) (id j : ℕ) (u : PurseLemmas.Purse) (b : Bool) → ((b ≡ true) × (id ≡ j)) ⊎ ((b ≡ false) × (id ≢ j)) → worth (PurseLemmas.shared_at s) u ≡ PurseLemmas.uncapped s id →
+    worth (PurseLemmas.shared_at s) (cond b u (PurseLemmas.purse (task_of s j))) ≡ PurseLemmas.uncapped s j
+worth-cond s id j u true (inl e) same = same ∙ ap (λ k. PurseLemmas.uncapped s k) e.1
+worth-cond s id j u false (inl e) same = absurd (cc)
+worth-cond s id j u true (inr e) same = absurd (cc)
+worth-cond s id j u false (inr e) same = refl
+
+-- one purse is another of the same worth
+pub raw-set : (s s' : Figures) (id j : ℕ) (u : PurseLemmas.Purse) → ((k : ℕ) → PurseLemmas.shared_at s' k ≡ PurseLemmas.shared_at s k) → PurseLemmas.purse (task_of s' j) ≡ cond (eqb id j) u (PurseLemmas.purse (task_of s j)) →
+    worth (PurseLemmas.shared_at s) u ≡ PurseLemmas.uncapped s id → PurseLemmas.uncapped s' j ≡ PurseLemmas.uncapped s j
+raw-set s s' id j u gives is same =
+    PurseLemmas.worth-same (PurseLemmas.shared_at s') (PurseLemmas.shared_at s) (PurseLemmas.purse (task_of s' j)) (task_of s' j).place gives
+    ∙ ap (λ v. worth (PurseLemmas.shared_at s) v) is
+    ∙ worth-cond s id j u (eqb id j) (eqb_tells id j) same
+
+left-one : (s : Figures) (id cpu : ℕ) (p : ProcessorFigures) (t' : TaskFigures) → PurseLemmas.IsSound s → (task_of s id).place ≡ Some cpu → p.shared ≡ PurseLemmas.shared_at s cpu →
+    p.weight ≡ (processor_of s cpu).weight - (task_of s id).weight → t'.place ≡ None → t'.weight ≡ (task_of s id).weight → t'.settled ≡ PurseLemmas.uncapped s id →
+    Leaves id s (with_task (with_processor s cpu p) id t')
+left-one s id cpu p t' h at shared weight nowhere same settled =
+    let s1 = with_processor s cpu p in
+    let s2 = with_task s1 id t' in
+    let u = PurseLemmas.purse t' in
+    let inside : id < length s.tasks = seated s id cpu at in
+    let gives : (j : ℕ) → PurseLemmas.shared_at s2 j ≡ PurseLemmas.shared_at s j = λ j. shared-with_processor s cpu p j shared in
+    let is : (j : ℕ) → PurseLemmas.purse (task_of s2 j) ≡ cond (eqb id j) u (PurseLemmas.purse (task_of s j)) = λ j. set_reads PurseLemmas.purse s1 id j t' (eqb id j) inside (eqb_tells id j) in
+    record {
+      sound = record {
+        weights = λ j there.
+            let there' : j < length s.processors = omega (arith, there, length-set s.processors cpu p) in
+            let gone : weight_there j t' ≡ 0 = weight-nowhere j t' nowhere in
+            weights-left s s2 id cpu j (eqb cpu j) (processor_of s2 j).weight (eqb_tells cpu j) refl inside at (h.weights j there')
+            (omega (arith, weights-set s1 id j t' inside, gone))
+            (set-there s cpu j p (eqb cpu j) there' (eqb_tells cpu j) ∙ ap (λ w. cond (eqb cpu j) w (processor_of s j).weight) weight);
+        joined = λ j. joined-set s s2 j u (eqb id j) gives (is j) (rw nowhere tt) (h.joined j);
+        table = λ j. omega (arith, h.table j, task_kept (λ (v : TaskFigures). v.weight) s1 id j t' same);
+        seats = length-set s.tasks id t' ∙ h.seats;
+      };
+      raws = λ j. raw-set s s2 id j u gives (is j) (ap (λ o. PurseLemmas.worth_at (PurseLemmas.shared_at s) u o) nowhere ∙ settled);
+      nowhere = ap (λ (v : TaskFigures). v.place) (get_or-set_same s.tasks id t' unknown inside) ∙ nowhere;
+    }
+
+left-if : (s : Figures) (id : ℕ) (o : Option ℕ) → PurseLemmas.IsSound s → (task_of s id).place ≡ o → PurseLemmas.uncapped s id ≤ 340282366920938463463374607431768211455 → Leaves id s (left_from id s o)
+left-if s id None h at small = record { sound = h; raws = λ j. refl; nowhere = at }
+left-if s id (Some cpu) h at small =
+    let t = task_of s id in
+    let is : PurseLemmas.uncapped s id ≡ t.settled + t.weight * (PurseLemmas.shared_at s cpu - t.joined) = ap (λ o. PurseLemmas.worth_at (PurseLemmas.shared_at s) (PurseLemmas.purse t) o) at in
+    left-one s id cpu (processor_left (processor_of s cpu) t.weight) (record t { settled = fair_at s t (Some cpu); place = None; drains = None }) h at refl refl refl refl (omega (arith, is, small))
+
+-- a task that leaves is nowhere, all stays sound, and each has what it had, where what it has fits in 128 bits
+pub leaves-stays : (s : Figures) (id : ℕ) → PurseLemmas.IsSound s → PurseLemmas.uncapped s id ≤ 340282366920938463463374607431768211455 → Leaves id s (leaves id s)
+leaves-stays s id h small = left-if s id (task_of s id).place h refl small
+
+-- all weights together are few
+pub weights-few : (s : Figures) (cpu : ℕ) → PurseLemmas.IsSound s → weights_at s cpu ≤ 90891264
+weights-few s cpu h =
+    omega (
+      arith,
+      h.seats,
+      sum_by-le (weight_there cpu) 88761 s.tasks
+          (All-from_get_or (λ (t : TaskFigures). weight_there cpu t ≤ 88761) s.tasks unknown (λ j inside. there-le (is_place cpu (task_of s j).place) (task_of s j).weight (h.table j))),
+    )

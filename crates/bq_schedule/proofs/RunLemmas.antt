@@ -1,0 +1,207 @@
+-- The runs that are told are those that the slices make.
+use Rattle.std.proofs.Common.{◌≡◌, ◌≢◌, ℕ, ◌<◌, Bool, true, false, List, [], ◌∷◌, ◌++◌, length, Option, Some, None, Result, Ok, Err, refl, sym, ap, ◌∙◌, ◌⊎◌, inl, inr, eqb, ltb, cond, append-nil, append_assoc, arith}
+use Rattle.std.specs.Prelude.{option_to_list, ◌&&◌}
+use Rattle.std.proofs.lemmas.Bool.Decides.{eqb_tells, nat_tests}
+use Rattle.std.proofs.lemmas.List.{get_or-replicate}
+use Rattle.std.proofs.lemmas.List.Elements.{filter-append}
+use Rattle.bq_parts.specs.declared.event.Event.{Event}
+use Rattle.bq_parts.specs.declared.event.Event.TheVariants.{EndWake, Drain, Tick, Block, Pull}
+use Rattle.bq_parts.specs.declared.reply.Reply.{Reply}
+use Rattle.bq_parts.specs.declared.reply.Reply.TheVariants.{Placed, Drained, Ticked, Blocked as Went, Pulled}
+use Rattle.bq_parts.specs.declared.refusal.Refusal.{Refusal}
+use Rattle.bq_schedule.specs.declared.slice.Slice.{Slice}
+use Rattle.bq_schedule.specs.declared.figures.ProcessorFigures.{ProcessorFigures}
+use Rattle.bq_schedule.specs.Moments.{History}
+use Rattle.bq_schedule.specs.Figures.{Figures, unread, processor_of}
+use Rattle.bq_schedule.specs.Passing.{goes_on, slice_at, joined_run, ended_run, processor_read}
+use Rattle.bq_schedule.specs.Slices.{Sight, sight, sight_of, runner, stretch, slice_shown, slices, slices_at, is_at, joined, runs}
+use Rattle.bq_schedule.specs.Steps.{performed_told, change, nothing, is_there, after, figures}
+use Rattle.bq_schedule.specs.Laws.{IsWithin, IsOf, told_if, told_runs, TellsRuns}
+use Rattle.bq_schedule.proofs.FrameLemmas.{Works}
+use Rattle.bq_schedule.proofs.ClockLemmas.{Shows, shows-after, count-figures, within-figures, processor-read_at}
+use Rattle.bq_schedule.proofs.SliceTimeLemmas.{slice_seen, shown-seen}
+use Rattle.bq_schedule.proofs.ApartLemmas.{at_only, filter-one}
+
+-- the last of some runs is joined to another slice
+abbrev pub last_joined : List Slice → Slice → List Slice
+last_joined [] y = y ∷ []
+last_joined (r ∷ []) y = cond (goes_on r y) (record r { to = y.to } ∷ []) (r ∷ y ∷ [])
+last_joined (r ∷ (q ∷ rs)) y = r ∷ last_joined (q ∷ rs) y
+
+equals : (a b : ℕ) → eqb a b ≡ true → a ≡ b
+equals a b e = grind (arith, nat_tests)
+
+left_true : (b c : Bool) → (b && c) ≡ true → b ≡ true
+left_true true c e = refl
+left_true false c e = cc
+
+-- it makes no odds at which end slices are joined first
+joined-one : (x r y : Slice) (b c d : Bool) → goes_on r y ≡ b → goes_on x r ≡ c → goes_on (record x { to = r.to }) y ≡ d → (c ≡ true → d ≡ b) →
+    joined x (cond b (record r { to = y.to } ∷ []) (r ∷ y ∷ [])) ≡ last_joined (cond c (record x { to = r.to } ∷ []) (x ∷ r ∷ [])) y
+joined-one x r y true true d is on next same = rw (on, next, same refl) refl
+joined-one x r y true false d is on next same = rw (on, is) refl
+joined-one x r y false true d is on next same = rw (on, next, same refl) refl
+joined-one x r y false false d is on next same = rw (on, is) refl
+
+same_task : (x r y : Slice) → goes_on x r ≡ true → goes_on (record x { to = r.to }) y ≡ goes_on r y
+same_task x r y e = ap (λ k. eqb k y.task && eqb r.to y.from) (equals x.task r.task (left_true (eqb x.task r.task) (eqb x.to r.from) e))
+
+joined-many : (x r q y : Slice) (rs : List Slice) (c : Bool) → goes_on x r ≡ c →
+    cond c (record x { to = r.to } ∷ last_joined (q ∷ rs) y) (x ∷ r ∷ last_joined (q ∷ rs) y) ≡ last_joined (cond c (record x { to = r.to } ∷ q ∷ rs) (x ∷ r ∷ q ∷ rs)) y
+joined-many x r q y rs true e = refl
+joined-many x r q y rs false e = refl
+
+joined-last : (x y : Slice) (rs : List Slice) → joined x (last_joined rs y) ≡ last_joined (joined x rs) y
+joined-last x y [] = refl
+joined-last x y (r ∷ []) = joined-one x r y (goes_on r y) (goes_on x r) (goes_on (record x { to = r.to }) y) refl refl refl (same_task x r y)
+joined-last x y (r ∷ (q ∷ rs)) = joined-many x r q y rs (goes_on x r) refl
+
+runs-push : (xs : List Slice) (y : Slice) → runs (xs ++ y ∷ []) ≡ last_joined (runs xs) y
+runs-push [] y = refl
+runs-push (x ∷ xs) y = ap (joined x) (runs-push xs y) ∙ joined-last x y (runs xs)
+
+-- what is told, and what may go on
+last-front : (front : List Slice) (r y : Slice) → last_joined (front ++ r ∷ []) y ≡ front ++ last_joined (r ∷ []) y
+last-front [] r y = refl
+last-front (f ∷ []) r y = refl
+last-front (f ∷ (g ∷ gs)) r y = ap (λ zs. f ∷ zs) (last-front (g ∷ gs) r y)
+
+told-one : (front : List Slice) (r y : Slice) (b : Bool) → goes_on r y ≡ b →
+    front ++ cond b (record r { to = y.to } ∷ []) (r ∷ y ∷ []) ≡ (front ++ option_to_list (cond b None (Some r))) ++ option_to_list (cond b (Some (record r { to = y.to })) (Some y))
+told-one front r y true e = ap (λ zs. zs ++ record r { to = y.to } ∷ []) (sym (append-nil front))
+told-one front r y false e = sym (append_assoc front (r ∷ []) (y ∷ []))
+
+-- what was told and what goes on are some runs, and nothing was told where nothing goes on
+pub record AreRuns (told : List Slice) (run : Option Slice) (xs : List Slice) : Type 0 where
+  pub all : told ++ option_to_list run ≡ runs xs
+  pub first : run ≡ None → told ≡ []
+
+some_run : (r y : Slice) (b : Bool) → cond b (Some (record r { to = y.to })) (Some y) ≡ None → ⊥
+some_run r y true e = cc
+some_run r y false e = cc
+
+more : (told : List Slice) (run o : Option Slice) (xs : List Slice) → AreRuns told run xs → AreRuns (told ++ option_to_list (ended_run run o)) (joined_run run o) (xs ++ option_to_list o)
+more told None None xs h = record { all = ap (λ zs. zs ++ []) (append-nil told) ∙ h.all ∙ ap runs (sym (append-nil xs)); first = λ e. append-nil told ∙ h.first e }
+more told (Some r) None xs h = record { all = ap (λ zs. zs ++ r ∷ []) (append-nil told) ∙ h.all ∙ ap runs (sym (append-nil xs)); first = λ e. cc }
+more told None (Some y) xs h =
+    let none : told ≡ [] = h.first refl in
+    let empty : runs xs ≡ [] = sym h.all ∙ append-nil told ∙ none in
+    record {
+      all = ap (λ zs. (zs ++ []) ++ y ∷ []) none ∙ sym (runs-push xs y ∙ ap (λ zs. last_joined zs y) empty);
+      first = λ e. cc;
+    }
+more told (Some r) (Some y) xs h = record {
+  all = sym (runs-push xs y ∙ ap (λ zs. last_joined zs y) (sym h.all) ∙ last-front told r y ∙ told-one told r y (goes_on r y) refl);
+  first = λ e. absurd (some_run r y (goes_on r y) e);
+}
+
+-- the run that is told with a slice
+abbrev pub run_seen : Figures → Option Sight → Option Slice
+run_seen s None = None
+run_seen s (Some x) = ended_run (processor_of s x.cpu).run (slice_at x.cpu (processor_of s x.cpu) x.now)
+
+seen-performed : (s : Figures) (e : Event) (r : Reply) → (performed_told s e r).run ≡ run_seen s (sight e r)
+seen-performed s (EndWake cpu now) (Placed task to by steps) = refl
+seen-performed s (Drain cpu now) (Drained count run by steps) = refl
+seen-performed s (Tick cpu now) (Ticked run by steps) = refl
+seen-performed s (Block cpu now) (Went task run) = refl
+seen-performed s (Pull cpu from now) (Pulled task run by steps) = refl
+seen-performed s e r = refl
+
+outside : (a b : ℕ) → ltb a b ≡ false → a < b → ⊥
+outside a b e h = grind (arith, nat_tests)
+
+seen-nothing : (s : Figures) (e : Event) (r : Reply) → is_there s e ≡ false → IsWithin (length s.processors) (sight e r) → None ≡ run_seen s (sight e r)
+seen-nothing s (EndWake cpu now) (Placed task to by steps) none h = absurd (outside cpu (length s.processors) none h)
+seen-nothing s (Drain cpu now) (Drained count run by steps) none h = absurd (outside cpu (length s.processors) none h)
+seen-nothing s (Tick cpu now) (Ticked run by steps) none h = absurd (outside cpu (length s.processors) none h)
+seen-nothing s (Block cpu now) (Went task run) none h = absurd (outside cpu (length s.processors) none h)
+seen-nothing s (Pull cpu from now) (Pulled task run by steps) none h = absurd (outside cpu (length s.processors) none h)
+seen-nothing s e r none h = refl
+
+seen-if : (b : Bool) (s : Figures) (e : Event) (r : Reply) → is_there s e ≡ b → IsWithin (length s.processors) (sight e r) → (cond b (performed_told s e r) nothing).run ≡ run_seen s (sight e r)
+seen-if true s e r there h = seen-performed s e r
+seen-if false s e r there h = seen-nothing s e r there h
+
+seen-change : (s : Figures) (e : Event) (a : Result Reply Refusal) → IsWithin (length s.processors) (sight_of e a) → (change s e a).run ≡ run_seen s (sight_of e a)
+seen-change s e (Ok r) h = seen-if (is_there s e) s e r refl h
+seen-change s e (Err r) h = refl
+
+-- what a moment ends at a processor, and which run it makes there
+run-there : (s s' : Figures) (x : Sight) (j : ℕ) (b : Bool) → eqb x.cpu j ≡ b → j < length s.processors → Shows s s' (Some x) →
+    (processor_of s' j).run ≡ cond b (joined_run (processor_of s x.cpu).run (slice_seen s (Some x))) (processor_of s j).run
+run-there s s' x j true e inside h =
+    let q = processor_read x.cpu (processor_of s x.cpu) x.now in
+    ap (λ (w : Works). w.run) (h.0.at j) ∙ ap (λ (p : ProcessorFigures). p.run) (processor-read_at x.cpu x.now j s inside ∙ ap (λ c. cond c q (processor_of s j)) e)
+run-there s s' x j false e inside h =
+    let q = processor_read x.cpu (processor_of s x.cpu) x.now in
+    ap (λ (w : Works). w.run) (h.0.at j) ∙ ap (λ (p : ProcessorFigures). p.run) (processor-read_at x.cpu x.now j s inside ∙ ap (λ c. cond c q (processor_of s j)) e)
+
+-- a slice of another processor is none here
+only-cond : (l : Bool) (cpu j id from to : ℕ) (b : Bool) → eqb cpu j ≡ b →
+    at_only j (cond l (Some (record { processor = cpu; task = id; from = from; to = to })) None) ≡ cond b (cond l (Some (record { processor = cpu; task = id; from = from; to = to })) None) None
+only-cond true cpu j id from to true e = rw e refl
+only-cond true cpu j id from to false e = rw e refl
+only-cond false cpu j id from to true e = refl
+only-cond false cpu j id from to false e = refl
+
+only-there : (cpu j from to : ℕ) (who : Option ℕ) (b : Bool) → eqb cpu j ≡ b → at_only j (stretch cpu who from to) ≡ cond b (stretch cpu who from to) None
+only-there cpu j from to None true e = refl
+only-there cpu j from to None false e = refl
+only-there cpu j from to (Some id) true e = only-cond (ltb from to) cpu j id from to true e
+only-there cpu j from to (Some id) false e = only-cond (ltb from to) cpu j id from to false e
+
+-- the runs told of a processor, and the one that may go on, are those that its slices make
+abbrev pub Told : ℕ → ℕ → History → Type 0
+Told count cpu past = AreRuns (told_runs count cpu past) (processor_of (figures count past) cpu).run (slices_at cpu past)
+
+same_runs : (told told' : List Slice) (run run' : Option Slice) (xs xs' : List Slice) → told' ≡ told → run' ≡ run → xs' ≡ xs → AreRuns told run xs → AreRuns told' run' xs'
+same_runs told told' run run' xs xs' t r x h = record { all = ap (λ zs. zs ++ option_to_list run') t ∙ ap (λ o. told ++ option_to_list o) r ∙ h.all ∙ ap runs (sym x); first = λ e. t ∙ h.first (sym r ∙ e) }
+
+told-there : (count : ℕ) (past : History) (cpu : ℕ) (s' : Figures) (x : Sight) (run : Option Slice) (b : Bool) → IsOf count past → IsWithin count (Some x) → cpu < count → Shows (figures count past) s' (Some x) →
+    run ≡ run_seen (figures count past) (Some x) → eqb x.cpu cpu ≡ b → ((b ≡ true) × (x.cpu ≡ cpu)) ⊎ ((b ≡ false) × (x.cpu ≢ cpu)) → Told count cpu past →
+    AreRuns (told_runs count cpu past ++ cond b (option_to_list run) []) (processor_of s' cpu).run (slices_at cpu past ++ option_to_list (at_only cpu (slice_shown past (Some x))))
+told-there count past cpu s' x run true h w inside k is e (inl same) t =
+    let s = figures count past in
+    let p = processor_of s x.cpu in
+    let here : p.run ≡ (processor_of s cpu).run = ap (λ k. (processor_of s k).run) same.1 in
+    let o = slice_seen s (Some x) in
+    let shown : slice_shown past (Some x) ≡ o = sym (shown-seen count past (Some x) h w) in
+    let only : at_only cpu (slice_shown past (Some x)) ≡ o = only-there x.cpu cpu _ _ (runner x.cpu past) true e ∙ shown in
+    same_runs _ _ _ _ _ _
+    (ap (λ z. told_runs count cpu past ++ option_to_list z) (is ∙ ap (λ z. ended_run z o) here))
+    (run-there s s' x cpu true e (omega (arith, inside, count-figures count past h)) k ∙ ap (λ z. joined_run z o) here)
+    (ap (λ z. slices_at cpu past ++ option_to_list z) only)
+    (more (told_runs count cpu past) (processor_of s cpu).run o (slices_at cpu past) t)
+told-there count past cpu s' x run false h w inside k is e (inr other) t =
+    let s = figures count past in
+    same_runs _ _ _ _ _ _
+    (append-nil (told_runs count cpu past))
+    (run-there s s' x cpu false e (omega (arith, inside, count-figures count past h)) k)
+    (ap (λ z. slices_at cpu past ++ option_to_list z) (only-there x.cpu cpu _ _ (runner x.cpu past) false e) ∙ append-nil (slices_at cpu past))
+    t
+told-there count past cpu s' x run true h w inside k is e (inr other) t = absurd (cc)
+told-there count past cpu s' x run false h w inside k is e (inl same) t = absurd (cc)
+
+told-step : (count : ℕ) (past : History) (cpu : ℕ) (s' : Figures) (o : Option Sight) (run : Option Slice) → IsOf count past → IsWithin count o → cpu < count → Shows (figures count past) s' o → run ≡ run_seen (figures count past) o →
+    Told count cpu past → AreRuns (told_runs count cpu past ++ told_if cpu o run) (processor_of s' cpu).run (slices_at cpu past ++ option_to_list (at_only cpu (slice_shown past o)))
+told-step count past cpu s' None run h w inside k is t =
+    same_runs _ _ _ _ _ _ (append-nil (told_runs count cpu past)) (ap (λ (v : Works). v.run) (k.0.at cpu)) (append-nil (slices_at cpu past)) t
+told-step count past cpu s' (Some x) run h w inside k is t = told-there count past cpu s' x run (eqb x.cpu cpu) h w inside k is refl (eqb_tells x.cpu cpu) t
+
+told : (count : ℕ) (past : History) (cpu : ℕ) → IsOf count past → cpu < count → Told count cpu past
+told count [] cpu h inside =
+    let none : (processor_of (figures count []) cpu).run ≡ None = ap (λ (p : ProcessorFigures). p.run) (get_or-replicate count cpu unread unread inside) in
+    record { all = ap (λ o. [] ++ option_to_list o) none; first = λ e. refl }
+told count (m ∷ past) cpu h inside =
+    let s = figures count past in
+    let o = sight_of m.event m.answer in
+    let w = within-figures count past m h in
+    let is : slices_at cpu (m ∷ past) ≡ slices_at cpu past ++ option_to_list (at_only cpu (slice_shown past o)) =
+    filter-append (is_at cpu) (slices past) (option_to_list (slice_shown past o)) ∙ ap (λ ys. slices_at cpu past ++ ys) (filter-one cpu (slice_shown past o)) in
+    same_runs _ _ _ _ _ _ refl refl is
+    (told-step count past cpu (after s m.event m.answer) o (change s m.event m.answer).run h.1 h.0 inside (shows-after s m.event m.answer w) (seen-change s m.event m.answer w) (told count past cpu h.1 inside))
+
+-- in each history the runs told of a processor, with the last one, are the runs of its slices
+pub tells_runs : TellsRuns
+tells_runs count past cpu h inside = (told count past cpu h inside).all

@@ -1,0 +1,76 @@
+-- What is told of each moment is its slice, and the times add up.
+use Rattle.std.proofs.Common.{◌≡◌, ℕ, ◌<◌, Bool, true, false, ◌∷◌, ◌++◌, length, Option, Some, None, Result, Ok, Err, refl, sym, ap, ◌∙◌, ltb, cond, arith}
+use Rattle.std.specs.Prelude.{option_to_list}
+use Rattle.std.specs.Option.{option_map}
+use Rattle.std.proofs.lemmas.Bool.Decides.{nat_tests}
+use Rattle.bq_disc.specs.OneProcessor.{reading}
+use Rattle.bq_parts.specs.declared.event.Event.{Event}
+use Rattle.bq_parts.specs.declared.event.Event.TheVariants.{EndWake, Drain, Tick, Block, Pull}
+use Rattle.bq_parts.specs.declared.reply.Reply.{Reply}
+use Rattle.bq_parts.specs.declared.reply.Reply.TheVariants.{Placed, Drained, Ticked, Blocked as Went, Pulled}
+use Rattle.bq_parts.specs.declared.refusal.Refusal.{Refusal}
+use Rattle.bq_schedule.specs.declared.slice.Slice.{Slice}
+use Rattle.bq_schedule.specs.declared.change.Start.{Start}
+use Rattle.bq_schedule.specs.Moments.{Moment, History}
+use Rattle.bq_schedule.specs.Figures.{Figures, processor_of}
+use Rattle.bq_schedule.specs.Passing.{slice_between, slice_at}
+use Rattle.bq_schedule.specs.Slices.{Sight, sight, sight_of, clock, stretch, slice_shown, slices}
+use Rattle.bq_schedule.specs.Steps.{performed_told, change, nothing, is_there, figures}
+use Rattle.bq_schedule.specs.Laws.{IsWithin, IsOf}
+use Rattle.bq_schedule.proofs.FrameLemmas.{who}
+use Rattle.bq_schedule.proofs.ClockLemmas.{figures-clocks, within-figures}
+
+-- the slice that figures show
+abbrev pub slice_seen : Figures → Option Sight → Option Slice
+slice_seen s None = None
+slice_seen s (Some x) = slice_at x.cpu (processor_of s x.cpu) x.now
+
+seen-performed : (s : Figures) (e : Event) (r : Reply) → (performed_told s e r).slice ≡ slice_seen s (sight e r)
+seen-performed s (EndWake cpu now) (Placed task to by steps) = refl
+seen-performed s (Drain cpu now) (Drained count run by steps) = refl
+seen-performed s (Tick cpu now) (Ticked run by steps) = refl
+seen-performed s (Block cpu now) (Went task run) = refl
+seen-performed s (Pull cpu from now) (Pulled task run by steps) = refl
+seen-performed s e r = refl
+
+outside : (a b : ℕ) → ltb a b ≡ false → a < b → ⊥
+outside a b e h = grind (arith, nat_tests)
+
+seen-nothing : (s : Figures) (e : Event) (r : Reply) → is_there s e ≡ false → IsWithin (length s.processors) (sight e r) → None ≡ slice_seen s (sight e r)
+seen-nothing s (EndWake cpu now) (Placed task to by steps) none h = absurd (outside cpu (length s.processors) none h)
+seen-nothing s (Drain cpu now) (Drained count run by steps) none h = absurd (outside cpu (length s.processors) none h)
+seen-nothing s (Tick cpu now) (Ticked run by steps) none h = absurd (outside cpu (length s.processors) none h)
+seen-nothing s (Block cpu now) (Went task run) none h = absurd (outside cpu (length s.processors) none h)
+seen-nothing s (Pull cpu from now) (Pulled task run by steps) none h = absurd (outside cpu (length s.processors) none h)
+seen-nothing s e r none h = refl
+
+seen-if : (b : Bool) (s : Figures) (e : Event) (r : Reply) → is_there s e ≡ b → IsWithin (length s.processors) (sight e r) → (cond b (performed_told s e r) nothing).slice ≡ slice_seen s (sight e r)
+seen-if true s e r there h = seen-performed s e r
+seen-if false s e r there h = seen-nothing s e r there h
+
+seen-change : (s : Figures) (e : Event) (a : Result Reply Refusal) → IsWithin (length s.processors) (sight_of e a) → (change s e a).slice ≡ slice_seen s (sight_of e a)
+seen-change s e (Ok r) h = seen-if (is_there s e) s e r refl h
+seen-change s e (Err r) h = refl
+
+-- a slice by who runs
+stretch_is : (cpu from to : ℕ) (running : Option Start) → slice_between cpu from to running ≡ stretch cpu (option_map (λ (x : Start). x.task) running) from to
+stretch_is cpu from to None = refl
+stretch_is cpu from to (Some start) = refl
+
+-- the slice that figures show of a sight is the one that their history shows
+pub shown-seen : (count : ℕ) (past : History) (o : Option Sight) → IsOf count past → IsWithin count o → slice_seen (figures count past) o ≡ slice_shown past o
+shown-seen count past None h w = refl
+shown-seen count past (Some x) h w =
+    let c = figures-clocks count past x.cpu h w in
+    let p = processor_of (figures count past) x.cpu in
+    stretch_is x.cpu p.last (reading p.last x.now) p.running
+    ∙ ap (λ n. stretch x.cpu (who p) n (reading n x.now)) c.0
+    ∙ ap (λ y. stretch x.cpu y (clock x.cpu past) (reading (clock x.cpu past) x.now)) c.1
+
+-- the slice that is told of a moment is the one that it ends
+pub slice-told : (count : ℕ) (past : History) (m : Moment) → IsOf count (m ∷ past) → (change (figures count past) m.event m.answer).slice ≡ slice_shown past (sight_of m.event m.answer)
+slice-told count past m h = seen-change (figures count past) m.event m.answer (within-figures count past m h) ∙ shown-seen count past (sight_of m.event m.answer) h.1 h.0
+
+-- the slices up to a moment are those before it, and then the one that is told of it
+pub slices-told : (count : ℕ) (past : History) (m : Moment) → IsOf count (m ∷ past) → slices (m ∷ past) ≡ slices past ++ option_to_list (change (figures count past) m.event m.answer).slice
+slices-told count past m h = ap (λ o. slices past ++ option_to_list o) (sym (slice-told count past m h))

@@ -1,0 +1,254 @@
+-- The times of tasks and processors are the sums of their slices.
+use Rattle.std.proofs.Common.{◌≡◌, ◌≢◌, ℕ, ◌+◌, ◌-◌, ◌<◌, ◌≤◌, Bool, true, false, List, [], ◌∷◌, ◌++◌, length, get_or, Option, Some, None, refl, sym, ap, ◌∙◌, ◌⊎◌, inl, inr, get_or-set_same, get_or-set_other, eqb, ltb, cond, append-nil, suc, arith}
+use Rattle.std.specs.Prelude.{slice_set, option_to_list, All}
+use Rattle.std.specs.List.{sum_by}
+use Rattle.std.proofs.lemmas.Bool.Decides.{eqb_tells}
+use Rattle.std.proofs.lemmas.List.{get_or-replicate, length-replicate}
+use Rattle.std.proofs.lemmas.List.Elements.{All-from_get_or}
+use Rattle.std.proofs.lemmas.List.Sums.{sum_by-cons, sum_by_push, sum_by-set, sum_by-le}
+use Rattle.bq_disc.specs.OneProcessor.{reading}
+use Rattle.bq_schedule.specs.declared.slice.Slice.{Slice}
+use Rattle.bq_schedule.specs.declared.change.Start.{Start}
+use Rattle.bq_schedule.specs.declared.figures.ProcessorFigures.{ProcessorFigures}
+use Rattle.bq_schedule.specs.declared.figures.TaskFigures.{TaskFigures}
+use Rattle.bq_schedule.specs.Counts.{counted}
+use Rattle.bq_schedule.specs.Moments.{Moment, History}
+use Rattle.bq_schedule.specs.Figures.{Figures, unread, unknown, processor_of, task_of, with_processor, with_task}
+use Rattle.bq_schedule.specs.Passing.{slice_between, slice_at, length_of, read_at, processor_read, with_charged, task_charged}
+use Rattle.bq_schedule.specs.Slices.{Sight, sight_of, clock_after, clock, slice_shown, slices, time_if, time_in, is_of, is_at}
+use Rattle.bq_schedule.specs.Steps.{after, figures}
+use Rattle.bq_schedule.specs.Laws.{IsWithin, IsOf}
+use Rattle.bq_schedule.proofs.FrameLemmas.{Works, KeepsWorks, tasks-read_at, processors-read_at}
+use Rattle.bq_schedule.proofs.SliceTimeLemmas.{slice_seen, shown-seen}
+use Rattle.bq_schedule.proofs.ClockLemmas.{Shows, figures-clocks, shows-after, count-figures, within-figures, processor-read_at}
+
+-- what a slice is worth, if there is one
+abbrev pub time_of : (Slice → Bool) → Option Slice → ℕ
+time_of chosen None = 0
+time_of chosen (Some s) = time_if chosen s
+
+time_in-more : (chosen : Slice → Bool) (xs : List Slice) (o : Option Slice) → time_in chosen (xs ++ option_to_list o) ≡ time_in chosen xs + time_of chosen o
+time_in-more chosen xs None = ap (time_in chosen) (append-nil xs) ∙ omega arith
+time_in-more chosen xs (Some s) = sum_by_push (time_if chosen) xs s
+
+-- each slice is chosen
+abbrev pub any : Slice → Bool
+any s = true
+
+time_if-le : (b : Bool) (n : ℕ) → cond b n 0 ≤ n
+time_if-le true n = omega arith
+time_if-le false n = omega arith
+
+-- some slices take no more than all of them
+time_in-le : (chosen : Slice → Bool) (xs : List Slice) → time_in chosen xs ≤ time_in any xs
+time_in-le chosen [] = omega arith
+time_in-le chosen (x ∷ xs) =
+    omega (arith, sum_by-cons (time_if chosen) x xs, sum_by-cons (time_if any) x xs, time_if-le (chosen x) (x.to - x.from), time_in-le chosen xs)
+
+-- lists alike under f have the same sum
+sums_alike : (f : ProcessorFigures → ℕ) (xs ys : List ProcessorFigures) → length xs ≡ length ys → ((j : ℕ) → f (get_or xs j unread) ≡ f (get_or ys j unread)) → sum_by f xs ≡ sum_by f ys
+sums_alike f [] [] e h = refl
+sums_alike f [] (y ∷ ys) e h = absurd (omega arith)
+sums_alike f (x ∷ xs) [] e h = absurd (omega arith)
+sums_alike f (x ∷ xs) (y ∷ ys) e h =
+    let tails : length xs ≡ length ys = omega arith in
+    omega (arith, sum_by-cons f x xs, sum_by-cons f y ys, h 0, sums_alike f xs ys tails (λ j. h (suc j)))
+
+-- the last reading of a processor
+abbrev pub last_of : ProcessorFigures → ℕ
+last_of p = p.last
+
+-- all clocks together
+abbrev pub clocks_of : Figures → ℕ
+clocks_of s = sum_by last_of s.processors
+
+worth-le-rise : (cpu from to : ℕ) (running : Option Start) (b : Bool) → ltb from to ≡ b → from ≤ to → time_of any (slice_between cpu from to running) ≤ to - from
+worth-le-rise cpu from to None b e h = omega arith
+worth-le-rise cpu from to (Some start) true e h = rw e (omega arith)
+worth-le-rise cpu from to (Some start) false e h = rw e (omega arith)
+
+-- a slice is no longer than its clock has risen
+slice-le-rise : (cpu now : ℕ) (p : ProcessorFigures) → time_of any (slice_at cpu p now) + p.last ≤ reading p.last now
+slice-le-rise cpu now p = omega (arith, worth-le-rise cpu p.last (reading p.last now) p.running (ltb p.last (reading p.last now)) refl (omega arith))
+
+clocks-read_at : (cpu now : ℕ) (s : Figures) → cpu < length s.processors → clocks_of s + time_of any (slice_at cpu (processor_of s cpu) now) ≤ clocks_of (read_at cpu now s)
+clocks-read_at cpu now s inside =
+    let p = processor_of s cpu in
+    omega (
+      arith,
+      slice-le-rise cpu now p,
+      sum_by-set last_of s.processors cpu (processor_read cpu p now) unread inside,
+      ap (λ l. sum_by last_of l) (processors-read_at cpu now s),
+    )
+
+clocks-kept : (s t : Figures) → KeepsWorks s t → clocks_of t ≡ clocks_of s
+clocks-kept s t h = sums_alike last_of t.processors s.processors h.count (λ j. ap (λ (w : Works). w.last) (h.at j))
+
+clocks-shown : (s s' : Figures) (o : Option Sight) → IsWithin (length s.processors) o → Shows s s' o → clocks_of s + time_of any (slice_seen s o) ≤ clocks_of s'
+clocks-shown s s' None w h = omega (arith, clocks-kept s s' h.0)
+clocks-shown s s' (Some x) w h = omega (arith, clocks-kept (read_at x.cpu x.now s) s' h.0, clocks-read_at x.cpu x.now s w)
+
+-- all slices together are no longer than all clocks
+slices-le-clocks : (count : ℕ) (past : History) → IsOf count past → time_in any (slices past) ≤ clocks_of (figures count past)
+slices-le-clocks count [] h = omega arith
+slices-le-clocks count (m ∷ past) h =
+    let s = figures count past in
+    let o = sight_of m.event m.answer in
+    let w = within-figures count past m h in
+    omega (
+      arith,
+      slices-le-clocks count past h.1,
+      clocks-shown s (after s m.event m.answer) o w (shows-after s m.event m.answer w),
+      time_in-more any (slices past) (slice_shown past o),
+      ap (time_of any) (shown-seen count past o h.1 h.0),
+    )
+
+short_if : (b : Bool) (last now : ℕ) → last ≤ 281474976710655 → cond b (reading last now) last ≤ 281474976710655
+short_if true last now h = omega arith
+short_if false last now h = h
+
+short_after : (cpu last : ℕ) (o : Option Sight) → last ≤ 281474976710655 → clock_after cpu last o ≤ 281474976710655
+short_after cpu last None h = h
+short_after cpu last (Some x) h = short_if (eqb x.cpu cpu) last x.now h
+
+clock-is-short : (cpu : ℕ) (past : History) → clock cpu past ≤ 281474976710655
+clock-is-short cpu [] = omega arith
+clock-is-short cpu (m ∷ past) = short_after cpu (clock cpu past) (sight_of m.event m.answer) (clock-is-short cpu past)
+
+-- all clocks together stay below 2^64
+pub clocks-are-short : (count : ℕ) (past : History) → count ≤ 255 → IsOf count past → clocks_of (figures count past) ≤ 71776119061217025
+clocks-are-short count past few h =
+    let s = figures count past in
+    let all : All (λ (p : ProcessorFigures). last_of p ≤ 281474976710655) s.processors =
+    All-from_get_or (λ (p : ProcessorFigures). last_of p ≤ 281474976710655) s.processors unread (λ i inside.
+    let i' : i < count = omega (arith, count-figures count past h) in
+    omega (arith, (figures-clocks count past i h i').0, clock-is-short i past)) in
+    omega (arith, count-figures count past h, sum_by-le last_of 281474976710655 s.processors all)
+
+-- the time of a task rises by the slices that are of it
+task-charged : (s : Figures) (x : Slice) (id : ℕ) (b : Bool) → id < length s.tasks → ((b ≡ true) × (x.task ≡ id)) ⊎ ((b ≡ false) × (x.task ≢ id)) →
+    (task_of (with_task s x.task (task_charged (task_of s x.task) (x.to - x.from))) id).time ≡ cond b (counted (task_of s id).time (x.to - x.from)) (task_of s id).time
+task-charged s x id true inside (inl same) =
+    ap (λ k. (get_or (slice_set s.tasks k (task_charged (task_of s k) (x.to - x.from))) id unknown).time) same.1
+    ∙ ap (λ (t : TaskFigures). t.time) (get_or-set_same s.tasks id (task_charged (task_of s id) (x.to - x.from)) unknown inside)
+task-charged s x id false inside (inl same) = absurd (cc)
+task-charged s x id true inside (inr other) = absurd (cc)
+task-charged s x id false inside (inr other) =
+    ap (λ (t : TaskFigures). t.time) (get_or-set_other s.tasks x.task id (task_charged (task_of s x.task) (x.to - x.from)) unknown (λ e. other.1 (sym e)))
+
+counted-is : (b : Bool) (n more : ℕ) → n + cond b more 0 ≤ 18446744073709551615 → cond b (counted n more) n ≡ n + cond b more 0
+counted-is true n more h = omega arith
+counted-is false n more h = omega arith
+
+time-charged : (s : Figures) (o : Option Slice) (id : ℕ) → id < length s.tasks → (task_of s id).time + time_of (is_of id) o ≤ 18446744073709551615 →
+    (task_of (with_charged s o) id).time ≡ (task_of s id).time + time_of (is_of id) o
+time-charged s None id inside fits = omega arith
+time-charged s (Some x) id inside fits =
+    task-charged s x id (eqb x.task id) inside (eqb_tells x.task id) ∙ counted-is (eqb x.task id) (task_of s id).time (x.to - x.from) fits
+
+time-shown : (s s' : Figures) (o : Option Sight) (id : ℕ) → id < length s.tasks → (task_of s id).time + time_of (is_of id) (slice_seen s o) ≤ 18446744073709551615 → Shows s s' o →
+    (task_of s' id).time ≡ (task_of s id).time + time_of (is_of id) (slice_seen s o)
+time-shown s s' None id inside fits h = omega (arith, h.0.times id)
+time-shown s s' (Some x) id inside fits h =
+    h.0.times id ∙ time-charged (with_processor s x.cpu (processor_read x.cpu (processor_of s x.cpu) x.now)) (slice_at x.cpu (processor_of s x.cpu) x.now) id inside fits
+
+tasks-shown : (s s' : Figures) (o : Option Sight) → Shows s s' o → length s'.tasks ≡ length s.tasks
+tasks-shown s s' None h = h.0.tasks
+tasks-shown s s' (Some x) h = h.0.tasks ∙ tasks-read_at x.cpu x.now s
+
+-- the figures of a history have 1024 tasks
+pub tasks-figures : (count : ℕ) (past : History) → IsOf count past → length (figures count past).tasks ≡ 1024
+tasks-figures count [] h = length-replicate 1024 unknown
+tasks-figures count (m ∷ past) h =
+    let s = figures count past in
+    tasks-shown s _ (sight_of m.event m.answer) (shows-after s m.event m.answer (within-figures count past m h)) ∙ tasks-figures count past h.1
+
+-- any part of the slices fits in 64 bits, with the next slice
+fits-next : (chosen : Slice → Bool) (count : ℕ) (past : History) (m : Moment) → count ≤ 255 → IsOf count (m ∷ past) →
+    time_in chosen (slices past) + time_of chosen (slice_shown past (sight_of m.event m.answer)) ≤ 18446744073709551615
+fits-next chosen count past m few h =
+    omega (
+      arith,
+      time_in-more chosen (slices past) (slice_shown past (sight_of m.event m.answer)),
+      time_in-le chosen (slices (m ∷ past)),
+      slices-le-clocks count (m ∷ past) h,
+      clocks-are-short count (m ∷ past) few h,
+    )
+
+-- the time of a task is the sum of its slices
+pub times : (count : ℕ) (past : History) → count ≤ 255 → IsOf count past → (id : ℕ) → id < 1024 → (task_of (figures count past) id).time ≡ time_in (is_of id) (slices past)
+times count [] few h id inside = ap (λ (t : TaskFigures). t.time) (get_or-replicate 1024 id unknown unknown inside)
+times count (m ∷ past) few h id inside =
+    let s = figures count past in
+    let o = sight_of m.event m.answer in
+    let before = times count past few h.1 id inside in
+    let seen = ap (time_of (is_of id)) (shown-seen count past o h.1 h.0) in
+    let inside' : id < length s.tasks = omega (arith, tasks-figures count past h.1) in
+    let fits : (task_of s id).time + time_of (is_of id) (slice_seen s o) ≤ 18446744073709551615 = omega (arith, before, seen, fits-next (is_of id) count past m few h) in
+    omega (
+      arith,
+      before,
+      seen,
+      time_in-more (is_of id) (slices past) (slice_shown past o),
+      time-shown s (after s m.event m.answer) o id inside' fits (shows-after s m.event m.answer (within-figures count past m h)),
+    )
+
+-- the busy time of a processor rises by the slices that are there
+busy-read_at : (cpu now j : ℕ) (s : Figures) (b : Bool) → j < length s.processors → ((b ≡ true) × (cpu ≡ j)) ⊎ ((b ≡ false) × (cpu ≢ j)) →
+    (cond b (processor_read cpu (processor_of s cpu) now) (processor_of s j)).busy ≡ cond b (counted (processor_of s j).busy (length_of (slice_at cpu (processor_of s cpu) now))) (processor_of s j).busy
+busy-read_at cpu now j s true inside (inl same) = ap (λ k. counted (processor_of s k).busy (length_of (slice_at cpu (processor_of s cpu) now))) same.1
+busy-read_at cpu now j s false inside (inl same) = refl
+busy-read_at cpu now j s true inside (inr other) = absurd (cc)
+busy-read_at cpu now j s false inside (inr other) = refl
+
+-- all slices of a reading are at its processor
+worth-none : (b : Bool) → ◌≡◌ {A = ℕ} (cond b 0 0) 0
+worth-none true = refl
+worth-none false = refl
+
+worth-some : (cpu j from to : ℕ) (start : Start) (b : Bool) →
+    time_of (is_at j) (cond b (Some (record { processor = cpu; task = start.task; from = from; to = to })) None)
+    ≡ cond (eqb cpu j) (length_of (cond b (Some (record { processor = cpu; task = start.task; from = from; to = to })) None)) 0
+worth-some cpu j from to start true = refl
+worth-some cpu j from to start false = sym (worth-none (eqb cpu j))
+
+worth-at : (cpu j from to : ℕ) (running : Option Start) → time_of (is_at j) (slice_between cpu from to running) ≡ cond (eqb cpu j) (length_of (slice_between cpu from to running)) 0
+worth-at cpu j from to None = sym (worth-none (eqb cpu j))
+worth-at cpu j from to (Some start) = worth-some cpu j from to start (ltb from to)
+
+busy-shown : (s s' : Figures) (o : Option Sight) (j : ℕ) → j < length s.processors → (processor_of s j).busy + time_of (is_at j) (slice_seen s o) ≤ 18446744073709551615 → Shows s s' o →
+    (processor_of s' j).busy ≡ (processor_of s j).busy + time_of (is_at j) (slice_seen s o)
+busy-shown s s' None j inside fits h = ap (λ (w : Works). w.busy) (h.0.at j) ∙ omega arith
+busy-shown s s' (Some x) j inside fits h =
+    let p = processor_of s x.cpu in
+    let at = worth-at x.cpu j p.last (reading p.last x.now) p.running in
+    let fits' : (processor_of s j).busy + cond (eqb x.cpu j) (length_of (slice_at x.cpu p x.now)) 0 ≤ 18446744073709551615 = omega (arith, at, fits) in
+    ap (λ (w : Works). w.busy) (h.0.at j)
+    ∙ ap (λ (q : ProcessorFigures). q.busy) (processor-read_at x.cpu x.now j s inside)
+    ∙ busy-read_at x.cpu x.now j s (eqb x.cpu j) inside (eqb_tells x.cpu j)
+    ∙ counted-is (eqb x.cpu j) (processor_of s j).busy (length_of (slice_at x.cpu p x.now)) fits'
+    ∙ omega (arith, at)
+
+-- the busy time of a processor is the sum of its slices
+pub busy : (count : ℕ) (past : History) → count ≤ 255 → IsOf count past → (cpu : ℕ) → cpu < count → (processor_of (figures count past) cpu).busy ≡ time_in (is_at cpu) (slices past)
+busy count [] few h cpu inside = ap (λ (p : ProcessorFigures). p.busy) (get_or-replicate count cpu unread unread inside)
+busy count (m ∷ past) few h cpu inside =
+    let s = figures count past in
+    let o = sight_of m.event m.answer in
+    let before = busy count past few h.1 cpu inside in
+    let seen = ap (time_of (is_at cpu)) (shown-seen count past o h.1 h.0) in
+    let inside' : cpu < length s.processors = omega (arith, count-figures count past h.1) in
+    let fits : (processor_of s cpu).busy + time_of (is_at cpu) (slice_seen s o) ≤ 18446744073709551615 = omega (arith, before, seen, fits-next (is_at cpu) count past m few h) in
+    omega (
+      arith,
+      before,
+      seen,
+      time_in-more (is_at cpu) (slices past) (slice_shown past o),
+      busy-shown s (after s m.event m.answer) o cpu inside' fits (shows-after s m.event m.answer (within-figures count past m h)),
+    )
+
+-- the times of tasks and the busy times of processors are the sums of their slices
+pub adds_up : (count : ℕ) (past : History) → count ≤ 255 → IsOf count past →
+    ((id : ℕ) → id < 1024 → (task_of (figures count past) id).time ≡ time_in (is_of id) (slices past))
+    × ((cpu : ℕ) → cpu < count → (processor_of (figures count past) cpu).busy ≡ time_in (is_at cpu) (slices past))
+adds_up count past few h = (times count past few h, busy count past few h)

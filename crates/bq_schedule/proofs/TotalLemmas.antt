@@ -1,0 +1,444 @@
+-- Fair times rise by what readings give, and with what is left over they add up to the time in which tasks ran.
+use Rattle.std.proofs.Common.{◌≡◌, ◌≢◌, ℕ, ◌+◌, ◌-◌, ◌*◌, ◌<◌, ◌≤◌, Bool, true, false, List, [], ◌∷◌, length, get_or, Option, Some, None, Result, Ok, Err, refl, sym, ap, ◌∙◌, ◌⊎◌, inl, inr, eqb, leb, ltb, cond, zero, suc, replicate, get_or-set_same, get_or-set_other, arith}
+use Rattle.std.specs.Prelude.{slice_set, ℤ}
+use Rattle.std.specs.List.{sum_by}
+use Rattle.std.proofs.Math.Nat.{div-le_self, mul-div-le}
+use Rattle.std.proofs.lemmas.Bool.Decides.{eqb_tells, leb_tells, nat_tests}
+use Rattle.std.proofs.lemmas.List.{get_or-replicate, get_or_past, length-replicate}
+use Rattle.std.proofs.lemmas.List.Sums.{sum_by-cons, sum_by-set, get_or-le-sum_by}
+use Rattle.bq_parts.specs.declared.event.Event.{Event}
+use Rattle.bq_parts.specs.declared.event.Event.TheVariants.{Admit, EndWake, Drain, Tick, Block, Pull}
+use Rattle.bq_parts.specs.declared.reply.Reply.{Reply}
+use Rattle.bq_parts.specs.declared.reply.Reply.TheVariants.{Admitted, Placed, Drained, Ticked, Blocked as Went, Pulled}
+use Rattle.bq_parts.specs.declared.refusal.Refusal.{Refusal}
+use Rattle.bq_bpf.specs.declared.hook.Hook.TheVariants.{Place, Preempt, Pull as OnPull}
+use Rattle.bq_schedule.specs.declared.slice.Slice.{Slice}
+use Rattle.bq_schedule.specs.declared.change.Decision.{Decision}
+use Rattle.bq_schedule.specs.declared.change.Left.{Left}
+use Rattle.bq_schedule.specs.declared.change.Left.TheVariants.{Preempted, Blocked}
+use Rattle.bq_schedule.specs.declared.figures.TaskFigures.{TaskFigures}
+use Rattle.bq_schedule.specs.declared.figures.ProcessorFigures.{ProcessorFigures}
+use Rattle.bq_schedule.specs.Counts.{parts}
+use Rattle.bq_schedule.specs.Moments.{Moment, History}
+use Rattle.bq_schedule.specs.Figures.{Figures, opening, unread, unknown, processor_of, task_of, with_processor, with_task}
+use Rattle.bq_schedule.specs.Passing.{slice_at, length_of, part_of, processor_read, read_at, with_charged}
+use Rattle.bq_schedule.specs.Standing.{fair_at, fair_of, leaves, comes}
+use Rattle.bq_schedule.specs.Running.{switched}
+use Rattle.bq_schedule.specs.Slices.{Sight, sight, sight_of}
+use Rattle.bq_schedule.specs.Steps.{asked, admitted, waited_there, emptied, taken, placed, decided, blocked, pulled, performed, time_at, is_there, after, figures}
+use Rattle.bq_schedule.specs.FairTimes.{is_place, weight_there, weights_at, share, all_fair, all_unshared, all_busy}
+use Rattle.bq_schedule.specs.Laws.{IsWithin, IsOf, SharesOut, AddsUpFairTimes}
+use Rattle.bq_schedule.proofs.FrameLemmas.{Works, KeepsWorks, works-id, works-then, processor_kept, task_kept, works-with_processor, works-with_task, works-asked, works-leaves, works-comes, works-switched, processors-read_at, count-read_at, tasks-read_at}
+use Rattle.bq_schedule.proofs.ClockLemmas.{count-figures, within-figures}
+use Rattle.bq_schedule.proofs.SumLemmas.{clocks-are-short}
+use Rattle.bq_schedule.proofs.WindowLemmas.{filled, IsFilled}
+use Rattle.bq_schedule.proofs.PurseLemmas
+use Rattle.bq_schedule.proofs.LeavingLemmas as Leaving
+use Rattle.bq_schedule.proofs.ComingLemmas as Coming
+
+-- all that tasks have
+abbrev pub all_raw : Figures → ℕ
+all_raw s = sum_by (PurseLemmas.uncapped_of s) s.tasks
+
+-- what is had and what is left over is what was run, and no unit of weight was given more than its processor's tasks ran
+pub record IsFull (s : Figures) : Type 0 where
+  pub sound : PurseLemmas.IsSound s
+  pub total : all_raw s + all_unshared s ≡ parts * all_busy s
+  pub ahead : (j : ℕ) → PurseLemmas.shared_at s j ≤ parts * (processor_of s j).busy
+
+-- all busy times stay below 2^56
+abbrev pub IsShort : Figures → Type 0
+IsShort s = all_busy s ≤ 71776119061217025
+
+busy-kept : (s s' : Figures) → KeepsWorks s s' → all_busy s' ≡ all_busy s
+busy-kept s s' k = PurseLemmas.sums_like (λ (p : ProcessorFigures). p.busy) (λ (p : ProcessorFigures). p.busy) unread s'.processors s.processors k.count (λ j. ap (λ (w : Works). w.busy) (k.at j))
+
+unshared-kept : (s s' : Figures) → KeepsWorks s s' → all_unshared s' ≡ all_unshared s
+unshared-kept s s' k = PurseLemmas.sums_like (λ (p : ProcessorFigures). p.unshared) (λ (p : ProcessorFigures). p.unshared) unread s'.processors s.processors k.count (λ j. ap (λ (w : Works). w.unshared) (k.at j))
+
+-- what keeps the works, and leaves each task what it has
+full-kept : (s s' : Figures) → IsFull s → KeepsWorks s s' → Coming.Stays s s' → IsFull s'
+full-kept s s' f k m = record {
+  sound = m.sound;
+  total = omega (arith, f.total, busy-kept s s' k, unshared-kept s s' k, PurseLemmas.sums_like (PurseLemmas.uncapped_of s') (PurseLemmas.uncapped_of s) unknown s'.tasks s.tasks k.tasks m.raws);
+  ahead = λ j. omega (arith, f.ahead j, ap (λ (w : Works). w.shared) (k.at j), ap (λ (w : Works). w.busy) (k.at j));
+}
+
+-- what a task has is little
+small_by : (s : Figures) (id : ℕ) (b : Bool) → IsFull s → IsShort s → ((b ≡ true) × (length s.tasks ≤ id)) ⊎ ((b ≡ false) × (id < length s.tasks)) → PurseLemmas.uncapped s id ≤ 340282366920938463463374607431768211455
+small_by s id b f short (inl past) = omega (arith, ap (λ (t : TaskFigures). PurseLemmas.uncapped_of s t) (get_or_past s.tasks id unknown past.1))
+small_by s id b f short (inr inside) = omega (arith, f.total, short, get_or-le-sum_by (PurseLemmas.uncapped_of s) s.tasks id unknown inside.1)
+
+small : (s : Figures) (id : ℕ) → IsFull s → IsShort s → PurseLemmas.uncapped s id ≤ 340282366920938463463374607431768211455
+small s id f short = small_by s id (leb (length s.tasks) id) f short (leb_tells (length s.tasks) id)
+
+-- so its fair time is what it has
+fair-raw_if : (s : Figures) (t : TaskFigures) (o : Option ℕ) → PurseLemmas.worth_at (PurseLemmas.shared_at s) (PurseLemmas.purse t) o ≤ 340282366920938463463374607431768211455 →
+    fair_at s t o ≡ PurseLemmas.worth_at (PurseLemmas.shared_at s) (PurseLemmas.purse t) o
+fair-raw_if s t None h = refl
+fair-raw_if s t (Some cpu) h = omega (arith, h)
+
+fair-raw : (s : Figures) (id : ℕ) → IsFull s → IsShort s → fair_of s id ≡ PurseLemmas.uncapped s id
+fair-raw s id f short = fair-raw_if s (task_of s id) (task_of s id).place (small s id f short)
+
+-- a move leaves all full, and each task what it has
+pub record Goes (s s' : Figures) : Type 0 where
+  pub keeps : KeepsWorks s s'
+  pub goes : IsFull s → IsShort s → Coming.Stays s s'
+
+goes-id : (s : Figures) → Goes s s
+goes-id s = record { keeps = works-id s; goes = λ f short. record { sound = f.sound; raws = λ j. refl } }
+
+goes-then : (s t u : Figures) → Goes s t → Goes t u → Goes s u
+goes-then s t u a b = record {
+  keeps = works-then s t u a.keeps b.keeps;
+  goes = λ f short.
+      let first = a.goes f short in
+      let short' : IsShort t = omega (arith, short, busy-kept s t a.keeps) in
+      let next = b.goes (full-kept s t f a.keeps first) short' in
+      record { sound = next.sound; raws = λ j. next.raws j ∙ first.raws j };
+}
+
+goes-purses : (s s' : Figures) → KeepsWorks s s' → PurseLemmas.KeepsPurses s s' → Goes s s'
+goes-purses s s' w k = record {
+  keeps = w;
+  goes = λ f short. record {
+    sound = PurseLemmas.sound-kept s s' k f.sound;
+    raws = λ j. PurseLemmas.raw-kept s s' j (λ i. ap (λ (q : PurseLemmas.Pot). q.shared) (k.pots i)) (k.purses j);
+  };
+}
+
+goes-with_task : (s : Figures) (id : ℕ) (t : TaskFigures) → t.time ≡ (task_of s id).time → PurseLemmas.purse t ≡ PurseLemmas.purse (task_of s id) → Goes s (with_task s id t)
+goes-with_task s id t e p = goes-purses s _ (works-with_task s id t e) (PurseLemmas.kept-with_task s id t p)
+
+goes-asked : (cpu : ℕ) (d : Decision) (s : Figures) → Goes s (asked cpu d s)
+goes-asked cpu d s = goes-purses s _ (works-asked cpu d s) (PurseLemmas.kept-asked cpu d s)
+
+goes-emptied : (cpu : ℕ) (s : Figures) → Goes s (emptied cpu s)
+goes-emptied cpu s = goes-purses s _ (works-with_processor s cpu _ refl) (PurseLemmas.kept-with_processor s cpu _ refl)
+
+goes-leaves : (id : ℕ) (s : Figures) → Goes s (leaves id s)
+goes-leaves id s = record {
+  keeps = works-leaves id s;
+  goes = λ f short. let l = Leaving.leaves-stays s id f.sound (small s id f short) in record { sound = l.sound; raws = l.raws };
+}
+
+goes-comes : (id cpu now : ℕ) (s : Figures) → Goes s (comes id cpu now s)
+goes-comes id cpu now s = record {
+  keeps = works-comes id cpu now s;
+  goes = λ f short.
+      let l = Leaving.leaves-stays s id f.sound (small s id f short) in
+      let c = Coming.joined (leaves id s) id cpu now l.sound l.nowhere in
+      record { sound = c.sound; raws = λ j. c.raws j ∙ l.raws j };
+}
+
+goes-admitted : (id : ℕ) (nice : ℤ) (s : Figures) → Goes s (admitted id nice (leaves id s))
+goes-admitted id nice s = record {
+  keeps = works-then s (leaves id s) _ (works-leaves id s) (works-with_task (leaves id s) id _ refl);
+  goes = λ f short.
+      let l = Leaving.leaves-stays s id f.sound (small s id f short) in
+      let c = Coming.admitted-stays (leaves id s) id nice l.sound l.nowhere in
+      record { sound = c.sound; raws = λ j. c.raws j ∙ l.raws j };
+}
+
+goes-switched : (left : Left) (cpu now : ℕ) (run : Option ℕ) (s : Figures) → Goes s (switched left cpu now run s)
+goes-switched left cpu now run s = goes-purses s _ (works-switched left cpu now run s) (PurseLemmas.kept-switched left cpu now run s)
+
+goes-taken : (cpu now : ℕ) (task : Option ℕ) (s : Figures) → Goes s (taken cpu now task s)
+goes-taken cpu now None s = goes-id s
+goes-taken cpu now (Some id) s = goes-then s (waited_there id now s) _ (goes-with_task s id _ refl refl) (goes-comes id cpu now (waited_there id now s))
+
+-- after its reading, what an event does
+abbrev pub GoesFrom : Figures → Option Sight → Figures → Type 0
+GoesFrom s None s' = Goes s s'
+GoesFrom s (Some x) s' = Goes (read_at x.cpu x.now s) s'
+
+goes-decided : (cpu now : ℕ) (d : Decision) (run : Option ℕ) (s : Figures) → Goes (read_at cpu now s) (decided cpu now d run s)
+goes-decided cpu now d run s =
+    let r = read_at cpu now s in
+    goes-then r (asked cpu d r) _ (goes-asked cpu d r) (goes-switched Preempted cpu (time_at cpu now s) run (asked cpu d r))
+
+goes-placed : (cpu now : ℕ) (d : Decision) (id to : ℕ) (s : Figures) → Goes (read_at cpu now s) (placed cpu now d id to s)
+goes-placed cpu now d id to s =
+    let r = read_at cpu now s in
+    let a = asked cpu d r in
+    let c = comes id to (time_at cpu now s) a in
+    goes-then r a _ (goes-asked cpu d r) (goes-then a c _ (goes-comes id to (time_at cpu now s) a) (goes-with_task c id _ refl refl))
+
+goes-pulled : (cpu now : ℕ) (d : Decision) (task run : Option ℕ) (s : Figures) → Goes (read_at cpu now s) (pulled cpu now d task run s)
+goes-pulled cpu now d task run s =
+    let r = read_at cpu now s in
+    let a = asked cpu d r in
+    let k = taken cpu (time_at cpu now s) task a in
+    goes-then r a _ (goes-asked cpu d r) (goes-then a k _ (goes-taken cpu (time_at cpu now s) task a) (goes-switched Preempted cpu (time_at cpu now s) run k))
+
+goes-blocked : (cpu now id : ℕ) (run : Option ℕ) (s : Figures) → Goes (read_at cpu now s) (blocked cpu now id run s)
+goes-blocked cpu now id run s =
+    let r = read_at cpu now s in
+    goes-then r (leaves id r) _ (goes-leaves id r) (goes-switched Blocked cpu (time_at cpu now s) run (leaves id r))
+
+goes-performed : (s : Figures) (e : Event) (r : Reply) → GoesFrom s (sight e r) (performed s e r)
+goes-performed s (Admit id nice mask slice) Admitted = goes-admitted id nice s
+goes-performed s (EndWake cpu now) (Placed task to by steps) = goes-placed cpu now (record { hook = Place; by = by; steps = steps }) task to s
+goes-performed s (Drain cpu now) (Drained count run by steps) =
+    let d : Decision = record { hook = Preempt; by = by; steps = steps } in
+    goes-then _ (decided cpu now d run s) _ (goes-decided cpu now d run s) (goes-emptied cpu (decided cpu now d run s))
+goes-performed s (Tick cpu now) (Ticked run by steps) = goes-decided cpu now (record { hook = Preempt; by = by; steps = steps }) run s
+goes-performed s (Block cpu now) (Went task run) = goes-blocked cpu now task run s
+goes-performed s (Pull cpu from now) (Pulled task run by steps) = goes-pulled cpu now (record { hook = OnPull; by = by; steps = steps }) task run s
+goes-performed s e r = goes-id s
+
+outside : (a b : ℕ) → ltb a b ≡ false → a < b → ⊥
+outside a b e h = grind (arith, nat_tests)
+
+goes-nothing : (s : Figures) (e : Event) (r : Reply) → is_there s e ≡ false → IsWithin (length s.processors) (sight e r) → GoesFrom s (sight e r) s
+goes-nothing s (EndWake cpu now) (Placed task to by steps) none h = absurd (outside cpu (length s.processors) none h)
+goes-nothing s (Drain cpu now) (Drained count run by steps) none h = absurd (outside cpu (length s.processors) none h)
+goes-nothing s (Tick cpu now) (Ticked run by steps) none h = absurd (outside cpu (length s.processors) none h)
+goes-nothing s (Block cpu now) (Went task run) none h = absurd (outside cpu (length s.processors) none h)
+goes-nothing s (Pull cpu from now) (Pulled task run by steps) none h = absurd (outside cpu (length s.processors) none h)
+goes-nothing s e r none h = goes-id s
+
+goes-if : (b : Bool) (s : Figures) (e : Event) (r : Reply) → is_there s e ≡ b → IsWithin (length s.processors) (sight e r) → GoesFrom s (sight e r) (cond b (performed s e r) s)
+goes-if true s e r there h = goes-performed s e r
+goes-if false s e r there h = goes-nothing s e r there h
+
+goes-after : (s : Figures) (e : Event) (a : Result Reply Refusal) → IsWithin (length s.processors) (sight_of e a) → GoesFrom s (sight_of e a) (after s e a)
+goes-after s e (Ok r) h = goes-if (is_there s e) s e r refl h
+goes-after s e (Err r) h = record { keeps = record { at = λ j. refl; count = refl; tasks = refl; times = λ id. refl }; goes = λ f short. record { sound = record { weights = f.sound.weights; joined = f.sound.joined; table = f.sound.table; seats = f.sound.seats }; raws = λ j. refl } }
+
+-- a reading changes no purse
+purse-with_charged : (s : Figures) (o : Option Slice) (id : ℕ) → PurseLemmas.purse (task_of (with_charged s o) id) ≡ PurseLemmas.purse (task_of s id)
+purse-with_charged s None id = refl
+purse-with_charged s (Some x) id = task_kept PurseLemmas.purse s x.task id _ refl
+
+purse-read_at : (cpu now : ℕ) (s : Figures) (id : ℕ) → PurseLemmas.purse (task_of (read_at cpu now s) id) ≡ PurseLemmas.purse (task_of s id)
+purse-read_at cpu now s id = purse-with_charged (with_processor s cpu (processor_read cpu (processor_of s cpu) now)) (slice_at cpu (processor_of s cpu) now) id
+
+-- what each unit of weight is given at a reading
+abbrev pub given : ℕ → ℕ → Figures → ℕ
+given cpu now s = part_of (length_of (slice_at cpu (processor_of s cpu) now)) (processor_of s cpu).weight
+
+shared-read : (cpu now j : ℕ) (s : Figures) (b : Bool) → cpu < length s.processors → PurseLemmas.shared_at s cpu + given cpu now s ≤ 340282366920938463463374607431768211455 →
+    ((b ≡ true) × (cpu ≡ j)) ⊎ ((b ≡ false) × (cpu ≢ j)) → (get_or (slice_set s.processors cpu (processor_read cpu (processor_of s cpu) now)) j unread).shared ≡ PurseLemmas.shared_at s j + cond b (given cpu now s) 0
+shared-read cpu now j s true inside fits (inl e) =
+    let q = processor_read cpu (processor_of s cpu) now in
+    let same : PurseLemmas.shared_at s cpu ≡ PurseLemmas.shared_at s j = ap (PurseLemmas.shared_at s) e.1 in
+    ap (λ k. (get_or (slice_set s.processors cpu q) k unread).shared) (sym e.1) ∙ ap (λ (p : ProcessorFigures). p.shared) (get_or-set_same s.processors cpu q unread inside)
+    ∙ omega (arith, same, fits)
+shared-read cpu now j s false inside fits (inl e) = absurd (cc)
+shared-read cpu now j s true inside fits (inr e) = absurd (cc)
+shared-read cpu now j s false inside fits (inr e) =
+    ap (λ (p : ProcessorFigures). p.shared) (get_or-set_other s.processors cpu j (processor_read cpu (processor_of s cpu) now) unread (λ h. e.1 (sym h))) ∙ omega arith
+
+shared-read_at : (cpu now j : ℕ) (s : Figures) → cpu < length s.processors → PurseLemmas.shared_at s cpu + given cpu now s ≤ 340282366920938463463374607431768211455 →
+    PurseLemmas.shared_at (read_at cpu now s) j ≡ PurseLemmas.shared_at s j + cond (eqb cpu j) (given cpu now s) 0
+shared-read_at cpu now j s inside fits =
+    ap (λ l. (get_or l j unread).shared) (processors-read_at cpu now s) ∙ shared-read cpu now j s (eqb cpu j) inside fits (eqb_tells cpu j)
+
+-- a task that is there is given its weight times as much
+worth-more_if : (f g : ℕ → ℕ) (cpu k part : ℕ) (u : PurseLemmas.Purse) (b c : Bool) → ((b ≡ true) × (cpu ≡ k)) ⊎ ((b ≡ false) × (cpu ≢ k)) → ((c ≡ true) × (k ≡ cpu)) ⊎ ((c ≡ false) × (k ≢ cpu)) →
+    g k ≡ f k + cond b part 0 → u.joined ≤ f k → u.settled + u.weight * (g k - u.joined) ≡ (u.settled + u.weight * (f k - u.joined)) + cond c u.weight 0 * part
+worth-more_if f g cpu k part u true true s t e h =
+    let more : g k - u.joined ≡ (f k - u.joined) + part = omega (arith, e, h) in
+    ap (λ n. u.settled + u.weight * n) more ∙ omega arith
+worth-more_if f g cpu k part u false false s t e h =
+    let same : g k - u.joined ≡ f k - u.joined = omega (arith, e) in
+    ap (λ n. u.settled + u.weight * n) same ∙ omega arith
+worth-more_if f g cpu k part u true false (inl s) (inr t) e h = absurd (t.1 (sym s.1))
+worth-more_if f g cpu k part u true false (inl s) (inl t) e h = absurd (cc)
+worth-more_if f g cpu k part u true false (inr s) t e h = absurd (cc)
+worth-more_if f g cpu k part u false true (inr s) (inl t) e h = absurd (s.1 (sym t.1))
+worth-more_if f g cpu k part u false true (inr s) (inr t) e h = absurd (cc)
+worth-more_if f g cpu k part u false true (inl s) t e h = absurd (cc)
+
+worth-more : (f g : ℕ → ℕ) (cpu part : ℕ) (u : PurseLemmas.Purse) (o : Option ℕ) → ((j : ℕ) → g j ≡ f j + cond (eqb cpu j) part 0) → PurseLemmas.JoinedBy f u o →
+    PurseLemmas.worth_at g u o ≡ PurseLemmas.worth_at f u o + cond (is_place cpu o) u.weight 0 * part
+worth-more f g cpu part u None e h = omega arith
+worth-more f g cpu part u (Some k) e h = worth-more_if f g cpu k part u (eqb cpu k) (eqb k cpu) (eqb_tells cpu k) (eqb_tells k cpu) (e k) h
+
+raw-read_at : (cpu now id : ℕ) (s : Figures) → PurseLemmas.IsSound s → cpu < length s.processors → PurseLemmas.shared_at s cpu + given cpu now s ≤ 340282366920938463463374607431768211455 →
+    PurseLemmas.uncapped (read_at cpu now s) id ≡ PurseLemmas.uncapped s id + weight_there cpu (task_of s id) * given cpu now s
+raw-read_at cpu now id s h inside fits =
+    let r = read_at cpu now s in
+    ap (λ (u : PurseLemmas.Purse). PurseLemmas.worth_at (PurseLemmas.shared_at r) u u.place) (purse-read_at cpu now s id)
+    ∙ worth-more (PurseLemmas.shared_at s) (PurseLemmas.shared_at r) cpu (given cpu now s) (PurseLemmas.purse (task_of s id)) (task_of s id).place (λ j. shared-read_at cpu now j s inside fits) (h.joined id)
+
+-- two sums at once
+sums_both : (f g : TaskFigures → ℕ) (n : ℕ) (xs : List TaskFigures) → sum_by (λ (t : TaskFigures). f t + g t * n) xs ≡ sum_by f xs + sum_by g xs * n
+sums_both f g n [] = omega arith
+sums_both f g n (x ∷ xs) =
+    omega (arith, sum_by-cons (λ (t : TaskFigures). f t + g t * n) x xs, sum_by-cons f x xs, ap (λ k. k * n) (sum_by-cons g x xs), sums_both f g n xs)
+
+sound-read_at : (cpu now : ℕ) (s : Figures) → PurseLemmas.IsSound s → cpu < length s.processors → PurseLemmas.shared_at s cpu + given cpu now s ≤ 340282366920938463463374607431768211455 → PurseLemmas.IsSound (read_at cpu now s)
+sound-read_at cpu now s h inside fits =
+    let r = read_at cpu now s in
+    let q = processor_read cpu (processor_of s cpu) now in
+    record {
+      weights = λ j there.
+          ap (λ l. (get_or l j unread).weight) (processors-read_at cpu now s)
+          ∙ processor_kept (λ (p : ProcessorFigures). p.weight) s cpu j q refl
+          ∙ h.weights j (omega (arith, there, count-read_at cpu now s))
+          ∙ sym (PurseLemmas.sums_like (weight_there j) (weight_there j) unknown r.tasks s.tasks (tasks-read_at cpu now s) (λ i. ap (PurseLemmas.weight_of_purse j) (purse-read_at cpu now s i)));
+      joined = λ id.
+          PurseLemmas.joined-more (PurseLemmas.shared_at s) (PurseLemmas.shared_at r) (PurseLemmas.purse (task_of r id)) (task_of r id).place (λ j. omega (arith, shared-read_at cpu now j s inside fits))
+          (PurseLemmas.joined-same (PurseLemmas.shared_at s) (PurseLemmas.purse (task_of r id)) (PurseLemmas.purse (task_of s id)) (purse-read_at cpu now s id) (h.joined id));
+      table = λ id. omega (arith, h.table id, ap (λ (u : PurseLemmas.Purse). u.weight) (purse-read_at cpu now s id));
+      seats = tasks-read_at cpu now s ∙ h.seats;
+    }
+
+-- a reading, all of whose numbers fit
+pub record Reads (cpu now : ℕ) (s : Figures) : Type 0 where
+  pub full : IsFull (read_at cpu now s)
+  pub raws : (id : ℕ) → PurseLemmas.uncapped (read_at cpu now s) id ≡ PurseLemmas.uncapped s id + weight_there cpu (task_of s id) * given cpu now s
+
+ahead-read : (cpu now j : ℕ) (s : Figures) (b : Bool) → cpu < length s.processors → ((b ≡ true) × (cpu ≡ j)) ⊎ ((b ≡ false) × (cpu ≢ j)) →
+    (processor_of (read_at cpu now s) j).busy ≡ cond b (processor_read cpu (processor_of s cpu) now).busy (processor_of s j).busy
+ahead-read cpu now j s true inside (inl e) =
+    let q = processor_read cpu (processor_of s cpu) now in
+    ap (λ l. (get_or l j unread).busy) (processors-read_at cpu now s)
+    ∙ ap (λ k. (get_or (slice_set s.processors cpu q) k unread).busy) (sym e.1) ∙ ap (λ (p : ProcessorFigures). p.busy) (get_or-set_same s.processors cpu q unread inside)
+ahead-read cpu now j s false inside (inl e) = absurd (cc)
+ahead-read cpu now j s true inside (inr e) = absurd (cc)
+ahead-read cpu now j s false inside (inr e) =
+    ap (λ l. (get_or l j unread).busy) (processors-read_at cpu now s)
+    ∙ ap (λ (p : ProcessorFigures). p.busy) (get_or-set_other s.processors cpu j (processor_read cpu (processor_of s cpu) now) unread (λ h. e.1 (sym h)))
+
+ahead-if : (s : Figures) (cpu j shared busy part time busy' : ℕ) (b : Bool) → ((b ≡ true) × (cpu ≡ j)) ⊎ ((b ≡ false) × (cpu ≢ j)) → IsFull s →
+    shared ≡ PurseLemmas.shared_at s j + cond b part 0 → busy ≡ cond b busy' (processor_of s j).busy → busy' ≡ (processor_of s cpu).busy + time → part ≤ time * parts → shared ≤ parts * busy
+ahead-if s cpu j shared busy part time busy' true (inl e) f is now more le =
+    let same : (processor_of s cpu).busy ≡ (processor_of s j).busy = ap (λ k. (processor_of s k).busy) e.1 in
+    omega (arith, f.ahead j, is, now, more, le, same)
+ahead-if s cpu j shared busy part time busy' false (inl e) f is now more le = absurd (cc)
+ahead-if s cpu j shared busy part time busy' true (inr e) f is now more le = absurd (cc)
+ahead-if s cpu j shared busy part time busy' false (inr e) f is now more le = omega (arith, f.ahead j, is, now)
+
+-- a reading leaves all full, and gives each task its part by its weight there, if busy times stay short
+pub read_at-full : (cpu now : ℕ) (s : Figures) → IsFull s → cpu < length s.processors → IsShort (read_at cpu now s) → Reads cpu now s
+read_at-full cpu now s f inside short =
+    let r = read_at cpu now s in
+    let p = processor_of s cpu in
+    let q = processor_read cpu p now in
+    let time = length_of (slice_at cpu p now) in
+    let part = given cpu now s in
+    let busies : sum_by (λ (x : ProcessorFigures). x.busy) (slice_set s.processors cpu q) + p.busy ≡ all_busy s + q.busy = sum_by-set (λ (x : ProcessorFigures). x.busy) s.processors cpu q unread inside in
+    let is-busy : all_busy r ≡ sum_by (λ (x : ProcessorFigures). x.busy) (slice_set s.processors cpu q) = ap (λ l. sum_by (λ (x : ProcessorFigures). x.busy) l) (processors-read_at cpu now s) in
+    let part-of-all : p.busy ≤ all_busy s = get_or-le-sum_by (λ (x : ProcessorFigures). x.busy) s.processors cpu unread inside in
+    let unshareds : sum_by (λ (x : ProcessorFigures). x.unshared) (slice_set s.processors cpu q) + p.unshared ≡ all_unshared s + q.unshared = sum_by-set (λ (x : ProcessorFigures). x.unshared) s.processors cpu q unread inside in
+    let is-unshared : all_unshared r ≡ sum_by (λ (x : ProcessorFigures). x.unshared) (slice_set s.processors cpu q) = ap (λ l. sum_by (λ (x : ProcessorFigures). x.unshared) l) (processors-read_at cpu now s) in
+    let part-of-rest : p.unshared ≤ all_unshared s = get_or-le-sum_by (λ (x : ProcessorFigures). x.unshared) s.processors cpu unread inside in
+    let busy : q.busy ≡ p.busy + time = omega (arith, short, busies, is-busy, part-of-all) in
+    let little : part ≤ time * parts = div-le_self (time * parts) p.weight in
+    let shares : p.weight * part ≤ time * parts = mul-div-le (time * parts) p.weight in
+    let fits : PurseLemmas.shared_at s cpu + part ≤ 340282366920938463463374607431768211455 = omega (arith, f.ahead cpu, little, busy, short, busies, is-busy, part-of-all) in
+    let unshared : q.unshared ≡ p.unshared + (time * parts - p.weight * part) = omega (arith, part-of-rest, f.total, short, busies, is-busy, part-of-all, busy) in
+    let raws : (id : ℕ) → PurseLemmas.uncapped r id ≡ PurseLemmas.uncapped s id + weight_there cpu (task_of s id) * part = λ id. raw-read_at cpu now id s f.sound inside fits in
+    let all : all_raw r ≡ all_raw s + weights_at s cpu * part =
+    PurseLemmas.sums_like (PurseLemmas.uncapped_of r) (λ (t : TaskFigures). PurseLemmas.uncapped_of s t + weight_there cpu t * part) unknown r.tasks s.tasks (tasks-read_at cpu now s) raws
+    ∙ sums_both (PurseLemmas.uncapped_of s) (weight_there cpu) part s.tasks in
+    let weights : p.weight * part ≡ weights_at s cpu * part = ap (λ n. n * part) (f.sound.weights cpu inside) in
+    record {
+      full = record {
+        sound = sound-read_at cpu now s f.sound inside fits;
+        total = omega (arith, all, weights, unshared, unshareds, is-unshared, busies, is-busy, busy, f.total, shares);
+        ahead = λ j. ahead-if s cpu j (PurseLemmas.shared_at r j) (processor_of r j).busy part time q.busy (eqb cpu j) (eqb_tells cpu j) f
+            (shared-read_at cpu now j s inside fits) (ahead-read cpu now j s (eqb cpu j) inside (eqb_tells cpu j)) busy little;
+      };
+      raws = raws;
+    }
+
+-- busy times are no longer than clocks
+sums_le : (f g : ProcessorFigures → ℕ) (xs : List ProcessorFigures) → ((j : ℕ) → j < length xs → f (get_or xs j unread) ≤ g (get_or xs j unread)) → sum_by f xs ≤ sum_by g xs
+sums_le f g [] h = omega arith
+sums_le f g (x ∷ xs) h =
+    omega (arith, sum_by-cons f x xs, sum_by-cons g x xs, h 0 (omega arith), sums_le f g xs (λ j inside. h (suc j) (omega (arith, inside))))
+
+busy-le : (first : Option ℕ) (p : ProcessorFigures) → IsFilled first p.last p.busy p.running → p.busy ≤ p.last
+busy-le None p h = omega (arith, h.0)
+busy-le (Some first) p h = omega (arith, h)
+
+is_short : (count : ℕ) (past : History) → count ≤ 255 → IsOf count past → IsShort (figures count past)
+is_short count past few h =
+    let s = figures count past in
+    omega (
+      arith,
+      clocks-are-short count past few h,
+      sums_le (λ (p : ProcessorFigures). p.busy) (λ (p : ProcessorFigures). p.last) s.processors (λ j inside.
+          busy-le (processor_of s j).first (processor_of s j) (filled count past j h (omega (arith, inside, count-figures count past h)))),
+    )
+
+-- at the opening nothing is there
+same_everywhere_if : {X : Type 0} (n i : ℕ) (x : X) (b : Bool) → ((b ≡ true) × (length (replicate n x) ≤ i)) ⊎ ((b ≡ false) × (i < length (replicate n x))) → get_or (replicate n x) i x ≡ x
+same_everywhere_if n i x b (inl past) = get_or_past (replicate n x) i x past.1
+same_everywhere_if n i x b (inr inside) = get_or-replicate n i x x (omega (arith, inside.1, length-replicate n x))
+
+same_everywhere : {X : Type 0} (n i : ℕ) (x : X) → get_or (replicate n x) i x ≡ x
+same_everywhere n i x = same_everywhere_if n i x (leb (length (replicate n x)) i) (leb_tells (length (replicate n x)) i)
+
+sum-none : {X : Type 0} (f : X → ℕ) (x : X) (n : ℕ) → f x ≡ 0 → sum_by f (replicate n x) ≡ 0
+sum-none f x zero e = refl
+sum-none f x (suc n) e = omega (arith, sum_by-cons f x (replicate n x), e, sum-none f x n e)
+
+opening-full : (count : ℕ) → IsFull (opening count)
+opening-full count =
+    let s = opening count in
+    record {
+      sound = record {
+        weights = λ cpu inside. ap (λ (p : ProcessorFigures). p.weight) (same_everywhere count cpu unread) ∙ sym (sum-none (weight_there cpu) unknown 1024 refl);
+        joined = λ id. PurseLemmas.joined-same (PurseLemmas.shared_at s) (PurseLemmas.purse (task_of s id)) (PurseLemmas.purse unknown) (ap PurseLemmas.purse (same_everywhere 1024 id unknown)) tt;
+        table = λ id. omega (arith, ap (λ (t : TaskFigures). t.weight) (same_everywhere 1024 id unknown));
+        seats = length-replicate 1024 unknown;
+      };
+      total = omega (arith, sum-none (PurseLemmas.uncapped_of s) unknown 1024 refl, sum-none (λ (p : ProcessorFigures). p.unshared) unread count refl, sum-none (λ (p : ProcessorFigures). p.busy) unread count refl);
+      ahead = λ j. omega (arith, ap (λ (p : ProcessorFigures). p.shared) (same_everywhere count j unread));
+    }
+
+-- what an event gives and leaves
+pub record Rises (s s' : Figures) (o : Option Sight) : Type 0 where
+  pub full : IsFull s'
+  pub raws : (id : ℕ) → PurseLemmas.uncapped s' id ≡ PurseLemmas.uncapped s id + share s o id
+
+rises : (s s' : Figures) (o : Option Sight) → IsFull s → IsShort s → IsShort s' → IsWithin (length s.processors) o → GoesFrom s o s' → Rises s s' o
+rises s s' None f short short' w g =
+    let m = g.goes f short in
+    record { full = full-kept s s' f g.keeps m; raws = λ id. m.raws id ∙ omega arith }
+rises s s' (Some x) f short short' w g =
+    let r = read_at x.cpu x.now s in
+    let short-r : IsShort r = omega (arith, short', busy-kept r s' g.keeps) in
+    let k = read_at-full x.cpu x.now s f w short-r in
+    let m = g.goes k.full short-r in
+    record {
+      full = full-kept r s' k.full g.keeps m;
+      raws = λ id. m.raws id ∙ k.raws id
+          ∙ ap (λ n. PurseLemmas.uncapped s id + weight_there x.cpu (task_of s id) * part_of (length_of (slice_at x.cpu (processor_of s x.cpu) x.now)) n) (f.sound.weights x.cpu w);
+    }
+
+step : (count : ℕ) (past : History) (m : Moment) → count ≤ 255 → IsOf count (m ∷ past) → IsFull (figures count past) → Rises (figures count past) (figures count (m ∷ past)) (sight_of m.event m.answer)
+step count past m few h f =
+    let s = figures count past in
+    let w = within-figures count past m h in
+    rises s (after s m.event m.answer) (sight_of m.event m.answer) f (is_short count past few h.1) (is_short count (m ∷ past) few h) w (goes-after s m.event m.answer w)
+
+-- in each history what tasks have, and what is left over, is what was run
+pub full : (count : ℕ) (past : History) → count ≤ 255 → IsOf count past → IsFull (figures count past)
+full count [] few h = opening-full count
+full count (m ∷ past) few h = (step count past m few h (full count past few h.1)).full
+
+-- the fair time of a task rises at each reading by its share of the slice, and by nothing else
+pub shares_out : SharesOut
+shares_out count past m id few h =
+    let s = figures count past in
+    let s' = figures count (m ∷ past) in
+    let f = full count past few h.1 in
+    let k = step count past m few h f in
+    fair-raw s' id k.full (is_short count (m ∷ past) few h) ∙ k.raws id
+    ∙ ap (λ n. n + share s (sight_of m.event m.answer) id) (sym (fair-raw s id f (is_short count past few h.1)))
+
+-- all fair times, and what was not shared out, are the time in which any task ran, in parts of a nanosecond
+pub adds_up_fair_times : AddsUpFairTimes
+adds_up_fair_times count past few h =
+    let s = figures count past in
+    let f = full count past few h in
+    let fair : all_fair s ≡ all_raw s =
+    PurseLemmas.sums_like (λ (t : TaskFigures). fair_at s t t.place) (PurseLemmas.uncapped_of s) unknown s.tasks s.tasks refl (λ j. fair-raw s j f (is_short count past few h)) in
+    omega (arith, fair, f.total)

@@ -1,0 +1,338 @@
+-- The wakes that figures show are those of the history.
+use Rattle.std.proofs.Common.{◌≡◌, ◌≢◌, ℕ, ◌-◌, ◌<◌, Bool, true, false, not, [], ◌∷◌, length, get_or, Option, Some, None, Result, Ok, Err, refl, sym, ap, ◌∙◌, ◌⊎◌, inl, inr, eqb, ltb, cond, get_or-set_same, get_or-set_other, subst, arith}
+use Rattle.std.specs.Prelude.{slice_set, ◌&&◌}
+use Rattle.std.specs.Option.{option_map}
+use Rattle.std.proofs.lemmas.Bool.Decides.{eqb_tells, nat_tests}
+use Rattle.std.proofs.lemmas.List.{get_or-replicate, length-set}
+use Rattle.bq_disc.specs.OneProcessor.{reading}
+use Rattle.bq_parts.specs.declared.event.Event.{Event}
+use Rattle.bq_parts.specs.declared.event.Event.TheVariants.{Admit, EndWake, Drain, Tick, Block, Pull}
+use Rattle.bq_parts.specs.declared.reply.Reply.{Reply}
+use Rattle.bq_parts.specs.declared.reply.Reply.TheVariants.{Admitted, Placed, Drained, Ticked, Blocked as Went, Pulled}
+use Rattle.bq_parts.specs.declared.refusal.Refusal.{Refusal}
+use Rattle.bq_bpf.specs.declared.hook.Hook.TheVariants.{Place, Preempt, Pull as OnPull}
+use Rattle.bq_schedule.specs.declared.slice.Slice.{Slice}
+use Rattle.bq_schedule.specs.declared.change.Decision.{Decision}
+use Rattle.bq_schedule.specs.declared.change.Start.{Start}
+use Rattle.bq_schedule.specs.declared.change.Left.{Left}
+use Rattle.bq_schedule.specs.declared.change.Left.TheVariants.{Preempted, Blocked}
+use Rattle.bq_schedule.specs.declared.figures.ProcessorFigures.{ProcessorFigures}
+use Rattle.bq_schedule.specs.declared.figures.TaskFigures.{TaskFigures}
+use Rattle.bq_schedule.specs.Moments.{History}
+use Rattle.bq_schedule.specs.Figures.{Figures, unknown, processor_of, task_of, with_processor, with_task}
+use Rattle.bq_schedule.specs.Passing.{read_at, with_charged, processor_read, slice_at}
+use Rattle.bq_schedule.specs.Standing.{left_from, leaves, comes}
+use Rattle.bq_schedule.specs.Running.{stopped, started, starts_as, start_of, start_at, begun_if, switched, is_run_by}
+use Rattle.bq_schedule.specs.Slices.{Sight, sight, sight_of, clock, clock_after, runner}
+use Rattle.bq_schedule.specs.Wakes.{is_run, begins_as, begins, wake_end, awaited_after, awaited}
+use Rattle.bq_schedule.specs.Steps.{nothing, asked, waited_there, taken, placed, decided, blocked, pulled, performed, performed_told, time_at, is_there, after, change, figures}
+use Rattle.bq_schedule.specs.Laws.{IsWithin, IsOf, TellsLatencies}
+use Rattle.bq_schedule.proofs.FrameLemmas.{who, task_kept, running-asked, running-leaves, running-taken, running-read_at}
+use Rattle.bq_schedule.proofs.ClockLemmas.{figures-clocks, within-figures}
+use Rattle.bq_schedule.proofs.SumLemmas.{tasks-figures}
+
+-- what keeps which wakes are awaited
+pub record KeepsWakes (s s' : Figures) : Type 0 where
+  pub at : (id : ℕ) → (task_of s' id).woken ≡ (task_of s id).woken
+  pub tasks : length s'.tasks ≡ length s.tasks
+
+same : (s : Figures) → KeepsWakes s s
+same s = record { at = λ id. refl; tasks = refl }
+
+both : (s t u : Figures) → KeepsWakes s t → KeepsWakes t u → KeepsWakes s u
+both s t u a b = record { at = λ id. b.at id ∙ a.at id; tasks = b.tasks ∙ a.tasks }
+
+with_one : (s : Figures) (i : ℕ) (t : TaskFigures) → t.woken ≡ (task_of s i).woken → KeepsWakes s (with_task s i t)
+with_one s i t e = record { at = λ id. task_kept (λ (u : TaskFigures). u.woken) s i id t e; tasks = length-set s.tasks i t }
+
+of_processor : (s : Figures) (i : ℕ) (p : ProcessorFigures) → KeepsWakes s (with_processor s i p)
+of_processor s i p = record { at = λ id. refl; tasks = refl }
+
+kept-with_charged : (s : Figures) (o : Option Slice) → KeepsWakes s (with_charged s o)
+kept-with_charged s None = same s
+kept-with_charged s (Some x) = with_one s x.task _ refl
+
+kept-read_at : (cpu now : ℕ) (s : Figures) → KeepsWakes s (read_at cpu now s)
+kept-read_at cpu now s = both s (with_processor s cpu (processor_read cpu (processor_of s cpu) now)) _ (of_processor s cpu _) (kept-with_charged _ (slice_at cpu (processor_of s cpu) now))
+
+kept-left_from : (id : ℕ) (s : Figures) (place : Option ℕ) → KeepsWakes s (left_from id s place)
+kept-left_from id s None = same s
+kept-left_from id s (Some cpu) = both s _ _ (of_processor s cpu _) (with_one _ id _ refl)
+
+kept-leaves : (id : ℕ) (s : Figures) → KeepsWakes s (leaves id s)
+kept-leaves id s = kept-left_from id s (task_of s id).place
+
+kept-comes : (id cpu now : ℕ) (s : Figures) → KeepsWakes s (comes id cpu now s)
+kept-comes id cpu now s = both s (leaves id s) _ (kept-leaves id s) (both (leaves id s) _ _ (of_processor (leaves id s) cpu _) (with_one _ id _ refl))
+
+kept-taken : (cpu now : ℕ) (task : Option ℕ) (s : Figures) → KeepsWakes s (taken cpu now task s)
+kept-taken cpu now None s = same s
+kept-taken cpu now (Some id) s = both s (waited_there id now s) _ (with_one s id _ refl) (kept-comes id cpu now (waited_there id now s))
+
+kept-stopped : (left : Left) (now : ℕ) (running : Option Start) (s : Figures) → KeepsWakes s (stopped left now running s)
+kept-stopped left now None s = same s
+kept-stopped Blocked now (Some old) s = same s
+kept-stopped Preempted now (Some old) s = with_one s old.task _ refl
+
+-- a task is set whose wake is one thing or the other
+set-one : (s : Figures) (i j : ℕ) (t : TaskFigures) (b : Bool) → j < length s.tasks → ((b ≡ true) × (i ≡ j)) ⊎ ((b ≡ false) × (i ≢ j)) →
+    (task_of (with_task s i t) j).woken ≡ cond b t.woken (task_of s j).woken
+set-one s i j t true inside (inl e) = ap (λ k. (get_or (slice_set s.tasks k t) j unknown).woken) e.1 ∙ ap (λ (u : TaskFigures). u.woken) (get_or-set_same s.tasks j t unknown inside)
+set-one s i j t false inside (inl e) = absurd (cc)
+set-one s i j t true inside (inr e) = absurd (cc)
+set-one s i j t false inside (inr e) = ap (λ (u : TaskFigures). u.woken) (get_or-set_other s.tasks i j t unknown (λ h. e.1 (sym h)))
+
+woken-begun_if : (cpu now : ℕ) (run : Option ℕ) (s : Figures) (j : ℕ) → j < length s.tasks → (task_of (begun_if cpu now run s) j).woken ≡ cond (is_run j run) None (task_of s j).woken
+woken-begun_if cpu now None s j inside = refl
+woken-begun_if cpu now (Some id) s j inside = set-one s id j _ (eqb id j) inside (eqb_tells id j)
+
+begins_alone : (b : Bool) → (b && true) ≡ b
+begins_alone true = refl
+begins_alone false = refl
+
+differs : (a b : ℕ) → eqb a b ≡ false → a ≢ b
+differs a b e h = grind (arith, nat_tests)
+
+equals : (a b : ℕ) → eqb a b ≡ true → a ≡ b
+equals a b e = grind (arith, nat_tests)
+
+new_at : (j old id : ℕ) (b c : Bool) → ((b ≡ true) × (id ≡ j)) ⊎ ((b ≡ false) × (id ≢ j)) → ((c ≡ true) × (old ≡ j)) ⊎ ((c ≡ false) × (old ≢ j)) → old ≢ id → (b && not c) ≡ b
+new_at j old id true true (inl e) (inl f) ne = absurd (ne (f.1 ∙ sym e.1))
+new_at j old id true true (inl e) (inr f) ne = absurd (cc)
+new_at j old id true true (inr e) f ne = absurd (cc)
+new_at j old id true false e f ne = refl
+new_at j old id false c e f ne = refl
+
+old_at : (j old id : ℕ) (b c : Bool) → ((b ≡ true) × (id ≡ j)) ⊎ ((b ≡ false) × (id ≢ j)) → ((c ≡ true) × (old ≡ j)) ⊎ ((c ≡ false) × (old ≢ j)) → old ≡ id → (b && not c) ≡ false
+old_at j old id true true e f same = refl
+old_at j old id true false (inl e) (inr f) same = absurd (f.1 (same ∙ e.1))
+old_at j old id true false (inl e) (inl f) same = absurd (cc)
+old_at j old id true false (inr e) f same = absurd (cc)
+old_at j old id false c e f same = refl
+
+-- where it is not yet who runs, begins and runs are one
+begins-new : (j : ℕ) (running : Option Start) (run : Option ℕ) → is_run_by running run ≡ false → begins_as j (option_map (λ (x : Start). x.task) running) (Some run) ≡ is_run j run
+begins-new j None None e = refl
+begins-new j None (Some id) e = begins_alone (eqb id j)
+begins-new j (Some start) None e = refl
+begins-new j (Some start) (Some id) e = new_at j start.task id (eqb id j) (eqb start.task j) (eqb_tells id j) (eqb_tells start.task j) (differs start.task id e)
+
+-- and where it is who runs, none begins
+begins-old : (j : ℕ) (running : Option Start) (run : Option ℕ) → is_run_by running run ≡ true → begins_as j (option_map (λ (x : Start). x.task) running) (Some run) ≡ false
+begins-old j None None e = refl
+begins-old j None (Some id) e = cc
+begins-old j (Some start) None e = cc
+begins-old j (Some start) (Some id) e = old_at j start.task id (eqb id j) (eqb start.task j) (eqb_tells id j) (eqb_tells start.task j) (equals start.task id e)
+
+woken-switched_if : (b : Bool) (left : Left) (cpu now : ℕ) (run : Option ℕ) (s : Figures) (j : ℕ) → is_run_by (processor_of s cpu).running run ≡ b → j < length s.tasks →
+    (task_of (cond b s (started cpu now run (stopped left now (processor_of s cpu).running s))) j).woken ≡ cond (begins_as j (who (processor_of s cpu)) (Some run)) None (task_of s j).woken
+woken-switched_if true left cpu now run s j e inside = rw (begins-old j (processor_of s cpu).running run e) refl
+woken-switched_if false left cpu now run s j e inside =
+    let t = stopped left now (processor_of s cpu).running s in
+    let k = kept-stopped left now (processor_of s cpu).running s in
+    woken-begun_if cpu now run t j (omega (arith, k.tasks)) ∙ ap (λ o. cond (is_run j run) None o) (k.at j)
+    ∙ ap (λ b. cond b None (task_of s j).woken) (sym (begins-new j (processor_of s cpu).running run e))
+
+woken-switched : (left : Left) (cpu now : ℕ) (run : Option ℕ) (s : Figures) (j : ℕ) → j < length s.tasks →
+    (task_of (switched left cpu now run s) j).woken ≡ cond (begins_as j (who (processor_of s cpu)) (Some run)) None (task_of s j).woken
+woken-switched left cpu now run s j inside = woken-switched_if (is_run_by (processor_of s cpu).running run) left cpu now run s j refl inside
+
+-- what becomes of the wake that a task has waited for
+abbrev pub wake_seen : ℕ → Figures → Event → Result Reply Refusal → Option ℕ
+wake_seen j s (EndWake cpu now) (Ok (Placed task to by steps)) = cond (eqb task j) (Some (time_at cpu now s)) None
+wake_seen j s e a = None
+
+-- a task begins to run with a sight, by who ran in the figures
+abbrev pub begins_seen : ℕ → Figures → Option Sight → Bool
+begins_seen j s None = false
+begins_seen j s (Some x) = begins_as j (who (processor_of s x.cpu)) x.run
+
+-- the wake that figures show after an event
+abbrev pub AwaitsAfter : ℕ → Figures → Figures → Event → Result Reply Refusal → Type 0
+AwaitsAfter j s s' e a = (task_of s' j).woken ≡ awaited_after (wake_seen j s e a) (begins_seen j s (sight_of e a)) (task_of s j).woken
+
+awaits-placed : (b : Bool) (at : ℕ) (before : Option ℕ) → cond b (Some at) before ≡ awaited_after (cond b (Some at) None) false before
+awaits-placed true at before = refl
+awaits-placed false at before = refl
+
+placed-awaits : (cpu now : ℕ) (d : Decision) (id to : ℕ) (s : Figures) (j : ℕ) → j < length s.tasks →
+    (task_of (placed cpu now d id to s) j).woken ≡ awaited_after (cond (eqb id j) (Some (time_at cpu now s)) None) false (task_of s j).woken
+placed-awaits cpu now d id to s j inside =
+    let at = time_at cpu now s in
+    let r = read_at cpu now s in
+    let a = asked cpu d r in
+    let c = comes id to at a in
+    let k : KeepsWakes s c = both s r c (kept-read_at cpu now s) (both r a c (of_processor r cpu _) (kept-comes id to at a)) in
+    set-one c id j _ (eqb id j) (omega (arith, k.tasks)) (eqb_tells id j)
+    ∙ ap (λ o. cond (eqb id j) (Some at) o) (k.at j)
+    ∙ awaits-placed (eqb id j) at (task_of s j).woken
+
+-- after moves that keep wakes and who runs
+switched-awaits : (left : Left) (cpu now : ℕ) (run : Option ℕ) (s t : Figures) (j : ℕ) → j < length s.tasks → KeepsWakes s t → (processor_of t cpu).running ≡ (processor_of s cpu).running →
+    (task_of (switched left cpu now run t) j).woken ≡ cond (begins_as j (who (processor_of s cpu)) (Some run)) None (task_of s j).woken
+switched-awaits left cpu now run s t j inside k r =
+    woken-switched left cpu now run t j (omega (arith, k.tasks))
+    ∙ ap (λ o. cond (begins_as j (option_map (λ (x : Start). x.task) o) (Some run)) None (task_of t j).woken) r
+    ∙ ap (λ o. cond (begins_as j (who (processor_of s cpu)) (Some run)) None o) (k.at j)
+
+kept-ask : (cpu now : ℕ) (d : Decision) (s : Figures) → KeepsWakes s (asked cpu d (read_at cpu now s))
+kept-ask cpu now d s = both s (read_at cpu now s) _ (kept-read_at cpu now s) (of_processor (read_at cpu now s) cpu _)
+
+runs-ask : (cpu now : ℕ) (d : Decision) (s : Figures) (j : ℕ) → (processor_of (asked cpu d (read_at cpu now s)) j).running ≡ (processor_of s j).running
+runs-ask cpu now d s j = (running-asked cpu d (read_at cpu now s)).at j ∙ (running-read_at cpu now s).at j
+
+decided-awaits : (cpu now : ℕ) (d : Decision) (run : Option ℕ) (s : Figures) (j : ℕ) → j < length s.tasks →
+    (task_of (decided cpu now d run s) j).woken ≡ cond (begins_as j (who (processor_of s cpu)) (Some run)) None (task_of s j).woken
+decided-awaits cpu now d run s j inside = switched-awaits Preempted cpu (time_at cpu now s) run s _ j inside (kept-ask cpu now d s) (runs-ask cpu now d s cpu)
+
+kept-block : (cpu now id : ℕ) (s : Figures) → KeepsWakes s (leaves id (read_at cpu now s))
+kept-block cpu now id s = both s (read_at cpu now s) _ (kept-read_at cpu now s) (kept-leaves id (read_at cpu now s))
+
+runs-block : (cpu now id : ℕ) (s : Figures) (j : ℕ) → (processor_of (leaves id (read_at cpu now s)) j).running ≡ (processor_of s j).running
+runs-block cpu now id s j = (running-leaves id (read_at cpu now s)).at j ∙ (running-read_at cpu now s).at j
+
+blocked-awaits : (cpu now id : ℕ) (run : Option ℕ) (s : Figures) (j : ℕ) → j < length s.tasks →
+    (task_of (blocked cpu now id run s) j).woken ≡ cond (begins_as j (who (processor_of s cpu)) (Some run)) None (task_of s j).woken
+blocked-awaits cpu now id run s j inside = switched-awaits Blocked cpu (time_at cpu now s) run s _ j inside (kept-block cpu now id s) (runs-block cpu now id s cpu)
+
+kept-pull : (cpu now : ℕ) (d : Decision) (task : Option ℕ) (s : Figures) → KeepsWakes s (taken cpu (time_at cpu now s) task (asked cpu d (read_at cpu now s)))
+kept-pull cpu now d task s = both s (asked cpu d (read_at cpu now s)) _ (kept-ask cpu now d s) (kept-taken cpu (time_at cpu now s) task _)
+
+runs-pull : (cpu now : ℕ) (d : Decision) (task : Option ℕ) (s : Figures) (j : ℕ) →
+    (processor_of (taken cpu (time_at cpu now s) task (asked cpu d (read_at cpu now s))) j).running ≡ (processor_of s j).running
+runs-pull cpu now d task s j = (running-taken cpu (time_at cpu now s) task (asked cpu d (read_at cpu now s))).at j ∙ runs-ask cpu now d s j
+
+pulled-awaits : (cpu now : ℕ) (d : Decision) (task run : Option ℕ) (s : Figures) (j : ℕ) → j < length s.tasks →
+    (task_of (pulled cpu now d task run s) j).woken ≡ cond (begins_as j (who (processor_of s cpu)) (Some run)) None (task_of s j).woken
+pulled-awaits cpu now d task run s j inside = switched-awaits Preempted cpu (time_at cpu now s) run s _ j inside (kept-pull cpu now d task s) (runs-pull cpu now d task s cpu)
+
+performed-awaits : (s : Figures) (e : Event) (r : Reply) (j : ℕ) → j < length s.tasks → AwaitsAfter j s (performed s e r) e (Ok r)
+performed-awaits s (Admit id nice mask slice) Admitted j inside = (with_one (leaves id s) id _ refl).at j ∙ (kept-leaves id s).at j
+performed-awaits s (EndWake cpu now) (Placed task to by steps) j inside = placed-awaits cpu now (record { hook = Place; by = by; steps = steps }) task to s j inside
+performed-awaits s (Drain cpu now) (Drained count run by steps) j inside = decided-awaits cpu now (record { hook = Preempt; by = by; steps = steps }) run s j inside
+performed-awaits s (Tick cpu now) (Ticked run by steps) j inside = decided-awaits cpu now (record { hook = Preempt; by = by; steps = steps }) run s j inside
+performed-awaits s (Block cpu now) (Went task run) j inside = blocked-awaits cpu now task run s j inside
+performed-awaits s (Pull cpu from now) (Pulled task run by steps) j inside = pulled-awaits cpu now (record { hook = OnPull; by = by; steps = steps }) task run s j inside
+performed-awaits s e r j inside = refl
+
+outside : (a b : ℕ) → ltb a b ≡ false → a < b → ⊥
+outside a b e h = grind (arith, nat_tests)
+
+nothing-awaits : (s : Figures) (e : Event) (r : Reply) (j : ℕ) → is_there s e ≡ false → IsWithin (length s.processors) (sight e r) → AwaitsAfter j s s e (Ok r)
+nothing-awaits s (EndWake cpu now) (Placed task to by steps) j none h = absurd (outside cpu (length s.processors) none h)
+nothing-awaits s (Drain cpu now) (Drained count run by steps) j none h = absurd (outside cpu (length s.processors) none h)
+nothing-awaits s (Tick cpu now) (Ticked run by steps) j none h = absurd (outside cpu (length s.processors) none h)
+nothing-awaits s (Block cpu now) (Went task run) j none h = absurd (outside cpu (length s.processors) none h)
+nothing-awaits s (Pull cpu from now) (Pulled task run by steps) j none h = absurd (outside cpu (length s.processors) none h)
+nothing-awaits s e r j none h = refl
+
+awaits-if : (b : Bool) (s : Figures) (e : Event) (r : Reply) (j : ℕ) → is_there s e ≡ b → j < length s.tasks → IsWithin (length s.processors) (sight e r) → AwaitsAfter j s (cond b (performed s e r) s) e (Ok r)
+awaits-if true s e r j there inside h = performed-awaits s e r j inside
+awaits-if false s e r j there inside h = nothing-awaits s e r j there h
+
+-- which wake is awaited after an event is what it was, but for what the answer shows
+awaits-after : (s : Figures) (e : Event) (a : Result Reply Refusal) (j : ℕ) → j < length s.tasks → IsWithin (length s.processors) (sight_of e a) → AwaitsAfter j s (after s e a) e a
+awaits-after s e (Ok r) j inside h = awaits-if (is_there s e) s e r j refl inside h
+awaits-after s (EndWake cpu now) (Err r) j inside h = refl
+awaits-after s e (Err r) j inside h = refl
+
+seen-wake : (count : ℕ) (past : History) (e : Event) (a : Result Reply Refusal) (j : ℕ) → IsOf count past → IsWithin count (sight_of e a) → wake_seen j (figures count past) e a ≡ wake_end j past e a
+seen-wake count past (EndWake cpu now) (Ok (Placed task to by steps)) j h w = ap (λ n. cond (eqb task j) (Some (reading n now)) None) (figures-clocks count past cpu h w).0
+seen-wake count past e a j h w = refl
+
+seen-begins : (count : ℕ) (past : History) (o : Option Sight) (j : ℕ) → IsOf count past → IsWithin count o → begins_seen j (figures count past) o ≡ begins j past o
+seen-begins count past None j h w = refl
+seen-begins count past (Some x) j h w = ap (λ y. begins_as j y x.run) (figures-clocks count past x.cpu h w).1
+
+-- figures show the wakes that are awaited
+awaits : (count : ℕ) (past : History) (j : ℕ) → IsOf count past → j < 1024 → (task_of (figures count past) j).woken ≡ awaited j past
+awaits count [] j h inside = ap (λ (t : TaskFigures). t.woken) (get_or-replicate 1024 j unknown unknown inside)
+awaits count (m ∷ past) j h inside =
+    let s = figures count past in
+    let o = sight_of m.event m.answer in
+    awaits-after s m.event m.answer j (omega (arith, tasks-figures count past h.1)) (within-figures count past m h)
+    ∙ ap (λ w. awaited_after w (begins_seen j s o) (task_of s j).woken) (seen-wake count past m.event m.answer j h.1 h.0)
+    ∙ ap (λ b. awaited_after (wake_end j past m.event m.answer) b (task_of s j).woken) (seen-begins count past o j h.1 h.0)
+    ∙ ap (λ before. awaited_after (wake_end j past m.event m.answer) (begins j past o) before) (awaits count past j h.1 inside)
+
+-- a start at a processor, at a reading of its clock
+pub record Starts (s : Figures) (cpu now : ℕ) (run : Option ℕ) (start : Start) : Type 0 where
+  pub here : start.processor ≡ cpu
+  pub new : begins_as start.task (who (processor_of s cpu)) (Some run) ≡ true
+  pub reading : start.at ≡ time_at cpu now s
+  pub late : start.latency ≡ option_map (λ (woken : ℕ). start.at - woken) (task_of s start.task).woken
+
+eqb-refl : (a : ℕ) → eqb a a ≡ true
+eqb-refl a = grind (arith, nat_tests)
+
+starts_by : (s u : Figures) (cpu now : ℕ) (run : Option ℕ) (start : Start) → KeepsWakes s u → is_run_by (processor_of s cpu).running run ≡ false → starts_as cpu (time_at cpu now s) run u ≡ Some start → Starts s cpu now run start
+starts_by s u cpu now None start k new e = cc
+starts_by s u cpu now (Some id) start k new e =
+    let x = start_of cpu id (time_at cpu now s) (task_of u id) in
+    let is : x ≡ start = cc in
+    let P : Start → Type 0 = λ st. Starts s cpu now (Some id) st in
+    subst P is (record {
+      here = refl;
+      new = begins-new id (processor_of s cpu).running (Some id) new ∙ eqb-refl id;
+      reading = refl;
+      late = ap (option_map (λ (woken : ℕ). time_at cpu now s - woken)) (k.at id);
+    })
+
+starts_if : (b : Bool) (left : Left) (s t : Figures) (cpu now : ℕ) (run : Option ℕ) (start : Start) → KeepsWakes s t → (processor_of t cpu).running ≡ (processor_of s cpu).running → is_run_by (processor_of t cpu).running run ≡ b →
+    cond b None (starts_as cpu (time_at cpu now s) run (stopped left (time_at cpu now s) (processor_of t cpu).running t)) ≡ Some start → Starts s cpu now run start
+starts_if true left s t cpu now run start k r is e = cc
+starts_if false left s t cpu now run start k r is e =
+    let u = stopped left (time_at cpu now s) (processor_of t cpu).running t in
+    starts_by s u cpu now run start (both s t u k (kept-stopped left (time_at cpu now s) (processor_of t cpu).running t))
+    (ap (λ o. is_run_by o run) (sym r) ∙ is) e
+
+starts : (left : Left) (s t : Figures) (cpu now : ℕ) (run : Option ℕ) (start : Start) → KeepsWakes s t → (processor_of t cpu).running ≡ (processor_of s cpu).running → start_at left cpu (time_at cpu now s) run t ≡ Some start →
+    Starts s cpu now run start
+starts left s t cpu now run start k r e = starts_if (is_run_by (processor_of t cpu).running run) left s t cpu now run start k r refl e
+
+-- what is told of a start, by what the answer shows
+abbrev pub StartsAs : Figures → Option Sight → Start → Type 0
+StartsAs s None start = ⊥
+StartsAs s (Some x) start = (run : Option ℕ) × (x.run ≡ Some run) × Starts s x.cpu x.now run start
+
+starts-performed : (s : Figures) (e : Event) (r : Reply) (start : Start) → (performed_told s e r).start ≡ Some start → StartsAs s (sight e r) start
+starts-performed s (Drain cpu now) (Drained count run by steps) start e =
+    let d : Decision = record { hook = Preempt; by = by; steps = steps } in
+    (run, refl, starts Preempted s (asked cpu d (read_at cpu now s)) cpu now run start (kept-ask cpu now d s) (runs-ask cpu now d s cpu) e)
+starts-performed s (Tick cpu now) (Ticked run by steps) start e =
+    let d : Decision = record { hook = Preempt; by = by; steps = steps } in
+    (run, refl, starts Preempted s (asked cpu d (read_at cpu now s)) cpu now run start (kept-ask cpu now d s) (runs-ask cpu now d s cpu) e)
+starts-performed s (Block cpu now) (Went task run) start e =
+    (run, refl, starts Blocked s (leaves task (read_at cpu now s)) cpu now run start (kept-block cpu now task s) (runs-block cpu now task s cpu) e)
+starts-performed s (Pull cpu from now) (Pulled task run by steps) start e =
+    let d : Decision = record { hook = OnPull; by = by; steps = steps } in
+    (run, refl, starts Preempted s (taken cpu (time_at cpu now s) task (asked cpu d (read_at cpu now s))) cpu now run start (kept-pull cpu now d task s) (runs-pull cpu now d task s cpu) e)
+starts-performed s (EndWake cpu now) (Placed task to by steps) start e = cc
+starts-performed s e r start h = cc
+
+starts-told_if : (b : Bool) (s : Figures) (e : Event) (r : Reply) (start : Start) → (cond b (performed_told s e r) nothing).start ≡ Some start → StartsAs s (sight e r) start
+starts-told_if true s e r start h = starts-performed s e r start h
+starts-told_if false s e r start h = cc
+
+starts-told : (s : Figures) (e : Event) (a : Result Reply Refusal) (start : Start) → (change s e a).start ≡ Some start → StartsAs s (sight_of e a) start
+starts-told s e (Ok r) start h = starts-told_if (is_there s e) s e r start h
+starts-told s e (Err r) start h = cc
+
+-- the clock that a sight reads
+clock-there : (cpu : ℕ) (past : History) (x : Sight) → x.cpu ≡ cpu → clock_after cpu (clock cpu past) (Some x) ≡ reading (clock cpu past) x.now
+clock-there cpu past x e = rw e (rw (eqb-refl cpu) refl)
+
+latency-shown : (count : ℕ) (past : History) (o : Option Sight) (start : Start) → IsOf count past → IsWithin count o → start.task < 1024 → StartsAs (figures count past) o start →
+    (begins start.task past o ≡ true) × (start.at ≡ clock_after start.processor (clock start.processor past) o) × (start.latency ≡ option_map (λ (woken : ℕ). start.at - woken) (awaited start.task past))
+latency-shown count past None start h w inside t = absurd t
+latency-shown count past (Some x) start h w inside t =
+    let c = figures-clocks count past x.cpu h w in (
+      ap (λ r. begins_as start.task (runner x.cpu past) r) t.1 ∙ ap (λ y. begins_as start.task y (Some t.0)) (sym c.1) ∙ t.2.new,
+      t.2.reading ∙ ap (λ n. reading n x.now) c.0 ∙ sym (ap (λ j. clock_after j (clock j past) (Some x)) t.2.here ∙ clock-there x.cpu past x refl),
+      t.2.late ∙ ap (option_map (λ (woken : ℕ). start.at - woken)) (awaits count past start.task h inside),
+    )
+
+-- where a start is told its task begins to run, and its latency is the distance from the wake that still waits
+pub tells_latencies : TellsLatencies
+tells_latencies count past m start h inside e =
+    latency-shown count past (sight_of m.event m.answer) start h.1 h.0 inside (starts-told (figures count past) m.event m.answer start e)

@@ -1,0 +1,103 @@
+-- Slices and idle time fill the time from the first reading to the last.
+use Rattle.std.proofs.Common.{◌≡◌, ◌≢◌, ℕ, ◌+◌, ◌<◌, ◌≤◌, Bool, true, false, [], ◌∷◌, length, Option, Some, None, refl, sym, ap, ◌∙◌, ◌⊎◌, inl, inr, eqb, ltb, cond, subst, arith}
+use Rattle.std.proofs.lemmas.Bool.Decides.{eqb_tells}
+use Rattle.std.proofs.lemmas.List.{get_or-replicate}
+use Rattle.bq_disc.specs.OneProcessor.{reading}
+use Rattle.bq_schedule.specs.declared.slice.Slice.{Slice}
+use Rattle.bq_schedule.specs.declared.change.Start.{Start}
+use Rattle.bq_schedule.specs.declared.figures.ProcessorFigures.{ProcessorFigures}
+use Rattle.bq_schedule.specs.Moments.{History}
+use Rattle.bq_schedule.specs.Figures.{Figures, unread, processor_of}
+use Rattle.bq_schedule.specs.Passing.{slice_between, slice_at, length_of, passed, processor_read, read_at, idle_of}
+use Rattle.bq_schedule.specs.Slices.{Sight, sight_of}
+use Rattle.bq_schedule.specs.Steps.{after, figures}
+use Rattle.bq_schedule.specs.Laws.{IsOf, window_since, FillsWindow}
+use Rattle.bq_schedule.proofs.FrameLemmas.{Works, works, RunsAs}
+use Rattle.bq_schedule.proofs.ClockLemmas.{Shows, shows-after, count-figures, within-figures, processor-read_at}
+use Rattle.bq_schedule.proofs.SumLemmas.{busy}
+
+-- nothing ran before the first reading, and since then no more than the clock rose
+abbrev pub IsFilled : Option ℕ → ℕ → ℕ → Option Start → Type 0
+IsFilled None last busy running = (busy ≡ 0) × (running ≡ None)
+IsFilled (Some first) last busy running = first + busy ≤ last
+
+-- nothing ran at a processor before its first reading, and since then no more than its clock rose
+abbrev pub Filled : ProcessorFigures → Type 0
+Filled p = IsFilled p.first p.last p.busy p.running
+
+-- once the clock was read that is true whoever runs
+abbrev pub HasBegun : Works → Type 0
+HasBegun w = (first : ℕ) × (w.first ≡ Some first) × (first + w.busy ≤ w.last)
+
+begun : (p : ProcessorFigures) → HasBegun (works p) → Filled p
+begun p h = rw h.1 h.2
+
+length-le-rise : (cpu from to : ℕ) (running : Option Start) (b : Bool) → ltb from to ≡ b → from ≤ to → from + length_of (slice_between cpu from to running) ≤ to
+length-le-rise cpu from to None b e h = omega arith
+length-le-rise cpu from to (Some start) true e h = rw e (omega arith)
+length-le-rise cpu from to (Some start) false e h = rw e (omega arith)
+
+begun-read_as : (p : ProcessorFigures) (to : ℕ) (s : Option Slice) (first : Option ℕ) → p.first ≡ first → p.last + length_of s ≤ to → (p.running ≡ None → length_of s ≡ 0) → IsFilled first p.last p.busy p.running →
+    HasBegun (works (passed p to s))
+begun-read_as p to s None e le none h = (to, rw e refl, omega (arith, h.0, none h.1))
+begun-read_as p to s (Some first) e le none h = (first, rw e refl, omega (arith, h))
+
+-- a reading begins a processor's time, or goes on with it
+begun-read : (cpu now : ℕ) (p : ProcessorFigures) → Filled p → HasBegun (works (processor_read cpu p now))
+begun-read cpu now p h =
+    begun-read_as p (reading p.last now) (slice_at cpu p now) p.first refl
+    (length-le-rise cpu p.last (reading p.last now) p.running (ltb p.last (reading p.last now)) refl (omega arith))
+    (λ none. ap (λ o. length_of (slice_between cpu p.last (reading p.last now) o)) none)
+    h
+
+same_works : (p q : ProcessorFigures) → works q ≡ works p → q.running ≡ p.running → Filled p → Filled q
+same_works p q w r h =
+    let first : q.first ≡ p.first = ap (λ (x : Works). x.first) w in
+    let last : q.last ≡ p.last = ap (λ (x : Works). x.last) w in
+    let busy : q.busy ≡ p.busy = ap (λ (x : Works). x.busy) w in
+    rw (first, last, busy, r) h
+
+-- at another processor nothing changes that this reads
+runs_elsewhere : (o : Option (Option ℕ)) (s s' : Figures) (cpu j : ℕ) → j ≢ cpu → RunsAs o cpu s s' → (processor_of s' j).running ≡ (processor_of s j).running
+runs_elsewhere None s s' cpu j ne h = h.at j
+runs_elsewhere (Some run) s s' cpu j ne h = h.1 j ne
+
+filled-there : (s s' : Figures) (x : Sight) (j : ℕ) (b : Bool) → eqb x.cpu j ≡ b → j < length s.processors → Shows s s' (Some x) → Filled (processor_of s j) → ((b ≡ true) × (x.cpu ≡ j)) ⊎ ((b ≡ false) × (x.cpu ≢ j)) →
+    Filled (processor_of s' j)
+filled-there s s' x j true is inside h f (inl same) =
+    let r = processor-read_at x.cpu x.now j s inside in
+    let q = processor_read x.cpu (processor_of s x.cpu) x.now in
+    let read : processor_of (read_at x.cpu x.now s) j ≡ q = r ∙ ap (λ b. cond b q (processor_of s j)) is in
+    let P : Works → Type 0 = λ w. HasBegun w in
+    let Q : ℕ → Type 0 = λ k. Filled (processor_of s k) in
+    begun (processor_of s' j) (subst P (sym (h.0.at j ∙ ap works read)) (begun-read x.cpu x.now (processor_of s x.cpu) (subst Q (sym same.1) f)))
+filled-there s s' x j false is inside h f (inr other) =
+    let q = processor_read x.cpu (processor_of s x.cpu) x.now in
+    let read : processor_of (read_at x.cpu x.now s) j ≡ processor_of s j = processor-read_at x.cpu x.now j s inside ∙ ap (λ b. cond b q (processor_of s j)) is in
+    same_works (processor_of s j) (processor_of s' j) (h.0.at j ∙ ap works read) (runs_elsewhere x.run s s' x.cpu j (λ e. other.1 (sym e)) h.1) f
+filled-there s s' x j false is inside h f (inl same) = absurd (cc)
+filled-there s s' x j true is inside h f (inr other) = absurd (cc)
+
+filled-shown : (s s' : Figures) (o : Option Sight) (j : ℕ) → j < length s.processors → Shows s s' o → Filled (processor_of s j) → Filled (processor_of s' j)
+filled-shown s s' None j inside h f = same_works (processor_of s j) (processor_of s' j) (h.0.at j) (h.1.at j) f
+filled-shown s s' (Some x) j inside h f = filled-there s s' x j (eqb x.cpu j) refl inside h f (eqb_tells x.cpu j)
+
+-- in each history no processor ran before its first reading, nor longer since then than its clock rose
+pub filled : (count : ℕ) (past : History) (cpu : ℕ) → IsOf count past → cpu < count → Filled (processor_of (figures count past) cpu)
+filled count [] cpu h inside =
+    let P : ProcessorFigures → Type 0 = λ p. Filled p in
+    subst P (sym (get_or-replicate count cpu unread unread inside)) (refl, refl)
+filled count (m ∷ past) cpu h inside =
+    let s = figures count past in
+    filled-shown s (after s m.event m.answer) (sight_of m.event m.answer) cpu (omega (arith, count-figures count past h.1))
+    (shows-after s m.event m.answer (within-figures count past m h)) (filled count past cpu h.1 inside)
+
+fills_if : (first : Option ℕ) (p : ProcessorFigures) → p.first ≡ first → IsFilled first p.last p.busy p.running → p.busy + idle_of p ≡ window_since p.first p.last
+fills_if None p e h = rw e (omega (arith, h.0))
+fills_if (Some first) p e h = rw e (omega (arith, h))
+
+-- the slices of a processor and its idle time fill the time from its first reading to the last
+pub fills_window : FillsWindow
+fills_window count past cpu few h inside =
+    let p = processor_of (figures count past) cpu in
+    ap (λ n. n + idle_of p) (sym (busy count past few h cpu inside)) ∙ fills_if p.first p refl (filled count past cpu h inside)

@@ -1,0 +1,279 @@
+-- Each step of a world does to its clocks, and to who runs, what its answer shows.
+use Rattle.std.proofs.Common.{◌≡◌, ◌≢◌, ℕ, ◌<◌, Bool, true, false, List, [], ◌∷◌, length, get_or, Option, Some, None, Result, Ok, Err, refl, sym, ap, ◌∙◌, ◌⊎◌, inl, inr, get_or-set_same, get_or-set_other, eqb, cond, arith}
+use Rattle.std.specs.Prelude.{slice_set, unwrap_or, ◌==◌}
+use Rattle.std.specs.Option.{option_map}
+use Rattle.std.proofs.lemmas.Bool.Decides.{eqb_tells, nat_tests}
+use Rattle.std.proofs.lemmas.List.{get_or-replicate, length-set, length-replicate}
+use Rattle.bq_disc.specs.Tasks.{Task, id_of, with_id}
+use Rattle.bq_disc.specs.Discipline.{Discipline, charged, next_of}
+use Rattle.bq_disc.specs.OneProcessor.{Running, reading, charge, run_id, exchanged, decided, enter_all}
+use Rattle.bq_bpf.specs.declared.board.Call.{Call as Asked}
+use Rattle.bq_parts.specs.declared.event.Event.{Event}
+use Rattle.bq_parts.specs.declared.event.Event.TheVariants.{Admit, Retire, Draw, Install, BeginWake, EndWake, Drain, Tick, Block, Pull}
+use Rattle.bq_parts.specs.declared.reply.Reply.{Reply}
+use Rattle.bq_parts.specs.declared.reply.Reply.TheVariants.{Admitted, Retired, Drawn, Installed, Begun, Placed, Drained, Ticked, Blocked as Went, Pulled as Moved}
+use Rattle.bq_parts.specs.declared.refusal.Refusal.{Refusal}
+use Rattle.bq_parts.specs.declared.refusal.Refusal.TheVariants as no
+use Rattle.bq_parts.specs.Processors.{Processor, opening}
+use Rattle.bq_parts.specs.World.{World, opening_world, processor, count_in, with_processor}
+use Rattle.bq_parts.specs.Refusals.{refusal, argument_refusal, state_refusal, either}
+use Rattle.bq_parts.specs.Moves.{with_pulled, started_if_idle, without_task, taken_from}
+use Rattle.bq_parts.specs.Choices.{Regime}
+use Rattle.bq_hooks.specs.Permitted.{task_numbered}
+use Rattle.bq_parts.specs.Shares.{after_time, remarked}
+use Rattle.bq_parts.specs.Steps.{Performs, WorldStep, WorldRun}
+use Rattle.bq_core.specs.Laws.{under_any_answers}
+use Rattle.bq_core.proofs.OrderLemmas.{there, passed}
+use Rattle.bq_schedule.specs.Moments.{History}
+use Rattle.bq_schedule.specs.Slices.{Sight, sight, sight_of, clock_after, clock, runner_after, runner}
+use Rattle.bq_schedule.specs.Laws.{IsWithin, IsOf, grown, IsCharged}
+use Rattle.bq_schedule.proofs.FrameLemmas.{get_or-set_like}
+
+-- the last reading of a processor's clock
+abbrev pub last_at : World → ℕ → ℕ
+last_at w j = (processor w j).running.last
+
+-- who runs at a processor
+abbrev pub who_at : World → ℕ → Option ℕ
+who_at w j = id_of (processor w j).running.current
+
+-- a world shows of its processors what an answer says
+pub record Shown (w w' : World) (o : Option Sight) : Type 0 where
+  pub count : count_in w' ≡ count_in w
+  pub last : (j : ℕ) → j < count_in w → last_at w' j ≡ clock_after j (last_at w j) o
+  pub who : (j : ℕ) → j < count_in w → who_at w' j ≡ runner_after j (who_at w j) o
+
+-- a processor is replaced by one with the same clock and current task
+kept : (w : World) (i : ℕ) (p : Processor) → p.running.last ≡ last_at w i → id_of p.running.current ≡ who_at w i → Shown w (with_processor w i p) None
+kept w i p l c = record {
+  count = length-set w.processors i p;
+  last = λ j inside. get_or-set_like (λ (q : Processor). q.running.last) w.processors i j p opening l;
+  who = λ j inside. get_or-set_like (λ (q : Processor). id_of q.running.current) w.processors i j p opening c;
+}
+
+-- the processors alone count
+like : (w u w' : World) (o : Option Sight) → u.processors ≡ w'.processors → Shown w u o → Shown w w' o
+like w u w' o e h = record {
+  count = ap (λ (l : List Processor). length l) (sym e) ∙ h.count;
+  last = λ j inside. ap (λ l. (get_or l j opening).running.last) (sym e) ∙ h.last j inside;
+  who = λ j inside. ap (λ l. id_of (get_or l j opening).running.current) (sym e) ∙ h.who j inside;
+}
+
+same : (w : World) → Shown w w None
+same w = record { count = refl; last = λ j inside. refl; who = λ j inside. refl }
+
+last_there : (w : World) (i j now : ℕ) (p : Processor) (b : Bool) → j < count_in w → p.running.last ≡ reading (last_at w i) now → ((b ≡ true) × (i ≡ j)) ⊎ ((b ≡ false) × (i ≢ j)) →
+    (get_or (slice_set w.processors i p) j opening).running.last ≡ cond b (reading (last_at w j) now) (last_at w j)
+last_there w i j now p true inside l (inl e) =
+    ap (λ k. (get_or (slice_set w.processors k p) j opening).running.last) e.1 ∙ ap (λ (q : Processor). q.running.last) (get_or-set_same w.processors j p opening inside)
+    ∙ l ∙ ap (λ k. reading (last_at w k) now) e.1
+last_there w i j now p false inside l (inl e) = absurd (cc)
+last_there w i j now p true inside l (inr e) = absurd (cc)
+last_there w i j now p false inside l (inr e) = ap (λ (q : Processor). q.running.last) (get_or-set_other w.processors i j p opening (λ h. e.1 (sym h)))
+
+who_there : (w : World) (i j : ℕ) (run : Option (Option ℕ)) (p : Processor) (b : Bool) → j < count_in w → id_of p.running.current ≡ unwrap_or run (who_at w i) → ((b ≡ true) × (i ≡ j)) ⊎ ((b ≡ false) × (i ≢ j)) →
+    id_of (get_or (slice_set w.processors i p) j opening).running.current ≡ cond b (unwrap_or run (who_at w j)) (who_at w j)
+who_there w i j run p true inside l (inl e) =
+    ap (λ k. id_of (get_or (slice_set w.processors k p) j opening).running.current) e.1 ∙ ap (λ (q : Processor). id_of q.running.current) (get_or-set_same w.processors j p opening inside)
+    ∙ l ∙ ap (λ k. unwrap_or run (who_at w k)) e.1
+who_there w i j run p false inside l (inl e) = absurd (cc)
+who_there w i j run p true inside l (inr e) = absurd (cc)
+who_there w i j run p false inside l (inr e) = ap (λ (q : Processor). id_of q.running.current) (get_or-set_other w.processors i j p opening (λ h. e.1 (sym h)))
+
+-- a processor's clock is read, and who runs there is told or stays
+read_there : (w : World) (x : Sight) (p : Processor) → p.running.last ≡ reading (last_at w x.cpu) x.now → id_of p.running.current ≡ unwrap_or x.run (who_at w x.cpu) →
+    Shown w (with_processor w x.cpu p) (Some x)
+read_there w x p l c = record {
+  count = length-set w.processors x.cpu p;
+  last = λ j inside. last_there w x.cpu j x.now p (eqb x.cpu j) inside l (eqb_tells x.cpu j);
+  who = λ j inside. who_there w x.cpu j x.run p (eqb x.cpu j) inside c (eqb_tells x.cpu j);
+}
+
+-- then a step that shows nothing
+then_kept : (w u v : World) (o : Option Sight) → Shown w u o → Shown u v None → Shown w v o
+then_kept w u v o a b = record {
+  count = b.count ∙ a.count;
+  last = λ j inside. let i : j < count_in u = omega (arith, a.count) in b.last j i ∙ a.last j inside;
+  who = λ j inside. let i : j < count_in u = omega (arith, a.count) in b.who j i ∙ a.who j inside;
+}
+
+-- what is decided leaves the clock
+last-run_id : (p : Running) (o : Option ℕ) → (run_id p o).last ≡ p.last
+last-run_id p None = refl
+last-run_id p (Some id) = refl
+
+last-exchanged : (p : Running) (old : Task) (o : Option Task) → (exchanged p old o).last ≡ p.last
+last-exchanged p old None = refl
+last-exchanged p old (Some new) = refl
+
+last-decided : (d : Discipline) (p : Running) (o : Option Task) (b : Bool) → (decided d p o b).last ≡ p.last
+last-decided d p None b = last-run_id p (id_of (d.choice p.queue))
+last-decided d p (Some current) true = last-exchanged p current (with_id (next_of d current p.queue) p.queue)
+last-decided d p (Some current) false = refl
+
+last-with_pulled : (d : Discipline) (p : Running) (o : Option Task) → (with_pulled d p o).last ≡ p.last
+last-with_pulled d p None = refl
+last-with_pulled d p (Some t) = refl
+
+last-started_if_idle : (d : Discipline) (p : Running) (o : Option Task) → (started_if_idle d p o).last ≡ p.last
+last-started_if_idle d p None = last-run_id p (id_of (d.choice p.queue))
+last-started_if_idle d p (Some t) = refl
+
+last-without_task : (p : Running) (o : Option ℕ) → (without_task p o).last ≡ p.last
+last-without_task p None = refl
+last-without_task p (Some id) = refl
+
+current-without_task : (p : Running) (o : Option ℕ) → (without_task p o).current ≡ p.current
+current-without_task p None = refl
+current-without_task p (Some id) = refl
+
+-- who runs is charged, and is who it was
+id-charged : (d : Discipline) (o : Option Task) (time : ℕ) → id_of (option_map (λ (t : Task). charged d t time) o) ≡ id_of o
+id-charged d None time = refl
+id-charged d (Some t) time = refl
+
+differs : (a b : ℕ) → (a == b) ≡ false → a ≢ b
+differs a b e h = grind (arith, nat_tests)
+
+neither : (o p : Option Refusal) → either o p ≡ None → o ≡ None
+neither None p h = refl
+neither (Some r) p h = cc
+
+-- none of its arguments is refused
+accepted : (w : World) (e : Event) → refusal w e ≡ None → argument_refusal (count_in w) e ≡ None
+accepted w e h = neither (argument_refusal (count_in w) e) (state_refusal w e) h
+
+-- of an answer that is another
+shown_as : (w w' : World) (e : Event) (r x : Reply) → r ≡ x → Shown w w' (sight e x) → Shown w w' (sight e r)
+shown_as w w' e r x h k = rw h k
+
+-- an event that is performed does to the clocks, and to who runs, what its reply shows
+pub shown-performs : (s : Regime) (w : World) (e : Event) (calls : List Asked) (r : Reply) (w' : World) → refusal w e ≡ None → Performs s w e calls r w' → Shown w w' (sight e r)
+shown-performs s w (Admit id nice mask slice) calls r w' h k =
+    shown_as w w' (Admit id nice mask slice) r Admitted k.1.1 (like w w w' None (ap (λ (v : World). v.processors) (sym k.3)) (same w))
+shown-performs s w (Retire id) calls r w' h k = shown_as w w' (Retire id) r Retired k.1.1 (like w w w' None (ap (λ (v : World). v.processors) (sym k.3)) (same w))
+shown-performs s w Draw calls r w' h k = shown_as w w' Draw r (Drawn _) k.0 (like w w w' None (ap (λ (v : World). v.processors) (sym k.2)) (same w))
+shown-performs s w (Install cpu hook g policy) calls r w' h k =
+    let i = k.1 in
+    shown_as w w' (Install cpu hook g policy) r Installed i.1
+    (like w (with_processor w cpu k.0) w' None (ap (λ (v : World). v.processors) (sym k.3)) (kept w cpu k.0 (ap (λ (q : Processor). q.running.last) i.2) (ap (λ (q : Processor). id_of q.running.current) i.2)))
+shown-performs s w (BeginWake cpu id) calls r w' h k =
+    let b = k.2 in
+    shown_as w w' (BeginWake cpu id) r (Begun id _) b.3
+    (like w (with_processor w cpu k.0) w' None (ap (λ (v : World). v.processors) (sym k.4)) (kept w cpu k.0 (ap (λ (q : Processor). q.running.last) b.4) (ap (λ (q : Processor). id_of q.running.current) b.4)))
+shown-performs s w (EndWake cpu now) calls r w' h k =
+    let written = k.2.4.5 in
+    shown_as w w' (EndWake cpu now) r (Placed k.0.task.id k.0.to k.0.by k.0.steps) k.3
+    (like w (with_processor w cpu k.1) w' _ (ap (λ (v : World). v.processors) (sym k.4))
+    (read_there w (record { cpu = cpu; now = now; run = None }) k.1 (ap (λ (q : Processor). q.running.last) written)
+    (ap (λ (q : Processor). id_of q.running.current) written ∙ id-charged s.discipline (processor w cpu).running.current _)))
+shown-performs s w (Drain cpu now) calls r w' h k =
+    let p = enter_all s.discipline (charge s.discipline (processor w cpu).running now) (get_or w.inboxes cpu []) in
+    let x = k.1 in
+    shown_as w w' (Drain cpu now) r (Drained _ (id_of k.0.running.current) x.0.by x.0.steps) x.3
+    (like w (with_processor w cpu k.0) w' _ (ap (λ (v : World). v.processors) (sym k.2))
+    (read_there w (record { cpu = cpu; now = now; run = Some (id_of k.0.running.current) }) k.0
+    (ap (λ (q : Processor). q.running.last) x.1.1 ∙ last-decided s.discipline p p.current (x.0.choice == 1)) refl))
+shown-performs s w (Tick cpu now) calls r w' h k =
+    let p = charge s.discipline (processor w cpu).running now in
+    let x = k.1 in
+    shown_as w w' (Tick cpu now) r (Ticked (id_of k.0.running.current) x.0.by x.0.steps) x.3
+    (like w (with_processor w cpu k.0) w' _ (ap (λ (v : World). v.processors) (sym k.2))
+    (read_there w (record { cpu = cpu; now = now; run = Some (id_of k.0.running.current) }) k.0
+    (ap (λ (q : Processor). q.running.last) x.1.1 ∙ last-decided s.discipline p p.current (x.0.choice == 1)) refl))
+shown-performs s w (Block cpu now) calls r w' h k =
+    let p = charge s.discipline (processor w cpu).running now in
+    let rest : Running = record p { current = None } in
+    let x = k.2 in
+    shown_as w w' (Block cpu now) r (Went x.0.id (id_of k.0.running.current)) x.1.2
+    (like w (with_processor w cpu k.0) w' _ (ap (λ (v : World). v.processors) (sym k.4))
+    (read_there w (record { cpu = cpu; now = now; run = Some (id_of k.0.running.current) }) k.0
+    (ap (λ (q : Processor). q.running.last) x.1.1 ∙ last-run_id rest (id_of (s.discipline.choice rest.queue))) refl))
+shown-performs s w (Pull cpu from now) calls r w' h k =
+    let d = s.discipline in
+    let f = there (count_in w) cpu _ (accepted w (Pull cpu from now) h) in
+    let g = there (count_in w) from _ f.1 in
+    let apart : cpu ≢ from = differs cpu from (passed (cpu == from) no.SameProcessor None g.1).0 in
+    let x = k.2 in
+    let task = task_numbered x.0.choice in
+    let c : Processor = after_time d now (processor w cpu) in
+    let other : Processor = remarked d (processor w from) in
+    let taken = taken_from other.running task in
+    let u = with_processor w cpu k.0 in
+    let there' : processor u from ≡ processor w from = get_or-set_other w.processors cpu from k.0 opening (λ e. apart (sym e)) in
+    shown_as w w' (Pull cpu from now) r (Moved task (id_of k.0.running.current) x.0.by x.0.steps) x.1.2
+    (then_kept w u w' (Some (record { cpu = cpu; now = now; run = Some (id_of k.0.running.current) }))
+    (read_there w (record { cpu = cpu; now = now; run = Some (id_of k.0.running.current) }) k.0
+    (ap (λ (q : Processor). q.running.last) x.1.3 ∙ last-started_if_idle d (with_pulled d c.running taken) c.running.current ∙ last-with_pulled d c.running taken) refl)
+    (like u (with_processor u from k.1) w' None (ap (λ (v : World). v.processors) (sym k.3))
+    (kept u from k.1
+    (ap (λ (q : Processor). q.running.last) x.1.4 ∙ last-without_task other.running task ∙ ap (λ (v : Processor). v.running.last) (sym there'))
+    (ap (λ (q : Processor). id_of q.running.current) x.1.4 ∙ ap id_of (current-without_task other.running task) ∙ ap (λ (v : Processor). id_of v.running.current) (sym there')))))
+
+within_as : (n : ℕ) (e : Event) (r x : Reply) → r ≡ x → IsWithin n (sight e x) → IsWithin n (sight e r)
+within_as n e r x h k = rw h k
+
+-- an event that is not refused names a processor that is there
+within-performs : (s : Regime) (w : World) (e : Event) (calls : List Asked) (r : Reply) (w' : World) → refusal w e ≡ None → Performs s w e calls r w' → IsWithin (count_in w) (sight e r)
+within-performs s w (EndWake cpu now) calls r w' h k =
+    within_as (count_in w) (EndWake cpu now) r (Placed k.0.task.id k.0.to k.0.by k.0.steps) k.3 (there (count_in w) cpu None (accepted w (EndWake cpu now) h)).0
+within-performs s w (Drain cpu now) calls r w' h k =
+    within_as (count_in w) (Drain cpu now) r (Drained _ _ k.1.0.by k.1.0.steps) k.1.3 (there (count_in w) cpu None (accepted w (Drain cpu now) h)).0
+within-performs s w (Tick cpu now) calls r w' h k =
+    within_as (count_in w) (Tick cpu now) r (Ticked _ k.1.0.by k.1.0.steps) k.1.3 (there (count_in w) cpu None (accepted w (Tick cpu now) h)).0
+within-performs s w (Block cpu now) calls r w' h k =
+    within_as (count_in w) (Block cpu now) r (Went k.2.0.id _) k.2.1.2 (there (count_in w) cpu None (accepted w (Block cpu now) h)).0
+within-performs s w (Pull cpu from now) calls r w' h k =
+    within_as (count_in w) (Pull cpu from now) r (Moved (task_numbered k.2.0.choice) _ k.2.0.by k.2.0.steps) k.2.1.2 (there (count_in w) cpu _ (accepted w (Pull cpu from now) h)).0
+within-performs s w (Admit id nice mask slice) calls r w' h k = within_as (count_in w) (Admit id nice mask slice) r Admitted k.1.1 tt
+within-performs s w (Retire id) calls r w' h k = within_as (count_in w) (Retire id) r Retired k.1.1 tt
+within-performs s w Draw calls r w' h k = within_as (count_in w) Draw r (Drawn _) k.0 tt
+within-performs s w (Install cpu hook g policy) calls r w' h k = within_as (count_in w) (Install cpu hook g policy) r Installed k.1.1 tt
+within-performs s w (BeginWake cpu id) calls r w' h k = within_as (count_in w) (BeginWake cpu id) r (Begun id _) k.2.3 tt
+
+-- each step shows what its answer says, refused or not
+shown-step : (s : Regime) (w : World) (e : Event) (calls : List Asked) (a : Result Reply Refusal) (w' : World) → WorldStep s w e calls a w' → Shown w w' (sight_of e a) × IsWithin (count_in w) (sight_of e a)
+shown-step s w e calls (Ok r) w' k = (shown-performs s w e calls r w' k.0 k.1, within-performs s w e calls r w' k.0 k.1)
+shown-step s w e calls (Err r) w' k = (like w w w' None (ap (λ (v : World). v.processors) (sym k.1)) (same w), tt)
+
+-- a world's clocks and who runs are those of a history
+pub record IsTold (count : ℕ) (w : World) (past : History) : Type 0 where
+  pub many : count_in w ≡ count
+  pub within : IsOf count past
+  pub last : (j : ℕ) → j < count → last_at w j ≡ clock j past
+  pub who : (j : ℕ) → j < count → who_at w j ≡ runner j past
+
+within_same : (n k : ℕ) (o : Option Sight) → n ≡ k → IsWithin k o → IsWithin n o
+within_same n k o e h = rw e h
+
+told-step : (count : ℕ) (s : Regime) (w : World) (past : History) (e : Event) (calls : List Asked) (a : Result Reply Refusal) (w' : World) → IsTold count w past → WorldStep s w e calls a w' →
+    IsTold count w' (record { event = e; answer = a } ∷ past)
+told-step count s w past e calls a w' t k =
+    let h = shown-step s w e calls a w' k in
+    record {
+      many = h.0.count ∙ t.many;
+      within = (within_same _ _ (sight_of e a) (sym t.many) h.1, t.within);
+      last = λ j inside. h.0.last j (rw t.many inside) ∙ ap (λ n. clock_after j n (sight_of e a)) (t.last j inside);
+      who = λ j inside. h.0.who j (rw t.many inside) ∙ ap (λ n. runner_after j n (sight_of e a)) (t.who j inside);
+    }
+
+told-run : (count : ℕ) (s : Regime) (w : World) (past : History) (es : List Event) (calls : List (List Asked)) (answers : List (Result Reply Refusal)) (w' : World) → IsTold count w past →
+    WorldRun s w es calls answers w' → IsTold count w' (grown past es answers)
+told-run count s w past [] [] [] w' t k = rw k t
+told-run count s w past (e ∷ es) (c ∷ calls) (a ∷ answers) w' t k =
+    told-run count s k.0 (record { event = e; answer = a } ∷ past) es calls answers w' (told-step count s w past e c a k.0 t k.1) k.2
+told-run count s w past es calls answers w' t k = absurd k
+
+opening-told : (count : ℕ) → IsTold count (opening_world count) []
+opening-told count = record {
+  many = length-replicate count opening;
+  within = tt;
+  last = λ j inside. ap (λ (p : Processor). p.running.last) (get_or-replicate count j opening opening inside);
+  who = λ j inside. ap (λ (p : Processor). id_of p.running.current) (get_or-replicate count j opening opening inside);
+}
+
+-- in each history of a world every processor's last reading, and its current task, are those of the history
+pub is_charged : IsCharged
+is_charged d count es calls answers w' run =
+    let t = told-run count (under_any_answers d) (opening_world count) [] es calls answers w' (opening-told count) run in
+    (t.within, λ cpu inside. (t.last cpu inside, t.who cpu inside))

@@ -1,0 +1,255 @@
+-- Deeds after deeds.
+use Rattle.std.proofs.Common.{◌≡◌, ℕ, List, [], ◌∷◌, ◌++◌, length, Option, Some, refl, sym, ◌∙◌, ap, subst, append_assoc, append-nil}
+use Rattle.std.specs.Option.{option_map_or}
+use Rattle.std.specs.Prelude.{slice_get, slice_set}
+use Rattle.bq_parts.specs.declared.event.Event.{Event}
+use Rattle.bq_parts.specs.declared.event.Event.TheVariants.{BeginWake, EndWake, Drain}
+use Rattle.bq_parts.specs.declared.reply.Reply.{Reply}
+use Rattle.bq_trace.specs.News.{News, Told}
+use Rattle.bq_trace.proofs.TakingLemmas.{TakesAll-append}
+use Rattle.bq_driver.specs.declared.driver.Driver.{Driver}
+use Rattle.bq_driver.specs.Drives.{Did, Does, Drives, Drove}
+use Rattle.bq_draws.specs.Streams.{stream_of_task}
+use Rattle.bq_actions.specs.declared.action.Action.{Action}
+use Rattle.bq_actions.specs.declared.workload.TaskKind.{TaskKind}
+use Rattle.bq_roster.specs.declared.course.Course.{Course}
+use Rattle.bq_roster.specs.declared.lane.Lane.{Lane}
+use Rattle.bq_roster.specs.declared.roster.Pace.{Pace}
+use Rattle.bq_roster.specs.Accounts.{Accounts, IsDone, accounts_of, charged, of_task}
+use Rattle.bq_roster.specs.Courses.{fresh, woken}
+use Rattle.bq_simulate.specs.declared.simulation.Simulation.{Simulation}
+use Rattle.bq_simulate.specs.Actions.{IsOfKind, acted, asked_by, next_action}
+use Rattle.bq_simulate.specs.Chronicles.{Acts, Book, Deed, Happens, IsDue, IsWoken, Joins, Lives, after_act, after_answer, after_event, drawn_with, events_of, joined, length_taken}
+use Rattle.bq_simulate.specs.Simulations.{Befell, DrawsFor, HasDrawn, Lived, Same, Silent, Stays, book_of, streams_after}
+use Rattle.bq_simulate.specs.Steps.{AreOfOpening, AreWake, Follow, IsAct}
+use Rattle.bq_simulate.proofs.StepLemmas.{AreOfOpening-join}
+use Rattle.bq_simulate.proofs.StreamLemmas.{gives_if_asked, opened-streams}
+
+-- some, and then others
+pub Lives-append : (kinds : List TaskKind) (seed cost : ℕ) (d m e : Driver) (a b c : Book) (xs ys : List Deed) (told more : Told) → Lives kinds seed cost d a xs told m b → Lives kinds seed cost m b ys more e c → Lives kinds seed cost d a (xs ++ ys) (told ++ more) e c
+Lives-append kinds seed cost d m e a b c [] ys told more h k =
+    let P : Told → Type 0 = λ t. Lives kinds seed cost d a ys (t ++ more) e c in
+    let Q : Driver → Type 0 = λ x. Lives kinds seed cost x a ys more e c in
+    let R : Book → Type 0 = λ x. Lives kinds seed cost m x ys more e c in
+    subst P (sym h.0) (subst Q h.1 (subst R h.2 k))
+Lives-append kinds seed cost d m e a b c (Happens event reply ∷ xs) ys told more (due, mid, first, rest, does, lives, whole) k =
+    (due, mid, first, rest ++ more, does, Lives-append kinds seed cost mid m e (after_answer cost event reply a) b c xs ys rest more lives k, ap (λ t. t ++ more) whole ∙ append_assoc first rest more)
+Lives-append kinds seed cost d m e a b c (Joins kind home ∷ xs) ys told more (of, lives) k = (of, Lives-append kinds seed cost d m e (joined kind home a) b c xs ys told more lives k)
+Lives-append kinds seed cost d m e a b c (Acts at task now action ∷ xs) ys told more (c', done, is, lives) k = (c', done, is, Lives-append kinds seed cost d m e (after_act kinds seed at task now c' a) b c xs ys told more lives k)
+
+-- the events among them were driven
+pub drives-of-lives : (kinds : List TaskKind) (seed cost : ℕ) (d e : Driver) (a b : Book) (xs : List Deed) (told : Told) → Lives kinds seed cost d a xs told e b → Drives d (events_of xs) told e
+drives-of-lives kinds seed cost d e a b [] told h = (h.0, h.1)
+drives-of-lives kinds seed cost d e a b (Happens event reply ∷ xs) told (due, mid, first, rest, does, lives, whole) = (reply, mid, first, rest, does, drives-of-lives kinds seed cost mid e (after_answer cost event reply a) b xs rest lives, whole)
+drives-of-lives kinds seed cost d e a b (Joins kind home ∷ xs) told (of, lives) = drives-of-lives kinds seed cost d e (joined kind home a) b xs told lives
+drives-of-lives kinds seed cost d e a b (Acts at task now action ∷ xs) told (c, done, is, lives) = drives-of-lives kinds seed cost d e (after_act kinds seed at task now c a) b xs told lives
+
+-- a simulation goes on, and then on
+pub Lived-join : {S : Type 0} (takes : S → ℕ → News → S → Type 0) (kinds : List TaskKind) (A B C : List Deed → Type 0) → ((xs ys : List Deed) → A xs → B ys → C (xs ++ ys)) → (x y z : S) (s t u : Simulation)
+    → Lived takes kinds A x s y t → Lived takes kinds B y t z u → Lived takes kinds C x s z u
+Lived-join takes kinds A B C join x y z s t u goes more drawn had =
+    let first = goes drawn had in
+    let second = more first.after first.streams in
+    let P : Pace → Type 0 = λ pace. Lives kinds t.seed pace.migration_cost t.driver (book_of t first.after) second.deeds second.tells.told u.driver (book_of u second.after) in
+    let Q : ℕ → Type 0 = λ seed. Lives kinds seed s.roster.pace.migration_cost t.driver (book_of t first.after) second.deeds second.tells.told u.driver (book_of u second.after) in
+    record {
+      deeds = first.deeds ++ second.deeds;
+      after = second.after;
+      pace = second.pace ∙ first.pace;
+      seed = second.seed ∙ first.seed;
+      streams = second.streams;
+      tells = record {
+        told = first.tells.told ++ second.tells.told;
+        taken = TakesAll-append takes x y z first.tells.told second.tells.told first.tells.taken second.tells.taken;
+        holds = Lives-append kinds s.seed s.roster.pace.migration_cost s.driver t.driver u.driver (book_of s drawn) (book_of t first.after) (book_of u second.after) first.deeds second.deeds first.tells.told second.tells.told first.tells.holds (subst Q first.seed (subst P first.pace second.tells.holds));
+      };
+      are = join first.deeds second.deeds first.are second.are;
+    }
+
+-- what holds of its deeds holds in other words
+pub Lived-weaker : {S : Type 0} (takes : S → ℕ → News → S → Type 0) (kinds : List TaskKind) (A B : List Deed → Type 0) → ((xs : List Deed) → A xs → B xs) → (x y : S) (s t : Simulation) → Lived takes kinds A x s y t → Lived takes kinds B x s y t
+Lived-weaker takes kinds A B weaker x y s t goes drawn had =
+    let h = goes drawn had in
+    record { deeds = h.deeds; after = h.after; pace = h.pace; seed = h.seed; streams = h.streams; tells = h.tells; are = weaker h.deeds h.are }
+
+-- what holds of its events holds in other words
+pub Befell-weaker : {S : Type 0} (takes : S → ℕ → News → S → Type 0) (A B : List Deed → Type 0) → ((xs : List Deed) → A xs → B xs) → (x y : S) (s t : Simulation) → Befell takes A x s y t → Befell takes B x s y t
+Befell-weaker takes A B weaker x y s t befell kinds = Lived-weaker takes kinds A B weaker x y s t (befell kinds)
+
+-- of deeds of which nothing is told a sink is told nothing
+pub Lived-silent : {S : Type 0} (takes : S → ℕ → News → S → Type 0) (kinds : List TaskKind) (A : List Deed → Type 0) (x : S) (s t : Simulation) → Silent kinds A s t → Lived takes kinds A x s x t
+Lived-silent takes kinds A x s t silent drawn had =
+    let h = silent drawn had in
+    record { deeds = h.deeds; after = h.after; pace = h.pace; seed = h.seed; streams = h.streams; tells = record { told = []; taken = refl; holds = h.lives }; are = h.are }
+
+-- streams that have not changed
+streams-stay : (s t : Simulation) (drawn : List ℕ) → Stays s t → HasDrawn s drawn → HasDrawn t drawn
+streams-stay s t drawn stays had = ap (λ v. v.items) stays.streams ∙ had ∙ ap (λ n. streams_after n 0 drawn) (sym stays.seed)
+
+-- nothing was done
+pub Lived-same : {S : Type 0} (takes : S → ℕ → News → S → Type 0) (A : List Deed → Type 0) → A [] → (x : S) (s t : Simulation) → Same s t → Befell takes A x s x t
+Lived-same takes A none x s t same kinds drawn had = record {
+  deeds = [];
+  after = drawn;
+  pace = same.stays.pace;
+  seed = same.stays.seed;
+  streams = streams-stay s t drawn same.stays had;
+  tells = record { told = []; taken = refl; holds = (refl, same.driver, ap (λ (a : Accounts). record { accounts = a; drawn = drawn }) same.accounts) };
+  are = none;
+}
+
+-- no deed
+abbrev AreNone : List Deed → Type 0
+AreNone deeds = deeds ≡ []
+
+-- nothing was done before
+pub Lived-after : {S : Type 0} (takes : S → ℕ → News → S → Type 0) (kinds : List TaskKind) (A : List Deed → Type 0) (x y : S) (s t u : Simulation) → Same s t → Lived takes kinds A x t y u → Lived takes kinds A x s y u
+Lived-after takes kinds A x y s t u same more =
+    Lived-join takes kinds AreNone A A (λ xs ys none are. subst (λ (l : List Deed). A (l ++ ys)) (sym none) are) x x y s t u (Lived-same takes AreNone refl x s t same kinds) more
+
+-- what befell after nothing was done befell from before it
+pub Befell-after : {S : Type 0} (takes : S → ℕ → News → S → Type 0) (A : List Deed → Type 0) (x y : S) (s t u : Simulation) → Same s t → Befell takes A x t y u → Befell takes A x s y u
+Befell-after takes A x y s t u same more kinds = Lived-after takes kinds A x y s t u same (more kinds)
+
+-- or after
+pub Lived-then : {S : Type 0} (takes : S → ℕ → News → S → Type 0) (kinds : List TaskKind) (A : List Deed → Type 0) (x y : S) (s t u : Simulation) → Lived takes kinds A x s y t → Same t u → Lived takes kinds A x s y u
+Lived-then takes kinds A x y s t u first same =
+    Lived-join takes kinds A AreNone A (λ xs ys are none. subst (λ (l : List Deed). A (xs ++ l)) (sym none) (subst A (sym (append-nil xs)) are)) x y y s t u first (Lived-same takes AreNone refl y t u same kinds)
+
+-- the opening goes on
+pub Opening-join : {S : Type 0} (takes : S → ℕ → News → S → Type 0) (kinds : List TaskKind) (x y z : S) (s t u : Simulation) → Lived takes kinds AreOfOpening x s y t → Lived takes kinds AreOfOpening y t z u → Lived takes kinds AreOfOpening x s z u
+Opening-join takes kinds = Lived-join takes kinds AreOfOpening AreOfOpening AreOfOpening AreOfOpening-join
+
+-- an action is followed by what follows that action
+pub Follow-same : {S : Type 0} (takes : S → ℕ → News → S → Type 0) (a b : Option Action) (processor now : ℕ) (x y : S) (s t : Simulation) → a ≡ b → Befell takes (Follow b processor now) x s y t → Befell takes (Follow a processor now) x s y t
+Follow-same takes a b processor now x y s t is befell = subst (λ (o : Option Action). Befell takes (Follow o processor now) x s y t) (sym is) befell
+
+-- where twice nothing was done, nothing was done
+pub Same-join : (s t u : Simulation) → Same s t → Same t u → Same s u
+Same-join s t u first more = record {
+  driver = more.driver ∙ first.driver;
+  accounts = more.accounts ∙ first.accounts;
+  stays = record { pace = more.stays.pace ∙ first.stays.pace; seed = more.stays.seed ∙ first.stays.seed; streams = more.stays.streams ∙ first.stays.streams };
+}
+
+-- in one simulation nothing was done
+pub Same-here : (s : Simulation) → Same s s
+Same-here s = record { driver = refl; accounts = refl; stays = record { pace = refl; seed = refl; streams = refl } }
+
+-- accounts of equal lists
+abbrev pub both : List Course → List Lane → Accounts
+both cs ls = record { courses = cs; lanes = ls }
+
+-- accounts of equal courses and equal lanes are equal
+pub same_accounts : (cs ds : List Course) (ls ms : List Lane) → cs ≡ ds → ls ≡ ms → both cs ls ≡ both ds ms
+same_accounts cs ds ls ms e f = ap (λ x. both x ls) e ∙ ap (both ds) f
+
+-- what a task becomes, where it is there
+of_task_at : (f : Course → Course) (task : ℕ) (a : Accounts) (c : Course) → slice_get a.courses task ≡ Some c → of_task f task a ≡ both (slice_set a.courses task (f c)) a.lanes
+of_task_at f task a c there = ap (λ (o : Option Course). both (option_map_or (λ x. slice_set a.courses task (f x)) o a.courses) a.lanes) there
+
+-- a phase has ended, and the task does its next action, for which a length is drawn where it takes one
+pub Silent-acts : (kinds : List TaskKind) (s m n t : Simulation) (processor task now length : ℕ) (action : Option Action) (c next : Course) → action ≡ next_action kinds c
+    → Stays s m → m.driver ≡ s.driver → accounts_of m.roster ≡ charged processor now (accounts_of s.roster) → IsDone (accounts_of m.roster) processor task c
+    → DrawsFor task (asked_by (next_action kinds c)) m length n → next ≡ acted kinds (next_action kinds c) length c
+    → Stays n t → t.driver ≡ n.driver → t.roster.courses.items ≡ slice_set n.roster.courses.items task next → t.roster.lanes.items ≡ n.roster.lanes.items → Silent kinds (IsAct processor task now action) s t
+Silent-acts kinds s m n t processor task now length action c next is ended driver counted done draws does set driver' courses lanes drawn had =
+    let asked = asked_by (next_action kinds c) in
+    let g = gives_if_asked task asked m length n draws drawn (streams-stay s m drawn ended had) in
+    let P : Accounts → Type 0 = λ a. IsDone a processor task c in
+    let same = ap accounts_of g.roster in
+    let there : slice_get n.roster.courses.items task ≡ Some c = ap (λ (a : Accounts). slice_get a.courses task) same ∙ done.there in
+    let value : length ≡ length_taken s.seed task drawn asked = g.value ∙ ap (λ k. length_taken k task drawn asked) ended.seed in
+    let becomes = does ∙ ap (λ l. acted kinds (next_action kinds c) l c) value in
+    let accounts = same_accounts _ _ _ _ courses lanes ∙ sym (of_task_at (λ _. next) task (accounts_of n.roster) c there) ∙ ap (of_task (λ _. next) task) (same ∙ counted)
+    ∙ ap (λ (k : Course). of_task (λ _. k) task (charged processor now (accounts_of s.roster))) becomes in
+    record {
+      deeds = Acts processor task now action ∷ [];
+      after = drawn_with task drawn asked;
+      pace = set.pace ∙ ap (λ r. r.pace) g.roster ∙ ended.pace;
+      seed = set.seed ∙ g.seed ∙ ended.seed;
+      streams = streams-stay n t (drawn_with task drawn asked) set g.streams;
+      lives = (c, subst P counted done, is, (refl, driver' ∙ g.driver ∙ driver, ap (λ (a : Accounts). record { accounts = a; drawn = drawn_with task drawn asked }) accounts));
+      are = refl;
+    }
+
+-- a task is there, with its stream
+pub Silent-joins : (kinds : List TaskKind) (s t : Simulation) (kind home : ℕ) → t.roster.pace ≡ s.roster.pace → t.seed ≡ s.seed → t.driver ≡ s.driver
+    → t.roster.courses.items ≡ s.roster.courses.items ++ fresh kind home ∷ [] → t.roster.lanes.items ≡ s.roster.lanes.items
+    → t.streams.items ≡ s.streams.items ++ stream_of_task s.seed (length s.streams.items) ∷ []
+    → IsOfKind kinds (length s.roster.courses.items) kind → Silent kinds AreOfOpening s t
+Silent-joins kinds s t kind home pace seed driver courses lanes streams of drawn had = record {
+  deeds = Joins kind home ∷ [];
+  after = drawn ++ 0 ∷ [];
+  pace = pace;
+  seed = seed;
+  streams = opened-streams s t drawn seed streams had;
+  lives = (of, (refl, driver, ap (λ (a : Accounts). record { accounts = a; drawn = drawn ++ 0 ∷ [] }) (same_accounts _ _ _ _ courses lanes)));
+  are = (tt, tt);
+}
+
+-- an event happens
+pub Lived-event : {S : Type 0} (takes : S → ℕ → News → S → Type 0) (A : List Deed → Type 0) (x y : S) (s t : Simulation) (event : Event) (reply : Reply) → A (Happens event reply ∷ []) → IsDue event (accounts_of s.roster) → Stays s t → Did takes x s.driver event reply y t.driver
+    → accounts_of t.roster ≡ after_event s.roster.pace.migration_cost event reply (accounts_of s.roster) → Befell takes A x s y t
+Lived-event takes A x y s t event reply are due stays did accounts kinds drawn had = record {
+  deeds = Happens event reply ∷ [];
+  after = drawn;
+  pace = stays.pace;
+  seed = stays.seed;
+  streams = streams-stay s t drawn stays had;
+  tells = record {
+    told = did.told;
+    taken = did.taken;
+    holds = (due, t.driver, did.told, [], did.holds, (refl, refl, ap (λ (a : Accounts). record { accounts = a; drawn = drawn }) accounts), sym (append-nil did.told));
+  };
+  are = are;
+}
+
+-- an event of which the accounts know nothing
+pub Lived-drove : {S : Type 0} (takes : S → ℕ → News → S → Type 0) (A : List Deed → Type 0) (x y : S) (s t : Simulation) (event : Event) → ((reply : Reply) → A (Happens event reply ∷ [])) → IsDue event (accounts_of s.roster) → Stays s t → ((reply : Reply) (a : Accounts) → after_event s.roster.pace.migration_cost event reply a ≡ a)
+    → Drove takes x s.driver (event ∷ []) y t.driver → accounts_of t.roster ≡ accounts_of s.roster → Befell takes A x s y t
+Lived-drove takes A x y s t event are due stays quiet drove accounts kinds drawn had =
+    let h = drove.holds in
+    record {
+      deeds = Happens event h.0 ∷ [];
+      after = drawn;
+      pace = stays.pace;
+      seed = stays.seed;
+      streams = streams-stay s t drawn stays had;
+      tells = record {
+        told = drove.told;
+        taken = drove.taken;
+        holds = (due, h.1, h.2, h.3, h.4, (h.5.0, h.5.1, ap (λ (a : Accounts). record { accounts = a; drawn = drawn }) (accounts ∙ sym (quiet h.0 (accounts_of s.roster)))), h.6);
+      };
+      are = are h.0;
+    }
+
+-- a task is woken, and the processor on which it was placed takes it in
+pub Lived-wakes : {S : Type 0} (takes : S → ℕ → News → S → Type 0) (x y z : S) (s t : Simulation) (m : Driver) (from task to now : ℕ) (reply : Reply) → IsWoken (accounts_of s.roster) from task → Stays s t
+    → Drove takes x s.driver (BeginWake from task ∷ EndWake from now ∷ []) y m → Did takes y m (Drain to now) reply z t.driver
+    → accounts_of t.roster ≡ after_event s.roster.pace.migration_cost (Drain to now) reply (of_task woken task (accounts_of s.roster)) → Befell takes (AreWake from task now) x s z t
+Lived-wakes takes x y z s t m from task to now reply due stays woke did accounts kinds drawn had =
+    let h = woke.holds in
+    let k = h.5 in
+    let kept = ap (λ (a : Accounts). record { accounts = a; drawn = drawn }) accounts in
+    record {
+      deeds = Happens (BeginWake from task) h.0 ∷ Happens (EndWake from now) k.0 ∷ Happens (Drain to now) reply ∷ [];
+      after = drawn;
+      pace = stays.pace;
+      seed = stays.seed;
+      streams = streams-stay s t drawn stays had;
+      tells = record {
+        told = woke.told ++ did.told;
+        taken = TakesAll-append takes x y z woke.told did.told woke.taken did.taken;
+        holds = (
+          due,
+          h.1,
+          h.2,
+          k.2 ++ did.told,
+          h.4,
+          (tt, k.1, k.2, did.told, k.4, (tt, t.driver, did.told, [], subst (λ (x : Driver). Does x (Drain to now) reply did.told t.driver) k.5.1 did.holds, (refl, refl, kept), sym (append-nil did.told)), refl),
+          ap (λ (x : Told). x ++ did.told) (h.6 ∙ ap (λ (x : Told). h.2 ++ x) (k.6 ∙ ap (λ (x : Told). k.2 ++ x) k.5.0 ∙ append-nil k.2)) ∙ append_assoc h.2 k.2 did.told,
+        );
+      };
+      are = (to, (h.0, Happens (EndWake from now) k.0 ∷ Happens (Drain to now) reply ∷ [], refl, (k.0, Happens (Drain to now) reply ∷ [], refl, (reply, [], refl, refl))));
+    }

@@ -1,0 +1,72 @@
+-- A simulation from its beginning to its end.
+use Rattle.std.proofs.Common.{◌≡◌, ℕ, List, [], ◌++◌, ap, refl, ◌∙◌, subst}
+use Rattle.bq_actions.specs.declared.workload.Workload.{Workload}
+use Rattle.bq_trace.specs.News.{News, Gets}
+use Rattle.bq_trace.proofs.TakingLemmas.{TakesAll-append}
+use Rattle.bq_sizes.specs.Sizes.{processors_in}
+use Rattle.bq_driver.specs.declared.driver.Driver.{Driver}
+use Rattle.bq_driver.specs.Drives.{Starts}
+use Rattle.bq_roster.specs.Accounts.{Accounts, accounts_of}
+use Rattle.bq_roster.specs.declared.roster.Pace.{Pace}
+use Rattle.bq_simulate.specs.declared.simulation.Simulation.{Simulation}
+use Rattle.bq_simulate.specs.Bounds.{most_steps}
+use Rattle.bq_simulate.specs.Chronicles.{Book, Deed, Lives}
+use Rattle.bq_simulate.specs.Simulations.{IsSimulation, Proceeds, Runs, book_of, opening_book}
+use Rattle.bq_simulate.specs.Steps.{AreMet, AreOfOpening}
+use Rattle.bq_simulate.proofs.DeedLemmas.{Lives-append, drives-of-lives}
+
+-- what opens it, and then what comes due
+pub Proceeds-join : (most end : ℕ) (xs ys : List Deed) → AreOfOpening xs → AreMet most end ys → Proceeds most end (xs ++ ys)
+Proceeds-join most end xs ys opens meets = record { opening = xs; met = ys; whole = refl; opens = opens; meets = meets }
+
+-- what is told of the opening machine, and then of some deeds
+pub simulation-of : {S : Type 0} (takes : S → ℕ → News → S → Type 0) (a b c : S) (w : Workload) (d : Driver) (s t : Simulation)
+    → Gets takes a b (λ told. Starts w.machine.rule w.machine.size told d) → s.driver ≡ d → accounts_of s.roster ≡ (opening_book w.machine).accounts
+    → s.roster.pace.migration_cost ≡ w.machine.migration_cost → s.seed ≡ w.machine.seed → s.streams.items ≡ []
+    → Runs takes w.tasks.items (most_steps w) w.machine.duration (processors_in w.machine.size) b s c t → Gets takes a c (IsSimulation w)
+simulation-of takes a b c w d s t first driver accounts cost seed streams runs =
+    let kinds = w.tasks.items in
+    let machine = w.machine in
+    let ended = runs.ended in
+    let met = runs.proceeds [] streams in
+    let ticks = runs.ticks met.after met.streams in
+    let stood = book_of ended met.after in
+    let T : ℕ → Type 0 = λ x. Lives kinds x s.roster.pace.migration_cost s.driver (book_of s []) met.deeds met.tells.told ended.driver stood in
+    let P : Driver → Type 0 = λ x. Lives kinds machine.seed machine.migration_cost x (opening_book machine) met.deeds met.tells.told ended.driver stood in
+    let Q : Book → Type 0 = λ x. Lives kinds machine.seed machine.migration_cost s.driver x met.deeds met.tells.told ended.driver stood in
+    let R : ℕ → Type 0 = λ x. Lives kinds machine.seed x s.driver (book_of s []) met.deeds met.tells.told ended.driver stood in
+    let U : ℕ → Type 0 = λ x. Lives kinds x ended.roster.pace.migration_cost ended.driver stood ticks.deeds ticks.tells.told t.driver (book_of t ticks.after) in
+    let V : ℕ → Type 0 = λ x. Lives kinds machine.seed x ended.driver stood ticks.deeds ticks.tells.told t.driver (book_of t ticks.after) in
+    let opens : book_of s [] ≡ opening_book machine = ap (λ (x : Accounts). record { accounts = x; drawn = [] }) accounts in
+    let until = subst P driver (subst Q opens (subst R cost (subst T seed met.tells.holds))) in
+    let last = subst V (ap (λ (p : Pace). p.migration_cost) met.pace ∙ cost) (subst U (met.seed ∙ seed) ticks.tells.holds) in
+    let deeds = met.deeds ++ ticks.deeds in
+    let told = met.tells.told ++ ticks.tells.told in
+    let lives = Lives-append kinds machine.seed machine.migration_cost d ended.driver t.driver (opening_book machine) stood (book_of t ticks.after) met.deeds ticks.deeds met.tells.told ticks.tells.told until last in
+    record {
+      told = first.told ++ told;
+      taken = TakesAll-append takes a b c first.told told first.taken (TakesAll-append takes b runs.sink c met.tells.told ticks.tells.told met.tells.taken ticks.tells.taken);
+      holds = record {
+        opening = d;
+        closing = t.driver;
+        deeds = deeds;
+        book = book_of t ticks.after;
+        first = first.told;
+        more = told;
+        starts = first.holds;
+        drives = drives-of-lives kinds machine.seed machine.migration_cost d t.driver (opening_book machine) (book_of t ticks.after) deeds told lives;
+        lives = lives;
+        whole = refl;
+        ends = record {
+          until = met.deeds;
+          last = ticks.deeds;
+          whole = refl;
+          proceeds = met.are;
+          told = met.tells.told;
+          driver = ended.driver;
+          book = stood;
+          lives = until;
+          ticks = ticks.are;
+        };
+      };
+    }
