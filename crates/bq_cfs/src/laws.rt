@@ -11,13 +11,13 @@ pub fn cfs_is_lawful()
 {}
 
 /// The choice of some tasks is one of them, and none of them comes before it by (v, id).
-#[tactic(auto, using(crate::proofs::LeastFacts::choice_is_least))]
+#[tactic(auto, using(crate::proofs::LeastLemmas::choice_is_least))]
 pub fn choice_is_least()
     ensures { ChoiceIsLeast }
 {}
 
 /// The mark never falls.
-#[tactic(auto, using(crate::proofs::CfsLaws::mark_never_falls))]
+#[tactic(auto, using(crate::proofs::CfsLawLemmas::mark_never_falls))]
 pub fn mark_never_falls()
     ensures { MarkNeverFalls }
 {}
@@ -25,7 +25,7 @@ pub fn mark_never_falls()
 /// Where no virtual time present is beyond V, the processor is within V and d, for any d: the current task's virtual time
 /// is at most the bound, which is the greater of V and 1,000,000 ns beyond the least virtual time present, and no virtual
 /// time present is beyond the bound by more than d ns take at weight 15.
-#[tactic(auto, using(crate::proofs::SpreadBegins::begins_within))]
+#[tactic(auto, using(crate::proofs::SpreadBeginLemmas::begins_within))]
 pub fn begins_within()
     ensures { BeginsWithin }
 {}

@@ -37,7 +37,7 @@ impl Model for Chain {
     ghost invariant = { λ q. IsStraightBehind q.head × (q.len ≡ length (chain_behind q.head)) × HasDistinctIds (chain_behind q.head) × HasSmallIds (chain_behind q.head) × IsRising (chain_behind q.head) };
 }
 
-#[tactic(auto, using(crate::proofs::QueueFacts::queue_facts, crate::proofs::RisingFacts::rising_facts))]
+#[tactic(auto, using(crate::proofs::QueueLemmas::queue_facts, crate::proofs::RisingLemmas::rising_facts))]
 impl Timeline for Chain {
     ghost tasks = { λ q. q };
 

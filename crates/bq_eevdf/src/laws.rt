@@ -11,13 +11,13 @@ pub fn eevdf_is_lawful()
 {}
 
 /// The member of least v is eligible, in every set of tasks.
-#[tactic(auto, using(crate::proofs::EevdfLaws::least_is_eligible))]
+#[tactic(auto, using(crate::proofs::EevdfLawLemmas::least_is_eligible))]
 pub fn least_is_eligible()
     ensures { LeastIsEligible }
 {}
 
 /// The choice of some tasks is one of them and eligible, and none of them that is eligible comes before it by (deadline, id).
-#[tactic(auto, using(crate::proofs::EarliestFacts::choice_is_earliest))]
+#[tactic(auto, using(crate::proofs::EarliestLemmas::choice_is_earliest))]
 pub fn choice_is_earliest()
     ensures { ChoiceIsEarliest }
 {}

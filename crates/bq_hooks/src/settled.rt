@@ -98,7 +98,7 @@ pub fn settle_pull<Q: RunQueue>(
 }
 
 /// Whether that is the id of a task of the queue that may go to the puller.
-#[tactic(auto, using(crate::proofs::Ids::absent_beyond))]
+#[tactic(auto, using(crate::proofs::IdLemmas::not_movable_beyond_ids))]
 fn may_go<Q: RunQueue>(id: u64, queue: &Q, puller: u8) -> bool
     requires { puller < 64 }
     ensures value { result ≡ is_movable_to puller id (Q.members queue.now) }

@@ -115,7 +115,7 @@ fn keep_wake(receipts: &mut Vec<Receipt<Record>>, woken: WakeReceipts) -> Result
 
 /// One receipt more.
 #[inline(always)]
-#[tactic(auto, using(bq_tie::proofs::Moves::total_snoc))]
+#[tactic(auto, using(bq_tie::proofs::MoveLemmas::total_snoc))]
 fn keep(receipts: &mut Vec<Receipt<Record>>, receipt: Receipt<Record>) -> Result<(), Refusal>
     ensures items { OnOk result (receipts.new.items ≡ receipts.old.items ++ receipt ∷ []) }
     ensures ticks { OnOk result (ticks_of receipts.new.items ≡ ticks_of receipts.old.items + one_tick receipt.entry) }

@@ -136,7 +136,7 @@ pub(crate) fn due(link: &Link) -> Option<Due>
 }
 
 /// What the tasks of a tree have together.
-#[tactic(auto, using(crate::proofs::BoundFacts::bounded_behind))]
+#[tactic(auto, using(crate::proofs::BoundLemmas::bounded_behind))]
 fn totals(link: &Link) -> Totals
     requires { IsTreeBehind knows_sums link.now }
     ensures sums { result ≡ sums_of (in_order_behind link.now) }
@@ -149,7 +149,7 @@ fn totals(link: &Link) -> Totals
 }
 
 /// When the first is due of a node's task and of two trees.
-#[tactic(auto, using(crate::proofs::TotalsFacts::totals_facts))]
+#[tactic(auto, using(crate::proofs::TotalsLemmas::totals_facts))]
 fn first_of(node: &Node, left: &Link, right: &Link) -> Due
     requires left { IsTreeBehind knows_sums left.now }
     requires right { IsTreeBehind knows_sums right.now }
@@ -159,7 +159,7 @@ fn first_of(node: &Node, left: &Link, right: &Link) -> Due
 }
 
 /// What a node's task and two trees have together.
-#[tactic(auto, using(crate::proofs::TotalsFacts::totals_facts))]
+#[tactic(auto, using(crate::proofs::TotalsLemmas::totals_facts))]
 fn totals_of(node: &Node, left: &Link, right: &Link) -> Totals
     requires left { IsTreeBehind knows_sums left.now }
     requires right { IsTreeBehind knows_sums right.now }

@@ -8,7 +8,7 @@ use bq_disc::RunQueue;
 
 /// The number that the policy at a hook answered when it was asked last, if it took so many steps then: a run of the policy that
 /// stands there gives that number in so many.
-#[tactic(auto, using(crate::proofs::AnsweredFacts::answered_by))]
+#[tactic(auto, using(crate::proofs::AnsweredLemmas::answered_by))]
 pub fn answer<Q: RunQueue>(cpu: &Cpu<Q>, hook: Hook, steps: u32) -> Option<u64>
     ensures { IfSome result (λ r0. IfSome (at_hook hook cpu.now.hooks).policy
         (λ policy. HasAnswered policy (record { r0 = r0; steps = steps }))) }
