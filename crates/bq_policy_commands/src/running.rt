@@ -104,26 +104,35 @@ fn run_verified<C: Clock>(
     match inputs_named(alloc, words, verified) {
         Ok(inputs) => {
             let line = time_line(alloc, clock, words, verified)?;
-            run_on(alloc, words, policy, verified, inputs, before, &line)
+            let series = Series { inputs, before };
+            run_on(alloc, words, policy, verified, series, &line)
         }
         Err(WordsFault::Words(why)) => Ok(Answered::Words(why)),
         Err(WordsFault::OutOfMemory) => Err(AllocError),
     }
 }
 
-/// The run after so many others on the same maps and counters; the line that says how long they take stands last.
+/// Runs one after another, on the same maps and counters.
+#[derive(Drop)]
+struct Series {
+    /// The inputs of the first.
+    inputs: Inputs,
+    /// How many go before the one that is told.
+    before: u32,
+}
+
+/// The last run of a series; the line that says how long runs take stands last.
 fn run_on(
     alloc: Global,
     words: &RunWords,
     policy: &Policy,
     verified: &Verified,
-    inputs: Inputs,
-    before: u32,
+    series: Series,
     line: &String,
 ) -> Result<Answered, AllocError>
-    ensures { IfOk result (RunsOn words.now.telling.is_traced before verified.now inputs) }
+    ensures { IfOk result (RunsOn words.now.telling.is_traced series.before verified.now series.inputs) }
 {
-    let mut inputs = inputs;
+    let Series { mut inputs, before } = series;
     let mut moments = Vec::new(alloc);
     let first = copied(alloc, &inputs.maps)?;
     let others = run_often(verified, &mut inputs, before);

@@ -20,7 +20,7 @@ returns c =
     subst (λ (ms : List Moment). TellsSteps c.args.words.now.telling.is_traced c.args.verified.now ms (string_bytes c.in_ok-executed.executed)) c.as_slice.ensures.value c.in_ok-executed.ensures in
     let told = subst (λ (context : List ℕ). TellsRun c.args.verified.now context c.in-Some-Some.ran.r0 c.in-Some-Some.ran.steps (string_bytes c.in_ok-executed.executed) (string_bytes c.in_ok-text.text))
     (ap (λ (context : Vec ℕ Global). context.items) c.in_ok-ran.ensures.context) c.in_ok-text.ensures in
-    inr (has_run c.args.words.now.telling.is_traced c.args.before c.args.verified.now c.args.inputs c.run_often-others.new.inputs c.trace_once.new.moments.items c.in-Some-Some.ran.steps c.in-Some-Some.ran.r0 c.in-Some-Some.ran.calls.items (kept_in c.trace_once.new.inputs) c.in_ok-text.text (string_bytes c.in_ok-executed.executed) runs c.run_often-others.ensures.context c.run_often-others.ensures.env run moments each executed told)
+    inr (has_run c.args.words.now.telling.is_traced c.args.series.before c.args.verified.now c.args.series.inputs c.run_often-others.new.inputs c.trace_once.new.moments.items c.in-Some-Some.ran.steps c.in-Some-Some.ran.r0 c.in-Some-Some.ran.calls.items (kept_in c.trace_once.new.inputs) c.in_ok-text.text (string_bytes c.in_ok-executed.executed) runs c.run_often-others.ensures.context c.run_often-others.ensures.env run moments each executed told)
 
 pub told-requires : goal.told-requires
 told-requires c =
