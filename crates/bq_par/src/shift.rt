@@ -23,6 +23,13 @@ pub struct Done<N: Naming + Counting> {
     ghost held: { seat.1 ≡ receipts.items },
 }
 
+/// What a thread does once its task runs: it lets a processor tick so often.
+#[derive(Clone, Copy)]
+struct Duty {
+    processor: u8,
+    ticks: u32,
+}
+
 /// Drives the processor of a seat's number: its task, whose id is that number too, is admitted, woken and drained there, and
 /// then the processor ticks so often. The only error is want of memory.
 pub fn drive<Q: RunQueue + Drop, K: Clock + Drop, N: Naming + Counting, R: Wait, const P: usize>(
@@ -42,19 +49,13 @@ pub fn drive<Q: RunQueue + Drop, K: Clock + Drop, N: Naming + Counting, R: Wait,
         return Err(Refusal::OutOfMemory);
     };
     start(rt, alloc, machine, &mut seat, &mut receipts, processor)?;
-    tick_all(
-        rt,
-        alloc,
-        machine,
-        &mut seat,
-        &mut receipts,
-        processor,
-        ticks,
-    )?;
+    let duty = Duty { processor, ticks };
+    tick_all(rt, alloc, machine, &mut seat, &mut receipts, &duty)?;
     Ok(Done { seat, receipts })
 }
 
-/// Lets a processor tick so often. It stands apart, so that the compiler keeps what the loop needs in registers.
+/// Lets a processor tick so often. It stands apart, so that the compiler keeps what the loop needs in registers; what it is to
+/// do is read before the loop.
 #[inline(never)]
 fn tick_all<Q: RunQueue + Drop, K: Clock + Drop, N: Naming + Counting, R: Wait, const P: usize>(
     rt: &R,
@@ -62,13 +63,13 @@ fn tick_all<Q: RunQueue + Drop, K: Clock + Drop, N: Naming + Counting, R: Wait, 
     machine: &Machine<Q, K, N, P>,
     seat: &mut Seat<N>,
     receipts: &mut Vec<Receipt<Record>>,
-    processor: u8,
-    ticks: u32,
+    duty: &Duty,
 ) -> Result<(), Refusal>
     requires { seat.old.1 ≡ receipts.old.items }
     ensures held { OnOk result (seat.new.1 ≡ receipts.new.items) }
-    ensures ticks { OnOk result (ticks_of receipts.new.items ≡ ticks_of receipts.old.items + ticks) }
+    ensures ticks { OnOk result (ticks_of receipts.new.items ≡ ticks_of receipts.old.items + duty.now.ticks) }
 {
+    let Duty { processor, ticks } = *duty;
     'ticks: for _ in 0..ticks {
         let ticked = machine.tick(rt, alloc, seat, processor)?;
         keep(receipts, ticked)?;

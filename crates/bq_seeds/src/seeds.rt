@@ -19,6 +19,16 @@ pub type Rows = Vec<Row>;
 /// What comes of some runs.
 type Results = Vec<Result<Run, SimulateFault>>;
 
+/// What runs share that differ by their seeds alone.
+#[derive(Clone, Copy)]
+struct Experiment<'a> {
+    workload: &'a Workload,
+    /// The policies at all processors.
+    policies: &'a [Policy],
+    /// What is told of each run.
+    figures: &'a [Figure],
+}
+
 /// At most so many runs are done at once.
 const MOST_AT_ONCE: usize = 64;
 
@@ -35,7 +45,12 @@ pub fn summary<T: Threads + Sync>(
     ensures rows { IfOk result (λ rows. IsSummary workload.now count figures.now rows.items) }
     ensures last { result ≡ Err Last → 2 ^ 64 < workload.now.machine.seed + count }
 {
-    let runs = runs(threads, alloc, workload, policies, count, figures)?;
+    let experiment = Experiment {
+        workload,
+        policies,
+        figures,
+    };
+    let runs = runs(threads, alloc, &experiment, count)?;
     let rows = rows(alloc, figures, runs.as_slice())?;
     Ok(rows)
 }
@@ -44,16 +59,14 @@ pub fn summary<T: Threads + Sync>(
 fn runs<T: Threads + Sync>(
     threads: &T,
     alloc: Global,
-    workload: &Workload,
-    policies: &[Policy],
+    experiment: &Experiment<'_>,
     count: u16,
-    figures: &[Figure],
 ) -> Result<Vec<Run>, SeedsFault>
-    ensures runs { IfOk result (λ runs. AreRuns workload.now figures.now workload.now.machine.seed runs.items) }
+    ensures runs { IfOk result (λ runs. AreRuns experiment.now.workload.now experiment.now.figures.now experiment.now.workload.now.machine.seed runs.items) }
     ensures count { IfOk result (λ runs. vec_len runs ≡ count) }
-    ensures last { result ≡ Err Last → 2 ^ 64 < workload.now.machine.seed + count }
+    ensures last { result ≡ Err Last → 2 ^ 64 < experiment.now.workload.now.machine.seed + count }
 {
-    let first = workload.machine.seed;
+    let first = experiment.workload.machine.seed;
     let others = u64::from(count).saturating_sub(1);
     if first.checked_add(others).is_none() {
         return Err(SeedsFault::Last);
@@ -64,7 +77,7 @@ fn runs<T: Threads + Sync>(
     'numbers: while runs.len() < count {
         let seed = first + runs.len() as u64;
         let wave = most.min(count - runs.len());
-        let results = at_once(threads, alloc, workload, policies, seed, wave, figures)?;
+        let results = at_once(threads, alloc, experiment, seed, wave)?;
         add_all(&mut runs, results)?;
     }
     Ok(runs)
@@ -84,38 +97,34 @@ fn hands<T: Threads + Sync>(threads: &T) -> usize
 fn at_once<T: Threads + Sync>(
     threads: &T,
     alloc: Global,
-    workload: &Workload,
-    policies: &[Policy],
+    experiment: &Experiment<'_>,
     first: u64,
     count: usize,
-    figures: &[Figure],
 ) -> Result<Results, AllocError>
-    ensures results { IfOk result (λ results. AreResults workload.now figures.now first results.items) }
+    ensures results { IfOk result (λ results. AreResults experiment.now.workload.now experiment.now.figures.now first results.items) }
     ensures count { IfOk result (λ results. vec_len results ≡ count) }
 {
     map_indices(
         threads,
         alloc,
         count,
-        &|number| { nth_run(alloc, workload, policies, first, number, figures) },
+        &|number| { nth_run(alloc, experiment, first, number) },
     )
 }
 
 /// The run whose seed is so many above the first.
 fn nth_run(
     alloc: Global,
-    workload: &Workload,
-    policies: &[Policy],
+    experiment: &Experiment<'_>,
     first: u64,
     number: usize,
-    figures: &[Figure],
 ) -> Result<Run, SimulateFault>
-    ensures { IfOk result (IsRun (with_seed workload.now (first + number)) figures.now) }
+    ensures { IfOk result (IsRun (with_seed experiment.now.workload.now (first + number)) experiment.now.figures.now) }
 {
     let seed = first
         .checked_add(number as u64)
         .ok_or(SimulateFault::Astray)?;
-    run(alloc, workload, policies, seed, figures)
+    run(alloc, experiment, seed)
 }
 
 /// Adds what came of some runs; where one did not come to its end, the first such fault.
@@ -130,15 +139,14 @@ fn add_all(runs: &mut Vec<Run>, results: Results) -> Result<(), SeedsFault>
 }
 
 /// One run, with this seed in place of the workload's own.
-fn run(
-    alloc: Global,
-    workload: &Workload,
-    policies: &[Policy],
-    seed: u64,
-    figures: &[Figure],
-) -> Result<Run, SimulateFault>
-    ensures { IfOk result (IsRun (with_seed workload.now seed) figures.now) }
+fn run(alloc: Global, experiment: &Experiment<'_>, seed: u64) -> Result<Run, SimulateFault>
+    ensures { IfOk result (IsRun (with_seed experiment.now.workload.now seed) experiment.now.figures.now) }
 {
+    let Experiment {
+        workload,
+        policies,
+        figures,
+    } = *experiment;
     let gathered = gather(alloc, workload, seed, policies)?;
     match &gathered.schedule {
         Some(schedule) => Ok(run_of(alloc, schedule, gathered.delays.as_slice(), figures)?),

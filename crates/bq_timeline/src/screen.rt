@@ -10,7 +10,7 @@ use bq_load::LoadFault;
 use bq_schedule::{Change, Schedule};
 use bq_sizes::Rule;
 use bq_trace::AnyCore;
-use bq_why::{Because, InWords};
+use bq_why::{Because, InWords, Occurrence};
 use std::alloc::{AllocError, Global};
 
 /// What is written of a trace, as far as it has come.
@@ -111,15 +111,13 @@ impl Screen {
             }
         }
         if let Shown::Why(form) = &self.shown {
-            return form.answered(
+            let done = Occurrence {
                 number,
                 event,
                 reply,
-                machine,
                 change,
-                &self.names,
-                &mut self.text,
-            );
+            };
+            return form.answered(&done, machine, &self.names, &mut self.text);
         }
         if let Some(near) = &mut self.near {
             near.answered(event, reply, machine, change)?;

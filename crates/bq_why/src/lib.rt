@@ -20,4 +20,4 @@ pub use happenings::{Because, InWords};
 pub use presence::{MOST, present};
 pub use reasons::{Reason, why};
 pub use table::{Row, rows};
-pub use why_text::{Why, place_of};
+pub use why_text::{Occurrence, Why, place_of};

@@ -75,6 +75,17 @@ impl Asked {
     }
 }
 
+/// An event that was done.
+#[derive(Clone, Copy)]
+pub struct Occurrence<'a> {
+    /// The number of its line.
+    pub number: u64,
+    pub event: &'a Event,
+    pub reply: &'a Reply,
+    /// What it changed of the schedule.
+    pub change: &'a Change,
+}
+
 /// The form `why`, of what is in its window.
 #[derive(Drop)]
 pub struct Why {
@@ -130,14 +141,17 @@ impl Why {
     /// Adds the choices of an event that was done.
     pub fn answered(
         &self,
-        number: u64,
-        event: &Event,
-        reply: &Reply,
+        done: &Occurrence<'_>,
         machine: &AnyCore,
-        change: &Change,
         names: &Names,
         text: &mut String,
     ) -> Result<(), AllocError> {
+        let Occurrence {
+            number,
+            event,
+            reply,
+            change,
+        } = *done;
         let Some((processor, now)) = place_of(event) else {
             return Ok(());
         };

@@ -4,7 +4,7 @@ use Rattle.bq_seeds.proofs.seeds.runs.Goals as goal
 
 pub numbers-preserved : goal.numbers-preserved
 numbers-preserved g c =
-    let w = c.args.workload.now in
+    let w = c.args.experiment.now.workload.now in
     let before = c.numbers.runs.items in
     let after = c.add_all.new.runs.items in
     let results = c.in_ok-results.results.items in
@@ -13,6 +13,6 @@ numbers-preserved g c =
     let count : length after ≡ length before + length results = Comes-count before after results comes in
     let wave : length before + length results ≤ c.from-count.result = search (rules, arith) in
     record {
-      runs_are = AreRuns-come w c.args.figures.now w.machine.seed _ before after results next c.numbers.invariant.runs_are c.in_ok-results.ensures.results comes;
+      runs_are = AreRuns-come w c.args.experiment.now.figures.now w.machine.seed _ before after results next c.numbers.invariant.runs_are c.in_ok-results.ensures.results comes;
       low = omega (arith, count, wave);
     }
