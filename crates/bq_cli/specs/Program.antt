@@ -1,7 +1,9 @@
 -- The program's commands and their options, as clap's words on command lines have them.
-use Rattle.std.specs.Prelude.{true, Some, codes}
+use Rattle.std.specs.Prelude.{true, Some, List, [], ◌∷◌, codes}
 use Rattle.clap.specs.Simple.{on_top}
 use Rattle.clap.specs.Words.{App, Rule, Text, new_app, new_rule, with_rule, with_subcommand}
+use Rattle.bq_cli.specs.declared.program.OptionText.{OptionText}
+use Rattle.bq_cli.specs.declared.program.CommandText.{CommandText}
 
 -- an option that takes one value
 abbrev pub option_rule : Text → Rule
@@ -49,3 +51,21 @@ with_all = with_subcommand (with_subcommand (with_subcommand (with_subcommand wi
 -- the words come without the program's name, and one of them has to be a command
 abbrev pub program : App
 program = on_top (λ s. record s { no_binary_name = true; subcommand_required = true; arg_required_else_help = true }) with_all
+
+-- an option of the table
+abbrev pub rule_told : OptionText → Rule
+rule_told o = record (option_rule o.name.now) { required = o.is_needed }
+
+-- a command with these options more, one after another
+abbrev pub with_options : App → List OptionText → App
+with_options a [] = a
+with_options a (o ∷ more) = with_options (with_rule a (rule_told o)) more
+
+-- a command of the table, with its options
+abbrev pub app_told : CommandText → App
+app_told c = with_options (new_app c.name.now) c.options.now
+
+-- a program with these commands more, one after another
+abbrev pub with_commands : App → List CommandText → App
+with_commands a [] = a
+with_commands a (c ∷ more) = with_commands (with_subcommand a (app_told c).top) more

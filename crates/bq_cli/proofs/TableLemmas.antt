@@ -1,0 +1,17 @@
+-- One row more of the table of commands, or of a command's table of options.
+use Rattle.std.proofs.Common.{◌≡◌, ℕ, ◌+◌, ◌<◌, List, length, drop, get_or, add-one, refl}
+use Rattle.std.proofs.Math.Seq.{drop-cons}
+use Rattle.clap.specs.Words.{App, with_rule, with_subcommand}
+use Rattle.bq_cli.specs.declared.program.OptionText.{OptionText}
+use Rattle.bq_cli.specs.declared.program.CommandText.{CommandText}
+use Rattle.bq_cli.specs.Program.{app_told, rule_told, with_commands, with_options}
+
+-- what the options from a place on make of a command, those behind it make of the command with the option there
+pub with_options-next : (a b : App) (xs : List OptionText) (i : ℕ) (d : OptionText) → i < length xs → b ≡ with_rule a (rule_told (get_or xs i d))
+    → with_options b (drop (i + 1) xs) ≡ with_options a (drop i xs)
+with_options-next a b xs i d h e = rw (e, add-one, drop-cons xs i d) refl
+
+-- what the commands from a place on make of a program, those behind it make of the program with the command there
+pub with_commands-next : (a b : App) (xs : List CommandText) (i : ℕ) (d : CommandText) → i < length xs → b ≡ with_subcommand a (app_told (get_or xs i d)).top
+    → with_commands b (drop (i + 1) xs) ≡ with_commands a (drop i xs)
+with_commands-next a b xs i d h e = rw (e, add-one, drop-cons xs i d) refl
