@@ -11,7 +11,7 @@ use crate::told::{answer_twice, both_records, no_calls, quiet_twice};
 use bq_cells::{NumberedCpu, Record, UnderLock};
 use bq_counters::Naming as Counting;
 use bq_disc::RunQueue;
-use bq_history::{Receipt, Room};
+use bq_history::{Draft, Receipt, Room};
 use bq_parts::{Event, Hook, Installed, Policy, Reply};
 use bq_tie::Naming;
 use std::alloc::{AllocError, Global};
@@ -91,8 +91,17 @@ impl<Q: RunQueue + Drop, N: Naming + Counting> Recorder<Q, N> {
         let generation = kept.drawn.saturating_add(1);
         kept.drawn = generation;
         let reply = Ok(Reply::Drawn { generation });
-        let (logged, entry) = quiet_twice(Event::Draw, &reply);
-        let receipt = working.commit(&self.history, journal, room, logged, entry, Some(kept));
+        let (logged, told) = quiet_twice(Event::Draw, &reply);
+        let receipt = working.commit(
+            &self.history,
+            journal,
+            Draft {
+                room,
+                logged,
+                told,
+                kept: Some(kept),
+            },
+        );
         (receipt, generation)
     }
 
@@ -127,15 +136,17 @@ impl<Q: RunQueue + Drop, N: Naming + Counting> Recorder<Q, N> {
             install_event(processor, hook, generation, for_record),
             install_event(processor, hook, generation, for_receipt),
         );
-        let (logged, entry) = both_records(events, answer_twice(&reply), no_calls());
+        let (logged, told) = both_records(events, answer_twice(&reply), no_calls());
         working.commit_one(
             &self.history,
             journal,
             &mut place.cell,
-            &mut room,
-            logged,
-            entry,
-            None,
+            Draft {
+                room: &mut room,
+                logged,
+                told,
+                kept: None,
+            },
         )
     }
 }

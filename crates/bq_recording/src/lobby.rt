@@ -10,7 +10,7 @@ use crate::told::quiet_twice;
 use bq_cells::{OneLobby, Record, UnderLock};
 use bq_counters::Naming as Counting;
 use bq_disc::RunQueue;
-use bq_history::{Receipt, Room};
+use bq_history::{Draft, Receipt, Room};
 use bq_parts::{Event, Unlinked};
 use bq_tie::Naming;
 use std::sync::Wait;
@@ -44,17 +44,19 @@ impl<Q: RunQueue + Drop, N: Naming + Counting> Recorder<Q, N> {
             mask,
             slice,
         };
-        let (logged, entry) = quiet_twice(event, &reply);
+        let (logged, told) = quiet_twice(event, &reply);
         let mut guard = self.lock_journal(rt);
         let journal = &mut *guard;
         working.commit_one(
             &self.history,
             journal,
             &mut place.cell,
-            room,
-            logged,
-            entry,
-            None,
+            Draft {
+                room,
+                logged,
+                told,
+                kept: None,
+            },
         )
     }
 
@@ -75,17 +77,19 @@ impl<Q: RunQueue + Drop, N: Naming + Counting> Recorder<Q, N> {
         ensures event { result.entry.event ≡ Event.Retire task }
     {
         let reply = place.cell.content.state.retire(task);
-        let (logged, entry) = quiet_twice(Event::Retire { task }, &reply);
+        let (logged, told) = quiet_twice(Event::Retire { task }, &reply);
         let mut guard = self.lock_journal(rt);
         let journal = &mut *guard;
         working.commit_one(
             &self.history,
             journal,
             &mut place.cell,
-            room,
-            logged,
-            entry,
-            None,
+            Draft {
+                room,
+                logged,
+                told,
+                kept: None,
+            },
         )
     }
 }

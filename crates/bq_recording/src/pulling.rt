@@ -8,7 +8,7 @@ use crate::told::told_twice;
 use bq_cells::{CallRooms, NumberedCpu, Record, UnderLock, hold_calls};
 use bq_counters::Naming as Counting;
 use bq_disc::RunQueue;
-use bq_history::{Receipt, Room, look_at_both};
+use bq_history::{Draft, Receipt, Room, look_at_both};
 use bq_parts::Event;
 use bq_tie::Naming;
 use std::sync::Wait;
@@ -58,16 +58,18 @@ impl<Q: RunQueue + Drop, N: Naming + Counting> Recorder<Q, N> {
             from,
             now,
         };
-        let (logged, entry) = told_twice(event, &reply, calls);
+        let (logged, told) = told_twice(event, &reply, calls);
         working.commit_two(
             &self.history,
             journal,
             &mut place.cell,
             &mut source.cell,
-            room,
-            logged,
-            entry,
-            kept,
+            Draft {
+                room,
+                logged,
+                told,
+                kept,
+            },
         )
     }
 }

@@ -9,7 +9,7 @@ use bq_alike::Answer;
 use bq_cells::{CallRooms, NumberedCpu, NumberedInbox, OneLobby, Record, UnderLock, hold_calls};
 use bq_counters::Naming as Counting;
 use bq_disc::RunQueue;
-use bq_history::{Receipt, Room, look_at_both};
+use bq_history::{Draft, Receipt, Room, look_at_both};
 use bq_parts::{Event, Reply};
 use bq_tie::Naming;
 use std::sync::Wait;
@@ -51,17 +51,19 @@ impl<Q: RunQueue + Drop, N: Naming + Counting> Recorder<Q, N> {
             Answer::ticked(run, by, steps),
         );
         let calls = hold_calls(rooms, content.scratch.calls());
-        let (logged, entry) = both_records(events, answers, calls);
+        let (logged, told) = both_records(events, answers, calls);
         let mut guard = self.lock_journal(rt);
         let journal = &mut *guard;
         working.commit_one(
             &self.history,
             journal,
             &mut place.cell,
-            room,
-            logged,
-            entry,
-            None,
+            Draft {
+                room,
+                logged,
+                told,
+                kept: None,
+            },
         )
     }
 
@@ -99,7 +101,7 @@ impl<Q: RunQueue + Drop, N: Naming + Counting> Recorder<Q, N> {
         working.stand(desk);
         let reply = Ok(reply);
         let calls = hold_calls(rooms, content.scratch.calls());
-        let (logged, entry) = told_twice(Event::Drain { processor, now }, &reply, calls);
+        let (logged, told) = told_twice(Event::Drain { processor, now }, &reply, calls);
         let mut guard = self.lock_journal(rt);
         let journal = &mut *guard;
         working.commit_two(
@@ -107,10 +109,12 @@ impl<Q: RunQueue + Drop, N: Naming + Counting> Recorder<Q, N> {
             journal,
             &mut place.cell,
             &mut inbox.cell,
-            room,
-            logged,
-            entry,
-            None,
+            Draft {
+                room,
+                logged,
+                told,
+                kept: None,
+            },
         )
     }
 
@@ -137,7 +141,7 @@ impl<Q: RunQueue + Drop, N: Naming + Counting> Recorder<Q, N> {
             .content
             .state
             .block(&mut lobby.cell.content.state, processor, now);
-        let (logged, entry) = quiet_twice(Event::Block { processor, now }, &reply);
+        let (logged, told) = quiet_twice(Event::Block { processor, now }, &reply);
         let mut guard = self.lock_journal(rt);
         let journal = &mut *guard;
         let kept = journal.kept().after_block(processor, &reply);
@@ -146,10 +150,12 @@ impl<Q: RunQueue + Drop, N: Naming + Counting> Recorder<Q, N> {
             journal,
             &mut place.cell,
             &mut lobby.cell,
-            room,
-            logged,
-            entry,
-            kept,
+            Draft {
+                room,
+                logged,
+                told,
+                kept,
+            },
         )
     }
 }

@@ -17,7 +17,7 @@ use bq_alike::Answer;
 use bq_cells::{CallRooms, NumberedCpu, NumberedInbox, OneLobby, Record, UnderLock, hold_calls};
 use bq_counters::Naming as Counting;
 use bq_disc::RunQueue;
-use bq_history::{Receipt, Room};
+use bq_history::{Draft, Receipt, Room};
 use bq_parts::{Event, Loads, Placement, Reply};
 use bq_tie::Naming;
 use std::sync::{Mutex, MutexGuard, Wait};
@@ -66,16 +66,18 @@ impl<Q: RunQueue + Drop, N: Naming + Counting> Recorder<Q, N> {
             Answer::with_room(&reply, for_record),
             Answer::with_room(&reply, for_receipt),
         );
-        let (logged, entry) = both_records(events, answers, no_calls());
+        let (logged, told) = both_records(events, answers, no_calls());
         working.commit_two(
             &self.history,
             journal,
             cell,
             &mut lobby.cell,
-            room,
-            logged,
-            entry,
-            None,
+            Draft {
+                room,
+                logged,
+                told,
+                kept: None,
+            },
         )
     }
 
@@ -124,7 +126,7 @@ impl<Q: RunQueue + Drop, N: Naming + Counting> Recorder<Q, N> {
             steps,
         });
         let calls = hold_calls(rooms, cell.content.scratch.calls());
-        let (logged, entry) = told_twice(Event::EndWake { processor, now }, &reply, calls);
+        let (logged, told) = told_twice(Event::EndWake { processor, now }, &reply, calls);
         let mut guard = self.lock_journal(rt);
         let journal = &mut *guard;
         let mut kept = journal.kept().again();
@@ -134,10 +136,12 @@ impl<Q: RunQueue + Drop, N: Naming + Counting> Recorder<Q, N> {
             journal,
             cell,
             &mut inbox.cell,
-            room,
-            logged,
-            entry,
-            Some(kept),
+            Draft {
+                room,
+                logged,
+                told,
+                kept: Some(kept),
+            },
         )
     }
 
