@@ -11,6 +11,15 @@ use bq_lines::HexWord;
 use bq_load::{LoadFault, Numbered, load};
 use std::alloc::{AllocError, Global};
 
+/// An image that is to be installed, spelled in hex: the processor, the hook and the number under which it comes there.
+#[derive(Drop)]
+pub struct Installation<'a> {
+    pub processor: u8,
+    pub hook: Hook,
+    pub generation: u64,
+    pub image: HexWord<'a>,
+}
+
 impl AnyCore {
     ghost use Rattle.bq_trace.specs.News.{Gets};
     ghost use Rattle.bq_trace.specs.Telling.{LoadHappens};
@@ -21,14 +30,17 @@ impl AnyCore {
         &mut self,
         alloc: Global,
         number: u64,
-        processor: u8,
-        hook: Hook,
-        generation: u64,
-        image: HexWord<'_>,
+        installation: Installation<'_>,
         sink: &mut S,
     ) -> Result<(), AllocError>
-        ensures { OnOk result (Gets S.takes sink.old sink.new (λ told. LoadHappens self.old number processor hook generation image.entry told self.new)) }
+        ensures { OnOk result (Gets S.takes sink.old sink.new (λ told. LoadHappens self.old number installation.entry.processor installation.entry.hook installation.entry.generation installation.entry.image told self.new)) }
     {
+        let Installation {
+            processor,
+            hook,
+            generation,
+            image,
+        } = installation;
         let bytes = match hex::decode(alloc, image.as_bytes()) {
             Ok(bytes) => bytes,
             Err(hex::FromHexError::OutOfMemory) => return Err(AllocError),

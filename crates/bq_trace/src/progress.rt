@@ -10,6 +10,7 @@ ghost use Rattle.bq_trace.specs.Telling.{Happens, WakeHappens, Tells};
 
 use crate::any_core::AnyCore;
 use crate::bare::bare;
+use crate::loading::Installation;
 use crate::sink::Sink;
 use crate::telling;
 use bq_core::{Event, Refusal, Reply};
@@ -106,7 +107,13 @@ impl AnyCore {
                     image,
                 },
             ) => {
-                self.install_image(alloc, number, processor, hook, generation, image, sink)?;
+                let installation = Installation {
+                    processor,
+                    hook,
+                    generation,
+                    image,
+                };
+                self.install_image(alloc, number, installation, sink)?;
                 Ok(false)
             }
             Reading::Says(Command::Counter { counter }) => {

@@ -9,7 +9,7 @@ pub returns-in-Err : goal.returns-in-Err
 returns-in-Err g c =
     let error = c.in-Err.field-0 in
     let refused : decode_of c.as_bytes.result.now ≡ Err error = search rules in
-    let spelled : decode_of c.args.image ≡ Err error = ap decode_of (sym c.as_bytes.ensures) ∙ refused in
+    let spelled : decode_of c.args.installation.image ≡ Err error = ap decode_of (sym c.as_bytes.ensures) ∙ refused in
     OnOk-weaker c.refuse_word.result (gets_along g.S.Sink.takes _ _ _ _ (λ told h. inl (error, spelled, h, refl))) c.refuse_word.ensures
 
 pub returns : goal.returns
@@ -17,6 +17,6 @@ returns g c =
     let why = c.in-Err-load.fault in
     let bytes = c.in-Ok.bytes.items in
     let apart : why ≢ fault.OutOfMemory = search rules in
-    let spelled : decode_of c.args.image ≡ Ok bytes = ap decode_of (sym c.as_bytes.ensures) ∙ c.in-Ok.ensures.ok in
+    let spelled : decode_of c.args.installation.image ≡ Ok bytes = ap decode_of (sym c.as_bytes.ensures) ∙ c.in-Ok.ensures.ok in
     let unloaded = subst (λ xs. IsUnloaded xs why) c.as_slice.ensures.value c.in-Err-load.ensures.unloaded in
     OnOk-weaker c.refuse_image.result (gets_along g.S.Sink.takes _ _ _ _ (λ told h. inr (inl (bytes, why, spelled, unloaded, apart, h, refl)))) c.refuse_image.ensures
