@@ -8,9 +8,12 @@ pub mod loading;
 mod lobby;
 mod pulling;
 pub mod recorder;
+mod rooms;
 mod running;
 mod told;
 mod waking;
 
 pub use loading::{Spare, one_spare};
+pub use lobby::Admission;
 pub use recorder::{Caller, CpuCell, Recorder, Seat, lock, need_own};
+pub use rooms::{BeginRooms, EventRooms, LoadRooms};

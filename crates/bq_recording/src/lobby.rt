@@ -15,6 +15,33 @@ use bq_parts::{Event, Unlinked};
 use bq_tie::Naming;
 use std::sync::Wait;
 
+/// What a new task comes with.
+#[derive(Clone, Copy)]
+pub struct Admission {
+    /// Its id.
+    pub task: u16,
+    /// The nice value at which it runs.
+    pub nice: i8,
+    /// The processors on which it may run, a bit for each.
+    pub mask: u64,
+    /// Its slice, in nanoseconds.
+    pub slice: u64,
+}
+
+impl Admission {
+    /// The event by which the task comes.
+    pub fn event(self) -> Event
+        ensures { result ≡ Event.Admit self.task self.nice self.mask self.slice }
+    {
+        Event::Admit {
+            task: self.task,
+            nice: self.nice,
+            mask: self.mask,
+            slice: self.slice,
+        }
+    }
+}
+
 impl<Q: RunQueue + Drop, N: Naming + Counting> Recorder<Q, N> {
     /// Commits an admission, under the lock of the lobby.
     pub fn admit<R: Wait>(
@@ -22,29 +49,20 @@ impl<Q: RunQueue + Drop, N: Naming + Counting> Recorder<Q, N> {
         rt: &R,
         working: &mut Caller<N>,
         place: &mut UnderLock<OneLobby, N>,
-        task: u16,
-        nice: i8,
-        mask: u64,
-        slice: u64,
+        admission: Admission,
         new: Unlinked,
         room: &mut Room<Record>,
     ) -> Receipt<Record>
         requires ready { room.old ≡ true }
         requires tally { working.old.tally ≡ account_of told_calls working.old.caller.1 }
-        requires fits { argument_refusal self.now.history.about (Event.Admit task nice mask slice) ≡ None }
-        requires new { new ≡ admitted self.now.history.about task nice mask slice }
+        requires fits { argument_refusal self.now.history.about (Event.Admit admission.task admission.nice admission.mask admission.slice) ≡ None }
+        requires new { new ≡ admitted self.now.history.about admission.task admission.nice admission.mask admission.slice }
         ensures caller { working.new.caller ≡ (working.old.caller.0, working.old.caller.1 ++ result ∷ []) }
         ensures tally { working.new.tally ≡ account_of told_calls working.new.caller.1 }
-        ensures event { result.entry.event ≡ Event.Admit task nice mask slice }
+        ensures event { result.entry.event ≡ Event.Admit admission.task admission.nice admission.mask admission.slice }
     {
-        let reply = place.cell.content.state.admit(task, new);
-        let event = Event::Admit {
-            task,
-            nice,
-            mask,
-            slice,
-        };
-        let (logged, told) = quiet_twice(event, &reply);
+        let reply = place.cell.content.state.admit(admission.task, new);
+        let (logged, told) = quiet_twice(admission.event(), &reply);
         let mut guard = self.lock_journal(rt);
         let journal = &mut *guard;
         working.commit_one(

@@ -4,11 +4,12 @@ ghost use Rattle.bq_seats.specs.Calls.{account_of};
 ghost use Rattle.bq_cells.specs.Parts.{told_calls};
 
 use crate::recorder::{Caller, Recorder};
+use crate::rooms::EventRooms;
 use crate::told::told_twice;
-use bq_cells::{CallRooms, NumberedCpu, Record, UnderLock, hold_calls};
+use bq_cells::{NumberedCpu, Record, UnderLock, hold_calls};
 use bq_counters::Naming as Counting;
 use bq_disc::RunQueue;
-use bq_history::{Draft, Receipt, Room, look_at_both};
+use bq_history::{Draft, Receipt, look_at_both};
 use bq_parts::Event;
 use bq_tie::Naming;
 use std::sync::Wait;
@@ -22,11 +23,10 @@ impl<Q: RunQueue + Drop, N: Naming + Counting> Recorder<Q, N> {
         place: &mut UnderLock<NumberedCpu<Q>, N>,
         source: &mut UnderLock<NumberedCpu<Q>, N>,
         now: u64,
-        room: &mut Room<Record>,
-        rooms: &mut Option<CallRooms>,
+        rooms: EventRooms<'_>,
     ) -> Receipt<Record>
-        requires calls { is_some rooms.old ≡ true }
-        requires ready { room.old ≡ true }
+        requires calls { is_some rooms.calls.now ≡ true }
+        requires ready { rooms.record.now ≡ true }
         requires tally { working.old.tally ≡ account_of told_calls working.old.caller.1 }
         requires apart { place.old.number ≢ source.old.number }
         ensures caller { working.new.caller ≡ (working.old.caller.0, working.old.caller.1 ++ result ∷ []) }
@@ -52,7 +52,7 @@ impl<Q: RunQueue + Drop, N: Naming + Counting> Recorder<Q, N> {
         let journal = &mut *guard;
         let kept = journal.kept().after_pull(processor, from, &reply);
         let reply = Ok(reply);
-        let calls = hold_calls(rooms, content.scratch.calls());
+        let calls = hold_calls(rooms.calls, content.scratch.calls());
         let event = Event::Pull {
             processor,
             from,
@@ -65,7 +65,7 @@ impl<Q: RunQueue + Drop, N: Naming + Counting> Recorder<Q, N> {
             &mut place.cell,
             &mut source.cell,
             Draft {
-                room,
+                room: rooms.record,
                 logged,
                 told,
                 kept,

@@ -4,9 +4,10 @@ ghost use Rattle.bq_seats.specs.Calls.{account_of};
 ghost use Rattle.bq_cells.specs.Parts.{told_calls};
 
 use crate::recorder::{Caller, Recorder};
+use crate::rooms::EventRooms;
 use crate::told::{both_records, event_twice, quiet_twice, told_twice};
 use bq_alike::Answer;
-use bq_cells::{CallRooms, NumberedCpu, NumberedInbox, OneLobby, Record, UnderLock, hold_calls};
+use bq_cells::{NumberedCpu, NumberedInbox, OneLobby, Record, UnderLock, hold_calls};
 use bq_counters::Naming as Counting;
 use bq_disc::RunQueue;
 use bq_history::{Draft, Receipt, Room, look_at_both};
@@ -23,11 +24,10 @@ impl<Q: RunQueue + Drop, N: Naming + Counting> Recorder<Q, N> {
         working: &mut Caller<N>,
         place: &mut UnderLock<NumberedCpu<Q>, N>,
         now: u64,
-        room: &mut Room<Record>,
-        rooms: &mut Option<CallRooms>,
+        rooms: EventRooms<'_>,
     ) -> Receipt<Record>
-        requires calls { is_some rooms.old ≡ true }
-        requires ready { room.old ≡ true }
+        requires calls { is_some rooms.calls.now ≡ true }
+        requires ready { rooms.record.now ≡ true }
         requires tally { working.old.tally ≡ account_of told_calls working.old.caller.1 }
         ensures caller { working.new.caller ≡ (working.old.caller.0, working.old.caller.1 ++ result ∷ []) }
         ensures tally { working.new.tally ≡ account_of told_calls working.new.caller.1 }
@@ -50,7 +50,7 @@ impl<Q: RunQueue + Drop, N: Naming + Counting> Recorder<Q, N> {
             Answer::ticked(run, by, steps),
             Answer::ticked(run, by, steps),
         );
-        let calls = hold_calls(rooms, content.scratch.calls());
+        let calls = hold_calls(rooms.calls, content.scratch.calls());
         let (logged, told) = both_records(events, answers, calls);
         let mut guard = self.lock_journal(rt);
         let journal = &mut *guard;
@@ -59,7 +59,7 @@ impl<Q: RunQueue + Drop, N: Naming + Counting> Recorder<Q, N> {
             journal,
             &mut place.cell,
             Draft {
-                room,
+                room: rooms.record,
                 logged,
                 told,
                 kept: None,
@@ -75,11 +75,10 @@ impl<Q: RunQueue + Drop, N: Naming + Counting> Recorder<Q, N> {
         place: &mut UnderLock<NumberedCpu<Q>, N>,
         inbox: &mut UnderLock<NumberedInbox, N>,
         now: u64,
-        room: &mut Room<Record>,
-        rooms: &mut Option<CallRooms>,
+        rooms: EventRooms<'_>,
     ) -> Receipt<Record>
-        requires calls { is_some rooms.old ≡ true }
-        requires ready { room.old ≡ true }
+        requires calls { is_some rooms.calls.now ≡ true }
+        requires ready { rooms.record.now ≡ true }
         requires tally { working.old.tally ≡ account_of told_calls working.old.caller.1 }
         requires own { inbox.old.number ≡ place.old.number }
         ensures caller { working.new.caller ≡ (working.old.caller.0, working.old.caller.1 ++ result ∷ []) }
@@ -100,7 +99,7 @@ impl<Q: RunQueue + Drop, N: Naming + Counting> Recorder<Q, N> {
         );
         working.stand(desk);
         let reply = Ok(reply);
-        let calls = hold_calls(rooms, content.scratch.calls());
+        let calls = hold_calls(rooms.calls, content.scratch.calls());
         let (logged, told) = told_twice(Event::Drain { processor, now }, &reply, calls);
         let mut guard = self.lock_journal(rt);
         let journal = &mut *guard;
@@ -110,7 +109,7 @@ impl<Q: RunQueue + Drop, N: Naming + Counting> Recorder<Q, N> {
             &mut place.cell,
             &mut inbox.cell,
             Draft {
-                room,
+                room: rooms.record,
                 logged,
                 told,
                 kept: None,

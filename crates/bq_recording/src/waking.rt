@@ -12,13 +12,14 @@ ghost use Rattle.bq_cells.specs.Parts.{cpu_part, told_calls};
 ghost use Rattle.bq_recording.specs.Placing.{IsPlaced};
 
 use crate::recorder::{Caller, CpuCell, Recorder, need_own};
+use crate::rooms::{BeginRooms, EventRooms};
 use crate::told::{both_records, event_twice, no_calls, told_twice};
 use bq_alike::Answer;
-use bq_cells::{CallRooms, NumberedCpu, NumberedInbox, OneLobby, Record, UnderLock, hold_calls};
+use bq_cells::{NumberedCpu, NumberedInbox, OneLobby, Record, UnderLock, hold_calls};
 use bq_counters::Naming as Counting;
 use bq_disc::RunQueue;
-use bq_history::{Draft, Receipt, Room};
-use bq_parts::{Event, Loads, Placement, Reply};
+use bq_history::{Draft, Receipt};
+use bq_parts::{Event, Placement, Reply};
 use bq_tie::Naming;
 use std::sync::{Mutex, MutexGuard, Wait};
 
@@ -35,12 +36,10 @@ impl<Q: RunQueue + Drop, N: Naming + Counting> Recorder<Q, N> {
         cell: &mut CpuCell<Q, N>,
         lobby: &mut UnderLock<OneLobby, N>,
         task: u16,
-        room: &mut Room<Record>,
-        for_record: Box<Loads>,
-        for_receipt: Box<Loads>,
+        rooms: BeginRooms<'_>,
     ) -> Receipt<Record>
         requires seat { task < 1024 }
-        requires ready { room.old ≡ true }
+        requires ready { rooms.record.now ≡ true }
         requires tally { working.old.tally ≡ account_of told_calls working.old.caller.1 }
         requires says { cell.old.holder ≡ part_item (cpu_part cell.old.content.number cell.old.content.state) ∷ [] }
         requires rests { cell.old.content.state.hand ≡ None }
@@ -63,8 +62,8 @@ impl<Q: RunQueue + Drop, N: Naming + Counting> Recorder<Q, N> {
             .begin_wake(&mut lobby.cell.content.state, task, &journal.kept().loads);
         let events = event_twice(Event::BeginWake { processor, task });
         let answers = (
-            Answer::with_room(&reply, for_record),
-            Answer::with_room(&reply, for_receipt),
+            Answer::with_room(&reply, rooms.loads.for_record),
+            Answer::with_room(&reply, rooms.loads.for_receipt),
         );
         let (logged, told) = both_records(events, answers, no_calls());
         working.commit_two(
@@ -73,7 +72,7 @@ impl<Q: RunQueue + Drop, N: Naming + Counting> Recorder<Q, N> {
             cell,
             &mut lobby.cell,
             Draft {
-                room,
+                room: rooms.record,
                 logged,
                 told,
                 kept: None,
@@ -91,12 +90,11 @@ impl<Q: RunQueue + Drop, N: Naming + Counting> Recorder<Q, N> {
         inboxes: &[Mutex<UnderLock<NumberedInbox, N>>],
         task: u16,
         now: u64,
-        room: &mut Room<Record>,
-        rooms: &mut Option<CallRooms>,
+        rooms: EventRooms<'_>,
     ) -> Receipt<Record>
         requires inboxes { length inboxes.now ≡ self.now.history.about }
-        requires calls { is_some rooms.old ≡ true }
-        requires ready { room.old ≡ true }
+        requires calls { is_some rooms.calls.now ≡ true }
+        requires ready { rooms.record.now ≡ true }
         requires tally { working.old.tally ≡ account_of told_calls working.old.caller.1 }
         requires says { cell.old.holder ≡ part_item (cpu_part cell.old.content.number cell.old.content.state) ∷ [] }
         requires hand { option_map (λ c. c.task.id) cell.old.content.state.hand ≡ Some task }
@@ -125,7 +123,7 @@ impl<Q: RunQueue + Drop, N: Naming + Counting> Recorder<Q, N> {
             by,
             steps,
         });
-        let calls = hold_calls(rooms, cell.content.scratch.calls());
+        let calls = hold_calls(rooms.calls, cell.content.scratch.calls());
         let (logged, told) = told_twice(Event::EndWake { processor, now }, &reply, calls);
         let mut guard = self.lock_journal(rt);
         let journal = &mut *guard;
@@ -137,7 +135,7 @@ impl<Q: RunQueue + Drop, N: Naming + Counting> Recorder<Q, N> {
             cell,
             &mut inbox.cell,
             Draft {
-                room,
+                room: rooms.record,
                 logged,
                 told,
                 kept: Some(kept),

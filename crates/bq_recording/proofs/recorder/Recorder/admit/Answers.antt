@@ -1,5 +1,3 @@
-use Rattle.std.proofs.Common.{rules, FitsSigned, w8}
-use Rattle.std.proofs.lemmas.Int.{to_z-of_z}
 use Rattle.bq_cells.specs.Parts.{lobby_part}
 use Rattle.bq_cells.proofs.CallStepLemmas.{admit_moves}
 use Rattle.bq_recording.proofs.BriefLemmas.{admits_brief}
@@ -9,16 +7,15 @@ pub commit_one-requires-clause-moves : goal.commit_one-requires-clause-moves
 commit_one-requires-clause-moves g c =
     let own = c.place.inside.cell.content.state in
     let k = c.deref_mut-journal.result.now.1 in
-    let a = c.args in
-    let fits : FitsSigned w8 a.nice = search rules in (
+    let a = c.args.admission in (
       lobby_part own,
       c.place.invariant.0,
-      rw (c.quiet_twice-logged.ensures.entry, to_z-of_z w8 a.nice fits)
-          (admit_moves g.Q.R.Discipline.discipline a.self.now.history.about a.task a.nice a.mask a.slice own c.admit-reply.new.self k c.admit-reply.result c.requires.fits (rw c.requires.new at c.admit-reply.ensures.share)),
+      rw (c.quiet_twice-logged.ensures.entry, c.event.ensures)
+          (admit_moves g.Q.R.Discipline.discipline c.args.self.now.history.about a.task a.nice a.mask a.slice own c.admit-reply.new.self k c.admit-reply.result c.requires.fits (rw c.requires.new at c.admit-reply.ensures.share)),
     )
 
 pub commit_one-requires-clause-told : goal.commit_one-requires-clause-told
 commit_one-requires-clause-told g c = rw c.quiet_twice-logged.ensures.entry c.requires.tally
 
 pub quiet_twice-logged-requires-clause-answer : goal.quiet_twice-logged-requires-clause-answer
-quiet_twice-logged-requires-clause-answer g c = admits_brief c.args.task _ _ c.admit-reply.result c.admit-reply.new.self c.admit-reply.ensures.share
+quiet_twice-logged-requires-clause-answer g c = admits_brief c.args.admission.task _ _ c.admit-reply.result c.admit-reply.new.self c.admit-reply.ensures.share
