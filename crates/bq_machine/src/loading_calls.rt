@@ -41,6 +41,17 @@ pub struct LoadReceipts {
     pub installs: Vec<Receipt<Record>>,
 }
 
+/// What a load installs at each processor.
+#[derive(Clone, Copy)]
+struct Loading<'a> {
+    /// The hook at which it is installed.
+    hook: Hook,
+    /// The number that was drawn for it.
+    generation: u64,
+    /// What is installed: a policy, or none.
+    policy: &'a Option<Policy>,
+}
+
 /// The policy of an image that is for the hook; none of no image.
 fn policy_of(alloc: Global, hook: Hook, image: Option<&[u8]>) -> Result<Option<Policy>, LoadRefused>
     ensures policy { IfOk result (λ p. IsPolicyOf (option_map (λ b. b.now) image.entry) p) }
@@ -123,15 +134,12 @@ impl<Q: RunQueue + Drop, K: Clock + Drop, N: Naming + Counting, const P: usize> 
             return Err(LoadRefused::Refusal(Refusal::OutOfMemory));
         };
         let (draw, generation) = self.recorder.draw(rt, &mut seat.working, &mut seat.first);
-        self.install_all(
-            rt,
-            &mut seat.working,
+        let loading = Loading {
             hook,
             generation,
-            &policy,
-            spares,
-            &mut installs,
-        );
+            policy: &policy,
+        };
+        self.install_all(rt, &mut seat.working, loading, spares, &mut installs);
         Ok(LoadReceipts { draw, installs })
     }
 
@@ -140,27 +148,32 @@ impl<Q: RunQueue + Drop, K: Clock + Drop, N: Naming + Counting, const P: usize> 
         &self,
         rt: &R,
         working: &mut Caller<N>,
-        hook: Hook,
-        generation: u64,
-        policy: &Option<Policy>,
+        loading: Loading<'_>,
         mut spares: Vec<Spare>,
         installs: &mut Vec<Receipt<Record>>,
     )
         requires tally { working.old.tally ≡ account_of told_calls working.old.caller.1 }
-        requires hook { is_for hook policy.now ≡ true }
+        requires hook { is_for loading.hook loading.policy.now ≡ true }
         requires many { vec_len spares ≡ P }
-        requires same { All (λ s. s.installed.policy ≡ policy.now) spares.items }
+        requires same { All (λ s. s.installed.policy ≡ loading.policy.now) spares.items }
         requires none { installs.old.items ≡ [] }
         requires room { P ≤ vec_capacity installs.old }
         ensures caller { working.new.caller ≡ (working.old.caller.0, working.old.caller.1 ++ installs.new.items) }
         ensures tally { working.new.tally ≡ account_of told_calls working.new.caller.1 }
-        ensures installs { AreInstalls 0 P hook generation policy.now installs.new.items }
+        ensures installs { AreInstalls 0 P loading.entry.hook loading.entry.generation loading.entry.policy.now installs.new.items }
     {
         'installs: for number in 0..self.cpus.len() {
             let Some(spare) = spares.pop() else {
                 unreachable!()
             };
-            let receipt = self.install(rt, working, number as u8, hook, generation, spare);
+            let receipt = self.install(
+                rt,
+                working,
+                number as u8,
+                loading.hook,
+                loading.generation,
+                spare,
+            );
             keep(installs, receipt);
         }
     }

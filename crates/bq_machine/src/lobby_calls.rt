@@ -11,7 +11,7 @@ use bq_counters::Naming as Counting;
 use bq_disc::RunQueue;
 use bq_history::{Receipt, Room};
 use bq_parts::{Event, Refusal, Unlinked, argument_refusal, new_task};
-use bq_recording::Seat;
+use bq_recording::{Admission, Seat};
 use bq_tie::Naming;
 use std::alloc::Global;
 use std::sync::Wait;
@@ -21,27 +21,25 @@ fn new_task_with_room(
     alloc: Global,
     room: &mut Room<Record>,
     count: usize,
-    task: u16,
-    nice: i8,
-    mask: u64,
-    slice: u64,
+    admission: Admission,
 ) -> Result<Unlinked, Refusal>
     requires few { count ≤ 64 }
     ensures ready { IfOk result (λ _. room.new ≡ true) }
-    ensures new { IfOk result (λ t. t ≡ admitted count task nice mask slice) }
-    ensures passed { IfOk result (λ _. argument_refusal count (Event.Admit task nice mask slice) ≡ None) }
-    ensures refused { IfErr result (IsCallRefused count (Event.Admit task nice mask slice)) }
+    ensures new { IfOk result (λ t. t ≡ admitted count admission.task admission.nice admission.mask admission.slice) }
+    ensures passed { IfOk result (λ _. argument_refusal count (Event.Admit admission.task admission.nice admission.mask admission.slice) ≡ None) }
+    ensures refused { IfErr result (IsCallRefused count (Event.Admit admission.task admission.nice admission.mask admission.slice)) }
 {
-    let event = Event::Admit {
-        task,
-        nice,
-        mask,
-        slice,
-    };
+    let event = admission.event();
     if let Some(refusal) = argument_refusal(count, &event) {
         return Err(refusal);
     }
     record_room(alloc, room)?;
+    let Admission {
+        task,
+        nice,
+        mask,
+        slice,
+    } = admission;
     new_task(alloc, count, task, nice, mask, slice).map_err(|_| Refusal::OutOfMemory)
 }
 
@@ -73,7 +71,13 @@ impl<Q: RunQueue + Drop, K: Clock + Drop, N: Naming + Counting, const P: usize> 
         ensures err { OnErr result (seat.new ≡ seat.old) }
     {
         let count = self.cpus.len();
-        let new = new_task_with_room(alloc, &mut seat.first, count, task, nice, mask, slice)?;
+        let admission = Admission {
+            task,
+            nice,
+            mask,
+            slice,
+        };
+        let new = new_task_with_room(alloc, &mut seat.first, count, admission)?;
         let mut guard = self.lobby.lock(rt);
         let place = &mut *guard;
         Ok(
@@ -81,10 +85,7 @@ impl<Q: RunQueue + Drop, K: Clock + Drop, N: Naming + Counting, const P: usize> 
                 rt,
                 &mut seat.working,
                 place,
-                task,
-                nice,
-                mask,
-                slice,
+                admission,
                 new,
                 &mut seat.first,
             ),

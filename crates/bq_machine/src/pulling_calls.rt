@@ -12,7 +12,7 @@ use bq_counters::Naming as Counting;
 use bq_disc::RunQueue;
 use bq_history::Receipt;
 use bq_parts::{Event, Refusal};
-use bq_recording::Seat;
+use bq_recording::{EventRooms, Seat};
 use bq_tie::Naming;
 use std::alloc::Global;
 use std::sync::Wait;
@@ -47,16 +47,13 @@ impl<Q: RunQueue + Drop, K: Clock + Drop, N: Naming + Counting, const P: usize> 
         let (mut guard, mut source_guard) = self.lock_both(rt, processor, from);
         let place = &mut *guard;
         let source = &mut *source_guard;
+        let rooms = EventRooms {
+            record: &mut seat.first,
+            calls: &mut seat.rooms,
+        };
         Ok(
-            self.recorder.pull(
-                rt,
-                &mut seat.working,
-                place,
-                source,
-                now,
-                &mut seat.first,
-                &mut seat.rooms,
-            ),
+            self.recorder
+                .pull(rt, &mut seat.working, place, source, now, rooms),
         )
     }
 

@@ -9,7 +9,7 @@ use bq_counters::Naming as Counting;
 use bq_disc::RunQueue;
 use bq_history::Receipt;
 use bq_parts::{Event, Refusal};
-use bq_recording::Seat;
+use bq_recording::{EventRooms, Seat};
 use bq_tie::Naming;
 use std::alloc::Global;
 use std::sync::Wait;
@@ -41,16 +41,11 @@ impl<Q: RunQueue + Drop, K: Clock + Drop, N: Naming + Counting, const P: usize> 
         let mut guard = self.lock_processor(rt, processor);
         let place = &mut *guard;
         let now = self.clock.now(processor);
-        Ok(
-            self.recorder.tick(
-                rt,
-                &mut seat.working,
-                place,
-                now,
-                &mut seat.first,
-                &mut seat.rooms,
-            ),
-        )
+        let rooms = EventRooms {
+            record: &mut seat.first,
+            calls: &mut seat.rooms,
+        };
+        Ok(self.recorder.tick(rt, &mut seat.working, place, now, rooms))
     }
 
     /// All tasks of a processor's inbox enter, and it is decided who runs. It takes memory for the record.
@@ -75,16 +70,13 @@ impl<Q: RunQueue + Drop, K: Clock + Drop, N: Naming + Counting, const P: usize> 
         let now = self.clock.now(processor);
         let mut inbox_guard = self.lock_inbox(rt, processor);
         let inbox = &mut *inbox_guard;
+        let rooms = EventRooms {
+            record: &mut seat.first,
+            calls: &mut seat.rooms,
+        };
         Ok(
-            self.recorder.drain(
-                rt,
-                &mut seat.working,
-                place,
-                inbox,
-                now,
-                &mut seat.first,
-                &mut seat.rooms,
-            ),
+            self.recorder
+                .drain(rt, &mut seat.working, place, inbox, now, rooms),
         )
     }
 

@@ -17,8 +17,8 @@ use bq_cells::{CallRooms, Record, loads_room, record_room};
 use bq_counters::Naming as Counting;
 use bq_disc::RunQueue;
 use bq_history::{Receipt, Room};
-use bq_parts::{Event, Loads, Refusal, argument_refusal};
-use bq_recording::{Caller, CpuCell, Seat};
+use bq_parts::{Event, Refusal, argument_refusal};
+use bq_recording::{BeginRooms, Caller, CpuCell, EventRooms, LoadRooms, Placing, Seat};
 use bq_tie::Naming;
 use std::alloc::Global;
 use std::sync::Wait;
@@ -28,13 +28,6 @@ use std::sync::Wait;
 pub struct WakeReceipts {
     pub begin: Receipt<Record>,
     pub end: Option<Receipt<Record>>,
-}
-
-/// Room for the loads that the beginning of a wake tells, for its record and for its receipt.
-#[derive(Drop)]
-struct LoadRooms {
-    for_record: Box<Loads>,
-    for_receipt: Box<Loads>,
 }
 
 /// Room for both records of a wake, for the loads that the first tells, and for the calls of counters of the second.
@@ -90,16 +83,15 @@ impl<Q: RunQueue + Drop, K: Clock + Drop, N: Naming + Counting, const P: usize> 
             return Err(refusal);
         }
         let loads = wake_rooms(alloc, &mut seat.first, &mut seat.second, &mut seat.rooms)?;
-        Ok(self.wake_at(
-            rt,
-            &mut seat.working,
-            processor,
-            task,
+        let begin = BeginRooms {
+            record: &mut seat.first,
             loads,
-            &mut seat.first,
-            &mut seat.second,
-            &mut seat.rooms,
-        ))
+        };
+        let end = EventRooms {
+            record: &mut seat.second,
+            calls: &mut seat.rooms,
+        };
+        Ok(self.wake_at(rt, &mut seat.working, processor, task, begin, end))
     }
 
     /// Both halves of a wake, under the lock of the processor.
@@ -109,14 +101,12 @@ impl<Q: RunQueue + Drop, K: Clock + Drop, N: Naming + Counting, const P: usize> 
         working: &mut Caller<N>,
         processor: u8,
         task: u16,
-        loads: LoadRooms,
-        first: &mut Room<Record>,
-        second: &mut Room<Record>,
-        calls: &mut Option<CallRooms>,
+        begin_rooms: BeginRooms<'_>,
+        end_rooms: EventRooms<'_>,
     ) -> WakeReceipts
         requires inside { (processor < P) × (task < 1024) }
-        requires ready { (first.old ≡ true) × (second.old ≡ true) }
-        requires calls { is_some calls.old ≡ true }
+        requires ready { (begin_rooms.record.now ≡ true) × (end_rooms.record.now ≡ true) }
+        requires calls { is_some end_rooms.calls.now ≡ true }
         requires tally { working.old.tally ≡ account_of told_calls working.old.caller.1 }
         ensures caller { working.new.caller ≡ (working.old.caller.0, (working.old.caller.1 ++ result.begin ∷ []) ++ option_to_list result.end) }
         ensures tally { working.new.tally ≡ account_of told_calls working.new.caller.1 }
@@ -124,20 +114,19 @@ impl<Q: RunQueue + Drop, K: Clock + Drop, N: Naming + Counting, const P: usize> 
     {
         let mut guard = self.lock_processor(rt, processor);
         let place = &mut *guard;
-        let begin = self.begin_in_lobby(rt, working, &mut place.cell, task, first, loads);
+        let begin = self.begin_in_lobby(rt, working, &mut place.cell, task, begin_rooms);
         if begin.entry.reply.is_err() {
             return WakeReceipts { begin, end: None };
         }
         let now = self.clock.now(processor);
+        let placing = Placing { task, now };
         let end = self.recorder.end_wake(
             rt,
             working,
             &mut place.cell,
             &self.inboxes,
-            task,
-            now,
-            second,
-            calls,
+            placing,
+            end_rooms,
         );
         WakeReceipts {
             begin,
@@ -152,11 +141,10 @@ impl<Q: RunQueue + Drop, K: Clock + Drop, N: Naming + Counting, const P: usize> 
         working: &mut Caller<N>,
         cell: &mut CpuCell<Q, N>,
         task: u16,
-        room: &mut Room<Record>,
-        loads: LoadRooms,
+        rooms: BeginRooms<'_>,
     ) -> Receipt<Record>
         requires seat { task < 1024 }
-        requires ready { room.old ≡ true }
+        requires ready { rooms.record.now ≡ true }
         requires tally { working.old.tally ≡ account_of told_calls working.old.caller.1 }
         requires says { cell.old.holder ≡ part_item (cpu_part cell.old.content.number cell.old.content.state) ∷ [] }
         requires rests { cell.old.content.state.hand ≡ None }
@@ -169,21 +157,9 @@ impl<Q: RunQueue + Drop, K: Clock + Drop, N: Naming + Counting, const P: usize> 
         ensures rests { OnErr result.entry.reply (cell.new.content.state.hand ≡ None) }
         ensures begun { IfErr result.entry.reply (λ e. (e ≡ no.NoTask) ⊎ (e ≡ no.NotBlocked)) }
     {
-        let LoadRooms {
-            for_record,
-            for_receipt,
-        } = loads;
         let mut guard = self.lobby.lock(rt);
         let lobby = &mut *guard;
-        self.recorder.begin_wake(
-            rt,
-            working,
-            cell,
-            lobby,
-            task,
-            room,
-            for_record,
-            for_receipt,
-        )
+        self.recorder
+            .begin_wake(rt, working, cell, lobby, task, rooms)
     }
 }

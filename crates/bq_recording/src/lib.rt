@@ -17,3 +17,4 @@ pub use loading::{Spare, one_spare};
 pub use lobby::Admission;
 pub use recorder::{Caller, CpuCell, Recorder, Seat, lock, need_own};
 pub use rooms::{BeginRooms, EventRooms, LoadRooms};
+pub use waking::Placing;

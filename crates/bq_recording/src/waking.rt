@@ -23,6 +23,15 @@ use bq_parts::{Event, Placement, Reply};
 use bq_tie::Naming;
 use std::sync::{Mutex, MutexGuard, Wait};
 
+/// Which task in a hand is placed, and when.
+#[derive(Clone, Copy)]
+pub struct Placing {
+    /// The id of the task.
+    pub task: u16,
+    /// The time at which it is placed, in nanoseconds.
+    pub now: u64,
+}
+
 /// An inbox whose lock is held.
 type LockedInbox<'a, N> = MutexGuard<'a, UnderLock<NumberedInbox, N>>;
 
@@ -88,8 +97,7 @@ impl<Q: RunQueue + Drop, N: Naming + Counting> Recorder<Q, N> {
         working: &mut Caller<N>,
         cell: &mut CpuCell<Q, N>,
         inboxes: &[Mutex<UnderLock<NumberedInbox, N>>],
-        task: u16,
-        now: u64,
+        placing: Placing,
         rooms: EventRooms<'_>,
     ) -> Receipt<Record>
         requires inboxes { length inboxes.now ≡ self.now.history.about }
@@ -97,11 +105,11 @@ impl<Q: RunQueue + Drop, N: Naming + Counting> Recorder<Q, N> {
         requires ready { rooms.record.now ≡ true }
         requires tally { working.old.tally ≡ account_of told_calls working.old.caller.1 }
         requires says { cell.old.holder ≡ part_item (cpu_part cell.old.content.number cell.old.content.state) ∷ [] }
-        requires hand { option_map (λ c. c.task.id) cell.old.content.state.hand ≡ Some task }
+        requires hand { option_map (λ c. c.task.id) cell.old.content.state.hand ≡ Some placing.task }
         ensures caller { working.new.caller ≡ (working.old.caller.0, working.old.caller.1 ++ result ∷ []) }
         ensures tally { working.new.tally ≡ account_of told_calls working.new.caller.1 }
-        ensures event { result.entry.event ≡ Event.EndWake cell.old.content.number now }
-        ensures placed { IsPlaced task result.entry.reply }
+        ensures event { result.entry.event ≡ Event.EndWake cell.old.content.number placing.now }
+        ensures placed { IsPlaced placing.task result.entry.reply }
         ensures says { cell.new.holder ≡ part_item (cpu_part cell.new.content.number cell.new.content.state) ∷ [] }
         ensures rests { cell.new.content.state.hand ≡ None }
     {
@@ -112,19 +120,23 @@ impl<Q: RunQueue + Drop, N: Naming + Counting> Recorder<Q, N> {
             to,
             by,
             steps,
-        } = self.place_task(working, &mut cell.content, inboxes.len(), now);
+        } = self.place_task(working, &mut cell.content, inboxes.len(), placing.now);
         let mut guard = lock_inbox(rt, inboxes, to);
         let inbox = &mut *guard;
         inbox.look(&self.history);
         inbox.cell.content.state.push(woken);
         let reply = Ok(Reply::Placed {
-            task,
+            task: placing.task,
             to,
             by,
             steps,
         });
         let calls = hold_calls(rooms.calls, cell.content.scratch.calls());
-        let (logged, told) = told_twice(Event::EndWake { processor, now }, &reply, calls);
+        let event = Event::EndWake {
+            processor,
+            now: placing.now,
+        };
+        let (logged, told) = told_twice(event, &reply, calls);
         let mut guard = self.lock_journal(rt);
         let journal = &mut *guard;
         let mut kept = journal.kept().again();

@@ -23,22 +23,22 @@ installs-preserved g c =
     let full : 0 < many = omega (arith, was.left, c.installs-test.true, c.len-number-end.ensures, c.args.self.now.counted) in
     let there : many - 1 < length at.spares.items = omega (arith, full, at.spares.ok.0) in
     let last : d ≡ slice_index_or at.spares.items (many - 1) d = ap (λ o. unwrap_or o d) (sym c.in-Some.is ∙ c.pop.ensures.value d full) in
-    let of : d.installed.policy ≡ c.args.policy.now = ap (λ s. s.installed.policy) last ∙ was.same (many - 1) d there in
+    let of : d.installed.policy ≡ c.args.loading.policy.now = ap (λ s. s.installed.policy) last ∙ was.same (many - 1) d there in
     let event = rw of at c.install-receipt.ensures.event in
     let zero : at.number ≡ 0 + at.number = omega arith in
-    let next : x.entry.event ≡ Install (0 + at.number) c.args.hook c.args.generation c.args.policy.now =
-    subst (λ (k : ℕ). x.entry.event ≡ Install k c.args.hook c.args.generation c.args.policy.now) zero event in
+    let next : x.entry.event ≡ Install (0 + at.number) c.args.loading.hook c.args.loading.generation c.args.loading.policy.now =
+    subst (λ (k : ℕ). x.entry.event ≡ Install k c.args.loading.hook c.args.loading.generation c.args.loading.policy.now) zero event in
     record {
       caller = called ∙ ap (λ (l : List (Receipt Record)). (start.0, l)) (append_assoc start.1 at.installs.items (x ∷ []) ∙ ap (λ (l : List (Receipt Record)). start.1 ++ l) (sym c.keep.ensures.items));
       tally = c.install-receipt.ensures.tally;
       left = search rules;
-      same = rw c.pop.ensures.rest (All-take (λ s. s.installed.policy ≡ c.args.policy.now) (vec_len at.spares - 1) at.spares.items was.same);
+      same = rw c.pop.ensures.rest (All-take (λ s. s.installed.policy ≡ c.args.loading.policy.now) (vec_len at.spares - 1) at.spares.items was.same);
       made = search rules;
       room = omega (arith, was.room, c.keep.ensures.capacity);
-      are = rw c.keep.ensures.items (installs_more 0 at.number c.args.hook c.args.generation c.args.policy.now at.installs.items x was.are next);
+      are = rw c.keep.ensures.items (installs_more 0 at.number c.args.loading.hook c.args.loading.generation c.args.loading.policy.now at.installs.items x was.are next);
     }
 
 pub returns-clause-installs : goal.returns-clause-installs
 returns-clause-installs g c =
     let done : c.installs.number ≡ g.row.P = omega (arith, c.installs-test.false, c.len-number-end.ensures, c.args.self.now.counted, c.installs.invariant.left) in
-    subst (λ (k : ℕ). AreInstalls 0 k c.args.hook c.args.generation c.args.policy.now c.installs.installs.items) done c.installs.invariant.are
+    subst (λ (k : ℕ). AreInstalls 0 k c.args.loading.hook c.args.loading.generation c.args.loading.policy.now c.installs.installs.items) done c.installs.invariant.are

@@ -11,8 +11,8 @@ invariant-installs g l = record {
   caller : l.working.caller ≡ (l.initial.working.caller.0, l.initial.working.caller.1 ++ l.installs.items);
   tally : l.working.tally ≡ account_of told_calls l.working.caller.1;
   left : vec_len l.spares + l.number ≡ g.row.P;
-  same : All (λ s. s.installed.policy ≡ l.policy) l.spares.items;
+  same : All (λ s. s.installed.policy ≡ l.loading.policy.now) l.spares.items;
   made : vec_len l.installs ≡ l.number;
   room : g.row.P ≤ vec_capacity l.installs;
-  are : AreInstalls 0 l.number l.hook l.generation l.policy l.installs.items;
+  are : AreInstalls 0 l.number l.loading.hook l.loading.generation l.loading.policy.now l.installs.items;
 }

@@ -40,15 +40,15 @@ commit_two-requires-clause-moves g c =
     let there = c.inbox.view_is ∙ c.look-2.ensures.same in
     let same : box.number ≡ x.to = ap (λ b. b.number) (there ∙ c.deref_mut-inbox.ensures.value) ∙ c.lock_inbox-guard.ensures in
     let count : length c.args.inboxes.now ≡ n = c.requires.inboxes in
-    let share : Places (policies d) n own.number c.args.now own.state p.new.content.scratch (Some x) p.new.content.state = rw count at p.ensures.share in
-    let hand : option_map (λ (y : Carried). y.task.id) own.state.hand ≡ Some c.args.task = rw c.look.ensures.same c.requires.hand in
-    let asked : c.args.task ≡ x.task.id = placed_own c.args.task own.state.hand share.0 x hand share.2 share.3 in (
+    let share : Places (policies d) n own.number c.args.placing.now own.state p.new.content.scratch (Some x) p.new.content.state = rw count at p.ensures.share in
+    let hand : option_map (λ (y : Carried). y.task.id) own.state.hand ≡ Some c.args.placing.task = rw c.look.ensures.same c.requires.hand in
+    let asked : c.args.placing.task ≡ x.task.id = placed_own c.args.placing.task own.state.hand share.0 x hand share.2 share.3 in (
       cpu_part own.number own.state,
       inbox_part box.number box.state,
       rw c.look.ensures.same c.requires.says,
       c.inbox.invariant.0,
       rw (c.told_twice-logged.ensures.entry, c.hold_calls-calls.ensures.receipt, c.calls.ensures.value, c.one_more.ensures, c.again-kept.ensures, c.kept.ensures, c.push.ensures, p.ensures.number, same)
-          (place_moves d n own.number c.args.now c.args.task own.state p.new.content.state box.state p.new.content.scratch k x asked share),
+          (place_moves d n own.number c.args.placing.now c.args.placing.task own.state p.new.content.state box.state p.new.content.scratch k x asked share),
     )
 
 pub commit_two-requires-clause-told : goal.commit_two-requires-clause-told
