@@ -67,6 +67,13 @@ fn refuses<N: Naming + Counting, R: Wait>(
     matches!(tick, Err(Refusal::NoProcessor)) && matches!(pull, Err(Refusal::SameProcessor))
 }
 
+/// Where in the history a load stands, and the number that is drawn for it.
+#[derive(Clone, Copy)]
+struct Drawn {
+    place: u64,
+    number: u64,
+}
+
 /// Whether an image, or none, is loaded by three events from this place on, under this number.
 fn loads<N: Naming + Counting, R: Wait>(
     rt: &R,
@@ -74,15 +81,14 @@ fn loads<N: Naming + Counting, R: Wait>(
     machine: &Single<N>,
     seat: &mut Seat<N>,
     image: Option<&[u8]>,
-    place: u64,
-    number: u64,
+    wanted: Drawn,
 ) -> bool {
     match machine.load_all(rt, alloc, seat, Hook::Preempt, image) {
         Ok(loaded) => {
             let drawn = &loaded.draw;
             let numbered =
-                matches!(drawn.entry.reply.told(), Ok(Reply::Drawn { generation }) if generation == number);
-            drawn.place == place && numbered && loaded.installs.len() == 2
+                matches!(drawn.entry.reply.told(), Ok(Reply::Drawn { generation }) if generation == wanted.number);
+            drawn.place == wanted.place && numbered && loaded.installs.len() == 2
         }
         Err(_) => false,
     }
@@ -106,9 +112,17 @@ fn answers<N: Naming + Counting, R: Wait>(
     machine: &Single<N>,
     seat: &mut Seat<N>,
 ) -> bool {
+    let first = Drawn {
+        place: 2,
+        number: 1,
+    };
+    let second = Drawn {
+        place: 5,
+        number: 2,
+    };
     refuses(rt, alloc, machine, seat)
-        && loads(rt, alloc, machine, seat, Some(&ZERO), 2, 1)
-        && loads(rt, alloc, machine, seat, None, 5, 2)
+        && loads(rt, alloc, machine, seat, Some(&ZERO), first)
+        && loads(rt, alloc, machine, seat, None, second)
         && refuses_the_cut(rt, alloc, machine, seat)
         && machine.counter(seat, 3) == 0
 }

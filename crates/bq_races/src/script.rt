@@ -134,22 +134,29 @@ fn jobs<N: Naming + Counting>(
     Ok(jobs)
 }
 
-/// Plays a script on a machine over these queues, and ends it. It has a seat for each play at once.
+/// What a machine is made of: its clock, and a queue for each processor.
+#[derive(Drop)]
+struct Parts {
+    clock: CountingClock,
+    queues: Vec<HeldQueue>,
+}
+
+/// Plays a script on a machine of these parts, and ends it. It has a seat for each play at once.
 fn play_all<N: Naming + Counting + Send + Sync, R: Threads + Wait + Sync>(
     rt: &R,
     alloc: Global,
     prepared: Prepared<HeldQueue>,
     unnamed: Unnamed,
-    clock: CountingClock,
-    queues: Vec<HeldQueue>,
+    parts: Parts,
     script: Script,
 ) -> Result<Outcome, Fail>
     requires name { prepared.0 ≡ N.table }
     requires counters { unnamed.0 ≡ N.counters }
     requires counts { (prepared.1.about ≡ 4) × (prepared.1.callers ≡ length script.at_once.items) × (unnamed.1 ≡ length script.at_once.items) }
-    requires many { length queues.items ≡ 4 }
-    requires empty { All (λ q. (q.queue.members ≡ []) × (q.queue.kept ≡ 2 ^ 32)) queues.items }
+    requires many { length parts.queues.items ≡ 4 }
+    requires empty { All (λ q. (q.queue.members ≡ []) × (q.queue.kept ≡ 2 ^ 32)) parts.queues.items }
 {
+    let Parts { clock, queues } = parts;
     let Script {
         before,
         at_once,
@@ -213,7 +220,8 @@ pub fn run_script<R: Threads + Wait + Sync>(
 ) -> Result<Outcome, Fail> {
     let clock = CountingClock::new(alloc, 4, at_clock)?;
     let queues = queues(alloc, 4, at_queue)?;
+    let parts = Parts { clock, queues };
     let seats = script.at_once.len() as u64;
     let (prepared, unnamed) = prepare::<HeldQueue>(alloc, 4, seats)?;
-    play_all::<Brand, R>(rt, alloc, prepared, unnamed, clock, queues, script)
+    play_all::<Brand, R>(rt, alloc, prepared, unnamed, parts, script)
 }
