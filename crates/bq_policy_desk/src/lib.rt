@@ -11,6 +11,7 @@ mod desk;
 mod found;
 mod request;
 mod status;
+mod texts;
 
 pub use desk::do_policy;
 pub use request::{PolicyRequest, policy_request};

@@ -25,8 +25,13 @@ pub fn policy_request<'a>(
 /// Whether the words are for this desk.
 fn is_request(words: &[&str]) -> bool {
     match words {
-        ["run", ..] | ["check", _, ..] | ["dis", _, ..] => true,
-        ["help", "run" | "check" | "dis"] => true,
+        ["run", ..] => true,
+        ["help", command] | [command, _, ..] => is_command(command),
         _ => false,
     }
+}
+
+/// Whether this desk has a command of that name.
+fn is_command(word: &str) -> bool {
+    word == "check" || word == "run" || word == "dis"
 }
