@@ -4,7 +4,8 @@ use crate::cells::{cell, deviation_of, mean_of, signed};
 use crate::difference::Difference;
 use crate::labels::{name, subject, unit, word};
 use crate::line::Line;
-use csv::{Error, WriterBuilder};
+use bq_figures::{Figure, Row};
+use csv::{Error, Writer, WriterBuilder};
 use std::alloc::{AllocError, Global};
 use std::str;
 
@@ -25,60 +26,74 @@ pub(crate) fn csv_text(
     Ok(text)
 }
 
+/// Adds the row of a figure.
 fn write_line(
     alloc: Global,
     text: &mut String,
     line: &Line,
     names: &[String],
 ) -> Result<(), AllocError> {
-    let figure = line.ours.figure;
-    let subject = subject(alloc, figure)?;
-    let name = String::from_str(alloc, name(figure, names))?;
-    let word = String::from_str(alloc, word(figure))?;
-    let unit = String::from_str(alloc, unit(figure))?;
-    let runs = line.ours.runs.to_string(alloc)?;
-    let mean = cell(alloc, line.ours.mean, "")?;
-    let deviation = cell(alloc, line.ours.deviation, "")?;
-    let their_runs = match line.theirs {
-        Some(row) => row.runs.to_string(alloc)?,
-        None => String::new(alloc),
-    };
-    let their_mean = mean_of(line.theirs);
-    let difference = signed(alloc, Difference::of(line.ours.mean, their_mean), "")?;
-    let their_mean = cell(alloc, their_mean, "")?;
-    let their_deviation = cell(alloc, deviation_of(line.theirs), "")?;
-    let fields = [
-        subject.as_bytes(),
-        name.as_bytes(),
-        word.as_bytes(),
-        unit.as_bytes(),
-        runs.as_bytes(),
-        mean.as_bytes(),
-        deviation.as_bytes(),
-        their_runs.as_bytes(),
-        their_mean.as_bytes(),
-        their_deviation.as_bytes(),
-        difference.as_bytes(),
-    ];
-    write_row(alloc, &fields, text)
-}
-
-/// Adds a row of these fields.
-fn write_row(alloc: Global, fields: &[&[u8]], text: &mut String) -> Result<(), AllocError> {
-    let Ok(bytes) = row(alloc, fields) else {
-        return Err(AllocError);
-    };
+    let bytes = row(alloc, line, names)?;
     match str::from_utf8(bytes.as_slice()) {
         Ok(row) => text.push_str(row),
         Err(_) => Ok(()),
     }
 }
 
-fn row(alloc: Global, fields: &[&[u8]]) -> Result<Vec<u8>, Error> {
+/// The row of a figure, with its line end.
+fn row(alloc: Global, line: &Line, names: &[String]) -> Result<Vec<u8>, AllocError> {
     let mut writer = WriterBuilder::new().from_writer(Vec::new(alloc));
-    writer.write_fields(fields)?;
+    write_label(alloc, &mut writer, line.ours.figure, names)?;
+    write_side(alloc, &mut writer, Some(line.ours))?;
+    write_side(alloc, &mut writer, line.theirs)?;
+    let difference = Difference::of(line.ours.mean, mean_of(line.theirs));
+    write_field(&mut writer, signed(alloc, difference, "")?.as_str())?;
+    match ended(writer) {
+        Ok(bytes) => Ok(bytes),
+        Err(_) => Err(AllocError),
+    }
+}
+
+/// Writes what a figure is of, the name of its task, its word and its unit.
+fn write_label(
+    alloc: Global,
+    writer: &mut Writer<Vec<u8>>,
+    figure: Figure,
+    names: &[String],
+) -> Result<(), AllocError> {
+    write_field(writer, subject(alloc, figure)?.as_str())?;
+    write_field(writer, name(figure, names))?;
+    write_field(writer, word(figure))?;
+    write_field(writer, unit(figure))
+}
+
+/// Writes how many runs of a side have a value, their mean and their deviation; of a side that is not there three empty fields.
+fn write_side(
+    alloc: Global,
+    writer: &mut Writer<Vec<u8>>,
+    side: Option<Row>,
+) -> Result<(), AllocError> {
+    match side {
+        Some(side) => write_field(writer, side.runs.to_string(alloc)?.as_str())?,
+        None => write_field(writer, "")?,
+    }
+    write_field(writer, cell(alloc, mean_of(side), "")?.as_str())?;
+    write_field(writer, cell(alloc, deviation_of(side), "")?.as_str())
+}
+
+/// Writes a field; it fails where memory is wanted.
+fn write_field(writer: &mut Writer<Vec<u8>>, field: &str) -> Result<(), AllocError> {
+    match writer.write_field(field.as_bytes()) {
+        Ok(()) => Ok(()),
+        Err(_) => Err(AllocError),
+    }
+}
+
+/// The bytes of a row whose fields are written.
+fn ended(mut writer: Writer<Vec<u8>>) -> Result<Vec<u8>, Error> {
+    writer.end_record()?;
     match writer.into_inner() {
-        Ok(text) => Ok(text),
+        Ok(bytes) => Ok(bytes),
         Err(error) => Err(error.into_error()),
     }
 }

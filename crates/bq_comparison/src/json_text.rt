@@ -4,7 +4,8 @@ use crate::cells::{deviation_of, mean_of};
 use crate::difference::Difference;
 use crate::labels::{name, subject, unit, word};
 use crate::line::Line;
-use serde_json::{Value, json};
+use bq_figures::Figure;
+use serde_json::{Map, Value, put};
 use std::alloc::{AllocError, Global};
 
 /// An array with an object a figure. Means, deviations and differences are whole thousandths of the unit, and null where they
@@ -26,31 +27,56 @@ pub(crate) fn json_text(
     Ok(text)
 }
 
+/// The object of a figure.
 fn object(alloc: Global, line: &Line, names: &[String]) -> Result<Value, AllocError> {
-    let figure = line.ours.figure;
-    let subject = subject(alloc, figure)?;
-    let subject = Value::try_from_str(alloc, subject.as_str())?;
-    let name = Value::try_from_str(alloc, name(figure, names))?;
-    let word = Value::try_from_str(alloc, word(figure))?;
-    let unit = Value::try_from_str(alloc, unit(figure))?;
-    let runs = line.ours.runs as u64;
-    let mean = number(line.ours.mean);
-    let deviation = number(line.ours.deviation);
-    let difference = signed_number(Difference::of(line.ours.mean, mean_of(line.theirs)));
-    let their_mean = number(mean_of(line.theirs));
-    let their_deviation = number(deviation_of(line.theirs));
-    json!(in alloc; {
-        "of": subject,
-        "name": name,
-        "figure": word,
-        "unit": unit,
-        "runs": runs,
-        "mean_thousandths": mean,
-        "deviation_thousandths": deviation,
-        "against_mean_thousandths": their_mean,
-        "against_deviation_thousandths": their_deviation,
-        "difference_thousandths": difference
-    })
+    let mut object = Map::new(alloc);
+    put_words(alloc, &mut object, line.ours.figure, names)?;
+    put_numbers(alloc, &mut object, line)?;
+    Ok(Value::Object(object))
+}
+
+/// Adds what a figure is of, the name of its task, its word and its unit.
+fn put_words(
+    alloc: Global,
+    object: &mut Map<String, Value>,
+    figure: Figure,
+    names: &[String],
+) -> Result<(), AllocError> {
+    put_word(alloc, object, "of", subject(alloc, figure)?.as_str())?;
+    put_word(alloc, object, "name", name(figure, names))?;
+    put_word(alloc, object, "figure", word(figure))?;
+    put_word(alloc, object, "unit", unit(figure))
+}
+
+/// Adds a member with a word.
+fn put_word(
+    alloc: Global,
+    object: &mut Map<String, Value>,
+    key: &str,
+    word: &str,
+) -> Result<(), AllocError> {
+    put(object, alloc, key, Value::try_from_str(alloc, word)?)
+}
+
+/// Adds how many runs have a value, the means, the deviations and the difference.
+fn put_numbers(
+    alloc: Global,
+    object: &mut Map<String, Value>,
+    line: &Line,
+) -> Result<(), AllocError> {
+    let their_mean = mean_of(line.theirs);
+    let sizes = [
+        ("mean_thousandths", line.ours.mean),
+        ("deviation_thousandths", line.ours.deviation),
+        ("against_mean_thousandths", their_mean),
+        ("against_deviation_thousandths", deviation_of(line.theirs)),
+    ];
+    for (key, size) in &sizes {
+        put(object, alloc, key, number(*size))?;
+    }
+    let difference = signed_number(Difference::of(line.ours.mean, their_mean));
+    put(object, alloc, "difference_thousandths", difference)?;
+    put(object, alloc, "runs", Value::from(line.ours.runs as u64))
 }
 
 /// A number that fits in 64 bits, else null.

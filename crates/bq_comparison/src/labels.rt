@@ -6,8 +6,7 @@ use std::alloc::{AllocError, Global};
 /// What a figure is of: `task 3`, `cpu 0` or `cpu 0 place`.
 pub(crate) fn subject(alloc: Global, figure: Figure) -> Result<String, AllocError> {
     match figure {
-        Figure::Task(task, _) => format!(in alloc; "task {task}"),
-        Figure::Latency(task, _) => format!(in alloc; "task {task}"),
+        Figure::Task(task, _) | Figure::Latency(task, _) => format!(in alloc; "task {task}"),
         Figure::Processor(processor, _) => format!(in alloc; "cpu {processor}"),
         Figure::Hook(processor, hook, _) => {
             let hook = hook.word();
@@ -19,8 +18,7 @@ pub(crate) fn subject(alloc: Global, figure: Figure) -> Result<String, AllocErro
 /// The name of the task that a figure is of.
 pub(crate) fn name<'a>(figure: Figure, names: &'a [String]) -> &'a str {
     let task = match figure {
-        Figure::Task(task, _) => task,
-        Figure::Latency(task, _) => task,
+        Figure::Task(task, _) | Figure::Latency(task, _) => task,
         _ => return "",
     };
     match names.get(usize::from(task)) {

@@ -63,8 +63,7 @@ fn write_cells(alloc: Global, text: &mut String, line: &Line) -> Result<(), Allo
     write_cell(alloc, text, is_time, deviation_of(line.theirs))?;
     let difference = Difference::of(line.ours.mean, their_mean);
     let difference = shown_difference(is_time, difference);
-    let cell = signed(alloc, difference, "-")?;
-    write!(text, " {cell:>13}")
+    write_padded(text, signed(alloc, difference, "-")?.as_str())
 }
 
 fn write_cell(
@@ -77,7 +76,11 @@ fn write_cell(
         Some(value) => Some(in_unit(is_time, value)),
         None => None,
     };
-    let cell = cell(alloc, shown, "-")?;
+    write_padded(text, cell(alloc, shown, "-")?.as_str())
+}
+
+/// Writes a cell at the width of its column.
+fn write_padded(text: &mut String, cell: &str) -> Result<(), AllocError> {
     write!(text, " {cell:>13}")
 }
 
