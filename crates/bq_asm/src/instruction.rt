@@ -11,7 +11,7 @@ use crate::table::named;
 use bq_insn::{Insn, Source};
 
 /// The kinds of the operands after a first word.
-#[derive(Clone, Copy, Debug, PartialEq, Eq)]
+#[derive(Clone, Copy)]
 pub enum Kinds {
     Zero,
     One(Kind),

@@ -6,7 +6,7 @@ use bq_insn::{Bits, Condition, Operation, Order, Size, Width};
 use std::fmt;
 
 /// What the first word of an instruction says: the instruction without its operands.
-#[derive(Clone, Copy, Debug, PartialEq, Eq)]
+#[derive(Clone, Copy)]
 pub enum Mnemonic {
     Alu(Width, Operation),
     MovSx(Width, Bits),

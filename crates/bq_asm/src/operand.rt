@@ -5,7 +5,7 @@ ghost use Rattle.bq_asm.specs.Text.{operand_text};
 use std::fmt;
 
 /// What a word after the first says.
-#[derive(Clone, Copy, Debug, PartialEq, Eq)]
+#[derive(Clone, Copy)]
 pub enum Operand {
     Register(u8),
     Number(i32),
@@ -50,7 +50,7 @@ impl fmt::Display for Operand {
 }
 
 /// The words after the first, none to three.
-#[derive(Clone, Copy, Debug, PartialEq, Eq)]
+#[derive(Clone, Copy)]
 pub enum Operands {
     Zero,
     One(Operand),

@@ -8,7 +8,7 @@ use crate::number::{begins_number, distance_of, imm_of, offset_of, register_of, 
 use crate::operand::Operand;
 
 /// What an operand is to be.
-#[derive(Clone, Copy, Debug, PartialEq, Eq)]
+#[derive(Clone, Copy)]
 pub enum Kind {
     /// A register.
     Register,

@@ -6,3 +6,4 @@ pub mod Counters
 pub mod Steps
 pub mod Runs
 pub mod Safe
+pub mod Meaning

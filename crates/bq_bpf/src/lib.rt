@@ -1,7 +1,8 @@
 //! The machine that runs a policy: its hooks, its memory, its helpers, its counters, and its meaning.
 //!
-//! `specs/` defines what each instruction does, what a run is, and when a program is safe; the verifier and the
-//! interpreter rest on that. The code names hooks and helpers, tells shapes of maps, and asks counters.
+//! `specs/` defines what arithmetic, byte orders and tests give on words (RFC 9669, sections 4.1 to 4.3), what each
+//! instruction does, what a run is, and when a program is safe; the intervals, the verifier and the interpreter rest on
+//! that. The code computes on words, names hooks and helpers, tells shapes of maps, and asks counters.
 #![tactic(auto)]
 
 pub mod addresses;
@@ -9,8 +10,10 @@ pub mod board;
 pub mod helper;
 pub mod hook;
 pub mod shape;
+pub mod words;
 
 pub use board::{Board, Call, Plain};
 pub use helper::Helper;
 pub use hook::{Hook, Version, context_length};
 pub use shape::MapShape;
+pub use words::{alu, extended, negated, reordered, test};

@@ -4,7 +4,7 @@ use crate::law::{Kept, Part};
 use crate::record::Record;
 use bq_disc::RunQueue;
 use bq_history::{AsPart, Locked};
-use bq_order::{Holds, Placed};
+use bq_tie::{Holds, Placed};
 use bq_parts::{Cpu, Inbox, Lobby, Scratch};
 
 /// What lies under a lock: content with the holder of its part.

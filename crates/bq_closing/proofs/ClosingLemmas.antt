@@ -4,8 +4,8 @@ use Rattle.bq_tie.specs.Whole.{count, Each}
 use Rattle.bq_tie.proofs.MoveLemmas.{count-append}
 use Rattle.bq_history.specs.Items.{part_item, parts_of}
 use Rattle.bq_history.specs.History.{Leaves}
-use Rattle.bq_order.specs.Places.{times}
-use Rattle.bq_order.proofs.OrderedLemmas.{times_turned}
+use Rattle.bq_tie.specs.Places.{times}
+use Rattle.bq_tie.proofs.OrderedLemmas.{times_turned}
 use Rattle.bq_parts.specs.Processors.{Processor, opening}
 use Rattle.bq_parts.specs.World.{World, opening_world}
 use Rattle.bq_disc.specs.Tasks.{Task}

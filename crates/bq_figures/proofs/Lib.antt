@@ -1,2 +1,3 @@
 mod RangeLemmas
 mod RowLemmas
+mod RatioLemmas

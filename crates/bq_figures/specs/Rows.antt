@@ -1,7 +1,7 @@
 -- What several runs say of each figure.
 use Rattle.std.specs.Prelude.{◌≡◌, ℕ, ◌+◌, ◌<◌, ◌⊎◌, List, [], ◌∷◌, length, MatchOption}
 use Rattle.std.specs.List.{filter_map}
-use Rattle.bq_means.specs.Means.{IsDeviation, IsMean, IsTooGreat}
+use Rattle.bq_figures.specs.Means.{IsDeviation, IsMean, IsTooGreat}
 use Rattle.bq_figures.specs.declared.naming.Figure.{Figure}
 use Rattle.bq_figures.specs.declared.summing.Row.{Row}
 use Rattle.bq_figures.specs.declared.runs.Run.{Run}

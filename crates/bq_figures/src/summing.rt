@@ -4,7 +4,7 @@ ghost use Rattle.bq_figures.specs.Rows.{AreRows, IsRow, numbers_at};
 
 use crate::naming::Figure;
 use crate::runs::Run;
-use bq_means::{deviation, mean};
+use crate::{deviation, mean};
 use std::alloc::{AllocError, Global};
 
 /// What several runs say of a figure, in thousandths of its unit, rounded down.

@@ -6,7 +6,7 @@ use crate::{Condition, Operation, Order, Size, Width};
 
 /// What an opcode says: the kind of instruction, and those of its parts that no field holds (RFC 9669, sections 3.3 to
 /// 5). The signed division and remainder have no opcode of their own, so no opcode has a form with `Sdiv` or `Srem`.
-#[derive(Clone, Copy, Debug, PartialEq, Eq)]
+#[derive(Clone, Copy)]
 pub enum Form {
     /// An operation on a register, or on the immediate.
     Alu {

@@ -8,7 +8,7 @@ use byteorder::{ByteOrder, LittleEndian};
 use std::alloc::AllocError;
 
 /// The fields of eight bytes. Each register has four bits; offset and immediate are as they stand there, without a sign.
-#[derive(Clone, Copy, Debug, PartialEq, Eq)]
+#[derive(Clone, Copy)]
 pub struct Slot {
     /// What kind of instruction it is.
     pub opcode: u8,

@@ -7,7 +7,7 @@ use crate::form::Form;
 use Use::{Register, Unused, Value};
 
 /// What a field of a slot is for.
-#[derive(Clone, Copy, Debug, PartialEq, Eq)]
+#[derive(Clone, Copy)]
 pub enum Use {
     /// Nothing: it must be zero.
     Unused,
@@ -18,7 +18,7 @@ pub enum Use {
 }
 
 /// What the fields of a form are for. An unused field must be zero (RFC 9669, section 3.1).
-#[derive(Clone, Copy, Debug, PartialEq, Eq)]
+#[derive(Clone, Copy)]
 pub struct Uses {
     /// The destination register's field.
     pub dst: Use,

@@ -11,7 +11,7 @@ use bq_load::{Hook, Version};
 use std::alloc::Global;
 
 /// The hook, the shapes of the maps and the version.
-#[derive(Debug, Drop)]
+#[derive(Drop)]
 pub(crate) struct Combined {
     pub hook: Hook,
     pub shapes: Vec<MapShape>,

@@ -6,7 +6,7 @@ use Rattle.std.proofs.lemmas.Nat.{and_le_r, and_mod, mul-le, div-add-mod', le-di
 use Rattle.std.proofs.Math.Nat.{div-mul-le_self, div-le_self}
 use Rattle.std.specs.Prelude.{bit_and, bit_or}
 use Rattle.std.specs.Int.Bits.{or_add_and}
-use Rattle.bq_alu.specs.Meaning.{bit_count, compares, modulus, operate}
+use Rattle.bq_bpf.specs.Meaning.{bit_count, compares, modulus, operate}
 use Rattle.bq_insn.specs.declared.Condition.TheVariants as cond
 use Rattle.bq_insn.specs.declared.Operation.TheVariants as op
 use Rattle.bq_insn.specs.declared.Width.{Width}

@@ -3,7 +3,7 @@ use Rattle.std.proofs.Common.{◌≡◌, ℕ, ◌*◌, ◌%◌, ◌<◌, ◌≤�
 use Rattle.std.proofs.lemmas.Int.{ints}
 use Rattle.std.specs.Int.{w64, cast_signed, cast_unsigned, swap_bytes}
 use Rattle.bq_ranges.proofs.OutcomeLemmas.{kept, remains}
-use Rattle.bq_alu.specs.Meaning.{modulus, modulus_of_bits, bytes_of_bits, extended, reordered}
+use Rattle.bq_bpf.specs.Meaning.{modulus, modulus_of_bits, bytes_of_bits, extended, reordered}
 use Rattle.bq_insn.specs.declared.Width.{Width}
 use Rattle.bq_insn.specs.declared.Bits.{Bits}
 use Rattle.bq_insn.specs.declared.Bits.TheVariants.{B8, B16, B32, B64}

@@ -5,7 +5,7 @@ use Rattle.std.specs.Prelude.{◌==◌, if◌then◌else◌, bit_or, bit_xor}
 use Rattle.std.specs.Int.Bits.{or_add_and, xor_add_and}
 use Rattle.std.proofs.lemmas.Nat.{and_le_l, and_le_r, or_lt, xor_lt, mul-le, le-div, pow_pos}
 use Rattle.std.proofs.Math.Nat.{div-mul-le_self}
-use Rattle.bq_alu.specs.Meaning.{modulus, operate, bit_count}
+use Rattle.bq_bpf.specs.Meaning.{modulus, operate, bit_count}
 use Rattle.bq_insn.specs.declared.Width.{Width}
 use Rattle.bq_insn.specs.declared.Width.TheVariants.{W32, W64}
 use Rattle.bq_insn.specs.declared.Operation.TheVariants as op

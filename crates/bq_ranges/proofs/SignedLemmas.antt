@@ -3,7 +3,7 @@ use Rattle.std.proofs.Common.{◌≡◌, ℕ, ◌+◌, ◌*◌, ◌^◌, ◌<◌
 use Rattle.std.proofs.lemmas.Int.{ints}
 use Rattle.std.specs.Prelude.{◌⊎◌, int_le, int_lt, Option, Some, None}
 use Rattle.std.specs.Int.{w32, w64, cast_signed}
-use Rattle.bq_alu.specs.Meaning.{bytes_of, compares, modulus}
+use Rattle.bq_bpf.specs.Meaning.{bytes_of, compares, modulus}
 use Rattle.bq_insn.specs.declared.Condition.{Condition}
 use Rattle.bq_insn.specs.declared.Condition.TheVariants as cond
 use Rattle.bq_insn.specs.declared.Width.{Width}

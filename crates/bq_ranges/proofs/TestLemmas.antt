@@ -3,7 +3,7 @@ use Rattle.std.proofs.Common.{◌≡◌, ◌≢◌, ℕ, ◌%◌, ◌^◌, ◌<�
 use Rattle.std.proofs.lemmas.Bool.Decides.{nat_tests}
 use Rattle.std.specs.Prelude.{Option, Some, None, not, bit_and, ◌==◌}
 use Rattle.std.proofs.lemmas.Nat.{and_comm}
-use Rattle.bq_alu.specs.Meaning.{taken, compares, modulus}
+use Rattle.bq_bpf.specs.Meaning.{taken, compares, modulus}
 use Rattle.bq_insn.specs.declared.Width.{Width}
 use Rattle.bq_insn.specs.declared.Width.TheVariants.{W32, W64}
 use Rattle.bq_insn.specs.declared.Condition.{Condition}

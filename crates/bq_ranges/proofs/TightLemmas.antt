@@ -2,7 +2,7 @@
 use Rattle.std.proofs.Common.{◌≡◌, ℕ, ◌%◌, ◌≤◌, refl, sym, arith}
 use Rattle.std.specs.Prelude.{bit_and}
 use Rattle.std.proofs.lemmas.Nat.{and_le_l, and_le_r}
-use Rattle.bq_alu.specs.Meaning.{alu_result, modulus, operate}
+use Rattle.bq_bpf.specs.Meaning.{alu_result, modulus, operate}
 use Rattle.bq_insn.specs.declared.Width.{Width}
 use Rattle.bq_insn.specs.declared.Width.TheVariants.{W32, W64}
 use Rattle.bq_insn.specs.declared.Operation.{Operation}

@@ -6,7 +6,7 @@ use Rattle.bq_insn.specs.declared.Operation.{Operation}
 use Rattle.bq_insn.specs.declared.Operation.TheVariants.{Add, Mul, Rsh, Mov}
 use Rattle.bq_insn.specs.declared.Condition.{Condition}
 use Rattle.bq_insn.specs.declared.Condition.TheVariants.{Equal, NotEqual, Greater, GreaterEqual, Less, LessEqual, SignedGreater, SignedGreaterEqual, SignedLess, SignedLessEqual}
-use Rattle.bq_alu.specs.Meaning.{alu_result, modulus, taken}
+use Rattle.bq_bpf.specs.Meaning.{alu_result, modulus, taken}
 use Rattle.bq_ranges.specs.declared.range.Range.{Range}
 use Rattle.bq_ranges.specs.Within.{Within}
 

@@ -1,12 +1,12 @@
 //! Each arithmetic instruction on ranges.
 ghost use Rattle.std.specs.Prelude.{◌≡◌, ◌+◌, ◌-◌, ◌*◌, ◌/◌, ◌%◌, ◌^◌, ◌<◌, ◌≤◌, ℕ, bit_and, bit_or, bit_xor};
-ghost use Rattle.bq_alu.specs.Meaning.{alu_result, modulus, bit_count, operate};
+ghost use Rattle.bq_bpf.specs.Meaning.{alu_result, modulus, bit_count, operate};
 ghost use Rattle.bq_ranges.specs.Within.{Within};
 ghost use Rattle.bq_ranges.specs.Tight.{IsTight, IsTightAt, IsTightWithin};
 
 use crate::bits::{multiple_within, ones};
 use crate::range::{Range, greatest, sign};
-use bq_alu::words;
+use bq_bpf::words;
 use bq_insn::{Operation, Width};
 
 /// The results of an arithmetic instruction (RFC 9669 section 4.1) on members of the two ranges.

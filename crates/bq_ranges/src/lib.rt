@@ -1,7 +1,7 @@
 //! Intervals of words: one abstract domain, and what each instruction does to it.
 //!
 //! Every answer holds all possible results for possible values of the operands. The layer stands on
-//! the meaning of the instructions in `bq_alu`, and the verifier stands on it.
+//! the meaning of the instructions in `bq_bpf`, and the verifier stands on it.
 #![tactic(auto)]
 
 pub mod arithmetic;

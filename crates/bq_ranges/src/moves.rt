@@ -1,11 +1,11 @@
 //! NEG, sign extension and byte order on ranges.
 ghost use Rattle.std.specs.Prelude.{◌≡◌, ◌+◌, ℕ};
-ghost use Rattle.bq_alu.specs.Meaning.{negated, extended, reordered, modulus_of_bits};
+ghost use Rattle.bq_bpf.specs.Meaning.{negated, extended, reordered, modulus_of_bits};
 ghost use Rattle.bq_ranges.specs.Within.{Within};
 
 use crate::arithmetic::sub;
 use crate::range::{Range, greatest};
-use bq_alu::words;
+use bq_bpf::words;
 use bq_insn::{Bits, Order, Width};
 
 /// The words with their sign turned (RFC 9669 section 4.1, NEG).

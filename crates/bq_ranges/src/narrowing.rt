@@ -1,6 +1,6 @@
 //! What a branch says of its operand.
 ghost use Rattle.std.specs.Prelude.{◌≡◌, ◌≤◌, ◌<◌, ◌≢◌, ◌↔◌, ◌⊎◌, ℕ, IsTrue};
-ghost use Rattle.bq_alu.specs.Meaning.{compares, modulus, taken};
+ghost use Rattle.bq_bpf.specs.Meaning.{compares, modulus, taken};
 ghost use Rattle.bq_ranges.specs.Within.{Within, NarrowsTo, EndsAre};
 ghost use Rattle.bq_insn.specs.declared.Width.{Width as Wide};
 ghost use Rattle.bq_ranges.specs.Tight.{EndsGo, IsByOrder, IsSigned};

@@ -1,6 +1,6 @@
 //! The interval, and the intervals that need no instruction.
 ghost use Rattle.std.specs.Prelude.{◌≤◌, ◌<◌, ◌^◌, ◌+◌, ◌*◌, ◌≡◌};
-ghost use Rattle.bq_alu.specs.Meaning.{modulus};
+ghost use Rattle.bq_bpf.specs.Meaning.{modulus};
 
 use bq_insn::{Bits, Width};
 
@@ -15,7 +15,7 @@ pub struct Range {
 
 impl Range {
     ghost use Rattle.std.specs.Prelude.{min, max, ◌%◌, ℕ, ◌↔◌, IsTrue};
-    ghost use Rattle.bq_alu.specs.Meaning.{modulus_of_bits};
+    ghost use Rattle.bq_bpf.specs.Meaning.{modulus_of_bits};
     ghost use Rattle.bq_ranges.specs.Within.{Within};
 
     /// One word.

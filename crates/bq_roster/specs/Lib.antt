@@ -1,2 +1,4 @@
 pub mod Courses
 pub mod Accounts
+pub mod Dues
+pub mod Minima

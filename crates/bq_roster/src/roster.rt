@@ -2,12 +2,12 @@
 ghost use Rattle.std.specs.Prelude.{◌≡◌, ◌<◌, ◌++◌, [], ◌∷◌, None, Some, IfOk, IfErr, OnOk, slice_get, slice_set, length};
 ghost use Rattle.bq_roster.specs.Courses.{woken};
 ghost use Rattle.bq_roster.specs.Accounts.{accounts_of, charged, entered_by, IsDone, left_by, of_task, opening, passed, switched, taken_over};
-ghost use Rattle.bq_agenda.specs.Dues.{IsDue, place_of};
-ghost use Rattle.bq_agenda.specs.Minima.{at_place, never, ChangesOnly};
+ghost use Rattle.bq_roster.specs.Dues.{IsDue, place_of};
+ghost use Rattle.bq_roster.specs.Minima.{at_place, never, ChangesOnly};
 
 use crate::course::Course;
 use crate::lane::Lane;
-use bq_agenda::{Agenda, Due};
+use crate::{Agenda, Due};
 use std::alloc::{AllocError, Global};
 
 /// The latest instant: 2^48 - 1 nanoseconds.

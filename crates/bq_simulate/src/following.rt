@@ -13,7 +13,7 @@ use crate::simulation::Simulation;
 use crate::sound::soundness;
 use crate::tally::Tally;
 use bq_actions::{Setup, Workload};
-use bq_agenda::Due;
+use bq_roster::Due;
 use bq_core::Policy;
 use bq_driver::Driver;
 use bq_roster::{Pace, Roster};

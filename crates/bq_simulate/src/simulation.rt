@@ -11,7 +11,7 @@ ghost use Rattle.bq_simulate.specs.Steps.{AreJust, AreWake, KeepsOthers, Meet};
 use crate::fault::SimulateFault;
 use crate::tally::Tally;
 use bq_actions::{Length, Workload};
-use bq_agenda::Due;
+use bq_roster::Due;
 use bq_draws::Stream;
 use bq_driver::Driver;
 use bq_driver::calls::Moved;

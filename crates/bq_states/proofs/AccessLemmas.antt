@@ -4,7 +4,7 @@ use Rattle.std.specs.Prelude.{slice_get, slice_index, slice_index_or}
 use Rattle.std.proofs.lemmas.Option.{slice_get-get_or}
 use Rattle.std.proofs.Math.Nat.{mul-le-mul_left, mul-le-mul, pow-suc}
 use Rattle.std.specs.Int.{bytes_low_first}
-use Rattle.bq_alu.specs.Meaning.{word_of}
+use Rattle.bq_bpf.specs.Meaning.{word_of}
 use Rattle.bq_bpf.specs.declared.shape.MapShape.{MapShape}
 use Rattle.bq_bpf.specs.Memory.{Setting, State, Region, InContext, InEntry, Spans, IsEntry, IsGood, Reads, byte_at, number_of, HaveShapes}
 use Rattle.bq_bpf.specs.Steps.{address_of}

@@ -7,7 +7,7 @@ use Rattle.bq_insn.specs.declared.Size.TheVariants.{Double}
 use Rattle.std.specs.Int.{byte_at as byte_of, bytes_low_first}
 use Rattle.bq_states.proofs.StoreLemmas.{low_first_byte}
 use Rattle.bq_insn.specs.Slots.{byte_count}
-use Rattle.bq_alu.specs.Meaning.{word_of}
+use Rattle.bq_bpf.specs.Meaning.{word_of}
 use Rattle.bq_bpf.specs.declared.shape.MapShape.{MapShape}
 use Rattle.bq_bpf.specs.Memory.{Setting, State, Region, InStack, IsGood, Reads, byte_at, number_of}
 use Rattle.bq_bpf.specs.Steps.{loaded, Does, address_of, put}

@@ -7,7 +7,7 @@ use mir.Val.{SFits}
 use Rattle.bq_insn.specs.declared.Size.{Size}
 use Rattle.bq_insn.specs.declared.Width.TheVariants.{W64}
 use Rattle.bq_insn.specs.declared.Operation.TheVariants.{Add}
-use Rattle.bq_alu.specs.Meaning.{alu_result, operate, word_of}
+use Rattle.bq_bpf.specs.Meaning.{alu_result, operate, word_of}
 use Rattle.bq_insn.specs.Slots.{byte_count}
 use Rattle.bq_bpf.specs.declared.shape.MapShape.{MapShape}
 use Rattle.bq_ranges.specs.declared.range.Range.{Range}

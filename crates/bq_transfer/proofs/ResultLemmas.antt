@@ -1,6 +1,6 @@
 -- Words that arithmetic gives, and words on the sides of a test.
 use Rattle.std.proofs.Common.{true, false, ◌≢◌, ◌⊎◌, inl, inr, ◌≡◌, ℕ, ◌+◌, ◌-◌, ◌%◌, ◌^◌, ◌<◌, List, refl, arith}
-use Rattle.bq_alu.specs.Meaning.{alu_result, operate, taken, compares}
+use Rattle.bq_bpf.specs.Meaning.{alu_result, operate, taken, compares}
 use Rattle.bq_insn.specs.declared.Width.TheVariants.{W32, W64}
 use Rattle.bq_insn.specs.declared.Operation.TheVariants as op
 use Rattle.bq_insn.specs.declared.Condition.TheVariants as cond

@@ -8,7 +8,7 @@ use Rattle.bq_insn.specs.declared.Operation.{Operation}
 use Rattle.bq_insn.specs.declared.Operation.TheVariants.{Add, Mov}
 use Rattle.bq_insn.specs.declared.Width.{Width}
 use Rattle.bq_insn.specs.declared.Width.TheVariants.{W64}
-use Rattle.bq_alu.specs.Meaning.{word_of}
+use Rattle.bq_bpf.specs.Meaning.{word_of}
 use Rattle.bq_insn.specs.declared.Source.{Source}
 use Rattle.bq_insn.specs.declared.Source.TheVariants.{Imm, Reg}
 use Rattle.bq_graph.specs.Faults.{destination_of}

@@ -10,7 +10,7 @@ use Rattle.bq_insn.specs.declared.Size.{Size}
 use Rattle.bq_insn.specs.declared.Size.TheVariants.{Byte, Half, Word, Double}
 use Rattle.bq_insn.specs.declared.Insn.TheVariants.{StoreImm, StoreReg}
 use Rattle.bq_insn.specs.Slots.{byte_count}
-use Rattle.bq_alu.specs.Meaning.{word_of}
+use Rattle.bq_bpf.specs.Meaning.{word_of}
 use Rattle.bq_bpf.specs.declared.shape.MapShape.{MapShape}
 use Rattle.bq_bpf.specs.Memory.{Setting, State, Region, InStack, InEntry, IsGood, stack_with, written}
 use Rattle.bq_bpf.specs.Steps.{address_of, low_bytes, next}

@@ -1,7 +1,7 @@
 -- What is sure of a view after an instruction, by the view before it.
 use Rattle.std.specs.Prelude.{◌≡◌, ◌≢◌, ℕ, ◌+◌, ◌<◌, ◌≤◌, ℤ, pos, ◌+ℤ◌, Some, ◌⊎◌}
 use Rattle.bq_insn.specs.Slots.{byte_count}
-use Rattle.bq_alu.specs.Meaning.{word_of}
+use Rattle.bq_bpf.specs.Meaning.{word_of}
 use Rattle.bq_insn.specs.declared.Condition.TheVariants.{Equal, NotEqual}
 use Rattle.bq_insn.specs.declared.Condition.{Condition}
 use Rattle.bq_insn.specs.declared.Insn.TheVariants.{Alu, StoreImm, StoreReg, MapRef, Branch, Call}

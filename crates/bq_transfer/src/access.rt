@@ -1,7 +1,7 @@
 // Where an access by a register goes.
 
 ghost use Rattle.std.specs.Prelude.{Some, ◌≡◌, ◌^◌, ◌<◌, ℕ, IsOk, IfErr, IfOk};
-ghost use Rattle.bq_alu.specs.Meaning.{word_of};
+ghost use Rattle.bq_bpf.specs.Meaning.{word_of};
 ghost use Rattle.bq_insn.specs.declared.Insn.{Insn};
 ghost use Rattle.bq_transfer.specs.Doubts.{IsAccess, MayDoubt, ReadsOperand};
 ghost use Rattle.bq_transfer.specs.Ready.{IsPlaced};
@@ -17,7 +17,7 @@ use bq_states::places::{bound, stays};
 use bq_states::registers::known;
 
 /// What an instruction loads or stores: so many bytes, at that distance from where a register points.
-#[derive(Clone, Copy, Debug)]
+#[derive(Clone, Copy)]
 pub struct Access {
     pub size: Size,
     pub base: u8,
@@ -25,7 +25,7 @@ pub struct Access {
 }
 
 /// Where an access goes: what the pointer counts from, and the offsets from there.
-#[derive(Clone, Copy, Debug)]
+#[derive(Clone, Copy)]
 pub struct Location {
     pub kind: Kind,
     pub at: Range,

@@ -2,7 +2,7 @@
 
 ghost use Rattle.std.specs.Prelude.{◌≡◌, ◌≢◌, ◌<◌, length, IsTrue, IfSome, OnOk, IsOk, IfErr, List, ℕ, ℤ, Some};
 ghost use Rattle.bq_bpf.specs.declared.shape.MapShape.{MapShape};
-ghost use Rattle.bq_alu.specs.Meaning.{alu_result, word_of};
+ghost use Rattle.bq_bpf.specs.Meaning.{alu_result, word_of};
 ghost use Rattle.bq_transfer.specs.Doubts.{MayDoubt};
 ghost use Rattle.bq_states.specs.Standing.{Fact, Has, Scalar, Exact, Pointer, Stands, StandsAt, IsScalarOperand, IsGiven, IsMade, IsWord};
 ghost use Rattle.bq_transfer.specs.After.{After};

@@ -2,7 +2,7 @@
 
 ghost use Rattle.std.specs.Prelude.{◌≡◌, ◌<◌, ℕ, ℤ, IfOk, IfSome, IfErr, IsOk, OnOk, List, Some, true, false};
 ghost use Rattle.bq_insn.specs.declared.Insn.{Insn};
-ghost use Rattle.bq_alu.specs.Meaning.{taken, word_of};
+ghost use Rattle.bq_bpf.specs.Meaning.{taken, word_of};
 ghost use Rattle.bq_bpf.specs.declared.shape.MapShape.{MapShape};
 ghost use Rattle.bq_transfer.specs.Doubts.{MayDoubt, UsesWord};
 ghost use Rattle.bq_states.specs.Standing.{IsWord, Pointer, Stands};

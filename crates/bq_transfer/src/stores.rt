@@ -3,7 +3,7 @@
 ghost use Rattle.std.specs.Prelude.{◌≡◌, ◌≢◌, ◌+◌, ◌<◌, ◌≤◌, ◌^◌, ℕ, None, Some, length, IsOk, OnOk, IfOk, IfSome, IfErr};
 ghost use Rattle.bq_insn.specs.declared.Insn.{Insn};
 ghost use Rattle.bq_insn.specs.Slots.{byte_count};
-ghost use Rattle.bq_alu.specs.Meaning.{word_of};
+ghost use Rattle.bq_bpf.specs.Meaning.{word_of};
 ghost use Rattle.bq_bpf.specs.Memory.{Setting, State, InStack, written};
 ghost use Rattle.bq_bpf.specs.Steps.{low_bytes, next};
 ghost use Rattle.bq_ranges.specs.Within.{Within};

@@ -10,7 +10,7 @@ use Rattle.bq_insn.specs.declared.Condition.{Condition}
 use Rattle.bq_insn.specs.declared.Source.{Source}
 use Rattle.bq_insn.specs.declared.Source.TheVariants.{Reg}
 use Rattle.bq_insn.specs.Slots.{slots_of}
-use Rattle.bq_alu.specs.Meaning.{taken}
+use Rattle.bq_bpf.specs.Meaning.{taken}
 use Rattle.bq_bpf.specs.declared.shape.MapShape.{MapShape}
 use Rattle.bq_bpf.specs.declared.board.Call.{Call as Asked}
 use Rattle.bq_bpf.specs.Counters.{answer_of}

@@ -4,7 +4,7 @@ use bq_transfer::doubt::Doubt;
 use std::alloc::AllocError;
 
 /// Why the pass stops at an instruction.
-#[derive(Clone, Copy, Debug, PartialEq, Eq)]
+#[derive(Clone, Copy)]
 pub enum Stop {
     /// Something is not shown of it.
     Doubted(Doubt),

@@ -7,7 +7,7 @@ use std::alloc::{AllocError, AllocFailed};
 use std::fmt;
 
 /// A part of a document.
-#[derive(Clone, Copy, Debug)]
+#[derive(Clone, Copy)]
 pub(crate) enum Location<'a> {
     /// The document itself.
     Document,
@@ -57,7 +57,7 @@ fn task<W: fmt::Write>(
 }
 
 /// Why a document is no workload, with what it lends.
-#[derive(Clone, Copy, Debug)]
+#[derive(Clone, Copy)]
 pub(crate) enum Trouble<'a> {
     /// Something is wrong in it.
     At { place: Location<'a>, why: Why<'a> },

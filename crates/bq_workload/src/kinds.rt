@@ -23,7 +23,7 @@ const TASK: &str = "name count nice cpus slice start loops run sleep do";
 const SLICE: u64 = 3_000_000;
 
 /// What is said of the processors of a machine: their bits, and how many they are.
-#[derive(Clone, Copy, Debug)]
+#[derive(Clone, Copy)]
 pub(crate) struct Processors {
     pub(crate) all: u64,
     pub(crate) number: u8,
@@ -43,7 +43,7 @@ impl Processors {
 }
 
 /// The numbers of a kind.
-#[derive(Clone, Copy, Debug)]
+#[derive(Clone, Copy)]
 struct Numbers {
     count: u16,
     nice: i8,

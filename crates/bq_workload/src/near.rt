@@ -7,7 +7,7 @@ use strsim::levenshtein;
 const EDITS: usize = 2;
 
 /// The nearest so far of the words that may have been meant, and how many edits away it is.
-#[derive(Clone, Copy, Debug)]
+#[derive(Clone, Copy)]
 pub(crate) struct Near<'a> {
     best: Option<(usize, &'a str)>,
 }

@@ -5,14 +5,14 @@ use std::fmt;
 use toml::Value;
 
 /// A stretch of numbers, both ends included.
-#[derive(Clone, Copy, Debug, PartialEq, Eq)]
+#[derive(Clone, Copy)]
 pub(crate) struct Range {
     pub(crate) least: u64,
     pub(crate) greatest: u64,
 }
 
 /// What a key takes.
-#[derive(Clone, Copy, Debug, PartialEq, Eq)]
+#[derive(Clone, Copy)]
 pub(crate) enum Wanted {
     /// A duration in this range of nanoseconds.
     Time(Range),
@@ -35,7 +35,7 @@ pub(crate) enum Wanted {
 }
 
 /// What is wrong.
-#[derive(Clone, Copy, Debug)]
+#[derive(Clone, Copy)]
 pub(crate) enum Why<'a> {
     /// Such a table has no such key, but these words, with blanks between them.
     UnknownKey {

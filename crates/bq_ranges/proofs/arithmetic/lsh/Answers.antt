@@ -1,5 +1,5 @@
 use Rattle.std.proofs.Common.{◌≡◌, ◌^◌, ◌%◌, arith}
-use Rattle.bq_alu.specs.Meaning.{bit_count}
+use Rattle.bq_bpf.specs.Meaning.{bit_count}
 use Rattle.bq_ranges.proofs.OutcomeLemmas.{shifts_up}
 use Rattle.bq_ranges.proofs.arithmetic.lsh.Goals as goal
 

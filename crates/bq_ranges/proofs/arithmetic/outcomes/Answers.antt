@@ -1,5 +1,5 @@
 use Rattle.std.proofs.Common.{refl, arith}
-use Rattle.bq_alu.specs.Meaning.{operate}
+use Rattle.bq_bpf.specs.Meaning.{operate}
 use Rattle.bq_ranges.proofs.OutcomeLemmas.{as_word, held, held_bits, quotient_held, remainder_held, union_between, difference_between}
 use Rattle.bq_ranges.proofs.arithmetic.outcomes.Goals as goal
 

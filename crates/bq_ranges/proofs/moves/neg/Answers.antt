@@ -1,5 +1,5 @@
 use Rattle.std.proofs.Common.{◌-◌, ◌%◌, sym, zero-add, arith}
-use Rattle.bq_alu.specs.Meaning.{modulus}
+use Rattle.bq_bpf.specs.Meaning.{modulus}
 use Rattle.bq_ranges.proofs.moves.neg.Goals as goal
 
 pub returns-clause-holds : goal.returns-clause-holds

@@ -1,6 +1,6 @@
 use Rattle.std.proofs.Common.{refl, ap}
 use Rattle.std.specs.Prelude.{not}
-use Rattle.bq_alu.specs.Meaning.{compares}
+use Rattle.bq_bpf.specs.Meaning.{compares}
 use Rattle.bq_ranges.proofs.TestLemmas.{common_turned, same_turned}
 use Rattle.bq_ranges.proofs.narrowing.turned.Goals as goal
 

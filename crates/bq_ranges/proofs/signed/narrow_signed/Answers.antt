@@ -1,5 +1,5 @@
 use Rattle.std.proofs.Common.{◌≡◌, ◌<◌, true, false, arith}
-use Rattle.bq_alu.specs.Meaning.{modulus}
+use Rattle.bq_bpf.specs.Meaning.{modulus}
 use Rattle.bq_insn.specs.declared.Condition.TheVariants as cond
 use Rattle.bq_ranges.proofs.SignedLemmas.{at_most_below, at_most_trans, below_at_most, ends_meet, signed_meets}
 use Rattle.bq_ranges.proofs.signed.narrow_signed.Goals as goal

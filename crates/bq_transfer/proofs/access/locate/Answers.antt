@@ -2,7 +2,7 @@ use Rattle.std.proofs.Common.{◌≡◌, ◌≤◌, ◌+◌, true, arith, rules,
 use mir.Syntax.{w16}
 use mir.Val.{SFits}
 use Rattle.bq_insn.specs.Slots.{byte_count}
-use Rattle.bq_alu.specs.Meaning.{word_of}
+use Rattle.bq_bpf.specs.Meaning.{word_of}
 use Rattle.bq_transfer.proofs.LoadLemmas.{place_gives}
 use Rattle.bq_transfer.proofs.PlaceLemmas.{sum_is, placed_in}
 use Rattle.bq_transfer.proofs.access.locate.Goals as goal

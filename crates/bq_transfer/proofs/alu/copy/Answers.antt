@@ -1,6 +1,6 @@
 use Rattle.std.proofs.Common.{rules, ◌≡◌, ℕ, Some, refl, sym, subst, arith, length, ◌<◌}
 use Rattle.bq_insn.specs.declared.Operation.TheVariants.{Mov}
-use Rattle.bq_alu.specs.Meaning.{alu_result, word_of}
+use Rattle.bq_bpf.specs.Meaning.{alu_result, word_of}
 use Rattle.bq_states.specs.declared.abstract_state.AbstractValue.{AbstractValue}
 use Rattle.bq_states.specs.declared.abstract_state.AbstractState.{AbstractState}
 use Rattle.bq_states.specs.Standing.{Exact, IsMade, Stands}

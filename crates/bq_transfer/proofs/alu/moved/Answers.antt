@@ -1,7 +1,7 @@
 use Rattle.std.proofs.Common.{ℕ, sym, ap, ◌∙◌}
 use Rattle.bq_insn.specs.declared.Width.TheVariants.{W64}
 use Rattle.bq_insn.specs.declared.Operation.TheVariants.{Add}
-use Rattle.bq_alu.specs.Meaning.{alu_result}
+use Rattle.bq_bpf.specs.Meaning.{alu_result}
 use Rattle.bq_transfer.proofs.PlaceLemmas.{sum_is}
 use Rattle.bq_states.proofs.WordLemmas.{number_within}
 use Rattle.bq_transfer.proofs.ResultLemmas.{moved_up, moved_down}

@@ -1,6 +1,6 @@
 use Rattle.std.proofs.Common.{ℕ, Option, Some, refl, sym, subst, arith, length, ◌<◌}
 use Rattle.bq_insn.specs.declared.Insn.TheVariants.{Alu}
-use Rattle.bq_alu.specs.Meaning.{alu_result, word_of}
+use Rattle.bq_bpf.specs.Meaning.{alu_result, word_of}
 use Rattle.bq_states.specs.declared.abstract_state.Kind.TheVariants.{Stack}
 use Rattle.bq_states.specs.declared.abstract_state.AbstractValue.{AbstractValue}
 use Rattle.bq_states.specs.declared.abstract_state.AbstractState.{AbstractState}

@@ -1,6 +1,6 @@
 use Rattle.std.proofs.Common.{refl, arith, length, ◌<◌}
 use Rattle.bq_insn.specs.declared.Insn.TheVariants.{MovSx}
-use Rattle.bq_alu.specs.Meaning.{extended}
+use Rattle.bq_bpf.specs.Meaning.{extended}
 use Rattle.bq_transfer.proofs.PutLemmas.{carries_put}
 use Rattle.bq_states.proofs.WordLemmas.{describes_number}
 use Rattle.bq_transfer.proofs.moves.extend.Goals as goal

@@ -1,6 +1,6 @@
 use Rattle.std.proofs.Common.{refl, arith, length, ◌<◌}
 use Rattle.bq_insn.specs.declared.Insn.TheVariants.{Neg}
-use Rattle.bq_alu.specs.Meaning.{negated}
+use Rattle.bq_bpf.specs.Meaning.{negated}
 use Rattle.bq_transfer.proofs.PutLemmas.{carries_put}
 use Rattle.bq_states.proofs.WordLemmas.{describes_number}
 use Rattle.bq_transfer.proofs.moves.negate.Goals as goal

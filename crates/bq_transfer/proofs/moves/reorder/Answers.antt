@@ -1,6 +1,6 @@
 use Rattle.std.proofs.Common.{refl, arith, length, ◌<◌}
 use Rattle.bq_insn.specs.declared.Insn.TheVariants.{End}
-use Rattle.bq_alu.specs.Meaning.{reordered}
+use Rattle.bq_bpf.specs.Meaning.{reordered}
 use Rattle.bq_transfer.proofs.PutLemmas.{carries_put}
 use Rattle.bq_states.proofs.WordLemmas.{describes_number}
 use Rattle.bq_transfer.proofs.moves.reorder.Goals as goal

@@ -1,5 +1,5 @@
 use Rattle.std.proofs.Common.{◌≡◌, false, true, refl, arith, rules}
-use Rattle.bq_alu.specs.Meaning.{word_of}
+use Rattle.bq_bpf.specs.Meaning.{word_of}
 use Rattle.bq_states.specs.declared.abstract_state.AbstractValue.{AbstractValue}
 use Rattle.bq_states.specs.declared.abstract_state.Kind.TheVariants.{Number}
 use Rattle.bq_states.proofs.WordLemmas.{describes_number}
