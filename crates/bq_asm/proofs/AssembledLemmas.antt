@@ -124,6 +124,7 @@ label_distance_fits places slot name h k = by (lookup (bytes_eq name) places) (l
     by None l = tt
     by (Some at) l = near_fits at (slot + 1) l k
 
+-- instructions with all fields in their ranges, whose slots fit a program
 pub record AreFine (insns : List Insn) : Type 0 where
   pub in_range : list_all is_insn insns ≡ true
   pub fit : AllFit insns

@@ -24,6 +24,7 @@ use Rattle.bq_parts.specs.Moves.{taken_from, without_task, with_pulled, started_
 use Rattle.bq_parts.specs.Shares.{after_time, remarked, Decides}
 use Rattle.bq_parts.specs.Steps.{Performs}
 
+-- a processor's queue rises, and whatever stands at its hooks may stand there
 pub record IsWell (p : Processor) : Type 0 where
   pub rising : IsRising p.running.queue
   pub ready : AreReady p.hooks

@@ -6,6 +6,7 @@ use Rattle.bq_disc.specs.declared.queue.Entry.{Entry}
 use Rattle.bq_disc.specs.declared.queue.Entry.TheVariants.{Wake, Pull}
 use Rattle.bq_weights.specs.VirtualTime.{advance_of, shift_of, distance_of}
 
+-- what makes a discipline: its choices among tasks, and how it gives them times
 pub record Discipline : Type 0 where
   -- the task that should run, of those that are given
   pub choice : List Task → Option Task

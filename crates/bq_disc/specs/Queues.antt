@@ -3,6 +3,7 @@ use Rattle.std.specs.Prelude.{◌≡◌, ℕ, ◌<◌, ◌^◌, List, [], ◌∷
 use Rattle.std.specs.Coded.{Coded, code_by, coded×, coded_ℕ, coded_list}
 use Rattle.bq_disc.specs.Tasks.{Task, coded_task, with_id}
 
+-- the tasks that wait, and the mark of virtual time that is kept for them
 pub record Queue : Type 0 where
   pub members : List Task
   pub kept : ℕ

@@ -108,6 +108,7 @@ runs_before_due p now j m t d due e f =
 
 -- How far one gets beyond another's deadline
 
+-- each has a deadline; no task that runs is further than the start or another's deadline, and none by more than one charge
 pub record IsTimely (V r : ℕ) (p : Running) : Type 0 where
   pub due : EachIsDue p
   pub runs : (j : ℕ) (m t : Task) → p.current ≡ Some m → task_at j p ≡ Some t → m.v ≤ max V t.deadline

@@ -197,6 +197,7 @@ ever_close d reach P law V r p ss i j a b w h high new of le si sj f g =
 abbrev pub GotBy : Discipline → Running → List Step → ℕ → Task → Type 0
 GotBy d p ss i t = (u : Task) × (task_at i (after d p ss) ≡ Some u) × (u.v ≡ t.v + served_by i d p ss) × (u.weight ≡ t.weight) × (u.slice ≡ t.slice)
 
+-- one step takes a task on by what it is charged there, and changes neither its weight nor its slice
 record Moves (d : Discipline) (p : Running) (s : Step) (i : ℕ) (t u : Task) : Type 0 where
   v : u.v ≡ t.v + charged_by i p s
   weight : u.weight ≡ t.weight

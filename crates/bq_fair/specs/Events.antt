@@ -12,6 +12,7 @@ abbrev pub entries : Discipline → ℕ → List Task → List Step
 entries d kept [] = Decide ∷ []
 entries d kept (t ∷ tasks) = Enter (woken d kept t) ∷ entries d kept tasks
 
+-- each event is some steps at the processor
 pub record EventsAreSteps : Type 0 where
   -- Tick
   pub tick : (d : Discipline) (p : Running) (now : ℕ) → ticked d p now ≡ after d p (Pass now ∷ Decide ∷ [])

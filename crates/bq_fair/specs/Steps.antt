@@ -12,6 +12,7 @@ use Rattle.bq_eevdf.specs.Eevdf.{eevdf}
 use Rattle.bq_fair.specs.Histories.{HasRoom, rise, task_at, charge_of}
 use Rattle.bq_fair.specs.EevdfDeadlines.{HasDeadlines}
 
+-- one thing that comes to a processor
 pub data Step : Type 0 where
   -- the clock is read, and what has passed is charged
   Pass : ℕ → Step

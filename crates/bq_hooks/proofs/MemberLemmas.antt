@@ -7,6 +7,7 @@ use Rattle.std.specs.List.{flat_map, range_with_len, AllByRecursion}
 use Rattle.bq_disc.specs.Tasks.{Task}
 use Rattle.bq_hooks.specs.Contexts.{pull_header, PlaceFacts, PreemptFacts, PullFacts, place_header, place_bytes_below, preempt_bytes, pull_bytes, task_bytes, u32_bytes, u64_bytes, nobody, or_nobody, as_number, if_shown, if_any_shown}
 
+-- numbers below 256
 record AreBytes (xs : List ℕ) : Type 0 where
   all : AllByRecursion (λ b. b < 256) xs
 

@@ -29,6 +29,7 @@ pub record GoesBack (back : List (Option Insn)) (origins : List ℕ) (place slot
   pub place_is : place ≡ behind + slots
   pub stands : Stands back origins behind next
 
+-- a place of the copy has the copy of what stands at a slot of the program, and control goes on from it as it does there
 pub record IsPlaced (maps : ℕ) (old back : List (Option Insn)) (origins : List ℕ) (place from : ℕ) : Type 0 where
   pub original : Insn
   pub distance : ℤ

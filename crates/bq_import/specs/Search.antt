@@ -20,6 +20,7 @@ LeadsWell slots slot insn =
 abbrev pub WellAt : List (Option Insn) → ℕ → Type 0
 WellAt slots slot = (insn : Insn) → instruction_at slots slot ≡ Some insn → LeadsWell slots slot insn
 
+-- a program whose control goes from instructions to instructions alone
 pub record IsLinked (slots : List (Option Insn)) : Type 0 where
   pub good : AreGood slots
   pub short : length slots ≤ 4096

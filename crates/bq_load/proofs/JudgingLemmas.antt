@@ -125,6 +125,7 @@ only_held held bytes past not_long h = elim h.only [ inl e ↦ e | inr l ↦ abs
 
 -- ---- all bytes have the header of the first 44
 
+-- what was held and the piece that came begin with a header whose slots were judged, and the front is that header's bytes
 pub record Joined (front held piece bytes : List ℕ) (past : ℕ) (s : Spelled) (r : List ℕ) : Type 0 where
   pub header : Header
   pub good : IsHeader header

@@ -6,6 +6,7 @@ use Rattle.bq_disc.specs.OneProcessor.{Running, at_rest, present_at}
 use Rattle.bq_policies.specs.Attachments.{Attachments, none_attached}
 use Rattle.bq_parts.specs.declared.carried.Carried.{Carried}
 
+-- a processor: its tasks, the woken task that it is to place, and what stands at its hooks
 pub record Processor : Type 0 where
   pub running : Running
   pub hand : Option Carried

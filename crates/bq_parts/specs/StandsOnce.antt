@@ -31,6 +31,7 @@ standing_count id w = held_count id w.processors + placed_count id w.inboxes
 abbrev pub runnable_at : World → ℕ → List Task
 runnable_at w cpu = present_at (processor w cpu).running ++ inbox w cpu
 
+-- every task that is away from the lobby stands with the processors just once
 pub record StandsOnce (w : World) : Type 0 where
   -- an id that is away stands once with the processors, and no other id does
   pub away : (id : ℕ) → standing_count id w ≡ as_number (is_away (seat w id))

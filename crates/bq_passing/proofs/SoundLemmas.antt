@@ -65,6 +65,7 @@ each_append P (x ∷ xs) ys h k = (h.0, each_append P xs ys h.1 k)
 
 -- A fact that a discipline keeps of each task that is present
 
+-- what is so of a task stays so when it is charged, and is so of each that enters
 pub record IsKept (d : Discipline) (P : Task → Type 0) : Type 0 where
   pub weight : (t : Task) → P t → IsWeight t.weight
   pub ends : (t : Task) → P t → t.v ≤ 2 ^ 62
@@ -143,6 +144,7 @@ taken_weight d P k p (Some id) h u e = left_weight d P k p.kept (with_id id p.qu
 
 -- The world
 
+-- it is so of each task at a processor, and each that waits to come to one has a weight of the table
 pub record IsSoundWorld (P : Task → Type 0) (w : World) : Type 0 where
   pub running : (cpu : ℕ) → Holds P (processor w cpu).running
   pub hand : (cpu : ℕ) (c : Carried) → (processor w cpu).hand ≡ Some c → HasWeight c.task

@@ -42,6 +42,7 @@ step_sound : (d : Discipline) (P : Task → Type 0) → IsKept d P → (w : Worl
 step_sound d P k w e calls (Ok r) w' h s = performs_sound (policies d) P k w e calls r w' s h.0 h.1
 step_sound d P k w e calls (Err r) w' h s = rw h.1 s
 
+-- a world of so many processors, in order, with sound tasks
 record IsReached (P : Task → Type 0) (count : ℕ) (w : World) : Type 0 where
   many : count_in w ≡ count
   orderly : IsOrderly w
@@ -117,6 +118,7 @@ cfs_world_serves count at r i j w w' earlier es before calls given answers ss a 
 
 -- EEVDF: each that is present has a deadline too, and each that enters
 
+-- a task in its ranges, due no earlier than it stands and no later than one slice from there
 record IsTimed (t : Task) : Type 0 where
   range : InRange t
   due : IsDue t

@@ -10,6 +10,7 @@ pub record Attached : Type 0 where
   pub generation : ℕ
   pub maps : List (List ℕ)
 
+-- what is attached to the three hooks of a processor
 pub record Attachments : Type 0 where
   pub place : Attached
   pub preempt : Attached

@@ -19,6 +19,7 @@ pub record ArePolicyWords (rows : List Row) (w : PolicyWords) : Type 0 where
   pub maps : option_bytes w.maps ≡ first_of (codes "maps") rows
   pub format : option_bytes w.format ≡ first_of (codes "format") rows
 
+-- the words of `check`
 pub record AreCheckWords (rows : List Row) (w : CheckWords) : Type 0 where
   pub policy : ArePolicyWords rows w.policy
   pub explained : IsSet (codes "explain") rows w.is_explained
@@ -26,10 +27,12 @@ pub record AreCheckWords (rows : List Row) (w : CheckWords) : Type 0 where
   pub steps : option_bytes w.max_steps ≡ first_of (codes "max-steps") rows
   pub helpers : option_bytes w.helpers ≡ first_of (codes "helpers") rows
 
+-- how a run is told
 pub record AreTellingWords (rows : List Row) (w : TellingWords) : Type 0 where
   pub traced : IsSet (codes "trace") rows w.is_traced
   pub repeat : option_bytes w.repeat ≡ first_of (codes "repeat") rows
 
+-- the words of `run`
 pub record AreRunWords (rows : List Row) (w : RunWords) : Type 0 where
   pub policy : ArePolicyWords rows w.policy
   pub telling : AreTellingWords rows w.telling
@@ -37,6 +40,7 @@ pub record AreRunWords (rows : List Row) (w : RunWords) : Type 0 where
   pub time : option_bytes w.time ≡ first_of (codes "time") rows
   pub processor : option_bytes w.processor ≡ first_of (codes "processor") rows
 
+-- the words of `dis`
 pub record AreListWords (rows : List Row) (w : ListWords) : Type 0 where
   pub policy : ArePolicyWords rows w.policy
   pub slots : IsSet (codes "slots") rows w.has_slots

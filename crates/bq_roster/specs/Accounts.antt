@@ -6,6 +6,7 @@ use Rattle.bq_roster.specs.declared.lane.Lane.{Lane}
 use Rattle.bq_roster.specs.declared.roster.Roster.{Roster}
 use Rattle.bq_roster.specs.Courses.{run_for, moved_to}
 
+-- how far each task has come, and what each processor runs
 pub record Accounts : Type 0 where
   pub courses : List Course
   pub lanes : List Lane

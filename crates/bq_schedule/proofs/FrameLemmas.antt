@@ -72,6 +72,7 @@ pub record KeepsWorks (s s' : Figures) : Type 0 where
   pub tasks : length s'.tasks ≡ length s.tasks
   pub times : (id : ℕ) → (task_of s' id).time ≡ (task_of s id).time
 
+-- each processor runs what it ran
 pub record KeepsRunning (s s' : Figures) : Type 0 where
   pub at : (j : ℕ) → (processor_of s' j).running ≡ (processor_of s j).running
 

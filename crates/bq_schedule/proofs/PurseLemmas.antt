@@ -37,6 +37,7 @@ pub record Purse : Type 0 where
 abbrev pub purse : TaskFigures → Purse
 purse t = record { place = t.place; weight = t.weight; joined = t.joined; settled = t.settled }
 
+-- the weight at a processor, and what each unit of weight was given there
 pub record Pot : Type 0 where
   pub weight : ℕ
   pub shared : ℕ

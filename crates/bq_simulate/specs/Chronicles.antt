@@ -18,6 +18,7 @@ use Rattle.bq_roster.specs.Accounts.{Accounts, IsDone, changed_at, charged, ente
 use Rattle.bq_roster.specs.Courses.{fresh, woken}
 use Rattle.bq_simulate.specs.Actions.{IsOfKind, acted, asked_by, length_of, next_action}
 
+-- one thing that a simulation does
 pub data Deed : Type 0 where
   -- an event of the trace, with its answer
   Happens : Event → Reply → Deed
@@ -36,6 +37,7 @@ IsFrom a Asleep home from = from ≡ home
 IsFrom a Waiting home from = is_busy a from ≡ true
 IsFrom a stance home from = ⊥
 
+-- a task that may be woken from a processor: it has a course, and where it stands lets it be woken from there
 pub record IsWoken (a : Accounts) (from task : ℕ) : Type 0 where
   pub course : Course
   pub there : slice_get a.courses task ≡ Some course

@@ -17,6 +17,7 @@ use Rattle.bq_sizes.specs.declared.rule.Rule.TheVariants.{Cfs, Eevdf}
 use Rattle.bq_sizes.specs.declared.processor_count.ProcessorCount.{ProcessorCount}
 use Rattle.bq_sizes.specs.Sizes.{processors_in}
 
+-- the machine of a trace: its rule, its world and its counters
 pub record Driven : Type 0 where
   pub rule : Rule
   pub world : World

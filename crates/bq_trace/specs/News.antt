@@ -10,6 +10,7 @@ use Rattle.bq_trace.specs.Machines.{Driven}
 use Rattle.bq_trace.specs.Loading.{fault_line}
 use Rattle.bq_trace.specs.Texts.{event_line, bad_line, show_line, counter_line}
 
+-- what a line of a trace brings
 pub data News : Type 0 where
   -- a machine is made
   Opened : Rule → ProcessorCount → News

@@ -2,7 +2,7 @@
 ghost use Rattle.std.specs.Prelude.{◌≡◌, ◌<◌, ◌+◌, ◌++◌, ◌∷◌, [], OnOk, Ok, Err, codes, string_bytes};
 ghost use Rattle.std.specs.Fmt.{decimal};
 ghost use Rattle.bq_parts.specs.declared.reply.Reply.TheVariants.{Begun, Placed, Blocked};
-ghost use Rattle.bq_trace.specs.Texts.{task_text, who_text, run_text, spaced, reply_text, event_line, bad_line, counter_line};
+ghost use Rattle.bq_trace.specs.Texts.{task_text, who_text, spaced, reply_text, event_line, bad_line, counter_line};
 
 use bq_core::{By, Refusal, Reply};
 use std::alloc::AllocError;

@@ -23,6 +23,7 @@ abbrev pub lesser_of : ℕ × ℕ → Option (ℕ × ℕ) → ℕ × ℕ
 lesser_of a None = a
 lesser_of a (Some b) = if nat_lt a.0 b.0 || (a.0 == b.0 && nat_lt a.1 b.1) then a else b
 
+-- the tree, its length, its least key and the times of ids say the same of one rising list of tasks
 pub record IsSound (knowledge : Knowledge) (root : Option (Box Node Global)) (len : ℕ) (least : Option (ℕ × ℕ)) (times : List ℕ) : Type 0 where
   pub tree : IsTreeBehind knowledge root
   pub len_is : len ≡ length (in_order_behind root)

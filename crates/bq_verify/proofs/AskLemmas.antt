@@ -8,6 +8,7 @@ use Rattle.bq_bpf.specs.Steps.{IsCounterCall}
 use Rattle.bq_transfer.specs.Ready.{IsAsking, IsReady, IsReadyToAsk}
 use Rattle.bq_states.specs.declared.abstract_state.AbstractState.{AbstractState}
 
+-- a call of a counter, ready to ask it
 pub record Asked (view : AbstractState) (insn : Insn) : Type 0 where
   pub helper : ℤ
   pub is : insn ≡ Call helper

@@ -6,6 +6,7 @@ use Rattle.bq_bpf.specs.declared.shape.MapShape.{MapShape}
 use Rattle.bq_bpf.specs.declared.hook.Hook.{Hook}
 use Rattle.bq_bpf.specs.declared.hook.Version.{Version}
 
+-- a program that the verifier accepted, with what it was accepted for
 pub record Accepted : Type 0 where
   pub slots : List (Option Insn)
   pub shapes : List MapShape
