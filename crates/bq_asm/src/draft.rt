@@ -1,6 +1,6 @@
 //! What is known of the lines that have been read: labels, instructions, and the jumps that wait for labels.
-ghost use Rattle.std.specs.Prelude.{◌≡◌, ◌≤◌, ◌<◌, ◌+◌, [], Some, pos, length, map, option_map, IfOk, IfErr, OnOk, List};
-ghost use Rattle.bq_asm.specs.Lines.{Line, label_set, said, line_of, line_said, Instruction, Label};
+ghost use Rattle.std.specs.Prelude.{◌≡◌, ◌≤◌, ◌<◌, ◌+◌, [], Some, option_map, IfOk, IfErr, OnOk, List};
+ghost use Rattle.bq_asm.specs.Lines.{Line, label_set, line_of, line_said, Instruction, Label};
 ghost use Rattle.bq_asm.specs.Operands.{texts};
 
 use crate::fault::{AsmFault, Cause, refusal};

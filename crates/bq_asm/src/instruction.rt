@@ -1,5 +1,5 @@
 //! The instruction that a first word and its operands say.
-ghost use Rattle.std.specs.Prelude.{◌≡◌, List, [], ◌∷◌, length, Some, pos};
+ghost use Rattle.std.specs.Prelude.{◌≡◌, [], ◌∷◌, length, Some, pos};
 ghost use Rattle.bq_asm.specs.Operands.{kinds_of, lesser, with_next, listed, each_operand, kind_list, texts, insn_from, instruction_of};
 ghost use Rattle.bq_asm.specs.Text.{list_of};
 

@@ -4,7 +4,7 @@ ghost use Rattle.bq_disc.specs.Tasks.{Task};
 ghost use Rattle.bq_bounds.specs.Glances.{IsGlance};
 ghost use Rattle.bq_bounds.specs.Lags.{stretched};
 ghost use Rattle.bq_bounds.specs.Watches.{one_more};
-ghost use Rattle.bq_bounds.specs.LagWatches.{course_by, course_of, decided_in, forgotten, gone_on, lags_after, owing, unasked};
+ghost use Rattle.bq_bounds.specs.LagWatches.{course_by, course_of, decided_in, forgotten, gone_on, lags_after, unasked};
 
 use crate::charge::Charge;
 use crate::glance::Glance;

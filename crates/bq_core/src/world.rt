@@ -1,5 +1,5 @@
 //! The world and its events: the call by which everything else drives it.
-ghost use Rattle.std.specs.Prelude.{◌≡◌, ◌+◌, ◌≤◌, ◌<◌, List, [], ◌∷◌, Err, OnOk, OnErr, IfOk, IfErr, length, replicate, vec_len, vec_capacity};
+ghost use Rattle.std.specs.Prelude.{◌≡◌, ◌+◌, ◌≤◌, ◌<◌, List, [], ◌∷◌, Err, OnErr, IfOk, IfErr, length, vec_len, vec_capacity};
 ghost use Rattle.bq_parts.specs.World.{opening_world, processor, count_in};
 ghost use Rattle.bq_parts.specs.Choices.{policies};
 ghost use Rattle.bq_parts.specs.Steps.{WorldStep, WorldRun, ThroughAll};

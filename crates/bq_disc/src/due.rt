@@ -1,5 +1,5 @@
 //! When a task is due.
-ghost use Rattle.std.specs.Prelude.{◌≡◌, IfSome, Option, Some, None};
+ghost use Rattle.std.specs.Prelude.{◌≡◌, Option, Some, None};
 ghost use Rattle.bq_disc.specs.Dues.{is_earlier, earlier_of, earliest_of};
 
 /// A virtual deadline, and the id of the task that it is set for. Of equal deadlines that of the lesser id comes first.

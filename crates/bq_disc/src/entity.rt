@@ -1,5 +1,5 @@
 //! A task as the disciplines see it.
-ghost use Rattle.std.specs.Prelude.{◌≡◌, ℕ, ◌<◌, ◌≤◌, ◌^◌, Option, Some, None, pos};
+ghost use Rattle.std.specs.Prelude.{◌≡◌, ◌<◌, ◌≤◌, ◌^◌, Option, Some, None, pos};
 ghost use Rattle.bq_weights.specs.VirtualTime.{IsWeight};
 ghost use Rattle.bq_disc.specs.Tasks.{runs_before};
 ghost use Rattle.bq_disc.specs.Dues.{due_of};
@@ -25,7 +25,7 @@ pub struct Entity {
 impl Model for Entity {
     ghost use Rattle.std.specs.Prelude.{◌≤◌, ◌^◌};
     ghost use Rattle.bq_weights.specs.VirtualTime.{IsWeight};
-    ghost use Rattle.bq_disc.specs.Tasks.{Task, coded_task, IsProper};
+    ghost use Rattle.bq_disc.specs.Tasks.{Task, coded_task};
 
     ghost Value = { Task };
 

@@ -1,7 +1,6 @@
 //! A machine, and how far it was driven.
 ghost use Rattle.std.specs.Prelude.{◌≡◌, IfOk, OnOk};
-ghost use Rattle.bq_trace.specs.Machines.{opening_machine};
-ghost use Rattle.bq_driver.specs.Drives.{reading_of, Rises, Does, Drove, Starts};
+ghost use Rattle.bq_driver.specs.Drives.{reading_of, Rises, Does, Starts};
 ghost use Rattle.bq_trace.specs.News.{Gets};
 
 use crate::fault::DriveFault;

@@ -1,5 +1,5 @@
 //! The values of the figures in one run.
-ghost use Rattle.std.specs.Prelude.{◌≡◌, IfOk, map, All};
+ghost use Rattle.std.specs.Prelude.{◌≡◌, IfOk};
 ghost use Rattle.bq_figures.specs.Runs.{IsRunOf, number_at};
 
 use crate::naming::Figure;

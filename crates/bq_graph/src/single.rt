@@ -1,8 +1,8 @@
 //! Faults that one instruction has by itself.
-ghost use Rattle.std.specs.Prelude.{◌≡◌, ◌≢◌, ◌<◌, ◌≤◌, ◌+◌, ℕ, length, IsTrue, ◌↔◌, Some};
+ghost use Rattle.std.specs.Prelude.{◌≡◌, ◌≢◌, ◌<◌, ◌≤◌, ◌+◌, length, IsTrue, ◌↔◌, Some};
 ghost use Rattle.bq_bpf.specs.Steps.{instruction_at};
 ghost use Rattle.bq_graph.specs.Paths.{asks_counter};
-ghost use Rattle.bq_graph.specs.Faults.{destination_of, is_helper, IsBadJump, RunsOut, WritesFrame, CallsUnknown, HasFault, IsLeast};
+ghost use Rattle.bq_graph.specs.Faults.{destination_of, is_helper, IsBadJump, RunsOut, WritesFrame, CallsUnknown};
 
 use crate::cause::GraphCause;
 use crate::edges::{distance, instruction, landing, may_go_on};

@@ -14,7 +14,7 @@ pub struct Room<R: Drop> {
 }
 
 impl<R: Drop> Model for Room<R> {
-    ghost use Rattle.std.specs.Prelude.{◌≡◌, Bool, List, [], IfSome, is_some};
+    ghost use Rattle.std.specs.Prelude.{◌≡◌, Bool, [], IfSome, is_some};
 
     ghost Value = { Bool };
 

@@ -1,7 +1,6 @@
 //! What a place policy is shown.
-ghost use Rattle.std.specs.Prelude.{◌≡◌, ◌≤◌, ◌<◌, ◌^◌, ◌%◌, ◌+◌, ◌*◌, ◌++◌, min, length, take, slice_index, Option};
-ghost use Rattle.std.specs.List.{flat_map, range_with_len};
-ghost use Rattle.bq_hooks.specs.Contexts.{place_header, place_bytes_below, place_bytes_first, place_bytes_second, if_shown, if_any_shown, u32_bytes};
+ghost use Rattle.std.specs.Prelude.{◌≡◌, ◌≤◌, ◌<◌, ◌^◌, ◌%◌, ◌+◌, ◌*◌, ◌++◌, min, length, take, Option};
+ghost use Rattle.bq_hooks.specs.Contexts.{place_header, place_bytes_below, place_bytes_first, place_bytes_second, if_shown, if_any_shown};
 
 use crate::Loads;
 use crate::fields::{NOBODY, put_u32, put_u64};

@@ -1,8 +1,6 @@
 //! A copy of a program, written from its end: what is written is never moved, so that a jump's distance is known at once.
-ghost use Rattle.std.specs.Prelude.{◌≡◌, ◌<◌, ◌≤◌, ◌+◌, ◌-◌, ◌++◌, [], ◌∷◌, ℕ, ℤ, List, pos, true, length, replicate, reverse, OnOk, IfOk, IfErr, IfSome, IfNone, Option, Some, None};
-ghost use Rattle.bq_insn.specs.Slots.{slots_of, spread};
-ghost use Rattle.bq_insn.specs.Spelling.{is_insn};
-ghost use Rattle.bq_insn.specs.Laws.{Fits};
+ghost use Rattle.std.specs.Prelude.{◌≡◌, ◌<◌, ◌≤◌, ◌+◌, ◌-◌, ◌++◌, [], ◌∷◌, ℕ, List, replicate, OnOk, IfErr, IfSome, Option, Some, None};
+ghost use Rattle.bq_insn.specs.Slots.{slots_of};
 ghost use Rattle.bq_insn.specs.declared.Insn.{Insn};
 ghost use Rattle.bq_import.specs.Copies.{copied, is_reference, wide_copy};
 ghost use Rattle.bq_import.specs.Backward.{AreGood, IsBuilt, IsFront, IsLengthened, MayStand};

@@ -1,5 +1,5 @@
 //! Where jumps lead, of those that control may come to. It decides how good an order is, not whether it is right.
-ghost use Rattle.std.specs.Prelude.{◌≡◌, ◌<◌, length};
+ghost use Rattle.std.specs.Prelude.{◌≡◌, ◌<◌};
 ghost use Rattle.bq_import.specs.Search.{IsLinked};
 
 use crate::linked::targets;

@@ -3,9 +3,8 @@ ghost use Rattle.std.specs.Prelude.{◌≡◌, ◌<◌, ◌≤◌, ◌+◌, ℕ,
 ghost use Rattle.bq_insn.specs.Slots.{slots_of};
 ghost use Rattle.bq_bpf.specs.Steps.{LeadsTo, instruction_at};
 ghost use Rattle.bq_graph.specs.Edges.{distance_of, goes_on, IsStart, IsWhole};
-ghost use Rattle.bq_graph.specs.Faults.{RunsOut};
 ghost use Rattle.bq_import.specs.Backward.{AreGood};
-ghost use Rattle.bq_import.specs.Faults.{IsDisorder, LeadsNowhere};
+ghost use Rattle.bq_import.specs.Faults.{IsDisorder};
 ghost use Rattle.bq_import.specs.Search.{AreTargets, IsLinked, LeadsWell, WellAt};
 
 use crate::fault::Disorder;

@@ -1,10 +1,9 @@
 //! Putting an instruction in front, once everything to which control may go from it is in place.
-ghost use Rattle.std.specs.Prelude.{◌≡◌, ◌<◌, ◌≤◌, ◌+◌, ℕ, List, Option, pos, length, OnOk, IfErr, IfSome, IfNone, Some, None};
+ghost use Rattle.std.specs.Prelude.{◌≡◌, ◌<◌, ◌≤◌, ◌+◌, ℕ, List, Option, length, OnOk, IfErr, IfSome, IfNone, Some, None};
 ghost use Rattle.bq_insn.specs.declared.Insn.{Insn};
 ghost use Rattle.bq_bpf.specs.Steps.{instruction_at};
 ghost use Rattle.bq_graph.specs.Edges.{IsStart};
-ghost use Rattle.bq_import.specs.Copies.{Stands};
-ghost use Rattle.bq_import.specs.Backward.{AreGood, IsBuilt, IsFront, IsLengthened};
+ghost use Rattle.bq_import.specs.Backward.{IsBuilt, IsFront, IsLengthened};
 ghost use Rattle.bq_import.specs.Faults.{IsFull};
 ghost use Rattle.bq_import.specs.Search.{AreClosed, AreTargets, AreKnown, IsDone, IsLinked, IsReady, JumpsTo, place_at};
 

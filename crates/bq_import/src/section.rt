@@ -1,7 +1,5 @@
 //! From the bytes of a compiled program to instructions in order.
-ghost use Rattle.std.specs.Prelude.{◌≡◌, ◌≤◌, IfOk, IfSome, true, ℕ};
-ghost use Rattle.bq_insn.specs.Spelling.{is_well_formed};
-ghost use Rattle.bq_insn.specs.Laws.{AllFit};
+ghost use Rattle.std.specs.Prelude.{◌≡◌, ◌≤◌, IfOk};
 ghost use Rattle.bq_import.specs.Importing.{Imports};
 
 use crate::fault::Disorder;

@@ -2,7 +2,6 @@
 ghost use Rattle.std.specs.Prelude.{◌≡◌, ◌++◌, ◌⊎◌, ℕ, IfOk, List, length};
 ghost use Rattle.std.specs.List.{list_all};
 ghost use Rattle.std.specs.String.{string_bytes};
-ghost use Rattle.bq_asm.specs.Text.{listing_text};
 ghost use Rattle.bq_program.specs.HexText.{is_blank};
 ghost use Rattle.bq_import_command.specs.Text.{IsSection, IsTextOf, is_hex_byte};
 

@@ -1,5 +1,5 @@
 //! From bytes to instructions.
-ghost use Rattle.std.specs.Prelude.{◌≡◌, ◌≤◌, ◌%◌, ◌*◌, ◌++◌, length, drop, true, IfOk, IfErr};
+ghost use Rattle.std.specs.Prelude.{◌≡◌, ◌≤◌, ◌%◌, ◌*◌, ◌++◌, length, true, IfOk, IfErr};
 ghost use Rattle.bq_insn.specs.Spelling.{spelling, is_well_formed};
 ghost use Rattle.bq_insn.specs.Laws.{AllFit};
 ghost use Rattle.bq_insn.specs.Faults.{IsSlot, BeginsWith, FrontHasCause, HasFront, IsFault};

@@ -1,9 +1,9 @@
 //! A load: an image is verified once, a number is drawn, and what it stands for is installed at each processor.
-ghost use Rattle.std.specs.Prelude.{◌≡◌, ◌∷◌, ◌++◌, ◌<◌, ◌≤◌, ◌+◌, ℕ, [], true, None, Ok, Option, IfOk, IfErr, OnErr, All, length, vec_len, vec_capacity};
+ghost use Rattle.std.specs.Prelude.{◌≡◌, ◌∷◌, ◌++◌, ◌<◌, ◌≤◌, ◌+◌, ℕ, [], true, None, Ok, Option, IfOk, IfErr, OnErr, All, vec_len, vec_capacity};
 ghost use Rattle.std.specs.Option.{option_map};
 ghost use Rattle.bq_verify.specs.Accepted.{Accepted};
 ghost use Rattle.bq_seats.specs.Calls.{account_of};
-ghost use Rattle.bq_parts.specs.Refusals.{argument_refusal, is_for};
+ghost use Rattle.bq_parts.specs.Refusals.{is_for};
 ghost use Rattle.bq_parts.specs.declared.reply.Reply.TheVariants.{Drawn};
 ghost use Rattle.bq_cells.specs.Parts.{told_calls};
 ghost use Rattle.bq_machine.specs.Calls.{AreInstalls};

@@ -1,5 +1,5 @@
 //! Refusals that an event's arguments have in any world of so many processors.
-ghost use Rattle.std.specs.Prelude.{◌≡◌, ◌<◌, ◌≤◌, ◌^◌, ◌%◌, ℕ, Some, None};
+ghost use Rattle.std.specs.Prelude.{◌≡◌, ◌<◌, ◌≤◌, ◌^◌, ◌%◌, Some, None};
 ghost use Rattle.bq_parts.specs.Refusals.{argument_refusal};
 
 use crate::{Event, Hook, Policy, Refusal};

@@ -1,5 +1,5 @@
 //! One processor: its queue, the task that runs, the clock, the task in its hand, and what stands at its hooks.
-ghost use Rattle.std.specs.Prelude.{◌≡◌, ◌<◌, ◌≤◌, ◌^◌, ◌+◌, ℕ, [], length, Option, Some, None, IfSome, find, is_some};
+ghost use Rattle.std.specs.Prelude.{◌≡◌, ◌<◌, ◌≤◌, ◌^◌, ◌+◌, ℕ, [], Option, Some, None, IfSome, find, is_some};
 ghost use Rattle.std.specs.Option.{option_map};
 ghost use Rattle.bq_disc.specs.Tasks.{id_of, with_id};
 ghost use Rattle.bq_disc.specs.Queues.{follows, HasDistinctIds};

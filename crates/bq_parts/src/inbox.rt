@@ -1,6 +1,6 @@
 //! Tasks that were placed on a processor and have not entered its queue.
 ghost use Rattle.std.specs.Prelude.{◌≡◌, ◌<◌, ◌+◌, ◌^◌, [], ◌∷◌, ◌++◌, length, reverse};
-ghost use Rattle.bq_disc.specs.Chains.{task_of, IsLone, chain_behind, IsStraightBehind};
+ghost use Rattle.bq_disc.specs.Chains.{chain_behind, IsStraightBehind};
 
 use crate::Unlinked;
 use bq_disc::node::Link;

@@ -1,5 +1,5 @@
 //! A task that stands in no queue.
-ghost use Rattle.std.specs.Prelude.{◌≡◌, IfSome};
+ghost use Rattle.std.specs.Prelude.{◌≡◌};
 ghost use Rattle.bq_disc.specs.Chains.{task_of, IsLone};
 
 use bq_disc::Node;

@@ -1,5 +1,5 @@
 //! What stands at one hook.
-ghost use Rattle.std.specs.Prelude.{◌≡◌, [], true, length, Some, None, IfOk, IfSome, is_some};
+ghost use Rattle.std.specs.Prelude.{◌≡◌, true, length, Some, None, IfOk, IfSome, is_some};
 ghost use Rattle.std.specs.Option.{option_map};
 ghost use Rattle.bq_bpf.specs.Counters.{Through};
 ghost use Rattle.bq_bpf.specs.Hooks.{context_length_of};

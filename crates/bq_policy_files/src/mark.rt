@@ -1,9 +1,7 @@
 //! What one line of a text says of its program.
 ghost use Rattle.std.specs.Prelude.{◌≡◌, MatchOption, false};
-ghost use Rattle.std.specs.Str.{bytes_eq};
-ghost use Rattle.bq_words.specs.Words.{words};
 ghost use Rattle.bq_policy_files.specs.Heads.{IsMark};
-ghost use Rattle.bq_policy_files.specs.Marks.{is_key, key_word, mark_words};
+ghost use Rattle.bq_policy_files.specs.Marks.{is_key, key_word};
 
 use bq_words::next_word;
 

@@ -1,6 +1,6 @@
 //! NEG, sign extension and byte order on ranges.
 ghost use Rattle.std.specs.Prelude.{◌≡◌, ◌+◌, ℕ};
-ghost use Rattle.bq_bpf.specs.Meaning.{negated, extended, reordered, modulus_of_bits};
+ghost use Rattle.bq_bpf.specs.Meaning.{negated, extended, reordered};
 ghost use Rattle.bq_ranges.specs.Within.{Within};
 
 use crate::arithmetic::sub;

@@ -1,5 +1,5 @@
 //! How far a task has come in what it does.
-ghost use Rattle.std.specs.Prelude.{◌≡◌, ◌+◌, ◌≤◌, ◌^◌, ◌<◌, Some, None, IfSome, IfNone, IsTrue, ◌↔◌};
+ghost use Rattle.std.specs.Prelude.{◌≡◌, ◌+◌, ◌≤◌, ◌^◌, ◌<◌, Some, None, IfSome, IfNone, ◌↔◌};
 
 /// Where a task is.
 #[derive(Clone, Copy, Debug, PartialEq, Eq)]

@@ -1,6 +1,6 @@
 //! Who runs at a processor.
 ghost use Rattle.std.specs.Prelude.{◌≡◌};
-ghost use Rattle.bq_schedule.specs.Figures.{processor_of, task_of};
+ghost use Rattle.bq_schedule.specs.Figures.{task_of};
 ghost use Rattle.bq_schedule.specs.Running.{is_run_by, start_of, starts_as, begun, processor_runs, with_latency, task_started, task_preempted, stopped, started, switched, stop_of, stop_at, start_at};
 
 use crate::asking::count_if;

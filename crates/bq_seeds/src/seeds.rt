@@ -1,5 +1,5 @@
 //! A workload run with several seeds.
-ghost use Rattle.std.specs.Prelude.{◌≡◌, ◌≢◌, ◌<◌, ◌+◌, ◌≤◌, ◌^◌, length, vec_len, IfOk, OnOk, Err};
+ghost use Rattle.std.specs.Prelude.{◌≡◌, ◌≢◌, ◌<◌, ◌+◌, ◌≤◌, ◌^◌, vec_len, IfOk, OnOk, Err};
 ghost use Rattle.bq_seeds.specs.Seeds.{AreResults, AreRuns, Comes, IsRun, IsSummary};
 ghost use Rattle.bq_seeds.specs.declared.fault.SeedsFault.TheVariants.{Last};
 ghost use Rattle.bq_simulate.specs.Simulations.{with_seed};

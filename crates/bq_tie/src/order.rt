@@ -1,5 +1,5 @@
 //! Items that know their places, brought there in place and without memory.
-ghost use Rattle.std.specs.Prelude.{◌≡◌, ◌≤◌, ◌<◌, ℕ, length, slice_index_or};
+ghost use Rattle.std.specs.Prelude.{◌≡◌, ◌≤◌, ◌<◌, ℕ, length};
 ghost use Rattle.bq_tie.specs.Places.{IsAt, times, ArePlaced, AreFrom};
 ghost use Rattle.bq_tie.specs.Whole.{Each};
 

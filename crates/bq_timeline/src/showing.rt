@@ -1,6 +1,6 @@
 //! A timeline of a whole trace, from any reader to any writer.
-ghost use Rattle.std.specs.Prelude.{◌≡◌, ℕ, IfErr, OnOk};
-ghost use Rattle.bq_trace.specs.Counts.{inner_of, calls_of, failures_of};
+ghost use Rattle.std.specs.Prelude.{◌≡◌, IfErr, OnOk};
+ghost use Rattle.bq_trace.specs.Counts.{calls_of, failures_of};
 ghost use Rattle.bq_trace.specs.Faults.{IsFault, IsWriteFault};
 
 use crate::settings::Settings;

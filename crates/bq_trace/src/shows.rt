@@ -1,6 +1,5 @@
 //! The line that shows a processor.
 ghost use Rattle.std.specs.Prelude.{◌≡◌, ◌++◌, Some, OnOk, string_bytes};
-ghost use Rattle.std.specs.Option.{option_map};
 ghost use Rattle.bq_trace.specs.Texts.{entity_text, current_text, spaced_entities, processor_line, show_line};
 
 use crate::any_core::{AnyCore, Seen};

@@ -4,7 +4,6 @@ ghost use Rattle.std.specs.Prelude.{◌≡◌, ◌<◌, ◌≤◌, ◌+◌, ◌^
 ghost use Rattle.bq_insn.specs.declared.Insn.{Insn};
 ghost use Rattle.bq_bpf.specs.Memory.{Setting, State};
 ghost use Rattle.bq_bpf.specs.Steps.{instruction_at};
-ghost use Rattle.bq_bpf.specs.declared.shape.MapShape.{MapShape};
 ghost use Rattle.bq_graph.specs.Passes.{IsSound};
 ghost use Rattle.bq_transfer.specs.Doubts.{MayDoubt, ReadsOperand, UsesWord};
 ghost use Rattle.bq_verify.specs.Stops.{IsWantOfMemory, MayStop};

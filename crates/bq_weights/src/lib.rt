@@ -1,7 +1,7 @@
 //! Weights of nice values, and the scaling of time used by weight.
 #![tactic(auto)]
 
-ghost use Rattle.std.specs.Prelude.{◌≡◌, ℕ, ◌+◌, ◌-◌, ◌*◌, ◌/◌, ◌<◌, ◌≤◌, ◌^◌, pos, negsuc, ◌≤ℤ◌, slice_index};
+ghost use Rattle.std.specs.Prelude.{◌≡◌, ◌+◌, ◌-◌, ◌*◌, ◌/◌, ◌<◌, ◌≤◌, ◌^◌, pos, negsuc, ◌≤ℤ◌, slice_index};
 ghost use Rattle.bq_weights.specs.VirtualTime.{weights, weight_of, IsWeight, vdelta_of, advance_of, shift_of, held_within, distance_of};
 
 /// The greatest virtual time.

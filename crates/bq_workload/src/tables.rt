@@ -1,6 +1,5 @@
 //! Look-ups in the tables of a document.
 ghost use Rattle.std.specs.Prelude.{◌≡◌, option_map};
-ghost use Rattle.std.specs.Result.{result_ok};
 ghost use Rattle.toml.specs.Data.{get_member};
 ghost use Rattle.toml.specs.View.{view, table_view};
 ghost use Rattle.bq_workload.specs.Tables.{only_of};
