@@ -1,18 +1,12 @@
 //! What the program does for a job.
 ghost use Rattle.std.specs.Prelude.{◌≡◌, ℕ, true, IfOk, IfErr, OnOk, OnErr};
-ghost use Rattle.std.specs.String.{string_bytes};
-ghost use Rattle.std.specs.Io.KnownBytes.{Appends};
 ghost use Rattle.bq_trace.specs.Counts.{inner_of, calls_of, failures_of};
-ghost use Rattle.bq_trace.specs.Writing.{AppendsPart};
 ghost use Rattle.bq_trace.specs.Faults.{IsFault};
-ghost use Rattle.bq_program.specs.Asm.{AsmWrites};
-ghost use Rattle.bq_program.specs.Check.{CheckWrites};
-ghost use Rattle.bq_program.specs.Dis.{DisWrites};
-ghost use Rattle.bq_cli.specs.Performing.{AnswersAll, AsmPerforms, AsmPerformsInPart, BreaksOff, Performs, PerformsInPart, WritesPar, WritesParInPart};
+ghost use Rattle.bq_cli.specs.Performing.{AsmPerforms, AsmPerformsInPart, Performs, PerformsInPart, WritesPar, WritesParInPart};
 
 use crate::asked::{Job, Parallel};
-use crate::whole::read_whole;
-use bq_program::{Answer, Form, Options, assembled, checked, disassembled, refused_options};
+use crate::filter::{Checker, Disassembler, answer_all, write_answer};
+use bq_program::{Options, refused_options};
 use bq_trace::{Counted, ReplayFault, replay};
 use std::alloc::Global;
 use std::io::{Read, Write};
@@ -39,8 +33,8 @@ pub fn perform<T: Threads + Wait + Sync, R: Read, W: Write>(
 {
     match job {
         Job::Asm(options) => perform_asm(alloc, options, input, output),
-        Job::Check => perform_check(alloc, input, output),
-        Job::Dis => perform_dis(alloc, input, output),
+        Job::Check => answer_all(alloc, &Checker, input, output),
+        Job::Dis => answer_all(alloc, &Disassembler, input, output),
         Job::Par(parallel) => perform_par(rt, alloc, parallel, output),
         Job::Replay => replay(alloc, input, output),
     }
@@ -82,83 +76,10 @@ fn perform_asm<R: Read, W: Write>(
         (failures_of output.old) (failures_of output.new) (calls_of input.old) (calls_of input.new)) }
 {
     match options.form(alloc) {
-        Ok(form) => perform_assembly(alloc, &form, input, output),
+        Ok(form) => answer_all(alloc, &form, input, output),
         Err(fault) => {
             let answer = refused_options(alloc, fault)?;
             write_answer(&answer, output)
         }
     }
-}
-
-/// Reads an assembler text and writes what answers it in this form.
-fn perform_assembly<R: Read, W: Write>(
-    alloc: Global,
-    form: &Form,
-    input: &mut Counted<R>,
-    output: &mut Counted<W>,
-) -> Result<bool, ReplayFault>
-    ensures ok { IfOk result (AnswersAll (AsmWrites form.now) (R.remaining (inner_of input.old)) (R.remaining (inner_of input.new))
-        (W.contents (inner_of output.old)) (W.contents (inner_of output.new))) }
-    ensures reads { OnOk result (failures_of input.new ≡ failures_of input.old) }
-    ensures writes { OnOk result (failures_of output.new ≡ failures_of output.old) }
-    ensures part { OnErr result (BreaksOff (AsmWrites form.now) (R.remaining (inner_of input.old)) (R.remaining (inner_of input.new))
-        (W.contents (inner_of output.old)) (W.contents (inner_of output.new))) }
-    ensures fault { IfErr result (λ e. IsFault e (failures_of input.old) (failures_of input.new)
-        (failures_of output.old) (failures_of output.new) (calls_of input.old) (calls_of input.new)) }
-{
-    let text = read_whole(alloc, input)?;
-    let answer = assembled(alloc, form, text.as_slice())?;
-    write_answer(&answer, output)
-}
-
-/// Reads the hex of an image and writes what answers it.
-fn perform_check<R: Read, W: Write>(
-    alloc: Global,
-    input: &mut Counted<R>,
-    output: &mut Counted<W>,
-) -> Result<bool, ReplayFault>
-    ensures ok { IfOk result (AnswersAll CheckWrites (R.remaining (inner_of input.old)) (R.remaining (inner_of input.new))
-        (W.contents (inner_of output.old)) (W.contents (inner_of output.new))) }
-    ensures reads { OnOk result (failures_of input.new ≡ failures_of input.old) }
-    ensures writes { OnOk result (failures_of output.new ≡ failures_of output.old) }
-    ensures part { OnErr result (BreaksOff CheckWrites (R.remaining (inner_of input.old)) (R.remaining (inner_of input.new))
-        (W.contents (inner_of output.old)) (W.contents (inner_of output.new))) }
-    ensures fault { IfErr result (λ e. IsFault e (failures_of input.old) (failures_of input.new)
-        (failures_of output.old) (failures_of output.new) (calls_of input.old) (calls_of input.new)) }
-{
-    let hex = read_whole(alloc, input)?;
-    let answer = checked(alloc, hex.as_slice())?;
-    write_answer(&answer, output)
-}
-
-/// Reads the hex of a program and writes what answers it.
-fn perform_dis<R: Read, W: Write>(
-    alloc: Global,
-    input: &mut Counted<R>,
-    output: &mut Counted<W>,
-) -> Result<bool, ReplayFault>
-    ensures ok { IfOk result (AnswersAll DisWrites (R.remaining (inner_of input.old)) (R.remaining (inner_of input.new))
-        (W.contents (inner_of output.old)) (W.contents (inner_of output.new))) }
-    ensures reads { OnOk result (failures_of input.new ≡ failures_of input.old) }
-    ensures writes { OnOk result (failures_of output.new ≡ failures_of output.old) }
-    ensures part { OnErr result (BreaksOff DisWrites (R.remaining (inner_of input.old)) (R.remaining (inner_of input.new))
-        (W.contents (inner_of output.old)) (W.contents (inner_of output.new))) }
-    ensures fault { IfErr result (λ e. IsFault e (failures_of input.old) (failures_of input.new)
-        (failures_of output.old) (failures_of output.new) (calls_of input.old) (calls_of input.new)) }
-{
-    let hex = read_whole(alloc, input)?;
-    let answer = disassembled(alloc, hex.as_slice())?;
-    write_answer(&answer, output)
-}
-
-/// Writes what a command answers. True where it accepted its input.
-fn write_answer<W: Write>(answer: &Answer, output: &mut Counted<W>) -> Result<bool, ReplayFault>
-    ensures ok { IfOk result (λ accepted. (accepted ≡ answer.now.accepted)
-        × Appends (W.contents (inner_of output.old)) (W.contents (inner_of output.new)) (string_bytes answer.now.text)) }
-    ensures kept { OnOk result (failures_of output.new ≡ failures_of output.old) }
-    ensures part { OnErr result (AppendsPart (W.contents (inner_of output.old)) (W.contents (inner_of output.new)) (string_bytes answer.now.text)) }
-    ensures fault { IfErr result (λ e. (reads read calls after : ℕ) → IsFault e reads read (failures_of output.old) (failures_of output.new) calls after) }
-{
-    output.write_text(answer.text.as_bytes())?;
-    Ok(answer.accepted)
 }

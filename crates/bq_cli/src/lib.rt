@@ -6,6 +6,7 @@
 pub mod asked;
 mod asm_words;
 pub mod commands;
+mod filter;
 mod par_words;
 pub mod program;
 pub mod status;
