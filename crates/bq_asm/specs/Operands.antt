@@ -116,6 +116,11 @@ with_next (Ok o) (Err c) = Err c
 with_next (Err c) (Ok rest) = Err c
 with_next (Err c) (Err d) = Err (lesser c d)
 
+-- two operands as a list
+abbrev pub both : Result (Operand × Operand) Cause → Result (List Operand) Cause
+both (Err c) = Err c
+both (Ok p) = Ok (p.0 ∷ p.1 ∷ [])
+
 -- the operands that words write, or the least cause among them
 abbrev pub each_operand : List Kind → List (List ℕ) → Option ℤ → Result (List Operand) Cause
 each_operand [] [] distance = Ok []

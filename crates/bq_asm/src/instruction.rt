@@ -1,6 +1,6 @@
 //! The instruction that a first word and its operands say.
 ghost use Rattle.std.specs.Prelude.{◌≡◌, [], ◌∷◌, length, Some, pos};
-ghost use Rattle.bq_asm.specs.Operands.{kinds_of, lesser, with_next, listed, each_operand, kind_list, texts, insn_from, instruction_of};
+ghost use Rattle.bq_asm.specs.Operands.{kinds_of, lesser, with_next, both, listed, each_operand, kind_list, texts, insn_from, instruction_of};
 ghost use Rattle.bq_asm.specs.Text.{list_of};
 
 use crate::fault::Cause;
@@ -72,19 +72,16 @@ fn each_of(kinds: Kinds, words: &[&[u8]]) -> Result<Operands, Cause>
     requires { length words.now ≡ length (kind_list kinds) }
     ensures { listed result ≡ each_operand (kind_list kinds) (texts words.now) (Some (pos 0)) }
 {
-    match (kinds, words) {
-        (Kinds::Zero, []) => Ok(Operands::Zero),
-        (Kinds::One(first), [a]) => match operand_of(first, a) {
-            Ok(a) => Ok(Operands::One(a)),
-            Err(cause) => Err(cause),
-        },
-        (Kinds::Two(first, second), [a, b]) => two_of(operand_of(first, a), operand_of(second, b)),
-        (Kinds::Three(first, second, third), [a, b, c]) => three_of(
-            operand_of(first, a),
-            operand_of(second, b),
-            operand_of(third, c),
-        ),
-        _ => unreachable!(),
+    match kinds {
+        Kinds::Zero => Ok(Operands::Zero),
+        Kinds::One(only) => one_of(operand_of(only, words[0])),
+        Kinds::Two(first, second) => two_of(pair_of(first, second, words)),
+        Kinds::Three(first, second, third) => {
+            three_of(
+                operand_of(first, words[0]),
+                pair_of(second, third, &words[1..]),
+            )
+        }
     }
 }
 
@@ -99,32 +96,41 @@ fn count_of(kinds: Kinds) -> usize
     }
 }
 
-fn two_of(a: Result<Operand, Cause>, b: Result<Operand, Cause>) -> Result<Operands, Cause>
-    ensures { listed result ≡ with_next a (with_next b (Ok [])) }
+fn one_of(only: Result<Operand, Cause>) -> Result<Operands, Cause>
+    ensures { listed result ≡ with_next only (Ok []) }
 {
-    match (a, b) {
-        (Ok(a), Ok(b)) => Ok(Operands::Two(a, b)),
+    Ok(Operands::One(only?))
+}
+
+fn two_of(pair: Result<(Operand, Operand), Cause>) -> Result<Operands, Cause>
+    ensures { listed result ≡ both pair }
+{
+    let (a, b) = pair?;
+    Ok(Operands::Two(a, b))
+}
+
+/// Two operands, or the lesser of their causes.
+fn pair_of(first: Kind, second: Kind, words: &[&[u8]]) -> Result<(Operand, Operand), Cause>
+    requires { length words.now ≡ 2 }
+    ensures { both result ≡ each_operand (first ∷ second ∷ []) (texts words.now) (Some (pos 0)) }
+{
+    match (operand_of(first, words[0]), operand_of(second, words[1])) {
+        (Ok(a), Ok(b)) => Ok((a, b)),
         (Ok(_), Err(cause)) | (Err(cause), Ok(_)) => Err(cause),
         (Err(a), Err(b)) => Err(lesser(a, b)),
     }
 }
 
 fn three_of(
-    a: Result<Operand, Cause>,
-    b: Result<Operand, Cause>,
-    c: Result<Operand, Cause>,
+    first: Result<Operand, Cause>,
+    others: Result<(Operand, Operand), Cause>,
 ) -> Result<Operands, Cause>
-    ensures { listed result ≡ with_next a (with_next b (with_next c (Ok []))) }
+    ensures { listed result ≡ with_next first (both others) }
 {
-    match (a, b, c) {
-        (Ok(a), Ok(b), Ok(c)) => Ok(Operands::Three(a, b, c)),
-        (Ok(_), Ok(_), Err(cause)) | (Ok(_), Err(cause), Ok(_)) | (Err(cause), Ok(_), Ok(_)) => {
-            Err(cause)
-        }
-        (Ok(_), Err(a), Err(b)) | (Err(a), Ok(_), Err(b)) | (Err(a), Err(b), Ok(_)) => {
-            Err(lesser(a, b))
-        }
-        (Err(a), Err(b), Err(c)) => Err(lesser(a, lesser(b, c))),
+    match (first, others) {
+        (Ok(a), Ok((b, c))) => Ok(Operands::Three(a, b, c)),
+        (Ok(_), Err(cause)) | (Err(cause), Ok(_)) => Err(cause),
+        (Err(first), Err(others)) => Err(lesser(first, others)),
     }
 }
 
