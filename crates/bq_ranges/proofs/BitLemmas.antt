@@ -1,10 +1,9 @@
 -- What is left of a mask, signed shifts as shifts of numbers, and words without a common bit.
-use Rattle.std.proofs.Common.{◌≡◌, ℕ, ◌+◌, ◌-◌, ◌*◌, ◌/◌, ◌%◌, ◌^◌, ◌<◌, ◌≤◌, Bool, false, refl, sym, ◌∙◌, ap, arith}
+use Rattle.std.proofs.Common.{◌≡◌, ℕ, ◌+◌, ◌-◌, ◌*◌, ◌/◌, ◌%◌, ◌^◌, ◌<◌, ◌≤◌, false, arith}
 use Rattle.std.proofs.lemmas.Bool.Decides.{nat_tests}
 use Rattle.std.proofs.lemmas.Int.{ints}
-use Rattle.std.proofs.lemmas.Nat.{and_le_r, and_mod, mul-le, div-add-mod', le-div, pow_pos, or_lt}
-use Rattle.std.proofs.Math.Nat.{div-mul-le_self, div-le_self}
-use Rattle.std.specs.Prelude.{bit_and, bit_or}
+use Rattle.std.proofs.lemmas.Nat.{and_le_r, and_mod, mul-le, div-add-mod', pow_pos, or_lt}
+use Rattle.std.specs.Prelude.{bit_and}
 use Rattle.std.specs.Int.Bits.{or_add_and}
 use Rattle.bq_bpf.specs.Meaning.{bit_count, compares, modulus, operate}
 use Rattle.bq_insn.specs.declared.Condition.TheVariants as cond

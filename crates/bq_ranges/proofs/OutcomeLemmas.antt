@@ -110,8 +110,18 @@ shifts_up w a most n x greatest h p =
     least_word W64 = omega arith
 
 -- a product of members lies between the products of the ends
-pub products_held : (w : Width) (a b r : Range) (x y : ℕ) → r.lo ≡ a.lo * b.lo → r.hi ≡ a.hi * b.hi → r.hi < modulus w → Within a x → Within b y → Within r (x * y % modulus w)
-products_held w a b r x y low high fits p q =
+pub products_held : (w : Width) (a b : Range) (x y : ℕ) → a.hi * b.hi < modulus w → Within a x → Within b y → (a.lo * b.lo ≤ x * y % modulus w) × (x * y % modulus w ≤ a.hi * b.hi)
+products_held w a b x y fits p q =
     let least : a.lo * b.lo ≤ x * y = mul-le a.lo b.lo x y p.0 q.0 in
     let most : x * y ≤ a.hi * b.hi = mul-le x y a.hi b.hi p.1 q.1 in
-    held w r (x * y) fits (omega arith, omega arith)
+    rw (kept w (x * y) (omega arith)) (least, most)
+
+-- a quotient of members lies between the least by the greatest and the greatest by the least
+pub ratios_between : (a b : Range) (x y : ℕ) → 0 < b.lo → Within a x → Within b y → (a.lo / b.hi ≤ x / y) × (x / y ≤ a.hi / b.lo)
+ratios_between a b x y some p q =
+    let low : a.lo / b.hi * y ≤ a.lo = less (a.lo / b.hi) y b.hi a.lo q.1 (div-mul-le_self a.lo b.hi) in
+    let high : x / y * b.lo ≤ x = less (x / y) b.lo y x q.0 (div-mul-le_self x y) in
+    (le-div (a.lo / b.hi) x y (omega arith) (omega arith), le-div (x / y) a.hi b.lo some (omega arith))
+  where
+    less : (k m n z : ℕ) → m ≤ n → k * n ≤ z → k * m ≤ z
+    less k m n z h whole = let smaller : k * m ≤ k * n = mul-le k m k n (omega arith) h in omega arith

@@ -1,8 +1,8 @@
 -- What a signed comparison says of its two words.
-use Rattle.std.proofs.Common.{◌≡◌, ℕ, ◌+◌, ◌*◌, ◌^◌, ◌<◌, ◌≤◌, Bool, true, false, inl, inr, arith}
+use Rattle.std.proofs.Common.{◌≡◌, ℕ, ◌*◌, ◌<◌, Bool, true, false, arith}
 use Rattle.std.proofs.lemmas.Int.{ints}
-use Rattle.std.specs.Prelude.{◌⊎◌, int_le, int_lt, Option, Some, None}
-use Rattle.std.specs.Int.{w32, w64, cast_signed}
+use Rattle.std.specs.Prelude.{int_le, int_lt, Option, Some, None}
+use Rattle.std.specs.Int.{cast_signed}
 use Rattle.bq_bpf.specs.Meaning.{bytes_of, compares, modulus}
 use Rattle.bq_insn.specs.declared.Condition.{Condition}
 use Rattle.bq_insn.specs.declared.Condition.TheVariants as cond

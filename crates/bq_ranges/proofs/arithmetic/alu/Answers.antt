@@ -1,4 +1,5 @@
-use Rattle.std.proofs.Common.{arith}
+use Rattle.std.proofs.Common.{◌≡◌, ◌%◌, arith}
+use Rattle.bq_bpf.specs.Meaning.{modulus}
 use Rattle.bq_ranges.proofs.TightLemmas.{tight_within, reaches, common_below}
 use Rattle.bq_ranges.proofs.arithmetic.alu.Goals as goal
 
@@ -21,3 +22,20 @@ returns-clause-tight c = λ promised.
       low = reaches c.args.width c.args.op c.args.a c.args.b _ _ _ c.low.ensures.tight_low c.low-2.ensures.tight_low (c.outcomes.ensures.tight_low within);
       high = reaches c.args.width c.args.op c.args.a c.args.b _ _ _ c.low.ensures.tight_high c.low-2.ensures.tight_high (c.outcomes.ensures.tight_high within);
     }
+
+pub returns-then-is_single-2-clause-holds : goal.returns-then-is_single-2-clause-holds
+returns-then-is_single-2-clause-holds c = λ x y p q.
+    let left : x ≡ c.args.a.lo = omega (arith, c.is_single.ensures.0 c.if-is_single.true) in
+    let right : y ≡ c.args.b.lo = omega (arith, c.is_single-then-is_single.ensures.0 c.if-is_single-2.true) in
+    rw (left, right) (omega arith)
+
+pub returns-then-is_single-2-clause-tight : goal.returns-then-is_single-2-clause-tight
+returns-then-is_single-2-clause-tight c = λ promised.
+    record {
+      low = (c.args.a.lo, c.args.b.lo, (omega arith, omega arith), (omega arith, omega arith), omega arith);
+      high = (c.args.a.lo, c.args.b.lo, (omega arith, omega arith), (omega arith, omega arith), omega arith);
+    }
+
+pub returns-clause-holds : goal.returns-clause-holds
+returns-clause-holds c = λ x y p q.
+    c.outcomes.ensures.holds (x % modulus c.args.width) (y % modulus c.args.width) (c.low.ensures.holds x p) (c.low-2.ensures.holds y q)

@@ -1,5 +1,5 @@
-use Rattle.std.proofs.Common.{◌≡◌, ◌<◌, ◌≤◌, ◌^◌, ◌%◌, arith}
-use Rattle.bq_bpf.specs.Meaning.{bit_count, operate}
+use Rattle.std.proofs.Common.{◌≡◌, arith}
+use Rattle.bq_bpf.specs.Meaning.{operate}
 use Rattle.bq_insn.specs.declared.Operation.TheVariants as op
 use Rattle.bq_ranges.proofs.BitLemmas.{plain_shift, sign_shifts}
 use Rattle.bq_ranges.proofs.OutcomeLemmas.{held, held_by_all}

@@ -1,6 +1,6 @@
 use Rattle.std.proofs.Common.{◌≡◌, ◌%◌, ◌^◌, inl, inr, sym, ◌∙◌, arith}
 use Rattle.bq_bpf.specs.Meaning.{modulus}
-use Rattle.bq_ranges.specs.Tight.{EndsGo, IsSigned}
+use Rattle.bq_ranges.specs.Tight.{IsSigned}
 use Rattle.bq_ranges.proofs.TestLemmas.{as_words}
 use Rattle.bq_ranges.proofs.narrowing.narrow.Goals as goal
 
