@@ -49,8 +49,7 @@ fn outcomes(width: Width, op: Operation, a: Range, b: Range) -> Range
         Operation::Rsh => rsh(width, a, b),
         Operation::Rem => rem(a, b),
         Operation::Mov => b,
-        Operation::Sdiv => Range::full(width),
-        Operation::Srem => Range::full(width),
+        Operation::Sdiv | Operation::Srem => Range::full(width),
         Operation::Arsh => arsh(width, a, b),
     }
 }

@@ -1,6 +1,6 @@
 use Rattle.std.proofs.Common.{refl, arith}
 use Rattle.bq_bpf.specs.Meaning.{operate}
-use Rattle.bq_ranges.proofs.OutcomeLemmas.{as_word, held, held_bits, quotient_held, remainder_held, union_between, difference_between}
+use Rattle.bq_ranges.proofs.OutcomeLemmas.{as_word, held, held_bits, held_by_all, quotient_held, remainder_held, union_between, difference_between}
 use Rattle.bq_ranges.proofs.arithmetic.outcomes.Goals as goal
 
 pub returns-in-Add-clause-holds : goal.returns-in-Add-clause-holds
@@ -100,3 +100,6 @@ returns-in-Mov-clause-tight_high c = λ h. rw c.in-Mov.is (as_word c.args.width 
 pub returns-in-Arsh-clause-holds : goal.returns-in-Arsh-clause-holds
 unfolding operate
 returns-in-Arsh-clause-holds c = λ x y p q. rw c.in-Arsh.is (c.arsh.ensures x y p q)
+
+pub returns-in-Sdiv-clause-holds : goal.returns-in-Sdiv-clause-holds
+returns-in-Sdiv-clause-holds c = λ x y p q. held_by_all c.args.width c.full.result _ c.full.ensures.lo c.full.ensures.hi
