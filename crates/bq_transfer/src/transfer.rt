@@ -40,16 +40,19 @@ pub fn transfer(
             op,
             dst,
             src,
-        } => alu(view, width, op, dst, src)?,
+        } => alu(view, width, op, dst, src),
         Insn::MovSx {
             width,
             bits,
             dst,
             src,
-        } => extend(view, width, bits, dst, src)?,
-        Insn::Neg { width, dst } => negate(view, width, dst)?,
-        Insn::End { kind, bits, dst } => reorder(view, kind, bits, dst)?,
-        Insn::Imm64 { dst, value } => immediate(view, dst, value),
+        } => extend(view, width, bits, dst, src),
+        Insn::Neg { width, dst } => negate(view, width, dst),
+        Insn::End { kind, bits, dst } => reorder(view, kind, bits, dst),
+        Insn::Imm64 { dst, value } => {
+            immediate(view, dst, value);
+            Ok(())
+        }
         Insn::Load {
             size,
             signed,
@@ -62,7 +65,7 @@ pub fn transfer(
                 base: src,
                 off,
             };
-            load(view, shapes, context, access, signed, dst)?
+            load(view, shapes, context, access, signed, dst)
         }
         Insn::StoreImm {
             size,
@@ -75,7 +78,7 @@ pub fn transfer(
                 base: dst,
                 off,
             };
-            store_imm(view, shapes, context, access, imm)?
+            store_imm(view, shapes, context, access, imm)
         }
         Insn::StoreReg {
             size,
@@ -88,13 +91,12 @@ pub fn transfer(
                 base: dst,
                 off,
             };
-            store_reg(view, shapes, context, access, src)?
+            store_reg(view, shapes, context, access, src)
         }
-        Insn::MapRef { dst, index } => map_ref(view, shapes, dst, index)?,
-        Insn::Call { helper } => call(view, shapes, context, helper)?,
+        Insn::MapRef { dst, index } => map_ref(view, shapes, dst, index),
+        Insn::Call { helper } => call(view, shapes, context, helper),
         Insn::Goto { .. } | Insn::Goto32 { .. } | Insn::Branch { .. } | Insn::Exit => {
             unreachable!()
         }
     }
-    Ok(())
 }

@@ -1,165 +1,172 @@
-use Rattle.std.proofs.Common.{subst, sym, refl, inl, inr, ℤ, ◌+◌, false, true, arith, ◌≡◌, rules}
+use Rattle.std.proofs.Common.{subst, sym, refl, inl, inr, ◌+◌, arith, ◌≡◌, rules}
+use Rattle.std.proofs.lemmas.Result.{on_ok_weaker}
 use Rattle.bq_insn.specs.declared.Insn.{Insn}
 use Rattle.bq_insn.specs.Slots.{byte_count}
-use Rattle.bq_states.specs.declared.abstract_state.Kind.TheVariants.{Entry, Stack}
 use Rattle.bq_states.specs.declared.abstract_state.AbstractState.{AbstractState}
-use Rattle.bq_transfer.specs.After.{After}
 use Rattle.bq_states.specs.Standing.{Has}
-use Rattle.bq_transfer.specs.Ready.{IsPlaced, IsReady, WritesBelowFrame}
+use Rattle.bq_transfer.specs.Ready.{WritesBelowFrame}
 use Rattle.bq_states.proofs.MergeLemmas.{some_none}
-use Rattle.bq_transfer.proofs.StandingLemmas.{bytes_at, has_left, has_stored}
-use Rattle.bq_insn.specs.declared.Insn.TheVariants.{Call, Load, MapRef, StoreImm, StoreReg}
+use Rattle.bq_transfer.proofs.StandingLemmas.{bytes_at, has_given, has_left, has_named, has_stored}
+use Rattle.bq_insn.specs.declared.Insn.TheVariants.{Load, MovSx, Neg, End, Imm64, StoreImm, StoreReg}
 use mir.Syntax.{w16, w32}
 use mir.Val.{SFits, to_z, of_z}
 use Rattle.std.proofs.lemmas.Int.{ints}
-use Rattle.bq_transfer.specs.Transfers.{Transfers}
 use Rattle.bq_transfer.proofs.transfer.transfer.Goals as goal
 
-pub returns-in_ok-alu-in-Alu-clause-transfers : goal.returns-in_ok-alu-in-Alu-clause-transfers
-returns-in_ok-alu-in-Alu-clause-transfers c = rw c.in-Alu.is (c.in_ok-alu-in-Alu.ensures.transfers c.args.shapes.now c.args.context)
+pub returns-in-Alu-clause-transfers : goal.returns-in-Alu-clause-transfers
+returns-in-Alu-clause-transfers c =
+    rw c.in-Alu.is (on_ok_weaker c.alu.result (λ carries. carries c.args.shapes.now c.args.context) c.alu.ensures.transfers)
 
-pub returns-in_err-alu-in-Alu-clause-accepts : goal.returns-in_err-alu-in-Alu-clause-accepts
-returns-in_err-alu-in-Alu-clause-accepts c = λ ready.
-    let here = subst (λ (i : Insn). IsReady c.args.shapes.now c.args.context c.args.view.now i) c.in-Alu.is ready in
-    absurd (let ok : false ≡ true = (c.in_err-alu-in-Alu.ensures.accepts c.args.shapes.now c.args.context here).0 in let no : ⊥ = cc in no)
+pub returns-in-Alu-clause-accepts : goal.returns-in-Alu-clause-accepts
+returns-in-Alu-clause-accepts c = rw c.in-Alu.is (c.alu.ensures.accepts c.args.shapes.now c.args.context)
 
-pub returns-in_ok-alu-in-Alu-clause-accepts : goal.returns-in_ok-alu-in-Alu-clause-accepts
-returns-in_ok-alu-in-Alu-clause-accepts c = λ ready.
-    let here = subst (λ (i : Insn). IsReady c.args.shapes.now c.args.context c.args.view.now i) c.in-Alu.is ready in
-    (refl, λ x slot k after. (c.in_ok-alu-in-Alu.ensures.accepts c.args.shapes.now c.args.context here).1 x slot k (subst (λ (i : Insn). After x slot k i c.args.view.now) c.in-Alu.is after))
+pub returns-in-MovSx-clause-transfers : goal.returns-in-MovSx-clause-transfers
+returns-in-MovSx-clause-transfers c =
+    rw c.in-MovSx.is (on_ok_weaker c.extend.result (λ carries. carries c.args.shapes.now c.args.context) c.extend.ensures.transfers)
 
-pub returns-in_ok-call-in-Call-clause-transfers : goal.returns-in_ok-call-in-Call-clause-transfers
-returns-in_ok-call-in-Call-clause-transfers c =
-    let fits : SFits w32 c.in-Call.helper = search rules in
-    let same : to_z w32 (of_z w32 c.in-Call.helper) ≡ c.in-Call.helper = omega (arith, ints) in
-    rw c.in-Call.is (subst (λ (helper : ℤ). Transfers c.args.shapes.now c.args.context (Call helper) c.args.view.now c.call.new.view) same c.in_ok-call-in-Call.ensures.transfers)
+pub returns-in-MovSx-clause-accepts : goal.returns-in-MovSx-clause-accepts
+returns-in-MovSx-clause-accepts c =
+    rw c.in-MovSx.is
+    (λ ready.
+    let given = c.extend.ensures.accepts ready.1 in
+    (given.0, λ x slot k after. has_given x slot k (MovSx c.in-MovSx.width c.in-MovSx.bits c.in-MovSx.dst c.in-MovSx.src) c.args.view.now c.extend.new.view c.in-MovSx.dst refl (λ kind o r gives. gives) (λ n r gives. absurd gives) given.1 after))
 
-pub returns-in_ok-load-in-Load-clause-transfers : goal.returns-in_ok-load-in-Load-clause-transfers
-returns-in_ok-load-in-Load-clause-transfers c =
-    let fits : SFits w16 c.in-Load.off = search rules in
-    let same : to_z w16 (of_z w16 c.in-Load.off) ≡ c.in-Load.off = omega (arith, ints) in
+pub returns-in-Neg-clause-transfers : goal.returns-in-Neg-clause-transfers
+returns-in-Neg-clause-transfers c =
+    rw c.in-Neg.is (on_ok_weaker c.negate.result (λ carries. carries c.args.shapes.now c.args.context) c.negate.ensures.transfers)
+
+pub returns-in-Neg-clause-accepts : goal.returns-in-Neg-clause-accepts
+returns-in-Neg-clause-accepts c =
+    rw c.in-Neg.is
+    (λ ready.
+    let given = c.negate.ensures.accepts ready.1 in
+    (given.0, λ x slot k after. has_given x slot k (Neg c.in-Neg.width c.in-Neg.dst) c.args.view.now c.negate.new.view c.in-Neg.dst refl (λ kind o r gives. gives) (λ n r gives. absurd gives) given.1 after))
+
+pub returns-in-End-clause-transfers : goal.returns-in-End-clause-transfers
+returns-in-End-clause-transfers c =
+    rw c.in-End.is (on_ok_weaker c.reorder.result (λ carries. carries c.args.shapes.now c.args.context) c.reorder.ensures.transfers)
+
+pub returns-in-End-clause-accepts : goal.returns-in-End-clause-accepts
+returns-in-End-clause-accepts c =
+    rw c.in-End.is
+    (λ ready.
+    let given = c.reorder.ensures.accepts ready.1 in
+    (given.0, λ x slot k after. has_given x slot k (End c.in-End.kind c.in-End.bits c.in-End.dst) c.args.view.now c.reorder.new.view c.in-End.dst refl (λ kind o r gives. gives) (λ n r gives. absurd gives) given.1 after))
+
+pub returns-in-Load-clause-transfers : goal.returns-in-Load-clause-transfers
+returns-in-Load-clause-transfers c =
+    let fits_off : SFits w16 c.in-Load.off = search rules in
+    let off : to_z w16 (of_z w16 c.in-Load.off) ≡ c.in-Load.off = omega (arith, ints) in
+    rw c.in-Load.is (rw off at c.load.ensures.transfers)
+
+pub returns-in-Load-clause-accepts : goal.returns-in-Load-clause-accepts
+returns-in-Load-clause-accepts c =
+    let fits_off : SFits w16 c.in-Load.off = search rules in
+    let off : to_z w16 (of_z w16 c.in-Load.off) ≡ c.in-Load.off = omega (arith, ints) in
     rw c.in-Load.is
-    (subst (λ (off : ℤ). Transfers c.args.shapes.now c.args.context (Load c.in-Load.size c.in-Load.signed c.in-Load.dst c.in-Load.src off) c.args.view.now c.load.new.view) same c.in_ok-load-in-Load.ensures.transfers)
+    (λ ready.
+    let given = (rw off at c.load.ensures.accepts) ready.1 in
+    (given.0, λ x slot k after. has_given x slot k (Load c.in-Load.size c.in-Load.signed c.in-Load.dst c.in-Load.src c.in-Load.off) c.args.view.now c.load.new.view c.in-Load.dst refl (λ kind o r gives. gives) (λ n r gives. absurd gives) given.1 after))
 
-pub returns-in_ok-map_ref-in-MapRef-clause-transfers : goal.returns-in_ok-map_ref-in-MapRef-clause-transfers
-returns-in_ok-map_ref-in-MapRef-clause-transfers c =
-    let fits : SFits w32 c.in-MapRef.index = search rules in
-    let same : to_z w32 (of_z w32 c.in-MapRef.index) ≡ c.in-MapRef.index = omega (arith, ints) in
-    rw c.in-MapRef.is
-    (subst (λ (index : ℤ). Transfers c.args.shapes.now c.args.context (MapRef c.in-MapRef.dst index) c.args.view.now c.map_ref.new.view) same (c.in_ok-map_ref-in-MapRef.ensures.transfers c.args.context))
+pub returns-in-StoreImm-clause-transfers : goal.returns-in-StoreImm-clause-transfers
+returns-in-StoreImm-clause-transfers c =
+    let fits_off : SFits w16 c.in-StoreImm.off = search rules in
+    let off : to_z w16 (of_z w16 c.in-StoreImm.off) ≡ c.in-StoreImm.off = omega (arith, ints) in
+    let fits_imm : SFits w32 c.in-StoreImm.imm = search rules in
+    let imm : to_z w32 (of_z w32 c.in-StoreImm.imm) ≡ c.in-StoreImm.imm = omega (arith, ints) in
+    rw c.in-StoreImm.is (rw (off, imm) at c.store_imm.ensures.transfers)
 
-pub returns-in_ok-extend-in-MovSx-clause-transfers : goal.returns-in_ok-extend-in-MovSx-clause-transfers
-returns-in_ok-extend-in-MovSx-clause-transfers c = rw c.in-MovSx.is (c.in_ok-extend-in-MovSx.ensures.transfers c.args.shapes.now c.args.context)
-
-pub returns-in_ok-negate-in-Neg-clause-transfers : goal.returns-in_ok-negate-in-Neg-clause-transfers
-returns-in_ok-negate-in-Neg-clause-transfers c = rw c.in-Neg.is (c.in_ok-negate-in-Neg.ensures.transfers c.args.shapes.now c.args.context)
-
-pub returns-in_ok-reorder-in-End-clause-transfers : goal.returns-in_ok-reorder-in-End-clause-transfers
-returns-in_ok-reorder-in-End-clause-transfers c = rw c.in-End.is (c.in_ok-reorder-in-End.ensures.transfers c.args.shapes.now c.args.context)
-
-pub returns-in-Imm64-clause-transfers : goal.returns-in-Imm64-clause-transfers
-returns-in-Imm64-clause-transfers c = rw c.in-Imm64.is (c.immediate.ensures.transfers c.args.shapes.now c.args.context)
-
-pub returns-in_ok-store_imm-in-StoreImm-clause-transfers : goal.returns-in_ok-store_imm-in-StoreImm-clause-transfers
-returns-in_ok-store_imm-in-StoreImm-clause-transfers c =
-    let fits : SFits w16 c.in-StoreImm.off = search rules in
-    let same : to_z w16 (of_z w16 c.in-StoreImm.off) ≡ c.in-StoreImm.off = omega (arith, ints) in
-    let fits' : SFits w32 c.in-StoreImm.imm = search rules in
-    let same' : to_z w32 (of_z w32 c.in-StoreImm.imm) ≡ c.in-StoreImm.imm = omega (arith, ints) in
-    rw c.in-StoreImm.is
-    (subst (λ (off : ℤ). Transfers c.args.shapes.now c.args.context (StoreImm c.in-StoreImm.size c.in-StoreImm.dst off c.in-StoreImm.imm) c.args.view.now c.store_imm.new.view) same
-    (subst (λ (imm : ℤ). Transfers c.args.shapes.now c.args.context (StoreImm c.in-StoreImm.size c.in-StoreImm.dst (to_z w16 (of_z w16 c.in-StoreImm.off)) imm) c.args.view.now c.store_imm.new.view) same' c.in_ok-store_imm-in-StoreImm.ensures.transfers))
-
-pub returns-in_ok-store_reg-in-StoreReg-clause-transfers : goal.returns-in_ok-store_reg-in-StoreReg-clause-transfers
-returns-in_ok-store_reg-in-StoreReg-clause-transfers c =
-    let fits : SFits w16 c.in-StoreReg.off = search rules in
-    let same : to_z w16 (of_z w16 c.in-StoreReg.off) ≡ c.in-StoreReg.off = omega (arith, ints) in
-    rw c.in-StoreReg.is
-    (subst (λ (off : ℤ). Transfers c.args.shapes.now c.args.context (StoreReg c.in-StoreReg.size c.in-StoreReg.dst off c.in-StoreReg.src) c.args.view.now c.store_reg.new.view) same c.in_ok-store_reg-in-StoreReg.ensures.transfers)
-
-pub returns-in_err-store_imm-in-StoreImm-clause-accepts : goal.returns-in_err-store_imm-in-StoreImm-clause-accepts
-returns-in_err-store_imm-in-StoreImm-clause-accepts c = λ ready.
-    let here = subst (λ (i : Insn). IsReady c.args.shapes.now c.args.context c.args.view.now i) c.in-StoreImm.is ready in
-    let fits : SFits w16 c.in-StoreImm.off = search rules in
-    let same : to_z w16 (of_z w16 c.in-StoreImm.off) ≡ c.in-StoreImm.off = omega (arith, ints) in
-    elim here [
-      | inl f ↦
-          let placed = subst (λ (off : ℤ). IsPlaced c.args.shapes.now c.args.context c.args.view.now c.in-StoreImm.size c.in-StoreImm.dst off Stack f.at) (sym same) f.placed in
-          absurd (let ok : false ≡ true = (c.in_err-store_imm-in-StoreImm.ensures.accepts f.at placed).0 in let no : ⊥ = cc in no)
-      | inr f ↦
-          let placed = subst (λ (off : ℤ). IsPlaced c.args.shapes.now c.args.context c.args.view.now c.in-StoreImm.size c.in-StoreImm.dst off (Entry f.map) f.at) (sym same) f.placed in
-          absurd (let ok : false ≡ true = (c.in_err-store_imm-in-StoreImm.ensures.entry f.map f.at placed).0 in let no : ⊥ = cc in no)
-    ]
-
-pub returns-in_ok-store_imm-in-StoreImm-clause-accepts : goal.returns-in_ok-store_imm-in-StoreImm-clause-accepts
-returns-in_ok-store_imm-in-StoreImm-clause-accepts c = λ ready.
-    let here = subst (λ (i : Insn). IsReady c.args.shapes.now c.args.context c.args.view.now i) c.in-StoreImm.is ready in
-    let fits : SFits w16 c.in-StoreImm.off = search rules in
-    let same : to_z w16 (of_z w16 c.in-StoreImm.off) ≡ c.in-StoreImm.off = omega (arith, ints) in
+pub returns-in-StoreImm-clause-accepts : goal.returns-in-StoreImm-clause-accepts
+returns-in-StoreImm-clause-accepts c =
+    let fits_off : SFits w16 c.in-StoreImm.off = search rules in
+    let off : to_z w16 (of_z w16 c.in-StoreImm.off) ≡ c.in-StoreImm.off = omega (arith, ints) in
     let insn : Insn = StoreImm c.in-StoreImm.size c.in-StoreImm.dst c.in-StoreImm.off c.in-StoreImm.imm in
-    elim here [
+    rw c.in-StoreImm.is
+    (λ ready.
+    elim ready [
       | inl f ↦
-          let placed = subst (λ (off : ℤ). IsPlaced c.args.shapes.now c.args.context c.args.view.now c.in-StoreImm.size c.in-StoreImm.dst off Stack f.at) (sym same) f.placed in (
-            refl,
+          let stored = (rw off at c.store_imm.ensures.accepts) f.at f.placed in (
+            stored.0,
             λ x slot k after.
                 has_stored x slot k insn c.args.view.now c.store_imm.new.view f.at (f.at + byte_count c.in-StoreImm.size)
                 (λ r gives. some_none _ _ gives refl) (λ n r gives. gives) (λ kind o r gives. gives)
                 (λ i stores. bytes_at stores.1.0 f.at (byte_count c.in-StoreImm.size) i c.in-StoreImm.off stores.1.1 f.at_is stores.1.2 stores.1.3)
-                (c.in_ok-store_imm-in-StoreImm.ensures.accepts f.at placed).1
-                (subst (λ (i : Insn). After x slot k i c.args.view.now) c.in-StoreImm.is after),
+                stored.1 after,
           )
       | inr f ↦
-          let placed = subst (λ (off : ℤ). IsPlaced c.args.shapes.now c.args.context c.args.view.now c.in-StoreImm.size c.in-StoreImm.dst off (Entry f.map) f.at) (sym same) f.placed in (
-            refl,
+          let left = (rw off at c.store_imm.ensures.entry) f.map f.at f.placed in (
+            left.0,
             λ x slot k after.
-                let left =
-                has_left x slot k insn c.args.view.now (λ r gives. some_none _ _ gives refl) (λ n r gives. gives) (λ kind o r gives. gives) (λ i stores. f.other stores.0)
-                (subst (λ (i : Insn). After x slot k i c.args.view.now) c.in-StoreImm.is after) in
-                subst (λ (v : AbstractState). Has x v) (sym (c.in_ok-store_imm-in-StoreImm.ensures.entry f.map f.at placed).1) left,
+                subst (λ (v : AbstractState). Has x v) (sym left.1)
+                (has_left x slot k insn c.args.view.now (λ r gives. some_none _ _ gives refl) (λ n r gives. gives) (λ kind o r gives. gives) (λ i stores. f.other stores.0) after),
           )
-    ]
+    ])
 
-pub returns-in_err-store_reg-in-StoreReg-clause-accepts : goal.returns-in_err-store_reg-in-StoreReg-clause-accepts
-returns-in_err-store_reg-in-StoreReg-clause-accepts c = λ ready.
-    let here = subst (λ (i : Insn). IsReady c.args.shapes.now c.args.context c.args.view.now i) c.in-StoreReg.is ready in
-    let fits : SFits w16 c.in-StoreReg.off = search rules in
-    let same : to_z w16 (of_z w16 c.in-StoreReg.off) ≡ c.in-StoreReg.off = omega (arith, ints) in
-    elim here.1 [
-      | inl f ↦
-          let placed = subst (λ (off : ℤ). IsPlaced c.args.shapes.now c.args.context c.args.view.now c.in-StoreReg.size c.in-StoreReg.dst off Stack f.at) (sym same) f.placed in
-          absurd (let ok : false ≡ true = (c.in_err-store_reg-in-StoreReg.ensures.accepts here.0 f.at placed).0 in let no : ⊥ = cc in no)
-      | inr f ↦
-          let placed = subst (λ (off : ℤ). IsPlaced c.args.shapes.now c.args.context c.args.view.now c.in-StoreReg.size c.in-StoreReg.dst off (Entry f.map) f.at) (sym same) f.placed in
-          absurd (let ok : false ≡ true = (c.in_err-store_reg-in-StoreReg.ensures.entry here.0 f.map f.at placed).0 in let no : ⊥ = cc in no)
-    ]
+pub returns-in-StoreReg-clause-transfers : goal.returns-in-StoreReg-clause-transfers
+returns-in-StoreReg-clause-transfers c =
+    let fits_off : SFits w16 c.in-StoreReg.off = search rules in
+    let off : to_z w16 (of_z w16 c.in-StoreReg.off) ≡ c.in-StoreReg.off = omega (arith, ints) in
+    rw c.in-StoreReg.is (rw off at c.store_reg.ensures.transfers)
 
-pub returns-in_ok-store_reg-in-StoreReg-clause-accepts : goal.returns-in_ok-store_reg-in-StoreReg-clause-accepts
-returns-in_ok-store_reg-in-StoreReg-clause-accepts c = λ ready.
-    let here = subst (λ (i : Insn). IsReady c.args.shapes.now c.args.context c.args.view.now i) c.in-StoreReg.is ready in
-    let fits : SFits w16 c.in-StoreReg.off = search rules in
-    let same : to_z w16 (of_z w16 c.in-StoreReg.off) ≡ c.in-StoreReg.off = omega (arith, ints) in
+pub returns-in-StoreReg-clause-accepts : goal.returns-in-StoreReg-clause-accepts
+returns-in-StoreReg-clause-accepts c =
+    let fits_off : SFits w16 c.in-StoreReg.off = search rules in
+    let off : to_z w16 (of_z w16 c.in-StoreReg.off) ≡ c.in-StoreReg.off = omega (arith, ints) in
     let insn : Insn = StoreReg c.in-StoreReg.size c.in-StoreReg.dst c.in-StoreReg.off c.in-StoreReg.src in
-    elim here.1 [
+    rw c.in-StoreReg.is
+    (λ ready.
+    elim ready.1 [
       | inl f ↦
-          let placed = subst (λ (off : ℤ). IsPlaced c.args.shapes.now c.args.context c.args.view.now c.in-StoreReg.size c.in-StoreReg.dst off Stack f.at) (sym same) f.placed in (
-            refl,
+          let stored = (rw off at c.store_reg.ensures.accepts) ready.0 f.at f.placed in (
+            stored.0,
             λ x slot k after.
                 has_stored x slot k insn c.args.view.now c.store_reg.new.view f.at (f.at + byte_count c.in-StoreReg.size)
                 (λ r gives. some_none _ _ gives refl) (λ n r gives. gives) (λ kind o r gives. gives)
                 (λ i stores. bytes_at stores.1.0 f.at (byte_count c.in-StoreReg.size) i c.in-StoreReg.off stores.1.1 f.at_is stores.1.2 stores.1.3)
-                (c.in_ok-store_reg-in-StoreReg.ensures.accepts here.0 f.at placed).1
-                (subst (λ (i : Insn). After x slot k i c.args.view.now) c.in-StoreReg.is after),
+                stored.1 after,
           )
       | inr f ↦
-          let placed = subst (λ (off : ℤ). IsPlaced c.args.shapes.now c.args.context c.args.view.now c.in-StoreReg.size c.in-StoreReg.dst off (Entry f.map) f.at) (sym same) f.placed in (
-            refl,
+          let left = (rw off at c.store_reg.ensures.entry) ready.0 f.map f.at f.placed in (
+            left.0,
             λ x slot k after.
-                let left =
-                has_left x slot k insn c.args.view.now (λ r gives. some_none _ _ gives refl) (λ n r gives. gives) (λ kind o r gives. gives) (λ i stores. f.other stores.0)
-                (subst (λ (i : Insn). After x slot k i c.args.view.now) c.in-StoreReg.is after) in
-                subst (λ (v : AbstractState). Has x v) (sym (c.in_ok-store_reg-in-StoreReg.ensures.entry here.0 f.map f.at placed).1) left,
+                subst (λ (v : AbstractState). Has x v) (sym left.1)
+                (has_left x slot k insn c.args.view.now (λ r gives. some_none _ _ gives refl) (λ n r gives. gives) (λ kind o r gives. gives) (λ i stores. f.other stores.0) after),
           )
-    ]
+    ])
+
+pub returns-in-MapRef-clause-transfers : goal.returns-in-MapRef-clause-transfers
+returns-in-MapRef-clause-transfers c =
+    let fits_index : SFits w32 c.in-MapRef.index = search rules in
+    let index : to_z w32 (of_z w32 c.in-MapRef.index) ≡ c.in-MapRef.index = omega (arith, ints) in
+    rw c.in-MapRef.is (on_ok_weaker c.map_ref.result (λ carries. carries c.args.context) (rw index at c.map_ref.ensures.transfers))
+
+pub returns-in-MapRef-clause-accepts : goal.returns-in-MapRef-clause-accepts
+returns-in-MapRef-clause-accepts c =
+    let fits_index : SFits w32 c.in-MapRef.index = search rules in
+    let index : to_z w32 (of_z w32 c.in-MapRef.index) ≡ c.in-MapRef.index = omega (arith, ints) in
+    rw c.in-MapRef.is
+    (λ ready.
+    let made = (rw index at c.map_ref.ensures.accepts) ready.1 ready.2 ready.3 in
+    (made.0, λ x slot k after. has_named x slot k c.in-MapRef.dst c.in-MapRef.index ready.1 c.args.view.now c.map_ref.new.view ready.2 made.1 after))
+
+pub returns-in-Call-clause-transfers : goal.returns-in-Call-clause-transfers
+returns-in-Call-clause-transfers c =
+    let fits_helper : SFits w32 c.in-Call.helper = search rules in
+    let helper : to_z w32 (of_z w32 c.in-Call.helper) ≡ c.in-Call.helper = omega (arith, ints) in
+    rw c.in-Call.is (rw helper at c.call.ensures.transfers)
+
+pub returns-in-Call-clause-accepts : goal.returns-in-Call-clause-accepts
+returns-in-Call-clause-accepts c =
+    let fits_helper : SFits w32 c.in-Call.helper = search rules in
+    let helper : to_z w32 (of_z w32 c.in-Call.helper) ≡ c.in-Call.helper = omega (arith, ints) in
+    rw c.in-Call.is (rw helper at c.call.ensures.accepts)
+
+pub returns-in-Imm64-clause-transfers : goal.returns-in-Imm64-clause-transfers
+returns-in-Imm64-clause-transfers c = rw c.in-Imm64.is (c.immediate.ensures.transfers c.args.shapes.now c.args.context)
+
+pub returns-in-Imm64-clause-accepts : goal.returns-in-Imm64-clause-accepts
+returns-in-Imm64-clause-accepts c = rw c.in-Imm64.is
+    (λ ready. (refl, λ x slot k after. has_given x slot k (Imm64 c.in-Imm64.dst c.in-Imm64.value) c.args.view.now c.immediate.new.view c.in-Imm64.dst refl (λ kind o r gives. gives) (λ n r gives. absurd gives) c.immediate.ensures.given after))
 
 pub alu-requires : goal.alu-requires
 alu-requires c = subst (λ (i : Insn). WritesBelowFrame i) c.in-Alu.is c.requires.below c.in-Alu.dst refl
