@@ -1,6 +1,7 @@
 -- What is sure of a view goes on.
 use Rattle.std.proofs.Common.{◌≡◌, ◌≢◌, ℕ, ◌+◌, ◌<◌, ◌≤◌, Bool, true, false, List, Option, Some, None, length, refl, sym, subst, ap, ◌⊎◌, inl, inr, ◌∙◌, ℤ, pos, arith, get_or-set_same, get_or-set_other}
-use Rattle.std.specs.Prelude.{slice_index_or, ◌+ℤ◌}
+use Rattle.std.specs.Prelude.{slice_index_or, ◌+ℤ◌, IsOk, OnOk, Ok, Err}
+use Rattle.std.specs.declared.result.Result.{Result}
 use Rattle.std.proofs.lemmas.Bool.Decides.{eqb_tells}
 use Rattle.bq_insn.specs.declared.Insn.{Insn}
 use Rattle.bq_insn.specs.declared.Insn.TheVariants.{Alu, MovSx, Neg, End, Load, StoreImm, StoreReg, Imm64, MapRef, Call}
@@ -331,3 +332,8 @@ has_exact n w dst src r old new made gives =
 pub exact_at_most : (n most : ℕ) (k : Option AbstractValue) → n ≤ most → Stands (Exact n) k → IsAtMost most k
 exact_at_most n most None le stands = absurd stands
 exact_at_most n most (Some k) le stands = (stands.0, let hi = stands.2 in omega (arith, hi, le))
+
+-- what holds of a success holds, where it is one
+pub on_ok_at : {T E P : Type 0} (r : Result T E) → IsOk r → OnOk r P → P
+on_ok_at (Ok x) ok p = p
+on_ok_at (Err y) ok p = absurd (let no : ⊥ = cc in no)

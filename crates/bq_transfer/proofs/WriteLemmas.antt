@@ -1,6 +1,8 @@
 -- What a store leaves known: on the stack, and in an entry.
 use Rattle.std.proofs.Common.{◌≡◌, ◌≢◌, ℕ, zero, suc, ◌+◌, ◌*◌, ◌^◌, ◌<◌, ◌≤◌, Bool, true, false, List, Option, Some, None, length, get_or, set, refl, sym, ap, subst, arith, ◌⊎◌, inl, inr, ℤ, get_or-set_same, get_or-set_other}
-use Rattle.std.specs.Prelude.{slice_index, IfSome}
+use Rattle.std.specs.Prelude.{slice_index, IfSome, IfOk, OnOk, Ok, Err}
+use Rattle.std.specs.declared.result.Result.{Result}
+use Rattle.bq_transfer.specs.declared.doubt.Doubt.{Doubt}
 use Rattle.std.specs.Int.{byte_at as byte_of, bytes_low_first}
 use Rattle.std.proofs.lemmas.Bool.{cases_lt}
 use Rattle.std.proofs.lemmas.Bool.Decides.{eqb_tells}
@@ -97,7 +99,7 @@ some_slot None n P h e = absurd (let no : ⊥ = cc in no)
 some_slot (Some m) n P h e = let same : m ≡ n = cc in subst P same h
 
 -- a store on the stack
-pub stores_on_stack : (shapes : List MapShape) (context_length dst : ℕ) (off : ℤ) (size : Size) (k : AbstractValue) (at : Range) (kind : Kind) (old new : AbstractState) (slot : Option ℕ) → IfSome slot (IsWholeSlot at size) → kind ≡ Stack → FindsPlace shapes context_length old dst off size kind at → ((f : Setting) (s : State) (o v : ℕ) → Contains f old s → Within at o → Describes f.shapes k v → Contains f new (next (written s InStack o (low_bytes size v)))) → Stores shapes context_length dst off size k old new slot
+stores_on_stack : (shapes : List MapShape) (context_length dst : ℕ) (off : ℤ) (size : Size) (k : AbstractValue) (at : Range) (kind : Kind) (old new : AbstractState) (slot : Option ℕ) → IfSome slot (IsWholeSlot at size) → kind ≡ Stack → FindsPlace shapes context_length old dst off size kind at → ((f : Setting) (s : State) (o v : ℕ) → Contains f old s → Within at o → Describes f.shapes k v → Contains f new (next (written s InStack o (low_bytes size v)))) → Stores shapes context_length dst off size k old new slot
 stores_on_stack shapes context_length dst off size k at kind old new slot whole stack finds after f s v suits covers d =
     let found = finds f s suits covers in
     let region : found.1 ≡ InStack = subst (λ (x : Kind). IsOfKind x found.1) stack found.5 in
@@ -111,6 +113,12 @@ stores_on_stack shapes context_length dst off size k at kind old new slot whole 
       refl,
       λ n is. slot_word f.shapes s k at size found.2 v n (some_slot slot n (IsWholeSlot at size) whole is) found.6 d,
     )
+
+-- the same, where the store answers that slot
+pub stores_if_ok : (shapes : List MapShape) (context_length dst : ℕ) (off : ℤ) (size : Size) (k : AbstractValue) (at : Range) (kind : Kind) (old new : AbstractState) (r : Result (Option ℕ) Doubt) → IfOk r (λ slot. IfSome slot (IsWholeSlot at size)) → kind ≡ Stack → FindsPlace shapes context_length old dst off size kind at → OnOk r ((f : Setting) (s : State) (o v : ℕ) → Contains f old s → Within at o → Describes f.shapes k v → Contains f new (next (written s InStack o (low_bytes size v)))) → IfOk r (Stores shapes context_length dst off size k old new)
+stores_if_ok shapes context_length dst off size k at kind old new (Ok slot) whole stack finds after =
+    stores_on_stack shapes context_length dst off size k at kind old new slot whole stack finds after
+stores_if_ok shapes context_length dst off size k at kind old new (Err doubt) whole stack finds after = tt
 
 -- a store into an entry
 pub stores_in_entry : (shapes : List MapShape) (context_length dst : ℕ) (off : ℤ) (size : Size) (k : AbstractValue) (at : Range) (kind : Kind) (m : ℕ) (view : AbstractState) → kind ≡ Entry m → FindsPlace shapes context_length view dst off size kind at → Stores shapes context_length dst off size k view view None

@@ -90,11 +90,9 @@ pub fn alu(
     ensures accepts { (shapes : List MapShape) (context_length : ℕ) → IsReady shapes context_length view.old (Insn.Alu width op dst src) → IsOk result × ((x : Fact) (slot k : ℕ) → After x slot k (Insn.Alu width op dst src) view.old → Has x view.new) }
 {
     if op == Operation::Mov {
-        copy(view, width, dst, src)?;
-        return Ok(());
+        return copy(view, width, dst, src);
     }
-    operate(view, width, op, dst, src)?;
-    Ok(())
+    operate(view, width, op, dst, src)
 }
 
 /// Arithmetic on what the register holds.

@@ -110,10 +110,7 @@ fn store(
 {
     let found = locate(view, shapes, context, access)?;
     match found.kind {
-        Kind::Stack => {
-            let slot = store_on_stack(view, found.at, access.size, word)?;
-            Ok(slot)
-        }
+        Kind::Stack => store_on_stack(view, found.at, access.size, word),
         Kind::Entry(_) => {
             if word.kind != Kind::Number {
                 return Err(Doubt::PointerUse);

@@ -1,7 +1,7 @@
 use Rattle.std.proofs.Common.{subst, refl, inl, inr, false, true, ◌≡◌, rules}
 use Rattle.bq_transfer.specs.After.{After, GivesExact}
 use Rattle.bq_transfer.specs.Ready.{IsCopyOfFrame}
-use Rattle.bq_transfer.proofs.StandingLemmas.{exact_moves, has_copied, has_exact, has_given, has_moved, left_scalar, no_pointer}
+use Rattle.bq_transfer.proofs.StandingLemmas.{exact_moves, has_copied, has_exact, has_given, has_moved, left_scalar, no_pointer, on_ok_at}
 use Rattle.bq_insn.specs.declared.Operation.{Operation}
 use Rattle.bq_insn.specs.declared.Operation.TheVariants.{Add, Mov}
 use Rattle.bq_insn.specs.declared.Source.{Source}
@@ -12,62 +12,36 @@ use Rattle.bq_transfer.proofs.alu.alu.Goals as goal
 pub returns-then-eq-clause-transfers : goal.returns-then-eq-clause-transfers
 returns-then-eq-clause-transfers c =
     let same : c.args.op ≡ Mov = search rules in
-    rw same c.in_ok-copy.ensures.transfers
-
-pub returns-in_err-copy-clause-accepts : goal.returns-in_err-copy-clause-accepts
-returns-in_err-copy-clause-accepts c = λ shapes context ready.
-    let same : c.args.op ≡ Mov = search rules in
-    elim ready.1 [
-      | inl n ↦ absurd (let ok : false ≡ true = (c.in_err-copy.ensures.accepts n.1).0 in let no : ⊥ = cc in no)
-      | inr either ↦
-          elim either [
-            | inl f ↦
-                let m : IsCopyOfFrame c.args.view.now c.args.width Mov c.args.src = record { is_copy = refl; whole = f.whole; of_frame = f.of_frame; base = f.base; stands = f.stands } in
-                absurd (let ok : false ≡ true = (c.in_err-copy.ensures.copies m).0 in let no : ⊥ = cc in no)
-            | inr f ↦ absurd (let sum : c.args.op ≡ Add = f.is_sum in let no : ⊥ = cc in no)
-          ]
-    ]
+    rw same c.copy.ensures.transfers
 
 pub returns-then-eq-clause-accepts : goal.returns-then-eq-clause-accepts
 returns-then-eq-clause-accepts c = λ shapes context ready.
     let same : c.args.op ≡ Mov = search rules in
     elim ready.1 [
       | inl n ↦ (
-        refl,
+        (c.copy.ensures.accepts n.1).0,
         λ x slot k after.
             has_given x slot k (Alu c.args.width c.args.op c.args.dst c.args.src) c.args.view.now c.copy.new.view c.args.dst refl
             (λ kind o r. no_pointer kind o slot k c.args.width c.args.op c.args.dst c.args.src r c.args.view.now n.0 n.1)
             (λ m r gives.
-            has_exact m c.args.width c.args.dst c.args.src r c.args.view.now c.copy.new.view c.in_ok-copy.ensures.exact
+            has_exact m c.args.width c.args.dst c.args.src r c.args.view.now c.copy.new.view (on_ok_at c.copy.result (c.copy.ensures.accepts n.1).0 c.copy.ensures.exact)
             (subst (λ (op : Operation). GivesExact m (Alu c.args.width op c.args.dst c.args.src) r) same gives))
-            (c.in_ok-copy.ensures.accepts n.1).1
+            (c.copy.ensures.accepts n.1).1
             after,
       )
       | inr either ↦
           elim either [
             | inl f ↦
                 let m : IsCopyOfFrame c.args.view.now c.args.width Mov c.args.src = record { is_copy = refl; whole = f.whole; of_frame = f.of_frame; base = f.base; stands = f.stands } in (
-                  refl,
+                  (c.copy.ensures.copies m).0,
                   λ x slot k after.
                       let at : After x slot k (Alu c.args.width c.args.op c.args.dst c.args.src) c.args.view.now = after in
                       let copied : After x slot k (Alu c.args.width Mov c.args.dst (Reg 10)) c.args.view.now =
                       subst (λ (src : Source). After x slot k (Alu c.args.width Mov c.args.dst src) c.args.view.now) f.of_frame
                       (subst (λ (op : Operation). After x slot k (Alu c.args.width op c.args.dst c.args.src) c.args.view.now) same at) in
-                      has_copied x slot k c.args.width c.args.dst f.base c.args.view.now c.copy.new.view f.stands (c.in_ok-copy.ensures.copies m).1 copied,
+                      has_copied x slot k c.args.width c.args.dst f.base c.args.view.now c.copy.new.view f.stands (c.copy.ensures.copies m).1 copied,
                 )
             | inr f ↦ absurd (let sum : c.args.op ≡ Add = f.is_sum in let no : ⊥ = cc in no)
-          ]
-    ]
-
-pub returns-in_err-operate-clause-accepts : goal.returns-in_err-operate-clause-accepts
-returns-in_err-operate-clause-accepts c = λ shapes context ready.
-    let other : c.args.op ≡ Mov → ⊥ = search rules in
-    elim ready.1 [
-      | inl n ↦ absurd (let ok : false ≡ true = (c.in_err-operate.ensures.accepts (left_scalar c.args.op c.args.view.now c.args.dst other n.0) n.1).0 in let no : ⊥ = cc in no)
-      | inr either ↦
-          elim either [
-            | inl f ↦ absurd (other f.is_copy)
-            | inr f ↦ absurd (let ok : false ≡ true = (c.in_err-operate.ensures.moves f).0 in let no : ⊥ = cc in no)
           ]
     ]
 
@@ -75,26 +49,27 @@ pub returns-clause-accepts : goal.returns-clause-accepts
 returns-clause-accepts c = λ shapes context ready.
     let other : c.args.op ≡ Mov → ⊥ = search rules in
     elim ready.1 [
-      | inl n ↦ (
-        refl,
-        λ x slot k after.
-            has_given x slot k (Alu c.args.width c.args.op c.args.dst c.args.src) c.args.view.now c.operate.new.view c.args.dst refl
-            (λ kind o r. no_pointer kind o slot k c.args.width c.args.op c.args.dst c.args.src r c.args.view.now n.0 n.1)
-            (λ m r gives. absurd (exact_moves m c.args.width c.args.op c.args.dst c.args.src r other gives))
-            (c.in_ok-operate.ensures.accepts (left_scalar c.args.op c.args.view.now c.args.dst other n.0) n.1).1
-            after,
-      )
+      | inl n ↦
+          let given = c.operate.ensures.accepts (left_scalar c.args.op c.args.view.now c.args.dst other n.0) n.1 in (
+            given.0,
+            λ x slot k after.
+                has_given x slot k (Alu c.args.width c.args.op c.args.dst c.args.src) c.args.view.now c.operate.new.view c.args.dst refl
+                (λ kind o r. no_pointer kind o slot k c.args.width c.args.op c.args.dst c.args.src r c.args.view.now n.0 n.1)
+                (λ m r gives. absurd (exact_moves m c.args.width c.args.op c.args.dst c.args.src r other gives))
+                given.1
+                after,
+          )
       | inr either ↦
           elim either [
             | inl f ↦ absurd (other f.is_copy)
             | inr f ↦ (
-              refl,
+              (c.operate.ensures.moves f).0,
               λ x slot k after.
                   let at : After x slot k (Alu c.args.width c.args.op c.args.dst c.args.src) c.args.view.now = after in
                   let moved : After x slot k (Alu c.args.width Add c.args.dst (Imm f.distance)) c.args.view.now =
                   subst (λ (src : Source). After x slot k (Alu c.args.width Add c.args.dst src) c.args.view.now) f.by_distance
                   (subst (λ (op : Operation). After x slot k (Alu c.args.width op c.args.dst c.args.src) c.args.view.now) f.is_sum at) in
-                  has_moved x slot k c.args.width c.args.dst f.base f.at f.distance c.args.view.now c.operate.new.view f.stands f.at_is (c.in_ok-operate.ensures.moves f).1 moved,
+                  has_moved x slot k c.args.width c.args.dst f.base f.at f.distance c.args.view.now c.operate.new.view f.stands f.at_is (c.operate.ensures.moves f).1 moved,
             )
           ]
     ]

@@ -1,12 +1,12 @@
 use Rattle.std.proofs.Common.{◌≡◌, false, true, refl}
 use Rattle.bq_states.specs.declared.abstract_state.Kind.TheVariants.{Entry, Stack}
 use Rattle.bq_transfer.proofs.PlaceLemmas.{stack_inside}
-use Rattle.bq_transfer.proofs.WriteLemmas.{stores_on_stack, stores_in_entry}
+use Rattle.bq_transfer.proofs.WriteLemmas.{stores_if_ok, stores_in_entry}
 use Rattle.bq_transfer.proofs.stores.store.Goals as goal
 
-pub returns-in_ok-slot-in-Stack-clause-stores : goal.returns-in_ok-slot-in-Stack-clause-stores
-returns-in_ok-slot-in-Stack-clause-stores c =
-    stores_on_stack c.args.shapes.now c.args.context c.args.access.base c.args.access.off c.args.access.size c.args.word c.in_ok-found.found.at c.in_ok-found.found.kind c.args.view.now c.store_on_stack.new.view c.in_ok-slot-in-Stack.slot c.in_ok-slot-in-Stack.ensures.slot c.in-Stack.is c.in_ok-found.ensures.finds c.in_ok-slot-in-Stack.ensures.covers
+pub returns-in-Stack-clause-stores : goal.returns-in-Stack-clause-stores
+returns-in-Stack-clause-stores c =
+    stores_if_ok c.args.shapes.now c.args.context c.args.access.base c.args.access.off c.args.access.size c.args.word c.in_ok-found.found.at c.in_ok-found.found.kind c.args.view.now c.store_on_stack.new.view c.store_on_stack.result c.store_on_stack.ensures.slot c.in-Stack.is c.in_ok-found.ensures.finds c.store_on_stack.ensures.covers
 
 pub returns-else-ne-clause-stores : goal.returns-else-ne-clause-stores
 returns-else-ne-clause-stores c =
@@ -16,17 +16,11 @@ pub returns-in_err-found-clause-accepts : goal.returns-in_err-found-clause-accep
 returns-in_err-found-clause-accepts c = λ number place placed.
     absurd (let ok : false ≡ true = c.in_err-found.ensures.accepts Stack place placed in let no : ⊥ = cc in no)
 
-pub returns-in_err-slot-in-Stack-clause-accepts : goal.returns-in_err-slot-in-Stack-clause-accepts
-returns-in_err-slot-in-Stack-clause-accepts c = λ number place placed.
+pub returns-in-Stack-clause-accepts : goal.returns-in-Stack-clause-accepts
+returns-in-Stack-clause-accepts c = λ number place placed.
     let there = c.in_ok-found.ensures.there Stack place placed in
     let inside = stack_inside c.args.shapes.now c.args.context c.args.view.now c.args.access.size c.args.access.base c.args.access.off Stack place refl placed in
-    absurd (let ok : false ≡ true = (c.in_err-slot-in-Stack.ensures.accepts number place there.1 there.2 inside).0 in let no : ⊥ = cc in no)
-
-pub returns-in_ok-slot-in-Stack-clause-accepts : goal.returns-in_ok-slot-in-Stack-clause-accepts
-returns-in_ok-slot-in-Stack-clause-accepts c = λ number place placed.
-    let there = c.in_ok-found.ensures.there Stack place placed in
-    let inside = stack_inside c.args.shapes.now c.args.context c.args.view.now c.args.access.size c.args.access.base c.args.access.off Stack place refl placed in
-    (refl, (c.in_ok-slot-in-Stack.ensures.accepts number place there.1 there.2 inside).1)
+    c.store_on_stack.ensures.accepts number place there.1 there.2 inside
 
 pub returns-else-ne-clause-accepts : goal.returns-else-ne-clause-accepts
 returns-else-ne-clause-accepts c = λ number place placed.
@@ -50,12 +44,7 @@ pub returns-in_err-found-clause-entry : goal.returns-in_err-found-clause-entry
 returns-in_err-found-clause-entry c = λ number map place placed.
     absurd (let ok : false ≡ true = c.in_err-found.ensures.accepts (Entry map) place placed in let no : ⊥ = cc in no)
 
-pub returns-in_err-slot-in-Stack-clause-entry : goal.returns-in_err-slot-in-Stack-clause-entry
-returns-in_err-slot-in-Stack-clause-entry c = λ number map place placed.
-    let there = c.in_ok-found.ensures.there (Entry map) place placed in
-    absurd (let kind : c.in_ok-found.found.kind ≡ Entry map = there.0 in let no : ⊥ = cc in no)
-
-pub returns-in_ok-slot-in-Stack-clause-entry : goal.returns-in_ok-slot-in-Stack-clause-entry
-returns-in_ok-slot-in-Stack-clause-entry c = λ number map place placed.
+pub returns-in-Stack-clause-entry : goal.returns-in-Stack-clause-entry
+returns-in-Stack-clause-entry c = λ number map place placed.
     let there = c.in_ok-found.ensures.there (Entry map) place placed in
     absurd (let kind : c.in_ok-found.found.kind ≡ Entry map = there.0 in let no : ⊥ = cc in no)
