@@ -1,4 +1,4 @@
-use Rattle.std.proofs.Common.{◌≡◌, ◌<◌, ◌*◌, ◌/◌, ℕ, length, subst, arith, rules, Some, ap}
+use Rattle.std.proofs.Common.{◌≡◌, ◌<◌, ◌*◌, ◌/◌, ℕ, length, subst, arith, rules, Some, ap, refl}
 use Rattle.bq_transfer.proofs.WriteLemmas.{low_long, low_small, covers_keeping}
 use Rattle.bq_states.proofs.StoreLemmas.{Keeps-stored}
 use Rattle.std.specs.Int.{bytes_low_first}
@@ -36,3 +36,15 @@ returns-clause-covers c = λ f s o v covers within d.
     let has = has_written s.stack o (byte_count c.args.size) (low_bytes c.args.size v) long in
     let parts = c.store_part.ensures (stack_with s.stack o (low_bytes c.args.size v)) o v within (number_within f.shapes c.args.word v number d) has after.parts in
     covers_parts f c.overwrite-2.new.view (next (written s InStack o (low_bytes c.args.size v))) c.store_part.new.parts parts after
+
+pub returns-then-at-eq0-clause-slot : goal.returns-then-at-eq0-clause-slot
+returns-then-at-eq0-clause-slot c =
+    let single = c.is_single.ensures.0 c.if-is_single.true in
+    let double : c.args.size ≡ Double = search rules in
+    let eight : byte_count c.args.size ≡ 8 = ap byte_count double in
+    (omega (arith, c.stays.ensures.0 c.if-not-stays.false), double, omega arith, omega arith)
+
+pub returns-clause-accepts : goal.returns-clause-accepts
+returns-clause-accepts c = λ number place low high inside.
+    let stored = c.overwrite-2.ensures.stored (omega arith) in
+    (refl, record { registers_same = stored.registers_same; stored = λ i from to. stored.stored i (omega arith) (omega arith); set = stored.set; plain = stored.plain })
