@@ -97,12 +97,10 @@ pub fn call(
     ensures accepts { IsReady shapes.now context view.old (Insn.Call helper) → IsOk result × ((x : Fact) (slot k : ℕ) → After x slot k (Insn.Call helper) view.old → Has x view.new) }
 {
     if helper == LOOKUP {
-        look_up(view, shapes, context)?;
-        return Ok(());
+        return look_up(view, shapes, context);
     }
     if helper == UPDATE {
-        update(view, shapes, context)?;
-        return Ok(());
+        return update(view, shapes, context);
     }
     if helper == NOW {
         now(view);

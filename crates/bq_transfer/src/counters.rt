@@ -64,11 +64,9 @@ pub fn ask(view: &mut AbstractState, insn: Insn) -> Result<(), Doubt>
     match insn {
         Insn::Call { helper } => {
             if helper == ADD_COUNTER {
-                add(view)?;
-                return Ok(());
+                return add(view);
             }
-            read(view)?;
-            Ok(())
+            read(view)
         }
         _ => unreachable!(),
     }

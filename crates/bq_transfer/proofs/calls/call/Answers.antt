@@ -12,7 +12,7 @@ pub returns-then-helper-eq-LOOKUP-clause-transfers : goal.returns-then-helper-eq
 returns-then-helper-eq-LOOKUP-clause-transfers c =
     let fits : SFits w32 c.args.helper = search rules in
     let is : c.args.helper ≡ pos 1 = omega (arith, ints) in
-    rw is c.in_ok-look_up.ensures.transfers
+    rw is c.look_up.ensures.transfers
 
 pub returns-then-helper-eq-NOW-clause-transfers : goal.returns-then-helper-eq-NOW-clause-transfers
 returns-then-helper-eq-NOW-clause-transfers c =
@@ -30,27 +30,10 @@ pub returns-then-helper-eq-UPDATE-clause-transfers : goal.returns-then-helper-eq
 returns-then-helper-eq-UPDATE-clause-transfers c =
     let fits : SFits w32 c.args.helper = search rules in
     let is : c.args.helper ≡ pos 2 = omega (arith, ints) in
-    rw is c.in_ok-update.ensures.transfers
+    rw is c.update.ensures.transfers
 
 pos_is : (a b : ℕ) → pos a ≡ pos b → a ≡ b
 pos_is a b e = cc
-
-pub returns-in_err-look_up-clause-accepts : goal.returns-in_err-look_up-clause-accepts
-returns-in_err-look_up-clause-accepts c = λ ready.
-    let fits : SFits w32 c.args.helper = search rules in
-    let is : c.args.helper ≡ pos 1 = omega (arith, ints) in
-    elim ready [
-      | inl either ↦
-          elim either [
-            | inl e ↦ absurd (let numbers = pos_is 5 1 (sym e ∙ is) in omega (arith, numbers))
-            | inr e ↦ absurd (let numbers = pos_is 8 1 (sym e ∙ is) in omega (arith, numbers))
-          ]
-      | inr rest ↦
-          elim rest [
-            | inl n ↦ absurd (let ok : false ≡ true = (c.in_err-look_up.ensures.accepts n.1 n.2).0 in let refuted : ⊥ = cc in refuted)
-            | inr n ↦ absurd (let numbers = pos_is 2 1 (sym n.0 ∙ is) in omega (arith, numbers))
-          ]
-    ]
 
 pub returns-then-helper-eq-LOOKUP-clause-accepts : goal.returns-then-helper-eq-LOOKUP-clause-accepts
 returns-then-helper-eq-LOOKUP-clause-accepts c = λ ready.
@@ -65,29 +48,12 @@ returns-then-helper-eq-LOOKUP-clause-accepts c = λ ready.
       | inr rest ↦
           elim rest [
             | inl n ↦ (
-              refl,
+              (c.look_up.ensures.accepts n.1 n.2).0,
               λ x slot k after.
-                  has_looked_up x slot k n.1 c.args.view.now c.look_up.new.view n.2.names (c.in_ok-look_up.ensures.accepts n.1 n.2).1
+                  has_looked_up x slot k n.1 c.args.view.now c.look_up.new.view n.2.names (c.look_up.ensures.accepts n.1 n.2).1
                   (subst (λ (i : Insn). After x slot k i c.args.view.now) (ap (λ (h : ℤ). Call h) is) after),
             )
             | inr n ↦ absurd (let numbers = pos_is 2 1 (sym n.0 ∙ is) in omega (arith, numbers))
-          ]
-    ]
-
-pub returns-in_err-update-clause-accepts : goal.returns-in_err-update-clause-accepts
-returns-in_err-update-clause-accepts c = λ ready.
-    let fits : SFits w32 c.args.helper = search rules in
-    let is : c.args.helper ≡ pos 2 = omega (arith, ints) in
-    elim ready [
-      | inl either ↦
-          elim either [
-            | inl e ↦ absurd (let numbers = pos_is 5 2 (sym e ∙ is) in omega (arith, numbers))
-            | inr e ↦ absurd (let numbers = pos_is 8 2 (sym e ∙ is) in omega (arith, numbers))
-          ]
-      | inr rest ↦
-          elim rest [
-            | inl n ↦ absurd (let numbers = pos_is 1 2 (sym n.0 ∙ is) in omega (arith, numbers))
-            | inr n ↦ absurd (let ok : false ≡ true = (c.in_err-update.ensures.accepts n.1 n.2).0 in let refuted : ⊥ = cc in refuted)
           ]
     ]
 
@@ -105,6 +71,6 @@ returns-then-helper-eq-UPDATE-clause-accepts c = λ ready.
       | inr rest ↦
           elim rest [
             | inl n ↦ absurd (other n.0)
-            | inr n ↦ (refl, λ x slot k after. has_answered x slot k c.args.helper c.args.view.now c.update.new.view other (c.in_ok-update.ensures.accepts n.1 n.2).1 after)
+            | inr n ↦ ((c.update.ensures.accepts n.1 n.2).0, λ x slot k after. has_answered x slot k c.args.helper c.args.view.now c.update.new.view other (c.update.ensures.accepts n.1 n.2).1 after)
           ]
     ]
