@@ -1,5 +1,5 @@
 -- What is written for an image is that image.
-use Rattle.std.proofs.Common.{◌≡◌, ℕ, ◌*◌, ◌/◌, ◌%◌, ◌≤◌, true, length, arith}
+use Rattle.std.proofs.Common.{◌≡◌, ℕ, ◌*◌, ◌/◌, ◌%◌, ◌≤◌, true, length, List, ◌++◌, ◌∙◌, ap, sym, append_assoc, arith}
 use Rattle.std.specs.Prelude.{◌==◌, ◌&&◌, nat_le}
 use Rattle.std.proofs.lemmas.Bool.Decides.{nat_tests}
 use Rattle.bq_insn.specs.Faults.{is_length}
@@ -34,3 +34,11 @@ is_written image few whole =
         bytes_are = regroup_header header image.program.items;
       };
     }
+
+-- parts that were appended one after another, and what each of them is, are what was appended of all of them together
+pub four_parts : (old one two three new p q r s a b c d : List ℕ) → one ≡ old ++ p → two ≡ one ++ q → three ≡ two ++ r → new ≡ three ++ s
+    → p ≡ a → q ≡ b → r ≡ c → s ≡ d → new ≡ old ++ (a ++ (b ++ (c ++ d)))
+four_parts old one two three new p q r s a b c d first second third fourth is-a is-b is-c is-d =
+    rw (sym is-a, sym is-b, sym is-c, sym is-d) (fourth ∙ ap (λ (x : List ℕ). x ++ s) third ∙ append_assoc two r s
+    ∙ ap (λ (x : List ℕ). x ++ (r ++ s)) second ∙ append_assoc one q (r ++ s)
+    ∙ ap (λ (x : List ℕ). x ++ (q ++ (r ++ s))) first ∙ append_assoc old p (q ++ (r ++ s)))
