@@ -15,12 +15,12 @@ impl fmt::Display for Numbered {
 
     fn fmt<W: fmt::Write>(&self, f: &mut fmt::Formatter<W>) -> fmt::Result {
         match self.0 {
-            LoadFault::Magic => write!(f, "L1"),
-            LoadFault::Version => write!(f, "L2"),
-            LoadFault::Hook => write!(f, "L3"),
-            LoadFault::Shape => write!(f, "L4"),
-            LoadFault::Cut => write!(f, "L5"),
-            LoadFault::Rest => write!(f, "L6"),
+            LoadFault::Magic => f.write_str("L1"),
+            LoadFault::Version => f.write_str("L2"),
+            LoadFault::Hook => f.write_str("L3"),
+            LoadFault::Shape => f.write_str("L4"),
+            LoadFault::Cut => f.write_str("L5"),
+            LoadFault::Rest => f.write_str("L6"),
             LoadFault::Decode { slot, cause } => {
                 let number = cause.number();
                 write!(f, "L7 I{number} {slot}")
