@@ -128,6 +128,12 @@ insn_fits slots i read is fits =
     let e : nat_le (slots + slots_of i) 4096 ≡ true = grind (arith, nat_tests) in
     ap (cause_of_insn slots) is ∙ ap (λ b. if b then None else Some Slots) e
 
+-- an instruction that is read, and ends past the slots
+pub insn_over : (slots : ℕ) (i : Insn) (read : Result Insn Cause) → read ≡ Ok i → 4096 < slots + slots_of i → cause_of_insn slots read ≡ Some Slots
+insn_over slots i read is over =
+    let e : nat_le (slots + slots_of i) 4096 ≡ false = grind (arith, nat_tests) in
+    ap (cause_of_insn slots) is ∙ ap (λ b. if b then None else Some Slots) e
+
 -- a line with words says what the first of them and the others as operands say
 pub line_of-first : (words : List (Bor (List ℕ))) (d : Bor (List ℕ)) → 1 ≤ length words
     → line_of (texts words) ≡ said (get_or words 0 d).now (texts (take (length words - 1) (drop 1 words))) (label_set (get_or words 0 d).now (texts (take (length words - 1) (drop 1 words))))
