@@ -4,8 +4,8 @@ use crate::law::{Kept, Part};
 use crate::record::Record;
 use bq_disc::RunQueue;
 use bq_history::{AsPart, Locked};
-use bq_tie::{Holds, Placed};
 use bq_parts::{Cpu, Inbox, Lobby, Scratch};
+use bq_tie::{Holds, Placed};
 
 /// What lies under a lock: content with the holder of its part.
 pub type UnderLock<A, N> = Locked<A, Record, Part, Kept, N>;

@@ -19,10 +19,9 @@ use bq_core::Core;
 use bq_counters::{Counters, Naming as Counting};
 use bq_disc::RunQueue;
 use bq_history::{Item, Journal, gather};
-use bq_tie::contents_in_order;
 use bq_parts::{Cpu, Inbox, Lobby};
 use bq_seats::Seat;
-use bq_tie::{Holder, Naming};
+use bq_tie::{Holder, Naming, contents_in_order};
 use std::sync::Mutex;
 
 /// All that the threads of a machine share, and the room for its end.

@@ -9,8 +9,7 @@ ghost use Rattle.bq_simulate.specs.Steps.{AreJust, Follow, IsAct, Meet, Wakes};
 use crate::fault::SimulateFault;
 use crate::simulation::Simulation;
 use bq_actions::{Action, Length, Workload};
-use bq_roster::Due;
-use bq_roster::{Astray, Course, Stance};
+use bq_roster::{Astray, Course, Due, Stance};
 use bq_trace::Sink;
 use std::alloc::Global;
 

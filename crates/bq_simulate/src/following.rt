@@ -13,10 +13,9 @@ use crate::simulation::Simulation;
 use crate::sound::soundness;
 use crate::tally::Tally;
 use bq_actions::{Setup, Workload};
-use bq_roster::Due;
 use bq_core::Policy;
 use bq_driver::Driver;
-use bq_roster::{Pace, Roster};
+use bq_roster::{Due, Pace, Roster};
 use bq_trace::Sink;
 use std::alloc::Global;
 

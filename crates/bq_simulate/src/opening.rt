@@ -9,10 +9,9 @@ use crate::fault::SimulateFault;
 use crate::simulation::Simulation;
 use crate::sound::first_of_mask;
 use bq_actions::{TaskKind, Workload};
-use bq_roster::Due;
 use bq_core::Policy;
 use bq_draws::Stream;
-use bq_roster::{Astray, Course};
+use bq_roster::{Astray, Course, Due};
 use bq_trace::Sink;
 use std::alloc::Global;
 

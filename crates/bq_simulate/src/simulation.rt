@@ -11,11 +11,10 @@ ghost use Rattle.bq_simulate.specs.Steps.{AreJust, AreWake, KeepsOthers, Meet};
 use crate::fault::SimulateFault;
 use crate::tally::Tally;
 use bq_actions::{Length, Workload};
-use bq_roster::Due;
 use bq_draws::Stream;
 use bq_driver::Driver;
 use bq_driver::calls::Moved;
-use bq_roster::{Astray, Roster, Stance};
+use bq_roster::{Astray, Due, Roster, Stance};
 use bq_trace::Sink;
 use std::alloc::Global;
 
