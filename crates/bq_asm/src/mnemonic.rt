@@ -1,5 +1,5 @@
 //! The first words of instructions.
-ghost use Rattle.std.specs.Prelude.{◌≡◌, Some};
+ghost use Rattle.std.specs.Prelude.{◌≡◌, ◌++◌, Some};
 ghost use Rattle.bq_asm.specs.Names.{op_name, cond_name, width_name, size_name, order_name, bits_name, name_of};
 
 use bq_insn::{Bits, Condition, Operation, Order, Size, Width};
@@ -105,32 +105,37 @@ fn bits_name(bits: Bits) -> &'static str
     }
 }
 
+/// The two halves of a first word: what the instruction does, and how much it does it to.
+fn halves(mnemonic: Mnemonic) -> (&'static str, &'static str)
+    ensures { result.0.now ++ result.1.now ≡ name_of mnemonic }
+{
+    match mnemonic {
+        Mnemonic::Alu(width, op) => (op_name(op), width_name(width)),
+        Mnemonic::MovSx(Width::W32, bits) => ("movsx32_", bits_name(bits)),
+        Mnemonic::MovSx(Width::W64, bits) => ("movsx64_", bits_name(bits)),
+        Mnemonic::Neg(width) => ("neg", width_name(width)),
+        Mnemonic::End(order, bits) => (order_name(order), bits_name(bits)),
+        Mnemonic::Load(size) => ("ldx", size_name(size)),
+        Mnemonic::LoadSigned(size) => ("ldxs", size_name(size)),
+        Mnemonic::StoreImm(size) => ("st", size_name(size)),
+        Mnemonic::StoreReg(size) => ("stx", size_name(size)),
+        Mnemonic::Imm64 => ("lddw", ""),
+        Mnemonic::MapRef => ("ldmap", ""),
+        Mnemonic::Goto => ("ja", ""),
+        Mnemonic::Goto32 => ("ja", "32"),
+        Mnemonic::Branch(width, cond) => (cond_name(cond), width_name(width)),
+        Mnemonic::Call => ("call", ""),
+        Mnemonic::Exit => ("exit", ""),
+    }
+}
+
 impl fmt::Display for Mnemonic {
     ghost use Rattle.bq_asm.specs.Names.{name_of};
 
     ghost output = { λ m. Some (name_of m) };
 
     fn fmt<W: fmt::Write>(&self, f: &mut fmt::Formatter<W>) -> fmt::Result {
-        match *self {
-            Mnemonic::Alu(width, op) => write!(f, "{}{}", op_name(op), width_name(width)),
-            Mnemonic::MovSx(width, bits) => {
-                write!(f, "movsx{}_{}", width_name(width), bits_name(bits))
-            }
-            Mnemonic::Neg(width) => write!(f, "neg{}", width_name(width)),
-            Mnemonic::End(order, bits) => write!(f, "{}{}", order_name(order), bits_name(bits)),
-            Mnemonic::Load(size) => write!(f, "ldx{}", size_name(size)),
-            Mnemonic::LoadSigned(size) => write!(f, "ldxs{}", size_name(size)),
-            Mnemonic::StoreImm(size) => write!(f, "st{}", size_name(size)),
-            Mnemonic::StoreReg(size) => write!(f, "stx{}", size_name(size)),
-            Mnemonic::Imm64 => write!(f, "lddw"),
-            Mnemonic::MapRef => write!(f, "ldmap"),
-            Mnemonic::Goto => write!(f, "ja"),
-            Mnemonic::Goto32 => write!(f, "ja32"),
-            Mnemonic::Branch(width, cond) => {
-                write!(f, "{}{}", cond_name(cond), width_name(width))
-            }
-            Mnemonic::Call => write!(f, "call"),
-            Mnemonic::Exit => write!(f, "exit"),
-        }
+        let (stem, ending) = halves(*self);
+        write!(f, "{stem}{ending}")
     }
 }

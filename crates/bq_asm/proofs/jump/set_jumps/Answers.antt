@@ -1,4 +1,4 @@
-use Rattle.std.proofs.Common.{rules, ◌∙◌, ◌≤◌, ◌<◌, ap, sym, arith, length, map, Some, None, []}
+use Rattle.std.proofs.Common.{rules, ◌∙◌, ◌≤◌, ◌<◌, ap, sym, arith, length, map, None, []}
 use Rattle.std.proofs.lemmas.List.{drop_all}
 use Rattle.std.proofs.lemmas.List.Elements.{All-get_or}
 use Rattle.bq_asm.specs.declared.jump.Jump.{Jump}
