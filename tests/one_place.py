@@ -20,8 +20,8 @@ FACTS = [
     ('an address of the machine', r'0x2_0000_0\d\d\d|0x10_0000_0000|0x4000_0000_0000', {'bq_bpf/src/addresses.rt'}),
     ('the number of a helper', r'helper\s*(?:==|=>)\s*\d', {'bq_bpf/src/helper.rt'}),
     ('the number of a fault or a cause', r'(?:Cause|Doubt)::\w+ => \d', {'bq_insn/src/fault.rt', 'bq_asm/src/fault.rt', 'bq_graph/src/cause.rt', 'bq_transfer/src/doubt.rt'}),
-    ('the number of processors of a machine', r'ProcessorCount::\w+ => \d', {'bq_sizes/src/processor_count.rt'}),
-    ('the word of a rule', r'b?"(?:cfs|eevdf)"', {'bq_sizes/src/rule.rt'}),
+    ('the number of processors of a machine', r'ProcessorCount::\w+ => \d', {'bq_words/src/processor_count.rt'}),
+    ('the word of a rule', r'b?"(?:cfs|eevdf)"', {'bq_words/src/rule.rt'}),
     ('the word of a version', r'Version::\w+ => \d', {'bq_bpf/src/hook.rt'}),
 ]
 
@@ -33,7 +33,7 @@ ALLOWED = {
     'the word of a hook: bq_lines/src/lines.rt': 'the command `pull` of a trace, an event, whose word only happens to be that of a hook too',
     'the word of a hook: bq_timeline/src/faults.rt': 'the command `pull` of a trace, an event, whose word only happens to be that of a hook too',
     'the word of a hook: bq_why/src/happenings.rt': 'the name of an event, which only happens to be the word of a hook too',
-    'the same definition: bq_seeds/specs/Gathering.antt: schedule_with, bq_timeline/specs/Watching.antt: watched': "three lines over a trace's news and a schedule: no crate that stands on both lies below these two",
+    'the same definition: bq_comparison/specs/Gathering.antt: schedule_with, bq_timeline/specs/Watching.antt: watched': "three lines over a trace's news and a schedule: no crate that stands on both lies below these two",
 }
 
 

@@ -1,6 +1,6 @@
 //! The machine of a simulation.
 
-use bq_sizes::{ProcessorCount, Rule};
+use bq_words::{ProcessorCount, Rule};
 
 /// The machine of a simulation, and how long it is watched. Times are nanoseconds.
 #[derive(Clone, Copy, Debug, PartialEq, Eq)]

@@ -4,8 +4,8 @@ use Rattle.std.specs.Option.{option_map}
 use Rattle.bq_weights.specs.VirtualTime.{vdelta_of, advance_of}
 use Rattle.bq_disc.specs.Tasks.{Task}
 use Rattle.bq_disc.specs.Queues.{follows}
-use Rattle.bq_sizes.specs.declared.rule.Rule.{Rule}
-use Rattle.bq_sizes.specs.declared.rule.Rule.TheVariants.{Cfs, Eevdf}
+use Rattle.bq_words.specs.declared.rule.Rule.{Rule}
+use Rattle.bq_words.specs.declared.rule.Rule.TheVariants.{Cfs, Eevdf}
 use Rattle.bq_bounds.specs.declared.running_task.RunningTask.{RunningTask}
 use Rattle.bq_bounds.specs.declared.charge.Charge.{Charge}
 

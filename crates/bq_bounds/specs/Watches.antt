@@ -3,8 +3,8 @@ use Rattle.std.specs.Prelude.{ℕ, ◌+◌, ◌-◌, ◌^◌, min, Bool, true, f
 use Rattle.std.specs.Option.{option_map}
 use Rattle.bq_hooks.specs.declared.settled.By.{By}
 use Rattle.bq_hooks.specs.declared.settled.By.TheVariants as who
-use Rattle.bq_sizes.specs.declared.rule.Rule.{Rule}
-use Rattle.bq_sizes.specs.declared.rule.Rule.TheVariants.{Eevdf}
+use Rattle.bq_words.specs.declared.rule.Rule.{Rule}
+use Rattle.bq_words.specs.declared.rule.Rule.TheVariants.{Eevdf}
 use Rattle.bq_parts.specs.declared.event.Event.{Event}
 use Rattle.bq_parts.specs.declared.event.Event.TheVariants.{Drain, Tick, Block, Pull}
 use Rattle.bq_parts.specs.declared.reply.Reply.{Reply}

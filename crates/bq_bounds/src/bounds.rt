@@ -11,7 +11,7 @@ use crate::running_task::RunningTask;
 use crate::watch::Watch;
 use bq_disc::Entity;
 use bq_parts::{Event, Reply};
-use bq_sizes::Rule;
+use bq_words::Rule;
 use std::alloc::{AllocError, Global};
 
 /// How near each processor of a machine comes to the bounds of its rule. It takes one answer at a time: what was charged in a time

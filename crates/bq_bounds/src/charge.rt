@@ -4,8 +4,8 @@ ghost use Rattle.bq_weights.specs.VirtualTime.{IsWeight, vdelta_of};
 ghost use Rattle.bq_bounds.specs.Charges.{charge_of, charge_from};
 
 use crate::running_task::RunningTask;
-use bq_sizes::Rule;
 use bq_weights::GREATEST;
+use bq_words::Rule;
 
 /// Under CFS a task gives way where it is further ahead than this, in virtual nanoseconds.
 const GRANULARITY: u64 = 1_000_000;

@@ -5,7 +5,7 @@ ghost use Rattle.bq_bounds.specs.Watches.{unwatched, risen, measured, decided, d
 use crate::charge::Charge;
 use crate::running_task::RunningTask;
 use bq_parts::{By, Event, Reply};
-use bq_sizes::Rule;
+use bq_words::Rule;
 
 /// A processor as its charges come. Counts stop at their type's greatest number.
 #[derive(Clone, Copy, Debug, PartialEq, Eq)]

@@ -7,13 +7,18 @@
 
 pub mod addresses;
 pub mod board;
+pub mod code;
 pub mod helper;
 pub mod hook;
+pub mod list;
+pub mod pack;
 pub mod shape;
 pub mod words;
 
 pub use board::{Board, Call, Plain};
+pub use code::{Code, IMMEDIATE, Packed};
 pub use helper::Helper;
 pub use hook::{Hook, Version, context_length};
+pub use list::pack_all;
 pub use shape::MapShape;
 pub use words::{alu, extended, negated, reordered, test};

@@ -17,7 +17,7 @@ use Rattle.bq_parts.specs.contracts.cpu.Cpu as Cpu
 use Rattle.bq_parts.specs.contracts.cpu.Cpu.TheInside as inside
 use Rattle.bq_parts.specs.contracts.unlinked.Unlinked as Unlinked
 use Rattle.bq_parts.specs.contracts.carried.Carried as Carried
-use Rattle.bq_alike.proofs.answer.Answer.TheSendSync as answer
+use Rattle.bq_cells.proofs.answer.Answer.TheSendSync as answer
 use Rattle.bq_parts.proofs.event.Event.TheSendSync as event
 use Rattle.bq_cells.specs.contracts.cells.NumberedCpu as Numbered
 use Rattle.bq_cells.specs.contracts.cells.NumberedInbox as NumberedInbox

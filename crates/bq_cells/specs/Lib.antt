@@ -1,2 +1,4 @@
 pub mod Parts
 pub mod Opened
+pub mod Brief
+pub mod Events

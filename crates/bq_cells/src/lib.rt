@@ -4,11 +4,17 @@
 //! Stands on bq_parts for the shares, on bq_core for the laws of worlds, and on bq_history for what a move is.
 #![tactic(auto)]
 
+pub mod again;
+pub mod answer;
 pub mod cells;
 pub mod law;
 pub mod record;
+pub mod same;
 
+pub use again::{answer_again, event_again, reply_again};
+pub use answer::Answer;
 pub use bq_seats::{CallRooms, Calls, hold_calls};
 pub use cells::{NumberedCpu, NumberedInbox, OneLobby, UnderLock};
 pub use law::{CpuState, Kept, Part, Sched, Shared, WorldState};
 pub use record::{Record, call_rooms, loads_room, record_room};
+pub use same::{is_same_answer, is_same_event, is_same_reply};

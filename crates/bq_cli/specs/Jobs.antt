@@ -6,7 +6,7 @@ use Rattle.bq_bpf.specs.declared.hook.Version.TheVariants.{First, Second}
 use Rattle.bq_bpf.specs.Hooks.{hook_word}
 use Rattle.bq_program.specs.Forms.{maps_text}
 use Rattle.bq_program.specs.declared.options.Options.{Options}
-use Rattle.bq_sizes.specs.Sizes.{rule_of}
+use Rattle.bq_words.specs.Sizes.{rule_of}
 use Rattle.bq_words.specs.Numbers.{below}
 use Rattle.bq_lines.specs.Lines.{size_of}
 use Rattle.bq_lines.specs.Numbers.{decimal_of}

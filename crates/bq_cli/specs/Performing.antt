@@ -9,7 +9,7 @@ use Rattle.bq_program.specs.Dis.{DisWrites}
 use Rattle.bq_program.specs.Forms.{AsksFor, RefusesOptions}
 use Rattle.bq_program.specs.declared.form.Form.{Form}
 use Rattle.bq_program.specs.declared.options.Options.{Options}
-use Rattle.bq_sizes.specs.Sizes.{processors_in}
+use Rattle.bq_words.specs.Sizes.{processors_in}
 use Rattle.bq_par.specs.Summaries.{IsSummary, summary_line, discipline_of}
 use Rattle.bq_par.specs.declared.summary.Summary.{Summary}
 use Rattle.bq_cli.specs.declared.asked.Parallel.{Parallel}

@@ -2,7 +2,7 @@
 ghost use Rattle.std.specs.Prelude.{◌≡◌};
 
 use bq_program::Options;
-use bq_sizes::{ProcessorCount, Rule};
+use bq_words::{ProcessorCount, Rule};
 use std::alloc::{AllocError, AllocFailed};
 use thiserror::Error;
 

@@ -2,9 +2,9 @@
 ghost use Rattle.std.specs.Prelude.{◌≡◌, ℕ, List, Option, Some, IfOk, IfErr, option_map, option_and_then};
 ghost use Rattle.std.specs.Borrow.{Bor};
 ghost use Rattle.clap.specs.Words.{found_of, rows_of};
-ghost use Rattle.bq_sizes.specs.Sizes.{rule_of};
-ghost use Rattle.bq_sizes.specs.declared.rule.Rule.{Rule as Way};
-ghost use Rattle.bq_sizes.specs.declared.processor_count.ProcessorCount.{ProcessorCount as Many};
+ghost use Rattle.bq_words.specs.Sizes.{rule_of};
+ghost use Rattle.bq_words.specs.declared.rule.Rule.{Rule as Way};
+ghost use Rattle.bq_words.specs.declared.processor_count.ProcessorCount.{ProcessorCount as Many};
 ghost use Rattle.bq_lines.specs.Lines.{size_of};
 ghost use Rattle.bq_cli.specs.declared.asked.Parallel.{Parallel as Asked};
 ghost use Rattle.bq_cli.specs.Jobs.{IsParallel, ticks_of};
@@ -12,7 +12,7 @@ ghost use Rattle.bq_cli.specs.Jobs.{IsParallel, ticks_of};
 use crate::asked::{JobFault, Parallel};
 use crate::asm_words::{refused, value};
 use bq_lines::numbers;
-use bq_sizes::{ProcessorCount, Rule};
+use bq_words::{ProcessorCount, Rule};
 use clap::ArgMatches;
 use std::alloc::Global;
 

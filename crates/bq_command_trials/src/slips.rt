@@ -1,8 +1,7 @@
 // The usual slips: the text of a policy, and what is said of it. The slots, lines and numbers were counted by hand.
 
-use bq_complaints::complaint;
-use bq_explain::{Explained, Limits, explain};
-use bq_policy_files::{Head, read_policy};
+use bq_explain::{Explained, Limits, complaint, explain};
+use bq_program::{Head, read_policy};
 use std::alloc::Global;
 use std::process::Abort;
 use std::test::Fail;

@@ -1,1 +1,6 @@
 mod LineLemmas
+mod GatheringLemmas
+mod RunLemmas
+mod RangeLemmas
+mod RowLemmas
+mod RatioLemmas

@@ -2,7 +2,7 @@
 use Rattle.std.proofs.Common.{◌≡◌, ℕ, suc, zero, ◌+◌, List, [], ◌∷◌, ◌++◌, Option, length, refl, ap, sym, ◌∙◌, subst, inl, inr, arith, Global}
 use Rattle.std.specs.declared.vec.Vec.{Vec}
 use Rattle.std.proofs.lemmas.Grind.{common_steps}
-use Rattle.bq_figures.specs.declared.summing.Row.{Row}
+use Rattle.bq_comparison.specs.declared.summing.Row.{Row}
 use Rattle.bq_comparison.specs.declared.line.Line.{Line}
 use Rattle.bq_comparison.specs.Lines.{Selects, beside, row_at}
 

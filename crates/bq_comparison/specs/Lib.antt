@@ -1,3 +1,10 @@
 pub mod Differences
 pub mod Lines
 pub mod Sides
+pub mod Gathering
+pub mod Seeds
+pub mod Report
+pub mod Rows
+pub mod Runs
+pub mod Values
+pub mod Means

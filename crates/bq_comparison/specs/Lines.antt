@@ -2,9 +2,9 @@
 use Rattle.std.specs.Prelude.{◌≡◌, ℕ, ◌+◌, ◌==◌, ◌&&◌, ◌⊎◌, Bool, false, List, [], ◌∷◌, Option, Some, None, slice_get, option_and_then}
 use Rattle.std.specs.declared.vec.Vec.{Vec}
 use Rattle.std.proofs.Common.{Global}
-use Rattle.bq_figures.specs.declared.naming.Figure.{Figure}
-use Rattle.bq_figures.specs.declared.naming.Figure.TheVariants.{Task, Latency, Processor, Hook}
-use Rattle.bq_figures.specs.declared.summing.Row.{Row}
+use Rattle.bq_comparison.specs.declared.naming.Figure.{Figure}
+use Rattle.bq_comparison.specs.declared.naming.Figure.TheVariants.{Task, Latency, Processor, Hook}
+use Rattle.bq_comparison.specs.declared.summing.Row.{Row}
 use Rattle.bq_forms.specs.declared.window.Window.{Window}
 use Rattle.bq_forms.specs.Windows.{ShowsProcessor, ShowsTask}
 use Rattle.bq_comparison.specs.declared.line.Line.{Line}

@@ -1,10 +1,10 @@
 -- The two sides of a comparison.
 use Rattle.std.specs.Prelude.{ℕ, min, IfSome, sum_by}
-use Rattle.bq_sizes.specs.Sizes.{processors_in}
+use Rattle.bq_words.specs.Sizes.{processors_in}
 use Rattle.bq_actions.specs.declared.workload.Workload.{Workload}
-use Rattle.bq_figures.specs.declared.all.Extent.{Extent}
-use Rattle.bq_figures.specs.Report.{figures_of_report}
-use Rattle.bq_seeds.specs.Seeds.{IsSummary}
+use Rattle.bq_comparison.specs.declared.all.Extent.{Extent}
+use Rattle.bq_comparison.specs.Report.{figures_of_report}
+use Rattle.bq_comparison.specs.Seeds.{IsSummary}
 use Rattle.bq_comparison.specs.declared.sides.Sides.{Sides}
 
 -- the tasks of all kinds, as far as 16 bits count, and the processors

@@ -1,7 +1,7 @@
 //! Means, deviations and differences as text.
 
+use crate::Row;
 use crate::difference::Difference;
-use bq_figures::Row;
 use std::alloc::{AllocError, Global};
 
 /// Thousandths, with three decimals.

@@ -4,7 +4,7 @@ use crate::cells::{cell, deviation_of, mean_of, signed};
 use crate::difference::Difference;
 use crate::labels::{name, subject, unit, word};
 use crate::line::Line;
-use bq_figures::{Figure, Row};
+use crate::{Figure, Row};
 use csv::{Error, Writer, WriterBuilder};
 use std::alloc::{AllocError, Global};
 use std::str;

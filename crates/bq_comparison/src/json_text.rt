@@ -1,10 +1,10 @@
 //! Figures as JSON.
 
+use crate::Figure;
 use crate::cells::{deviation_of, mean_of};
 use crate::difference::Difference;
 use crate::labels::{name, subject, unit, word};
 use crate::line::Line;
-use bq_figures::Figure;
 use serde_json::{Map, Value, put};
 use std::alloc::{AllocError, Global};
 

@@ -1,6 +1,6 @@
 //! The words for figures.
 
-use bq_figures::{Figure, HookFigure, ProcessorFigure, TaskFigure};
+use crate::{Figure, HookFigure, ProcessorFigure, TaskFigure};
 use std::alloc::{AllocError, Global};
 
 /// What a figure is of: `task 3`, `cpu 0` or `cpu 0 place`.

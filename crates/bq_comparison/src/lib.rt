@@ -2,23 +2,40 @@
 //! the report, as a table, as comma-separated values or as JSON.
 //! Promises that both sides are summaries of as many runs as were asked for, that each line has the two rows of one figure, and
 //! that lines are left out only as asked, or of hooks of which there is nothing to say.
-//! Stands on bq_seeds for the figures, and on bq_study for the command's words.
+//! The figures are of one run, in numbers; the seeds' runs are added up row by row. Stands on bq_study for the command's words.
 #![tactic(auto)]
 
+mod all;
 mod asked;
 mod cells;
 mod csv_text;
 mod difference;
+mod fault;
+mod gathering;
 mod json_text;
 mod labels;
 mod line;
+pub mod means;
+mod naming;
+mod runs;
+mod seeds;
 mod sides;
+mod summing;
 mod table;
+mod values;
 mod writing;
 
+pub use all::{Extent, all_figures};
 pub use asked::{Comparing, TableForm, asked_comparison};
-pub use bq_seeds::SeedsFault;
 pub use difference::Difference;
+pub use fault::SeedsFault;
+pub use gathering::Gatherer;
 pub use line::{Line, lines};
+pub use means::{deviation, mean};
+pub use naming::{Figure, HookFigure, ProcessorFigure, TaskFigure};
+pub use runs::{FigureValue, Run, run_of};
+pub use seeds::{Rows, summary};
 pub use sides::{Sides, compare, extent_of};
+pub use summing::{Row, rows};
+pub use values::{Delay, value_of};
 pub use writing::written;

@@ -3,7 +3,7 @@ ghost use Rattle.std.specs.Prelude.{◌≡◌, ◌↔◌, IsTrue, IfOk};
 ghost use Rattle.bq_comparison.specs.Lines.{IsShown, Selects, beside, is_nothing, row_at, says_nothing};
 
 use crate::sides::Sides;
-use bq_figures::{Figure, Row};
+use crate::{Figure, Row};
 use bq_forms::Window;
 use std::alloc::{AllocError, Global};
 

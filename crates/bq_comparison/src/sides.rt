@@ -2,9 +2,8 @@
 ghost use Rattle.std.specs.Prelude.{◌≡◌, ◌↔◌, IfOk, IsSome};
 ghost use Rattle.bq_comparison.specs.Sides.{IsComparison, extent_of};
 
+use crate::{Extent, Rows, SeedsFault, all_figures, summary};
 use bq_actions::Workload;
-use bq_figures::{Extent, all_figures};
-use bq_seeds::{Rows, SeedsFault, summary};
 use bq_study::Policies;
 use std::alloc::Global;
 use std::thread::Threads;

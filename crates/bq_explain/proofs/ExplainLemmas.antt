@@ -2,7 +2,7 @@
 use Rattle.std.proofs.Common.{◌≡◌, ℕ, false, refl, Option, None, Some, IfSome, Result, Ok, Err, IfOk}
 use Rattle.std.specs.String.{string_bytes}
 use Rattle.bq_verify.specs.declared.cause.Cause.{Cause}
-use Rattle.bq_policy_files.specs.declared.policy.Policy.{Policy}
+use Rattle.bq_program.specs.declared.policy.Policy.{Policy}
 use Rattle.bq_explain.specs.declared.explanation.Explained.{Explained}
 use Rattle.bq_explain.specs.declared.limits.Limits.{Limits}
 use Rattle.bq_explain.specs.declared.verdict.Verdict.TheVariants.{Refused}

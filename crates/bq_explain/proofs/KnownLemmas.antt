@@ -10,7 +10,7 @@ use Rattle.bq_bpf.specs.Hooks.{context_length_of}
 use Rattle.bq_verify.specs.KnownAt.{CoversRuns}
 use Rattle.bq_states.specs.AbstractStates.{Contains}
 use Rattle.bq_states.specs.declared.abstract_state.AbstractState.{AbstractState}
-use Rattle.bq_policy_files.specs.declared.policy.Policy.{Policy}
+use Rattle.bq_program.specs.declared.policy.Policy.{Policy}
 use Rattle.bq_explain.specs.Explained.{IsKnown, IsNeedAt}
 use Rattle.bq_needs.specs.Needs.{IsNeed}
 use Rattle.bq_explain.specs.Telling.{TellsState}

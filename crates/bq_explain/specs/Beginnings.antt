@@ -3,8 +3,8 @@ use Rattle.std.specs.Prelude.{◌≡◌, ℕ, List, [], ◌∷◌, ◌++◌, cod
 use Rattle.std.specs.Fmt.{decimal}
 use Rattle.bq_bpf.specs.declared.shape.MapShape.{MapShape}
 use Rattle.bq_bpf.specs.Hooks.{hook_word, version_number}
-use Rattle.bq_policy_files.specs.declared.policy.Policy.{Policy}
-use Rattle.bq_policy_text.specs.Marks.{more_maps}
+use Rattle.bq_program.specs.declared.policy.Policy.{Policy}
+use Rattle.bq_program.specs.MarkLines.{more_maps}
 use Rattle.bq_explain.specs.declared.verdict.Verdict.{Verdict}
 use Rattle.bq_explain.specs.declared.verdict.Verdict.TheVariants.{Accepted}
 use Rattle.bq_explain.specs.Verdicts.{verdict_line}

@@ -11,7 +11,7 @@ use Rattle.bq_bpf.specs.declared.board.Call.{Call as Asked}
 use Rattle.bq_bpf.specs.Hooks.{context_length_of}
 use Rattle.bq_verify.specs.KnownAt.{CoversRuns}
 use Rattle.bq_states.specs.declared.abstract_state.AbstractState.{AbstractState}
-use Rattle.bq_policy_files.specs.declared.policy.Policy.{Policy}
+use Rattle.bq_program.specs.declared.policy.Policy.{Policy}
 use Rattle.bq_explain.specs.declared.explanation.Explained.{Explained}
 use Rattle.bq_explain.specs.declared.limits.Limits.{Limits}
 use Rattle.bq_explain.specs.declared.verdict.Verdict.{Verdict}

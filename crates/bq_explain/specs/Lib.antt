@@ -3,3 +3,4 @@ pub mod Explained
 pub mod Telling
 pub mod Texts
 pub mod Verdicts
+pub mod Complaints

@@ -2,7 +2,7 @@
 use bq_bpf::{Hook, Version};
 use bq_insn::Insn;
 use bq_needs::reads;
-use bq_policy_files::Policy;
+use bq_program::Policy;
 use bq_states::abstract_state::{AbstractState, Kind};
 use bq_states::registers::known;
 use bq_verify::{Cause, Doubt, GraphCause};

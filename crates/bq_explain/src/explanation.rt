@@ -19,7 +19,7 @@ use crate::verdict::{Verdict, judge, program_of, verdict_line};
 use crate::view_words::view_text;
 use bq_insn::Insn;
 use bq_needs::need_text;
-use bq_policy_files::Policy;
+use bq_program::Policy;
 use bq_states::abstract_state::AbstractState;
 use bq_verify::{Cause, Program, view_at};
 use std::alloc::{AllocError, Global};

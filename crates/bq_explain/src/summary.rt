@@ -5,8 +5,7 @@ ghost use Rattle.bq_explain.specs.Beginnings.{BeginsWith, accepted_words, maps_t
 use bq_bpf::MapShape;
 use bq_bpf::helper::{ADD_COUNTER, LOOKUP, NOW, PROCESSOR, READ_COUNTER, UPDATE};
 use bq_insn::Insn;
-use bq_policy_files::Policy;
-use bq_policy_text::more_maps;
+use bq_program::{Policy, more_maps};
 use std::alloc::{AllocError, Global};
 
 /// The helpers that there are, by their numbers.

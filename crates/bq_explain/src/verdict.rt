@@ -6,8 +6,7 @@ ghost use Rattle.bq_explain.specs.Verdicts.{IsSafePolicy, IsVerdict, is_accepted
 use crate::limits::Limits;
 use bq_bpf::Hook;
 use bq_load::LoadFault;
-use bq_policy_files::Policy;
-use bq_program::{accepted_line, fault_text};
+use bq_program::{Policy, accepted_line, fault_text};
 use bq_verify::{Cause, Program, Refused, verify};
 use std::alloc::{AllocError, Global};
 

@@ -2,7 +2,7 @@
 
 use crate::image::HexWord;
 use bq_core::{Event, Hook};
-use bq_sizes::{ProcessorCount, Rule};
+use bq_words::{ProcessorCount, Rule};
 
 /// What a line may ask. An image stays where the line has it.
 #[derive(Drop)]

@@ -10,8 +10,7 @@ use crate::image::HexWord;
 use crate::numbers;
 use crate::words::{end_of_words, is_allowed_line};
 use bq_core::{Event, Hook};
-use bq_sizes::{ProcessorCount, Rule};
-use bq_words::next_word;
+use bq_words::{ProcessorCount, Rule, next_word};
 
 /// The longest line.
 pub const LONGEST: usize = 131_072;

@@ -1,17 +1,16 @@
 //! The end of a machine: with its locks and all its seats in one hand again, all that happened is known.
 ghost use Rattle.std.specs.Prelude.{◌↔◌, IsTrue};
 ghost use Rattle.bq_history.specs.History.{Leaves, EachOnce, AreReceiptsOf};
-ghost use Rattle.bq_counters.specs.Sums.{AreSumsOf};
+ghost use Rattle.bq_seats.specs.Sums.{AreSumsOf};
 ghost use Rattle.bq_seats.specs.Calls.{calls_in};
 ghost use Rattle.bq_parts.specs.World.{opening_world};
 ghost use Rattle.bq_cells.specs.Parts.{RecordStep, told_calls};
 
 use crate::clock::Clock;
 use crate::locks::Machine;
-use bq_closing::{Closed, Locks};
-use bq_counters::Naming as Counting;
 use bq_disc::RunQueue;
-use bq_recording::{Recorder, Seat};
+use bq_recording::{Closed, Locks, Recorder, Seat};
+use bq_seats::Naming as Counting;
 use bq_tie::Naming;
 
 impl<Q: RunQueue + Drop, K: Clock + Drop, N: Naming + Counting, const P: usize> Machine<
@@ -60,6 +59,6 @@ impl<Q: RunQueue + Drop, K: Clock + Drop, N: Naming + Counting, const P: usize> 
             journal,
             room,
         };
-        bq_closing::close(locks, seats)
+        bq_recording::close(locks, seats)
     }
 }

@@ -1,7 +1,7 @@
 //! A scheduler that many threads call at once. Processors, inboxes and the lobby lie under locks of their own; what all
 //! calls did is one history, and each call gets a receipt for its place in it.
 //! Promises that each call records the event asked for, at a reading that the clock gave, and that the history is one of
-//! the world of bq_parts. Stands on bq_recording for what each event records under its locks, and on bq_closing for the end.
+//! the world of bq_parts. Stands on bq_recording for what each event records under its locks, for the start and for the end.
 #![tactic(auto)]
 
 pub mod clock;
@@ -16,11 +16,9 @@ mod running_calls;
 pub mod waking_calls;
 
 pub use bq_cells::{Calls, CpuState, Kept, Part, Record, Sched, Shared, WorldState};
-pub use bq_closing::Closed;
-pub use bq_counters::{Naming as Counting, Unnamed};
 pub use bq_history::Receipt;
-pub use bq_opening::{Prepared, prepare};
-pub use bq_recording::Seat;
+pub use bq_recording::{Closed, Prepared, Seat, prepare};
+pub use bq_seats::{Naming as Counting, Unnamed};
 pub use bq_tie::Naming;
 pub use clock::Clock;
 pub use loading_calls::{LoadReceipts, LoadRefused};

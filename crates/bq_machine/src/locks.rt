@@ -4,10 +4,9 @@ ghost use Rattle.std.specs.Sync.Mutex.{mutex_guard_value};
 
 use crate::clock::Clock;
 use bq_cells::{NumberedCpu, NumberedInbox, OneLobby, UnderLock};
-use bq_closing::Room;
-use bq_counters::Naming as Counting;
 use bq_disc::RunQueue;
-use bq_recording::{Recorder, Seat, lock, need_own};
+use bq_recording::{ClosingRoom, Recorder, Seat, lock, need_own};
+use bq_seats::Naming as Counting;
 use bq_tie::Naming;
 use std::sync::{Mutex, MutexGuard, Wait};
 
@@ -22,7 +21,7 @@ pub struct Machine<Q: RunQueue + Drop, K: Clock + Drop, N: Naming + Counting, co
     pub(crate) cpus: Vec<Mutex<UnderLock<NumberedCpu<Q>, N>>>,
     pub(crate) inboxes: Vec<Mutex<UnderLock<NumberedInbox, N>>>,
     pub(crate) lobby: Mutex<UnderLock<OneLobby, N>>,
-    pub(crate) room: Mutex<Room<Q, P>>,
+    pub(crate) room: Mutex<ClosingRoom<Q, P>>,
     pub(crate) seats: u64,
     ghost about: { recorder.history.about ≡ P },
     ghost counted: { vec_len cpus ≡ P },

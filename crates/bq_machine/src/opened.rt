@@ -4,10 +4,9 @@ ghost use Rattle.bq_seats.specs.Calls.{fresh};
 
 use crate::clock::Clock;
 use crate::locks::Machine;
-use bq_counters::{Naming as Counting, Unnamed};
 use bq_disc::RunQueue;
-use bq_opening::{Opening, Prepared, no_tasks};
-use bq_recording::Seat;
+use bq_recording::{Opening, Prepared, Seat, no_tasks};
+use bq_seats::{Naming as Counting, Unnamed};
 use bq_tie::Naming;
 use std::alloc::{AllocError, Global};
 

@@ -10,7 +10,7 @@ use Rattle.bq_states.specs.AbstractStates.{size_of_shape}
 use Rattle.bq_states.specs.declared.abstract_state.Kind.TheVariants as kind
 use Rattle.bq_states.specs.declared.abstract_state.AbstractValue.{AbstractValue}
 use Rattle.bq_states.specs.declared.abstract_state.AbstractState.{AbstractState}
-use Rattle.bq_policy_files.specs.declared.policy.Policy.{Policy}
+use Rattle.bq_program.specs.declared.policy.Policy.{Policy}
 use Rattle.bq_needs.specs.Accesses.{AreSet, GoesBeyond, IsMoved, IsShown, ReachesLast, Stays, TellsBegin, begin_of, context_of, counted, by_register, register_text}
 use Rattle.bq_needs.specs.Texts.{kind_text}
 use Rattle.bq_needs.specs.declared.operands.Access.{Access}

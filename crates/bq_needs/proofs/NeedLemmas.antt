@@ -8,7 +8,7 @@ use Rattle.bq_states.specs.Standing.{Exact, Pointer, Stands, StandsAt}
 use Rattle.bq_states.specs.declared.abstract_state.Kind.TheVariants as kind
 use Rattle.bq_states.specs.declared.abstract_state.AbstractValue.{AbstractValue}
 use Rattle.bq_states.specs.declared.abstract_state.AbstractState.{AbstractState}
-use Rattle.bq_policy_files.specs.declared.policy.Policy.{Policy}
+use Rattle.bq_program.specs.declared.policy.Policy.{Policy}
 use Rattle.bq_needs.specs.Accesses.{IsShown, Lacks, context_of}
 use Rattle.bq_needs.specs.Needs.{AreGiven, AreKnown, AreNumbers, GivesHelper, GivesValue, IsGoodAccess, IsPointerWorkedOn, NamesEntry, PointsTo, helper_of, unset_below, unset_text}
 use Rattle.bq_needs.specs.declared.arguments.Wanted.TheVariants as wanted

@@ -9,7 +9,7 @@ use Rattle.bq_states.specs.AbstractStates.{bound_of, size_of_shape}
 use Rattle.bq_states.specs.declared.abstract_state.Kind.TheVariants as kind
 use Rattle.bq_states.specs.declared.abstract_state.AbstractValue.{AbstractValue}
 use Rattle.bq_states.specs.declared.abstract_state.AbstractState.{AbstractState}
-use Rattle.bq_policy_files.specs.declared.policy.Policy.{Policy}
+use Rattle.bq_program.specs.declared.policy.Policy.{Policy}
 use Rattle.bq_needs.specs.declared.accesses.Lack.TheVariants as lack
 use Rattle.bq_needs.specs.declared.accesses.Lack.{Lack}
 use Rattle.bq_needs.specs.declared.operands.Access.{Access}

@@ -11,7 +11,7 @@ use Rattle.bq_states.specs.Standing.{Exact, Pointer, Scalar, StandsAt}
 use Rattle.bq_states.specs.declared.abstract_state.Kind.TheVariants.{Number, Map}
 use Rattle.bq_states.specs.declared.abstract_state.AbstractValue.{AbstractValue}
 use Rattle.bq_states.specs.declared.abstract_state.AbstractState.{AbstractState}
-use Rattle.bq_policy_files.specs.declared.policy.Policy.{Policy}
+use Rattle.bq_program.specs.declared.policy.Policy.{Policy}
 use Rattle.bq_needs.specs.declared.arguments.Wanted.TheVariants as wanted
 use Rattle.bq_needs.specs.declared.arguments.Wanted.{Wanted}
 use Rattle.bq_needs.specs.declared.operands.Access.{Access as Accessed}

@@ -6,7 +6,7 @@ ghost use Rattle.bq_needs.specs.Accesses.{AreSet, GoesBeyond, IsMoved, IsShown, 
 use crate::known::{kind_text, known_text};
 use crate::operands::Access;
 use bq_bpf::context_length;
-use bq_policy_files::Policy;
+use bq_program::Policy;
 use bq_ranges::Range;
 use bq_states::abstract_state::{AbstractState, AbstractValue, Kind};
 use bq_states::places::shape_of;

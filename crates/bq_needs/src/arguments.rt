@@ -10,7 +10,7 @@ use crate::known::known_text;
 use crate::operands::Access;
 use bq_bpf::helper::{ADD_COUNTER, LOOKUP, READ_COUNTER, UPDATE};
 use bq_insn::Insn;
-use bq_policy_files::Policy;
+use bq_program::Policy;
 use bq_states::abstract_state::{AbstractState, Kind};
 use bq_states::places::shape_of;
 use bq_states::registers::known;

@@ -11,7 +11,7 @@ use crate::arguments::argument_need;
 use crate::known::known_text;
 use crate::operands::{access_of, reads, works_on};
 use bq_insn::Insn;
-use bq_policy_files::Policy;
+use bq_program::Policy;
 use bq_states::abstract_state::{AbstractState, AbstractValue, Kind};
 use bq_states::registers::known;
 use bq_verify::{Cause, Doubt};

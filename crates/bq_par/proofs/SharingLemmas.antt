@@ -9,8 +9,8 @@ use Rattle.bq_disc.specs.declared.queue.RunQueue as Queue
 use Rattle.bq_disc.specs.declared.discipline.Discipline
 use Rattle.bq_tie.specs.declared.law.Naming as Naming
 use Rattle.bq_tie.proofs.owner.Owner.TheSendSync as owner
-use Rattle.bq_counters.specs.declared.account.Naming as Counting
-use Rattle.bq_counters.proofs.counters.Counters.TheSendSync as counters
+use Rattle.bq_seats.specs.declared.account.Naming as Counting
+use Rattle.bq_seats.proofs.counters.Counters.TheSendSync as counters
 use Rattle.bq_history.specs.contracts.cell.Locked as Locked
 use Rattle.bq_history.proofs.cell.Locked.TheSendSync as locked
 use Rattle.bq_history.specs.contracts.journal.Journal as Journal
@@ -26,8 +26,8 @@ use Rattle.bq_cells.specs.contracts.law.Kept as Kept
 use Rattle.bq_cells.specs.contracts.law.Part as Part
 use Rattle.bq_disc.proofs.node.Node.TheLaws.TheKnot as knot
 use Rattle.bq_parts.specs.contracts.inbox.Inbox as Inbox
-use Rattle.bq_closing.specs.contracts.room.Room as Room
-use Rattle.bq_closing.proofs.SendLemmas.{room_send}
+use Rattle.bq_recording.specs.contracts.closing_room.ClosingRoom as ClosingRoom
+use Rattle.bq_recording.proofs.SendLemmas.{room_send}
 use Rattle.bq_cells.proofs.SendLemmas.{cpu_send, numbered_send, inbox_send, lobby_send, record_send, kept_send}
 use Rattle.bq_recording.specs.contracts.recorder.Recorder as Recorder
 use Rattle.bq_machine.specs.contracts.locks.Machine as Machine
@@ -59,7 +59,7 @@ machine_sync Q K N P R k n m g h s y =
     let place = Locked.the_row cpu Record.the_row Part.the_row Kept.the_row N a n in
     let inbox = Locked.the_row NumberedInbox.the_row Record.the_row Part.the_row Kept.the_row N inbox_part.ghosts n in
     let lobby = Locked.the_row OneLobby.the_row Record.the_row Part.the_row Kept.the_row N lobby_part.ghosts n in
-    let room = Room.the_row Q P R g h in
+    let room = ClosingRoom.the_row Q P R g h in
     declared_sync (Machine.the_type Q K N P R g h k n m) (
       as_row_sync (row_field K) y,
       (

@@ -10,8 +10,8 @@ use Rattle.bq_history.specs.declared.law.Receipt.{Receipt}
 use Rattle.bq_parts.specs.World.{World, opening_world}
 use Rattle.bq_cells.specs.Parts.{RecordStep}
 use Rattle.bq_cells.specs.declared.record.Record.{Record}
-use Rattle.bq_sizes.specs.declared.rule.Rule.{Rule}
-use Rattle.bq_sizes.specs.declared.rule.Rule.TheVariants.{Cfs, Eevdf}
+use Rattle.bq_words.specs.declared.rule.Rule.{Rule}
+use Rattle.bq_words.specs.declared.rule.Rule.TheVariants.{Cfs, Eevdf}
 use Rattle.bq_par.specs.Ticks.{ticks_in, ticks_of}
 use Rattle.bq_par.specs.declared.summary.Summary.{Summary}
 

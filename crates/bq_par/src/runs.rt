@@ -1,7 +1,7 @@
 //! The runs, by rule and number of processors.
 ghost use Rattle.std.specs.Prelude.{◌≡◌, ◌<◌, ◌≤◌, [], IfOk, vec_len};
 ghost use Rattle.std.specs.List.{All};
-ghost use Rattle.bq_sizes.specs.Sizes.{processors_in};
+ghost use Rattle.bq_words.specs.Sizes.{processors_in};
 ghost use Rattle.bq_par.specs.Summaries.{IsSummary, discipline_of};
 ghost use Rattle.bq_par.specs.Ticks.{ticks_of};
 
@@ -9,13 +9,13 @@ use crate::metronome::Metronome;
 use crate::shift::{Done, drive};
 use crate::summary::{Summary, finish};
 use bq_cfs::CfsQueue;
-use bq_counters::Naming as Counting;
 use bq_disc::RunQueue;
 use bq_eevdf::EevdfQueue;
 use bq_machine::{Machine, Prepared, Seat, Unnamed, prepare};
 use bq_parts::Refusal;
-use bq_sizes::{ProcessorCount, Rule};
+use bq_seats::Naming as Counting;
 use bq_tie::Naming;
+use bq_words::{ProcessorCount, Rule};
 use std::alloc::{AllocError, Global};
 use std::marker::Brand;
 use std::sync::Wait;

@@ -3,11 +3,11 @@ ghost use Rattle.std.specs.Prelude.{◌≡◌, ◌+◌, ◌<◌, ◌++◌, ◌�
 ghost use Rattle.std.specs.Option.{option_to_list};
 ghost use Rattle.bq_par.specs.Ticks.{one_tick, ticks_of};
 
-use bq_counters::Naming as Counting;
 use bq_disc::RunQueue;
 use bq_history::{Numbered, Receipt};
 use bq_machine::{Clock, Machine, Record, Seat, WakeReceipts};
 use bq_parts::Refusal;
+use bq_seats::Naming as Counting;
 use bq_tie::Naming;
 use std::alloc::Global;
 use std::sync::Wait;

@@ -8,11 +8,11 @@ ghost use Rattle.bq_par.specs.Summaries.{IsSummary, summary_line};
 ghost use Rattle.bq_par.specs.Ticks.{one_tick, ticks_of};
 
 use crate::shift::Done;
-use bq_counters::Naming as Counting;
 use bq_disc::RunQueue;
 use bq_history::{Compared, Receipt};
 use bq_machine::{Clock, Machine, Record, Seat};
 use bq_parts::{Event, Refusal};
+use bq_seats::Naming as Counting;
 use bq_tie::Naming;
 use std::alloc::{AllocError, Global};
 

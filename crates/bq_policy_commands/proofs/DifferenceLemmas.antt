@@ -1,9 +1,9 @@
 -- The mark from which words differ, of a fault.
 use Rattle.std.proofs.Common.{◌≡◌, ℕ, List, Option, Some, None, inr, sym}
-use Rattle.bq_policy_files.specs.declared.fault.PolicyFault.{PolicyFault}
-use Rattle.bq_policy_files.specs.declared.head.Head.{Head}
-use Rattle.bq_policy_files.specs.declared.mark.Key.{Key}
-use Rattle.bq_policy_files.specs.Files.{IsPolicyFault}
+use Rattle.bq_program.specs.declared.fault.PolicyFault.{PolicyFault}
+use Rattle.bq_program.specs.declared.head.Head.{Head}
+use Rattle.bq_program.specs.declared.mark.Key.{Key}
+use Rattle.bq_program.specs.Files.{IsPolicyFault}
 use Rattle.bq_policy_commands.specs.Disagreeing.{IsDifference, differing}
 
 -- the mark that a fault of the file names is the one from which the words differ

@@ -1,12 +1,12 @@
 -- Where the words of `asm` say another thing than the marks of the text.
 use Rattle.std.specs.Prelude.{◌≡◌, ◌≢◌, ℕ, List, ◌⊎◌, Option, Some, None}
-use Rattle.bq_policy_files.specs.declared.fault.PolicyFault.{PolicyFault}
-use Rattle.bq_policy_files.specs.declared.fault.PolicyFault.TheVariants.{Disagrees}
-use Rattle.bq_policy_files.specs.declared.head.Head.{Head}
-use Rattle.bq_policy_files.specs.declared.kind.Kind.TheVariants.{Text}
-use Rattle.bq_policy_files.specs.declared.mark.Key.{Key}
-use Rattle.bq_policy_files.specs.declared.policy.Policy.{Policy}
-use Rattle.bq_policy_files.specs.Files.{IsPolicy, IsPolicyFault, kind_of}
+use Rattle.bq_program.specs.declared.fault.PolicyFault.{PolicyFault}
+use Rattle.bq_program.specs.declared.fault.PolicyFault.TheVariants.{Disagrees}
+use Rattle.bq_program.specs.declared.head.Head.{Head}
+use Rattle.bq_program.specs.declared.kind.Kind.TheVariants.{Text}
+use Rattle.bq_program.specs.declared.mark.Key.{Key}
+use Rattle.bq_program.specs.declared.policy.Policy.{Policy}
+use Rattle.bq_program.specs.Files.{IsPolicy, IsPolicyFault, kind_of}
 
 -- the mark that is said otherwise, where that is the fault
 abbrev pub differing : PolicyFault → Option Key

@@ -6,11 +6,11 @@ use Rattle.bq_load.specs.declared.fault.LoadFault.TheVariants as load
 use Rattle.bq_asm.specs.Causes.{cause_number}
 use Rattle.bq_load.specs.Naming.{fault_text}
 use Rattle.bq_program.specs.Refusals.{refusal, cause_and_place}
-use Rattle.bq_policy_files.specs.declared.fault.PolicyFault.{PolicyFault}
-use Rattle.bq_policy_files.specs.declared.fault.PolicyFault.TheVariants as fault
-use Rattle.bq_policy_files.specs.declared.head.Head.{Head}
-use Rattle.bq_policy_files.specs.Files.{IsPolicyFault}
-use Rattle.bq_policy_files.specs.Marks.{key_word}
+use Rattle.bq_program.specs.declared.fault.PolicyFault.{PolicyFault}
+use Rattle.bq_program.specs.declared.fault.PolicyFault.TheVariants as fault
+use Rattle.bq_program.specs.declared.head.Head.{Head}
+use Rattle.bq_program.specs.Files.{IsPolicyFault}
+use Rattle.bq_program.specs.Marks.{key_word}
 use Rattle.bq_policy_commands.specs.declared.answered.Answered.{Answered}
 use Rattle.bq_policy_commands.specs.declared.answered.Answered.TheVariants.{Refused}
 

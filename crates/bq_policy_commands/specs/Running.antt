@@ -21,9 +21,9 @@ use Rattle.bq_verify.specs.declared.cause.Cause.{Cause}
 use Rattle.bq_verify.specs.Accepted.{Accepted}
 use Rattle.bq_bpf.specs.Hooks.{context_length_of}
 use Rattle.bq_bpf.specs.declared.hook.Hook.{Hook}
-use Rattle.bq_policy_files.specs.declared.head.Head.{Head}
-use Rattle.bq_policy_files.specs.declared.policy.Policy.{Policy}
-use Rattle.bq_policy_files.specs.Files.{IsPolicy}
+use Rattle.bq_program.specs.declared.head.Head.{Head}
+use Rattle.bq_program.specs.declared.policy.Policy.{Policy}
+use Rattle.bq_program.specs.Files.{IsPolicy}
 use Rattle.bq_policy_commands.specs.declared.answered.Answered.{Answered}
 use Rattle.bq_policy_commands.specs.declared.answered.Answered.TheVariants.{Done, Refused}
 use Rattle.bq_policy_commands.specs.declared.words.RunWords.{RunWords}

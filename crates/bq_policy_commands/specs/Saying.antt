@@ -1,8 +1,8 @@
 -- What the words of a command say of a policy.
 use Rattle.std.specs.Prelude.{◌≡◌, ℕ, List, Option, Some, None, option_map, String, string_bytes}
 use Rattle.std.specs.declared.alloc.Global.{Global}
-use Rattle.bq_policy_files.specs.declared.head.Head.{Head}
-use Rattle.bq_policy_files.specs.Heads.{Names}
+use Rattle.bq_program.specs.declared.head.Head.{Head}
+use Rattle.bq_program.specs.Heads.{Names}
 use Rattle.bq_bpf.specs.Hooks.{hook_of, version_of}
 use Rattle.bq_policy_commands.specs.declared.answered.Answered.{Answered}
 use Rattle.bq_policy_commands.specs.declared.answered.Answered.TheVariants.{Words}

@@ -3,8 +3,7 @@ ghost use Rattle.std.specs.Prelude.{◌≡◌, IfOk};
 ghost use Rattle.bq_policy_commands.specs.Disagreeing.{IsDifference, differing};
 
 use crate::fault_words::{fault_line, fault_reason};
-use bq_policy_files::{Head, Key, Kind, PolicyFault, kind_of, read_policy};
-use bq_program::{Options, shapes_of};
+use bq_program::{Head, Key, Kind, Options, PolicyFault, kind_of, read_policy, shapes_of};
 use std::alloc::{AllocError, Global};
 
 /// Why the words of `asm` are refused beside a text.

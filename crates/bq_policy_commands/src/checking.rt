@@ -1,6 +1,6 @@
 //! `check` of a policy's file.
 ghost use Rattle.std.specs.Prelude.{◌≡◌, ◌≢◌, IfOk, OnOk, string_bytes};
-ghost use Rattle.bq_policy_files.specs.declared.fault.PolicyFault.TheVariants.{OutOfMemory};
+ghost use Rattle.bq_program.specs.declared.fault.PolicyFault.TheVariants.{OutOfMemory};
 ghost use Rattle.bq_policy_commands.specs.Checking.{ChecksFile, ChecksTo, IsTold, TellsVerdict, answered};
 ghost use Rattle.bq_policy_commands.specs.Limiting.{HasLimits};
 ghost use Rattle.bq_policy_commands.specs.Refusing.{fault_line};
@@ -14,7 +14,7 @@ use crate::limits::limits_of;
 use crate::named::{placed, with_name};
 use crate::words::CheckWords;
 use bq_explain::{Limits, explain, judge, verdict_line};
-use bq_policy_files::{Head, Policy, PolicyFault, read_policy};
+use bq_program::{Head, Policy, PolicyFault, read_policy};
 use std::alloc::{AllocError, Global};
 
 /// The verdict on the policy whose file has these bytes, or why the file is none.

@@ -1,15 +1,15 @@
 //! Why a file is no policy: the line that refuses it, and what is wrong in words.
 ghost use Rattle.std.specs.Prelude.{◌≡◌, ◌≢◌, IfOk, OnOk, string_bytes};
 ghost use Rattle.bq_policy_commands.specs.Refusing.{fault_line};
-ghost use Rattle.bq_policy_files.specs.Marks.{key_word};
-ghost use Rattle.bq_policy_files.specs.declared.fault.PolicyFault.TheVariants.{OutOfMemory};
+ghost use Rattle.bq_program.specs.Marks.{key_word};
+ghost use Rattle.bq_program.specs.declared.fault.PolicyFault.TheVariants.{OutOfMemory};
 
 use crate::image_words::{image_words, spelling_words};
 use crate::maps_words::maps_words;
 use bq_asm::Cause;
-use bq_complaints::complaint;
+use bq_explain::complaint;
 use bq_load::LoadFault;
-use bq_policy_files::{HeadCause, Key, PolicyFault};
+use bq_program::{HeadCause, Key, PolicyFault};
 use std::alloc::{AllocError, Global};
 
 /// The line that refuses the file. Want of memory is handed on as such.

@@ -1,15 +1,14 @@
 //! What the words of a command say of a policy.
 ghost use Rattle.std.specs.Prelude.{◌≡◌, IfOk, Some};
 ghost use Rattle.bq_policy_commands.specs.Saying.{IsHeadWord, SaysHead, option_bytes};
-ghost use Rattle.bq_policy_files.specs.Heads.{Names};
+ghost use Rattle.bq_program.specs.Heads.{Names};
 ghost use Rattle.bq_bpf.specs.Hooks.{hook_of, version_of};
 
 use crate::asm_options::maps_option_words;
 use crate::words::PolicyWords;
 use bq_bpf::MapShape;
 use bq_load::{Hook, Version};
-use bq_policy_files::Head;
-use bq_program::shapes_of;
+use bq_program::{Head, shapes_of};
 use std::alloc::{AllocError, Global};
 use thiserror::Error;
 

@@ -1,6 +1,6 @@
 //! `dis` of a policy's file.
 ghost use Rattle.std.specs.Prelude.{◌≢◌, IfOk, OnOk, string_bytes};
-ghost use Rattle.bq_policy_files.specs.declared.fault.PolicyFault.TheVariants.{OutOfMemory};
+ghost use Rattle.bq_program.specs.declared.fault.PolicyFault.TheVariants.{OutOfMemory};
 ghost use Rattle.bq_policy_commands.specs.Listing.{ListsFile, ListsTo};
 ghost use Rattle.bq_policy_commands.specs.Refusing.{Refuses};
 
@@ -9,8 +9,7 @@ use crate::fault_words::{fault_line, fault_reason};
 use crate::given::{WordsFault, said_by};
 use crate::named::placed;
 use crate::words::ListWords;
-use bq_policy_files::{Head, PolicyFault, read_policy};
-use bq_policy_text::policy_text;
+use bq_program::{Head, PolicyFault, policy_text, read_policy};
 use std::alloc::{AllocError, Global};
 
 /// The listing of the policy whose file has these bytes, under the marks that say its hook, maps and version.

@@ -14,7 +14,7 @@ use crate::word_text::word_text;
 use crate::words::RunWords;
 use bq_explain::{Verdict, verdict_line};
 use bq_one_run::{Inputs, OneRun, copied, run_often, trace_once, write_calls, write_changes};
-use bq_policy_files::{Head, Policy, read_policy};
+use bq_program::{Head, Policy, read_policy};
 use bq_verify::{Program, Refused, Verified, verify};
 use std::alloc::{AllocError, Global};
 use std::time::Clock;

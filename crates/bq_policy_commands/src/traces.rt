@@ -5,7 +5,7 @@ ghost use Rattle.bq_policy_commands.specs.Tracing.{AreSteps, TellsSteps, changes
 use bq_asm::listing;
 use bq_insn::Insn;
 use bq_one_run::Moment;
-use bq_policy_files::Policy;
+use bq_program::Policy;
 use bq_verify::Verified;
 use std::alloc::{AllocError, Global};
 

@@ -2,8 +2,8 @@
 use crate::asking::Asked;
 use crate::request::PolicyRequest;
 use crate::status::exit_status;
+use bq_options::{say_out_of_memory, whole_input, written};
 use bq_policy_commands::{Answered, check, list, run};
-use bq_streams::{say_out_of_memory, whole_input, written};
 use std::alloc::{AllocError, Global};
 use std::process::ExitCode;
 use std::time::Clock;

@@ -2,8 +2,8 @@
 ghost use Rattle.std.specs.Prelude.{◌≡◌};
 ghost use Rattle.bq_policy_desk.specs.Status.{status_of};
 
+use bq_options::OUT_OF_MEMORY;
 use bq_policy_commands::Answered;
-use bq_streams::OUT_OF_MEMORY;
 use std::alloc::AllocError;
 
 /// The exit status of an answer: 0 where it is done, 1 where the policy is refused, 2 where the words are, 3 where memory was wanted.

@@ -3,3 +3,16 @@ pub mod FormLemmas
 pub mod NamedShapesLemmas
 pub mod OneAnswerLemmas
 pub mod ShapesTextLemmas
+pub mod BodyLemmas
+pub mod LineLemmas
+pub mod ShapeLemmas
+pub mod MarkLemmas
+pub mod OneHeadLemmas
+pub mod NoFaultLemmas
+pub mod ReadBackLemmas
+pub mod ListedLineLemmas
+pub mod NoteLemmas
+pub mod NotedLemmas
+pub mod PaddingLemmas
+pub mod LawLemmas
+pub mod HeadLemmas

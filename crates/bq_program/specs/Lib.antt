@@ -6,3 +6,12 @@ pub mod HexText
 pub mod Laws
 pub mod Refusals
 pub mod ShapesText
+pub mod MarkLines
+pub mod Listed
+pub mod ReadBack
+pub mod Combining
+pub mod Files
+pub mod Heads
+pub mod Marks
+pub mod Naming
+pub mod Taking

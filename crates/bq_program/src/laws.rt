@@ -1,5 +1,6 @@
 //! Laws of what is answered. Each is a theorem over its definitions, and its function does nothing.
 ghost use Rattle.bq_program.specs.Laws.{OneAssembly, OneListing};
+ghost use Rattle.bq_program.specs.ReadBack.{ListingIsReadBack};
 
 /// `asm` does not both accept and refuse an input, and writes one text for it.
 pub fn one_assembly()
@@ -9,4 +10,10 @@ pub fn one_assembly()
 /// Nor does `dis`.
 pub fn one_listing()
     ensures { OneListing }
+{}
+
+/// What is written of a policy, with slots and bytes beside its instructions or without, is a file that is read as that
+/// policy, and as no other.
+pub fn listing_is_read_back()
+    ensures { ListingIsReadBack }
 {}

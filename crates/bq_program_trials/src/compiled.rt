@@ -1,7 +1,7 @@
 // Programs as the bytes of a text section, with their texts: orders, distances and slots were worked out by hand.
 
-use bq_import_command::{Settings, Words, imported};
-use bq_policy_files::{Head, read_policy};
+use bq_policy_desk::{ImportSettings, ImportWords, imported};
+use bq_program::{Head, read_policy};
 use std::alloc::Global;
 use std::process::Abort;
 use std::test::Fail;
@@ -116,14 +116,14 @@ static REFUSED: [(&str, &str); 15] = [
 ];
 
 /// A program beside two maps, of the hook preempt.
-fn settings(alloc: Global) -> Result<Settings, Fail> {
-    let words = Words {
+fn settings(alloc: Global) -> Result<ImportSettings, Fail> {
+    let words = ImportWords {
         file: None,
         hook: String::from_str(alloc, "preempt")?,
         maps: Some(String::from_str(alloc, "8:1,16:4")?),
         format: Some(String::from_str(alloc, "2")?),
     };
-    Ok(Settings::of(alloc, &words)?)
+    Ok(ImportSettings::of(alloc, &words)?)
 }
 
 /// The text that a program is imported as.

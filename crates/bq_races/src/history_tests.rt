@@ -2,7 +2,7 @@
 
 use crate::play::{Play, Script};
 use crate::script::{Outcome, run_script};
-use bq_alike::Answer;
+use bq_cells::Answer;
 use bq_parts::{Event, Reply};
 use std::alloc::{AllocError, Global};
 use std::test::Fail;

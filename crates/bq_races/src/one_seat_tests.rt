@@ -1,7 +1,7 @@
 // The machine by one thread: what is answered, at which places, and what the end confirms. The values follow from the rules.
 ghost use Rattle.std.specs.Prelude.{◌≡◌};
 
-use bq_alike::Answer;
+use bq_cells::Answer;
 use bq_cfs::CfsQueue;
 use bq_load::LoadFault;
 use bq_machine::{

@@ -1,8 +1,8 @@
 // A history that a core goes through once more, event by event.
 ghost use Rattle.std.specs.Prelude.{◌≤◌};
 
-use bq_alike::{event_again, is_same_answer};
 use bq_bpf::Call;
+use bq_cells::{event_again, is_same_answer};
 use bq_core::{Board, Core, Event, Hook, Plain};
 use bq_disc::RunQueue;
 use bq_machine::Closed;

@@ -3,8 +3,8 @@ use Rattle.std.proofs.Common.{◌≡◌, List, sym, ap, ◌∙◌}
 use Rattle.bq_bpf.specs.declared.board.Call.{Call}
 use Rattle.bq_bpf.specs.Counters.{Through}
 use Rattle.bq_history.specs.declared.law.Receipt.{Receipt}
-use Rattle.bq_counters.specs.declared.account.Account.{Account}
-use Rattle.bq_counters.specs.Sums.{calling}
+use Rattle.bq_seats.specs.declared.account.Account.{Account}
+use Rattle.bq_seats.specs.Sums.{calling}
 use Rattle.bq_seats.specs.Calls.{account_of, ahead}
 use Rattle.bq_seats.proofs.AccountLemmas.{goes_ahead}
 use Rattle.bq_cells.specs.declared.record.Record.{Record}

@@ -1,2 +1,4 @@
 pub mod AheadLemmas
 pub mod BriefLemmas
+pub mod ClosingLemmas
+pub mod SendLemmas

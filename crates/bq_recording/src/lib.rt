@@ -4,17 +4,31 @@
 //! Stands on bq_cells for the law and the cells, and on bq_seats for commits and counters.
 #![tactic(auto)]
 
+pub mod closed;
+pub mod closing_room;
+pub mod ended;
 pub mod loading;
 mod lobby;
+pub mod locked_parts;
+pub mod opening;
+pub mod prepared;
 mod pulling;
+pub mod queues;
 pub mod recorder;
 mod rooms;
 mod running;
 mod told;
 mod waking;
 
+pub use closed::Closed;
+pub use closing_room::ClosingRoom;
+pub use ended::{Locks, close};
 pub use loading::{Spare, one_spare};
 pub use lobby::Admission;
+pub use locked_parts::{PartLocks, part_locks};
+pub use opening::Opening;
+pub use prepared::{Prepared, prepare};
+pub use queues::no_tasks;
 pub use recorder::{Caller, CpuCell, Recorder, Seat, lock, need_own};
 pub use rooms::{BeginRooms, EventRooms, LoadRooms};
 pub use waking::Placing;

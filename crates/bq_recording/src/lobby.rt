@@ -8,10 +8,10 @@ ghost use Rattle.bq_cells.specs.Parts.{told_calls};
 use crate::recorder::{Caller, Recorder};
 use crate::told::quiet_twice;
 use bq_cells::{OneLobby, Record, UnderLock};
-use bq_counters::Naming as Counting;
 use bq_disc::RunQueue;
 use bq_history::{Draft, Receipt, Room};
 use bq_parts::{Event, Unlinked};
+use bq_seats::Naming as Counting;
 use bq_tie::Naming;
 use std::sync::Wait;
 

@@ -7,10 +7,10 @@ use crate::recorder::{Caller, Recorder};
 use crate::rooms::EventRooms;
 use crate::told::told_twice;
 use bq_cells::{NumberedCpu, Record, UnderLock, hold_calls};
-use bq_counters::Naming as Counting;
 use bq_disc::RunQueue;
 use bq_history::{Draft, Receipt, look_at_both};
 use bq_parts::Event;
+use bq_seats::Naming as Counting;
 use bq_tie::Naming;
 use std::sync::Wait;
 

@@ -6,12 +6,11 @@ ghost use Rattle.bq_cells.specs.Parts.{told_calls};
 use crate::recorder::{Caller, Recorder};
 use crate::rooms::EventRooms;
 use crate::told::{both_records, event_twice, quiet_twice, told_twice};
-use bq_alike::Answer;
-use bq_cells::{NumberedCpu, NumberedInbox, OneLobby, Record, UnderLock, hold_calls};
-use bq_counters::Naming as Counting;
+use bq_cells::{Answer, NumberedCpu, NumberedInbox, OneLobby, Record, UnderLock, hold_calls};
 use bq_disc::RunQueue;
 use bq_history::{Draft, Receipt, Room, look_at_both};
 use bq_parts::{Event, Reply};
+use bq_seats::Naming as Counting;
 use bq_tie::Naming;
 use std::sync::Wait;
 

@@ -1,10 +1,9 @@
 //! What is told of an event: a record for the history, and one for the receipt.
 ghost use Rattle.std.specs.Prelude.{◌≡◌, [], false};
-ghost use Rattle.bq_alike.specs.Brief.{has_loads};
-ghost use Rattle.bq_alike.specs.Events.{CarriesPolicy};
+ghost use Rattle.bq_cells.specs.Brief.{has_loads};
+ghost use Rattle.bq_cells.specs.Events.{CarriesPolicy};
 
-use bq_alike::{Answer, event_again};
-use bq_cells::{Calls, Record};
+use bq_cells::{Answer, Calls, Record, event_again};
 use bq_parts::{Event, Refusal, Reply};
 
 /// Both records of an event, from what each of them tells.

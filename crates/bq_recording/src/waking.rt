@@ -14,12 +14,11 @@ ghost use Rattle.bq_recording.specs.Placing.{IsPlaced};
 use crate::recorder::{Caller, CpuCell, Recorder, need_own};
 use crate::rooms::{BeginRooms, EventRooms};
 use crate::told::{both_records, event_twice, no_calls, told_twice};
-use bq_alike::Answer;
-use bq_cells::{NumberedCpu, NumberedInbox, OneLobby, Record, UnderLock, hold_calls};
-use bq_counters::Naming as Counting;
+use bq_cells::{Answer, NumberedCpu, NumberedInbox, OneLobby, Record, UnderLock, hold_calls};
 use bq_disc::RunQueue;
 use bq_history::{Draft, Receipt};
 use bq_parts::{Event, Placement, Reply};
+use bq_seats::Naming as Counting;
 use bq_tie::Naming;
 use std::sync::{Mutex, MutexGuard, Wait};
 

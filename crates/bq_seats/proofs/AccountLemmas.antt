@@ -7,9 +7,9 @@ use Rattle.bq_history.specs.declared.law.Receipt.{Receipt}
 use Rattle.bq_history.specs.History.{SharesOutAmong, EachOnce}
 use Rattle.bq_history.proofs.CallerLemmas.{callers_total}
 use Rattle.bq_history.proofs.SharingLemmas.{receipts_from}
-use Rattle.bq_counters.specs.declared.account.Account.{Account}
-use Rattle.bq_counters.specs.Sums.{AreSumsOf, both, calling, spent}
-use Rattle.bq_counters.proofs.KeepingLemmas.{sum-append}
+use Rattle.bq_seats.specs.declared.account.Account.{Account}
+use Rattle.bq_seats.specs.Sums.{AreSumsOf, both, calling, spent}
+use Rattle.bq_seats.proofs.KeepingLemmas.{sum-append}
 use Rattle.bq_seats.specs.Calls.{account_of, account_by, ahead, calls_by, calls_in, calls_of}
 
 -- an account that comes back to where nothing is left

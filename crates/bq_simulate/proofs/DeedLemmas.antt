@@ -7,16 +7,16 @@ use Rattle.bq_parts.specs.declared.event.Event.TheVariants.{BeginWake, EndWake, 
 use Rattle.bq_parts.specs.declared.reply.Reply.{Reply}
 use Rattle.bq_trace.specs.News.{News, Told}
 use Rattle.bq_trace.proofs.TakingLemmas.{TakesAll-append}
-use Rattle.bq_driver.specs.declared.driver.Driver.{Driver}
-use Rattle.bq_driver.specs.Drives.{Did, Does, Drives, Drove}
-use Rattle.bq_draws.specs.Streams.{stream_of_task}
+use Rattle.bq_simulate.specs.declared.driver.Driver.{Driver}
+use Rattle.bq_simulate.specs.Drives.{Did, Does, Drives, Drove}
+use Rattle.bq_actions.specs.Streams.{stream_of_task}
 use Rattle.bq_actions.specs.declared.action.Action.{Action}
 use Rattle.bq_actions.specs.declared.workload.TaskKind.{TaskKind}
-use Rattle.bq_roster.specs.declared.course.Course.{Course}
-use Rattle.bq_roster.specs.declared.lane.Lane.{Lane}
-use Rattle.bq_roster.specs.declared.roster.Pace.{Pace}
-use Rattle.bq_roster.specs.Accounts.{Accounts, IsDone, accounts_of, charged, of_task}
-use Rattle.bq_roster.specs.Courses.{fresh, woken}
+use Rattle.bq_actions.specs.declared.course.Course.{Course}
+use Rattle.bq_actions.specs.declared.lane.Lane.{Lane}
+use Rattle.bq_actions.specs.declared.roster.Pace.{Pace}
+use Rattle.bq_actions.specs.Accounts.{Accounts, IsDone, accounts_of, charged, of_task}
+use Rattle.bq_actions.specs.Courses.{fresh, woken}
 use Rattle.bq_simulate.specs.declared.simulation.Simulation.{Simulation}
 use Rattle.bq_simulate.specs.Actions.{IsOfKind, acted, asked_by, next_action}
 use Rattle.bq_simulate.specs.Chronicles.{Acts, Book, Deed, Happens, IsDue, IsWoken, Joins, Lives, after_act, after_answer, after_event, drawn_with, events_of, joined, length_taken}

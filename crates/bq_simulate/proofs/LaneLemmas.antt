@@ -7,8 +7,8 @@ use Rattle.std.proofs.lemmas.List.Elements.{filter-append}
 use Rattle.std.proofs.lemmas.List.{map-append}
 use Rattle.bq_parts.specs.declared.event.Event.{Event}
 use Rattle.bq_parts.specs.declared.event.Event.TheVariants.{Tick}
-use Rattle.bq_roster.specs.declared.lane.Lane.{Lane}
-use Rattle.bq_roster.specs.Accounts.{Accounts, changed_at, charged, charged_by, is_same, of_processor, switched, taken_over}
+use Rattle.bq_actions.specs.declared.lane.Lane.{Lane}
+use Rattle.bq_actions.specs.Accounts.{Accounts, changed_at, charged, charged_by, is_same, of_processor, switched, taken_over}
 use Rattle.bq_simulate.specs.Chronicles.{is_busy}
 use Rattle.bq_simulate.specs.Steps.{all_processors, last_ticks}
 

@@ -5,3 +5,11 @@ pub mod LaneLemmas
 pub mod StepLemmas
 pub mod StreamLemmas
 pub mod WholeLemmas
+pub mod DriveLemmas
+pub mod HexWordLemmas
+pub mod LineLawLemmas
+pub mod NumberWordLemmas
+pub mod PlainWordLemmas
+pub mod ReadingLemmas
+pub mod RetellingLemmas
+pub mod TextLemmas

@@ -1,7 +1,7 @@
 -- Deeds of one form after another.
 use Rattle.std.proofs.Common.{◌≡◌, ℕ, ◌+◌, ◌≤◌, List, [], ◌∷◌, ◌++◌, refl, sym, ap, ◌∙◌, subst, arith, append-nil, length-append}
 use Rattle.std.proofs.lemmas.Grind.{flat_map-append}
-use Rattle.bq_roster.specs.declared.due.Due.{Due}
+use Rattle.bq_actions.specs.declared.due.Due.{Due}
 use Rattle.bq_parts.specs.declared.event.Event.{Event}
 use Rattle.bq_simulate.specs.Chronicles.{Deed}
 use Rattle.bq_simulate.specs.Steps.{AreJust, AreMet, AreOfOpening, Meet, Rise, Step, deeds_of}

@@ -3,11 +3,11 @@ use Rattle.std.proofs.Common.{◌≡◌, ℕ, List, [], ◌++◌, ap, refl, ◌�
 use Rattle.bq_actions.specs.declared.workload.Workload.{Workload}
 use Rattle.bq_trace.specs.News.{News, Gets}
 use Rattle.bq_trace.proofs.TakingLemmas.{TakesAll-append}
-use Rattle.bq_sizes.specs.Sizes.{processors_in}
-use Rattle.bq_driver.specs.declared.driver.Driver.{Driver}
-use Rattle.bq_driver.specs.Drives.{Starts}
-use Rattle.bq_roster.specs.Accounts.{Accounts, accounts_of}
-use Rattle.bq_roster.specs.declared.roster.Pace.{Pace}
+use Rattle.bq_words.specs.Sizes.{processors_in}
+use Rattle.bq_simulate.specs.declared.driver.Driver.{Driver}
+use Rattle.bq_simulate.specs.Drives.{Starts}
+use Rattle.bq_actions.specs.Accounts.{Accounts, accounts_of}
+use Rattle.bq_actions.specs.declared.roster.Pace.{Pace}
 use Rattle.bq_simulate.specs.declared.simulation.Simulation.{Simulation}
 use Rattle.bq_simulate.specs.Bounds.{most_steps}
 use Rattle.bq_simulate.specs.Chronicles.{Book, Deed, Lives}

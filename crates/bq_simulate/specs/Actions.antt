@@ -6,13 +6,13 @@ use Rattle.bq_actions.specs.declared.action.Action.{Action}
 use Rattle.bq_actions.specs.declared.action.Action.TheVariants.{Run, Sleep, Wait, Wake}
 use Rattle.bq_actions.specs.declared.action.Length.{Length}
 use Rattle.bq_actions.specs.declared.workload.TaskKind.{TaskKind}
-use Rattle.bq_draws.specs.Lengths.{length_drawn}
-use Rattle.bq_draws.specs.Streams.{stream_of_task, first_word, second_word, after_draws}
-use Rattle.bq_roster.specs.Accounts.{is_same}
-use Rattle.bq_roster.specs.declared.course.Course.{Course}
-use Rattle.bq_roster.specs.declared.course.Stance.{Stance}
-use Rattle.bq_roster.specs.declared.course.Stance.TheVariants.{Asleep, Waiting, Over}
-use Rattle.bq_roster.specs.Courses.{advanced, begun}
+use Rattle.bq_actions.specs.Draws.{length_drawn}
+use Rattle.bq_actions.specs.Streams.{stream_of_task, first_word, second_word, after_draws}
+use Rattle.bq_actions.specs.Accounts.{is_same}
+use Rattle.bq_actions.specs.declared.course.Course.{Course}
+use Rattle.bq_actions.specs.declared.course.Stance.{Stance}
+use Rattle.bq_actions.specs.declared.course.Stance.TheVariants.{Asleep, Waiting, Over}
+use Rattle.bq_actions.specs.Courses.{advanced, begun}
 
 -- the action at which a task of this kind stands; none where it has done all as often as it is to
 abbrev pub action_at : TaskKind → Course → Option Action

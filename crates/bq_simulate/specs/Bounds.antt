@@ -4,7 +4,7 @@ use Rattle.bq_actions.specs.declared.action.Action.{Action}
 use Rattle.bq_actions.specs.declared.action.Action.TheVariants.{Wake}
 use Rattle.bq_actions.specs.declared.workload.TaskKind.{TaskKind}
 use Rattle.bq_actions.specs.declared.workload.Workload.{Workload}
-use Rattle.bq_sizes.specs.Sizes.{processors_in}
+use Rattle.bq_words.specs.Sizes.{processors_in}
 use Rattle.bq_simulate.specs.Actions.{count_of}
 
 -- for an action: a wake takes a step for each task that it comes to

@@ -8,14 +8,14 @@ use Rattle.bq_parts.specs.declared.event.Event.{Event}
 use Rattle.bq_parts.specs.declared.event.Event.TheVariants.{BeginWake, Drain, Tick, Block, Pull}
 use Rattle.bq_parts.specs.declared.reply.Reply.{Reply}
 use Rattle.bq_trace.specs.News.{Told}
-use Rattle.bq_driver.specs.declared.driver.Driver.{Driver}
-use Rattle.bq_driver.specs.Drives.{Does, count_entered, runs_now, task_pulled}
-use Rattle.bq_roster.specs.declared.course.Course.{Course}
-use Rattle.bq_roster.specs.declared.course.Stance.{Stance}
-use Rattle.bq_roster.specs.declared.course.Stance.TheVariants.{Asleep, Waiting}
-use Rattle.bq_roster.specs.declared.lane.Lane.{Lane}
-use Rattle.bq_roster.specs.Accounts.{Accounts, IsDone, changed_at, charged, entered_by, left_by, of_task, passed, switched}
-use Rattle.bq_roster.specs.Courses.{fresh, woken}
+use Rattle.bq_simulate.specs.declared.driver.Driver.{Driver}
+use Rattle.bq_simulate.specs.Drives.{Does, count_entered, runs_now, task_pulled}
+use Rattle.bq_actions.specs.declared.course.Course.{Course}
+use Rattle.bq_actions.specs.declared.course.Stance.{Stance}
+use Rattle.bq_actions.specs.declared.course.Stance.TheVariants.{Asleep, Waiting}
+use Rattle.bq_actions.specs.declared.lane.Lane.{Lane}
+use Rattle.bq_actions.specs.Accounts.{Accounts, IsDone, changed_at, charged, entered_by, left_by, of_task, passed, switched}
+use Rattle.bq_actions.specs.Courses.{fresh, woken}
 use Rattle.bq_simulate.specs.Actions.{IsOfKind, acted, asked_by, length_of, next_action}
 
 -- one thing that a simulation does

@@ -3,3 +3,8 @@ pub mod Bounds
 pub mod Chronicles
 pub mod Simulations
 pub mod Steps
+pub mod Drives
+pub mod Laws
+pub mod Spelling
+pub mod Retelling
+pub mod Texts

@@ -5,12 +5,12 @@ use Rattle.bq_actions.specs.declared.action.Length.{Length}
 use Rattle.bq_actions.specs.declared.setup.Setup.{Setup}
 use Rattle.bq_actions.specs.declared.workload.TaskKind.{TaskKind}
 use Rattle.bq_actions.specs.declared.workload.Workload.{Workload}
-use Rattle.bq_draws.specs.Streams.{stream_of_task, after_draw, after_draws}
-use Rattle.bq_sizes.specs.Sizes.{processors_in}
+use Rattle.bq_actions.specs.Streams.{stream_of_task, after_draw, after_draws}
+use Rattle.bq_words.specs.Sizes.{processors_in}
 use Rattle.bq_trace.specs.News.{News, Told, Gets}
-use Rattle.bq_driver.specs.declared.driver.Driver.{Driver}
-use Rattle.bq_driver.specs.Drives.{Starts, Drives}
-use Rattle.bq_roster.specs.Accounts.{accounts_of, opening}
+use Rattle.bq_simulate.specs.declared.driver.Driver.{Driver}
+use Rattle.bq_simulate.specs.Drives.{Starts, Drives}
+use Rattle.bq_actions.specs.Accounts.{accounts_of, opening}
 use Rattle.bq_simulate.specs.declared.simulation.Simulation.{Simulation}
 use Rattle.bq_simulate.specs.Actions.{next_length}
 use Rattle.bq_simulate.specs.Bounds.{most_steps}

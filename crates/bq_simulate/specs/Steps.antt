@@ -3,12 +3,12 @@ use Rattle.std.specs.Prelude.{◌≡◌, ◌≢◌, ◌⊎◌, ◌≤◌, ℕ, L
 use Rattle.std.specs.List.{flat_map, range_with_len}
 use Rattle.bq_actions.specs.declared.action.Action.{Action}
 use Rattle.bq_actions.specs.declared.action.Action.TheVariants.{Run, Wake}
-use Rattle.bq_roster.specs.declared.due.Due.{Due}
-use Rattle.bq_roster.specs.declared.due.Due.TheVariants as due
+use Rattle.bq_actions.specs.declared.due.Due.{Due}
+use Rattle.bq_actions.specs.declared.due.Due.TheVariants as due
 use Rattle.bq_parts.specs.declared.event.Event.{Event}
 use Rattle.bq_parts.specs.declared.event.Event.TheVariants.{Admit, Draw, Install, BeginWake, EndWake, Drain, Tick, Block, Pull}
 use Rattle.bq_parts.specs.declared.reply.Reply.{Reply}
-use Rattle.bq_roster.specs.Accounts.{Accounts}
+use Rattle.bq_actions.specs.Accounts.{Accounts}
 use Rattle.bq_simulate.specs.Chronicles.{Acts, Deed, Happens, Joins, is_busy}
 
 -- these events happen, whatever their answers are, and nothing beside them

@@ -1,15 +1,14 @@
 //! What a task does next, once it has run long enough.
 ghost use Rattle.std.specs.Prelude.{◌≡◌, [], ◌∷◌, IfOk, OnOk};
 ghost use Rattle.bq_parts.specs.declared.event.Event.TheVariants.{Block};
-ghost use Rattle.bq_roster.specs.Courses.{begun};
+ghost use Rattle.bq_actions.specs.Courses.{begun};
 ghost use Rattle.bq_simulate.specs.Actions.{acted, advanced_in, asked_by, count_of, next_action, resting, woken_one_in};
 ghost use Rattle.bq_simulate.specs.Simulations.{Befell, DrawsFor, Lived, Same, Silent};
 ghost use Rattle.bq_simulate.specs.Steps.{AreJust, Follow, IsAct, Meet, Wakes};
 
 use crate::fault::SimulateFault;
 use crate::simulation::Simulation;
-use bq_actions::{Action, Length, Workload};
-use bq_roster::{Astray, Course, Due, Stance};
+use bq_actions::{Action, Astray, Course, Due, Length, Stance, Workload};
 use bq_trace::Sink;
 use std::alloc::Global;
 

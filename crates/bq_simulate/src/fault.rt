@@ -1,8 +1,8 @@
 //! Why a simulation does not come to its end.
 
+use crate::DriveFault;
 use crate::sound::Unsound;
-use bq_driver::DriveFault;
-use bq_roster::Astray;
+use bq_actions::Astray;
 use std::alloc::AllocError;
 use thiserror::Error;
 

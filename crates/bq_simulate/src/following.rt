@@ -1,21 +1,20 @@
 //! A simulation from its beginning to its end.
 ghost use Rattle.std.specs.Prelude.{◌≡◌, [], ◌∷◌, OnOk, IfOk, length};
-ghost use Rattle.bq_roster.specs.Accounts.{accounts_of};
-ghost use Rattle.bq_sizes.specs.Sizes.{processors_in};
+ghost use Rattle.bq_actions.specs.Accounts.{accounts_of};
+ghost use Rattle.bq_words.specs.Sizes.{processors_in};
 ghost use Rattle.bq_simulate.specs.Bounds.{most_steps};
 ghost use Rattle.bq_simulate.specs.Simulations.{Befell, IsSimulation, Lived, Runs, Same, opening_book, with_seed};
 ghost use Rattle.bq_simulate.specs.Steps.{AreJust, AreMet, KeepsOthers, all_processors, last_ticks};
 ghost use Rattle.bq_trace.specs.News.{Gets};
 
+use crate::Driver;
 use crate::bound::most_steps;
 use crate::fault::SimulateFault;
 use crate::simulation::Simulation;
 use crate::sound::soundness;
 use crate::tally::Tally;
-use bq_actions::{Setup, Workload};
+use bq_actions::{Due, Pace, Roster, Setup, Workload};
 use bq_core::Policy;
-use bq_driver::Driver;
-use bq_roster::{Due, Pace, Roster};
 use bq_trace::Sink;
 use std::alloc::Global;
 

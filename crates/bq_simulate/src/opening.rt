@@ -8,10 +8,8 @@ ghost use Rattle.bq_simulate.specs.Steps.{AreOfOpening};
 use crate::fault::SimulateFault;
 use crate::simulation::Simulation;
 use crate::sound::first_of_mask;
-use bq_actions::{TaskKind, Workload};
+use bq_actions::{Astray, Course, Due, Stream, TaskKind, Workload};
 use bq_core::Policy;
-use bq_draws::Stream;
-use bq_roster::{Astray, Course, Due};
 use bq_trace::Sink;
 use std::alloc::Global;
 

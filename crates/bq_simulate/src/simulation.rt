@@ -1,20 +1,18 @@
 //! A simulation on its way.
 ghost use Rattle.std.specs.Prelude.{◌≡◌, ℕ, true, [], ◌∷◌, IfOk, OnOk};
 ghost use Rattle.bq_parts.specs.declared.event.Event.TheVariants.{BeginWake, EndWake, Drain, Pull, Tick};
-ghost use Rattle.bq_driver.specs.Drives.{Drove};
+ghost use Rattle.bq_simulate.specs.Drives.{Drove};
 ghost use Rattle.std.specs.Option.{option_map_or};
-ghost use Rattle.bq_roster.specs.Accounts.{accounts_of, passed, switched};
+ghost use Rattle.bq_actions.specs.Accounts.{accounts_of, passed, switched};
 ghost use Rattle.bq_simulate.specs.Chronicles.{IsWoken, is_busy};
 ghost use Rattle.bq_simulate.specs.Simulations.{Befell, Draws, Lived};
 ghost use Rattle.bq_simulate.specs.Steps.{AreJust, AreWake, KeepsOthers, Meet};
 
+use crate::Driver;
+use crate::calls::Moved;
 use crate::fault::SimulateFault;
 use crate::tally::Tally;
-use bq_actions::{Length, Workload};
-use bq_draws::Stream;
-use bq_driver::Driver;
-use bq_driver::calls::Moved;
-use bq_roster::{Astray, Due, Roster, Stance};
+use bq_actions::{Astray, Due, Length, Roster, Stance, Stream, Workload};
 use bq_trace::Sink;
 use std::alloc::Global;
 

@@ -4,7 +4,7 @@ use Rattle.std.specs.List.{AllByRecursion}
 use Rattle.std.specs.Str.{IsUtf8}
 use Rattle.std.proofs.lemmas.List.{map-append}
 use Rattle.std.proofs.lemmas.Str.{is_utf8-from_IsUtf8}
-use Rattle.bq_retelling.specs.Texts.{ByHook, told_lines}
+use Rattle.bq_simulate.specs.Texts.{ByHook, told_lines}
 use Rattle.bq_trace.specs.News.{News, Told, Gets, Skipped}
 use Rattle.bq_trace.proofs.TakingLemmas.{TakesAll-append}
 use Rattle.bq_study.specs.Traces.{AreNames, NamesTask, skipped}

@@ -2,11 +2,11 @@
 use Rattle.std.proofs.Common.{◌≡◌, [], ◌∷◌, ◌++◌, sym, ap, ◌∙◌, subst, string_bytes}
 use Rattle.std.proofs.lemmas.Grind.{flat_map-append}
 use Rattle.bq_actions.specs.declared.workload.Workload.{Workload}
-use Rattle.bq_retelling.specs.Retelling.{Answers}
-use Rattle.bq_retelling.specs.Texts.{AreFitting, ByHook, image_at, told_lines}
-use Rattle.bq_retelling.specs.declared.trace_text.TraceText.{TraceText}
-use Rattle.bq_retelling.proofs.RetellingLemmas.{AreFitting-parts, texts_are_replayed}
-use Rattle.bq_retelling.proofs.TextLemmas.{Takes, writes_all}
+use Rattle.bq_simulate.specs.Retelling.{Answers}
+use Rattle.bq_simulate.specs.Texts.{AreFitting, ByHook, image_at, told_lines}
+use Rattle.bq_simulate.specs.declared.trace_text.TraceText.{TraceText}
+use Rattle.bq_simulate.proofs.RetellingLemmas.{AreFitting-parts, texts_are_replayed}
+use Rattle.bq_simulate.proofs.TextLemmas.{Takes, writes_all}
 use Rattle.bq_simulate.specs.Chronicles.{events_of}
 use Rattle.bq_simulate.specs.Simulations.{IsSimulation}
 use Rattle.bq_trace.specs.Feeding.{with_feeds}

@@ -6,8 +6,8 @@ use Rattle.std.specs.List.{AllByRecursion}
 use Rattle.std.specs.Str.{IsUtf8}
 use Rattle.bq_actions.specs.declared.workload.Workload.{Workload}
 use Rattle.bq_parts.specs.Refusals.{same_hook}
-use Rattle.bq_retelling.specs.Retelling.{Answers, IsComment, IsFromImages}
-use Rattle.bq_retelling.specs.Texts.{AreFitting, ByHook, told_lines}
+use Rattle.bq_simulate.specs.Retelling.{Answers, IsComment, IsFromImages}
+use Rattle.bq_simulate.specs.Texts.{AreFitting, ByHook, told_lines}
 use Rattle.bq_simulate.specs.Chronicles.{events_of}
 use Rattle.bq_simulate.specs.Simulations.{IsSimulation}
 use Rattle.bq_study.specs.declared.asked.Asked.{Asked}

@@ -1,10 +1,9 @@
 //! What a simulation is asked for, by the words of its options.
 
 use crate::command::StudyWords;
-use bq_sizes::{ProcessorCount, Rule};
-use bq_spans::duration;
 use bq_timeline::{Settings, SettingsFault};
-use bq_workload::Changes;
+use bq_words::{ProcessorCount, Rule};
+use bq_workload::{Changes, duration};
 use std::alloc::Global;
 use thiserror::Error;
 

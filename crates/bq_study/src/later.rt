@@ -2,9 +2,9 @@
 
 use bq_core::{Event, Refusal, Reply};
 use bq_load::LoadFault;
-use bq_sizes::{ProcessorCount, Rule};
 use bq_timeline::viewer::Viewer;
 use bq_trace::{AnyCore, Sink};
+use bq_words::{ProcessorCount, Rule};
 use std::alloc::AllocError;
 
 /// A viewer that is told each line by the number that it has below so many others: those with the tasks' names, which stand

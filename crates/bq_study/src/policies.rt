@@ -2,15 +2,15 @@
 ghost use Rattle.std.specs.Prelude.{◌≡◌, ℕ, List};
 ghost use Rattle.std.specs.Borrow.{Bor};
 ghost use Rattle.std.specs.Option.{option_map};
-ghost use Rattle.bq_retelling.specs.Texts.{image_at};
+ghost use Rattle.bq_simulate.specs.Texts.{image_at};
 ghost use Rattle.bq_study.specs.Traces.{image_for};
 
 use bq_core::{Hook, Policy};
 use bq_insn::encode::encode;
 use bq_load::{Image, LoadFault, load, write_image};
 use bq_policy_commands::fault_reason;
-use bq_policy_files::{Head, read_policy};
-use bq_retelling::Images;
+use bq_program::{Head, read_policy};
+use bq_simulate::Images;
 use std::alloc::{AllocError, AllocFailed, Global};
 use thiserror::Error;
 
@@ -118,8 +118,8 @@ impl<T: Drop> From<AllocFailed<T>> for PolicyFault {
 }
 
 /// Why the file is no policy for the hook, in words.
-fn told(alloc: Global, file: &[u8], fault: bq_policy_files::PolicyFault) -> PolicyFault {
-    if let bq_policy_files::PolicyFault::Disagrees(_) = fault {
+fn told(alloc: Global, file: &[u8], fault: bq_program::PolicyFault) -> PolicyFault {
+    if let bq_program::PolicyFault::Disagrees(_) = fault {
         return PolicyFault::Hook;
     }
     match fault_reason(alloc, file, fault) {
@@ -129,7 +129,7 @@ fn told(alloc: Global, file: &[u8], fault: bq_policy_files::PolicyFault) -> Poli
 }
 
 /// The bytes of the image of a policy.
-fn image_of(alloc: Global, policy: &bq_policy_files::Policy) -> Result<Vec<u8>, AllocError> {
+fn image_of(alloc: Global, policy: &bq_program::Policy) -> Result<Vec<u8>, AllocError> {
     let mut program = Vec::new(alloc);
     encode(policy.insns.as_slice(), &mut program)?;
     let image = Image {

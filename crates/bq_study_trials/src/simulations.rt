@@ -2,7 +2,7 @@
 
 use bq_actions::{Action, Length, Setup, TaskKind, Workload};
 use bq_simulate::{SimulateFault, Tally, Unsound, simulate};
-use bq_sizes::{ProcessorCount, Rule};
+use bq_words::{ProcessorCount, Rule};
 use std::alloc::Global;
 use std::test::Fail;
 
@@ -130,14 +130,7 @@ begin 1 loads 1 0\nend 1 to 1 by rule steps 0\ndrain 1 run 1 by rule steps 0\n\
 block 0 run none\n\
 tick run 1 by rule steps 0\n"
     );
-    assert_eq!(rt;
-        tally,
-        Tally {
-            tasks: 2,
-            phases: 4,
-            missed: 1
-        }
-    );
+    assert_eq!(rt; (tally.tasks, tally.phases, tally.missed), (2, 4, 1));
     Ok(())
 }
 

@@ -1,7 +1,7 @@
 // Texts that are workloads, and what they say.
 
 use bq_actions::{Action, Length, Setup, Workload};
-use bq_sizes::{ProcessorCount, Rule};
+use bq_words::{ProcessorCount, Rule};
 use bq_workload::{Changes, read};
 use std::alloc::Global;
 use std::test::Fail;
@@ -56,7 +56,7 @@ fn the_example_says_its_machine(rt: HostRuntime) -> Result<(), Fail> {
 #[test]
 fn the_example_says_its_tasks(rt: HostRuntime) -> Result<(), Fail> {
     let workload = taken(rt.alloc(), EXAMPLE, Changes::NONE)?;
-    let [batch, server, worker] = workload.tasks.as_slice() else {
+    let [batch, server, _] = workload.tasks.as_slice() else {
         return Err(Fail::from("there are three kinds"));
     };
     assert_eq!(rt;
@@ -67,6 +67,16 @@ fn the_example_says_its_tasks(rt: HostRuntime) -> Result<(), Fail> {
         (server.count, server.nice, server.mask, server.loops),
         (1, 0, 3, None)
     );
+    Ok(())
+}
+
+/// What each task of the example does, action by action.
+#[test]
+fn the_example_says_what_its_tasks_do(rt: HostRuntime) -> Result<(), Fail> {
+    let workload = taken(rt.alloc(), EXAMPLE, Changes::NONE)?;
+    let [batch, server, worker] = workload.tasks.as_slice() else {
+        return Err(Fail::from("there are three kinds"));
+    };
     assert_eq!(rt;
         batch.actions.as_slice(),
         [

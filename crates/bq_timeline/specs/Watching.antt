@@ -1,7 +1,7 @@
 -- What a timeline keeps of the news of a trace: the schedule that they tell, and how many lines were bad or refused.
 use Rattle.std.specs.Prelude.{ℕ, Option, Some, None, Result, Ok, Err, nat_lt, if◌then◌else◌}
 use Rattle.bq_parts.specs.World.{count_in}
-use Rattle.bq_sizes.specs.Sizes.{processors_in}
+use Rattle.bq_words.specs.Sizes.{processors_in}
 use Rattle.bq_trace.specs.Counts.{one_more}
 use Rattle.bq_trace.specs.News.{News, Opened, Answered, Unspelled, Unloaded, Shown, Bad}
 use Rattle.bq_schedule.specs.Figures.{Figures, opening}

@@ -3,8 +3,7 @@
 use bq_core::Hook;
 use bq_lines::numbers;
 use bq_lines::words::is_allowed_line;
-use bq_sizes::{ProcessorCount, Rule};
-use bq_words::next_word;
+use bq_words::{ProcessorCount, Rule, next_word};
 use std::{fmt, str};
 
 /// What a word of a line is to be.

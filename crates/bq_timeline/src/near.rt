@@ -8,9 +8,9 @@ use bq_forms::tables::write_millis;
 use bq_forms::window::is_in;
 use bq_parts::Cpu;
 use bq_schedule::Change;
-use bq_sizes::Rule;
 use bq_trace::{AnyCore, Seen};
 use bq_why::{place_of, present};
+use bq_words::Rule;
 use std::alloc::{AllocError, Global};
 
 /// Above the lines of the bounds.

@@ -8,9 +8,9 @@ use bq_core::{Event, Refusal, Reply};
 use bq_forms::Names;
 use bq_load::LoadFault;
 use bq_schedule::{Change, Schedule};
-use bq_sizes::Rule;
 use bq_trace::AnyCore;
 use bq_why::{Because, InWords, Occurrence};
+use bq_words::Rule;
 use std::alloc::{AllocError, Global};
 
 /// What is written of a trace, as far as it has come.

@@ -7,8 +7,8 @@ use crate::settings::Settings;
 use bq_core::{Event, Refusal, Reply};
 use bq_load::LoadFault;
 use bq_schedule::Schedule;
-use bq_sizes::{ProcessorCount, Rule};
 use bq_trace::{AnyCore, Sink};
+use bq_words::{ProcessorCount, Rule};
 use std::alloc::{AllocError, Global};
 
 /// A trace as far as it has come: its schedule, once it has a machine, and how many of its lines were bad or refused.

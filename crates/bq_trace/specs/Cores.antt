@@ -3,7 +3,7 @@ use Rattle.std.specs.Prelude.{ℕ, List, nat_lt, Option, Some, None, if◌then�
 use Rattle.bq_parts.specs.Processors.{Processor}
 use Rattle.bq_parts.specs.World.{World, processor, count_in}
 use Rattle.bq_trace.specs.Machines.{Driven}
-use Rattle.bq_sizes.specs.declared.rule.Rule.TheVariants as rules
+use Rattle.bq_words.specs.declared.rule.Rule.TheVariants as rules
 use Rattle.bq_trace.specs.declared.any_core.Cores.{Cores}
 use Rattle.bq_trace.specs.declared.any_core.Cores.TheVariants.{One, Two, Four, Eight, Sixteen, ThirtyTwo, SixtyFour}
 use Rattle.bq_trace.specs.declared.any_core.Ruled.{Ruled}

@@ -12,10 +12,10 @@ use Rattle.bq_parts.specs.declared.event.Event.{Event}
 use Rattle.bq_parts.specs.declared.reply.Reply.{Reply}
 use Rattle.bq_parts.specs.declared.refusal.Refusal.{Refusal}
 use Rattle.bq_parts.specs.declared.refusal.Refusal.TheVariants.{OutOfMemory}
-use Rattle.bq_sizes.specs.declared.rule.Rule.{Rule}
-use Rattle.bq_sizes.specs.declared.rule.Rule.TheVariants.{Cfs, Eevdf}
-use Rattle.bq_sizes.specs.declared.processor_count.ProcessorCount.{ProcessorCount}
-use Rattle.bq_sizes.specs.Sizes.{processors_in}
+use Rattle.bq_words.specs.declared.rule.Rule.{Rule}
+use Rattle.bq_words.specs.declared.rule.Rule.TheVariants.{Cfs, Eevdf}
+use Rattle.bq_words.specs.declared.processor_count.ProcessorCount.{ProcessorCount}
+use Rattle.bq_words.specs.Sizes.{processors_in}
 
 -- the machine of a trace: its rule, its world and its counters
 pub record Driven : Type 0 where

@@ -4,8 +4,8 @@ use Rattle.bq_load.specs.declared.fault.LoadFault.{LoadFault}
 use Rattle.bq_parts.specs.declared.event.Event.{Event}
 use Rattle.bq_parts.specs.declared.reply.Reply.{Reply}
 use Rattle.bq_parts.specs.declared.refusal.Refusal.{Refusal}
-use Rattle.bq_sizes.specs.declared.rule.Rule.{Rule}
-use Rattle.bq_sizes.specs.declared.processor_count.ProcessorCount.{ProcessorCount}
+use Rattle.bq_words.specs.declared.rule.Rule.{Rule}
+use Rattle.bq_words.specs.declared.processor_count.ProcessorCount.{ProcessorCount}
 use Rattle.bq_trace.specs.Machines.{Driven}
 use Rattle.bq_trace.specs.Loading.{fault_line}
 use Rattle.bq_trace.specs.Texts.{event_line, bad_line, show_line, counter_line}

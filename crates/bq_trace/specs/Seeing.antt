@@ -2,8 +2,8 @@
 use Rattle.std.specs.Prelude.{ℕ, Option}
 use Rattle.std.specs.Option.{option_map}
 use Rattle.bq_parts.specs.Processors.{Processor}
-use Rattle.bq_sizes.specs.declared.rule.Rule.{Rule}
-use Rattle.bq_sizes.specs.declared.rule.Rule.TheVariants as rules
+use Rattle.bq_words.specs.declared.rule.Rule.{Rule}
+use Rattle.bq_words.specs.declared.rule.Rule.TheVariants as rules
 use Rattle.bq_trace.specs.Cores.{processor_in}
 use Rattle.bq_trace.specs.Machines.{Driven}
 use Rattle.bq_trace.specs.declared.any_core.Seen.{Seen}

@@ -5,7 +5,7 @@ ghost use Rattle.std.specs.Option.{option_map};
 ghost use Rattle.bq_parts.specs.World.{opening_world};
 ghost use Rattle.bq_parts.specs.Processors.{Processor};
 ghost use Rattle.bq_parts.specs.Choices.{policies};
-ghost use Rattle.bq_sizes.specs.Sizes.{processors_in};
+ghost use Rattle.bq_words.specs.Sizes.{processors_in};
 ghost use Rattle.bq_trace.specs.Machines.{opening_machine, Advances};
 ghost use Rattle.bq_trace.specs.Cores.{processor_in};
 ghost use Rattle.bq_trace.specs.Seeing.{seen_of};
@@ -14,7 +14,7 @@ use bq_cfs::CfsQueue;
 use bq_core::{Core, Cpu, Event, Plain, Refusal, Reply};
 use bq_disc::RunQueue;
 use bq_eevdf::EevdfQueue;
-use bq_sizes::{ProcessorCount, Rule};
+use bq_words::{ProcessorCount, Rule};
 use std::alloc::{AllocError, Global};
 use std::marker::Model;
 

@@ -11,7 +11,7 @@ use crate::shows::write_shown;
 use crate::texts::{write_answer, write_bad, write_counter};
 use bq_core::{Event, Refusal, Reply};
 use bq_load::LoadFault;
-use bq_sizes::{ProcessorCount, Rule};
+use bq_words::{ProcessorCount, Rule};
 use std::alloc::AllocError;
 
 /// Takes what comes of the lines of a trace, in order. `number` is that of the line, from 1.

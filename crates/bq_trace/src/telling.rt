@@ -9,7 +9,7 @@ ghost use Rattle.bq_trace.specs.Telling.{skips};
 use crate::any_core::AnyCore;
 use crate::sink::Sink;
 use bq_load::LoadFault;
-use bq_sizes::{ProcessorCount, Rule};
+use bq_words::{ProcessorCount, Rule};
 use std::alloc::AllocError;
 
 /// A machine is made.

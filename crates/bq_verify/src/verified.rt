@@ -3,9 +3,8 @@
 use crate::pass::judge;
 use crate::refused::Refused;
 use crate::subject::Subject;
-use bq_bpf::{Hook, MapShape, Version, context_length};
+use bq_bpf::{Hook, MapShape, Packed, Version, context_length, pack_all};
 use bq_insn::Insn;
-use bq_packed::{Packed, pack_all};
 use std::alloc::Global;
 use std::marker::Model;
 
@@ -21,7 +20,7 @@ pub struct Verified {
 }
 
 impl Model for Verified {
-    ghost use Rattle.bq_packed.specs.Packing.{Stands};
+    ghost use Rattle.bq_bpf.specs.Packing.{Stands};
     ghost use Rattle.bq_verify.specs.Accepted.{Accepted, IsAccepted};
     ghost use Rattle.bq_bpf.specs.Hooks.{context_length_of};
 
@@ -34,7 +33,7 @@ impl Model for Verified {
 
 impl Verified {
     ghost use Rattle.std.specs.Prelude.{◌≡◌, ◌≤◌, ◌<◌, ℕ, IfErr, IfOk, length, slice_index};
-    ghost use Rattle.bq_packed.specs.Packing.{Stands};
+    ghost use Rattle.bq_bpf.specs.Packing.{Stands};
     ghost use Rattle.bq_verify.specs.Accepted.{IsAccepted};
     ghost use Rattle.bq_bpf.specs.Hooks.{context_length_of};
     ghost use Rattle.bq_verify.specs.Control.{AreHeights, AreMade, SparesFrame};

@@ -6,7 +6,7 @@ ghost use Rattle.bq_trace.specs.Machines.{discipline_of};
 
 use bq_bounds::totals::totals;
 use bq_disc::Entity;
-use bq_sizes::Rule;
+use bq_words::Rule;
 
 /// The task that a rule chooses: under CFS that of least (v, id), under EEVDF of the eligible that of least (deadline, id).
 pub fn choice(rule: Rule, tasks: &[Entity]) -> Option<Entity>

@@ -6,7 +6,7 @@ ghost use Rattle.bq_why.specs.Reasons.{reason_of, cfs_reason_of, least_reason_of
 use crate::choices::choice;
 use bq_disc::Entity;
 use bq_hooks::By;
-use bq_sizes::Rule;
+use bq_words::Rule;
 
 /// Under CFS a task gives way where it is further ahead than this, in virtual nanoseconds.
 const GRANULARITY: u64 = 1_000_000;

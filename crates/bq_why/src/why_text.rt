@@ -9,8 +9,8 @@ use crate::words_of::{Ids, Lag, Virtual, Who};
 use bq_core::{By, Event, Hook, Reply};
 use bq_forms::{Millis, Names, Window};
 use bq_schedule::Change;
-use bq_sizes::Rule;
 use bq_trace::{AnyCore, Seen};
+use bq_words::Rule;
 use std::alloc::{AllocError, Global};
 
 /// How far ahead a task may be under CFS before it gives way, in virtual nanoseconds.
@@ -165,6 +165,18 @@ impl Why {
         let time = Millis(at);
         let event = InWords(event);
         write!(text, "{time} ms  line {number}: {event}\n")?;
+        self.write_reply(text, names, machine, processor, reply)
+    }
+
+    /// Adds the choices that a reply tells of.
+    fn write_reply(
+        &self,
+        text: &mut String,
+        names: &Names,
+        machine: &AnyCore,
+        processor: u8,
+        reply: &Reply,
+    ) -> Result<(), AllocError> {
         match reply {
             Reply::Placed {
                 task,

@@ -1,12 +1,17 @@
-//! The words of a line, and the numbers that words write.
-//! Promises that a line falls into exactly the words between its blanks, whatever counts as a blank, and that a word is taken
-//! for a number only where it is one that fits 64 bits. Traces, marks and assembler text share both.
+//! The words of a line, the numbers that words write, and what words and numbers name: rules and sizes.
+//! Promises that a line falls into exactly the words between its blanks, whatever counts as a blank, that a word is taken
+//! for a number only where it is one that fits 64 bits, and that words and numbers name exactly the schedulers that can be
+//! asked for. Traces, marks, options and assembler text share these.
 #![tactic(auto)]
 
 pub mod blanks;
 pub mod numbers;
+pub mod processor_count;
+pub mod rule;
 pub mod words;
 
 pub use blanks::{Blank, Spaces};
 pub use numbers::number;
+pub use processor_count::ProcessorCount;
+pub use rule::Rule;
 pub use words::{next_word, next_word_by};

@@ -1,11 +1,11 @@
 -- What the values of a workload's keys stand for.
 use Rattle.std.specs.Prelude.{ℕ, length, ◌&&◌, ◌==◌, nat_le, nat_lt, ℤ, pos, negsuc, List, Option, Some, None, option_map, option_and_then, if◌then◌else◌, bit_and}
 use Rattle.toml.specs.Data.{Data, as_str, as_integer}
-use Rattle.bq_sizes.specs.declared.rule.Rule.{Rule}
-use Rattle.bq_sizes.specs.declared.processor_count.ProcessorCount.{ProcessorCount}
-use Rattle.bq_sizes.specs.Sizes.{rule_of, size_numbered}
-use Rattle.bq_spans.specs.Durations.{duration_of}
-use Rattle.bq_spans.specs.Processors.{processors_of}
+use Rattle.bq_words.specs.declared.rule.Rule.{Rule}
+use Rattle.bq_words.specs.declared.processor_count.ProcessorCount.{ProcessorCount}
+use Rattle.bq_words.specs.Sizes.{rule_of, size_numbered}
+use Rattle.bq_workload.specs.Durations.{duration_of}
+use Rattle.bq_workload.specs.Processors.{processors_of}
 
 -- a number from the least to the greatest
 abbrev pub within : ℕ → ℕ → ℕ → Option ℕ

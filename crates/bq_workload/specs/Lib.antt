@@ -3,3 +3,5 @@ pub mod Fields
 pub mod Lengths
 pub mod Actions
 pub mod Workloads
+pub mod Durations
+pub mod Processors

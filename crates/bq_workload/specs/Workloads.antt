@@ -5,10 +5,10 @@ use Rattle.std.specs.Option.{IsSomeAnd}
 use Rattle.std.specs.declared.alloc.Global.{Global}
 use Rattle.toml.specs.Data.{Data, Items, no_items, item, Members, no_members, get_member, as_array, as_table}
 use Rattle.toml.specs.Parse.{parse_document}
-use Rattle.bq_sizes.specs.Sizes.{processors_in}
-use Rattle.bq_sizes.specs.declared.rule.Rule.TheVariants.{Cfs}
-use Rattle.bq_sizes.specs.declared.processor_count.ProcessorCount.{ProcessorCount}
-use Rattle.bq_sizes.specs.declared.processor_count.ProcessorCount.TheVariants.{One}
+use Rattle.bq_words.specs.Sizes.{processors_in}
+use Rattle.bq_words.specs.declared.rule.Rule.TheVariants.{Cfs}
+use Rattle.bq_words.specs.declared.processor_count.ProcessorCount.{ProcessorCount}
+use Rattle.bq_words.specs.declared.processor_count.ProcessorCount.TheVariants.{One}
 use Rattle.bq_actions.specs.Lengths.{longest, takes_time}
 use Rattle.bq_actions.specs.declared.action.Action.{Action}
 use Rattle.bq_actions.specs.declared.action.Action.TheVariants.{Run, Sleep}

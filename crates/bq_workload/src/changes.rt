@@ -2,7 +2,7 @@
 ghost use Rattle.std.specs.Prelude.{◌≡◌};
 
 use bq_actions::Setup;
-use bq_sizes::{ProcessorCount, Rule};
+use bq_words::{ProcessorCount, Rule};
 
 /// What the words of a command put in the place of a machine's own.
 #[derive(Clone, Copy, Debug, PartialEq, Eq)]

@@ -1,22 +1,25 @@
 //! Workloads as texts: what a TOML document says of a machine and its tasks, or what is wrong in it.
 //! Promises that a workload which is read is the one that the text describes, and that the loop can follow it to its end.
-//! Stands on the values of bq_actions, and on the words of bq_spans.
+//! Stands on the values of bq_actions, and on the words of lines.
 #![tactic(auto)]
 
 mod actions;
 mod blame;
 pub mod changes;
 mod doing;
+pub mod durations;
 mod fault;
 mod fields;
 mod kinds;
 mod lengths;
 mod near;
+pub mod processors;
 mod setup;
 mod tables;
 mod why;
 mod workloads;
 
 pub use changes::Changes;
+pub use durations::duration;
 pub use fault::Fault;
 pub use workloads::read;

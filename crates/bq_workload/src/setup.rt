@@ -9,7 +9,7 @@ use crate::tables::all_known;
 use crate::why::{Range, Why};
 use bq_actions::Setup;
 use bq_actions::limits::LONGEST;
-use bq_sizes::{ProcessorCount, Rule};
+use bq_words::{ProcessorCount, Rule};
 use toml::Table;
 
 /// The keys of a machine.

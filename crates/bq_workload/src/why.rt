@@ -1,6 +1,6 @@
 //! What can be wrong with a table or a value.
 
-use bq_spans::duration;
+use crate::duration;
 use std::fmt;
 use toml::Value;
 

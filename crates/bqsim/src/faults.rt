@@ -1,7 +1,7 @@
 //! How a job ends whose reading or writing broke off.
 
 use bq_cli::ReplayFault;
-use bq_streams::{say_unread, say_unwritten};
+use bq_options::{say_unread, say_unwritten};
 use std::io::Error;
 
 /// What a job was doing: the name of its file, unless it is standard input, and why its reads and its writes failed last.

@@ -3,17 +3,17 @@
 use crate::inputs::{name_of, whole_input};
 use crate::outputs::{out_of_memory, write_out};
 use bq_cli::status::REFUSED;
-use bq_import_command::{Refusal, Settings, SettingsFault, Words, imported};
+use bq_policy_desk::{ImportRefusal, ImportSettings, ImportSettingsFault, ImportWords, imported};
 use std::process::ExitCode;
 
 /// The exit status of a program that is not imported.
 const NOT_IMPORTED: u8 = 1;
 
 /// Writes a compiled program, from the file that the words name or from standard input, as an assembler text.
-pub(crate) fn import(rt: &HostRuntime, words: &Words) -> ExitCode {
-    let settings = match Settings::of(rt.alloc(), words) {
+pub(crate) fn import(rt: &HostRuntime, words: &ImportWords) -> ExitCode {
+    let settings = match ImportSettings::of(rt.alloc(), words) {
         Ok(settings) => settings,
-        Err(SettingsFault::OutOfMemory) => return out_of_memory(rt),
+        Err(ImportSettingsFault::OutOfMemory) => return out_of_memory(rt),
         Err(fault) => {
             let _ = eprintln!(rt; "error: {fault}");
             return ExitCode::from(REFUSED);
@@ -25,7 +25,7 @@ pub(crate) fn import(rt: &HostRuntime, words: &Words) -> ExitCode {
     };
     match imported(rt.alloc(), &settings, bytes.as_slice()) {
         Ok(text) => write_out(rt, text.as_str()),
-        Err(Refusal::OutOfMemory) => out_of_memory(rt),
+        Err(ImportRefusal::OutOfMemory) => out_of_memory(rt),
         Err(refusal) => {
             let name = name_of(&words.file);
             let _ = eprintln!(rt; "{name}: {refusal}");

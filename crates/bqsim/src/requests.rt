@@ -17,7 +17,7 @@ pub(crate) enum Request {
     Job(Job, Option<String>),
     Timeline(Words),
     Simulate(StudyWords),
-    Import(bq_import_command::Words),
+    Import(bq_policy_desk::ImportWords),
     Policy(PolicyRequest),
 }
 
@@ -121,7 +121,7 @@ fn simulate_words<'a>(alloc: Global, given: &'a [&'a str]) -> Result<Request, Jo
 
 /// What the words after `import` ask for.
 fn import_words<'a>(alloc: Global, given: &'a [&'a str]) -> Result<Request, JobFault> {
-    match bq_import_command::words(alloc, given) {
+    match bq_policy_desk::import_words(alloc, given) {
         Ok(words) => Ok(Request::Import(words)),
         Err(fault) => Err(refused(fault)),
     }

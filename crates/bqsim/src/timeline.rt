@@ -5,7 +5,7 @@ use crate::inputs::file_named;
 use crate::outputs::out_of_memory;
 use bq_cli::status::REFUSED;
 use bq_cli::{Counted, exit_status};
-use bq_streams::{Kept, say_unread};
+use bq_options::{Kept, say_unread};
 use bq_timeline::{Settings, SettingsFault, Words, show};
 use std::fs;
 use std::io::Read;

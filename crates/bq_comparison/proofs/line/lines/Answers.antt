@@ -1,8 +1,8 @@
 use Rattle.std.proofs.Common.{rules, ◌≡◌, ℕ, ◌+◌, ◌<◌, List, [], ◌∷◌, ◌++◌, length, get_or, take, subst, sym, ap, ◌∙◌, None, refl, arith}
 use Rattle.std.proofs.lemmas.List.{length-take, take_more}
-use Rattle.bq_figures.specs.declared.naming.Figure.TheVariants.{Task}
-use Rattle.bq_figures.specs.declared.naming.TaskFigure.TheVariants.{Ran}
-use Rattle.bq_figures.specs.declared.summing.Row.{Row}
+use Rattle.bq_comparison.specs.declared.naming.Figure.TheVariants.{Task}
+use Rattle.bq_comparison.specs.declared.naming.TaskFigure.TheVariants.{Ran}
+use Rattle.bq_comparison.specs.declared.summing.Row.{Row}
 use Rattle.bq_comparison.specs.declared.line.Line.{Line}
 use Rattle.bq_comparison.specs.Lines.{Selects, beside, IsShown, row_at}
 use Rattle.bq_comparison.proofs.LineLemmas.{Selects-take, Selects-leave, beside-more}

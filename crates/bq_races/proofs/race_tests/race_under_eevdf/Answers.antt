@@ -16,7 +16,7 @@ use Rattle.bq_par.proofs.SendLemmas.{eevdf_tree, eevdf_queue, eevdf_queue_send}
 use Rattle.bq_par.proofs.SeatLemmas.{seat_send}
 use Rattle.bq_par.proofs.SharingLemmas.{machine_sync}
 use Rattle.bq_tie.specs.declared.law.Naming as Naming
-use Rattle.bq_counters.specs.declared.account.Naming as Counting
+use Rattle.bq_seats.specs.declared.account.Naming as Counting
 use Rattle.bq_races.specs.contracts.drawn.Racer as Racer
 use Rattle.bq_races.proofs.race_tests.race_under_eevdf.Goals as goal
 

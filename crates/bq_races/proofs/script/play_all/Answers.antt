@@ -11,7 +11,7 @@ use Rattle.bq_par.proofs.SendLemmas.{cfs_queue_send}
 use Rattle.bq_par.proofs.SeatLemmas.{seat_send}
 use Rattle.bq_par.proofs.SharingLemmas.{machine_sync}
 use Rattle.bq_tie.specs.declared.law.Naming as Naming
-use Rattle.bq_counters.specs.declared.account.Naming as Counting
+use Rattle.bq_seats.specs.declared.account.Naming as Counting
 use Rattle.bq_history.specs.History.{EachOnce}
 use Rattle.bq_history.specs.contracts.law.Receipt as Receipt
 use Rattle.bq_history.proofs.law.Receipt.TheSendSync as receipt

@@ -2,7 +2,7 @@ use Rattle.std.proofs.Common.{◌≡◌, ◌<◌, ◌+◌, ◌*◌, ◌^◌, ◌
 use Rattle.std.proofs.lemmas.List.Sums.{sum_by_more}
 use Rattle.bq_actions.specs.declared.action.Action.{Action}
 use Rattle.bq_actions.specs.declared.workload.TaskKind.{TaskKind}
-use Rattle.bq_sizes.specs.Sizes.{processors_in}
+use Rattle.bq_words.specs.Sizes.{processors_in}
 use Rattle.bq_simulate.specs.Bounds.{steps_at_once, steps_of, steps_of_tasks, tasks_in}
 use Rattle.bq_simulate.proofs.BoundLemmas.{all_steps, at_one_instant, more_units}
 use Rattle.bq_simulate.proofs.bound.most_steps.Goals as goal

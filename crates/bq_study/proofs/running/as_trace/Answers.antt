@@ -1,6 +1,6 @@
 -- The names and then the simulation are what the text has.
 use Rattle.std.proofs.Common.{ap, ◌∙◌}
-use Rattle.bq_retelling.specs.Texts.{image_at}
+use Rattle.bq_simulate.specs.Texts.{image_at}
 use Rattle.bq_study.specs.Traces.{image_for}
 use Rattle.bq_study.proofs.TraceLemmas.{trace_written}
 use Rattle.bq_study.proofs.running.as_trace.Goals as goal

@@ -3,7 +3,7 @@ use Rattle.bq_cells.specs.Parts.{cpu_part, inbox_part, HasPart}
 use Rattle.bq_cells.proofs.LookLemmas.{SeenBoth, both_once, both_seated}
 use Rattle.bq_cells.proofs.CallStepLemmas.{drain_moves}
 use Rattle.bq_recording.proofs.AheadLemmas.{ahead_of}
-use Rattle.bq_alike.specs.Brief.{has_loads}
+use Rattle.bq_cells.specs.Brief.{has_loads}
 use Rattle.bq_recording.proofs.recorder.Recorder.drain.Goals as goal
 
 pub drain-reply-requires-clause-once : goal.drain-reply-requires-clause-once

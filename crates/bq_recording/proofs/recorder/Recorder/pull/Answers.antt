@@ -5,7 +5,7 @@ use Rattle.bq_cells.proofs.ReachedLemmas.{reached_sound}
 use Rattle.bq_cells.proofs.LookLemmas.{SeenTwo, two_once, two_seated}
 use Rattle.bq_cells.proofs.PullStepLemmas.{pull_moves}
 use Rattle.bq_recording.proofs.AheadLemmas.{ahead_of}
-use Rattle.bq_alike.specs.Brief.{has_loads}
+use Rattle.bq_cells.specs.Brief.{has_loads}
 use Rattle.bq_recording.proofs.recorder.Recorder.pull.Goals as goal
 
 pub pull-reply-requires-clause-inside : goal.pull-reply-requires-clause-inside

@@ -1,6 +1,6 @@
 use Rattle.std.proofs.Common.{List, ◌++◌, ap}
 use Rattle.std.proofs.lemmas.Result.{on_ok_weaker}
-use Rattle.bq_roster.specs.declared.due.Due.TheVariants.{End}
+use Rattle.bq_actions.specs.declared.due.Due.TheVariants.{End}
 use Rattle.bq_simulate.specs.Chronicles.{Deed}
 use Rattle.bq_simulate.specs.Steps.{Follow, IsAct, Meet}
 use Rattle.bq_simulate.proofs.DeedLemmas.{Lived-after, Lived-join, Lived-silent}

@@ -1,6 +1,6 @@
 use Rattle.std.proofs.Common.{◌+◌, get_or, length, sym, ap, ◌∙◌}
 use Rattle.std.proofs.lemmas.Option.{slice_get_read}
-use Rattle.bq_roster.specs.declared.roster.Roster.{Roster}
+use Rattle.bq_actions.specs.declared.roster.Roster.{Roster}
 use Rattle.bq_simulate.specs.Steps.{AreOfOpening}
 use Rattle.bq_simulate.proofs.DeedLemmas.{Lived-same, Opening-join, Same-here}
 use Rattle.bq_simulate.proofs.KindLemmas.{first-more}

@@ -1,5 +1,5 @@
 use Rattle.std.proofs.Common.{◌≡◌, ◌+◌, length, ap, ◌∙◌, arith}
-use Rattle.bq_roster.specs.declared.roster.Roster.{Roster}
+use Rattle.bq_actions.specs.declared.roster.Roster.{Roster}
 use Rattle.bq_simulate.specs.Steps.{AreOfOpening}
 use Rattle.bq_simulate.proofs.DeedLemmas.{Lived-same, Lived-silent, Opening-join, Same-here}
 use Rattle.bq_simulate.proofs.KindLemmas.{nth-of-kind}

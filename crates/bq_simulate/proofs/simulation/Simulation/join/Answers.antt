@@ -1,7 +1,7 @@
 use Rattle.std.proofs.Common.{◌≡◌, ◌++◌, ◌∷◌, [], length, refl, ap, ◌∙◌, arith}
 use Rattle.rand_pcg.specs.Lcg.{Lcg}
-use Rattle.bq_draws.specs.Streams.{stream_of_task}
-use Rattle.bq_roster.specs.declared.course.Course.{Course}
+use Rattle.bq_actions.specs.Streams.{stream_of_task}
+use Rattle.bq_actions.specs.declared.course.Course.{Course}
 use Rattle.bq_simulate.proofs.DeedLemmas.{Silent-joins}
 use Rattle.bq_simulate.proofs.simulation.Simulation.join.Goals as goal
 

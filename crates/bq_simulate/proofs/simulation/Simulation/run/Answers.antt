@@ -1,6 +1,6 @@
 use Rattle.std.proofs.Common.{ℕ, List, ◌++◌, subst}
 use Rattle.std.proofs.lemmas.Result.{on_ok_weaker}
-use Rattle.bq_roster.specs.Accounts.{accounts_of}
+use Rattle.bq_actions.specs.Accounts.{accounts_of}
 use Rattle.bq_simulate.specs.Bounds.{most_steps}
 use Rattle.bq_simulate.specs.Chronicles.{Deed}
 use Rattle.bq_simulate.specs.Simulations.{Proceeds}

@@ -1,10 +1,10 @@
 use Rattle.std.proofs.Common.{ℕ, [], ◌∷◌, Option, refl, ap, sym, ◌∙◌}
 use Rattle.bq_parts.specs.declared.event.Event.TheVariants.{BeginWake, EndWake, Drain}
-use Rattle.bq_driver.specs.Drives.{runs_now}
-use Rattle.bq_driver.proofs.DriveLemmas.{Drove-join, Drove-one}
-use Rattle.bq_roster.specs.declared.roster.Pace.{Pace}
-use Rattle.bq_roster.specs.Accounts.{Accounts, accounts_of, entered_by, of_task}
-use Rattle.bq_roster.specs.Courses.{woken}
+use Rattle.bq_simulate.specs.Drives.{runs_now}
+use Rattle.bq_simulate.proofs.DriveLemmas.{Drove-join, Drove-one}
+use Rattle.bq_actions.specs.declared.roster.Pace.{Pace}
+use Rattle.bq_actions.specs.Accounts.{Accounts, accounts_of, entered_by, of_task}
+use Rattle.bq_actions.specs.Courses.{woken}
 use Rattle.bq_simulate.proofs.DeedLemmas.{Lived-wakes}
 use Rattle.bq_simulate.proofs.simulation.Simulation.wake.Goals as goal
 

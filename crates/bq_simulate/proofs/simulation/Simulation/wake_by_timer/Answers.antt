@@ -1,6 +1,6 @@
 use Rattle.std.proofs.Common.{refl, ap}
 use Rattle.std.proofs.lemmas.Result.{on_ok_weaker}
-use Rattle.bq_roster.specs.declared.due.Due.TheVariants.{Wake}
+use Rattle.bq_actions.specs.declared.due.Due.TheVariants.{Wake}
 use Rattle.bq_simulate.specs.Simulations.{Same}
 use Rattle.bq_simulate.specs.Steps.{Meet}
 use Rattle.bq_simulate.proofs.DeedLemmas.{Befell-after, Befell-weaker, same_accounts}

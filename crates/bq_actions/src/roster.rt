@@ -1,0 +1,362 @@
+//! All tasks and processors of a simulation.
+ghost use Rattle.std.specs.Prelude.{◌≡◌, ◌<◌, ◌++◌, [], ◌∷◌, None, Some, IfOk, IfErr, OnOk, slice_get, slice_set, length};
+ghost use Rattle.bq_actions.specs.Courses.{woken};
+ghost use Rattle.bq_actions.specs.Accounts.{accounts_of, charged, entered_by, IsDone, left_by, of_task, opening, passed, switched, taken_over};
+ghost use Rattle.bq_actions.specs.Dues.{IsDue, place_of};
+ghost use Rattle.bq_actions.specs.Minima.{at_place, never, ChangesOnly};
+
+use crate::course::Course;
+use crate::lane::Lane;
+use crate::{Agenda, Due};
+use std::alloc::{AllocError, Global};
+
+/// The latest instant: 2^48 - 1 nanoseconds.
+const LATEST: u64 = 281_474_976_710_655;
+
+/// A number that stands for no task or processor, a time that does not fit, or a phase that ended too early or too late:
+/// whoever keeps the roster lost count.
+#[derive(Clone, Copy, Debug, PartialEq, Eq, Drop)]
+pub struct Astray;
+
+/// How a simulation goes: when it ends, the times between ticks and between pulls, and what a change of processor costs.
+#[derive(Clone, Copy, Debug, PartialEq, Eq)]
+pub struct Pace {
+    pub end: u64,
+    pub tick: u64,
+    pub balance: u64,
+    pub migration_cost: u64,
+}
+
+/// Who runs where, how far each task has come, and what comes due until the end.
+#[derive(Drop)]
+pub struct Roster {
+    courses: Vec<Course>,
+    lanes: Vec<Lane>,
+    agenda: Agenda,
+    pace: Pace,
+}
+
+impl Roster {
+    /// So many processors that run nothing, and no task.
+    pub fn new(alloc: Global, processors: u8, pace: Pace) -> Result<Roster, AllocError>
+        ensures accounts { IfOk result (λ roster. accounts_of roster ≡ opening processors) }
+        ensures pace { IfOk result (λ roster. roster.pace ≡ pace) }
+    {
+        let mut lanes = Vec::with_capacity(alloc, usize::from(processors))?;
+        'lanes: for _ in 0..processors {
+            lanes.push(Lane::new())?;
+        }
+        Ok(Roster {
+            courses: Vec::new(alloc),
+            lanes,
+            agenda: Agenda::new(alloc)?,
+            pace,
+        })
+    }
+
+    /// One more task.
+    pub fn add(&mut self, course: Course) -> Result<(), AllocError>
+        ensures courses { OnOk result (self.new.courses.items ≡ self.old.courses.items ++ course ∷ []) }
+        ensures lanes { self.new.lanes ≡ self.old.lanes }
+        ensures pace { self.new.pace ≡ self.old.pace }
+    {
+        self.courses.push(course)?;
+        Ok(())
+    }
+
+    /// How far a task has come.
+    pub fn course(&self, task: u16) -> Result<Course, Astray>
+        ensures there { IfOk result (λ course. slice_get self.now.courses.items task ≡ Some course) }
+        ensures missing { IfErr result (λ _. slice_get self.now.courses.items task ≡ None) }
+    {
+        self.courses.get(usize::from(task)).copied().ok_or(Astray)
+    }
+
+    /// A task has come so far.
+    pub fn set_course(&mut self, task: u16, course: Course) -> Result<(), Astray>
+        ensures there { OnOk result (task < length self.old.courses.items) }
+        ensures courses { OnOk result (self.new.courses.items ≡ slice_set self.old.courses.items task course) }
+        ensures lanes { self.new.lanes ≡ self.old.lanes }
+        ensures agenda { self.new.agenda ≡ self.old.agenda }
+        ensures pace { self.new.pace ≡ self.old.pace }
+    {
+        *self.courses.get_mut(usize::from(task)).ok_or(Astray)? = course;
+        Ok(())
+    }
+
+    /// What runs at a processor.
+    pub fn lane(&self, processor: u8) -> Result<Lane, Astray>
+        ensures there { IfOk result (λ lane. slice_get self.now.lanes.items processor ≡ Some lane) }
+        ensures missing { IfErr result (λ _. slice_get self.now.lanes.items processor ≡ None) }
+    {
+        self.lanes
+            .get(usize::from(processor))
+            .copied()
+            .ok_or(Astray)
+    }
+
+    fn set_lane(&mut self, processor: u8, lane: Lane) -> Result<(), Astray>
+        ensures there { OnOk result (processor < length self.old.lanes.items) }
+        ensures lanes { OnOk result (self.new.lanes.items ≡ slice_set self.old.lanes.items processor lane) }
+        ensures courses { self.new.courses ≡ self.old.courses }
+        ensures agenda { self.new.agenda ≡ self.old.agenda }
+        ensures pace { self.new.pace ≡ self.old.pace }
+    {
+        *self.lanes.get_mut(usize::from(processor)).ok_or(Astray)? = lane;
+        Ok(())
+    }
+
+    /// How many processors there are.
+    pub fn processors(&self) -> usize
+        ensures { result ≡ length self.now.lanes.items }
+    {
+        self.lanes.len()
+    }
+
+    /// What comes due first, and when.
+    pub fn first(&self) -> Result<Option<(u64, Due)>, Astray> {
+        match self.agenda.first() {
+            None => Ok(None),
+            Some((time, place)) => Ok(Some((time, Due::at(place).ok_or(Astray)?))),
+        }
+    }
+
+    /// This comes due then; what would come after the end never does.
+    pub fn plan(&mut self, due: Due, time: u64) -> Result<(), Astray>
+        ensures others { OnOk result (ChangesOnly (place_of due) self.old.agenda self.new.agenda) }
+        ensures courses { self.new.courses ≡ self.old.courses }
+        ensures lanes { self.new.lanes ≡ self.old.lanes }
+        ensures pace { self.new.pace ≡ self.old.pace }
+    {
+        let place = place_of(due)?;
+        let is_seen = time <= self.pace.end && time <= LATEST;
+        self.agenda.set(place, is_seen.then_some(time));
+        Ok(())
+    }
+
+    /// This does not come due.
+    pub fn drop_plan(&mut self, due: Due) -> Result<(), Astray>
+        ensures due { OnOk result (at_place self.new.agenda (place_of due) ≡ never) }
+        ensures others { OnOk result (ChangesOnly (place_of due) self.old.agenda self.new.agenda) }
+        ensures courses { self.new.courses ≡ self.old.courses }
+        ensures lanes { self.new.lanes ≡ self.old.lanes }
+        ensures pace { self.new.pace ≡ self.old.pace }
+    {
+        let place = place_of(due)?;
+        self.agenda.set(place, None);
+        Ok(())
+    }
+}
+
+/// The place of what comes due.
+fn place_of(due: Due) -> Result<u16, Astray>
+    ensures place { IfOk result (λ place. place ≡ place_of due) }
+    ensures few { IfOk result (λ place. place < 2048) }
+    ensures due { OnOk result (IsDue due) }
+{
+    let is_due = match due {
+        Due::End(processor) | Due::Tick(processor) | Due::Pull(processor) => processor < 64,
+        Due::Wake(task) => task < 1024,
+    };
+    if !is_due {
+        return Err(Astray);
+    }
+    Ok(due.place())
+}
+
+/// The next multiple of a time between two things, after an instant.
+fn next_after(now: u64, between: u64) -> Result<u64, Astray> {
+    if between == 0 {
+        return Err(Astray);
+    }
+    (now / between)
+        .saturating_add(1)
+        .checked_mul(between)
+        .ok_or(Astray)
+}
+
+impl Roster {
+    /// From now on this task runs at a processor, or none does.
+    pub fn switch(&mut self, processor: u8, run: Option<u16>, now: u64) -> Result<(), Astray>
+        ensures accounts { OnOk result (accounts_of self.new ≡ switched processor run now self.old.pace.migration_cost (accounts_of self.old)) }
+        ensures pace { self.new.pace ≡ self.old.pace }
+    {
+        let lane = self.lane(processor)?;
+        if lane.run == run {
+            return Ok(());
+        }
+        self.charge(processor, now)?;
+        match run {
+            Some(task) => self.start(processor, task, now, lane.run.is_none()),
+            None => self.idle(processor, now),
+        }
+    }
+
+    /// The task that runs at a processor has run until now.
+    pub fn charge(&mut self, processor: u8, now: u64) -> Result<(), Astray>
+        ensures accounts { OnOk result (accounts_of self.new ≡ charged processor now (accounts_of self.old)) }
+        ensures agenda { self.new.agenda ≡ self.old.agenda }
+        ensures pace { self.new.pace ≡ self.old.pace }
+    {
+        let mut lane = self.lane(processor)?;
+        if let Some(task) = lane.run {
+            let ran = now.checked_sub(lane.since).ok_or(Astray)?;
+            let mut course = self.course(task)?;
+            course.run_for(ran).ok_or(Astray)?;
+            self.set_course(task, course)?;
+        }
+        lane.since = now;
+        self.set_lane(processor, lane)
+    }
+
+    /// A task runs at a processor from now on.
+    fn start(&mut self, processor: u8, task: u16, now: u64, was_idle: bool) -> Result<(), Astray>
+        ensures accounts { OnOk result (accounts_of self.new ≡ taken_over processor (Some task) now self.old.pace.migration_cost (accounts_of self.old)) }
+        ensures pace { self.new.pace ≡ self.old.pace }
+    {
+        let mut lane = self.lane(processor)?;
+        lane.run = Some(task);
+        lane.since = now;
+        self.set_lane(processor, lane)?;
+        let mut course = self.course(task)?;
+        course
+            .move_to(processor, self.pace.migration_cost)
+            .ok_or(Astray)?;
+        self.set_course(task, course)?;
+        if was_idle {
+            self.plan(Due::Tick(processor), next_after(now, self.pace.tick)?)?;
+        }
+        self.plan_end(processor, &course, now)
+    }
+
+    /// Nothing runs at a processor from now on: it does not tick, and looks at once for a task to pull.
+    fn idle(&mut self, processor: u8, now: u64) -> Result<(), Astray>
+        ensures accounts { OnOk result (accounts_of self.new ≡ taken_over processor None now self.old.pace.migration_cost (accounts_of self.old)) }
+        ensures pace { self.new.pace ≡ self.old.pace }
+        ensures tick { OnOk result (at_place self.new.agenda (place_of (Due.Tick processor)) ≡ never) }
+        ensures end { OnOk result (at_place self.new.agenda (place_of (Due.End processor)) ≡ never) }
+    {
+        let mut lane = self.lane(processor)?;
+        lane.run = None;
+        self.set_lane(processor, lane)?;
+        self.drop_plan(Due::End(processor))?;
+        self.drop_plan(Due::Tick(processor))?;
+        if self.processors() > 1 {
+            self.plan(Due::Pull(processor), now)?;
+        }
+        Ok(())
+    }
+
+    /// The phase of the task that runs at a processor ends when it has got what is left of it.
+    pub fn plan_end(&mut self, processor: u8, course: &Course, now: u64) -> Result<(), Astray>
+        ensures courses { self.new.courses ≡ self.old.courses }
+        ensures lanes { self.new.lanes ≡ self.old.lanes }
+        ensures pace { self.new.pace ≡ self.old.pace }
+    {
+        let left = course.due.checked_sub(course.got).ok_or(Astray)?;
+        self.plan(Due::End(processor), now.saturating_add(left))
+    }
+
+    /// A task is woken, and has no phase yet.
+    pub fn wake(&mut self, task: u16) -> Result<(), Astray>
+        ensures accounts { OnOk result (accounts_of self.new ≡ of_task woken task (accounts_of self.old)) }
+        ensures agenda { self.new.agenda ≡ self.old.agenda }
+        ensures pace { self.new.pace ≡ self.old.pace }
+    {
+        let mut course = self.course(task)?;
+        course.wake();
+        self.set_course(task, course)
+    }
+
+    /// The phase of the task that runs at a processor has ended just now. The task, and how far it has come: it has got what
+    /// its phase takes, no more and no less.
+    pub fn end_phase(&mut self, processor: u8, now: u64) -> Result<(u16, Course), Astray>
+        ensures done { IfOk result (λ ended. IsDone (accounts_of self.new) processor ended.0 ended.1) }
+        ensures accounts { OnOk result (accounts_of self.new ≡ charged processor now (accounts_of self.old)) }
+        ensures pace { self.new.pace ≡ self.old.pace }
+    {
+        self.charge(processor, now)?;
+        let task = self.lane(processor)?.run.ok_or(Astray)?;
+        let course = self.course(task)?;
+        if !course.is_done() {
+            return Err(Astray);
+        }
+        Ok((task, course))
+    }
+
+    /// The task that ran at a processor has gone from its queue; the next one runs there, or none.
+    pub fn leave(&mut self, processor: u8, run: Option<u16>, now: u64) -> Result<(), Astray>
+        ensures accounts { OnOk result (accounts_of self.new ≡ left_by processor run now self.old.pace.migration_cost (accounts_of self.old)) }
+        ensures pace { self.new.pace ≡ self.old.pace }
+    {
+        let mut lane = self.lane(processor)?;
+        lane.size = lane.size.checked_sub(1).ok_or(Astray)?;
+        self.set_lane(processor, lane)?;
+        self.switch(processor, run, now)
+    }
+
+    /// So many tasks have entered the queue of a processor, where this one runs now.
+    pub fn enter(
+        &mut self,
+        processor: u8,
+        count: u32,
+        run: Option<u16>,
+        now: u64,
+    ) -> Result<(), Astray>
+        ensures accounts { OnOk result (accounts_of self.new ≡ entered_by processor count run now self.old.pace.migration_cost (accounts_of self.old)) }
+        ensures pace { self.new.pace ≡ self.old.pace }
+    {
+        let mut lane = self.lane(processor)?;
+        lane.size = lane.size.checked_add(count).ok_or(Astray)?;
+        self.set_lane(processor, lane)?;
+        self.switch(processor, run, now)
+    }
+
+    /// A task has gone from the queue of one processor to another.
+    pub fn pass(&mut self, from: u8, to: u8) -> Result<(), Astray>
+        ensures accounts { OnOk result (accounts_of self.new ≡ passed from to (accounts_of self.old)) }
+        ensures agenda { self.new.agenda ≡ self.old.agenda }
+        ensures pace { self.new.pace ≡ self.old.pace }
+    {
+        let mut source = self.lane(from)?;
+        source.size = source.size.checked_sub(1).ok_or(Astray)?;
+        self.set_lane(from, source)?;
+        let mut taker = self.lane(to)?;
+        taker.size = taker.size.checked_add(1).ok_or(Astray)?;
+        self.set_lane(to, taker)
+    }
+
+    /// The processor with the most tasks, the least number where several have, unless it has less than two.
+    pub fn largest(&self) -> Option<u8> {
+        let mut best: Option<u8> = None;
+        let mut size = 1;
+        for processor in 0..64 {
+            if let Some(lane) = self.lanes.get(usize::from(processor)) {
+                if lane.size > size {
+                    best = Some(processor);
+                    size = lane.size;
+                }
+            }
+        }
+        best
+    }
+
+    /// The next tick of a processor that has ticked.
+    pub fn plan_tick(&mut self, processor: u8, now: u64) -> Result<(), Astray>
+        ensures accounts { accounts_of self.new ≡ accounts_of self.old }
+        ensures pace { self.new.pace ≡ self.old.pace }
+    {
+        if self.lane(processor)?.run.is_none() {
+            return Ok(());
+        }
+        self.plan(Due::Tick(processor), next_after(now, self.pace.tick)?)
+    }
+
+    /// The next pull of a processor that has looked for a task.
+    pub fn plan_pull(&mut self, processor: u8, now: u64) -> Result<(), Astray>
+        ensures accounts { accounts_of self.new ≡ accounts_of self.old }
+        ensures pace { self.new.pace ≡ self.old.pace }
+    {
+        self.plan(Due::Pull(processor), next_after(now, self.pace.balance)?)
+    }
+}

@@ -1,0 +1,147 @@
+//! The same once more: events, replies and answers, none of which takes memory.
+ghost use Rattle.std.specs.Prelude.{◌≡◌, IfOk, OnErr};
+ghost use Rattle.bq_cells.specs.Events.{CarriesPolicy};
+
+use bq_parts::{Event, Refusal, Reply};
+use std::alloc::AllocError;
+
+/// The same event once more. There is an error only where its policy would then stand in more places than can be
+/// counted.
+#[inline(always)]
+pub fn event_again(event: &Event) -> Result<Event, AllocError>
+    ensures same { IfOk result (λ again. again ≡ event.now) }
+    ensures counted { OnErr result (CarriesPolicy event.now) }
+{
+    let again = match event {
+        Event::Admit {
+            task,
+            nice,
+            mask,
+            slice,
+        } => Event::Admit {
+            task: *task,
+            nice: *nice,
+            mask: *mask,
+            slice: *slice,
+        },
+        Event::Retire { task } => Event::Retire { task: *task },
+        Event::Draw => Event::Draw,
+        Event::Install {
+            processor,
+            hook,
+            generation,
+            policy,
+        } => {
+            let policy = match policy {
+                None => None,
+                Some(policy) => Some(policy.clone()?),
+            };
+            Event::Install {
+                processor: *processor,
+                hook: *hook,
+                generation: *generation,
+                policy,
+            }
+        }
+        Event::BeginWake { processor, task } => Event::BeginWake {
+            processor: *processor,
+            task: *task,
+        },
+        Event::EndWake { processor, now } => Event::EndWake {
+            processor: *processor,
+            now: *now,
+        },
+        Event::Drain { processor, now } => Event::Drain {
+            processor: *processor,
+            now: *now,
+        },
+        Event::Tick { processor, now } => Event::Tick {
+            processor: *processor,
+            now: *now,
+        },
+        Event::Block { processor, now } => Event::Block {
+            processor: *processor,
+            now: *now,
+        },
+        Event::Pull {
+            processor,
+            from,
+            now,
+        } => Event::Pull {
+            processor: *processor,
+            from: *from,
+            now: *now,
+        },
+    };
+    Ok(again)
+}
+
+/// The same reply once more.
+pub fn reply_again(reply: &Reply) -> Reply
+    ensures { result ≡ reply.now }
+{
+    match reply {
+        Reply::Admitted => Reply::Admitted,
+        Reply::Retired => Reply::Retired,
+        Reply::Drawn { generation } => Reply::Drawn {
+            generation: *generation,
+        },
+        Reply::Installed => Reply::Installed,
+        Reply::Begun { task, loads } => Reply::Begun {
+            task: *task,
+            loads: loads.copy(),
+        },
+        Reply::Placed {
+            task,
+            to,
+            by,
+            steps,
+        } => Reply::Placed {
+            task: *task,
+            to: *to,
+            by: *by,
+            steps: *steps,
+        },
+        Reply::Drained {
+            count,
+            run,
+            by,
+            steps,
+        } => Reply::Drained {
+            count: *count,
+            run: *run,
+            by: *by,
+            steps: *steps,
+        },
+        Reply::Ticked { run, by, steps } => Reply::Ticked {
+            run: *run,
+            by: *by,
+            steps: *steps,
+        },
+        Reply::Blocked { task, run } => Reply::Blocked {
+            task: *task,
+            run: *run,
+        },
+        Reply::Pulled {
+            task,
+            run,
+            by,
+            steps,
+        } => Reply::Pulled {
+            task: *task,
+            run: *run,
+            by: *by,
+            steps: *steps,
+        },
+    }
+}
+
+/// The same answer once more.
+pub fn answer_again(answer: &Result<Reply, Refusal>) -> Result<Reply, Refusal>
+    ensures { result ≡ answer.now }
+{
+    match answer {
+        Ok(reply) => Ok(reply_again(reply)),
+        Err(refusal) => Err(*refusal),
+    }
+}

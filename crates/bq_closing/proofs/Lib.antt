@@ -1,2 +1,0 @@
-pub mod ClosingLemmas
-pub mod SendLemmas

@@ -1,0 +1,12 @@
+use Rattle.std.proofs.Common.{◌≤◌, ◌-◌, length}
+use Rattle.bq_comparison.specs.Seeds.{AreRuns}
+use Rattle.bq_comparison.proofs.seeds.runs.Given as goal
+
+abbrev pub invariant-numbers : goal.invariant-numbers
+invariant-numbers g l = record {
+  runs_are : AreRuns l.experiment.workload.now l.experiment.figures.now l.experiment.workload.now.machine.seed l.runs.items;
+  low : length l.runs.items ≤ l.count;
+}
+
+abbrev pub decreases-numbers : goal.decreases-numbers
+decreases-numbers g l = l.count - length l.runs.items

@@ -1,0 +1,31 @@
+-- All figures of a report.
+use Rattle.std.specs.Prelude.{ℕ, List, [], ◌∷◌, ◌++◌}
+use Rattle.std.specs.List.{flat_map, range_with_len}
+use Rattle.bq_bpf.specs.declared.hook.Hook.{Hook}
+use Rattle.bq_bpf.specs.declared.hook.Hook.TheVariants as hook
+use Rattle.bq_comparison.specs.declared.all.Extent.{Extent}
+use Rattle.bq_comparison.specs.declared.naming.Figure.{Figure}
+use Rattle.bq_comparison.specs.declared.naming.Figure.TheVariants.{Task, Latency, Processor, Hook as AtHook}
+use Rattle.bq_comparison.specs.declared.naming.HookFigure.TheVariants.{Asked, Overruled, Steps}
+use Rattle.bq_comparison.specs.declared.naming.ProcessorFigure.TheVariants as of_processor
+use Rattle.bq_comparison.specs.declared.naming.TaskFigure.TheVariants as of_task
+
+-- of a task
+abbrev pub figures_of_task : ℕ → List Figure
+figures_of_task id =
+    Task id of_task.Ran ∷ Task id of_task.Fair ∷ Task id of_task.Waited ∷ Task id of_task.Switches ∷ Task id of_task.Preemptions ∷ Task id of_task.Migrations
+    ∷ Task id of_task.Wakes ∷ Latency id 50 ∷ Latency id 95 ∷ Latency id 99 ∷ Latency id 100 ∷ []
+
+-- of a hook at a processor
+abbrev pub figures_of_hook : ℕ → Hook → List Figure
+figures_of_hook cpu at = AtHook cpu at Asked ∷ AtHook cpu at Overruled ∷ AtHook cpu at Steps ∷ []
+
+-- of a processor and its hooks
+abbrev pub figures_of_processor : ℕ → List Figure
+figures_of_processor cpu =
+    (Processor cpu of_processor.Busy ∷ Processor cpu of_processor.Idle ∷ Processor cpu of_processor.Switches ∷ [])
+    ++ figures_of_hook cpu hook.Place ++ figures_of_hook cpu hook.Preempt ++ figures_of_hook cpu hook.Pull
+
+-- of all tasks and then of all processors, by number
+abbrev pub figures_of_report : Extent → List Figure
+figures_of_report extent = flat_map figures_of_task (range_with_len 0 extent.tasks) ++ flat_map figures_of_processor (range_with_len 0 extent.processors)

@@ -1,0 +1,65 @@
+//! All figures of a report.
+ghost use Rattle.std.specs.Prelude.{◌≡◌, IfOk};
+ghost use Rattle.bq_comparison.specs.Report.{figures_of_processor, figures_of_report, figures_of_task};
+
+use crate::naming::{Figure, HookFigure, ProcessorFigure, TaskFigure};
+use bq_parts::Hook;
+use std::alloc::{AllocError, Global};
+
+/// How many tasks and processors there are.
+#[derive(Clone, Copy, Debug, PartialEq, Eq)]
+pub struct Extent {
+    pub tasks: u16,
+    pub processors: u8,
+}
+
+/// The figures of each task, then those of each processor with those of its hooks.
+pub fn all_figures(alloc: Global, extent: Extent) -> Result<Vec<Figure>, AllocError>
+    ensures { IfOk result (λ v. v.items ≡ figures_of_report extent) }
+{
+    let mut figures = Vec::new(alloc);
+    'tasks: for task in 0..extent.tasks {
+        figures.extend_from_slice(&task_figures(task))?;
+    }
+    'processors: for processor in 0..extent.processors {
+        figures.extend_from_slice(&processor_figures(processor))?;
+    }
+    Ok(figures)
+}
+
+fn task_figures(task: u16) -> [Figure; 11]
+    ensures { result ≡ figures_of_task task }
+{
+    [
+        Figure::Task(task, TaskFigure::Ran),
+        Figure::Task(task, TaskFigure::Fair),
+        Figure::Task(task, TaskFigure::Waited),
+        Figure::Task(task, TaskFigure::Switches),
+        Figure::Task(task, TaskFigure::Preemptions),
+        Figure::Task(task, TaskFigure::Migrations),
+        Figure::Task(task, TaskFigure::Wakes),
+        Figure::Latency(task, 50),
+        Figure::Latency(task, 95),
+        Figure::Latency(task, 99),
+        Figure::Latency(task, 100),
+    ]
+}
+
+fn processor_figures(processor: u8) -> [Figure; 12]
+    ensures { result ≡ figures_of_processor processor }
+{
+    [
+        Figure::Processor(processor, ProcessorFigure::Busy),
+        Figure::Processor(processor, ProcessorFigure::Idle),
+        Figure::Processor(processor, ProcessorFigure::Switches),
+        Figure::Hook(processor, Hook::Place, HookFigure::Asked),
+        Figure::Hook(processor, Hook::Place, HookFigure::Overruled),
+        Figure::Hook(processor, Hook::Place, HookFigure::Steps),
+        Figure::Hook(processor, Hook::Preempt, HookFigure::Asked),
+        Figure::Hook(processor, Hook::Preempt, HookFigure::Overruled),
+        Figure::Hook(processor, Hook::Preempt, HookFigure::Steps),
+        Figure::Hook(processor, Hook::Pull, HookFigure::Asked),
+        Figure::Hook(processor, Hook::Pull, HookFigure::Overruled),
+        Figure::Hook(processor, Hook::Pull, HookFigure::Steps),
+    ]
+}

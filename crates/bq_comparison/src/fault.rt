@@ -1,0 +1,54 @@
+//! Why there is no summary.
+
+use bq_simulate::SimulateFault;
+use std::alloc::{AllocError, AllocFailed};
+use thiserror::Error;
+
+/// Why there is no summary.
+#[derive(Debug, Drop, Error)]
+pub enum SeedsFault {
+    /// A run does not come to its end.
+    #[error("{0}")]
+    Run(SimulateFault),
+    /// The last seed would be 2^64 or more.
+    #[error("--seeds: the last seed is not below 2^64")]
+    Last,
+    #[error("out of memory")]
+    OutOfMemory,
+}
+
+impl From<SimulateFault> for SeedsFault {
+    ghost use Rattle.std.specs.Prelude.{◌≢◌};
+    ghost use Rattle.bq_comparison.specs.declared.fault.SeedsFault.TheVariants.{Last};
+
+    ghost from_gives = { λ _ e. e ≢ Last };
+
+    fn from(fault: SimulateFault) -> SeedsFault {
+        match fault {
+            SimulateFault::OutOfMemory => SeedsFault::OutOfMemory,
+            fault => SeedsFault::Run(fault),
+        }
+    }
+}
+
+impl From<AllocError> for SeedsFault {
+    ghost use Rattle.std.specs.Prelude.{◌≡◌};
+    ghost use Rattle.bq_comparison.specs.declared.fault.SeedsFault.TheVariants.{OutOfMemory};
+
+    ghost from_gives = { λ _ e. e ≡ OutOfMemory };
+
+    fn from(_e: AllocError) -> SeedsFault {
+        SeedsFault::OutOfMemory
+    }
+}
+
+impl<T: Drop> From<AllocFailed<T>> for SeedsFault {
+    ghost use Rattle.std.specs.Prelude.{◌≡◌};
+    ghost use Rattle.bq_comparison.specs.declared.fault.SeedsFault.TheVariants.{OutOfMemory};
+
+    ghost from_gives = { λ _ e. e ≡ OutOfMemory };
+
+    fn from(_e: AllocFailed<T>) -> SeedsFault {
+        SeedsFault::OutOfMemory
+    }
+}

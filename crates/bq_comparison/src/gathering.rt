@@ -1,0 +1,124 @@
+//! What is kept of one simulation.
+ghost use Rattle.std.specs.Prelude.{◌≡◌, ◌++◌, [], IfOk, None};
+ghost use Rattle.bq_comparison.specs.Gathering.{IsGathered, delays_with, schedule_with};
+ghost use Rattle.bq_simulate.specs.Simulations.{with_seed};
+
+use crate::Delay;
+use bq_actions::Workload;
+use bq_core::{Event, Policy, Refusal, Reply};
+use bq_load::LoadFault;
+use bq_schedule::Schedule;
+use bq_simulate::{SimulateFault, simulate_seed};
+use bq_trace::{AnyCore, Sink};
+use bq_words::{ProcessorCount, Rule};
+use std::alloc::{AllocError, Global};
+
+/// A simulation as far as it has come: its schedule, once it has a machine, and each delay from a wake until its task ran.
+#[derive(Drop)]
+pub struct Gatherer {
+    alloc: Global,
+    pub schedule: Option<Schedule>,
+    pub delays: Vec<Delay>,
+}
+
+impl Gatherer {
+    /// Nothing has come.
+    pub fn new(alloc: Global) -> Gatherer
+        ensures schedule { result.schedule ≡ None }
+        ensures delays { result.delays.items ≡ [] }
+    {
+        Gatherer {
+            alloc,
+            schedule: None,
+            delays: Vec::new(alloc),
+        }
+    }
+}
+
+impl Sink for Gatherer {
+    ghost takes = { λ old n news new. (new.schedule ≡ schedule_with old.schedule news) × (new.delays.items ≡ old.delays.items ++ delays_with old.schedule news) };
+
+    fn opened(
+        &mut self,
+        _number: u64,
+        _rule: Rule,
+        size: ProcessorCount,
+    ) -> Result<(), AllocError> {
+        self.schedule = Some(Schedule::new(self.alloc, size.processors())?);
+        Ok(())
+    }
+
+    fn skipped(&mut self, _number: u64, _line: &[u8]) -> Result<(), AllocError> {
+        Ok(())
+    }
+
+    fn comes(
+        &mut self,
+        _number: u64,
+        _event: &Event,
+        _machine: &AnyCore,
+    ) -> Result<(), AllocError> {
+        Ok(())
+    }
+
+    fn answered(
+        &mut self,
+        _number: u64,
+        event: &Event,
+        answer: &Result<Reply, Refusal>,
+        _machine: &AnyCore,
+    ) -> Result<(), AllocError> {
+        let Some(schedule) = &mut self.schedule else {
+            return Ok(());
+        };
+        let change = schedule.take(event, answer);
+        if let Some(start) = change.start {
+            if let Some(latency) = start.latency {
+                self.delays.push(Delay {
+                    task: start.task,
+                    latency,
+                })?;
+            }
+        }
+        Ok(())
+    }
+
+    fn unspelled(&mut self, _number: u64) -> Result<(), AllocError> {
+        Ok(())
+    }
+
+    fn unloaded(&mut self, _number: u64, _fault: LoadFault) -> Result<(), AllocError> {
+        Ok(())
+    }
+
+    fn shown(
+        &mut self,
+        _number: u64,
+        _processor: u8,
+        _machine: &AnyCore,
+    ) -> Result<(), AllocError> {
+        Ok(())
+    }
+
+    fn counted(&mut self, _number: u64, _counter: u8, _value: u64) -> Result<(), AllocError> {
+        Ok(())
+    }
+
+    fn bad(&mut self, _number: u64, _line: Option<&[u8]>) -> Result<(), AllocError> {
+        Ok(())
+    }
+}
+
+/// Follows a workload to its end with this seed, and keeps what figures are made of.
+pub(crate) fn gather(
+    alloc: Global,
+    workload: &Workload,
+    seed: u64,
+    policies: &[Policy],
+) -> Result<Gatherer, SimulateFault>
+    ensures { IfOk result (λ g. IsGathered (with_seed workload.now seed) g.schedule g.delays.items) }
+{
+    let mut gatherer = Gatherer::new(alloc);
+    simulate_seed(alloc, workload, seed, policies, &mut gatherer)?;
+    Ok(gatherer)
+}

@@ -1,0 +1,75 @@
+//! Means and standard deviations in whole numbers.
+ghost use Rattle.std.specs.Prelude.{◌≡◌, ◌≤◌, ◌<◌, ◌-◌, ◌*◌, ◌^◌, length, sum, IfSome, IfNone};
+ghost use Rattle.bq_comparison.specs.Means.{IsDeviation, IsMean, IsRoot, IsTooGreat, squares};
+
+/// The mean of 1 to 65,536 numbers in thousandths, rounded down.
+pub fn mean(numbers: &[u64]) -> u128
+    requires some { 0 < length numbers.now }
+    requires few { length numbers.now ≤ 65536 }
+    ensures { IsMean numbers.now result }
+{
+    total(numbers) * 1000 / numbers.len() as u128
+}
+
+/// The sample's standard deviation of 2 to 65,536 numbers in thousandths, rounded down. None where they are too great to be
+/// squared and added in 128 bits: no n numbers below 2^54 / n are, so no 1,000 below 2^44.
+pub fn deviation(numbers: &[u64]) -> Option<u128>
+    requires some { 2 ≤ length numbers.now }
+    requires few { length numbers.now ≤ 65536 }
+    ensures value { IfSome result (IsDeviation numbers.now) }
+    ensures none { IfNone result (IsTooGreat numbers.now) }
+{
+    let count = numbers.len() as u128;
+    let whole = whole(count, numbers)?;
+    let total = total(numbers);
+    let square = total.checked_mul(total)?;
+    Some(root(whole.saturating_sub(square), count * (count - 1)))
+}
+
+/// So many times the sum of their squares, where a million times that fits too.
+fn whole(count: u128, numbers: &[u64]) -> Option<u128>
+    requires some { 0 < count }
+    requires count { count ≡ length numbers.now }
+    ensures value { IfSome result (λ n. n ≡ length numbers.now * squares numbers.now) }
+    ensures fits { IfSome result (λ n. n * 1000000 < 2 ^ 128) }
+    ensures none { IfNone result (2 ^ 128 ≤ length numbers.now * squares numbers.now * 1000000) }
+{
+    let whole = count.checked_mul(squares(numbers)?)?;
+    whole.checked_mul(1_000_000)?;
+    Some(whole)
+}
+
+/// The root of a ratio in thousandths, rounded down.
+fn root(above: u128, below: u128) -> u128
+    requires some { 0 < below }
+    requires fits { above * 1000000 < 2 ^ 128 }
+    ensures { IsRoot above below result }
+{
+    (above * 1_000_000 / below).isqrt()
+}
+
+/// The sum of up to 65,536 numbers.
+fn total(numbers: &[u64]) -> u128
+    requires { length numbers.now ≤ 65536 }
+    ensures value { result ≡ sum numbers.now }
+    ensures fits { result < 2 ^ 80 }
+{
+    let mut total: u128 = 0;
+    'numbers: for number in numbers {
+        total += u128::from(*number);
+    }
+    total
+}
+
+/// The sum of their squares, where it fits.
+fn squares(numbers: &[u64]) -> Option<u128>
+    ensures value { IfSome result (λ n. n ≡ squares numbers.now) }
+    ensures none { IfNone result (2 ^ 128 ≤ squares numbers.now) }
+{
+    let mut total: u128 = 0;
+    'numbers: for number in numbers {
+        let number = u128::from(*number);
+        total = total.checked_add(number * number)?;
+    }
+    Some(total)
+}

@@ -1,0 +1,51 @@
+//! The values of the figures in one run.
+ghost use Rattle.std.specs.Prelude.{◌≡◌, IfOk};
+ghost use Rattle.bq_comparison.specs.Runs.{IsRunOf, number_at};
+
+use crate::naming::Figure;
+use crate::values::{Delay, value_of};
+use bq_schedule::Schedule;
+use std::alloc::{AllocError, Global};
+
+/// A figure with its value in a run, if it has one there.
+#[derive(Clone, Copy, Debug, PartialEq, Eq)]
+pub struct FigureValue {
+    pub figure: Figure,
+    pub value: Option<u64>,
+}
+
+/// The figures of one run, each with its value.
+#[derive(Debug, Drop)]
+pub struct Run {
+    pub values: Vec<FigureValue>,
+}
+
+/// The values that figures have in a schedule in which tasks had these delays.
+pub fn run_of(
+    alloc: Global,
+    schedule: &Schedule,
+    delays: &[Delay],
+    figures: &[Figure],
+) -> Result<Run, AllocError>
+    ensures { IfOk result (IsRunOf schedule.now delays.now figures.now) }
+{
+    let mut values = Vec::new(alloc);
+    'figures: for figure in figures {
+        let figure = *figure;
+        let value = value_of(alloc, schedule, delays, figure)?;
+        values.push(FigureValue { figure, value })?;
+    }
+    Ok(Run { values })
+}
+
+impl Run {
+    /// The number at a place among the figures, if there is one.
+    pub(crate) fn number_at(&self, place: usize) -> Option<u64>
+        ensures { result ≡ number_at place self.now }
+    {
+        match self.values.get(place) {
+            Some(value) => value.value,
+            None => None,
+        }
+    }
+}

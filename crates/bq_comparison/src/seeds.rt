@@ -1,0 +1,155 @@
+//! A workload run with several seeds.
+ghost use Rattle.std.specs.Prelude.{◌≡◌, ◌≢◌, ◌<◌, ◌+◌, ◌≤◌, ◌^◌, vec_len, IfOk, OnOk, Err};
+ghost use Rattle.bq_comparison.specs.Seeds.{AreResults, AreRuns, Comes, IsRun, IsSummary};
+ghost use Rattle.bq_comparison.specs.declared.fault.SeedsFault.TheVariants.{Last};
+ghost use Rattle.bq_simulate.specs.Simulations.{with_seed};
+
+use crate::fault::SeedsFault;
+use crate::gathering::gather;
+use crate::{Figure, Row, Run, rows, run_of};
+use bq_actions::Workload;
+use bq_core::Policy;
+use bq_simulate::SimulateFault;
+use std::alloc::{AllocError, Global};
+use std::thread::{Threads, available_parallelism, map_indices};
+
+/// What the runs say of each figure, a row a figure.
+pub type Rows = Vec<Row>;
+
+/// What comes of some runs.
+type Results = Vec<Result<Run, SimulateFault>>;
+
+/// What runs share that differ by their seeds alone.
+#[derive(Clone, Copy)]
+struct Experiment<'a> {
+    workload: &'a Workload,
+    /// The policies at all processors.
+    policies: &'a [Policy],
+    /// What is told of each run.
+    figures: &'a [Figure],
+}
+
+/// At most so many runs are done at once.
+const MOST_AT_ONCE: usize = 64;
+
+/// Runs a workload with so many seeds, from its own on, with these policies at all processors; what the runs say of each of
+/// the figures. So many runs are done at once as there are processors at hand, each on a thread of its own.
+pub fn summary<T: Threads + Sync>(
+    threads: &T,
+    alloc: Global,
+    workload: &Workload,
+    policies: &[Policy],
+    count: u16,
+    figures: &[Figure],
+) -> Result<Rows, SeedsFault>
+    ensures rows { IfOk result (λ rows. IsSummary workload.now count figures.now rows.items) }
+    ensures last { result ≡ Err Last → 2 ^ 64 < workload.now.machine.seed + count }
+{
+    let experiment = Experiment {
+        workload,
+        policies,
+        figures,
+    };
+    let runs = runs(threads, alloc, &experiment, count)?;
+    let rows = rows(alloc, figures, runs.as_slice())?;
+    Ok(rows)
+}
+
+/// The runs with so many seeds, from the workload's own on.
+fn runs<T: Threads + Sync>(
+    threads: &T,
+    alloc: Global,
+    experiment: &Experiment<'_>,
+    count: u16,
+) -> Result<Vec<Run>, SeedsFault>
+    ensures runs { IfOk result (λ runs. AreRuns experiment.now.workload.now experiment.now.figures.now experiment.now.workload.now.machine.seed runs.items) }
+    ensures count { IfOk result (λ runs. vec_len runs ≡ count) }
+    ensures last { result ≡ Err Last → 2 ^ 64 < experiment.now.workload.now.machine.seed + count }
+{
+    let first = experiment.workload.machine.seed;
+    let others = u64::from(count).saturating_sub(1);
+    if first.checked_add(others).is_none() {
+        return Err(SeedsFault::Last);
+    }
+    let most = hands(threads);
+    let count = usize::from(count);
+    let mut runs = Vec::new(alloc);
+    'numbers: while runs.len() < count {
+        let seed = first + runs.len() as u64;
+        let wave = most.min(count - runs.len());
+        let results = at_once(threads, alloc, experiment, seed, wave)?;
+        add_all(&mut runs, results)?;
+    }
+    Ok(runs)
+}
+
+/// How many runs are done at once: as many as there are processors at hand.
+fn hands<T: Threads + Sync>(threads: &T) -> usize
+    ensures { 1 ≤ result }
+{
+    match available_parallelism(threads) {
+        Ok(hands) => hands.get().max(1).min(MOST_AT_ONCE),
+        Err(_) => 1,
+    }
+}
+
+/// So many runs at once, with seeds from this one on, each on a thread of its own.
+fn at_once<T: Threads + Sync>(
+    threads: &T,
+    alloc: Global,
+    experiment: &Experiment<'_>,
+    first: u64,
+    count: usize,
+) -> Result<Results, AllocError>
+    ensures results { IfOk result (λ results. AreResults experiment.now.workload.now experiment.now.figures.now first results.items) }
+    ensures count { IfOk result (λ results. vec_len results ≡ count) }
+{
+    map_indices(
+        threads,
+        alloc,
+        count,
+        &|number| { nth_run(alloc, experiment, first, number) },
+    )
+}
+
+/// The run whose seed is so many above the first.
+fn nth_run(
+    alloc: Global,
+    experiment: &Experiment<'_>,
+    first: u64,
+    number: usize,
+) -> Result<Run, SimulateFault>
+    ensures { IfOk result (IsRun (with_seed experiment.now.workload.now (first + number)) experiment.now.figures.now) }
+{
+    let seed = first
+        .checked_add(number as u64)
+        .ok_or(SimulateFault::Astray)?;
+    run(alloc, experiment, seed)
+}
+
+/// Adds what came of some runs; where one did not come to its end, the first such fault.
+fn add_all(runs: &mut Vec<Run>, results: Results) -> Result<(), SeedsFault>
+    ensures comes { OnOk result (Comes runs.old.items results.items runs.new.items) }
+    ensures last { result ≢ Err Last }
+{
+    'results: for result in results {
+        runs.push(result?)?;
+    }
+    Ok(())
+}
+
+/// One run, with this seed in place of the workload's own.
+fn run(alloc: Global, experiment: &Experiment<'_>, seed: u64) -> Result<Run, SimulateFault>
+    ensures { IfOk result (IsRun (with_seed experiment.now.workload.now seed) experiment.now.figures.now) }
+{
+    let Experiment {
+        workload,
+        policies,
+        figures,
+    } = *experiment;
+    let gathered = gather(alloc, workload, seed, policies)?;
+    match &gathered.schedule {
+        Some(schedule) => Ok(run_of(alloc, schedule, gathered.delays.as_slice(), figures)?),
+        None => Err(SimulateFault::Astray),
+    }
+}

@@ -1,0 +1,64 @@
+//! What several runs say of each figure.
+ghost use Rattle.std.specs.Prelude.{◌≡◌, ◌≤◌, IfOk, length};
+ghost use Rattle.bq_comparison.specs.Rows.{AreRows, IsRow, numbers_at};
+
+use crate::naming::Figure;
+use crate::runs::Run;
+use crate::{deviation, mean};
+use std::alloc::{AllocError, Global};
+
+/// What several runs say of a figure, in thousandths of its unit, rounded down.
+#[derive(Clone, Copy, Debug, PartialEq, Eq)]
+pub struct Row {
+    pub figure: Figure,
+    /// How many runs have a value.
+    pub runs: usize,
+    /// The mean of the values, if there are any.
+    pub mean: Option<u128>,
+    /// Their standard deviation, if there are two at least. None too where they are beyond the arithmetic of 128 bits, which no n
+    /// numbers below 2^54 / n are.
+    pub deviation: Option<u128>,
+}
+
+/// What some runs of the same figures say of each.
+pub fn rows(alloc: Global, figures: &[Figure], runs: &[Run]) -> Result<Vec<Row>, AllocError>
+    requires { length runs.now ≤ 65536 }
+    ensures { IfOk result (λ v. AreRows runs.now figures.now v.items) }
+{
+    let mut rows = Vec::new(alloc);
+    'figures: for (place, figure) in figures.iter().enumerate() {
+        let numbers = numbers_at(alloc, runs, place)?;
+        rows.push(row_of(*figure, numbers.as_slice()))?;
+    }
+    Ok(rows)
+}
+
+/// What the numbers say of a figure.
+fn row_of(figure: Figure, numbers: &[u64]) -> Row
+    requires { length numbers.now ≤ 65536 }
+    ensures { IsRow figure numbers.now result }
+{
+    let runs = numbers.len();
+    let mean = if runs == 0 { None } else { Some(mean(numbers)) };
+    let deviation = if runs < 2 { None } else { deviation(numbers) };
+    Row {
+        figure,
+        runs,
+        mean,
+        deviation,
+    }
+}
+
+/// The numbers at a place in the runs that have one there.
+fn numbers_at(alloc: Global, runs: &[Run], place: usize) -> Result<Vec<u64>, AllocError>
+    ensures value { IfOk result (λ v. v.items ≡ numbers_at place runs.now) }
+    ensures few { IfOk result (λ v. length v.items ≤ length runs.now) }
+{
+    let mut numbers = Vec::new(alloc);
+    'runs: for run in runs {
+        if let Some(number) = run.number_at(place) {
+            numbers.push(number)?;
+        }
+    }
+    Ok(numbers)
+}

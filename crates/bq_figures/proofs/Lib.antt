@@ -1,3 +1,0 @@
-mod RangeLemmas
-mod RowLemmas
-mod RatioLemmas

@@ -1,7 +1,0 @@
-use Rattle.std.proofs.Common.{◌≡◌, ◌≤◌, length}
-use Rattle.std.specs.Prelude.{take}
-use Rattle.bq_figures.specs.Rows.{numbers_at}
-use Rattle.bq_figures.proofs.summing.numbers_at.Given as goal
-
-abbrev pub invariant-runs : goal.invariant-runs
-invariant-runs l = record { so_far : l.numbers.items ≡ numbers_at l.place (take l.run-index l.runs); few : length l.numbers.items ≤ l.run-index }

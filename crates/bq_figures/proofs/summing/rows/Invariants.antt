@@ -1,6 +1,0 @@
-use Rattle.std.specs.Prelude.{take}
-use Rattle.bq_figures.specs.Rows.{AreRows}
-use Rattle.bq_figures.proofs.summing.rows.Given as goal
-
-abbrev pub invariant-figures : goal.invariant-figures
-invariant-figures l = AreRows l.runs (take l.place l.figures) l.rows.items

@@ -1,5 +1,0 @@
-use Rattle.std.proofs.Common.{◌≡◌, replicate}
-use Rattle.bq_opening.proofs.opening.no_loads.Given as goal
-
-abbrev pub invariant-loads : goal.invariant-loads
-invariant-loads l = (l.loads ≡ replicate l.counter 0)

@@ -1,0 +1,95 @@
+//! A machine's parts, its history, its counters and its seats at the start.
+ghost use Rattle.std.specs.Prelude.{◌≡◌, ◌≤◌, ◌^◌, [], All, IfOk, length, vec_len, replicate};
+ghost use Rattle.bq_seats.specs.Calls.{fresh};
+
+use crate::locked_parts::{PartLocks, part_locks};
+use crate::prepared::Prepared;
+use crate::{ClosingRoom, Recorder, Seat};
+use bq_cells::{Kept, NumberedCpu, NumberedInbox, OneLobby, UnderLock};
+use bq_disc::RunQueue;
+use bq_history::Journal;
+use bq_parts::Loads;
+use bq_seats::{Naming as Counting, Unnamed, seats};
+use bq_tie::Naming;
+use std::alloc::{AllocError, Global};
+use std::sync::Mutex;
+
+/// What the machine that `N` names is made of, of `P` processors: what records its events, a lock for each part, the room
+/// that its end needs, and how many seats it has.
+#[derive(Drop)]
+pub struct Opening<Q: RunQueue + Drop, N: Naming + Counting, const P: usize> {
+    pub recorder: Recorder<Q, N>,
+    pub cpus: Vec<Mutex<UnderLock<NumberedCpu<Q>, N>>>,
+    pub inboxes: Vec<Mutex<UnderLock<NumberedInbox, N>>>,
+    pub lobby: Mutex<UnderLock<OneLobby, N>>,
+    pub room: Mutex<ClosingRoom<Q, P>>,
+    pub seats: u64,
+    ghost about: { recorder.history.about ≡ P },
+    ghost counted: { vec_len cpus ≡ P },
+    ghost one_each: { vec_len inboxes ≡ P },
+    ghost few: { P ≤ 64 },
+    ghost seated: { seats ≡ recorder.history.callers },
+}
+
+impl<Q: RunQueue + Drop, N: Naming + Counting, const P: usize> Opening<Q, N, P> {
+    /// Over queues that are handed in, one for each processor, without tasks and at the first mark; and the seats, numbered
+    /// from 0. It takes memory for all locks and seats.
+    pub fn over(
+        alloc: Global,
+        queues: Vec<Q>,
+        prepared: Prepared<Q>,
+        unnamed: Unnamed,
+        seat_count: u64,
+    ) -> Result<(Opening<Q, N, P>, Vec<Seat<N>>), AllocError>
+        requires few { P ≤ 64 }
+        requires name { prepared.0 ≡ N.table }
+        requires counters { unnamed.0 ≡ N.counters }
+        requires counts { (prepared.1.about ≡ P) × (prepared.1.callers ≡ seat_count) × (unnamed.1 ≡ seat_count) }
+        requires many { length queues.items ≡ P }
+        requires empty { All (λ q. (Q.members q ≡ []) × (Q.kept_mark q ≡ 2 ^ 32)) queues.items }
+        ensures seats { IfOk result (λ r. r.1.items ≡ fresh 0 seat_count) }
+        ensures count { IfOk result (λ r. r.0.seats ≡ seat_count) }
+    {
+        let room = ClosingRoom::new(alloc)?;
+        let (history, mut all) = prepared.named::<N>();
+        let (counters, account) = unnamed.named::<N>();
+        let kept = Kept {
+            drawn: 0,
+            loads: no_loads(P),
+        };
+        let journal = Journal::open(&history, &mut all, kept);
+        let locks = part_locks(alloc, &history, &mut all, queues, P as u8)?;
+        let PartLocks {
+            lobby,
+            cpus,
+            inboxes,
+        } = locks;
+        let seats = seats(alloc, &history, &mut all, &counters, account, seat_count)?;
+        let recorder = Recorder {
+            history,
+            counters,
+            journal: Mutex::new(journal),
+        };
+        let opening = Opening {
+            recorder,
+            cpus,
+            inboxes,
+            lobby,
+            room: Mutex::new(room),
+            seats: seat_count,
+        };
+        Ok((opening, seats))
+    }
+}
+
+/// The loads of processors that have no task.
+fn no_loads(count: usize) -> Loads
+    requires { count ≤ 64 }
+    ensures { result ≡ replicate count 0 }
+{
+    let mut loads = Loads::new();
+    'loads: for _ in 0..count {
+        loads.push(0);
+    }
+    loads
+}

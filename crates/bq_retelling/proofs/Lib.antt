@@ -1,2 +1,0 @@
-pub mod RetellingLemmas
-pub mod TextLemmas

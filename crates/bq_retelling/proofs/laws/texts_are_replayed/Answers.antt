@@ -1,5 +1,0 @@
-use Rattle.bq_retelling.proofs.RetellingLemmas as lemmas
-use Rattle.bq_retelling.proofs.laws.texts_are_replayed.Goals as goal
-
-pub returns : goal.returns
-returns c = lemmas.texts_are_replayed

@@ -1,2 +1,0 @@
-pub mod Retelling
-pub mod Texts

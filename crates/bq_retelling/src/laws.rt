@@ -1,7 +1,0 @@
-//! Laws of the definitions.
-ghost use Rattle.bq_retelling.specs.Retelling.{TextsAreReplayed};
-
-/// A replay of the text of a simulation answers what the simulation got.
-pub fn texts_are_replayed()
-    ensures { TextsAreReplayed }
-{}

@@ -1,4 +1,0 @@
-pub mod Courses
-pub mod Accounts
-pub mod Dues
-pub mod Minima

@@ -1,2 +1,0 @@
-mod GatheringLemmas
-mod RunLemmas

@@ -1,5 +1,0 @@
-use Rattle.bq_seeds.proofs.GatheringLemmas.{gathered}
-use Rattle.bq_seeds.proofs.gathering.gather.Goals as goal
-
-pub returns : goal.returns
-returns c = gathered _ _ _ c.new-gatherer.ensures.schedule c.new-gatherer.ensures.delays c.in_ok-simulate_seed.ensures

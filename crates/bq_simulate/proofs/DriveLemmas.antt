@@ -1,0 +1,53 @@
+-- Events after events.
+use Rattle.std.proofs.Common.{◌≡◌, ℕ, List, [], ◌∷◌, ◌++◌, refl, sym, ◌∙◌, ap, subst, append_assoc, append-nil}
+use Rattle.bq_parts.specs.declared.event.Event.{Event}
+use Rattle.bq_parts.specs.declared.reply.Reply.{Reply}
+use Rattle.bq_trace.specs.News.{News, Told, Gets}
+use Rattle.bq_trace.proofs.TakingLemmas.{TakesAll-append}
+use Rattle.bq_simulate.specs.declared.driver.Driver.{Driver}
+use Rattle.bq_simulate.specs.Drives.{Does, Drives, Drove, Went}
+
+-- events one after another, and then others
+pub Drives-append : (d m e : Driver) (xs ys : List Event) (told more : Told) → Drives d xs told m → Drives m ys more e → Drives d (xs ++ ys) (told ++ more) e
+Drives-append d m e [] ys told more h k =
+    let P : Told → Type 0 = λ t. Drives d ys (t ++ more) e in
+    let Q : Driver → Type 0 = λ x. Drives x ys more e in
+    subst P (sym h.0) (subst Q h.1 k)
+Drives-append d m e (x ∷ xs) ys told more (reply, mid, first, rest, does, drives, whole) k =
+    (reply, mid, first, rest ++ more, does, Drives-append mid m e xs ys rest more drives k, ap (λ t. t ++ more) whole ∙ append_assoc first rest more)
+
+-- one event
+pub Drove-one : {S : Type 0} (takes : S → ℕ → News → S → Type 0) (old new : S) (d e : Driver) (x : Event) (reply : Reply) → Gets takes old new (λ told. Does d x reply told e) → Drove takes old d (x ∷ []) new e
+Drove-one takes old new d e x reply gets = record {
+  told = gets.told;
+  taken = gets.taken;
+  holds = (reply, e, gets.told, [], gets.holds, (refl, refl), sym (append-nil gets.told));
+}
+
+-- none
+pub Drove-none : {S : Type 0} (takes : S → ℕ → News → S → Type 0) (s : S) (d : Driver) → Drove takes s d [] s d
+Drove-none takes s d = record { told = []; taken = refl; holds = (refl, refl) }
+
+-- some, and then others
+pub Drove-join : {S : Type 0} (takes : S → ℕ → News → S → Type 0) (a b c : S) (d m e : Driver) (xs ys : List Event) → Drove takes a d xs b m → Drove takes b m ys c e → Drove takes a d (xs ++ ys) c e
+Drove-join takes a b c d m e xs ys first second = record {
+  told = first.told ++ second.told;
+  taken = TakesAll-append takes a b c first.told second.told first.taken second.taken;
+  holds = Drives-append d m e xs ys first.told second.told first.holds second.holds;
+}
+
+-- two events, one after the other
+pub Drove-two : {S : Type 0} (takes : S → ℕ → News → S → Type 0) (a b c : S) (d m e : Driver) (x y : Event) (reply : Reply) → Gets takes a b (λ told. Does d x reply told m) → Drove takes b m (y ∷ []) c e → Drove takes a d (x ∷ y ∷ []) c e
+Drove-two takes a b c d m e x y reply first second = Drove-join takes a b c d m e (x ∷ []) (y ∷ []) (Drove-one takes a b d m x reply first) second
+
+-- some events
+pub Went-of : {S : Type 0} (takes : S → ℕ → News → S → Type 0) (a b : S) (d e : Driver) (xs : List Event) → Drove takes a d xs b e → Went takes a d b e
+Went-of takes a b d e xs drove = (xs, drove)
+
+-- where nothing was done a sink is told of no events
+pub Went-none : {S : Type 0} (takes : S → ℕ → News → S → Type 0) (s : S) (d e : Driver) → e ≡ d → Went takes s d s e
+Went-none takes s d e same = let P : Driver → Type 0 = λ x. Went takes s d s x in subst P (sym same) ([], Drove-none takes s d)
+
+-- a sink that is told of some events and then of others is told of some
+pub Went-join : {S : Type 0} (takes : S → ℕ → News → S → Type 0) (a b c : S) (d m e : Driver) → Went takes a d b m → Went takes b m c e → Went takes a d c e
+Went-join takes a b c d m e first second = (first.0 ++ second.0, Drove-join takes a b c d m e first.0 second.0 first.1 second.1)

@@ -1,0 +1,193 @@
+-- What the words of an event and of a machine ask for.
+use Rattle.std.proofs.Common.{◌≡◌, ℕ, ◌+◌, ◌^◌, ◌<◌, ◌≤◌, List, [], ◌∷◌, length, refl, ap, ◌∙◌, true, false, ltb, arith, lit≤, Option, Some, None, codes, decimal, option_and_then}
+use Rattle.std.specs.Prelude.{◌&&◌, option_map}
+use Rattle.std.specs.List.{AllByRecursion, list_all}
+use Rattle.std.proofs.lemmas.Bool.{and_parts}
+use Rattle.std.proofs.lemmas.Bool.Decides.{nat_tests}
+use Rattle.hex.specs.Hex.{lower_digits}
+use Rattle.hex.proofs.HexLemmas.{length-encode_with}
+use Rattle.bq_bpf.specs.Hooks.{hook_of, hook_word}
+use Rattle.bq_bpf.specs.declared.hook.Hook.{Hook}
+use Rattle.bq_bpf.specs.declared.hook.Hook.TheVariants as hooks
+use Rattle.bq_parts.specs.declared.event.Event.{Event}
+use Rattle.bq_parts.specs.declared.event.Event.TheVariants.{Admit, Retire, Draw, Install, BeginWake, EndWake, Drain, Tick, Block, Pull}
+use Rattle.bq_words.specs.Sizes.{processors_in, rule_of, rule_word, size_numbered}
+use Rattle.bq_words.specs.declared.rule.Rule.{Rule}
+use Rattle.bq_words.specs.declared.rule.Rule.TheVariants.{Cfs, Eevdf}
+use Rattle.bq_words.specs.declared.processor_count.ProcessorCount.{ProcessorCount}
+use Rattle.bq_words.specs.declared.processor_count.ProcessorCount.TheVariants.{One, Two, Four, Eight, Sixteen, ThirtyTwo, SixtyFour}
+use Rattle.bq_lines.specs.Lines.{reading_of, reading_of_words, said, size_of, installing as reads_install}
+use Rattle.bq_lines.specs.declared.command.Command.{Command}
+use Rattle.bq_lines.specs.declared.command.Command.TheVariants.{Does, Machine}
+use Rattle.bq_lines.specs.declared.command.Reading.TheVariants.{Says}
+use Rattle.bq_simulate.specs.Spelling.{HasFittingNumbers, event_words, image_word, spaced_words}
+use Rattle.bq_simulate.specs.Laws.{CanStandInLine, asked, installing}
+use Rattle.bq_simulate.proofs.HexWordLemmas.{plain_hex, hex_not_none}
+use Rattle.bq_simulate.proofs.NumberWordLemmas.{plain_decimal, plain_signed, short_decimal, short_signed, decimal_of-decimal, processor_of-decimal, task_of-decimal, mask_of-decimal, nice_of-signed}
+use Rattle.bq_simulate.proofs.PlainWordLemmas.{IsPlain, is_plain, room, words-spaced, allowed-spaced, length-spaced}
+
+-- a line of plain words that is short enough says what its words say
+pub reading-spaced : (ws : List (List ℕ)) → AllByRecursion IsPlain ws → room ws ≤ 131072 → reading_of (spaced_words ws) ≡ reading_of_words ws
+unfolding reading_of
+reading-spaced ws plain fits =
+    let most = length-spaced ws in
+    let short : ltb 131072 (length (spaced_words ws)) ≡ false = grind (arith, nat_tests) in
+    rw (short, allowed-spaced ws plain) (ap reading_of_words (words-spaced ws plain))
+
+-- a word that is written out
+known : (w : List ℕ) → (ltb 0 (length w) && list_all is_plain w) ≡ true → IsPlain w
+known w h = let parts = and_parts (ltb 0 (length w)) (list_all is_plain w) h in record { some = let long = parts.0 in grind (arith, nat_tests); each = parts.1 }
+
+plain_hook : (hook : Hook) → IsPlain (hook_word hook)
+plain_hook hooks.Place = known (codes "place") refl
+plain_hook hooks.Preempt = known (codes "preempt") refl
+plain_hook hooks.Pull = known (codes "pull") refl
+
+short_hook : (hook : Hook) → length (hook_word hook) ≤ 7
+short_hook hooks.Place = lit≤ tt
+short_hook hooks.Preempt = lit≤ tt
+short_hook hooks.Pull = lit≤ tt
+
+hook_of-word : (hook : Hook) → hook_of (hook_word hook) ≡ Some hook
+hook_of-word hooks.Place = refl
+hook_of-word hooks.Preempt = refl
+hook_of-word hooks.Pull = refl
+
+plain_image : (image : Option (List ℕ)) → CanStandInLine image → IsPlain (image_word image)
+plain_image None h = known (codes "none") refl
+plain_image (Some bytes) h = plain_hex bytes h.each h.some
+
+short_image : (image : Option (List ℕ)) → CanStandInLine image → length (image_word image) ≤ 130944
+short_image None h = lit≤ tt
+short_image (Some bytes) h = let most = h.room in let len = length-encode_with lower_digits bytes in omega arith
+
+-- the words of an event are plain
+pub plain_words : (image : Option (List ℕ)) (event : Event) → CanStandInLine image → HasFittingNumbers event → AllByRecursion IsPlain (event_words image event)
+plain_words image (Admit task nice mask slice) can h =
+    (known (codes "admit") refl, (plain_decimal task (omega arith), (plain_signed nice h.1, (plain_decimal mask h.2, (plain_decimal slice h.3, tt)))))
+plain_words image (Retire task) can h = (known (codes "retire") refl, (plain_decimal task (omega arith), tt))
+plain_words image Draw can h = (known (codes "draw") refl, tt)
+plain_words image (Install c hook generation policy) can h =
+    (known (codes "install") refl, (plain_decimal c (omega arith), (plain_decimal generation h.1, (plain_hook hook, (plain_image image can, tt)))))
+plain_words image (BeginWake c task) can h = (known (codes "begin") refl, (plain_decimal c (omega arith), (plain_decimal task (omega arith), tt)))
+plain_words image (EndWake c now) can h = (known (codes "end") refl, (plain_decimal c (omega arith), (plain_decimal now h.1, tt)))
+plain_words image (Drain c now) can h = (known (codes "drain") refl, (plain_decimal c (omega arith), (plain_decimal now h.1, tt)))
+plain_words image (Tick c now) can h = (known (codes "tick") refl, (plain_decimal c (omega arith), (plain_decimal now h.1, tt)))
+plain_words image (Block c now) can h = (known (codes "block") refl, (plain_decimal c (omega arith), (plain_decimal now h.1, tt)))
+plain_words image (Pull c from now) can h =
+    (known (codes "pull") refl, (plain_decimal c (omega arith), (plain_decimal from (omega arith), (plain_decimal now h.2, tt))))
+
+-- two numbers after a name
+two_numbers : (a b : ℕ) → a < 2 ^ 64 → b < 2 ^ 64 → length (decimal a) + (1 + (length (decimal b) + (1 + 0))) ≤ 42
+two_numbers a b h k = let first = short_decimal a h in let second = short_decimal b k in omega arith
+
+-- a line has room for them
+pub room_words : (image : Option (List ℕ)) (event : Event) → CanStandInLine image → HasFittingNumbers event → room (event_words image event) ≤ 131072
+room_words image (Admit task nice mask slice) can h =
+    let t = short_decimal task (omega arith) in let n = short_signed nice h.1 in let m = short_decimal mask h.2 in let s = short_decimal slice h.3 in omega arith
+room_words image (Retire task) can h = let t = short_decimal task (omega arith) in omega arith
+room_words image Draw can h = lit≤ tt
+room_words image (Install c hook generation policy) can h =
+    let numbers = two_numbers c generation (omega arith) h.1 in let word = short_hook hook in let hex = short_image image can in omega arith
+room_words image (BeginWake c task) can h = let numbers = two_numbers c task (omega arith) (omega arith) in omega arith
+room_words image (EndWake c now) can h = let numbers = two_numbers c now (omega arith) h.1 in omega arith
+room_words image (Drain c now) can h = let numbers = two_numbers c now (omega arith) h.1 in omega arith
+room_words image (Tick c now) can h = let numbers = two_numbers c now (omega arith) h.1 in omega arith
+room_words image (Block c now) can h = let numbers = two_numbers c now (omega arith) h.1 in omega arith
+room_words image (Pull c from now) can h = let numbers = two_numbers c from (omega arith) (omega arith) in let n = short_decimal now h.2 in omega arith
+
+-- what some words ask for where each is what it should be
+of_one : {A : Type 0} (f : A → Command) (a : Option A) (x : A) → a ≡ Some x → said (option_map (λ x. f x) a) ≡ Says (f x)
+of_one f a x ea = rw ea refl
+
+of_two : {A B : Type 0} (f : A → B → Command) (a : Option A) (b : Option B) (x : A) (y : B) → a ≡ Some x → b ≡ Some y
+    → said (option_map (λ (w : A × B). f w.0 w.1) (option_and_then (λ x. option_map (λ y. (x, y)) b) a)) ≡ Says (f x y)
+of_two f a b x y ea eb = rw (ea, eb) refl
+
+of_three : {A B C : Type 0} (f : A → B → C → Command) (a : Option A) (b : Option B) (c : Option C) (x : A) (y : B) (z : C) → a ≡ Some x → b ≡ Some y → c ≡ Some z
+    → said (option_map (λ (w : A × B × C). f w.0 w.1 w.2) (option_and_then (λ x. option_and_then (λ y. option_map (λ z. (x, y, z)) c) b) a)) ≡ Says (f x y z)
+of_three f a b c x y z ea eb ec = rw (ea, eb, ec) refl
+
+of_four : {A B C D : Type 0} (f : A → B → C → D → Command) (a : Option A) (b : Option B) (c : Option C) (d : Option D) (x : A) (y : B) (z : C) (w : D)
+    → a ≡ Some x → b ≡ Some y → c ≡ Some z → d ≡ Some w
+    → said (option_map (λ (w : A × B × C × D). f w.0 w.1 w.2 w.3) (option_and_then (λ x. option_and_then (λ y. option_and_then (λ z. option_map (λ w. (x, y, z, w)) d) c) b) a)) ≡ Says (f x y z w)
+of_four f a b c d x y z w ea eb ec ed = rw (ea, eb, ec, ed) refl
+
+-- an install that brings an image, or `none`
+reads_image : (image : Option (List ℕ)) (c generation : ℕ) (hook : Hook) → CanStandInLine image → reads_install (c, generation, hook, image_word image) ≡ installing image c hook generation
+reads_image None c generation hook can = refl
+reads_image (Some bytes) c generation hook can = rw (hex_not_none bytes can.each) refl
+
+of_install : (a b : Option ℕ) (d : Option Hook) (word : List ℕ) (c generation : ℕ) (hook : Hook) (command : Command) → a ≡ Some c → b ≡ Some generation → d ≡ Some hook
+    → reads_install (c, generation, hook, word) ≡ command
+    → said (option_map reads_install (option_and_then (λ c. option_and_then (λ g. option_map (λ h. (c, g, h, word)) d) b) a)) ≡ Says command
+of_install a b d word c generation hook command ea eb ed is = rw (ea, eb, ed) (ap Says is)
+
+-- the words of an event ask for it
+pub words_say : (image : Option (List ℕ)) (event : Event) → CanStandInLine image → HasFittingNumbers event → reading_of_words (event_words image event) ≡ Says (asked image event)
+words_say image (Admit task nice mask slice) can h =
+    of_four (λ t n m s. Does (Admit t n m s)) _ _ _ _ task nice mask slice (task_of-decimal task h.0) (nice_of-signed nice h.1) (mask_of-decimal mask h.2) (decimal_of-decimal slice h.3)
+words_say image (Retire task) can h = of_one (λ t. Does (Retire t)) _ task (task_of-decimal task h)
+words_say image Draw can h = refl
+words_say image (Install c hook generation policy) can h =
+    of_install _ _ _ (image_word image) c generation hook _ (processor_of-decimal c h.0) (decimal_of-decimal generation h.1) (hook_of-word hook) (reads_image image c generation hook can)
+words_say image (BeginWake c task) can h = of_two (λ c t. Does (BeginWake c t)) _ _ c task (processor_of-decimal c h.0) (task_of-decimal task h.1)
+words_say image (EndWake c now) can h = of_two (λ c t. Does (EndWake c t)) _ _ c now (processor_of-decimal c h.0) (decimal_of-decimal now h.1)
+words_say image (Drain c now) can h = of_two (λ c t. Does (Drain c t)) _ _ c now (processor_of-decimal c h.0) (decimal_of-decimal now h.1)
+words_say image (Tick c now) can h = of_two (λ c t. Does (Tick c t)) _ _ c now (processor_of-decimal c h.0) (decimal_of-decimal now h.1)
+words_say image (Block c now) can h = of_two (λ c t. Does (Block c t)) _ _ c now (processor_of-decimal c h.0) (decimal_of-decimal now h.1)
+words_say image (Pull c from now) can h =
+    of_three (λ c s t. Does (Pull c s t)) _ _ _ c from now (processor_of-decimal c h.0) (processor_of-decimal from h.1) (decimal_of-decimal now h.2)
+
+-- the words of a machine
+abbrev pub machine_words : Rule → ProcessorCount → List (List ℕ)
+machine_words rule size = codes "machine" ∷ rule_word rule ∷ decimal (processors_in size) ∷ []
+
+small_size : (size : ProcessorCount) → processors_in size ≤ 64
+small_size One = lit≤ tt
+small_size Two = lit≤ tt
+small_size Four = lit≤ tt
+small_size Eight = lit≤ tt
+small_size Sixteen = lit≤ tt
+small_size ThirtyTwo = lit≤ tt
+small_size SixtyFour = lit≤ tt
+
+plain_rule : (rule : Rule) → IsPlain (rule_word rule)
+plain_rule Cfs = known (codes "cfs") refl
+plain_rule Eevdf = known (codes "eevdf") refl
+
+short_rule : (rule : Rule) → length (rule_word rule) ≤ 5
+short_rule Cfs = lit≤ tt
+short_rule Eevdf = lit≤ tt
+
+-- the words of a machine are plain
+pub plain_machine : (rule : Rule) (size : ProcessorCount) → AllByRecursion IsPlain (machine_words rule size)
+plain_machine rule size = let small = small_size size in (known (codes "machine") refl, (plain_rule rule, (plain_decimal (processors_in size) (omega arith), tt)))
+
+-- a line has room for the words of a machine
+pub room_machine : (rule : Rule) (size : ProcessorCount) → room (machine_words rule size) ≤ 131072
+room_machine rule size =
+    let small = small_size size in
+    let number = short_decimal (processors_in size) (omega arith) in
+    let word = short_rule rule in
+    omega arith
+
+rule_of-word : (rule : Rule) → rule_of (rule_word rule) ≡ Some rule
+rule_of-word Cfs = refl
+rule_of-word Eevdf = refl
+
+size_of-number : (size : ProcessorCount) → size_numbered (processors_in size) ≡ Some size
+size_of-number One = refl
+size_of-number Two = refl
+size_of-number Four = refl
+size_of-number Eight = refl
+size_of-number Sixteen = refl
+size_of-number ThirtyTwo = refl
+size_of-number SixtyFour = refl
+
+size_of-decimal : (size : ProcessorCount) → size_of (decimal (processors_in size)) ≡ Some size
+size_of-decimal size = let small = small_size size in ap (option_and_then size_numbered) (processor_of-decimal (processors_in size) (omega arith)) ∙ size_of-number size
+
+-- the words of a machine ask for it
+pub machine_says : (rule : Rule) (size : ProcessorCount) → reading_of_words (machine_words rule size) ≡ Says (Machine rule size)
+machine_says rule size = of_two (λ r s. Machine r s) _ _ rule size (rule_of-word rule) (size_of-decimal size)

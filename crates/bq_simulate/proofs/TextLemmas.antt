@@ -1,0 +1,53 @@
+-- Texts that grow by the lines of news.
+use Rattle.std.proofs.Common.{◌≡◌, ℕ, Bool, true, false, cond, List, [], ◌∷◌, ◌++◌, refl, sym, ap, ◌∙◌, append_assoc, append-nil, subst, string_bytes}
+use Rattle.std.specs.Str.{IsUtf8, is_utf8}
+use Rattle.std.proofs.lemmas.Grind.{flat_map-append}
+use Rattle.std.proofs.lemmas.Str.{IsUtf8-from_is_utf8, is_utf8-from_IsUtf8}
+use Rattle.bq_trace.specs.Feeding.{with_feeds}
+use Rattle.bq_trace.specs.News.{News, Told, TakesAll, Skipped}
+use Rattle.bq_simulate.specs.Texts.{ByHook, Writes, WritesAll, image_at, news_lines, told_lines}
+use Rattle.bq_simulate.specs.declared.trace_text.TraceText.{TraceText}
+
+-- a line of UTF-8 is written
+pub writes_line : (images : ByHook) (old new line : List ℕ) → IsUtf8 line → new ≡ old ++ (line ++ 10 ∷ []) → Writes images old (Skipped line) new
+writes_line images old new line utf8 is = record {
+  text = is ∙ ap (λ l. old ++ l) (sym (append-nil (line ++ 10 ∷ []))) ∙ ap (λ b. old ++ with_feeds (cond b (line ∷ []) [])) (sym (is_utf8-from_IsUtf8 line utf8));
+  fits = tt;
+}
+
+no_utf8 : (line : List ℕ) → (IsUtf8 line → ⊥) → is_utf8 line ≡ false
+no_utf8 line other = cases (is_utf8 line) refl
+  where
+    cases : (b : Bool) → is_utf8 line ≡ b → b ≡ false
+    cases true e = absurd (other (IsUtf8-from_is_utf8 line e))
+    cases false e = refl
+
+-- and no other
+pub writes_none : (images : ByHook) (old line : List ℕ) → (IsUtf8 line → ⊥) → Writes images old (Skipped line) old
+writes_none images old line other = record {
+  text = sym (append-nil old) ∙ ap (λ b. old ++ with_feeds (cond b (line ∷ []) [])) (sym (no_utf8 line other));
+  fits = tt;
+}
+
+-- the lines of news one after another
+pub writes_more : (images : ByHook) (old mid new : List ℕ) (n : ℕ) (x : News) (more : Told) → Writes images old x mid → WritesAll images mid more new → WritesAll images old ((n, x) ∷ more) new
+writes_more images old mid new n x more h k = record {
+  text = k.text ∙ ap (λ l. l ++ with_feeds (told_lines images more)) h.text ∙ append_assoc old (with_feeds (news_lines images x)) (with_feeds (told_lines images more))
+      ∙ ap (λ l. old ++ l) (sym (flat_map-append (λ line. line ++ 10 ∷ []) (news_lines images x) (told_lines images more)));
+  fits = (h.fits, k.fits);
+}
+
+-- what the text takes of one piece of news
+abbrev pub Takes : TraceText → ℕ → News → TraceText → Type 0
+Takes old n news new = (new.images ≡ old.images) × Writes (image_at old.images) (string_bytes old.text) news (string_bytes new.text)
+
+-- the text that takes news has grown by its lines, and its images are the same
+pub writes_all : (old new : TraceText) (told : Told) → TakesAll Takes old told new
+    → (new.images ≡ old.images) × WritesAll (image_at old.images) (string_bytes old.text) told (string_bytes new.text)
+writes_all old new [] h = (ap (λ (s : TraceText). s.images) h, record { text = ap (λ (s : TraceText). string_bytes s.text) h ∙ sym (append-nil (string_bytes old.text)); fits = tt })
+writes_all old new ((n, x) ∷ more) h =
+    let rest = writes_all h.0 new more h.2 in (
+      rest.0 ∙ h.1.0,
+      writes_more (image_at old.images) (string_bytes old.text) (string_bytes h.0.text) (string_bytes new.text) n x more h.1.1
+          (subst (λ i. WritesAll (image_at i) (string_bytes h.0.text) more (string_bytes new.text)) h.1.0 rest.1),
+    )

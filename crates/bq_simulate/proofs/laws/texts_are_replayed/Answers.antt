@@ -1,0 +1,5 @@
+use Rattle.bq_simulate.proofs.RetellingLemmas as lemmas
+use Rattle.bq_simulate.proofs.laws.texts_are_replayed.Goals as goal
+
+pub returns : goal.returns
+returns c = lemmas.texts_are_replayed

@@ -1,0 +1,77 @@
+-- A machine driven event by event, and what is told of it.
+use Rattle.std.specs.Prelude.{◌≡◌, ℕ, ◌<◌, ◌≤◌, ◌^◌, List, [], ◌∷◌, ◌++◌, Option, Some, None, Ok}
+use Rattle.bq_parts.specs.declared.event.Event.{Event}
+use Rattle.bq_parts.specs.declared.event.Event.TheVariants.{EndWake, Drain, Tick, Block, Pull}
+use Rattle.bq_parts.specs.declared.reply.Reply.{Reply}
+use Rattle.bq_parts.specs.declared.reply.Reply.TheVariants.{Drained, Ticked, Blocked, Pulled}
+use Rattle.bq_words.specs.declared.rule.Rule.{Rule}
+use Rattle.bq_words.specs.declared.processor_count.ProcessorCount.{ProcessorCount}
+use Rattle.bq_trace.specs.Counts.{one_more}
+use Rattle.bq_trace.specs.Machines.{opening_machine}
+use Rattle.bq_trace.specs.News.{News, Told, Opened, Gets}
+use Rattle.bq_trace.specs.Telling.{Happens}
+use Rattle.bq_simulate.specs.declared.driver.Driver.{Driver}
+
+-- the reading that comes with an event
+abbrev pub reading_of : Event → Option ℕ
+reading_of (EndWake c now) = Some now
+reading_of (Drain c now) = Some now
+reading_of (Tick c now) = Some now
+reading_of (Block c now) = Some now
+reading_of (Pull c from now) = Some now
+reading_of event = None
+
+-- a reading is no less than the last that any clock was given, and counts as it is
+abbrev pub Rises : ℕ → Option ℕ → ℕ → Type 0
+Rises last None next = next ≡ last
+Rises last (Some now) next = (last ≤ now) × (now < 2 ^ 48) × (next ≡ now)
+
+-- a machine to which nothing has happened: the first line of a trace
+pub record Starts (rule : Rule) (size : ProcessorCount) (told : Told) (d : Driver) : Type 0 where
+  pub machine : d.machine ≡ opening_machine rule size
+  pub line : d.line ≡ 1
+  pub now : d.now ≡ 0
+  pub tells : told ≡ (1, Opened rule size) ∷ []
+
+-- the event of the next line is done, and is not refused
+pub record Does (d : Driver) (event : Event) (reply : Reply) (told : Told) (e : Driver) : Type 0 where
+  pub line : e.line ≡ one_more d.line
+  pub rises : Rises d.now (reading_of event) e.now
+  pub happens : Happens d.machine e.line event (Ok reply) told e.machine
+
+-- a sink is told of it
+abbrev pub Did : {S : Type 0} → (S → ℕ → News → S → Type 0) → S → Driver → Event → Reply → S → Driver → Type 0
+Did takes old d event reply new e = Gets takes old new (λ told. Does d event reply told e)
+
+-- who runs at the event's processor now, as an answer says
+abbrev pub runs_now : Reply → Option ℕ
+runs_now (Drained count run by steps) = run
+runs_now (Ticked run by steps) = run
+runs_now (Blocked task run) = run
+runs_now (Pulled task run by steps) = run
+runs_now reply = None
+
+-- how many tasks entered its queue
+abbrev pub count_entered : Reply → ℕ
+count_entered (Drained count run by steps) = count
+count_entered reply = 0
+
+-- the task that it took from another
+abbrev pub task_pulled : Reply → Option ℕ
+task_pulled (Pulled task run by steps) = task
+task_pulled reply = None
+
+-- some events are done one after another, and none is refused
+abbrev pub Drives : Driver → List Event → Told → Driver → Type 0
+Drives d [] told e = (told ≡ []) × (e ≡ d)
+Drives d (event ∷ events) told e =
+    (reply : Reply) × (mid : Driver) × (first : Told) × (more : Told)
+    × Does d event reply first mid × Drives mid events more e × (told ≡ first ++ more)
+
+-- a sink is told of them
+abbrev pub Drove : {S : Type 0} → (S → ℕ → News → S → Type 0) → S → Driver → List Event → S → Driver → Type 0
+Drove takes old d events new e = Gets takes old new (λ told. Drives d events told e)
+
+-- a sink is told of some events
+abbrev pub Went : {S : Type 0} → (S → ℕ → News → S → Type 0) → S → Driver → S → Driver → Type 0
+Went takes old d new e = (events : List Event) × Drove takes old d events new e

@@ -1,0 +1,57 @@
+-- Laws of the definitions: what a line asks for is what it was written for.
+use Rattle.std.specs.Prelude.{◌≡◌, ℕ, ◌<◌, ◌≤◌, List, length, Option, Some, None, Ok}
+use Rattle.std.specs.Str.Lines.{strip_carriage_return}
+use Rattle.hex.specs.Hex.{IsBytes, decode_of, encode_lower}
+use Rattle.bq_parts.specs.declared.event.Event.{Event}
+use Rattle.bq_parts.specs.declared.event.Event.TheVariants.{Install}
+use Rattle.bq_bpf.specs.declared.hook.Hook.{Hook}
+use Rattle.bq_words.specs.declared.rule.Rule.{Rule}
+use Rattle.bq_words.specs.declared.processor_count.ProcessorCount.{ProcessorCount}
+use Rattle.bq_lines.specs.Kept.{IsOneLine}
+use Rattle.bq_lines.specs.Lines.{reading_of}
+use Rattle.bq_lines.specs.declared.command.Command.{Command}
+use Rattle.bq_lines.specs.declared.command.Command.TheVariants.{Does, Load, Machine}
+use Rattle.bq_lines.specs.declared.command.Reading.TheVariants.{Says}
+use Rattle.bq_simulate.specs.Spelling.{HasFittingNumbers, asking_line, machine_line}
+
+-- some bytes, and no more than a line has room for
+pub record IsImageOfLine (bytes : List ℕ) : Type 0 where
+  pub each : IsBytes bytes
+  pub some : 0 < length bytes
+  pub room : length bytes ≤ 65472
+
+abbrev pub CanStandInLine : Option (List ℕ) → Type 0
+CanStandInLine None = Unit {0}
+CanStandInLine (Some bytes) = IsImageOfLine bytes
+
+-- an install asks to load the image that it brings, and without one takes away what stands there
+abbrev pub installing : Option (List ℕ) → ℕ → Hook → ℕ → Command
+installing None c hook generation = Does (Install c hook generation None)
+installing (Some bytes) c hook generation = Load c hook generation (encode_lower bytes)
+
+-- what the line of an event asks for: any other is asked for as it is
+abbrev pub asked : Option (List ℕ) → Event → Command
+asked image (Install c hook generation policy) = installing image c hook generation
+asked image event = Does event
+
+-- The line of an event says just that.
+abbrev pub EventsAreRead : Type 0
+EventsAreRead = (image : Option (List ℕ)) (event : Event) → CanStandInLine image → HasFittingNumbers event → reading_of (asking_line image event) ≡ Says (asked image event)
+
+-- The line of a machine says that machine.
+abbrev pub MachinesAreRead : Type 0
+MachinesAreRead = (rule : Rule) (size : ProcessorCount) → reading_of (machine_line rule size) ≡ Says (Machine rule size)
+
+-- The hex of an image spells its bytes.
+abbrev pub ImagesAreRead : Type 0
+ImagesAreRead = (bytes : List ℕ) → IsBytes bytes → decode_of (encode_lower bytes) ≡ Ok bytes
+
+-- a text is one line, of which nothing is taken away where a line feed ends it
+pub record IsWholeLine (line : List ℕ) : Type 0 where
+  pub one : IsOneLine line
+  pub same : strip_carriage_return line ≡ line
+
+-- Each of these lines is one.
+pub record AreLines : Type 0 where
+  pub events : (image : Option (List ℕ)) (event : Event) → CanStandInLine image → HasFittingNumbers event → IsWholeLine (asking_line image event)
+  pub machines : (rule : Rule) (size : ProcessorCount) → IsWholeLine (machine_line rule size)

@@ -1,0 +1,56 @@
+-- The lines of a trace that ask for a machine and for events (this project's own trace format).
+use Rattle.std.specs.Prelude.{ℕ, ◌^◌, ◌<◌, List, [], ◌∷◌, Option, Some, None, codes}
+use Rattle.std.specs.Fmt.{decimal, signed_decimal}
+use Rattle.std.specs.Int.{w8}
+use Rattle.std.specs.Int.RustNames.{FitsSigned}
+use Rattle.std.specs.List.{join_with_byte}
+use Rattle.hex.specs.Hex.{encode_lower}
+use Rattle.bq_bpf.specs.Hooks.{hook_word}
+use Rattle.bq_parts.specs.declared.event.Event.{Event}
+use Rattle.bq_parts.specs.declared.event.Event.TheVariants.{Admit, Retire, Draw, Install, BeginWake, EndWake, Drain, Tick, Block, Pull}
+use Rattle.bq_words.specs.Sizes.{processors_in, rule_word}
+use Rattle.bq_words.specs.declared.rule.Rule.{Rule}
+use Rattle.bq_words.specs.declared.processor_count.ProcessorCount.{ProcessorCount}
+
+-- words, a space between each two
+abbrev pub spaced_words : List (List ℕ) → List ℕ
+spaced_words words = join_with_byte 32 words
+
+-- the word of an image: its bytes in hex, or `none` where there is none
+abbrev pub image_word : Option (List ℕ) → List ℕ
+image_word None = codes "none"
+image_word (Some bytes) = encode_lower bytes
+
+-- the words that ask for an event; an install brings this image
+abbrev pub event_words : Option (List ℕ) → Event → List (List ℕ)
+event_words image (Admit task nice mask slice) = codes "admit" ∷ decimal task ∷ signed_decimal nice ∷ decimal mask ∷ decimal slice ∷ []
+event_words image (Retire task) = codes "retire" ∷ decimal task ∷ []
+event_words image Draw = codes "draw" ∷ []
+event_words image (Install c hook generation policy) = codes "install" ∷ decimal c ∷ decimal generation ∷ hook_word hook ∷ image_word image ∷ []
+event_words image (BeginWake c task) = codes "begin" ∷ decimal c ∷ decimal task ∷ []
+event_words image (EndWake c now) = codes "end" ∷ decimal c ∷ decimal now ∷ []
+event_words image (Drain c now) = codes "drain" ∷ decimal c ∷ decimal now ∷ []
+event_words image (Tick c now) = codes "tick" ∷ decimal c ∷ decimal now ∷ []
+event_words image (Block c now) = codes "block" ∷ decimal c ∷ decimal now ∷ []
+event_words image (Pull c from now) = codes "pull" ∷ decimal c ∷ decimal from ∷ decimal now ∷ []
+
+-- the line that asks for an event, without what ends it
+abbrev pub asking_line : Option (List ℕ) → Event → List ℕ
+asking_line image event = spaced_words (event_words image event)
+
+-- the line that asks for a machine
+abbrev pub machine_line : Rule → ProcessorCount → List ℕ
+machine_line rule size = spaced_words (codes "machine" ∷ rule_word rule ∷ decimal (processors_in size) ∷ [])
+
+-- each number of the event fits its type
+abbrev pub HasFittingNumbers : Event → Type 0
+HasFittingNumbers (Admit task nice mask slice) = (task < 2 ^ 16) × FitsSigned w8 nice × (mask < 2 ^ 64) × (slice < 2 ^ 64)
+HasFittingNumbers (Retire task) = task < 2 ^ 16
+HasFittingNumbers Draw = Unit {0}
+HasFittingNumbers (Install c hook generation policy) = (c < 2 ^ 8) × (generation < 2 ^ 64)
+HasFittingNumbers (BeginWake c task) = (c < 2 ^ 8) × (task < 2 ^ 16)
+HasFittingNumbers (EndWake c now) = (c < 2 ^ 8) × (now < 2 ^ 64)
+HasFittingNumbers (Drain c now) = (c < 2 ^ 8) × (now < 2 ^ 64)
+HasFittingNumbers (Tick c now) = (c < 2 ^ 8) × (now < 2 ^ 64)
+HasFittingNumbers (Block c now) = (c < 2 ^ 8) × (now < 2 ^ 64)
+HasFittingNumbers (Pull c from now) = (c < 2 ^ 8) × (from < 2 ^ 8) × (now < 2 ^ 64)

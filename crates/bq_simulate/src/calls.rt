@@ -1,0 +1,188 @@
+//! The events by their answers.
+ghost use Rattle.std.specs.Prelude.{◌≡◌, ◌∷◌, [], IfOk, OnOk};
+ghost use Rattle.bq_parts.specs.declared.event.Event.TheVariants.{Admit, Draw, Install, BeginWake, EndWake, Drain, Tick, Block, Pull};
+ghost use Rattle.bq_parts.specs.declared.reply.Reply.{Reply};
+ghost use Rattle.bq_simulate.specs.Drives.{count_entered, Did, Drove, runs_now, task_pulled};
+
+use crate::drive_fault::DriveFault;
+use crate::driver::Driver;
+use bq_core::{Event, Hook, Policy, Reply};
+use bq_trace::Sink;
+use std::alloc::Global;
+
+/// A task that a processor took from another, if any, and the task that runs there now.
+#[derive(Clone, Copy, Debug, PartialEq, Eq)]
+pub struct Moved {
+    pub task: Option<u16>,
+    pub run: Option<u16>,
+}
+
+/// How many tasks entered a queue, and the task that runs there now.
+#[derive(Clone, Copy, Debug, PartialEq, Eq)]
+pub struct Entered {
+    pub count: u32,
+    pub run: Option<u16>,
+}
+
+impl Driver {
+    /// A task is admitted, and sleeps.
+    pub fn admit<S: Sink>(
+        &mut self,
+        alloc: Global,
+        task: u16,
+        nice: i8,
+        mask: u64,
+        slice: u64,
+        sink: &mut S,
+    ) -> Result<(), DriveFault>
+        ensures { OnOk result ((reply : Reply) × Did S.takes sink.old self.old (Admit task nice mask slice) reply sink.new self.new) }
+    {
+        let event = Event::Admit {
+            task,
+            nice,
+            mask,
+            slice,
+        };
+        match self.perform(alloc, event, sink)? {
+            Reply::Admitted => Ok(()),
+            _ => Err(DriveFault::Answer),
+        }
+    }
+
+    /// A task is woken from a processor at an instant: it is placed. The processor on which it was placed.
+    pub fn wake<S: Sink>(
+        &mut self,
+        alloc: Global,
+        processor: u8,
+        task: u16,
+        now: u64,
+        sink: &mut S,
+    ) -> Result<u8, DriveFault>
+        ensures { OnOk result (Drove S.takes sink.old self.old (BeginWake processor task ∷ EndWake processor now ∷ []) sink.new self.new) }
+    {
+        match self.perform(alloc, Event::BeginWake { processor, task }, sink)? {
+            Reply::Begun { .. } => self.place(alloc, processor, now, sink),
+            _ => Err(DriveFault::Answer),
+        }
+    }
+
+    /// The task in a processor's hand is placed.
+    fn place<S: Sink>(
+        &mut self,
+        alloc: Global,
+        processor: u8,
+        now: u64,
+        sink: &mut S,
+    ) -> Result<u8, DriveFault>
+        ensures { OnOk result (Drove S.takes sink.old self.old (EndWake processor now ∷ []) sink.new self.new) }
+    {
+        match self.perform(alloc, Event::EndWake { processor, now }, sink)? {
+            Reply::Placed { to, .. } => Ok(to),
+            _ => Err(DriveFault::Answer),
+        }
+    }
+
+    /// The tasks that were placed on a processor enter its queue.
+    pub fn drain<S: Sink>(
+        &mut self,
+        alloc: Global,
+        processor: u8,
+        now: u64,
+        sink: &mut S,
+    ) -> Result<Entered, DriveFault>
+        ensures { IfOk result (λ entered. (reply : Reply) × (runs_now reply ≡ entered.run) × (count_entered reply ≡ entered.count) × Did S.takes sink.old self.old (Drain processor now) reply sink.new self.new) }
+    {
+        match self.perform(alloc, Event::Drain { processor, now }, sink)? {
+            Reply::Drained { count, run, .. } => Ok(Entered { count, run }),
+            _ => Err(DriveFault::Answer),
+        }
+    }
+
+    /// The clock of a processor ticks. The task that runs afterwards.
+    pub fn tick<S: Sink>(
+        &mut self,
+        alloc: Global,
+        processor: u8,
+        now: u64,
+        sink: &mut S,
+    ) -> Result<Option<u16>, DriveFault>
+        ensures { IfOk result (λ run. (reply : Reply) × (runs_now reply ≡ run) × Did S.takes sink.old self.old (Tick processor now) reply sink.new self.new) }
+    {
+        match self.perform(alloc, Event::Tick { processor, now }, sink)? {
+            Reply::Ticked { run, .. } => Ok(run),
+            _ => Err(DriveFault::Answer),
+        }
+    }
+
+    /// The task that runs at a processor goes to sleep. The task that runs afterwards.
+    pub fn block<S: Sink>(
+        &mut self,
+        alloc: Global,
+        processor: u8,
+        now: u64,
+        sink: &mut S,
+    ) -> Result<Option<u16>, DriveFault>
+        ensures { IfOk result (λ run. (reply : Reply) × (runs_now reply ≡ run) × Did S.takes sink.old self.old (Block processor now) reply sink.new self.new) }
+    {
+        match self.perform(alloc, Event::Block { processor, now }, sink)? {
+            Reply::Blocked { run, .. } => Ok(run),
+            _ => Err(DriveFault::Answer),
+        }
+    }
+
+    /// A processor looks for a task in the queue of another.
+    pub fn pull<S: Sink>(
+        &mut self,
+        alloc: Global,
+        processor: u8,
+        from: u8,
+        now: u64,
+        sink: &mut S,
+    ) -> Result<Moved, DriveFault>
+        ensures { IfOk result (λ moved. (reply : Reply) × (runs_now reply ≡ moved.run) × (task_pulled reply ≡ moved.task) × Did S.takes sink.old self.old (Pull processor from now) reply sink.new self.new) }
+    {
+        let event = Event::Pull {
+            processor,
+            from,
+            now,
+        };
+        match self.perform(alloc, event, sink)? {
+            Reply::Pulled { task, run, .. } => Ok(Moved { task, run }),
+            _ => Err(DriveFault::Answer),
+        }
+    }
+
+    /// The next generation's number.
+    pub fn draw<S: Sink>(&mut self, alloc: Global, sink: &mut S) -> Result<u64, DriveFault>
+        ensures { OnOk result (Drove S.takes sink.old self.old (Draw ∷ []) sink.new self.new) }
+    {
+        match self.perform(alloc, Event::Draw, sink)? {
+            Reply::Drawn { generation } => Ok(generation),
+            _ => Err(DriveFault::Answer),
+        }
+    }
+
+    /// A policy stands at a hook of a processor from now on.
+    pub fn install<S: Sink>(
+        &mut self,
+        alloc: Global,
+        processor: u8,
+        hook: Hook,
+        generation: u64,
+        policy: Policy,
+        sink: &mut S,
+    ) -> Result<(), DriveFault>
+        ensures { OnOk result (Drove S.takes sink.old self.old (Install processor hook generation (Some policy) ∷ []) sink.new self.new) }
+    {
+        let event = Event::Install {
+            processor,
+            hook,
+            generation,
+            policy: Some(policy),
+        };
+        match self.perform(alloc, event, sink)? {
+            Reply::Installed => Ok(()),
+            _ => Err(DriveFault::Answer),
+        }
+    }
+}

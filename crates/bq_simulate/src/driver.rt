@@ -1,0 +1,94 @@
+//! A machine, and how far it was driven.
+ghost use Rattle.std.specs.Prelude.{◌≡◌, IfOk, OnOk};
+ghost use Rattle.bq_simulate.specs.Drives.{reading_of, Rises, Does, Starts};
+ghost use Rattle.bq_trace.specs.News.{Gets};
+
+use crate::drive_fault::DriveFault;
+use bq_core::{Event, Refusal, Reply};
+use bq_trace::bare::bare;
+use bq_trace::{AnyCore, Sink};
+use bq_words::{ProcessorCount, Rule};
+use std::alloc::Global;
+
+/// The latest reading of a clock: 2^48 - 1 nanoseconds.
+const LATEST: u64 = 281_474_976_710_655;
+
+/// A machine, the number of the last line of its trace, and the last reading that was given to a clock.
+#[derive(Drop)]
+pub struct Driver {
+    pub machine: AnyCore,
+    pub line: u64,
+    pub now: u64,
+}
+
+impl Driver {
+    /// A machine to which nothing has happened: the first line of its trace. The sink is told that it is made.
+    pub fn new<S: Sink>(
+        alloc: Global,
+        rule: Rule,
+        size: ProcessorCount,
+        sink: &mut S,
+    ) -> Result<Driver, DriveFault>
+        ensures { IfOk result (λ driver. Gets S.takes sink.old sink.new (λ told. Starts rule size told driver)) }
+    {
+        let machine = AnyCore::new(alloc, rule, size)?;
+        sink.opened(1, rule, size)?;
+        Ok(Driver {
+            machine,
+            line: 1,
+            now: 0,
+        })
+    }
+
+    /// Does the event that the next line stands for, and tells of it. The machine may have moved where there is a fault.
+    pub fn perform<S: Sink>(
+        &mut self,
+        alloc: Global,
+        event: Event,
+        sink: &mut S,
+    ) -> Result<Reply, DriveFault>
+        ensures { IfOk result (λ reply. Gets S.takes sink.old sink.new (λ told. Does self.old event reply told self.new)) }
+    {
+        self.read(reading_of(&event))?;
+        self.line = self.line.saturating_add(1);
+        let told = bare(&event);
+        sink.comes(self.line, &told, &self.machine)?;
+        let answer = self.machine.step(alloc, event);
+        sink.answered(self.line, &told, &answer, &self.machine)?;
+        match answer {
+            Ok(reply) => Ok(reply),
+            Err(Refusal::OutOfMemory) => Err(DriveFault::OutOfMemory),
+            Err(refusal) => Err(DriveFault::Refused(refusal)),
+        }
+    }
+
+    /// A reading is given to a clock, unless it is less than the last or too late.
+    fn read(&mut self, reading: Option<u64>) -> Result<(), DriveFault>
+        ensures rises { OnOk result (Rises self.old.now reading self.new.now) }
+        ensures machine { self.new.machine ≡ self.old.machine }
+        ensures line { self.new.line ≡ self.old.line }
+    {
+        let Some(reading) = reading else {
+            return Ok(());
+        };
+        if reading < self.now || reading > LATEST {
+            return Err(DriveFault::Reading);
+        }
+        self.now = reading;
+        Ok(())
+    }
+}
+
+/// The reading of a clock that comes with an event.
+fn reading_of(event: &Event) -> Option<u64>
+    ensures { result ≡ reading_of event.now }
+{
+    match event {
+        Event::EndWake { now, .. }
+        | Event::Drain { now, .. }
+        | Event::Tick { now, .. }
+        | Event::Block { now, .. }
+        | Event::Pull { now, .. } => Some(*now),
+        _ => None,
+    }
+}

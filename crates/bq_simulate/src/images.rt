@@ -1,0 +1,28 @@
+//! The images of the policies that stand at the hooks of all processors.
+ghost use Rattle.std.specs.Prelude.{◌≡◌, ℕ, List};
+ghost use Rattle.std.specs.Borrow.{Bor};
+ghost use Rattle.std.specs.Option.{option_map};
+ghost use Rattle.bq_simulate.specs.Texts.{image_at};
+
+use bq_core::Hook;
+
+/// The bytes of an image for each hook, or none.
+#[derive(Clone, Copy)]
+pub struct Images<'a> {
+    pub place: Option<&'a [u8]>,
+    pub preempt: Option<&'a [u8]>,
+    pub pull: Option<&'a [u8]>,
+}
+
+impl<'a> Images<'a> {
+    /// The image for a hook.
+    pub fn at(self, hook: Hook) -> Option<&'a [u8]>
+        ensures { option_map (λ (b : Bor (List ℕ)). b.now) result ≡ image_at self.entry hook }
+    {
+        match hook {
+            Hook::Place => self.place,
+            Hook::Preempt => self.preempt,
+            Hook::Pull => self.pull,
+        }
+    }
+}

@@ -1,0 +1,101 @@
+//! The sink that writes the text of a trace.
+ghost use Rattle.std.specs.Prelude.{◌≡◌, ◌++◌, ℕ, List, [], string_bytes};
+ghost use Rattle.std.specs.Borrow.{Bor};
+ghost use Rattle.std.specs.Option.{option_map};
+ghost use Rattle.bq_simulate.specs.Texts.{Writes, brought, image_at};
+
+use crate::images::Images;
+use crate::{write_event, write_machine};
+use bq_core::{Event, Refusal, Reply};
+use bq_load::LoadFault;
+use bq_trace::{AnyCore, Sink};
+use bq_words::{ProcessorCount, Rule};
+use std::alloc::{AllocError, Global};
+use std::fmt::Write;
+
+/// The text of a trace that asks for what was told, as far as it has come. Installs are written with their images.
+#[derive(Drop)]
+pub struct TraceText<'a> {
+    alloc: Global,
+    images: Images<'a>,
+    pub text: String,
+}
+
+impl<'a> TraceText<'a> {
+    /// Nothing has come.
+    pub fn new(alloc: Global, images: Images<'a>) -> TraceText<'a>
+        ensures text { string_bytes result.text ≡ [] }
+        ensures images { result.images ≡ images.entry }
+    {
+        TraceText {
+            alloc,
+            images,
+            text: String::new(alloc),
+        }
+    }
+
+    /// The image that an event brings.
+    fn brought(&self, event: &Event) -> Option<&'a [u8]>
+        ensures { option_map (λ (b : Bor (List ℕ)). b.now) result ≡ brought (image_at self.now.images) event.now }
+    {
+        match event {
+            Event::Install { hook, .. } => self.images.at(*hook),
+            _ => None,
+        }
+    }
+}
+
+impl Sink for TraceText<'_> {
+    ghost takes = { λ old n news new. (new.images ≡ old.images) × Writes (image_at old.images) (string_bytes old.text) news (string_bytes new.text) };
+
+    fn opened(&mut self, _number: u64, rule: Rule, size: ProcessorCount) -> Result<(), AllocError> {
+        write_machine(&mut self.text, rule, size)
+    }
+
+    fn skipped(&mut self, _number: u64, line: &[u8]) -> Result<(), AllocError> {
+        match std::str::from_utf8(line) {
+            Ok(line) => write!(self.text, "{line}\n"),
+            Err(_) => Ok(()),
+        }
+    }
+
+    fn comes(&mut self, _number: u64, event: &Event, _machine: &AnyCore) -> Result<(), AllocError> {
+        let image = self.brought(event);
+        write_event(self.alloc, &mut self.text, event, image)
+    }
+
+    fn answered(
+        &mut self,
+        _number: u64,
+        _event: &Event,
+        _answer: &Result<Reply, Refusal>,
+        _machine: &AnyCore,
+    ) -> Result<(), AllocError> {
+        Ok(())
+    }
+
+    fn unspelled(&mut self, _number: u64) -> Result<(), AllocError> {
+        Ok(())
+    }
+
+    fn unloaded(&mut self, _number: u64, _fault: LoadFault) -> Result<(), AllocError> {
+        Ok(())
+    }
+
+    fn shown(
+        &mut self,
+        _number: u64,
+        _processor: u8,
+        _machine: &AnyCore,
+    ) -> Result<(), AllocError> {
+        Ok(())
+    }
+
+    fn counted(&mut self, _number: u64, _counter: u8, _value: u64) -> Result<(), AllocError> {
+        Ok(())
+    }
+
+    fn bad(&mut self, _number: u64, _line: Option<&[u8]>) -> Result<(), AllocError> {
+        Ok(())
+    }
+}

@@ -1,0 +1,88 @@
+//! Events and machines as lines.
+ghost use Rattle.std.specs.Prelude.{◌≡◌, ◌++◌, ◌∷◌, [], ℕ, List, OnOk, string_bytes};
+ghost use Rattle.std.specs.Borrow.{Bor};
+ghost use Rattle.std.specs.Option.{option_map};
+ghost use Rattle.bq_simulate.specs.Spelling.{HasFittingNumbers, asking_line, image_word, machine_line};
+
+use bq_core::Event;
+use bq_words::{ProcessorCount, Rule};
+use std::alloc::{AllocError, Global};
+use std::fmt::Write;
+
+/// Adds the line that asks for an event, and a line feed. An install brings this image, or `none`; no other event brings one.
+///
+/// ```
+/// use bq_core::Event;
+/// use crate::write_event;
+///
+/// let pull = Event::Pull {
+///     processor: 1,
+///     from: 0,
+///     now: 2000,
+/// };
+/// let mut text = String::new(alloc);
+/// write_event(alloc, &mut text, &pull, None)?;
+/// assert_eq!(rt; text.as_str(), "pull 1 0 2000\n");
+/// ```
+pub fn write_event(
+    alloc: Global,
+    text: &mut String,
+    event: &Event,
+    image: Option<&[u8]>,
+) -> Result<(), AllocError>
+    ensures line { OnOk result (string_bytes text.new ≡ string_bytes text.old ++ (asking_line (option_map (λ (b : Bor (List ℕ)). b.now) image.entry) event.now ++ 10 ∷ [])) }
+    ensures numbers { HasFittingNumbers event.now }
+{
+    match *event {
+        Event::Admit {
+            task,
+            nice,
+            mask,
+            slice,
+        } => write!(text, "admit {task} {nice} {mask} {slice}\n"),
+        Event::Retire { task } => write!(text, "retire {task}\n"),
+        Event::Draw => text.push_str("draw\n"),
+        Event::Install {
+            processor,
+            hook,
+            generation,
+            policy: _,
+        } => {
+            let hook = hook.word();
+            write!(text, "install {processor} {generation} {hook} ")?;
+            write_image(alloc, text, image)
+        }
+        Event::BeginWake { processor, task } => write!(text, "begin {processor} {task}\n"),
+        Event::EndWake { processor, now } => write!(text, "end {processor} {now}\n"),
+        Event::Drain { processor, now } => write!(text, "drain {processor} {now}\n"),
+        Event::Tick { processor, now } => write!(text, "tick {processor} {now}\n"),
+        Event::Block { processor, now } => write!(text, "block {processor} {now}\n"),
+        Event::Pull {
+            processor,
+            from,
+            now,
+        } => write!(text, "pull {processor} {from} {now}\n"),
+    }
+}
+
+/// Adds the word of an image, and a line feed.
+fn write_image(alloc: Global, text: &mut String, image: Option<&[u8]>) -> Result<(), AllocError>
+    ensures { OnOk result (string_bytes text.new ≡ string_bytes text.old ++ (image_word (option_map (λ (b : Bor (List ℕ)). b.now) image.entry) ++ 10 ∷ [])) }
+{
+    match image {
+        None => text.push_str("none\n"),
+        Some(bytes) => {
+            let spelled = hex::encode(alloc, bytes)?;
+            write!(text, "{spelled}\n")
+        }
+    }
+}
+
+/// Adds the line that makes a machine, and a line feed.
+pub fn write_machine(text: &mut String, rule: Rule, size: ProcessorCount) -> Result<(), AllocError>
+    ensures { OnOk result (string_bytes text.new ≡ string_bytes text.old ++ (machine_line rule size ++ 10 ∷ [])) }
+{
+    let rule = rule.word();
+    let processors = size.processors();
+    write!(text, "machine {rule} {processors}\n")
+}

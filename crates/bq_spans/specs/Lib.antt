@@ -1,2 +1,0 @@
-pub mod Durations
-pub mod Processors

@@ -1,5 +1,0 @@
-use Rattle.bq_spelling.proofs.LineLawLemmas as LineLaws
-use Rattle.bq_spelling.proofs.laws.events_are_read.Goals as goal
-
-pub returns : goal.returns
-returns c = LineLaws.events_are_read

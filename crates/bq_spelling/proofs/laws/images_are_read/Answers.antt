@@ -1,5 +1,0 @@
-use Rattle.hex.proofs.HexLemmas.{decode_of-encode_lower}
-use Rattle.bq_spelling.proofs.laws.images_are_read.Goals as goal
-
-pub returns : goal.returns
-returns c = decode_of-encode_lower

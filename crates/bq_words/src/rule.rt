@@ -1,0 +1,37 @@
+//! The rules by their words.
+ghost use Rattle.std.specs.Prelude.{◌≡◌};
+ghost use Rattle.bq_words.specs.Sizes.{rule_of, rule_word};
+
+/// How processors choose among their tasks.
+#[derive(Clone, Copy, Debug, PartialEq, Eq)]
+pub enum Rule {
+    /// The task of least virtual time runs.
+    Cfs,
+    /// Of the tasks that have had no more than their share, that of the earliest deadline runs.
+    Eevdf,
+}
+
+impl Rule {
+    /// The word that names it: `cfs` or `eevdf`.
+    pub fn word(self) -> &'static str
+        ensures { result.now ≡ rule_word self }
+    {
+        match self {
+            Rule::Cfs => "cfs",
+            Rule::Eevdf => "eevdf",
+        }
+    }
+
+    /// The rule that a word names: `cfs` or `eevdf`.
+    pub fn of_word(word: &[u8]) -> Option<Rule>
+        ensures { result ≡ rule_of word.now }
+    {
+        if word == b"cfs".as_slice() {
+            Some(Rule::Cfs)
+        } else if word == b"eevdf".as_slice() {
+            Some(Rule::Eevdf)
+        } else {
+            None
+        }
+    }
+}

@@ -1,0 +1,48 @@
+//! Lengths of time.
+ghost use Rattle.std.specs.Prelude.{◌≡◌, ◌<◌, IfSome, length, position};
+ghost use Rattle.bq_workload.specs.Durations.{duration_of, is_no_digit, unit_of};
+
+use bq_lines::numbers::decimal;
+
+/// The nanoseconds that a word writes: a whole number and its unit, as `500us`. The unit is `ns`, `us`, `ms` or `s`.
+///
+/// None where the word is no such thing, or has 2^64 ns or more.
+pub fn duration(word: &[u8]) -> Option<u64>
+    ensures { result ≡ duration_of word.now }
+{
+    let end = first_letter(word)?;
+    let number = decimal(&word[..end])?;
+    let unit = nanoseconds(&word[end..])?;
+    number.checked_mul(unit)
+}
+
+/// Where the digits at the front end.
+fn first_letter(word: &[u8]) -> Option<usize>
+    ensures value { result ≡ position is_no_digit word.now }
+    ensures within { IfSome result (λ end. end < length word.now) }
+{
+    word.iter().position(|byte| is_no_digit(*byte))
+}
+
+fn is_no_digit(byte: u8) -> bool
+    ensures { result ≡ is_no_digit byte }
+{
+    !byte.is_ascii_digit()
+}
+
+/// How many nanoseconds a unit has.
+fn nanoseconds(unit: &[u8]) -> Option<u64>
+    ensures { result ≡ unit_of unit.now }
+{
+    if unit == b"ns".as_slice() {
+        Some(1)
+    } else if unit == b"us".as_slice() {
+        Some(1000)
+    } else if unit == b"ms".as_slice() {
+        Some(1_000_000)
+    } else if unit == b"s".as_slice() {
+        Some(1_000_000_000)
+    } else {
+        None
+    }
+}
