@@ -1,8 +1,8 @@
 //! The same once more: events, replies and answers, none of which takes memory.
-ghost use Rattle.std.specs.Prelude.{◌≡◌, IfOk, OnErr};
+ghost use Rattle.std.specs.Prelude.{◌≡◌, IfOk, OnErr, IsTrue, is_some};
 ghost use Rattle.bq_cells.specs.Events.{CarriesPolicy};
 
-use bq_parts::{Event, Refusal, Reply};
+use bq_parts::{Event, Policy, Refusal, Reply};
 use std::alloc::AllocError;
 
 /// The same event once more. There is an error only where its policy would then stand in more places than can be
@@ -31,18 +31,12 @@ pub fn event_again(event: &Event) -> Result<Event, AllocError>
             hook,
             generation,
             policy,
-        } => {
-            let policy = match policy {
-                None => None,
-                Some(policy) => Some(policy.clone()?),
-            };
-            Event::Install {
-                processor: *processor,
-                hook: *hook,
-                generation: *generation,
-                policy,
-            }
-        }
+        } => Event::Install {
+            processor: *processor,
+            hook: *hook,
+            generation: *generation,
+            policy: policy_again(policy)?,
+        },
         Event::BeginWake { processor, task } => Event::BeginWake {
             processor: *processor,
             task: *task,
@@ -74,6 +68,19 @@ pub fn event_again(event: &Event) -> Result<Event, AllocError>
         },
     };
     Ok(again)
+}
+
+/// None, or the same policy once more. There is an error only where it would then stand in more places than can be
+/// counted.
+#[inline(always)]
+fn policy_again(policy: &Option<Policy>) -> Result<Option<Policy>, AllocError>
+    ensures same { IfOk result (λ again. again ≡ policy.now) }
+    ensures counted { OnErr result (IsTrue (is_some policy.now)) }
+{
+    match policy {
+        None => Ok(None),
+        Some(policy) => Ok(Some(policy.clone()?)),
+    }
 }
 
 /// The same reply once more.

@@ -7,93 +7,88 @@ use bq_parts::{Event, Policy, Refusal, Reply};
 pub fn is_same_event(event: &Event, other: &Event) -> bool
     ensures { IsTrue result ↔ (event.now ≡ other.now) }
 {
-    match event {
-        Event::Admit {
-            task,
-            nice,
-            mask,
-            slice,
-        } => match other {
+    match (event, other) {
+        (
+            Event::Admit {
+                task,
+                nice,
+                mask,
+                slice,
+            },
             Event::Admit {
                 task: their_task,
                 nice: their_nice,
                 mask: their_mask,
                 slice: their_slice,
-            } => task == their_task
-                && nice == their_nice
-                && mask == their_mask
-                && slice == their_slice,
-            _ => false,
-        },
-        Event::Retire { task } => match other {
-            Event::Retire { task: their_task } => task == their_task,
-            _ => false,
-        },
-        Event::Draw => matches!(other, Event::Draw),
-        Event::Install {
-            processor,
-            hook,
-            generation,
-            policy,
-        } => match other {
+            },
+        ) => task == their_task && nice == their_nice && mask == their_mask && slice == their_slice,
+        (Event::Retire { task }, Event::Retire { task: their_task }) => task == their_task,
+        (Event::Draw, Event::Draw) => true,
+        (
+            Event::Install {
+                processor,
+                hook,
+                generation,
+                policy,
+            },
             Event::Install {
                 processor: their_processor,
                 hook: their_hook,
                 generation: their_generation,
                 policy: their_policy,
-            } => processor == their_processor
-                && hook == their_hook
-                && generation == their_generation
-                && same_policy(policy, their_policy),
-            _ => false,
-        },
-        Event::BeginWake { processor, task } => match other {
+            },
+        ) => processor == their_processor
+            && hook == their_hook
+            && generation == their_generation
+            && same_policy(policy, their_policy),
+        (
+            Event::BeginWake { processor, task },
             Event::BeginWake {
                 processor: their_processor,
                 task: their_task,
-            } => processor == their_processor && task == their_task,
-            _ => false,
-        },
-        Event::EndWake { processor, now } => match other {
+            },
+        ) => processor == their_processor && task == their_task,
+        (
+            Event::EndWake { processor, now },
             Event::EndWake {
                 processor: their_processor,
                 now: their_now,
-            } => processor == their_processor && now == their_now,
-            _ => false,
-        },
-        Event::Drain { processor, now } => match other {
+            },
+        ) => processor == their_processor && now == their_now,
+        (
+            Event::Drain { processor, now },
             Event::Drain {
                 processor: their_processor,
                 now: their_now,
-            } => processor == their_processor && now == their_now,
-            _ => false,
-        },
-        Event::Tick { processor, now } => match other {
+            },
+        ) => processor == their_processor && now == their_now,
+        (
+            Event::Tick { processor, now },
             Event::Tick {
                 processor: their_processor,
                 now: their_now,
-            } => processor == their_processor && now == their_now,
-            _ => false,
-        },
-        Event::Block { processor, now } => match other {
+            },
+        ) => processor == their_processor && now == their_now,
+        (
+            Event::Block { processor, now },
             Event::Block {
                 processor: their_processor,
                 now: their_now,
-            } => processor == their_processor && now == their_now,
-            _ => false,
-        },
-        Event::Pull {
-            processor,
-            from,
-            now,
-        } => match other {
+            },
+        ) => processor == their_processor && now == their_now,
+        (
+            Event::Pull {
+                processor,
+                from,
+                now,
+            },
             Event::Pull {
                 processor: their_processor,
                 from: their_from,
                 now: their_now,
-            } => processor == their_processor && from == their_from && now == their_now,
-            _ => false,
-        },
+            },
+        ) => processor == their_processor && from == their_from && now == their_now,
+        _ => false,
     }
 }
 
@@ -101,80 +96,81 @@ pub fn is_same_event(event: &Event, other: &Event) -> bool
 pub fn is_same_reply(reply: &Reply, other: &Reply) -> bool
     ensures { IsTrue result ↔ (reply.now ≡ other.now) }
 {
-    match reply {
-        Reply::Admitted => matches!(other, Reply::Admitted),
-        Reply::Retired => matches!(other, Reply::Retired),
-        Reply::Drawn { generation } => match other {
+    match (reply, other) {
+        (Reply::Admitted, Reply::Admitted) => true,
+        (Reply::Retired, Reply::Retired) => true,
+        (
+            Reply::Drawn { generation },
             Reply::Drawn {
                 generation: their_generation,
-            } => generation == their_generation,
-            _ => false,
-        },
-        Reply::Installed => matches!(other, Reply::Installed),
-        Reply::Begun { task, loads } => match other {
+            },
+        ) => generation == their_generation,
+        (Reply::Installed, Reply::Installed) => true,
+        (
+            Reply::Begun { task, loads },
             Reply::Begun {
                 task: their_task,
                 loads: their_loads,
-            } => task == their_task && loads.is_same(their_loads),
-            _ => false,
-        },
-        Reply::Placed {
-            task,
-            to,
-            by,
-            steps,
-        } => match other {
+            },
+        ) => task == their_task && loads.is_same(their_loads),
+        (
+            Reply::Placed {
+                task,
+                to,
+                by,
+                steps,
+            },
             Reply::Placed {
                 task: their_task,
                 to: their_to,
                 by: their_by,
                 steps: their_steps,
-            } => task == their_task && to == their_to && by == their_by && steps == their_steps,
-            _ => false,
-        },
-        Reply::Drained {
-            count,
-            run,
-            by,
-            steps,
-        } => match other {
+            },
+        ) => task == their_task && to == their_to && by == their_by && steps == their_steps,
+        (
+            Reply::Drained {
+                count,
+                run,
+                by,
+                steps,
+            },
             Reply::Drained {
                 count: their_count,
                 run: their_run,
                 by: their_by,
                 steps: their_steps,
-            } => count == their_count && run == their_run && by == their_by && steps == their_steps,
-            _ => false,
-        },
-        Reply::Ticked { run, by, steps } => match other {
+            },
+        ) => count == their_count && run == their_run && by == their_by && steps == their_steps,
+        (
+            Reply::Ticked { run, by, steps },
             Reply::Ticked {
                 run: their_run,
                 by: their_by,
                 steps: their_steps,
-            } => run == their_run && by == their_by && steps == their_steps,
-            _ => false,
-        },
-        Reply::Blocked { task, run } => match other {
+            },
+        ) => run == their_run && by == their_by && steps == their_steps,
+        (
+            Reply::Blocked { task, run },
             Reply::Blocked {
                 task: their_task,
                 run: their_run,
-            } => task == their_task && run == their_run,
-            _ => false,
-        },
-        Reply::Pulled {
-            task,
-            run,
-            by,
-            steps,
-        } => match other {
+            },
+        ) => task == their_task && run == their_run,
+        (
+            Reply::Pulled {
+                task,
+                run,
+                by,
+                steps,
+            },
             Reply::Pulled {
                 task: their_task,
                 run: their_run,
                 by: their_by,
                 steps: their_steps,
-            } => task == their_task && run == their_run && by == their_by && steps == their_steps,
-            _ => false,
-        },
+            },
+        ) => task == their_task && run == their_run && by == their_by && steps == their_steps,
+        _ => false,
     }
 }
 
@@ -182,15 +178,10 @@ pub fn is_same_reply(reply: &Reply, other: &Reply) -> bool
 pub fn is_same_answer(answer: &Result<Reply, Refusal>, other: &Result<Reply, Refusal>) -> bool
     ensures { IsTrue result ↔ (answer.now ≡ other.now) }
 {
-    match answer {
-        Ok(reply) => match other {
-            Ok(their_reply) => is_same_reply(reply, their_reply),
-            Err(_) => false,
-        },
-        Err(refusal) => match other {
-            Ok(_) => false,
-            Err(their_refusal) => refusal == their_refusal,
-        },
+    match (answer, other) {
+        (Ok(reply), Ok(their_reply)) => is_same_reply(reply, their_reply),
+        (Err(refusal), Err(their_refusal)) => refusal == their_refusal,
+        _ => false,
     }
 }
 
@@ -198,11 +189,9 @@ pub fn is_same_answer(answer: &Result<Reply, Refusal>, other: &Result<Reply, Ref
 fn same_policy(policy: &Option<Policy>, other: &Option<Policy>) -> bool
     ensures { IsTrue result ↔ (policy.now ≡ other.now) }
 {
-    match policy {
-        None => other.is_none(),
-        Some(policy) => match other {
-            None => false,
-            Some(their_policy) => policy.is_same(their_policy),
-        },
+    match (policy, other) {
+        (None, None) => true,
+        (Some(policy), Some(their_policy)) => policy.is_same(their_policy),
+        _ => false,
     }
 }
