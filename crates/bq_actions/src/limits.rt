@@ -6,7 +6,8 @@ pub const LONGEST: u64 = 281_474_976_710_655;
 /// How many tasks there may be in all.
 pub const MOST_TASKS: u16 = 1024;
 
-/// The shortest and the longest slice that a task may ask for, in nanoseconds.
+/// The shortest slice that a task may ask for, in nanoseconds.
 pub const LEAST_SLICE: u64 = 100_000;
 
+/// The longest slice that a task may ask for, in nanoseconds.
 pub const GREATEST_SLICE: u64 = 100_000_000;

@@ -6,6 +6,7 @@ use std::alloc::{AllocError, Global};
 use std::sync::Arc;
 use std::sync::atomic::{AtomicU64, Ordering};
 
+/// Reads 1, 2, 3 and so on at each processor. A reading at processor 0 may be held at a gate.
 #[derive(Drop)]
 pub struct CountingClock {
     readings: Vec<AtomicU64>,

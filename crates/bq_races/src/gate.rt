@@ -16,6 +16,7 @@ pub struct Gate {
 }
 
 impl Gate {
+    /// A gate that is not armed, so it holds nobody.
     pub fn new() -> Gate {
         Gate {
             armed: AtomicBool::new(false),

@@ -7,6 +7,7 @@ use bq_disc::{Movable, Node, RunQueue};
 use std::alloc::Global;
 use std::sync::Arc;
 
+/// A run queue under CFS. Whoever has it compute its mark anew may be held at a gate.
 #[derive(Drop)]
 pub struct HeldQueue {
     pub queue: CfsQueue,
