@@ -1,7 +1,8 @@
 //! How long a phase takes.
 ghost use Rattle.std.specs.Prelude.{◌≡◌};
+ghost use Rattle.toml.specs.Data.{no_items, item};
 ghost use Rattle.toml.specs.View.{view, table_view};
-ghost use Rattle.bq_workload.specs.Lengths.{length_of, drawn_of, uniform_of, time_of};
+ghost use Rattle.bq_workload.specs.Lengths.{length_of, drawn_of, ends_of, uniform_of, time_of};
 
 use crate::fields::span;
 use crate::tables::only;
@@ -44,16 +45,21 @@ fn uniform(value: &Value) -> Option<Length>
 {
     let ends = value.as_array()?;
     match ends.as_slice() {
-        [first, last] => {
-            let least = time(first)?;
-            let greatest = time(last)?;
-            if least <= greatest {
-                Some(Length::Uniform { least, greatest })
-            } else {
-                None
-            }
-        }
+        [first, last] => between(first, last),
         _ => None,
+    }
+}
+
+/// A length from the first value to the last.
+fn between(first: &Value, last: &Value) -> Option<Length>
+    ensures { result ≡ ends_of (item (view first.now) (item (view last.now) no_items)) }
+{
+    let least = time(first)?;
+    let greatest = time(last)?;
+    if least <= greatest {
+        Some(Length::Uniform { least, greatest })
+    } else {
+        None
     }
 }
 

@@ -1,7 +1,7 @@
 //! Sets of processors, as bits: bit k is processor k.
-ghost use Rattle.std.specs.Prelude.{◌≡◌, ◌<◌, ◌≤◌, ◌+◌, ◌-◌, ◌^◌, [], ◌∷◌, IfNone, IfSome, length, position};
+ghost use Rattle.std.specs.Prelude.{◌≡◌, ◌<◌, ◌≤◌, ◌+◌, ◌-◌, ◌^◌, [], ◌∷◌, IfNone, IfSome, length, option_and_then, position};
 ghost use Rattle.std.specs.List.{slice_split};
-ghost use Rattle.bq_workload.specs.Processors.{processors_of, is_comma, is_dash, span_of, processor_below};
+ghost use Rattle.bq_workload.specs.Processors.{processors_of, is_comma, is_dash, bits_of, span_of, processor_below};
 
 use bq_lines::numbers;
 
@@ -73,19 +73,24 @@ fn span(part: &[u8]) -> Option<u64>
     ensures { result ≡ span_of part.now }
 {
     match dash(part) {
-        Some(dash) => {
-            let first = processor(&part[..dash])?;
-            let last = processor(&part[dash + 1..])?;
-            if last < first {
-                return None;
-            }
-            Some(bits(first, last))
-        }
+        Some(dash) => range(&part[..dash], &part[dash + 1..]),
         None => {
             let only = processor(part)?;
             Some(bits(only, only))
         }
     }
+}
+
+/// The bits of a range from one word to another.
+fn range(first: &[u8], last: &[u8]) -> Option<u64>
+    ensures { result ≡ option_and_then (λ f. option_and_then (bits_of f) (processor_below last.now)) (processor_below first.now) }
+{
+    let first = processor(first)?;
+    let last = processor(last)?;
+    if last < first {
+        return None;
+    }
+    Some(bits(first, last))
 }
 
 /// The bits from the first to the last.

@@ -79,8 +79,7 @@ fn machine(document: &Table) -> Result<Setup, Trouble<'_>>
         None => Ok(absent()),
         Some(value) => {
             let table = Location::Document.says(table_at("machine", value))?;
-            let setup = Location::Machine.says(setup(table))?;
-            Ok(setup)
+            Location::Machine.says(setup(table))
         }
     }
 }
