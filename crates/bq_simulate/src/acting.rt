@@ -2,13 +2,13 @@
 ghost use Rattle.std.specs.Prelude.{◌≡◌, [], ◌∷◌, IfOk, OnOk};
 ghost use Rattle.bq_parts.specs.declared.event.Event.TheVariants.{Block};
 ghost use Rattle.bq_actions.specs.Courses.{begun};
-ghost use Rattle.bq_simulate.specs.Actions.{acted, advanced_in, asked_by, count_of, next_action, resting, woken_one_in};
+ghost use Rattle.bq_simulate.specs.Actions.{acted, action_at, advanced_in, asked_by, count_of, next_action, resting, woken_one_in};
 ghost use Rattle.bq_simulate.specs.Simulations.{Befell, DrawsFor, Lived, Same, Silent};
 ghost use Rattle.bq_simulate.specs.Steps.{AreJust, Follow, IsAct, Meet, Wakes};
 
 use crate::fault::SimulateFault;
 use crate::simulation::Simulation;
-use bq_actions::{Action, Astray, Course, Due, Length, Stance, Workload};
+use bq_actions::{Action, Astray, Course, Due, Length, Stance, TaskKind, Workload};
 use bq_trace::Sink;
 use std::alloc::Global;
 
@@ -30,12 +30,23 @@ struct Doing {
 fn next_of(workload: &Workload, course: &Course) -> Result<Option<Action>, Astray>
     ensures { IfOk result (λ action. action ≡ next_action workload.now.tasks.items course.now) }
 {
-    let kind = workload.tasks.get(course.kind).ok_or(Astray)?;
+    match workload.tasks.get(course.kind) {
+        Some(kind) => action_at(kind, course),
+        None => Err(Astray),
+    }
+}
+
+/// What a task of a kind does next; nothing where it has done all as often as it is to.
+fn action_at(kind: &TaskKind, course: &Course) -> Result<Option<Action>, Astray>
+    ensures { IfOk result (λ action. action ≡ action_at kind.now course.now) }
+{
     if kind.loops == Some(course.loops) {
         return Ok(None);
     }
-    let action = kind.actions.get(course.action).ok_or(Astray)?;
-    Ok(Some(*action))
+    match kind.actions.get(course.action) {
+        Some(action) => Ok(Some(*action)),
+        None => Err(Astray),
+    }
 }
 
 /// The length that an action takes.

@@ -11,14 +11,14 @@ use bq_trace::Sink;
 use std::alloc::Global;
 
 /// A task that a processor took from another, if any, and the task that runs there now.
-#[derive(Clone, Copy, Debug, PartialEq, Eq)]
+#[derive(Clone, Copy)]
 pub struct Moved {
     pub task: Option<u16>,
     pub run: Option<u16>,
 }
 
 /// How many tasks entered a queue, and the task that runs there now.
-#[derive(Clone, Copy, Debug, PartialEq, Eq)]
+#[derive(Clone, Copy)]
 pub struct Entered {
     pub count: u32,
     pub run: Option<u16>,

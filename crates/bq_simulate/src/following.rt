@@ -47,9 +47,8 @@ pub fn simulate_seed<S: Sink>(
     soundness(workload).map_err(SimulateFault::Unsound)?;
     let machine = &workload.machine;
     let driver = Driver::new(alloc, machine.rule, machine.size, sink)?;
-    let mut simulation = Simulation::new(alloc, &workload.machine, seed, driver)?;
-    simulation.run(alloc, workload, policies, sink)?;
-    Ok(simulation.tally)
+    let mut simulation = Simulation::new(alloc, machine, seed, driver)?;
+    simulation.run(alloc, workload, policies, sink)
 }
 
 impl Simulation {
@@ -88,14 +87,14 @@ impl Simulation {
         })
     }
 
-    /// From the opening machine to the end.
+    /// From the opening machine to the end. What was counted.
     fn run<S: Sink>(
         &mut self,
         alloc: Global,
         workload: &Workload,
         policies: &[Policy],
         sink: &mut S,
-    ) -> Result<(), SimulateFault>
+    ) -> Result<Tally, SimulateFault>
         requires { length self.old.roster.courses.items ≡ 0 }
         ensures { OnOk result (Runs S.takes workload.now.tasks.items (most_steps workload.now) workload.now.machine.duration (processors_in workload.now.machine.size) sink.old self.old sink.new self.new) }
     {
@@ -104,7 +103,8 @@ impl Simulation {
         self.admit(alloc, workload, sink)?;
         self.plan_pulls(processors)?;
         self.go_on(alloc, workload, most_steps(workload), sink)?;
-        self.finish(alloc, processors, workload.machine.duration, sink)
+        self.finish(alloc, processors, workload.machine.duration, sink)?;
+        Ok(self.tally)
     }
 
     /// Each processor looks for a task at multiples of the time between two balancings, where there are others.

@@ -157,11 +157,13 @@ impl Simulation {
     pub(crate) fn draw(&mut self, task: u16, length: Length) -> Result<u64, Astray>
         ensures { IfOk result (λ drawn. Draws task length self.old drawn self.new) }
     {
-        let stream = self.streams.get_mut(usize::from(task)).ok_or(Astray)?;
         if !length.is_sound() {
             return Err(Astray);
         }
-        Ok(stream.draw(length))
+        match self.streams.get_mut(usize::from(task)) {
+            Some(stream) => Ok(stream.draw(length)),
+            None => Err(Astray),
+        }
     }
 }
 

@@ -1,11 +1,11 @@
 //! Which workloads can be followed.
 
 use bq_actions::limits::{GREATEST_SLICE, LEAST_SLICE, LONGEST, MOST_TASKS};
-use bq_actions::{Action, Length, Setup, TaskKind, Workload};
+use bq_actions::{Action, Setup, TaskKind, Workload};
 use thiserror::Error;
 
 /// Why a workload cannot be followed. Kinds of tasks and their actions are numbered from 0.
-#[derive(Clone, Copy, Debug, PartialEq, Eq, Drop, Error)]
+#[derive(Clone, Copy, Debug, Drop, Error)]
 pub enum Unsound {
     #[error("machine: a time is not from 1 to 281474976710655 ns")]
     Machine,
@@ -42,11 +42,10 @@ fn sound_machine(machine: &Setup) -> Result<(), Unsound> {
         && is_time(machine.tick)
         && is_time(machine.balance)
         && machine.migration_cost <= LONGEST;
-    if is_sound {
-        Ok(())
-    } else {
-        Err(Unsound::Machine)
+    if !is_sound {
+        return Err(Unsound::Machine);
     }
+    Ok(())
 }
 
 /// From 1 to the longest.
@@ -85,14 +84,10 @@ fn sound_actions(number: usize, actions: &[Action], kinds: usize) -> Result<(), 
 
 fn is_action(action: &Action, kinds: usize) -> bool {
     match action {
-        Action::Run(length) | Action::Sleep(length) => is_length(length),
+        Action::Run(length) | Action::Sleep(length) => length.is_sound(),
         Action::Wait => true,
         Action::Wake(kind) => *kind < kinds,
     }
-}
-
-fn is_length(length: &Length) -> bool {
-    length.is_sound()
 }
 
 /// The least processor of a mask, below so many.

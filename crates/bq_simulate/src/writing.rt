@@ -1,10 +1,12 @@
 //! Events and machines as lines.
-ghost use Rattle.std.specs.Prelude.{◌≡◌, ◌++◌, ◌∷◌, [], ℕ, List, OnOk, string_bytes};
+ghost use Rattle.std.specs.Prelude.{◌≡◌, ◌++◌, ◌∷◌, [], ℕ, List, OnOk, codes, string_bytes};
 ghost use Rattle.std.specs.Borrow.{Bor};
+ghost use Rattle.std.specs.Fmt.{decimal};
 ghost use Rattle.std.specs.Option.{option_map};
-ghost use Rattle.bq_simulate.specs.Spelling.{HasFittingNumbers, asking_line, image_word, machine_line};
+ghost use Rattle.bq_bpf.specs.Hooks.{hook_word};
+ghost use Rattle.bq_simulate.specs.Spelling.{HasFittingNumbers, asking_line, image_word, machine_line, spaced_words};
 
-use bq_core::Event;
+use bq_core::{Event, Hook};
 use bq_words::{ProcessorCount, Rule};
 use std::alloc::{AllocError, Global};
 use std::fmt::Write;
@@ -47,22 +49,41 @@ pub fn write_event(
             hook,
             generation,
             policy: _,
-        } => {
-            let hook = hook.word();
-            write!(text, "install {processor} {generation} {hook} ")?;
-            write_image(alloc, text, image)
-        }
+        } => write_install(alloc, text, processor, generation, hook, image),
         Event::BeginWake { processor, task } => write!(text, "begin {processor} {task}\n"),
-        Event::EndWake { processor, now } => write!(text, "end {processor} {now}\n"),
-        Event::Drain { processor, now } => write!(text, "drain {processor} {now}\n"),
-        Event::Tick { processor, now } => write!(text, "tick {processor} {now}\n"),
-        Event::Block { processor, now } => write!(text, "block {processor} {now}\n"),
+        Event::EndWake { processor, now } => write_pair(text, "end", processor, now),
+        Event::Drain { processor, now } => write_pair(text, "drain", processor, now),
+        Event::Tick { processor, now } => write_pair(text, "tick", processor, now),
+        Event::Block { processor, now } => write_pair(text, "block", processor, now),
         Event::Pull {
             processor,
             from,
             now,
         } => write!(text, "pull {processor} {from} {now}\n"),
     }
+}
+
+/// Adds the line of a word, a processor and a number, and a line feed.
+fn write_pair(text: &mut String, word: &str, processor: u8, number: u64) -> Result<(), AllocError>
+    ensures { OnOk result (string_bytes text.new ≡ string_bytes text.old ++ (spaced_words (word.now ∷ decimal processor ∷ decimal number ∷ []) ++ 10 ∷ [])) }
+{
+    write!(text, "{word} {processor} {number}\n")
+}
+
+/// Adds the line of an install with this image, and a line feed.
+fn write_install(
+    alloc: Global,
+    text: &mut String,
+    processor: u8,
+    generation: u64,
+    hook: Hook,
+    image: Option<&[u8]>,
+) -> Result<(), AllocError>
+    ensures { OnOk result (string_bytes text.new ≡ string_bytes text.old ++ (spaced_words (codes "install" ∷ decimal processor ∷ decimal generation ∷ hook_word hook ∷ image_word (option_map (λ (b : Bor (List ℕ)). b.now) image.entry) ∷ []) ++ 10 ∷ [])) }
+{
+    let hook = hook.word();
+    write!(text, "install {processor} {generation} {hook} ")?;
+    write_image(alloc, text, image)
 }
 
 /// Adds the word of an image, and a line feed.

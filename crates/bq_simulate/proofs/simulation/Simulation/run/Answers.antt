@@ -1,5 +1,4 @@
 use Rattle.std.proofs.Common.{ℕ, List, ◌++◌, subst}
-use Rattle.std.proofs.lemmas.Result.{on_ok_weaker}
 use Rattle.bq_actions.specs.Accounts.{accounts_of}
 use Rattle.bq_simulate.specs.Bounds.{most_steps}
 use Rattle.bq_simulate.specs.Chronicles.{Deed}
@@ -22,6 +21,4 @@ returns g c =
     λ xs ys opens meets. Proceeds-join (most_steps w) end xs ys opens (subst (λ (n : ℕ). AreMet n end ys) c.most_steps.ensures meets) in
     let proceeds = Lived-join takes kinds AreOfOpening (AreMet c.most_steps.result end) (Proceeds (most_steps w) end) proceed _ _ _ _ _ _ planned c.in_ok-go_on.ensures in
     let ticks : ℕ → List Deed → Type 0 = λ n. AreJust (last_ticks end (all_processors n) (accounts_of ended.roster)) in
-    on_ok_weaker c.finish.result
-    (λ h. record { sink = c.go_on.new.sink; ended = ended; proceeds = proceeds; ticks = Lived-weaker takes kinds _ _ (λ xs are. subst (λ (n : ℕ). ticks n xs) c.processors-processors.ensures are) _ _ _ _ (h kinds) })
-    c.finish.ensures
+    record { sink = c.go_on.new.sink; ended = ended; proceeds = proceeds; ticks = Lived-weaker takes kinds _ _ (λ xs are. subst (λ (n : ℕ). ticks n xs) c.processors-processors.ensures are) _ _ _ _ (c.in_ok-finish.ensures kinds) }
