@@ -1,7 +1,7 @@
 //! What a command answers.
 
 /// What a command answers, with its line ends.
-#[derive(Debug, Drop)]
+#[derive(Drop)]
 pub enum Answered {
     /// It did what was asked; the text is what came of it.
     Done(String),

@@ -7,7 +7,7 @@ use bq_program::{Head, Key, Kind, Options, PolicyFault, kind_of, read_policy, sh
 use std::alloc::{AllocError, Global};
 
 /// Why the words of `asm` are refused beside a text.
-#[derive(Debug, Drop)]
+#[derive(Drop)]
 pub struct AsmRefusal {
     /// The line that names the mark, as `check` names it.
     pub line: String,
@@ -21,10 +21,19 @@ pub fn asm_refusal(
     options: &Options,
     text: &[u8],
 ) -> Result<Option<AsmRefusal>, AllocError> {
-    let Some(given) = head_of(alloc, options)? else {
-        return Ok(None);
-    };
-    match difference(alloc, &given, text)? {
+    match head_of(alloc, options)? {
+        None => Ok(None),
+        Some(given) => refusal_beside(alloc, &given, text),
+    }
+}
+
+/// Why words that say this of the image are refused beside the text, if they are.
+fn refusal_beside(
+    alloc: Global,
+    given: &Head,
+    text: &[u8],
+) -> Result<Option<AsmRefusal>, AllocError> {
+    match difference(alloc, given, text)? {
         None => Ok(None),
         Some(key) => {
             let fault = PolicyFault::Disagrees(key);

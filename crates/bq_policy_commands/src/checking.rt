@@ -7,11 +7,12 @@ ghost use Rattle.bq_policy_commands.specs.Refusing.{fault_line};
 ghost use Rattle.bq_policy_commands.specs.Saying.{SaysHead};
 
 use crate::answered::Answered;
-use crate::fault_words::{fault_line, fault_reason};
+use crate::fault_words::fault_line;
 use crate::given::{WordsFault, said_by};
 use crate::json_text::json_text;
 use crate::limits::limits_of;
-use crate::named::{placed, with_name};
+use crate::listing::reasoned;
+use crate::named::with_name;
 use crate::words::CheckWords;
 use bq_explain::{Limits, explain, judge, verdict_line};
 use bq_program::{Head, Policy, PolicyFault, read_policy};
@@ -75,6 +76,18 @@ fn check_policy(
         let text = shown(alloc, words, text)?;
         return Ok(answered(explained.accepted, text));
     }
+    judge_policy(alloc, words, policy, limits)
+}
+
+/// The verdict on a policy, by one line.
+fn judge_policy(
+    alloc: Global,
+    words: &CheckWords,
+    policy: &Policy,
+    limits: &Limits,
+) -> Result<Answered, AllocError>
+    ensures { IfOk result (TellsVerdict words.now policy.now limits.now) }
+{
     let verdict = judge(alloc, policy, limits)?;
     let line = verdict_line(alloc, policy.hook, verdict)?;
     Ok(answered(verdict.is_accepted(), line))
@@ -92,9 +105,7 @@ fn refusal(
 {
     let line = fault_line(alloc, fault)?;
     if words.is_explained || words.is_json {
-        let reason = fault_reason(alloc, bytes, fault)?;
-        let reason = placed(alloc, &words.policy.file, reason)?;
-        let text = format!(in alloc; "{line}{reason}\n")?;
+        let text = reasoned(alloc, &words.policy.file, bytes, fault, &line)?;
         return shown(alloc, words, text);
     }
     Ok(line)

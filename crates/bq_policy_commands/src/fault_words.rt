@@ -1,13 +1,18 @@
 //! Why a file is no policy: the line that refuses it, and what is wrong in words.
-ghost use Rattle.std.specs.Prelude.{◌≡◌, ◌≢◌, IfOk, OnOk, string_bytes};
+ghost use Rattle.std.specs.Prelude.{◌≡◌, ◌≢◌, ◌++◌, IfOk, OnOk, codes, string_bytes};
+ghost use Rattle.std.specs.Fmt.{decimal};
+ghost use Rattle.bq_asm.specs.Causes.{cause_number};
+ghost use Rattle.bq_load.specs.Naming.{fault_text};
 ghost use Rattle.bq_policy_commands.specs.Refusing.{fault_line};
 ghost use Rattle.bq_program.specs.Marks.{key_word};
+ghost use Rattle.bq_program.specs.Refusals.{cause_and_place, refusal};
 ghost use Rattle.bq_program.specs.declared.fault.PolicyFault.TheVariants.{OutOfMemory};
 
 use crate::image_words::{image_words, spelling_words};
 use crate::maps_words::maps_words;
 use bq_asm::Cause;
 use bq_explain::complaint;
+use bq_insn::fault::Cause as Spelling;
 use bq_load::LoadFault;
 use bq_program::{HeadCause, Key, PolicyFault};
 use std::alloc::{AllocError, Global};
@@ -20,27 +25,47 @@ pub fn fault_line(alloc: Global, fault: PolicyFault) -> Result<String, AllocErro
     match fault {
         PolicyFault::Text => String::from_str(alloc, "refused text\n"),
         PolicyFault::Hex => String::from_str(alloc, "refused hex\n"),
-        PolicyFault::Head { line, .. } => format!(in alloc; "refused head {line}\n"),
-        PolicyFault::Assembly { line, cause } => {
-            let number = cause.number();
-            let named = format!(in alloc; "A{number} {line}")?;
-            format!(in alloc; "refused {named}\n")
-        }
-        PolicyFault::Image(fault) => {
-            let named = bq_program::fault_text(alloc, fault)?;
-            format!(in alloc; "refused {named}\n")
-        }
+        PolicyFault::Head { line, .. } => head_line(alloc, line),
+        PolicyFault::Assembly { line, cause } => assembly_line(alloc, line, cause),
+        PolicyFault::Image(fault) => loading_line(alloc, fault),
         PolicyFault::Program { slot, cause } => {
-            let named = bq_program::fault_text(alloc, LoadFault::Decode { slot, cause })?;
-            format!(in alloc; "refused {named}\n")
+            loading_line(alloc, LoadFault::Decode { slot, cause })
         }
-        PolicyFault::Disagrees(key) => {
-            let key = key_word(key);
-            format!(in alloc; "refused {key}\n")
-        }
+        PolicyFault::Disagrees(key) => refused_line(alloc, key_word(key)),
         PolicyFault::NoHook => String::from_str(alloc, "refused hook\n"),
         PolicyFault::OutOfMemory => Err(AllocError),
     }
+}
+
+/// The line that refuses by a line of the text's head.
+fn head_line(alloc: Global, line: usize) -> Result<String, AllocError>
+    ensures { IfOk result (λ text. string_bytes text ≡ refusal (codes "head " ++ decimal line)) }
+{
+    format!(in alloc; "refused head {line}\n")
+}
+
+/// The line that refuses by a line that the assembler refuses.
+fn assembly_line(alloc: Global, line: usize, cause: Cause) -> Result<String, AllocError>
+    ensures { IfOk result (λ text. string_bytes text ≡ refusal (cause_and_place (codes "A") (cause_number cause) line)) }
+{
+    let number = cause.number();
+    let named = format!(in alloc; "A{number} {line}")?;
+    refused_line(alloc, named.as_str())
+}
+
+/// The line that refuses by a fault of an image or of its program.
+fn loading_line(alloc: Global, fault: LoadFault) -> Result<String, AllocError>
+    ensures { IfOk result (λ text. string_bytes text ≡ refusal (fault_text fault)) }
+{
+    let named = bq_program::fault_text(alloc, fault)?;
+    refused_line(alloc, named.as_str())
+}
+
+/// The line that refuses by that name.
+fn refused_line(alloc: Global, named: &str) -> Result<String, AllocError>
+    ensures { IfOk result (λ text. string_bytes text ≡ refusal named.now) }
+{
+    format!(in alloc; "refused {named}\n")
 }
 
 /// What is wrong with the file of these bytes, by its line or slot where it has one.
@@ -51,20 +76,26 @@ pub fn fault_reason(alloc: Global, bytes: &[u8], fault: PolicyFault) -> Result<S
         PolicyFault::Head { line, cause } => head_reason(alloc, bytes, line, cause),
         PolicyFault::Assembly { line, cause } => assembly_reason(alloc, bytes, line, cause),
         PolicyFault::Image(fault) => String::from_str(alloc, image_words(fault)),
-        PolicyFault::Program { slot, cause } => {
-            let why = spelling_words(cause);
-            format!(in alloc; "slot {slot}: {why}")
-        }
-        PolicyFault::Disagrees(key) => {
-            let key = key_word(key);
-            format!(in alloc; "--{key} says another {key} than the file")
-        }
+        PolicyFault::Program { slot, cause } => spelling_reason(alloc, slot, cause),
+        PolicyFault::Disagrees(key) => difference_reason(alloc, key),
         PolicyFault::NoHook => String::from_str(
             alloc,
             "the hook is not said: write a line ;@ hook place in the text's head, or give --hook place",
         ),
         PolicyFault::OutOfMemory => Err(AllocError),
     }
+}
+
+/// What is wrong with the bytes of the instruction at a slot.
+fn spelling_reason(alloc: Global, slot: usize, cause: Spelling) -> Result<String, AllocError> {
+    let why = spelling_words(cause);
+    format!(in alloc; "slot {slot}: {why}")
+}
+
+/// What is wrong with words that say another thing than the file.
+fn difference_reason(alloc: Global, key: Key) -> Result<String, AllocError> {
+    let key = key_word(key);
+    format!(in alloc; "--{key} says another {key} than the file")
 }
 
 /// What is wrong with a text that the assembler refuses there.
@@ -92,19 +123,28 @@ fn head_reason(
 ) -> Result<String, AllocError> {
     if cause == HeadCause::Value(Key::Maps) {
         if let Some(maps) = last_word(bytes, line) {
-            let why = maps_words(alloc, maps)?;
-            return format!(in alloc; "line {line}: maps: {why}");
+            return maps_reason(alloc, line, maps);
         }
     }
     let why = head_words(cause);
     format!(in alloc; "line {line}: {why}")
 }
 
+/// What is wrong with the maps that a line names.
+fn maps_reason(alloc: Global, line: usize, maps: &str) -> Result<String, AllocError> {
+    let why = maps_words(alloc, maps)?;
+    format!(in alloc; "line {line}: maps: {why}")
+}
+
 /// The last word of the line of that number, counted from 1.
 fn last_word(bytes: &[u8], number: usize) -> Option<&str> {
+    line_at(bytes, number)?.split_whitespace().last()
+}
+
+/// The line of that number, counted from 1.
+fn line_at(bytes: &[u8], number: usize) -> Option<&str> {
     let text = std::str::from_utf8(bytes).ok()?;
-    let line = text.lines().nth(number.checked_sub(1)?)?;
-    line.split_whitespace().last()
+    text.lines().nth(number.checked_sub(1)?)
 }
 
 fn key_word(key: Key) -> &'static str

@@ -49,14 +49,19 @@ fn helpers_in(alloc: Global, word: &Option<String>) -> Result<Option<Vec<i32>>, 
 /// The numbers of a text with commas between; none of an empty text.
 fn numbers_of(alloc: Global, text: &str) -> Result<Option<Vec<i32>>, AllocError> {
     let mut numbers = Vec::new(alloc);
-    if text.is_empty() {
+    if text.is_empty() || push_numbers(&mut numbers, text)? {
         return Ok(Some(numbers));
     }
+    Ok(None)
+}
+
+/// Adds the numbers of a text with commas between, up to a part that is none; whether there is no such part.
+fn push_numbers(numbers: &mut Vec<i32>, text: &str) -> Result<bool, AllocError> {
     for part in text.split(',') {
         match part.parse::<i32>() {
             Ok(number) => numbers.push(number)?,
-            Err(_) => return Ok(None),
+            Err(_) => return Ok(false),
         }
     }
-    Ok(Some(numbers))
+    Ok(true)
 }

@@ -1,5 +1,5 @@
 //! `dis` of a policy's file.
-ghost use Rattle.std.specs.Prelude.{◌≢◌, IfOk, OnOk, string_bytes};
+ghost use Rattle.std.specs.Prelude.{◌≡◌, ◌≢◌, ◌++◌, ℕ, List, IfOk, OnOk, string_bytes};
 ghost use Rattle.bq_program.specs.declared.fault.PolicyFault.TheVariants.{OutOfMemory};
 ghost use Rattle.bq_policy_commands.specs.Listing.{ListsFile, ListsTo};
 ghost use Rattle.bq_policy_commands.specs.Refusing.{Refuses};
@@ -54,6 +54,19 @@ pub(crate) fn refused_file(
     ensures other { OnOk result (fault ≢ OutOfMemory) }
 {
     let line = fault_line(alloc, fault)?;
+    reasoned(alloc, file, bytes, fault, &line)
+}
+
+/// A line that refuses a file, and what is wrong with it.
+pub(crate) fn reasoned(
+    alloc: Global,
+    file: &Option<String>,
+    bytes: &[u8],
+    fault: PolicyFault,
+    line: &String,
+) -> Result<String, AllocError>
+    ensures { IfOk result (λ text. (reason : List ℕ) × (string_bytes text ≡ string_bytes line.now ++ reason)) }
+{
     let reason = fault_reason(alloc, bytes, fault)?;
     let reason = placed(alloc, file, reason)?;
     format!(in alloc; "{line}{reason}\n")

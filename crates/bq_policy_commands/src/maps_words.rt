@@ -14,6 +14,11 @@ pub(crate) fn maps_words(alloc: Global, text: &str) -> Result<String, AllocError
             return part_words(alloc, number, part);
         }
     }
+    many_words(alloc, number)
+}
+
+/// What is wrong with so many maps, each of which is one.
+fn many_words(alloc: Global, number: usize) -> Result<String, AllocError> {
     format!(in alloc; "{number} maps; a program has 8 at most")
 }
 
@@ -28,22 +33,40 @@ fn part_words(alloc: Global, number: usize, part: &str) -> Result<String, AllocE
         return format!(in alloc; "part {number} is empty: {MAP}");
     }
     let why = map_words(alloc, part)?;
+    wrong_words(alloc, number, part, why.as_str())
+}
+
+/// What is wrong with the part of that number, and why.
+fn wrong_words(alloc: Global, number: usize, part: &str, why: &str) -> Result<String, AllocError> {
     format!(in alloc; "part {number} \"{part}\": {why}")
 }
 
 /// What is wrong with a text that names no map.
 fn map_words(alloc: Global, part: &str) -> Result<String, AllocError> {
-    let Some((size, entries)) = part.split_once(':') else {
-        return String::from_str(alloc, MAP);
-    };
-    if entries.contains(":") {
-        return String::from_str(alloc, MAP);
+    match part.split_once(':') {
+        Some((size, entries)) if !entries.contains(":") => pair_words(alloc, size, entries),
+        _ => String::from_str(alloc, MAP),
     }
+}
+
+/// What is wrong with a size and a number of entries, which are those of no map.
+fn pair_words(alloc: Global, size: &str, entries: &str) -> Result<String, AllocError> {
     let with_an_entry = format!(in alloc; "{size}:1")?;
-    if !is_maps(alloc, with_an_entry.as_str())? {
-        let got = got(size);
-        return format!(in alloc; "the size of a value is 8 to 256, a multiple of 8 (got {got})");
+    if is_maps(alloc, with_an_entry.as_str())? {
+        entries_words(alloc, entries)
+    } else {
+        size_words(alloc, size)
     }
+}
+
+/// What is wrong with a text that is the size of no value.
+fn size_words(alloc: Global, size: &str) -> Result<String, AllocError> {
+    let got = got(size);
+    format!(in alloc; "the size of a value is 8 to 256, a multiple of 8 (got {got})")
+}
+
+/// What is wrong with a text that is no number of entries.
+fn entries_words(alloc: Global, entries: &str) -> Result<String, AllocError> {
     let got = got(entries);
     format!(in alloc; "the number of entries is 1 to 256 (got {got})")
 }

@@ -17,15 +17,15 @@ pub(crate) fn placed(
 ) -> Result<String, AllocError> {
     match name_of(file) {
         None => Ok(reason),
-        Some(name) => {
-            let told = reason.as_str();
-            if told.starts_with("line ") || told.starts_with("slot ") {
-                format!(in alloc; "{name} {told}")
-            } else {
-                format!(in alloc; "{name}: {told}")
-            }
-        }
+        Some(name) => named_reason(alloc, name, reason.as_str()),
     }
+}
+
+/// What is wrong after a name, with a colon between where it begins with no place.
+fn named_reason(alloc: Global, name: &str, told: &str) -> Result<String, AllocError> {
+    let has_place = told.starts_with("line ") || told.starts_with("slot ");
+    let colon = if has_place { "" } else { ":" };
+    format!(in alloc; "{name}{colon} {told}")
 }
 
 /// An explanation whose second line, which tells a place, begins with the file's name.
@@ -34,13 +34,21 @@ pub(crate) fn with_name(
     file: &Option<String>,
     text: String,
 ) -> Result<String, AllocError> {
-    match (name_of(file), text.as_str().split_once('\n')) {
-        (Some(name), Some((first, rest))) => {
-            if rest.is_empty() {
-                return Ok(text);
-            }
-            format!(in alloc; "{first}\n{name} {rest}")
+    let Some(name) = name_of(file) else {
+        return Ok(text);
+    };
+    match named_place(alloc, name, text.as_str())? {
+        Some(named) => Ok(named),
+        None => Ok(text),
+    }
+}
+
+/// The explanation with that name before its second line, if it has one.
+fn named_place(alloc: Global, name: &str, text: &str) -> Result<Option<String>, AllocError> {
+    match text.split_once('\n') {
+        Some((first, rest)) if !rest.is_empty() => {
+            Ok(Some(format!(in alloc; "{first}\n{name} {rest}")?))
         }
-        _ => Ok(text),
+        _ => Ok(None),
     }
 }

@@ -1,7 +1,7 @@
 //! The inputs that the words of `run` name.
-ghost use Rattle.std.specs.Prelude.{◌≡◌, IfOk, replicate};
+ghost use Rattle.std.specs.Prelude.{◌≡◌, IfOk, OnOk, replicate};
 ghost use Rattle.bq_bpf.specs.Hooks.{context_length_of};
-ghost use Rattle.bq_one_run.specs.Naming.{BeginsWith, IsClean};
+ghost use Rattle.bq_one_run.specs.Naming.{BeginsWith, IsClean, SetsCounter, SetsEntry, SetsFields, TextsInTurn};
 ghost use Rattle.bq_policy_commands.specs.Running.{HasInputs, IsNumberOrZero};
 ghost use Rattle.bq_policy_commands.specs.Saying.{option_bytes};
 
@@ -31,12 +31,28 @@ pub(crate) fn inputs_named(
 {
     let env = env_named(alloc, words)?;
     let mut inputs = first_inputs(alloc, words, verified, env)?;
+    set_parts(alloc, words, verified, &mut inputs)?;
+    Ok(inputs)
+}
+
+/// Sets the fields, entries and counters that the words name.
+fn set_parts(
+    alloc: Global,
+    words: &RunWords,
+    verified: &Verified,
+    inputs: &mut Inputs,
+) -> Result<(), InputFault>
+    ensures context { OnOk result (TextsInTurn (SetsFields verified.now.hook verified.now.version) words.now.fields.items inputs.old.context.items inputs.new.context.items) }
+    ensures maps { OnOk result (TextsInTurn SetsEntry words.now.entries.items inputs.old.maps inputs.new.maps) }
+    ensures board { OnOk result (TextsInTurn SetsCounter words.now.counters.items inputs.old.board inputs.new.board) }
+    ensures env { OnOk result (inputs.new.env ≡ inputs.old.env) }
+{
     let hook = verified.hook();
     let version = verified.version();
     inputs.set_all_fields(alloc, hook, version, words.fields.as_slice())?;
     inputs.set_all_entries(alloc, words.entries.as_slice())?;
     inputs.set_all_counters(alloc, words.counters.as_slice())?;
-    Ok(inputs)
+    Ok(())
 }
 
 /// The inputs before words set parts of them: the context that a word names, and all else 0.

@@ -1,7 +1,7 @@
 //! `run` of a policy's file.
 ghost use Rattle.std.specs.Prelude.{◌≡◌, IfOk, length, string_bytes};
 ghost use Rattle.bq_bpf.specs.Hooks.{context_length_of};
-ghost use Rattle.bq_policy_commands.specs.Running.{RunsFile, RunsOn, RunsPolicy, RunsProgram, RunsTo, TellsRun, TellsVerdict};
+ghost use Rattle.bq_policy_commands.specs.Running.{RunsFile, RunsOn, RunsPolicy, RunsProgram, RunsTo, TellsRun, TellsVerdict, answer_line};
 
 use crate::answered::Answered;
 use crate::given::{WordsFault, said_by};
@@ -104,8 +104,8 @@ fn run_verified<C: Clock>(
     match inputs_named(alloc, words, verified) {
         Ok(inputs) => {
             let line = time_line(alloc, clock, words, verified)?;
-            let series = Series { inputs, before };
-            run_on(alloc, words, policy, verified, series, &line)
+            let mut series = Series { inputs, before };
+            run_on(alloc, words, policy, verified, &mut series, &line)
         }
         Err(WordsFault::Words(why)) => Ok(Answered::Words(why)),
         Err(WordsFault::OutOfMemory) => Err(AllocError),
@@ -127,29 +127,42 @@ fn run_on(
     words: &RunWords,
     policy: &Policy,
     verified: &Verified,
-    series: Series,
+    series: &mut Series,
     line: &String,
 ) -> Result<Answered, AllocError>
-    ensures { IfOk result (RunsOn words.now.telling.is_traced series.before verified.now series.inputs) }
+    ensures { IfOk result (RunsOn words.now.telling.is_traced series.old.before verified.now series.old.inputs) }
 {
-    let Series { mut inputs, before } = series;
     let mut moments = Vec::new(alloc);
-    let first = copied(alloc, &inputs.maps)?;
-    let others = run_often(verified, &mut inputs, before);
-    let (Some(()), Some(ran)) = (others, trace_once(verified, &mut inputs, &mut moments)?) else {
+    let first = copied(alloc, &series.inputs.maps)?;
+    let others = run_often(verified, &mut series.inputs, series.before);
+    let last = trace_once(verified, &mut series.inputs, &mut moments)?;
+    let (Some(()), Some(ran)) = (others, last) else {
         return Ok(Answered::Words(String::from_str(
             alloc,
             "the inputs are not those of the hook",
         )?));
     };
+    let inputs = &series.inputs;
     let is_traced = words.telling.is_traced;
     let executed = executed_text(alloc, is_traced, policy, verified, moments.as_slice())?;
+    let changes = changed_text(alloc, first.as_slice(), inputs, &ran, line)?;
+    let text = told(alloc, verified, inputs, &ran, &executed, &changes)?;
+    Ok(Answered::Done(text))
+}
+
+/// What a run changed of what was there first, and the line that says how long runs take.
+fn changed_text(
+    alloc: Global,
+    first: &[Vec<u8>],
+    inputs: &Inputs,
+    ran: &OneRun,
+    line: &String,
+) -> Result<String, AllocError> {
     let mut changes = String::new(alloc);
-    write_changes(alloc, first.as_slice(), &inputs, &mut changes)?;
+    write_changes(alloc, first, inputs, &mut changes)?;
     write_calls(ran.calls.as_slice(), &mut changes)?;
     changes.push_str(line.as_str())?;
-    let text = told(alloc, verified, &inputs, &ran, &executed, &changes)?;
-    Ok(Answered::Done(text))
+    Ok(changes)
 }
 
 /// What the run answered, what the rule says of that, how many instructions it took, and which; and what changed.
@@ -165,9 +178,21 @@ fn told(
     ensures { IfOk result (λ text. TellsRun verified.now inputs.now.context.items ran.now.r0 ran.now.steps (string_bytes executed.now) (string_bytes text)) }
 {
     let r0 = ran.r0;
-    let steps = ran.steps;
-    let budget = verified.budget();
     let word = word_text(alloc, verified.hook(), inputs.context.as_slice(), r0)?;
-    let first = format!(in alloc; "r0 {r0} (0x{r0:x})  {word}  steps {steps} of {budget}\n")?;
+    let first = answer_line(alloc, verified, r0, ran.steps, &word)?;
     format!(in alloc; "{first}{executed}{changes}")
+}
+
+/// What the run answered, that word on it, and how many instructions it took.
+fn answer_line(
+    alloc: Global,
+    verified: &Verified,
+    r0: u64,
+    steps: u32,
+    word: &String,
+) -> Result<String, AllocError>
+    ensures { IfOk result (λ text. string_bytes text ≡ answer_line r0 (string_bytes word.now) steps verified.now.budget) }
+{
+    let budget = verified.budget();
+    format!(in alloc; "r0 {r0} (0x{r0:x})  {word}  steps {steps} of {budget}\n")
 }

@@ -2,7 +2,7 @@
 use crate::naming::inputs_named;
 use crate::repeats::runs_before;
 use crate::words::RunWords;
-use bq_one_run::run_often;
+use bq_one_run::{Inputs, run_often};
 use bq_verify::Verified;
 use std::alloc::{AllocError, Global};
 use std::time::Clock;
@@ -38,13 +38,23 @@ fn nanoseconds<C: Clock>(
     verified: &Verified,
     count: u32,
 ) -> Option<u128> {
-    let Ok(mut inputs) = inputs_named(alloc, words, verified) else {
-        return None;
-    };
+    match inputs_named(alloc, words, verified) {
+        Ok(mut inputs) => time_on(clock, verified, &mut inputs, count),
+        Err(_) => None,
+    }
+}
+
+/// How long so many runs take on these inputs. None where the clock fails or goes back.
+fn time_on<C: Clock>(
+    clock: &C,
+    verified: &Verified,
+    inputs: &mut Inputs,
+    count: u32,
+) -> Option<u128> {
     let Ok(began) = clock.monotonic() else {
         return None;
     };
-    run_often(verified, &mut inputs, count)?;
+    run_often(verified, inputs, count)?;
     let Ok(ended) = clock.monotonic() else {
         return None;
     };

@@ -1,7 +1,7 @@
 //! The words after a command, as they were given.
 
 /// The words that name a policy: its file, and what is said beside it.
-#[derive(Debug, Drop)]
+#[derive(Drop)]
 pub struct PolicyWords {
     /// The file; standard input without it, or as `-`.
     pub file: Option<String>,
@@ -14,7 +14,7 @@ pub struct PolicyWords {
 }
 
 /// The words after `check`.
-#[derive(Debug, Drop)]
+#[derive(Drop)]
 pub struct CheckWords {
     pub policy: PolicyWords,
     /// Whether a refusal is explained, and an accepted policy told in full.
@@ -28,7 +28,7 @@ pub struct CheckWords {
 }
 
 /// Which run is told, and how.
-#[derive(Debug, Drop)]
+#[derive(Drop)]
 pub struct TellingWords {
     /// Whether each instruction is told.
     pub is_traced: bool,
@@ -37,7 +37,7 @@ pub struct TellingWords {
 }
 
 /// The words after `run`.
-#[derive(Debug, Drop)]
+#[derive(Drop)]
 pub struct RunWords {
     pub policy: PolicyWords,
     pub telling: TellingWords,
@@ -56,7 +56,7 @@ pub struct RunWords {
 }
 
 /// The words after `dis`.
-#[derive(Debug, Drop)]
+#[derive(Drop)]
 pub struct ListWords {
     pub policy: PolicyWords,
     /// Whether each instruction has its slot and its bytes beside it.

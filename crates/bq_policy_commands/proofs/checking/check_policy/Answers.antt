@@ -16,12 +16,3 @@ returns-then-words c =
         | then-words-via-else-words+then-words-2 w ↦ let set : c.args.words.now.is_json ≡ true = w.if-words-2.true in absurd (cc)
       ];
     }
-
-pub returns : goal.returns
-returns c = record {
-  verdict = c.in_ok-verdict.verdict;
-  is_verdict = c.in_ok-verdict.ensures;
-  text = c.in_ok-line.line;
-  is = c.answered-2.ensures ∙ ap (λ accepted. answered accepted c.in_ok-line.line) c.is_accepted.ensures;
-  told = λ plain bare. c.in_ok-line.ensures;
-}
