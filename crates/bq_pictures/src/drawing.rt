@@ -97,30 +97,53 @@ impl Drawing {
         names: &Names,
         text: &mut String,
     ) -> Result<(), AllocError> {
-        let scale = Scale { extent };
         let tasks: Vec<u16> = self.tasks.iter().copied().collect(self.alloc)?;
         let shades = Shades {
             tasks: tasks.as_slice(),
             names,
         };
         let mut body = String::new(self.alloc);
+        let scale = Scale { extent };
+        let bottom = self.write_rows(window, &scale, &shades, &mut body)?;
+        write_all(&scale, &shades, bottom, body.as_str(), text)
+    }
+
+    /// The rows of the window, and where the last one ends.
+    fn write_rows(
+        &mut self,
+        window: &Window,
+        scale: &Scale,
+        shades: &Shades<'_>,
+        text: &mut String,
+    ) -> Result<usize, AllocError> {
         let mut top = TOP;
         for (number, row) in self.rows.iter_mut().enumerate() {
             if shows_row(window, number) {
                 row.waits.sort_unstable();
-                let lanes = row.write(self.alloc, number, top, &scale, &shades, &mut body)?;
+                let lanes = row.write(self.alloc, number, top, scale, shades, text)?;
                 top = top
                     .saturating_add(BAND)
                     .saturating_add(lanes.saturating_mul(LANE))
                     .saturating_add(GAP);
             }
         }
-        write_head(&shades, &extent, top, text)?;
-        write_axis(&scale, TOP, top, text)?;
-        text.push_str(body.as_str())?;
-        write_legend(&shades, top, text)?;
-        write_end(text)
+        Ok(top)
     }
+}
+
+/// The picture around its rows, which end there.
+fn write_all(
+    scale: &Scale,
+    shades: &Shades<'_>,
+    bottom: usize,
+    rows: &str,
+    text: &mut String,
+) -> Result<(), AllocError> {
+    write_head(shades, &scale.extent, bottom, text)?;
+    write_axis(scale, TOP, bottom, text)?;
+    text.push_str(rows)?;
+    write_legend(shades, bottom, text)?;
+    write_end(text)
 }
 
 fn shows_row(window: &Window, number: usize) -> bool {
@@ -146,6 +169,22 @@ impl Row {
             write_run(run, top, scale, shades, text)?;
         }
         let mut lanes = Lanes::new(alloc);
+        self.write_waits(&mut lanes, top, scale, shades, text)?;
+        for (at, task) in self.wakes.iter() {
+            write_tick(*at, *task, top, scale, shades, text)?;
+        }
+        Ok(lanes.count())
+    }
+
+    /// Draws the waits, below the runs.
+    fn write_waits(
+        &self,
+        lanes: &mut Lanes,
+        top: usize,
+        scale: &Scale,
+        shades: &Shades<'_>,
+        text: &mut String,
+    ) -> Result<(), AllocError> {
         for wait in self.waits.iter() {
             if let Some(lane) = lanes.take(wait)? {
                 let height = lane
@@ -155,9 +194,6 @@ impl Row {
                 write_wait(wait, height, scale, shades, text)?;
             }
         }
-        for (at, task) in self.wakes.iter() {
-            write_tick(*at, *task, top, scale, shades, text)?;
-        }
-        Ok(lanes.count())
+        Ok(())
     }
 }

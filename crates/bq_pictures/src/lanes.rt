@@ -6,7 +6,7 @@ use std::alloc::{AllocError, Global};
 pub const LANES: usize = 8;
 
 /// A stretch of time in which a task waits at a processor.
-#[derive(Clone, Copy, Debug, PartialEq, Eq, PartialOrd, Ord)]
+#[derive(Clone, Copy, PartialEq, Eq, PartialOrd, Ord)]
 pub struct Wait {
     pub from: u64,
     pub to: u64,

@@ -75,16 +75,18 @@ impl Perfetto {
         text.push_str(event)
     }
 
+    /// One processor more.
+    fn push_processor(&mut self) -> Result<(), AllocError> {
+        self.held.push(String::new(self.alloc))?;
+        self.ends.push(None)?;
+        self.runnable.push(0)?;
+        Ok(())
+    }
+
     /// Names the track of a processor.
     fn write_track(&self, processor: usize, text: &mut String) -> Result<(), AllocError> {
-        write!(
-            text,
-            ",\n{{\"ph\":\"M\",\"pid\":0,\"tid\":{processor},\"name\":\"thread_name\",\"args\":{{\"name\":\"cpu {processor}\"}}}}"
-        )?;
-        write!(
-            text,
-            ",\n{{\"ph\":\"M\",\"pid\":0,\"tid\":{processor},\"name\":\"thread_sort_index\",\"args\":{{\"sort_index\":{processor}}}}}"
-        )
+        write_track_name(processor, text)?;
+        write_track_place(processor, text)
     }
 
     /// A run, with the end of the flow that led to it, and what happened within it.
@@ -138,6 +140,17 @@ impl Perfetto {
         names: &Names,
     ) -> Result<String, AllocError> {
         let name = self.task_name(run.task, names)?;
+        let args = self.run_figures(run, start, schedule)?;
+        event_text(self.alloc, run, name.as_str(), args.as_str())
+    }
+
+    /// The figures of a run, as JSON.
+    fn run_figures(
+        &self,
+        run: &Slice,
+        start: &Start,
+        schedule: &Schedule,
+    ) -> Result<String, AllocError> {
         let figures = schedule.task(run.task);
         let args = json!(in self.alloc; {
             "task": (run.task),
@@ -145,8 +158,7 @@ impl Perfetto {
             "weight": (figures.weight),
             "waited_ns": (start.waited)
         })?;
-        let args = self.json(&args)?;
-        event_text(self.alloc, run, name.as_str(), args.as_str())
+        self.json(&args)
     }
 
     /// The beginning of the flow of a wake.
@@ -160,13 +172,8 @@ impl Perfetto {
         if !self.window.shows(wake.from, wake.task, wake.at) {
             return Ok(());
         }
-        let id = self.wakes;
-        let processor = wake.from;
-        let at = Micros(wake.at);
-        let event = format!(in self.alloc;
-            ",\n{{\"ph\":\"s\",\"cat\":\"wake\",\"name\":\"wake\",\"id\":{id},\"pid\":0,\"tid\":{processor},\"ts\":{at}}}"
-        )?;
-        self.flows.insert(wake.task, id)?;
+        let event = wake_text(self.alloc, wake, self.wakes)?;
+        self.flows.insert(wake.task, self.wakes)?;
         let is_held = schedule.processor(wake.from).running.is_some();
         self.put(wake.from, is_held, event.as_str(), text)
     }
@@ -190,14 +197,8 @@ impl Perfetto {
         if !decision.was_overruled() || !self.shows_moment(reading) {
             return Ok(());
         }
-        let hook = decision.hook.word();
-        let steps = decision.steps;
-        let processor = reading.processor;
-        let at = Micros(reading.to);
-        let event = format!(in self.alloc;
-            ",\n{{\"ph\":\"i\",\"s\":\"t\",\"cat\":\"policy\",\"name\":\"{hook} overruled\",\"pid\":0,\"tid\":{processor},\"ts\":{at},\"args\":{{\"steps\":{steps}}}}}"
-        )?;
-        self.put(processor, is_held, event.as_str(), text)
+        let event = decision_text(self.alloc, decision, reading)?;
+        self.put(reading.processor, is_held, event.as_str(), text)
     }
 
     /// How many tasks are runnable at a processor, where that has changed.
@@ -219,11 +220,35 @@ impl Perfetto {
             return Ok(());
         }
         *told = count;
-        let at = Micros(reading.to);
-        write!(
-            text,
-            ",\n{{\"ph\":\"C\",\"name\":\"cpu {processor} runnable\",\"pid\":0,\"ts\":{at},\"args\":{{\"tasks\":{count}}}}}"
-        )
+        write_counter(reading, count, text)
+    }
+
+    /// An instant for the answer of a policy, if a change has one that was overruled.
+    fn take_decision(
+        &mut self,
+        change: &Change,
+        schedule: &Schedule,
+        text: &mut String,
+    ) -> Result<(), AllocError> {
+        let (Some(decision), Some(reading)) = (&change.decision, &change.reading) else {
+            return Ok(());
+        };
+        let is_held = change.stop.is_some()
+            || change.start.is_none() && schedule.processor(reading.processor).running.is_some();
+        self.write_decision(decision, reading, is_held, text)
+    }
+
+    /// The beginning of the flow of a change's wake, if it has one.
+    fn take_wake(
+        &mut self,
+        change: &Change,
+        schedule: &Schedule,
+        text: &mut String,
+    ) -> Result<(), AllocError> {
+        match &change.wake {
+            Some(wake) => self.write_wake(wake, schedule, text),
+            None => Ok(()),
+        }
     }
 
     fn shows_moment(&self, reading: &Reading) -> bool {
@@ -231,6 +256,56 @@ impl Perfetto {
             && reading.to <= self.window.to
             && self.window.shows_processor(reading.processor)
     }
+}
+
+/// The name of the track of a processor.
+fn write_track_name(processor: usize, text: &mut String) -> Result<(), AllocError> {
+    write!(
+        text,
+        ",\n{{\"ph\":\"M\",\"pid\":0,\"tid\":{processor},\"name\":\"thread_name\",\"args\":{{\"name\":\"cpu {processor}\"}}}}"
+    )
+}
+
+/// The place of the track of a processor.
+fn write_track_place(processor: usize, text: &mut String) -> Result<(), AllocError> {
+    write!(
+        text,
+        ",\n{{\"ph\":\"M\",\"pid\":0,\"tid\":{processor},\"name\":\"thread_sort_index\",\"args\":{{\"sort_index\":{processor}}}}}"
+    )
+}
+
+/// The beginning of the flow of that number, at a wake.
+fn wake_text(alloc: Global, wake: &Wake, id: u64) -> Result<String, AllocError> {
+    let processor = wake.from;
+    let at = Micros(wake.at);
+    format!(in alloc;
+        ",\n{{\"ph\":\"s\",\"cat\":\"wake\",\"name\":\"wake\",\"id\":{id},\"pid\":0,\"tid\":{processor},\"ts\":{at}}}"
+    )
+}
+
+/// The instant of a policy's answer that was overruled.
+fn decision_text(
+    alloc: Global,
+    decision: &Decision,
+    reading: &Reading,
+) -> Result<String, AllocError> {
+    let hook = decision.hook.word();
+    let steps = decision.steps;
+    let processor = reading.processor;
+    let at = Micros(reading.to);
+    format!(in alloc;
+        ",\n{{\"ph\":\"i\",\"s\":\"t\",\"cat\":\"policy\",\"name\":\"{hook} overruled\",\"pid\":0,\"tid\":{processor},\"ts\":{at},\"args\":{{\"steps\":{steps}}}}}"
+    )
+}
+
+/// So many runnable tasks at a processor.
+fn write_counter(reading: &Reading, count: u64, text: &mut String) -> Result<(), AllocError> {
+    let processor = reading.processor;
+    let at = Micros(reading.to);
+    write!(
+        text,
+        ",\n{{\"ph\":\"C\",\"name\":\"cpu {processor} runnable\",\"pid\":0,\"ts\":{at},\"args\":{{\"tasks\":{count}}}}}"
+    )
 }
 
 /// The event of a run, with this name and these arguments, each JSON already.
@@ -257,9 +332,7 @@ impl Form for Perfetto {
             "{\"ph\":\"M\",\"pid\":0,\"name\":\"process_name\",\"args\":{\"name\":\"bqsim\"}}",
         )?;
         for processor in 0..schedule.processors() {
-            self.held.push(String::new(self.alloc))?;
-            self.ends.push(None)?;
-            self.runnable.push(0)?;
+            self.push_processor()?;
             self.write_track(processor, text)?;
         }
         Ok(())
@@ -272,23 +345,16 @@ impl Form for Perfetto {
         names: &Names,
         text: &mut String,
     ) -> Result<(), AllocError> {
-        if let (Some(decision), Some(reading)) = (change.decision, change.reading) {
-            let is_held = change.stop.is_some()
-                || change.start.is_none()
-                    && schedule.processor(reading.processor).running.is_some();
-            self.write_decision(&decision, &reading, is_held, text)?;
-        }
-        if let Some(wake) = change.wake {
-            self.write_wake(&wake, schedule, text)?;
-        }
-        if let Some(stop) = change.stop {
+        self.take_decision(change, schedule, text)?;
+        self.take_wake(change, schedule, text)?;
+        if let Some(stop) = &change.stop {
             self.write_run(&stop.start, stop.at, schedule, names, text)?;
         }
-        if let Some(start) = change.start {
-            self.keep_end(&start);
+        if let Some(start) = &change.start {
+            self.keep_end(start);
         }
-        match change.reading {
-            Some(reading) => self.write_count(&reading, schedule, text),
+        match &change.reading {
+            Some(reading) => self.write_count(reading, schedule, text),
             None => Ok(()),
         }
     }

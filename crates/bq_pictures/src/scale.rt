@@ -8,7 +8,7 @@ use std::fmt;
 /// Hundredths of a unit of the picture.
 ///
 /// 1250 is `12.50`.
-#[derive(Clone, Copy, Debug, PartialEq, Eq)]
+#[derive(Clone, Copy)]
 pub struct Hundredths(pub u64);
 
 impl fmt::Display for Hundredths {
@@ -27,7 +27,7 @@ pub const WIDTH: u64 = 1080;
 pub const LEFT: u64 = 72;
 
 /// A stretch of time, drawn over `WIDTH`.
-#[derive(Clone, Copy, Debug, PartialEq, Eq)]
+#[derive(Clone, Copy)]
 pub struct Scale {
     pub extent: Extent,
 }

@@ -21,7 +21,7 @@ const ABREAST: usize = 6;
 const SHORT: usize = 18;
 
 /// A run, and how it began.
-#[derive(Clone, Copy, Debug)]
+#[derive(Clone, Copy)]
 pub struct Run {
     pub task: u16,
     pub from: u64,
@@ -79,31 +79,60 @@ pub fn write_head(
     let height = bottom
         .saturating_add(84)
         .saturating_add(lines.saturating_mul(24));
+    write_size(height, text)?;
+    write_styles(text)?;
+    write_hatches(text)?;
+    write_title(extent, text)
+}
+
+/// The size.
+fn write_size(height: usize, text: &mut String) -> Result<(), AllocError> {
     write!(
         text,
         "<svg xmlns=\"http://www.w3.org/2000/svg\" width=\"{PAGE}\" height=\"{height}\" viewBox=\"0 0 {PAGE} {height}\" role=\"img\">\n"
-    )?;
+    )
+}
+
+/// The styles, up to the hatches.
+fn write_styles(text: &mut String) -> Result<(), AllocError> {
     text.push_str("<title>Schedule</title>\n<style>\n")?;
     text.push_str(BASE)?;
     text.push_str(STYLE)?;
     text.push_str(DARK)?;
-    text.push_str("</style>\n<defs>\n")?;
+    text.push_str("</style>\n<defs>\n")
+}
+
+/// The hatches of the colours, and the page.
+fn write_hatches(text: &mut String) -> Result<(), AllocError> {
     for place in 0..COLOURS {
-        let colour = hex(place);
-        write!(
-            text,
-            "<pattern id=\"h{place}\" width=\"5\" height=\"5\" patternUnits=\"userSpaceOnUse\" patternTransform=\"rotate(45)\">"
-        )?;
-        write!(
-            text,
-            "<rect width=\"5\" height=\"5\" fill=\"{colour}\" fill-opacity=\"0.22\"/>"
-        )?;
-        write!(
-            text,
-            "<rect width=\"1.6\" height=\"5\" fill=\"{colour}\"/></pattern>\n"
-        )?;
+        write_hatch(place, text)?;
+        write_hatch_lines(hex(place), text)?;
     }
-    text.push_str("</defs>\n<rect class=\"page\" width=\"100%\" height=\"100%\"/>\n")?;
+    text.push_str("</defs>\n<rect class=\"page\" width=\"100%\" height=\"100%\"/>\n")
+}
+
+/// The beginning of the hatch of a colour.
+fn write_hatch(place: usize, text: &mut String) -> Result<(), AllocError> {
+    write!(
+        text,
+        "<pattern id=\"h{place}\" width=\"5\" height=\"5\" patternUnits=\"userSpaceOnUse\" patternTransform=\"rotate(45)\">"
+    )
+}
+
+/// What stands in the hatch of a colour.
+fn write_hatch_lines(colour: &str, text: &mut String) -> Result<(), AllocError> {
+    write!(
+        text,
+        "<rect width=\"5\" height=\"5\" fill=\"{colour}\" fill-opacity=\"0.22\"/>"
+    )?;
+    write!(
+        text,
+        "<rect width=\"1.6\" height=\"5\" fill=\"{colour}\"/></pattern>\n"
+    )
+}
+
+/// The title.
+fn write_title(extent: &Extent, text: &mut String) -> Result<(), AllocError> {
     let from = Millis(extent.from);
     let to = Millis(extent.to);
     write!(
@@ -154,39 +183,66 @@ pub fn write_run(
         "<g><rect class=\"run c{colour}\" x=\"{place}\" y=\"{top}\" width=\"{width}\" height=\"{BAND}\" rx=\"2\"/>"
     )?;
     write_run_title(run, shades, text)?;
-    if width.0
-        >= shades
-            .name_length(run.task)
-            .saturating_mul(760)
-            .saturating_add(800)
-    {
+    let least = shades
+        .name_length(run.task)
+        .saturating_mul(760)
+        .saturating_add(800);
+    if width.0 >= least {
         let middle = Hundredths(place.0.saturating_add(width.0 / 2));
-        let line = top.saturating_add(18);
-        write!(
-            text,
-            "<text class=\"in l{colour}\" x=\"{middle}\" y=\"{line}\">"
-        )?;
-        shades.write_name(run.task, usize::MAX, text)?;
-        text.push_str("</text>")?;
+        write_run_name(run.task, colour, middle, top, shades, text)?;
     }
     text.push_str("</g>\n")
 }
 
+/// The name of a run's task, around this place.
+fn write_run_name(
+    task: u16,
+    colour: usize,
+    middle: Hundredths,
+    top: usize,
+    shades: &Shades<'_>,
+    text: &mut String,
+) -> Result<(), AllocError> {
+    let line = top.saturating_add(18);
+    write!(
+        text,
+        "<text class=\"in l{colour}\" x=\"{middle}\" y=\"{line}\">"
+    )?;
+    shades.write_name(task, usize::MAX, text)?;
+    text.push_str("</text>")
+}
+
+/// The tooltip of a run.
 fn write_run_title(run: &Run, shades: &Shades<'_>, text: &mut String) -> Result<(), AllocError> {
     text.push_str("<title>")?;
     shades.write_name(run.task, usize::MAX, text)?;
+    write_run_times(run, text)?;
+    write_run_waits(run, text)?;
+    text.push_str("</title>")
+}
+
+/// When a run is.
+fn write_run_times(run: &Run, text: &mut String) -> Result<(), AllocError> {
     let task = run.task;
     let from = Millis(run.from);
     let to = Millis(run.to);
     let length = Millis(run.to.saturating_sub(run.from));
-    write!(text, " ({task}) runs {from} to {to} ms: {length} ms")?;
+    write!(text, " ({task}) runs {from} to {to} ms: {length} ms")
+}
+
+/// How long its task waited for a run.
+fn write_run_waits(run: &Run, text: &mut String) -> Result<(), AllocError> {
     let waited = Millis(run.waited);
     write!(text, ", after {waited} ms of waiting")?;
-    if let Some(latency) = run.latency {
-        let latency = Millis(latency);
-        write!(text, ", {latency} ms since its wake")?;
+    match run.latency {
+        Some(latency) => write_latency(Millis(latency), text),
+        None => Ok(()),
     }
-    text.push_str("</title>")
+}
+
+/// How long after its wake a run began.
+fn write_latency(latency: Millis, text: &mut String) -> Result<(), AllocError> {
+    write!(text, ", {latency} ms since its wake")
 }
 
 /// A wait, hatched.
@@ -197,16 +253,31 @@ pub fn write_wait(
     shades: &Shades<'_>,
     text: &mut String,
 ) -> Result<(), AllocError> {
+    write_wait_bar(wait, height, scale, shades.colour(wait.task), text)?;
+    shades.write_name(wait.task, usize::MAX, text)?;
+    write_wait_times(wait, text)
+}
+
+/// The bar of a wait, in that colour.
+fn write_wait_bar(
+    wait: &Wait,
+    height: usize,
+    scale: &Scale,
+    colour: usize,
+    text: &mut String,
+) -> Result<(), AllocError> {
     let place = scale.place(wait.from);
     let width = scale.width(wait.from, wait.to);
-    let colour = shades.colour(wait.task);
     let hue = hex(colour);
     let top = height.saturating_add(2);
     write!(
         text,
         "<rect class=\"wait\" x=\"{place}\" y=\"{top}\" width=\"{width}\" height=\"6\" fill=\"url(#h{colour})\" stroke=\"{hue}\"><title>"
-    )?;
-    shades.write_name(wait.task, usize::MAX, text)?;
+    )
+}
+
+/// When a wait is.
+fn write_wait_times(wait: &Wait, text: &mut String) -> Result<(), AllocError> {
     let from = Millis(wait.from);
     let to = Millis(wait.to);
     write!(text, " waits {from} to {to} ms</title></rect>\n")
@@ -229,7 +300,11 @@ pub fn write_tick(
         "<path class=\"tick c{colour}\" d=\"M{place} {begin}v9l-2.5 -4h5l-2.5 4\"><title>"
     )?;
     shades.write_name(task, usize::MAX, text)?;
-    let at = Millis(at);
+    write_tick_time(Millis(at), text)
+}
+
+/// When a wake is.
+fn write_tick_time(at: Millis, text: &mut String) -> Result<(), AllocError> {
     write!(text, " is woken at {at} ms</title></path>\n")
 }
 
@@ -253,17 +328,41 @@ pub fn write_axis(
         }
         let place = scale.place(at);
         let count = at / unit.length().max(1);
-        write!(
-            text,
-            "<path class=\"grid\" d=\"M{place} {begin}V{bottom}\"/>"
-        )?;
-        write!(
-            text,
-            "<text class=\"small\" text-anchor=\"middle\" x=\"{place}\" y=\"{line}\">{count}</text>\n"
-        )?;
+        write_grid_line(place, begin, bottom, text)?;
+        write_grid_count(place, line, count, text)?;
         at = at.saturating_add(step);
     }
-    let name = unit.name();
+    write_axis_name(unit.name(), line, text)
+}
+
+/// A line of the axis.
+fn write_grid_line(
+    place: Hundredths,
+    begin: usize,
+    bottom: usize,
+    text: &mut String,
+) -> Result<(), AllocError> {
+    write!(
+        text,
+        "<path class=\"grid\" d=\"M{place} {begin}V{bottom}\"/>"
+    )
+}
+
+/// The number at a line of the axis.
+fn write_grid_count(
+    place: Hundredths,
+    line: usize,
+    count: u64,
+    text: &mut String,
+) -> Result<(), AllocError> {
+    write!(
+        text,
+        "<text class=\"small\" text-anchor=\"middle\" x=\"{place}\" y=\"{line}\">{count}</text>\n"
+    )
+}
+
+/// What the axis tells, by the name of its unit.
+fn write_axis_name(name: &str, line: usize, text: &mut String) -> Result<(), AllocError> {
     write!(
         text,
         "<text class=\"small\" x=\"16\" y=\"{line}\">time, {name}</text>\n"
@@ -321,29 +420,47 @@ pub fn write_legend(
     for (place, task) in shades.tasks.iter().enumerate() {
         let left = (place % ABREAST).saturating_mul(176).saturating_add(72);
         let top = (place / ABREAST).saturating_mul(24).saturating_add(first);
-        let colour = place % COLOURS;
-        let right = left.saturating_add(20);
-        let line = top.saturating_add(11);
-        write!(
-            text,
-            "<rect class=\"run c{colour}\" x=\"{left}\" y=\"{top}\" width=\"14\" height=\"14\" rx=\"2\"/>"
-        )?;
-        write!(text, "<text x=\"{right}\" y=\"{line}\">")?;
-        shades.write_name(*task, SHORT, text)?;
-        if shades.names.of(*task).is_some() {
-            write!(text, " ({task})")?;
-        }
-        text.push_str("</text>\n")?;
+        write_swatch(place % COLOURS, left, top, text)?;
+        write_short_name(*task, shades, text)?;
     }
     let lines = shades.tasks.len().div_ceil(ABREAST);
     write_key(lines.saturating_mul(24).saturating_add(first), text)
 }
 
+/// A colour of the legend, and where the name beside it begins.
+fn write_swatch(
+    colour: usize,
+    left: usize,
+    top: usize,
+    text: &mut String,
+) -> Result<(), AllocError> {
+    let right = left.saturating_add(20);
+    let line = top.saturating_add(11);
+    write!(
+        text,
+        "<rect class=\"run c{colour}\" x=\"{left}\" y=\"{top}\" width=\"14\" height=\"14\" rx=\"2\"/>"
+    )?;
+    write!(text, "<text x=\"{right}\" y=\"{line}\">")
+}
+
+/// The name of a task in the legend, and its number.
+fn write_short_name(task: u16, shades: &Shades<'_>, text: &mut String) -> Result<(), AllocError> {
+    shades.write_name(task, SHORT, text)?;
+    if shades.names.of(task).is_some() {
+        write!(text, " ({task})")?;
+    }
+    text.push_str("</text>\n")
+}
+
 /// What hatches and ticks are.
 fn write_key(top: usize, text: &mut String) -> Result<(), AllocError> {
     let line = top.saturating_add(14);
-    let bar = top.saturating_add(6);
-    let tick = top.saturating_add(4);
+    write_wait_key(top.saturating_add(6), line, text)?;
+    write_tick_key(top.saturating_add(4), line, text)
+}
+
+/// What hatches are.
+fn write_wait_key(bar: usize, line: usize, text: &mut String) -> Result<(), AllocError> {
     write!(
         text,
         "<rect class=\"wait\" x=\"72\" y=\"{bar}\" width=\"26\" height=\"6\" fill=\"url(#h7)\" stroke=\"#8c8c8c\"/>"
@@ -351,7 +468,11 @@ fn write_key(top: usize, text: &mut String) -> Result<(), AllocError> {
     write!(
         text,
         "<text class=\"small\" x=\"106\" y=\"{line}\">waits</text>"
-    )?;
+    )
+}
+
+/// What ticks are.
+fn write_tick_key(tick: usize, line: usize, text: &mut String) -> Result<(), AllocError> {
     write!(
         text,
         "<path class=\"tick c7\" d=\"M170 {tick}v9l-2.5 -4h5l-2.5 4\"/>"
