@@ -43,6 +43,10 @@ IsJobOf name rows Dis = name ≡ codes "dis"
 IsJobOf name rows (Par p) = (name ≡ codes "par") × IsParallel rows p
 IsJobOf name rows Replay = name ≡ codes "replay"
 
+-- the command and its options are those that were found
+abbrev pub IsJobIn : Option (Text × List Row) → Job → Type 0
+IsJobIn found job = (name : Text) × (rows : List Row) × (found ≡ Some (name, rows)) × IsJobOf name rows job
+
 -- the command and its options are those that clap finds in the words
 abbrev pub IsJob : List Text → Job → Type 0
-IsJob words job = (name : Text) × (rows : List Row) × (subcommand_of program words ≡ Some (name, rows)) × IsJobOf name rows job
+IsJob words job = IsJobIn (subcommand_of program words) job

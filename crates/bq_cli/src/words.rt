@@ -2,7 +2,7 @@
 ghost use Rattle.std.specs.Prelude.{◌≡◌, IfOk, IfErr, map, true};
 ghost use Rattle.clap.specs.Words.{takes, kind_of, subcommand_of, subcommand_rows_of};
 ghost use Rattle.bq_cli.specs.Program.{program};
-ghost use Rattle.bq_cli.specs.Jobs.{IsJob};
+ghost use Rattle.bq_cli.specs.Jobs.{IsJob, IsJobIn};
 
 use crate::asked::{Job, JobFault};
 use crate::asm_words::options;
@@ -22,6 +22,14 @@ pub fn job<'a>(alloc: Global, words: &'a [&'a str]) -> Result<Job, JobFault>
         → (job : Job) → IsJob (map (λ w. w.now) words.entry.now) job → e ≡ JobFault.OutOfMemory) }
 {
     let matches = found(alloc, words)?;
+    job_in(alloc, &matches)
+}
+
+/// The command that was found among the words, with its options.
+fn job_in(alloc: Global, matches: &ArgMatches<'_>) -> Result<Job, JobFault>
+    ensures ok { IfOk result (IsJobIn (subcommand_rows_of matches.now)) }
+    ensures taken { IfErr result (λ e. (job : Job) → IsJobIn (subcommand_rows_of matches.now) job → e ≡ JobFault.OutOfMemory) }
+{
     if let Some(matches) = matches.subcommand_matches("asm") {
         return Ok(Job::Asm(options(alloc, matches)?));
     }

@@ -1,12 +1,7 @@
-//! Options that take one value, and what was found for them.
+//! What was found for an option.
 
-use clap::{Arg, ArgMatches};
+use clap::ArgMatches;
 use std::alloc::{AllocError, Global};
-
-/// An option that takes one value.
-pub fn option<'a>(alloc: Global, name: &'a str, value: &'a str) -> Arg<'a> {
-    Arg::new(alloc, name).long(name).value_name(value)
-}
 
 /// A text of its own with the value of an option, if it has one.
 pub fn word(

@@ -1,6 +1,7 @@
 //! What words ask of a policy.
-ghost use Rattle.std.specs.Prelude.{IfOk};
-ghost use Rattle.clap.specs.Words.{found_of, rows_of};
+ghost use Rattle.std.specs.Prelude.{◌≡◌, IfOk, codes};
+ghost use Rattle.clap.specs.Words.{first_of, found_of, rows_of};
+ghost use Rattle.bq_policy_commands.specs.Saying.{option_bytes};
 ghost use Rattle.bq_policy_desk.specs.Asked.{AreCheckWords, AreListWords, ArePolicyWords, AreRunWords, AreTellingWords};
 
 use crate::commands::program;
@@ -27,6 +28,11 @@ pub(crate) fn read_words<'a>(alloc: Global, words: &'a [&'a str]) -> Result<Aske
         Ok(matches) => matches,
         Err(error) => return Ok(Asked::Text(refusal(alloc, &error)?)),
     };
+    asked_in(alloc, &matches)
+}
+
+/// What was found among the words.
+fn asked_in(alloc: Global, matches: &ArgMatches<'_>) -> Result<Asked, AllocError> {
     if let Some(matches) = matches.subcommand_matches("check") {
         return Ok(Asked::Check(check_words(alloc, matches)?));
     }
@@ -84,11 +90,8 @@ fn run_words(alloc: Global, matches: &ArgMatches<'_>) -> Result<RunWords, AllocE
     let policy = policy_words(alloc, matches)?;
     let telling = telling_words(alloc, matches)?;
     let context = word(alloc, matches, "ctx")?;
-    let fields = list(alloc, matches, "set")?;
-    let entries = list(alloc, matches, "map")?;
-    let counters = list(alloc, matches, "counter")?;
-    let time = word(alloc, matches, "time")?;
-    let processor = word(alloc, matches, "processor")?;
+    let (time, processor) = moment_words(alloc, matches)?;
+    let (fields, entries, counters) = begun_with(alloc, matches)?;
     Ok(RunWords {
         policy,
         telling,
@@ -99,6 +102,29 @@ fn run_words(alloc: Global, matches: &ArgMatches<'_>) -> Result<RunWords, AllocE
         time,
         processor,
     })
+}
+
+/// The time and the processor of a run.
+fn moment_words(
+    alloc: Global,
+    matches: &ArgMatches<'_>,
+) -> Result<(Option<String>, Option<String>), AllocError>
+    ensures { IfOk result (λ w. (option_bytes w.0 ≡ first_of (codes "time") (rows_of (found_of matches.now))) × (option_bytes w.1 ≡ first_of (codes "processor") (rows_of (found_of matches.now)))) }
+{
+    let time = word(alloc, matches, "time")?;
+    let processor = word(alloc, matches, "processor")?;
+    Ok((time, processor))
+}
+
+/// The fields, entries and counters that a run begins with.
+fn begun_with(
+    alloc: Global,
+    matches: &ArgMatches<'_>,
+) -> Result<(Vec<String>, Vec<String>, Vec<String>), AllocError> {
+    let fields = list(alloc, matches, "set")?;
+    let entries = list(alloc, matches, "map")?;
+    let counters = list(alloc, matches, "counter")?;
+    Ok((fields, entries, counters))
 }
 
 /// The words that say which run is told, and how.

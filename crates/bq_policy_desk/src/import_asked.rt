@@ -1,17 +1,42 @@
 //! The words after `import`.
 
 use crate::import_settings::ImportWords;
-use bq_options::{WordsFault, option, texts, word};
-use clap::{Arg, ArgMatches, Command};
+use bq_options::{CommandText, Given, OptionText, WordsFault, matches_of, texts, word};
+use clap::ArgMatches;
 use std::alloc::{AllocError, Global};
+
+/// The command, as its help page tells it.
+static IMPORT: CommandText<'static> = CommandText {
+    name: "import",
+    about: "Reads the text section of a compiled program, as bytes or as hex, and writes it as an assembler text",
+    options: &[&[
+        OptionText {
+            name: "file",
+            given: Given::Alone("FILE"),
+            help: "The text section; standard input without it, or as -",
+        },
+        OptionText {
+            name: "hook",
+            given: Given::Needed("HOOK"),
+            help: "The choice that the program makes: place, preempt or pull",
+        },
+        OptionText {
+            name: "maps",
+            given: Given::Once("MAPS"),
+            help: texts::MAPS,
+        },
+        OptionText {
+            name: "format",
+            given: Given::Once("FORMAT"),
+            help: texts::FORMAT,
+        },
+    ]],
+};
 
 /// Reads the words after `import`.
 pub fn import_words<'a>(alloc: Global, given: &'a [&'a str]) -> Result<ImportWords, WordsFault> {
-    let command = command(alloc)?;
-    match command.try_get_matches_from(given) {
-        Ok(matches) => Ok(found(alloc, &matches)?),
-        Err(error) => Err(WordsFault::of(alloc, &error)),
-    }
+    let matches = matches_of(alloc, &IMPORT, "bqsim import", given)?;
+    Ok(found(alloc, &matches)?)
 }
 
 /// The words that were found.
@@ -29,25 +54,4 @@ fn found(alloc: Global, matches: &ArgMatches<'_>) -> Result<ImportWords, AllocEr
         maps,
         format,
     })
-}
-
-/// The options, as clap takes them. The words come without the program's name and `import`.
-fn command<'a>(alloc: Global) -> Result<Command<'a>, AllocError> {
-    let command = Command::new(alloc, "import").about(
-        "Reads the text section of a compiled program, as bytes or as hex, and writes it as an assembler text",
-    );
-    let file = Arg::new(alloc, "file")
-        .value_name("FILE")
-        .help("The text section; standard input without it, or as -");
-    let command = command.arg(file)?;
-    let hook = option(alloc, "hook", "HOOK").required(true).help(
-        "The choice that the program makes: place, preempt or pull",
-    );
-    let command = command.arg(hook)?;
-    let maps = option(alloc, "maps", "MAPS").help(texts::MAPS);
-    let command = command.arg(maps)?;
-    let format = option(alloc, "format", "FORMAT").help(texts::FORMAT);
-    let command = command.arg(format)?;
-    let command = command.bin_name("bqsim import")?;
-    Ok(command.no_binary_name(true))
 }

@@ -1,34 +1,9 @@
 //! What help pages tell of the commands on policies.
 
-/// How an option is given.
-pub(crate) enum Given {
-    /// As a word alone, which is its value. The value's name.
-    Alone(&'static str),
-    /// With one value after its name. The value's name.
-    Once(&'static str),
-    /// Several times, each time with one value. The value's name.
-    Often(&'static str),
-    /// By its name, without a value.
-    Flag,
-}
-
-/// What a help page tells of an option.
-pub(crate) struct OptionText {
-    pub(crate) name: &'static str,
-    pub(crate) given: Given,
-    pub(crate) help: &'static str,
-}
-
-/// What a help page tells of a command.
-pub(crate) struct CommandText {
-    pub(crate) name: &'static str,
-    pub(crate) about: &'static str,
-    /// The options that it has beside those of a policy.
-    pub(crate) options: &'static [OptionText],
-}
+use bq_options::{CommandText, Given, OptionText};
 
 /// The options that name a policy and say what its file does not. Each command has them first.
-pub(crate) static POLICY_OPTIONS: [OptionText; 4] = [
+const POLICY_OPTIONS: [OptionText; 4] = [
     OptionText {
         name: "file",
         given: Given::Alone("FILE"),
@@ -52,86 +27,95 @@ pub(crate) static POLICY_OPTIONS: [OptionText; 4] = [
 ];
 
 /// The commands, in the order of the help page.
-pub(crate) static COMMANDS: [CommandText; 3] = [
+pub(crate) static COMMANDS: [CommandText<'static>; 3] = [
     CommandText {
         name: "check",
         about: "Says whether a policy is accepted, and why not; without a word more it reads the hex of an image from standard input and writes its hook and its budget",
         options: &[
-            OptionText {
-                name: "explain",
-                given: Given::Flag,
-                help: "Tells all of a policy that is accepted, and of another its line, what is missing, what is known there and what helps",
-            },
-            OptionText {
-                name: "json",
-                given: Given::Flag,
-                help: "Writes the answer and its explanation as a line of JSON",
-            },
-            OptionText {
-                name: "max-steps",
-                given: Given::Once("N"),
-                help: "Refuses a policy whose runs take more than N instructions",
-            },
-            OptionText {
-                name: "helpers",
-                given: Given::Once("LIST"),
-                help: "Refuses a policy that calls a helper beside these, as in 1,2,5,8",
-            },
+            &POLICY_OPTIONS,
+            &[
+                OptionText {
+                    name: "explain",
+                    given: Given::Flag,
+                    help: "Tells all of a policy that is accepted, and of another its line, what is missing, what is known there and what helps",
+                },
+                OptionText {
+                    name: "json",
+                    given: Given::Flag,
+                    help: "Writes the answer and its explanation as a line of JSON",
+                },
+                OptionText {
+                    name: "max-steps",
+                    given: Given::Once("N"),
+                    help: "Refuses a policy whose runs take more than N instructions",
+                },
+                OptionText {
+                    name: "helpers",
+                    given: Given::Once("LIST"),
+                    help: "Refuses a policy that calls a helper beside these, as in 1,2,5,8",
+                },
+            ],
         ],
     },
     CommandText {
         name: "run",
         about: "Runs an accepted policy once, and says what it answered, whether that is permitted, how many instructions it took, and which maps and counters changed",
         options: &[
-            OptionText {
-                name: "ctx",
-                given: Given::Once("HEX"),
-                help: "The bytes of the context; all 0 without it",
-            },
-            OptionText {
-                name: "set",
-                given: Given::Often("FIELDS"),
-                help: "Fields of the context by their names, as in task=3,mask=0x6,load.1=2; others keep their bytes",
-            },
-            OptionText {
-                name: "map",
-                given: Given::Often("ENTRY"),
-                help: "An entry of a map by the map's number and its own, as in 0:0=0a00; bytes that are left out are 0",
-            },
-            OptionText {
-                name: "time",
-                given: Given::Once("T"),
-                help: "The time in nanoseconds, which helper 5 answers",
-            },
-            OptionText {
-                name: "processor",
-                given: Given::Once("P"),
-                help: "The processor, which helper 8 answers",
-            },
-            OptionText {
-                name: "counter",
-                given: Given::Often("COUNTER"),
-                help: "A counter before the run, as in 3=10",
-            },
-            OptionText {
-                name: "trace",
-                given: Given::Flag,
-                help: "Writes each instruction that the run executes, with its place and the registers that it changes",
-            },
-            OptionText {
-                name: "repeat",
-                given: Given::Once("N"),
-                help: "Runs the policy N times, each time on the maps and counters that the run before left, and tells the last run and its calls of counters, entries of maps as all runs changed them, and how long a run took on average",
-            },
+            &POLICY_OPTIONS,
+            &[
+                OptionText {
+                    name: "ctx",
+                    given: Given::Once("HEX"),
+                    help: "The bytes of the context; all 0 without it",
+                },
+                OptionText {
+                    name: "set",
+                    given: Given::Often("FIELDS"),
+                    help: "Fields of the context by their names, as in task=3,mask=0x6,load.1=2; others keep their bytes",
+                },
+                OptionText {
+                    name: "map",
+                    given: Given::Often("ENTRY"),
+                    help: "An entry of a map by the map's number and its own, as in 0:0=0a00; bytes that are left out are 0",
+                },
+                OptionText {
+                    name: "time",
+                    given: Given::Once("T"),
+                    help: "The time in nanoseconds, which helper 5 answers",
+                },
+                OptionText {
+                    name: "processor",
+                    given: Given::Once("P"),
+                    help: "The processor, which helper 8 answers",
+                },
+                OptionText {
+                    name: "counter",
+                    given: Given::Often("COUNTER"),
+                    help: "A counter before the run, as in 3=10",
+                },
+                OptionText {
+                    name: "trace",
+                    given: Given::Flag,
+                    help: "Writes each instruction that the run executes, with its place and the registers that it changes",
+                },
+                OptionText {
+                    name: "repeat",
+                    given: Given::Once("N"),
+                    help: "Runs the policy N times, each time on the maps and counters that the run before left, and tells the last run and its calls of counters, entries of maps as all runs changed them, and how long a run took on average",
+                },
+            ],
         ],
     },
     CommandText {
         name: "dis",
         about: "Lists a policy under the marks that say what it is; without a word more it reads the hex of a program from standard input and writes its listing",
-        options: &[OptionText {
-            name: "slots",
-            given: Given::Flag,
-            help: "Writes beside each instruction its slot and its bytes, as a comment",
-        }],
+        options: &[
+            &POLICY_OPTIONS,
+            &[OptionText {
+                name: "slots",
+                given: Given::Flag,
+                help: "Writes beside each instruction its slot and its bytes, as a comment",
+            }],
+        ],
     },
 ];

@@ -56,19 +56,19 @@ impl Asked {
 /// What the words put in the place of a workload's own machine.
 pub fn asked_changes(words: &StudyWords) -> Result<Changes, AskedFault> {
     let mut changes = Changes::NONE;
-    if let Some(word) = &words.discipline {
+    if let Some(word) = &words.machine.discipline {
         let rule = Rule::of_word(word.as_bytes()).ok_or(AskedFault::Discipline)?;
         changes.rule = Some(rule);
     }
-    if let Some(word) = &words.processors {
+    if let Some(word) = &words.machine.processors {
         let size = size(word.as_str()).ok_or(AskedFault::Processors)?;
         changes.size = Some(size);
     }
-    if let Some(word) = &words.duration {
+    if let Some(word) = &words.machine.duration {
         let time = time(word.as_str()).ok_or(AskedFault::Duration)?;
         changes.duration = Some(time);
     }
-    if let Some(word) = &words.seed {
+    if let Some(word) = &words.machine.seed {
         let seed = bq_lines::numbers::decimal(word.as_bytes()).ok_or(AskedFault::Seed)?;
         changes.seed = Some(seed);
     }

@@ -13,7 +13,7 @@ pub mod policies;
 pub mod running;
 
 pub use asked::{Asked, AskedFault, asked_changes};
-pub use command::{StudyWords, study_words};
+pub use command::{HookWords, MachineWords, StudyWords, study_words};
 pub use names::task_names;
 pub use policies::{Policies, PolicyFault};
 pub use running::{Written, run_as};

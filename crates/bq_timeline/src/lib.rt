@@ -15,6 +15,6 @@ pub mod showing;
 pub mod shown;
 pub mod viewer;
 
-pub use command::{shown_words, with_shown_options, words};
+pub use command::{SHOWN_OPTIONS, shown_words, words};
 pub use settings::{Settings, SettingsFault, Words};
 pub use showing::{Outcome, show};

@@ -139,9 +139,9 @@ fn workload(rt: &HostRuntime, words: &StudyWords, changes: Changes) -> Result<Wo
 /// The policies that the words put at the hooks.
 fn policies(rt: &HostRuntime, words: &StudyWords) -> Result<Policies, ExitCode> {
     let mut policies = Policies::new(rt.alloc());
-    add(rt, &mut policies, Hook::Place, &words.place)?;
-    add(rt, &mut policies, Hook::Preempt, &words.preempt)?;
-    add(rt, &mut policies, Hook::Pull, &words.pull)?;
+    add(rt, &mut policies, Hook::Place, &words.hooks.place)?;
+    add(rt, &mut policies, Hook::Preempt, &words.hooks.preempt)?;
+    add(rt, &mut policies, Hook::Pull, &words.hooks.pull)?;
     Ok(policies)
 }
 

@@ -1,19 +1,7 @@
-use Rattle.std.proofs.Common.{◌≡◌, ◌∙◌, rules, List, Some}
-use Rattle.std.specs.Prelude.{option_map, codes}
-use Rattle.std.proofs.lemmas.Result.{err_from_is_err_and}
-use Rattle.clap.specs.Words.{Row, Text, found_of, rows_of, subcommand_name_of, subcommand_rows_of}
-use Rattle.clap.specs.declared.parser.matches.ArgMatches.TheViews.{out-ArgMatches, out-SubCommand}
-use Rattle.std.specs.Box.{box_value}
-use Rattle.bq_cli.proofs.ParWordLemmas.{asked, entered}
+use Rattle.std.proofs.Common.{sym, subst}
+use Rattle.std.proofs.lemmas.Result.{IfErr-weaker}
+use Rattle.bq_cli.specs.Jobs.{IsJobIn}
 use Rattle.bq_cli.proofs.words.job.Goals as goal
 
-pub returns-in_err-parallel-clause-taken : goal.returns-in_err-parallel-clause-taken
-returns-in_err-parallel-clause-taken c =
-    let p = err_from_is_err_and c.from_residual-in_err-parallel.result c.from_residual-in_err-parallel.ensures.1 in
-    let m = c.in_ok-matches.matches in
-    let rows = rows_of (found_of c.in-Some-subcommand_matches-3.matches.now) in
-    let named : subcommand_name_of m ≡ Some (codes "par") = search rules in
-    let listed : option_map (λ (q : Text × List Row). q.1) (subcommand_rows_of m) ≡ Some rows = search rules in
-    rw (p.1, p.2) (λ taken job given.
-    let both = entered (out-ArgMatches m).subcommand (λ b. (out-SubCommand (box_value b)).name.now) (λ b. rows_of (found_of (out-SubCommand (box_value b)).matches)) (codes "par") given.0 given.1 rows named listed (c.in_ok-matches.ensures.ok ∙ given.2) in
-    asked given.0 given.1 rows job _ both.0 both.1 given.3 c.in_err-parallel.ensures.taken)
+pub returns-clause-taken : goal.returns-clause-taken
+returns-clause-taken c = IfErr-weaker c.job_in.result _ _ (λ e told taken job given. told job (subst (λ f. IsJobIn f job) (sym c.in_ok-matches.ensures.ok) given)) c.job_in.ensures.taken

@@ -1,15 +1,21 @@
--- One row more of the table of commands, or of a command's table of options.
+-- One row more of the table of commands, or of a command's tables of options.
 use Rattle.std.proofs.Common.{◌≡◌, ℕ, ◌+◌, ◌<◌, List, length, drop, get_or, add-one, refl}
 use Rattle.std.proofs.Math.Seq.{drop-cons}
+use Rattle.std.specs.Borrow.{Bor}
 use Rattle.clap.specs.Words.{App, with_rule, with_subcommand}
-use Rattle.bq_cli.specs.declared.program.OptionText.{OptionText}
-use Rattle.bq_cli.specs.declared.program.CommandText.{CommandText}
-use Rattle.bq_cli.specs.Program.{app_told, rule_told, with_commands, with_options}
+use Rattle.bq_options.specs.declared.tables.OptionText.{OptionText}
+use Rattle.bq_options.specs.declared.tables.CommandText.{CommandText}
+use Rattle.bq_options.specs.Tables.{app_told, rule_told, with_commands, with_options, with_tables}
 
 -- what the options from a place on make of a command, those behind it make of the command with the option there
 pub with_options-next : (a b : App) (xs : List OptionText) (i : ℕ) (d : OptionText) → i < length xs → b ≡ with_rule a (rule_told (get_or xs i d))
     → with_options b (drop (i + 1) xs) ≡ with_options a (drop i xs)
 with_options-next a b xs i d h e = rw (e, add-one, drop-cons xs i d) refl
+
+-- what the tables from a place on make of a command, those behind it make of the command with the options of the table there
+pub with_tables-next : (a b : App) (xs : List (Bor (List OptionText))) (i : ℕ) (d : Bor (List OptionText)) → i < length xs → b ≡ with_options a (get_or xs i d).now
+    → with_tables b (drop (i + 1) xs) ≡ with_tables a (drop i xs)
+with_tables-next a b xs i d h e = rw (e, add-one, drop-cons xs i d) refl
 
 -- what the commands from a place on make of a program, those behind it make of the program with the command there
 pub with_commands-next : (a b : App) (xs : List CommandText) (i : ℕ) (d : CommandText) → i < length xs → b ≡ with_subcommand a (app_told (get_or xs i d)).top

@@ -1,0 +1,53 @@
+-- Tables of commands and their options, as clap's words on command lines have them.
+use Rattle.std.specs.Prelude.{true, Some, List, [], ◌∷◌, codes}
+use Rattle.std.specs.Borrow.{Bor}
+use Rattle.clap.specs.Simple.{on_top}
+use Rattle.clap.specs.Words.{App, Rule, Text, new_app, new_rule, with_rule, with_subcommand}
+use Rattle.clap.specs.declared.builder.action.ArgAction.TheVariants.{Append, SetTrue}
+use Rattle.bq_options.specs.declared.tables.Given.{Given}
+use Rattle.bq_options.specs.declared.tables.Given.TheVariants.{Alone, Once, Needed, Often, Flag}
+use Rattle.bq_options.specs.declared.tables.OptionText.{OptionText}
+use Rattle.bq_options.specs.declared.tables.CommandText.{CommandText}
+
+-- an option that takes one value
+abbrev pub option_rule : Text → Rule
+option_rule name = record (new_rule name) { long = Some name; value_names = 1 }
+
+-- an option that takes one value, and may not be left out
+abbrev pub needed_rule : Text → Rule
+needed_rule name = record (option_rule name) { required = true }
+
+-- an option by how it is given
+abbrev pub rule_given : Text → Given → Rule
+rule_given name (Alone value) = record (new_rule name) { value_names = 1 }
+rule_given name (Once value) = option_rule name
+rule_given name (Needed value) = needed_rule name
+rule_given name (Often value) = record (option_rule name) { action = Some Append }
+rule_given name Flag = record (new_rule name) { long = Some name; action = Some SetTrue }
+
+-- an option of a table
+abbrev pub rule_told : OptionText → Rule
+rule_told o = rule_given o.name.now o.given
+
+-- a command with these options more, one after another
+abbrev pub with_options : App → List OptionText → App
+with_options a [] = a
+with_options a (o ∷ more) = with_options (with_rule a (rule_told o)) more
+
+-- a command with the options of these tables more, one table after another
+abbrev pub with_tables : App → List (Bor (List OptionText)) → App
+with_tables a [] = a
+with_tables a (t ∷ more) = with_tables (with_options a t.now) more
+
+-- a command of a table, with its options
+abbrev pub app_told : CommandText → App
+app_told c = with_tables (new_app c.name.now) c.options.now
+
+-- a program with these commands more, one after another
+abbrev pub with_commands : App → List CommandText → App
+with_commands a [] = a
+with_commands a (c ∷ more) = with_commands (with_subcommand a (app_told c).top) more
+
+-- the program by its name: words come without it, and one of them has to be a command
+abbrev pub named : App
+named = on_top (λ s. record s { no_binary_name = true; subcommand_required = true; arg_required_else_help = true }) (new_app (codes "bqsim"))

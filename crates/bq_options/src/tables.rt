@@ -1,0 +1,141 @@
+//! Commands and their options as tables, and as clap takes them.
+ghost use Rattle.std.specs.Prelude.{◌≡◌, IfOk, false};
+ghost use Rattle.clap.specs.Words.{app_of, rule_of};
+ghost use Rattle.clap.specs.declared.builder.command.Command.TheViews.{out-Command as fields_of};
+ghost use Rattle.bq_options.specs.Tables.{app_told, named, rule_told, with_commands, with_options, with_tables};
+
+use crate::fault::WordsFault;
+use clap::{Arg, ArgAction, ArgMatches, Command};
+use std::alloc::{AllocError, Global};
+
+/// How an option is given.
+#[derive(Clone, Copy)]
+pub enum Given {
+    /// As a word alone, which is its value. The value's name.
+    Alone(&'static str),
+    /// With one value after its name. The value's name.
+    Once(&'static str),
+    /// The same, and it may not be left out.
+    Needed(&'static str),
+    /// Several times, each time with one value. The value's name.
+    Often(&'static str),
+    /// By its name, without a value.
+    Flag,
+}
+
+/// What a help page tells of an option.
+#[derive(Clone, Copy)]
+pub struct OptionText {
+    pub name: &'static str,
+    pub given: Given,
+    pub help: &'static str,
+}
+
+/// What a help page tells of a command.
+#[derive(Clone, Copy)]
+pub struct CommandText<'a> {
+    pub name: &'static str,
+    pub about: &'static str,
+    /// Its options, table after table.
+    pub options: &'a [&'a [OptionText]],
+}
+
+/// An option.
+fn option<'a>(alloc: Global, text: &OptionText) -> Arg<'a>
+    ensures rule { rule_of result ≡ rule_told text.now }
+    ensures local { result.global ≡ false }
+{
+    let option = Arg::new(alloc, text.name).help(text.help);
+    match &text.given {
+        Given::Alone(value) => option.value_name(value),
+        Given::Once(value) => option.long(text.name).value_name(value),
+        Given::Needed(value) => option.long(text.name).value_name(value).required(true),
+        Given::Often(value) => option
+            .long(text.name)
+            .value_name(value)
+            .action(ArgAction::Append),
+        Given::Flag => option.long(text.name).action(ArgAction::SetTrue),
+    }
+}
+
+/// A command with these options more.
+fn with_options<'a>(
+    alloc: Global,
+    command: Command<'a>,
+    options: &[OptionText],
+) -> Result<Command<'a>, AllocError>
+    ensures app { IfOk result (λ c. app_of c ≡ with_options (app_of command.entry) options.now) }
+    ensures globals { IfOk result (λ c. (fields_of c).has_globals ≡ (fields_of command.entry).has_globals) }
+{
+    let mut command = command;
+    'options: for text in options {
+        command = command.arg(option(alloc, text))?;
+    }
+    Ok(command)
+}
+
+/// A command with the options of these tables more.
+fn with_tables<'a>(
+    alloc: Global,
+    command: Command<'a>,
+    tables: &[&[OptionText]],
+) -> Result<Command<'a>, AllocError>
+    ensures app { IfOk result (λ c. app_of c ≡ with_tables (app_of command.entry) tables.now) }
+    ensures globals { IfOk result (λ c. (fields_of c).has_globals ≡ (fields_of command.entry).has_globals) }
+{
+    let mut command = command;
+    'tables: for table in tables {
+        command = with_options(alloc, command, table)?;
+    }
+    Ok(command)
+}
+
+/// A command, with its options.
+fn command<'a>(alloc: Global, text: &CommandText<'_>) -> Result<Command<'a>, AllocError>
+    ensures app { IfOk result (λ c. app_of c ≡ app_told text.now) }
+    ensures local { IfOk result (λ c. (fields_of c).has_globals ≡ false) }
+{
+    let command = Command::new(alloc, text.name).about(text.about);
+    with_tables(alloc, command, text.options)
+}
+
+/// A program with these commands more.
+pub fn with_commands<'a>(
+    alloc: Global,
+    program: Command<'a>,
+    texts: &[CommandText<'_>],
+) -> Result<Command<'a>, AllocError>
+    ensures { IfOk result (λ p. app_of p ≡ with_commands (app_of program.entry) texts.now) }
+{
+    let mut program = program;
+    'commands: for text in texts {
+        program = program.subcommand(command(alloc, text)?)?;
+    }
+    Ok(program)
+}
+
+/// The program, as yet without commands. Words come without its name, and one of them has to be a command.
+pub fn program<'a>(alloc: Global, about: &'static str) -> Result<Command<'a>, AllocError>
+    ensures { IfOk result (λ c. app_of c ≡ named) }
+{
+    Command::new(alloc, "bqsim")
+        .about(about)
+        .no_binary_name(true)
+        .subcommand_required(true)
+        .arg_required_else_help(true)
+        .bin_name("bqsim")
+}
+
+/// What clap finds in the words after a command's name. Help pages call the command by its line, as `bqsim timeline`.
+pub fn matches_of<'a>(
+    alloc: Global,
+    text: &CommandText<'_>,
+    line: &'static str,
+    given: &'a [&'a str],
+) -> Result<ArgMatches<'a>, WordsFault> {
+    let command = command(alloc, text)?.no_binary_name(true).bin_name(line)?;
+    match command.try_get_matches_from(given) {
+        Ok(matches) => Ok(matches),
+        Err(error) => Err(WordsFault::of(alloc, &error)),
+    }
+}
