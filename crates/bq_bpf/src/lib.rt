@@ -20,5 +20,5 @@ pub use code::{Code, IMMEDIATE, Packed};
 pub use helper::Helper;
 pub use hook::{Hook, Version, context_length};
 pub use list::pack_all;
-pub use shape::MapShape;
+pub use shape::{MapShape, same_shapes};
 pub use words::{alu, extended, negated, reordered, test};

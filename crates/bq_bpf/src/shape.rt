@@ -1,5 +1,5 @@
 //! The shape of a map.
-ghost use Rattle.std.specs.Prelude.{◌≡◌, ◌≤◌, ◌%◌};
+ghost use Rattle.std.specs.Prelude.{◌≡◌, ◌≤◌, ◌%◌, ◌↔◌, IsTrue};
 
 /// How many bytes a value has, and how many entries there are.
 ///
@@ -38,4 +38,25 @@ impl MapShape {
             entries,
         })
     }
+}
+
+/// Whether both lists have the same shapes.
+pub fn same_shapes(shapes: &[MapShape], other: &[MapShape]) -> bool
+    ensures { IsTrue result ↔ (shapes.now ≡ other.now) }
+{
+    if shapes.len() != other.len() {
+        return false;
+    }
+    for at in 0..shapes.len() {
+        if !same_shape(&shapes[at], &other[at]) {
+            return false;
+        }
+    }
+    true
+}
+
+fn same_shape(shape: &MapShape, other: &MapShape) -> bool
+    ensures { IsTrue result ↔ (shape.now ≡ other.now) }
+{
+    shape == other
 }

@@ -1,10 +1,7 @@
 //! What the program may be asked to do.
-ghost use Rattle.std.specs.Prelude.{◌≡◌};
 
 use bq_program::Options;
 use bq_words::{ProcessorCount, Rule};
-use std::alloc::{AllocError, AllocFailed};
-use thiserror::Error;
 
 /// What the program is asked to do.
 #[derive(Debug, Drop)]
@@ -27,34 +24,4 @@ pub struct Parallel {
     pub rule: Rule,
     pub size: ProcessorCount,
     pub ticks: u32,
-}
-
-/// Why the words ask for nothing.
-#[derive(Debug, Drop, Error)]
-pub enum JobFault {
-    /// They are refused, or they ask for help or the version. The text says so, with its line ends.
-    #[error("{0}")]
-    Words(String),
-    #[error("out of memory")]
-    OutOfMemory,
-}
-
-impl From<AllocError> for JobFault {
-    ghost use Rattle.bq_cli.specs.declared.asked.JobFault.TheVariants.{OutOfMemory};
-
-    ghost from_gives = { λ _ e. e ≡ OutOfMemory };
-
-    fn from(_e: AllocError) -> JobFault {
-        JobFault::OutOfMemory
-    }
-}
-
-impl<T: Drop> From<AllocFailed<T>> for JobFault {
-    ghost use Rattle.bq_cli.specs.declared.asked.JobFault.TheVariants.{OutOfMemory};
-
-    ghost from_gives = { λ _ e. e ≡ OutOfMemory };
-
-    fn from(_e: AllocFailed<T>) -> JobFault {
-        JobFault::OutOfMemory
-    }
 }

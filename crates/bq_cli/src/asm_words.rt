@@ -1,35 +1,27 @@
 //! The options of `asm` among its words.
 ghost use Rattle.std.specs.Prelude.{◌≡◌, ℕ, List, Option, IfOk, IfErr, option_map};
 ghost use Rattle.std.specs.Borrow.{Bor};
-ghost use Rattle.std.specs.String.{string_bytes};
-ghost use Rattle.clap.specs.Words.{first_of, found_of, rows_of};
+ghost use Rattle.clap.specs.Words.{found_of, rows_of};
 ghost use Rattle.bq_bpf.specs.Hooks.{hook_word};
 ghost use Rattle.bq_program.specs.declared.options.Options.{Options as Given};
 ghost use Rattle.bq_bpf.specs.declared.hook.Hook.{Hook as Place};
 ghost use Rattle.bq_bpf.specs.declared.hook.Version.{Version as Number};
 ghost use Rattle.bq_cli.specs.Jobs.{AreOptions, version_word};
 
-use crate::asked::JobFault;
+use bq_options::{WordsFault, value, word};
 use bq_program::{Hook, Options, Version};
 use clap::ArgMatches;
 use std::alloc::{AllocError, Global};
 
 /// The options of `asm`. A hook or a format of another name is refused; the text of the maps is not looked at.
-pub(crate) fn options(alloc: Global, matches: &ArgMatches<'_>) -> Result<Options, JobFault>
+pub(crate) fn options(alloc: Global, matches: &ArgMatches<'_>) -> Result<Options, WordsFault>
     ensures ok { IfOk result (AreOptions (rows_of (found_of matches.now))) }
-    ensures taken { IfErr result (λ e. (o : Given) → AreOptions (rows_of (found_of matches.now)) o → e ≡ JobFault.OutOfMemory) }
+    ensures taken { IfErr result (λ e. (o : Given) → AreOptions (rows_of (found_of matches.now)) o → e ≡ WordsFault.OutOfMemory) }
 {
     let hook = hook_in(alloc, value(matches, "hook"))?;
     let format = format_in(alloc, value(matches, "format"))?;
-    let maps = text_in(alloc, value(matches, "maps"))?;
+    let maps = word(alloc, matches, "maps")?;
     Ok(Options { hook, maps, format })
-}
-
-/// The first value of an option, if it has one.
-pub(crate) fn value<'a>(matches: &ArgMatches<'a>, option: &str) -> Option<&'a str>
-    ensures { option_map (λ (w : Bor (List ℕ)). w.now) result ≡ first_of option.now (rows_of (found_of matches.now)) }
-{
-    matches.get_str(option)
 }
 
 /// The values of `--hook`, as its refusal lists them.
@@ -38,9 +30,9 @@ const HOOKS: &str = "place, preempt, pull";
 const FORMATS: &str = "1, 2";
 
 /// The hook that a word names, if there is one.
-fn hook_in(alloc: Global, word: Option<&str>) -> Result<Option<Hook>, JobFault>
+fn hook_in(alloc: Global, word: Option<&str>) -> Result<Option<Hook>, WordsFault>
     ensures ok { IfOk result (λ named. option_map (λ h. hook_word h) named ≡ option_map (λ (w : Bor (List ℕ)). w.now) word.entry) }
-    ensures taken { IfErr result (λ e. (named : Option Place) → option_map (λ h. hook_word h) named ≡ option_map (λ (w : Bor (List ℕ)). w.now) word.entry → e ≡ JobFault.OutOfMemory) }
+    ensures taken { IfErr result (λ e. (named : Option Place) → option_map (λ h. hook_word h) named ≡ option_map (λ (w : Bor (List ℕ)). w.now) word.entry → e ≡ WordsFault.OutOfMemory) }
 {
     match word {
         None => Ok(None),
@@ -52,9 +44,9 @@ fn hook_in(alloc: Global, word: Option<&str>) -> Result<Option<Hook>, JobFault>
 }
 
 /// The version that a word names, if there is one.
-fn format_in(alloc: Global, word: Option<&str>) -> Result<Option<Version>, JobFault>
+fn format_in(alloc: Global, word: Option<&str>) -> Result<Option<Version>, WordsFault>
     ensures ok { IfOk result (λ named. option_map (λ v. version_word v) named ≡ option_map (λ (w : Bor (List ℕ)). w.now) word.entry) }
-    ensures taken { IfErr result (λ e. (named : Option Number) → option_map (λ v. version_word v) named ≡ option_map (λ (w : Bor (List ℕ)). w.now) word.entry → e ≡ JobFault.OutOfMemory) }
+    ensures taken { IfErr result (λ e. (named : Option Number) → option_map (λ v. version_word v) named ≡ option_map (λ (w : Bor (List ℕ)). w.now) word.entry → e ≡ WordsFault.OutOfMemory) }
 {
     match word {
         None => Ok(None),
@@ -64,22 +56,12 @@ fn format_in(alloc: Global, word: Option<&str>) -> Result<Option<Version>, JobFa
     }
 }
 
-/// A text of its own with what the word says, if there is one.
-fn text_in(alloc: Global, word: Option<&str>) -> Result<Option<String>, AllocError>
-    ensures { IfOk result (λ text. option_map (λ t. string_bytes t) text ≡ option_map (λ (w : Bor (List ℕ)). w.now) word.entry) }
-{
-    match word {
-        None => Ok(None),
-        Some(word) => Ok(Some(String::from_str(alloc, word)?)),
-    }
-}
-
 /// The fault of an option's value that is none of those that it takes, which are listed.
-pub(crate) fn refused(alloc: Global, option: &str, value: &str, taken: &str) -> JobFault {
+pub(crate) fn refused(alloc: Global, option: &str, value: &str, taken: &str) -> WordsFault {
     match format!(in alloc;
         "error: invalid value '{value}' for '--{option}'\n  [possible values: {taken}]\n\nFor more information, try '--help'.\n"
     ) {
-        Ok(text) => JobFault::Words(text),
-        Err(_) => JobFault::OutOfMemory,
+        Ok(text) => WordsFault::Words(text),
+        Err(_) => WordsFault::OutOfMemory,
     }
 }

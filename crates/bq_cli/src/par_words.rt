@@ -9,9 +9,10 @@ ghost use Rattle.bq_lines.specs.Lines.{size_of};
 ghost use Rattle.bq_cli.specs.declared.asked.Parallel.{Parallel as Asked};
 ghost use Rattle.bq_cli.specs.Jobs.{IsParallel, ticks_of};
 
-use crate::asked::{JobFault, Parallel};
-use crate::asm_words::{refused, value};
+use crate::asked::Parallel;
+use crate::asm_words::refused;
 use bq_lines::numbers;
+use bq_options::{WordsFault, value};
 use bq_words::{ProcessorCount, Rule};
 use clap::ArgMatches;
 use std::alloc::Global;
@@ -26,9 +27,9 @@ const SIZES: &str = "1, 2, 4, 8, 16, 32, 64";
 const TICKS: &str = "0 to 1000000";
 
 /// The options of `par`. A value that names nothing is refused.
-pub(crate) fn parallel(alloc: Global, matches: &ArgMatches<'_>) -> Result<Parallel, JobFault>
+pub(crate) fn parallel(alloc: Global, matches: &ArgMatches<'_>) -> Result<Parallel, WordsFault>
     ensures ok { IfOk result (IsParallel (rows_of (found_of matches.now))) }
-    ensures taken { IfErr result (λ e. (p : Asked) → IsParallel (rows_of (found_of matches.now)) p → e ≡ JobFault.OutOfMemory) }
+    ensures taken { IfErr result (λ e. (p : Asked) → IsParallel (rows_of (found_of matches.now)) p → e ≡ WordsFault.OutOfMemory) }
 {
     let rule = rule_in(alloc, value(matches, "rule"))?;
     let size = size_in(alloc, value(matches, "processors"))?;
@@ -37,9 +38,9 @@ pub(crate) fn parallel(alloc: Global, matches: &ArgMatches<'_>) -> Result<Parall
 }
 
 /// The rule that a word names.
-fn rule_in(alloc: Global, word: Option<&str>) -> Result<Rule, JobFault>
+fn rule_in(alloc: Global, word: Option<&str>) -> Result<Rule, WordsFault>
     ensures ok { IfOk result (λ r. option_and_then rule_of (option_map (λ (w : Bor (List ℕ)). w.now) word.entry) ≡ Some r) }
-    ensures taken { IfErr result (λ e. (r : Way) → option_and_then rule_of (option_map (λ (w : Bor (List ℕ)). w.now) word.entry) ≡ Some r → e ≡ JobFault.OutOfMemory) }
+    ensures taken { IfErr result (λ e. (r : Way) → option_and_then rule_of (option_map (λ (w : Bor (List ℕ)). w.now) word.entry) ≡ Some r → e ≡ WordsFault.OutOfMemory) }
 {
     let Some(word) = word else {
         return Err(refused(alloc, "rule", "", RULES));
@@ -51,9 +52,9 @@ fn rule_in(alloc: Global, word: Option<&str>) -> Result<Rule, JobFault>
 }
 
 /// The number of processors that a word names.
-fn size_in(alloc: Global, word: Option<&str>) -> Result<ProcessorCount, JobFault>
+fn size_in(alloc: Global, word: Option<&str>) -> Result<ProcessorCount, WordsFault>
     ensures ok { IfOk result (λ s. option_and_then size_of (option_map (λ (w : Bor (List ℕ)). w.now) word.entry) ≡ Some s) }
-    ensures taken { IfErr result (λ e. (s : Many) → option_and_then size_of (option_map (λ (w : Bor (List ℕ)). w.now) word.entry) ≡ Some s → e ≡ JobFault.OutOfMemory) }
+    ensures taken { IfErr result (λ e. (s : Many) → option_and_then size_of (option_map (λ (w : Bor (List ℕ)). w.now) word.entry) ≡ Some s → e ≡ WordsFault.OutOfMemory) }
 {
     let Some(word) = word else {
         return Err(refused(alloc, "processors", "", SIZES));
@@ -72,9 +73,9 @@ fn size_named(word: &[u8]) -> Option<ProcessorCount>
 }
 
 /// The number of ticks that a word names.
-fn ticks_in(alloc: Global, word: Option<&str>) -> Result<u32, JobFault>
+fn ticks_in(alloc: Global, word: Option<&str>) -> Result<u32, WordsFault>
     ensures ok { IfOk result (λ n. option_and_then ticks_of (option_map (λ (w : Bor (List ℕ)). w.now) word.entry) ≡ Some n) }
-    ensures taken { IfErr result (λ e. (n : ℕ) → option_and_then ticks_of (option_map (λ (w : Bor (List ℕ)). w.now) word.entry) ≡ Some n → e ≡ JobFault.OutOfMemory) }
+    ensures taken { IfErr result (λ e. (n : ℕ) → option_and_then ticks_of (option_map (λ (w : Bor (List ℕ)). w.now) word.entry) ≡ Some n → e ≡ WordsFault.OutOfMemory) }
 {
     let Some(word) = word else {
         return Err(refused(alloc, "ticks", "", TICKS));

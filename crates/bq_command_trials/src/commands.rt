@@ -1,8 +1,9 @@
 //! Words that the program takes and words that it refuses, and a job that is done.
 
 use crate::done::{Performed, do_job, gives, gives_unread};
-use bq_cli::asked::{Job, JobFault};
+use bq_cli::asked::Job;
 use bq_cli::job;
+use bq_options::WordsFault;
 use std::alloc::Global;
 use std::process::Abort;
 use std::test::Fail;
@@ -108,7 +109,7 @@ static TOLD: [(&[&str], &str); 29] = [
 /// The text that these words are told.
 fn text_told(alloc: Global, words: &[&str]) -> Result<String, Fail> {
     match job(alloc, words) {
-        Err(JobFault::Words(text)) => Ok(text),
+        Err(WordsFault::Words(text)) => Ok(text),
         _ => Err(Fail::from("the words were taken")),
     }
 }

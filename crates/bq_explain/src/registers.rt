@@ -1,4 +1,5 @@
 //! Sets of registers: those that an instruction reads, and the one that it writes.
+use bq_graph::single::destination;
 use bq_insn::Insn;
 use bq_needs::reads;
 
@@ -13,15 +14,8 @@ pub(crate) fn bit(register: u8) -> Registers {
 /// The register that the instruction writes; a call writes r0.
 pub(crate) fn written(insn: Insn) -> Option<u8> {
     match insn {
-        Insn::Alu { dst, .. }
-        | Insn::MovSx { dst, .. }
-        | Insn::Neg { dst, .. }
-        | Insn::End { dst, .. }
-        | Insn::Load { dst, .. }
-        | Insn::Imm64 { dst, .. }
-        | Insn::MapRef { dst, .. } => Some(dst),
         Insn::Call { .. } => Some(0),
-        _ => None,
+        other => destination(other),
     }
 }
 

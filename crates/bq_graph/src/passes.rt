@@ -11,7 +11,7 @@ use crate::single::is_counter_call;
 use bq_insn::Insn;
 
 /// The slot of the next instruction, if control may go on to it.
-fn next_slot(slot: usize, insn: Insn) -> Option<usize>
+pub fn next_slot(slot: usize, insn: Insn) -> Option<usize>
     requires { slot < 4096 }
     ensures { result ≡ (if goes_on insn then Some (slot + slots_of insn) else None) }
 {

@@ -14,7 +14,7 @@ pub mod settled;
 
 pub use loads::Loads;
 pub use own_choice::own_place;
-pub use place::{Place, place_ctx, wide_place_ctx};
+pub use place::{Place, low_bits, place_ctx, wide_place_ctx};
 pub use preempt::{Preempt, preempt_ctx};
 pub use pull::{Pull, pull_ctx};
 pub use settled::{By, Choice, settle_place, settle_preempt, settle_pull};

@@ -73,8 +73,8 @@ fn put_header(facts: &Place, limit: usize, context: &mut [u8])
     put_u32(context, 36, if_shown(limit, facts.own));
 }
 
-/// The bits below a number of them.
-fn low_bits(mask: u64, count: usize) -> u64
+/// The bits of a mask below a number of them: those that name one of so many processors.
+pub fn low_bits(mask: u64, count: usize) -> u64
     requires { count ≤ 64 }
     ensures { result ≡ mask % 2 ^ count }
 {

@@ -1,14 +1,14 @@
 //! Where control goes from each slot of a program, backwards too.
-ghost use Rattle.std.specs.Prelude.{◌≡◌, ◌<◌, ◌≤◌, ◌+◌, ℕ, ℤ, length, OnOk, IfErr, IfSome, IfNone, Some, None, if◌then◌else◌};
-ghost use Rattle.bq_insn.specs.Slots.{slots_of};
+ghost use Rattle.std.specs.Prelude.{◌≡◌, ◌<◌, ◌≤◌, ◌+◌, ℕ, ℤ, length, OnOk, IfErr, IfSome, IfNone, Some, None};
 ghost use Rattle.bq_bpf.specs.Steps.{LeadsTo, instruction_at};
-ghost use Rattle.bq_graph.specs.Edges.{distance_of, goes_on, IsStart, IsWhole};
+ghost use Rattle.bq_graph.specs.Edges.{distance_of, IsStart, IsWhole};
 ghost use Rattle.bq_import.specs.Backward.{AreGood};
 ghost use Rattle.bq_import.specs.Faults.{IsDisorder};
 ghost use Rattle.bq_import.specs.Search.{AreTargets, IsLinked, LeadsWell, WellAt};
 
 use crate::fault::Disorder;
 use bq_graph::edges::{Targets, distance, instruction, may_go_on};
+use bq_graph::passes::next_slot;
 use bq_insn::Insn;
 
 /// The slot that the jump leads to, where an instruction begins there.
@@ -76,18 +76,6 @@ pub fn check(slots: &[Option<Insn>]) -> Result<(), Disorder>
         slot_leads_well(slots, slot)?;
     }
     Ok(())
-}
-
-/// The slot of the next instruction, if control may go on to it.
-fn next_slot(slot: usize, insn: Insn) -> Option<usize>
-    requires { slot < 4096 }
-    ensures { result ≡ (if goes_on insn then Some (slot + slots_of insn) else None) }
-{
-    if may_go_on(insn) {
-        Some(slot + insn.slots())
-    } else {
-        None
-    }
 }
 
 /// The slot that the instruction jumps to, if it is a jump.

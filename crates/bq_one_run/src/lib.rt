@@ -11,7 +11,6 @@ pub mod laws;
 mod one_run;
 mod permitted;
 mod settings;
-mod shapes;
 mod words;
 
 pub use bq_interp::Moment;

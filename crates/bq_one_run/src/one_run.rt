@@ -7,8 +7,7 @@ ghost use Rattle.bq_bpf.specs.Runs.{start};
 ghost use Rattle.bq_one_run.specs.Runs.{AreRuns, IsRun, kept_in};
 
 use crate::inputs::Inputs;
-use crate::shapes::same_shapes;
-use bq_bpf::context_length;
+use bq_bpf::{context_length, same_shapes};
 use bq_interp::{Moment, Ran, Stack, run, run_traced};
 use bq_verify::Verified;
 use std::alloc::AllocError;

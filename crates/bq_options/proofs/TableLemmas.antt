@@ -1,8 +1,12 @@
 -- One row more of the table of commands, or of a command's tables of options.
-use Rattle.std.proofs.Common.{◌≡◌, ℕ, ◌+◌, ◌<◌, List, length, drop, get_or, add-one, refl}
+use Rattle.std.proofs.Common.{◌≡◌, ℕ, ◌+◌, ◌<◌, List, Result, true, length, drop, get_or, add-one, refl, subst}
 use Rattle.std.proofs.Math.Seq.{drop-cons}
+use Rattle.std.specs.Prelude.{IfErr}
 use Rattle.std.specs.Borrow.{Bor}
-use Rattle.clap.specs.Words.{App, with_rule, with_subcommand}
+use Rattle.clap.specs.Words.{App, Text, takes, with_rule, with_subcommand}
+use Rattle.clap.specs.declared.parser.matches.ArgMatches.{ArgMatches}
+use Rattle.bq_options.specs.declared.fault.WordsFault.{WordsFault}
+use Rattle.bq_options.specs.declared.fault.WordsFault.TheVariants.{OutOfMemory}
 use Rattle.bq_options.specs.declared.tables.OptionText.{OptionText}
 use Rattle.bq_options.specs.declared.tables.CommandText.{CommandText}
 use Rattle.bq_options.specs.Tables.{app_told, rule_told, with_commands, with_options, with_tables}
@@ -21,3 +25,8 @@ with_tables-next a b xs i d h e = rw (e, add-one, drop-cons xs i d) refl
 pub with_commands-next : (a b : App) (xs : List CommandText) (i : ℕ) (d : CommandText) → i < length xs → b ≡ with_subcommand a (app_told (get_or xs i d)).top
     → with_commands b (drop (i + 1) xs) ≡ with_commands a (drop i xs)
 with_commands-next a b xs i d h e = rw (e, add-one, drop-cons xs i d) refl
+
+-- a fault that is want of memory alone where one command takes the words is so for the same command under another name
+pub taken-alike : (a b : App) (words : List Text) (r : Result ArgMatches WordsFault) → a ≡ b
+    → IfErr r (λ e. takes a words ≡ true → e ≡ OutOfMemory) → IfErr r (λ e. takes b words ≡ true → e ≡ OutOfMemory)
+taken-alike a b words r same told = subst (λ x. IfErr r (λ e. takes x words ≡ true → e ≡ OutOfMemory)) same told

@@ -43,6 +43,10 @@ with_tables a (t ∷ more) = with_tables (with_options a t.now) more
 abbrev pub app_told : CommandText → App
 app_told c = with_tables (new_app c.name.now) c.options.now
 
+-- a command of a table by itself: words come without its name
+abbrev pub alone : CommandText → App
+alone c = on_top (λ s. record s { no_binary_name = true }) (app_told c)
+
 -- a program with these commands more, one after another
 abbrev pub with_commands : App → List CommandText → App
 with_commands a [] = a

@@ -1,4 +1,6 @@
 //! Why words are none of a command.
+ghost use Rattle.std.specs.Prelude.{◌≡◌};
+ghost use Rattle.clap.specs.Words.{kind_of};
 
 use clap::error::ErrorKind;
 use std::alloc::{AllocError, AllocFailed, Global};
@@ -16,7 +18,9 @@ pub enum WordsFault {
 
 impl WordsFault {
     /// The fault of words that clap refuses, with its text.
-    pub fn of(alloc: Global, error: &clap::Error) -> WordsFault {
+    pub fn of(alloc: Global, error: &clap::Error) -> WordsFault
+        ensures { kind_of error.now ≡ ErrorKind.OutOfMemory → result ≡ WordsFault.OutOfMemory }
+    {
         if error.kind() == ErrorKind::OutOfMemory {
             return WordsFault::OutOfMemory;
         }
@@ -28,12 +32,20 @@ impl WordsFault {
 }
 
 impl From<AllocError> for WordsFault {
+    ghost use Rattle.bq_options.specs.declared.fault.WordsFault.TheVariants.{OutOfMemory};
+
+    ghost from_gives = { λ _ e. e ≡ OutOfMemory };
+
     fn from(_e: AllocError) -> WordsFault {
         WordsFault::OutOfMemory
     }
 }
 
 impl<T: Drop> From<AllocFailed<T>> for WordsFault {
+    ghost use Rattle.bq_options.specs.declared.fault.WordsFault.TheVariants.{OutOfMemory};
+
+    ghost from_gives = { λ _ e. e ≡ OutOfMemory };
+
     fn from(_e: AllocFailed<T>) -> WordsFault {
         WordsFault::OutOfMemory
     }

@@ -1,16 +1,54 @@
 //! What was found for an option.
+ghost use Rattle.std.specs.Prelude.{◌≡◌, ◌↔◌, ℕ, List, IsTrue, Some, IfOk, codes, option_map};
+ghost use Rattle.std.specs.Borrow.{Bor};
+ghost use Rattle.std.specs.String.{string_bytes};
+ghost use Rattle.clap.specs.Words.{first_of, found_of, rows_of};
 
 use clap::ArgMatches;
 use std::alloc::{AllocError, Global};
 
-/// A text of its own with the value of an option, if it has one.
+/// The first value of an option, if it has one.
+pub fn value<'a>(matches: &ArgMatches<'a>, option: &str) -> Option<&'a str>
+    ensures { option_map (λ (w : Bor (List ℕ)). w.now) result ≡ first_of option.now (rows_of (found_of matches.now)) }
+{
+    matches.get_str(option)
+}
+
+/// A text of its own with an option's value, if it has one.
 pub fn word(
     alloc: Global,
     matches: &ArgMatches<'_>,
     option: &str,
-) -> Result<Option<String>, AllocError> {
-    match matches.get_str(option) {
+) -> Result<Option<String>, AllocError>
+    ensures { IfOk result (λ text. option_map (λ t. string_bytes t) text ≡ first_of option.now (rows_of (found_of matches.now))) }
+{
+    match value(matches, option) {
         None => Ok(None),
         Some(word) => Ok(Some(String::from_str(alloc, word)?)),
     }
+}
+
+/// Whether a flag stands among the words.
+pub fn is_set(matches: &ArgMatches<'_>, flag: &str) -> bool
+    ensures { IsTrue result ↔ (first_of flag.now (rows_of (found_of matches.now)) ≡ Some (codes "true")) }
+{
+    match value(matches, flag) {
+        Some(word) => word == "true",
+        None => false,
+    }
+}
+
+/// Texts of their own with the values of an option that may stand several times, in their order.
+pub fn all_words(
+    alloc: Global,
+    matches: &ArgMatches<'_>,
+    option: &str,
+) -> Result<Vec<String>, AllocError> {
+    let mut all = Vec::new(alloc);
+    if let Some(words) = matches.get_strs(option) {
+        for word in words {
+            all.push(String::from_str(alloc, *word)?)?;
+        }
+    }
+    Ok(all)
 }

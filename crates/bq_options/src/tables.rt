@@ -1,8 +1,8 @@
 //! Commands and their options as tables, and as clap takes them.
-ghost use Rattle.std.specs.Prelude.{◌≡◌, IfOk, false};
-ghost use Rattle.clap.specs.Words.{app_of, rule_of};
+ghost use Rattle.std.specs.Prelude.{◌≡◌, IfErr, IfOk, false, map, true};
+ghost use Rattle.clap.specs.Words.{HasMatchesOf, app_of, rule_of, takes};
 ghost use Rattle.clap.specs.declared.builder.command.Command.TheViews.{out-Command as fields_of};
-ghost use Rattle.bq_options.specs.Tables.{app_told, named, rule_told, with_commands, with_options, with_tables};
+ghost use Rattle.bq_options.specs.Tables.{alone, app_told, named, rule_told, with_commands, with_options, with_tables};
 
 use crate::fault::WordsFault;
 use clap::{Arg, ArgAction, ArgMatches, Command};
@@ -126,16 +126,35 @@ pub fn program<'a>(alloc: Global, about: &'static str) -> Result<Command<'a>, Al
         .bin_name("bqsim")
 }
 
+/// What clap finds in words, by its own rules for the command.
+pub fn found_in<'a>(
+    alloc: Global,
+    command: Command<'a>,
+    given: &'a [&'a str],
+) -> Result<ArgMatches<'a>, WordsFault>
+    ensures matches { IfOk result (HasMatchesOf (app_of command.entry) (map (λ w. w.now) given.entry.now)) }
+
+    // Words that clap takes are refused for want of memory alone.
+    ensures taken { IfErr result (λ e. takes (app_of command.entry) (map (λ w. w.now) given.entry.now) ≡ true → e ≡ WordsFault.OutOfMemory) }
+{
+    match command.try_get_matches_from(given) {
+        Ok(matches) => Ok(matches),
+        Err(error) => Err(WordsFault::of(alloc, &error)),
+    }
+}
+
 /// What clap finds in the words after a command's name. Help pages call the command by its line, as `bqsim timeline`.
 pub fn matches_of<'a>(
     alloc: Global,
     text: &CommandText<'_>,
     line: &'static str,
     given: &'a [&'a str],
-) -> Result<ArgMatches<'a>, WordsFault> {
+) -> Result<ArgMatches<'a>, WordsFault>
+    ensures matches { IfOk result (HasMatchesOf (alone text.entry.now) (map (λ w. w.now) given.entry.now)) }
+
+    // Words that clap takes are refused for want of memory alone.
+    ensures taken { IfErr result (λ e. takes (alone text.entry.now) (map (λ w. w.now) given.entry.now) ≡ true → e ≡ WordsFault.OutOfMemory) }
+{
     let command = command(alloc, text)?.no_binary_name(true).bin_name(line)?;
-    match command.try_get_matches_from(given) {
-        Ok(matches) => Ok(matches),
-        Err(error) => Err(WordsFault::of(alloc, &error)),
-    }
+    found_in(alloc, command, given)
 }

@@ -1,20 +1,9 @@
 //! Refusals that an event's arguments have in any world of so many processors.
-ghost use Rattle.std.specs.Prelude.{◌≡◌, ◌<◌, ◌≤◌, ◌^◌, ◌%◌, Some, None};
+ghost use Rattle.std.specs.Prelude.{◌≡◌, ◌<◌, ◌≤◌, Some, None};
 ghost use Rattle.bq_parts.specs.Refusals.{argument_refusal};
 
 use crate::{Event, Hook, Policy, Refusal};
-
-/// The bits of a mask that name one of so many processors.
-pub(crate) fn allowed(count: usize, mask: u64) -> u64
-    requires { count ≤ 64 }
-    ensures { result ≡ mask % 2 ^ count }
-{
-    if count == 64 {
-        mask
-    } else {
-        mask % (1 << count)
-    }
-}
+use bq_hooks::low_bits;
 
 /// The refusal that an event's arguments have in any world of so many processors; the first by number, where there are
 /// several.
@@ -78,7 +67,7 @@ fn admit_refusal(count: usize, task: u16, nice: i8, mask: u64, slice: u64) -> Op
 {
     if task >= 1024 {
         Some(Refusal::NoTask)
-    } else if allowed(count, mask) == 0 {
+    } else if low_bits(mask, count) == 0 {
         Some(Refusal::EmptyMask)
     } else if nice < -20 || nice > 19 {
         Some(Refusal::Nice)

@@ -8,10 +8,10 @@ ghost use Rattle.bq_parts.specs.Choices.{policies};
 ghost use Rattle.bq_parts.specs.Moves.{admitted};
 ghost use Rattle.bq_parts.specs.Shares.{Admits, Blocks, Drains, Retires, Ticks};
 
-use crate::arguments::allowed;
 use crate::{Cpu, Event, Inbox, Lobby, Refusal, Reply, Scratch, Unlinked};
 use bq_bpf::Board;
 use bq_disc::{Node, RunQueue};
+use bq_hooks::low_bits;
 use std::alloc::{AllocError, Global};
 
 /// A task as it is admitted among so many processors. It takes memory for the task.
@@ -27,7 +27,7 @@ pub fn new_task(
     requires fits { argument_refusal count (Event.Admit task nice mask slice) ≡ None }
     ensures { IfOk result (λ t. t ≡ admitted count task nice mask slice) }
 {
-    let mask = allowed(count, mask);
+    let mask = low_bits(mask, count);
     let node = Node::new(task, bq_weights::weight(nice), mask, slice);
     let node = Box::new(alloc, node)?;
     Ok(Unlinked::new(node))

@@ -2,8 +2,8 @@
 ghost use Rattle.std.specs.Prelude.{◌≡◌, ◌↔◌, IfOk, IsTrue};
 ghost use Rattle.bq_policies.specs.Standing.{WasAccepted};
 
-use crate::same::{same_shapes, same_slots};
-use bq_bpf::{Hook, Version};
+use crate::same::same_slots;
+use bq_bpf::{Hook, Version, same_shapes};
 use bq_verify::Verified;
 use std::alloc::{AllocError, Global};
 use std::marker::Model;

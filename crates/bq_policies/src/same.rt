@@ -1,7 +1,6 @@
 //! Whether two programs are the same, instruction by instruction.
 ghost use Rattle.std.specs.Prelude.{◌≡◌, ◌↔◌, IsTrue};
 
-use bq_bpf::MapShape;
 use bq_insn::{Insn, Source};
 
 /// Whether both lists have the same instructions in the same slots.
@@ -17,27 +16,6 @@ pub(crate) fn same_slots(slots: &[Option<Insn>], other: &[Option<Insn>]) -> bool
         }
     }
     true
-}
-
-/// Whether both lists have the same shapes.
-pub(crate) fn same_shapes(shapes: &[MapShape], other: &[MapShape]) -> bool
-    ensures { IsTrue result ↔ (shapes.now ≡ other.now) }
-{
-    if shapes.len() != other.len() {
-        return false;
-    }
-    for at in 0..shapes.len() {
-        if !same_shape(&shapes[at], &other[at]) {
-            return false;
-        }
-    }
-    true
-}
-
-fn same_shape(shape: &MapShape, other: &MapShape) -> bool
-    ensures { IsTrue result ↔ (shape.now ≡ other.now) }
-{
-    shape == other
 }
 
 fn same_slot(slot: &Option<Insn>, other: &Option<Insn>) -> bool

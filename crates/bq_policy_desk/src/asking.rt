@@ -5,10 +5,9 @@ ghost use Rattle.bq_policy_commands.specs.Saying.{option_bytes};
 ghost use Rattle.bq_policy_desk.specs.Asked.{AreCheckWords, AreListWords, ArePolicyWords, AreRunWords, AreTellingWords};
 
 use crate::commands::program;
-use crate::found::{is_set, list, word};
+use bq_options::{WordsFault, all_words, found_in, is_set, word};
 use bq_policy_commands::{CheckWords, ListWords, PolicyWords, RunWords, TellingWords};
 use clap::ArgMatches;
-use clap::error::ErrorKind;
 use std::alloc::{AllocError, Global};
 
 /// What words ask of a policy.
@@ -24,11 +23,11 @@ pub(crate) enum Asked {
 /// Reads the words after the program's name.
 pub(crate) fn read_words<'a>(alloc: Global, words: &'a [&'a str]) -> Result<Asked, AllocError> {
     let command = program(alloc)?;
-    let matches = match command.try_get_matches_from(words) {
-        Ok(matches) => matches,
-        Err(error) => return Ok(Asked::Text(refusal(alloc, &error)?)),
-    };
-    asked_in(alloc, &matches)
+    match found_in(alloc, command, words) {
+        Ok(matches) => asked_in(alloc, &matches),
+        Err(WordsFault::Words(text)) => Ok(Asked::Text(text)),
+        Err(WordsFault::OutOfMemory) => Err(AllocError),
+    }
 }
 
 /// What was found among the words.
@@ -43,14 +42,6 @@ fn asked_in(alloc: Global, matches: &ArgMatches<'_>) -> Result<Asked, AllocError
         return Ok(Asked::List(list_words(alloc, matches)?));
     }
     Ok(Asked::Text(String::from_str(alloc, "error: a command is needed: check, run or dis\n")?))
-}
-
-/// The text of words that clap refuses.
-fn refusal(alloc: Global, error: &clap::Error) -> Result<String, AllocError> {
-    if error.kind() == ErrorKind::OutOfMemory {
-        return Err(AllocError);
-    }
-    error.to_string(alloc)
 }
 
 /// The words that name a policy.
@@ -121,9 +112,9 @@ fn begun_with(
     alloc: Global,
     matches: &ArgMatches<'_>,
 ) -> Result<(Vec<String>, Vec<String>, Vec<String>), AllocError> {
-    let fields = list(alloc, matches, "set")?;
-    let entries = list(alloc, matches, "map")?;
-    let counters = list(alloc, matches, "counter")?;
+    let fields = all_words(alloc, matches, "set")?;
+    let entries = all_words(alloc, matches, "map")?;
+    let counters = all_words(alloc, matches, "counter")?;
     Ok((fields, entries, counters))
 }
 

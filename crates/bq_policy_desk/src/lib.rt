@@ -9,7 +9,6 @@
 mod asking;
 mod commands;
 mod desk;
-mod found;
 mod import_asked;
 mod import_settings;
 mod import_text;

@@ -1,12 +1,12 @@
 //! What was asked for and what a file says, together.
-ghost use Rattle.std.specs.Prelude.{◌≡◌, ◌≤◌, ◌↔◌, length, IfOk, IfErr, IsTrue, MatchBool, MatchOption};
+ghost use Rattle.std.specs.Prelude.{◌≤◌, length, IfOk, IfErr, MatchBool, MatchOption};
 ghost use Rattle.bq_program.specs.Files.{Agree, Agrees, Differ, DiffersIn, CombineTo, shapes_in};
 ghost use Rattle.bq_program.specs.Combining.{IsUncombinable};
 
 use crate::fault::PolicyFault;
 use crate::head::Head;
 use crate::mark::Key;
-use bq_bpf::MapShape;
+use bq_bpf::{MapShape, same_shapes};
 use bq_load::{Hook, Version};
 use std::alloc::Global;
 
@@ -90,25 +90,4 @@ fn maps_differ(given: &Option<Vec<MapShape>>, said: &Option<Vec<MapShape>>) -> b
         (Some(asked), Some(shapes)) => !same_shapes(asked.as_slice(), shapes.as_slice()),
         _ => false,
     }
-}
-
-/// Whether both lists have the same shapes.
-fn same_shapes(shapes: &[MapShape], other: &[MapShape]) -> bool
-    ensures { IsTrue result ↔ (shapes.now ≡ other.now) }
-{
-    if shapes.len() != other.len() {
-        return false;
-    }
-    for at in 0..shapes.len() {
-        if !same_shape(&shapes[at], &other[at]) {
-            return false;
-        }
-    }
-    true
-}
-
-fn same_shape(shape: &MapShape, other: &MapShape) -> bool
-    ensures { IsTrue result ↔ (shape.now ≡ other.now) }
-{
-    shape == other
 }

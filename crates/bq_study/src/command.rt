@@ -1,7 +1,7 @@
 //! The words after `simulate`.
 
 use bq_core::Hook;
-use bq_options::{CommandText, Given, OptionText, WordsFault, matches_of, texts, word};
+use bq_options::{CommandText, Given, OptionText, WordsFault, all_words, matches_of, texts, word};
 use bq_timeline::{SHOWN_OPTIONS, Words, shown_words};
 use clap::ArgMatches;
 use std::alloc::{AllocError, Global};
@@ -152,19 +152,4 @@ fn hook_words(alloc: Global, matches: &ArgMatches<'_>) -> Result<HookWords, Allo
         preempt,
         pull,
     })
-}
-
-/// The words of an option that may be given several times.
-fn all_words(
-    alloc: Global,
-    matches: &ArgMatches<'_>,
-    option: &str,
-) -> Result<Vec<String>, AllocError> {
-    let mut words = Vec::new(alloc);
-    if let Some(given) = matches.get_strs(option) {
-        for word in given {
-            words.push(String::from_str(alloc, word)?)?;
-        }
-    }
-    Ok(words)
 }

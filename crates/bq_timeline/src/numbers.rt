@@ -1,5 +1,6 @@
 //! Times, processors and tasks as words.
 
+use bq_words::nanoseconds;
 use std::alloc::{AllocError, Global};
 
 /// Nanoseconds in a word: a number, with a fraction or without, and `ns`, `us`, `ms`, `s` or nothing after it.
@@ -15,18 +16,11 @@ pub fn time(word: &str) -> Option<u64> {
     scaled(number, unit_of(unit)?)
 }
 
-/// How many nanoseconds a unit has.
+/// How many nanoseconds a unit has; one where none is named.
 fn unit_of(unit: &[u8]) -> Option<u64> {
-    if unit == b"".as_slice() || unit == b"ns".as_slice() {
-        Some(1)
-    } else if unit == b"us".as_slice() {
-        Some(1000)
-    } else if unit == b"ms".as_slice() {
-        Some(1_000_000)
-    } else if unit == b"s".as_slice() {
-        Some(1_000_000_000)
-    } else {
-        None
+    match unit {
+        [] => Some(1),
+        unit => nanoseconds(unit),
     }
 }
 

@@ -1,3 +1,4 @@
 pub mod Numbers
+pub mod Units
 pub mod Words
 pub mod Sizes

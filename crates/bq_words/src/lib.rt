@@ -8,10 +8,12 @@ pub mod blanks;
 pub mod numbers;
 pub mod processor_count;
 pub mod rule;
+pub mod units;
 pub mod words;
 
 pub use blanks::{Blank, Spaces};
 pub use numbers::number;
 pub use processor_count::ProcessorCount;
 pub use rule::Rule;
+pub use units::nanoseconds;
 pub use words::{next_word, next_word_by};

@@ -1,17 +1,8 @@
 -- Lengths of time as words: a whole number of a unit.
-use Rattle.std.specs.Prelude.{ℕ, Bool, not, ◌*◌, ◌^◌, nat_lt, List, take, drop, position, Option, Some, None, if◌then◌else◌, codes, option_and_then}
-use Rattle.std.specs.Str.{bytes_eq}
+use Rattle.std.specs.Prelude.{ℕ, Bool, not, ◌*◌, ◌^◌, nat_lt, List, take, drop, position, Option, Some, None, if◌then◌else◌, option_and_then}
 use Rattle.std.specs.Char.{is_ascii_digit}
+use Rattle.bq_words.specs.Units.{unit_of}
 use Rattle.bq_lines.specs.Numbers.{decimal_of}
-
--- how many nanoseconds a unit has
-abbrev pub unit_of : List ℕ → Option ℕ
-unit_of u =
-    if bytes_eq u (codes "ns") then Some 1
-    else if bytes_eq u (codes "us") then Some 1000
-    else if bytes_eq u (codes "ms") then Some 1000000
-    else if bytes_eq u (codes "s") then Some 1000000000
-    else None
 
 -- so many of a unit, if that is below 2^64 ns
 abbrev pub times : ℕ → ℕ → Option ℕ

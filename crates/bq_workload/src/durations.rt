@@ -1,8 +1,9 @@
 //! Lengths of time.
 ghost use Rattle.std.specs.Prelude.{◌≡◌, ◌<◌, IfSome, length, position};
-ghost use Rattle.bq_workload.specs.Durations.{duration_of, is_no_digit, unit_of};
+ghost use Rattle.bq_workload.specs.Durations.{duration_of, is_no_digit};
 
 use bq_lines::numbers::decimal;
+use bq_words::nanoseconds;
 
 /// The nanoseconds that a word writes: a whole number and its unit, as `500us`. The unit is `ns`, `us`, `ms` or `s`.
 ///
@@ -28,21 +29,4 @@ fn is_no_digit(byte: u8) -> bool
     ensures { result ≡ is_no_digit byte }
 {
     !byte.is_ascii_digit()
-}
-
-/// How many nanoseconds a unit has.
-fn nanoseconds(unit: &[u8]) -> Option<u64>
-    ensures { result ≡ unit_of unit.now }
-{
-    if unit == b"ns".as_slice() {
-        Some(1)
-    } else if unit == b"us".as_slice() {
-        Some(1000)
-    } else if unit == b"ms".as_slice() {
-        Some(1_000_000)
-    } else if unit == b"s".as_slice() {
-        Some(1_000_000_000)
-    } else {
-        None
-    }
 }

@@ -11,8 +11,8 @@ mod simulate;
 mod timeline;
 
 use crate::requests::{Request, asked};
-use bq_cli::asked::JobFault;
 use bq_cli::status::REFUSED;
+use bq_options::WordsFault;
 use bq_policy_desk::do_policy;
 use std::process::ExitCode;
 use std::sync::Wait;
@@ -20,11 +20,11 @@ use std::thread::Threads;
 
 fn main(rt: HostRuntime) -> ExitCode {
     match asked(&rt) {
-        Err(JobFault::Words(text)) => {
+        Err(WordsFault::Words(text)) => {
             let _ = eprint!(rt; "{text}");
             ExitCode::from(REFUSED)
         }
-        Err(JobFault::OutOfMemory) => outputs::out_of_memory(&rt),
+        Err(WordsFault::OutOfMemory) => outputs::out_of_memory(&rt),
         Ok(request) => done(&rt, &rt, &request),
     }
 }

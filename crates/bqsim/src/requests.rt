@@ -1,6 +1,6 @@
 //! What the words after the program's name ask for.
 
-use bq_cli::asked::{Job, JobFault};
+use bq_cli::asked::Job;
 use bq_cli::job;
 use bq_options::WordsFault;
 use bq_policy_desk::{PolicyRequest, policy_request};
@@ -22,7 +22,7 @@ pub(crate) enum Request {
 }
 
 /// What the words after the program's name ask for. A word that is no text is refused.
-pub(crate) fn asked(rt: &HostRuntime) -> Result<Request, JobFault> {
+pub(crate) fn asked(rt: &HostRuntime) -> Result<Request, WordsFault> {
     let alloc = rt.alloc();
     let mut given = Vec::new(alloc);
     match env::args(rt) {
@@ -33,10 +33,10 @@ pub(crate) fn asked(rt: &HostRuntime) -> Result<Request, JobFault> {
         }
         Err(error) => {
             if error.kind() == ErrorKind::OutOfMemory {
-                return Err(JobFault::OutOfMemory);
+                return Err(WordsFault::OutOfMemory);
             }
             let text = String::from_str(alloc, "error: a word is no UTF-8 text\n")?;
-            return Err(JobFault::Words(text));
+            return Err(WordsFault::Words(text));
         }
     }
     let mut words = Vec::new(alloc);
@@ -47,7 +47,7 @@ pub(crate) fn asked(rt: &HostRuntime) -> Result<Request, JobFault> {
 }
 
 /// What the words ask for. `help` before a command's name asks what `--help` after it does.
-fn request_of<'a>(alloc: Global, words: &'a [&'a str]) -> Result<Request, JobFault> {
+fn request_of<'a>(alloc: Global, words: &'a [&'a str]) -> Result<Request, WordsFault> {
     if let Some(request) = policy_request(alloc, words)? {
         return Ok(Request::Policy(request));
     }
@@ -63,7 +63,7 @@ fn request_of<'a>(alloc: Global, words: &'a [&'a str]) -> Result<Request, JobFau
 }
 
 /// What the words of the other commands ask for. `asm` and `replay` may name a file, first or last.
-fn job_words(alloc: Global, words: &[&str]) -> Result<Request, JobFault> {
+fn job_words(alloc: Global, words: &[&str]) -> Result<Request, WordsFault> {
     let place = file_place(words);
     let mut file = None;
     let mut others = Vec::new(alloc);
@@ -104,33 +104,16 @@ fn takes_value(option: &str) -> bool {
 }
 
 /// What the words after `timeline` ask for.
-fn timeline_words<'a>(alloc: Global, given: &'a [&'a str]) -> Result<Request, JobFault> {
-    match words(alloc, given) {
-        Ok(words) => Ok(Request::Timeline(words)),
-        Err(fault) => Err(refused(fault)),
-    }
+fn timeline_words<'a>(alloc: Global, given: &'a [&'a str]) -> Result<Request, WordsFault> {
+    Ok(Request::Timeline(words(alloc, given)?))
 }
 
 /// What the words after `simulate` ask for.
-fn simulate_words<'a>(alloc: Global, given: &'a [&'a str]) -> Result<Request, JobFault> {
-    match study_words(alloc, given) {
-        Ok(words) => Ok(Request::Simulate(words)),
-        Err(fault) => Err(refused(fault)),
-    }
+fn simulate_words<'a>(alloc: Global, given: &'a [&'a str]) -> Result<Request, WordsFault> {
+    Ok(Request::Simulate(study_words(alloc, given)?))
 }
 
 /// What the words after `import` ask for.
-fn import_words<'a>(alloc: Global, given: &'a [&'a str]) -> Result<Request, JobFault> {
-    match bq_policy_desk::import_words(alloc, given) {
-        Ok(words) => Ok(Request::Import(words)),
-        Err(fault) => Err(refused(fault)),
-    }
-}
-
-/// The fault of a job by that of its words.
-fn refused(fault: WordsFault) -> JobFault {
-    match fault {
-        WordsFault::Words(text) => JobFault::Words(text),
-        WordsFault::OutOfMemory => JobFault::OutOfMemory,
-    }
+fn import_words<'a>(alloc: Global, given: &'a [&'a str]) -> Result<Request, WordsFault> {
+    Ok(Request::Import(bq_policy_desk::import_words(alloc, given)?))
 }
