@@ -87,7 +87,7 @@ abbrev busy : List Task → ℕ → Task → ℕ → Running
 busy q kept u last = record { queue = q; kept = kept; current = Some u; last = last }
 
 -- a task that is at most 1,000,000 beyond the least is so beyond each
-near_each : (n : ℕ) (q : List Task) → option_map_or (λ (t : Task). nat_lt (t.v + 1000000) n) (least q) false ≡ false → AllByRecursion (λ t. n ≤ t.v + 1000000) q
+pub near_each : (n : ℕ) (q : List Task) → option_map_or (λ (t : Task). nat_lt (t.v + 1000000) n) (least q) false ≡ false → AllByRecursion (λ t. n ≤ t.v + 1000000) q
 near_each n [] e = tt
 near_each n (x ∷ xs) e =
     let m = former runs_before x (least xs) in
@@ -103,7 +103,7 @@ next_by_test a u true false e = refl
 next_by_test a u false c e = cc
 
 -- where the current task gives way, the next is the least of the queue
-next_is_least : (u x : Task) (xs : List Task) → (let m = former runs_before x (least xs) in m.v < u.v → next_of cfs u (x ∷ xs) ≡ m.id)
+pub next_is_least : (u x : Task) (xs : List Task) → (let m = former runs_before x (least xs) in m.v < u.v → next_of cfs u (x ∷ xs) ≡ m.id)
 next_is_least u x xs lt =
     let m = former runs_before x (least xs) in
     let before : runs_before m u ≡ true = grind (arith, nat_tests) in

@@ -6,7 +6,8 @@ use Rattle.bq_disc.specs.Tasks.{Task, place, without, runs_before, first_by, for
 use Rattle.bq_disc.specs.Queues.{follows}
 use Rattle.bq_disc.specs.Rising.{IsRising, NoneRunsBefore}
 
-not_before : (x y z : Task) → runs_before x y ≡ false → runs_before y z ≡ false → runs_before x z ≡ false
+-- what runs not before a task, which runs not before another, runs not before that one
+pub not_before : (x y z : Task) → runs_before x y ≡ false → runs_before y z ≡ false → runs_before x z ≡ false
 not_before x y z p q = grind (arith, nat_tests)
 
 before_not : (x y : Task) → runs_before x y ≡ true → runs_before y x ≡ false

@@ -1,7 +1,6 @@
 -- CFS: the task that runs is near each, so no task gets far beyond another.
-use Rattle.std.proofs.Common.{◌≡◌, ℕ, ◌+◌, ◌<◌, ◌≤◌, max, Bool, true, false, cond, eqb, nat_lt, List, [], ◌∷◌, Option, Some, None, refl, sym, ◌∙◌, arith}
+use Rattle.std.proofs.Common.{◌≡◌, ℕ, ◌+◌, ◌<◌, ◌≤◌, max, Bool, true, false, List, [], ◌∷◌, Option, Some, None, refl, sym, ◌∙◌, arith}
 use Rattle.std.specs.Prelude.{All, IfSome}
-use Rattle.std.specs.Option.{option_map_or}
 use Rattle.std.specs.List.{AllByRecursion}
 use Rattle.std.proofs.lemmas.Bool.Decides.{nat_tests}
 use Rattle.bq_weights.specs.VirtualTime.{vdelta_of}
@@ -14,6 +13,7 @@ use Rattle.bq_disc.proofs.SetLemmas.{with_id-Contains}
 use Rattle.bq_cfs.specs.Cfs.{cfs, least}
 use Rattle.bq_cfs.proofs.BoundLemmas.{weaker, none_below_least}
 use Rattle.bq_cfs.proofs.MoveLemmas.{each-with_id}
+use Rattle.bq_cfs.proofs.SpreadStayLemmas.{near_each, next_is_least}
 use Rattle.bq_fair.specs.Histories.{ticked, history, rise, RisesByAtMost, task_at}
 use Rattle.bq_fair.proofs.PlaceLemmas.{idle, busy, current_present}
 use Rattle.bq_fair.proofs.TickLemmas.{Change, Stays, Runs, came, tick_keeps, charged_distinct}
@@ -37,26 +37,6 @@ started_near [] kept last d = tt
 started_near (x ∷ xs) kept last d =
     let m = former runs_before x (least xs) in
     rw (least_is_found x xs d) (weaker (λ (t : Task). m.v ≤ t.v) (λ (t : Task). m.v ≤ t.v + 1000000) (λ t k. omega arith) (x ∷ xs) (none_below_least x xs))
-
--- a task that is at most 1,000,000 beyond the least is so beyond each
-near_each : (n : ℕ) (q : List Task) → option_map_or (λ (t : Task). nat_lt (t.v + 1000000) n) (least q) false ≡ false → AllByRecursion (λ t. n ≤ t.v + 1000000) q
-near_each n [] e = tt
-near_each n (x ∷ xs) e =
-    let m = former runs_before x (least xs) in
-    let le : n ≤ m.v + 1000000 = grind (arith, nat_tests) in
-    weaker (λ (t : Task). m.v ≤ t.v) (λ (t : Task). n ≤ t.v + 1000000) (λ t k. omega arith) (x ∷ xs) (none_below_least x xs)
-
-next_by_test : (a u : Task) (b c : Bool) → b ≡ true → cond c a.id (cond b a u).id ≡ a.id
-next_by_test a u true true e = refl
-next_by_test a u true false e = refl
-next_by_test a u false c e = cc
-
--- where the current task gives way, the next is the least of the queue
-next_is_least : (u x : Task) (xs : List Task) → (let m = former runs_before x (least xs) in m.v < u.v → next_of cfs u (x ∷ xs) ≡ m.id)
-next_is_least u x xs lt =
-    let m = former runs_before x (least xs) in
-    let before : runs_before m u ≡ true = grind (arith, nat_tests) in
-    next_by_test m u (runs_before m u) (eqb (cond (runs_before m u) m u).id u.id) before
 
 exchanged_near : (q : List Task) (kept last next : ℕ) (u m : Task) → next ≡ m.id → with_id m.id q ≡ Some m → IsNearEach (u ∷ q) m → IfSome (exchanged (busy q kept u last) u (with_id next q)).current (IsNearEach (u ∷ q))
 exchanged_near q kept last next u m e f h = rw (e, f) h

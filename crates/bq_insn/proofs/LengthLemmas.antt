@@ -29,8 +29,8 @@ length-spelling (i ∷ insns) =
     let slots = length-append (spelled i) (flat_map spelled insns) in
     omega (arith, rest, here, more, slots)
 
--- the length of a program is that of a program
-program_length : (insns : List Insn) → is_well_formed insns ≡ true → is_length (spelling insns) ≡ true
+-- the length of a program is that of a program: it takes 1 to 4096 whole slots
+pub program_length : (insns : List Insn) → is_well_formed insns ≡ true → is_length (spelling insns) ≡ true
 program_length insns h =
     let parts = both (list_all is_insn insns) (nat_le 1 (slot_count insns) && nat_le (slot_count insns) 4096) h in
     let bounds = both (nat_le 1 (slot_count insns)) (nat_le (slot_count insns) 4096) parts.1 in

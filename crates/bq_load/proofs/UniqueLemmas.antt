@@ -20,7 +20,8 @@ use Rattle.bq_load.proofs.AgainLemmas.{spelled, header_again}
 one_proof : (size entries : ℕ) (g h : IsShape size entries) → g ≡ h
 one_proof size entries = hlevel props
 
-same_shape : (s t : MapShape) → s.value_size ≡ t.value_size → s.entries ≡ t.entries → s ≡ t
+-- a shape is that of its two numbers
+pub same_shape : (s t : MapShape) → s.value_size ≡ t.value_size → s.entries ≡ t.entries → s ≡ t
 unfolding shape_of shape_facts
 same_shape s t e f =
     let P : ℕ → Type 0 = λ n. (h : IsShape n s.entries) → s ≡ shape_of n s.entries h in

@@ -1,10 +1,8 @@
 -- The lines of a text say one head.
-use Rattle.std.proofs.Common.{◌≡◌, ℕ, List, [], ◌∷◌, map, Some, None, Option, refl, sym, ap, subst, ◌∙◌, option_map, Global}
-use Rattle.std.proofs.Props.{props}
+use Rattle.std.proofs.Common.{◌≡◌, ℕ, List, [], ◌∷◌, map, Some, None, Option, refl, sym, ap, ◌∙◌, option_map, Global}
 use Rattle.std.specs.declared.vec.Vec.{Vec}
 use Rattle.bq_bpf.specs.declared.shape.MapShape.{MapShape}
-use Rattle.bq_bpf.specs.Limits.{IsShape}
-use Rattle.bq_load.proofs.FieldLemmas.{shape_of, shape_facts}
+use Rattle.bq_load.proofs.UniqueLemmas.{same_shape}
 use Rattle.bq_program.specs.ShapesText.{numbers_of}
 use Rattle.bq_bpf.specs.Hooks.{hook_of, version_of}
 use Rattle.bq_bpf.specs.declared.hook.Hook.{Hook}
@@ -24,18 +22,6 @@ one_said see P one (w ∷ []) None y h k = absurd h
 one_said see P one (w ∷ []) (Some a) None h k = absurd k
 one_said see P one (w ∷ []) (Some a) (Some b) h k = ap (λ v. Some v) (one w a b h k)
 one_said see P one (w ∷ v ∷ ws) x y h k = absurd h
-
-one_proof : (size entries : ℕ) (g h : IsShape size entries) → g ≡ h
-one_proof size entries = hlevel props
-
-same_shape : (s t : MapShape) → s.value_size ≡ t.value_size → s.entries ≡ t.entries → s ≡ t
-unfolding shape_of shape_facts
-same_shape s t e f =
-    let P : ℕ → Type 0 = λ n. (h : IsShape n s.entries) → s ≡ shape_of n s.entries h in
-    let first : P s.value_size = λ h. ap (shape_of s.value_size s.entries) (one_proof s.value_size s.entries (shape_facts s) h) in
-    let second : P t.value_size = subst P e first in
-    let Q : ℕ → Type 0 = λ n. (h : IsShape t.value_size n) → s ≡ shape_of t.value_size n h in
-    subst Q f second (shape_facts t)
 
 same_pair : (x y : ℕ × ℕ) (xs ys : List (Option (ℕ × ℕ))) → Some x ∷ xs ≡ Some y ∷ ys → x ≡ y
 same_pair x y xs ys h = cc

@@ -19,7 +19,7 @@ use Rattle.bq_schedule.specs.Steps.{performed_told, change, nothing, is_there, a
 use Rattle.bq_schedule.specs.Laws.{IsWithin, IsOf, told_if, told_runs, TellsRuns}
 use Rattle.bq_schedule.proofs.FrameLemmas.{Works}
 use Rattle.bq_schedule.proofs.ClockLemmas.{Shows, shows-after, count-figures, within-figures, processor-read_at}
-use Rattle.bq_schedule.proofs.SliceTimeLemmas.{slice_seen, shown-seen}
+use Rattle.bq_schedule.proofs.SliceTimeLemmas.{outside, slice_seen, shown-seen}
 use Rattle.bq_schedule.proofs.ApartLemmas.{at_only, filter-one}
 
 -- the last of some runs is joined to another slice
@@ -107,9 +107,6 @@ seen-performed s (Tick cpu now) (Ticked run by steps) = refl
 seen-performed s (Block cpu now) (Went task run) = refl
 seen-performed s (Pull cpu from now) (Pulled task run by steps) = refl
 seen-performed s e r = refl
-
-outside : (a b : ℕ) → ltb a b ≡ false → a < b → ⊥
-outside a b e h = grind (arith, nat_tests)
 
 seen-nothing : (s : Figures) (e : Event) (r : Reply) → is_there s e ≡ false → IsWithin (length s.processors) (sight e r) → None ≡ run_seen s (sight e r)
 seen-nothing s (EndWake cpu now) (Placed task to by steps) none h = absurd (outside cpu (length s.processors) none h)

@@ -33,7 +33,8 @@ seen-performed s (Block cpu now) (Went task run) = refl
 seen-performed s (Pull cpu from now) (Pulled task run by steps) = refl
 seen-performed s e r = refl
 
-outside : (a b : ℕ) → ltb a b ≡ false → a < b → ⊥
+-- what is not below a number is not below it
+pub outside : (a b : ℕ) → ltb a b ≡ false → a < b → ⊥
 outside a b e h = grind (arith, nat_tests)
 
 seen-nothing : (s : Figures) (e : Event) (r : Reply) → is_there s e ≡ false → IsWithin (length s.processors) (sight e r) → None ≡ slice_seen s (sight e r)

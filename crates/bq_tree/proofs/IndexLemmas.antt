@@ -9,7 +9,8 @@ use Rattle.bq_disc.specs.declared.node.Node.{Node}
 use Rattle.bq_disc.proofs.QueueLemmas.{length-few, length-place, HasDistinctIds-place, HasSmallIds-place, HasDistinctIds-without, HasSmallIds-without}
 use Rattle.bq_tree.specs.Taking.{Takes}
 use Rattle.bq_tree.specs.Sound.{Knows, IsSound, first_key, lesser_of}
-use Rattle.bq_tree.proofs.OrderLemmas.{IsRising-place, IsRising-drop}
+use Rattle.bq_disc.proofs.RisingLemmas.{IsRising-place}
+use Rattle.bq_tree.proofs.OrderLemmas.{IsRising-drop}
 use Rattle.bq_tree.proofs.SoundLemmas.{Knows-place, Knows-drop, without-amid}
 
 apart_by : (i id k : ℕ) → i ≡ id → eqb k id ≡ false → k ≢ i

@@ -1,21 +1,16 @@
 -- Lists of tasks by rising (v, id), cut at a task.
-use Rattle.std.proofs.Common.{◌≡◌, ℕ, Bool, true, false, cond, List, [], ◌∷◌, ◌++◌, Option, Some, None, refl, ap, sym, ◌∙◌, append_assoc, arith}
+use Rattle.std.proofs.Common.{◌≡◌, ℕ, true, false, cond, List, [], ◌∷◌, ◌++◌, Option, Some, None, refl, ap, sym, ◌∙◌, append_assoc, arith}
 use Rattle.std.specs.List.{AllByRecursion}
 use Rattle.std.proofs.lemmas.Bool.Decides.{nat_tests}
 use Rattle.bq_disc.specs.Tasks.{Task, place, runs_before}
 use Rattle.bq_disc.specs.Queues.{comes_after}
 use Rattle.bq_disc.specs.Rising.{IsRising, NoneRunsBefore}
+use Rattle.bq_disc.proofs.RisingLemmas.{not_before}
 use Rattle.bq_tree.specs.Taking.{is_at, IsAbsent, Takes, Finds}
 
 -- a task runs before none of these
 abbrev pub RunsBeforeNone : Task → List Task → Type 0
 RunsBeforeNone x xs = AllByRecursion (λ (y : Task). runs_before x y ≡ false) xs
-
-not_before : (x y z : Task) → runs_before x y ≡ false → runs_before y z ≡ false → runs_before x z ≡ false
-not_before x y z p q = grind (arith, nat_tests)
-
-before_not : (x y : Task) → runs_before x y ≡ true → runs_before y x ≡ false
-before_not x y p = grind (arith, nat_tests)
 
 none_front : (x : Task) (xs ys : List Task) → NoneRunsBefore x (xs ++ ys) → NoneRunsBefore x xs
 none_front x [] ys h = tt
@@ -53,27 +48,6 @@ pub IsRising-drop : (xs : List Task) (x : Task) (ys : List Task) → IsRising (x
 IsRising-drop [] x ys h = h.1
 IsRising-drop (y ∷ xs) x ys h =
     (none_join y xs ys (none_front y xs (x ∷ ys) h.0) (none_back y xs (x ∷ ys) h.0).1, IsRising-drop xs x ys h.1)
-
-none_later : (t x : Task) (xs : List Task) → runs_before t x ≡ true → NoneRunsBefore x xs → NoneRunsBefore t xs
-none_later t x [] b h = tt
-none_later t x (y ∷ xs) b h = (not_before y x t h.0 (before_not t x b), none_later t x xs b h.1)
-
-none_place : (x t : Task) (xs : List Task) → runs_before t x ≡ false → NoneRunsBefore x xs → NoneRunsBefore x (place t xs)
-none_place x t [] b h = (b, tt)
-none_place x t (y ∷ xs) b h =
-    elim (runs_before t y) as (λ c. NoneRunsBefore x (cond c (t ∷ y ∷ xs) (y ∷ place t xs))) [
-      | true ↦ (b, h)
-      | false ↦ (h.0, none_place x t xs b h.1)
-    ]
-
-rising_by_test : (b : Bool) (t x : Task) (xs : List Task) → runs_before t x ≡ b → IsRising (x ∷ xs) → IsRising (place t xs) → IsRising (cond b (t ∷ x ∷ xs) (x ∷ place t xs))
-rising_by_test true t x xs e h p = ((before_not t x e, none_later t x xs e h.0), h)
-rising_by_test false t x xs e h p = (none_place x t xs e h.0, p)
-
--- a list that rises still does with one more task in its place
-pub IsRising-place : (t : Task) (xs : List Task) → IsRising xs → IsRising (place t xs)
-IsRising-place t [] h = (tt, tt)
-IsRising-place t (x ∷ xs) h = rising_by_test (runs_before t x) t x xs refl h (IsRising-place t xs h.1)
 
 -- a task that runs before x has its place before it
 pub place-left : (t : Task) (xs : List Task) (x : Task) (ys : List Task) → runs_before t x ≡ true → place t (xs ++ x ∷ ys) ≡ place t xs ++ x ∷ ys

@@ -1,7 +1,7 @@
 use Rattle.std.proofs.Common.{◌≡◌, true, rules, subst, sym}
 use Rattle.bq_insn.specs.Faults.{is_length}
 use Rattle.bq_insn.specs.Spelling.{spelling}
-use Rattle.bq_program.proofs.FormLemmas.{program_length}
+use Rattle.bq_insn.proofs.LengthLemmas.{program_length}
 use Rattle.bq_study.proofs.policies.image_of.Goals as goal
 
 pub write_image-requires-clause-whole : goal.write_image-requires-clause-whole
