@@ -3,9 +3,9 @@
 
     tests/one_place.py        exit status 0: none but those that ALLOWED names with a reason
 
-Four things are looked for: a known fact outside its home (FACTS: a pattern, and the file that may have it); the same function
-twice, by its text without its name; the same definition twice in specs, by its right side; the same long text twice. Trials,
-tests and proofs are left out.
+Five things are looked for: a known fact outside its home (FACTS: a pattern, and the file that may have it); the same function
+twice, by its text without its name; the same definition twice in specs, by its right side; the same lemma twice in proofs of two
+crates; the same long text twice. Trials and tests are left out.
 """
 import re
 import sys
@@ -25,6 +25,8 @@ FACTS = [
     ('the word of a version', r'Version::\w+ => \d', {'bq_bpf/src/hook.rt'}),
 ]
 
+LATER = 'a private lemma of a few lines: to share it the lower crate makes it public, when what stands on that is proved anew anyway'
+
 # What may stand in two places, and why.
 ALLOWED = {
     'the word of a hook: bq_cli/src/asm_words.rt': 'the values that an option takes, beside the text of its refusal, which lists them',
@@ -34,6 +36,10 @@ ALLOWED = {
     'the word of a hook: bq_timeline/src/faults.rt': 'the command `pull` of a trace, an event, whose word only happens to be that of a hook too',
     'the word of a hook: bq_why/src/happenings.rt': 'the name of an event, which only happens to be the word of a hook too',
     'the same definition: bq_comparison/specs/Gathering.antt: schedule_with, bq_timeline/specs/Watching.antt: watched': "three lines over a trace's news and a schedule: no crate that stands on both lies below these two",
+    'the same lemma: bq_cells/proofs/OpeningLemmas.antt: all_same, bq_core/proofs/OnTheWayLemmas.antt: same_everywhere, bq_passing/proofs/SoundLemmas.antt: same_everywhere': LATER,
+    'the same lemma: bq_cfs/proofs/SpreadStayLemmas.antt: least_is_found, bq_fair/proofs/CfsFairLemmas.antt: least_is_found': LATER,
+    'the same lemma: bq_graph/proofs/SpreadLemmas.antt: one_or_two, bq_verify/proofs/FrameLemmas.antt: one_or_two': LATER,
+    'the same lemma: bq_simulate/proofs/RetellingLemmas.antt: does, bq_trace/proofs/StoryTextLemmas.antt: happens_text': LATER,
 }
 
 
@@ -58,13 +64,27 @@ def functions(files):
     seen = defaultdict(list)
     for name, text in files:
         for found in re.finditer(r'(?m)^( *)(?:pub(?:\(\w+\))? )?fn (\w+)(.*?)^\1\}$', text, re.S):
-            body = re.sub(r'\s+', ' ', re.sub(r'//.*', '', found[3]))
-            inner = body[body.rfind(' { ') if '{' in body else 0:]
-            if body.count(';') + body.count('=>') >= 3 and len(inner) > 40:
+            body = re.sub(r'\s+', ' ', re.sub(r'//.*', '', found[3]).replace(found[2], '_'))
+            if len(found[3].splitlines()) >= 6 and re.search(r'[;?]|=>|\bif\b', body):
                 seen[body].append(f'{name}: {found[2]}')
     for places in seen.values():
         if len({it.split(':')[0] for it in places}) > 1:
             yield 'the same function: ' + ', '.join(places)
+
+
+def lemmas(files):
+    """Lemmas of at least four lines, by statement and proof without the name."""
+    seen = defaultdict(list)
+    for name, text in files:
+        if not name.endswith('Lemmas.antt'):
+            continue
+        for found in re.finditer(r'(?m)^( *)(?:abbrev )?(?:pub )?([^\s:]+) :(.*?)(?=^\1(?! )(?!\2 |unfolding )\S|^$|\Z)', text, re.S):
+            body = re.sub(r'\s+', ' ', re.sub(r'--.*', '', found[3]).replace(found[2], '_'))
+            if len(found[3].splitlines()) >= 4:
+                seen[body].append(f'{name}: {found[2]}')
+    for places in seen.values():
+        if len({it.split('/')[0] for it in places}) > 1:
+            yield 'the same lemma: ' + ', '.join(places)
 
 
 def definitions(files):
@@ -90,8 +110,8 @@ def texts(files):
 
 
 def main():
-    code, specs = list(product('src', '.rt')), list(product('specs', '.antt'))
-    found = [*facts(code), *functions(code), *definitions(specs), *texts(code)]
+    code, specs, proofs = list(product('src', '.rt')), list(product('specs', '.antt')), list(product('proofs', '.antt'))
+    found = [*facts(code), *functions(code), *definitions(specs), *lemmas(proofs), *texts(code)]
     bad = [it for it in found if it not in ALLOWED]
     for it in bad:
         print(it)
