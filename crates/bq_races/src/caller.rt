@@ -1,5 +1,6 @@
 // A seat at play.
 
+use crate::asking::{Request, ask};
 use crate::counting_clock::CountingClock;
 use crate::held_queue::HeldQueue;
 use crate::play::{Held, Play};
@@ -10,6 +11,59 @@ use std::sync::Wait;
 
 /// The machine that scripts are played on, of four processors.
 pub type Raced<N> = Machine<HeldQueue, CountingClock, N, 4>;
+
+/// The slice of each task.
+const SLICE: u64 = 3_000_000;
+
+/// The calls by which the task of a processor's number comes to run there.
+fn birth(processor: u8, mask: u64) -> [Request; 3] {
+    let task = u16::from(processor);
+    [
+        Request::Admit {
+            task,
+            nice: 0,
+            mask,
+            slice: SLICE,
+        },
+        Request::Wake { processor, task },
+        Request::Drain { processor },
+    ]
+}
+
+/// The call at processor 0 that is held.
+fn held_call(held: Held) -> Request {
+    match held {
+        Held::Tick => Request::Tick { processor: 0 },
+        Held::Drain => Request::Drain { processor: 0 },
+        Held::Block => Request::Block { processor: 0 },
+        Held::Pull => Request::Pull {
+            processor: 0,
+            from: 1,
+        },
+    }
+}
+
+/// The seven calls that are made while another is held.
+const OTHERS: [Request; 7] = [
+    Request::Admit {
+        task: 9,
+        nice: 0,
+        mask: 12,
+        slice: SLICE,
+    },
+    Request::Wake {
+        processor: 2,
+        task: 9,
+    },
+    Request::Drain { processor: 2 },
+    Request::Tick { processor: 2 },
+    Request::Block { processor: 2 },
+    Request::Pull {
+        processor: 3,
+        from: 2,
+    },
+    Request::Retire { task: 9 },
+];
 
 /// A seat with the receipts that it got.
 #[derive(Drop)]
@@ -22,70 +76,28 @@ pub struct Caller<'a, N: Naming + Counting, R: Wait> {
 }
 
 impl<'a, N: Naming + Counting, R: Wait> Caller<'a, N, R> {
-    fn keep(&mut self, answer: Result<Receipt<Record>, Refusal>) -> Result<(), Refusal> {
-        let receipt = answer?;
+    fn keep(&mut self, receipt: Receipt<Record>) -> Result<(), Refusal> {
         self.receipts
             .push(receipt)
             .map_err(|_| Refusal::OutOfMemory)
     }
 
-    fn admit(&mut self, task: u16, mask: u64) -> Result<(), Refusal> {
-        let answer = self.machine.admit(
-            self.rt,
-            self.alloc,
-            &mut self.seat,
-            task,
-            0,
-            mask,
-            3_000_000,
-        );
-        self.keep(answer)
-    }
-
-    fn retire(&mut self, task: u16) -> Result<(), Refusal> {
-        let answer = self
-            .machine
-            .retire(self.rt, self.alloc, &mut self.seat, task);
-        self.keep(answer)
-    }
-
-    fn wake(&mut self, processor: u8, task: u16) -> Result<(), Refusal> {
-        let woken = self
-            .machine
-            .wake(self.rt, self.alloc, &mut self.seat, processor, task)?;
-        self.keep(Ok(woken.begin))?;
-        match woken.end {
-            Some(end) => self.keep(Ok(end)),
+    /// Makes the call, and keeps its receipts.
+    fn call(&mut self, request: Request) -> Result<(), Refusal> {
+        let receipts = ask(self.rt, self.alloc, self.machine, &mut self.seat, request)?;
+        self.keep(receipts.first)?;
+        match receipts.second {
+            Some(second) => self.keep(second),
             None => Ok(()),
         }
     }
 
-    fn drain(&mut self, processor: u8) -> Result<(), Refusal> {
-        let answer = self
-            .machine
-            .drain(self.rt, self.alloc, &mut self.seat, processor);
-        self.keep(answer)
-    }
-
-    fn tick(&mut self, processor: u8) -> Result<(), Refusal> {
-        let answer = self
-            .machine
-            .tick(self.rt, self.alloc, &mut self.seat, processor);
-        self.keep(answer)
-    }
-
-    fn block(&mut self, processor: u8) -> Result<(), Refusal> {
-        let answer = self
-            .machine
-            .block(self.rt, self.alloc, &mut self.seat, processor);
-        self.keep(answer)
-    }
-
-    fn pull(&mut self, processor: u8, from: u8) -> Result<(), Refusal> {
-        let answer = self
-            .machine
-            .pull(self.rt, self.alloc, &mut self.seat, processor, from);
-        self.keep(answer)
+    /// Makes calls one after another.
+    fn call_all(&mut self, requests: &[Request]) -> Result<(), Refusal> {
+        for request in requests {
+            self.call(*request)?;
+        }
+        Ok(())
     }
 
     fn load(&mut self, image: &[u8]) -> Result<(), Refusal> {
@@ -99,44 +111,20 @@ impl<'a, N: Naming + Counting, R: Wait> Caller<'a, N, R> {
         else {
             return Err(Refusal::OutOfMemory);
         };
-        self.keep(Ok(loaded.draw))?;
+        self.keep(loaded.draw)?;
         for install in loaded.installs {
-            self.keep(Ok(install))?;
+            self.keep(install)?;
         }
         Ok(())
     }
 
     /// The life of a task at a processor.
     fn live(&mut self, processor: u8, mask: u64, ticks: u32) -> Result<(), Refusal> {
-        let task = u16::from(processor);
-        self.admit(task, mask)?;
-        self.wake(processor, task)?;
-        self.drain(processor)?;
+        self.call_all(&birth(processor, mask))?;
         for _ in 0..ticks {
-            self.tick(processor)?;
+            self.call(Request::Tick { processor })?;
         }
         Ok(())
-    }
-
-    /// The call at processor 0 that is held.
-    fn call_held(&mut self, held: Held) -> Result<(), Refusal> {
-        match held {
-            Held::Tick => self.tick(0),
-            Held::Drain => self.drain(0),
-            Held::Block => self.block(0),
-            Held::Pull => self.pull(0, 1),
-        }
-    }
-
-    /// The seven calls that are made while another is held.
-    fn call_others(&mut self) -> Result<(), Refusal> {
-        self.admit(9, 12)?;
-        self.wake(2, 9)?;
-        self.drain(2)?;
-        self.tick(2)?;
-        self.block(2)?;
-        self.pull(3, 2)?;
-        self.retire(9)
     }
 
     /// Does what the play says. Answers counter 3, as it is then.
@@ -148,17 +136,15 @@ impl<'a, N: Naming + Counting, R: Wait> Caller<'a, N, R> {
                 ticks,
             } => self.live(processor, mask, ticks)?,
             Play::Load(image) => self.load(image)?,
-            Play::Tick => self.tick(0)?,
+            Play::Tick => self.call(Request::Tick { processor: 0 })?,
             Play::Hold(gate, held) => {
-                self.admit(0, 1)?;
-                self.wake(0, 0)?;
-                self.drain(0)?;
+                self.call_all(&birth(0, 1))?;
                 gate.arm();
-                self.call_held(held)?;
+                self.call(held_call(held))?;
             }
             Play::Pass(gate) => {
                 if gate.is_entered() {
-                    self.call_others()?;
+                    self.call_all(&OTHERS)?;
                 }
                 gate.open();
             }

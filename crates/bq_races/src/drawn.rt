@@ -1,5 +1,6 @@
 // Calls that are drawn.
 
+use crate::asking::{Request, ask};
 use crate::images::{ADDS, COUNTING, IN_TURN, OWN_PULL};
 use bq_disc::RunQueue;
 use bq_load::LoadFault;
@@ -54,12 +55,31 @@ fn image(number: u64) -> (Hook, Option<&'static [u8]>) {
     }
 }
 
-/// Whether a call was answered, or its arguments refused, and memory was not wanting.
-fn has_memory<A>(answer: &Result<A, Refusal>) -> bool {
-    !matches!(answer, Err(Refusal::OutOfMemory))
+/// The request that two numbers say, at any of 64 processors, of any of 1024 tasks.
+fn request(number: u64, other: u64) -> Request {
+    let processor = ((number >> 10) % 64) as u8;
+    let task = ((number >> 16) % 1024) as u16;
+    match number % 1024 {
+        0..=7 => Request::Retire { task },
+        8..=107 => Request::Admit {
+            task,
+            nice: NICES[((number >> 32) % 8) as usize],
+            mask: other,
+            slice: 100_000 + (number >> 40) % 10_000_000,
+        },
+        108..=407 => Request::Wake { processor, task },
+        408..=607 => Request::Drain { processor },
+        608..=807 => Request::Tick { processor },
+        808..=917 => Request::Block { processor },
+        _ => Request::Pull {
+            processor,
+            from: (other % 64) as u8,
+        },
+    }
 }
 
-/// Makes a call that two numbers say, at any of 64 processors, of any of 1024 tasks. False where memory was wanting.
+/// Makes a call that two numbers say: of 512 one loads an image, one reads a counter, the others are requests. False where memory
+/// was wanting.
 fn draw<Q: RunQueue + Drop, K: Clock + Drop, N: Naming + Counting, R: Wait, const P: usize>(
     rt: &R,
     alloc: Global,
@@ -68,10 +88,8 @@ fn draw<Q: RunQueue + Drop, K: Clock + Drop, N: Naming + Counting, R: Wait, cons
     number: u64,
     other: u64,
 ) -> bool {
-    let processor = ((number >> 10) % 64) as u8;
-    let task = ((number >> 16) % 1024) as u16;
-    match number % 1024 {
-        0 | 1 => {
+    match (number >> 48) % 512 {
+        0 => {
             let (hook, image) = image(number >> 32);
             let loaded = machine.load_all(rt, alloc, seat, hook, image);
             !matches!(
@@ -82,23 +100,13 @@ fn draw<Q: RunQueue + Drop, K: Clock + Drop, N: Naming + Counting, R: Wait, cons
                 )
             )
         }
-        2..=9 => has_memory(&machine.retire(rt, alloc, seat, task)),
-        10..=109 => {
-            let nice = NICES[((number >> 32) % 8) as usize];
-            let slice = 100_000 + (number >> 40) % 10_000_000;
-            has_memory(&machine.admit(rt, alloc, seat, task, nice, other, slice))
-        }
-        110..=409 => has_memory(&machine.wake(rt, alloc, seat, processor, task)),
-        410..=609 => has_memory(&machine.drain(rt, alloc, seat, processor)),
-        610..=809 => has_memory(&machine.tick(rt, alloc, seat, processor)),
-        810..=909 => has_memory(&machine.block(rt, alloc, seat, processor)),
-        910..=1015 => {
-            let from = (other % 64) as u8;
-            has_memory(&machine.pull(rt, alloc, seat, processor, from))
+        1 => {
+            machine.counter(seat, ((number >> 10) % 64) as u8);
+            true
         }
         _ => {
-            machine.counter(seat, processor);
-            true
+            let answer = ask(rt, alloc, machine, seat, request(number, other));
+            !matches!(answer, Err(Refusal::OutOfMemory))
         }
     }
 }

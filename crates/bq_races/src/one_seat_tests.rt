@@ -1,6 +1,7 @@
 // The machine by one thread: what is answered, at which places, and what the end confirms. The values follow from the rules.
 ghost use Rattle.std.specs.Prelude.{◌≡◌};
 
+use crate::asking::{Request, ask};
 use bq_cells::Answer;
 use bq_cfs::CfsQueue;
 use bq_load::LoadFault;
@@ -55,6 +56,12 @@ fn is_pull_of_none(receipt: &Receipt<Record>) -> bool {
         )
 }
 
+/// A pull by processor 0 from itself.
+const PULL_FROM_ITSELF: Request = Request::Pull {
+    processor: 0,
+    from: 0,
+};
+
 /// Whether calls with wrong arguments are refused for them.
 fn refuses<N: Naming + Counting, R: Wait>(
     rt: &R,
@@ -62,8 +69,8 @@ fn refuses<N: Naming + Counting, R: Wait>(
     machine: &Single<N>,
     seat: &mut Seat<N>,
 ) -> bool {
-    let tick = machine.tick(rt, alloc, seat, 2);
-    let pull = machine.pull(rt, alloc, seat, 0, 0);
+    let tick = ask(rt, alloc, machine, seat, Request::Tick { processor: 2 });
+    let pull = ask(rt, alloc, machine, seat, PULL_FROM_ITSELF);
     matches!(tick, Err(Refusal::NoProcessor)) && matches!(pull, Err(Refusal::SameProcessor))
 }
 

@@ -38,18 +38,20 @@ fn returned<N: Naming + Counting>(
     Ok(seats)
 }
 
-fn race_under_cfs<N: Naming + Counting + Send + Sync, R: Threads + Wait + Sync>(
-    rt: &R,
-    alloc: Global,
-    prepared: Prepared<CfsQueue>,
-    unnamed: Unnamed,
-) -> Result<Closed<CfsQueue, 64>, Fail>
+/// The end of a machine of 64 processors at which the calls of all threads were made.
+fn race_under<
+    Q: RunQueue + Drop + Send,
+    N: Naming + Counting + Send + Sync,
+    T: Threads + Wait + Sync,
+>(rt: &T, alloc: Global, prepared: Prepared<Q>, unnamed: Unnamed) -> Result<Closed<Q, 64>, Fail>
+where
+    Q::R: Send,
     requires name { prepared.0 ≡ N.table }
     requires counters { unnamed.0 ≡ N.counters }
     requires counts { (prepared.1.about ≡ 64) × (prepared.1.callers ≡ THREADS) × (unnamed.1 ≡ THREADS) }
 {
     let clock = Metronome::new(alloc, 64)?;
-    let (machine, seats) = Machine::<CfsQueue, Metronome, N, 64>::new(
+    let (machine, seats) = Machine::<Q, Metronome, N, 64>::new(
         alloc, clock, prepared, unnamed, THREADS,
     )?;
     let racers = racers(alloc, seats)?;
@@ -62,46 +64,30 @@ fn race_under_cfs<N: Naming + Counting + Send + Sync, R: Threads + Wait + Sync>(
     Ok(machine.close(seats))
 }
 
-fn race_under_eevdf<N: Naming + Counting + Send + Sync, R: Threads + Wait + Sync>(
-    rt: &R,
+/// Whether a race has so many events, and a core goes through them to the same end.
+fn is_run_again<Q: RunQueue + Drop + Send, T: Threads + Wait + Sync>(
+    rt: &T,
     alloc: Global,
-    prepared: Prepared<EevdfQueue>,
-    unnamed: Unnamed,
-) -> Result<Closed<EevdfQueue, 64>, Fail>
-    requires name { prepared.0 ≡ N.table }
-    requires counters { unnamed.0 ≡ N.counters }
-    requires counts { (prepared.1.about ≡ 64) × (prepared.1.callers ≡ THREADS) × (unnamed.1 ≡ THREADS) }
+) -> Result<bool, Fail>
+where
+    Q::R: Send,
 {
-    let clock = Metronome::new(alloc, 64)?;
-    let (machine, seats) = Machine::<EevdfQueue, Metronome, N, 64>::new(
-        alloc, clock, prepared, unnamed, THREADS,
-    )?;
-    let racers = racers(alloc, seats)?;
-    let shared = &machine;
-    let done = map_vec(rt, racers, &|racer| race(rt, alloc, shared, racer, CALLS))?;
-    let seats = returned(alloc, done)?;
-    if !machine.owns(&seats) {
-        return Err(Fail::from("a seat is missing"));
+    let (prepared, unnamed) = prepare::<Q>(alloc, 64, THREADS)?;
+    let closed = race_under::<Q, Brand, T>(rt, alloc, prepared, unnamed)?;
+    if closed.len() < EVENTS {
+        return Err(Fail::from("the history is too short"));
     }
-    Ok(machine.close(seats))
+    is_replayed(alloc, closed)
 }
 
 #[test]
 fn a_race_under_cfs_is_replayed(rt: HostRuntime) -> Result<(), Fail> {
-    let alloc = rt.alloc();
-    let (prepared, unnamed) = prepare::<CfsQueue>(alloc, 64, THREADS)?;
-    let closed = race_under_cfs::<Brand, _>(&rt, alloc, prepared, unnamed)?;
-    assert!(&rt; closed.len() >= EVENTS, "{} events", closed.len());
-    assert!(&rt; is_replayed(alloc, closed)?);
+    assert!(&rt; is_run_again::<CfsQueue, _>(&rt, rt.alloc())?);
     Ok(())
 }
 
 #[test]
 fn a_race_under_eevdf_is_replayed(rt: HostRuntime) -> Result<(), Fail> {
-    let alloc = rt.alloc();
-    let (prepared, unnamed) = prepare::<EevdfQueue>(alloc, 64, THREADS)?;
-    let closed = race_under_eevdf::<Brand, _>(&rt, alloc, prepared, unnamed)?;
-    assert!(&rt; closed.len() >= EVENTS, "{} events", closed.len());
-    assert!(&rt; is_replayed(alloc, closed)?);
+    assert!(&rt; is_run_again::<EevdfQueue, _>(&rt, rt.alloc())?);
     Ok(())
 }

@@ -181,103 +181,121 @@ fn is_answered<Q: RunQueue + Drop, const P: usize>(
     are_lines(rt, alloc, answers.as_slice(), expected)
 }
 
-#[test]
-fn a_map_is_written_and_read_back(rt: HostRuntime) -> Result<(), Fail> {
-    let rows = [
-        Told::Admit(1, 1, 3_000_000),
-        Told::Admit(2, 1, 3_000_000),
-        Told::Draw,
-        Told::Install(0, Hook::Preempt, 1, Some(COUNTING)),
-        Told::BeginWake(1),
-        Told::EndWake(0),
-        Told::BeginWake(2),
-        Told::EndWake(0),
-        Told::Drain(0),
-        Told::Tick(0),
-        Told::Tick(0),
-        Told::Tick(0),
-        Told::Install(0, Hook::Preempt, 1, None),
-    ];
-    let expected = "\
+/// A policy that counts in its map stands at a hook for three ticks.
+static MAP_ROWS: [Told; 13] = [
+    Told::Admit(1, 1, 3_000_000),
+    Told::Admit(2, 1, 3_000_000),
+    Told::Draw,
+    Told::Install(0, Hook::Preempt, 1, Some(COUNTING)),
+    Told::BeginWake(1),
+    Told::EndWake(0),
+    Told::BeginWake(2),
+    Told::EndWake(0),
+    Told::Drain(0),
+    Told::Tick(0),
+    Told::Tick(0),
+    Told::Tick(0),
+    Told::Install(0, Hook::Preempt, 1, None),
+];
+
+static MAP_LINES: &str = "\
 admit ok\nadmit ok\ndraw 1\ninstall ok\nbegin 1 loads 0 0\nend 1 to 0 by rule steps 0\nbegin 2 loads 1 0\n\
 end 2 to 0 by rule steps 0\ndrain 2 run 1 by rule steps 0\ntick run 1 by policy steps 12\n\
 tick run 2 by policy steps 12\ntick run 2 by rule steps 12\nrefused C12 Older 1\n";
-    is_answered::<CfsQueue, 2>(&rt, rt.alloc(), &rows, &mut Plain::new(), expected)
-}
 
 #[test]
-fn the_earliest_deadline_is_not_eligible(rt: HostRuntime) -> Result<(), Fail> {
-    let rows = [
-        Told::Admit(1, 1, 3_000_000),
-        Told::Admit(2, 1, 100_000),
-        Told::BeginWake(1),
-        Told::EndWake(0),
-        Told::BeginWake(2),
-        Told::EndWake(0),
-        Told::Drain(0),
-        Told::Tick(100_000),
-        Told::Block(100_000),
-        Told::Tick(200_000),
-        Told::BeginWake(1),
-        Told::EndWake(200_000),
-    ];
-    let expected = "\
+fn a_map_is_written_and_read_back(rt: HostRuntime) -> Result<(), Fail> {
+    is_answered::<CfsQueue, 2>(&rt, rt.alloc(), &MAP_ROWS, &mut Plain::new(), MAP_LINES)
+}
+
+/// The task of the earliest deadline has had more than its share.
+static DEADLINE_ROWS: [Told; 12] = [
+    Told::Admit(1, 1, 3_000_000),
+    Told::Admit(2, 1, 100_000),
+    Told::BeginWake(1),
+    Told::EndWake(0),
+    Told::BeginWake(2),
+    Told::EndWake(0),
+    Told::Drain(0),
+    Told::Tick(100_000),
+    Told::Block(100_000),
+    Told::Tick(200_000),
+    Told::BeginWake(1),
+    Told::EndWake(200_000),
+];
+
+static DEADLINE_LINES: &str = "\
 admit ok\nadmit ok\nbegin 1 loads 0\nend 1 to 0 by rule steps 0\nbegin 2 loads 1\nend 2 to 0 by rule steps 0\n\
 drain 2 run 2 by rule steps 0\ntick run 1 by rule steps 0\nblock 1 run 2\ntick run 2 by rule steps 0\n\
 begin 1 loads 1\nend 1 to 0 by rule steps 0\n";
-    is_answered::<EevdfQueue, 1>(&rt, rt.alloc(), &rows, &mut Plain::new(), expected)
-}
 
 #[test]
-fn an_emptier_processor_pulls(rt: HostRuntime) -> Result<(), Fail> {
-    let rows = [
-        Told::Admit(1, 1, 3_000_000),
-        Told::Admit(2, 3, 3_000_000),
-        Told::Admit(3, 3, 3_000_000),
-        Told::Draw,
-        Told::Install(0, Hook::Place, 1, Some(FIRST_PROCESSOR)),
-        Told::BeginWake(1),
-        Told::EndWake(0),
-        Told::BeginWake(2),
-        Told::EndWake(0),
-        Told::BeginWake(3),
-        Told::EndWake(0),
-        Told::Drain(0),
-        Told::Pull(0),
-        Told::Pull(0),
-        Told::Draw,
-        Told::Install(1, Hook::Pull, 2, Some(FIRST_TASK)),
-        Told::Pull(0),
-        Told::Draw,
-        Told::Install(1, Hook::Pull, 3, Some(SECOND_TASK)),
-        Told::Pull(0),
-        Told::Pull(1),
-    ];
-    let expected = "\
+fn the_earliest_deadline_is_not_eligible(rt: HostRuntime) -> Result<(), Fail> {
+    is_answered::<EevdfQueue, 1>(
+        &rt,
+        rt.alloc(),
+        &DEADLINE_ROWS,
+        &mut Plain::new(),
+        DEADLINE_LINES,
+    )
+}
+
+/// Processor 1 pulls, by the rule and by policies.
+static PULL_ROWS: [Told; 21] = [
+    Told::Admit(1, 1, 3_000_000),
+    Told::Admit(2, 3, 3_000_000),
+    Told::Admit(3, 3, 3_000_000),
+    Told::Draw,
+    Told::Install(0, Hook::Place, 1, Some(FIRST_PROCESSOR)),
+    Told::BeginWake(1),
+    Told::EndWake(0),
+    Told::BeginWake(2),
+    Told::EndWake(0),
+    Told::BeginWake(3),
+    Told::EndWake(0),
+    Told::Drain(0),
+    Told::Pull(0),
+    Told::Pull(0),
+    Told::Draw,
+    Told::Install(1, Hook::Pull, 2, Some(FIRST_TASK)),
+    Told::Pull(0),
+    Told::Draw,
+    Told::Install(1, Hook::Pull, 3, Some(SECOND_TASK)),
+    Told::Pull(0),
+    Told::Pull(1),
+];
+
+static PULL_LINES: &str = "\
 admit ok\nadmit ok\nadmit ok\ndraw 1\ninstall ok\nbegin 1 loads 0 0\nend 1 to 0 by policy steps 2\n\
 begin 2 loads 1 0\nend 2 to 0 by policy steps 2\nbegin 3 loads 2 0\nend 3 to 0 by policy steps 2\n\
 drain 3 run 1 by rule steps 0\npull 3 run 3 by rule steps 0\npull none run 3 by rule steps 0\ndraw 2\ninstall ok\n\
 pull none run 3 by rule steps 2\ndraw 3\ninstall ok\npull 2 run 3 by policy steps 2\nrefused C9 SameProcessor\n";
-    is_answered::<CfsQueue, 2>(&rt, rt.alloc(), &rows, &mut Plain::new(), expected)
+
+#[test]
+fn an_emptier_processor_pulls(rt: HostRuntime) -> Result<(), Fail> {
+    is_answered::<CfsQueue, 2>(&rt, rt.alloc(), &PULL_ROWS, &mut Plain::new(), PULL_LINES)
 }
+
+/// A policy adds to a counter at each tick.
+static BOARD_ROWS: [Told; 8] = [
+    Told::Admit(1, 1, 3_000_000),
+    Told::Draw,
+    Told::Install(0, Hook::Preempt, 1, Some(ADDING)),
+    Told::BeginWake(1),
+    Told::EndWake(0),
+    Told::Drain(0),
+    Told::Tick(0),
+    Told::Tick(0),
+];
+
+static BOARD_LINES: &str = "\
+admit ok\ndraw 1\ninstall ok\nbegin 1 loads 0\nend 1 to 0 by rule steps 0\ndrain 1 run 1 by rule steps 0\n\
+tick run 1 by policy steps 5\ntick run 1 by policy steps 5\n";
 
 #[test]
 fn what_policies_add_stands_on_the_board(rt: HostRuntime) -> Result<(), Fail> {
-    let rows = [
-        Told::Admit(1, 1, 3_000_000),
-        Told::Draw,
-        Told::Install(0, Hook::Preempt, 1, Some(ADDING)),
-        Told::BeginWake(1),
-        Told::EndWake(0),
-        Told::Drain(0),
-        Told::Tick(0),
-        Told::Tick(0),
-    ];
-    let expected = "\
-admit ok\ndraw 1\ninstall ok\nbegin 1 loads 0\nend 1 to 0 by rule steps 0\ndrain 1 run 1 by rule steps 0\n\
-tick run 1 by policy steps 5\ntick run 1 by policy steps 5\n";
     let mut board = Plain::new();
-    is_answered::<EevdfQueue, 1>(&rt, rt.alloc(), &rows, &mut board, expected)?;
+    is_answered::<EevdfQueue, 1>(&rt, rt.alloc(), &BOARD_ROWS, &mut board, BOARD_LINES)?;
     is_number(&rt, board.read(3), 10);
     Ok(())
 }

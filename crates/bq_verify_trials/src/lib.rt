@@ -1,9 +1,14 @@
-//! Tests of the verifier and of what it stands on: ranges, maps, what is said of a program, and programs that it has to follow
-//! closely, each beside one that it must refuse. All of it is for the tests; the library itself is empty.
+//! Tests alone, of the verifier and what stands round it: ranges, maps, what is said of a program, programs that it has to follow
+//! closely, each beside one that it must refuse; images, read, loaded or refused; and what programs answer. The library itself
+//! is empty.
 #![tactic(auto)]
 
 #[cfg(test)]
 mod copies;
+#[cfg(test)]
+mod hostile;
+#[cfg(test)]
+mod images;
 #[cfg(test)]
 mod judging;
 #[cfg(test)]
@@ -12,6 +17,10 @@ mod maps;
 mod parts;
 #[cfg(test)]
 mod ranges;
+#[cfg(test)]
+mod readers;
+#[cfg(test)]
+mod runs;
 #[cfg(test)]
 mod tests;
 #[cfg(test)]

@@ -90,6 +90,3 @@ pub fn distance(v: u64, mark: u64) -> i64
         -((mark - v).min(FARTHEST) as i64)
     }
 }
-
-#[cfg(test)]
-mod tests;

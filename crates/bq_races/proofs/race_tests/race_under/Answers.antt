@@ -4,29 +4,22 @@ use denote.Param.{param, number}
 use denote.Param.Send.{IsSend, IsSync, sendable}
 use denote.Param.SendFields.{declared_send}
 use Rattle.std.proofs.Crossing.{crosses}
-use Rattle.bq_disc.specs.contracts.ruled.RuledQueueRunQueue.TheImpl as ruled
-use Rattle.bq_tree.specs.contracts.index.TreeTimeline.TheImpl as timeline
-use Rattle.bq_tree.specs.contracts.summary.NoSums as NoSums
-use Rattle.bq_tree.specs.contracts.summary.NoSumsSummary.TheImpl as sums
-use Rattle.bq_cfs.specs.contracts.discipline.Cfs as Cfs
-use Rattle.bq_cfs.specs.contracts.discipline.CfsDiscipline.TheImpl as cfs
 use Rattle.bq_par.specs.contracts.metronome.Metronome as Metronome
 use Rattle.bq_par.specs.contracts.metronome.MetronomeClock.TheImpl as metronome
-use Rattle.bq_par.proofs.SendLemmas.{cfs_tree, cfs_queue, cfs_queue_send}
 use Rattle.bq_par.proofs.SeatLemmas.{seat_send}
 use Rattle.bq_par.proofs.SharingLemmas.{machine_sync}
 use Rattle.bq_tie.specs.declared.law.Naming as Naming
 use Rattle.bq_seats.specs.declared.account.Naming as Counting
 use Rattle.bq_races.specs.contracts.drawn.Racer as Racer
-use Rattle.bq_races.proofs.race_tests.race_under_cfs.Goals as goal
+use Rattle.bq_races.proofs.race_tests.race_under.Goals as goal
 
 metronome_sync : IsSync Metronome.the_row
 metronome_sync = search (crosses, sendable) depth 20
 
 pub map_vec-requires-sync-F : goal.map_vec-requires-sync-F
 map_vec-requires-sync-F g c κs within =
-    let t = c.type_bounds.sync-R in
-    let m = machine_sync cfs_queue Metronome.the_row (param 0 g.row.N) (number 64) Cfs.the_row metronome.ghosts g.N.Naming-1 g.N.Naming-2 (ruled.ghosts cfs_tree Cfs.the_row (timeline.ghosts NoSums.the_row sums.ghosts timeline.no_dict) ruled.no_dict cfs.ghosts ruled.no_dict) cfs.ghosts cfs_queue_send metronome_sync in
+    let t = c.type_bounds.sync-T in
+    let m = machine_sync (param 0 g.row.Q) Metronome.the_row (param 1 g.row.N) (number 64) (param 3 g.row.Q-R) metronome.ghosts g.N.Naming-1 g.N.Naming-2 g.Q.RunQueue g.Q.R.Discipline c.type_bounds.send-Q metronome_sync in
     search (crosses, sendable) depth 20
 
 -- a seat with its seed

@@ -1,4 +1,4 @@
-// Worked cases of the commands: input, what is written, and whether it was accepted.
+// Worked cases of the filters: input, what is written, and whether it was accepted.
 
 use bq_program::{
     Answer, Form, Hook, Options, OptionsFault, Version, assembled, checked, disassembled,

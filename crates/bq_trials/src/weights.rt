@@ -1,6 +1,6 @@
 //! The table of weights and worked rows of virtual time, with values from outside this program.
 
-use crate::{GREATEST, advance, distance, shift, shift_within, vdelta, weight};
+use bq_weights::{GREATEST, advance, distance, shift, shift_within, vdelta, weight};
 
 /// The weights of the nice values from -20 to 19, as Linux has them in sched_prio_to_weight (kernel/sched/core.c).
 const TABLE: [u32; 40] = [

@@ -1,7 +1,0 @@
-use Rattle.bq_races.proofs.race_tests.a_race_under_cfs_is_replayed.Given as goal
-
-abbrev pub ghosts-race_under_cfs-N-Naming-1 : goal.ghosts-race_under_cfs-N-Naming-1
-ghosts-race_under_cfs-N-Naming-1 g a = record { table = a.prepared.0 }
-
-abbrev pub ghosts-race_under_cfs-N-Naming-2 : goal.ghosts-race_under_cfs-N-Naming-2
-ghosts-race_under_cfs-N-Naming-2 g a = record { counters = a.unnamed.0 }

@@ -1,0 +1,79 @@
+// What is asked of a machine, as values.
+
+use bq_disc::RunQueue;
+use bq_machine::{Clock, Counting, Machine, Naming, Receipt, Record, Seat};
+use bq_parts::Refusal;
+use std::alloc::Global;
+use std::sync::Wait;
+
+/// A call of a machine, but for those that load policies and read counters.
+#[derive(Clone, Copy, Drop)]
+pub enum Request {
+    Admit {
+        task: u16,
+        nice: i8,
+        mask: u64,
+        slice: u64,
+    },
+    Retire {
+        task: u16,
+    },
+    Wake {
+        processor: u8,
+        task: u16,
+    },
+    Drain {
+        processor: u8,
+    },
+    Tick {
+        processor: u8,
+    },
+    Block {
+        processor: u8,
+    },
+    Pull {
+        processor: u8,
+        from: u8,
+    },
+}
+
+/// The receipts of a call: a wake that ends has two.
+#[derive(Drop)]
+pub struct Receipts {
+    pub first: Receipt<Record>,
+    pub second: Option<Receipt<Record>>,
+}
+
+/// Makes the call by this seat.
+pub fn ask<Q: RunQueue + Drop, K: Clock + Drop, N: Naming + Counting, R: Wait, const P: usize>(
+    rt: &R,
+    alloc: Global,
+    machine: &Machine<Q, K, N, P>,
+    seat: &mut Seat<N>,
+    request: Request,
+) -> Result<Receipts, Refusal> {
+    let first = match request {
+        Request::Admit {
+            task,
+            nice,
+            mask,
+            slice,
+        } => machine.admit(rt, alloc, seat, task, nice, mask, slice)?,
+        Request::Retire { task } => machine.retire(rt, alloc, seat, task)?,
+        Request::Wake { processor, task } => {
+            let woken = machine.wake(rt, alloc, seat, processor, task)?;
+            return Ok(Receipts {
+                first: woken.begin,
+                second: woken.end,
+            });
+        }
+        Request::Drain { processor } => machine.drain(rt, alloc, seat, processor)?,
+        Request::Tick { processor } => machine.tick(rt, alloc, seat, processor)?,
+        Request::Block { processor } => machine.block(rt, alloc, seat, processor)?,
+        Request::Pull { processor, from } => machine.pull(rt, alloc, seat, processor, from)?,
+    };
+    Ok(Receipts {
+        first,
+        second: None,
+    })
+}
