@@ -3,6 +3,7 @@ pub mod ChosenLemmas
 pub mod ContextLemmas
 pub mod FillingLemmas
 pub mod PlaceLemmas
+pub mod LoadLemmas
 pub mod LengthLemmas
 pub mod MemberLemmas
 pub mod PreemptByteLemmas

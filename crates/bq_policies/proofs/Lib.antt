@@ -1,2 +1,4 @@
 pub mod ZeroLemmas
 pub mod AnswerLemmas
+pub mod DecidingLemmas
+pub mod SameInsnLemmas

@@ -6,15 +6,11 @@ ghost use Rattle.bq_words.specs.Units.{unit_of};
 pub fn nanoseconds(unit: &[u8]) -> Option<u64>
     ensures { result ≡ unit_of unit.now }
 {
-    if unit == b"ns".as_slice() {
-        Some(1)
-    } else if unit == b"us".as_slice() {
-        Some(1000)
-    } else if unit == b"ms".as_slice() {
-        Some(1_000_000)
-    } else if unit == b"s".as_slice() {
-        Some(1_000_000_000)
-    } else {
-        None
+    match unit {
+        b"ns" => Some(1),
+        b"us" => Some(1000),
+        b"ms" => Some(1_000_000),
+        b"s" => Some(1_000_000_000),
+        _ => None,
     }
 }
