@@ -1,5 +1,6 @@
-//! Tests alone, of the commands: their words, what they read and write, images that are assembled and checked, what `check`,
-//! `run` and `dis` answer to policies' files, and the usual slips with the message that each gets. The library itself is empty.
+//! Tests alone, of the commands: their words, what they read and write, and why that failed; images that are assembled and checked,
+//! what `check`, `run` and `dis` answer to policies' files, and the usual slips with the message that each gets. The library itself
+//! is empty.
 #![tactic(auto)]
 
 #[cfg(test)]
@@ -14,3 +15,5 @@ mod images;
 mod options;
 #[cfg(test)]
 mod slips;
+#[cfg(test)]
+mod streams;
