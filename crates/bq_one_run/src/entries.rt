@@ -3,7 +3,7 @@ ghost use Rattle.std.specs.Prelude.{◌≡◌, IfSome};
 ghost use Rattle.std.specs.Result.{OnOk};
 ghost use Rattle.bq_one_run.specs.Naming.{NamesEntry, SetsEntry, TextsInTurn, padded};
 
-use crate::faults::{InputFault, fault};
+use crate::faults::{InputFault, refused};
 use crate::inputs::{Inputs, bytes_named};
 use crate::words::{cut, decimal};
 use std::alloc::{AllocError, Global};
@@ -30,24 +30,21 @@ impl Inputs {
         ensures board { self.new.board ≡ self.old.board }
     {
         let Some((place, value)) = cut(text, '=') else {
-            return Err(fault(format!(in alloc; "--map {text}: an entry is set as 0:0=0a00")));
+            return Err(refused(alloc, "map", text, "an entry is set as 0:0=0a00"));
         };
         let Some((map, entry)) = entry_named(place) else {
-            return Err(fault(format!(in alloc;
-                "--map {text}: an entry is named by its map and its number, as 0:0"
-            )));
+            let why = "an entry is named by its map and its number, as 0:0";
+            return Err(refused(alloc, "map", text, why));
         };
         let Some(mut bytes) = bytes_named(alloc, value)? else {
-            return Err(fault(format!(in alloc; "--map {text}: the value is no hex")));
+            return Err(refused(alloc, "map", text, "the value is no hex"));
         };
         if !self.maps.lookup(map, entry) {
-            return Err(fault(format!(in alloc; "--map {text}: there is no such entry")));
+            return Err(refused(alloc, "map", text, "there is no such entry"));
         }
         let size = usize::from(self.maps.shape(map).value_size);
         if bytes.len() > size {
-            return Err(fault(format!(in alloc;
-                "--map {text}: the value is longer than the map's"
-            )));
+            return Err(refused(alloc, "map", text, "the value is longer than the map's"));
         }
         pad(alloc, &mut bytes, size)?;
         self.maps.put(map, entry, 0, bytes.as_slice());

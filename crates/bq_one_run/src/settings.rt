@@ -3,7 +3,7 @@ ghost use Rattle.std.specs.Prelude.{◌≡◌};
 ghost use Rattle.std.specs.Result.{OnOk};
 ghost use Rattle.bq_one_run.specs.Naming.{SetsField, SetsFields, TextsInTurn};
 
-use crate::faults::{InputFault, fault};
+use crate::faults::{InputFault, fault, refused};
 use crate::fields::{field_named, field_names, put};
 use crate::inputs::Inputs;
 use crate::words::{cut, value};
@@ -62,20 +62,28 @@ impl Inputs {
         ensures board { self.new.board ≡ self.old.board }
     {
         let Some((name, text)) = cut(part, '=') else {
-            return Err(fault(format!(in alloc; "--set {part}: a field is set as task=3")));
+            return Err(refused(alloc, "set", part, "a field is set as task=3"));
         };
         let Some(word) = value(text) else {
-            return Err(fault(format!(in alloc; "--set {part}: {text} is no number of 64 bits")));
+            return Err(unfit(alloc, part, text, "is no number of 64 bits"));
         };
         let Some(field) = field_named(hook, version, name) else {
-            let names = field_names(hook);
-            return Err(fault(format!(in alloc;
-                "--set {part}: there is no field {name}; the fields are {names}"
-            )));
+            return Err(unknown(alloc, part, name, hook));
         };
         if !put(self.context.as_mut_slice(), field, word) {
-            return Err(fault(format!(in alloc; "--set {part}: {text} does not fit the field")));
+            return Err(unfit(alloc, part, text, "does not fit the field"));
         }
         Ok(())
     }
+}
+
+/// The fault of a part whose value is of no use, with what is wrong with that.
+fn unfit(alloc: Global, part: &str, value: &str, why: &str) -> InputFault {
+    fault(format!(in alloc; "--set {part}: {value} {why}"))
+}
+
+/// The fault of a part that names no field of the hook, with the names that there are.
+fn unknown(alloc: Global, part: &str, name: &str, hook: Hook) -> InputFault {
+    let names = field_names(hook);
+    fault(format!(in alloc; "--set {part}: there is no field {name}; the fields are {names}"))
 }
