@@ -1,6 +1,7 @@
 //! Tests alone, of programs and commands: the decoder and the encoder, the assembler and the listing, compiled programs with the
-//! text that each is imported as; commands' words, what they read and write, images that are assembled and checked, what `check`,
-//! `run` and `dis` answer to policies' files, and the usual slips with the message that each gets. The library itself is empty.
+//! text that each is imported as; commands' words, what they read and write, why a system call failed in words and the failures that
+//! are kept, images that are assembled and checked, what `check`, `run` and `dis` answer to policies' files, and the usual slips with
+//! the message that each gets. The library itself is empty.
 #![tactic(auto)]
 
 #[cfg(test)]
@@ -21,5 +22,7 @@ mod images;
 mod options;
 #[cfg(test)]
 mod slips;
+#[cfg(test)]
+mod streams;
 #[cfg(test)]
 mod texts;

@@ -7,3 +7,4 @@ pub mod SearchLemmas
 pub mod StackLemmas
 pub mod OrderLemmas
 pub mod ProgramLemmas
+pub mod TurningLemmas

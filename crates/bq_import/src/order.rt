@@ -1,5 +1,5 @@
 //! A program in an order in which every jump goes forward.
-ghost use Rattle.std.specs.Prelude.{◌≡◌, ◌≤◌, ◌<◌, List, Option, length, true, reverse, OnOk, IfOk, IfErr};
+ghost use Rattle.std.specs.Prelude.{◌≡◌, ◌≤◌, ◌<◌, List, Option, length, true, filter_map, reverse, OnOk, IfOk, IfErr};
 ghost use Rattle.bq_insn.specs.declared.Insn.{Insn};
 ghost use Rattle.bq_insn.specs.Slots.{spread};
 ghost use Rattle.bq_insn.specs.Spelling.{is_well_formed};
@@ -132,14 +132,22 @@ fn turned(alloc: Global, copy: &Backward) -> Result<Ordered, AllocError>
     ensures insns { IfOk result (λ ordered. ordered.insns.items ≡ insns_of copy.now.slots.items) }
     ensures origins { IfOk result (λ ordered. ordered.origins.items ≡ reverse copy.now.origins.items) }
 {
-    Ok(Ordered {
-        insns: copy
-            .slots
-            .iter()
-            .rev()
-            .copied()
-            .filter_map(|slot| slot)
-            .collect(alloc)?,
-        origins: copy.origins.iter().rev().copied().collect(alloc)?,
-    })
+    let mut insns = instructions(alloc, copy.slots.as_slice())?;
+    let mut origins = Vec::from_slice(alloc, copy.origins.as_slice())?;
+    insns.reverse();
+    origins.reverse();
+    Ok(Ordered { insns, origins })
+}
+
+/// The instructions that begin at slots, in their order.
+fn instructions(alloc: Global, slots: &[Option<Insn>]) -> Result<Vec<Insn>, AllocError>
+    ensures { IfOk result (λ insns. insns.items ≡ filter_map (λ slot. slot) slots.now) }
+{
+    let mut insns = Vec::new(alloc);
+    'slots: for slot in slots {
+        if let Some(insn) = slot {
+            insns.push(*insn)?;
+        }
+    }
+    Ok(insns)
 }

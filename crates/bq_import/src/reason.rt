@@ -63,39 +63,31 @@ fn source_reason(opcode: u8, source: u8) -> Reason
     }
 }
 
+impl Reason {
+    /// What it is, in words.
+    fn words(self) -> &'static str {
+        match self {
+            Reason::Length => "the bytes are no program: 8 to 32768 of them, in eights",
+            Reason::Function => {
+                "a call of a function; put BQ_INLINE before it, so that it is copied in"
+            }
+            Reason::Kernel => "a call of the kernel's; the helpers are those of bqsim.h",
+            Reason::Register => "a call through a register; call helpers by their names of bqsim.h",
+            Reason::Atomic => "an atomic operation; write a plain one, or use a counter",
+            Reason::Address => {
+                "an address that a linker fills in: a global, a table of constants, or a map of a section; for a map write BQ_MAP(k), in place of the others an entry of a map, or tests"
+            }
+            Reason::Filled => "a number that a loader fills in; for a map write BQ_MAP(k)",
+            Reason::Opcode => {
+                "an instruction that there is not here; compile with -mcpu=v4 or below"
+            }
+            Reason::Field => "a field of the instruction is out of range",
+        }
+    }
+}
+
 impl fmt::Display for Reason {
     fn fmt<W: fmt::Write>(&self, f: &mut fmt::Formatter<W>) -> fmt::Result {
-        match self {
-            Reason::Length => write!(f, "the bytes are no program: 8 to 32768 of them, in eights"),
-            Reason::Function => write!(
-                f,
-                "a call of a function; put BQ_INLINE before it, so that it is copied in"
-            ),
-            Reason::Kernel => write!(
-                f,
-                "a call of the kernel's; the helpers are those of bqsim.h"
-            ),
-            Reason::Register => write!(
-                f,
-                "a call through a register; call helpers by their names of bqsim.h"
-            ),
-            Reason::Atomic => write!(
-                f,
-                "an atomic operation; write a plain one, or use a counter"
-            ),
-            Reason::Address => write!(
-                f,
-                "an address that a linker fills in: a global, a table of constants, or a map of a section; for a map write BQ_MAP(k), in place of the others an entry of a map, or tests"
-            ),
-            Reason::Filled => write!(
-                f,
-                "a number that a loader fills in; for a map write BQ_MAP(k)"
-            ),
-            Reason::Opcode => write!(
-                f,
-                "an instruction that there is not here; compile with -mcpu=v4 or below"
-            ),
-            Reason::Field => write!(f, "a field of the instruction is out of range"),
-        }
+        f.write_str(self.words())
     }
 }

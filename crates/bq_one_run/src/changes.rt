@@ -1,6 +1,6 @@
 //! What a run changed of maps and counters, in words.
 use crate::inputs::Inputs;
-use bq_bpf::Call;
+use bq_bpf::{Call, MapShape};
 use bq_maps::Maps;
 use std::alloc::{AllocError, Global};
 
@@ -23,19 +23,42 @@ pub fn write_changes(
     for (number, shape) in inputs.maps.shapes().iter().enumerate() {
         if let Some(old) = before.get(number) {
             let new = entries(&inputs.maps, number);
-            let size = usize::from(shape.value_size);
-            for entry in 0..usize::from(shape.entries) {
-                let at = entry.saturating_mul(size);
-                let was = part(old.as_slice(), at, size);
-                let is = part(new, at, size);
-                if was != is {
-                    let told = hex::encode(alloc, is)?;
-                    write!(text, "map {number} entry {entry}: {told}\n")?;
-                }
-            }
+            write_map(alloc, number, shape, old.as_slice(), new, text)?;
         }
     }
     Ok(())
+}
+
+/// A line for each entry of the map of that number and shape that differs in its new bytes from what it was.
+fn write_map(
+    alloc: Global,
+    number: usize,
+    shape: &MapShape,
+    old: &[u8],
+    new: &[u8],
+    text: &mut String,
+) -> Result<(), AllocError> {
+    let size = usize::from(shape.value_size);
+    for entry in 0..usize::from(shape.entries) {
+        let at = entry.saturating_mul(size);
+        let is = part(new, at, size);
+        if part(old, at, size) != is {
+            write_entry(alloc, number, entry, is, text)?;
+        }
+    }
+    Ok(())
+}
+
+/// The line of an entry, with its bytes.
+fn write_entry(
+    alloc: Global,
+    number: usize,
+    entry: usize,
+    bytes: &[u8],
+    text: &mut String,
+) -> Result<(), AllocError> {
+    let told = hex::encode(alloc, bytes)?;
+    write!(text, "map {number} entry {entry}: {told}\n")
 }
 
 /// All bytes of a map, if there is one of that number.
@@ -58,22 +81,25 @@ fn part(bytes: &[u8], at: usize, count: usize) -> &[u8] {
 /// A line for each call of a counter.
 pub fn write_calls(calls: &[Call], text: &mut String) -> Result<(), AllocError> {
     for call in calls {
-        match call {
-            Call::Add {
-                counter,
-                amount,
-                answer,
-            } => {
-                let after = answer.wrapping_add(*amount);
-                write!(
-                    text,
-                    "counter {counter}: {answer} and {amount} give {after}\n"
-                )?;
-            }
-            Call::Read { counter, answer } => {
-                write!(text, "counter {counter}: read {answer}\n")?;
-            }
-        }
+        write_call(call, text)?;
     }
     Ok(())
+}
+
+/// The line of a call.
+fn write_call(call: &Call, text: &mut String) -> Result<(), AllocError> {
+    match call {
+        Call::Add {
+            counter,
+            amount,
+            answer,
+        } => {
+            let after = answer.wrapping_add(*amount);
+            write!(
+                text,
+                "counter {counter}: {answer} and {amount} give {after}\n"
+            )
+        }
+        Call::Read { counter, answer } => write!(text, "counter {counter}: read {answer}\n"),
+    }
 }

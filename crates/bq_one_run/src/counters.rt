@@ -3,7 +3,7 @@ ghost use Rattle.std.specs.Prelude.{◌≡◌, ◌<◌, IfSome, slice_set};
 ghost use Rattle.std.specs.Result.{OnOk};
 ghost use Rattle.bq_one_run.specs.Naming.{NamesCounter, SetsCounter, TextsInTurn};
 
-use crate::faults::{InputFault, fault};
+use crate::faults::{InputFault, refused};
 use crate::inputs::Inputs;
 use crate::words::{cut, decimal, value};
 use bq_bpf::{Board, Plain};
@@ -31,12 +31,10 @@ impl Inputs {
         ensures env { self.new.env ≡ self.old.env }
     {
         let Some((number, word)) = counter_named(text) else {
-            return Err(fault(format!(in alloc; "--counter {text}: a counter is set as 3=10")));
+            return Err(refused(alloc, "counter", text, "a counter is set as 3=10"));
         };
         if number >= 64 {
-            return Err(fault(format!(in alloc;
-                "--counter {text}: there are the counters 0 to 63"
-            )));
+            return Err(refused(alloc, "counter", text, "there are the counters 0 to 63"));
         }
         set(&mut self.board, number as u8, word);
         Ok(())
@@ -48,7 +46,7 @@ fn counter_named(text: &str) -> Option<(usize, u64)>
     ensures { IfSome result (λ named. NamesCounter text.now named.0 named.1) }
 {
     let (number, word) = cut(text, '=')?;
-    Some((decimal(number)?, value(word)?))
+    decimal(number).zip(value(word))
 }
 
 /// Makes a counter that word, whatever it was.

@@ -3,9 +3,10 @@ ghost use Rattle.std.specs.Prelude.{◌≡◌, IfSome};
 ghost use Rattle.std.specs.Result.{OnOk};
 ghost use Rattle.bq_one_run.specs.Naming.{NamesEntry, SetsEntry, TextsInTurn, padded};
 
-use crate::faults::{InputFault, fault};
+use crate::faults::{InputFault, refused};
 use crate::inputs::{Inputs, bytes_named};
 use crate::words::{cut, decimal};
+use bq_maps::Maps;
 use std::alloc::{AllocError, Global};
 
 impl Inputs {
@@ -29,30 +30,34 @@ impl Inputs {
         ensures env { self.new.env ≡ self.old.env }
         ensures board { self.new.board ≡ self.old.board }
     {
-        let Some((place, value)) = cut(text, '=') else {
-            return Err(fault(format!(in alloc; "--map {text}: an entry is set as 0:0=0a00")));
-        };
-        let Some((map, entry)) = entry_named(place) else {
-            return Err(fault(format!(in alloc;
-                "--map {text}: an entry is named by its map and its number, as 0:0"
-            )));
-        };
-        let Some(mut bytes) = bytes_named(alloc, value)? else {
-            return Err(fault(format!(in alloc; "--map {text}: the value is no hex")));
-        };
-        if !self.maps.lookup(map, entry) {
-            return Err(fault(format!(in alloc; "--map {text}: there is no such entry")));
-        }
-        let size = usize::from(self.maps.shape(map).value_size);
-        if bytes.len() > size {
-            return Err(fault(format!(in alloc;
-                "--map {text}: the value is longer than the map's"
-            )));
-        }
-        pad(alloc, &mut bytes, size)?;
-        self.maps.put(map, entry, 0, bytes.as_slice());
-        Ok(())
+        put_entry(&mut self.maps, alloc, text)
     }
+}
+
+/// Puts the bytes that a text names into the entry that it names.
+fn put_entry(maps: &mut Maps, alloc: Global, text: &str) -> Result<(), InputFault>
+    ensures { OnOk result (SetsEntry text.now maps.old maps.new) }
+{
+    let Some((place, value)) = cut(text, '=') else {
+        return Err(refused(alloc, "map", text, "an entry is set as 0:0=0a00"));
+    };
+    let Some((map, entry)) = entry_named(place) else {
+        let why = "an entry is named by its map and its number, as 0:0";
+        return Err(refused(alloc, "map", text, why));
+    };
+    let Some(mut bytes) = bytes_named(alloc, value)? else {
+        return Err(refused(alloc, "map", text, "the value is no hex"));
+    };
+    if !maps.lookup(map, entry) {
+        return Err(refused(alloc, "map", text, "there is no such entry"));
+    }
+    let size = usize::from(maps.shape(map).value_size);
+    if bytes.len() > size {
+        return Err(refused(alloc, "map", text, "the value is longer than the map's"));
+    }
+    pad(alloc, &mut bytes, size)?;
+    maps.put(map, entry, 0, bytes.as_slice());
+    Ok(())
 }
 
 /// The map and the entry that a text names, as `0:2`.

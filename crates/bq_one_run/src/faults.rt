@@ -1,5 +1,5 @@
 //! Why words give no inputs.
-use std::alloc::AllocError;
+use std::alloc::{AllocError, Global};
 use thiserror::Error;
 
 /// Why words give no inputs.
@@ -29,4 +29,9 @@ pub(crate) fn fault(text: Result<String, AllocError>) -> InputFault {
         Ok(text) => InputFault::Words(text),
         Err(_) => InputFault::OutOfMemory,
     }
+}
+
+/// The fault of what an option is given, with what is wrong with it, as in `--counter 3: a counter is set as 3=10`.
+pub(crate) fn refused(alloc: Global, option: &str, given: &str, why: &str) -> InputFault {
+    fault(format!(in alloc; "--{option} {given}: {why}"))
 }

@@ -3,7 +3,7 @@ ghost use Rattle.std.specs.Prelude.{◌≡◌};
 ghost use Rattle.std.specs.Result.{OnOk};
 ghost use Rattle.bq_one_run.specs.Naming.{SetsField, SetsFields, TextsInTurn};
 
-use crate::faults::{InputFault, fault};
+use crate::faults::{InputFault, fault, refused};
 use crate::fields::{field_named, field_names, put};
 use crate::inputs::Inputs;
 use crate::words::{cut, value};
@@ -61,21 +61,42 @@ impl Inputs {
         ensures env { self.new.env ≡ self.old.env }
         ensures board { self.new.board ≡ self.old.board }
     {
-        let Some((name, text)) = cut(part, '=') else {
-            return Err(fault(format!(in alloc; "--set {part}: a field is set as task=3")));
-        };
-        let Some(word) = value(text) else {
-            return Err(fault(format!(in alloc; "--set {part}: {text} is no number of 64 bits")));
-        };
-        let Some(field) = field_named(hook, version, name) else {
-            let names = field_names(hook);
-            return Err(fault(format!(in alloc;
-                "--set {part}: there is no field {name}; the fields are {names}"
-            )));
-        };
-        if !put(self.context.as_mut_slice(), field, word) {
-            return Err(fault(format!(in alloc; "--set {part}: {text} does not fit the field")));
-        }
-        Ok(())
+        put_field(self.context.as_mut_slice(), alloc, hook, version, part)
     }
+}
+
+/// Puts the word that a part names into the field that it names.
+fn put_field(
+    context: &mut [u8],
+    alloc: Global,
+    hook: Hook,
+    version: Version,
+    part: &str,
+) -> Result<(), InputFault>
+    ensures { OnOk result (SetsField hook version part.now context.old context.new) }
+{
+    let Some((name, text)) = cut(part, '=') else {
+        return Err(refused(alloc, "set", part, "a field is set as task=3"));
+    };
+    let Some(word) = value(text) else {
+        return Err(unfit(alloc, part, text, "is no number of 64 bits"));
+    };
+    let Some(field) = field_named(hook, version, name) else {
+        return Err(unknown(alloc, part, name, hook));
+    };
+    if !put(context, field, word) {
+        return Err(unfit(alloc, part, text, "does not fit the field"));
+    }
+    Ok(())
+}
+
+/// The fault of a part whose value is of no use, with what is wrong with that.
+fn unfit(alloc: Global, part: &str, value: &str, why: &str) -> InputFault {
+    fault(format!(in alloc; "--set {part}: {value} {why}"))
+}
+
+/// The fault of a part that names no field of the hook, with the names that there are.
+fn unknown(alloc: Global, part: &str, name: &str, hook: Hook) -> InputFault {
+    let names = field_names(hook);
+    fault(format!(in alloc; "--set {part}: there is no field {name}; the fields are {names}"))
 }

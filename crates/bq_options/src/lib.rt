@@ -14,8 +14,6 @@ mod reading;
 mod reasons;
 mod saying;
 pub mod tables;
-#[cfg(test)]
-mod tests;
 pub mod texts;
 mod writing;
 

@@ -1,25 +1,32 @@
-// What is said of errors: the system's words for them are those of errno's manual.
+//! Streams that fail, and what is said of errors: the system's words for them are those of errno's manual.
 
-use crate::kept::Kept;
-use crate::reasons::reason;
+use crate::answers::is_said;
+use bq_options::{Kept, reason};
 use std::io;
 use std::io::{Error, Read, Write};
 use std::test::Fail;
 
+/// Errors by their numbers, and the system's words for them.
+static NUMBERED: [(i32, &str); 5] = [
+    (2, "no such file or directory"),
+    (5, "input/output error"),
+    (13, "permission denied"),
+    (21, "is a directory"),
+    (28, "no space left on device"),
+];
+
+/// Errors of other texts, and what is said of them.
+static OTHERS: [(&str, &str); 2] = [("Nothing is there", "nothing is there"), ("", "")];
+
 #[test]
 fn reasons_are_the_systems_words(rt: HostRuntime) -> Result<(), Fail> {
-    let cases = [
-        (Error::from_raw_os_error(2), "no such file or directory"),
-        (Error::from_raw_os_error(5), "input/output error"),
-        (Error::from_raw_os_error(13), "permission denied"),
-        (Error::from_raw_os_error(21), "is a directory"),
-        (Error::from_raw_os_error(28), "no space left on device"),
-        (Error::other("Nothing is there"), "nothing is there"),
-        (Error::other(""), ""),
-    ];
-    for (error, words) in &cases {
-        let why = reason(rt.alloc(), error)?;
-        assert_eq!(rt; why.as_str(), *words);
+    for (number, words) in &NUMBERED {
+        let error = Error::from_raw_os_error(*number);
+        is_said(&rt, reason(rt.alloc(), &error)?.as_str(), words);
+    }
+    for (text, words) in &OTHERS {
+        let error = Error::other(*text);
+        is_said(&rt, reason(rt.alloc(), &error)?.as_str(), words);
     }
     Ok(())
 }
