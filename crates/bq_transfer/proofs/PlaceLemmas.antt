@@ -12,7 +12,7 @@ use Rattle.bq_insn.specs.Slots.{byte_count}
 use Rattle.bq_bpf.specs.declared.shape.MapShape.{MapShape}
 use Rattle.bq_ranges.specs.declared.range.Range.{Range}
 use Rattle.bq_states.specs.declared.abstract_state.Kind.{Kind}
-use Rattle.bq_states.specs.declared.abstract_state.Kind.TheVariants.{Stack}
+use Rattle.bq_states.specs.declared.abstract_state.Kind.TheVariants.{Entry, Stack}
 use Rattle.bq_states.specs.declared.abstract_state.AbstractValue.{AbstractValue}
 use Rattle.bq_states.specs.declared.abstract_state.AbstractState.{AbstractState}
 use Rattle.bq_states.specs.Standing.{Pointer, Stands}
@@ -51,3 +51,7 @@ pub stack_inside : (shapes : List MapShape) (context : ℕ) (view : AbstractStat
 stack_inside shapes context view size r off kind at stack placed =
     let same : 512 ≡ placed.bound = option_same 512 placed.bound _ (ap (λ (k : Kind). bound_of shapes context k) (sym stack)) placed.bound_is in
     omega (arith, placed.inside)
+
+-- the stack is no entry
+pub stack_or_entry : (kind : Kind) (m : ℕ) → kind ≡ Stack → kind ≡ Entry m → ⊥
+stack_or_entry kind m stack entry = cc

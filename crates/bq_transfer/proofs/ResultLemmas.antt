@@ -1,5 +1,5 @@
 -- Words that arithmetic gives, and words on the sides of a test.
-use Rattle.std.proofs.Common.{true, false, ◌≢◌, ◌⊎◌, inl, inr, ◌≡◌, ℕ, ◌+◌, ◌-◌, ◌%◌, ◌^◌, ◌<◌, List, refl, arith}
+use Rattle.std.proofs.Common.{true, false, ◌≢◌, ◌⊎◌, inl, inr, ◌≡◌, ℕ, ◌+◌, ◌-◌, ◌%◌, ◌^◌, ◌<◌, List, Option, Some, None, refl, arith}
 use Rattle.bq_bpf.specs.Meaning.{alu_result, operate, taken, compares}
 use Rattle.bq_insn.specs.declared.Width.TheVariants.{W32, W64}
 use Rattle.bq_insn.specs.declared.Operation.TheVariants as op
@@ -13,6 +13,7 @@ use Rattle.bq_states.specs.declared.abstract_state.Kind.TheVariants.{Number, Ent
 use Rattle.bq_states.specs.declared.abstract_state.AbstractValue.{AbstractValue}
 use Rattle.bq_states.specs.AbstractStates.{Describes, IsEntryBase}
 use Rattle.bq_states.proofs.WordLemmas.{number_within, describes_number}
+use Rattle.bq_transfer.specs.Sides.{IsSide, IsNumberIfAny}
 
 -- a word plus a number is of the same kind, and its offset is in a range that holds the sums
 pub moved_up : (shapes : List MapShape) (kind : Kind) (r t : Range) (x y : ℕ) (b : Range) → Describes shapes (record { kind = kind; offset = r }) x → Within b y → ((u v : ℕ) → Within r u → Within b v → Within t ((u + v) % 2 ^ 64)) → Describes shapes (record { kind = kind; offset = t }) (alu_result W64 op.Add x y)
@@ -93,3 +94,20 @@ sum_turned x y = omega arith
 pub same_half : (n : ℕ) → n < 2 ^ 32 → alu_result W32 op.Mov 0 n ≡ n
 unfolding operate
 same_half n h = omega arith
+
+-- no number is a look-up's answer that may be 0
+pub number_or_null : (kind : Kind) (m : ℕ) → kind ≡ Number → kind ≡ EntryOrNull m → ⊥
+number_or_null kind m number null = cc
+
+-- no entry is a look-up's answer that may be 0
+pub entry_or_null : (kind : Kind) (m n : ℕ) → kind ≡ Entry m → kind ≡ EntryOrNull n → ⊥
+entry_or_null kind m n entry null = cc
+
+-- a look-up's answer that may be 0 is of one map
+pub same_map : (kind : Kind) (m n : ℕ) → kind ≡ EntryOrNull m → kind ≡ EntryOrNull n → m ≡ n
+same_map kind m n one other = cc
+
+-- a side on numbers has a number, where control goes there
+pub number_on_side : (side : Option AbstractValue) → IsSide (Some side) → IsNumberIfAny side
+number_on_side None side = tt
+number_on_side (Some k) number = number

@@ -1,6 +1,7 @@
 -- What a store leaves known: on the stack, and in an entry.
-use Rattle.std.proofs.Common.{◌≡◌, ◌≢◌, ℕ, zero, suc, ◌+◌, ◌*◌, ◌^◌, ◌<◌, ◌≤◌, Bool, true, false, List, Option, Some, None, length, get_or, set, refl, sym, ap, subst, arith, ◌⊎◌, inl, inr, ℤ, get_or-set_same, get_or-set_other}
-use Rattle.std.specs.Prelude.{slice_index, IfSome, IfOk, OnOk, Ok, Err}
+use Rattle.bq_states.specs.Standing.{NoPointer, Stands}
+use Rattle.std.proofs.Common.{◌≡◌, ◌≢◌, ℕ, zero, suc, ◌+◌, ◌*◌, ◌^◌, ◌<◌, ◌≤◌, Bool, true, false, List, Option, Some, None, length, get_or, set, refl, sym, ap, subst, arith, ◌⊎◌, inl, inr, ℤ, get_or-set_same, get_or-set_other, [], ◌∷◌}
+use Rattle.std.specs.Prelude.{slice_index, IfSome, IfOk, OnOk, Ok, Err, slice_index_or, slice_set}
 use Rattle.std.specs.declared.result.Result.{Result}
 use Rattle.bq_transfer.specs.declared.doubt.Doubt.{Doubt}
 use Rattle.std.specs.Int.{byte_at as byte_of, bytes_low_first}
@@ -20,7 +21,7 @@ use Rattle.bq_maps.proofs.ShapeLemmas.{have_overwritten}
 use Rattle.bq_ranges.specs.declared.range.Range.{Range}
 use Rattle.bq_ranges.specs.Within.{Within}
 use Rattle.bq_states.specs.declared.abstract_state.Kind.{Kind}
-use Rattle.bq_states.specs.declared.abstract_state.Kind.TheVariants.{Stack, Entry}
+use Rattle.bq_states.specs.declared.abstract_state.Kind.TheVariants.{Stack, Entry, Number}
 use Rattle.bq_states.specs.declared.abstract_state.AbstractState.{AbstractState}
 use Rattle.bq_states.specs.declared.abstract_state.AbstractValue.{AbstractValue}
 use Rattle.bq_states.specs.AbstractStates.{Contains, Describes, Keeps, IsOfKind, keeping}
@@ -155,3 +156,11 @@ carries_reg shapes context_length dst src off size k old new slot classes word s
     let is : on.1.register src ≡ Some v.0 = rw same v.1 in
     let after = on.4 in
     (next on.1, (on.0, v.0, on.1, on.2, v.1, on.3, refl), covers_classes f new (next on.1) classes (linked (next on.1) v.0 after.copies is on.7) after, ap (λ (n : ℕ). n + 1) on.5)
+
+-- a slot in which a number is kept, and each that had no pointer, has none
+pub plain_kept : (kept : List (Option AbstractValue)) (slot j : ℕ) (k : AbstractValue) → k.kind ≡ Number → Stands NoPointer (slice_index_or kept j None) → Stands NoPointer (slice_index_or (slice_set kept slot (Some k)) j None)
+plain_kept [] slot j k number plain = plain
+plain_kept (x ∷ xs) zero zero k number plain = number
+plain_kept (x ∷ xs) zero (suc j) k number plain = plain
+plain_kept (x ∷ xs) (suc slot) zero k number plain = plain
+plain_kept (x ∷ xs) (suc slot) (suc j) k number plain = plain_kept xs slot j k number plain

@@ -1,4 +1,4 @@
-use Rattle.std.proofs.Common.{ℕ, pos, subst, sym, refl, ap, inl, inr, ◌∙◌, ℤ, false, true, arith, ◌≡◌, ◌≢◌, rules}
+use Rattle.std.proofs.Common.{ℕ, pos, subst, sym, ap, inl, inr, ◌∙◌, ℤ, arith, ◌≡◌, ◌≢◌, rules}
 use Rattle.bq_insn.specs.declared.Insn.{Insn}
 use Rattle.bq_transfer.specs.After.{After}
 use Rattle.bq_transfer.proofs.StandingLemmas.{has_answered, has_looked_up}

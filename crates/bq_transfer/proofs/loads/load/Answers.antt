@@ -1,4 +1,5 @@
-use Rattle.std.proofs.Common.{◌≡◌, ◌<◌, ◌*◌, ◌/◌, ℕ, false, true, length, subst, sym, ◌∙◌, arith, rules}
+use Rattle.std.proofs.Common.{◌≡◌, ◌<◌, ◌*◌, ◌/◌, ℕ, true, length, subst, sym, ◌∙◌, arith, rules}
+use Rattle.std.proofs.lemmas.Bool.{false≢true}
 use Rattle.bq_states.specs.Copies.{HasWord}
 use Rattle.bq_insn.specs.declared.Insn.TheVariants.{Load}
 use Rattle.bq_states.proofs.PartLemmas.{read_numbers}
@@ -32,7 +33,7 @@ returns-clause-transfers c =
 
 pub returns-in_err-found-clause-accepts : goal.returns-in_err-found-clause-accepts
 returns-in_err-found-clause-accepts c = λ ready.
-    absurd (let ok : false ≡ true = c.in_err-found.ensures.accepts ready.kind ready.at ready.placed in let no : ⊥ = cc in no)
+    absurd (false≢true (c.in_err-found.ensures.accepts ready.kind ready.at ready.placed))
 
 pub returns-then-not-is_readable-clause-accepts : goal.returns-then-not-is_readable-clause-accepts
 returns-then-not-is_readable-clause-accepts c = λ ready.

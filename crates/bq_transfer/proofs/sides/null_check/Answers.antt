@@ -1,4 +1,5 @@
-use Rattle.std.proofs.Common.{◌≡◌, false, true, refl}
+use Rattle.std.proofs.Common.{refl}
+use Rattle.std.proofs.lemmas.Bool.{false≢true}
 use Rattle.bq_states.specs.declared.abstract_state.Kind.TheVariants.{Entry, Number}
 use Rattle.bq_transfer.proofs.StandingLemmas.{entry_stands}
 use Rattle.bq_transfer.proofs.ResultLemmas.{null_side, entry_side, equal_true, equal_false, unequal_true, unequal_false}
@@ -29,7 +30,7 @@ pub returns-in-W64-Equal-true-clause-tested : goal.returns-in-W64-Equal-true-cla
 returns-in-W64-Equal-true-clause-tested c = λ whole test zero. record {
   word = record { kind = Number; offset = c.args.right.offset };
   is = refl;
-  entry = λ found. absurd (let refuted : false ≡ true = rw (c.in-W64-Equal-true.is-1, c.in-W64-Equal-true.is-2) at found in let nothing : ⊥ = cc in nothing);
+  entry = λ found. absurd (false≢true (rw (c.in-W64-Equal-true.is-1, c.in-W64-Equal-true.is-2) at found));
 }
 
 pub returns-in-W64-Equal-false-clause-tested : goal.returns-in-W64-Equal-false-clause-tested
@@ -42,5 +43,5 @@ pub returns-in-W64-NotEqual-false-clause-tested : goal.returns-in-W64-NotEqual-f
 returns-in-W64-NotEqual-false-clause-tested c = λ whole test zero. record {
   word = record { kind = Number; offset = c.args.right.offset };
   is = refl;
-  entry = λ found. absurd (let refuted : false ≡ true = rw (c.in-W64-NotEqual-false.is-1, c.in-W64-NotEqual-false.is-2) at found in let nothing : ⊥ = cc in nothing);
+  entry = λ found. absurd (false≢true (rw (c.in-W64-NotEqual-false.is-1, c.in-W64-NotEqual-false.is-2) at found));
 }

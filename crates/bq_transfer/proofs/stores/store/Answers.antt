@@ -1,6 +1,7 @@
-use Rattle.std.proofs.Common.{◌≡◌, false, true, refl}
+use Rattle.std.proofs.Common.{refl}
+use Rattle.std.proofs.lemmas.Bool.{false≢true}
 use Rattle.bq_states.specs.declared.abstract_state.Kind.TheVariants.{Entry, Stack}
-use Rattle.bq_transfer.proofs.PlaceLemmas.{stack_inside}
+use Rattle.bq_transfer.proofs.PlaceLemmas.{stack_inside, stack_or_entry}
 use Rattle.bq_transfer.proofs.WriteLemmas.{stores_if_ok, stores_in_entry}
 use Rattle.bq_transfer.proofs.stores.store.Goals as goal
 
@@ -14,7 +15,7 @@ returns-else-ne-clause-stores c =
 
 pub returns-in_err-found-clause-accepts : goal.returns-in_err-found-clause-accepts
 returns-in_err-found-clause-accepts c = λ number place placed.
-    absurd (let ok : false ≡ true = c.in_err-found.ensures.accepts Stack place placed in let no : ⊥ = cc in no)
+    absurd (false≢true (c.in_err-found.ensures.accepts Stack place placed))
 
 pub returns-in-Stack-clause-accepts : goal.returns-in-Stack-clause-accepts
 returns-in-Stack-clause-accepts c = λ number place placed.
@@ -25,7 +26,7 @@ returns-in-Stack-clause-accepts c = λ number place placed.
 pub returns-else-ne-clause-accepts : goal.returns-else-ne-clause-accepts
 returns-else-ne-clause-accepts c = λ number place placed.
     let there = c.in_ok-found.ensures.there Stack place placed in
-    absurd (let kind : c.in_ok-found.found.kind ≡ Stack = there.0 in let no : ⊥ = cc in no)
+    absurd (stack_or_entry c.in_ok-found.found.kind _ there.0 c.in-Entry.is)
 
 pub returns-in_default : goal.returns-in_default
 returns-in_default c = record {
@@ -42,9 +43,29 @@ returns-in_default c = record {
 
 pub returns-in_err-found-clause-entry : goal.returns-in_err-found-clause-entry
 returns-in_err-found-clause-entry c = λ number map place placed.
-    absurd (let ok : false ≡ true = c.in_err-found.ensures.accepts (Entry map) place placed in let no : ⊥ = cc in no)
+    absurd (false≢true (c.in_err-found.ensures.accepts (Entry map) place placed))
 
 pub returns-in-Stack-clause-entry : goal.returns-in-Stack-clause-entry
 returns-in-Stack-clause-entry c = λ number map place placed.
     let there = c.in_ok-found.ensures.there (Entry map) place placed in
-    absurd (let kind : c.in_ok-found.found.kind ≡ Entry map = there.0 in let no : ⊥ = cc in no)
+    absurd (stack_or_entry c.in_ok-found.found.kind map c.in-Stack.is there.0)
+
+pub returns-else-ne-clause-doubts : goal.returns-else-ne-clause-doubts
+returns-else-ne-clause-doubts c = tt
+
+pub returns-else-ne-clause-inside : goal.returns-else-ne-clause-inside
+returns-else-ne-clause-inside c = tt
+
+pub returns-then-ne-clause-accepts : goal.returns-then-ne-clause-accepts
+returns-then-ne-clause-accepts c = λ number place placed.
+    let there = c.in_ok-found.ensures.there Stack place placed in
+    absurd (stack_or_entry c.in_ok-found.found.kind _ there.0 c.in-Entry.is)
+
+pub returns-then-ne-clause-stores : goal.returns-then-ne-clause-stores
+returns-then-ne-clause-stores c = tt
+
+pub returns-then-ne-clause-inside : goal.returns-then-ne-clause-inside
+returns-then-ne-clause-inside c = tt
+
+pub returns-else-ne-clause-entry : goal.returns-else-ne-clause-entry
+returns-else-ne-clause-entry c = λ number map place placed. (refl, refl, refl)

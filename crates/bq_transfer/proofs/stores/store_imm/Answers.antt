@@ -1,4 +1,5 @@
-use Rattle.std.proofs.Common.{◌≡◌, false, true, refl, arith, rules}
+use Rattle.std.proofs.Common.{◌≡◌, refl, arith, rules}
+use Rattle.std.proofs.lemmas.Bool.{false≢true}
 use Rattle.bq_bpf.specs.Meaning.{word_of}
 use Rattle.bq_states.specs.declared.abstract_state.AbstractValue.{AbstractValue}
 use Rattle.bq_states.specs.declared.abstract_state.Kind.TheVariants.{Number}
@@ -14,7 +15,7 @@ returns-clause-transfers c =
 
 pub returns-in_err-store-clause-accepts : goal.returns-in_err-store-clause-accepts
 returns-in_err-store-clause-accepts c = λ place placed.
-    absurd (let ok : false ≡ true = (c.in_err-store.ensures.accepts refl place placed).0 in let no : ⊥ = cc in no)
+    absurd (false≢true ((c.in_err-store.ensures.accepts refl place placed).0))
 
 pub returns-clause-accepts : goal.returns-clause-accepts
 returns-clause-accepts c = λ place placed.
@@ -22,7 +23,7 @@ returns-clause-accepts c = λ place placed.
 
 pub returns-in_err-store-clause-entry : goal.returns-in_err-store-clause-entry
 returns-in_err-store-clause-entry c = λ map place placed.
-    absurd (let ok : false ≡ true = (c.in_err-store.ensures.entry refl map place placed).0 in let no : ⊥ = cc in no)
+    absurd (false≢true ((c.in_err-store.ensures.entry refl map place placed).0))
 
 pub returns-clause-entry : goal.returns-clause-entry
 returns-clause-entry c = λ map place placed.

@@ -1,5 +1,6 @@
-use Rattle.std.proofs.Common.{◌≡◌, ◌<◌, ◌*◌, ◌/◌, ℕ, length, subst, arith, rules, Some, ap, refl}
-use Rattle.bq_transfer.proofs.WriteLemmas.{low_long, low_small, covers_keeping}
+use Rattle.std.proofs.Common.{◌≡◌, ◌<◌, ◌≤◌, ◌+◌, ◌*◌, ◌/◌, ℕ, length, subst, sym, arith, rules, Some, ap, refl}
+use Rattle.std.proofs.lemmas.Bool.{false≢true}
+use Rattle.bq_transfer.proofs.WriteLemmas.{low_long, low_small, covers_keeping, plain_kept}
 use Rattle.bq_states.proofs.StoreLemmas.{Keeps-stored}
 use Rattle.std.specs.Int.{bytes_low_first}
 use Rattle.bq_insn.specs.Slots.{byte_count}
@@ -9,6 +10,7 @@ use Rattle.bq_states.specs.declared.abstract_state.Kind.TheVariants.{Number}
 use Rattle.bq_states.proofs.WordLemmas.{number_within}
 use Rattle.bq_states.proofs.PartLemmas.{covers_parts, has_written}
 use Rattle.bq_states.specs.AbstractStates.{Keeps}
+use Rattle.bq_states.specs.Standing.{IsStoredAt}
 use Rattle.bq_bpf.specs.Memory.{InStack, stack_with, written}
 use Rattle.bq_bpf.specs.Steps.{low_bytes, next}
 use Rattle.bq_transfer.proofs.stores.store_on_stack.Goals as goal
@@ -48,3 +50,20 @@ pub returns-clause-accepts : goal.returns-clause-accepts
 returns-clause-accepts c = λ number place low high inside.
     let stored = c.overwrite-2.ensures.stored (omega arith) in
     (refl, record { registers_same = stored.registers_same; stored = λ i from to. stored.stored i (omega arith) (omega arith); set = stored.set; plain = stored.plain })
+
+pub returns-then-not-stays-clause-accepts : goal.returns-then-not-stays-clause-accepts
+returns-then-not-stays-clause-accepts c = λ number place low high inside.
+    absurd (false≢true (c.if-not-stays.ensures.1 (subst (λ (n : ℕ). n + byte_count c.args.size ≤ 512) (sym high) inside)))
+
+pub store_part-requires-clause-small : goal.store_part-requires-clause-small
+store_part-requires-clause-small c = omega (arith, c.stays.ensures.0 c.if-not-stays.false)
+
+pub returns-clause-slot : goal.returns-clause-slot
+returns-clause-slot c = tt
+
+pub returns-then-at-eq0-clause-accepts : goal.returns-then-at-eq0-clause-accepts
+returns-then-at-eq0-clause-accepts c = λ number place low high inside.
+    let stored = c.overwrite.ensures.stored (c.is_single.ensures.0 c.if-is_single.true) in
+    let there : IsStoredAt c.args.view.now c.overwrite.new.view place (place + byte_count c.args.size) = rw (low, high) at stored in
+    rw c.keep.ensures
+    (refl, record { registers_same = there.registers_same; stored = there.stored; set = there.set; plain = λ j plain. plain_kept c.overwrite.new.view.kept (c.args.at.lo / 8) j c.args.word number (there.plain j plain) })

@@ -1,4 +1,5 @@
-use Rattle.std.proofs.Common.{◌≡◌, ℕ, List, Option, false, true, refl, sym, subst}
+use Rattle.std.proofs.Common.{◌≡◌, ℕ, List, Option, refl, sym, subst}
+use Rattle.std.proofs.lemmas.Bool.{false≢true}
 use Rattle.bq_states.specs.declared.abstract_state.Kind.TheVariants.{Number}
 use Rattle.bq_states.specs.declared.abstract_state.AbstractValue.{AbstractValue}
 use Rattle.bq_states.specs.Standing.{Scalar, Stands}
@@ -14,7 +15,7 @@ returns-clause-transfers c =
 pub returns-in_err-slot-clause-accepts : goal.returns-in_err-slot-clause-accepts
 returns-in_err-slot-clause-accepts c = λ scalar place placed.
     let number : c.in-Some.word.kind ≡ Number = subst (λ (v : Option AbstractValue). Stands Scalar v) (sym c.in-Some.ensures) scalar in
-    absurd (let ok : false ≡ true = (c.in_err-slot.ensures.accepts number place placed).0 in let no : ⊥ = cc in no)
+    absurd (false≢true ((c.in_err-slot.ensures.accepts number place placed).0))
 
 pub returns-clause-accepts : goal.returns-clause-accepts
 returns-clause-accepts c = λ scalar place placed.
@@ -25,7 +26,7 @@ returns-clause-accepts c = λ scalar place placed.
 pub returns-in_err-slot-clause-entry : goal.returns-in_err-slot-clause-entry
 returns-in_err-slot-clause-entry c = λ scalar map place placed.
     let number : c.in-Some.word.kind ≡ Number = subst (λ (v : Option AbstractValue). Stands Scalar v) (sym c.in-Some.ensures) scalar in
-    absurd (let ok : false ≡ true = (c.in_err-slot.ensures.entry number map place placed).0 in let no : ⊥ = cc in no)
+    absurd (false≢true ((c.in_err-slot.ensures.entry number map place placed).0))
 
 pub returns-clause-entry : goal.returns-clause-entry
 returns-clause-entry c = λ scalar map place placed.

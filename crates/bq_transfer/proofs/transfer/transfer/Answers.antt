@@ -1,4 +1,4 @@
-use Rattle.std.proofs.Common.{subst, sym, refl, inl, inr, ◌+◌, arith, ◌≡◌, rules}
+use Rattle.std.proofs.Common.{subst, sym, refl, inl, inr, ◌+◌, rules}
 use Rattle.std.proofs.lemmas.Result.{on_ok_weaker}
 use Rattle.bq_insn.specs.declared.Insn.{Insn}
 use Rattle.bq_insn.specs.Slots.{byte_count}
@@ -9,8 +9,8 @@ use Rattle.bq_states.proofs.MergeLemmas.{some_none}
 use Rattle.bq_transfer.proofs.StandingLemmas.{bytes_at, has_given, has_left, has_named, has_stored}
 use Rattle.bq_insn.specs.declared.Insn.TheVariants.{Load, MovSx, Neg, End, Imm64, StoreImm, StoreReg}
 use mir.Syntax.{w16, w32}
-use mir.Val.{SFits, to_z, of_z}
-use Rattle.std.proofs.lemmas.Int.{ints}
+use mir.Val.{SFits}
+use Rattle.std.proofs.lemmas.Int.{to_z-of_z}
 use Rattle.bq_transfer.proofs.transfer.transfer.Goals as goal
 
 pub returns-in-Alu-clause-transfers : goal.returns-in-Alu-clause-transfers
@@ -56,13 +56,13 @@ returns-in-End-clause-accepts c =
 pub returns-in-Load-clause-transfers : goal.returns-in-Load-clause-transfers
 returns-in-Load-clause-transfers c =
     let fits_off : SFits w16 c.in-Load.off = search rules in
-    let off : to_z w16 (of_z w16 c.in-Load.off) ≡ c.in-Load.off = omega (arith, ints) in
+    let off = to_z-of_z w16 c.in-Load.off fits_off in
     rw c.in-Load.is (rw off at c.load.ensures.transfers)
 
 pub returns-in-Load-clause-accepts : goal.returns-in-Load-clause-accepts
 returns-in-Load-clause-accepts c =
     let fits_off : SFits w16 c.in-Load.off = search rules in
-    let off : to_z w16 (of_z w16 c.in-Load.off) ≡ c.in-Load.off = omega (arith, ints) in
+    let off = to_z-of_z w16 c.in-Load.off fits_off in
     rw c.in-Load.is
     (λ ready.
     let given = (rw off at c.load.ensures.accepts) ready.1 in
@@ -71,15 +71,15 @@ returns-in-Load-clause-accepts c =
 pub returns-in-StoreImm-clause-transfers : goal.returns-in-StoreImm-clause-transfers
 returns-in-StoreImm-clause-transfers c =
     let fits_off : SFits w16 c.in-StoreImm.off = search rules in
-    let off : to_z w16 (of_z w16 c.in-StoreImm.off) ≡ c.in-StoreImm.off = omega (arith, ints) in
+    let off = to_z-of_z w16 c.in-StoreImm.off fits_off in
     let fits_imm : SFits w32 c.in-StoreImm.imm = search rules in
-    let imm : to_z w32 (of_z w32 c.in-StoreImm.imm) ≡ c.in-StoreImm.imm = omega (arith, ints) in
+    let imm = to_z-of_z w32 c.in-StoreImm.imm fits_imm in
     rw c.in-StoreImm.is (rw (off, imm) at c.store_imm.ensures.transfers)
 
 pub returns-in-StoreImm-clause-accepts : goal.returns-in-StoreImm-clause-accepts
 returns-in-StoreImm-clause-accepts c =
     let fits_off : SFits w16 c.in-StoreImm.off = search rules in
-    let off : to_z w16 (of_z w16 c.in-StoreImm.off) ≡ c.in-StoreImm.off = omega (arith, ints) in
+    let off = to_z-of_z w16 c.in-StoreImm.off fits_off in
     let insn : Insn = StoreImm c.in-StoreImm.size c.in-StoreImm.dst c.in-StoreImm.off c.in-StoreImm.imm in
     rw c.in-StoreImm.is
     (λ ready.
@@ -105,13 +105,13 @@ returns-in-StoreImm-clause-accepts c =
 pub returns-in-StoreReg-clause-transfers : goal.returns-in-StoreReg-clause-transfers
 returns-in-StoreReg-clause-transfers c =
     let fits_off : SFits w16 c.in-StoreReg.off = search rules in
-    let off : to_z w16 (of_z w16 c.in-StoreReg.off) ≡ c.in-StoreReg.off = omega (arith, ints) in
+    let off = to_z-of_z w16 c.in-StoreReg.off fits_off in
     rw c.in-StoreReg.is (rw off at c.store_reg.ensures.transfers)
 
 pub returns-in-StoreReg-clause-accepts : goal.returns-in-StoreReg-clause-accepts
 returns-in-StoreReg-clause-accepts c =
     let fits_off : SFits w16 c.in-StoreReg.off = search rules in
-    let off : to_z w16 (of_z w16 c.in-StoreReg.off) ≡ c.in-StoreReg.off = omega (arith, ints) in
+    let off = to_z-of_z w16 c.in-StoreReg.off fits_off in
     let insn : Insn = StoreReg c.in-StoreReg.size c.in-StoreReg.dst c.in-StoreReg.off c.in-StoreReg.src in
     rw c.in-StoreReg.is
     (λ ready.
@@ -137,13 +137,13 @@ returns-in-StoreReg-clause-accepts c =
 pub returns-in-MapRef-clause-transfers : goal.returns-in-MapRef-clause-transfers
 returns-in-MapRef-clause-transfers c =
     let fits_index : SFits w32 c.in-MapRef.index = search rules in
-    let index : to_z w32 (of_z w32 c.in-MapRef.index) ≡ c.in-MapRef.index = omega (arith, ints) in
+    let index = to_z-of_z w32 c.in-MapRef.index fits_index in
     rw c.in-MapRef.is (on_ok_weaker c.map_ref.result (λ carries. carries c.args.context) (rw index at c.map_ref.ensures.transfers))
 
 pub returns-in-MapRef-clause-accepts : goal.returns-in-MapRef-clause-accepts
 returns-in-MapRef-clause-accepts c =
     let fits_index : SFits w32 c.in-MapRef.index = search rules in
-    let index : to_z w32 (of_z w32 c.in-MapRef.index) ≡ c.in-MapRef.index = omega (arith, ints) in
+    let index = to_z-of_z w32 c.in-MapRef.index fits_index in
     rw c.in-MapRef.is
     (λ ready.
     let made = (rw index at c.map_ref.ensures.accepts) ready.1 ready.2 ready.3 in
@@ -152,13 +152,13 @@ returns-in-MapRef-clause-accepts c =
 pub returns-in-Call-clause-transfers : goal.returns-in-Call-clause-transfers
 returns-in-Call-clause-transfers c =
     let fits_helper : SFits w32 c.in-Call.helper = search rules in
-    let helper : to_z w32 (of_z w32 c.in-Call.helper) ≡ c.in-Call.helper = omega (arith, ints) in
+    let helper = to_z-of_z w32 c.in-Call.helper fits_helper in
     rw c.in-Call.is (rw helper at c.call.ensures.transfers)
 
 pub returns-in-Call-clause-accepts : goal.returns-in-Call-clause-accepts
 returns-in-Call-clause-accepts c =
     let fits_helper : SFits w32 c.in-Call.helper = search rules in
-    let helper : to_z w32 (of_z w32 c.in-Call.helper) ≡ c.in-Call.helper = omega (arith, ints) in
+    let helper = to_z-of_z w32 c.in-Call.helper fits_helper in
     rw c.in-Call.is (rw helper at c.call.ensures.accepts)
 
 pub returns-in-Imm64-clause-transfers : goal.returns-in-Imm64-clause-transfers
@@ -188,3 +188,74 @@ load-requires-clause-below c = subst (λ (i : Insn). WritesBelowFrame i) c.in-Lo
 
 pub map_ref-requires-clause-below : goal.map_ref-requires-clause-below
 map_ref-requires-clause-below c = subst (λ (i : Insn). WritesBelowFrame i) c.in-MapRef.is c.requires.below c.in-MapRef.dst refl
+
+pub returns-in-Alu-clause-straight : goal.returns-in-Alu-clause-straight
+returns-in-Alu-clause-straight c = rw c.in-Alu.is (on_ok_weaker c.alu.result (λ carries slot. inl (refl, refl)) c.alu.ensures.transfers)
+
+pub returns-in-Alu-clause-doubts : goal.returns-in-Alu-clause-doubts
+returns-in-Alu-clause-doubts c = rw c.in-Alu.is c.alu.ensures.doubts
+
+pub returns-in-MovSx-clause-straight : goal.returns-in-MovSx-clause-straight
+returns-in-MovSx-clause-straight c = rw c.in-MovSx.is (on_ok_weaker c.extend.result (λ carries slot. inl (refl, refl)) c.extend.ensures.transfers)
+
+pub returns-in-MovSx-clause-doubts : goal.returns-in-MovSx-clause-doubts
+returns-in-MovSx-clause-doubts c = rw c.in-MovSx.is c.extend.ensures.doubts
+
+pub returns-in-Neg-clause-straight : goal.returns-in-Neg-clause-straight
+returns-in-Neg-clause-straight c = rw c.in-Neg.is (on_ok_weaker c.negate.result (λ carries slot. inl (refl, refl)) c.negate.ensures.transfers)
+
+pub returns-in-Neg-clause-doubts : goal.returns-in-Neg-clause-doubts
+returns-in-Neg-clause-doubts c = rw c.in-Neg.is c.negate.ensures.doubts
+
+pub returns-in-End-clause-straight : goal.returns-in-End-clause-straight
+returns-in-End-clause-straight c = rw c.in-End.is (on_ok_weaker c.reorder.result (λ carries slot. inl (refl, refl)) c.reorder.ensures.transfers)
+
+pub returns-in-End-clause-doubts : goal.returns-in-End-clause-doubts
+returns-in-End-clause-doubts c = rw c.in-End.is c.reorder.ensures.doubts
+
+pub returns-in-Load-clause-straight : goal.returns-in-Load-clause-straight
+returns-in-Load-clause-straight c = rw c.in-Load.is (on_ok_weaker c.load.result (λ carries slot. inl (refl, refl)) c.load.ensures.transfers)
+
+pub returns-in-Load-clause-doubts : goal.returns-in-Load-clause-doubts
+returns-in-Load-clause-doubts c =
+    let fits_off : SFits w16 c.in-Load.off = search rules in
+    let off = to_z-of_z w16 c.in-Load.off fits_off in
+    rw c.in-Load.is (rw off at c.load.ensures.doubts)
+
+pub returns-in-StoreImm-clause-straight : goal.returns-in-StoreImm-clause-straight
+returns-in-StoreImm-clause-straight c = rw c.in-StoreImm.is (on_ok_weaker c.store_imm.result (λ carries slot. inl (refl, refl)) c.store_imm.ensures.transfers)
+
+pub returns-in-StoreImm-clause-doubts : goal.returns-in-StoreImm-clause-doubts
+returns-in-StoreImm-clause-doubts c =
+    let fits_off : SFits w16 c.in-StoreImm.off = search rules in
+    let off = to_z-of_z w16 c.in-StoreImm.off fits_off in
+    let fits_imm : SFits w32 c.in-StoreImm.imm = search rules in
+    let imm = to_z-of_z w32 c.in-StoreImm.imm fits_imm in
+    rw c.in-StoreImm.is (rw (off, imm) at c.store_imm.ensures.doubts)
+
+pub returns-in-StoreReg-clause-straight : goal.returns-in-StoreReg-clause-straight
+returns-in-StoreReg-clause-straight c = rw c.in-StoreReg.is (on_ok_weaker c.store_reg.result (λ carries slot. inl (refl, refl)) c.store_reg.ensures.transfers)
+
+pub returns-in-StoreReg-clause-doubts : goal.returns-in-StoreReg-clause-doubts
+returns-in-StoreReg-clause-doubts c =
+    let fits_off : SFits w16 c.in-StoreReg.off = search rules in
+    let off = to_z-of_z w16 c.in-StoreReg.off fits_off in
+    rw c.in-StoreReg.is (rw off at c.store_reg.ensures.doubts)
+
+pub returns-in-MapRef-clause-straight : goal.returns-in-MapRef-clause-straight
+returns-in-MapRef-clause-straight c = rw c.in-MapRef.is (on_ok_weaker c.map_ref.result (λ carries slot. inl (refl, refl)) c.map_ref.ensures.transfers)
+
+pub returns-in-MapRef-clause-doubts : goal.returns-in-MapRef-clause-doubts
+returns-in-MapRef-clause-doubts c =
+    let fits_index : SFits w32 c.in-MapRef.index = search rules in
+    let index = to_z-of_z w32 c.in-MapRef.index fits_index in
+    rw c.in-MapRef.is (rw index at c.map_ref.ensures.doubts)
+
+pub returns-in-Call-clause-straight : goal.returns-in-Call-clause-straight
+returns-in-Call-clause-straight c = rw c.in-Call.is (on_ok_weaker c.call.result (λ carries slot. inl (refl, refl)) c.call.ensures.transfers)
+
+pub returns-in-Call-clause-doubts : goal.returns-in-Call-clause-doubts
+returns-in-Call-clause-doubts c =
+    let fits_helper : SFits w32 c.in-Call.helper = search rules in
+    let helper = to_z-of_z w32 c.in-Call.helper fits_helper in
+    rw c.in-Call.is (rw helper at c.call.ensures.doubts)

@@ -1,4 +1,6 @@
-use Rattle.std.proofs.Common.{◌≡◌, Option, Some, true, false, inl, inr, subst, sym}
+use Rattle.std.proofs.Common.{◌≡◌, Option, Some, true, false, inl, inr, subst, sym, arith}
+use Rattle.std.proofs.lemmas.Bool.{false≢true}
+use Rattle.std.proofs.lemmas.Result.{err_from_is_err_and}
 use Rattle.bq_states.specs.declared.abstract_state.Kind.TheVariants.{EntryOrNull, Number}
 use Rattle.bq_states.specs.declared.abstract_state.AbstractValue.{AbstractValue}
 use Rattle.bq_states.specs.Standing.{Pointer, Scalar, Stands}
@@ -44,3 +46,33 @@ returns-clause-checked c = λ map check answer x k waits yes_side no_side.
       transferred = λ live same.
           c.carry_on.ensures.has x (has_on_tested x c.args.view.now c.args.test.dst map (is_found c.args.test.cond false) c.in_ok-no.no there (c.in_ok-no.ensures.tested map check left) (no_side same)) live;
     }
+
+pub returns-in_default-clause-accepts : goal.returns-in_default-clause-accepts
+returns-in_default-clause-accepts c = λ below scalar operand. absurd (c.in_default.ensures.scalar operand)
+
+pub returns-in_default-known-clause-accepts : goal.returns-in_default-known-clause-accepts
+returns-in_default-known-clause-accepts c = λ below scalar operand.
+    absurd (subst (λ (v : Option AbstractValue). Stands Scalar v) (sym c.in_default-known.ensures) scalar)
+
+pub returns-then-test-ge10-clause-accepts : goal.returns-then-test-ge10-clause-accepts
+returns-then-test-ge10-clause-accepts c = λ below scalar operand. absurd (omega arith)
+
+pub returns-in_err-yes-clause-accepts : goal.returns-in_err-yes-clause-accepts
+returns-in_err-yes-clause-accepts c = λ below scalar operand.
+    let left : c.in-Some-known.left.kind ≡ Number = subst (λ (v : Option AbstractValue). Stands Scalar v) (sym c.in-Some-known.ensures) scalar in
+    absurd (false≢true (c.in_err-yes.ensures.accepts left (c.in-Some.ensures.scalar operand)))
+
+pub returns-in_err-yes-clause-checks : goal.returns-in_err-yes-clause-checks
+returns-in_err-yes-clause-checks c = λ map below check answer.
+    let left : Stands (Pointer (EntryOrNull map) 0) (Some c.in-Some-known.left) = subst (λ (v : Option AbstractValue). Stands (Pointer (EntryOrNull map) 0) v) (sym c.in-Some-known.ensures) answer in
+    absurd (false≢true (c.in_err-yes.ensures.checks map check left))
+
+pub returns-in_err-yes-clause-doubts : goal.returns-in_err-yes-clause-doubts
+returns-in_err-yes-clause-doubts c =
+    let error = err_from_is_err_and c.from_residual.result c.from_residual.ensures.1 in
+    rw (error.1, error.2) (λ insn reads uses. c.in_err-yes.ensures.doubts insn uses)
+
+pub returns-in_err-no-clause-accepts : goal.returns-in_err-no-clause-accepts
+returns-in_err-no-clause-accepts c = λ below scalar operand.
+    let left : c.in-Some-known.left.kind ≡ Number = subst (λ (v : Option AbstractValue). Stands Scalar v) (sym c.in-Some-known.ensures) scalar in
+    absurd (false≢true (c.in_err-no.ensures.accepts left (c.in-Some.ensures.scalar operand)))

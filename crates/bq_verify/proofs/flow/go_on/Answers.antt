@@ -12,7 +12,8 @@ use Rattle.bq_transfer.proofs.StandingLemmas.{has_left, not_both}
 use mir.Syntax.{w16, w32}
 use mir.Val.{SFits}
 use Rattle.std.proofs.lemmas.Int.{ints}
-use Rattle.std.proofs.lemmas.Result.{IfOk-weaker}
+use Rattle.std.proofs.lemmas.Bool.{false≢true}
+use Rattle.std.proofs.lemmas.Result.{IfOk-weaker, err_from_is_err_and}
 use Rattle.bq_insn.specs.Slots.{slots_of}
 use Rattle.bq_insn.specs.declared.Insn.TheVariants.{Branch, Goto, Goto32}
 use Rattle.bq_bpf.specs.Steps.{LeadsTo, instruction_at}
@@ -69,7 +70,7 @@ returns-in_ok-wait-in_default c = record {
             (c.in_ok-transfer-in_default.ensures.accepts ready).1 x c.args.slot k
             (after
             (record { insn = c.args.insn; here = c.requires.here; leaves = subst (λ (n : ℕ). Leaves c.args.insn c.args.slot n) (sym (same ∙ ap (λ (n : ℕ). c.args.slot + n) c.slots-count.ensures)) (c.in_ok-transfer-in_default.ensures.straight c.args.slot) })));
-        transferred = λ live. absurd (let no : ⊥ = cc in no);
+        transferred = λ live. absurd (false≢true live);
       };
 }
 
@@ -123,7 +124,7 @@ returns-in_ok-wait-in-Goto-clause-sure c = λ ready x k waits after.
           (λ same.
           has_left x c.args.slot k (Goto c.in-Goto.off) c.args.view.now (λ r gives. some_none _ _ gives refl) (λ n r gives. gives) (λ kind o r gives. gives) (λ i stores. stores)
           (subst (λ (i : Insn). After x c.args.slot k i c.args.view.now) c.in-Goto.is (after (subst (λ (n : ℕ). IsEdge c.args.subject.now.slots.now c.args.slot n) (sym same) edge))));
-      transferred = λ live. absurd (let no : ⊥ = cc in no);
+      transferred = λ live. absurd (false≢true live);
     }
 
 pub returns-in_ok-wait-in-Goto32-clause-sure : goal.returns-in_ok-wait-in-Goto32-clause-sure
@@ -138,7 +139,7 @@ returns-in_ok-wait-in-Goto32-clause-sure c = λ ready x k waits after.
           (λ same.
           has_left x c.args.slot k (Goto32 c.in-Goto32.imm) c.args.view.now (λ r gives. some_none _ _ gives refl) (λ n r gives. gives) (λ kind o r gives. gives) (λ i stores. stores)
           (subst (λ (i : Insn). After x c.args.slot k i c.args.view.now) c.in-Goto32.is (after (subst (λ (n : ℕ). IsEdge c.args.subject.now.slots.now c.args.slot n) (sym same) edge))));
-      transferred = λ live. absurd (let no : ⊥ = cc in no);
+      transferred = λ live. absurd (false≢true live);
     }
 
 pub returns-in-Branch-clause-sure : goal.returns-in-Branch-clause-sure
@@ -193,3 +194,40 @@ returns-in-Branch-clause-accepts c = λ ready.
 
 pub transfer-requires-clause-transferred : goal.transfer-requires-clause-transferred
 transfer-requires-clause-transferred c = transferred_if_no_jump c.args.insn c.in_default.not-Exit c.in_default.not-Goto c.in_default.not-Goto32 c.in_default.not-Branch
+
+pub returns-in_err-leave-in-Exit-clause-doubts : goal.returns-in_err-leave-in-Exit-clause-doubts
+returns-in_err-leave-in-Exit-clause-doubts c =
+    let error = err_from_is_err_and c.from_residual.result c.from_residual.ensures.1 in
+    rw (error.1, error.2, c.in-Exit.is) c.in_err-leave-in-Exit.ensures.doubts
+
+pub returns-in_err-leave-in-Exit-clause-accepts : goal.returns-in_err-leave-in-Exit-clause-accepts
+returns-in_err-leave-in-Exit-clause-accepts c = λ ready.
+    absurd (false≢true (c.in_err-leave-in-Exit.ensures.accepts (subst (λ (i : Insn). IsReady c.args.subject.now.shapes.now c.args.subject.now.context c.args.view.now i) c.in-Exit.is ready)))
+
+pub returns-in_err-transfer-in_default-clause-doubts : goal.returns-in_err-transfer-in_default-clause-doubts
+returns-in_err-transfer-in_default-clause-doubts c =
+    let error = err_from_is_err_and c.from_residual-in_err-transfer-in_default.result c.from_residual-in_err-transfer-in_default.ensures.1 in
+    rw (error.1, error.2) c.in_err-transfer-in_default.ensures.doubts
+
+pub returns-in_err-transfer-in_default-clause-accepts : goal.returns-in_err-transfer-in_default-clause-accepts
+returns-in_err-transfer-in_default-clause-accepts c = λ ready. absurd (false≢true (c.in_err-transfer-in_default.ensures.accepts ready).0)
+
+pub returns-in_err-wait-in-Goto-clause-doubts : goal.returns-in_err-wait-in-Goto-clause-doubts
+returns-in_err-wait-in-Goto-clause-doubts c =
+    let error = err_from_is_err_and c.from_residual-in_err-wait-in-Goto.result c.from_residual-in_err-wait-in-Goto.ensures.1 in
+    rw (error.1, error.2) tt
+
+pub returns-in_err-wait-in-Goto-clause-accepts : goal.returns-in_err-wait-in-Goto-clause-accepts
+returns-in_err-wait-in-Goto-clause-accepts c = λ ready.
+    let error = err_from_is_err_and c.from_residual-in_err-wait-in-Goto.result c.from_residual-in_err-wait-in-Goto.ensures.1 in
+    rw (error.1, error.2) refl
+
+pub returns-in_err-wait-in-Goto32-clause-doubts : goal.returns-in_err-wait-in-Goto32-clause-doubts
+returns-in_err-wait-in-Goto32-clause-doubts c =
+    let error = err_from_is_err_and c.from_residual-in_err-wait-in-Goto32.result c.from_residual-in_err-wait-in-Goto32.ensures.1 in
+    rw (error.1, error.2) tt
+
+pub returns-in_err-wait-in-Goto32-clause-accepts : goal.returns-in_err-wait-in-Goto32-clause-accepts
+returns-in_err-wait-in-Goto32-clause-accepts c = λ ready.
+    let error = err_from_is_err_and c.from_residual-in_err-wait-in-Goto32.result c.from_residual-in_err-wait-in-Goto32.ensures.1 in
+    rw (error.1, error.2) refl

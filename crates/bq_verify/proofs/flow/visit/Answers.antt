@@ -1,4 +1,5 @@
-use Rattle.std.proofs.Common.{◌≡◌, ◌+◌, Some, ◌∙◌, ap, false, true, inl, inr, refl, subst}
+use Rattle.std.proofs.Common.{◌≡◌, ◌+◌, Some, ◌∙◌, ap, true, inl, inr, refl, subst, sym}
+use Rattle.std.proofs.lemmas.Bool.{false≢true}
 use Rattle.bq_insn.specs.declared.Insn.{Insn}
 use Rattle.bq_insn.specs.declared.Insn.TheVariants.{Call}
 use Rattle.bq_bpf.specs.Steps.{instruction_at}
@@ -21,7 +22,7 @@ returns-then-is_counter_call-clause-goes c = (
 pub returns-in_err-ask-clause-accepts : goal.returns-in_err-ask-clause-accepts
 returns-in_err-ask-clause-accepts c = λ ready.
     let a = asked c.args.subject.now.shapes.now c.args.subject.now.context c.args.view.now c.args.insn (c.is_counter_call.ensures.is c.if-is_counter_call.true) ready in
-    absurd (let ok : false ≡ true = (c.in_err-ask.ensures.accepts a.helper a.is a.needs).0 in let no : ⊥ = cc in no)
+    absurd (false≢true ((c.in_err-ask.ensures.accepts a.helper a.is a.needs).0))
 
 pub returns-then-is_counter_call-clause-sure : goal.returns-then-is_counter_call-clause-sure
 returns-then-is_counter_call-clause-sure c = λ ready x k waits after.
@@ -36,7 +37,7 @@ returns-then-is_counter_call-clause-sure c = λ ready x k waits after.
     }
 
 pub returns-clause-accepts : goal.returns-clause-accepts
-returns-clause-accepts c = λ ready. c.go_on.ensures.accepts (not_asked c.args.subject.now.shapes.now c.args.subject.now.context c.args.view.now c.args.insn (λ call. let yes' = c.is_counter_call.ensures.only call in let no : ⊥ = cc in no) ready)
+returns-clause-accepts c = λ ready. c.go_on.ensures.accepts (not_asked c.args.subject.now.shapes.now c.args.subject.now.context c.args.view.now c.args.insn (λ call. false≢true (sym c.if-is_counter_call.false ∙ c.is_counter_call.ensures.only call)) ready)
 
 pub returns-clause-sure : goal.returns-clause-sure
-returns-clause-sure c = λ ready. c.go_on.ensures.sure (not_asked c.args.subject.now.shapes.now c.args.subject.now.context c.args.view.now c.args.insn (λ call. let yes' = c.is_counter_call.ensures.only call in let no : ⊥ = cc in no) ready)
+returns-clause-sure c = λ ready. c.go_on.ensures.sure (not_asked c.args.subject.now.shapes.now c.args.subject.now.context c.args.view.now c.args.insn (λ call. false≢true (sym c.if-is_counter_call.false ∙ c.is_counter_call.ensures.only call)) ready)

@@ -31,3 +31,6 @@ returns-in-Err-clause-accepts c = λ straight sure.
     let here = sym c.in-Some.ensures in
     let has = λ (x : Fact) (due : IsDue c.args.subject.now.slots.now x c.args.slot). c.arrive.ensures.has x (sure x c.args.slot due) c.if-not-arrive.false in
     c.refuse.ensures.memory (c.in-Err.ensures.accepts (ready_at c.args.subject.now.slots.now c.args.subject.now.shapes.now c.args.subject.now.context c.args.slot c.in-Some.insn c.arrive.new.view here straight has))
+
+pub returns-in-Err-clause-stopped : goal.returns-in-Err-clause-stopped
+returns-in-Err-clause-stopped c = c.refuse.ensures.stopped c.args.subject.now.slots.now c.in-Some.insn (sym c.in-Some.ensures) c.in-Err.ensures.doubts

@@ -1,4 +1,5 @@
-use Rattle.std.proofs.Common.{◌≡◌, ◌<◌, ℕ, List, Option, length, sym, ap, subst, ◌∙◌}
+use Rattle.std.proofs.Common.{◌≡◌, ◌<◌, ℕ, List, Option, length, sym, ap, refl, subst, ◌∙◌}
+use Rattle.std.proofs.lemmas.Result.{err_from_is_err_and}
 use Rattle.bq_insn.specs.declared.Insn.{Insn}
 use Rattle.bq_insn.specs.Slots.{spread}
 use Rattle.bq_graph.specs.Faults.{IsFaultless}
@@ -49,3 +50,24 @@ pub new-requires-clause-frame : goal.new-requires-clause-frame
 new-requires-clause-frame c =
     let same : c.in_ok-slots.slots.items ≡ spread c.args.program.insns.items = c.in_ok-slots.ensures ∙ ap spread c.as_slice.ensures.value in
     spares_frame c.args.program.insns.items c.in_ok-slots.slots.items same c.requires.registers (subst (λ (s : List (Option Insn)). IsFaultless s) c.as_slice-2.ensures.value c.in_ok-check_graph.ensures.ok)
+
+pub returns-in_err-slots-clause-refused : goal.returns-in_err-slots-clause-refused
+returns-in_err-slots-clause-refused c =
+    let error = err_from_is_err_and c.from_residual.result c.from_residual.ensures.1 in
+    rw (error.1, error.2) tt
+
+pub returns-in_err-slots-clause-accepts : goal.returns-in_err-slots-clause-accepts
+returns-in_err-slots-clause-accepts c = λ straight.
+    let error = err_from_is_err_and c.from_residual.result c.from_residual.ensures.1 in
+    rw (error.1, error.2) refl
+
+pub returns-in_err-check_graph-clause-refused : goal.returns-in_err-check_graph-clause-refused
+returns-in_err-check_graph-clause-refused c =
+    let error = err_from_is_err_and c.from_residual-in_err-check_graph.result c.from_residual-in_err-check_graph.ensures.1 in
+    rw (error.1, error.2) (rw (c.as_slice-2.ensures.value, c.in_ok-slots.ensures, c.as_slice.ensures.value) at c.in_err-check_graph.ensures.refused)
+
+pub returns-in-Ok-clause-faultless : goal.returns-in-Ok-clause-faultless
+returns-in-Ok-clause-faultless c = rw c.in-Ok.ensures.slots (rw c.as_slice-2.ensures.value at c.in_ok-check_graph.ensures.ok)
+
+pub returns-in-Ok-clause-safe : goal.returns-in-Ok-clause-safe
+returns-in-Ok-clause-safe c = c.in-Ok.ensures.safe

@@ -1,0 +1,29 @@
+use Rattle.std.proofs.Common.{refl}
+use Rattle.std.proofs.lemmas.Result.{err_from_is_err_and}
+use Rattle.bq_verify.proofs.verified.Verified.new.Goals as goal
+
+pub returns-in_err-judge-clause-stopped : goal.returns-in_err-judge-clause-stopped
+returns-in_err-judge-clause-stopped c =
+    let error = err_from_is_err_and c.from_residual.result c.from_residual.ensures.1 in
+    rw (error.1, error.2) (rw c.as_slice.ensures.value at c.in_err-judge.ensures.stopped)
+
+pub returns-in_err-judge-clause-accepts : goal.returns-in_err-judge-clause-accepts
+returns-in_err-judge-clause-accepts c = λ straight.
+    let error = err_from_is_err_and c.from_residual.result c.from_residual.ensures.1 in
+    rw (error.1, error.2) (c.in_err-judge.ensures.accepts (rw (c.as_slice.ensures.value, c.as_slice-2.ensures.value, c.context_length.ensures) straight))
+
+pub returns-in_err-code-clause-stopped : goal.returns-in_err-code-clause-stopped
+returns-in_err-code-clause-stopped c =
+    let error = err_from_is_err_and c.from_residual-in_err-code.result c.from_residual-in_err-code.ensures.1 in
+    rw (error.1, error.2) tt
+
+pub returns-in_err-code-clause-accepts : goal.returns-in_err-code-clause-accepts
+returns-in_err-code-clause-accepts c = λ straight.
+    let error = err_from_is_err_and c.from_residual-in_err-code.result c.from_residual-in_err-code.ensures.1 in
+    rw (error.1, error.2) refl
+
+pub returns-clause-safe : goal.returns-clause-safe
+returns-clause-safe c = rw (c.as_slice.ensures.value, c.as_slice-2.ensures.value, c.context_length.ensures) at c.in_ok-judge.ensures.safe
+
+pub returns-clause-accepts : goal.returns-clause-accepts
+returns-clause-accepts c = λ straight. tt
