@@ -1,9 +1,9 @@
 -- Trees of least numbers.
-use Rattle.std.proofs.Common.{◌≡◌, ◌≢◌, ℕ, zero, suc, ◌+◌, ◌-◌, ◌*◌, ◌/◌, ◌%◌, ◌<◌, ◌≤◌, ◌⊎◌, inl, inr, List, length, get_or, replicate, min, sym, ap, ◌∙◌, arith}
-use Rattle.std.proofs.lemmas.Grind.{get_or_default_zero}
-use Rattle.std.proofs.lemmas.List.{get_or-replicate}
-use Rattle.std.proofs.lemmas.Bool.{cases_lt}
-use Rattle.bq_actions.specs.Minima.{IsLess, HasMinima, HasPlaces, IsFirst, AreNever, never}
+use Rattle.std.proofs.Common.{◌≡◌, ◌≢◌, ℕ, zero, suc, ◌+◌, ◌-◌, ◌*◌, ◌/◌, ◌%◌, ◌<◌, ◌≤◌, ◌⊎◌, inl, inr, List, length, get_or, set, replicate, min, sym, ap, ◌∙◌, arith}
+use Rattle.std.proofs.lemmas.Grind.{get_or_default_zero, get_or-set_at}
+use Rattle.std.proofs.lemmas.List.{get_or-replicate, get_or-set_other}
+use Rattle.std.proofs.lemmas.Bool.{cases_lt, cases_eq}
+use Rattle.bq_actions.specs.Minima.{IsLess, HasMinima, HasOtherMinima, HasPlaces, IsFirst, AreNever, never}
 
 -- a number is one of the two below its half
 pub below-half : (k : ℕ) → (k ≡ 2 * (k / 2)) ⊎ (k ≡ 2 * (k / 2) + 1)
@@ -88,3 +88,22 @@ first-due xs m places due =
 -- what stands inside a list is the same whatever would stand outside
 pub same-number : (xs : List ℕ) (n : ℕ) → 1 < length xs → n ≡ get_or xs 1 n → n ≡ get_or xs 1 0
 same-number xs n h is = is ∙ get_or_default_zero xs 1 n h
+
+-- where a leaf gets another number, only the node above it may have another than the less of its two
+pub changed-leaf : (xs : List ℕ) (leaf n : ℕ) → 2048 ≤ leaf → HasMinima xs → HasOtherMinima (leaf / 2) (set xs leaf n)
+changed-leaf xs leaf n high m k low small but =
+    let here : get_or (set xs leaf n) k 0 ≡ get_or xs k 0 = get_or-set_other xs leaf k n 0 (omega arith) in
+    let left : get_or (set xs leaf n) (2 * k) 0 ≡ get_or xs (2 * k) 0 = get_or-set_other xs leaf (2 * k) n 0 (omega arith) in
+    let right : get_or (set xs leaf n) (2 * k + 1) 0 ≡ get_or xs (2 * k + 1) 0 = get_or-set_other xs leaf (2 * k + 1) n 0 (omega arith) in
+    rw (here, left, right) (m k low small)
+
+-- where a node gets the less of its two, only the node above it may have another than the less of its two
+pub settled-node : (xs : List ℕ) (h n : ℕ) → 1 ≤ h → h < length xs → n ≡ min (get_or xs (2 * h) 0) (get_or xs (2 * h + 1) 0) → HasOtherMinima h xs → HasOtherMinima (h / 2) (set xs h n)
+settled-node xs h n positive inside is others k low small but =
+    let left : get_or (set xs h n) (2 * k) 0 ≡ get_or xs (2 * k) 0 = get_or-set_other xs h (2 * k) n 0 (omega arith) in
+    let right : get_or (set xs h n) (2 * k + 1) 0 ≡ get_or xs (2 * k + 1) 0 = get_or-set_other xs h (2 * k + 1) n 0 (omega arith) in
+    let here : get_or (set xs h n) k 0 ≡ min (get_or xs (2 * k) 0) (get_or xs (2 * k + 1) 0) = elim (cases_eq k h) [
+      | inl same ↦ get_or-set_at xs h k n 0 same inside ∙ is ∙ sym (ap (λ i. min (get_or xs (2 * i) 0) (get_or xs (2 * i + 1) 0)) same)
+      | inr other ↦ get_or-set_other xs h k n 0 other ∙ others k low small other
+    ] in
+    rw (left, right) here

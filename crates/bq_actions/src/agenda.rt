@@ -36,11 +36,9 @@ impl Agenda {
     pub fn new(alloc: Global) -> Result<Agenda, AllocError>
         ensures { IfOk result AreNever }
     {
-        let mut numbers = Vec::with_capacity(alloc, 2 * PLACES)?;
-        'numbers: for _ in 0..2 * PLACES {
-            numbers.push(NEVER)?;
-        }
-        Ok(Agenda { numbers })
+        Ok(Agenda {
+            numbers: vec![in alloc; NEVER; 2 * PLACES]?,
+        })
     }
 
     /// What stands at a place is due at this time from now on, or never.

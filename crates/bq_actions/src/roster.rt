@@ -1,7 +1,7 @@
 //! All tasks and processors of a simulation.
-ghost use Rattle.std.specs.Prelude.{◌≡◌, ◌<◌, ◌++◌, [], ◌∷◌, None, Some, IfOk, IfErr, OnOk, slice_get, slice_set, length};
-ghost use Rattle.bq_actions.specs.Courses.{woken};
-ghost use Rattle.bq_actions.specs.Accounts.{accounts_of, charged, entered_by, IsDone, left_by, of_task, opening, passed, switched, taken_over};
+ghost use Rattle.std.specs.Prelude.{◌≡◌, ◌<◌, ◌+◌, ◌-◌, ◌++◌, [], ◌∷◌, None, Some, IfOk, IfErr, OnOk, slice_get, slice_set, length};
+ghost use Rattle.bq_actions.specs.Courses.{moved_to, run_for, woken};
+ghost use Rattle.bq_actions.specs.Accounts.{accounts_of, charged, entered_by, IsDone, left_by, of_processor, of_task, opening, passed, switched, taken_over};
 ghost use Rattle.bq_actions.specs.Dues.{IsDue, place_of};
 ghost use Rattle.bq_actions.specs.Minima.{at_place, never, ChangesOnly};
 
@@ -42,14 +42,12 @@ impl Roster {
         ensures accounts { IfOk result (λ roster. accounts_of roster ≡ opening processors) }
         ensures pace { IfOk result (λ roster. roster.pace ≡ pace) }
     {
-        let mut lanes = Vec::with_capacity(alloc, usize::from(processors))?;
-        'lanes: for _ in 0..processors {
-            lanes.push(Lane::new())?;
-        }
+        let lanes = vec![in alloc; Lane::new(); usize::from(processors)]?;
+        let agenda = Agenda::new(alloc)?;
         Ok(Roster {
             courses: Vec::new(alloc),
             lanes,
-            agenda: Agenda::new(alloc)?,
+            agenda,
             pace,
         })
     }
@@ -80,7 +78,10 @@ impl Roster {
         ensures agenda { self.new.agenda ≡ self.old.agenda }
         ensures pace { self.new.pace ≡ self.old.pace }
     {
-        *self.courses.get_mut(usize::from(task)).ok_or(Astray)? = course;
+        let Some(place) = self.courses.get_mut(usize::from(task)) else {
+            return Err(Astray);
+        };
+        *place = course;
         Ok(())
     }
 
@@ -102,7 +103,10 @@ impl Roster {
         ensures agenda { self.new.agenda ≡ self.old.agenda }
         ensures pace { self.new.pace ≡ self.old.pace }
     {
-        *self.lanes.get_mut(usize::from(processor)).ok_or(Astray)? = lane;
+        let Some(place) = self.lanes.get_mut(usize::from(processor)) else {
+            return Err(Astray);
+        };
+        *place = lane;
         Ok(())
     }
 
@@ -117,7 +121,10 @@ impl Roster {
     pub fn first(&self) -> Result<Option<(u64, Due)>, Astray> {
         match self.agenda.first() {
             None => Ok(None),
-            Some((time, place)) => Ok(Some((time, Due::at(place).ok_or(Astray)?))),
+            Some((time, place)) => match Due::at(place) {
+                Some(due) => Ok(Some((time, due))),
+                None => Err(Astray),
+            },
         }
     }
 
@@ -200,13 +207,25 @@ impl Roster {
     {
         let mut lane = self.lane(processor)?;
         if let Some(task) = lane.run {
-            let ran = now.checked_sub(lane.since).ok_or(Astray)?;
-            let mut course = self.course(task)?;
-            course.run_for(ran).ok_or(Astray)?;
-            self.set_course(task, course)?;
+            self.run_since(task, lane.since, now)?;
         }
         lane.since = now;
         self.set_lane(processor, lane)
+    }
+
+    /// A task has run from one instant to another.
+    fn run_since(&mut self, task: u16, since: u64, now: u64) -> Result<(), Astray>
+        ensures accounts { OnOk result (accounts_of self.new ≡ of_task (run_for (now - since)) task (accounts_of self.old)) }
+        ensures agenda { self.new.agenda ≡ self.old.agenda }
+        ensures pace { self.new.pace ≡ self.old.pace }
+    {
+        let Some(ran) = now.checked_sub(since) else {
+            return Err(Astray);
+        };
+        let Some(course) = self.courses.get_mut(usize::from(task)) else {
+            return Err(Astray);
+        };
+        course.run_for(ran).ok_or(Astray)
     }
 
     /// A task runs at a processor from now on.
@@ -218,15 +237,34 @@ impl Roster {
         lane.run = Some(task);
         lane.since = now;
         self.set_lane(processor, lane)?;
-        let mut course = self.course(task)?;
-        course
-            .move_to(processor, self.pace.migration_cost)
-            .ok_or(Astray)?;
-        self.set_course(task, course)?;
+        let course = self.move_to(processor, task)?;
         if was_idle {
-            self.plan(Due::Tick(processor), next_after(now, self.pace.tick)?)?;
+            self.plan_next_tick(processor, now)?;
         }
         self.plan_end(processor, &course, now)
+    }
+
+    /// A task is taken to a processor: how far it has come with that.
+    fn move_to(&mut self, processor: u8, task: u16) -> Result<Course, Astray>
+        ensures accounts { OnOk result (accounts_of self.new ≡ of_task (moved_to processor self.old.pace.migration_cost) task (accounts_of self.old)) }
+        ensures pace { self.new.pace ≡ self.old.pace }
+    {
+        let cost = self.pace.migration_cost;
+        let Some(course) = self.courses.get_mut(usize::from(task)) else {
+            return Err(Astray);
+        };
+        let Some(()) = course.move_to(processor, cost) else {
+            return Err(Astray);
+        };
+        Ok(*course)
+    }
+
+    /// The next tick of a processor, at a multiple of the time between two.
+    fn plan_next_tick(&mut self, processor: u8, now: u64) -> Result<(), Astray>
+        ensures accounts { accounts_of self.new ≡ accounts_of self.old }
+        ensures pace { self.new.pace ≡ self.old.pace }
+    {
+        self.plan(Due::Tick(processor), next_after(now, self.pace.tick)?)
     }
 
     /// Nothing runs at a processor from now on: it does not tick, and looks at once for a task to pull.
@@ -241,10 +279,10 @@ impl Roster {
         self.set_lane(processor, lane)?;
         self.drop_plan(Due::End(processor))?;
         self.drop_plan(Due::Tick(processor))?;
-        if self.processors() > 1 {
-            self.plan(Due::Pull(processor), now)?;
+        if self.processors() < 2 {
+            return Ok(());
         }
-        Ok(())
+        self.plan(Due::Pull(processor), now)
     }
 
     /// The phase of the task that runs at a processor ends when it has got what is left of it.
@@ -253,8 +291,10 @@ impl Roster {
         ensures lanes { self.new.lanes ≡ self.old.lanes }
         ensures pace { self.new.pace ≡ self.old.pace }
     {
-        let left = course.due.checked_sub(course.got).ok_or(Astray)?;
-        self.plan(Due::End(processor), now.saturating_add(left))
+        match course.due.checked_sub(course.got) {
+            Some(left) => self.plan(Due::End(processor), now.saturating_add(left)),
+            None => Err(Astray),
+        }
     }
 
     /// A task is woken, and has no phase yet.
@@ -263,9 +303,11 @@ impl Roster {
         ensures agenda { self.new.agenda ≡ self.old.agenda }
         ensures pace { self.new.pace ≡ self.old.pace }
     {
-        let mut course = self.course(task)?;
+        let Some(course) = self.courses.get_mut(usize::from(task)) else {
+            return Err(Astray);
+        };
         course.wake();
-        self.set_course(task, course)
+        Ok(())
     }
 
     /// The phase of the task that runs at a processor has ended just now. The task, and how far it has come: it has got what
@@ -276,7 +318,9 @@ impl Roster {
         ensures pace { self.new.pace ≡ self.old.pace }
     {
         self.charge(processor, now)?;
-        let task = self.lane(processor)?.run.ok_or(Astray)?;
+        let Some(task) = self.lane(processor)?.run else {
+            return Err(Astray);
+        };
         let course = self.course(task)?;
         if !course.is_done() {
             return Err(Astray);
@@ -289,9 +333,7 @@ impl Roster {
         ensures accounts { OnOk result (accounts_of self.new ≡ left_by processor run now self.old.pace.migration_cost (accounts_of self.old)) }
         ensures pace { self.new.pace ≡ self.old.pace }
     {
-        let mut lane = self.lane(processor)?;
-        lane.size = lane.size.checked_sub(1).ok_or(Astray)?;
-        self.set_lane(processor, lane)?;
+        self.shrink(processor)?;
         self.switch(processor, run, now)
     }
 
@@ -306,9 +348,7 @@ impl Roster {
         ensures accounts { OnOk result (accounts_of self.new ≡ entered_by processor count run now self.old.pace.migration_cost (accounts_of self.old)) }
         ensures pace { self.new.pace ≡ self.old.pace }
     {
-        let mut lane = self.lane(processor)?;
-        lane.size = lane.size.checked_add(count).ok_or(Astray)?;
-        self.set_lane(processor, lane)?;
+        self.grow(processor, count)?;
         self.switch(processor, run, now)
     }
 
@@ -318,12 +358,40 @@ impl Roster {
         ensures agenda { self.new.agenda ≡ self.old.agenda }
         ensures pace { self.new.pace ≡ self.old.pace }
     {
-        let mut source = self.lane(from)?;
-        source.size = source.size.checked_sub(1).ok_or(Astray)?;
-        self.set_lane(from, source)?;
-        let mut taker = self.lane(to)?;
-        taker.size = taker.size.checked_add(1).ok_or(Astray)?;
-        self.set_lane(to, taker)
+        self.shrink(from)?;
+        self.grow(to, 1)
+    }
+
+    /// A processor has one task less.
+    fn shrink(&mut self, processor: u8) -> Result<(), Astray>
+        ensures accounts { OnOk result (accounts_of self.new ≡ of_processor (λ l. record l { size = l.size - 1 }) processor (accounts_of self.old)) }
+        ensures agenda { self.new.agenda ≡ self.old.agenda }
+        ensures pace { self.new.pace ≡ self.old.pace }
+    {
+        let Some(lane) = self.lanes.get_mut(usize::from(processor)) else {
+            return Err(Astray);
+        };
+        let Some(size) = lane.size.checked_sub(1) else {
+            return Err(Astray);
+        };
+        lane.size = size;
+        Ok(())
+    }
+
+    /// A processor has so many tasks more.
+    fn grow(&mut self, processor: u8, count: u32) -> Result<(), Astray>
+        ensures accounts { OnOk result (accounts_of self.new ≡ of_processor (λ l. record l { size = l.size + count }) processor (accounts_of self.old)) }
+        ensures agenda { self.new.agenda ≡ self.old.agenda }
+        ensures pace { self.new.pace ≡ self.old.pace }
+    {
+        let Some(lane) = self.lanes.get_mut(usize::from(processor)) else {
+            return Err(Astray);
+        };
+        let Some(size) = lane.size.checked_add(count) else {
+            return Err(Astray);
+        };
+        lane.size = size;
+        Ok(())
     }
 
     /// The processor with the most tasks, the least number where several have, unless it has less than two.
@@ -349,7 +417,7 @@ impl Roster {
         if self.lane(processor)?.run.is_none() {
             return Ok(());
         }
-        self.plan(Due::Tick(processor), next_after(now, self.pace.tick)?)
+        self.plan_next_tick(processor, now)
     }
 
     /// The next pull of a processor that has looked for a task.
