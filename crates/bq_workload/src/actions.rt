@@ -39,18 +39,12 @@ pub(crate) fn action<'a>(value: &'a Value, names: &'a [String]) -> Result<Action
 fn entry<'a>(key: &'a str, value: &'a Value, names: &'a [String]) -> Result<Action, Why<'a>>
     ensures { result_ok result ≡ entry_of names.now key.now (view value.now) }
 {
-    if key == "run" {
-        let length = phase("run", value)?;
-        Ok(Action::Run(length))
-    } else if key == "sleep" {
-        let length = phase("sleep", value)?;
-        Ok(Action::Sleep(length))
-    } else if key == "wait" {
-        waiting(value)
-    } else if key == "wake" {
-        waking(value, names)
-    } else {
-        Err(Why::UnknownKey { key, known: ACTION })
+    match key {
+        "run" => Ok(Action::Run(phase("run", value)?)),
+        "sleep" => Ok(Action::Sleep(phase("sleep", value)?)),
+        "wait" => waiting(value),
+        "wake" => waking(value, names),
+        _ => Err(Why::UnknownKey { key, known: ACTION }),
     }
 }
 

@@ -29,13 +29,13 @@ fn drawn(table: &Table) -> Option<Length>
     ensures { result ≡ drawn_of (table_view table.now) }
 {
     let (key, value) = only(table)?;
-    if key == "uniform" {
-        uniform(value)
-    } else if key == "exponential" {
-        let mean = time(value)?;
-        Some(Length::Exponential { mean })
-    } else {
-        None
+    match key {
+        "uniform" => uniform(value),
+        "exponential" => {
+            let mean = time(value)?;
+            Some(Length::Exponential { mean })
+        }
+        _ => None,
     }
 }
 

@@ -174,10 +174,10 @@ fn described(wanted: &Wanted) -> &'static str {
 /// Writes a value on one line.
 fn shown<W: fmt::Write>(f: &mut fmt::Formatter<W>, value: &Value) -> fmt::Result {
     match value {
-        Value::String(text) => write!(f, "{:?}", text.as_str()),
-        Value::Integer(number) => write!(f, "{number}"),
-        Value::Boolean(truth) => write!(f, "{truth}"),
-        Value::Float(number) => write!(f, "{number}"),
+        Value::String(text) => fmt::Debug::fmt(text.as_str(), f),
+        Value::Integer(number) => fmt::Display::fmt(number, f),
+        Value::Boolean(truth) => fmt::Display::fmt(truth, f),
+        Value::Float(number) => fmt::Display::fmt(number, f),
         Value::Datetime(_) => f.write_str("a date"),
         Value::Array(_) => f.write_str("an array"),
         Value::Table(_) => f.write_str("a table"),
