@@ -24,9 +24,7 @@ pub fn gather<A: AsPart<P> + Drop, R, W, P, D, K, M: World<R, W, P, D, K>, N: Na
     let mut contents = room;
     while let Some(lock) = locks.pop() {
         let content = lock.into_inner().close(history, all);
-        if contents.push(content).is_err() {
-            unreachable!();
-        }
+        contents.push_reserved(content);
     }
     contents
 }

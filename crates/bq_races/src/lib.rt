@@ -35,3 +35,5 @@ mod race_tests;
 mod replayed;
 #[cfg(test)]
 mod script;
+#[cfg(test)]
+mod tally_tests;

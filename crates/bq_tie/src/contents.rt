@@ -38,9 +38,7 @@ fn contents<C: Drop, T: Holds<C> + Drop>(items: Vec<T>, room: Vec<C>) -> Vec<C>
 {
     let mut contents = room;
     for item in items {
-        if contents.push(item.into_content()).is_err() {
-            unreachable!();
-        }
+        contents.push_reserved(item.into_content());
     }
     contents
 }
