@@ -1,6 +1,7 @@
 //! The numbers and registers that words write.
-ghost use Rattle.std.specs.Prelude.{◌≡◌};
-ghost use Rattle.bq_asm.specs.Numbers.{magnitude_of, imm_of, offset_of, distance_of, wide_of, register_of, begins_number};
+ghost use Rattle.std.specs.Prelude.{◌≡◌, ◌+◌, ◌^◌, option_map, pos};
+ghost use Rattle.bq_words.specs.Numbers.{below};
+ghost use Rattle.bq_asm.specs.Numbers.{magnitude_of, negative, imm_of, offset_of, distance_of, wide_of, register_of, begins_number};
 
 use bq_words::number;
 
@@ -18,15 +19,27 @@ pub fn imm_of(word: &[u8]) -> Option<i32>
     ensures { result ≡ imm_of word.now }
 {
     match word.strip_prefix(b"-") {
-        Some(digits) => {
-            let size = magnitude_of(digits)?;
-            if size > 0x8000_0000 {
-                return None;
-            }
-            Some((-(size as i64)) as i32)
-        }
-        None => i32::try_from(magnitude_of(word)?).ok(),
+        Some(digits) => below_zero(digits),
+        None => from_zero(word),
     }
+}
+
+/// The number that digits write after a `-`, down to -2^31.
+fn below_zero(digits: &[u8]) -> Option<i32>
+    ensures { result ≡ option_map negative (below (2 ^ 31 + 1) (magnitude_of digits.now)) }
+{
+    let size = magnitude_of(digits)?;
+    if size > 0x8000_0000 {
+        return None;
+    }
+    Some((-(size as i64)) as i32)
+}
+
+/// The number that digits write without a `-`, up to 2^31 - 1.
+fn from_zero(digits: &[u8]) -> Option<i32>
+    ensures { result ≡ option_map (λ n. pos n) (below (2 ^ 31) (magnitude_of digits.now)) }
+{
+    i32::try_from(magnitude_of(digits)?).ok()
 }
 
 /// A number with a sign, from -2^15 to 2^15 - 1.
@@ -48,15 +61,10 @@ pub fn offset_of(word: &[u8]) -> Option<i16>
 pub fn distance_of(word: &[u8]) -> Option<i32>
     ensures { result ≡ distance_of word.now }
 {
-    if let Some(digits) = word.strip_prefix(b"-") {
-        let size = magnitude_of(digits)?;
-        if size > 0x8000_0000 {
-            return None;
-        }
-        return Some((-(size as i64)) as i32);
+    match word.strip_prefix(b"-") {
+        Some(digits) => below_zero(digits),
+        None => from_zero(word.strip_prefix(b"+")?),
     }
-    let digits = word.strip_prefix(b"+")?;
-    i32::try_from(magnitude_of(digits)?).ok()
 }
 
 /// A number from 0 to 2^64 - 1.

@@ -1,6 +1,6 @@
 //! The maps of a program.
-ghost use Rattle.std.specs.Prelude.{◌≡◌, ◌≤◌, ◌+◌, length, slice_range, replicate, IfOk};
-ghost use Rattle.bq_bpf.specs.Memory.{overwrite};
+ghost use Rattle.std.specs.Prelude.{◌≡◌, ◌≤◌, ◌+◌, ℕ, [], length, map, slice_index, slice_index_or, slice_range, replicate, IfOk};
+ghost use Rattle.bq_bpf.specs.Memory.{overwrite, HaveShapes};
 
 use bq_bpf::MapShape;
 use std::alloc::{AllocError, Global};
@@ -36,13 +36,8 @@ impl Maps {
         ensures shapes { IfOk result (λ m. m.shapes ≡ shapes.now) }
         ensures zero { IfOk result (λ m. (n i : ℕ) → slice_index (bytes_of m n) i ≡ 0) }
     {
-        let mut kept = Vec::with_capacity(alloc, shapes.len())?;
-        let mut bytes = Vec::with_capacity(alloc, shapes.len())?;
-        for shape in shapes {
-            let size = usize::from(shape.value_size) * usize::from(shape.entries);
-            bytes.push(zeros(alloc, size)?)?;
-            kept.push(*shape)?;
-        }
+        let bytes = all_zeros(alloc, shapes)?;
+        let kept = shapes.to_vec(alloc)?;
         Ok(Maps {
             shapes: kept,
             bytes,
@@ -140,6 +135,19 @@ fn paste(into: &mut [u8], at: usize, bytes: &[u8])
     ensures { into.new ≡ overwrite into.old at bytes.now }
 {
     into[at..at + bytes.len()].copy_from_slice(bytes);
+}
+
+/// The bytes of maps of these shapes, in order: zeros, as many as the values of each take.
+fn all_zeros(alloc: Global, shapes: &[MapShape]) -> Result<Vec<Vec<u8>>, AllocError>
+    ensures sizes { IfOk result (λ all. HaveShapes shapes.now (map (λ v. v.items) all.items)) }
+    ensures zero { IfOk result (λ all. (n i : ℕ) → slice_index (slice_index_or (map (λ v. v.items) all.items) n []) i ≡ 0) }
+{
+    let mut all = Vec::with_capacity(alloc, shapes.len())?;
+    for shape in shapes {
+        let size = usize::from(shape.value_size) * usize::from(shape.entries);
+        all.push(zeros(alloc, size)?)?;
+    }
+    Ok(all)
 }
 
 fn zeros(alloc: Global, count: usize) -> Result<Vec<u8>, AllocError>
