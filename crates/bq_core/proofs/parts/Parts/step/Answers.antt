@@ -1,9 +1,180 @@
-use Rattle.std.proofs.Common.{rules, FitsSigned, w8}
+use Rattle.std.proofs.Common.{rules, FitsSigned, w8, ◌≡◌, ◌≢◌, ℕ, ◌<◌, List, [], Option, Some, None, refl, sym, ap, subst, ◌∙◌, inl}
+use Rattle.std.specs.Prelude.{ℤ, Result, ◌==◌, nat_le}
 use Rattle.std.proofs.lemmas.Int.{to_z-of_z}
+use Rattle.bq_bpf.specs.declared.board.Call.{Call as Asked}
+use Rattle.bq_parts.specs.declared.event.Event.{Event}
+use Rattle.bq_parts.specs.declared.event.Event.TheVariants.{Admit, Retire, Install, BeginWake, EndWake, Drain, Tick, Block, Pull}
+use Rattle.bq_parts.specs.declared.reply.Reply.{Reply}
+use Rattle.bq_parts.specs.declared.refusal.Refusal.{Refusal}
+use Rattle.bq_parts.specs.declared.refusal.Refusal.TheVariants as no
+use Rattle.bq_parts.specs.World.{World, count_in}
+use Rattle.bq_parts.specs.Refusals.{refusal, argument_refusal, state_refusal, either}
+use Rattle.bq_parts.specs.Choices.{Regime, policies}
+use Rattle.bq_parts.specs.Steps.{WorldStep}
+use Rattle.bq_parts.proofs.NumberTestLemmas.{below_from_not_at_most, differ_from_test}
+use Rattle.bq_core.proofs.OrderLemmas.{there, passed}
 use Rattle.bq_core.proofs.parts.Parts.step.Goals as goal
+
+-- what stands behind a reference to the parts fits
+parts_fit : 80 < 9223372036854775808
+parts_fit = search rules
+
+-- where the test of the arguments found none, none of the event that it is is refused
+none_refused : (count n : ℕ) (e e' : Event) (r : Option Refusal) → r ≡ argument_refusal n e → r ≡ None → n ≡ count → e ≡ e' → argument_refusal count e' ≡ None
+none_refused count n e e' r f g h k = ap (λ (m : ℕ). argument_refusal m e') (sym h) ∙ ap (λ (x : Event). argument_refusal n x) (sym k) ∙ sym f ∙ g
+
+-- where it found one, the world refuses the event so
+one_refused : (w : World) (e : Event) (n : ℕ) (o : Option Refusal) (r : Refusal) → o ≡ argument_refusal n e → o ≡ Some r → n ≡ count_in w → refusal w e ≡ Some r
+one_refused w e n o r f g h = ap (λ (x : Option Refusal). either x (state_refusal w e)) (ap (λ (m : ℕ). argument_refusal m e) (sym h) ∙ sym f ∙ g)
+
+-- the task that retires has a seat
+retires_seated : (count id : ℕ) → argument_refusal count (Retire id) ≡ None → id < 1024
+retires_seated count id h = below_from_not_at_most id 1024 (passed (nat_le 1024 id) no.NoTask None h).0
+
+-- the processor where a wake begins is there, and the task has a seat
+begins_inside : (count cpu id : ℕ) → argument_refusal count (BeginWake cpu id) ≡ None → (cpu < count) × (id < 1024)
+begins_inside count cpu id h =
+    let f = there count cpu _ h in
+    (f.0, below_from_not_at_most id 1024 (passed (nat_le 1024 id) no.NoTask None f.1).0)
+
+-- the two processors of a pull are there, and differ
+pulls_inside : (count cpu from now : ℕ) → argument_refusal count (Pull cpu from now) ≡ None → (cpu < count) × (from < count) × (cpu ≢ from)
+pulls_inside count cpu from now h =
+    let f = there count cpu _ h in
+    let k = there count from _ f.1 in
+    (f.0, k.0, differ_from_test cpu from (passed (cpu == from) no.SameProcessor None k.1).0)
+
+-- a step by what the event is, is one by the event
+step_at : (s : Regime) (w w' : World) (e e' : Event) (calls : List Asked) (r : Result Reply Refusal) → e ≡ e' → WorldStep s w e' calls r w' → WorldStep s w e calls r w'
+step_at s w w' e e' calls r h k = subst (λ (x : Event). WorldStep s w x calls r w') (sym h) k
+
+-- and one that asked nothing of the counters
+step_unasked : (s : Regime) (w w' : World) (e e' : Event) (calls : List Asked) (r : Result Reply Refusal) → calls ≡ [] → e ≡ e' → WorldStep s w e' [] r w' → WorldStep s w e calls r w'
+step_unasked s w w' e e' calls r f h k = subst (λ (cs : List Asked). WorldStep s w e cs r w') (sym f) (step_at s w w' e e' [] r h k)
+
+pub argument_refusal-requires : goal.argument_refusal-requires
+argument_refusal-requires g c = c.processors.ensures.few
+
+pub returns-in-Some-clause-step : goal.returns-in-Some-clause-step
+returns-in-Some-clause-step g c =
+    (c.clear.ensures, refl, inl (one_refused c.args.self.now c.args.event c.processors.result c.argument_refusal.result c.in-Some.refusal c.argument_refusal.ensures c.in-Some.is c.processors.ensures.value))
+
+pub returns-in-Some-clause-board : goal.returns-in-Some-clause-board
+returns-in-Some-clause-board g c = rw c.clear.ensures refl
+
+pub admit-requires : goal.admit-requires
+admit-requires g c =
+    let fits : FitsSigned w8 c.in-Admit.nice = search rules in
+    let same = to_z-of_z w8 c.in-Admit.nice fits in
+    let none = none_refused (count_in c.args.self.now) c.processors.result c.args.event _ c.argument_refusal.result c.argument_refusal.ensures c.in_default.is c.processors.ensures.value c.in-Admit.is in
+    (parts_fit, subst (λ (n : ℤ). argument_refusal (count_in c.args.self.now) (Admit c.in-Admit.task n c.in-Admit.mask c.in-Admit.slice) ≡ None) (sym same) none)
 
 pub returns-in-Admit-clause-step : goal.returns-in-Admit-clause-step
 returns-in-Admit-clause-step g c =
     let fits : FitsSigned w8 c.in-Admit.nice = search rules in
     let same = to_z-of_z w8 c.in-Admit.nice fits in
     rw (c.clear.ensures, c.in-Admit.is) (rw same at c.admit.ensures.step)
+
+pub returns-in-Admit-clause-board : goal.returns-in-Admit-clause-board
+returns-in-Admit-clause-board g c = rw c.clear.ensures refl
+
+pub retire-requires : goal.retire-requires
+retire-requires g c =
+    let none = none_refused (count_in c.args.self.now) c.processors.result c.args.event _ c.argument_refusal.result c.argument_refusal.ensures c.in_default.is c.processors.ensures.value c.in-Retire.is in
+    (parts_fit, retires_seated (count_in c.args.self.now) c.in-Retire.task none)
+
+pub returns-in-Retire-clause-step : goal.returns-in-Retire-clause-step
+returns-in-Retire-clause-step g c =
+    step_unasked (policies g.Q.R.Discipline.discipline) c.args.self.now c.retire.new.self c.args.event _ c.clear.new.self c.retire.result c.clear.ensures c.in-Retire.is c.retire.ensures.step
+
+pub returns-in-Retire-clause-board : goal.returns-in-Retire-clause-board
+returns-in-Retire-clause-board g c = rw c.clear.ensures refl
+
+pub returns-in-Draw-clause-step : goal.returns-in-Draw-clause-step
+returns-in-Draw-clause-step g c =
+    step_unasked (policies g.Q.R.Discipline.discipline) c.args.self.now c.draw.new.self c.args.event _ c.clear.new.self c.draw.result c.clear.ensures c.in-Draw.is c.draw.ensures.step
+
+pub returns-in-Draw-clause-board : goal.returns-in-Draw-clause-board
+returns-in-Draw-clause-board g c = rw c.clear.ensures refl
+
+pub install-requires : goal.install-requires
+install-requires g c =
+    let none = none_refused (count_in c.args.self.now) c.processors.result c.args.event _ c.argument_refusal.result c.argument_refusal.ensures c.in_default.is c.processors.ensures.value c.in-Install.is in
+    (parts_fit, none)
+
+pub returns-in-Install-clause-step : goal.returns-in-Install-clause-step
+returns-in-Install-clause-step g c =
+    step_unasked (policies g.Q.R.Discipline.discipline) c.args.self.now c.install.new.self c.args.event _ c.clear.new.self c.install.result c.clear.ensures c.in-Install.is c.install.ensures.step
+
+pub returns-in-Install-clause-board : goal.returns-in-Install-clause-board
+returns-in-Install-clause-board g c = rw c.clear.ensures refl
+
+pub begin_wake-requires : goal.begin_wake-requires
+begin_wake-requires g c =
+    let none = none_refused (count_in c.args.self.now) c.processors.result c.args.event _ c.argument_refusal.result c.argument_refusal.ensures c.in_default.is c.processors.ensures.value c.in-BeginWake.is in
+    let inside = begins_inside (count_in c.args.self.now) c.in-BeginWake.processor c.in-BeginWake.task none in
+    (parts_fit, (c.requires.orderly, (inside.0, inside.1)))
+
+pub returns-in-BeginWake-clause-step : goal.returns-in-BeginWake-clause-step
+returns-in-BeginWake-clause-step g c =
+    step_unasked (policies g.Q.R.Discipline.discipline) c.args.self.now c.begin_wake.new.self c.args.event _ c.clear.new.self c.begin_wake.result c.clear.ensures c.in-BeginWake.is c.begin_wake.ensures.step
+
+pub returns-in-BeginWake-clause-board : goal.returns-in-BeginWake-clause-board
+returns-in-BeginWake-clause-board g c = rw c.clear.ensures refl
+
+pub end_wake-requires : goal.end_wake-requires
+end_wake-requires g c =
+    let none = none_refused (count_in c.args.self.now) c.processors.result c.args.event _ c.argument_refusal.result c.argument_refusal.ensures c.in_default.is c.processors.ensures.value c.in-EndWake.is in
+    (parts_fit, (c.requires.orderly, ((there (count_in c.args.self.now) c.in-EndWake.processor None none).0, c.clear.ensures)))
+
+pub returns-in-EndWake-clause-step : goal.returns-in-EndWake-clause-step
+returns-in-EndWake-clause-step g c = step_at (policies g.Q.R.Discipline.discipline) c.args.self.now c.end_wake.new.self c.args.event _ c.end_wake.new.scratch c.end_wake.result c.in-EndWake.is c.end_wake.ensures.step
+
+pub returns-in-EndWake-clause-board : goal.returns-in-EndWake-clause-board
+returns-in-EndWake-clause-board g c = c.end_wake.ensures.board
+
+pub drain-requires : goal.drain-requires
+drain-requires g c =
+    let none = none_refused (count_in c.args.self.now) c.processors.result c.args.event _ c.argument_refusal.result c.argument_refusal.ensures c.in_default.is c.processors.ensures.value c.in-Drain.is in
+    (parts_fit, (c.requires.orderly, ((there (count_in c.args.self.now) c.in-Drain.processor None none).0, c.clear.ensures)))
+
+pub returns-in-Drain-clause-step : goal.returns-in-Drain-clause-step
+returns-in-Drain-clause-step g c = step_at (policies g.Q.R.Discipline.discipline) c.args.self.now c.drain.new.self c.args.event _ c.drain.new.scratch c.drain.result c.in-Drain.is c.drain.ensures.step
+
+pub returns-in-Drain-clause-board : goal.returns-in-Drain-clause-board
+returns-in-Drain-clause-board g c = c.drain.ensures.board
+
+pub tick-requires : goal.tick-requires
+tick-requires g c =
+    let none = none_refused (count_in c.args.self.now) c.processors.result c.args.event _ c.argument_refusal.result c.argument_refusal.ensures c.in_default.is c.processors.ensures.value c.in-Tick.is in
+    (parts_fit, (c.requires.orderly, ((there (count_in c.args.self.now) c.in-Tick.processor None none).0, c.clear.ensures)))
+
+pub returns-in-Tick-clause-step : goal.returns-in-Tick-clause-step
+returns-in-Tick-clause-step g c = step_at (policies g.Q.R.Discipline.discipline) c.args.self.now c.tick.new.self c.args.event _ c.tick.new.scratch c.tick.result c.in-Tick.is c.tick.ensures.step
+
+pub returns-in-Tick-clause-board : goal.returns-in-Tick-clause-board
+returns-in-Tick-clause-board g c = c.tick.ensures.board
+
+pub block-requires : goal.block-requires
+block-requires g c =
+    let none = none_refused (count_in c.args.self.now) c.processors.result c.args.event _ c.argument_refusal.result c.argument_refusal.ensures c.in_default.is c.processors.ensures.value c.in-Block.is in
+    (parts_fit, (c.requires.orderly, (there (count_in c.args.self.now) c.in-Block.processor None none).0))
+
+pub returns-in-Block-clause-step : goal.returns-in-Block-clause-step
+returns-in-Block-clause-step g c =
+    step_unasked (policies g.Q.R.Discipline.discipline) c.args.self.now c.block.new.self c.args.event _ c.clear.new.self c.block.result c.clear.ensures c.in-Block.is c.block.ensures.step
+
+pub returns-in-Block-clause-board : goal.returns-in-Block-clause-board
+returns-in-Block-clause-board g c = rw c.clear.ensures refl
+
+pub pull-requires : goal.pull-requires
+pull-requires g c =
+    let none = none_refused (count_in c.args.self.now) c.processors.result c.args.event _ c.argument_refusal.result c.argument_refusal.ensures c.in_default.is c.processors.ensures.value c.in-Pull.is in
+    let inside = pulls_inside (count_in c.args.self.now) c.in-Pull.processor c.in-Pull.from c.in-Pull.now none in
+    (parts_fit, (c.requires.orderly, (inside.0, (inside.1, (inside.2, c.clear.ensures)))))
+
+pub returns-in-Pull-clause-step : goal.returns-in-Pull-clause-step
+returns-in-Pull-clause-step g c = step_at (policies g.Q.R.Discipline.discipline) c.args.self.now c.pull.new.self c.args.event _ c.pull.new.scratch c.pull.result c.in-Pull.is c.pull.ensures.step
+
+pub returns-in-Pull-clause-board : goal.returns-in-Pull-clause-board
+returns-in-Pull-clause-board g c = c.pull.ensures.board

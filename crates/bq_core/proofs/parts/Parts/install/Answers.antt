@@ -1,0 +1,67 @@
+use Rattle.std.proofs.Common.{◌≡◌, ℕ, ◌<◌, [], Option, None, refl, sym, ap, subst, ◌∙◌, inr, length}
+use Rattle.std.specs.Prelude.{Result}
+use Rattle.std.proofs.lemmas.List.{get_or_read, length-set}
+use Rattle.bq_bpf.specs.declared.hook.Hook.{Hook}
+use Rattle.bq_disc.specs.Discipline.{Discipline}
+use Rattle.bq_verify.specs.Accepted.{Accepted}
+use Rattle.bq_policies.specs.Answers.{fresh_maps}
+use Rattle.bq_policies.specs.Attachments.{Attached, IsFor}
+use Rattle.bq_parts.specs.declared.event.Event.TheVariants.{Install}
+use Rattle.bq_parts.specs.declared.reply.Reply.{Reply}
+use Rattle.bq_parts.specs.declared.refusal.Refusal.{Refusal}
+use Rattle.bq_parts.specs.Processors.{Processor, opening}
+use Rattle.bq_parts.specs.World.{World, processor, count_in, with_processor}
+use Rattle.bq_parts.specs.Refusals.{argument_refusal}
+use Rattle.bq_parts.specs.Choices.{policies}
+use Rattle.bq_parts.specs.Shares.{Installs}
+use Rattle.bq_parts.specs.Steps.{WorldStep}
+use Rattle.bq_core.proofs.InstallLemmas.{install_there, install_suits}
+use Rattle.bq_core.proofs.ShareStepLemmas.{installs_step}
+use Rattle.bq_core.proofs.parts.Parts.install.Goals as goal
+
+-- a place that is in range of the list is in range of the vector
+in_range : (i cpu len n : ℕ) → i ≡ cpu → len ≡ n → cpu < n → i < len
+in_range i cpu len n e f h = rw (e, f) h
+
+-- a processor that was written back
+write_back : (v w : World) (i cpu : ℕ) (q : Processor) → v ≡ w → i ≡ cpu → with_processor v i q ≡ with_processor w cpu q
+write_back v w i cpu q e f = rw (e, f) refl
+
+-- a processor's share of an Install is the world's step, where the parts are known by equations
+installs_at : (d : Discipline) (w w' : World) (cpu n drawn : ℕ) (h : Hook) (o : Option Accepted) (new : Attached) (r : Result Reply Refusal) (p q : Processor) → argument_refusal (count_in w) (Install cpu h n o) ≡ None →
+    new ≡ record { policy = o; generation = n; maps = fresh_maps o } → drawn ≡ w.drawn → p ≡ processor w cpu → Installs h drawn p new r q → w' ≡ with_processor w cpu q →
+    WorldStep (policies d) w (Install cpu h n o) [] r w'
+installs_at d w w' cpu n drawn h o new r p q fits same number place share e =
+    rw e (installs_step d w cpu n h o r q fits (rw (number, place, same) at share))
+
+pub returns-in_default : goal.returns-in_default
+returns-in_default g c = record { step = (refl, refl, inr (tt, c.requires.fits, refl)) }
+
+pub index_mut-requires : goal.index_mut-requires
+index_mut-requires g c =
+    let w = c.args.self.now in
+    let items = ap (λ (v : World). v.processors) c.self.view_is in
+    let inside : c.args.processor < length c.self.inside.cpus.items = rw items (install_there (count_in w) c.args.processor c.args.generation c.args.hook c.args.policy c.requires.fits) in
+    in_range c.from.result c.args.processor _ _ c.from.ensures c.self.inside.cpus.ok.0 inside
+
+pub replace-requires : goal.replace-requires
+replace-requires g c =
+    subst (λ (o : Option Accepted). IsFor c.args.hook o) (sym (ap (λ (a : Attached). a.policy) c.in-Ok.ensures))
+    (install_suits (count_in c.args.self.now) c.args.processor c.args.generation c.args.hook c.args.policy c.requires.fits)
+
+pub invariant_of-self : goal.invariant_of-self
+invariant_of-self g c =
+    (length-set c.self.inside.cpus.items c.from.result c.replace.new.self ∙ c.self.invariant.0, c.self.invariant.1, c.self.invariant.2, c.self.invariant.3)
+
+pub returns : goal.returns
+returns g c =
+    let w = c.args.self.now in
+    let cpu = c.args.processor in
+    let items = ap (λ (v : World). v.processors) c.self.view_is in
+    let inside : cpu < length c.self.inside.cpus.items = rw items (install_there (count_in w) cpu c.args.generation c.args.hook c.args.policy c.requires.fits) in
+    let at = rw c.from.ensures at c.index_mut.ensures.value in
+    let place : c.index_mut.result.now ≡ processor w cpu = rw items at (get_or_read c.self.inside.cpus.items cpu c.index_mut.result.now inside at opening) in
+    let number = ap (λ (v : World). v.drawn) c.self.view_is in
+    let step = installs_at g.Q.R.Discipline.discipline w _ cpu c.args.generation c.self.inside.drawn c.args.hook c.args.policy c.in-Ok.installed c.replace.result c.index_mut.result.now c.replace.new.self c.requires.fits c.in-Ok.ensures number place c.replace.ensures.share
+    (write_back _ w _ cpu c.replace.new.self c.self.view_is c.from.ensures) in
+    record { step = step }
