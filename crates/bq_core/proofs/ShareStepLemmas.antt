@@ -1,6 +1,6 @@
 -- A share is its event's step in any world that has the parts.
-use Rattle.std.proofs.Common.{◌≡◌, ◌≢◌, ℕ, ◌<◌, eqb, List, [], ◌∷◌, ◌++◌, false, Some, None, refl, sym, ap, ◌∙◌, inl, Option, arith}
-use Rattle.std.specs.Prelude.{ℤ, Result, Ok, Err, nat_le, IfSome}
+use Rattle.std.proofs.Common.{◌≡◌, ◌≢◌, ℕ, ◌<◌, eqb, List, [], ◌∷◌, ◌++◌, false, Some, None, refl, sym, subst, ap, ◌∙◌, inl, Option, arith}
+use Rattle.std.specs.Prelude.{ℤ, Result, Ok, Err, nat_le, IfSome, slice_index_or, slice_set}
 use Rattle.std.proofs.lemmas.Bool.Decides.{nat_tests}
 use Rattle.std.proofs.lemmas.List.{set-get_or}
 use Rattle.bq_disc.specs.Tasks.{Task}
@@ -117,3 +117,31 @@ pub places_none : (d : Discipline) (w : World) (cpu now : ℕ) (calls : List Ask
     WorldStep (policies d) w (EndWake cpu now) calls (Err no.NothingInHand) (with_processor w cpu q)
 places_none d w cpu now calls q h k =
     (k.0, same_processor w cpu q k.2, inl (rw (within w cpu h, k.1) refl))
+
+-- the same, where the parts are known by equations
+pub places_none_at : (d : Discipline) (w w' : World) (cpu now count : ℕ) (calls : List Asked) (q p : Processor) → cpu < count_in w → p ≡ processor w cpu →
+    Places (policies d) count cpu now p calls None q → w' ≡ with_processor w cpu q → WorldStep (policies d) w (EndWake cpu now) calls (Err no.NothingInHand) w'
+places_none_at d w w' cpu now count calls q p h at k e = rw e (places_none d w cpu now calls q h (k.0, ap (λ (x : Processor). x.hand) (sym at) ∙ k.1, k.2 ∙ at))
+
+-- and of a wake's beginning
+pub begins_at : (d : Discipline) (w w' : World) (cpu id : ℕ) (loads : List ℕ) (r : Result Reply Refusal) (q p : Processor) (seats seats' : List LobbyEntry) → cpu < count_in w → id < 1024 →
+    loads ≡ loads_of w.processors w.inboxes → p ≡ processor w cpu → seats ≡ w.seats → Begins id loads p seats r q seats' → w' ≡ with_seats (with_processor w cpu q) seats' → WorldStep (policies d) w (BeginWake cpu id) [] r w'
+begins_at d w w' cpu id loads r q p seats seats' h l count at is b e =
+    let found = subst (λ (ns : List ℕ). Begins id ns p seats r q seats') count b in
+    let there = subst (λ (x : Processor). Begins id (loads_of w.processors w.inboxes) x seats r q seats') at found in
+    rw e (begins_step d w cpu id r q seats' h l (subst (λ (xs : List LobbyEntry). Begins id (loads_of w.processors w.inboxes) (processor w cpu) xs r q seats') is there))
+
+-- and of a pull
+pub pulls_at : (d : Discipline) (w w' : World) (cpu from now : ℕ) (calls : List Asked) (r : Reply) (ps qs : List Processor) (q other : Processor) → cpu < count_in w → from < count_in w → cpu ≢ from → ps ≡ w.processors →
+    Pulls (policies d) cpu from now (slice_index_or ps cpu opening) (slice_index_or ps from opening) calls r q other → qs ≡ slice_set (slice_set ps cpu q) from other → w' ≡ record w { processors = qs } →
+    WorldStep (policies d) w (Pull cpu from now) calls (Ok r) w'
+pulls_at d w w' cpu from now calls r ps qs q other h k n is p f e =
+    let there = subst (λ (xs : List Processor). Pulls (policies d) cpu from now (slice_index_or xs cpu opening) (slice_index_or xs from opening) calls r q other) is p in
+    rw (e, f, is) (pulls_step d w cpu from now calls r q other h k n there)
+
+-- and of an admission
+pub admits_at : (d : Discipline) (w w' : World) (id : ℕ) (nice : ℤ) (mask slice : ℕ) (new : Task) (r : Result Reply Refusal) (old seats : List LobbyEntry) → argument_refusal (count_in w) (Admit id nice mask slice) ≡ None →
+    new ≡ admitted (count_in w) id nice mask slice → old ≡ w.seats → Admits id new old r seats → w' ≡ with_seats w seats → WorldStep (policies d) w (Admit id nice mask slice) [] r w'
+admits_at d w w' id nice mask slice new r old seats h made is a e =
+    let there = subst (λ (t : Task). Admits id t old r seats) made a in
+    rw e (admits_step d w id nice mask slice r seats h (subst (λ (xs : List LobbyEntry). Admits id (admitted (count_in w) id nice mask slice) xs r seats) is there))

@@ -1,8 +1,9 @@
 -- Steps of the world, from what the code computes.
-use Rattle.std.proofs.Common.{◌≡◌, ℕ, ◌<◌, false, List, [], Option, Some, None, refl, arith, inl}
+use Rattle.std.proofs.Common.{◌≡◌, ℕ, ◌<◌, ◌++◌, false, List, [], length, take, drop, Option, Some, None, refl, ap, ◌∙◌, append-nil, arith, inl}
 use Rattle.std.specs.Prelude.{Err, nat_le, is_none}
 use Rattle.std.specs.Option.{option_map}
 use Rattle.std.proofs.lemmas.Bool.Decides.{nat_tests}
+use Rattle.std.proofs.lemmas.List.{drop_all, take_all}
 use Rattle.bq_disc.specs.Tasks.{Task}
 use Rattle.bq_disc.specs.Discipline.{Discipline}
 use Rattle.bq_parts.specs.declared.event.Event.TheVariants.{Block}
@@ -17,6 +18,20 @@ use Rattle.bq_parts.specs.Steps.{WorldStep}
 -- a processor's number that is in range is not refused
 pub within : (w : World) (cpu : ℕ) → cpu < count_in w → nat_le (count_in w) cpu ≡ false
 within w cpu h = grind (arith, nat_tests)
+
+-- a processor that was written back
+pub write_back_processor : (v w : World) (i cpu : ℕ) (q : Processor) → v ≡ w → i ≡ cpu → with_processor v i q ≡ with_processor w cpu q
+write_back_processor v w i cpu q e f = rw (e, f) refl
+
+-- a list of as many items that is written over the whole of another one
+pub written_over : {X : Type 0} (xs ys : List X) (n : ℕ) → n ≡ length xs → length ys ≡ length xs → take n (ys ++ drop (length ys) xs) ≡ ys
+written_over xs ys n e f =
+    let gone : drop (length ys) xs ≡ [] = drop_all (length ys) xs (omega arith) in
+    rw (gone, append-nil) (take_all n ys (omega arith))
+
+-- the processors that were all written back
+pub write_back_processors : (v w : World) (n : ℕ) (ps qs : List Processor) → v ≡ w → n ≡ length ps → length qs ≡ length ps → record v { processors = take n (qs ++ drop (length qs) ps) } ≡ record w { processors = qs }
+write_back_processors v w n ps qs e f h = ap (λ (u : World). record u { processors = take n (qs ++ drop (length qs) ps) }) e ∙ ap (λ (xs : List Processor). record w { processors = xs }) (written_over ps qs n f h)
 
 -- a processor and its inbox that were written back
 pub write_back_both : (v w : World) (i j cpu : ℕ) (x q : Processor) (xs ys : List Task) → v ≡ w → i ≡ cpu → j ≡ cpu → x ≡ q → xs ≡ ys →

@@ -1,7 +1,15 @@
-use Rattle.std.proofs.Common.{◌<◌, arith}
+use Rattle.std.proofs.Common.{◌≡◌, ℕ, ◌<◌, ◌≤◌, arith}
 use Rattle.bq_parts.specs.Processors.{opening}
 use Rattle.bq_core.proofs.CutListLemmas.{first_part_reads, second_part_reads, joined, joined_reversed}
 use Rattle.bq_core.proofs.pulling.pull_between.Goals as goal
+
+-- a list can be cut at each of its places
+cut_inside : (m i n : ℕ) → m ≡ i → i < n → m ≤ n
+cut_inside m i n e h = omega arith
+
+-- a place of a list of at most 64
+below_64 : (i n : ℕ) → i < n → n ≤ 64 → i < 64
+below_64 i n h l = omega arith
 
 pub pull-requires-clause-once : goal.pull-requires-clause-once
 pull-requires-clause-once g c =
@@ -59,3 +67,33 @@ returns-else-processor-from-clause-share g c =
       rw (puller, source) at pull.ensures.share,
       joined_reversed c.args.cpus.now _ _ c.args.processor c.args.from _ _ pull.new.self pull.new.source cut.ensures.front cut.ensures.back c.from-else-processor-from.ensures c.from-else-processor-from-2.ensures less,
     )
+
+pub from-requires : goal.from-requires
+from-requires g c = tt
+
+pub split_at_mut-low-requires : goal.split_at_mut-low-requires
+split_at_mut-low-requires g c = cut_inside _ c.args.from _ c.from.ensures c.requires.inside_from
+
+pub split_at_mut-low-requires-else-processor-from : goal.split_at_mut-low-requires-else-processor-from
+split_at_mut-low-requires-else-processor-from g c = cut_inside _ c.args.processor _ c.from-else-processor-from.ensures c.requires.inside
+
+pub bounds-low-from : goal.bounds-low-from
+bounds-low-from g c = omega (arith, c.split_at_mut-low.ensures.front_len)
+
+pub pull-requires-clause-inside : goal.pull-requires-clause-inside
+pull-requires-clause-inside g c = below_64 c.args.processor _ c.requires.inside c.requires.few
+
+pub pull-requires-clause-unasked : goal.pull-requires-clause-unasked
+pull-requires-clause-unasked g c = c.requires.unasked
+
+pub pull-requires-else-processor-from-clause-inside : goal.pull-requires-else-processor-from-clause-inside
+pull-requires-else-processor-from-clause-inside g c = below_64 c.args.processor _ c.requires.inside c.requires.few
+
+pub pull-requires-else-processor-from-clause-unasked : goal.pull-requires-else-processor-from-clause-unasked
+pull-requires-else-processor-from-clause-unasked g c = c.requires.unasked
+
+pub returns-then-processor-from-clause-board : goal.returns-then-processor-from-clause-board
+returns-then-processor-from-clause-board g c = c.pull.ensures.board
+
+pub returns-else-processor-from-clause-board : goal.returns-else-processor-from-clause-board
+returns-else-processor-from-clause-board g c = c.pull-else-processor-from.ensures.board

@@ -1,6 +1,8 @@
-use Rattle.std.proofs.Common.{◌≡◌, length, ap, sym, ◌∙◌}
+use Rattle.std.proofs.Common.{◌≡◌, length, ap, sym, ◌∙◌, arith}
 use Rattle.bq_parts.specs.World.{World}
 use Rattle.bq_parts.proofs.OnceLemmas.{each_once_two, seated_two}
+use Rattle.bq_core.proofs.StepLemmas.{written_over, write_back_processors}
+use Rattle.bq_core.proofs.ShareStepLemmas.{pulls_at}
 use Rattle.bq_core.proofs.parts.Parts.pull.Goals as goal
 
 pub pull_between-requires-clause-once : goal.pull_between-requires-clause-once
@@ -15,3 +17,41 @@ pull_between-requires-clause-seated g c =
     let cpus = c.as_mut_slice-cpus.ensures.value ∙ ap (λ (v : World). v.processors) c.self.view_is in
     let seats : length w.seats ≡ 1024 = ap (λ (v : World). length v.seats) (sym c.self.view_is) ∙ c.self.invariant.2 in
     rw cpus (seated_two w c.args.processor c.args.from seats c.requires.orderly)
+
+pub pull_between-requires-clause-few : goal.pull_between-requires-clause-few
+pull_between-requires-clause-few g c = rw (ap length c.as_mut_slice-cpus.ensures.value ∙ c.self.invariant.0) c.self.invariant.3
+
+pub pull_between-requires-clause-inside : goal.pull_between-requires-clause-inside
+pull_between-requires-clause-inside g c =
+    let cpus = c.as_mut_slice-cpus.ensures.value ∙ ap (λ (v : World). v.processors) c.self.view_is in
+    rw cpus c.requires.inside
+
+pub pull_between-requires-clause-inside_from : goal.pull_between-requires-clause-inside_from
+pull_between-requires-clause-inside_from g c =
+    let cpus = c.as_mut_slice-cpus.ensures.value ∙ ap (λ (v : World). v.processors) c.self.view_is in
+    rw cpus c.requires.inside_from
+
+pub pull_between-requires-clause-apart : goal.pull_between-requires-clause-apart
+pull_between-requires-clause-apart g c = c.requires.apart
+
+pub pull_between-requires-clause-unasked : goal.pull_between-requires-clause-unasked
+pull_between-requires-clause-unasked g c = c.requires.unasked
+
+pub invariant_of-self : goal.invariant_of-self
+invariant_of-self g c =
+    let long : c.self.inside.cpus.len ≡ length c.self.inside.cpus.items = omega arith in
+    let same : length c.pull_between.new.cpus ≡ length c.self.inside.cpus.items = omega (arith, ap length c.as_mut_slice-cpus.ensures.value) in
+    (ap length (written_over c.self.inside.cpus.items c.pull_between.new.cpus c.self.inside.cpus.len long same) ∙ same ∙ c.self.invariant.0, c.self.invariant.1, c.self.invariant.2, c.self.invariant.3)
+
+pub returns-clause-step : goal.returns-clause-step
+returns-clause-step g c =
+    let w = c.args.self.now in
+    let cpus = c.as_mut_slice-cpus.ensures.value ∙ ap (λ (v : World). v.processors) c.self.view_is in
+    let long : c.self.inside.cpus.len ≡ length c.self.inside.cpus.items = omega arith in
+    let same : length c.pull_between.new.cpus ≡ length c.self.inside.cpus.items = omega (arith, ap length c.as_mut_slice-cpus.ensures.value) in
+    let share = c.pull_between.ensures.share in
+    pulls_at g.Q.R.Discipline.discipline w _ c.args.processor c.args.from c.args.now c.pull_between.new.scratch c.pull_between.result c.as_mut_slice-cpus.result.now c.pull_between.new.cpus share.0 share.1
+    c.requires.inside c.requires.inside_from c.requires.apart cpus share.2 share.3 (write_back_processors _ w c.self.inside.cpus.len c.self.inside.cpus.items c.pull_between.new.cpus c.self.view_is long same)
+
+pub returns-clause-board : goal.returns-clause-board
+returns-clause-board g c = c.pull_between.ensures.board
