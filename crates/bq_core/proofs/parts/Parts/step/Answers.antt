@@ -1,9 +1,10 @@
 use Rattle.std.proofs.Common.{rules, FitsSigned, w8, ◌≡◌, ◌≢◌, ℕ, ◌<◌, List, [], Option, Some, None, refl, sym, ap, subst, ◌∙◌, inl}
 use Rattle.std.specs.Prelude.{ℤ, Result, ◌==◌, nat_le}
 use Rattle.std.proofs.lemmas.Int.{to_z-of_z}
+use Rattle.bq_bpf.specs.Counters.{Through}
 use Rattle.bq_bpf.specs.declared.board.Call.{Call as Asked}
 use Rattle.bq_parts.specs.declared.event.Event.{Event}
-use Rattle.bq_parts.specs.declared.event.Event.TheVariants.{Admit, Retire, Install, BeginWake, EndWake, Drain, Tick, Block, Pull}
+use Rattle.bq_parts.specs.declared.event.Event.TheVariants.{Admit, Retire, BeginWake, Pull}
 use Rattle.bq_parts.specs.declared.reply.Reply.{Reply}
 use Rattle.bq_parts.specs.declared.refusal.Refusal.{Refusal}
 use Rattle.bq_parts.specs.declared.refusal.Refusal.TheVariants as no
@@ -52,6 +53,10 @@ step_at s w w' e e' calls r h k = subst (λ (x : Event). WorldStep s w x calls r
 step_unasked : (s : Regime) (w w' : World) (e e' : Event) (calls : List Asked) (r : Result Reply Refusal) → calls ≡ [] → e ≡ e' → WorldStep s w e' [] r w' → WorldStep s w e calls r w'
 step_unasked s w w' e e' calls r f h k = subst (λ (cs : List Asked). WorldStep s w e cs r w') (sym f) (step_at s w w' e e' [] r h k)
 
+-- where nothing is asked of the counters, the board stays
+none_asked : {B : Type 0} (leads : B → Asked → B → Type 0) (board : B) (calls : List Asked) → calls ≡ [] → Through leads board calls board
+none_asked leads board calls h = rw h refl
+
 pub argument_refusal-requires : goal.argument_refusal-requires
 argument_refusal-requires g c = c.processors.ensures.few
 
@@ -60,7 +65,7 @@ returns-in-Some-clause-step g c =
     (c.clear.ensures, refl, inl (one_refused c.args.self.now c.args.event c.processors.result c.argument_refusal.result c.in-Some.refusal c.argument_refusal.ensures c.in-Some.is c.processors.ensures.value))
 
 pub returns-in-Some-clause-board : goal.returns-in-Some-clause-board
-returns-in-Some-clause-board g c = rw c.clear.ensures refl
+returns-in-Some-clause-board g c = none_asked g.B.Board.leads c.args.board.now c.clear.new.self c.clear.ensures
 
 pub admit-requires : goal.admit-requires
 admit-requires g c =
@@ -73,10 +78,11 @@ pub returns-in-Admit-clause-step : goal.returns-in-Admit-clause-step
 returns-in-Admit-clause-step g c =
     let fits : FitsSigned w8 c.in-Admit.nice = search rules in
     let same = to_z-of_z w8 c.in-Admit.nice fits in
-    rw (c.clear.ensures, c.in-Admit.is) (rw same at c.admit.ensures.step)
+    let is = c.in-Admit.is ∙ ap (λ (n : ℤ). Admit c.in-Admit.task n c.in-Admit.mask c.in-Admit.slice) (sym same) in
+    step_unasked (policies g.Q.R.Discipline.discipline) c.args.self.now c.admit.new.self c.args.event _ c.clear.new.self c.admit.result c.clear.ensures is c.admit.ensures.step
 
 pub returns-in-Admit-clause-board : goal.returns-in-Admit-clause-board
-returns-in-Admit-clause-board g c = rw c.clear.ensures refl
+returns-in-Admit-clause-board g c = none_asked g.B.Board.leads c.args.board.now c.clear.new.self c.clear.ensures
 
 pub retire-requires : goal.retire-requires
 retire-requires g c =
@@ -88,14 +94,14 @@ returns-in-Retire-clause-step g c =
     step_unasked (policies g.Q.R.Discipline.discipline) c.args.self.now c.retire.new.self c.args.event _ c.clear.new.self c.retire.result c.clear.ensures c.in-Retire.is c.retire.ensures.step
 
 pub returns-in-Retire-clause-board : goal.returns-in-Retire-clause-board
-returns-in-Retire-clause-board g c = rw c.clear.ensures refl
+returns-in-Retire-clause-board g c = none_asked g.B.Board.leads c.args.board.now c.clear.new.self c.clear.ensures
 
 pub returns-in-Draw-clause-step : goal.returns-in-Draw-clause-step
 returns-in-Draw-clause-step g c =
     step_unasked (policies g.Q.R.Discipline.discipline) c.args.self.now c.draw.new.self c.args.event _ c.clear.new.self c.draw.result c.clear.ensures c.in-Draw.is c.draw.ensures.step
 
 pub returns-in-Draw-clause-board : goal.returns-in-Draw-clause-board
-returns-in-Draw-clause-board g c = rw c.clear.ensures refl
+returns-in-Draw-clause-board g c = none_asked g.B.Board.leads c.args.board.now c.clear.new.self c.clear.ensures
 
 pub install-requires : goal.install-requires
 install-requires g c =
@@ -107,7 +113,7 @@ returns-in-Install-clause-step g c =
     step_unasked (policies g.Q.R.Discipline.discipline) c.args.self.now c.install.new.self c.args.event _ c.clear.new.self c.install.result c.clear.ensures c.in-Install.is c.install.ensures.step
 
 pub returns-in-Install-clause-board : goal.returns-in-Install-clause-board
-returns-in-Install-clause-board g c = rw c.clear.ensures refl
+returns-in-Install-clause-board g c = none_asked g.B.Board.leads c.args.board.now c.clear.new.self c.clear.ensures
 
 pub begin_wake-requires : goal.begin_wake-requires
 begin_wake-requires g c =
@@ -120,7 +126,7 @@ returns-in-BeginWake-clause-step g c =
     step_unasked (policies g.Q.R.Discipline.discipline) c.args.self.now c.begin_wake.new.self c.args.event _ c.clear.new.self c.begin_wake.result c.clear.ensures c.in-BeginWake.is c.begin_wake.ensures.step
 
 pub returns-in-BeginWake-clause-board : goal.returns-in-BeginWake-clause-board
-returns-in-BeginWake-clause-board g c = rw c.clear.ensures refl
+returns-in-BeginWake-clause-board g c = none_asked g.B.Board.leads c.args.board.now c.clear.new.self c.clear.ensures
 
 pub end_wake-requires : goal.end_wake-requires
 end_wake-requires g c =
@@ -165,7 +171,7 @@ returns-in-Block-clause-step g c =
     step_unasked (policies g.Q.R.Discipline.discipline) c.args.self.now c.block.new.self c.args.event _ c.clear.new.self c.block.result c.clear.ensures c.in-Block.is c.block.ensures.step
 
 pub returns-in-Block-clause-board : goal.returns-in-Block-clause-board
-returns-in-Block-clause-board g c = rw c.clear.ensures refl
+returns-in-Block-clause-board g c = none_asked g.B.Board.leads c.args.board.now c.clear.new.self c.clear.ensures
 
 pub pull-requires : goal.pull-requires
 pull-requires g c =
