@@ -12,62 +12,11 @@ pub fn event_again(event: &Event) -> Result<Event, AllocError>
     ensures same { IfOk result (λ again. again ≡ event.now) }
     ensures counted { OnErr result (CarriesPolicy event.now) }
 {
-    let again = match event {
-        Event::Admit {
-            task,
-            nice,
-            mask,
-            slice,
-        } => Event::Admit {
-            task: *task,
-            nice: *nice,
-            mask: *mask,
-            slice: *slice,
-        },
-        Event::Retire { task } => Event::Retire { task: *task },
-        Event::Draw => Event::Draw,
-        Event::Install {
-            processor,
-            hook,
-            generation,
-            policy,
-        } => Event::Install {
-            processor: *processor,
-            hook: *hook,
-            generation: *generation,
-            policy: policy_again(policy)?,
-        },
-        Event::BeginWake { processor, task } => Event::BeginWake {
-            processor: *processor,
-            task: *task,
-        },
-        Event::EndWake { processor, now } => Event::EndWake {
-            processor: *processor,
-            now: *now,
-        },
-        Event::Drain { processor, now } => Event::Drain {
-            processor: *processor,
-            now: *now,
-        },
-        Event::Tick { processor, now } => Event::Tick {
-            processor: *processor,
-            now: *now,
-        },
-        Event::Block { processor, now } => Event::Block {
-            processor: *processor,
-            now: *now,
-        },
-        Event::Pull {
-            processor,
-            from,
-            now,
-        } => Event::Pull {
-            processor: *processor,
-            from: *from,
-            now: *now,
-        },
+    let policy = match event {
+        Event::Install { policy, .. } => policy_again(policy)?,
+        _ => None,
     };
-    Ok(again)
+    Ok(event.with_policy(policy))
 }
 
 /// None, or the same policy once more. There is an error only where it would then stand in more places than can be

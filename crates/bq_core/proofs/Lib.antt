@@ -9,4 +9,5 @@ pub mod OneStepLemmas
 pub mod InstallLemmas
 pub mod CutListLemmas
 pub mod RunLemmas
+pub mod SizeLemmas
 pub mod ShareStepLemmas

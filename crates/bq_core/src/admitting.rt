@@ -10,7 +10,7 @@ use crate::{Event, Refusal, Reply, new_task};
 use bq_disc::RunQueue;
 use std::alloc::Global;
 
-impl<Q: RunQueue, const P: usize> Parts<Q, P> {
+impl<Q: RunQueue> Parts<Q> {
     /// A new task stands in the lobby. It takes memory for the task.
     #[inline(never)]
     pub(crate) fn admit(

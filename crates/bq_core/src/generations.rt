@@ -10,7 +10,7 @@ use crate::{Event, Hook, Installed, Policy, Refusal, Reply};
 use bq_disc::RunQueue;
 use std::alloc::Global;
 
-impl<Q: RunQueue, const P: usize> Parts<Q, P> {
+impl<Q: RunQueue> Parts<Q> {
     /// The next generation's number is drawn. The greatest of all is drawn again and again.
     pub(crate) fn draw(&mut self) -> Result<Reply, Refusal>
         ensures step { WorldStep (policies Q.R.discipline) self.old Event.Draw [] result self.new }

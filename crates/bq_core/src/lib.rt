@@ -10,6 +10,7 @@ pub mod laws;
 mod parts;
 mod pulling;
 mod running;
+mod sized_core;
 mod waking;
 mod world;
 
@@ -18,4 +19,5 @@ pub use bq_parts::{
     Outcome, Placement, Plain, Policy, Refusal, Reply, Scratch, Unlinked, argument_refusal,
     new_task,
 };
-pub use world::Core;
+pub use sized_core::Core;
+pub use world::DynamicCore;

@@ -9,14 +9,14 @@ use std::marker::Model;
 
 /// Processors, an inbox for each, the lobby, and the number drawn last. Contracts see the world that they make.
 #[derive(Drop)]
-pub struct Parts<Q: RunQueue, const P: usize> {
+pub struct Parts<Q: RunQueue> {
     pub(crate) cpus: Vec<Cpu<Q>>,
     pub(crate) inboxes: Vec<Inbox>,
     pub(crate) lobby: Lobby,
     pub(crate) drawn: u64,
 }
 
-impl<Q: RunQueue, const P: usize> Model for Parts<Q, P> {
+impl<Q: RunQueue> Model for Parts<Q> {
     ghost use Rattle.std.specs.Prelude.{◌≡◌, ◌≤◌, length};
     ghost use Rattle.bq_parts.specs.World.{World};
 
@@ -24,21 +24,21 @@ impl<Q: RunQueue, const P: usize> Model for Parts<Q, P> {
 
     ghost view = { λ w. record { processors = w.cpus.items; inboxes = w.inboxes.items; seats = w.lobby; drawn = w.drawn } };
 
-    ghost invariant = { λ w. (length w.cpus.items ≡ P) × (length w.inboxes.items ≡ P) × (length w.lobby ≡ 1024) × (P ≤ 64) };
+    ghost invariant = { λ w. (length w.cpus.items ≡ length w.inboxes.items) × (length w.inboxes.items ≤ 64) × (length w.lobby ≡ 1024) };
 }
 
-impl<Q: RunQueue + Drop, const P: usize> Parts<Q, P> {
+impl<Q: RunQueue + Drop> Parts<Q> {
     /// The opening world. It takes all the memory that later events need, but for Admit and Install.
-    pub fn new(alloc: Global) -> Result<Parts<Q, P>, AllocError>
-        requires few { P ≤ 64 }
-        ensures { IfOk result (λ w. w ≡ opening_world P) }
+    pub fn new(alloc: Global, count: usize) -> Result<Parts<Q>, AllocError>
+        requires few { count ≤ 64 }
+        ensures { IfOk result (λ w. w ≡ opening_world count) }
     {
-        let mut cpus = Vec::with_capacity(alloc, P)?;
-        'processors: for _ in 0..P {
+        let mut cpus = Vec::with_capacity(alloc, count)?;
+        'processors: for _ in 0..count {
             cpus.push(Cpu::new())?;
         }
-        let mut inboxes = Vec::with_capacity(alloc, P)?;
-        'inboxes: for _ in 0..P {
+        let mut inboxes = Vec::with_capacity(alloc, count)?;
+        'inboxes: for _ in 0..count {
             inboxes.push(Inbox::new())?;
         }
         let lobby = Lobby::new(alloc)?;
@@ -51,17 +51,11 @@ impl<Q: RunQueue + Drop, const P: usize> Parts<Q, P> {
     }
 }
 
-impl<Q: RunQueue, const P: usize> Parts<Q, P> {
+impl<Q: RunQueue> Parts<Q> {
     /// The world that these parts make.
-    pub(crate) fn of(
-        cpus: Vec<Cpu<Q>>,
-        inboxes: Vec<Inbox>,
-        lobby: Lobby,
-        drawn: u64,
-    ) -> Parts<Q, P>
-        requires few { P ≤ 64 }
-        requires cpus { length cpus.items ≡ P }
-        requires inboxes { length inboxes.items ≡ P }
+    pub(crate) fn of(cpus: Vec<Cpu<Q>>, inboxes: Vec<Inbox>, lobby: Lobby, drawn: u64) -> Parts<Q>
+        requires few { length cpus.items ≤ 64 }
+        requires inboxes { length inboxes.items ≡ length cpus.items }
         ensures { result ≡ record { processors = cpus.items; inboxes = inboxes.items; seats = lobby; drawn = drawn } }
     {
         let _seats = &lobby;

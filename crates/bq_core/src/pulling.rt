@@ -14,7 +14,7 @@ use crate::{Cpu, Event, Refusal, Reply, Scratch};
 use bq_bpf::Board;
 use bq_disc::RunQueue;
 
-impl<Q: RunQueue, const P: usize> Parts<Q, P> {
+impl<Q: RunQueue> Parts<Q> {
     /// A processor takes a task from the queue of another: the one that its policy names, or that of the discipline, where
     /// the other has more tasks.
     #[inline(never)]

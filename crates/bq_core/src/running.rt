@@ -11,7 +11,7 @@ use crate::{Event, Refusal, Reply, Scratch};
 use bq_bpf::Board;
 use bq_disc::RunQueue;
 
-impl<Q: RunQueue, const P: usize> Parts<Q, P> {
+impl<Q: RunQueue> Parts<Q> {
     /// The clock of a processor ticks.
     pub(crate) fn tick<B: Board>(
         &mut self,

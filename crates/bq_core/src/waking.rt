@@ -12,7 +12,7 @@ use crate::{Cpu, Event, Inbox, Loads, Placement, Refusal, Reply, Scratch};
 use bq_bpf::Board;
 use bq_disc::RunQueue;
 
-impl<Q: RunQueue, const P: usize> Parts<Q, P> {
+impl<Q: RunQueue> Parts<Q> {
     /// A sleeping task comes into the hand of a processor, with the loads of that moment.
     #[inline(never)]
     pub(crate) fn begin_wake(&mut self, processor: u8, task: u16) -> Result<Reply, Refusal>

@@ -16,15 +16,15 @@ use bq_disc::RunQueue;
 use std::alloc::{AllocError, Global};
 use std::marker::Model;
 
-/// A world of `P` processors, at most 64, each with a run queue `Q`. Each task that is admitted stands in it exactly
-/// once, on a processor of its mask where it runs or waits.
+/// A world of at most 64 processors, each with a run queue `Q`. Each task that is admitted stands in it exactly
+/// once, on a processor of its mask where it runs or waits. [`Core`](crate::Core) has the number of processors in its type.
 #[derive(Drop)]
-pub struct Core<Q: RunQueue, const P: usize> {
-    parts: Parts<Q, P>,
+pub struct DynamicCore<Q: RunQueue> {
+    parts: Parts<Q>,
     scratch: Scratch,
 }
 
-impl<Q: RunQueue, const P: usize> Model for Core<Q, P> {
+impl<Q: RunQueue> Model for DynamicCore<Q> {
     ghost use Rattle.bq_parts.specs.World.{World};
     ghost use Rattle.bq_parts.specs.StandsOnce.{IsOrderly};
 
@@ -35,37 +35,36 @@ impl<Q: RunQueue, const P: usize> Model for Core<Q, P> {
     ghost invariant = { λ c. IsOrderly c.parts };
 }
 
-impl<Q: RunQueue + Drop, const P: usize> Core<Q, P> {
-    /// The opening world, in which nothing is admitted, drawn or installed. It takes all the memory that later events
-    /// need, but for Admit and Install.
-    pub fn new(alloc: Global) -> Result<Core<Q, P>, AllocError>
-        requires few { P ≤ 64 }
-        ensures opening { IfOk result (λ c. c ≡ opening_world P) }
+impl<Q: RunQueue + Drop> DynamicCore<Q> {
+    /// The opening world of so many processors, in which nothing is admitted, drawn or installed. It takes all the memory
+    /// that later events need, but for Admit and Install.
+    pub fn new(alloc: Global, count: usize) -> Result<DynamicCore<Q>, AllocError>
+        requires few { count ≤ 64 }
+        ensures opening { IfOk result (λ c. c ≡ opening_world count) }
         ensures orderly { IfOk result (λ c. IsOrderly c) }
     {
-        let parts = Parts::new(alloc)?;
-        Ok(Core {
+        let parts = Parts::new(alloc, count)?;
+        Ok(DynamicCore {
             parts,
             scratch: Scratch::new(),
         })
     }
 }
 
-impl<Q: RunQueue, const P: usize> Core<Q, P> {
+impl<Q: RunQueue> DynamicCore<Q> {
     /// The world that these parts make, if they are in order. It takes no memory.
-    pub fn from_parts(
+    pub(crate) fn from_parts(
         cpus: Vec<Cpu<Q>>,
         inboxes: Vec<Inbox>,
         lobby: Lobby,
         drawn: u64,
-    ) -> Core<Q, P>
-        requires few { P ≤ 64 }
-        requires cpus { length cpus.items ≡ P }
-        requires inboxes { length inboxes.items ≡ P }
+    ) -> DynamicCore<Q>
+        requires few { length cpus.items ≤ 64 }
+        requires inboxes { length inboxes.items ≡ length cpus.items }
         requires orderly { IsOrderly (record { processors = cpus.items; inboxes = inboxes.items; seats = lobby; drawn = drawn }) }
         ensures { result ≡ record { processors = cpus.items; inboxes = inboxes.items; seats = lobby; drawn = drawn } }
     {
-        Core {
+        DynamicCore {
             parts: Parts::of(cpus, inboxes, lobby, drawn),
             scratch: Scratch::new(),
         }
@@ -77,7 +76,7 @@ impl<Q: RunQueue, const P: usize> Core<Q, P> {
     /// # Example
     ///
     /// ```
-    /// let mut core = Core::<CfsQueue, 1>::new(alloc)?;
+    /// let mut core = DynamicCore::<CfsQueue>::new(alloc, 1)?;
     /// let mut board = Plain::new();
     /// let admit = Event::Admit {
     ///     task: 1,
@@ -163,7 +162,7 @@ impl<Q: RunQueue, const P: usize> Core<Q, P> {
     }
 }
 
-impl<Q: RunQueue, const P: usize> Parts<Q, P> {
+impl<Q: RunQueue> Parts<Q> {
     /// One event. The scratch space has its calls of counters afterwards.
     pub(crate) fn step<B: Board>(
         &mut self,

@@ -2,6 +2,7 @@ pub mod Processors
 pub mod World
 pub mod Refusals
 pub mod Choices
+pub mod Events
 pub mod Moves
 pub mod Shares
 pub mod Steps

@@ -1,4 +1,6 @@
 //! What may happen in the world.
+ghost use Rattle.std.specs.Prelude.{◌≡◌};
+ghost use Rattle.bq_parts.specs.Events.{with_policy};
 
 use crate::{Hook, Policy};
 
@@ -58,4 +60,53 @@ pub enum Event {
         from: u8,
         now: u64,
     },
+}
+
+impl Event {
+    /// The event once more, with this policy or none in place of the one that it brings, if it brings one.
+    #[inline(always)]
+    pub fn with_policy(&self, policy: Option<Policy>) -> Event
+        ensures { result ≡ with_policy self.now policy }
+    {
+        match *self {
+            Event::Admit {
+                task,
+                nice,
+                mask,
+                slice,
+            } => Event::Admit {
+                task,
+                nice,
+                mask,
+                slice,
+            },
+            Event::Retire { task } => Event::Retire { task },
+            Event::Draw => Event::Draw,
+            Event::Install {
+                processor,
+                hook,
+                generation,
+                policy: _,
+            } => Event::Install {
+                processor,
+                hook,
+                generation,
+                policy,
+            },
+            Event::BeginWake { processor, task } => Event::BeginWake { processor, task },
+            Event::EndWake { processor, now } => Event::EndWake { processor, now },
+            Event::Drain { processor, now } => Event::Drain { processor, now },
+            Event::Tick { processor, now } => Event::Tick { processor, now },
+            Event::Block { processor, now } => Event::Block { processor, now },
+            Event::Pull {
+                processor,
+                from,
+                now,
+            } => Event::Pull {
+                processor,
+                from,
+                now,
+            },
+        }
+    }
 }

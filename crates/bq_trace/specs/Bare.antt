@@ -1,8 +1,7 @@
 -- Events without the policies that they bring.
 use Rattle.std.specs.Prelude.{None}
 use Rattle.bq_parts.specs.declared.event.Event.{Event}
-use Rattle.bq_parts.specs.declared.event.Event.TheVariants.{Install}
+use Rattle.bq_parts.specs.Events.{with_policy}
 
 abbrev pub bare : Event → Event
-bare (Install c hook generation policy) = Install c hook generation None
-bare event = event
+bare event = with_policy event None

@@ -16,7 +16,7 @@ is_seat count id nice mask slice h = grind (arith, nat_tests)
 pub new_task-requires-clause-few : goal.new_task-requires-clause-few
 new_task-requires-clause-few g c =
     let n : c.len.result ≡ length c.self.inside.cpus.items = omega arith in
-    rw (n ∙ c.self.invariant.0) c.self.invariant.3
+    rw (n ∙ c.self.invariant.0) c.self.invariant.1
 
 pub new_task-requires-clause-fits : goal.new_task-requires-clause-fits
 new_task-requires-clause-fits g c =

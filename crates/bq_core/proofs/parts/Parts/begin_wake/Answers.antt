@@ -16,10 +16,10 @@ loads_of-loads-requires-clause-small g c = λ i.
     rw (processors, boxes) (omega (arith, few_at w i seats c.requires.orderly))
 
 pub loads_of-loads-requires-clause-same : goal.loads_of-loads-requires-clause-same
-loads_of-loads-requires-clause-same g c = ap length c.as_slice.ensures.value ∙ c.self.invariant.0 ∙ sym (ap length c.as_slice-2.ensures.value ∙ c.self.invariant.1)
+loads_of-loads-requires-clause-same g c = ap length c.as_slice.ensures.value ∙ c.self.invariant.0 ∙ sym (ap length c.as_slice-2.ensures.value)
 
 pub loads_of-loads-requires-clause-few : goal.loads_of-loads-requires-clause-few
-loads_of-loads-requires-clause-few g c = rw (ap length c.as_slice.ensures.value ∙ c.self.invariant.0) c.self.invariant.3
+loads_of-loads-requires-clause-few g c = rw (ap length c.as_slice.ensures.value ∙ c.self.invariant.0) c.self.invariant.1
 
 pub from-requires : goal.from-requires
 from-requires g c = tt

@@ -62,13 +62,13 @@ index_mut-cpu-requires g c =
 pub end_wake-requires-clause-few : goal.end_wake-requires-clause-few
 end_wake-requires-clause-few g c =
     let n : c.len-count.result ≡ length c.self.inside.cpus.items = omega arith in
-    rw (n ∙ c.self.invariant.0) c.self.invariant.3
+    rw (n ∙ c.self.invariant.0) c.self.invariant.1
 
 pub end_wake-requires-clause-unasked : goal.end_wake-requires-clause-unasked
 end_wake-requires-clause-unasked g c = c.requires.unasked
 
 pub invariant_of-self : goal.invariant_of-self
-invariant_of-self g c = (rw length-set c.self.invariant.0, c.self.invariant.1, c.self.invariant.2, c.self.invariant.3)
+invariant_of-self g c = (rw length-set c.self.invariant.0, c.self.invariant.1, c.self.invariant.2)
 
 pub returns-in_default-clause-step : goal.returns-in_default-clause-step
 returns-in_default-clause-step g c =
@@ -97,7 +97,7 @@ index_mut-requires g c =
     omega arith
 
 pub invariant_of-self-2 : goal.invariant_of-self-2
-invariant_of-self-2 g c = (rw length-set c.self.invariant.0, rw length-set c.self.invariant.1, c.self.invariant.2, c.self.invariant.3)
+invariant_of-self-2 g c = (rw (length-set, length-set) c.self.invariant.0, rw length-set c.self.invariant.1, c.self.invariant.2)
 
 pub returns-clause-board : goal.returns-clause-board
 returns-clause-board g c = c.end_wake.ensures.board

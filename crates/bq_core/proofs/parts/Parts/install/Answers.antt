@@ -51,7 +51,7 @@ replace-requires g c =
 
 pub invariant_of-self : goal.invariant_of-self
 invariant_of-self g c =
-    (length-set c.self.inside.cpus.items c.from.result c.replace.new.self ∙ c.self.invariant.0, c.self.invariant.1, c.self.invariant.2, c.self.invariant.3)
+    (length-set c.self.inside.cpus.items c.from.result c.replace.new.self ∙ c.self.invariant.0, c.self.invariant.1, c.self.invariant.2)
 
 pub returns : goal.returns
 returns g c =

@@ -1,4 +1,4 @@
-use Rattle.std.proofs.Common.{◌≡◌, ℕ, ◌+◌, ◌≤◌, List, [], ◌∷◌, ◌++◌, length, replicate, refl, ap, ◌∙◌, arith}
+use Rattle.std.proofs.Common.{◌≡◌, ℕ, ◌+◌, ◌≤◌, List, [], ◌∷◌, ◌++◌, length, replicate, refl, sym, ap, ◌∙◌, arith}
 use Rattle.std.proofs.lemmas.List.{length-replicate, replicate_more}
 use Rattle.bq_disc.specs.Tasks.{Task}
 use Rattle.bq_parts.specs.declared.lobby_entry.LobbyEntry.{LobbyEntry}
@@ -40,16 +40,16 @@ inboxes-preserved g c =
 
 pub invariant_of-result : goal.invariant_of-result
 invariant_of-result g c =
-    let processors = at_end c.processors.counter g.row.P c.processors-test.false c.processors.auto.counter-end in
-    let inboxes = at_end c.inboxes.counter g.row.P c.inboxes-test.false c.inboxes.auto.counter-end in (
-      filled c.processors.cpus.items c.processors.counter g.row.P opening c.processors.invariant processors,
-      filled c.inboxes.inboxes.items c.inboxes.counter g.row.P [] c.inboxes.invariant inboxes,
+    let processors = at_end c.processors.counter c.args.count c.processors-test.false c.processors.auto.counter-end in
+    let inboxes = at_end c.inboxes.counter c.args.count c.inboxes-test.false c.inboxes.auto.counter-end in
+    let boxes = filled c.inboxes.inboxes.items c.inboxes.counter c.args.count [] c.inboxes.invariant inboxes in (
+      filled c.processors.cpus.items c.processors.counter c.args.count opening c.processors.invariant processors ∙ sym boxes,
+      rw boxes c.requires.few,
       filled c.in_ok-lobby.lobby 1024 1024 Absent c.in_ok-lobby.ensures refl,
-      c.requires.few,
     )
 
 pub returns : goal.returns
 returns g c =
-    let processors = at_end c.processors.counter g.row.P c.processors-test.false c.processors.auto.counter-end in
-    let inboxes = at_end c.inboxes.counter g.row.P c.inboxes-test.false c.inboxes.auto.counter-end in
-    opened c.processors.counter c.inboxes.counter g.row.P 1024 c.processors.cpus.items c.inboxes.inboxes.items c.in_ok-lobby.lobby c.processors.invariant c.inboxes.invariant c.in_ok-lobby.ensures processors inboxes
+    let processors = at_end c.processors.counter c.args.count c.processors-test.false c.processors.auto.counter-end in
+    let inboxes = at_end c.inboxes.counter c.args.count c.inboxes-test.false c.inboxes.auto.counter-end in
+    opened c.processors.counter c.inboxes.counter c.args.count 1024 c.processors.cpus.items c.inboxes.inboxes.items c.in_ok-lobby.lobby c.processors.invariant c.inboxes.invariant c.in_ok-lobby.ensures processors inboxes

@@ -19,7 +19,7 @@ pull_between-requires-clause-seated g c =
     rw cpus (seated_two w c.args.processor c.args.from seats c.requires.orderly)
 
 pub pull_between-requires-clause-few : goal.pull_between-requires-clause-few
-pull_between-requires-clause-few g c = rw (ap length c.as_mut_slice-cpus.ensures.value ∙ c.self.invariant.0) c.self.invariant.3
+pull_between-requires-clause-few g c = rw (ap length c.as_mut_slice-cpus.ensures.value ∙ c.self.invariant.0) c.self.invariant.1
 
 pub pull_between-requires-clause-inside : goal.pull_between-requires-clause-inside
 pull_between-requires-clause-inside g c =
@@ -41,7 +41,7 @@ pub invariant_of-self : goal.invariant_of-self
 invariant_of-self g c =
     let long : c.self.inside.cpus.len ≡ length c.self.inside.cpus.items = omega arith in
     let same : length c.pull_between.new.cpus ≡ length c.self.inside.cpus.items = omega (arith, ap length c.as_mut_slice-cpus.ensures.value) in
-    (ap length (written_over c.self.inside.cpus.items c.pull_between.new.cpus c.self.inside.cpus.len long same) ∙ same ∙ c.self.invariant.0, c.self.invariant.1, c.self.invariant.2, c.self.invariant.3)
+    (ap length (written_over c.self.inside.cpus.items c.pull_between.new.cpus c.self.inside.cpus.len long same) ∙ same ∙ c.self.invariant.0, c.self.invariant.1, c.self.invariant.2)
 
 pub returns-clause-step : goal.returns-clause-step
 returns-clause-step g c =

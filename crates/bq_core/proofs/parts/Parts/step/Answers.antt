@@ -16,10 +16,6 @@ use Rattle.bq_parts.proofs.NumberTestLemmas.{below_from_not_at_most, differ_from
 use Rattle.bq_core.proofs.OrderLemmas.{there, passed}
 use Rattle.bq_core.proofs.parts.Parts.step.Goals as goal
 
--- what stands behind a reference to the parts fits
-parts_fit : 80 < 9223372036854775808
-parts_fit = search rules
-
 -- where the test of the arguments found none, none of the event that it is is refused
 none_refused : (count n : ℕ) (e e' : Event) (r : Option Refusal) → r ≡ argument_refusal n e → r ≡ None → n ≡ count → e ≡ e' → argument_refusal count e' ≡ None
 none_refused count n e e' r f g h k = ap (λ (m : ℕ). argument_refusal m e') (sym h) ∙ ap (λ (x : Event). argument_refusal n x) (sym k) ∙ sym f ∙ g
@@ -72,7 +68,7 @@ admit-requires g c =
     let fits : FitsSigned w8 c.in-Admit.nice = search rules in
     let same = to_z-of_z w8 c.in-Admit.nice fits in
     let none = none_refused (count_in c.args.self.now) c.processors.result c.args.event _ c.argument_refusal.result c.argument_refusal.ensures c.in_default.is c.processors.ensures.value c.in-Admit.is in
-    (parts_fit, subst (λ (n : ℤ). argument_refusal (count_in c.args.self.now) (Admit c.in-Admit.task n c.in-Admit.mask c.in-Admit.slice) ≡ None) (sym same) none)
+    record { fits = subst (λ (n : ℤ). argument_refusal (count_in c.args.self.now) (Admit c.in-Admit.task n c.in-Admit.mask c.in-Admit.slice) ≡ None) (sym same) none }
 
 pub returns-in-Admit-clause-step : goal.returns-in-Admit-clause-step
 returns-in-Admit-clause-step g c =
@@ -87,7 +83,7 @@ returns-in-Admit-clause-board g c = none_asked g.B.Board.leads c.args.board.now 
 pub retire-requires : goal.retire-requires
 retire-requires g c =
     let none = none_refused (count_in c.args.self.now) c.processors.result c.args.event _ c.argument_refusal.result c.argument_refusal.ensures c.in_default.is c.processors.ensures.value c.in-Retire.is in
-    (parts_fit, retires_seated (count_in c.args.self.now) c.in-Retire.task none)
+    record { seat = retires_seated (count_in c.args.self.now) c.in-Retire.task none }
 
 pub returns-in-Retire-clause-step : goal.returns-in-Retire-clause-step
 returns-in-Retire-clause-step g c =
@@ -106,7 +102,7 @@ returns-in-Draw-clause-board g c = none_asked g.B.Board.leads c.args.board.now c
 pub install-requires : goal.install-requires
 install-requires g c =
     let none = none_refused (count_in c.args.self.now) c.processors.result c.args.event _ c.argument_refusal.result c.argument_refusal.ensures c.in_default.is c.processors.ensures.value c.in-Install.is in
-    (parts_fit, none)
+    record { fits = none }
 
 pub returns-in-Install-clause-step : goal.returns-in-Install-clause-step
 returns-in-Install-clause-step g c =
@@ -119,7 +115,7 @@ pub begin_wake-requires : goal.begin_wake-requires
 begin_wake-requires g c =
     let none = none_refused (count_in c.args.self.now) c.processors.result c.args.event _ c.argument_refusal.result c.argument_refusal.ensures c.in_default.is c.processors.ensures.value c.in-BeginWake.is in
     let inside = begins_inside (count_in c.args.self.now) c.in-BeginWake.processor c.in-BeginWake.task none in
-    (parts_fit, (c.requires.orderly, (inside.0, inside.1)))
+    record { orderly = c.requires.orderly; inside = inside.0; seat = inside.1 }
 
 pub returns-in-BeginWake-clause-step : goal.returns-in-BeginWake-clause-step
 returns-in-BeginWake-clause-step g c =
@@ -131,7 +127,7 @@ returns-in-BeginWake-clause-board g c = none_asked g.B.Board.leads c.args.board.
 pub end_wake-requires : goal.end_wake-requires
 end_wake-requires g c =
     let none = none_refused (count_in c.args.self.now) c.processors.result c.args.event _ c.argument_refusal.result c.argument_refusal.ensures c.in_default.is c.processors.ensures.value c.in-EndWake.is in
-    (parts_fit, (c.requires.orderly, ((there (count_in c.args.self.now) c.in-EndWake.processor None none).0, c.clear.ensures)))
+    record { orderly = c.requires.orderly; inside = (there (count_in c.args.self.now) c.in-EndWake.processor None none).0; unasked = c.clear.ensures }
 
 pub returns-in-EndWake-clause-step : goal.returns-in-EndWake-clause-step
 returns-in-EndWake-clause-step g c = step_at (policies g.Q.R.Discipline.discipline) c.args.self.now c.end_wake.new.self c.args.event _ c.end_wake.new.scratch c.end_wake.result c.in-EndWake.is c.end_wake.ensures.step
@@ -142,7 +138,7 @@ returns-in-EndWake-clause-board g c = c.end_wake.ensures.board
 pub drain-requires : goal.drain-requires
 drain-requires g c =
     let none = none_refused (count_in c.args.self.now) c.processors.result c.args.event _ c.argument_refusal.result c.argument_refusal.ensures c.in_default.is c.processors.ensures.value c.in-Drain.is in
-    (parts_fit, (c.requires.orderly, ((there (count_in c.args.self.now) c.in-Drain.processor None none).0, c.clear.ensures)))
+    record { orderly = c.requires.orderly; inside = (there (count_in c.args.self.now) c.in-Drain.processor None none).0; unasked = c.clear.ensures }
 
 pub returns-in-Drain-clause-step : goal.returns-in-Drain-clause-step
 returns-in-Drain-clause-step g c = step_at (policies g.Q.R.Discipline.discipline) c.args.self.now c.drain.new.self c.args.event _ c.drain.new.scratch c.drain.result c.in-Drain.is c.drain.ensures.step
@@ -153,7 +149,7 @@ returns-in-Drain-clause-board g c = c.drain.ensures.board
 pub tick-requires : goal.tick-requires
 tick-requires g c =
     let none = none_refused (count_in c.args.self.now) c.processors.result c.args.event _ c.argument_refusal.result c.argument_refusal.ensures c.in_default.is c.processors.ensures.value c.in-Tick.is in
-    (parts_fit, (c.requires.orderly, ((there (count_in c.args.self.now) c.in-Tick.processor None none).0, c.clear.ensures)))
+    record { orderly = c.requires.orderly; inside = (there (count_in c.args.self.now) c.in-Tick.processor None none).0; unasked = c.clear.ensures }
 
 pub returns-in-Tick-clause-step : goal.returns-in-Tick-clause-step
 returns-in-Tick-clause-step g c = step_at (policies g.Q.R.Discipline.discipline) c.args.self.now c.tick.new.self c.args.event _ c.tick.new.scratch c.tick.result c.in-Tick.is c.tick.ensures.step
@@ -164,7 +160,7 @@ returns-in-Tick-clause-board g c = c.tick.ensures.board
 pub block-requires : goal.block-requires
 block-requires g c =
     let none = none_refused (count_in c.args.self.now) c.processors.result c.args.event _ c.argument_refusal.result c.argument_refusal.ensures c.in_default.is c.processors.ensures.value c.in-Block.is in
-    (parts_fit, (c.requires.orderly, (there (count_in c.args.self.now) c.in-Block.processor None none).0))
+    record { orderly = c.requires.orderly; inside = (there (count_in c.args.self.now) c.in-Block.processor None none).0 }
 
 pub returns-in-Block-clause-step : goal.returns-in-Block-clause-step
 returns-in-Block-clause-step g c =
@@ -177,7 +173,7 @@ pub pull-requires : goal.pull-requires
 pull-requires g c =
     let none = none_refused (count_in c.args.self.now) c.processors.result c.args.event _ c.argument_refusal.result c.argument_refusal.ensures c.in_default.is c.processors.ensures.value c.in-Pull.is in
     let inside = pulls_inside (count_in c.args.self.now) c.in-Pull.processor c.in-Pull.from c.in-Pull.now none in
-    (parts_fit, (c.requires.orderly, (inside.0, (inside.1, (inside.2, c.clear.ensures)))))
+    record { orderly = c.requires.orderly; inside = inside.0; inside_from = inside.1; apart = inside.2; unasked = c.clear.ensures }
 
 pub returns-in-Pull-clause-step : goal.returns-in-Pull-clause-step
 returns-in-Pull-clause-step g c = step_at (policies g.Q.R.Discipline.discipline) c.args.self.now c.pull.new.self c.args.event _ c.pull.new.scratch c.pull.result c.in-Pull.is c.pull.ensures.step

@@ -59,7 +59,7 @@ index_mut-cpu-requires g c =
 
 pub invariant_of-self : goal.invariant_of-self
 invariant_of-self g c =
-    (length-set c.self.inside.cpus.items c.from.result c.tick.new.self ∙ c.self.invariant.0, c.self.invariant.1, c.self.invariant.2, c.self.invariant.3)
+    (length-set c.self.inside.cpus.items c.from.result c.tick.new.self ∙ c.self.invariant.0, c.self.invariant.1, c.self.invariant.2)
 
 pub returns-clause-board : goal.returns-clause-board
 returns-clause-board g c = c.tick.ensures.board

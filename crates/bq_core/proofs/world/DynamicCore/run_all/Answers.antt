@@ -3,7 +3,7 @@ use Rattle.std.specs.Prelude.{is_ok, not}
 use Rattle.std.specs.Vec.Iter.{into_iter_items}
 use Rattle.bq_parts.specs.Choices.{policies}
 use Rattle.bq_core.proofs.RunLemmas.{run_more, through_more}
-use Rattle.bq_core.proofs.world.Core.run_all.Goals as goal
+use Rattle.bq_core.proofs.world.DynamicCore.run_all.Goals as goal
 
 pub loop-event-preserved : goal.loop-event-preserved
 loop-event-preserved g c =

@@ -2,7 +2,7 @@ use Rattle.std.proofs.Common.{subst}
 use Rattle.bq_parts.specs.Choices.{policies}
 use Rattle.bq_parts.specs.StandsOnce.{IsOrderly}
 use Rattle.bq_core.proofs.OrderLemmas.{run_keeps}
-use Rattle.bq_core.proofs.world.Core.run.Goals as goal
+use Rattle.bq_core.proofs.world.DynamicCore.run.Goals as goal
 
 pub returns-in_default-clause-throughout : goal.returns-in_default-clause-throughout
 returns-in_default-clause-throughout g c = run_keeps (policies g.Q.R.Discipline.discipline) c.args.self.now c.args.events.items (subst IsOrderly c.self.view_is c.self.invariant)

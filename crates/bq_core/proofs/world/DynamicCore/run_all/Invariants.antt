@@ -5,7 +5,7 @@ use Rattle.bq_bpf.specs.declared.board.Call.{Call as Asked}
 use Rattle.bq_parts.specs.Choices.{policies}
 use Rattle.bq_parts.specs.Steps.{WorldRun, ThroughAll}
 use Rattle.bq_parts.specs.StandsOnce.{IsOrderly}
-use Rattle.bq_core.proofs.world.Core.run_all.Given as goal
+use Rattle.bq_core.proofs.world.DynamicCore.run_all.Given as goal
 
 abbrev pub invariant-loop-event : goal.invariant-loop-event
 invariant-loop-event g l =

@@ -1,6 +1,6 @@
 use Rattle.bq_parts.specs.Choices.{policies}
 use Rattle.bq_core.proofs.OrderLemmas.{step_keeps}
-use Rattle.bq_core.proofs.world.Core.step.Goals as goal
+use Rattle.bq_core.proofs.world.DynamicCore.step.Goals as goal
 
 pub invariant_of-self : goal.invariant_of-self
 invariant_of-self g c =

@@ -1,0 +1,133 @@
+//! The world of a number of processors that its type names.
+ghost use Rattle.std.specs.Prelude.{◌≡◌, ◌≤◌, ◌<◌, List, OnErr, IfOk, IfErr, length};
+ghost use Rattle.bq_parts.specs.World.{opening_world, processor, count_in};
+ghost use Rattle.bq_parts.specs.Choices.{policies};
+ghost use Rattle.bq_parts.specs.Steps.{WorldStep, WorldRun, ThroughAll};
+ghost use Rattle.bq_bpf.specs.Counters.{Through};
+ghost use Rattle.bq_bpf.specs.declared.board.Call.{Call as Asked};
+ghost use Rattle.bq_parts.specs.StandsOnce.{IsOrderly};
+ghost use Rattle.bq_parts.specs.declared.refusal.Refusal.TheVariants as no;
+ghost use Rattle.bq_core.specs.Laws.{StaysOrderly};
+
+use crate::world::DynamicCore;
+use crate::{Cpu, Event, Inbox, Lobby, Refusal, Reply};
+use bq_bpf::Board;
+use bq_disc::RunQueue;
+use std::alloc::{AllocError, Global};
+use std::marker::Model;
+
+/// A world of `P` processors, at most 64, each with a run queue `Q`. Each task that is admitted stands in it exactly
+/// once, on a processor of its mask where it runs or waits.
+#[derive(Drop)]
+pub struct Core<Q: RunQueue, const P: usize> {
+    world: DynamicCore<Q>,
+}
+
+impl<Q: RunQueue, const P: usize> Model for Core<Q, P> {
+    ghost use Rattle.std.specs.Prelude.{◌≡◌};
+    ghost use Rattle.bq_parts.specs.World.{World, count_in};
+
+    ghost Value = { World };
+
+    ghost view = { λ c. c.world };
+
+    ghost invariant = { λ c. count_in c.world ≡ P };
+}
+
+impl<Q: RunQueue + Drop, const P: usize> Core<Q, P> {
+    /// The opening world, in which nothing is admitted, drawn or installed. It takes all the memory that later events
+    /// need, but for Admit and Install.
+    pub fn new(alloc: Global) -> Result<Core<Q, P>, AllocError>
+        requires few { P ≤ 64 }
+        ensures opening { IfOk result (λ c. c ≡ opening_world P) }
+        ensures orderly { IfOk result (λ c. IsOrderly c) }
+    {
+        Ok(Core {
+            world: DynamicCore::new(alloc, P)?,
+        })
+    }
+}
+
+impl<Q: RunQueue, const P: usize> Core<Q, P> {
+    /// The world that these parts make, if they are in order. It takes no memory.
+    pub fn from_parts(
+        cpus: Vec<Cpu<Q>>,
+        inboxes: Vec<Inbox>,
+        lobby: Lobby,
+        drawn: u64,
+    ) -> Core<Q, P>
+        requires few { P ≤ 64 }
+        requires cpus { length cpus.items ≡ P }
+        requires inboxes { length inboxes.items ≡ P }
+        requires orderly { IsOrderly (record { processors = cpus.items; inboxes = inboxes.items; seats = lobby; drawn = drawn }) }
+        ensures { result ≡ record { processors = cpus.items; inboxes = inboxes.items; seats = lobby; drawn = drawn } }
+    {
+        Core {
+            world: DynamicCore::from_parts(cpus, inboxes, lobby, drawn),
+        }
+    }
+
+    /// One event. What policies ask of the counters goes through the board. A refusal leaves the world as it was, and the
+    /// board. Only Admit and Install may be refused for want of memory.
+    ///
+    /// # Example
+    ///
+    /// ```
+    /// let mut core = Core::<CfsQueue, 1>::new(alloc)?;
+    /// let mut board = Plain::new();
+    /// let admit = Event::Admit {
+    ///     task: 1,
+    ///     nice: 0,
+    ///     mask: 1,
+    ///     slice: 3_000_000,
+    /// };
+    /// let Ok(Reply::Admitted) = core.step(alloc, admit, &mut board) else {
+    ///     return Err(Fail::from("not admitted"));
+    /// };
+    /// ```
+    pub fn step<B: Board>(
+        &mut self,
+        alloc: Global,
+        event: Event,
+        board: &mut B,
+    ) -> Result<Reply, Refusal>
+        ensures step { (calls : List Asked) × WorldStep (policies Q.R.discipline) self.old event calls result self.new × Through B.leads board.old calls board.new }
+        ensures orderly { IsOrderly self.new }
+    {
+        self.world.step(alloc, event, board)
+    }
+
+    /// Some events in order, and the answer to each. The list of answers is made before the first event: where that growth
+    /// is refused the answer is OutOfMemory, and nothing has happened. Each event leaves a world in order.
+    pub fn run<B: Board>(
+        &mut self,
+        alloc: Global,
+        events: Vec<Event>,
+        board: &mut B,
+    ) -> Result<Vec<Result<Reply, Refusal>>, Refusal>
+        ensures ok { IfOk result (λ answers. (calls : List (List Asked)) × WorldRun (policies Q.R.discipline) self.old events.items calls answers.items self.new × ThroughAll B.leads board.old calls board.new) }
+        ensures err { OnErr result (self.new ≡ self.old) }
+        ensures still { OnErr result (board.new ≡ board.old) }
+        ensures memory { IfErr result (λ refusal. refusal ≡ no.OutOfMemory) }
+        ensures orderly { IsOrderly self.new }
+        ensures throughout { StaysOrderly (policies Q.R.discipline) self.old events.items }
+    {
+        self.world.run(alloc, events, board)
+    }
+
+    /// A processor, whose number is below that of the processors.
+    pub fn cpu(&self, number: u8) -> &Cpu<Q>
+        requires { number < count_in self.now }
+        ensures { result.now ≡ processor self.now number }
+    {
+        self.world.cpu(number)
+    }
+
+    /// How many processors there are.
+    pub fn processors(&self) -> usize
+        ensures value { result ≡ count_in self.now }
+        ensures few { result ≤ 64 }
+    {
+        self.world.processors()
+    }
+}

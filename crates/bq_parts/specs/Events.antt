@@ -1,0 +1,10 @@
+-- What events bring.
+use Rattle.std.specs.Prelude.{Option}
+use Rattle.bq_verify.specs.Accepted.{Accepted}
+use Rattle.bq_parts.specs.declared.event.Event.{Event}
+use Rattle.bq_parts.specs.declared.event.Event.TheVariants.{Install}
+
+-- the event with this policy, or none, where it brings one
+abbrev pub with_policy : Event → Option Accepted → Event
+with_policy (Install cpu hook g old) new = Install cpu hook g new
+with_policy event new = event
