@@ -4,7 +4,8 @@ ghost use Rattle.bq_disc.specs.Chains.{task_of, IsLone};
 
 use crate::command::{Command, Newcomer};
 use bq_disc::{Entity, Entry, Node, RunQueue};
-use std::alloc::{AllocError, Global};
+use std::alloc::Global;
+use std::process::Abort;
 
 /// A part of an answer as numbers; those that it does not need are 0.
 type Part = [i128; 5];
@@ -67,15 +68,16 @@ fn node_of(entity: &Entity) -> Node
 
 /// Puts a task into a queue, unless its id is there. It answers whether it was not.
 pub(crate) fn put<Q: RunQueue>(
+    rt: &impl Abort,
     alloc: Global,
     queue: &mut Q,
     entity: Entity,
-) -> Result<bool, AllocError> {
+) -> bool {
     if queue.get(entity.id()).is_some() {
-        return Ok(false);
+        return false;
     }
-    queue.insert(Box::new(alloc, node_of(&entity))?);
-    Ok(true)
+    queue.insert(Box::new(alloc, node_of(&entity)).expect(rt, "memory"));
+    true
 }
 
 /// Takes a task out of a queue.
@@ -158,20 +160,18 @@ fn charged<Q: RunQueue>(queue: &Q, task: Option<Entity>, time: u64) -> Option<En
 
 /// The next task runs in the place of the current one.
 fn run_next<Q: RunQueue>(
+    rt: &impl Abort,
     alloc: Global,
     queue: &mut Q,
     current: &mut Option<Entity>,
-) -> Result<Option<Entity>, AllocError> {
-    let Some(id) = next_of(queue, current) else {
-        return Ok(None);
-    };
+) -> Option<Entity> {
+    let id = next_of(queue, current)?;
     let before = *current;
     *current = taken(queue, id);
-    let Some(old) = before else {
-        return Ok(*current);
-    };
-    put(alloc, queue, old)?;
-    Ok(*current)
+    if let Some(old) = before {
+        put(rt, alloc, queue, old);
+    }
+    *current
 }
 
 /// A task as it enters, woken or pulled.
@@ -195,20 +195,21 @@ fn task_told(newcomer: &Newcomer) -> Entity {
 
 /// A task enters, unless it is there or runs.
 fn enter<Q: RunQueue>(
+    rt: &impl Abort,
     alloc: Global,
     queue: &mut Q,
     current: &Option<Entity>,
     newcomer: &Newcomer,
-) -> Result<Part, AllocError> {
+) -> Part {
     if runs(current, newcomer.id) {
-        return Ok(NOTHING);
+        return NOTHING;
     }
     let entity = entered(queue, &task_told(newcomer), newcomer.pulled);
-    Ok(if put(alloc, queue, entity)? {
+    if put(rt, alloc, queue, entity) {
         told_of(&entity)
     } else {
         NOTHING
-    })
+    }
 }
 
 /// The current task has run for a time.
@@ -225,14 +226,15 @@ fn take<Q: RunQueue>(queue: &mut Q, id: u16) -> Part {
 
 /// What a queue answers a command, which may change it and the current task.
 fn answered<Q: RunQueue>(
+    rt: &impl Abort,
     alloc: Global,
     queue: &mut Q,
     current: &mut Option<Entity>,
     command: &Command,
-) -> Result<Part, AllocError> {
-    Ok(match command {
-        Command::Insert(newcomer) => enter(alloc, queue, current, newcomer)?,
-        Command::Next => shown(run_next(alloc, queue, current)?),
+) -> Part {
+    match command {
+        Command::Insert(newcomer) => enter(rt, alloc, queue, current, newcomer),
+        Command::Next => shown(run_next(rt, alloc, queue, current)),
         Command::Take { id } => take(queue, *id),
         Command::Choose => choices(queue, current),
         Command::Charge { time } => charge(queue, current, *time),
@@ -240,18 +242,19 @@ fn answered<Q: RunQueue>(
         Command::Leave => shown(left(queue, current.take())),
         Command::After { v, id } => node_shown(queue.after(Some((*v, *id)))),
         Command::Movable { processor, id } => movable(queue, *processor % 64, *id),
-    })
+    }
 }
 
 /// Does a command, and tells what the queue answers and how it then stands.
 pub(crate) fn perform<Q: RunQueue>(
+    rt: &impl Abort,
     alloc: Global,
     queue: &mut Q,
     current: &mut Option<Entity>,
     command: &Command,
-) -> Result<Answer, AllocError> {
-    let answer = answered(alloc, queue, current, command)?;
+) -> Answer {
+    let answer = answered(rt, alloc, queue, current, command);
     let first = node_shown(queue.after(None));
     let size = [queue.len() as i128, i128::from(queue.kept()), 0, 0, 0];
-    Ok([answer, first, size])
+    [answer, first, size]
 }

@@ -4,7 +4,6 @@
 use crate::hex_text::bytes_of;
 use std::alloc::Global;
 use std::process::Abort;
-use std::test::Fail;
 
 pub(crate) fn is_true(rt: &impl Abort, fact: bool) {
     assert!(rt; fact);
@@ -33,13 +32,6 @@ fn are_bytes(rt: &impl Abort, bytes: &[u8], expected: &[u8]) {
 }
 
 /// Bytes are those that a text has in hex.
-pub(crate) fn are_bytes_of(
-    rt: &impl Abort,
-    alloc: Global,
-    bytes: &[u8],
-    text: &str,
-) -> Result<(), Fail> {
-    let expected = bytes_of(alloc, text)?;
-    are_bytes(rt, bytes, expected.as_slice());
-    Ok(())
+pub(crate) fn are_bytes_of(rt: &impl Abort, alloc: Global, bytes: &[u8], text: &str) {
+    are_bytes(rt, bytes, bytes_of(rt, alloc, text).as_slice());
 }

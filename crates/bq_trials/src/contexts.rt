@@ -7,10 +7,8 @@ use bq_cfs::{Cfs, CfsQueue};
 use bq_disc::{Entity, List, RunQueue};
 use bq_eevdf::{Eevdf, EevdfQueue};
 use bq_hooks::{By, Choice, Preempt, Pull, preempt_ctx, pull_ctx, settle_pull};
-use std::alloc::{AllocError, Global};
-use std::io;
+use std::alloc::Global;
 use std::process::Abort;
-use std::test::Fail;
 
 /// A task of nice 0 that may use processors 0 and 1, by its id, v and deadline.
 fn task(id: u16, v: u64, deadline: u64) -> Entity {
@@ -36,10 +34,7 @@ fn preemption<Q: RunQueue>(rt: &impl Abort, queue: &Q, current: &Entity, own: bo
 }
 
 /// Task 1 has run for a millisecond beside task 2, which is the queue's choice.
-fn beside_one<Q: RunQueue + Drop>(rt: &impl Abort, alloc: Global) -> Result<(), Fail> {
-    let mut queue = Q::empty();
-    put(alloc, &mut queue, task(2, 4294967296, 0))?;
-    let expected = "\
+const BESIDE_ONE: &str = "\
 00000000         ; the processor
 01000000         ; how many tasks wait
 01000000         ; the current task
@@ -52,19 +47,15 @@ fn beside_one<Q: RunQueue + Drop>(rt: &impl Abort, alloc: Global) -> Result<(), 
 00000000         ; the own answer
 00000000
 ";
-    let context = preemption(rt, &queue, &task(1, 4295967296, 0), false);
-    are_bytes_of(rt, alloc, &context, expected)
-}
 
-#[test]
-fn a_preemption_beside_one_task(rt: HostRuntime) -> Result<(), Fail> {
-    beside_one::<CfsQueue>(&rt, rt.alloc())?;
-    beside_one::<List<Cfs>>(&rt, rt.alloc())
+fn a_preemption_beside_one_task<Q: RunQueue>(rt: &impl Abort, alloc: Global, queue: &mut Q) {
+    put(rt, alloc, queue, task(2, 4294967296, 0));
+    let context = preemption(rt, queue, &task(1, 4295967296, 0), false);
+    are_bytes_of(rt, alloc, &context, BESIDE_ONE);
 }
 
 /// Alone, task 513 sees none beside it.
-fn alone<Q: RunQueue + Drop>(rt: &impl Abort, alloc: Global) -> Result<(), Fail> {
-    let expected = "\
+const ALONE: &str = "\
 00000000         ; the processor
 00000000         ; how many tasks wait
 01020000         ; the current task
@@ -77,14 +68,10 @@ ffffffff         ; no choice
 01000000         ; the own answer
 00000000
 ";
-    let context = preemption(rt, &Q::empty(), &task(513, 1 << 62, (1 << 62) - 1), true);
-    are_bytes_of(rt, alloc, &context, expected)
-}
 
-#[test]
-fn a_preemption_of_a_task_alone(rt: HostRuntime) -> Result<(), Fail> {
-    alone::<EevdfQueue>(&rt, rt.alloc())?;
-    alone::<List<Eevdf>>(&rt, rt.alloc())
+fn a_preemption_of_a_task_alone<Q: RunQueue>(rt: &impl Abort, alloc: Global, queue: &Q) {
+    let context = preemption(rt, queue, &task(513, 1 << 62, (1 << 62) - 1), true);
+    are_bytes_of(rt, alloc, &context, ALONE);
 }
 
 /// The context of a pull by processor 1 from processor 0, where three tasks run or wait and none does here.
@@ -104,19 +91,12 @@ fn pull<Q: RunQueue>(queue: &Q, own: Option<u16>) -> [u8; 160] {
 }
 
 /// Compares the context of such a pull with its first 32 bytes and the tasks that are shown behind them.
-fn pull_shows(
-    rt: &impl Abort,
-    alloc: Global,
-    context: &[u8; 160],
-    header: &str,
-    shown: &[u16],
-) -> Result<(), Fail> {
+fn pull_shows(rt: &impl Abort, alloc: Global, context: &[u8; 160], header: &str, shown: &[u16]) {
     let (first, tasks) = context.split_at(32);
-    are_bytes_of(rt, alloc, first, header)?;
+    are_bytes_of(rt, alloc, first, header);
     for (at, byte) in tasks.iter().enumerate() {
         is_byte(rt, at, *byte, byte_shown(shown, at));
     }
-    Ok(())
 }
 
 /// A byte of what is shown of some tasks of nice 0, each of which has its v at 2^32 and its id.
@@ -139,8 +119,7 @@ fn byte_of(id: u16, at: usize) -> u8 {
 }
 
 /// Of a queue whose only task is not permitted there none is shown.
-fn none_is_shown<Q: RunQueue>(rt: &impl Abort, alloc: Global, queue: &Q) -> Result<(), Fail> {
-    let header = "\
+const NONE_IS_SHOWN: &str = "\
 01000000 ; the puller
 00000000 ; the other
 00000000 ; how many tasks the puller has
@@ -150,12 +129,9 @@ fn none_is_shown<Q: RunQueue>(rt: &impl Abort, alloc: Global, queue: &Q) -> Resu
 ffffffff ; no own choice
 00000000
 ";
-    pull_shows(rt, alloc, &pull(queue, None), header, &[])
-}
 
 /// Of nine tasks that may be pulled eight are shown.
-fn eight_are_shown<Q: RunQueue>(rt: &impl Abort, alloc: Global, queue: &Q) -> Result<(), Fail> {
-    let header = "\
+const EIGHT_ARE_SHOWN: &str = "\
 01000000 ; the puller
 00000000 ; the other
 00000000 ; how many tasks the puller has
@@ -165,47 +141,30 @@ fn eight_are_shown<Q: RunQueue>(rt: &impl Abort, alloc: Global, queue: &Q) -> Re
 0a000000 ; the own choice
 00000000
 ";
-    let shown = [10, 9, 8, 7, 6, 5, 4, 3];
-    pull_shows(rt, alloc, &pull(queue, Some(10)), header, &shown)
-}
+
+static EIGHT: [u16; 8] = [10, 9, 8, 7, 6, 5, 4, 3];
 
 /// Tasks that may be pulled are shown from the greatest (v, id) on, eight at most.
-fn movable<Q: RunQueue>(rt: &impl Abort, alloc: Global, queue: &mut Q) -> Result<(), Fail> {
-    put(alloc, queue, Entity::new(1, 1024, 1, 3_000_000))?;
-    none_is_shown(rt, alloc, queue)?;
+fn pulls_of_many_tasks<Q: RunQueue>(rt: &impl Abort, alloc: Global, queue: &mut Q) {
+    put(rt, alloc, queue, Entity::new(1, 1024, 1, 3_000_000));
+    pull_shows(rt, alloc, &pull(queue, None), NONE_IS_SHOWN, &[]);
     for id in 2..11 {
-        put(alloc, queue, task(id, 4294967296 + u64::from(id), 0))?;
+        put(rt, alloc, queue, task(id, 4294967296 + u64::from(id), 0));
     }
-    eight_are_shown(rt, alloc, queue)
-}
-
-/// A queue is empty before they are put there.
-fn movable_of_empty<Q: RunQueue + Drop>(rt: &impl Abort, alloc: Global) -> Result<(), Fail> {
-    movable(rt, alloc, &mut Q::empty())
-}
-
-#[test]
-fn pulls_of_many_tasks(rt: HostRuntime) -> Result<(), Fail> {
-    movable_of_empty::<CfsQueue>(&rt, rt.alloc())?;
-    movable_of_empty::<EevdfQueue>(&rt, rt.alloc())?;
-    movable_of_empty::<List<Cfs>>(&rt, rt.alloc())
+    pull_shows(rt, alloc, &pull(queue, Some(10)), EIGHT_ARE_SHOWN, &EIGHT);
 }
 
 /// The first 64 bytes of a pull's context are these, and the others 0.
-fn begins(rt: &impl Abort, alloc: Global, context: &[u8; 160], shown: &str) -> Result<(), Fail> {
+fn begins(rt: &impl Abort, alloc: Global, context: &[u8; 160], shown: &str) {
     let (first, rest) = context.split_at(64);
-    are_bytes_of(rt, alloc, first, shown)?;
+    are_bytes_of(rt, alloc, first, shown);
     for (at, byte) in rest.iter().enumerate() {
         is_byte(rt, at, *byte, 0);
     }
-    Ok(())
 }
 
-/// Tasks 2 and 3 wait at the mark.
-fn one_of_two<Q: RunQueue>(rt: &impl Abort, alloc: Global, queue: &mut Q) -> Result<(), Fail> {
-    put(alloc, queue, task(2, 4294967296, 0))?;
-    put(alloc, queue, task(3, 4294967296, 0))?;
-    let shown = "\
+/// Of two tasks that wait at the mark the one of the greater id is shown first.
+const ONE_OF_TWO: &str = "\
 01000000         ; the puller
 00000000         ; the other
 00000000         ; how many tasks the puller has
@@ -221,13 +180,11 @@ fn one_of_two<Q: RunQueue>(rt: &impl Abort, alloc: Global, queue: &mut Q) -> Res
 00040000         ; its weight
 0000000001000000 ; its v
 ";
-    begins(rt, alloc, &pull(queue, Some(3)), shown)
-}
 
-/// Of two tasks that wait at the mark beside one that may not be pulled the one of the greater id is shown first.
-#[test]
-fn a_pull_of_one_of_two(rt: HostRuntime) -> Result<(), Fail> {
-    one_of_two(&rt, rt.alloc(), &mut CfsQueue::empty())
+fn a_pull_of_one_of_two<Q: RunQueue>(rt: &impl Abort, alloc: Global, queue: &mut Q) {
+    put(rt, alloc, queue, task(2, 4294967296, 0));
+    put(rt, alloc, queue, task(3, 4294967296, 0));
+    begins(rt, alloc, &pull(queue, Some(3)), ONE_OF_TWO);
 }
 
 fn is_settled(rt: &impl Abort, choice: &Choice<Option<u16>>, value: Option<u16>, by: By) {
@@ -235,43 +192,46 @@ fn is_settled(rt: &impl Abort, choice: &Choice<Option<u16>>, value: Option<u16>,
 }
 
 /// Tasks 2 and 3 may be pulled by processor 1, and task 1 may not.
-fn fill<Q: RunQueue>(alloc: Global, queue: &mut Q) -> Result<(), AllocError> {
+fn fill<Q: RunQueue>(rt: &impl Abort, alloc: Global, queue: &mut Q) {
     for (id, mask) in [(1, 1), (2, 3), (3, 3)] {
-        put(alloc, queue, Entity::new(id, 1024, mask, 3_000_000))?;
+        put(rt, alloc, queue, Entity::new(id, 1024, mask, 3_000_000));
     }
-    Ok(())
 }
 
-fn are_settled<Q: RunQueue>(rt: &impl Abort, queue: &Q) {
-    let cases = [
-        (None, Some(3), Some(3), By::Discipline),
-        (Some(1), Some(3), Some(3), By::Discipline),
-        (Some(2), Some(3), Some(2), By::Policy),
-        (Some(3), Some(3), Some(3), By::Policy),
-        (Some(4294967295), Some(3), None, By::Policy),
-        (Some(u64::MAX), Some(3), Some(3), By::Discipline),
-        (Some(65538), Some(3), Some(3), By::Discipline),
-        (Some(7), Some(3), Some(3), By::Discipline),
-        (Some(1), None, None, By::Discipline),
-    ];
-    for (r0, own, value, by) in cases {
-        is_settled(rt, &settle_pull(r0, queue, 1, own), value, by);
-    }
-}
+/// What a policy answers, the own answer, and which task is then pulled, and by whom.
+static SETTLED: [(Option<u64>, Option<u16>, Option<u16>, By); 9] = [
+    (None, Some(3), Some(3), By::Discipline),
+    (Some(1), Some(3), Some(3), By::Discipline),
+    (Some(2), Some(3), Some(2), By::Policy),
+    (Some(3), Some(3), Some(3), By::Policy),
+    (Some(4294967295), Some(3), None, By::Policy),
+    (Some(u64::MAX), Some(3), Some(3), By::Discipline),
+    (Some(65538), Some(3), Some(3), By::Discipline),
+    (Some(7), Some(3), Some(3), By::Discipline),
+    (Some(1), None, None, By::Discipline),
+];
 
 /// Which of the three are pulled.
-fn fill_and_settle<Q: RunQueue>(
-    rt: &impl Abort,
-    alloc: Global,
-    queue: &mut Q,
-) -> Result<(), AllocError> {
-    fill(alloc, queue)?;
-    are_settled(rt, queue);
-    Ok(())
+fn pulls_that_are_permitted<Q: RunQueue>(rt: &impl Abort, alloc: Global, queue: &mut Q) {
+    fill(rt, alloc, queue);
+    for (r0, own, value, by) in &SETTLED {
+        is_settled(rt, &settle_pull(*r0, queue, 1, *own), *value, *by);
+    }
+}
+
+/// What policies are shown of queues of that kind, and which of their answers are taken.
+fn contexts_of<Q: RunQueue + Drop>(rt: &impl Abort, alloc: Global) {
+    a_preemption_beside_one_task(rt, alloc, &mut Q::empty());
+    a_preemption_of_a_task_alone(rt, alloc, &Q::empty());
+    pulls_of_many_tasks(rt, alloc, &mut Q::empty());
+    a_pull_of_one_of_two(rt, alloc, &mut Q::empty());
+    pulls_that_are_permitted(rt, alloc, &mut Q::empty());
 }
 
 #[test]
-fn pulls_that_are_permitted(rt: HostRuntime) -> io::Result<()> {
-    fill_and_settle(&rt, rt.alloc(), &mut CfsQueue::empty())?;
-    Ok(())
+fn contexts_of_each_queue(rt: HostRuntime) {
+    contexts_of::<CfsQueue>(&rt, rt.alloc());
+    contexts_of::<List<Cfs>>(&rt, rt.alloc());
+    contexts_of::<EevdfQueue>(&rt, rt.alloc());
+    contexts_of::<List<Eevdf>>(&rt, rt.alloc());
 }

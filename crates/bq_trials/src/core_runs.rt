@@ -11,9 +11,8 @@ use bq_disc::RunQueue;
 use bq_eevdf::EevdfQueue;
 use bq_load::load;
 use bq_trace::texts::write_answer;
-use std::alloc::{AllocError, Global};
+use std::alloc::Global;
 use std::process::Abort;
-use std::test::Fail;
 
 /// Preempt, one map of 8 bytes and 1 entry: answers the old value of its entry and adds one to it, or answers 2.
 const COUNTING: &str = "\
@@ -76,26 +75,20 @@ enum Told {
 type Answer = Result<Reply, Refusal>;
 
 /// The policy of an image.
-fn policy(alloc: Global, image: &str) -> Result<Option<Policy>, Fail> {
-    let image = bytes_of(alloc, image)?;
-    match load(alloc, image.as_slice()) {
-        Ok(program) => Ok(Some(Policy::new(alloc, program)?)),
-        Err(_) => Err(Fail::from("the image does not load")),
-    }
+fn policy(rt: &impl Abort, alloc: Global, image: &str) -> Policy {
+    let program = load(alloc, bytes_of(rt, alloc, image).as_slice()).expect(rt, "an image");
+    Policy::new(alloc, program).expect(rt, "memory")
 }
 
 /// The policy of an image, if there is an image.
-fn policy_told(alloc: Global, image: Option<&str>) -> Result<Option<Policy>, Fail> {
-    match image {
-        None => Ok(None),
-        Some(image) => policy(alloc, image),
-    }
+fn policy_told(rt: &impl Abort, alloc: Global, image: Option<&str>) -> Option<Policy> {
+    Some(policy(rt, alloc, image?))
 }
 
 /// The event that a row tells.
-fn event(alloc: Global, told: Told) -> Result<Event, Fail> {
+fn event(rt: &impl Abort, alloc: Global, told: Told) -> Event {
     let processor = 0;
-    Ok(match told {
+    match told {
         Told::Admit(task, mask, slice) => Event::Admit {
             task,
             nice: 0,
@@ -107,7 +100,7 @@ fn event(alloc: Global, told: Told) -> Result<Event, Fail> {
             processor,
             hook,
             generation,
-            policy: policy_told(alloc, image)?,
+            policy: policy_told(rt, alloc, image),
         },
         Told::BeginWake(task) => Event::BeginWake { processor, task },
         Told::EndWake(now) => Event::EndWake { processor, now },
@@ -119,52 +112,38 @@ fn event(alloc: Global, told: Told) -> Result<Event, Fail> {
             from,
             now: 0,
         },
-    })
+    }
 }
 
 /// The events that some rows tell, in their order.
-fn events(alloc: Global, rows: &[Told]) -> Result<Vec<Event>, Fail> {
+fn events(rt: &impl Abort, alloc: Global, rows: &[Told]) -> Vec<Event> {
     let mut events = Vec::new(alloc);
     for told in rows {
-        events.push(event(alloc, *told)?)?;
+        events.push(event(rt, alloc, *told)).expect(rt, "memory");
     }
-    Ok(events)
+    events
 }
 
 /// What a core answers some events.
 fn answers<Q: RunQueue + Drop, const P: usize>(
+    rt: &impl Abort,
     alloc: Global,
     events: Vec<Event>,
     board: &mut Plain,
-) -> Result<Vec<Answer>, Fail>
+) -> Vec<Answer>
     requires { P ≤ 64 }
 {
-    let mut core = Core::<Q, P>::new(alloc)?;
-    match core.run(alloc, events, board) {
-        Ok(answers) => Ok(answers),
-        Err(_) => Err(Fail::from("want of memory")),
-    }
+    let mut core = Core::<Q, P>::new(alloc).expect(rt, "memory");
+    core.run(alloc, events, board).expect(rt, "memory")
 }
 
 /// The lines of some answers.
-fn lines(alloc: Global, answers: &[Answer]) -> Result<String, AllocError> {
+fn lines(rt: &impl Abort, alloc: Global, answers: &[Answer]) -> String {
     let mut text = String::new(alloc);
     for answer in answers {
-        write_answer(&mut text, answer)?;
+        write_answer(&mut text, answer).expect(rt, "memory");
     }
-    Ok(text)
-}
-
-/// Some answers have these lines.
-fn are_lines(
-    rt: &impl Abort,
-    alloc: Global,
-    answers: &[Answer],
-    expected: &str,
-) -> Result<(), Fail> {
-    let text = lines(alloc, answers)?;
-    is_text(rt, text.as_str(), expected);
-    Ok(())
+    text
 }
 
 /// A core answers the events of some rows by these lines.
@@ -174,11 +153,11 @@ fn is_answered<Q: RunQueue + Drop, const P: usize>(
     rows: &[Told],
     board: &mut Plain,
     expected: &str,
-) -> Result<(), Fail>
+)
     requires { P ≤ 64 }
 {
-    let answers = answers::<Q, P>(alloc, events(alloc, rows)?, board)?;
-    are_lines(rt, alloc, answers.as_slice(), expected)
+    let answers = answers::<Q, P>(rt, alloc, events(rt, alloc, rows), board);
+    is_text(rt, lines(rt, alloc, answers.as_slice()).as_str(), expected);
 }
 
 /// A policy that counts in its map stands at a hook for three ticks.
@@ -204,8 +183,8 @@ end 2 to 0 by rule steps 0\ndrain 2 run 1 by rule steps 0\ntick run 1 by policy 
 tick run 2 by policy steps 12\ntick run 2 by rule steps 12\nrefused C12 Older 1\n";
 
 #[test]
-fn a_map_is_written_and_read_back(rt: HostRuntime) -> Result<(), Fail> {
-    is_answered::<CfsQueue, 2>(&rt, rt.alloc(), &MAP_ROWS, &mut Plain::new(), MAP_LINES)
+fn a_map_is_written_and_read_back(rt: HostRuntime) {
+    is_answered::<CfsQueue, 2>(&rt, rt.alloc(), &MAP_ROWS, &mut Plain::new(), MAP_LINES);
 }
 
 /// The task of the earliest deadline has had more than its share.
@@ -230,14 +209,14 @@ drain 2 run 2 by rule steps 0\ntick run 1 by rule steps 0\nblock 1 run 2\ntick r
 begin 1 loads 1\nend 1 to 0 by rule steps 0\n";
 
 #[test]
-fn the_earliest_deadline_is_not_eligible(rt: HostRuntime) -> Result<(), Fail> {
+fn the_earliest_deadline_is_not_eligible(rt: HostRuntime) {
     is_answered::<EevdfQueue, 1>(
         &rt,
         rt.alloc(),
         &DEADLINE_ROWS,
         &mut Plain::new(),
         DEADLINE_LINES,
-    )
+    );
 }
 
 /// Processor 1 pulls, by the rule and by policies.
@@ -272,8 +251,8 @@ drain 3 run 1 by rule steps 0\npull 3 run 3 by rule steps 0\npull none run 3 by 
 pull none run 3 by rule steps 2\ndraw 3\ninstall ok\npull 2 run 3 by policy steps 2\nrefused C9 SameProcessor\n";
 
 #[test]
-fn an_emptier_processor_pulls(rt: HostRuntime) -> Result<(), Fail> {
-    is_answered::<CfsQueue, 2>(&rt, rt.alloc(), &PULL_ROWS, &mut Plain::new(), PULL_LINES)
+fn an_emptier_processor_pulls(rt: HostRuntime) {
+    is_answered::<CfsQueue, 2>(&rt, rt.alloc(), &PULL_ROWS, &mut Plain::new(), PULL_LINES);
 }
 
 /// A policy adds to a counter at each tick.
@@ -293,9 +272,8 @@ admit ok\ndraw 1\ninstall ok\nbegin 1 loads 0\nend 1 to 0 by rule steps 0\ndrain
 tick run 1 by policy steps 5\ntick run 1 by policy steps 5\n";
 
 #[test]
-fn what_policies_add_stands_on_the_board(rt: HostRuntime) -> Result<(), Fail> {
+fn what_policies_add_stands_on_the_board(rt: HostRuntime) {
     let mut board = Plain::new();
-    is_answered::<EevdfQueue, 1>(&rt, rt.alloc(), &BOARD_ROWS, &mut board, BOARD_LINES)?;
+    is_answered::<EevdfQueue, 1>(&rt, rt.alloc(), &BOARD_ROWS, &mut board, BOARD_LINES);
     is_number(&rt, board.read(3), 10);
-    Ok(())
 }

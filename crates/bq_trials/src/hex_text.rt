@@ -1,7 +1,7 @@
 //! Bytes that stand in a text as hex.
 
-use std::alloc::{AllocError, Global};
-use std::test::Fail;
+use std::alloc::Global;
+use std::process::Abort;
 
 /// What stands in a line before a `;`.
 fn said_in(line: &str) -> &str {
@@ -12,27 +12,22 @@ fn said_in(line: &str) -> &str {
 }
 
 /// Adds a text without its blanks.
-fn add_words(digits: &mut String, said: &str) -> Result<(), AllocError> {
+fn add_words(rt: &impl Abort, digits: &mut String, said: &str) {
     for word in said.split_ascii_whitespace() {
-        digits.push_str(word)?;
+        digits.push_str(word).expect(rt, "memory");
     }
-    Ok(())
 }
 
 /// Adds the digits of a text's lines.
-fn add_lines(digits: &mut String, text: &str) -> Result<(), AllocError> {
+fn add_lines(rt: &impl Abort, digits: &mut String, text: &str) {
     for line in text.lines() {
-        add_words(digits, said_in(line))?;
+        add_words(rt, digits, said_in(line));
     }
-    Ok(())
 }
 
 /// The bytes that a text has in hex. Blanks count for nothing, and what stands behind a `;` tells what they are.
-pub(crate) fn bytes_of(alloc: Global, text: &str) -> Result<Vec<u8>, Fail> {
+pub(crate) fn bytes_of(rt: &impl Abort, alloc: Global, text: &str) -> Vec<u8> {
     let mut digits = String::new(alloc);
-    add_lines(&mut digits, text)?;
-    match hex::decode(alloc, digits.as_bytes()) {
-        Ok(bytes) => Ok(bytes),
-        Err(_) => Err(Fail::from("not hex")),
-    }
+    add_lines(rt, &mut digits, text);
+    hex::decode(alloc, digits.as_bytes()).expect(rt, "not hex")
 }

@@ -3,14 +3,13 @@
 
 ghost use Rattle.std.specs.Prelude.{◌≤◌, length};
 
-use crate::asserting::{are_bytes_of, is_byte};
+use crate::asserting::{are_bytes_of, is_byte, is_number};
 use bq_disc::Entity;
 use bq_hooks::{
     By, Choice, Loads, Place, own_place, place_ctx, settle_place, settle_preempt, wide_place_ctx,
 };
 use std::alloc::Global;
 use std::process::Abort;
-use std::test::Fail;
 
 /// The loads 1, 2, 3 and so on.
 fn rising(count: u16) -> Loads {
@@ -24,21 +23,14 @@ fn rising(count: u16) -> Loads {
 }
 
 /// Compares a context with its first 40 bytes and the loads of so many processors behind them.
-fn shows(
-    rt: &impl Abort,
-    alloc: Global,
-    context: &[u8],
-    header: &str,
-    processors: usize,
-) -> Result<(), Fail>
+fn shows(rt: &impl Abort, alloc: Global, context: &[u8], header: &str, processors: usize)
     requires { 40 ≤ length context.now }
 {
     let (first, loads) = context.split_at(40);
-    are_bytes_of(rt, alloc, first, header)?;
+    are_bytes_of(rt, alloc, first, header);
     for (at, byte) in loads.iter().enumerate() {
         is_byte(rt, at, *byte, load_byte(at, processors));
     }
-    Ok(())
 }
 
 /// A byte of the loads of so many processors, 64 at most, each of which is its processor's number and one more.
@@ -51,43 +43,89 @@ fn load_byte(at: usize, processors: usize) -> u8 {
 }
 
 /// Compares the context of version 1.
-fn first_shows(rt: &impl Abort, alloc: Global, facts: &Place, header: &str) -> Result<(), Fail> {
+fn first_shows(rt: &impl Abort, alloc: Global, facts: &Place, header: &str) {
     let mut context = [0xaa; 104];
     place_ctx(facts, &mut context);
-    shows(rt, alloc, &context, header, facts.processors.min(16))
+    shows(rt, alloc, &context, header, facts.processors.min(16));
 }
 
 /// And that of version 2.
-fn second_shows(rt: &impl Abort, alloc: Global, facts: &Place, header: &str) -> Result<(), Fail> {
+fn second_shows(rt: &impl Abort, alloc: Global, facts: &Place, header: &str) {
     let mut context = [0xaa; 296];
     wide_place_ctx(facts, &mut context);
-    shows(rt, alloc, &context, header, facts.processors.min(64))
+    shows(rt, alloc, &context, header, facts.processors.min(64));
 }
 
-/// Compares both contexts of a place.
-fn both_show(
-    rt: &impl Abort,
-    alloc: Global,
-    facts: &Place,
-    first: &str,
-    second: &str,
-) -> Result<(), Fail> {
-    first_shows(rt, alloc, facts, first)?;
-    second_shows(rt, alloc, facts, second)
+/// A task that is placed, by the first words of its contexts in both versions.
+struct Row {
+    id: u16,
+    weight: u32,
+    mask: u64,
+    slice: u64,
+    prev: Option<u8>,
+    waking: u8,
+    processors: u16,
+    own: u8,
+    first: &'static str,
+    second: &'static str,
 }
 
-/// On one processor both versions show the same.
-#[test]
-fn place_on_one_processor(rt: HostRuntime) -> Result<(), Fail> {
-    let task = Entity::new(1023, 1024, 1, 100_000);
-    let facts = Place {
-        task: &task,
+static ROWS: [Row; 4] = [
+    // on one processor both versions show the same
+    Row {
+        id: 1023,
+        weight: 1024,
+        mask: 1,
+        slice: 100_000,
+        prev: None,
         waking: 0,
         processors: 1,
         own: 0,
-        loads: &rising(1),
-    };
-    let header = "\
+        first: ON_ONE,
+        second: ON_ONE,
+    },
+    // and on sixteen: number 15 is the last that version 1 shows
+    Row {
+        id: 3,
+        weight: 88761,
+        mask: 0x8001,
+        slice: 100_000_000,
+        prev: Some(15),
+        waking: 15,
+        processors: 16,
+        own: 0,
+        first: ON_SIXTEEN,
+        second: ON_SIXTEEN,
+    },
+    // on more, version 1 shows sixteen processors, and none in place of those beyond
+    Row {
+        id: 513,
+        weight: 15,
+        mask: 0x8000_0000_0001_8001,
+        slice: 3_000_000,
+        prev: Some(63),
+        waking: 16,
+        processors: 64,
+        own: 15,
+        first: FIRST_ON_SIXTY_FOUR,
+        second: SECOND_ON_SIXTY_FOUR,
+    },
+    // an own choice beyond number 15 is not shown to version 1; mask bits beyond the machine are shown to neither
+    Row {
+        id: 1,
+        weight: 1024,
+        mask: 0xffff_ffff_0010_0000,
+        slice: 3_000_000,
+        prev: Some(14),
+        waking: 15,
+        processors: 32,
+        own: 20,
+        first: FIRST_ON_THIRTY_TWO,
+        second: SECOND_ON_THIRTY_TWO,
+    },
+];
+
+const ON_ONE: &str = "\
 ff030000         ; the task
 00040000         ; its weight
 0100000000000000 ; its mask
@@ -97,22 +135,8 @@ ffffffff         ; no previous one
 01000000         ; how many processors there are
 00000000         ; the own choice
 ";
-    both_show(&rt, rt.alloc(), &facts, header, header)
-}
 
-/// And on sixteen: number 15 is the last that version 1 shows.
-#[test]
-fn place_on_sixteen_processors(rt: HostRuntime) -> Result<(), Fail> {
-    let mut task = Entity::new(3, 88761, 0x8001, 100_000_000);
-    task.set_prev(15);
-    let facts = Place {
-        task: &task,
-        waking: 15,
-        processors: 16,
-        own: 0,
-        loads: &rising(16),
-    };
-    let header = "\
+const ON_SIXTEEN: &str = "\
 03000000         ; the task
 b95a0100         ; its weight
 0180000000000000 ; its mask
@@ -122,22 +146,8 @@ b95a0100         ; its weight
 10000000         ; how many processors there are
 00000000         ; the own choice
 ";
-    both_show(&rt, rt.alloc(), &facts, header, header)
-}
 
-/// On more, version 1 shows sixteen processors, and none in place of those beyond.
-#[test]
-fn place_on_sixty_four_processors(rt: HostRuntime) -> Result<(), Fail> {
-    let mut task = Entity::new(513, 15, 0x8000_0000_0001_8001, 3_000_000);
-    task.set_prev(63);
-    let facts = Place {
-        task: &task,
-        waking: 16,
-        processors: 64,
-        own: 15,
-        loads: &rising(64),
-    };
-    let first = "\
+const FIRST_ON_SIXTY_FOUR: &str = "\
 01020000         ; the task
 0f000000         ; its weight
 0180000000000000 ; its mask, of the first sixteen
@@ -147,7 +157,8 @@ ffffffff         ; nor is the previous one
 10000000         ; how many processors are shown
 0f000000         ; the own choice
 ";
-    let second = "\
+
+const SECOND_ON_SIXTY_FOUR: &str = "\
 01020000         ; the task
 0f000000         ; its weight
 0180010000000080 ; its mask
@@ -157,22 +168,8 @@ c0c62d0000000000 ; its slice
 40000000         ; how many processors there are
 0f000000         ; the own choice
 ";
-    both_show(&rt, rt.alloc(), &facts, first, second)
-}
 
-/// An own choice beyond number 15 is not shown to version 1; mask bits beyond the machine are shown to neither.
-#[test]
-fn place_on_thirty_two_processors(rt: HostRuntime) -> Result<(), Fail> {
-    let mut task = Entity::new(1, 1024, 0xffff_ffff_0010_0000, 3_000_000);
-    task.set_prev(14);
-    let facts = Place {
-        task: &task,
-        waking: 15,
-        processors: 32,
-        own: 20,
-        loads: &rising(32),
-    };
-    let first = "\
+const FIRST_ON_THIRTY_TWO: &str = "\
 01000000         ; the task
 00040000         ; its weight
 0000000000000000 ; its mask, of the first sixteen
@@ -182,7 +179,8 @@ c0c62d0000000000 ; its slice
 10000000         ; how many processors are shown
 ffffffff         ; the own choice is not shown
 ";
-    let second = "\
+
+const SECOND_ON_THIRTY_TWO: &str = "\
 01000000         ; the task
 00040000         ; its weight
 0000100000000000 ; its mask
@@ -192,43 +190,106 @@ c0c62d0000000000 ; its slice
 20000000         ; how many processors there are
 14000000         ; the own choice
 ";
-    both_show(&rt, rt.alloc(), &facts, first, second)
+
+/// The task of a row.
+fn task(row: &Row) -> Entity {
+    let weight = row.weight.clamp(15, 88761);
+    let slice = row.slice.clamp(100_000, 100_000_000);
+    let mut task = Entity::new(row.id, weight, row.mask, slice);
+    if let Some(prev) = row.prev {
+        task.set_prev(prev);
+    }
+    task
+}
+
+/// Both contexts of a place show what the row says.
+fn both_show(rt: &impl Abort, alloc: Global, row: &Row) {
+    let facts = Place {
+        task: &task(row),
+        waking: row.waking,
+        processors: usize::from(row.processors),
+        own: row.own,
+        loads: &rising(row.processors),
+    };
+    first_shows(rt, alloc, &facts, row.first);
+    second_shows(rt, alloc, &facts, row.second);
+}
+
+#[test]
+fn places_are_shown(rt: HostRuntime) {
+    for row in &ROWS {
+        both_show(&rt, rt.alloc(), row);
+    }
+}
+
+/// What a policy answers, and by whom a task is placed then.
+static PERMITTED_PLACES: [(Option<u64>, By); 6] = [
+    (None, By::Discipline),
+    (Some(200), By::Discipline),
+    (Some(0), By::Discipline),
+    (Some(u64::MAX), By::Discipline),
+    (Some(257), By::Discipline),
+    (Some(1), By::Policy),
+];
+
+fn is_placed(rt: &impl Abort, r0: Option<u64>, task: &Entity, by: By) {
+    assert_eq!(rt; settle_place(r0, 2, task, 1), Choice { value: 1, by });
 }
 
 /// Of two processors the mask allows the second: 200, 0 and -1 are not permitted, and 1 is.
 #[test]
 fn places_that_are_permitted(rt: HostRuntime) {
     let task = Entity::new(3, 1024, 2, 3_000_000);
-    let cases = [
-        (None, By::Discipline),
-        (Some(200), By::Discipline),
-        (Some(0), By::Discipline),
-        (Some(u64::MAX), By::Discipline),
-        (Some(257), By::Discipline),
-        (Some(1), By::Policy),
-    ];
-    for (r0, by) in cases {
-        assert_eq!(rt; settle_place(r0, 2, &task, 1), Choice { value: 1, by });
+    for (r0, by) in &PERMITTED_PLACES {
+        is_placed(&rt, *r0, &task, *by);
     }
+}
+
+/// What a policy answers, what the discipline does, what is done then, and by whom.
+static PREEMPTIONS: [(Option<u64>, bool, bool, By); 9] = [
+    (None, false, false, By::Discipline),
+    (None, true, true, By::Discipline),
+    (Some(0), false, false, By::Policy),
+    (Some(1), true, true, By::Policy),
+    (Some(2), false, false, By::Discipline),
+    (Some(2), true, true, By::Discipline),
+    (Some(1 << 32), true, true, By::Discipline),
+    (Some(0), true, false, By::Policy),
+    (Some(1), false, true, By::Policy),
+];
+
+fn is_settled(rt: &impl Abort, choice: &Choice<bool>, value: bool, by: By) {
+    assert_eq!(rt; *choice, Choice { value, by });
 }
 
 /// 0 and 1 are permitted, whatever the discipline's own answer is.
 #[test]
 fn preemptions_that_are_permitted(rt: HostRuntime) {
-    let cases = [
-        (None, false, By::Discipline),
-        (None, true, By::Discipline),
-        (Some(0), false, By::Policy),
-        (Some(1), true, By::Policy),
-        (Some(2), false, By::Discipline),
-        (Some(2), true, By::Discipline),
-        (Some(1 << 32), true, By::Discipline),
-    ];
-    for (r0, value, by) in cases {
-        assert_eq!(rt; settle_preempt(r0, value), Choice { value, by });
+    for (r0, own, value, by) in &PREEMPTIONS {
+        is_settled(&rt, &settle_preempt(*r0, *own), *value, *by);
     }
-    assert!(rt; !settle_preempt(Some(0), true).value);
-    assert!(rt; settle_preempt(Some(1), false).value);
+}
+
+/// A mask of six processors, the previous one, and the own place.
+static OWN_PLACES: [(u64, Option<u8>, u8); 10] = [
+    (0b111111, Some(0), 5),
+    (0b011111, Some(0), 1),
+    (0b011111, Some(3), 3),
+    (0b011111, Some(4), 4),
+    (0b011111, Some(2), 1),
+    (0b010010, Some(3), 1),
+    (0b001101, Some(0), 3),
+    (0b000101, Some(0), 2),
+    (0b000001, Some(5), 0),
+    (0b011000, None, 3),
+];
+
+fn is_own_place(rt: &impl Abort, loads: &Loads, mask: u64, prev: Option<u8>, place: u8) {
+    let mut task = Entity::new(1, 1024, mask.clamp(1, 63), 3_000_000);
+    if let Some(prev) = prev {
+        task.set_prev(prev);
+    }
+    is_number(rt, u64::from(own_place(6, loads, &task)), u64::from(place));
 }
 
 /// The least load is chosen in the mask; of equal loads the previous processor, and else the least number.
@@ -240,22 +301,7 @@ fn own_places(rt: HostRuntime) {
             loads.push(load);
         }
     }
-    let cases = [
-        (0b111111, 0, 5),
-        (0b011111, 0, 1),
-        (0b011111, 3, 3),
-        (0b011111, 4, 4),
-        (0b011111, 2, 1),
-        (0b010010, 3, 1),
-        (0b001101, 0, 3),
-        (0b000101, 0, 2),
-        (0b000001, 5, 0),
-    ];
-    for (mask, prev, place) in cases {
-        let mut task = Entity::new(1, 1024, mask, 3_000_000);
-        task.set_prev(prev);
-        assert_eq!(rt; own_place(6, &loads, &task), place);
+    for (mask, prev, place) in &OWN_PLACES {
+        is_own_place(&rt, &loads, *mask, *prev, *place);
     }
-    let task = Entity::new(1, 1024, 0b011000, 3_000_000);
-    assert_eq!(rt; own_place(6, &loads, &task), 3);
 }

@@ -5,9 +5,8 @@ use bq_asm::assemble;
 use bq_bpf::{Call, MapShape, Plain, context_length};
 use bq_policies::{Env, Hook, Hooks, Installed, Policy, Scratch, Version};
 use bq_verify::{Program, verify};
-use std::alloc::{AllocError, Global};
+use std::alloc::Global;
 use std::process::Abort;
-use std::test::Fail;
 
 /// `ldmap r1, 0`, looks entry 0 up, answers its value, and adds one to it.
 const COUNTS: &str = "\
@@ -37,26 +36,23 @@ mov64 r0, 0
 exit
 ";
 
-/// The policy for the hook preempt, where the program is accepted.
-fn policy(alloc: Global, text: &str, shapes: &[MapShape]) -> Result<Option<Policy>, AllocError> {
-    let insns = match assemble(alloc, text) {
-        Ok(insns) => insns,
-        Err(_) => return Ok(None),
-    };
-    let shapes = shapes.to_vec(alloc)?;
-    if shapes.len() > 8 {
-        return Ok(None);
-    }
+/// The policy for the hook preempt, beside maps of these shapes.
+fn policy(rt: &impl Abort, alloc: Global, text: &str, shapes: &[MapShape]) -> Policy {
+    assert!(rt; shapes.len() <= 8);
     let program = Program {
-        insns,
-        shapes,
+        insns: assemble(alloc, text).expect(rt, "a program"),
+        shapes: shapes.to_vec(alloc).expect(rt, "memory"),
         hook: Hook::Preempt,
         version: Version::First,
     };
-    match verify(alloc, program) {
-        Ok(verified) => Ok(Some(Policy::new(alloc, verified)?)),
-        Err(_) => Ok(None),
-    }
+    let verified = verify(alloc, program).expect(rt, "not accepted");
+    Policy::new(alloc, verified).expect(rt, "memory")
+}
+
+/// A place at which a policy stands, as generation 1.
+fn installed(rt: &impl Abort, alloc: Global, policy: &Policy) -> Installed {
+    let policy = policy.clone().expect(rt, "memory");
+    Installed::new(alloc, Some(policy), 1).expect(rt, "memory")
 }
 
 /// What stands there answers on a context of zeros.
@@ -77,22 +73,6 @@ fn ask(installed: &mut Installed, scratch: &mut Scratch, board: &mut Plain) -> O
     Some((done.r0, done.steps))
 }
 
-/// The policy, or why the test ends here.
-fn accepted(alloc: Global, text: &str, shapes: &[MapShape]) -> Result<Policy, Fail> {
-    match policy(alloc, text, shapes)? {
-        Some(policy) => Ok(policy),
-        None => Err(Fail::from("not accepted")),
-    }
-}
-
-/// One map of 8 bytes and 1 entry.
-fn one_entry() -> Result<MapShape, Fail> {
-    match MapShape::new(8, 1) {
-        Some(shape) => Ok(shape),
-        None => Err(Fail::from("no shape")),
-    }
-}
-
 /// What stands there gives that answer in so many steps.
 fn answers(
     rt: &impl Abort,
@@ -102,13 +82,6 @@ fn answers(
     answer: (u64, u32),
 ) {
     assert_eq!(rt; ask(installed, scratch, board), Some(answer));
-}
-
-/// Two places at which one policy stands, as generation 1.
-fn two_places(alloc: Global, policy: Policy) -> Result<(Installed, Installed), AllocError> {
-    let first = Installed::new(alloc, Some(policy.clone()?), 1)?;
-    let second = Installed::new(alloc, Some(policy), 1)?;
-    Ok((first, second))
 }
 
 /// Where one policy stands twice each counts on its own.
@@ -127,13 +100,18 @@ fn count_apart(
     is_true(rt, scratch.calls().is_empty());
 }
 
+/// At two places stands one policy.
+fn stands_twice(rt: &impl Abort, alloc: Global, counts: &Policy) {
+    let mut first = installed(rt, alloc, counts);
+    let mut second = installed(rt, alloc, counts);
+    count_apart(rt, &mut first, &mut second, &mut Scratch::new());
+}
+
 #[test]
-fn maps_of_their_own(rt: HostRuntime) -> Result<(), Fail> {
-    let alloc = rt.alloc();
-    let counts = accepted(alloc, COUNTS, &[one_entry()?])?;
-    let (mut first, mut second) = two_places(alloc, counts)?;
-    count_apart(&rt, &mut first, &mut second, &mut Scratch::new());
-    Ok(())
+fn maps_of_their_own(rt: HostRuntime) {
+    let one_entry = MapShape::new(8, 1).expect(&rt, "a shape");
+    let counts = policy(&rt, rt.alloc(), COUNTS, &[one_entry]);
+    stands_twice(&rt, rt.alloc(), &counts);
 }
 
 /// A run added 5 to counter 3.
@@ -159,19 +137,20 @@ fn adds_twice(rt: &impl Abort, installed: &mut Installed, scratch: &mut Scratch)
 }
 
 #[test]
-fn counters_of_all(rt: HostRuntime) -> Result<(), Fail> {
-    let alloc = rt.alloc();
-    let adds = accepted(alloc, ADDS, &[])?;
-    let mut installed = Installed::new(alloc, Some(adds), 1)?;
-    adds_twice(&rt, &mut installed, &mut Scratch::new());
-    Ok(())
+fn counters_of_all(rt: HostRuntime) {
+    let adds = policy(&rt, rt.alloc(), ADDS, &[]);
+    adds_twice(
+        &rt,
+        &mut installed(&rt, rt.alloc(), &adds),
+        &mut Scratch::new(),
+    );
 }
 
 /// At its hook a policy of generation 7 stands.
-fn equip(alloc: Global, hooks: &mut Hooks, policy: Policy) -> Result<(), AllocError> {
+fn equip(rt: &impl Abort, alloc: Global, hooks: &mut Hooks, policy: Policy) {
     let hook = policy.hook();
-    hooks.install(hook, Installed::new(alloc, Some(policy), 7)?);
-    Ok(())
+    let installed = Installed::new(alloc, Some(policy), 7).expect(rt, "memory");
+    hooks.install(hook, installed);
 }
 
 /// What stands at the hooks once a policy stands at this one, and of which version it is.
@@ -183,14 +162,13 @@ fn preempt_alone_is_equipped(rt: &impl Abort, hooks: &Hooks) {
 }
 
 /// At hooks where nothing stands a policy is installed.
-fn are_equipped(rt: &impl Abort, alloc: Global, hooks: &mut Hooks) -> Result<(), Fail> {
+fn are_equipped(rt: &impl Abort, alloc: Global, hooks: &mut Hooks) {
     is_number(rt, hooks.generation(Hook::Preempt), 0);
-    equip(alloc, hooks, accepted(alloc, ADDS, &[])?)?;
+    equip(rt, alloc, hooks, policy(rt, alloc, ADDS, &[]));
     preempt_alone_is_equipped(rt, hooks);
-    Ok(())
 }
 
 #[test]
-fn three_hooks(rt: HostRuntime) -> Result<(), Fail> {
-    are_equipped(&rt, rt.alloc(), &mut Hooks::new())
+fn three_hooks(rt: HostRuntime) {
+    are_equipped(&rt, rt.alloc(), &mut Hooks::new());
 }

@@ -9,19 +9,12 @@ use bq_cfs::{Cfs, CfsQueue};
 use bq_disc::{Entity, Entry, List, Node, RuledQueue, RunQueue};
 use bq_eevdf::{Eevdf, EevdfQueue};
 use bq_tree::{NoSums, Tree};
-use std::alloc::{AllocError, Global};
-use std::io;
+use std::alloc::Global;
 use std::process::Abort;
-
-fn are_alike(rt: &impl Abort, row: u32, a: &[i128], b: &[i128]) {
-    assert_eq!(rt; a, b, "command {row}");
-}
 
 /// Two queues answer a command alike.
 fn answers_alike(rt: &impl Abort, row: u32, a: &Answer, b: &Answer) {
-    for (a, b) in a.iter().zip(b) {
-        are_alike(rt, row, a, b);
-    }
+    assert!(rt; a == b, "command {row}");
 }
 
 /// Gives a list of commands to two queues, and compares each answer.
@@ -31,18 +24,17 @@ fn agree<A: RunQueue, B: RunQueue>(
     a: &mut A,
     b: &mut B,
     commands: u32,
-) -> Result<(), AllocError> {
+) {
     let mut draws = Draws::new(20);
     let mut current_a: Option<Entity> = None;
     let mut current_b: Option<Entity> = None;
     for row in 0..commands {
         let command = draws.command();
-        let from_a = perform(alloc, a, &mut current_a, &command)?;
-        let from_b = perform(alloc, b, &mut current_b, &command)?;
+        let from_a = perform(rt, alloc, a, &mut current_a, &command);
+        let from_b = perform(rt, alloc, b, &mut current_b, &command);
         answers_alike(rt, row, &from_a, &from_b);
     }
     is_true(rt, a.len() > 100);
-    Ok(())
 }
 
 /// Gives a list of commands to two empty queues.
@@ -50,27 +42,24 @@ fn begin_alike<A: RunQueue + Drop, B: RunQueue + Drop>(
     rt: &impl Abort,
     alloc: Global,
     commands: u32,
-) -> Result<(), AllocError> {
-    agree(rt, alloc, &mut A::empty(), &mut B::empty(), commands)
+) {
+    agree(rt, alloc, &mut A::empty(), &mut B::empty(), commands);
 }
 
 #[test]
-fn the_tree_answers_as_the_list_under_cfs(rt: HostRuntime) -> io::Result<()> {
-    begin_alike::<CfsQueue, List<Cfs>>(&rt, rt.alloc(), 20_000)?;
-    Ok(())
+fn the_tree_answers_as_the_list_under_cfs(rt: HostRuntime) {
+    begin_alike::<CfsQueue, List<Cfs>>(&rt, rt.alloc(), 20_000);
 }
 
 #[test]
-fn the_tree_answers_as_the_list_under_eevdf(rt: HostRuntime) -> io::Result<()> {
-    begin_alike::<EevdfQueue, List<Eevdf>>(&rt, rt.alloc(), 20_000)?;
-    Ok(())
+fn the_tree_answers_as_the_list_under_eevdf(rt: HostRuntime) {
+    begin_alike::<EevdfQueue, List<Eevdf>>(&rt, rt.alloc(), 20_000);
 }
 
 /// A tree whose nodes know no sums is walked where EEVDF asks for them.
 #[test]
-fn a_tree_without_sums_answers_as_the_list(rt: HostRuntime) -> io::Result<()> {
-    begin_alike::<RuledQueue<Tree<NoSums>, Eevdf>, List<Eevdf>>(&rt, rt.alloc(), 5_000)?;
-    Ok(())
+fn a_tree_without_sums_answers_as_the_list(rt: HostRuntime) {
+    begin_alike::<RuledQueue<Tree<NoSums>, Eevdf>, List<Eevdf>>(&rt, rt.alloc(), 5_000);
 }
 
 /// A queue's task of nice 0: its id, v and deadline.
@@ -81,73 +70,60 @@ fn is_fresh(rt: &impl Abort, fresh: bool, id: u16) {
 }
 
 /// Puts some tasks of nice 0 into a queue.
-fn fill<Q: RunQueue>(
-    rt: &impl Abort,
-    alloc: Global,
-    queue: &mut Q,
-    rows: &[Row],
-) -> Result<(), AllocError> {
+fn fill<Q: RunQueue>(rt: &impl Abort, alloc: Global, queue: &mut Q, rows: &[Row]) {
     for row in rows {
         let (id, v, deadline) = *row;
         let mut entity = Entity::new(id, 1024, 1, 3_000_000);
         entity.set_times(v.min(1 << 62), deadline.min(1 << 62));
-        is_fresh(rt, put(alloc, queue, entity)?, id);
+        is_fresh(rt, put(rt, alloc, queue, entity), id);
     }
-    Ok(())
 }
 
-/// What a queue of some tasks of nice 0 chooses, and its mark.
-fn chooses_of<Q: RunQueue + Drop>(
-    rt: &impl Abort,
-    alloc: Global,
-    rows: &[Row],
-    chosen: u16,
-    mark: u64,
-) -> Result<(), AllocError> {
-    let mut queue = Q::empty();
-    fill(rt, alloc, &mut queue, rows)?;
-    is_task(rt, queue.choice(None), Some(chosen));
-    is_number(rt, queue.mark(None), mark);
-    Ok(())
-}
-
-/// By the tree and by the list.
-fn chooses(
-    rt: &impl Abort,
-    alloc: Global,
-    rows: &[Row],
-    chosen: u16,
-    mark: u64,
-) -> Result<(), AllocError> {
-    chooses_of::<EevdfQueue>(rt, alloc, rows, chosen, mark)?;
-    chooses_of::<List<Eevdf>>(rt, alloc, rows, chosen, mark)
-}
+/// Tasks of nice 0, which of them a queue chooses, and its mark.
+type Choice = (&'static [Row], u16, u64);
 
 /// The earliest deadline is chosen while it is eligible, and once its task is past the mean the other one is; of equal
 /// deadlines that of the lesser id. The mark is the mean, rounded down.
-#[test]
-fn rows_of_the_choice_under_eevdf(rt: HostRuntime) -> io::Result<()> {
-    let both_at_the_mark: [Row; 2] = [(1, 4294967296, 4297967296), (2, 4294967296, 4295067296)];
-    chooses(&rt, rt.alloc(), &both_at_the_mark, 2, 4294967296)?;
-    let second_has_run: [Row; 2] = [(1, 4294967296, 4297967296), (2, 4295067296, 4295167296)];
-    chooses(&rt, rt.alloc(), &second_has_run, 1, 4295017296)?;
-    let second_has_run_again: [Row; 2] = [(1, 4295117296, 4298117296), (2, 4295167296, 4295267296)];
-    chooses(&rt, rt.alloc(), &second_has_run_again, 1, 4295142296)?;
-    let equal_deadlines: [Row; 3] = [(7, 4, 9), (3, 5, 9), (9, 100, 1000)];
-    chooses(&rt, rt.alloc(), &equal_deadlines, 3, 36)?;
-    let half_past_the_mean: [Row; 2] = [(7, 4, 10), (3, 5, 9)];
-    chooses(&rt, rt.alloc(), &half_past_the_mean, 7, 4)?;
-    Ok(())
+static CHOICES: [Choice; 5] = [
+    // both are at the mark
+    (
+        &[(1, 4294967296, 4297967296), (2, 4294967296, 4295067296)],
+        2,
+        4294967296,
+    ),
+    // the second has run
+    (
+        &[(1, 4294967296, 4297967296), (2, 4295067296, 4295167296)],
+        1,
+        4295017296,
+    ),
+    // and again
+    (
+        &[(1, 4295117296, 4298117296), (2, 4295167296, 4295267296)],
+        1,
+        4295142296,
+    ),
+    // equal deadlines
+    (&[(7, 4, 9), (3, 5, 9), (9, 100, 1000)], 3, 36),
+    // half past the mean
+    (&[(7, 4, 10), (3, 5, 9)], 7, 4),
+];
+
+/// What a queue of the tasks chooses, and its mark.
+fn chooses<Q: RunQueue>(rt: &impl Abort, alloc: Global, queue: &mut Q, choice: &Choice) {
+    let (rows, chosen, mark) = *choice;
+    fill(rt, alloc, queue, rows);
+    is_task(rt, queue.choice(None), Some(chosen));
+    is_number(rt, queue.mark(None), mark);
 }
 
 /// Puts 1,024 greatest tasks into a queue.
-fn fill_with_greatest<Q: RunQueue>(alloc: Global, queue: &mut Q) -> Result<(), AllocError> {
+fn fill_with_greatest<Q: RunQueue>(rt: &impl Abort, alloc: Global, queue: &mut Q) {
     for id in 0..1024 {
         let mut entity = Entity::new(1023 - id, 88761, 1, 3_000_000);
         entity.set_times(1 << 62, 1 << 62);
-        put(alloc, queue, entity)?;
+        put(rt, alloc, queue, entity);
     }
-    Ok(())
 }
 
 /// They are chosen by their ids, until none is left.
@@ -159,25 +135,13 @@ fn are_chosen_in_order<Q: RunQueue>(rt: &impl Abort, queue: &mut Q) {
     is_task(rt, queue.choice(None), None);
 }
 
-/// An empty queue has room for them, and all are eligible.
-fn greatest_fit<Q: RunQueue>(
-    rt: &impl Abort,
-    alloc: Global,
-    queue: &mut Q,
-) -> Result<(), AllocError> {
-    fill_with_greatest(alloc, queue)?;
+/// Sums of 1,024 greatest tasks fit: all are eligible, since none is past the mean, and of equal deadlines the least id
+/// is chosen.
+fn greatest_tasks_are_all_eligible<Q: RunQueue>(rt: &impl Abort, alloc: Global, queue: &mut Q) {
+    fill_with_greatest(rt, alloc, queue);
     is_number(rt, queue.len() as u64, 1024);
     is_number(rt, queue.mark(None), 1 << 62);
     are_chosen_in_order(rt, queue);
-    Ok(())
-}
-
-/// Sums of 1,024 greatest tasks fit: all are eligible, since none is past the mean, and of equal deadlines the least id
-/// is chosen.
-#[test]
-fn greatest_tasks_are_all_eligible(rt: HostRuntime) -> io::Result<()> {
-    greatest_fit(&rt, rt.alloc(), &mut EevdfQueue::empty())?;
-    Ok(())
 }
 
 /// A task that was so far from the mark wakes, and has this v and this deadline.
@@ -195,6 +159,7 @@ fn wakes<Q: RunQueue>(
     is_number(rt, node.entity.deadline(), deadline);
 }
 
+/// A woken task keeps its lag as far as one slice's virtual time, at the mark of a queue that is empty.
 fn wake_under_eevdf<Q: RunQueue>(rt: &impl Abort, queue: &Q) {
     let rows = [
         (1024, 100_000, 250_000, 4295067296, 4295167296),
@@ -219,11 +184,19 @@ fn wake_under_cfs<Q: RunQueue>(rt: &impl Abort, queue: &Q) {
     }
 }
 
-/// A woken task keeps its lag as far as one slice's virtual time, at the mark of a queue that is empty.
+/// Worked rows of EEVDF: choices and marks, many great tasks, and wakes.
+fn rows_under_eevdf<Q: RunQueue + Drop>(rt: &impl Abort, alloc: Global) {
+    for choice in &CHOICES {
+        chooses(rt, alloc, &mut Q::empty(), choice);
+    }
+    greatest_tasks_are_all_eligible(rt, alloc, &mut Q::empty());
+    wake_under_eevdf(rt, &Q::empty());
+}
+
 #[test]
-fn rows_of_the_wake_entry(rt: HostRuntime) {
-    wake_under_eevdf(&rt, &EevdfQueue::empty());
-    wake_under_cfs(&rt, &CfsQueue::empty());
+fn rows_of_eevdf(rt: HostRuntime) {
+    rows_under_eevdf::<EevdfQueue>(&rt, rt.alloc());
+    rows_under_eevdf::<List<Eevdf>>(&rt, rt.alloc());
 }
 
 /// A task that begins at 2^32.
@@ -247,11 +220,9 @@ fn gives_way<Q: RunQueue>(rt: &impl Abort, queue: &mut Q, node: &mut Node) {
 }
 
 /// Task 1 runs beside task 2.
-fn gives_way_to_one<Q: RunQueue + Drop>(rt: &impl Abort, alloc: Global) -> Result<(), AllocError> {
-    let mut queue = Q::empty();
-    fill(rt, alloc, &mut queue, &[(2, 4294967296, 0)])?;
-    gives_way(rt, &mut queue, &mut started(1024));
-    Ok(())
+fn gives_way_to_one<Q: RunQueue>(rt: &impl Abort, alloc: Global, queue: &mut Q) {
+    fill(rt, alloc, queue, &[(2, 4294967296, 0)]);
+    gives_way(rt, queue, &mut started(1024));
 }
 
 /// A queue without others has its mark at the task that has run.
@@ -268,16 +239,19 @@ fn mark_stays<Q: RunQueue>(rt: &impl Abort, queue: &mut Q, node: &mut Node) {
     is_number(rt, queue.mark(None), 281479271677951);
 }
 
-fn marks_of_a_task_alone<Q: RunQueue + Drop>(rt: &impl Abort) {
-    let mut queue = Q::empty();
-    mark_follows(rt, &mut queue, &mut started(335));
-    mark_stays(rt, &mut queue, &mut started(1024));
+fn marks_of_a_task_alone<Q: RunQueue>(rt: &impl Abort, queue: &mut Q) {
+    mark_follows(rt, queue, &mut started(335));
+    mark_stays(rt, queue, &mut started(1024));
 }
 
-/// The current task gives way only beyond 1,000,000, and its time counts by its weight.
+/// The current task gives way only beyond 1,000,000, and its time counts by its weight; and wakes.
+fn rows_under_cfs<Q: RunQueue + Drop>(rt: &impl Abort, alloc: Global) {
+    gives_way_to_one(rt, alloc, &mut Q::empty());
+    marks_of_a_task_alone(rt, &mut Q::empty());
+    wake_under_cfs(rt, &Q::empty());
+}
+
 #[test]
-fn rows_of_cfs(rt: HostRuntime) -> io::Result<()> {
-    gives_way_to_one::<CfsQueue>(&rt, rt.alloc())?;
-    marks_of_a_task_alone::<CfsQueue>(&rt);
-    Ok(())
+fn rows_of_cfs(rt: HostRuntime) {
+    rows_under_cfs::<CfsQueue>(&rt, rt.alloc());
 }

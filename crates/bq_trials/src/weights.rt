@@ -1,9 +1,10 @@
 //! The table of weights and worked rows of virtual time, with values from outside this program.
 
+use crate::asserting::{is_number, is_true};
 use bq_weights::{GREATEST, advance, distance, shift, shift_within, vdelta, weight};
 
 /// The weights of the nice values from -20 to 19, as Linux has them in sched_prio_to_weight (kernel/sched/core.c).
-const TABLE: [u32; 40] = [
+static TABLE: [u32; 40] = [
     88761, 71755, 56483, 46273, 36291, 29154, 23254, 18705, 14949, 11916, 9548, 7620, 6100, 4904,
     3906, 3121, 2501, 1991, 1586, 1277, 1024, 820, 655, 526, 423, 335, 272, 215, 172, 137, 110, 87,
     70, 56, 45, 36, 29, 23, 18, 15,
@@ -13,7 +14,11 @@ const TABLE: [u32; 40] = [
 fn each_nice_value_has_its_weight(rt: HostRuntime) {
     for place in 0..40u8 {
         let nice = place as i8 - 20;
-        assert_eq!(rt; weight(nice), TABLE[usize::from(place)], "nice {nice}");
+        is_number(
+            &rt,
+            u64::from(weight(nice)),
+            u64::from(TABLE[usize::from(place)]),
+        );
     }
 }
 
@@ -24,39 +29,38 @@ fn a_step_of_nice_is_a_quarter(rt: HostRuntime) {
         let nice = place as i8 - 20;
         let more = 100 * weight(nice);
         let less = weight(nice + 1);
-        assert!(rt; 119 * less <= more && more <= 128 * less, "nice {nice}");
+        is_true(&rt, 119 * less <= more && more <= 128 * less);
     }
 }
 
 #[test]
 fn virtual_time_passes_by_weight(rt: HostRuntime) {
-    for (time, weight, delta) in [
-        (10_000_000, 335, 30_567_164),
-        (1_000_000, 1024, 1_000_000),
-        (3_000_000, 335, 9_170_149),
-        (281_474_976_710_655, 1024, 281_474_976_710_655),
-    ] {
-        assert_eq!(rt; vdelta(time, weight), delta, "{time} at {weight}");
-    }
+    is_number(&rt, vdelta(10_000_000, 335), 30_567_164);
+    is_number(&rt, vdelta(1_000_000, 1024), 1_000_000);
+    is_number(&rt, vdelta(3_000_000, 335), 9_170_149);
+    is_number(&rt, vdelta(281_474_976_710_655, 1024), 281_474_976_710_655);
 }
 
 #[test]
 fn virtual_time_is_held_within_its_ends(rt: HostRuntime) {
-    assert_eq!(rt;
+    is_number(
+        &rt,
         advance(4_611_686_018_427_387_900, 10, 1024),
-        4_611_686_018_427_387_904
+        4_611_686_018_427_387_904,
     );
-    assert_eq!(rt;
+    is_number(
+        &rt,
         advance(4_294_967_296, 281_474_976_710_655, 1024),
-        281_479_271_677_951
+        281_479_271_677_951,
     );
-    assert_eq!(rt; shift(4_294_967_296, -4_294_967_297), 0);
-    assert_eq!(rt; shift(GREATEST, 1), GREATEST);
-    assert_eq!(rt;
+    is_number(&rt, shift(4_294_967_296, -4_294_967_297), 0);
+    is_number(&rt, shift(GREATEST, 1), GREATEST);
+    is_number(
+        &rt,
         shift_within(4_294_967_296, -10_000_000, 9_170_149),
-        4_285_797_147
+        4_285_797_147,
     );
-    assert_eq!(rt; distance(GREATEST, 0), 1 << 30);
-    assert_eq!(rt; distance(0, GREATEST), -(1 << 30));
-    assert_eq!(rt; distance(4_294_967_296, 4_294_967_299), -3);
+    is_true(&rt, distance(GREATEST, 0) == 1 << 30);
+    is_true(&rt, distance(0, GREATEST) == -(1 << 30));
+    is_true(&rt, distance(4_294_967_296, 4_294_967_299) == -3);
 }

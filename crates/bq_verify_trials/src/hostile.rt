@@ -3,87 +3,82 @@
 
 use crate::images::COUNTING;
 use bq_bpf::{Plain, context_length};
-use bq_interp::{Env, Stack, run};
+use bq_interp::{Env, Ran, Stack, run};
 use bq_load::load;
 use bq_maps::Maps;
 use bq_verify::Verified;
-use std::alloc::{AllocError, Global};
+use std::alloc::Global;
 use std::process::Abort;
-use std::test::Fail;
 
-/// How many instructions the program takes on a context of that byte, and fresh maps.
-fn steps(alloc: Global, verified: &Verified, byte: u8) -> Result<u32, AllocError> {
+/// Runs the program on a context and a stack of that byte, and fresh maps.
+fn run_on(rt: &impl Abort, alloc: Global, verified: &Verified, byte: u8) -> Ran {
     let length = context_length(verified.hook(), verified.version());
-    let context = vec![in alloc; byte; length]?;
-    let mut maps = Maps::new(alloc, verified.shapes())?;
-    let mut stack = Stack::from_bytes([byte; 512]);
+    let context = vec![in alloc; byte; length].expect(rt, "memory");
+    let mut maps = Maps::new(alloc, verified.shapes()).expect(rt, "memory");
     let env = Env {
         now: u64::from(byte),
         processor: u32::from(byte),
     };
-    let mut board = Plain::new();
-    let ran = run(
+    run(
         verified,
         context.as_slice(),
         &mut maps,
-        &mut stack,
+        &mut Stack::from_bytes([byte; 512]),
         env,
-        &mut board,
-    );
-    Ok(ran.steps)
+        &mut Plain::new(),
+    )
 }
 
-/// On contexts of zeros and of ff, the program takes at least one instruction and at most its budget.
-fn within_budget(
-    rt: &impl Abort,
-    alloc: Global,
-    verified: &Verified,
-    at: usize,
-) -> Result<(), AllocError> {
-    let budget = verified.budget();
+/// A run took at least one instruction and at most its budget.
+fn is_within(rt: &impl Abort, steps: u32, budget: u32, at: usize) {
+    assert!(rt;
+        steps >= 1 && steps <= budget,
+        "byte {at}: {steps} of {budget}"
+    );
+}
+
+/// On contexts of zeros and of ff, the program keeps within its budget.
+fn within_budget(rt: &impl Abort, alloc: Global, verified: &Verified, at: usize) {
     for byte in [0x00, 0xff] {
-        let steps = steps(alloc, verified, byte)?;
-        assert!(rt;
-            steps >= 1 && steps <= budget,
-            "byte {at}: {steps} of {budget}"
+        is_within(
+            rt,
+            run_on(rt, alloc, verified, byte).steps,
+            verified.budget(),
+            at,
         );
     }
-    Ok(())
 }
 
 /// Whether the image is accepted; it keeps within its budget then.
-fn accepts(rt: &impl Abort, alloc: Global, image: &[u8], at: usize) -> Result<bool, AllocError> {
-    match load(alloc, image) {
-        Ok(verified) => {
-            within_budget(rt, alloc, &verified, at)?;
-            Ok(true)
-        }
-        Err(_) => Ok(false),
-    }
+fn accepts(rt: &impl Abort, alloc: Global, image: &[u8], at: usize) -> bool {
+    let Ok(verified) = load(alloc, image) else {
+        return false;
+    };
+    within_budget(rt, alloc, &verified, at);
+    true
 }
 
 /// How many values of the byte at that place are accepted.
-fn accepted_values(rt: &impl Abort, alloc: Global, at: usize) -> Result<u32, Fail> {
-    let mut image = Vec::from_slice(alloc, &COUNTING)?;
+fn accepted_values(rt: &impl Abort, alloc: Global, image: &mut [u8; 136], at: usize) -> u32 {
     let mut accepted = 0u32;
     for byte in 0..=255 {
         if let Some(place) = image.get_mut(at) {
             *place = byte;
         }
-        if accepts(rt, alloc, image.as_slice(), at)? {
+        if accepts(rt, alloc, image.as_slice(), at) {
             accepted = accepted.saturating_add(1);
         }
     }
-    Ok(accepted)
+    accepted
 }
 
 #[test]
-fn each_byte_of_an_image_may_be_any(rt: HostRuntime) -> Result<(), Fail> {
+fn each_byte_of_an_image_may_be_any(rt: HostRuntime) {
     let mut accepted = 0u32;
     for at in 0..136 {
-        accepted = accepted.saturating_add(accepted_values(&rt, rt.alloc(), at)?);
+        let mut image = COUNTING;
+        accepted = accepted.saturating_add(accepted_values(&rt, rt.alloc(), &mut image, at));
     }
     // each byte as it was is accepted, at least
     assert!(rt; accepted >= 136);
-    Ok(())
 }

@@ -1,13 +1,12 @@
 // Images by their bytes: what is loaded, with its budget, and what is refused, with slot and cause.
 // The images and their answers are worked by hand from the format and the rules of the verifier.
 
-use bq_bpf::MapShape;
+use crate::asserting::{are_bytes, is_number, is_true};
 use bq_insn::fault::Cause as Code;
 use bq_load::{Hook, Image, LoadFault, Version, load, read_image, write_image};
 use bq_verify::{Cause, Doubt, GraphCause};
 use std::alloc::{AllocError, Global};
 use std::process::Abort;
-use std::test::Fail;
 
 /// Preempt, no maps: mov64 r0, 0; exit.
 pub const ZERO: [u8; 28] = [
@@ -15,7 +14,13 @@ pub const ZERO: [u8; 28] = [
     0xb7, 0, 0, 0, 0, 0, 0, 0, 0x95, 0, 0, 0, 0, 0, 0, 0,
 ];
 
-/// The same, and one byte more.
+/// It without its last byte.
+pub const ZERO_CUT: [u8; 27] = [
+    0x42, 0x51, 0x50, 0x49, 1, 1, 0, 0, 2, 0, 0, 0, //
+    0xb7, 0, 0, 0, 0, 0, 0, 0, 0x95, 0, 0, 0, 0, 0, 0,
+];
+
+/// It and one byte more.
 const ZERO_AND_MORE: [u8; 29] = [
     0x42, 0x51, 0x50, 0x49, 1, 1, 0, 0, 2, 0, 0, 0, //
     0xb7, 0, 0, 0, 0, 0, 0, 0, 0x95, 0, 0, 0, 0, 0, 0, 0, 0,
@@ -57,52 +62,60 @@ pub fn budget(alloc: Global, bytes: &[u8]) -> Result<u32, LoadFault> {
     Ok(verified.budget())
 }
 
-fn refused_code(slot: usize, cause: Code) -> Result<u32, LoadFault> {
-    Err(LoadFault::Decode { slot, cause })
+/// What is answered to an image: a budget, or a fault; of a program, one of its code, of its graph or of its states at a slot.
+#[derive(Clone, Copy)]
+enum Answer {
+    Budget(u32),
+    Fault(LoadFault),
+    Code(usize, Code),
+    Graph(usize, GraphCause),
+    State(usize, Doubt),
 }
 
 fn refused(slot: usize, cause: Cause) -> Result<u32, LoadFault> {
     Err(LoadFault::Refused { slot, cause })
 }
 
-/// The image loads with that budget, or is refused for that; the row says where it stands among its like.
-fn loads(
-    rt: &impl Abort,
-    alloc: Global,
-    image: &[u8],
-    answer: Result<u32, LoadFault>,
-    row: (usize, usize),
-) {
-    assert_eq!(rt; budget(alloc, image), answer, "image {} {}", row.0, row.1);
+/// The answer as loading gives it.
+fn result(answer: Answer) -> Result<u32, LoadFault> {
+    match answer {
+        Answer::Budget(budget) => Ok(budget),
+        Answer::Fault(fault) => Err(fault),
+        Answer::Code(slot, cause) => Err(LoadFault::Decode { slot, cause }),
+        Answer::Graph(slot, cause) => refused(slot, Cause::Graph(cause)),
+        Answer::State(slot, doubt) => refused(slot, Cause::State(doubt)),
+    }
 }
 
-/// The bytes with one of them changed.
-fn changed(alloc: Global, bytes: &[u8], at: usize, byte: u8) -> Result<Vec<u8>, AllocError> {
-    let mut image = Vec::from_slice(alloc, bytes)?;
-    if let Some(place) = image.get_mut(at) {
+/// The image has that answer; the row says where it stands among its like.
+fn loads(rt: &impl Abort, alloc: Global, image: &[u8], answer: Answer, row: (usize, u8)) {
+    assert_eq!(rt;
+        budget(alloc, image),
+        result(answer),
+        "image {} {}",
+        row.0,
+        row.1
+    );
+}
+
+/// A place in an image, a byte that is put there, and the answer then.
+type Change = (usize, u8, Answer);
+
+/// The image with one of its bytes changed has its answer.
+fn is_changed(rt: &impl Abort, alloc: Global, image: &[u8], change: &Change) {
+    let (at, byte, answer) = *change;
+    let mut changed = Vec::from_slice(alloc, image).expect(rt, "memory");
+    if let Some(place) = changed.get_mut(at) {
         *place = byte;
     }
-    Ok(image)
+    loads(rt, alloc, changed.as_slice(), answer, (at, byte));
 }
 
 /// The image with each of these bytes changed has its answer.
-fn changes(
-    rt: &impl Abort,
-    alloc: Global,
-    image: &[u8],
-    cases: &[(usize, u8, Result<u32, LoadFault>)],
-) -> Result<(), Fail> {
-    for (at, byte, answer) in cases {
-        let image = changed(alloc, image, *at, *byte)?;
-        loads(
-            rt,
-            alloc,
-            image.as_slice(),
-            *answer,
-            (*at, usize::from(*byte)),
-        );
+fn are_changed(rt: &impl Abort, alloc: Global, image: &[u8], changes: &[Change]) {
+    for change in changes {
+        is_changed(rt, alloc, image, change);
     }
-    Ok(())
 }
 
 /// An image without maps: what its header tells, how many slots of mov64 r0, 0 stand behind it, and what behind these.
@@ -141,92 +154,97 @@ pub fn bytes_of(alloc: Global, moves: &Moves<'_>) -> Result<Vec<u8>, AllocError>
 }
 
 /// Such an image has its answer.
-fn moves_load(
-    rt: &impl Abort,
-    alloc: Global,
-    moves: &Moves<'_>,
-    answer: Result<u32, LoadFault>,
-    row: usize,
-) -> Result<(), Fail> {
-    let image = bytes_of(alloc, moves)?;
+fn moves_load(rt: &impl Abort, alloc: Global, moves: &Moves<'_>, answer: Answer, row: usize) {
+    let image = bytes_of(alloc, moves).expect(rt, "memory");
     loads(rt, alloc, image.as_slice(), answer, (row, 0));
-    Ok(())
 }
 
+static IMAGES: [(&[u8], Answer); 6] = [
+    (&ZERO, Answer::Budget(2)),
+    (&COUNTING, Answer::Budget(12)),
+    (&ADDING, Answer::Budget(5)),
+    (&ZERO_CUT, Answer::Fault(LoadFault::Cut)),
+    (&[], Answer::Fault(LoadFault::Cut)),
+    (&ZERO_AND_MORE, Answer::Fault(LoadFault::Rest)),
+];
+
+/// A counter that is out of range.
+static CHANGES_OF_ADDING: [Change; 1] = [(16, 64, Answer::State(2, Doubt::Argument))];
+
 #[test]
-fn images_load_or_are_refused(rt: HostRuntime) -> Result<(), Fail> {
-    let cases: [(&[u8], Result<u32, LoadFault>); 6] = [
-        (&ZERO, Ok(2)),
-        (&COUNTING, Ok(12)),
-        (&ADDING, Ok(5)),
-        (&ZERO[..27], Err(LoadFault::Cut)),
-        (&[], Err(LoadFault::Cut)),
-        (&ZERO_AND_MORE, Err(LoadFault::Rest)),
-    ];
-    for (number, (image, answer)) in cases.iter().enumerate() {
+fn images_load_or_are_refused(rt: HostRuntime) {
+    for (number, (image, answer)) in IMAGES.iter().enumerate() {
         loads(&rt, rt.alloc(), image, *answer, (number, 0));
     }
-    let out_of_range = [(16, 64, refused(2, Cause::State(Doubt::Argument)))];
-    changes(&rt, rt.alloc(), &ADDING, out_of_range.as_slice())
+    are_changed(&rt, rt.alloc(), &ADDING, &CHANGES_OF_ADDING);
 }
 
-#[test]
-fn changes_of_a_header_are_refused(rt: HostRuntime) -> Result<(), Fail> {
-    let cases = [
-        (0, 0, Err(LoadFault::Magic)),
-        (4, 0, Err(LoadFault::Version)),
-        (4, 2, Ok(2)),
-        (4, 3, Err(LoadFault::Version)),
-        (5, 0, Ok(2)),
-        (5, 2, Ok(2)),
-        (5, 3, Err(LoadFault::Hook)),
-        (6, 9, Err(LoadFault::Shape)),
-        (7, 1, Err(LoadFault::Shape)),
-        // a map of 2 bytes and no entries, read from the number of slots
-        (6, 1, Err(LoadFault::Shape)),
-        (8, 1, Err(LoadFault::Rest)),
-        (8, 3, Err(LoadFault::Cut)),
-        (24, 1, refused_code(1, Code::Field)),
-        (20, 0, refused_code(1, Code::Opcode)),
-    ];
-    changes(&rt, rt.alloc(), &ZERO, cases.as_slice())
-}
+static CHANGES_OF_A_HEADER: [Change; 14] = [
+    (0, 0, Answer::Fault(LoadFault::Magic)),
+    (4, 0, Answer::Fault(LoadFault::Version)),
+    (4, 2, Answer::Budget(2)),
+    (4, 3, Answer::Fault(LoadFault::Version)),
+    (5, 0, Answer::Budget(2)),
+    (5, 2, Answer::Budget(2)),
+    (5, 3, Answer::Fault(LoadFault::Hook)),
+    (6, 9, Answer::Fault(LoadFault::Shape)),
+    (7, 1, Answer::Fault(LoadFault::Shape)),
+    // a map of 2 bytes and no entries, read from the number of slots
+    (6, 1, Answer::Fault(LoadFault::Shape)),
+    (8, 1, Answer::Fault(LoadFault::Rest)),
+    (8, 3, Answer::Fault(LoadFault::Cut)),
+    (24, 1, Answer::Code(1, Code::Field)),
+    (20, 0, Answer::Code(1, Code::Opcode)),
+];
 
 #[test]
-fn changes_of_a_program_are_refused(rt: HostRuntime) -> Result<(), Fail> {
-    let alloc = rt.alloc();
+fn changes_of_a_header_are_refused(rt: HostRuntime) {
+    are_changed(&rt, rt.alloc(), &ZERO, &CHANGES_OF_A_HEADER);
+}
+
+static CHANGES_OF_A_PROGRAM: [Change; 9] = [
+    (28, 0x01, Answer::State(1, Doubt::Argument)),
+    (52, 0xf8, Answer::State(5, Doubt::Argument)),
+    (66, 0x01, Answer::Graph(9, GraphCause::Unreached)),
+    (90, 0x01, Answer::State(9, Doubt::Access)),
+    (97, 0x3a, Answer::Graph(10, GraphCause::Frame)),
+    (121, 0xa0, Answer::State(14, Doubt::Answer)),
+    // the shape of the map: 12 bytes, no entries, 257 entries
+    (8, 12, Answer::Fault(LoadFault::Shape)),
+    (10, 0, Answer::Fault(LoadFault::Shape)),
+    (11, 1, Answer::Fault(LoadFault::Shape)),
+];
+
+#[test]
+fn changes_of_a_program_are_refused(rt: HostRuntime) {
     for end in 0..136 {
-        loads(&rt, alloc, &COUNTING[..end], Err(LoadFault::Cut), (end, 0));
+        let cut = &COUNTING[..end];
+        loads(
+            &rt,
+            rt.alloc(),
+            cut,
+            Answer::Fault(LoadFault::Cut),
+            (end, 0),
+        );
     }
-    let cases = [
-        (28, 0x01, refused(1, Cause::State(Doubt::Argument))),
-        (52, 0xf8, refused(5, Cause::State(Doubt::Argument))),
-        (66, 0x01, refused(9, Cause::Graph(GraphCause::Unreached))),
-        (90, 0x01, refused(9, Cause::State(Doubt::Access))),
-        (97, 0x3a, refused(10, Cause::Graph(GraphCause::Frame))),
-        (121, 0xa0, refused(14, Cause::State(Doubt::Answer))),
-        // the shape of the map: 12 bytes, no entries, 257 entries
-        (8, 12, Err(LoadFault::Shape)),
-        (10, 0, Err(LoadFault::Shape)),
-        (11, 1, Err(LoadFault::Shape)),
-    ];
-    changes(&rt, alloc, &COUNTING, cases.as_slice())
+    are_changed(&rt, rt.alloc(), &COUNTING, &CHANGES_OF_A_PROGRAM);
 }
 
 const EXIT: [u8; 8] = [0x95, 0, 0, 0, 0, 0, 0, 0];
 
+/// Slots that the header tells, moves that there are, what stands behind them, and the answer.
+static LENGTHS: [(u16, u16, &[u8], Answer); 6] = [
+    (0, 0, &[], Answer::Code(0, Code::Length)),
+    (5000, 0, &[], Answer::Fault(LoadFault::Cut)),
+    (5000, 5000, &[], Answer::Code(0, Code::Length)),
+    (5000, 5000, &[0], Answer::Fault(LoadFault::Rest)),
+    (4096, 4095, &EXIT, Answer::Budget(4096)),
+    (4097, 4096, &EXIT, Answer::Code(0, Code::Length)),
+];
+
 #[test]
-fn lengths_are_judged_after_the_end(rt: HostRuntime) -> Result<(), Fail> {
-    // slots that the header tells, moves that there are, what stands behind them
-    let cases: [(u16, u16, &[u8], Result<u32, LoadFault>); 6] = [
-        (0, 0, &[], refused_code(0, Code::Length)),
-        (5000, 0, &[], Err(LoadFault::Cut)),
-        (5000, 5000, &[], refused_code(0, Code::Length)),
-        (5000, 5000, &[0], Err(LoadFault::Rest)),
-        (4096, 4095, &EXIT, Ok(4096)),
-        (4097, 4096, &EXIT, refused_code(0, Code::Length)),
-    ];
-    for (row, (slots, count, rest, answer)) in cases.iter().enumerate() {
+fn lengths_are_judged_after_the_end(rt: HostRuntime) {
+    for (row, (slots, count, rest, answer)) in LENGTHS.iter().enumerate() {
         let moves = Moves {
             version: 1,
             hook: 1,
@@ -234,19 +252,8 @@ fn lengths_are_judged_after_the_end(rt: HostRuntime) -> Result<(), Fail> {
             count: *count,
             rest: *rest,
         };
-        moves_load(&rt, rt.alloc(), &moves, *answer, row)?;
+        moves_load(&rt, rt.alloc(), &moves, *answer, row);
     }
-    Ok(())
-}
-
-/// The text of bytes that stands so often, and an exit behind it.
-fn repeated(alloc: Global, times: u32, bytes: &[u8]) -> Result<Vec<u8>, AllocError> {
-    let mut all = Vec::new(alloc);
-    for _ in 0..times {
-        all.extend_from_slice(bytes)?;
-    }
-    all.extend_from_slice(&EXIT)?;
-    Ok(all)
 }
 
 /// jeq64 r0, 0, +1; add64 r0, 1.
@@ -255,10 +262,20 @@ const BRANCH: [u8; 16] = [
     0x07, 0, 0, 0, 1, 0, 0, 0,
 ];
 
+/// So many branches, and an exit behind them.
+fn branches(alloc: Global, times: u32) -> Result<Vec<u8>, AllocError> {
+    let mut all = Vec::new(alloc);
+    for _ in 0..times {
+        all.extend_from_slice(&BRANCH)?;
+    }
+    all.extend_from_slice(&EXIT)?;
+    Ok(all)
+}
+
 #[test]
-fn each_slot_is_visited_once(rt: HostRuntime) -> Result<(), Fail> {
+fn each_slot_is_visited_once(rt: HostRuntime) {
     // mov64 r0, 0; 2,047 times a branch; exit
-    let rest = repeated(rt.alloc(), 2047, &BRANCH)?;
+    let rest = branches(rt.alloc(), 2047).expect(&rt, "memory");
     let moves = Moves {
         version: 1,
         hook: 1,
@@ -266,7 +283,7 @@ fn each_slot_is_visited_once(rt: HostRuntime) -> Result<(), Fail> {
         count: 1,
         rest: rest.as_slice(),
     };
-    moves_load(&rt, rt.alloc(), &moves, Ok(4096), 0)
+    moves_load(&rt, rt.alloc(), &moves, Answer::Budget(4096), 0);
 }
 
 /// ldxw r0, [r1+offset]; exit.
@@ -275,20 +292,22 @@ fn context_load(offset: u16) -> [u8; 16] {
     [0x61, 0x10, low, high, 0, 0, 0, 0, 0x95, 0, 0, 0, 0, 0, 0, 0]
 }
 
+/// Versions, hooks, offsets into the context, and the answer to a load there.
+static OFFSETS: [(u8, u8, u16, Answer); 9] = [
+    (1, 0, 100, Answer::Budget(2)),
+    (1, 0, 104, Answer::State(0, Doubt::Access)),
+    (2, 0, 104, Answer::Budget(2)),
+    (2, 0, 292, Answer::Budget(2)),
+    (2, 0, 293, Answer::State(0, Doubt::Access)),
+    (2, 1, 52, Answer::Budget(2)),
+    (2, 1, 53, Answer::State(0, Doubt::Access)),
+    (2, 2, 156, Answer::Budget(2)),
+    (2, 2, 157, Answer::State(0, Doubt::Access)),
+];
+
 #[test]
-fn the_version_says_how_long_the_context_is(rt: HostRuntime) -> Result<(), Fail> {
-    let cases = [
-        (1, 0, 100, Ok(2)),
-        (1, 0, 104, refused(0, Cause::State(Doubt::Access))),
-        (2, 0, 104, Ok(2)),
-        (2, 0, 292, Ok(2)),
-        (2, 0, 293, refused(0, Cause::State(Doubt::Access))),
-        (2, 1, 52, Ok(2)),
-        (2, 1, 53, refused(0, Cause::State(Doubt::Access))),
-        (2, 2, 156, Ok(2)),
-        (2, 2, 157, refused(0, Cause::State(Doubt::Access))),
-    ];
-    for (row, (version, hook, offset, answer)) in cases.iter().enumerate() {
+fn the_version_says_how_long_the_context_is(rt: HostRuntime) {
+    for (row, (version, hook, offset, answer)) in OFFSETS.iter().enumerate() {
         let rest = context_load(*offset);
         let moves = Moves {
             version: *version,
@@ -297,37 +316,20 @@ fn the_version_says_how_long_the_context_is(rt: HostRuntime) -> Result<(), Fail>
             count: 0,
             rest: &rest,
         };
-        moves_load(&rt, rt.alloc(), &moves, *answer, row)?;
+        moves_load(&rt, rt.alloc(), &moves, *answer, row);
     }
-    Ok(())
 }
 
-/// The map has one entry of 8 bytes.
-fn is_small(rt: &impl Abort, shape: MapShape) {
-    assert_eq!(rt; (shape.value_size, shape.entries), (8, 1));
-}
-
-/// The image is for the hook preempt, in the first version, and has one map.
-fn is_headed(rt: &impl Abort, image: &Image) {
-    let maps = image.shapes.len();
-    assert_eq!(rt;
-        (image.version, image.hook, maps),
-        (Version::First, Hook::Preempt, 1)
-    );
-}
-
-/// The image is that of the counting program.
+/// The image is that of the counting program: for the hook preempt, in the first version, with one map of one entry of 8 bytes.
 fn is_counting(rt: &impl Abort, image: &Image) {
-    is_headed(rt, image);
+    is_true(rt, image.version == Version::First);
+    is_true(rt, image.hook == Hook::Preempt);
+    is_number(rt, image.shapes.len() as u64, 1);
     for shape in &image.shapes {
-        is_small(rt, *shape);
+        is_number(rt, u64::from(shape.value_size), 8);
+        is_number(rt, u64::from(shape.entries), 1);
     }
     are_bytes(rt, image.program.as_slice(), &COUNTING[16..]);
-}
-
-/// They are these bytes.
-fn are_bytes(rt: &impl Abort, found: &[u8], expected: &[u8]) {
-    assert_eq!(rt; found, expected);
 }
 
 /// The image written behind one byte, if it has few maps and a program of whole slots.
@@ -341,16 +343,17 @@ fn written(alloc: Global, image: &Image) -> Result<Option<Vec<u8>>, AllocError> 
     Ok(Some(out))
 }
 
-/// The bytes are one byte, and the image of the counting program.
-fn is_written(rt: &impl Abort, out: &[u8]) {
-    assert_eq!(rt; (out.len(), out.get(1..)), (137, Some(COUNTING.as_slice())));
+/// The image is written as one byte, and the image of the counting program.
+fn is_written(rt: &impl Abort, alloc: Global, image: &Image) {
+    let out = written(alloc, image).expect(rt, "memory");
+    let out = out.expect(rt, "no whole program");
+    is_number(rt, out.len() as u64, 137);
+    are_bytes(rt, out.get(1..).expect(rt, "no image"), &COUNTING);
 }
 
 #[test]
-fn an_image_is_read_and_written(rt: HostRuntime) -> Result<(), Fail> {
-    let image = read_image(rt.alloc(), &COUNTING).ok().ok_or("an image")?;
+fn an_image_is_read_and_written(rt: HostRuntime) {
+    let image = read_image(rt.alloc(), &COUNTING).expect(&rt, "an image");
     is_counting(&rt, &image);
-    let out = written(rt.alloc(), &image)?.ok_or("no whole program")?;
-    is_written(&rt, out.as_slice());
-    Ok(())
+    is_written(&rt, rt.alloc(), &image);
 }

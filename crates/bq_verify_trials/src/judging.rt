@@ -1,78 +1,113 @@
 // What the verifier answers to programs that are given as texts.
 
+ghost use Rattle.std.specs.Prelude.{◌≡◌, ◌≤◌, length, true};
+ghost use Rattle.bq_insn.specs.Spelling.{is_well_formed};
+
+use crate::asserting::is_said;
 use bq_asm::assemble;
 use bq_bpf::{Hook, MapShape, Version};
 use bq_insn::Insn;
 use bq_insn::encode::well_formed;
-use bq_verify::{Cause, Program, Refused, Verified, verify};
-use std::alloc::{AllocError, Global};
+use bq_verify::{Program, Refused, verify};
+use std::alloc::Global;
 use std::process::Abort;
-use std::test::Fail;
+
+/// Where a program is judged: the shapes of its maps, its hook and its version.
+#[derive(Clone, Copy)]
+pub struct Place<'a> {
+    pub shapes: &'a [MapShape],
+    pub hook: Hook,
+    pub version: Version,
+}
+
+/// The hook preempt, whose context has 56 bytes, beside these maps.
+pub fn preempt(shapes: &[MapShape]) -> Place<'_> {
+    Place {
+        shapes,
+        hook: Hook::Preempt,
+        version: Version::First,
+    }
+}
+
+/// A map of so many entries of that size.
+pub fn shape(rt: &impl Abort, value_size: u16, entries: u16) -> MapShape
+    ensures size { result.value_size ≡ value_size }
+    ensures entries { result.entries ≡ entries }
+{
+    MapShape::new(value_size, entries).expect(rt, "a shape")
+}
+
+/// The instructions are well formed, and the maps are few.
+fn may_be_judged(rt: &impl Abort, insns: &[Insn], shapes: &[MapShape])
+    ensures whole { is_well_formed insns.now ≡ true }
+    ensures few { length shapes.now ≤ 8 }
+{
+    assert!(rt; well_formed(insns));
+    assert!(rt; shapes.len() <= 8);
+}
 
 /// The budget of an accepted program, or why it is refused.
-pub type Verdict = Result<u32, Refused>;
-
-/// The refusal of a slot.
-pub fn at(slot: usize, cause: Cause) -> Verdict {
-    Err(Refused::At { slot, cause })
-}
-
-/// What is answered to a program.
-pub fn verdict(
+fn verdict(
+    rt: &impl Abort,
     alloc: Global,
     insns: Vec<Insn>,
-    shapes: &[MapShape],
-    hook: Hook,
-    version: Version,
-) -> Result<Verdict, AllocError> {
-    let shapes = shapes.to_vec(alloc)?;
-    if !well_formed(insns.as_slice()) || shapes.len() > 8 {
-        return Ok(Err(Refused::OutOfMemory));
-    }
+    place: &Place<'_>,
+) -> Result<u32, Refused> {
+    may_be_judged(rt, insns.as_slice(), place.shapes);
     let program = Program {
         insns,
-        shapes,
-        hook,
-        version,
+        shapes: place.shapes.to_vec(alloc).expect(rt, "memory"),
+        hook: place.hook,
+        version: place.version,
     };
-    match verify(alloc, program) {
-        Ok(verified) => Ok(Ok(verified.budget())),
-        Err(refused) => Ok(Err(refused)),
-    }
+    let verified = verify(alloc, program)?;
+    Ok(verified.budget())
 }
 
-/// What is answered to a program of the hook preempt, whose context has 56 bytes.
-pub fn judge(alloc: Global, text: &str, shapes: &[MapShape]) -> Result<Verdict, Fail> {
-    let insns = assemble(alloc, text)?;
-    Ok(verdict(alloc, insns, shapes, Hook::Preempt, Version::First)?)
-}
-
-/// What is answered, in a word or two: the budget, or the cause of the refusal and its slot.
-fn said(alloc: Global, verdict: &Verdict) -> Result<String, AllocError> {
-    match verdict {
+/// A verdict in a word or two: the budget, or the cause of the refusal and its slot.
+fn told(rt: &impl Abort, alloc: Global, verdict: Result<u32, Refused>) -> String {
+    let told = match verdict {
         Ok(budget) => format!(in alloc; "{budget}"),
         Err(Refused::At { slot, cause }) => format!(in alloc; "{cause:?} {slot}"),
         Err(Refused::OutOfMemory) => String::from_str(alloc, "out of memory"),
-    }
+    };
+    told.expect(rt, "memory")
+}
+
+/// The program has that answer.
+pub fn are_answered(
+    rt: &impl Abort,
+    alloc: Global,
+    insns: Vec<Insn>,
+    place: &Place<'_>,
+    answer: &str,
+    text: &str,
+) {
+    let verdict = verdict(rt, alloc, insns, place);
+    let told = told(rt, alloc, verdict);
+    is_said(rt, told.as_str(), answer, text);
+}
+
+/// The program of a text has that answer.
+pub fn is_answered(rt: &impl Abort, alloc: Global, text: &str, place: &Place<'_>, answer: &str) {
+    let insns = assemble(alloc, text).expect(rt, "a program");
+    are_answered(rt, alloc, insns, place, answer, text);
+}
+
+/// A trial's first line is the answer to the program that the others begin, with that end.
+fn is_tried(rt: &impl Abort, alloc: Global, place: &Place<'_>, trial: &str, end: &str) {
+    let (answer, beginning) = trial.split_once('\n').expect(rt, "no answer");
+    let text = format!(in alloc; "{beginning}\n{end}").expect(rt, "memory");
+    is_answered(rt, alloc, text.as_str(), place, answer);
 }
 
 /// Each program, of such a beginning and that end, has its answer beside these maps. Between the trials stand blank lines, and a trial's
 /// first line is the answer.
-pub fn expect(
-    rt: &impl Abort,
-    alloc: Global,
-    shapes: &[MapShape],
-    trials: &str,
-    end: &str,
-) -> Result<(), Fail> {
+pub fn expect(rt: &impl Abort, alloc: Global, shapes: &[MapShape], trials: &str, end: &str) {
+    let place = preempt(shapes);
     for trial in trials.split("\n\n") {
-        let (answer, beginning) = trial.split_once('\n').ok_or("no answer")?;
-        let text = format!(in alloc; "{beginning}\n{end}")?;
-        let verdict = judge(alloc, text.as_str(), shapes)?;
-        let said = said(alloc, &verdict)?;
-        assert_eq!(rt; said.as_str(), answer, "{beginning}");
+        is_tried(rt, alloc, &place, trial, end);
     }
-    Ok(())
 }
 
 /// What reads a byte of the context at `r2`, which has to be 0 to 55, and the way out.
@@ -91,7 +126,7 @@ exit
 ";
 
 /// Each program, of such a beginning and that end, has its answer beside two maps of one entry of 16 bytes each.
-pub fn follows(rt: &impl Abort, alloc: Global, trials: &str, end: &str) -> Result<(), Fail> {
-    let shape = MapShape::new(16, 1).ok_or("shape")?;
-    expect(rt, alloc, &[shape, shape], trials, end)
+pub fn follows(rt: &impl Abort, alloc: Global, trials: &str, end: &str) {
+    let shape = shape(rt, 16, 1);
+    expect(rt, alloc, &[shape, shape], trials, end);
 }

@@ -1,12 +1,11 @@
 // Programs by what the verifier knows of numbers that are stored in a few bytes of the stack.
 
 use crate::judging::{BYTE_OF_CONTEXT, follows};
-use std::test::Fail;
 
 #[test]
-fn parts(rt: HostRuntime) -> Result<(), Fail> {
-    follows(&rt, rt.alloc(), PARTS, BYTE_OF_CONTEXT)?;
-    follows(&rt, rt.alloc(), WRITTEN_PARTS, BYTE_OF_CONTEXT)
+fn parts(rt: HostRuntime) {
+    follows(&rt, rt.alloc(), PARTS, BYTE_OF_CONTEXT);
+    follows(&rt, rt.alloc(), WRITTEN_PARTS, BYTE_OF_CONTEXT);
 }
 
 /// Numbers that are loaded once they are stored.

@@ -1,13 +1,23 @@
 // Worked intervals: sums, products, shifts, and what branches leave.
 
+use bq_insn::Condition::{
+    AnyBit, Equal, Greater, GreaterEqual, Less, LessEqual, NotEqual, SignedGreater,
+    SignedGreaterEqual, SignedLess,
+};
+use bq_insn::Operation::{Add, And, Arsh, Div, Lsh, Mul, Or, Rem, Rsh, Sdiv, Srem, Sub, Xor};
+use bq_insn::Width::{W32, W64};
 use bq_insn::{Bits, Condition, Operation, Order, Width};
 use bq_ranges::arithmetic::alu;
 use bq_ranges::moves::{extend, neg, reorder};
 use bq_ranges::narrowing::narrow;
 use bq_ranges::range::Range;
-use std::test::Fail;
+use std::process::Abort;
 
-fn range(lo: u64, hi: u64) -> Range {
+/// The least and the greatest word of a range.
+type Ends = (u64, u64);
+
+fn range(ends: Ends) -> Range {
+    let (lo, hi) = ends;
     if lo <= hi {
         Range { lo, hi }
     } else {
@@ -15,262 +25,212 @@ fn range(lo: u64, hi: u64) -> Range {
     }
 }
 
-#[test]
-fn results(rt: HostRuntime) -> Result<(), Fail> {
-    let cases = [
-        (Operation::Add, range(1, 2), range(3, 4), range(4, 6)),
-        (Operation::Mul, range(2, 3), range(4, 5), range(8, 15)),
-        (Operation::Rsh, range(16, 255), range(4, 4), range(1, 15)),
-        // the amount of a shift is taken modulo the width
-        (Operation::Rsh, range(16, 255), range(68, 68), range(1, 15)),
-        (Operation::And, range(0, u64::MAX), range(8, 8), range(0, 8)),
-        // of 0 to 12 the mask leaves multiples of 8
-        (
-            Operation::And,
-            range(0, 12),
-            range(0xff8, 0xff8),
-            range(0, 8),
-        ),
-        (Operation::Or, range(4, 5), range(0, 2), range(4, 7)),
-        // no more than the sum, and no more than seven ones
-        (Operation::Or, range(64, 100), range(3, 60), range(64, 127)),
-        (Operation::Xor, range(64, 64), range(0, 1), range(0, 65)),
-        (Operation::Xor, range(0, 5), range(0, 6), range(0, 7)),
-        (Operation::Arsh, range(16, 255), range(4, 4), range(1, 15)),
-        // -16 to -1 by two
-        (
-            Operation::Arsh,
-            range(u64::MAX - 15, u64::MAX),
-            range(2, 2),
-            range(u64::MAX - 3, u64::MAX),
-        ),
-        (Operation::Sub, range(5, 9), range(1, 2), range(3, 8)),
-        // where all sums or all differences wrap, they are as near one another as before
-        (
-            Operation::Add,
-            range(u64::MAX - 1, u64::MAX),
-            range(2, 3),
-            range(0, 2),
-        ),
-        (
-            Operation::Sub,
-            range(0, 1),
-            range(2, 3),
-            range(u64::MAX - 2, u64::MAX),
-        ),
-    ];
-    for (op, a, b, result) in cases {
-        assert_eq!(rt; alu(Width::W64, op, a, b), result);
-    }
-    Ok(())
+fn ends(range: Option<Range>) -> Option<Ends> {
+    let Range { lo, hi } = range?;
+    Some((lo, hi))
 }
 
+/// A row of a table has that range, or none.
+fn is_range(rt: &impl Abort, found: Option<Range>, expected: Option<Ends>, row: usize) {
+    assert_eq!(rt; ends(found), expected, "row {row}");
+}
+
+/// The last word, which is -1 with signs.
+const LAST: u64 = u64::MAX;
+
+/// An operation on two ranges, and its result.
+type Row = (Operation, Ends, Ends, Ends);
+
+static RESULTS: [Row; 15] = [
+    (Add, (1, 2), (3, 4), (4, 6)),
+    (Mul, (2, 3), (4, 5), (8, 15)),
+    (Rsh, (16, 255), (4, 4), (1, 15)),
+    // the amount of a shift is taken modulo the width
+    (Rsh, (16, 255), (68, 68), (1, 15)),
+    (And, (0, LAST), (8, 8), (0, 8)),
+    // of 0 to 12 the mask leaves multiples of 8
+    (And, (0, 12), (0xff8, 0xff8), (0, 8)),
+    (Or, (4, 5), (0, 2), (4, 7)),
+    // no more than the sum, and no more than seven ones
+    (Or, (64, 100), (3, 60), (64, 127)),
+    (Xor, (64, 64), (0, 1), (0, 65)),
+    (Xor, (0, 5), (0, 6), (0, 7)),
+    (Arsh, (16, 255), (4, 4), (1, 15)),
+    // -16 to -1 by two
+    (Arsh, (LAST - 15, LAST), (2, 2), (LAST - 3, LAST)),
+    (Sub, (5, 9), (1, 2), (3, 8)),
+    // where all sums or all differences wrap, they are as near one another as before
+    (Add, (LAST - 1, LAST), (2, 3), (0, 2)),
+    (Sub, (0, 1), (2, 3), (LAST - 2, LAST)),
+];
+
 // In 32 bits only the low halves of the operands count, and the upper half of the result is 0.
-#[test]
-fn halves(rt: HostRuntime) -> Result<(), Fail> {
-    let upper = 0x7_0000_0000;
-    let cases = [
-        (Operation::Add, range(1, 2), range(3, 4), range(4, 6)),
-        (Operation::Mul, range(2, 3), range(4, 5), range(8, 15)),
-        (Operation::Rsh, range(16, 255), range(36, 36), range(1, 15)),
-    ];
-    for (op, a, b, result) in cases {
-        assert_eq!(rt;
-            alu(Width::W32, op, range(upper | a.lo, upper | a.hi), b),
-            result
-        );
+static HALVES: [Row; 3] = [
+    (Add, (0x7_0000_0001, 0x7_0000_0002), (3, 4), (4, 6)),
+    (Mul, (0x7_0000_0002, 0x7_0000_0003), (4, 5), (8, 15)),
+    (Rsh, (0x7_0000_0010, 0x7_0000_00ff), (36, 36), (1, 15)),
+];
+
+fn are_results(rt: &impl Abort, width: Width, rows: &[Row]) {
+    for (number, (op, a, b, result)) in rows.iter().enumerate() {
+        let found = alu(width, *op, range(*a), range(*b));
+        is_range(rt, Some(found), Some(*result), number);
     }
-    Ok(())
+}
+
+#[test]
+fn results(rt: HostRuntime) {
+    are_results(&rt, W64, &RESULTS);
+    are_results(&rt, W32, &HALVES);
 }
 
 // One word each: the rules of RFC 9669 section 4.1 for zero, for the least number over -1 and for great amounts.
+static SINGLE_WORDS: [(Width, Operation, u64, u64, u64); 8] = [
+    (W64, Div, 7, 0, 0),
+    (W64, Div, 5, LAST, 0),
+    (W32, Rem, 0xffff_ffff_0000_0007, 0, 7),
+    (W64, Sdiv, 1 << 63, LAST, 1 << 63),
+    (W64, Srem, 1 << 63, LAST, 0),
+    // -13 over 3 leaves -1
+    (W64, Srem, LAST - 12, 3, LAST),
+    (W64, Lsh, 7, 64, 7),
+    (W32, Arsh, 0x8000_0000, 33, 0xc000_0000),
+];
+
 #[test]
-fn single_words(rt: HostRuntime) -> Result<(), Fail> {
-    let least = 0x8000_0000_0000_0000;
-    let cases = [
-        (Width::W64, Operation::Div, 7, 0, 0),
-        (Width::W64, Operation::Div, 5, u64::MAX, 0),
-        (Width::W32, Operation::Rem, 0xffff_ffff_0000_0007, 0, 7),
-        (Width::W64, Operation::Sdiv, least, u64::MAX, least),
-        (Width::W64, Operation::Srem, least, u64::MAX, 0),
-        // -13 over 3 leaves -1
-        (Width::W64, Operation::Srem, u64::MAX - 12, 3, u64::MAX),
-        (Width::W64, Operation::Lsh, 7, 64, 7),
-        (Width::W32, Operation::Arsh, 0x8000_0000, 33, 0xc000_0000),
-    ];
-    for (width, op, a, b, result) in cases {
-        assert_eq!(rt;
-            alu(width, op, Range::single(a), Range::single(b)),
-            Range::single(result)
-        );
+fn single_words(rt: HostRuntime) {
+    for (number, (width, op, a, b, result)) in SINGLE_WORDS.iter().enumerate() {
+        let found = alu(*width, *op, Range::single(*a), Range::single(*b));
+        is_range(&rt, Some(found), Some((*result, *result)), number);
     }
-    Ok(())
 }
+
+/// A test of two ranges in 64 bits, whether it is taken, and what is left of the first then.
+type Branch = (Condition, Ends, Ends, bool, Option<Ends>);
 
 // What is left of 0 to 10 by a test against 4, taken and not taken.
-#[test]
-fn branches(rt: HostRuntime) -> Result<(), Fail> {
-    let four = Range::single(4);
-    let cases = [
-        (Condition::Equal, range(4, 4), range(0, 10)),
-        (Condition::NotEqual, range(0, 10), range(4, 4)),
-        (Condition::Greater, range(5, 10), range(0, 4)),
-        (Condition::GreaterEqual, range(4, 10), range(0, 3)),
-        (Condition::Less, range(0, 3), range(4, 10)),
-        (Condition::LessEqual, range(0, 4), range(5, 10)),
-    ];
-    for (cond, taken, fallen) in cases {
-        assert_eq!(rt;
-            narrow(cond, Width::W64, range(0, 10), four, true),
-            Some(taken)
-        );
-        assert_eq!(rt;
-            narrow(cond, Width::W64, range(0, 10), four, false),
-            Some(fallen)
-        );
-    }
-    Ok(())
-}
+static BRANCHES: [Branch; 12] = [
+    (Equal, (0, 10), (4, 4), true, Some((4, 4))),
+    (Equal, (0, 10), (4, 4), false, Some((0, 10))),
+    (NotEqual, (0, 10), (4, 4), true, Some((0, 10))),
+    (NotEqual, (0, 10), (4, 4), false, Some((4, 4))),
+    (Greater, (0, 10), (4, 4), true, Some((5, 10))),
+    (Greater, (0, 10), (4, 4), false, Some((0, 4))),
+    (GreaterEqual, (0, 10), (4, 4), true, Some((4, 10))),
+    (GreaterEqual, (0, 10), (4, 4), false, Some((0, 3))),
+    (Less, (0, 10), (4, 4), true, Some((0, 3))),
+    (Less, (0, 10), (4, 4), false, Some((4, 10))),
+    (LessEqual, (0, 10), (4, 4), true, Some((0, 4))),
+    (LessEqual, (0, 10), (4, 4), false, Some((5, 10))),
+];
 
-#[test]
-fn branches_at_the_ends(rt: HostRuntime) -> Result<(), Fail> {
-    let four = Range::single(4);
-    let last = Range::single(u64::MAX);
-    let cases = [
-        (Condition::Less, range(5, 9), Range::single(5), true, None),
-        (
-            Condition::Equal,
-            range(4, 10),
-            four,
-            false,
-            Some(range(5, 10)),
-        ),
-        (
-            Condition::Equal,
-            range(0, 4),
-            four,
-            false,
-            Some(range(0, 3)),
-        ),
-        (Condition::Equal, four, four, false, None),
-        (Condition::Equal, range(5, 10), four, true, None),
-        (Condition::LessEqual, range(0, 4), four, false, None),
-        // no word is above the last one, which is -1 with signs, below 0 to 10
-        (Condition::Greater, range(0, 10), last, true, None),
-        (
-            Condition::SignedGreater,
-            range(0, 10),
-            last,
-            true,
-            Some(range(0, 10)),
-        ),
-    ];
-    for (cond, x, y, taken, left) in cases {
-        assert_eq!(rt; narrow(cond, Width::W64, x, y, taken), left);
-    }
-    Ok(())
-}
+static BRANCHES_AT_THE_ENDS: [Branch; 8] = [
+    (Less, (5, 9), (5, 5), true, None),
+    (Equal, (4, 10), (4, 4), false, Some((5, 10))),
+    (Equal, (0, 4), (4, 4), false, Some((0, 3))),
+    (Equal, (4, 4), (4, 4), false, None),
+    (Equal, (5, 10), (4, 4), true, None),
+    (LessEqual, (0, 4), (4, 4), false, None),
+    // no word is above the last one, which is -1 with signs, below 0 to 10
+    (Greater, (0, 10), (LAST, LAST), true, None),
+    (SignedGreater, (0, 10), (LAST, LAST), true, Some((0, 10))),
+];
+
+/// The greatest word that is not negative.
+const MOST: u64 = u64::MAX / 2;
 
 // Signed tests: what is left is one interval, or the least that has both parts.
-#[test]
-fn signed_branches(rt: HostRuntime) -> Result<(), Fail> {
-    let all = Range::full(Width::W64);
-    let zero = Range::single(0);
-    let most = u64::MAX / 2;
-    let negative = range(most + 1, u64::MAX);
-    let cases = [
-        (
-            Condition::SignedGreaterEqual,
-            all,
-            zero,
-            true,
-            Some(range(0, most)),
-        ),
-        (
-            Condition::SignedGreaterEqual,
-            all,
-            zero,
-            false,
-            Some(negative),
-        ),
-        (
-            Condition::SignedLess,
-            range(0, 10),
-            Range::single(4),
-            true,
-            Some(range(0, 3)),
-        ),
-        // 0 to 3 and the negative words are no interval
-        (
-            Condition::SignedLess,
-            all,
-            Range::single(4),
-            true,
-            Some(all),
-        ),
-        (
-            Condition::SignedGreater,
-            all,
-            Range::single(4),
-            true,
-            Some(range(5, most)),
-        ),
-        // at least -2 is left of all words but the negative ones below it
-        (
-            Condition::SignedGreater,
-            range(9, u64::MAX - 2),
-            Range::single(u64::MAX - 2),
-            true,
-            Some(range(9, most)),
-        ),
-        (Condition::SignedLess, negative, zero, false, None),
-        (
-            Condition::AnyBit,
-            all,
-            Range::single(u64::MAX - 7),
-            false,
-            Some(range(0, 7)),
-        ),
-    ];
-    for (cond, x, y, taken, left) in cases {
-        assert_eq!(rt; narrow(cond, Width::W64, x, y, taken), left);
+static SIGNED_BRANCHES: [Branch; 8] = [
+    (SignedGreaterEqual, (0, LAST), (0, 0), true, Some((0, MOST))),
+    (
+        SignedGreaterEqual,
+        (0, LAST),
+        (0, 0),
+        false,
+        Some((MOST + 1, LAST)),
+    ),
+    (SignedLess, (0, 10), (4, 4), true, Some((0, 3))),
+    // 0 to 3 and the negative words are no interval
+    (SignedLess, (0, LAST), (4, 4), true, Some((0, LAST))),
+    (SignedGreater, (0, LAST), (4, 4), true, Some((5, MOST))),
+    // at least -2 is left of all words but the negative ones below it
+    (
+        SignedGreater,
+        (9, LAST - 2),
+        (LAST - 2, LAST - 2),
+        true,
+        Some((9, MOST)),
+    ),
+    (SignedLess, (MOST + 1, LAST), (0, 0), false, None),
+    (AnyBit, (0, LAST), (LAST - 7, LAST - 7), false, Some((0, 7))),
+];
+
+// In 32 bits the sign is bit 31, where the word has no upper half.
+static SIGNED_HALVES: [Branch; 2] = [
+    (
+        SignedLess,
+        (0, 0xffff_ffff),
+        (0, 0),
+        false,
+        Some((0, 0x7fff_ffff)),
+    ),
+    (SignedLess, (0, LAST), (0, 0), false, Some((0, LAST))),
+];
+
+fn are_left(rt: &impl Abort, width: Width, rows: &[Branch]) {
+    for (number, (cond, x, y, taken, left)) in rows.iter().enumerate() {
+        let found = narrow(*cond, width, range(*x), range(*y), *taken);
+        is_range(rt, found, *left, number);
     }
-    // in 32 bits the sign is bit 31, where the word has no upper half
-    let low = range(0, 0xffff_ffff);
-    let positive = range(0, 0x7fff_ffff);
-    assert_eq!(rt;
-        narrow(Condition::SignedLess, Width::W32, low, zero, false),
-        Some(positive)
-    );
-    assert_eq!(rt;
-        narrow(Condition::SignedLess, Width::W32, all, zero, false),
-        Some(all)
-    );
-    Ok(())
 }
 
 #[test]
-fn moves(rt: HostRuntime) -> Result<(), Fail> {
-    // rows of the instruction table: 0x80 extended to 32 bits, and byte orders on a little-endian host
-    let byte = Range::single(0x80);
-    assert_eq!(rt;
-        extend(Width::W32, Bits::B8, byte),
-        Range::single(0xffff_ff80)
-    );
-    assert_eq!(rt;
-        extend(Width::W64, Bits::B8, range(0, 0x7f)),
-        range(0, 0x7f)
-    );
-    let word = Range::single(0x1234_5678_90ab_cdef);
-    assert_eq!(rt;
-        reorder(Order::Swapped, Bits::B16, word),
-        Range::single(0xefcd)
-    );
-    let eights = Range::single(0x1122_3344_5566_7788);
-    assert_eq!(rt;
-        reorder(Order::Big, Bits::B32, eights),
-        Range::single(0x8877_6655)
-    );
-    assert_eq!(rt; neg(Width::W64, Range::single(1)), Range::single(u64::MAX));
-    Ok(())
+fn branches(rt: HostRuntime) {
+    are_left(&rt, W64, &BRANCHES);
+    are_left(&rt, W64, &BRANCHES_AT_THE_ENDS);
+    are_left(&rt, W64, &SIGNED_BRANCHES);
+    are_left(&rt, W32, &SIGNED_HALVES);
+}
+
+/// What makes a word of another one.
+enum Move {
+    Extend(Width, Bits),
+    Reorder(Order, Bits),
+    Negate(Width),
+}
+
+// Rows of the instruction table: 0x80 extended to 32 bits, and byte orders on a little-endian host.
+static MOVES: [(Move, Ends, Ends); 5] = [
+    (
+        Move::Extend(W32, Bits::B8),
+        (0x80, 0x80),
+        (0xffff_ff80, 0xffff_ff80),
+    ),
+    (Move::Extend(W64, Bits::B8), (0, 0x7f), (0, 0x7f)),
+    (
+        Move::Reorder(Order::Swapped, Bits::B16),
+        (0x1234_5678_90ab_cdef, 0x1234_5678_90ab_cdef),
+        (0xefcd, 0xefcd),
+    ),
+    (
+        Move::Reorder(Order::Big, Bits::B32),
+        (0x1122_3344_5566_7788, 0x1122_3344_5566_7788),
+        (0x8877_6655, 0x8877_6655),
+    ),
+    (Move::Negate(W64), (1, 1), (LAST, LAST)),
+];
+
+fn moved(by: &Move, range: Range) -> Range {
+    match by {
+        Move::Extend(width, bits) => extend(*width, *bits, range),
+        Move::Reorder(order, bits) => reorder(*order, *bits, range),
+        Move::Negate(width) => neg(*width, range),
+    }
+}
+
+#[test]
+fn moves(rt: HostRuntime) {
+    for (number, (by, before, after)) in MOVES.iter().enumerate() {
+        is_range(&rt, Some(moved(by, range(*before))), Some(*after), number);
+    }
 }

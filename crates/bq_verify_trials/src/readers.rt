@@ -1,12 +1,11 @@
 // Images in pieces: what a reader answers to each of them, and in the end; want of memory is answered, and changes nothing.
 ghost use Rattle.std.specs.Prelude.{◌≤◌};
 
-use crate::images::{COUNTING, Moves, ZERO, budget, bytes_of};
+use crate::images::{COUNTING, Moves, ZERO, ZERO_CUT, budget, bytes_of};
 use bq_insn::fault::Cause as Code;
 use bq_load::{ImageReader, LoadFault, read_image};
 use std::alloc::Global;
 use std::process::Abort;
-use std::test::Fail;
 
 /// The budget of the program that a reader was fed.
 fn budget_of(reader: ImageReader) -> Result<u32, LoadFault> {
@@ -49,13 +48,11 @@ fn ends_by(rt: &impl Abort, reader: ImageReader, fault: LoadFault) {
     assert_eq!(rt; answer, Some(fault));
 }
 
+/// Pieces, and what a reader answers to each.
+type Pieces = &'static [(&'static [u8], Result<(), LoadFault>)];
+
 /// A reader answers each piece, and ends by that fault.
-fn pieces_end_by(
-    rt: &impl Abort,
-    alloc: Global,
-    pieces: &[(&[u8], Result<(), LoadFault>)],
-    fault: LoadFault,
-) {
+fn pieces_end_by(rt: &impl Abort, alloc: Global, pieces: Pieces, fault: LoadFault) {
     let mut reader = ImageReader::new(alloc);
     for (piece, answer) in pieces {
         answers(rt, &mut reader, piece, *answer);
@@ -63,26 +60,36 @@ fn pieces_end_by(
     ends_by(rt, reader, fault);
 }
 
+/// Pieces, with the fault by which reading then ends.
+static ENDS: [(Pieces, LoadFault); 4] = [
+    (
+        &[
+            (&[0x00], Ok(())),
+            (&[0x51], Ok(())),
+            (&[0x50], Ok(())),
+            (&[0x49], Err(LoadFault::Magic)),
+            (&[0x42], Err(LoadFault::Magic)),
+        ],
+        LoadFault::Magic,
+    ),
+    (
+        &[
+            (&ZERO, Ok(())),
+            (&[], Ok(())),
+            (&[0], Err(LoadFault::Rest)),
+            (&[], Err(LoadFault::Rest)),
+        ],
+        LoadFault::Rest,
+    ),
+    (&[(&ZERO_CUT, Ok(()))], LoadFault::Cut),
+    (&[], LoadFault::Cut),
+];
+
 #[test]
 fn faults_come_with_the_byte_that_makes_them(rt: HostRuntime) {
-    let letters: [(&[u8], Result<(), LoadFault>); 5] = [
-        (&[0x00], Ok(())),
-        (&[0x51], Ok(())),
-        (&[0x50], Ok(())),
-        (&[0x49], Err(LoadFault::Magic)),
-        (&[0x42], Err(LoadFault::Magic)),
-    ];
-    pieces_end_by(&rt, rt.alloc(), letters.as_slice(), LoadFault::Magic);
-    let past: [(&[u8], Result<(), LoadFault>); 4] = [
-        (&ZERO, Ok(())),
-        (&[], Ok(())),
-        (&[0], Err(LoadFault::Rest)),
-        (&[], Err(LoadFault::Rest)),
-    ];
-    pieces_end_by(&rt, rt.alloc(), past.as_slice(), LoadFault::Rest);
-    let cut: [(&[u8], Result<(), LoadFault>); 1] = [(&ZERO[..27], Ok(()))];
-    pieces_end_by(&rt, rt.alloc(), cut.as_slice(), LoadFault::Cut);
-    pieces_end_by(&rt, rt.alloc(), &[], LoadFault::Cut);
+    for (pieces, fault) in &ENDS {
+        pieces_end_by(&rt, rt.alloc(), pieces, *fault);
+    }
 }
 
 #[test]
@@ -94,7 +101,7 @@ fn a_load_past_the_end_is_refused(rt: HostRuntime) {
 }
 
 #[test]
-fn a_program_that_is_too_long_is_counted(rt: HostRuntime) -> Result<(), Fail> {
+fn a_program_that_is_too_long_is_counted(rt: HostRuntime) {
     let moves = Moves {
         version: 1,
         hook: 1,
@@ -102,19 +109,22 @@ fn a_program_that_is_too_long_is_counted(rt: HostRuntime) -> Result<(), Fail> {
         count: 5000,
         rest: &[],
     };
-    let image = bytes_of(rt.alloc(), &moves)?;
-    let too_long = LoadFault::Decode {
+    let image = bytes_of(rt.alloc(), &moves).expect(&rt, "memory");
+    is_too_long(&rt, rt.alloc(), image.as_slice());
+}
+
+/// An image is too long, in pieces of any size; a byte behind it is one too many all the same.
+fn is_too_long(rt: &impl Abort, alloc: Global, image: &[u8]) {
+    let fault = LoadFault::Decode {
         slot: 0,
         cause: Code::Length,
     };
     for size in [1000, 4096, 40012] {
-        let reader = fed(&rt, rt.alloc(), image.as_slice(), size);
-        ends_by(&rt, reader, too_long);
+        ends_by(rt, fed(rt, alloc, image, size), fault);
     }
-    let mut reader = ImageReader::new(rt.alloc());
-    answers(&rt, &mut reader, image.as_slice(), Ok(()));
-    answers(&rt, &mut reader, &[0], Err(LoadFault::Rest));
-    Ok(())
+    let mut reader = ImageReader::new(alloc);
+    answers(rt, &mut reader, image, Ok(()));
+    answers(rt, &mut reader, &[0], Err(LoadFault::Rest));
 }
 
 /// The fault is want of memory.

@@ -1,98 +1,87 @@
 // Programs run on two stacks of different bytes: what register 0 is at the EXIT, and how many instructions it took.
 // The values are worked by hand from RFC 9669.
 
+use crate::asserting::{is_number, is_true};
+use crate::judging::shape;
+use crate::verdicts::repeated;
 use bq_asm::assemble;
-use bq_bpf::{Call, Hook, MapShape, Plain, Version, context_length};
+use bq_bpf::{Call, Hook, Plain, Version, context_length};
 use bq_interp::env::Env;
 use bq_interp::runs::{Ran, run};
 use bq_interp::stack::Stack;
 use bq_maps::Maps;
 use bq_verify::{Program, Verified, verify};
-use std::alloc::{AllocError, Global};
+use std::alloc::Global;
 use std::process::Abort;
-use std::test::Fail;
 
 /// The program for the hook preempt, which is accepted beside a map of two entries of 8 bytes.
-fn accepted(alloc: Global, text: &str) -> Result<Verified, Fail> {
-    let shape = MapShape::new(8, 2).ok_or("no shape")?;
-    let mut shapes = Vec::new(alloc);
-    shapes.push(shape)?;
+fn accepted(rt: &impl Abort, alloc: Global, text: &str) -> Verified {
     let program = Program {
-        insns: assemble(alloc, text)?,
-        shapes,
+        insns: assemble(alloc, text).expect(rt, "a program"),
+        shapes: vec![in alloc; shape(rt, 8, 2)].expect(rt, "memory"),
         hook: Hook::Preempt,
         version: Version::First,
     };
-    match verify(alloc, program) {
-        Ok(verified) => Ok(verified),
-        Err(_refused) => Err(Fail::from("not accepted")),
-    }
+    verify(alloc, program).expect(rt, "not accepted")
 }
 
 /// A context of 56 bytes, whose last word is 0xa1b2c3d4.
-fn context() -> [u8; 56] {
-    let mut bytes = [0; 56];
-    bytes[0] = 0xfe;
-    bytes[1] = 0xff;
-    bytes[52] = 0xd4;
-    bytes[53] = 0xc3;
-    bytes[54] = 0xb2;
-    bytes[55] = 0xa1;
-    bytes
-}
+static CONTEXT: [u8; 56] = [
+    0xfe, 0xff, 0, 0, 0, 0, 0, 0, 0, 0, 0, 0, 0, 0, 0, 0, 0, 0, 0, 0, 0, 0, 0, 0, 0, 0, 0, 0, //
+    0, 0, 0, 0, 0, 0, 0, 0, 0, 0, 0, 0, 0, 0, 0, 0, 0, 0, 0, 0, 0, 0, 0, 0, 0xd4, 0xc3, 0xb2, 0xa1,
+];
 
 /// Runs the program on fresh maps and that stack.
 fn run_on(
+    rt: &impl Abort,
     alloc: Global,
     verified: &Verified,
     board: &mut Plain,
     stack: &mut Stack,
-) -> Result<Ran, Fail> {
-    let context = context();
-    if context.len() != context_length(verified.hook(), verified.version()) {
-        return Err(Fail::from("a context of another length"));
-    }
-    let mut maps = Maps::new(alloc, verified.shapes())?;
+) -> Ran {
+    assert!(rt; CONTEXT.len() == context_length(verified.hook(), verified.version()));
+    let mut maps = Maps::new(alloc, verified.shapes()).expect(rt, "memory");
     let env = Env {
         now: 0x1_2345_6789,
         processor: 7,
     };
-    Ok(run(verified, &context, &mut maps, stack, env, board))
+    run(verified, &CONTEXT, &mut maps, stack, env, board)
 }
 
-/// The program's answer and steps, on a stack of that byte.
-fn ran(alloc: Global, verified: &Verified, byte: u8) -> Result<(u64, u32), Fail> {
-    let mut board = Plain::new();
-    let mut stack = Stack::from_bytes([byte; 512]);
-    let done = run_on(alloc, verified, &mut board, &mut stack)?;
-    Ok((done.r0, done.steps))
-}
-
-/// The program has that answer and so many steps, on two stacks of different bytes.
-fn answers_so(
+/// The program has that answer in so many steps, on a stack of that byte.
+fn answers_on(
     rt: &impl Abort,
     alloc: Global,
     verified: &Verified,
+    byte: u8,
     answer: (u64, u32),
     text: &str,
-) -> Result<(), Fail> {
-    for byte in [0x00, 0xa5] {
-        let ran = ran(alloc, verified, byte)?;
-        assert_eq!(rt; ran, answer, "{text}");
-    }
-    Ok(())
+) {
+    let mut stack = Stack::from_bytes([byte; 512]);
+    let ran = run_on(rt, alloc, verified, &mut Plain::new(), &mut stack);
+    has_answered(rt, &ran, answer, text);
+}
+
+fn has_answered(rt: &impl Abort, ran: &Ran, answer: (u64, u32), text: &str) {
+    assert_eq!(rt; (ran.r0, ran.steps), answer, "{text}");
+}
+
+/// The program has that answer and so many steps, on two stacks of different bytes.
+fn answers_so(rt: &impl Abort, alloc: Global, verified: &Verified, answer: (u64, u32), text: &str) {
+    answers_on(rt, alloc, verified, 0x00, answer, text);
+    answers_on(rt, alloc, verified, 0xa5, answer, text);
 }
 
 /// The program answers that in so many steps.
-fn expect(rt: &impl Abort, alloc: Global, text: &str, r0: u64, steps: u32) -> Result<(), Fail> {
-    let verified = accepted(alloc, text)?;
-    answers_so(rt, alloc, &verified, (r0, steps), text)
+fn expect(rt: &impl Abort, alloc: Global, text: &str, answer: (u64, u32)) {
+    let verified = accepted(rt, alloc, text);
+    answers_so(rt, alloc, &verified, answer, text);
 }
 
 /// A program without its exit, what it answers, and in how many steps.
 type Row = (&'static str, u64, u32);
 
-const ARITHMETIC: [Row; 12] = [
+static ARITHMETIC: [Row; 12] = [
     ("mov64 r0, 7\nmov64 r2, 0\ndiv64 r0, r2", 0, 4),
     (
         "lddw r0, 0xffffffff00000007\nmov64 r2, 0\nmod32 r0, r2",
@@ -116,7 +105,7 @@ const ARITHMETIC: [Row; 12] = [
 ];
 
 /// Of loads and stores, jumps, and helpers.
-const OTHERS: [Row; 9] = [
+static OTHERS: [Row; 9] = [
     (
         "stdw [r10-8], -1\nstb [r10-5], 0\nldxdw r0, [r10-8]",
         0xffff_ffff_00ff_ffff,
@@ -140,22 +129,25 @@ const OTHERS: [Row; 9] = [
     ("call 8", 7, 2),
 ];
 
-fn answers(rt: &impl Abort, alloc: Global, rows: &[Row]) -> Result<(), Fail> {
-    for (text, r0, steps) in rows {
-        let text = repeated(alloc, text, 1, "\n", "exit\n")?;
-        expect(rt, alloc, text.as_str(), *r0, *steps)?;
+/// The program of a row, with its exit, answers so.
+fn is_answered(rt: &impl Abort, alloc: Global, row: &Row) {
+    let (text, r0, steps) = *row;
+    let text = repeated(alloc, text, 1, "\n", "exit\n").expect(rt, "memory");
+    expect(rt, alloc, text.as_str(), (r0, steps));
+}
+
+#[test]
+fn arithmetic(rt: HostRuntime) {
+    for row in &ARITHMETIC {
+        is_answered(&rt, rt.alloc(), row);
     }
-    Ok(())
 }
 
 #[test]
-fn arithmetic(rt: HostRuntime) -> Result<(), Fail> {
-    answers(&rt, rt.alloc(), ARITHMETIC.as_slice())
-}
-
-#[test]
-fn other_instructions(rt: HostRuntime) -> Result<(), Fail> {
-    answers(&rt, rt.alloc(), OTHERS.as_slice())
+fn other_instructions(rt: HostRuntime) {
+    for row in &OTHERS {
+        is_answered(&rt, rt.alloc(), row);
+    }
 }
 
 /// A value is written into entry 1 of a map, and read there by its address.
@@ -180,24 +172,8 @@ exit
 ";
 
 #[test]
-fn entries(rt: HostRuntime) -> Result<(), Fail> {
-    expect(&rt, rt.alloc(), ENTRIES, 77, 16)
-}
-
-/// A beginning, a text that stands so often, and an end.
-fn repeated(
-    alloc: Global,
-    begin: &str,
-    times: u32,
-    text: &str,
-    end: &str,
-) -> Result<String, AllocError> {
-    let mut all = String::from_str(alloc, begin)?;
-    for _ in 0..times {
-        all.push_str(text)?;
-    }
-    all.push_str(end)?;
-    Ok(all)
+fn entries(rt: HostRuntime) {
+    expect(&rt, rt.alloc(), ENTRIES, (77, 16));
 }
 
 /// The program may take so many instructions.
@@ -207,12 +183,16 @@ fn has_budget(rt: &impl Abort, verified: &Verified, budget: u32) {
 
 /// A program of many paths: 2,047 branches that are all taken.
 #[test]
-fn branches_taken(rt: HostRuntime) -> Result<(), Fail> {
+fn branches_taken(rt: HostRuntime) {
     let pair = "jeq64 r0, 0, +1\nadd64 r0, 1\n";
-    let text = repeated(rt.alloc(), "mov64 r0, 0\n", 2047, pair, "exit\n")?;
-    let verified = accepted(rt.alloc(), text.as_str())?;
-    has_budget(&rt, &verified, 4096);
-    answers_so(&rt, rt.alloc(), &verified, (0, 2049), "many branches")
+    let text = repeated(rt.alloc(), "mov64 r0, 0\n", 2047, pair, "exit\n").expect(&rt, "memory");
+    takes_branches(&rt, rt.alloc(), text.as_str());
+}
+
+fn takes_branches(rt: &impl Abort, alloc: Global, text: &str) {
+    let verified = accepted(rt, alloc, text);
+    has_budget(rt, &verified, 4096);
+    answers_so(rt, alloc, &verified, (0, 2049), "many branches");
 }
 
 /// Whether these are so many adds of 5 to counter 3, from 0 on.
@@ -234,35 +214,36 @@ fn adds_in_turn(calls: &[Call]) -> bool {
 
 /// The run took fifty steps and sixteen adds.
 fn is_sixteen_adds(rt: &impl Abort, done: &Ran) {
-    assert_eq!(rt; (done.steps, done.calls.len()), (50, 16));
-    assert!(rt; adds_in_turn(done.calls.as_slice()));
+    is_number(rt, u64::from(done.steps), 50);
+    is_number(rt, done.calls.len() as u64, 16);
+    is_true(rt, adds_in_turn(done.calls.as_slice()));
 }
 
 /// Adds sixteen times five onto counter 3.
-fn adds(rt: &impl Abort, alloc: Global, board: &mut Plain, stack: &mut Stack) -> Result<(), Fail> {
+fn adds(rt: &impl Abort, alloc: Global, board: &mut Plain, stack: &mut Stack) {
     let add = "mov64 r1, 3\nmov64 r2, 5\ncall 100\n";
-    let text = repeated(alloc, "", 16, add, "mov64 r0, 0\nexit\n")?;
-    let verified = accepted(alloc, text.as_str())?;
+    let text = repeated(alloc, "", 16, add, "mov64 r0, 0\nexit\n").expect(rt, "memory");
+    let verified = accepted(rt, alloc, text.as_str());
     has_budget(rt, &verified, 50);
-    let done = run_on(alloc, &verified, board, stack)?;
-    is_sixteen_adds(rt, &done);
-    Ok(())
+    is_sixteen_adds(rt, &run_on(rt, alloc, &verified, board, stack));
 }
 
-/// What counter 3 is read to be, and in how many steps.
-fn counter(alloc: Global, board: &mut Plain, stack: &mut Stack) -> Result<(u64, u32), Fail> {
-    let verified = accepted(alloc, "mov64 r1, 3\ncall 101\nexit\n")?;
-    let done = run_on(alloc, &verified, board, stack)?;
-    Ok((done.r0, done.steps))
+/// Counter 3 is read to be 80, in three steps.
+fn is_read(rt: &impl Abort, alloc: Global, board: &mut Plain, stack: &mut Stack) {
+    let verified = accepted(rt, alloc, "mov64 r1, 3\ncall 101\nexit\n");
+    has_answered(
+        rt,
+        &run_on(rt, alloc, &verified, board, stack),
+        (80, 3),
+        "the counter",
+    );
 }
 
 /// Sixteen times five onto counter 3, which is read then.
 #[test]
-fn counters(rt: HostRuntime) -> Result<(), Fail> {
+fn counters(rt: HostRuntime) {
     let mut board = Plain::new();
     let mut stack = Stack::new();
-    adds(&rt, rt.alloc(), &mut board, &mut stack)?;
-    let last = counter(rt.alloc(), &mut board, &mut stack)?;
-    assert_eq!(rt; last, (80, 3));
-    Ok(())
+    adds(&rt, rt.alloc(), &mut board, &mut stack);
+    is_read(&rt, rt.alloc(), &mut board, &mut stack);
 }

@@ -3,26 +3,17 @@
 ghost use Rattle.std.specs.Prelude.{◌≡◌};
 ghost use Rattle.bq_verify.specs.Worked.{calling, worked};
 
-use crate::judging::{Verdict, at, expect, judge, verdict};
-use bq_asm::assemble;
-use bq_bpf::{Hook, MapShape, Version};
+use crate::judging::{Place, are_answered, expect, is_answered, preempt, shape};
+use bq_bpf::{Hook, Version};
 use bq_insn::{Condition, Insn, Operation, Size, Source, Width};
-use bq_verify::{Cause, Doubt, GraphCause};
 use std::alloc::{AllocError, Global};
 use std::process::Abort;
-use std::test::Fail;
 
 #[test]
-fn refusals(rt: HostRuntime) -> Result<(), Fail> {
-    expect(&rt, rt.alloc(), &[], REFUSALS, "")?;
-    expect(&rt, rt.alloc(), &[], JOINS, "")?;
-    expect(
-        &rt,
-        rt.alloc(),
-        &[],
-        CONTEXT,
-        "add64 r1, r2\nldxb r0, [r1+0]\nexit\nmov64 r0, 0\nexit\n",
-    )
+fn refusals(rt: HostRuntime) {
+    expect(&rt, rt.alloc(), &[], REFUSALS, "");
+    expect(&rt, rt.alloc(), &[], JOINS, "");
+    expect(&rt, rt.alloc(), &[], CONTEXT, CONTEXT_END);
 }
 
 /// Programs that are refused, and some that are not.
@@ -147,20 +138,65 @@ Access 3
 ldxw r2, [r1+0]
 jle64 r2, 55, +3";
 
+/// What follows such a branch.
+const CONTEXT_END: &str = "add64 r1, r2\nldxb r0, [r1+0]\nexit\nmov64 r0, 0\nexit\n";
+
+/// A program and its answer: a beginning, a text that stands so often, and an end.
+type Repeated = (&'static str, u32, &'static str, &'static str, &'static str);
+
 /// Programs of 4,096 slots: straight, and with a branch at every second slot.
-#[test]
-fn longest(rt: HostRuntime) -> Result<(), Fail> {
-    let none: [MapShape; 0] = [];
-    let straight = repeated(rt.alloc(), "", 4095, "mov64 r0, 0\n", "exit\n")?;
-    assert_eq!(rt; judge(rt.alloc(), straight.as_str(), &none)?, Ok(4096));
-    let pair = "jeq64 r0, 0, +1\nadd64 r0, 1\n";
-    let pairs = repeated(rt.alloc(), "mov64 r0, 0\n", 2047, pair, "exit\n")?;
-    assert_eq!(rt; judge(rt.alloc(), pairs.as_str(), &none)?, Ok(4096));
-    Ok(())
-}
+static LONGEST: [Repeated; 2] = [
+    ("", 4095, "mov64 r0, 0\n", "exit\n", "4096"),
+    (
+        "mov64 r0, 0\n",
+        2047,
+        "jeq64 r0, 0, +1\nadd64 r0, 1\n",
+        "exit\n",
+        "4096",
+    ),
+];
+
+/// Calls of counters: one, one of a counter that is not there, and the most and one more on a path.
+static COUNTERS: [Repeated; 5] = [
+    (
+        "",
+        1,
+        "mov64 r1, 3\nmov64 r2, 5\ncall 100\n",
+        "mov64 r0, 0\nexit\n",
+        "5",
+    ),
+    (
+        "",
+        1,
+        "mov64 r1, 63\nmov64 r2, 5\ncall 100\n",
+        "mov64 r0, 0\nexit\n",
+        "5",
+    ),
+    (
+        "",
+        1,
+        "mov64 r1, 64\nmov64 r2, 5\ncall 100\n",
+        "mov64 r0, 0\nexit\n",
+        "Argument 2",
+    ),
+    (
+        "",
+        16,
+        "mov64 r1, 3\nmov64 r2, 5\ncall 100\n",
+        "mov64 r0, 0\nexit\n",
+        "50",
+    ),
+    (
+        "",
+        17,
+        "mov64 r1, 3\nmov64 r2, 5\ncall 100\n",
+        "mov64 r0, 0\nexit\n",
+        "Counters 50",
+    ),
+];
 
 /// A beginning, a text that stands so often, and an end.
-fn repeated(
+pub fn repeated(
     alloc: Global,
     begin: &str,
     times: u32,
@@ -175,32 +211,68 @@ fn repeated(
     Ok(all)
 }
 
+fn is_repeated(rt: &impl Abort, alloc: Global, row: &Repeated) {
+    let (begin, times, text, end, answer) = *row;
+    let text = repeated(alloc, begin, times, text, end).expect(rt, "memory");
+    is_answered(rt, alloc, text.as_str(), &preempt(&[]), answer);
+}
+
+#[test]
+fn longest(rt: HostRuntime) {
+    for row in &LONGEST {
+        is_repeated(&rt, rt.alloc(), row);
+    }
+}
+
+#[test]
+fn counters(rt: HostRuntime) {
+    for row in &COUNTERS {
+        is_repeated(&rt, rt.alloc(), row);
+    }
+}
+
 /// Loads, and how many bytes each takes.
-const LOADS: [(&str, u64); 4] = [("ldxb", 1), ("ldxh", 2), ("ldxw", 4), ("ldxdw", 8)];
+static LOADS: [(&str, u64); 4] = [("ldxb", 1), ("ldxh", 2), ("ldxw", 4), ("ldxdw", 8)];
+
+/// A load of the context at a number that is at most the bound.
+fn is_bounded(rt: &impl Abort, alloc: Global, bound: u64, load: &str, answer: &str) {
+    let program = format!(in alloc;
+        "ldxw r2, [r1+0]\njgt64 r2, {bound}, +3\nadd64 r1, r2\n{load} r0, [r1+0]\nexit\nmov64 r0, 0\nexit\n"
+    ).expect(rt, "memory");
+    is_answered(rt, alloc, program.as_str(), &preempt(&[]), answer);
+}
+
+/// Each load, with a bound, is accepted exactly where it stays inside the 56 bytes of the context.
+fn are_bounded(rt: &impl Abort, alloc: Global, bound: u64) {
+    for (load, bytes) in &LOADS {
+        let is_inside = bound.saturating_add(*bytes) <= 56;
+        is_bounded(
+            rt,
+            alloc,
+            bound,
+            load,
+            if is_inside { "5" } else { "Access 3" },
+        );
+    }
+}
 
 /// A load of 56 bytes of context at up to each bound is accepted exactly where it stays inside.
 #[test]
-fn sweep_of_bounds(rt: HostRuntime) -> Result<(), Fail> {
-    let none: [MapShape; 0] = [];
-    for bound in 0..256u64 {
-        for (load, bytes) in LOADS {
-            let program = format!(in rt.alloc();
-                "ldxw r2, [r1+0]\njgt64 r2, {bound}, +3\nadd64 r1, r2\n{load} r0, [r1+0]\nexit\nmov64 r0, 0\nexit\n"
-            )?;
-            let answer = if bound + bytes <= 56 {
-                Ok(5)
-            } else {
-                at(3, Cause::State(Doubt::Access))
-            };
-            assert_eq!(rt; judge(rt.alloc(), program.as_str(), &none)?, answer);
-        }
+fn sweep_of_bounds(rt: HostRuntime) {
+    for bound in 0..256 {
+        are_bounded(&rt, rt.alloc(), bound);
     }
-    Ok(())
 }
 
 /// Entry 0 of map 0, of 16 bytes, is looked up and loaded from at a number of the context, which one operation makes small.
-fn narrowed(alloc: Global, operation: &str, amount: u64, load: &str) -> Result<Verdict, Fail> {
-    let wide = [MapShape::new(16, 1).ok_or("no shape")?];
+fn is_narrowed(
+    rt: &impl Abort,
+    alloc: Global,
+    operation: &str,
+    amount: u64,
+    load: &str,
+    is_inside: bool,
+) {
     let program = format!(in alloc;
         "ldxw r6, [r1+4]
 stw [r10-4], 0
@@ -216,138 +288,116 @@ add64 r0, r6
 {load} r0, [r0+0]
 exit
 "
-    )?;
-    judge(alloc, program.as_str(), &wide)
+    )
+    .expect(rt, "memory");
+    let answer = if is_inside { "11" } else { "Access 12" };
+    is_answered(
+        rt,
+        alloc,
+        program.as_str(),
+        &preempt(&[shape(rt, 16, 1)]),
+        answer,
+    );
 }
 
 /// A load of an entry of 16 bytes at up to each mask is accepted exactly where it stays inside.
 #[test]
-fn sweep_of_masks(rt: HostRuntime) -> Result<(), Fail> {
-    for mask in 0..16u64 {
-        for (load, bytes) in LOADS {
-            let answer = if mask + bytes <= 16 {
-                Ok(11)
-            } else {
-                at(12, Cause::State(Doubt::Access))
-            };
-            assert_eq!(rt; narrowed(rt.alloc(), "and64", mask, load)?, answer);
+fn sweep_of_masks(rt: HostRuntime) {
+    for mask in 0..16 {
+        for (load, bytes) in &LOADS {
+            is_narrowed(&rt, rt.alloc(), "and64", mask, load, mask + *bytes <= 16);
         }
     }
-    Ok(())
 }
 
 /// 32 bits shifted right leave a number of at most 7 exactly from 29 on.
 #[test]
-fn sweep_of_shifts(rt: HostRuntime) -> Result<(), Fail> {
-    for shift in 0..64u64 {
-        let answer = if shift >= 29 {
-            Ok(11)
-        } else {
-            at(12, Cause::State(Doubt::Access))
-        };
-        assert_eq!(rt; narrowed(rt.alloc(), "rsh64", shift, "ldxdw")?, answer);
+fn sweep_of_shifts(rt: HostRuntime) {
+    for shift in 0..64 {
+        is_narrowed(&rt, rt.alloc(), "rsh64", shift, "ldxdw", shift >= 29);
     }
-    Ok(())
 }
 
-/// The last bytes of the context of the hook place, in each version.
-#[test]
-fn versions(rt: HostRuntime) -> Result<(), Fail> {
-    let none: [MapShape; 0] = [];
-    for (off, version, answer) in [
-        (100, Version::First, Ok(2)),
-        (104, Version::First, at(0, Cause::State(Doubt::Access))),
-        (104, Version::Second, Ok(2)),
-        (292, Version::Second, Ok(2)),
-        (293, Version::Second, at(0, Cause::State(Doubt::Access))),
-    ] {
-        let program = format!(in rt.alloc(); "ldxw r0, [r1+{off}]\nexit\n")?;
-        let insns = assemble(rt.alloc(), program.as_str())?;
-        assert_eq!(rt;
-            verdict(rt.alloc(), insns, &none, Hook::Place, version)?,
-            answer
-        );
-    }
-    Ok(())
+/// Loads of the context of the hook place, in each version: its last bytes, and beyond.
+static VERSIONS: [(&str, Version, &str); 5] = [
+    ("ldxw r0, [r1+100]\nexit\n", Version::First, "2"),
+    ("ldxw r0, [r1+104]\nexit\n", Version::First, "Access 0"),
+    ("ldxw r0, [r1+104]\nexit\n", Version::Second, "2"),
+    ("ldxw r0, [r1+292]\nexit\n", Version::Second, "2"),
+    ("ldxw r0, [r1+293]\nexit\n", Version::Second, "Access 0"),
+];
+
+/// A program of the hook place has that answer.
+fn is_placed(rt: &impl Abort, alloc: Global, text: &str, version: Version, answer: &str) {
+    let place = Place {
+        shapes: &[],
+        hook: Hook::Place,
+        version,
+    };
+    is_answered(rt, alloc, text, &place, answer);
 }
 
-/// A look-up of entry 0 of map 0, of 8 bytes, and what follows it.
 #[test]
-fn maps(rt: HostRuntime) -> Result<(), Fail> {
-    let look_up = "stw [r10-4], 0\nldmap r1, 0\nmov64 r2, r10\nadd64 r2, -4\ncall 1\n";
-    let trials: [(&str, u16, Verdict); 4] = [
-        (
-            "ldxdw r0, [r0+0]\nexit\n",
-            1,
-            at(6, Cause::State(Doubt::Access)),
-        ),
-        (
-            "jne64 r0, 0, +2\nmov64 r0, 0\nexit\nldxdw r0, [r0+4]\nexit\n",
-            2,
-            at(9, Cause::State(Doubt::Access)),
-        ),
-        (
-            "jne64 r0, 0, +2\nmov64 r0, 2\nexit\nldxdw r3, [r0+0]\nmov64 r4, r3\nadd64 r4, 1\nstxdw [r0+0], r4\n\
+fn versions(rt: HostRuntime) {
+    for (text, version, answer) in &VERSIONS {
+        is_placed(&rt, rt.alloc(), text, *version, answer);
+    }
+}
+
+/// What follows a look-up of entry 0 of map 0, of 8 bytes, how many entries it has, and the answer.
+static MAPS: [(&str, u16, &str); 4] = [
+    ("ldxdw r0, [r0+0]\nexit\n", 1, "Access 6"),
+    (
+        "jne64 r0, 0, +2\nmov64 r0, 0\nexit\nldxdw r0, [r0+4]\nexit\n",
+        2,
+        "Access 9",
+    ),
+    (
+        "jne64 r0, 0, +2\nmov64 r0, 2\nexit\nldxdw r3, [r0+0]\nmov64 r4, r3\nadd64 r4, 1\nstxdw [r0+0], r4\n\
 mov64 r0, r3\nexit\n",
-            1,
-            Ok(12),
-        ),
-        // the answer beside a register that is 0
-        (
-            "mov64 r6, 0\njeq64 r0, r6, +0\nmov64 r0, 0\nexit\n",
-            1,
-            at(7, Cause::State(Doubt::PointerUse)),
-        ),
-    ];
-    for (end, entries, answer) in trials {
-        let shape = [MapShape::new(8, entries).ok_or("no shape")?];
-        let program = format!(in rt.alloc(); "{look_up}{end}")?;
-        assert_eq!(rt;
-            judge(rt.alloc(), program.as_str(), &shape)?,
-            answer,
-            "{end}"
-        );
-    }
-    Ok(())
+        1,
+        "12",
+    ),
+    // the answer beside a register that is 0
+    (
+        "mov64 r6, 0\njeq64 r0, r6, +0\nmov64 r0, 0\nexit\n",
+        1,
+        "PointerUse 7",
+    ),
+];
+
+/// What follows a look-up in a map of so many entries has its answer.
+fn is_looked_up(rt: &impl Abort, alloc: Global, end: &str, entries: u16, answer: &str) {
+    let program = format!(in alloc;
+        "stw [r10-4], 0\nldmap r1, 0\nmov64 r2, r10\nadd64 r2, -4\ncall 1\n{end}"
+    ).expect(rt, "memory");
+    is_answered(
+        rt,
+        alloc,
+        program.as_str(),
+        &preempt(&[shape(rt, 8, entries)]),
+        answer,
+    );
 }
 
-/// Calls of counters: one, one of a counter that is not there, and the most and one more on a path.
 #[test]
-fn counters(rt: HostRuntime) -> Result<(), Fail> {
-    let none: [MapShape; 0] = [];
-    for (add, calls, answer) in [
-        ("mov64 r1, 3\nmov64 r2, 5\ncall 100\n", 1, Ok(5)),
-        ("mov64 r1, 63\nmov64 r2, 5\ncall 100\n", 1, Ok(5)),
-        (
-            "mov64 r1, 64\nmov64 r2, 5\ncall 100\n",
-            1,
-            at(2, Cause::State(Doubt::Argument)),
-        ),
-        ("mov64 r1, 3\nmov64 r2, 5\ncall 100\n", 16, Ok(50)),
-        (
-            "mov64 r1, 3\nmov64 r2, 5\ncall 100\n",
-            17,
-            at(50, Cause::Graph(GraphCause::Counters)),
-        ),
-    ] {
-        let program = repeated(rt.alloc(), "", calls, add, "mov64 r0, 0\nexit\n")?;
-        assert_eq!(rt; judge(rt.alloc(), program.as_str(), &none)?, answer);
+fn maps(rt: HostRuntime) {
+    for (end, entries, answer) in &MAPS {
+        is_looked_up(&rt, rt.alloc(), end, *entries, answer);
     }
-    Ok(())
 }
 
 /// The program has that answer beside a map of one entry of 8 bytes.
-fn expect_insns(
-    rt: &impl Abort,
-    alloc: Global,
-    insns: &[Insn],
-    answer: Verdict,
-) -> Result<(), Fail> {
-    let one = [MapShape::new(8, 1).ok_or("no shape")?];
-    let insns = insns.to_vec(alloc)?;
-    let verdict = verdict(alloc, insns, &one, Hook::Preempt, Version::First)?;
-    assert_eq!(rt; verdict, answer);
-    Ok(())
+fn are_worked(rt: &impl Abort, alloc: Global, insns: &[Insn], answer: &str) {
+    let insns = insns.to_vec(alloc).expect(rt, "memory");
+    are_answered(
+        rt,
+        alloc,
+        insns,
+        &preempt(&[shape(rt, 8, 1)]),
+        answer,
+        "worked",
+    );
 }
 
 /// The program that the law calls straight.
@@ -404,8 +454,8 @@ fn worked_program() -> [Insn; 10]
 
 // either way has eight instructions
 #[test]
-fn worked_is_accepted(rt: HostRuntime) -> Result<(), Fail> {
-    expect_insns(&rt, rt.alloc(), &worked_program(), Ok(8))
+fn worked_is_accepted(rt: HostRuntime) {
+    are_worked(&rt, rt.alloc(), &worked_program(), "8");
 }
 
 /// The program with calls that the law calls straight.
@@ -481,6 +531,6 @@ fn calling_program() -> [Insn; 14]
 
 // one way, of fourteen instructions
 #[test]
-fn calling_is_accepted(rt: HostRuntime) -> Result<(), Fail> {
-    expect_insns(&rt, rt.alloc(), &calling_program(), Ok(14))
+fn calling_is_accepted(rt: HostRuntime) {
+    are_worked(&rt, rt.alloc(), &calling_program(), "14");
 }

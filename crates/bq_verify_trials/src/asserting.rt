@@ -1,0 +1,21 @@
+// What the tests assert. Each assertion stands in a function of its own, which owns nothing: a proof of an assertion carries
+// all that its function would drop.
+
+use std::process::Abort;
+
+pub fn is_true(rt: &impl Abort, fact: bool) {
+    assert!(rt; fact);
+}
+
+pub fn is_number(rt: &impl Abort, number: u64, expected: u64) {
+    assert_eq!(rt; number, expected);
+}
+
+/// What is said of something is as expected.
+pub fn is_said(rt: &impl Abort, said: &str, expected: &str, of: &str) {
+    assert_eq!(rt; said, expected, "{of}");
+}
+
+pub fn are_bytes(rt: &impl Abort, found: &[u8], expected: &[u8]) {
+    assert_eq!(rt; found, expected);
+}
