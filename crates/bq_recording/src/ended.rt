@@ -1,5 +1,5 @@
 //! The locks are opened for good, and what they have becomes the history and the core.
-ghost use Rattle.std.specs.Prelude.{◌≡◌, ◌≤◌, ◌∷◌, [], List, map, length, vec_len, vec_capacity};
+ghost use Rattle.std.specs.Prelude.{◌≡◌, ◌≤◌, map, length, vec_len, vec_capacity};
 ghost use Rattle.bq_tie.specs.Whole.{count, Each};
 ghost use Rattle.bq_history.specs.Items.{part_item};
 ghost use Rattle.bq_history.specs.History.{Leaves, EachOnce, AreReceiptsOf};
@@ -7,9 +7,8 @@ ghost use Rattle.bq_seats.specs.Sums.{AreSumsOf};
 ghost use Rattle.bq_seats.specs.Calls.{calls_in};
 ghost use Rattle.bq_parts.specs.World.{World, opening_world, count_in};
 ghost use Rattle.bq_parts.specs.StandsOnce.{IsOrderly};
-ghost use Rattle.bq_cells.specs.Parts.{RecordStep, told_calls, cpu_part, inbox_part, lobby_part, same_part, HasPart};
+ghost use Rattle.bq_cells.specs.Parts.{RecordStep, told_calls, cpu_part, inbox_part, same_part, HasPart};
 ghost use Rattle.bq_cells.specs.declared.law.Part.{Part as PartOf};
-ghost use Rattle.bq_parts.specs.declared.lobby_entry.LobbyEntry.{LobbyEntry as SeatOf};
 ghost use Rattle.bq_recording.specs.AllParts.{all_parts};
 
 use crate::closed::Closed;
@@ -61,68 +60,75 @@ pub fn close<Q: RunQueue + Drop, N: Naming + Counting, const P: usize>(
         journal,
         room,
     } = locks;
+    let (contents, all) = all_out(&history, cpus, inboxes, lobby, room);
+    let journal = journal.into_inner();
+    let drawn = journal.kept().drawn;
+    let (log, words) = bq_seats::close(history, journal, all, counters, seats);
+    Closed {
+        history: log,
+        core: core_of(contents, drawn),
+        counters: words,
+    }
+}
+
+/// What the locks had, and room for the contents of the processors and inboxes without their numbers.
+#[derive(Drop)]
+struct Contents<Q: RunQueue + Drop, const P: usize> {
+    cpus: Vec<NumberedCpu<Q>>,
+    inboxes: Vec<NumberedInbox>,
+    lobby: Lobby,
+    room_for_cpus: Vec<Cpu<Q>>,
+    room_for_inboxes: Vec<Inbox>,
+    ghost many: { (length cpus.items ≡ P) × (length inboxes.items ≡ P) },
+    ghost for_cpus: { (vec_len room_for_cpus ≡ 0) × (P ≤ vec_capacity room_for_cpus) },
+    ghost for_inboxes: { (vec_len room_for_inboxes ≡ 0) × (P ≤ vec_capacity room_for_inboxes) },
+}
+
+/// All contents come out of their locks, and their parts to one holder.
+fn all_out<Q: RunQueue + Drop, N: Naming + Counting, const P: usize>(
+    history: &Shared<Q, N>,
+    cpus: Vec<Mutex<UnderLock<NumberedCpu<Q>, N>>>,
+    inboxes: Vec<Mutex<UnderLock<NumberedInbox, N>>>,
+    lobby: Mutex<UnderLock<OneLobby, N>>,
+    room: Mutex<ClosingRoom<Q, P>>,
+) -> (Contents<Q, P>, Holder<Item<Record, Part, Kept>, N>)
+    requires cpus { vec_len cpus ≡ P }
+    requires inboxes { vec_len inboxes ≡ P }
+    ensures { result.1 ≡ map part_item (all_parts result.0.lobby result.0.cpus.items result.0.inboxes.items (λ c. cpu_part c.number c.state) (λ i. inbox_part i.number i.state)) }
+{
     let ClosingRoom {
         numbered_cpus,
         numbered_inboxes,
         cpus: room_for_cpus,
         inboxes: room_for_inboxes,
     } = room.into_inner();
-    let journal = journal.into_inner();
-    let drawn = journal.kept().drawn;
     let (hall, mut all) = lobby.into_inner().into_parts();
-    let OneLobby { state: lobby } = hall;
-    let (cpus, inboxes) = all_out(
-        &history,
-        &mut all,
+    let cpus = gather(history, &mut all, cpus, numbered_cpus);
+    let inboxes = gather(history, &mut all, inboxes, numbered_inboxes);
+    let contents = Contents {
         cpus,
         inboxes,
-        numbered_cpus,
-        numbered_inboxes,
-    );
-    let (log, words) = bq_seats::close(history, journal, all, counters, seats);
-    Closed {
-        history: log,
-        core: core_of(cpus, inboxes, lobby, drawn, room_for_cpus, room_for_inboxes),
-        counters: words,
-    }
-}
-
-/// The processors and inboxes come out of their locks. Their parts go to the holder of the lobby.
-fn all_out<Q: RunQueue + Drop, N: Naming + Counting>(
-    history: &Shared<Q, N>,
-    all: &mut Holder<Item<Record, Part, Kept>, N>,
-    cpus: Vec<Mutex<UnderLock<NumberedCpu<Q>, N>>>,
-    inboxes: Vec<Mutex<UnderLock<NumberedInbox, N>>>,
-    room_for_cpus: Vec<NumberedCpu<Q>>,
-    room_for_inboxes: Vec<NumberedInbox>,
-) -> (Vec<NumberedCpu<Q>>, Vec<NumberedInbox>)
-    requires cpus { (vec_len room_for_cpus ≡ 0) × (vec_len cpus ≤ vec_capacity room_for_cpus) }
-    requires inboxes { (vec_len room_for_inboxes ≡ 0) × (vec_len inboxes ≤ vec_capacity room_for_inboxes) }
-    ensures many { (length result.0.items ≡ vec_len cpus) × (length result.1.items ≡ vec_len inboxes) }
-    ensures parts { (seats : List SeatOf) → all.old ≡ part_item (lobby_part seats) ∷ [] → all.new ≡ map part_item (all_parts seats result.0.items result.1.items (λ c. cpu_part c.number c.state) (λ i. inbox_part i.number i.state)) }
-{
-    let numbered_cpus = gather(history, all, cpus, room_for_cpus);
-    let numbered_inboxes = gather(history, all, inboxes, room_for_inboxes);
-    (numbered_cpus, numbered_inboxes)
+        lobby: hall.state,
+        room_for_cpus,
+        room_for_inboxes,
+    };
+    (contents, all)
 }
 
 /// The core of the world that has these parts.
-fn core_of<Q: RunQueue + Drop, const P: usize>(
-    cpus: Vec<NumberedCpu<Q>>,
-    inboxes: Vec<NumberedInbox>,
-    lobby: Lobby,
-    drawn: u64,
-    room_for_cpus: Vec<Cpu<Q>>,
-    room_for_inboxes: Vec<Inbox>,
-) -> Core<Q, P>
+fn core_of<Q: RunQueue + Drop, const P: usize>(contents: Contents<Q, P>, drawn: u64) -> Core<Q, P>
     requires few { P ≤ 64 }
-    requires many { (length cpus.items ≡ P) × (length inboxes.items ≡ P) }
-    requires once { (p : PartOf) → count (same_part p) (all_parts lobby cpus.items inboxes.items (λ c. cpu_part c.number c.state) (λ i. inbox_part i.number i.state)) ≤ 1 }
-    requires world { (w : World) × (count_in w ≡ P) × (length w.inboxes ≡ P) × IsOrderly w × (w.drawn ≡ drawn) × Each (HasPart w) (all_parts lobby cpus.items inboxes.items (λ c. cpu_part c.number c.state) (λ i. inbox_part i.number i.state)) }
-    requires room_for_cpus { (vec_len room_for_cpus ≡ 0) × (P ≤ vec_capacity room_for_cpus) }
-    requires room_for_inboxes { (vec_len room_for_inboxes ≡ 0) × (P ≤ vec_capacity room_for_inboxes) }
-    ensures { (w : World) → count_in w ≡ P → length w.inboxes ≡ P → w.drawn ≡ drawn → Each (HasPart w) (all_parts lobby cpus.items inboxes.items (λ c. cpu_part c.number c.state) (λ i. inbox_part i.number i.state)) → result ≡ w }
+    requires once { (p : PartOf) → count (same_part p) (all_parts contents.lobby contents.cpus.items contents.inboxes.items (λ c. cpu_part c.number c.state) (λ i. inbox_part i.number i.state)) ≤ 1 }
+    requires world { (w : World) × (count_in w ≡ P) × (length w.inboxes ≡ P) × IsOrderly w × (w.drawn ≡ drawn) × Each (HasPart w) (all_parts contents.lobby contents.cpus.items contents.inboxes.items (λ c. cpu_part c.number c.state) (λ i. inbox_part i.number i.state)) }
+    ensures { (w : World) → count_in w ≡ P → length w.inboxes ≡ P → w.drawn ≡ drawn → Each (HasPart w) (all_parts contents.lobby contents.cpus.items contents.inboxes.items (λ c. cpu_part c.number c.state) (λ i. inbox_part i.number i.state)) → result ≡ w }
 {
+    let Contents {
+        cpus,
+        inboxes,
+        lobby,
+        room_for_cpus,
+        room_for_inboxes,
+    } = contents;
     let cpus = contents_in_order(cpus, room_for_cpus);
     let inboxes = contents_in_order(inboxes, room_for_inboxes);
     Core::from_parts(cpus, inboxes, lobby, drawn)

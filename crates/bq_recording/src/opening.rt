@@ -1,16 +1,19 @@
 //! A machine's parts, its history, its counters and its seats at the start.
-ghost use Rattle.std.specs.Prelude.{◌≡◌, ◌≤◌, ◌^◌, [], All, IfOk, length, vec_len, replicate};
+ghost use Rattle.std.specs.Prelude.{◌≡◌, ◌≤◌, ◌^◌, ◌++◌, [], All, IfOk, length, map, vec_len, replicate};
+ghost use Rattle.bq_history.specs.Items.{callers_from, part_item};
 ghost use Rattle.bq_seats.specs.Calls.{fresh};
+ghost use Rattle.bq_seats.specs.Sums.{opened};
+ghost use Rattle.bq_cells.specs.Parts.{first_parts};
 
 use crate::locked_parts::{PartLocks, part_locks};
 use crate::prepared::Prepared;
 use crate::{ClosingRoom, Recorder, Seat};
-use bq_cells::{Kept, NumberedCpu, NumberedInbox, OneLobby, UnderLock};
+use bq_cells::{Kept, NumberedCpu, NumberedInbox, OneLobby, Part, Record, UnderLock};
 use bq_disc::RunQueue;
-use bq_history::Journal;
+use bq_history::{Item, Journal};
 use bq_parts::Loads;
-use bq_seats::{Naming as Counting, Unnamed, seats};
-use bq_tie::Naming;
+use bq_seats::{Naming as Counting, Tally, Unnamed, seats};
+use bq_tie::{Holder, Naming};
 use std::alloc::{AllocError, Global};
 use std::sync::Mutex;
 
@@ -50,26 +53,22 @@ impl<Q: RunQueue + Drop, N: Naming + Counting, const P: usize> Opening<Q, N, P> 
         ensures seats { IfOk result (λ r. r.1.items ≡ fresh 0 seat_count) }
         ensures count { IfOk result (λ r. r.0.seats ≡ seat_count) }
     {
+        let (recorder, mut all, account) = recorder_at_start(prepared, unnamed, P);
+        let locks = part_locks(alloc, &recorder.history, &mut all, queues, P as u8)?;
+        let seats = seats(
+            alloc,
+            &recorder.history,
+            &mut all,
+            &recorder.counters,
+            account,
+            seat_count,
+        )?;
         let room = ClosingRoom::new(alloc)?;
-        let (history, mut all) = prepared.named::<N>();
-        let (counters, account) = unnamed.named::<N>();
-        let kept = Kept {
-            drawn: 0,
-            loads: no_loads(P),
-        };
-        let journal = Journal::open(&history, &mut all, kept);
-        let locks = part_locks(alloc, &history, &mut all, queues, P as u8)?;
         let PartLocks {
             lobby,
             cpus,
             inboxes,
         } = locks;
-        let seats = seats(alloc, &history, &mut all, &counters, account, seat_count)?;
-        let recorder = Recorder {
-            history,
-            counters,
-            journal: Mutex::new(journal),
-        };
         let opening = Opening {
             recorder,
             cpus,
@@ -80,6 +79,40 @@ impl<Q: RunQueue + Drop, N: Naming + Counting, const P: usize> Opening<Q, N, P> 
         };
         Ok((opening, seats))
     }
+}
+
+/// What records the events of a machine of so many processors, with one holder of all its parts and seats, and the account of
+/// all seats.
+fn recorder_at_start<Q: RunQueue + Drop, N: Naming + Counting>(
+    prepared: Prepared<Q>,
+    unnamed: Unnamed,
+    count: usize,
+) -> (
+    Recorder<Q, N>,
+    Holder<Item<Record, Part, Kept>, N>,
+    Tally<N>,
+)
+    requires few { count ≤ 64 }
+    requires name { prepared.0 ≡ N.table }
+    requires counters { unnamed.0 ≡ N.counters }
+    requires counts { (prepared.1.about ≡ count) × (unnamed.1 ≡ prepared.1.callers) }
+    ensures history { result.0.history ≡ prepared.1 }
+    ensures items { result.1 ≡ map part_item (first_parts count) ++ callers_from 0 prepared.1.callers }
+    ensures account { result.2 ≡ opened unnamed.1 }
+{
+    let (history, mut all) = prepared.named::<N>();
+    let (counters, account) = unnamed.named::<N>();
+    let kept = Kept {
+        drawn: 0,
+        loads: no_loads(count),
+    };
+    let journal = Journal::open(&history, &mut all, kept);
+    let recorder = Recorder {
+        history,
+        counters,
+        journal: Mutex::new(journal),
+    };
+    (recorder, all, account)
 }
 
 /// The loads of processors that have no task.

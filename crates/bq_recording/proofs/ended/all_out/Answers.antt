@@ -1,11 +1,16 @@
-use Rattle.bq_cells.specs.Parts.{cpu_part, inbox_part}
+use Rattle.std.proofs.Common.{◌≡◌, ◌∷◌, [], sym, ap, ◌∙◌}
+use Rattle.bq_history.specs.Items.{part_item}
+use Rattle.bq_cells.specs.Parts.{cpu_part, inbox_part, lobby_part}
 use Rattle.bq_cells.specs.declared.cells.NumberedCpu.{NumberedCpu}
 use Rattle.bq_cells.specs.declared.cells.NumberedInbox.{NumberedInbox}
+use Rattle.bq_cells.specs.declared.cells.OneLobby.{OneLobby}
 use Rattle.bq_recording.proofs.ClosingLemmas.{gathered}
 use Rattle.bq_recording.proofs.ended.all_out.Goals as goal
 
-pub returns-clause-parts : goal.returns-clause-parts
-returns-clause-parts g c = λ seats first.
+pub returns : goal.returns
+returns g c =
+    let hall = c.into_parts-hall in
+    let first = hall.ensures.parts.1 ∙ ap (λ (h : OneLobby). part_item (lobby_part h.state) ∷ []) (sym hall.ensures.parts.0) in
     gathered {A = NumberedCpu g.row.Q.Denot g.row.Q-R.Denot} {B = NumberedInbox} (λ x. cpu_part x.number x.state) (λ y. inbox_part y.number y.state)
-    seats c.gather-numbered_inboxes.new.all c.gather-numbered_cpus.new.all c.args.all.now c.gather-numbered_cpus.result.items c.gather-numbered_inboxes.result.items
-    first c.gather-numbered_cpus.ensures.parts c.gather-numbered_inboxes.ensures.parts
+    hall.result.0.state c.gather-inboxes.new.all c.gather-cpus.new.all hall.result.1 c.gather-cpus.result.items c.gather-inboxes.result.items
+    first c.gather-cpus.ensures.parts c.gather-inboxes.ensures.parts

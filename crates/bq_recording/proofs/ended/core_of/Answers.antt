@@ -15,8 +15,8 @@ contents_in_order-cpus-requires-clause-below g c =
     let place : NumberedInbox → ℕ = λ y. y.number in
     let tasks : NumberedInbox → List Task = λ y. y.state in
     let k = c.requires.world in
-    let xs = c.args.cpus.items in
-    below at state opening k.0.processors (length xs) xs (k.1 ∙ sym c.requires.many.0) (cpus_there c.args.lobby xs c.args.inboxes.items at state place tasks k.0 k.5)
+    let xs = c.args.contents.cpus.items in
+    below at state opening k.0.processors (length xs) xs (k.1 ∙ sym c.args.contents.many.0) (cpus_there c.args.contents.lobby xs c.args.contents.inboxes.items at state place tasks k.0 k.5)
 
 pub contents_in_order-cpus-requires-clause-few : goal.contents_in_order-cpus-requires-clause-few
 contents_in_order-cpus-requires-clause-few g c =
@@ -24,7 +24,7 @@ contents_in_order-cpus-requires-clause-few g c =
     let state : NumberedCpu g.row.Q.Denot g.row.Q-R.Denot → Processor = λ x. x.state in
     let place : NumberedInbox → ℕ = λ y. y.number in
     let tasks : NumberedInbox → List Task = λ y. y.state in
-    cpus_few c.args.lobby c.args.cpus.items c.args.inboxes.items at state place tasks c.requires.once
+    cpus_few c.args.contents.lobby c.args.contents.cpus.items c.args.contents.inboxes.items at state place tasks c.requires.once
 
 pub contents_in_order-inboxes-requires-clause-below : goal.contents_in_order-inboxes-requires-clause-below
 contents_in_order-inboxes-requires-clause-below g c =
@@ -33,8 +33,8 @@ contents_in_order-inboxes-requires-clause-below g c =
     let place : NumberedInbox → ℕ = λ y. y.number in
     let tasks : NumberedInbox → List Task = λ y. y.state in
     let k = c.requires.world in
-    let ys = c.args.inboxes.items in
-    below place tasks [] k.0.inboxes (length ys) ys (k.2 ∙ sym c.requires.many.1) (inboxes_there c.args.lobby c.args.cpus.items ys at state place tasks k.0 k.5)
+    let ys = c.args.contents.inboxes.items in
+    below place tasks [] k.0.inboxes (length ys) ys (k.2 ∙ sym c.args.contents.many.1) (inboxes_there c.args.contents.lobby c.args.contents.cpus.items ys at state place tasks k.0 k.5)
 
 pub contents_in_order-inboxes-requires-clause-few : goal.contents_in_order-inboxes-requires-clause-few
 contents_in_order-inboxes-requires-clause-few g c =
@@ -42,7 +42,7 @@ contents_in_order-inboxes-requires-clause-few g c =
     let state : NumberedCpu g.row.Q.Denot g.row.Q-R.Denot → Processor = λ x. x.state in
     let place : NumberedInbox → ℕ = λ y. y.number in
     let tasks : NumberedInbox → List Task = λ y. y.state in
-    inboxes_few c.args.lobby c.args.cpus.items c.args.inboxes.items at state place tasks c.requires.once
+    inboxes_few c.args.contents.lobby c.args.contents.cpus.items c.args.contents.inboxes.items at state place tasks c.requires.once
 
 pub from_parts-requires : goal.from_parts-requires
 from_parts-requires g c =
@@ -50,13 +50,13 @@ from_parts-requires g c =
     let state : NumberedCpu g.row.Q.Denot g.row.Q-R.Denot → Processor = λ x. x.state in
     let place : NumberedInbox → ℕ = λ y. y.number in
     let tasks : NumberedInbox → List Task = λ y. y.state in
-    let xs = c.args.cpus.items in
-    let ys = c.args.inboxes.items in
-    let s = c.args.lobby in
+    let xs = c.args.contents.cpus.items in
+    let ys = c.args.contents.inboxes.items in
+    let s = c.args.contents.lobby in
     let k = c.requires.world in
     let w = k.0 in
-    let cpus = c.contents_in_order-cpus.ensures w.processors opening (k.1 ∙ sym c.requires.many.0) (cpus_there s xs ys at state place tasks w k.5) in
-    let inboxes = c.contents_in_order-inboxes.ensures w.inboxes [] (k.2 ∙ sym c.requires.many.1) (inboxes_there s xs ys at state place tasks w k.5) in
+    let cpus = c.contents_in_order-cpus.ensures w.processors opening (k.1 ∙ sym c.args.contents.many.0) (cpus_there s xs ys at state place tasks w k.5) in
+    let inboxes = c.contents_in_order-inboxes.ensures w.inboxes [] (k.2 ∙ sym c.args.contents.many.1) (inboxes_there s xs ys at state place tasks w k.5) in
     let is = is_world s xs ys at state place tasks w c.contents_in_order-cpus.result.items c.contents_in_order-inboxes.result.items c.args.drawn k.5 cpus inboxes k.4 in (
       search rules,
       (c.requires.few, (ap length cpus ∙ k.1, (ap length inboxes ∙ k.2, subst IsOrderly (sym is) k.3))),
@@ -68,9 +68,9 @@ returns g c = λ w many boxes drawn each.
     let state : NumberedCpu g.row.Q.Denot g.row.Q-R.Denot → Processor = λ x. x.state in
     let place : NumberedInbox → ℕ = λ y. y.number in
     let tasks : NumberedInbox → List Task = λ y. y.state in
-    let xs = c.args.cpus.items in
-    let ys = c.args.inboxes.items in
-    let s = c.args.lobby in
-    let cpus = c.contents_in_order-cpus.ensures w.processors opening (many ∙ sym c.requires.many.0) (cpus_there s xs ys at state place tasks w each) in
-    let inboxes = c.contents_in_order-inboxes.ensures w.inboxes [] (boxes ∙ sym c.requires.many.1) (inboxes_there s xs ys at state place tasks w each) in
+    let xs = c.args.contents.cpus.items in
+    let ys = c.args.contents.inboxes.items in
+    let s = c.args.contents.lobby in
+    let cpus = c.contents_in_order-cpus.ensures w.processors opening (many ∙ sym c.args.contents.many.0) (cpus_there s xs ys at state place tasks w each) in
+    let inboxes = c.contents_in_order-inboxes.ensures w.inboxes [] (boxes ∙ sym c.args.contents.many.1) (inboxes_there s xs ys at state place tasks w each) in
     c.from_parts.ensures ∙ is_world s xs ys at state place tasks w c.contents_in_order-cpus.result.items c.contents_in_order-inboxes.result.items c.args.drawn each cpus inboxes drawn
