@@ -58,8 +58,8 @@ pub fn ask<Q: RunQueue + Drop, K: Clock + Drop, N: Naming + Counting, R: Wait, c
             nice,
             mask,
             slice,
-        } => machine.admit(rt, alloc, seat, task, nice, mask, slice)?,
-        Request::Retire { task } => machine.retire(rt, alloc, seat, task)?,
+        } => machine.admit(rt, alloc, seat, task, nice, mask, slice),
+        Request::Retire { task } => machine.retire(rt, alloc, seat, task),
         Request::Wake { processor, task } => {
             let woken = machine.wake(rt, alloc, seat, processor, task)?;
             return Ok(Receipts {
@@ -67,13 +67,13 @@ pub fn ask<Q: RunQueue + Drop, K: Clock + Drop, N: Naming + Counting, R: Wait, c
                 second: woken.end,
             });
         }
-        Request::Drain { processor } => machine.drain(rt, alloc, seat, processor)?,
-        Request::Tick { processor } => machine.tick(rt, alloc, seat, processor)?,
-        Request::Block { processor } => machine.block(rt, alloc, seat, processor)?,
-        Request::Pull { processor, from } => machine.pull(rt, alloc, seat, processor, from)?,
+        Request::Drain { processor } => machine.drain(rt, alloc, seat, processor),
+        Request::Tick { processor } => machine.tick(rt, alloc, seat, processor),
+        Request::Block { processor } => machine.block(rt, alloc, seat, processor),
+        Request::Pull { processor, from } => machine.pull(rt, alloc, seat, processor, from),
     };
     Ok(Receipts {
-        first,
+        first: first?,
         second: None,
     })
 }

@@ -77,9 +77,10 @@ pub struct Caller<'a, N: Naming + Counting, R: Wait> {
 
 impl<'a, N: Naming + Counting, R: Wait> Caller<'a, N, R> {
     fn keep(&mut self, receipt: Receipt<Record>) -> Result<(), Refusal> {
-        self.receipts
-            .push(receipt)
-            .map_err(|_| Refusal::OutOfMemory)
+        match self.receipts.push(receipt) {
+            Ok(()) => Ok(()),
+            Err(_) => Err(Refusal::OutOfMemory),
+        }
     }
 
     /// Makes the call, and keeps its receipts.

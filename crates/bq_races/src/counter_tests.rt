@@ -4,16 +4,17 @@ use crate::images::{ADDS, READS};
 use crate::play::{Play, Script};
 use crate::script::{Outcome, run_script};
 use bq_bpf::Call;
-use std::alloc::{AllocError, Global};
-use std::test::Fail;
+use std::alloc::Global;
+use std::process::Abort;
 
 /// Whether the answers to the adds of 5 are 0, 5, 10 and so on, so many, each once, and the one read answers their sum.
-fn adds_up(alloc: Global, outcome: &Outcome, adds: usize, sum: u64) -> Result<bool, AllocError> {
-    let mut seen = vec![in alloc; false; adds]?;
+fn adds_up(rt: &impl Abort, alloc: Global, outcome: &Outcome, adds: usize, sum: u64) -> bool {
+    let mut seen = vec![in alloc; false; adds].expect(rt, "memory");
+    let mut found = 0usize;
     let mut reads = 0u32;
     for place in 0..outcome.closed.len() {
         let Some((_, _, calls)) = outcome.closed.logged(place) else {
-            return Ok(false);
+            return false;
         };
         for call in calls {
             match call {
@@ -26,38 +27,48 @@ fn adds_up(alloc: Global, outcome: &Outcome, adds: usize, sum: u64) -> Result<bo
                     answer,
                 } => {
                     let Some(one) = seen.get_mut((*answer / 5) as usize) else {
-                        return Ok(false);
+                        return false;
                     };
                     if *answer % 5 != 0 || *one {
-                        return Ok(false);
+                        return false;
                     }
                     *one = true;
+                    found = found.wrapping_add(1);
                 }
-                _ => return Ok(false),
+                _ => return false,
             }
         }
     }
-    Ok(reads == 1 && seen.iter().all(|one| *one))
+    reads == 1 && found == adds
 }
 
-#[test]
-fn each_add_counts_once(rt: HostRuntime) -> Result<(), Fail> {
-    let alloc = rt.alloc();
+/// Four lives of adds, and then a read.
+fn adding(rt: &impl Abort, alloc: Global) -> Script {
     let mut script = Script::new(alloc);
-    script.before.push(Play::Load(&ADDS))?;
+    script.before.push(Play::Load(&ADDS)).expect(rt, "memory");
     for processor in 0..4u8 {
-        script.at_once.push(Play::Life {
+        let life = Play::Life {
             processor,
             mask: 1 << processor,
             ticks: 1000,
-        })?;
+        };
+        script.at_once.push(life).expect(rt, "memory");
     }
-    script.after.push(Play::Load(&READS))?;
-    script.after.push(Play::Tick)?;
-    let outcome = run_script(&rt, alloc, None, None, script)?;
-    // 4 times 1,000 ticks add 5 each
-    assert_eq!(&rt; outcome.read, 20_000);
-    assert_eq!(&rt; outcome.closed.counters[3], 20_000);
-    assert!(&rt; adds_up(alloc, &outcome, 4000, 20_000)?);
-    Ok(())
+    script.after.push(Play::Load(&READS)).expect(rt, "memory");
+    script.after.push(Play::Tick).expect(rt, "memory");
+    script
+}
+
+/// 4 times 1,000 ticks added 5 each.
+fn counts_once(rt: &impl Abort, alloc: Global, outcome: &Outcome) {
+    assert_eq!(rt; outcome.read, 20_000);
+    assert_eq!(rt; outcome.closed.counters[3], 20_000);
+    assert!(rt; adds_up(rt, alloc, outcome, 4000, 20_000));
+}
+
+#[test]
+fn each_add_counts_once(rt: HostRuntime) {
+    let script = adding(&rt, rt.alloc());
+    let outcome = run_script(&rt, rt.alloc(), None, None, script);
+    counts_once(&rt, rt.alloc(), &outcome);
 }

@@ -4,8 +4,8 @@ use crate::play::{Play, Script};
 use crate::script::{Outcome, run_script};
 use bq_cells::Answer;
 use bq_parts::{Event, Reply};
-use std::alloc::{AllocError, Global};
-use std::test::Fail;
+use std::alloc::Global;
+use std::process::Abort;
 
 /// How many events are ticks.
 fn ticks(outcome: &Outcome) -> u64 {
@@ -19,11 +19,11 @@ fn ticks(outcome: &Outcome) -> u64 {
 }
 
 /// Whether the readings of each processor's events are 1, 2, 3 and so on up to this one, in the order of the history.
-fn readings_rise(alloc: Global, outcome: &Outcome, greatest: u64) -> Result<bool, AllocError> {
-    let mut readings = vec![in alloc; 0u64; 4]?;
+fn readings_rise(outcome: &Outcome, greatest: u64) -> bool {
+    let mut readings = [0u64; 4];
     for place in 0..outcome.closed.len() {
         let Some((event, _, _)) = outcome.closed.logged(place) else {
-            return Ok(false);
+            return false;
         };
         let (processor, now) = match event {
             Event::EndWake { processor, now } => (*processor, *now),
@@ -32,41 +32,52 @@ fn readings_rise(alloc: Global, outcome: &Outcome, greatest: u64) -> Result<bool
             _ => continue,
         };
         let Some(reading) = readings.get_mut(usize::from(processor)) else {
-            return Ok(false);
+            return false;
         };
         if now != reading.wrapping_add(1) {
-            return Ok(false);
+            return false;
         }
         *reading = now;
     }
-    Ok(readings.iter().all(|reading| *reading == greatest))
+    readings.as_slice() == [greatest; 4].as_slice()
 }
 
-#[test]
-fn four_seats_share_one_history(rt: HostRuntime) -> Result<(), Fail> {
-    let alloc = rt.alloc();
+/// Four lives at once.
+fn lives(rt: &impl Abort, alloc: Global) -> Script {
     let mut script = Script::new(alloc);
     for processor in 0..4 {
-        script.at_once.push(Play::Life {
+        let life = Play::Life {
             processor,
             mask: u64::MAX,
             ticks: 1000,
-        })?;
-    }
-    let mut outcome = run_script(&rt, alloc, None, None, script)?;
-    // of each seat an admit, both halves of a wake, a drain and 1,000 ticks
-    assert_eq!(&rt; outcome.closed.len(), 4016);
-    assert_eq!(&rt; ticks(&outcome), 4000);
-    assert_eq!(&rt; outcome.confirmed(), 4016);
-    // the clock is read at the end of a wake, a drain and each tick
-    assert!(&rt; readings_rise(alloc, &outcome, 1002)?);
-    for list in &mut outcome.receipts {
-        let Some(first) = list.get_mut(0) else {
-            return Err(Fail::from("a seat has no receipt"));
         };
+        script.at_once.push(life).expect(rt, "memory");
+    }
+    script
+}
+
+/// Of each seat an admit, both halves of a wake, a drain and 1,000 ticks; the clock is read at the end of a wake, a drain and
+/// each tick.
+fn is_whole(rt: &impl Abort, outcome: &Outcome) {
+    assert_eq!(rt; outcome.closed.len(), 4016);
+    assert_eq!(rt; ticks(outcome), 4000);
+    assert_eq!(rt; outcome.confirmed(), 4016);
+    assert!(rt; readings_rise(outcome, 1002));
+}
+
+/// Once each seat has a receipt of another reply, that one is not confirmed.
+fn bent_receipts_are_not_confirmed(rt: &impl Abort, outcome: &mut Outcome) {
+    for list in &mut outcome.receipts {
+        let first = list.get_mut(0).expect(rt, "a receipt of each seat");
         first.entry.reply = Answer::of(&Ok(Reply::Retired));
     }
-    // each seat has a receipt of another reply now
-    assert_eq!(&rt; outcome.confirmed(), 4012);
-    Ok(())
+    assert_eq!(rt; outcome.confirmed(), 4012);
+}
+
+#[test]
+fn four_seats_share_one_history(rt: HostRuntime) {
+    let script = lives(&rt, rt.alloc());
+    let mut outcome = run_script(&rt, rt.alloc(), None, None, script);
+    is_whole(&rt, &outcome);
+    bent_receipts_are_not_confirmed(&rt, &mut outcome);
 }

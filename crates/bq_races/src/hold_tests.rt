@@ -4,33 +4,38 @@ use crate::gate::Gate;
 use crate::play::{Held, Play, Script};
 use crate::script::run_script;
 use std::alloc::Global;
+use std::process::Abort;
 use std::sync::{Arc, Wait};
-use std::test::Fail;
 use std::thread::Threads;
 
 /// Whether another seat had its answers to seven calls at other processors while this call was held in its clock reading, or
 /// in the mark of its queue.
-fn is_answered_while_held<R: Threads + Wait + Sync>(
+fn is_answered_while_held<R: Abort + Threads + Wait + Sync>(
     rt: &R,
     alloc: Global,
     held: Held,
     in_clock: bool,
-) -> Result<bool, Fail> {
-    let gate = Arc::new(alloc, Gate::new())?;
-    let place = Arc::try_clone(&gate)?;
+) -> bool {
+    let gate = Arc::new(alloc, Gate::new()).expect(rt, "memory");
+    let place = again(rt, &gate);
     let (at_clock, at_queue) = if in_clock {
         (Some(place), None)
     } else {
         (None, Some(place))
     };
     let mut script = Script::new(alloc);
-    script
-        .at_once
-        .push(Play::Hold(Arc::try_clone(&gate)?, held))?;
-    script.at_once.push(Play::Pass(Arc::try_clone(&gate)?))?;
-    let outcome = run_script(rt, alloc, at_clock, at_queue, script)?;
+    let hold = Play::Hold(again(rt, &gate), held);
+    script.at_once.push(hold).expect(rt, "memory");
+    let pass = Play::Pass(again(rt, &gate));
+    script.at_once.push(pass).expect(rt, "memory");
+    let outcome = run_script(rt, alloc, at_clock, at_queue, script);
     // five events of the one seat, eight of the other (a wake is two)
-    Ok(gate.was_opened() && outcome.closed.len() == 13 && outcome.confirmed() == 13)
+    gate.was_opened() && outcome.closed.len() == 13 && outcome.confirmed() == 13
+}
+
+/// The same gate once more.
+fn again(rt: &impl Abort, gate: &Arc<Gate, Global>) -> Arc<Gate, Global> {
+    Arc::try_clone(gate).expect(rt, "memory")
 }
 
 /// A call that is held, and whether in its clock reading.
@@ -44,25 +49,22 @@ const HOLDS: [(Held, bool); 6] = [
 ];
 
 #[test]
-fn calls_go_on_beside_a_call_that_is_held(rt: HostRuntime) -> Result<(), Fail> {
+fn calls_go_on_beside_a_call_that_is_held(rt: HostRuntime) {
     for (held, in_clock) in HOLDS {
-        assert!(&rt; is_answered_while_held(&rt, rt.alloc(), held, in_clock)?);
+        assert!(&rt; is_answered_while_held(&rt, rt.alloc(), held, in_clock));
     }
-    Ok(())
 }
 
 #[test]
-fn a_counter_is_read_while_a_call_is_held(rt: HostRuntime) -> Result<(), Fail> {
-    let alloc = rt.alloc();
-    let gate = Arc::new(alloc, Gate::new())?;
-    let mut script = Script::new(alloc);
-    script
-        .at_once
-        .push(Play::Hold(Arc::try_clone(&gate)?, Held::Tick))?;
-    script.at_once.push(Play::Read(Arc::try_clone(&gate)?))?;
-    let place = Arc::try_clone(&gate)?;
-    let outcome = run_script(&rt, alloc, Some(place), None, script)?;
+fn a_counter_is_read_while_a_call_is_held(rt: HostRuntime) {
+    let gate = Arc::new(rt.alloc(), Gate::new()).expect(&rt, "memory");
+    let mut script = Script::new(rt.alloc());
+    let hold = Play::Hold(again(&rt, &gate), Held::Tick);
+    script.at_once.push(hold).expect(&rt, "memory");
+    let read = Play::Read(again(&rt, &gate));
+    script.at_once.push(read).expect(&rt, "memory");
+    let place = again(&rt, &gate);
+    let outcome = run_script(&rt, rt.alloc(), Some(place), None, script);
     assert!(&rt; gate.was_opened());
     assert_eq!(&rt; outcome.closed.counters[3], 0);
-    Ok(())
 }

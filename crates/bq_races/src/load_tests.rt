@@ -2,39 +2,48 @@
 
 use crate::images::{ADDS, ZERO};
 use crate::play::{Play, Script};
-use crate::script::run_script;
+use crate::script::{Outcome, run_script};
 use bq_parts::{Event, Hook, Refusal, Reply};
-use std::test::Fail;
+use std::process::Abort;
 
-#[test]
-fn two_loads_at_once_leave_the_newer_policy(rt: HostRuntime) -> Result<(), Fail> {
-    let alloc = rt.alloc();
-    let mut script = Script::new(alloc);
-    script.at_once.push(Play::Load(&ZERO))?;
-    script.at_once.push(Play::Load(&ADDS))?;
-    let outcome = run_script(&rt, alloc, None, None, script)?;
+/// How many events are draws, installs of the first number, and of the second. An install of the first may be refused as older; there
+/// is no other event.
+fn counted(rt: &impl Abort, outcome: &Outcome) -> (u32, u32, u32) {
     let closed = &outcome.closed;
     let (mut draws, mut first, mut second) = (0u32, 0u32, 0u32);
     for place in 0..closed.len() {
         match closed.logged(place) {
             Some((Event::Draw, _, _)) => draws = draws.wrapping_add(1),
             Some((Event::Install { generation: 1, .. }, reply, _)) => {
-                assert!(&rt; matches!(reply, Ok(Reply::Installed) | Err(Refusal::Older(2))));
+                assert!(rt; matches!(reply, Ok(Reply::Installed) | Err(Refusal::Older(2))));
                 first = first.wrapping_add(1);
             }
             Some((Event::Install { generation: 2, .. }, reply, _)) => {
-                assert!(&rt; matches!(reply, Ok(Reply::Installed)));
+                assert!(rt; matches!(reply, Ok(Reply::Installed)));
                 second = second.wrapping_add(1);
             }
-            _ => return Err(Fail::from("another event")),
+            _ => panic!(rt; "another event"),
         }
     }
-    assert_eq!(&rt; (draws, first, second), (2, 4, 4));
-    assert_eq!(&rt; closed.core.processors(), 4);
-    for processor in 0..closed.core.processors() {
-        let cpu = closed.core.cpu(processor as u8);
-        assert_eq!(&rt; cpu.generation(Hook::Preempt), 2);
+    (draws, first, second)
+}
+
+/// Each of the four processors has the policy of the second number.
+fn is_newer_everywhere(rt: &impl Abort, outcome: &Outcome) {
+    let core = &outcome.closed.core;
+    assert_eq!(rt; core.processors(), 4);
+    for processor in 0..core.processors() {
+        assert_eq!(rt; core.cpu(processor as u8).generation(Hook::Preempt), 2);
     }
+}
+
+#[test]
+fn two_loads_at_once_leave_the_newer_policy(rt: HostRuntime) {
+    let mut script = Script::new(rt.alloc());
+    script.at_once.push(Play::Load(&ZERO)).expect(&rt, "memory");
+    script.at_once.push(Play::Load(&ADDS)).expect(&rt, "memory");
+    let outcome = run_script(&rt, rt.alloc(), None, None, script);
+    assert_eq!(&rt; counted(&rt, &outcome), (2, 4, 4));
+    is_newer_everywhere(&rt, &outcome);
     assert_eq!(&rt; outcome.confirmed(), 10);
-    Ok(())
 }

@@ -12,8 +12,8 @@ use bq_machine::{
 use bq_parts::{By, Hook, Refusal, Reply};
 use std::alloc::Global;
 use std::marker::Brand;
+use std::process::Abort;
 use std::sync::Wait;
-use std::test::Fail;
 
 /// Preempt: mov64 r0, 0; exit.
 const ZERO: [u8; 28] = [
@@ -145,41 +145,39 @@ fn has_both(
     stands && !closed.confirms(&idle)
 }
 
-fn rows<N: Naming + Counting, R: Wait>(
+fn rows<N: Naming + Counting, R: Abort + Wait>(
     rt: &R,
     alloc: Global,
     prepared: Prepared<CfsQueue>,
     unnamed: Unnamed,
-) -> Result<bool, Fail>
+) -> bool
     requires name { prepared.0 ≡ N.table }
     requires counters { unnamed.0 ≡ N.counters }
     requires counts { (prepared.1.about ≡ 2) × (prepared.1.callers ≡ 1) × (unnamed.1 ≡ 1) }
 {
-    let (machine, mut seats) = Single::<N>::new(alloc, Steady, prepared, unnamed, 1)?;
-    let Some(mut seat) = seats.pop() else {
-        return Ok(false);
-    };
-    let (Ok(idle), Ok(pulled)) = (
-        machine.block(rt, alloc, &mut seat, 0),
-        machine.pull(rt, alloc, &mut seat, 1, 0),
-    ) else {
-        return Ok(false);
-    };
+    let (machine, mut seats) = Single::<N>::new(alloc, Steady, prepared, unnamed, 1).expect(
+        rt, "memory",
+    );
+    let mut seat = seats.pop().expect(rt, "a seat");
+    let idle = machine
+        .block(rt, alloc, &mut seat, 0)
+        .expect(rt, "a receipt");
+    let pulled = machine
+        .pull(rt, alloc, &mut seat, 1, 0)
+        .expect(rt, "a receipt");
     let well = is_idle(&idle)
         && is_pull_of_none(&pulled)
         && answers(rt, alloc, &machine, &mut seat);
-    seats.push(seat)?;
-    if !machine.owns(&seats) {
-        return Ok(false);
-    }
+    seats.push(seat).expect(rt, "memory");
+    assert!(rt; machine.owns(&seats));
     let closed = machine.close(seats);
-    Ok(well && has_both(&closed, idle, pulled))
+    well && has_both(&closed, idle, pulled)
 }
 
 #[test]
-fn one_seat_is_answered(rt: HostRuntime) -> Result<(), Fail> {
-    let alloc = rt.alloc();
-    let (prepared, unnamed) = prepare::<CfsQueue>(alloc, 2, 1)?;
-    assert!(&rt; rows::<Brand, _>(&rt, alloc, prepared, unnamed)?);
-    Ok(())
+fn one_seat_is_answered(rt: HostRuntime) {
+    let Ok((prepared, unnamed)) = prepare::<CfsQueue>(rt.alloc(), 2, 1) else {
+        panic!(rt; "memory")
+    };
+    assert!(&rt; rows::<Brand, _>(&rt, rt.alloc(), prepared, unnamed));
 }

@@ -10,8 +10,8 @@ use bq_machine::{Closed, Counting, Machine, Naming, Prepared, Seat, Unnamed, pre
 use bq_par::Metronome;
 use std::alloc::Global;
 use std::marker::Brand;
+use std::process::Abort;
 use std::sync::Wait;
-use std::test::Fail;
 use std::thread::{Threads, map_vec};
 
 /// How many threads race.
@@ -25,69 +25,64 @@ const EVENTS: u64 = 1_000_000;
 
 /// The seats that came back.
 fn returned<N: Naming + Counting>(
+    rt: &impl Abort,
     alloc: Global,
     done: Vec<Option<Seat<N>>>,
-) -> Result<Vec<Seat<N>>, Fail> {
+) -> Vec<Seat<N>> {
     let mut seats = Vec::new(alloc);
     for seat in done {
-        let Some(seat) = seat else {
-            return Err(Fail::from("memory was wanting"));
-        };
-        seats.push(seat)?;
+        seats.push(seat.expect(rt, "memory")).expect(rt, "memory");
     }
-    Ok(seats)
+    seats
 }
 
 /// The end of a machine of 64 processors at which the calls of all threads were made.
 fn race_under<
     Q: RunQueue + Drop + Send,
     N: Naming + Counting + Send + Sync,
-    T: Threads + Wait + Sync,
->(rt: &T, alloc: Global, prepared: Prepared<Q>, unnamed: Unnamed) -> Result<Closed<Q, 64>, Fail>
+    T: Abort + Threads + Wait + Sync,
+>(rt: &T, alloc: Global, prepared: Prepared<Q>, unnamed: Unnamed) -> Closed<Q, 64>
 where
     Q::R: Send,
     requires name { prepared.0 ≡ N.table }
     requires counters { unnamed.0 ≡ N.counters }
     requires counts { (prepared.1.about ≡ 64) × (prepared.1.callers ≡ THREADS) × (unnamed.1 ≡ THREADS) }
 {
-    let clock = Metronome::new(alloc, 64)?;
+    let clock = Metronome::new(alloc, 64).expect(rt, "memory");
     let (machine, seats) = Machine::<Q, Metronome, N, 64>::new(
         alloc, clock, prepared, unnamed, THREADS,
-    )?;
-    let racers = racers(alloc, seats)?;
+    ).expect(rt, "memory");
+    let racers = racers(alloc, seats).expect(rt, "memory");
     let shared = &machine;
-    let done = map_vec(rt, racers, &|racer| race(rt, alloc, shared, racer, CALLS))?;
-    let seats = returned(alloc, done)?;
-    if !machine.owns(&seats) {
-        return Err(Fail::from("a seat is missing"));
-    }
-    Ok(machine.close(seats))
+    let done = map_vec(rt, racers, &|racer| race(rt, alloc, shared, racer, CALLS)).expect(
+        rt, "memory",
+    );
+    let seats = returned(rt, alloc, done);
+    assert!(rt; machine.owns(&seats));
+    machine.close(seats)
 }
 
 /// Whether a race has so many events, and a core goes through them to the same end.
-fn is_run_again<Q: RunQueue + Drop + Send, T: Threads + Wait + Sync>(
+fn is_run_again<Q: RunQueue + Drop + Send, T: Abort + Threads + Wait + Sync>(
     rt: &T,
     alloc: Global,
-) -> Result<bool, Fail>
+) -> bool
 where
     Q::R: Send,
 {
-    let (prepared, unnamed) = prepare::<Q>(alloc, 64, THREADS)?;
-    let closed = race_under::<Q, Brand, T>(rt, alloc, prepared, unnamed)?;
-    if closed.len() < EVENTS {
-        return Err(Fail::from("the history is too short"));
-    }
-    is_replayed(alloc, closed)
+    let Ok((prepared, unnamed)) = prepare::<Q>(alloc, 64, THREADS) else {
+        panic!(rt; "memory")
+    };
+    let closed = race_under::<Q, Brand, T>(rt, alloc, prepared, unnamed);
+    closed.len() >= EVENTS && is_replayed(rt, alloc, closed)
 }
 
 #[test]
-fn a_race_under_cfs_is_replayed(rt: HostRuntime) -> Result<(), Fail> {
-    assert!(&rt; is_run_again::<CfsQueue, _>(&rt, rt.alloc())?);
-    Ok(())
+fn a_race_under_cfs_is_replayed(rt: HostRuntime) {
+    assert!(&rt; is_run_again::<CfsQueue, _>(&rt, rt.alloc()));
 }
 
 #[test]
-fn a_race_under_eevdf_is_replayed(rt: HostRuntime) -> Result<(), Fail> {
-    assert!(&rt; is_run_again::<EevdfQueue, _>(&rt, rt.alloc())?);
-    Ok(())
+fn a_race_under_eevdf_is_replayed(rt: HostRuntime) {
+    assert!(&rt; is_run_again::<EevdfQueue, _>(&rt, rt.alloc()));
 }

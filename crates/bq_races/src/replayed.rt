@@ -3,12 +3,12 @@ ghost use Rattle.std.specs.Prelude.{◌≤◌};
 
 use bq_bpf::Call;
 use bq_cells::{event_again, is_same_answer};
-use bq_core::{Board, Core, Event, Hook, Plain};
+use bq_core::{Board, Core, Event, Hook, Plain, Refusal, Reply};
 use bq_disc::RunQueue;
 use bq_machine::Closed;
 use bq_trace::shows::write_processor;
 use std::alloc::Global;
-use std::test::Fail;
+use std::process::Abort;
 
 /// The greatest reading of a clock.
 const LATEST: u64 = (1 << 48) - 1;
@@ -72,32 +72,54 @@ impl Board for Recorded<'_> {
 
 /// Whether a core from the start answers each event of the history as the machine did, where the counters answer it as they
 /// did, and ends as the machine did, and the counters are the sums of the adds.
-pub fn is_replayed<Q: RunQueue + Drop, const P: usize>(
+pub fn is_replayed<Q: RunQueue + Drop, R: Abort, const P: usize>(
+    rt: &R,
     alloc: Global,
-    closed: Closed<Q, P>,
-) -> Result<bool, Fail>
+    mut closed: Closed<Q, P>,
+) -> bool
     requires { P ≤ 64 }
 {
-    let mut core = Core::<Q, P>::new(alloc)?;
+    let mut core = Core::<Q, P>::new(alloc).expect(rt, "memory");
+    is_followed(rt, alloc, &mut core, &closed)
+        && is_same_world(rt, alloc, &mut core, &mut closed.core)
+}
+
+/// Whether a core answers each event of the history so, and the counters are the sums of the adds.
+fn is_followed<Q: RunQueue + Drop, const P: usize>(
+    rt: &impl Abort,
+    alloc: Global,
+    core: &mut Core<Q, P>,
+    closed: &Closed<Q, P>,
+) -> bool {
     let mut sums = [0u64; 64];
     for place in 0..closed.len() {
         let Some((event, reply, calls)) = closed.logged(place) else {
-            return Ok(false);
+            return false;
         };
-        let mut board = Recorded {
-            calls,
-            made: 0,
-            is_same: true,
-        };
-        let answer = core.step(alloc, event_again(event)?, &mut board);
-        if !is_same_answer(&answer, &reply) || !board.was_followed() {
-            return Ok(false);
+        let event = event_again(event).expect(rt, "memory");
+        if !is_answered_so(alloc, core, event, &reply, calls) {
+            return false;
         }
         add_all(&mut sums, calls);
     }
-    let is_sum = sums.as_slice() == closed.counters.as_slice();
-    let Closed { core: end, .. } = closed;
-    Ok(is_sum && is_same_world(alloc, core, end)?)
+    sums.as_slice() == closed.counters.as_slice()
+}
+
+/// Whether a core answers an event so, with just these calls of counters.
+fn is_answered_so<Q: RunQueue + Drop, const P: usize>(
+    alloc: Global,
+    core: &mut Core<Q, P>,
+    event: Event,
+    reply: &Result<Reply, Refusal>,
+    calls: &[Call],
+) -> bool {
+    let mut board = Recorded {
+        calls,
+        made: 0,
+        is_same: true,
+    };
+    let answer = core.step(alloc, event, &mut board);
+    is_same_answer(&answer, reply) && board.was_followed()
 }
 
 /// Adds what the calls add, modulo 2^64.
@@ -119,70 +141,92 @@ fn add_all(sums: &mut [u64; 64], calls: &[Call]) {
 /// Whether two cores are shown the same, and answer the same from then on: to a drain of each inbox, a new number, and an
 /// admission and a wake of each task.
 fn is_same_world<Q: RunQueue + Drop, const P: usize>(
+    rt: &impl Abort,
     alloc: Global,
-    mut core: Core<Q, P>,
-    mut other: Core<Q, P>,
-) -> Result<bool, Fail> {
-    if !is_shown_the_same(alloc, &core, &other)? {
-        return Ok(false);
-    }
-    for event in last_events(alloc, core.processors() as u8)? {
-        let answer = core.step(alloc, event_again(&event)?, &mut Plain::new());
+    core: &mut Core<Q, P>,
+    other: &mut Core<Q, P>,
+) -> bool {
+    is_shown_the_same(rt, alloc, core, other)
+        && is_answered_the_same(rt, alloc, core, other)
+        && is_shown_the_same(rt, alloc, core, other)
+}
+
+/// Whether two cores answer the last events alike.
+fn is_answered_the_same<Q: RunQueue + Drop, const P: usize>(
+    rt: &impl Abort,
+    alloc: Global,
+    core: &mut Core<Q, P>,
+    other: &mut Core<Q, P>,
+) -> bool {
+    for event in last_events(rt, alloc, core.processors() as u8) {
+        let again = event_again(&event).expect(rt, "memory");
+        let answer = core.step(alloc, again, &mut Plain::new());
         let other_answer = other.step(alloc, event, &mut Plain::new());
         if !is_same_answer(&answer, &other_answer) {
-            return Ok(false);
+            return false;
         }
     }
-    is_shown_the_same(alloc, &core, &other)
+    true
 }
 
 /// Drains of each inbox, a new number, and an admission and a wake of each task.
-fn last_events(alloc: Global, processors: u8) -> Result<Vec<Event>, Fail> {
+fn last_events(rt: &impl Abort, alloc: Global, processors: u8) -> Vec<Event> {
     let mut events = Vec::new(alloc);
     for processor in 0..processors {
-        events.push(Event::Drain {
+        let drain = Event::Drain {
             processor,
             now: LATEST,
-        })?;
+        };
+        events.push(drain).expect(rt, "memory");
     }
-    events.push(Event::Draw)?;
+    events.push(Event::Draw).expect(rt, "memory");
     for task in 0..1024 {
-        events.push(Event::Admit {
+        for event in life(task) {
+            events.push(event).expect(rt, "memory");
+        }
+    }
+    events
+}
+
+/// An admission and a wake of a task.
+fn life(task: u16) -> [Event; 3] {
+    [
+        Event::Admit {
             task,
             nice: 0,
             mask: u64::MAX,
             slice: 3_000_000,
-        })?;
-        events.push(Event::BeginWake { processor: 0, task })?;
-        events.push(Event::EndWake {
+        },
+        Event::BeginWake { processor: 0, task },
+        Event::EndWake {
             processor: 0,
             now: LATEST,
-        })?;
-    }
-    Ok(events)
+        },
+    ]
 }
 
 /// Whether the processors of two cores are shown the same, and have policies of the same numbers.
 fn is_shown_the_same<Q: RunQueue + Drop, const P: usize>(
+    rt: &impl Abort,
     alloc: Global,
     core: &Core<Q, P>,
     other: &Core<Q, P>,
-) -> Result<bool, Fail> {
+) -> bool {
     let (mut text, mut other_text) = (String::new(alloc), String::new(alloc));
     let count = core.processors();
     if count != other.processors() {
-        return Ok(false);
+        return false;
     }
     for number in 0..count {
         let number = number as u8;
         let (cpu, other_cpu) = (core.cpu(number), other.cpu(number));
         for hook in [Hook::Place, Hook::Preempt, Hook::Pull] {
             if cpu.generation(hook) != other_cpu.generation(hook) {
-                return Ok(false);
+                return false;
             }
         }
-        write_processor(&mut text, number, cpu)?;
-        write_processor(&mut other_text, number, other_cpu)?;
+        write_processor(&mut text, number, cpu).expect(rt, "memory");
+        write_processor(&mut other_text, number, other_cpu).expect(rt, "memory");
     }
-    Ok(text == other_text)
+    text == other_text
 }

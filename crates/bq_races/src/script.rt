@@ -10,8 +10,8 @@ use bq_machine::{Closed, Counting, Naming, Prepared, Receipt, Record, Seat, Unna
 use bq_parts::Refusal;
 use std::alloc::{AllocError, Global};
 use std::marker::Brand;
+use std::process::Abort;
 use std::sync::{Arc, Wait};
-use std::test::Fail;
 use std::thread::{Threads, map_vec};
 
 /// A seat, and what its thread is to do.
@@ -85,53 +85,45 @@ struct Collected<N: Naming + Counting> {
 }
 
 impl<N: Naming + Counting> Collected<N> {
-    fn add(&mut self, played: Result<Played<N>, Refusal>) -> Result<(), Fail> {
-        let Ok(played) = played else {
-            return Err(Fail::from("a call was refused"));
-        };
+    fn add(&mut self, rt: &impl Abort, played: Result<Played<N>, Refusal>) {
         let Played {
             seat,
             receipts,
             read,
-        } = played;
-        self.seats.push(seat)?;
-        self.receipts.push(receipts)?;
+        } = played.expect(rt, "a call was refused");
+        self.seats.push(seat).expect(rt, "memory");
+        self.receipts.push(receipts).expect(rt, "memory");
         self.read = read;
-        Ok(())
     }
 
     /// Some plays in turn, by the seat that came last.
-    fn in_turn<R: Wait>(
+    fn in_turn<R: Abort + Wait>(
         &mut self,
         rt: &R,
         alloc: Global,
         machine: &Raced<N>,
         plays: Vec<Play>,
-    ) -> Result<(), Fail> {
+    ) {
         for play in plays {
-            let Some(seat) = self.seats.pop() else {
-                return Err(Fail::from("no seat"));
-            };
-            self.add(work(rt, alloc, machine, Job { seat, play }))?;
+            let seat = self.seats.pop().expect(rt, "a seat");
+            self.add(rt, work(rt, alloc, machine, Job { seat, play }));
         }
-        Ok(())
     }
 }
 
 /// The jobs of plays that are made at once, each with a seat.
 fn jobs<N: Naming + Counting>(
+    rt: &impl Abort,
     alloc: Global,
     seats: &mut Vec<Seat<N>>,
     plays: Vec<Play>,
-) -> Result<Vec<Job<N>>, Fail> {
+) -> Vec<Job<N>> {
     let mut jobs = Vec::new(alloc);
     for play in plays {
-        let Some(seat) = seats.pop() else {
-            return Err(Fail::from("no seat"));
-        };
-        jobs.push(Job { seat, play })?;
+        let seat = seats.pop().expect(rt, "a seat");
+        jobs.push(Job { seat, play }).expect(rt, "memory");
     }
-    Ok(jobs)
+    jobs
 }
 
 /// What a machine is made of: its clock, and a queue for each processor.
@@ -142,14 +134,14 @@ struct Parts {
 }
 
 /// Plays a script on a machine of these parts, and ends it. It has a seat for each play at once.
-fn play_all<N: Naming + Counting + Send + Sync, R: Threads + Wait + Sync>(
+fn play_all<N: Naming + Counting + Send + Sync, R: Abort + Threads + Wait + Sync>(
     rt: &R,
     alloc: Global,
     prepared: Prepared<HeldQueue>,
     unnamed: Unnamed,
     parts: Parts,
     script: Script,
-) -> Result<Outcome, Fail>
+) -> Outcome
     requires name { prepared.0 ≡ N.table }
     requires counters { unnamed.0 ≡ N.counters }
     requires counts { (prepared.1.about ≡ 4) × (prepared.1.callers ≡ length script.at_once.items) × (unnamed.1 ≡ length script.at_once.items) }
@@ -163,34 +155,33 @@ fn play_all<N: Naming + Counting + Send + Sync, R: Threads + Wait + Sync>(
         after,
     } = script;
     let count = at_once.len() as u64;
-    let (machine, seats) = Raced::<N>::with_queues(alloc, clock, queues, prepared, unnamed, count)?;
+    let (machine, seats) = Raced::<N>::with_queues(
+        alloc, clock, queues, prepared, unnamed, count,
+    ).expect(rt, "memory");
     let mut collected = Collected {
         seats,
         receipts: Vec::new(alloc),
         read: 0,
     };
-    collected.in_turn(rt, alloc, &machine, before)?;
-    let jobs = jobs(alloc, &mut collected.seats, at_once)?;
+    collected.in_turn(rt, alloc, &machine, before);
+    let jobs = jobs(rt, alloc, &mut collected.seats, at_once);
     let shared = &machine;
-    let done = map_vec(rt, jobs, &|job| work(rt, alloc, shared, job))?;
+    let done = map_vec(rt, jobs, &|job| work(rt, alloc, shared, job)).expect(rt, "memory");
     for one in done {
-        collected.add(one)?;
+        collected.add(rt, one);
     }
-    collected.in_turn(rt, alloc, &machine, after)?;
+    collected.in_turn(rt, alloc, &machine, after);
     let Collected {
         seats,
         receipts,
         read,
     } = collected;
-    if !machine.owns(&seats) {
-        return Err(Fail::from("a seat is missing"));
-    }
-    let closed = machine.close(seats);
-    Ok(Outcome {
-        closed,
+    assert!(rt; machine.owns(&seats));
+    Outcome {
+        closed: machine.close(seats),
         receipts,
         read,
-    })
+    }
 }
 
 /// Queues without tasks. The mark of the first comes to the gate, if there is one.
@@ -211,17 +202,21 @@ fn queues(
 }
 
 /// What comes of a script on a machine of four processors, where processor 0's clock, or its queue's mark, comes to a gate.
-pub fn run_script<R: Threads + Wait + Sync>(
+pub fn run_script<R: Abort + Threads + Wait + Sync>(
     rt: &R,
     alloc: Global,
     at_clock: Option<Arc<Gate, Global>>,
     at_queue: Option<Arc<Gate, Global>>,
     script: Script,
-) -> Result<Outcome, Fail> {
-    let clock = CountingClock::new(alloc, 4, at_clock)?;
-    let queues = queues(alloc, 4, at_queue)?;
+) -> Outcome {
+    let clock = CountingClock::new(alloc, 4, at_clock).expect(rt, "memory");
+    let Ok(queues) = queues(alloc, 4, at_queue) else {
+        panic!(rt; "memory")
+    };
     let parts = Parts { clock, queues };
     let seats = script.at_once.len() as u64;
-    let (prepared, unnamed) = prepare::<HeldQueue>(alloc, 4, seats)?;
+    let Ok((prepared, unnamed)) = prepare::<HeldQueue>(alloc, 4, seats) else {
+        panic!(rt; "memory")
+    };
     play_all::<Brand, R>(rt, alloc, prepared, unnamed, parts, script)
 }
