@@ -1,12 +1,12 @@
 // Files, words and answers. The numbers were counted by hand.
 
+use crate::done::holds;
 use bq_policy_commands::{
     Answered, CheckWords, ListWords, PolicyWords, RunWords, TellingWords, check, list, run,
 };
 use std::alloc::{AllocError, Global};
 use std::cell::Cell;
 use std::io;
-use std::process::Abort;
 use std::test::Fail;
 use std::time::{Clock, Duration};
 
@@ -39,22 +39,22 @@ impl Clock for Ticking {
 }
 
 /// A copy of a word; nothing where it is empty.
-pub fn text_of(alloc: Global, word: &str) -> Result<Option<String>, AllocError> {
+fn text_of(alloc: Global, word: &str) -> Result<Option<String>, AllocError> {
     if word.is_empty() {
         return Ok(None);
     }
     Ok(Some(String::from_str(alloc, word)?))
 }
 
-/// The words of a text, with blanks between.
-fn words_of(alloc: Global, text: &str) -> Result<Vec<String>, AllocError> {
-    let mut words = Vec::new(alloc);
+/// Adds the words of a text, with blanks between.
+fn push_words(alloc: Global, words: &mut Vec<String>, text: &str) -> Result<(), AllocError> {
     for word in text.split_whitespace() {
         words.push(String::from_str(alloc, word)?)?;
     }
-    Ok(words)
+    Ok(())
 }
 
+/// The words that name a policy's file and its hook.
 fn policy_words(alloc: Global, file: &str, hook: &str) -> Result<PolicyWords, AllocError> {
     Ok(PolicyWords {
         file: text_of(alloc, file)?,
@@ -65,16 +65,27 @@ fn policy_words(alloc: Global, file: &str, hook: &str) -> Result<PolicyWords, Al
 }
 
 /// The text of an answer, after a letter that tells its kind.
-fn told(alloc: Global, answer: Answered) -> Result<String, AllocError> {
-    match answer {
-        Answered::Done(text) => format!(in alloc; "D {text}"),
-        Answered::Refused(text) => format!(in alloc; "R {text}"),
-        Answered::Words(text) => format!(in alloc; "W {text}"),
-    }
+fn told(alloc: Global, answer: &Answered) -> Result<String, AllocError> {
+    let (kind, text) = match answer {
+        Answered::Done(text) => ("D", text.as_str()),
+        Answered::Refused(text) => ("R", text.as_str()),
+        Answered::Words(text) => ("W", text.as_str()),
+    };
+    format!(in alloc; "{kind} {text}")
 }
 
 /// The policy, the words for hook, limit of steps, helpers, a letter for the form, and what is told.
-static CHECKED: [(&str, &str, &str, &str, &str, &str); 12] = [
+type CheckRow = (
+    &'static str,
+    &'static str,
+    &'static str,
+    &'static str,
+    &'static str,
+    &'static str,
+);
+
+/// Policies, and what is told of them.
+static CHECKED: [CheckRow; 12] = [
     (KEEP_HOME, "", "", "", "", "D accepted place budget 2\n"),
     (
         KEEP_HOME,
@@ -146,7 +157,7 @@ static CHECKED: [(&str, &str, &str, &str, &str, &str); 12] = [
 ];
 
 /// The words of `check`, of a letter for its form.
-fn check_words(
+pub fn check_words(
     alloc: Global,
     hook: &str,
     steps: &str,
@@ -164,31 +175,45 @@ fn check_words(
 
 /// What `check` tells of a policy.
 fn checked(alloc: Global, words: &CheckWords, policy: &str) -> Result<String, AllocError> {
-    told(alloc, check(alloc, words, policy.as_bytes())?)
+    let answer = check(alloc, words, policy.as_bytes())?;
+    told(alloc, &answer)
 }
 
-/// What is said is this.
-pub fn is_said(rt: &impl Abort, said: &str, wanted: &str) {
-    assert_eq!(rt; said, wanted);
-}
-
-/// What is told of a policy begins so.
-fn begins(rt: &impl Abort, policy: &str, answer: &str, wanted: &str) {
-    assert!(rt; answer.starts_with(wanted), "{policy}: {answer}");
+/// What `check` tells of a row's policy.
+fn checked_by(alloc: Global, row: &CheckRow) -> Result<String, AllocError> {
+    let (policy, hook, steps, helpers, form, _) = row;
+    let words = check_words(alloc, hook, steps, helpers, form)?;
+    checked(alloc, &words, policy)
 }
 
 #[test]
 fn checks_say_what_is_wrong(rt: HostRuntime) -> Result<(), Fail> {
-    for (policy, hook, steps, helpers, form, wanted) in &CHECKED {
-        let words = check_words(rt.alloc(), hook, steps, helpers, form)?;
-        let answer = checked(rt.alloc(), &words, policy)?;
-        begins(&rt, policy, answer.as_str(), wanted);
+    for row in &CHECKED {
+        let answer = checked_by(rt.alloc(), row)?;
+        holds(
+            &rt,
+            answer.as_str().starts_with(row.5),
+            answer.as_str(),
+            row.5,
+        );
     }
     Ok(())
 }
 
 /// The policy, its fields, an entry, a counter, the processor, a letter for the form, how often, and what is told.
-static RUN: [(&str, &str, &str, &str, &str, &str, &str, &str); 10] = [
+type RunRow = (
+    &'static str,
+    &'static str,
+    &'static str,
+    &'static str,
+    &'static str,
+    &'static str,
+    &'static str,
+    &'static str,
+);
+
+/// Policies, and what is told of their runs.
+static RUN: [RunRow; 10] = [
     // Of words for the same field, counter or entry the last counts.
     (
         KEEP_HOME,
@@ -294,78 +319,87 @@ static RUN: [(&str, &str, &str, &str, &str, &str, &str, &str); 10] = [
     ),
 ];
 
-/// Whether a run is traced, and how often it is made.
-fn telling_words(alloc: Global, form: &str, repeat: &str) -> Result<TellingWords, AllocError> {
-    Ok(TellingWords {
-        is_traced: form == "t",
-        repeat: text_of(alloc, repeat)?,
-    })
-}
-
-/// The words of `run` without a file, of texts with blanks between.
-fn run_words(
-    alloc: Global,
-    telling: TellingWords,
-    fields: &str,
-    entries: &str,
-    counters: &str,
-    processor: &str,
-) -> Result<RunWords, AllocError> {
-    Ok(RunWords {
+/// No words for `run`.
+fn no_words(alloc: Global) -> RunWords {
+    RunWords {
         policy: PolicyWords {
             file: None,
             hook: None,
             maps: None,
             format: None,
         },
-        telling,
+        telling: TellingWords {
+            is_traced: false,
+            repeat: None,
+        },
         context: None,
-        fields: words_of(alloc, fields)?,
-        entries: words_of(alloc, entries)?,
-        counters: words_of(alloc, counters)?,
+        fields: Vec::new(alloc),
+        entries: Vec::new(alloc),
+        counters: Vec::new(alloc),
         time: None,
-        processor: text_of(alloc, processor)?,
-    })
+        processor: None,
+    }
 }
 
-/// What `run` tells of a policy.
+/// What `run` tells of a row's policy, to words that are the row's then.
 fn ran(
     alloc: Global,
     clock: &Ticking,
-    words: &RunWords,
-    policy: &str,
+    words: &mut RunWords,
+    row: &RunRow,
 ) -> Result<String, AllocError> {
-    told(alloc, run(alloc, clock, words, policy.as_bytes())?)
+    push_words(alloc, &mut words.fields, row.1)?;
+    push_words(alloc, &mut words.entries, row.2)?;
+    push_words(alloc, &mut words.counters, row.3)?;
+    words.processor = text_of(alloc, row.4)?;
+    words.telling.is_traced = row.5 == "t";
+    words.telling.repeat = text_of(alloc, row.6)?;
+    let answer = run(alloc, clock, words, row.0.as_bytes())?;
+    told(alloc, &answer)
+}
+
+/// What `run` tells of a row's policy.
+fn ran_by(alloc: Global, clock: &Ticking, row: &RunRow) -> Result<String, AllocError> {
+    let mut words = no_words(alloc);
+    ran(alloc, clock, &mut words, row)
 }
 
 #[test]
 fn runs_tell_what_came_of_them(rt: HostRuntime) -> Result<(), Fail> {
-    let alloc = rt.alloc();
     let clock = Ticking {
         readings: Cell::new(0),
     };
-    for (policy, fields, entries, counters, processor, form, repeat, wanted) in &RUN {
-        let telling = telling_words(alloc, form, repeat)?;
-        let words = run_words(alloc, telling, fields, entries, counters, processor)?;
-        let answer = ran(alloc, &clock, &words, policy)?;
-        begins(&rt, policy, answer.as_str(), wanted);
+    for row in &RUN {
+        let answer = ran_by(rt.alloc(), &clock, row)?;
+        holds(
+            &rt,
+            answer.as_str().starts_with(row.7),
+            answer.as_str(),
+            row.7,
+        );
     }
     Ok(())
 }
 
-/// What `list` tells of a policy.
+/// What `dis` tells of a policy.
 fn listed(alloc: Global, words: &ListWords, policy: &str) -> Result<String, AllocError> {
-    told(alloc, list(alloc, words, policy.as_bytes())?)
+    let answer = list(alloc, words, policy.as_bytes())?;
+    told(alloc, &answer)
+}
+
+/// What `dis` tells of a policy on standard input.
+fn listed_alone(alloc: Global, policy: &str) -> Result<String, AllocError> {
+    let words = ListWords {
+        policy: policy_words(alloc, "-", "")?,
+        has_slots: false,
+    };
+    listed(alloc, &words, policy)
 }
 
 #[test]
 fn listings_are_policies_again(rt: HostRuntime) -> Result<(), Fail> {
-    let words = ListWords {
-        policy: policy_words(rt.alloc(), "-", "")?,
-        has_slots: false,
-    };
-    let answer = listed(rt.alloc(), &words, KEEP_HOME)?;
+    let answer = listed_alone(rt.alloc(), KEEP_HOME)?;
     let wanted = "D ;@ hook place\nldxw r0, [r1+28]\nexit\n";
-    is_said(&rt, answer.as_str(), wanted);
+    holds(&rt, answer.as_str() == wanted, answer.as_str(), wanted);
     Ok(())
 }

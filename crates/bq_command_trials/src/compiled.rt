@@ -1,6 +1,7 @@
 // Programs as the bytes of a text section, with their texts: orders, distances and slots were worked out by hand.
 
-use bq_policy_desk::{ImportSettings, ImportWords, imported};
+use crate::done::holds;
+use bq_policy_desk::{ImportSettings, import_words, imported};
 use bq_program::{Head, read_policy};
 use std::alloc::Global;
 use std::process::Abort;
@@ -117,79 +118,57 @@ static REFUSED: [(&str, &str); 15] = [
 
 /// A program beside two maps, of the hook preempt.
 fn settings(alloc: Global) -> Result<ImportSettings, Fail> {
-    let words = ImportWords {
-        file: None,
-        hook: String::from_str(alloc, "preempt")?,
-        maps: Some(String::from_str(alloc, "8:1,16:4")?),
-        format: Some(String::from_str(alloc, "2")?),
-    };
-    Ok(ImportSettings::of(alloc, &words)?)
+    let words = ["--hook", "preempt", "--maps", "8:1,16:4", "--format", "2"];
+    Ok(ImportSettings::of(alloc, &import_words(alloc, &words)?)?)
 }
 
-/// The text that a program is imported as.
-fn text_of(alloc: Global, program: &[u8]) -> Result<String, Fail> {
-    Ok(imported(alloc, &settings(alloc)?, program)?)
+/// The lines of a text that say its settings.
+const HEAD: &str = ";@ hook preempt\n;@ maps 8:1,16:4\n;@ format 2\n";
+
+/// Whether a text is a policy.
+fn is_policy(alloc: Global, text: &str) -> bool {
+    read_policy(alloc, text.as_bytes(), &Head::nothing()).is_ok()
 }
 
-/// What a program is refused for.
-fn refusal_of(alloc: Global, program: &[u8]) -> Result<String, Fail> {
-    match imported(alloc, &settings(alloc)?, program) {
-        Ok(_) => Err(Fail::from("it was imported")),
+/// The text that a program is imported as, or why it is refused.
+fn said(alloc: Global, settings: &ImportSettings, program: &[u8]) -> Result<String, Fail> {
+    match imported(alloc, settings, program) {
+        Ok(text) => Ok(text),
         Err(refusal) => Ok(format!(in alloc; "{refusal}")?),
     }
 }
 
-/// A text with its three lines of settings before it.
-fn headed(alloc: Global, listing: &str) -> Result<String, Fail> {
-    Ok(format!(in alloc; ";@ hook preempt\n;@ maps 8:1,16:4\n;@ format 2\n{listing}")?)
-}
-
-/// What is said of a program is what was wanted.
-fn is_said(rt: &impl Abort, program: &str, said: &str, wanted: &str) {
-    assert_eq!(rt; said, wanted, "{program}");
-}
-
-/// Whether a text assembles.
-fn assembles(alloc: Global, text: &str) -> bool {
-    read_policy(alloc, text.as_bytes(), &Head::nothing()).is_ok()
-}
-
-/// The text that a program is imported as is a policy.
-fn is_policy(rt: &impl Abort, alloc: Global, program: &str, text: &str) {
-    assert!(rt; assembles(alloc, text), "{program}: it does not assemble");
+/// The same beside the two maps.
+fn said_of(alloc: Global, program: &[u8]) -> Result<String, Fail> {
+    let settings = settings(alloc)?;
+    said(alloc, &settings, program)
 }
 
 /// A program is imported as this listing with its settings, which is a policy.
-fn is_imported(rt: &impl Abort, alloc: Global, program: &str, listing: &str) -> Result<(), Fail> {
-    let text = text_of(alloc, program.as_bytes())?;
-    is_said(rt, program, text.as_str(), headed(alloc, listing)?.as_str());
-    is_policy(rt, alloc, program, text.as_str());
+fn is_imported(rt: &impl Abort, alloc: Global, program: &[u8], listing: &str) -> Result<(), Fail> {
+    let text = said_of(alloc, program)?;
+    let text = text.as_str();
+    let is = text.strip_prefix(HEAD) == Some(listing) && is_policy(alloc, text);
+    holds(rt, is, text, listing);
     Ok(())
 }
+
+/// Two instructions as bytes, whose text is that of their hex.
+static BYTES: [u8; 16] = [0xb4, 0, 0, 0, 1, 0, 0, 0, 0x95, 0, 0, 0, 0, 0, 0, 0];
 
 #[test]
 fn programs_in_order(rt: HostRuntime) -> Result<(), Fail> {
     for (hex, listing) in &IMPORTED {
-        is_imported(&rt, rt.alloc(), hex, listing)?;
+        is_imported(&rt, rt.alloc(), hex.as_bytes(), listing)?;
     }
-    Ok(())
+    is_imported(&rt, rt.alloc(), &BYTES, "mov32 r0, 1\nexit\n")
 }
 
 #[test]
 fn refusals_in_words(rt: HostRuntime) -> Result<(), Fail> {
     for (hex, words) in &REFUSED {
-        let said = refusal_of(rt.alloc(), hex.as_bytes())?;
-        is_said(&rt, hex, said.as_str(), words);
+        let said = said_of(rt.alloc(), hex.as_bytes())?;
+        holds(&rt, said.as_str() == *words, said.as_str(), words);
     }
-    Ok(())
-}
-
-// two instructions as bytes, whose text is that of their hex
-#[test]
-fn bytes_as_they_are(rt: HostRuntime) -> Result<(), Fail> {
-    let bytes = [0xb4, 0, 0, 0, 1, 0, 0, 0, 0x95, 0, 0, 0, 0, 0, 0, 0];
-    let text = text_of(rt.alloc(), bytes.as_slice())?;
-    let wanted = ";@ hook preempt\n;@ maps 8:1,16:4\n;@ format 2\nmov32 r0, 1\nexit\n";
-    is_said(&rt, "bytes", text.as_str(), wanted);
     Ok(())
 }

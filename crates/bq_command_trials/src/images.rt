@@ -1,12 +1,11 @@
 //! Images that are assembled and checked: words, what is read, and what is written. The values are worked by hand from the
 //! format, the rules of the verifier and the grammar of `--maps`.
 
-use crate::done::{done, gives, gives_unread};
+use crate::done::{
+    LongRow, Row, all_give, all_give_long, all_give_unread, done, gives, holds, writes_unread,
+};
 use std::alloc::{AllocError, Global};
-use std::process::Abort;
-use std::sync::Wait;
 use std::test::Fail;
-use std::thread::Threads;
 
 /// Preempt, no maps: mov64 r0, 0; exit.
 const ZERO: &str = "425150490101000002000000b7000000000000009500000000000000";
@@ -20,53 +19,107 @@ const COUNTING_TEXT: &str =
     "stw [r10-4], 0\nldmap r1, 0\nmov64 r2, r10\nadd64 r2, -4\ncall 1\njne64 r0, 0, +2\nmov64 r0, 2\n\
 exit\nldxdw r3, [r0+0]\nmov64 r4, r3\nadd64 r4, 1\nstxdw [r0+0], r4\nmov64 r0, r3\nexit\n";
 
-/// The words, a text, what is written, and the exit status.
-static ASSEMBLED: [(&[&str], &str, &str, u8); 3] = [
+/// Images that are assembled, and images that are checked.
+static IMAGES: [Row; 20] = [
     (
-        PREEMPT,
+        "asm --hook preempt",
         "mov64 r0, 0\nexit\n",
-        "425150490101000002000000b7000000000000009500000000000000\n",
+        "425150490101000002000000b7000000000000009500000000000000",
         0,
     ),
     (
-        &["asm", "--format=2", "--maps=8:2,16:4", "--hook=pull"],
+        "asm --format=2 --maps=8:2,16:4 --hook=pull",
         "mov64 r0, 0\nexit\n",
         "42515049020202000800020010000400\
-02000000b7000000000000009500000000000000\n",
+02000000b7000000000000009500000000000000",
+        0,
+    ),
+    ("asm --hook pull", "mov64 r11, 1", "refused A1 1", 1),
+    ("asm --hook preempt --maps 8:1", COUNTING_TEXT, COUNTING, 0),
+    // images in hex
+    ("check", ZERO, "accepted preempt budget 2", 0),
+    ("check", COUNTING, "accepted preempt budget 12", 0),
+    (
+        "check",
+        "4251 5049 0101 0000\t02000000\r\nB700000000000000\n9500000000000000\n",
+        "accepted preempt budget 2",
+        0,
+    ),
+    // without its last byte, with one byte more, of no bytes
+    (
+        "check",
+        "425150490101000002000000b70000000000000095000000000000",
+        "refused L5",
+        1,
+    ),
+    (
+        "check",
+        "425150490101000002000000b700000000000000950000000000000000",
+        "refused L6",
+        1,
+    ),
+    ("check", "", "refused L5", 1),
+    // another first byte, version 2, hook 3, nine maps, a map of 12 bytes, no slots
+    (
+        "check",
+        "005150490101000002000000b7000000000000009500000000000000",
+        "refused L1",
+        1,
+    ),
+    (
+        "check",
+        "425150490201000002000000b7000000000000009500000000000000",
+        "accepted preempt budget 2",
         0,
     ),
     (
-        &["asm", "--hook", "pull"],
-        "mov64 r11, 1",
-        "refused A1 1\n",
+        "check",
+        "425150490103000002000000b7000000000000009500000000000000",
+        "refused L3",
+        1,
+    ),
+    (
+        "check",
+        "425150490101090002000000b7000000000000009500000000000000",
+        "refused L4",
+        1,
+    ),
+    (
+        "check",
+        "42515049010101000c00010002000000b7000000000000009500000000000000",
+        "refused L4",
+        1,
+    ),
+    ("check", "425150490101000000000000", "refused L7 I1 0", 1),
+    ("check", "4251504g", "refused hex", 1),
+    // version 3, 5,000 slots and none of them, a field that has to be 0
+    (
+        "check",
+        "425150490301000002000000b7000000000000009500000000000000",
+        "refused L2",
+        1,
+    ),
+    ("check", "425150490101000088130000", "refused L5", 1),
+    (
+        "check",
+        "425150490101000002000000b7000000000000009500000001000000",
+        "refused L7 I4 1",
         1,
     ),
 ];
 
 #[test]
-fn images_are_assembled(rt: HostRuntime) -> Result<(), Fail> {
-    for (words, text, written, status) in &ASSEMBLED {
-        gives(&rt, rt.alloc(), words, text.as_bytes(), written, *status)?;
-    }
-    let words = ["asm", "--hook", "preempt", "--maps", "8:1"];
-    let written = format!(in rt.alloc(); "{COUNTING}\n")?;
-    gives(
-        &rt,
-        rt.alloc(),
-        &words,
-        COUNTING_TEXT.as_bytes(),
-        written.as_str(),
-        0,
-    )
+fn images_are_assembled_and_checked(rt: HostRuntime) -> Result<(), Fail> {
+    all_give(&rt, rt.alloc(), &IMAGES)
 }
 
 /// Options that are refused, and the line that says so.
-static REFUSED: [(&[&str], &str); 5] = [
-    (&["asm", "--maps", "8:1"], "refused maps\n"),
-    (&["asm", "--format", "1"], "refused format\n"),
-    (&["asm", "--format", "2"], "refused format\n"),
-    (&["asm", "--maps", "8:1", "--format", "2"], "refused maps\n"),
-    (&["asm", "--maps", "x", "--format", "2"], "refused maps\n"),
+static REFUSED: [Row; 5] = [
+    ("asm --maps 8:1", "exit", "refused maps", 1),
+    ("asm --format 1", "exit", "refused format", 1),
+    ("asm --format 2", "exit", "refused format", 1),
+    ("asm --maps 8:1 --format 2", "exit", "refused maps", 1),
+    ("asm --maps x --format 2", "exit", "refused maps", 1),
 ];
 
 /// Maps that are refused beside a hook.
@@ -94,109 +147,23 @@ static NO_MAPS: [&str; 19] = [
 
 #[test]
 fn options_are_refused_before_the_text_is_read(rt: HostRuntime) -> Result<(), Fail> {
-    for (words, line) in &REFUSED {
-        gives_unread(&rt, rt.alloc(), words, b"exit", line, 1)?;
-    }
+    all_give_unread(&rt, rt.alloc(), &REFUSED)?;
     for maps in &NO_MAPS {
         let words = ["asm", "--hook", "pull", "--maps", maps];
-        gives_unread(&rt, rt.alloc(), &words, b"exit", "refused maps\n", 1)?;
-    }
-    Ok(())
-}
-
-#[test]
-fn eight_maps_are_taken(rt: HostRuntime) -> Result<(), Fail> {
-    let maps = "8:1,16:2,24:3,32:4,40:5,48:6,256:256,0008:001";
-    let words = ["asm", "--hook", "place", "--maps", maps];
-    is_judged(
-        &rt,
-        rt.alloc(),
-        &words,
-        "mov64 r0, 0\nexit\n",
-        "accepted place budget 2\n",
-        0,
-    )
-}
-
-/// A hex text, and what `check` writes.
-static CHECKED: [(&str, &str, u8); 16] = [
-    (ZERO, "accepted preempt budget 2\n", 0),
-    (COUNTING, "accepted preempt budget 12\n", 0),
-    (
-        "4251 5049 0101 0000\t02000000\r\nB700000000000000\n9500000000000000\n",
-        "accepted preempt budget 2\n",
-        0,
-    ),
-    // without its last byte, with one byte more, of no bytes
-    (
-        "425150490101000002000000b70000000000000095000000000000",
-        "refused L5\n",
-        1,
-    ),
-    (
-        "425150490101000002000000b700000000000000950000000000000000",
-        "refused L6\n",
-        1,
-    ),
-    ("", "refused L5\n", 1),
-    // another first byte, version 2, hook 3, nine maps, a map of 12 bytes, no slots
-    (
-        "005150490101000002000000b7000000000000009500000000000000",
-        "refused L1\n",
-        1,
-    ),
-    (
-        "425150490201000002000000b7000000000000009500000000000000",
-        "accepted preempt budget 2\n",
-        0,
-    ),
-    (
-        "425150490103000002000000b7000000000000009500000000000000",
-        "refused L3\n",
-        1,
-    ),
-    (
-        "425150490101090002000000b7000000000000009500000000000000",
-        "refused L4\n",
-        1,
-    ),
-    (
-        "42515049010101000c00010002000000b7000000000000009500000000000000",
-        "refused L4\n",
-        1,
-    ),
-    ("425150490101000000000000", "refused L7 I1 0\n", 1),
-    ("4251504g", "refused hex\n", 1),
-    // version 3, 5,000 slots and none of them, a field that has to be 0
-    (
-        "425150490301000002000000b7000000000000009500000000000000",
-        "refused L2\n",
-        1,
-    ),
-    ("425150490101000088130000", "refused L5\n", 1),
-    (
-        "425150490101000002000000b7000000000000009500000001000000",
-        "refused L7 I4 1\n",
-        1,
-    ),
-];
-
-#[test]
-fn images_are_checked(rt: HostRuntime) -> Result<(), Fail> {
-    for (hex, line, status) in &CHECKED {
-        gives(&rt, rt.alloc(), &["check"], hex.as_bytes(), line, *status)?;
+        let done = done(&rt, rt.alloc(), &words, b"exit")?;
+        writes_unread(&rt, &done, "refused maps", 1);
     }
     Ok(())
 }
 
 /// A hex digit of the counting image, what stands there instead, and what `check` writes.
 static CHANGED: [(usize, u8, &str); 6] = [
-    (57, b'1', "refused L8 V8 1\n"),
-    (105, b'8', "refused L8 V8 5\n"),
-    (133, b'1', "refused L8 V3 9\n"),
-    (181, b'1', "refused L8 V5 9\n"),
-    (195, b'a', "refused L8 V10 10\n"),
-    (242, b'a', "refused L8 V9 14\n"),
+    (57, b'1', "refused L8 V8 1"),
+    (105, b'8', "refused L8 V8 5"),
+    (133, b'1', "refused L8 V3 9"),
+    (181, b'1', "refused L8 V5 9"),
+    (195, b'a', "refused L8 V10 10"),
+    (242, b'a', "refused L8 V9 14"),
 ];
 
 /// The counting image with another digit there.
@@ -212,7 +179,7 @@ fn changed(alloc: Global, at: usize, digit: u8) -> Result<Vec<u8>, AllocError> {
 fn changed_images_are_refused(rt: HostRuntime) -> Result<(), Fail> {
     for (at, digit, line) in &CHANGED {
         let hex = changed(rt.alloc(), *at, *digit)?;
-        gives(&rt, rt.alloc(), &["check"], hex.as_slice(), line, 1)?;
+        gives(&rt, rt.alloc(), "check", hex.as_slice(), line, 1)?;
     }
     Ok(())
 }
@@ -221,230 +188,211 @@ fn changed_images_are_refused(rt: HostRuntime) -> Result<(), Fail> {
 fn cut_images_are_refused(rt: HostRuntime) -> Result<(), Fail> {
     let mut cut = Vec::new(rt.alloc());
     for byte in COUNTING.as_bytes().chunks_exact(2) {
-        gives(
-            &rt,
-            rt.alloc(),
-            &["check"],
-            cut.as_slice(),
-            "refused L5\n",
-            1,
-        )?;
+        gives(&rt, rt.alloc(), "check", cut.as_slice(), "refused L5", 1)?;
         cut.extend_from_slice(byte)?;
     }
-    has_length(&rt, cut.as_slice(), 272);
+    holds(&rt, cut.len() == 272, COUNTING, "of 136 bytes");
     Ok(())
 }
 
-/// So many bytes are there.
-fn has_length(rt: &impl Abort, bytes: &[u8], length: usize) {
-    assert_eq!(rt; bytes.len(), length);
-}
-
-/// The words that make an image of a text, the text, and what `check` writes.
-static JUDGED: [(&[&str], &str, &str); 20] = [
+/// The words that make an image of a text, which is checked then, the text, and what `check` writes.
+static JUDGED: [Row; 21] = [
     (
-        PREEMPT,
+        "asm --hook preempt | check",
         "ja +1\nlddw r1, 0\nmov64 r0, 0\nexit",
-        "refused L8 V1 0\n",
+        "refused L8 V1 0",
+        1,
     ),
-    (PREEMPT, "ja -1\nexit", "refused L8 V1 0\n"),
-    (PREEMPT, "mov64 r0, 0", "refused L8 V2 0\n"),
     (
-        PREEMPT,
+        "asm --hook preempt | check",
+        "ja -1\nexit",
+        "refused L8 V1 0",
+        1,
+    ),
+    (
+        "asm --hook preempt | check",
+        "mov64 r0, 0",
+        "refused L8 V2 0",
+        1,
+    ),
+    (
+        "asm --hook preempt | check",
         "mov64 r10, 0\nmov64 r0, 0\nexit",
-        "refused L8 V10 0\n",
+        "refused L8 V10 0",
+        1,
     ),
     // the lookup's result is not tested
     (
-        &["asm", "--hook", "preempt", "--maps", "8:1"],
+        "asm --hook preempt --maps 8:1 | check",
         "stw [r10-4], 0\nldmap r1, 0\nmov64 r2, r10\nadd64 r2, -4\ncall 1\nldxdw r0, [r0+0]\nexit",
-        "refused L8 V5 6\n",
+        "refused L8 V5 6",
+        1,
     ),
     // a load that leaves its entry
     (
-        &["asm", "--hook", "preempt", "--maps", "8:2"],
+        "asm --hook preempt --maps 8:2 | check",
         "stw [r10-4], 0\nldmap r1, 0\nmov64 r2, r10\nadd64 r2, -4\ncall 1\njne64 r0, 0, +2\nmov64 r0, 0\nexit\nldxdw r0, [r0+4]\nexit",
-        "refused L8 V5 9\n",
+        "refused L8 V5 9",
+        1,
     ),
     // a pointer on one way and a scalar on the other
     (
-        PREEMPT,
+        "asm --hook preempt | check",
         "ldxw r3, [r1+0]\njeq64 r3, 0, +2\nmov64 r2, r10\nja +1\nmov64 r2, 0\nldxdw r0, [r2-8]\nexit",
-        "refused L8 V4 5\n",
+        "refused L8 V4 5",
+        1,
     ),
     (
-        PREEMPT,
+        "asm --hook preempt | check",
         "ldxw r3, [r1+0]\njeq64 r3, 0, +2\nmov64 r2, r10\nja +1\nmov64 r2, 0\nmov64 r0, 0\nexit",
-        "accepted preempt budget 6\n",
+        "accepted preempt budget 6",
+        0,
     ),
     // an index that is bounded by a mask
     (
-        &["asm", "--hook", "preempt", "--maps", "16:1"],
+        "asm --hook preempt --maps 16:1 | check",
         "ldxw r6, [r1+4]\nstw [r10-4], 0\nldmap r1, 0\nmov64 r2, r10\nadd64 r2, -4\ncall 1\njne64 r0, 0, +2\nmov64 r0, 0\nexit\n\
 and64 r6, 8\nadd64 r0, r6\nldxdw r0, [r0+0]\nexit",
-        "accepted preempt budget 11\n",
+        "accepted preempt budget 11",
+        0,
     ),
     (
-        &["asm", "--hook", "preempt", "--maps", "16:1"],
+        "asm --hook preempt --maps 16:1 | check",
         "ldxw r6, [r1+4]\nstw [r10-4], 0\nldmap r1, 0\nmov64 r2, r10\nadd64 r2, -4\ncall 1\njne64 r0, 0, +2\nmov64 r0, 0\nexit\n\
 and64 r6, 15\nadd64 r0, r6\nldxdw r0, [r0+0]\nexit",
-        "refused L8 V5 12\n",
+        "refused L8 V5 12",
+        1,
     ),
     // the length of the context rests on the version
     (
-        &["asm", "--hook", "place"],
+        "asm --hook place | check",
         "ldxw r0, [r1+104]\nexit",
-        "refused L8 V5 0\n",
+        "refused L8 V5 0",
+        1,
     ),
     (
-        &["asm", "--hook", "place", "--format", "1"],
+        "asm --hook place --format 1 | check",
         "ldxw r0, [r1+104]\nexit",
-        "refused L8 V5 0\n",
+        "refused L8 V5 0",
+        1,
     ),
     (
-        &["asm", "--hook", "place", "--format", "2"],
+        "asm --hook place --format 2 | check",
         "ldxw r0, [r1+104]\nexit",
-        "accepted place budget 2\n",
+        "accepted place budget 2",
+        0,
     ),
     (
-        &["asm", "--hook", "place", "--format", "2"],
+        "asm --hook place --format 2 | check",
         "ldxw r0, [r1+292]\nexit",
-        "accepted place budget 2\n",
+        "accepted place budget 2",
+        0,
     ),
     (
-        &["asm", "--hook", "place", "--format", "2"],
+        "asm --hook place --format 2 | check",
         "ldxw r0, [r1+293]\nexit",
-        "refused L8 V5 0\n",
+        "refused L8 V5 0",
+        1,
     ),
     (
-        &["asm", "--hook", "pull"],
+        "asm --hook pull | check",
         "ldxw r0, [r1+24]\nexit",
-        "accepted pull budget 2\n",
+        "accepted pull budget 2",
+        0,
     ),
-    (PREEMPT, "call 3\nexit", "refused L8 V7 0\n"),
     (
-        PREEMPT,
+        "asm --hook preempt | check",
+        "call 3\nexit",
+        "refused L8 V7 0",
+        1,
+    ),
+    (
+        "asm --hook preempt | check",
         "mul64 r1, 2\nmov64 r0, 0\nexit",
-        "refused L8 V6 0\n",
+        "refused L8 V6 0",
+        1,
     ),
     // counters
     (
-        PREEMPT,
+        "asm --hook preempt | check",
         "mov64 r1, 3\nmov64 r2, 5\ncall 100\nmov64 r0, 0\nexit",
-        "accepted preempt budget 5\n",
+        "accepted preempt budget 5",
+        0,
     ),
     (
-        PREEMPT,
+        "asm --hook preempt | check",
         "mov64 r1, 64\nmov64 r2, 5\ncall 100\nmov64 r0, 0\nexit",
-        "refused L8 V8 2\n",
+        "refused L8 V8 2",
+        1,
+    ),
+    // eight maps
+    (
+        "asm --hook place --maps 8:1,16:2,24:3,32:4,40:5,48:6,256:256,0008:001 | check",
+        "mov64 r0, 0\nexit\n",
+        "accepted place budget 2",
+        0,
     ),
 ];
 
-const PREEMPT: &[&str] = &["asm", "--hook", "preempt"];
-
-/// The image that these words make of a text is judged so: `check` writes this and ends so.
-fn is_judged<R: Abort + Threads + Wait + Sync>(
-    rt: &R,
-    alloc: Global,
-    words: &[&str],
-    text: &str,
-    line: &str,
-    status: u8,
-) -> Result<(), Fail> {
-    let image = done(rt, alloc, words, text.as_bytes())?;
-    gives(
-        rt,
-        alloc,
-        &["check"],
-        image.written.as_bytes(),
-        line,
-        status,
-    )
-}
-
 #[test]
 fn programs_are_judged(rt: HostRuntime) -> Result<(), Fail> {
-    for (words, text, line) in &JUDGED {
-        let status = if line.starts_with("accepted") { 0 } else { 1 };
-        is_judged(&rt, rt.alloc(), words, text, line, status)?;
-    }
-    Ok(())
-}
-
-/// A begin, a part so many times, and then an end.
-fn repeated(
-    alloc: Global,
-    begin: &str,
-    part: &str,
-    times: usize,
-    end: &str,
-) -> Result<String, Fail> {
-    let mut text = String::from_str(alloc, begin)?;
-    for _ in 0..times {
-        text.push_str(part)?;
-    }
-    text.push_str(end)?;
-    Ok(text)
+    all_give(&rt, rt.alloc(), &JUDGED)
 }
 
 /// Three instructions that add to a counter.
 const ADDS: &str = "mov64 r1, 3\nmov64 r2, 5\ncall 100\n";
 
-/// The begin of a text, a part of it, how often that stands there, its end, what `check` writes, and the exit status.
-static LONG: [(&str, &str, usize, &str, &str, u8); 4] = [
+/// Programs with a part that is repeated.
+static LONG: [LongRow; 5] = [
     (
+        "asm --hook preempt | check",
         "",
         ADDS,
         16,
         "mov64 r0, 0\nexit\n",
-        "accepted preempt budget 50\n",
+        "accepted preempt budget 50",
         0,
     ),
     (
+        "asm --hook preempt | check",
         "",
         ADDS,
         17,
         "mov64 r0, 0\nexit\n",
-        "refused L8 V11 50\n",
+        "refused L8 V11 50",
         1,
     ),
     (
+        "asm --hook preempt | check",
         "",
         "mov64 r0, 0\n",
         4095,
         "exit\n",
-        "accepted preempt budget 4096\n",
+        "accepted preempt budget 4096",
         0,
     ),
     (
+        "asm --hook preempt | check",
         "mov64 r0, 0\n",
         "jeq64 r0, 0, +1\nadd64 r0, 1\n",
         2047,
         "exit\n",
-        "accepted preempt budget 4096\n",
+        "accepted preempt budget 4096",
         0,
+    ),
+    // one slot more than there may be
+    (
+        "check",
+        "425150490101000001100000",
+        "b700000000000000",
+        4096,
+        "9500000000000000",
+        "refused L7 I1 0",
+        1,
     ),
 ];
 
 #[test]
 fn long_programs_are_judged(rt: HostRuntime) -> Result<(), Fail> {
-    for (begin, part, times, end, line, status) in &LONG {
-        let text = repeated(rt.alloc(), begin, part, *times, end)?;
-        is_judged(&rt, rt.alloc(), PREEMPT, text.as_str(), line, *status)?;
-    }
-    let image = repeated(
-        rt.alloc(),
-        "425150490101000001100000",
-        "b700000000000000",
-        4096,
-        "9500000000000000",
-    )?;
-    gives(
-        &rt,
-        rt.alloc(),
-        &["check"],
-        image.as_bytes(),
-        "refused L7 I1 0\n",
-        1,
-    )
+    all_give_long(&rt, rt.alloc(), &LONG)
 }

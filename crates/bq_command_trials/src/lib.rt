@@ -24,5 +24,3 @@ mod options;
 mod slips;
 #[cfg(test)]
 mod streams;
-#[cfg(test)]
-mod texts;

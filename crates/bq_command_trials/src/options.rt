@@ -1,7 +1,8 @@
 //! Maps and options, and what is wrong with them.
 
-use crate::answers::{KEEP_HOME, is_said, text_of};
-use bq_policy_commands::{Answered, CheckWords, PolicyWords, check, options_complaint};
+use crate::answers::{KEEP_HOME, check_words};
+use crate::done::holds;
+use bq_policy_commands::{Answered, CheckWords, check, options_complaint};
 use bq_program::{Hook, Options, Version};
 use std::alloc::{AllocError, Global};
 use std::test::Fail;
@@ -71,88 +72,79 @@ static MAPS: [(&str, &str); 15] = [
     ),
 ];
 
-/// What is wrong with these options.
-fn complained(alloc: Global, options: &Options) -> Result<String, Fail> {
-    match options_complaint(alloc, options)? {
-        Some(why) => Ok(why),
-        None => Err(Fail::from("nothing was said")),
-    }
-}
-
-/// What is wrong with these maps beside a hook.
-fn maps_complained(alloc: Global, maps: &str) -> Result<String, Fail> {
-    let options = Options {
-        hook: Some(Hook::Place),
-        maps: Some(String::from_str(alloc, maps)?),
-        format: None,
+/// What is wrong with these maps beside a hook, or with maps and a version without one; nothing where all is right.
+fn complained(
+    alloc: Global,
+    hook: Option<Hook>,
+    maps: Option<&str>,
+    format: Option<Version>,
+) -> Result<String, AllocError> {
+    let maps = match maps {
+        Some(maps) => Some(String::from_str(alloc, maps)?),
+        None => None,
     };
-    complained(alloc, &options)
+    let options = Options { hook, maps, format };
+    match options_complaint(alloc, &options)? {
+        Some(why) => Ok(why),
+        None => Ok(String::new(alloc)),
+    }
 }
 
 /// The words of `check` with these maps.
 fn maps_words(alloc: Global, maps: &str) -> Result<CheckWords, AllocError> {
-    Ok(CheckWords {
-        policy: PolicyWords {
-            file: text_of(alloc, "p.s")?,
-            hook: None,
-            maps: Some(String::from_str(alloc, maps)?),
-            format: None,
-        },
-        is_explained: false,
-        is_json: false,
-        max_steps: None,
-        helpers: None,
-    })
+    let maps = String::from_str(alloc, maps)?;
+    let mut words = check_words(alloc, "", "", "", "")?;
+    words.policy.maps = Some(maps);
+    Ok(words)
 }
 
-/// What `check` says of its words where the maps are these.
-fn maps_refused(alloc: Global, maps: &str) -> Result<String, Fail> {
-    match check(alloc, &maps_words(alloc, maps)?, KEEP_HOME.as_bytes())? {
+/// What `check` says of these words.
+fn refused(alloc: Global, words: &CheckWords) -> Result<String, Fail> {
+    match check(alloc, words, KEEP_HOME.as_bytes())? {
         Answered::Words(why) => Ok(why),
         _ => Err(Fail::from("the words were taken")),
     }
 }
 
+/// What `check` says of its words where the maps are these.
+fn maps_refused(alloc: Global, maps: &str) -> Result<String, Fail> {
+    let words = maps_words(alloc, maps)?;
+    refused(alloc, &words)
+}
+
 #[test]
 fn maps_are_judged_part_by_part(rt: HostRuntime) -> Result<(), Fail> {
     for (maps, wanted) in &MAPS {
-        is_said(&rt, maps_complained(rt.alloc(), maps)?.as_str(), wanted);
-        is_said(&rt, maps_refused(rt.alloc(), maps)?.as_str(), wanted);
+        let said = complained(rt.alloc(), Some(Hook::Place), Some(*maps), None)?;
+        holds(&rt, said.as_str() == *wanted, said.as_str(), wanted);
+    }
+    for (maps, wanted) in &MAPS {
+        let said = maps_refused(rt.alloc(), maps)?;
+        holds(&rt, said.as_str() == *wanted, said.as_str(), wanted);
     }
     Ok(())
 }
 
-/// The options of `asm` without a hook.
-fn without_a_hook(
-    alloc: Global,
-    maps: &str,
-    format: Option<Version>,
-) -> Result<Options, AllocError> {
-    Ok(Options {
-        hook: None,
-        maps: text_of(alloc, maps)?,
-        format,
-    })
-}
-
-/// Whether nothing is wrong with these options.
-fn is_right(alloc: Global, options: &Options) -> Result<bool, AllocError> {
-    Ok(options_complaint(alloc, options)?.is_none())
-}
+/// Maps and a version without a hook, and what is wrong with them.
+static WITHOUT_A_HOOK: [(Option<&str>, Option<Version>, &str); 3] = [
+    (
+        Some("8:2"),
+        None,
+        "--maps: only an image has maps; say its hook too, as --hook place",
+    ),
+    (
+        None,
+        Some(Version::Second),
+        "--format: only an image has a version; say its hook too, as --hook place",
+    ),
+    (None, None, ""),
+];
 
 #[test]
 fn options_without_a_hook_are_told(rt: HostRuntime) -> Result<(), Fail> {
-    let alloc = rt.alloc();
-    is_said(
-        &rt,
-        complained(alloc, &without_a_hook(alloc, "8:2", None)?)?.as_str(),
-        "--maps: only an image has maps; say its hook too, as --hook place",
-    );
-    is_said(
-        &rt,
-        complained(alloc, &without_a_hook(alloc, "", Some(Version::Second))?)?.as_str(),
-        "--format: only an image has a version; say its hook too, as --hook place",
-    );
-    assert!(rt; is_right(alloc, &without_a_hook(alloc, "", None)?)?);
+    for (maps, format, wanted) in &WITHOUT_A_HOOK {
+        let said = complained(rt.alloc(), None, *maps, *format)?;
+        holds(&rt, said.as_str() == *wanted, said.as_str(), wanted);
+    }
     Ok(())
 }

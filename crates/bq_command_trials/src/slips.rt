@@ -1,5 +1,6 @@
 // The usual slips: the text of a policy, and what is said of it. The slots, lines and numbers were counted by hand.
 
+use crate::done::holds;
 use bq_explain::{Explained, Limits, complaint, explain};
 use bq_program::{Head, read_policy};
 use std::alloc::Global;
@@ -116,14 +117,9 @@ static REFUSED: [(&str, &str, &str, &str); 14] = [
     ),
 ];
 
-/// What is said of a text begins so.
-fn begins(rt: &impl Abort, text: &str, said: &str, first: &str) {
-    assert!(rt; said.starts_with(first), "{text}: {said}");
-}
-
-/// What is said of a text has these words in it.
-fn has(rt: &impl Abort, text: &str, said: &str, words: &str) {
-    assert!(rt; said.contains(words), "{text}: {said}");
+/// What is said of a policy has these words in it.
+fn has(rt: &impl Abort, said: &str, words: &str) {
+    holds(rt, said.contains(words), said, words);
 }
 
 #[test]
@@ -131,9 +127,9 @@ fn refusals_say_what_helps(rt: HostRuntime) -> Result<(), Fail> {
     for (text, first, need, help) in &REFUSED {
         let said = explained(rt.alloc(), text)?;
         let said = said.text.as_str();
-        begins(&rt, text, said, first);
-        has(&rt, text, said, need);
-        has(&rt, text, said, help);
+        holds(&rt, said.starts_with(*first), said, first);
+        has(&rt, said, need);
+        has(&rt, said, help);
     }
     Ok(())
 }
@@ -211,7 +207,7 @@ fn complained(alloc: Global, text: &str) -> Result<String, Fail> {
 #[test]
 fn complaints_name_what_is_wrong(rt: HostRuntime) -> Result<(), Fail> {
     for (text, told) in &COMPLAINED {
-        has(&rt, text, complained(rt.alloc(), text)?.as_str(), told);
+        has(&rt, complained(rt.alloc(), text)?.as_str(), told);
     }
     Ok(())
 }
@@ -229,17 +225,29 @@ line 6, slot 4:  ldxw r0, [r1+40]
   helps: a smaller mask or a test (jgt64) before the address is made, or format 2, whose context has 296 bytes; docs/CONTEXTS.md has the fields
 ";
 
-#[test]
-fn a_refusal_is_told_whole(rt: HostRuntime) -> Result<(), Fail> {
-    let text =
-        ";@ hook place\nldxw r2, [r1+0]\nand64 r2, 31\nlsh64 r2, 2\nadd64 r1, r2\nldxw r0, [r1+40]\nexit\n";
-    is_whole(&rt, explained(rt.alloc(), text)?.text.as_str(), WHOLE);
-    Ok(())
-}
+/// Policies, what is told of them, and whether they are accepted: that refusal, and the example of a policy that is accepted, two
+/// loads, a branch, two answers.
+static WHOLLY: [(&str, &str, bool); 2] = [
+    (
+        ";@ hook place\nldxw r2, [r1+0]\nand64 r2, 31\nlsh64 r2, 2\nadd64 r1, r2\nldxw r0, [r1+40]\nexit\n",
+        WHOLE,
+        false,
+    ),
+    (
+        ";@ hook place\n;@ maps 8:1\nldxw r0, [r1+28]\ncall 8\nexit\n",
+        "accepted place budget 3 of 4096, version 1, maps 8:1, helpers 8, counters 0, slots 3\n",
+        true,
+    ),
+];
 
-/// What is said is this.
-fn is_whole(rt: &impl Abort, said: &str, whole: &str) {
-    assert_eq!(rt; said, whole);
+#[test]
+fn a_refusal_and_what_is_accepted_are_told_whole(rt: HostRuntime) -> Result<(), Fail> {
+    for (text, whole, is_accepted) in &WHOLLY {
+        let said = explained(rt.alloc(), text)?;
+        let is = said.text.as_str() == *whole && said.accepted == *is_accepted;
+        holds(&rt, is, said.text.as_str(), whole);
+    }
+    Ok(())
 }
 
 /// Policies that are refused at their `ldxdw r0, [r7+0]`, and the lines on registers and stack there. The bytes of the stack are those that were
@@ -262,36 +270,20 @@ static KNOWN: [(&str, &str); 3] = [
     ),
 ];
 
-/// The lines on the state are these, and stand in the whole text.
-fn is_known(rt: &impl Abort, text: &str, said: &Explained, told: &str) {
+/// The lines on the state that are told of a policy; nothing where there are none.
+fn known(said: &Explained) -> &str {
     match &said.known {
-        Some(known) => is_whole(rt, known.as_str(), told),
-        None => panic!(rt; "{text}: nothing is told of the state"),
+        Some(known) => known.as_str(),
+        None => "",
     }
-    has(rt, text, said.text.as_str(), told);
 }
 
 #[test]
 fn the_state_is_told(rt: HostRuntime) -> Result<(), Fail> {
     for (text, told) in &KNOWN {
-        is_known(&rt, text, &explained(rt.alloc(), text)?, told);
+        let said = explained(rt.alloc(), text)?;
+        holds(&rt, known(&said) == *told, known(&said), told);
+        has(&rt, said.text.as_str(), told);
     }
     Ok(())
-}
-
-// the example of a policy that is accepted: two loads, a branch, two answers
-#[test]
-fn accepted_tells_all(rt: HostRuntime) -> Result<(), Fail> {
-    let text = ";@ hook place\n;@ maps 8:1\nldxw r0, [r1+28]\ncall 8\nexit\n";
-    let whole =
-        "accepted place budget 3 of 4096, version 1, maps 8:1, helpers 8, counters 0, slots 3\n";
-    let said = explained(rt.alloc(), text)?;
-    is_accepted(&rt, &said);
-    is_whole(&rt, said.text.as_str(), whole);
-    Ok(())
-}
-
-/// The policy is accepted.
-fn is_accepted(rt: &impl Abort, said: &Explained) {
-    assert!(rt; said.accepted);
 }

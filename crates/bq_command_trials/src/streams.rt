@@ -1,6 +1,6 @@
 //! Streams that fail, and what is said of errors: the system's words for them are those of errno's manual.
 
-use crate::answers::is_said;
+use crate::done::holds;
 use bq_options::{Kept, reason};
 use std::io;
 use std::io::{Error, Read, Write};
@@ -22,11 +22,13 @@ static OTHERS: [(&str, &str); 2] = [("Nothing is there", "nothing is there"), ("
 fn reasons_are_the_systems_words(rt: HostRuntime) -> Result<(), Fail> {
     for (number, words) in &NUMBERED {
         let error = Error::from_raw_os_error(*number);
-        is_said(&rt, reason(rt.alloc(), &error)?.as_str(), words);
+        let said = reason(rt.alloc(), &error)?;
+        holds(&rt, said.as_str() == *words, said.as_str(), words);
     }
     for (text, words) in &OTHERS {
         let error = Error::other(*text);
-        is_said(&rt, reason(rt.alloc(), &error)?.as_str(), words);
+        let said = reason(rt.alloc(), &error)?;
+        holds(&rt, said.as_str() == *words, said.as_str(), words);
     }
     Ok(())
 }
@@ -63,23 +65,29 @@ impl Write for Failing {
     }
 }
 
-#[test]
-fn failures_are_kept(rt: HostRuntime) -> Result<(), Fail> {
-    let mut kept = Kept::new(Failing { calls: 0 });
-    let mut buf = [0u8; 4];
-    assert!(rt; kept.read(&mut buf).is_ok());
-    assert!(rt; kept.failure().is_none());
-    assert!(rt; kept.read(&mut buf).is_err());
-    assert!(rt; kept.read(&mut buf).is_ok());
-    assert_eq!(rt; code(kept.failure()), Some(21));
-    assert!(rt; kept.write(b"y").is_err());
-    assert_eq!(rt; code(kept.failure()), Some(28));
-    Ok(())
-}
-
-fn code(error: Option<Error>) -> Option<i32> {
-    match error {
+/// The number of the failure that was kept last.
+fn code(kept: &Kept<Failing>) -> Option<i32> {
+    match kept.failure() {
         Some(error) => error.raw_os_error(),
         None => None,
     }
+}
+
+/// What reads and writes come to, each with the number that is kept then.
+#[test]
+fn failures_are_kept(rt: HostRuntime) {
+    let mut kept = Kept::new(Failing { calls: 0 });
+    let mut buf = [0u8; 4];
+    let first = (kept.read(&mut buf).is_ok(), code(&kept));
+    holds(&rt, first == (true, None), "the first read", "a byte");
+    let second = (kept.read(&mut buf).is_ok(), kept.read(&mut buf).is_ok());
+    holds(
+        &rt,
+        second == (false, true),
+        "the second read",
+        "a failure, and then bytes",
+    );
+    holds(&rt, code(&kept) == Some(21), "a failure", "21");
+    holds(&rt, kept.write(b"y").is_err(), "a write", "a failure");
+    holds(&rt, code(&kept) == Some(28), "a failure", "28");
 }
