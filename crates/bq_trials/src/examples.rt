@@ -4,7 +4,7 @@
 use bq_asm::assemble;
 use bq_bpf::{Hook, Version, context_length};
 use bq_cfs::CfsQueue;
-use bq_core::{Core, Event, Plain, Reply};
+use bq_core::{Core, DynamicCore, Event, Plain, Reply};
 use bq_interp::env::Env;
 use bq_interp::runs::run;
 use bq_interp::stack::Stack;
@@ -89,6 +89,24 @@ fn a_program_is_run(rt: HostRuntime) -> Result<(), Fail> {
 fn an_event_is_done(rt: HostRuntime) -> Result<(), Fail> {
     let alloc = rt.alloc();
     let mut core = Core::<CfsQueue, 1>::new(alloc)?;
+    let mut board = Plain::new();
+    let admit = Event::Admit {
+        task: 1,
+        nice: 0,
+        mask: 1,
+        slice: 3_000_000,
+    };
+    let Ok(Reply::Admitted) = core.step(alloc, admit, &mut board) else {
+        return Err(Fail::from("not admitted"));
+    };
+    Ok(())
+}
+
+/// The example of `DynamicCore::step`.
+#[test]
+fn an_event_is_done_by_a_core_of_one_processor(rt: HostRuntime) -> Result<(), Fail> {
+    let alloc = rt.alloc();
+    let mut core = DynamicCore::<CfsQueue>::new(alloc, 1)?;
     let mut board = Plain::new();
     let admit = Event::Admit {
         task: 1,
