@@ -42,7 +42,7 @@ fn workload_of(alloc: Global, row: &Row) -> Result<Workload, Fail> {
         migration_cost: 0,
         seed: 1,
     };
-    let tasks = kinds_of(alloc, &row.1)?;
+    let tasks = kinds_of(alloc, row.1)?;
     Ok(Workload { machine, tasks })
 }
 
@@ -50,7 +50,7 @@ fn workload_of(alloc: Global, row: &Row) -> Result<Workload, Fail> {
 /// is nothing where the second task takes no time.
 type Row = (
     ProcessorCount,
-    [(u64, &'static [Action]); 2],
+    &'static [(u64, &'static [Action])],
     &'static str,
     Option<Tally>,
 );
@@ -61,7 +61,7 @@ static SIMULATED: [Row; 3] = [
     // tick at 4 and the wake at 5, 0 from 8 on through the tick at 8 and the wake at 9, to the last tick at 10.
     (
         ProcessorCount::One,
-        [
+        &[
             (
                 1,
                 &[
@@ -96,7 +96,7 @@ tick run 0 by rule steps 0\n",
     // come by processor, and that of 0 comes first. So this wake is missed, and the one at 9 ms is not.
     (
         ProcessorCount::Two,
-        [
+        &[
             (
                 1,
                 &[
@@ -129,7 +129,7 @@ tick run 1 by rule steps 0\n",
     // A task that only waits takes no time.
     (
         ProcessorCount::One,
-        [(1, &[Action::Run(Length::Fixed(1))]), (1, &[Action::Wait])],
+        &[(1, &[Action::Run(Length::Fixed(1))]), (1, &[Action::Wait])],
         "",
         None,
     ),
