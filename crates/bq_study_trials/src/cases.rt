@@ -4,6 +4,7 @@ ghost use Rattle.std.specs.Prelude.{◌≤◌};
 use bq_trace::{Counted, Session, replay};
 use std::alloc::Global;
 use std::process::Abort;
+use std::str::from_utf8;
 use std::test::Fail;
 
 /// A trace, what it is answered, and whether no line was bad.
@@ -38,12 +39,20 @@ fn answered_in_pieces(alloc: Global, trace: &[u8], size: usize) -> Result<Answer
     Ok((output.into_inner(), clean))
 }
 
+/// It is so; where it is not, what was found is told, and what was wanted.
+pub fn holds(rt: &impl Abort, is: bool, found: &str, wanted: &str) {
+    assert!(rt; is, "{found}, and wanted is {wanted}");
+}
+
 /// That was written, and there was a bad line or none.
-pub fn is_answered(rt: &impl Abort, found: &Answered, answers: &str, clean: bool, about: &str) {
-    assert_eq!(rt;
-        (found.0.as_slice(), found.1),
-        (answers.as_bytes(), clean),
-        "{about}"
+pub fn is_answered(rt: &impl Abort, found: &Answered, answers: &str, clean: bool) {
+    let (written, is_clean) = found;
+    let is = written.as_slice() == answers.as_bytes() && *is_clean == clean;
+    holds(
+        rt,
+        is,
+        from_utf8(written.as_slice()).unwrap_or("no text"),
+        answers,
     );
 }
 
@@ -60,7 +69,7 @@ fn answered_in(alloc: Global, trace: &[u8], size: usize) -> Result<Answered, Fai
 pub fn replays(rt: &impl Abort, alloc: Global, cases: &[Case], size: usize) -> Result<(), Fail> {
     for case in cases {
         let found = answered_in(alloc, case.trace.as_bytes(), size)?;
-        is_answered(rt, &found, case.answers, case.clean, case.trace);
+        is_answered(rt, &found, case.answers, case.clean);
     }
     Ok(())
 }

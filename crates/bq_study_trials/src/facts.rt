@@ -1,12 +1,12 @@
 //! What is told of a schedule, step by step.
 
+use crate::cases;
 use crate::steps::Step;
 use bq_schedule::{
     Change, Moved, ProcessorFigures, Reading, Schedule, Slice, Start, Stop, TaskFigures, Wake,
 };
-use std::alloc::Global;
+use std::alloc::{AllocError, Global};
 use std::process::Abort;
-use std::test::Fail;
 
 /// A part of what a step changed, or a figure after it.
 #[derive(Clone, Copy)]
@@ -106,28 +106,43 @@ impl Fact {
     }
 }
 
+/// The facts of that step hold. How many they are.
+fn hold(
+    rt: &impl Abort,
+    facts: &[(usize, Fact)],
+    step: usize,
+    change: &Change,
+    schedule: &Schedule,
+) -> usize {
+    let mut held = 0usize;
+    for (number, fact) in facts {
+        if *number == step {
+            cases::holds(rt, fact.holds(change, schedule), "another figure", "a fact");
+            held = held.wrapping_add(1);
+        }
+    }
+    held
+}
+
 /// Takes the steps in turn. After each the facts of its number hold, counted from 0.
+fn all_hold(rt: &impl Abort, schedule: &mut Schedule, steps: &[Step], facts: &[(usize, Fact)]) {
+    let mut held = 0usize;
+    for (number, step) in steps.iter().enumerate() {
+        let change = step.change(schedule);
+        held = held.wrapping_add(hold(rt, facts, number, &change, schedule));
+    }
+    cases::holds(rt, held == facts.len(), "fewer facts", "all");
+}
+
+/// A schedule takes the steps in turn. After each the facts of its number hold, counted from 0.
 pub fn tells(
     rt: &impl Abort,
     alloc: Global,
     processors: u8,
     steps: &[Step],
     facts: &[(usize, Fact)],
-) -> Result<(), Fail> {
+) -> Result<(), AllocError> {
     let mut schedule = Schedule::new(alloc, processors)?;
-    let mut held = 0usize;
-    for (step, (event, answer)) in steps.iter().enumerate() {
-        let change = schedule.take(event, answer);
-        for (number, fact) in facts {
-            if *number == step {
-                assert!(rt;
-                    fact.holds(&change, &schedule),
-                    "fact {held}, after step {step}"
-                );
-                held = held.wrapping_add(1);
-            }
-        }
-    }
-    assert_eq!(rt; held, facts.len());
+    all_hold(rt, &mut schedule, steps, facts);
     Ok(())
 }

@@ -1,24 +1,26 @@
 // Policies as files, each for the hook preempt. The bytes of the image were written down by hand from docs/IMAGE.md.
 
+use crate::cases::holds;
 use bq_core::Hook;
 use bq_study::Policies;
+use std::alloc::Global;
 use std::test::Fail;
 
 /// `mov64 r0, 0` and `exit` for the hook preempt: the letters, version 1, the hook, no maps, two slots.
-const IMAGE: [u8; 28] = [
+static IMAGE: [u8; 28] = [
     0x42, 0x51, 0x50, 0x49, 1, 1, 0, 0, 2, 0, 0, 0, 0xb7, 0, 0, 0, 0, 0, 0, 0, 0x95, 0, 0, 0, 0, 0,
     0, 0,
 ];
 
 /// What is that policy: a text whose head names the hook, one that leaves it to the option, and hex.
-const TAKEN: [&str; 3] = [
+static TAKEN: [&str; 3] = [
     ";@ hook preempt\nmov64 r0, 0\nexit\n",
     "mov64 r0, 0\nexit\n",
     "425150490101000002000000\nb700000000000000 9500000000000000\n",
 ];
 
 /// What is refused, and why.
-const REFUSED: [(&str, &str); 6] = [
+static REFUSED: [(&str, &str); 6] = [
     (
         ";@ hook pull\nmov64 r0, 0\nexit\n",
         "the policy is for another hook",
@@ -44,44 +46,62 @@ const REFUSED: [(&str, &str); 6] = [
     ),
 ];
 
-#[test]
-fn files_taken(rt: HostRuntime) -> Result<(), Fail> {
-    let alloc = rt.alloc();
-    for file in TAKEN {
-        let mut policies = Policies::new(alloc);
-        let taken = policies.add(alloc, Hook::Preempt, file.as_bytes());
-        assert!(rt; taken.is_ok(), "{file}");
-        assert!(rt;
-            policies.image_at(Hook::Preempt) == Some(IMAGE.as_slice()),
-            "{file}"
-        );
-        assert!(rt; policies.image_at(Hook::Pull).is_none(), "{file}");
-        assert_eq!(rt; policies.loaded.len(), 1, "{file}");
-    }
-    Ok(())
+/// Whether that one policy stands at its hook, and none at another.
+fn stands(policies: &Policies) -> bool {
+    policies.image_at(Hook::Preempt) == Some(IMAGE.as_slice())
+        && policies.image_at(Hook::Pull).is_none()
+        && policies.loaded.len() == 1
+}
+
+/// Whether the file is taken among no policies, as that one.
+fn is_taken_by(alloc: Global, policies: &mut Policies, file: &[u8]) -> bool {
+    let is_taken = policies.add(alloc, Hook::Preempt, file).is_ok();
+    is_taken && stands(policies)
+}
+
+/// Whether the file is taken, as that policy.
+fn is_taken(alloc: Global, file: &[u8]) -> bool {
+    let mut policies = Policies::new(alloc);
+    is_taken_by(alloc, &mut policies, file)
 }
 
 #[test]
-fn image_taken(rt: HostRuntime) -> Result<(), Fail> {
-    let alloc = rt.alloc();
+fn files_taken(rt: HostRuntime) {
+    for file in &TAKEN {
+        holds(
+            &rt,
+            is_taken(rt.alloc(), file.as_bytes()),
+            "another policy",
+            file,
+        );
+    }
+    holds(
+        &rt,
+        is_taken(rt.alloc(), &IMAGE),
+        "another policy",
+        "the image",
+    );
+}
+
+/// Why the file is refused among no policies, which leaves none.
+fn said_by(alloc: Global, policies: &mut Policies, file: &[u8]) -> Result<String, Fail> {
+    match policies.add(alloc, Hook::Preempt, file) {
+        Err(fault) if policies.loaded.is_empty() => Ok(format!(in alloc; "{fault}")?),
+        _ => Err(Fail::from("it was taken")),
+    }
+}
+
+/// Why the file is refused.
+fn said(alloc: Global, file: &[u8]) -> Result<String, Fail> {
     let mut policies = Policies::new(alloc);
-    let taken = policies.add(alloc, Hook::Preempt, IMAGE.as_slice());
-    assert!(rt; taken.is_ok());
-    assert!(rt; policies.image_at(Hook::Preempt) == Some(IMAGE.as_slice()));
-    Ok(())
+    said_by(alloc, &mut policies, file)
 }
 
 #[test]
 fn files_refused(rt: HostRuntime) -> Result<(), Fail> {
-    let alloc = rt.alloc();
-    for (file, words) in REFUSED {
-        let mut policies = Policies::new(alloc);
-        let Err(fault) = policies.add(alloc, Hook::Preempt, file.as_bytes()) else {
-            return Err(Fail::from("it was taken"));
-        };
-        let said = format!(in alloc; "{fault}")?;
-        assert_eq!(rt; said.as_str(), words, "{file}");
-        assert!(rt; policies.loaded.is_empty(), "{file}");
+    for (file, words) in &REFUSED {
+        let said = said(rt.alloc(), file.as_bytes())?;
+        holds(&rt, said.as_str() == *words, said.as_str(), words);
     }
     Ok(())
 }

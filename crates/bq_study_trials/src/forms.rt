@@ -1,10 +1,10 @@
 //! Each form on a small trace, with its text worked out by hand.
 
-use crate::steps::{drained, placed, pulled, shows};
-use bq_forms::{Csv, Form, Json, Map, Names, Report, Timehist, Window};
-use bq_schedule::Schedule;
+use crate::cases::holds;
+use crate::steps::{Step, shown_between, shows};
+use bq_forms::{Csv, Json, Map, Names, Report, Timehist, Window};
 use std::alloc::{AllocError, Global};
-use std::test::Fail;
+use std::process::Abort;
 
 /// The rows of the slices: each from a reading of the clock to the next.
 const CSV: &str = "processor,task,from,to\n\
@@ -93,14 +93,14 @@ const JSON: &str = concat!(
 );
 
 #[test]
-fn lists(rt: HostRuntime) -> Result<(), Fail> {
+fn lists(rt: HostRuntime) -> Result<(), AllocError> {
     let alloc = rt.alloc();
     shows(&rt, alloc, Csv::new(alloc, Window::whole(alloc)), CSV)?;
     shows(&rt, alloc, Timehist::new(Window::whole(alloc)), TIMEHIST)
 }
 
 #[test]
-fn maps(rt: HostRuntime) -> Result<(), Fail> {
+fn maps(rt: HostRuntime) -> Result<(), AllocError> {
     let alloc = rt.alloc();
     shows(&rt, alloc, Map::new(alloc, Window::whole(alloc), 24), MAP)?;
     shows(
@@ -112,7 +112,7 @@ fn maps(rt: HostRuntime) -> Result<(), Fail> {
 }
 
 #[test]
-fn figures(rt: HostRuntime) -> Result<(), Fail> {
+fn figures(rt: HostRuntime) -> Result<(), AllocError> {
     let alloc = rt.alloc();
     shows(&rt, alloc, Report::new(alloc, Window::whole(alloc)), REPORT)?;
     shows(&rt, alloc, Json::new(alloc, Window::whole(alloc)), JSON)
@@ -129,7 +129,7 @@ fn part(alloc: Global) -> Result<Window, AllocError> {
 }
 
 #[test]
-fn windows(rt: HostRuntime) -> Result<(), Fail> {
+fn windows(rt: HostRuntime) -> Result<(), AllocError> {
     let alloc = rt.alloc();
     shows(
         &rt,
@@ -146,25 +146,12 @@ fn windows(rt: HostRuntime) -> Result<(), Fail> {
 }
 
 /// Task 4 runs 1 ms at processor 0, is pulled by processor 1 and runs there: it has migrated once.
-#[test]
-fn migrations(rt: HostRuntime) -> Result<(), Fail> {
-    let alloc = rt.alloc();
-    let mut schedule = Schedule::new(alloc, 2)?;
-    let names = Names::new(alloc);
-    let mut text = String::new(alloc);
-    let mut form = Timehist::new(Window::whole(alloc));
-    for (event, answer) in [
-        placed(0, 0, 4, 0),
-        drained(0, 0, 1, Some(4)),
-        drained(0, 1_000_000, 1, Some(5)),
-        pulled(1, 0, 3_000_000, 4),
-    ] {
-        let change = schedule.take(&event, &answer);
-        form.take(&change, &schedule, &names, &mut text)?;
-    }
-    assert_eq!(rt; text.as_str(), MIGRATED);
-    Ok(())
-}
+static PULLED: [Step; 4] = [
+    Step::Placed(0, 0, 4, 0),
+    Step::Drained(0, 0, 1, Some(4)),
+    Step::Drained(0, 1_000_000, 1, Some(5)),
+    Step::Pulled(1, 0, 3_000_000, 4),
+];
 
 const MIGRATED: &str = concat!(
     "       0.000000 [0000]  <idle>                awakened: 4 on cpu 0\n",
@@ -172,20 +159,45 @@ const MIGRATED: &str = concat!(
     "       0.003000 [0001]      4                 migrated: cpu 0 => 1\n",
 );
 
-/// A comment names a task by its number; another comment, and a number that no task has, name none.
 #[test]
-fn names(rt: HostRuntime) -> Result<(), Fail> {
-    let mut names = Names::new(rt.alloc());
-    let comments: [(&[u8], u16, Option<&str>); 5] = [
-        (b"#task 7 web server \r", 7, Some("web server")),
-        (b"# task 70000 none", 7, Some("web server")),
-        (b"# tasks 8 none", 8, None),
-        (b"# task 9", 9, None),
-        (b"  # task 7 other", 7, Some("other")),
-    ];
-    for (comment, task, name) in comments {
-        names.learn(comment)?;
-        assert_eq!(rt; names.of(task), name);
+fn migrations(rt: HostRuntime) -> Result<(), AllocError> {
+    let alloc = rt.alloc();
+    let form = Timehist::new(Window::whole(alloc));
+    let text = shown_between(alloc, form, &PULLED)?;
+    holds(&rt, text.as_str() == MIGRATED, text.as_str(), MIGRATED);
+    Ok(())
+}
+
+/// Comments, a task's number, and its name then: a comment names a task by its number; another comment, and a number that no task has,
+/// name none.
+static NAMED: [(&str, u16, Option<&str>); 5] = [
+    ("#task 7 web server \r", 7, Some("web server")),
+    ("# task 70000 none", 7, Some("web server")),
+    ("# tasks 8 none", 8, None),
+    ("# task 9", 9, None),
+    ("  # task 7 other", 7, Some("other")),
+];
+
+/// Whether a task has that name, or none.
+fn is_named(names: &Names, task: u16, name: Option<&str>) -> bool {
+    match (names.of(task), name) {
+        (Some(found), Some(wanted)) => found == wanted,
+        (None, None) => true,
+        _ => false,
+    }
+}
+
+/// Names are learnt from the comments, one after another.
+fn learns(rt: &impl Abort, names: &mut Names) -> Result<(), AllocError> {
+    for (comment, task, name) in &NAMED {
+        names.learn(comment.as_bytes())?;
+        holds(rt, is_named(names, *task, *name), "another name", comment);
     }
     Ok(())
+}
+
+#[test]
+fn names(rt: HostRuntime) -> Result<(), AllocError> {
+    let mut names = Names::new(rt.alloc());
+    learns(&rt, &mut names)
 }

@@ -1,6 +1,7 @@
 //! The pictures of a small trace.
 
-use crate::steps::{shown, three_tasks};
+use crate::cases::holds;
+use crate::steps::shown;
 use bq_forms::{Form, Window};
 use bq_parts::By;
 use bq_pictures::{Perfetto, Svg};
@@ -9,8 +10,7 @@ use std::test::Fail;
 
 /// What a form shows of the three tasks, where a policy is asked in vain at the end.
 fn drawn<F: Form>(alloc: Global, form: F) -> Result<String, AllocError> {
-    let steps = three_tasks(alloc, By::Discipline)?;
-    shown(alloc, form, steps, b"# task 3 <server> \"a&b\"")
+    shown(alloc, form, By::Discipline, b"# task 3 <server> \"a&b\"")
 }
 
 /// The events: the runs with the ends of their flows, and in between what happens while nothing runs there.
@@ -43,7 +43,7 @@ const EVENTS: &str = concat!(
 fn perfetto(rt: HostRuntime) -> Result<(), Fail> {
     let alloc = rt.alloc();
     let text = drawn(alloc, Perfetto::new(alloc, Window::whole(alloc)))?;
-    assert_eq!(rt; text.as_str(), EVENTS);
+    holds(&rt, text.as_str() == EVENTS, text.as_str(), EVENTS);
     Ok(())
 }
 
@@ -85,10 +85,13 @@ const PICTURE: &str = concat!(
 fn svg(rt: HostRuntime) -> Result<(), Fail> {
     let alloc = rt.alloc();
     let text = drawn(alloc, Svg::new(alloc, Window::whole(alloc)))?;
-    let picture = text
-        .as_str()
-        .find("<text class=\"title\"")
-        .ok_or("no title")?;
-    assert_eq!(rt; text.as_str().get(picture..), Some(PICTURE));
+    let picture = below_styles(text.as_str());
+    holds(&rt, picture == Some(PICTURE), text.as_str(), PICTURE);
     Ok(())
+}
+
+/// The part of a picture that begins at its title.
+fn below_styles(text: &str) -> Option<&str> {
+    let title = text.find("<text class=\"title\"")?;
+    text.get(title..)
 }

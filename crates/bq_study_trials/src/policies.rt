@@ -2,8 +2,6 @@
 //! programs are short enough to read as bytes.
 
 use crate::cases::{Case, replays};
-use std::alloc::Global;
-use std::process::Abort;
 use std::test::Fail;
 
 /// A policy's map is kept from run to run, each processor has maps of its own, and a new policy begins with zeros.
@@ -393,7 +391,7 @@ const UNLOADED: Case = Case {
     clean: true,
 };
 
-const CASES: [Case; 10] = [
+static CASES: [Case; 10] = [
     A_MAP_IS_KEPT,
     GIVES_WAY_TO_ITSELF,
     PLACES,
@@ -406,17 +404,12 @@ const CASES: [Case; 10] = [
     UNLOADED,
 ];
 
-/// Each trace is answered so, in pieces of that size, or as a whole where it is 0.
-fn cases_hold(rt: &impl Abort, alloc: Global, size: usize) -> Result<(), Fail> {
-    replays(rt, alloc, &CASES, size)
-}
-
 #[test]
 fn answers_traces_with_policies(rt: HostRuntime) -> Result<(), Fail> {
-    cases_hold(&rt, rt.alloc(), 0)
+    replays(&rt, rt.alloc(), &CASES, 0)
 }
 
 #[test]
 fn answers_policies_the_same_in_pieces(rt: HostRuntime) -> Result<(), Fail> {
-    cases_hold(&rt, rt.alloc(), 7)
+    replays(&rt, rt.alloc(), &CASES, 7)
 }

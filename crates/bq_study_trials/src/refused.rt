@@ -1,11 +1,13 @@
 // Texts that are no workload, and what is said of them. What is said was written from docs/WORKLOADS.md by hand; the places of
 // what is no TOML are those that Python's tomllib names.
 
+use crate::cases::holds;
 use bq_workload::{Changes, read};
+use std::alloc::Global;
 use std::test::Fail;
 
 /// A text, and what is said of it after the name of its file.
-const REFUSED: [(&str, &str); 32] = [
+static REFUSED: [(&str, &str); 32] = [
     // no task
     ("", ": [[task]] is missing"),
     // no task beside a machine
@@ -156,22 +158,25 @@ const REFUSED: [(&str, &str); 32] = [
     ),
 ];
 
+/// What is said of a text.
+fn said(alloc: Global, text: &str) -> Result<String, Fail> {
+    match read(alloc, text, Changes::NONE) {
+        Ok(_) => Err(Fail::from("the text was taken")),
+        Err(fault) => Ok(format!(in alloc; "{fault}")?),
+    }
+}
+
 #[test]
 fn what_is_wrong_is_named(rt: HostRuntime) -> Result<(), Fail> {
-    for (text, told) in REFUSED {
-        match read(rt.alloc(), text, Changes::NONE) {
-            Ok(_) => return Err(Fail::from("the text was taken")),
-            Err(fault) => {
-                let said = format!(in rt.alloc(); "{fault}")?;
-                assert_eq!(rt; said.as_str(), told, "{text}");
-            }
-        }
+    for (text, told) in &REFUSED {
+        let said = said(rt.alloc(), text)?;
+        holds(&rt, said.as_str() == *told, said.as_str(), told);
     }
     Ok(())
 }
 
 /// Texts that are no TOML, and where: the line and the column, which counts characters.
-const NO_TOML: [(&str, &str); 3] = [
+static NO_TOML: [(&str, &str); 3] = [
     ("[[task]]\nname = \"a\" nice = 5\n", ":2:12: "),
     ("[[task]]\nname = \"\u{e4}\" 5\n", ":2:12: "),
     ("[[task]]\nname = \"a\"\nname = \"b\"\n", ":3:1: "),
@@ -179,14 +184,9 @@ const NO_TOML: [(&str, &str); 3] = [
 
 #[test]
 fn no_toml_is_named_by_line_and_column(rt: HostRuntime) -> Result<(), Fail> {
-    for (text, place) in NO_TOML {
-        match read(rt.alloc(), text, Changes::NONE) {
-            Ok(_) => return Err(Fail::from("the text was taken")),
-            Err(fault) => {
-                let said = format!(in rt.alloc(); "{fault}")?;
-                assert!(rt; said.as_str().starts_with(place), "{text}: {said}");
-            }
-        }
+    for (text, place) in &NO_TOML {
+        let said = said(rt.alloc(), text)?;
+        holds(&rt, said.as_str().starts_with(*place), said.as_str(), place);
     }
     Ok(())
 }

@@ -1,8 +1,8 @@
 //! Worked traces, with values from outside this program.
 
-use crate::cases::{Answered, Case, answered, is_answered, replays};
+use crate::cases::{Answered, Case, answered, holds, is_answered, replays};
 use bq_trace::{Counted, ReplayFault, replay};
-use std::alloc::{AllocError, Global};
+use std::alloc::Global;
 use std::io;
 use std::io::{Error, ErrorKind, Read, Write};
 use std::process::Abort;
@@ -231,7 +231,7 @@ const NUMBERS: Case = Case {
     clean: false,
 };
 
-const CASES: [Case; 11] = [
+static CASES: [Case; 11] = [
     ONE_TASK,
     GIVES_WAY,
     EARLIEST_ELIGIBLE,
@@ -245,39 +245,28 @@ const CASES: [Case; 11] = [
     NUMBERS,
 ];
 
-/// Each trace is answered so, in pieces of that size, or as a whole where it is 0.
-fn cases_hold(rt: &impl Abort, alloc: Global, size: usize) -> Result<(), Fail> {
-    replays(rt, alloc, &CASES, size)
-}
-
 #[test]
 fn answers_worked_traces(rt: HostRuntime) -> Result<(), Fail> {
-    cases_hold(&rt, rt.alloc(), 0)
+    replays(&rt, rt.alloc(), &CASES, 0)
 }
 
 #[test]
 fn answers_the_same_in_pieces(rt: HostRuntime) -> Result<(), Fail> {
     for size in [1, 7, 4096] {
-        cases_hold(&rt, rt.alloc(), size)?;
+        replays(&rt, rt.alloc(), &CASES, size)?;
     }
     Ok(())
 }
 
-/// A line of so many bytes `#`, ended by this.
-fn comment(alloc: Global, len: usize, end: &str) -> Result<Vec<u8>, AllocError> {
+/// What a line of so many bytes `#`, ended by this, is answered.
+fn comment_answered(alloc: Global, len: usize, end: &str) -> Result<Answered, Fail> {
     let mut line = vec![in alloc; b'#'; len]?;
     line.extend_from_slice(end.as_bytes())?;
-    Ok(line)
-}
-
-/// What such a line is answered.
-fn comment_answered(alloc: Global, len: usize, end: &str) -> Result<Answered, Fail> {
-    let line = comment(alloc, len, end)?;
     answered(alloc, line.as_slice())
 }
 
 /// Lengths of lines, their ends, and what they are answered.
-const LONG_LINES: [(usize, &str, &str); 7] = [
+static LONG_LINES: [(usize, &str, &str); 7] = [
     (131_072, "\n", ""),
     (131_072, "\r\n", ""),
     (131_072, "", ""),
@@ -291,7 +280,7 @@ const LONG_LINES: [(usize, &str, &str); 7] = [
 fn calls_longer_lines_bad(rt: HostRuntime) -> Result<(), Fail> {
     for (len, end, answers) in &LONG_LINES {
         let found = comment_answered(rt.alloc(), *len, end)?;
-        is_answered(&rt, &found, answers, answers.is_empty(), end);
+        is_answered(&rt, &found, answers, answers.is_empty());
     }
     Ok(())
 }
@@ -357,7 +346,9 @@ type Ended = (Result<bool, ReplayFault>, Vec<u8>);
 
 /// It ended by that fault, and this was written.
 fn ends_by(rt: &impl Abort, ended: &Ended, fault: ReplayFault, written: &[u8]) {
-    assert_eq!(rt; (ended.0, ended.1.as_slice()), (Err(fault), written));
+    let (outcome, taken) = ended;
+    let is = *outcome == Err(fault) && taken.as_slice() == written;
+    holds(rt, is, "another end", "that fault");
 }
 
 /// How a replay of what is read ends.

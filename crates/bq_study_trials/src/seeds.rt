@@ -5,10 +5,12 @@
 // that is fair to task 1, and then all. The policy is asked when task 1 comes to the queue and at three ticks, and takes two
 // instructions.
 
-use bq_comparison::{asked_comparison, compare, lines, written};
-use bq_study::{AskedFault, Policies, study_words};
+use crate::cases::holds;
+use bq_actions::Workload;
+use bq_comparison::{Comparing, Sides, asked_comparison, compare, lines, written};
+use bq_study::{AskedFault, Policies, StudyWords, study_words};
 use bq_workload::{Changes, read};
-use std::alloc::Global;
+use std::alloc::{AllocError, Global};
 use std::test::Fail;
 use std::thread::Threads;
 
@@ -104,7 +106,7 @@ const JSON: &str = concat!(
 );
 
 /// Words of options, and what is written. A word of `--against` stands for the policy.
-const WRITTEN: [(&[&str], &str); 4] = [
+static WRITTEN: [(&[&str], &str); 4] = [
     (
         &[
             "--seeds",
@@ -139,7 +141,7 @@ const WRITTEN: [(&[&str], &str); 4] = [
 ];
 
 /// Words that are refused, and why.
-const REFUSED: [(&[&str], AskedFault); 4] = [
+static REFUSED: [(&[&str], AskedFault); 4] = [
     (&["--seeds", "0"], AskedFault::Seeds),
     (&["--seeds", "1001"], AskedFault::Seeds),
     (&["--seeds", "2", "--as", "map"], AskedFault::TableForm),
@@ -149,59 +151,119 @@ const REFUSED: [(&[&str], AskedFault); 4] = [
     ),
 ];
 
+/// What is written of the two sides.
+fn table(
+    alloc: Global,
+    workload: &Workload,
+    sides: &Sides,
+    asked: &Comparing,
+) -> Result<String, AllocError> {
+    let lines = lines(alloc, sides, &asked.window)?;
+    written(alloc, workload, lines.as_slice(), asked.form)
+}
+
+/// What is written of the workload under no policy, beside others.
+fn compared<T: Threads + Sync>(
+    threads: &T,
+    alloc: Global,
+    workload: &Workload,
+    asked: &Comparing,
+    others: Option<&Policies>,
+) -> Result<String, Fail> {
+    let none = Policies::new(alloc);
+    match compare(threads, alloc, workload, &none, others, asked.seeds) {
+        Ok(sides) => Ok(table(alloc, workload, &sides, asked)?),
+        Err(_) => Err(Fail::from("it does not run")),
+    }
+}
+
+/// What is written of the two tasks.
+fn compared_here<T: Threads + Sync>(
+    threads: &T,
+    alloc: Global,
+    asked: &Comparing,
+    others: Option<&Policies>,
+) -> Result<String, Fail> {
+    match read(alloc, WORKLOAD, Changes::NONE) {
+        Ok(workload) => compared(threads, alloc, &workload, asked, others),
+        Err(_) => Err(Fail::from("it is no workload")),
+    }
+}
+
+/// The policy that lets each run to its end.
+fn to_the_end(alloc: Global) -> Result<Policies, Fail> {
+    let mut policies = Policies::new(alloc);
+    match policies.add_as_said(alloc, TO_THE_END.as_bytes()) {
+        Ok(()) => Ok(policies),
+        Err(_) => Err(Fail::from("it is no policy")),
+    }
+}
+
+/// What is written of what is asked for, beside no other policy or that one.
+fn shown_beside<T: Threads + Sync>(
+    threads: &T,
+    alloc: Global,
+    asked: &Comparing,
+    is_alone: bool,
+) -> Result<String, Fail> {
+    if is_alone {
+        return compared_here(threads, alloc, asked, None);
+    }
+    let others = to_the_end(alloc)?;
+    compared_here(threads, alloc, asked, Some(&others))
+}
+
+/// What is written of these words, where a word of `--against` stands for the policy.
+fn shown<T: Threads + Sync>(
+    threads: &T,
+    alloc: Global,
+    words: &StudyWords,
+) -> Result<String, Fail> {
+    match asked_comparison(alloc, words) {
+        Ok(Some(asked)) => shown_beside(threads, alloc, &asked, words.against.is_empty()),
+        _ => Err(Fail::from("nothing is compared")),
+    }
+}
+
+/// The words as clap takes them.
+fn taken(alloc: Global, words: &[&str]) -> Result<StudyWords, Fail> {
+    match study_words(alloc, words) {
+        Ok(words) => Ok(words),
+        Err(_) => Err(Fail::from("clap refuses the words")),
+    }
+}
+
 /// What is written with these words.
-fn shown<T: Threads + Sync>(threads: &T, alloc: Global, words: &[&str]) -> Result<String, Fail> {
-    let Ok(words) = study_words(alloc, words) else {
-        return Err(Fail::from("the words are refused"));
-    };
-    let Ok(Some(asked)) = asked_comparison(alloc, &words) else {
-        return Err(Fail::from("nothing is compared"));
-    };
-    let Ok(workload) = read(alloc, WORKLOAD, Changes::NONE) else {
-        return Err(Fail::from("it is no workload"));
-    };
-    let mut others = Policies::new(alloc);
-    let Ok(()) = others.add_as_said(alloc, TO_THE_END.as_bytes()) else {
-        return Err(Fail::from("it is no policy"));
-    };
-    let others = if words.against.is_empty() {
-        None
-    } else {
-        Some(&others)
-    };
-    let Ok(sides) = compare(
-        threads,
-        alloc,
-        &workload,
-        &Policies::new(alloc),
-        others,
-        asked.seeds,
-    ) else {
-        return Err(Fail::from("it does not run"));
-    };
-    let lines = lines(alloc, &sides, &asked.window)?;
-    Ok(written(alloc, &workload, lines.as_slice(), asked.form)?)
+fn shown_by<T: Threads + Sync>(threads: &T, alloc: Global, words: &[&str]) -> Result<String, Fail> {
+    let words = taken(alloc, words)?;
+    shown(threads, alloc, &words)
 }
 
 #[test]
 fn tables_written(rt: HostRuntime) -> Result<(), Fail> {
-    for (words, text) in WRITTEN {
-        let shown = shown(&rt, rt.alloc(), words)?;
-        assert_eq!(rt; shown.as_str(), text);
+    for (words, text) in &WRITTEN {
+        let shown = shown_by(&rt, rt.alloc(), words)?;
+        holds(&rt, shown.as_str() == *text, shown.as_str(), text);
     }
     Ok(())
 }
 
+/// Why words are refused.
+fn fault_of(alloc: Global, words: &[&str]) -> Result<Option<AskedFault>, Fail> {
+    let words = taken(alloc, words)?;
+    Ok(asked_comparison(alloc, &words).err())
+}
+
 #[test]
 fn words_refused(rt: HostRuntime) -> Result<(), Fail> {
-    for (words, why) in REFUSED {
-        let Ok(words) = study_words(rt.alloc(), words) else {
-            return Err(Fail::from("clap refuses the words"));
-        };
-        let Err(fault) = asked_comparison(rt.alloc(), &words) else {
-            return Err(Fail::from("they are taken"));
-        };
-        assert_eq!(rt; fault, why);
+    for (words, why) in &REFUSED {
+        let fault = fault_of(rt.alloc(), words)?;
+        holds(
+            &rt,
+            fault == Some(*why),
+            "another fault, or none",
+            "that fault",
+        );
     }
     Ok(())
 }

@@ -1,9 +1,11 @@
 // Texts that are workloads, and what they say.
 
-use bq_actions::{Action, Length, Setup, Workload};
+use crate::cases::holds;
+use bq_actions::{Action, Length, Setup, TaskKind, Workload};
 use bq_words::{ProcessorCount, Rule};
 use bq_workload::{Changes, read};
 use std::alloc::Global;
+use std::process::Abort;
 use std::test::Fail;
 
 /// The example of docs/WORKLOADS.md.
@@ -28,6 +30,59 @@ name = \"worker\"
 do = [{ wait = true }, { run = { exponential = \"1ms\" } }]
 ";
 
+/// The machine of the example.
+const MACHINE: Setup = Setup {
+    rule: Rule::Eevdf,
+    size: ProcessorCount::Two,
+    duration: 50_000_000,
+    tick: 4_000_000,
+    balance: 16_000_000,
+    migration_cost: 0,
+    seed: 1,
+};
+
+/// The kinds of tasks of the example: their names, how many they are, their nice values, masks and slices, and what they do, action
+/// by action.
+static KINDS: [(&str, u16, i8, u64, u64, &[Action]); 3] = [
+    (
+        "batch",
+        3,
+        5,
+        3,
+        3_000_000,
+        &[
+            Action::Run(Length::Fixed(20_000_000)),
+            Action::Sleep(Length::Fixed(1_000_000)),
+        ],
+    ),
+    (
+        "server",
+        1,
+        0,
+        3,
+        3_000_000,
+        &[
+            Action::Run(Length::Uniform {
+                least: 200_000,
+                greatest: 800_000,
+            }),
+            Action::Wake(2),
+            Action::Sleep(Length::Exponential { mean: 3_000_000 }),
+        ],
+    ),
+    (
+        "worker",
+        1,
+        0,
+        3,
+        3_000_000,
+        &[
+            Action::Wait,
+            Action::Run(Length::Exponential { mean: 1_000_000 }),
+        ],
+    ),
+];
+
 fn taken(alloc: Global, text: &str, changes: Changes) -> Result<Workload, Fail> {
     match read(alloc, text, changes) {
         Ok(workload) => Ok(workload),
@@ -35,96 +90,80 @@ fn taken(alloc: Global, text: &str, changes: Changes) -> Result<Workload, Fail> 
     }
 }
 
-#[test]
-fn the_example_says_its_machine(rt: HostRuntime) -> Result<(), Fail> {
-    let workload = taken(rt.alloc(), EXAMPLE, Changes::NONE)?;
-    assert_eq!(rt;
-        workload.machine,
-        Setup {
-            rule: Rule::Eevdf,
-            size: ProcessorCount::Two,
-            duration: 50_000_000,
-            tick: 4_000_000,
-            balance: 16_000_000,
-            migration_cost: 0,
-            seed: 1,
+/// Whether the tasks of that number are this kind, for ever.
+fn is_kind(task: Option<&TaskKind>, kind: &(&str, u16, i8, u64, u64, &[Action])) -> bool {
+    let Some(task) = task else { return false };
+    let (name, count, nice, mask, slice, actions) = kind;
+    task.name.as_str() == *name
+        && (task.count, task.nice, task.loops) == (*count, *nice, None)
+        && (task.mask, task.slice) == (*mask, *slice)
+        && task.actions.as_slice() == *actions
+}
+
+/// Whether these are the kinds of the example.
+fn are_kinds(tasks: &[TaskKind]) -> bool {
+    for (number, kind) in KINDS.iter().enumerate() {
+        if !is_kind(tasks.get(number), kind) {
+            return false;
         }
+    }
+    tasks.len() == KINDS.len()
+}
+
+/// The workload is the example.
+fn is_example(rt: &impl Abort, workload: &Workload) {
+    holds(
+        rt,
+        workload.machine == MACHINE,
+        "another machine",
+        "the example's",
     );
-    Ok(())
+    let are_kinds = are_kinds(workload.tasks.as_slice());
+    holds(rt, are_kinds, "other tasks", "the example's");
 }
 
 #[test]
-fn the_example_says_its_tasks(rt: HostRuntime) -> Result<(), Fail> {
+fn the_example_says_its_machine_and_its_tasks(rt: HostRuntime) -> Result<(), Fail> {
     let workload = taken(rt.alloc(), EXAMPLE, Changes::NONE)?;
-    let [batch, server, _] = workload.tasks.as_slice() else {
-        return Err(Fail::from("there are three kinds"));
-    };
-    assert_eq!(rt;
-        (batch.name.as_str(), batch.count, batch.nice, batch.slice),
-        ("batch", 3, 5, 3_000_000)
-    );
-    assert_eq!(rt;
-        (server.count, server.nice, server.mask, server.loops),
-        (1, 0, 3, None)
-    );
+    is_example(&rt, &workload);
     Ok(())
 }
 
-/// What each task of the example does, action by action.
-#[test]
-fn the_example_says_what_its_tasks_do(rt: HostRuntime) -> Result<(), Fail> {
-    let workload = taken(rt.alloc(), EXAMPLE, Changes::NONE)?;
-    let [batch, server, worker] = workload.tasks.as_slice() else {
-        return Err(Fail::from("there are three kinds"));
-    };
-    assert_eq!(rt;
-        batch.actions.as_slice(),
-        [
-            Action::Run(Length::Fixed(20_000_000)),
-            Action::Sleep(Length::Fixed(1_000_000)),
-        ]
-        .as_slice()
-    );
-    assert_eq!(rt;
-        server.actions.as_slice(),
-        [
-            Action::Run(Length::Uniform {
-                least: 200_000,
-                greatest: 800_000,
-            }),
-            Action::Wake(2),
-            Action::Sleep(Length::Exponential { mean: 3_000_000 }),
-        ]
-        .as_slice()
-    );
-    assert_eq!(rt;
-        worker.actions.as_slice(),
-        [
-            Action::Wait,
-            Action::Run(Length::Exponential { mean: 1_000_000 }),
-        ]
-        .as_slice()
-    );
-    Ok(())
+/// Words that change the machine, and the machine then.
+const CHANGES: Changes = Changes {
+    rule: Some(Rule::Cfs),
+    size: Some(ProcessorCount::Four),
+    duration: Some(7),
+    seed: Some(9),
+};
+
+const CHANGED: Setup = Setup {
+    rule: Rule::Cfs,
+    size: ProcessorCount::Four,
+    duration: 7,
+    tick: 4_000_000,
+    balance: 16_000_000,
+    migration_cost: 0,
+    seed: 9,
+};
+
+/// The mask of the first tasks.
+fn first_mask(workload: &Workload) -> Option<u64> {
+    match workload.tasks.first() {
+        Some(kind) => Some(kind.mask),
+        None => None,
+    }
+}
+
+/// The workload is the example on the machine of the words.
+fn is_changed(rt: &impl Abort, workload: &Workload) {
+    let is = workload.machine == CHANGED && first_mask(workload) == Some(15);
+    holds(rt, is, "another machine", "that of the words");
 }
 
 #[test]
 fn words_come_before_the_text(rt: HostRuntime) -> Result<(), Fail> {
-    let changes = Changes {
-        rule: Some(Rule::Cfs),
-        size: Some(ProcessorCount::Four),
-        duration: Some(7),
-        seed: Some(9),
-    };
-    let workload = taken(rt.alloc(), EXAMPLE, changes)?;
-    let machine = workload.machine;
-    assert_eq!(rt;
-        (machine.rule, machine.size, machine.duration, machine.seed),
-        (Rule::Cfs, ProcessorCount::Four, 7, 9)
-    );
-    let [batch, ..] = workload.tasks.as_slice() else {
-        return Err(Fail::from("there are kinds"));
-    };
-    assert_eq!(rt; batch.mask, 15);
+    let workload = taken(rt.alloc(), EXAMPLE, CHANGES)?;
+    is_changed(&rt, &workload);
     Ok(())
 }

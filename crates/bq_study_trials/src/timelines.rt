@@ -1,71 +1,110 @@
 //! A choice shown, lines that are bad or refused, and the words of options. The values are worked by hand.
 
+use crate::cases::holds;
 use bq_timeline::faults::why_bad;
 use bq_timeline::numbers::{processors, tasks, time, width};
 use bq_timeline::{Settings, Words, show};
 use bq_trace::Counted;
-use std::alloc::Global;
+use std::alloc::{AllocError, Global};
 use std::process::Abort;
 use std::str::from_utf8;
 use std::test::Fail;
 
-/// What is written for a trace in a form up to a time, what is noted, and whether no line was bad or refused.
-fn shown(
-    alloc: Global,
-    form: &str,
-    to: Option<&str>,
-    trace: &str,
-) -> Result<(String, String, bool), Fail> {
-    let to = match to {
-        Some(to) => Some(String::from_str(alloc, to)?),
-        None => None,
-    };
-    let words = Words {
+/// What a form shows: all of it, its parts, or its end.
+enum Text {
+    Whole(&'static str),
+    Parts(&'static [&'static str]),
+    End(&'static str),
+}
+
+/// A form, up to a time, of a trace; what it shows, what is noted and whether no line was bad or refused, as far as that is told here.
+struct Row {
+    form: &'static str,
+    to: Option<&'static str>,
+    trace: &'static str,
+    text: Text,
+    notes: Option<&'static str>,
+    is_clean: Option<bool>,
+}
+
+/// What was written, what is noted, and whether no line was bad or refused.
+#[derive(Drop)]
+struct Told {
+    written: Vec<u8>,
+    notes: String,
+    is_clean: bool,
+}
+
+/// A copy of a word that may be there.
+fn copied(alloc: Global, word: Option<&str>) -> Result<Option<String>, AllocError> {
+    match word {
+        Some(word) => Ok(Some(String::from_str(alloc, word)?)),
+        None => Ok(None),
+    }
+}
+
+/// The words for a form up to a time.
+fn words_of(alloc: Global, form: &str, to: Option<&str>) -> Result<Words, AllocError> {
+    let form = copied(alloc, Some(form))?;
+    let to = copied(alloc, to)?;
+    Ok(Words {
         file: None,
-        form: Some(String::from_str(alloc, form)?),
+        form,
         from: None,
         to,
         cpus: None,
         tasks: None,
         width: None,
-    };
-    let settings = Settings::of(alloc, &words)?;
-    let mut input = Counted::new(trace.as_bytes());
+    })
+}
+
+/// The settings of a form up to a time.
+fn settings_of(alloc: Global, form: &str, to: Option<&str>) -> Result<Settings, Fail> {
+    let words = words_of(alloc, form, to)?;
+    Ok(Settings::of(alloc, &words)?)
+}
+
+/// What a row's form shows of its trace.
+fn shown(alloc: Global, row: &Row) -> Result<Told, Fail> {
+    let settings = settings_of(alloc, row.form, row.to)?;
+    let mut input = Counted::new(row.trace.as_bytes());
     let mut output = Counted::new(Vec::new(alloc));
     let outcome = show(alloc, settings, &mut input, &mut output)?;
-    let written = output.into_inner();
-    let text = String::from_str(alloc, from_utf8(written.as_slice())?)?;
-    Ok((text, outcome.notes, outcome.clean))
+    Ok(Told {
+        written: output.into_inner(),
+        notes: outcome.notes,
+        is_clean: outcome.clean,
+    })
 }
 
-/// The form of a trace up to its end has these parts.
-fn has(
-    rt: &impl Abort,
-    alloc: Global,
-    form: &str,
-    trace: &str,
-    parts: &[&str],
-) -> Result<(), Fail> {
-    let (text, _, _) = shown(alloc, form, None, trace)?;
+/// Whether a text has all these parts.
+fn has_all(text: &str, parts: &[&str]) -> bool {
     for part in parts {
-        assert!(rt; text.as_str().contains(part), "{part} in {text}");
+        if !text.contains(*part) {
+            return false;
+        }
     }
-    Ok(())
+    true
 }
 
-/// So it ends.
-fn ends(rt: &impl Abort, alloc: Global, form: &str, trace: &str, end: &str) -> Result<(), Fail> {
-    let (text, _, _) = shown(alloc, form, None, trace)?;
-    assert!(rt; text.as_str().ends_with(end), "{text}");
-    Ok(())
+/// Whether a text is so.
+fn fits(text: &str, wanted: &Text) -> bool {
+    match wanted {
+        Text::Whole(whole) => text == *whole,
+        Text::Parts(parts) => has_all(text, parts),
+        Text::End(end) => text.ends_with(*end),
+    }
 }
 
-/// What is noted of a trace that is not clean.
-fn notes(rt: &impl Abort, alloc: Global, form: &str, trace: &str, text: &str) -> Result<(), Fail> {
-    let (_, notes, clean) = shown(alloc, form, None, trace)?;
-    assert_eq!(rt; notes.as_str(), text);
-    assert!(rt; !clean);
-    Ok(())
+/// A row's form shows what it says.
+fn is_shown(rt: &impl Abort, row: &Row, shown: &Told) {
+    let text = from_utf8(shown.written.as_slice()).unwrap_or("no text");
+    let notes = shown.notes.as_str();
+    let wanted = row.notes.unwrap_or(notes);
+    holds(rt, fits(text, &row.text), text, row.trace);
+    holds(rt, notes == wanted, notes, wanted);
+    let is_clean = row.is_clean.unwrap_or(shown.is_clean);
+    holds(rt, shown.is_clean == is_clean, notes, row.trace);
 }
 
 /// At 1 ms the v of `short` is 1 ms, that of `long` 0, and their mean 0.5 ms: `short` has the earlier deadline, 2 ms, and is not
@@ -74,12 +113,39 @@ const EEVDF: &str =
     "machine eevdf 1\n# task 1 long\n# task 2 short\nadmit 1 0 1 3000000\nadmit 2 0 1 1000000\n\
 wake 0 1 0\nwake 0 2 0\ndrain 0 0\ntick 0 1000000\ntick 0 2000000\n";
 
-#[test]
-fn the_earliest_deadline_is_passed_over(rt: HostRuntime) -> Result<(), Fail> {
-    let (text, notes, clean) = shown(rt.alloc(), "why", Some("1ms"), EEVDF)?;
-    assert_eq!(rt;
-        text.as_str(),
-        "0.000 ms  line 6: end 0\n    \
+/// Under CFS 1 runs for 2 ms while 2 waits at 0: at 1 ms it is not yet more than 1 ms ahead, at 2 ms it is.
+const CFS: &str =
+    "machine cfs 1\nadmit 1 0 1 1000000\nadmit 2 0 1 1000000\nwake 0 1 0\nwake 0 2 0\ndrain 0 0\n\
+tick 0 1000000\ntick 0 2000000\n";
+
+/// Line 3 is bad; lines 2, 6 and 7 are refused.
+const FAULTY: &str =
+    "machine cfs 1\nblock 0 1\ntick 300 0\nadmit 1 0 1 1000000\nwake 0 1 5\nwake 0 9 5\nshow 4\n";
+
+/// Policies that answer 200 and 1 at `preempt` and 7 at `place`, each `mov64 r0, ..` and `exit`.
+const POLICIES: &str = concat!(
+    "machine cfs 1\nadmit 1 0 1 1000000\nadmit 2 0 1 1000000\ndraw\ninstall 0 1 preempt 425150490101000002000000b7000000c80000009500000000000000\n",
+    "wake 0 1 0\nwake 0 2 0\ndrain 0 0\ntick 0 1000000\ndraw\ninstall 0 2 preempt 425150490101000002000000b7000000010000009500000000000000\n",
+    "tick 0 1500000\ndraw\ninstall 0 3 place 425150490100000002000000b7000000070000009500000000000000\nblock 0 1600000\nwake 0 2 1700000\n",
+);
+
+/// 2 has the earliest deadline and runs for 1 ms; of three equal tasks each of the two others is owed a third of it. Then 1 runs, and
+/// goes at once: 2 is 0.5 ms ahead of the mean of 2 and 3. 3 runs for 0.1 ms, comes to 0.1 ms of virtual time where the mean is
+/// 0.55 ms, and may be owed the 0.5 ms and its share, half, of the rise.
+const LEAVES: &str = concat!(
+    "machine eevdf 1\nadmit 1 0 1 3000000\nadmit 2 0 1 1000000\nadmit 3 0 1 3000000\nwake 0 1 0\nwake 0 2 0\nwake 0 3 0\n",
+    "drain 0 0\ntick 0 1000000\nblock 0 1000000\ntick 0 1100000\n",
+);
+
+/// What forms show of these traces.
+static SHOWN: [Row; 9] = [
+    // the earliest deadline is passed over
+    Row {
+        form: "why",
+        to: Some("1ms"),
+        trace: EEVDF,
+        text: Text::Whole(
+            "0.000 ms  line 6: end 0\n    \
 long is placed on 0: the least load in its mask, where it was last if that ties\n\
 0.000 ms  line 7: end 0\n    \
 short is placed on 0: the least load in its mask, where it was last if that ties\n\
@@ -92,49 +158,117 @@ short runs: the earliest deadline of the eligible {short, long}\n\
 task        weight          v   deadline        lag\n    \
 > long          1024      0.000      3.000     +0.500  eligible\n      \
 short         1024      1.000      2.000     -0.500  not eligible\n    \
-long runs: the earliest deadline of the eligible {long}\n"
-    );
-    assert_eq!(rt; notes.as_str(), "");
-    assert!(rt; clean);
+long runs: the earliest deadline of the eligible {long}\n",
+        ),
+        notes: Some(""),
+        is_clean: Some(true),
+    },
+    // a task gives way
+    Row {
+        form: "why",
+        to: None,
+        trace: CFS,
+        text: Text::Parts(&[
+            "    1 runs: least virtual runtime\n",
+            "    1 runs: 1.000 ms ahead of 2, and gives way only beyond 1.000 ms\n",
+        ]),
+        notes: None,
+        is_clean: None,
+    },
+    Row {
+        form: "why",
+        to: None,
+        trace: CFS,
+        text: Text::End("    2 runs: 1 gives way: 2.000 ms ahead of 2\n"),
+        notes: None,
+        is_clean: None,
+    },
+    // lines stand in their places
+    Row {
+        form: "timehist",
+        to: None,
+        trace: FAULTY,
+        text: Text::Parts(&[
+            "line 2: block 0: nothing runs there\nline 3: 300 does not fit a processor's number (0 to 255)\n",
+            "line 6: begin 0 9: no such task is admitted\nline 7: show 4: the machine has no such processor\n",
+        ]),
+        notes: Some(
+            "task 1 was placed on processor 0, which was never drained after\nlines bad or refused: 4\n",
+        ),
+        is_clean: Some(false),
+    },
+    Row {
+        form: "csv",
+        to: None,
+        trace: "machine cfs 1\ntick 0\n",
+        text: Text::Parts(&[]),
+        notes: Some("line 2: tick takes 2 words after it\nlines bad or refused: 1\n"),
+        is_clean: Some(false),
+    },
+    // what policies answered
+    Row {
+        form: "why",
+        to: None,
+        trace: POLICIES,
+        text: Text::Parts(&[
+            "    1 runs: policy's answer 200 is not permitted (2 steps); 1.000 ms ahead of 2, and gives way only beyond 1.000 ms\n",
+            "    2 runs: policy at preempt answered 1 (2 steps)\n",
+            "    2 is placed on 0: policy's answer 7 is not permitted (2 steps); the least load in its mask",
+        ]),
+        notes: None,
+        is_clean: Some(true),
+    },
+    // bounds stand below a report
+    // Under CFS 1 runs for 2 ms while 2 waits, by two charges: the second takes it as far as it may. Under EEVDF `short` runs for 1 ms,
+    // which takes it 0.5 ms beyond the mean, so that `long` is owed 0.5 ms: of two equal tasks one is owed half a rise at most. `long`
+    // comes up to the mean after it. Of what is owed each task that comes or goes begins a new measure: the first reading of the clock,
+    // the drain that brings the tasks, and the block.
+    Row {
+        form: "report",
+        to: None,
+        trace: CFS,
+        text: Text::End(concat!(
+            "\n  cpu law                 charges left out  greatest ms   at most ms   of it\n",
+            "    0 beyond the least          2        0        2.000        2.000  100.00 %\n",
+        )),
+        notes: None,
+        is_clean: None,
+    },
+    Row {
+        form: "report",
+        to: None,
+        trace: EEVDF,
+        text: Text::End(concat!(
+            "    0 ahead of the mean         2        0        0.500        1.000   50.00 %\n",
+            "    0 owed to any task          2        2        0.500        0.500  100.00 %\n",
+        )),
+        notes: None,
+        is_clean: None,
+    },
+    Row {
+        form: "report",
+        to: None,
+        trace: LEAVES,
+        text: Text::End(concat!(
+            "    0 ahead of the mean         3        0        0.666        1.000   66.66 %\n",
+            "    0 owed to any task          2        3        0.450        0.550   81.81 %\n",
+        )),
+        notes: None,
+        is_clean: None,
+    },
+];
+
+#[test]
+fn forms_show_choices_faults_and_bounds(rt: HostRuntime) -> Result<(), Fail> {
+    for row in &SHOWN {
+        let shown = shown(rt.alloc(), row)?;
+        is_shown(&rt, row, &shown);
+    }
     Ok(())
 }
 
-/// Under CFS 1 runs for 2 ms while 2 waits at 0: at 1 ms it is not yet more than 1 ms ahead, at 2 ms it is.
-const CFS: &str =
-    "machine cfs 1\nadmit 1 0 1 1000000\nadmit 2 0 1 1000000\nwake 0 1 0\nwake 0 2 0\ndrain 0 0\n\
-tick 0 1000000\ntick 0 2000000\n";
-
-#[test]
-fn a_task_gives_way(rt: HostRuntime) -> Result<(), Fail> {
-    let parts = [
-        "    1 runs: least virtual runtime\n",
-        "    1 runs: 1.000 ms ahead of 2, and gives way only beyond 1.000 ms\n",
-    ];
-    has(&rt, rt.alloc(), "why", CFS, &parts)?;
-    let end = "    2 runs: 1 gives way: 2.000 ms ahead of 2\n";
-    ends(&rt, rt.alloc(), "why", CFS, end)
-}
-
-/// Line 3 is bad; lines 2, 6 and 7 are refused.
-const FAULTY: &str =
-    "machine cfs 1\nblock 0 1\ntick 300 0\nadmit 1 0 1 1000000\nwake 0 1 5\nwake 0 9 5\nshow 4\n";
-
-#[test]
-fn lines_stand_in_their_places(rt: HostRuntime) -> Result<(), Fail> {
-    let parts = [
-        "line 2: block 0: nothing runs there\nline 3: 300 does not fit a processor's number (0 to 255)\n",
-        "line 6: begin 0 9: no such task is admitted\nline 7: show 4: the machine has no such processor\n",
-    ];
-    has(&rt, rt.alloc(), "timehist", FAULTY, &parts)?;
-    let told =
-        "task 1 was placed on processor 0, which was never drained after\nlines bad or refused: 4\n";
-    notes(&rt, rt.alloc(), "timehist", FAULTY, told)?;
-    let told = "line 2: tick takes 2 words after it\nlines bad or refused: 1\n";
-    notes(&rt, rt.alloc(), "csv", "machine cfs 1\ntick 0\n", told)
-}
-
 /// Bad lines, and why.
-const BAD: [(&str, &str); 8] = [
+static BAD: [(&str, &str); 8] = [
     ("tock 0 1", "tock is no command"),
     ("machine lottery 1", "lottery is no rule (cfs or eevdf)"),
     (
@@ -156,15 +290,15 @@ const BAD: [(&str, &str); 8] = [
 
 #[test]
 fn bad_lines_say_why(rt: HostRuntime) -> Result<(), Fail> {
-    for (line, because) in BAD {
-        let text = why_bad(Some(line.as_bytes()), true).to_string(rt.alloc())?;
-        assert_eq!(rt; text.as_str(), because);
+    for (line, because) in &BAD {
+        let said = why_bad(Some(line.as_bytes()), true).to_string(rt.alloc())?;
+        holds(&rt, said.as_str() == *because, said.as_str(), because);
     }
     Ok(())
 }
 
 /// Lengths of time in nanoseconds.
-const TIMES: [(&str, Option<u64>); 8] = [
+static TIMES: [(&str, Option<u64>); 8] = [
     ("1500", Some(1500)),
     ("1.5ms", Some(1_500_000)),
     ("2s", Some(2_000_000_000)),
@@ -175,75 +309,33 @@ const TIMES: [(&str, Option<u64>); 8] = [
     ("99999999999s", None),
 ];
 
-#[test]
-fn words_are_times(rt: HostRuntime) {
-    for (word, nanoseconds) in TIMES {
-        assert!(rt; time(word) == nanoseconds, "{word}");
+/// Sets of processors, and widths.
+static SETS: [(&str, Option<u64>); 3] = [("0-3,8", Some(271)), ("64", None), ("0-", None)];
+
+static WIDTHS: [(&str, Option<usize>); 2] = [("80", Some(80)), ("8", None)];
+
+/// Whether these are the tasks 1 and 4.
+fn are_one_and_four(named: &Option<Vec<u16>>) -> bool {
+    match named {
+        Some(named) => named.as_slice() == [1, 4].as_slice(),
+        None => false,
     }
 }
 
 #[test]
-fn words_are_sets_and_widths(rt: HostRuntime) -> Result<(), Fail> {
-    for (word, set) in [("0-3,8", Some(271)), ("64", None), ("0-", None)] {
-        assert!(rt; processors(word) == set, "{word}");
+fn words_are_times_sets_and_widths(rt: HostRuntime) -> Result<(), Fail> {
+    for (word, nanoseconds) in &TIMES {
+        holds(&rt, time(word) == *nanoseconds, "another time", word);
     }
-    for (word, columns) in [("80", Some(80)), ("8", None)] {
-        assert!(rt; width(word) == columns, "{word}");
+    for (word, set) in &SETS {
+        holds(&rt, processors(word) == *set, "another set", word);
     }
-    let Some(named) = tasks(rt.alloc(), "1,4")? else {
-        return Err(Fail::from("tasks were refused"));
-    };
-    assert!(rt; named.as_slice() == [1, 4].as_slice());
-    assert!(rt; tasks(rt.alloc(), "1,,4")?.is_none());
+    for (word, columns) in &WIDTHS {
+        holds(&rt, width(word) == *columns, "another width", word);
+    }
+    let is = are_one_and_four(&tasks(rt.alloc(), "1,4")?);
+    holds(&rt, is, "other tasks", "1,4");
+    let is = tasks(rt.alloc(), "1,,4")?.is_none();
+    holds(&rt, is, "tasks", "none");
     Ok(())
-}
-
-/// Policies that answer 200 and 1 at `preempt` and 7 at `place`, each `mov64 r0, ..` and `exit`.
-const POLICIES: &str = concat!(
-    "machine cfs 1\nadmit 1 0 1 1000000\nadmit 2 0 1 1000000\ndraw\ninstall 0 1 preempt 425150490101000002000000b7000000c80000009500000000000000\n",
-    "wake 0 1 0\nwake 0 2 0\ndrain 0 0\ntick 0 1000000\ndraw\ninstall 0 2 preempt 425150490101000002000000b7000000010000009500000000000000\n",
-    "tick 0 1500000\ndraw\ninstall 0 3 place 425150490100000002000000b7000000070000009500000000000000\nblock 0 1600000\nwake 0 2 1700000\n",
-);
-
-#[test]
-fn what_policies_answered_is_shown(rt: HostRuntime) -> Result<(), Fail> {
-    let (text, _, clean) = shown(rt.alloc(), "why", None, POLICIES)?;
-    assert!(rt; clean, "{text}");
-    let parts = [
-        "    1 runs: policy's answer 200 is not permitted (2 steps); 1.000 ms ahead of 2, and gives way only beyond 1.000 ms\n",
-        "    2 runs: policy at preempt answered 1 (2 steps)\n",
-        "    2 is placed on 0: policy's answer 7 is not permitted (2 steps); the least load in its mask",
-    ];
-    has(&rt, rt.alloc(), "why", POLICIES, &parts)
-}
-
-/// 2 has the earliest deadline and runs for 1 ms; of three equal tasks each of the two others is owed a third of it. Then 1 runs, and
-/// goes at once: 2 is 0.5 ms ahead of the mean of 2 and 3. 3 runs for 0.1 ms, comes to 0.1 ms of virtual time where the mean is
-/// 0.55 ms, and may be owed the 0.5 ms and its share, half, of the rise.
-const LEAVES: &str = concat!(
-    "machine eevdf 1\nadmit 1 0 1 3000000\nadmit 2 0 1 1000000\nadmit 3 0 1 3000000\nwake 0 1 0\nwake 0 2 0\nwake 0 3 0\n",
-    "drain 0 0\ntick 0 1000000\nblock 0 1000000\ntick 0 1100000\n",
-);
-
-/// Under CFS 1 runs for 2 ms while 2 waits, by two charges: the second takes it as far as it may. Under EEVDF `short` runs for 1 ms,
-/// which takes it 0.5 ms beyond the mean, so that `long` is owed 0.5 ms: of two equal tasks one is owed half a rise at most. `long`
-/// comes up to the mean after it. Of what is owed each task that comes or goes begins a new measure: the first reading of the clock,
-/// the drain that brings the tasks, and the block.
-#[test]
-fn bounds_stand_below_a_report(rt: HostRuntime) -> Result<(), Fail> {
-    let under_cfs = concat!(
-        "\n  cpu law                 charges left out  greatest ms   at most ms   of it\n",
-        "    0 beyond the least          2        0        2.000        2.000  100.00 %\n",
-    );
-    ends(&rt, rt.alloc(), "report", CFS, under_cfs)?;
-    let under_eevdf = concat!(
-        "    0 ahead of the mean         2        0        0.500        1.000   50.00 %\n",
-        "    0 owed to any task          2        2        0.500        0.500  100.00 %\n",
-    );
-    ends(&rt, rt.alloc(), "report", EEVDF, under_eevdf)?;
-    let one_leaves = concat!(
-        "    0 ahead of the mean         3        0        0.666        1.000   66.66 %\n",
-        "    0 owed to any task          2        3        0.450        0.550   81.81 %\n",
-    );
-    ends(&rt, rt.alloc(), "report", LEAVES, one_leaves)
 }
