@@ -176,9 +176,12 @@ fn play_all<N: Naming + Counting + Send + Sync, R: Abort + Threads + Wait + Sync
         receipts,
         read,
     } = collected;
-    assert!(rt; machine.owns(&seats));
+    if !machine.owns(&seats) {
+        panic!(rt; "a seat is missing")
+    }
+    let closed = machine.close(seats);
     Outcome {
-        closed: machine.close(seats),
+        closed,
         receipts,
         read,
     }

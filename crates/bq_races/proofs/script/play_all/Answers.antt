@@ -57,5 +57,5 @@ map_vec-requires-send-J g c κs within = search (job_send, sendable) depth 20
 
 pub close-closed-requires : goal.close-closed-requires
 close-closed-requires g c =
-    let owned : EachOnce c.in_ok-machine.machine.recorder.history.callers c.in_turn-2.new.self.seats.items = rw (← c.deref.ensures.value) (c.owns.ensures.0 c.if-not-owns.false) in
+    let owned : EachOnce c.expect-machine.result.0.recorder.history.callers c.in_turn-2.new.self.seats.items = rw (← c.deref.ensures.value) (c.owns.ensures.0 c.if-not-owns.false) in
     (search rules, (omega arith, owned))
