@@ -3,10 +3,12 @@
 
 use std::process::Abort;
 
+/// A fact is true.
 pub fn is_true(rt: &impl Abort, fact: bool) {
     assert!(rt; fact);
 }
 
+/// A number is as expected.
 pub fn is_number(rt: &impl Abort, number: u64, expected: u64) {
     assert_eq!(rt; number, expected);
 }
@@ -16,6 +18,7 @@ pub fn is_said(rt: &impl Abort, said: &str, expected: &str, of: &str) {
     assert_eq!(rt; said, expected, "{of}");
 }
 
+/// Bytes are as expected.
 pub fn are_bytes(rt: &impl Abort, found: &[u8], expected: &[u8]) {
     assert_eq!(rt; found, expected);
 }
