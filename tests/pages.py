@@ -15,10 +15,10 @@ from pathlib import Path
 TOP = Path(__file__).resolve().parent.parent
 PAGE, COMPLETION = TOP / "docs" / "bqsim.1", TOP / "docs" / "bqsim.bash"
 MORE = ["run"]  # commands that take their words themselves, and that the list of the program may not have
-FILES = ["check", "run", "dis", "timeline", "import", "simulate"]  # commands that take a file
+FILES = ["asm", "check", "dis", "import", "replay", "run", "simulate", "timeline"]  # commands that take a file
 STATUSES = [
     ("0", "well"),
-    ("1", "a bad line in a trace; what asm, dis, check or run refuses"),
+    ("1", "a bad line in a trace, of timeline a refused one too; what asm, dis, check, run, import or simulate refuses"),
     ("2", "the words are refused, or ask for help or the version; the text is on standard error"),
     ("3", "want of memory"),
     ("4", "a read or a write failed, or a file can't be opened; standard error tells the reason"),
