@@ -23,12 +23,14 @@ FACTS = [
     ('the number of processors of a machine', r'ProcessorCount::\w+ => \d', {'bq_words/src/processor_count.rt'}),
     ('the word of a rule', r'b?"(?:cfs|eevdf)"', {'bq_words/src/rule.rt'}),
     ('the word of a version', r'Version::\w+ => \d', {'bq_bpf/src/hook.rt'}),
+    ('how far ahead a task may be under CFS', r'GRANULARITY: u64', {'bq_cfs/src/discipline.rt'}),
 ]
 
 LATER = 'a private lemma of a few lines: to share it the lower crate makes it public, when what stands on that is proved anew anyway'
 
 # What may stand in two places, and why.
 ALLOWED = {
+    'how far ahead a task may be under CFS: bq_bounds/src/charge.rt': "the discipline's own constant is private; it can be shared when bq_cfs, on which most crates stand, is proved anew anyway",
     'the word of a hook: bq_cli/src/asm_words.rt': 'the values that an option takes, beside the text of its refusal, which lists them',
     'the word of a hook: bq_forms/src/summary.rt': 'keys of a form in JSON, which stay what they are whatever traces call a hook',
     'the word of a hook: bq_forms/src/tables.rt': 'the column of a report, which stays what it is whatever traces call a hook',

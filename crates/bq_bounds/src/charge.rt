@@ -8,7 +8,7 @@ use bq_weights::GREATEST;
 use bq_words::Rule;
 
 /// Under CFS a task gives way where it is further ahead than this, in virtual nanoseconds.
-const GRANULARITY: u64 = 1_000_000;
+pub const GRANULARITY: u64 = 1_000_000;
 
 /// How far the task that ran was beyond where its rule measures from when its time was charged, and how far it may be: virtual
 /// nanoseconds.

@@ -4,12 +4,10 @@ ghost use Rattle.bq_disc.specs.Tasks.{with_id};
 ghost use Rattle.bq_why.specs.Reasons.{reason_of, cfs_reason_of, least_reason_of, eevdf_reason_of};
 
 use crate::choices::choice;
+use bq_bounds::GRANULARITY;
 use bq_disc::Entity;
 use bq_hooks::By;
 use bq_words::Rule;
-
-/// Under CFS a task gives way where it is further ahead than this, in virtual nanoseconds.
-const GRANULARITY: u64 = 1_000_000;
 
 /// Why the task that runs does so.
 #[derive(Clone, Copy, Debug, PartialEq, Eq)]

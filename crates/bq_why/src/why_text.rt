@@ -6,15 +6,13 @@ use crate::presence::present;
 use crate::reasons::{Reason, why};
 use crate::table::{Row, rows};
 use crate::words_of::{Ids, Lag, Virtual, Who};
+use bq_bounds::GRANULARITY;
 use bq_core::{By, Event, Hook, Reply};
 use bq_forms::{Millis, Names, Window};
 use bq_schedule::Change;
 use bq_trace::{AnyCore, Seen};
 use bq_words::Rule;
 use std::alloc::{AllocError, Global};
-
-/// How far ahead a task may be under CFS before it gives way, in virtual nanoseconds.
-const GRANULARITY: u64 = 1_000_000;
 
 /// A choice of the task that runs at a processor.
 #[derive(Clone, Copy)]
