@@ -58,8 +58,8 @@ pub body_ascii : (i : Insn) → (is_insn i ≡ true) × Fits i → list_all is_a
 body_ascii i h = list_all-weaker is_inner is_ascii (λ b k. (and_parts (is_ascii b) (not (b == 10) && not (b == 13)) (and_parts (not (b == 59)) (is_clean b) k).1).0) (line_body i) (body_inner i h.0 h.1)
 
 -- what is told after one instruction more
-pub told_more : (insns : List Insn) (k : ℕ) (d : Insn) (told line new said spelled : List ℕ) (slot : ℕ) → k < length insns → told ≡ noted_text 0 (take k insns) → slot ≡ slot_count (take k insns)
-    → said ≡ line_body (get_or insns k d) → spelled ≡ encode_lower (insn_bytes (get_or insns k d)) → line ≡ noted said slot spelled → new ≡ told ++ line → new ≡ noted_text 0 (take (k + 1) insns)
-told_more insns k d told line new said spelled slot l so_far count is_said is_spelled is_line is_new =
+pub told_more : (insns : List Insn) (k : ℕ) (d : Insn) (told line new : List ℕ) (slot : ℕ) → k < length insns → told ≡ noted_text 0 (take k insns) → slot ≡ slot_count (take k insns)
+    → line ≡ noted_line slot (get_or insns k d) → new ≡ told ++ line → new ≡ noted_text 0 (take (k + 1) insns)
+told_more insns k d told line new slot l so_far count is_line is_new =
     let here : slot ≡ 0 + slot_count (take k insns) = count ∙ (let e : slot_count (take k insns) ≡ 0 + slot_count (take k insns) = omega arith in e) in
-    is_new ∙ (λ i. so_far i ++ (is_line ∙ (λ j. noted (is_said j) (here j) (is_spelled j))) i) ∙ sym (text_more 0 insns k d l) ∙ ap (λ n. noted_text 0 (take n insns)) (sym (add-one k))
+    is_new ∙ (λ i. so_far i ++ (is_line ∙ ap (λ s. noted_line s (get_or insns k d)) here) i) ∙ sym (text_more 0 insns k d l) ∙ ap (λ n. noted_text 0 (take n insns)) (sym (add-one k))

@@ -18,9 +18,9 @@ pub fn assembled(alloc: Global, form: &Form, text: &[u8]) -> Result<Answer, Allo
     match assemble(alloc, text) {
         Ok(insns) => {
             let bytes = form.bytes_of(alloc, insns.as_slice())?;
-            let hex = hex::encode(alloc, bytes.as_slice())?;
-            let text = format!(in alloc; "{hex}\n")?;
-            Ok(Answer::accepted(text))
+            let mut line = hex::encode(alloc, bytes.as_slice())?;
+            line.push_str("\n")?;
+            Ok(Answer::accepted(line))
         }
         Err(AsmFault::OutOfMemory) => Err(AllocError),
         Err(AsmFault::At { line, cause }) => {

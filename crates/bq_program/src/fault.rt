@@ -6,6 +6,7 @@ use bq_asm::AsmFault;
 use bq_insn::fault::DecodeFault;
 use bq_load::LoadFault;
 use std::alloc::AllocError;
+use std::fmt;
 use thiserror::Error;
 
 /// What is wrong with a line that begins with `;@`.
@@ -49,41 +50,59 @@ impl From<AllocError> for HeadFault {
 #[derive(Clone, Copy, Debug, PartialEq, Eq, Error)]
 pub enum PolicyFault {
     /// It is neither an image nor hex, and no UTF-8 text.
-    #[error("no text")]
     Text,
     /// It begins as hex does, and is none.
-    #[error("no hex")]
     Hex,
     /// A mark of the text is refused: the line, counted from 1, and why.
-    #[error("line {line}: {cause:?}")]
     Head {
         line: usize,
         cause: HeadCause,
     },
     /// The text is no program: the line, counted from 1, and why.
-    #[error("line {line}: {cause:?}")]
     Assembly {
         line: usize,
         cause: bq_asm::Cause,
     },
     /// The bytes are no image, for this fault.
-    #[error("{0}")]
     Image(LoadFault),
     /// The bytes of the image's program are none: the slot, counted from 0, and why.
-    #[error("slot {slot}: {cause:?}")]
     Program {
         slot: usize,
         cause: bq_insn::fault::Cause,
     },
     /// What was asked for is not what the file says.
-    #[error("the file says another {0:?}")]
     Disagrees(Key),
     /// Neither the file nor who asks names the hook.
-    #[error("no hook")]
     NoHook,
     /// A growth was refused.
-    #[error("out of memory")]
     OutOfMemory,
+}
+
+impl fmt::Display for PolicyFault {
+    fn fmt<W: fmt::Write>(&self, f: &mut fmt::Formatter<W>) -> fmt::Result {
+        let text = match self {
+            PolicyFault::Text => "no text",
+            PolicyFault::Hex => "no hex",
+            PolicyFault::Head { line, cause } => return write_at(f, "line", *line, cause),
+            PolicyFault::Assembly { line, cause } => return write_at(f, "line", *line, cause),
+            PolicyFault::Image(fault) => return write!(f, "{fault}"),
+            PolicyFault::Program { slot, cause } => return write_at(f, "slot", *slot, cause),
+            PolicyFault::Disagrees(key) => return write!(f, "the file says another {key:?}"),
+            PolicyFault::NoHook => "no hook",
+            PolicyFault::OutOfMemory => "out of memory",
+        };
+        f.write_str(text)
+    }
+}
+
+/// Writes where the cause of a fault stands, and which it is.
+fn write_at<C: fmt::Debug, W: fmt::Write>(
+    f: &mut fmt::Formatter<W>,
+    place: &str,
+    number: usize,
+    cause: &C,
+) -> fmt::Result {
+    write!(f, "{place} {number}: {cause:?}")
 }
 
 impl From<AllocError> for PolicyFault {

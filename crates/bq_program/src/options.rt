@@ -9,6 +9,7 @@ use crate::image_form::ImageForm;
 use crate::shapes_text::shapes_of;
 use bq_load::{Hook, Version};
 use std::alloc::{AllocError, Global};
+use std::fmt;
 use thiserror::Error;
 
 /// The options of `asm`.
@@ -26,14 +27,21 @@ pub struct Options {
 #[derive(Clone, Copy, Debug, PartialEq, Eq, Error)]
 pub enum OptionsFault {
     /// Maps are named without a hook, or by a text that names no shapes, or more than 8.
-    #[error("maps")]
     Maps,
     /// A version is named without a hook.
-    #[error("format")]
     Format,
     /// A growth was refused, which says nothing of the options.
-    #[error("out of memory")]
     OutOfMemory,
+}
+
+impl fmt::Display for OptionsFault {
+    fn fmt<W: fmt::Write>(&self, f: &mut fmt::Formatter<W>) -> fmt::Result {
+        f.write_str(match self {
+            OptionsFault::Maps => "maps",
+            OptionsFault::Format => "format",
+            OptionsFault::OutOfMemory => "out of memory",
+        })
+    }
 }
 
 impl From<AllocError> for OptionsFault {

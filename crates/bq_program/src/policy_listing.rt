@@ -1,11 +1,10 @@
 //! The text of a policy.
 ghost use Rattle.std.specs.Prelude.{◌≡◌, IfOk, string_bytes, true};
-ghost use Rattle.std.specs.List.{list_all};
 ghost use Rattle.hex.specs.Hex.{encode_lower};
 ghost use Rattle.bq_insn.specs.Spelling.{insn_bytes, is_insn, is_well_formed};
-ghost use Rattle.bq_insn.specs.Laws.{AllFit};
+ghost use Rattle.bq_insn.specs.Laws.{AllFit, Fits};
 ghost use Rattle.bq_program.specs.ReadBack.{IsFileOf};
-ghost use Rattle.bq_program.specs.Listed.{IsListed, is_ascii, line_body, noted, noted_text};
+ghost use Rattle.bq_program.specs.Listed.{IsListed, line_body, noted_line, noted_text, program_text};
 
 use crate::Policy;
 use crate::policy_marks::marks;
@@ -30,13 +29,21 @@ fn marked(alloc: Global, policy: &Policy, has_slots: bool) -> Result<String, All
     ensures { IfOk result (λ text. IsListed policy.now has_slots (string_bytes text)) }
 {
     let marks = marks(alloc, policy)?;
-    let insns = policy.insns.as_slice();
-    if has_slots {
-        let lines = with_slots(alloc, insns)?;
-        return format!(in alloc; "{marks}{lines}");
-    }
-    let lines = listing(alloc, insns)?;
+    let lines = program_text(alloc, policy.insns.as_slice(), has_slots)?;
     format!(in alloc; "{marks}{lines}")
+}
+
+/// The listing, with slots and bytes where that is asked for.
+fn program_text(alloc: Global, insns: &[Insn], has_slots: bool) -> Result<String, AllocError>
+    requires whole { is_well_formed insns.now ≡ true }
+    requires numbers { AllFit insns.now }
+    ensures { IfOk result (λ text. string_bytes text ≡ program_text has_slots insns.now) }
+{
+    if has_slots {
+        with_slots(alloc, insns)
+    } else {
+        listing(alloc, insns)
+    }
 }
 
 /// The listing, beside each instruction its slot and its bytes in a comment.
@@ -48,20 +55,21 @@ fn with_slots(alloc: Global, insns: &[Insn]) -> Result<String, AllocError>
     let mut text = String::new(alloc);
     let mut slot: usize = 0;
     for insn in insns {
-        let said = line_of(alloc, *insn)?;
-        let spelled = bytes_text(alloc, *insn)?;
-        let line = noted(alloc, &said, slot, &spelled)?;
+        let line = noted_line(alloc, slot, *insn)?;
         text.push_str(line.as_str())?;
         slot += insn.slots();
     }
     Ok(text)
 }
 
-/// A line, and beside it the slot and the bytes in a comment.
-fn noted(alloc: Global, said: &String, slot: usize, spelled: &String) -> Result<String, AllocError>
-    requires { list_all is_ascii (string_bytes said.now) ≡ true }
-    ensures { IfOk result (λ text. string_bytes text ≡ noted (string_bytes said.now) slot (string_bytes spelled.now)) }
+/// The line of an instruction, and beside it its slot and its bytes in a comment.
+fn noted_line(alloc: Global, slot: usize, insn: Insn) -> Result<String, AllocError>
+    requires whole { is_insn insn ≡ true }
+    requires numbers { Fits insn }
+    ensures { IfOk result (λ text. string_bytes text ≡ noted_line slot insn) }
 {
+    let said = line_of(alloc, insn)?;
+    let spelled = bytes_text(alloc, insn)?;
     format!(in alloc; "{said:<32}; {slot:>4}  {spelled}\n")
 }
 

@@ -58,23 +58,17 @@ fn cut(text: &[u8], mark: u8) -> (&[u8], Option<&[u8]>)
 fn part_len(text: &[u8], mark: u8) -> usize
     ensures { IsPartLen mark text.now result }
 {
-    match text.iter().position(|byte| *byte == mark) {
-        Some(at) => at,
-        None => text.len(),
+    for at in 0..text.len() {
+        if text[at] == mark {
+            return at;
+        }
     }
+    text.len()
 }
 
 /// The number that the word writes in decimal, if it fits.
 fn number(word: &[u8]) -> Option<u16>
     ensures { result ≡ number_of word.now }
 {
-    if word.is_empty() {
-        return None;
-    }
-    let mut value: u16 = 0;
-    for byte in word {
-        let digit = char::from(*byte).to_digit(10)?;
-        value = value.checked_mul(10)?.checked_add(digit as u16)?;
-    }
-    Some(value)
+    u16::try_from(bq_words::number(word, 10)?).ok()
 }
