@@ -1,9 +1,10 @@
 //! The text of a compiled program.
-ghost use Rattle.std.specs.Prelude.{◌≡◌, ◌++◌, ◌⊎◌, ℕ, IfOk, List, length};
+ghost use Rattle.std.specs.Prelude.{◌≡◌, ◌⊎◌, ℕ, IfOk, List};
 ghost use Rattle.std.specs.List.{list_all};
 ghost use Rattle.std.specs.String.{string_bytes};
 ghost use Rattle.bq_program.specs.HexText.{is_blank};
-ghost use Rattle.bq_policy_desk.specs.ImportText.{IsSection, IsTextOf, is_hex_byte};
+ghost use Rattle.bq_program.specs.MarkLines.{format_mark};
+ghost use Rattle.bq_policy_desk.specs.ImportText.{IsSection, IsTextOf, is_hex_byte, maps_line, settings_marks};
 
 use crate::import_settings::ImportSettings;
 use bq_asm::listing;
@@ -37,14 +38,14 @@ impl<T: Drop> From<AllocFailed<T>> for ImportRefusal {
     }
 }
 
-/// The text of the program whose text section this is, as bytes, or as hex where it has digits and blanks alone: marks, and
-/// the listing of a copy of it in which every jump goes forward.
+/// The text of the program whose text section this is, as bytes, or as hex where it has digits and blanks alone: the marks that
+/// the settings say, and the listing of a copy of it in which every jump goes forward.
 pub fn imported(
     alloc: Global,
     settings: &ImportSettings,
     input: &[u8],
 ) -> Result<String, ImportRefusal>
-    ensures { IfOk result (λ text. (bytes : List ℕ) × IsSection input.now bytes × IsTextOf (length settings.now.form.shapes.items) bytes (string_bytes text)) }
+    ensures { IfOk result (λ text. (bytes : List ℕ) × IsSection input.now bytes × IsTextOf settings.now bytes (string_bytes text)) }
 {
     if !is_hex(input) {
         return imported_bytes(alloc, settings, input);
@@ -55,13 +56,13 @@ pub fn imported(
     }
 }
 
-/// The text of the program that the bytes spell: marks, and the listing of a copy of it in which every jump goes forward.
+/// The text of the program that the bytes spell: the marks, and the listing of a copy of it in which every jump goes forward.
 fn imported_bytes(
     alloc: Global,
     settings: &ImportSettings,
     bytes: &[u8],
 ) -> Result<String, ImportRefusal>
-    ensures { IfOk result (λ text. IsTextOf (length settings.now.form.shapes.items) bytes.now (string_bytes text)) }
+    ensures { IfOk result (λ text. IsTextOf settings.now bytes.now (string_bytes text)) }
 {
     let ordered = match import(alloc, bytes, settings.form.shapes.len()) {
         Ok(ordered) => ordered,
@@ -74,16 +75,33 @@ fn imported_bytes(
 }
 
 /// The lines that say what the program is for: comments to the assembler.
-fn marks(alloc: Global, settings: &ImportSettings) -> Result<String, AllocError> {
+fn marks(alloc: Global, settings: &ImportSettings) -> Result<String, AllocError>
+    ensures { IfOk result (λ text. string_bytes text ≡ settings_marks settings.now) }
+{
     let hook = settings.form.hook.word();
-    let mut text = format!(in alloc; ";@ hook {hook}\n")?;
-    if let Some(maps) = &settings.maps {
-        write!(text, ";@ maps {maps}\n")?;
+    let maps = maps_line(alloc, &settings.maps)?;
+    let format = format_mark(settings.form.version);
+    format!(in alloc; ";@ hook {hook}\n{maps}{format}")
+}
+
+/// The line that names the maps, if there are some.
+fn maps_line(alloc: Global, maps: &Option<String>) -> Result<String, AllocError>
+    ensures { IfOk result (λ text. string_bytes text ≡ maps_line maps.now) }
+{
+    match maps {
+        None => Ok(String::new(alloc)),
+        Some(maps) => format!(in alloc; ";@ maps {maps}\n"),
     }
-    if settings.form.version == Version::Second {
-        write!(text, ";@ format 2\n")?;
+}
+
+/// The line that names the version, if it is not the first.
+fn format_mark(version: Version) -> &'static str
+    ensures { result.now ≡ format_mark version }
+{
+    match version {
+        Version::First => "",
+        Version::Second => ";@ format 2\n",
     }
-    Ok(text)
 }
 
 /// Whether all bytes are digits of hex or blanks.
