@@ -8,3 +8,4 @@ pub mod StackLemmas
 pub mod OrderLemmas
 pub mod ProgramLemmas
 pub mod TurningLemmas
+pub mod AddressLemmas

@@ -1,6 +1,9 @@
 //! From the bytes of a compiled program to instructions in order.
-ghost use Rattle.std.specs.Prelude.{◌≡◌, ◌≤◌, IfOk};
-ghost use Rattle.bq_import.specs.Importing.{Imports};
+ghost use Rattle.std.specs.Prelude.{◌≡◌, ◌≤◌, true, false, IfOk, IfErr, IfSome, IfNone};
+ghost use Rattle.std.specs.List.{list_any};
+ghost use Rattle.bq_insn.specs.Faults.{IsFault};
+ghost use Rattle.bq_insn.specs.Spelling.{is_well_formed};
+ghost use Rattle.bq_import.specs.Importing.{Imports, IsFirstAddress, IsImportFault, byte_at, is_address, is_short};
 
 use crate::fault::Disorder;
 use crate::order::{Ordered, order};
@@ -31,18 +34,15 @@ impl From<Disorder> for ImportFault {
 /// The program that the bytes of a text section spell, beside so many maps, in an order in which every jump goes forward.
 ///
 /// It is a copy (see `order`) of what the bytes spell. An `lddw` of a number that a move could load is refused as an
-/// address: a compiler writes it for what a linker fills in alone.
+/// address: a compiler writes it for what a linker fills in alone. What is refused has the fault that is named.
 pub fn import(alloc: Global, bytes: &[u8], maps: usize) -> Result<Ordered, ImportFault>
     requires few { maps ≤ 8 }
-    ensures { IfOk result (λ ordered. Imports maps bytes.now ordered.insns.items ordered.origins.items) }
+    ensures imports { IfOk result (λ ordered. Imports maps bytes.now ordered.insns.items ordered.origins.items) }
+    ensures fault { IfErr result (IsImportFault bytes.now) }
 {
     let insns = match decode(alloc, bytes) {
         Ok(insns) => insns,
-        Err(DecodeFault::OutOfMemory) => return Err(ImportFault::Order(Disorder::OutOfMemory)),
-        Err(DecodeFault::At { slot, cause }) => {
-            let reason = reason_of(cause, byte_at(bytes, slot, 0), byte_at(bytes, slot, 1) / 16);
-            return Err(ImportFault::At { slot, reason });
-        }
+        Err(fault) => return Err(refusal(bytes, fault)),
     };
     if let Some(slot) = address_in(insns.as_slice()) {
         return Err(ImportFault::At {
@@ -56,31 +56,60 @@ pub fn import(alloc: Global, bytes: &[u8], maps: usize) -> Result<Ordered, Impor
     }
 }
 
-/// A byte of a slot, or 0 past the end.
-fn byte_at(bytes: &[u8], slot: usize, offset: usize) -> u8
-    requires { offset ≤ 7 }
+/// Why bytes are not imported that are no program.
+fn refusal(bytes: &[u8], fault: DecodeFault) -> ImportFault
+    requires { IsFault bytes.now fault }
+    ensures { IsImportFault bytes.now result }
 {
-    if slot >= bytes.len() / 8 {
-        return 0;
+    match fault {
+        DecodeFault::OutOfMemory => ImportFault::Order(Disorder::OutOfMemory),
+        DecodeFault::At { slot, cause } => {
+            let reason = reason_of(cause, byte_at(bytes, slot, 0), byte_at(bytes, slot, 1) / 16);
+            ImportFault::At { slot, reason }
+        }
     }
-    bytes[slot * 8 + offset]
 }
 
-/// The first slot at which a wide number stands that a move could load.
-fn address_in(insns: &[Insn]) -> Option<usize> {
+/// A byte of a slot, or 0 past the end.
+fn byte_at(bytes: &[u8], slot: usize, offset: usize) -> u8
+    ensures { result ≡ byte_at bytes.now slot offset }
+{
+    let index = slot.saturating_mul(8).saturating_add(offset);
+    if index >= bytes.len() {
+        return 0;
+    }
+    bytes[index]
+}
+
+/// The slot of the first address, if there is one.
+fn address_in(insns: &[Insn]) -> Option<usize>
+    requires { is_well_formed insns.now ≡ true }
+    ensures some { IfSome result (IsFirstAddress insns.now) }
+    ensures none { IfNone result (list_any is_address insns.now ≡ false) }
+{
     let mut slot: usize = 0;
     for insn in insns {
-        if let Insn::Imm64 { value, .. } = insn {
-            if is_short(*value) {
-                return Some(slot);
-            }
+        if is_address(*insn) {
+            return Some(slot);
         }
-        slot = slot.saturating_add(insn.slots());
+        slot += insn.slots();
     }
     None
 }
 
+/// Whether it loads a wide number that a move could load.
+fn is_address(insn: Insn) -> bool
+    ensures { result ≡ is_address insn }
+{
+    match insn {
+        Insn::Imm64 { value, .. } => is_short(value),
+        _ => false,
+    }
+}
+
 /// Whether the number is that of 32 bits with a sign.
-fn is_short(value: u64) -> bool {
+fn is_short(value: u64) -> bool
+    ensures { result ≡ is_short value }
+{
     value < 0x8000_0000 || value >= 0xffff_ffff_8000_0000
 }
