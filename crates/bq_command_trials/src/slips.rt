@@ -16,7 +16,7 @@ fn explained(alloc: Global, text: &str) -> Result<Explained, Fail> {
 }
 
 /// What a policy's text is, and what its explanation says: the first line, and words of the others.
-static REFUSED: [(&str, &str, &str, &str); 14] = [
+static REFUSED: [(&str, &str, &str, &str); 18] = [
     // r1 after a call
     (
         ";@ hook preempt\ncall 5\nldxw r0, [r1+48]\nexit\n",
@@ -100,6 +100,34 @@ static REFUSED: [(&str, &str, &str, &str); 14] = [
         "refused L8 V5 0\n",
         "reads 4 bytes at context + 104; the context of place, version 1, has 104 bytes",
         "or format 2, whose context has 296 bytes",
+    ),
+    // the last 4 of the 296 bytes of format 2: 292 + 4 is 296
+    (
+        ";@ hook place\nldxw r0, [r1+292]\nexit\n",
+        "refused L8 V5 0\n",
+        "reads 4 bytes at context + 292; the context of place, version 1, has 104 bytes",
+        "or format 2, whose context has 296 bytes",
+    ),
+    // the last of 8 bytes there are past them, so format 2 would not help
+    (
+        ";@ hook place\nldxdw r0, [r1+292]\nexit\n",
+        "refused L8 V5 0\n",
+        "reads 8 bytes at context + 292; the context of place, version 1, has 104 bytes",
+        "  helps: a smaller mask or a test (jgt64) before the address is made; docs/CONTEXTS.md has the fields of each hook\n",
+    ),
+    // nor far beyond both contexts
+    (
+        ";@ hook place\nldxw r0, [r1+400]\nexit\n",
+        "refused L8 V5 0\n",
+        "reads 4 bytes at context + 400; the context of place, version 1, has 104 bytes",
+        "  helps: a smaller mask or a test (jgt64) before the address is made; docs/CONTEXTS.md has the fields of each hook\n",
+    ),
+    // nor where a mask is too wide for both: 40 + 508 + 4 is above 296
+    (
+        ";@ hook place\nldxw r2, [r1+0]\nand64 r2, 127\nlsh64 r2, 2\nadd64 r1, r2\nldxw r0, [r1+40]\nexit\n",
+        "refused L8 V5 4\n",
+        "reads 4 bytes at context + 40..548; the context of place, version 1, has 104 bytes",
+        "  helps: a smaller mask or a test (jgt64) before the address is made; docs/CONTEXTS.md has the fields of each hook\n",
     ),
     // a result that is a pointer
     (

@@ -1,5 +1,5 @@
 -- Texts that begin with some words.
-use Rattle.std.proofs.Common.{◌≡◌, ◌∙◌, ℕ, List, [], ◌++◌, sym, ap, append_assoc, Result, Ok, Err, IfOk}
+use Rattle.std.proofs.Common.{◌≡◌, ◌∙◌, ℕ, List, ◌++◌, ap, append_assoc, Result, Ok, Err, IfOk}
 use Rattle.std.specs.String.{string_bytes}
 use Rattle.bq_explain.specs.declared.explanation.Explained.{Explained}
 use Rattle.bq_explain.specs.Beginnings.{BeginsWith}

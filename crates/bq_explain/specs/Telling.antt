@@ -11,6 +11,15 @@ pub data TellsRegisters : Setting → State → List ℕ → Type 0 where
   no_register : (f : Setting) (s : State) → TellsRegisters f s []
   one_register : (f : Setting) (s : State) (before text : List ℕ) (register word : ℕ) → TellsRegisters f s before → s.register register ≡ Some word → Says f.shapes text word → TellsRegisters f s (before ++ (codes " r" ++ (decimal register ++ (codes " " ++ (text ++ codes "  ")))))
 
+-- registers by their names alone
+pub data AreNames : List ℕ → Type 0 where
+  no_name : AreNames []
+  one_name : (before : List ℕ) (register : ℕ) → AreNames before → AreNames (before ++ (codes " r" ++ decimal register))
+
+-- nothing, or registers by their names, and that they are unset: no word of any is told
+abbrev pub NamesUnset : List ℕ → Type 0
+NamesUnset text = (text ≡ []) ⊎ ((names : List ℕ) × (text ≡ names ++ codes " unset  ") × AreNames names)
+
 -- runs of bytes of the stack that are set in the state
 pub data TellsRuns : State → List ℕ → Type 0 where
   no_run_told : (s : State) → TellsRuns s []
@@ -25,7 +34,8 @@ pub data TellsKept : Setting → State → List ℕ → Type 0 where
   no_kept : (f : Setting) (s : State) → TellsKept f s []
   one_kept : (f : Setting) (s : State) (before text : List ℕ) (slot word : ℕ) → TellsKept f s before → ((i : ℕ) → i < 8 → s.stack (8 * slot + i) ≡ Some (byte_at i word)) → Says f.shapes text word → TellsKept f s (before ++ (codes "  the 8 bytes at stack end - " ++ (decimal (512 - slot * 8) ++ (codes ": " ++ (text ++ codes "\n")))))
 
--- what is printed of a state holds of it: of each register that is named, of the bytes of the stack, and of the words in it
+-- what is printed of a state holds of it: of each register whose word is told, of the bytes of the stack, and of the words in it; beside these
+-- registers are only named
 pub record TellsState (f : Setting) (s : State) (text : List ℕ) : Type 0 where
   pub registers : List ℕ
   pub unset : List ℕ
@@ -33,5 +43,6 @@ pub record TellsState (f : Setting) (s : State) (text : List ℕ) : Type 0 where
   pub kept : List ℕ
   pub text_is : text ≡ codes " " ++ (registers ++ (unset ++ (stack ++ kept)))
   pub registers_told : TellsRegisters f s registers
+  pub unset_named : NamesUnset unset
   pub stack_told : TellsStack s stack
   pub kept_told : TellsKept f s kept

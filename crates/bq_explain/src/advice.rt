@@ -1,9 +1,9 @@
 //! What helps against each cause, in one sentence.
-use bq_bpf::{Hook, Version};
+use bq_bpf::{Hook, Version, context_length};
 use bq_insn::Insn;
 use bq_needs::reads;
 use bq_program::Policy;
-use bq_states::abstract_state::{AbstractState, Kind};
+use bq_states::abstract_state::{AbstractState, AbstractValue, Kind};
 use bq_states::registers::known;
 use bq_verify::{Cause, Doubt, GraphCause};
 
@@ -69,6 +69,7 @@ fn unset_advice(view: &AbstractState, insn: Insn) -> &'static str {
     "set it on each way that leads here, as by mov64 before the first branch"
 }
 
+/// What helps where an access is not shown to be within what its pointer points to.
 fn access_advice(policy: &Policy, view: &AbstractState, insn: Insn) -> &'static str {
     let register = match insn {
         Insn::Load { src, .. } => src,
@@ -79,14 +80,7 @@ fn access_advice(policy: &Policy, view: &AbstractState, insn: Insn) -> &'static 
         return "set the register on each way that leads here";
     };
     match pointer.kind {
-        Kind::Context => match (policy.hook, policy.version) {
-            (Hook::Place, Version::First) => {
-                "a smaller mask or a test (jgt64) before the address is made, or format 2, whose context has 296 bytes; docs/CONTEXTS.md has the fields"
-            }
-            _ => {
-                "a smaller mask or a test (jgt64) before the address is made; docs/CONTEXTS.md has the fields of each hook"
-            }
-        },
+        Kind::Context => context_advice(policy, pointer, insn),
         Kind::Stack => {
             "write the bytes first on each way, at the same distance from r10; the stack is the 512 bytes below r10"
         }
@@ -97,4 +91,31 @@ fn access_advice(policy: &Policy, view: &AbstractState, insn: Insn) -> &'static 
         Kind::Number => "use a pointer: r1 at the begin is the context, r10 the stack's end",
         Kind::Map(_) => "look an entry up first, by helper 1",
     }
+}
+
+/// What helps with the context; format 2 only where the whole access would be in its longer one.
+fn context_advice(policy: &Policy, pointer: AbstractValue, insn: Insn) -> &'static str {
+    match (policy.hook, policy.version, is_in_second(pointer, insn)) {
+        (Hook::Place, Version::First, true) => {
+            "a smaller mask or a test (jgt64) before the address is made, or format 2, whose context has 296 bytes; docs/CONTEXTS.md has the fields"
+        }
+        _ => {
+            "a smaller mask or a test (jgt64) before the address is made; docs/CONTEXTS.md has the fields of each hook"
+        }
+    }
+}
+
+/// Whether all bytes of the access are in the context of format 2's place policies, with each address that its pointer may have.
+fn is_in_second(pointer: AbstractValue, insn: Insn) -> bool {
+    let (size, off) = match insn {
+        Insn::Load { size, off, .. }
+        | Insn::StoreImm { size, off, .. }
+        | Insn::StoreReg { size, off, .. } => (size, off),
+        _ => return false,
+    };
+    let further = i64::from(off).cast_unsigned();
+    let lo = pointer.offset.lo.wrapping_add(further);
+    let hi = pointer.offset.hi.wrapping_add(further);
+    let past = hi.saturating_add(size.bytes() as u64);
+    lo <= hi && past <= context_length(Hook::Place, Version::Second) as u64
 }

@@ -7,7 +7,7 @@ use crate::vocabulary::{is_word, nearest};
 use bq_asm::{AsmFault, Cause, assemble};
 use std::alloc::{AllocError, Global};
 
-/// One line on what is wrong with the text; None where the assembler takes it.
+/// One line on what is wrong with the text; None exactly where the assembler takes it.
 pub fn complaint(alloc: Global, text: &[u8]) -> Result<Option<String>, AllocError>
     ensures { IfOk result (ComplainsOf text.now) }
 {

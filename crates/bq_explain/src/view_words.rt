@@ -4,7 +4,7 @@ ghost use Rattle.bq_bpf.specs.Memory.{Setting, State};
 ghost use Rattle.bq_states.specs.AbstractStates.{Contains};
 ghost use Rattle.bq_explain.specs.Telling.{TellsState};
 ghost use Rattle.bq_needs.specs.Accesses.{AreSet};
-ghost use Rattle.bq_explain.specs.Texts.{AreRuns, IsStackText, IsViewText, kept_below, kept_text, register_text, registers_below, run_text};
+ghost use Rattle.bq_explain.specs.Texts.{AreRuns, IsStackText, IsViewText, kept_below, kept_text, register_text, registers_below, run_text, unset_below, unset_name, unset_text};
 
 use bq_needs::known_text;
 use bq_states::abstract_state::{AbstractState, AbstractValue};
@@ -65,18 +65,42 @@ fn register_text(
     }
 }
 
-/// The registers of which nothing is known.
-fn unset_text(alloc: Global, view: &AbstractState) -> Result<String, AllocError> {
-    let mut text = String::new(alloc);
-    for (number, known) in view.registers.iter().enumerate() {
-        if known.is_none() {
-            write!(text, " r{number}")?;
-        }
+/// The registers of which nothing is known, and that they are unset; nothing where each is known.
+#[tactic(auto, using(crate::proofs::UnsetLemmas::none_unset, crate::proofs::UnsetLemmas::some_unset))]
+fn unset_text(alloc: Global, view: &AbstractState) -> Result<String, AllocError>
+    ensures { IfOk result (λ text. string_bytes text ≡ unset_text view.now.registers) }
+{
+    let names = unset_names(alloc, view)?;
+    if names.is_empty() {
+        return Ok(names);
     }
-    if !text.is_empty() {
-        text.push_str(" unset  ")?;
+    format!(in alloc; "{names} unset  ")
+}
+
+/// The registers of which nothing is known, by their names.
+fn unset_names(alloc: Global, view: &AbstractState) -> Result<String, AllocError>
+    ensures { IfOk result (λ text. string_bytes text ≡ unset_below 11 view.now.registers) }
+{
+    let mut text = String::new(alloc);
+    for number in 0..11usize {
+        let name = unset_name(alloc, number, &view.registers[number])?;
+        text.push_str(name.as_str())?;
     }
     Ok(text)
+}
+
+/// The name of a register, if nothing is known of it.
+fn unset_name(
+    alloc: Global,
+    number: usize,
+    known: &Option<AbstractValue>,
+) -> Result<String, AllocError>
+    ensures { IfOk result (λ text. string_bytes text ≡ unset_name number known.now) }
+{
+    match known {
+        None => format!(in alloc; " r{number}"),
+        Some(_) => Ok(String::new(alloc)),
+    }
 }
 
 /// The bytes of the stack that are set.
