@@ -1,18 +1,49 @@
 -- Runs of bytes that are set.
-use Rattle.std.proofs.Common.{◌≡◌, ℕ, ◌<◌, ◌≤◌, Bool, List, [], ◌++◌, sym, ◌∙◌, ap, subst, append-nil}
+use Rattle.std.proofs.Common.{◌≡◌, ℕ, ◌+◌, ◌<◌, ◌≤◌, max, Bool, false, List, [], ◌∷◌, ◌++◌, sym, ◌∙◌, ap, subst, refl, arith}
+use Rattle.std.specs.Prelude.{codes, slice_index_or}
 use Rattle.bq_needs.specs.Accesses.{AreSet}
-use Rattle.bq_explain.specs.Texts.{AreRuns, no_run, one_run, run_text}
+use Rattle.bq_explain.specs.Texts.{AreRuns, no_byte, unset_byte, one_run, EndsAt, IsStackText, run_text, stack_text}
 
 -- nothing is told yet
-pub none_yet : (set : List Bool) (text : List ℕ) → text ≡ [] → AreRuns set text
-none_yet set text is = subst (λ (t : List ℕ). AreRuns set t) (sym is) (no_run set)
+pub none_yet : (set : List Bool) (text : List ℕ) → text ≡ [] → AreRuns set (max 0 0) text
+none_yet set text is = subst (λ (t : List ℕ). AreRuns set 0 t) (sym is) (no_byte set)
 
--- nothing is added
-pub with_nothing : (set : List Bool) (text : List ℕ) → text ≡ [] → (before : List ℕ) → AreRuns set before → AreRuns set (before ++ text)
-with_nothing set text is before are =
-    subst (λ (t : List ℕ). AreRuns set t) (sym (ap (λ (t : List ℕ). before ++ t) is ∙ append-nil before)) are
+-- the byte is of the run that was told last
+pub inside : (set : List Bool) (byte past : ℕ) (text : List ℕ) → byte < past → AreRuns set (max byte past) text → AreRuns set (max (byte + 1) past) text
+inside set byte past text within are =
+    let same : max byte past ≡ max (byte + 1) past = omega arith in
+    subst (λ (n : ℕ). AreRuns set n text) same are
+
+-- the byte is not set
+pub without : (set : List Bool) (byte past : ℕ) (text : List ℕ) → past ≤ byte → slice_index_or set byte false ≡ false → AreRuns set (max byte past) text → AreRuns set (max (byte + 1) past) text
+without set byte past text behind unset are =
+    let here : max byte past ≡ byte = omega arith in
+    let next : byte + 1 ≡ max (byte + 1) past = omega arith in
+    subst (λ (n : ℕ). AreRuns set n text) next (unset_byte set text byte (subst (λ (n : ℕ). AreRuns set n text) here are) unset)
 
 -- a run is added
-pub with_run : (set : List Bool) (first past : ℕ) (text : List ℕ) → first < past → past ≤ 512 → AreSet set first past → text ≡ run_text first past → (before : List ℕ) → AreRuns set before → AreRuns set (before ++ text)
-with_run set first past text some inside all is before are =
-    subst (λ (t : List ℕ). AreRuns set (before ++ t)) (sym is) (one_run set before first past are some inside all)
+pub with_run : (set : List Bool) (byte past until : ℕ) (text run told : List ℕ) → past ≤ byte → byte < until → until ≤ 512 → AreSet set byte until → EndsAt set until → AreRuns set (max byte past) text → run ≡ run_text byte until → told ≡ text ++ run → AreRuns set (max (byte + 1) until) told
+with_run set byte past until text run told behind some inside all ends are run_is told_is =
+    let here : max byte past ≡ byte = omega arith in
+    let next : until ≡ max (byte + 1) until = omega arith in
+    let more : AreRuns set until (text ++ run_text byte until) = one_run set text byte until (subst (λ (n : ℕ). AreRuns set n text) here are) some inside all ends in
+    subst (λ (n : ℕ). AreRuns set n told) next (subst (λ (t : List ℕ). AreRuns set until t) (sym (told_is ∙ ap (λ (t : List ℕ). text ++ t) run_is)) more)
+
+-- all runs are told
+pub all_told : (set : List Bool) (byte past : ℕ) (text : List ℕ) → byte ≡ 512 → past ≤ 512 → AreRuns set (max byte past) text → AreRuns set 512 text
+all_told set byte past text whole most are =
+    let same : max byte past ≡ 512 = omega arith in
+    subst (λ (n : ℕ). AreRuns set n text) same are
+
+-- no run is told
+pub none_written : (set : List Bool) (runs text : List ℕ) → AreRuns set 512 runs → runs ≡ [] → text ≡ codes " stack: nothing written\n" → IsStackText set text
+none_written set runs text are none is = (runs, are, is ∙ sym (ap stack_text none))
+
+-- what is told of runs
+told_of : (runs text : List ℕ) → (runs ≡ [] → ⊥) → text ≡ codes " stack:" ++ (runs ++ codes " written\n") → text ≡ stack_text runs
+told_of [] text some is = absurd (some refl)
+told_of (first ∷ rest) text some is = is
+
+-- runs are told
+pub some_written : (set : List Bool) (runs text : List ℕ) → AreRuns set 512 runs → (runs ≡ [] → ⊥) → text ≡ codes " stack:" ++ (runs ++ codes " written\n") → IsStackText set text
+some_written set runs text are some is = (runs, are, told_of runs text some is)

@@ -1,12 +1,12 @@
 -- What is printed of a view holds of each state that it covers.
-use Rattle.std.proofs.Common.{◌≡◌, ℕ, suc, zero, Bool, true, false, List, ◌++◌, Option, Some, None, slice_index_or, append-nil, sym, subst, inl, inr}
+use Rattle.std.proofs.Common.{◌≡◌, ℕ, suc, zero, Bool, true, false, List, [], ◌∷◌, ◌++◌, Option, Some, None, slice_index_or, append-nil, sym, subst, inl, inr}
 use Rattle.std.specs.Prelude.{codes}
 use Rattle.bq_bpf.specs.Memory.{Setting, State}
 use Rattle.bq_states.specs.AbstractStates.{Contains, Holds, Keeps}
 use Rattle.bq_states.specs.declared.abstract_state.AbstractValue.{AbstractValue}
 use Rattle.bq_states.specs.declared.abstract_state.AbstractState.{AbstractState}
 use Rattle.bq_explain.specs.Telling.{TellsRegisters, no_register, one_register, TellsRuns, no_run_told, one_run_told, TellsStack, TellsKept, no_kept, one_kept, TellsState}
-use Rattle.bq_explain.specs.Texts.{register_text, registers_below, kept_text, kept_below, AreRuns, no_run, one_run, IsStackText, IsViewText, unset_text}
+use Rattle.bq_explain.specs.Texts.{register_text, registers_below, kept_text, kept_below, AreRuns, no_byte, unset_byte, one_run, IsStackText, IsViewText, stack_text, unset_text}
 use Rattle.bq_explain.proofs.UnsetLemmas.{names_unset}
 use Rattle.bq_needs.specs.Texts.{known_text}
 use Rattle.bq_needs.proofs.SayingLemmas.{says_known}
@@ -34,16 +34,21 @@ tells_kept f s v covers (suc n) =
     tells_slot f s (kept_below n v.kept) n (slice_index_or v.kept n None) (covers.kept n) (tells_kept f s v covers n)
 
 -- runs of bytes that the view knows to be set are set
-pub tells_runs : (s : State) {set : List Bool} {text : List ℕ} → ((i : ℕ) → slice_index_or set i false ≡ true → (b : ℕ) × (s.stack i ≡ Some b)) → AreRuns set text → TellsRuns s text
-tells_runs s is (no_run set) = no_run_told s
-tells_runs s is (one_run set before first past rest some inside all) =
+pub tells_runs : (s : State) {set : List Bool} {past : ℕ} {text : List ℕ} → ((i : ℕ) → slice_index_or set i false ≡ true → (b : ℕ) × (s.stack i ≡ Some b)) → AreRuns set past text → TellsRuns s text
+tells_runs s is (no_byte set) = no_run_told s
+tells_runs s is (unset_byte set before byte rest unset) = tells_runs s is rest
+tells_runs s is (one_run set before first past rest some inside all ends) =
     one_run_told s before first past (tells_runs s is rest) some inside (λ i from to. is i (all i from to))
+
+-- runs that are told, or none
+tells_line : (s : State) (runs text : List ℕ) → text ≡ stack_text runs → TellsRuns s runs → TellsStack s text
+tells_line s [] text is told = inl is
+tells_line s (first ∷ rest) text is told = inr (first ∷ rest, is, told)
 
 -- the line of the bytes that a view knows to be set tells bytes that are set in each state of it
 pub tells_stack : (f : Setting) (s : State) (v : AbstractState) (text : List ℕ) → Contains f v s → IsStackText v.set text → TellsStack s text
-tells_stack f s v text covers (inl none) = inl none
-tells_stack f s v text covers (inr (runs, is, are)) =
-    inr (runs, is, tells_runs s (λ i set. let told = covers.set i set in (told.0, told.1)) are)
+tells_stack f s v text covers (runs, are, is) =
+    tells_line s runs text is (tells_runs s (λ i set. let told = covers.set i set in (told.0, told.1)) are)
 
 -- the parts of the text make it whole
 pub is_view_text : (v : AbstractState) (registers unset stack kept text : List ℕ) → registers ≡ registers_below 11 v.registers → unset ≡ unset_text v.registers → IsStackText v.set stack → kept ≡ kept_below 64 v.kept → text ≡ codes " " ++ (registers ++ (unset ++ (stack ++ kept))) → IsViewText v text

@@ -1,5 +1,5 @@
 -- How what is known of registers and stack is printed.
-use Rattle.std.specs.Prelude.{◌≡◌, ℕ, zero, suc, ◌-◌, ◌*◌, ◌<◌, ◌≤◌, ◌==◌, Bool, List, [], ◌∷◌, ◌++◌, ◌⊎◌, Option, Some, None, codes, slice_index_or, if◌then◌else◌}
+use Rattle.std.specs.Prelude.{◌≡◌, ℕ, zero, suc, ◌+◌, ◌-◌, ◌*◌, ◌<◌, ◌≤◌, ◌==◌, Bool, false, List, [], ◌∷◌, ◌++◌, ◌⊎◌, Option, Some, None, codes, slice_index_or, if◌then◌else◌}
 use Rattle.std.specs.Fmt.{decimal}
 use Rattle.bq_states.specs.declared.abstract_state.AbstractValue.{AbstractValue}
 use Rattle.bq_states.specs.declared.abstract_state.AbstractState.{AbstractState}
@@ -49,15 +49,24 @@ abbrev pub run_text : ℕ → ℕ → List ℕ
 run_text first past =
     if 512 - first == 513 - past then codes " -" ++ decimal (512 - first) else codes " -" ++ (decimal (512 - first) ++ (codes "..-" ++ decimal (513 - past)))
 
--- runs of bytes that are set, one after another
-pub data AreRuns : List Bool → List ℕ → Type 0 where
-  no_run : (set : List Bool) → AreRuns set []
-  one_run : (set : List Bool) (before : List ℕ) (first past : ℕ) → AreRuns set before → first < past → past ≤ 512 → AreSet set first past → AreRuns set (before ++ run_text first past)
+-- a run of bytes that are set ends before that one: there is no byte, or it is not set
+abbrev pub EndsAt : List Bool → ℕ → Type 0
+EndsAt set past = (past ≡ 512) ⊎ (slice_index_or set past false ≡ false)
 
--- the bytes of the stack that are set, or that none is
+-- the runs of bytes that are set, in order, as long as each is: all of them among the first bytes, so many
+pub data AreRuns : List Bool → ℕ → List ℕ → Type 0 where
+  no_byte : (set : List Bool) → AreRuns set 0 []
+  unset_byte : (set : List Bool) (before : List ℕ) (byte : ℕ) → AreRuns set byte before → slice_index_or set byte false ≡ false → AreRuns set (byte + 1) before
+  one_run : (set : List Bool) (before : List ℕ) (first past : ℕ) → AreRuns set first before → first < past → past ≤ 512 → AreSet set first past → EndsAt set past → AreRuns set past (before ++ run_text first past)
+
+-- runs, or that there is none
+abbrev pub stack_text : List ℕ → List ℕ
+stack_text [] = codes " stack: nothing written\n"
+stack_text (first ∷ rest) = codes " stack:" ++ ((first ∷ rest) ++ codes " written\n")
+
+-- the bytes of the stack that are set: all runs of them, or that none is
 abbrev pub IsStackText : List Bool → List ℕ → Type 0
-IsStackText set text =
-    (text ≡ codes " stack: nothing written\n") ⊎ ((runs : List ℕ) × (text ≡ codes " stack:" ++ (runs ++ codes " written\n")) × AreRuns set runs)
+IsStackText set text = (runs : List ℕ) × AreRuns set 512 runs × (text ≡ stack_text runs)
 
 -- what is known: each register that is known, those that are not, the stack's bytes that are set, and the words that are kept there
 pub record IsViewText (v : AbstractState) (text : List ℕ) : Type 0 where

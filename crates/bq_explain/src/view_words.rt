@@ -1,10 +1,10 @@
 //! What is known of registers and stack at a slot, as lines of text.
-ghost use Rattle.std.specs.Prelude.{◌≡◌, ◌<◌, ◌≤◌, ◌++◌, ℕ, List, true, false, slice_index_or, IfOk, string_bytes};
+ghost use Rattle.std.specs.Prelude.{◌≡◌, ◌<◌, ◌≤◌, true, false, slice_index_or, IfOk, string_bytes};
 ghost use Rattle.bq_bpf.specs.Memory.{Setting, State};
 ghost use Rattle.bq_states.specs.AbstractStates.{Contains};
 ghost use Rattle.bq_explain.specs.Telling.{TellsState};
 ghost use Rattle.bq_needs.specs.Accesses.{AreSet};
-ghost use Rattle.bq_explain.specs.Texts.{AreRuns, IsStackText, IsViewText, kept_below, kept_text, register_text, registers_below, run_text, unset_below, unset_name, unset_text};
+ghost use Rattle.bq_explain.specs.Texts.{AreRuns, EndsAt, IsStackText, IsViewText, kept_below, kept_text, register_text, registers_below, run_text, unset_below, unset_name, unset_text};
 
 use bq_needs::known_text;
 use bq_states::abstract_state::{AbstractState, AbstractValue};
@@ -104,6 +104,7 @@ fn unset_name(
 }
 
 /// The bytes of the stack that are set.
+#[tactic(auto, using(crate::proofs::RunLemmas::none_written, crate::proofs::RunLemmas::some_written))]
 fn stack_line(alloc: Global, view: &AbstractState) -> Result<String, AllocError>
     ensures { IfOk result (λ text. IsStackText view.now.set (string_bytes text)) }
 {
@@ -115,29 +116,24 @@ fn stack_line(alloc: Global, view: &AbstractState) -> Result<String, AllocError>
 }
 
 /// Each run of bytes that are set, by their distance from the stack's end.
-#[tactic(auto, using(crate::proofs::RunLemmas::none_yet))]
+#[tactic(auto, using(crate::proofs::RunLemmas::none_yet, crate::proofs::RunLemmas::all_told, crate::proofs::RunLemmas::inside, crate::proofs::RunLemmas::without, crate::proofs::RunLemmas::with_run))]
 fn runs_text(alloc: Global, view: &AbstractState) -> Result<String, AllocError>
-    ensures { IfOk result (λ text. AreRuns view.now.set (string_bytes text)) }
+    ensures { IfOk result (λ text. AreRuns view.now.set 512 (string_bytes text)) }
 {
     let mut text = String::new(alloc);
+    let mut past = 0;
     for byte in 0..STACK {
-        let run = run_from(alloc, &view.set, byte)?;
+        if byte < past {
+            continue;
+        }
+        if !view.set[byte] {
+            continue;
+        }
+        past = run_end(&view.set, byte);
+        let run = run_text(alloc, byte, past)?;
         text.push_str(run.as_str())?;
     }
     Ok(text)
-}
-
-/// The run that begins with that byte, if one does.
-#[tactic(auto, using(crate::proofs::RunLemmas::with_nothing, crate::proofs::RunLemmas::with_run))]
-fn run_from(alloc: Global, set: &[bool; 512], first: usize) -> Result<String, AllocError>
-    requires { first < 512 }
-    ensures { IfOk result (λ text. (before : List ℕ) → AreRuns set.now before → AreRuns set.now (before ++ string_bytes text)) }
-{
-    if !set[first] || (first > 0 && set[first - 1]) {
-        return Ok(String::new(alloc));
-    }
-    let past = run_end(set, first);
-    run_text(alloc, first, past)
 }
 
 /// The byte past the last of the run that the byte begins.
@@ -147,6 +143,7 @@ fn run_end(set: &[bool; 512], first: usize) -> usize
     ensures some { first < result }
     ensures most { result ≤ 512 }
     ensures all { AreSet set.now first result }
+    ensures ends { EndsAt set.now result }
 {
     for byte in first + 1..STACK {
         if !set[byte] {
