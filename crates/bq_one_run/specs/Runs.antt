@@ -1,7 +1,8 @@
 -- The one run of a policy on its inputs.
-use Rattle.std.specs.Prelude.{◌≡◌, ℕ, zero, suc, ◌≤◌, List}
+use Rattle.std.specs.Prelude.{◌≡◌, ℕ, zero, suc, ◌≤◌, List, length}
 use Rattle.bq_bpf.specs.declared.board.Call.{Call as Asked}
 use Rattle.bq_bpf.specs.Counters.{Counts, Through}
+use Rattle.bq_bpf.specs.Hooks.{context_length_of}
 use Rattle.bq_bpf.specs.Runs.{RunFrom, start}
 use Rattle.bq_verify.specs.Accepted.{Accepted}
 use Rattle.bq_interp.specs.Chains.{setting_of}
@@ -14,6 +15,11 @@ pub record Kept : Type 0 where
 
 abbrev pub kept_in : Inputs → Kept
 kept_in inputs = record { maps = inputs.maps.bytes; counters = inputs.board }
+
+-- the context has the length of the program's hook and version, and the maps have its shapes
+pub record Fits (program : Accepted) (inputs : Inputs) : Type 0 where
+  pub context : length inputs.context.items ≡ context_length_of program.hook program.version
+  pub shapes : inputs.maps.shapes ≡ program.shapes
 
 -- the machine's run from these maps, on that context, at that time and on that processor, gives this answer after so many instructions,
 -- within the budget, and leaves these maps; its calls of counters are these, and lead from those counters to these

@@ -1,10 +1,10 @@
 //! Runs, and what came of them.
-ghost use Rattle.std.specs.Prelude.{◌≡◌, [], length, IfOk, IfSome};
+ghost use Rattle.std.specs.Prelude.{◌≡◌, ◌<◌, ◌↔◌, [], length, IfNone, IfOk, IfSome, IsTrue};
 ghost use Rattle.bq_interp.specs.Chains.{setting_of};
 ghost use Rattle.bq_bpf.specs.Hooks.{context_length_of};
 ghost use Rattle.bq_interp.specs.Moments.{AreMoments};
 ghost use Rattle.bq_bpf.specs.Runs.{start};
-ghost use Rattle.bq_one_run.specs.Runs.{AreRuns, IsRun, kept_in};
+ghost use Rattle.bq_one_run.specs.Runs.{AreRuns, Fits, IsRun, kept_in};
 
 use crate::inputs::Inputs;
 use bq_bpf::{context_length, same_shapes};
@@ -15,17 +15,26 @@ use std::alloc::AllocError;
 /// What a run answered and took.
 pub type OneRun = Ran;
 
+/// Whether the context has the length of the program's hook and version, and the maps have its shapes.
+fn fits(verified: &Verified, inputs: &Inputs) -> bool
+    ensures { IsTrue result ↔ Fits verified.now inputs.now }
+{
+    let length = context_length(verified.hook(), verified.version());
+    inputs.context.len() == length && same_shapes(inputs.maps.shapes(), verified.shapes())
+}
+
 /// The one run of the program on the inputs, whose maps and counters it leaves as the run does. None where the context has
-/// not the length of the program's hook and version, or the maps are of other shapes.
+/// not the length of the program's hook and version, or the maps are of other shapes: then all is left as it was.
 pub fn run_once(verified: &Verified, inputs: &mut Inputs) -> Option<OneRun>
     ensures run { IfSome result (λ r. IsRun verified.now inputs.old.context.items inputs.old.env.now inputs.old.env.processor (kept_in inputs.old) r.steps r.calls.items r.r0 (kept_in inputs.new)) }
+    ensures fits { IfSome result (λ _. Fits verified.now inputs.old) }
+    ensures none { IfNone result (¬ Fits verified.now inputs.old) }
+    ensures left { IfNone result (inputs.new ≡ inputs.old) }
+    ensures shapes { inputs.new.maps.shapes ≡ inputs.old.maps.shapes }
     ensures context { inputs.new.context ≡ inputs.old.context }
     ensures env { inputs.new.env ≡ inputs.old.env }
 {
-    if inputs.context.len() != context_length(verified.hook(), verified.version()) {
-        return None;
-    }
-    if !same_shapes(inputs.maps.shapes(), verified.shapes()) {
+    if !fits(verified, inputs) {
         return None;
     }
     let mut stack = Stack::new();
@@ -39,9 +48,14 @@ pub fn run_once(verified: &Verified, inputs: &mut Inputs) -> Option<OneRun>
     ))
 }
 
-/// So many runs, one after another: each begins with the maps and counters that the one before it left. None where there is none.
+/// So many runs, one after another: each begins with the maps and counters that the one before it left. None where there is none,
+/// which is for the same causes: then all is left as it was.
 pub fn run_often(verified: &Verified, inputs: &mut Inputs, count: u32) -> Option<()>
     ensures runs { IfSome result (λ _. AreRuns verified.now inputs.old.context.items inputs.old.env.now inputs.old.env.processor count (kept_in inputs.old) (kept_in inputs.new)) }
+    ensures fits { IfSome result (λ _. 0 < count → Fits verified.now inputs.old) }
+    ensures none { IfNone result ((0 < count) × ¬ Fits verified.now inputs.old) }
+    ensures left { IfNone result (inputs.new ≡ inputs.old) }
+    ensures shapes { inputs.new.maps.shapes ≡ inputs.old.maps.shapes }
     ensures context { inputs.new.context ≡ inputs.old.context }
     ensures env { inputs.new.env ≡ inputs.old.env }
 {
@@ -54,7 +68,8 @@ pub fn run_often(verified: &Verified, inputs: &mut Inputs, count: u32) -> Option
 }
 
 /// The same as `run_once`, with what each instruction of the run began from, put into a list that is empty: as many as steps, and
-/// the machine's chain of as many steps comes to each.
+/// the machine's chain of as many steps comes to each. Where memory is wanted the context, the time and the processor are left as they
+/// were; of maps and counters nothing is said.
 pub fn trace_once(
     verified: &Verified,
     inputs: &mut Inputs,
@@ -65,12 +80,13 @@ pub fn trace_once(
     ensures moments { IfOk result (λ o. IfSome o (λ r. AreMoments (setting_of verified.now inputs.old.context.items inputs.old.env.now inputs.old.env.processor) (start inputs.old.maps.bytes) 0 moments.new.items)) }
     ensures each { IfOk result (λ o. IfSome o (λ r. length moments.new.items ≡ r.steps)) }
     ensures whole { IfOk result (λ o. IfSome o (λ _. length inputs.old.context.items ≡ context_length_of verified.now.hook verified.now.version)) }
-    ensures context { IfOk result (λ _. inputs.new.context ≡ inputs.old.context) }
+    ensures none { IfOk result (λ o. IfNone o (¬ Fits verified.now inputs.old)) }
+    ensures left { IfOk result (λ o. IfNone o (inputs.new ≡ inputs.old)) }
+    ensures kept { IfOk result (λ o. IfNone o (moments.new ≡ moments.old)) }
+    ensures context { inputs.new.context ≡ inputs.old.context }
+    ensures env { inputs.new.env ≡ inputs.old.env }
 {
-    if inputs.context.len() != context_length(verified.hook(), verified.version()) {
-        return Ok(None);
-    }
-    if !same_shapes(inputs.maps.shapes(), verified.shapes()) {
+    if !fits(verified, inputs) {
         return Ok(None);
     }
     let mut stack = Stack::new();
