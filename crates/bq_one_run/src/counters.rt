@@ -1,5 +1,5 @@
 //! Counters from the words of a command.
-ghost use Rattle.std.specs.Prelude.{◌≡◌, ◌<◌, IfSome, slice_set};
+ghost use Rattle.std.specs.Prelude.{◌≡◌, ◌<◌, [], IfSome, IsOk, slice_set};
 ghost use Rattle.std.specs.Result.{OnOk};
 ghost use Rattle.bq_one_run.specs.Naming.{NamesCounter, SetsCounter, TextsInTurn};
 
@@ -10,12 +10,13 @@ use bq_bpf::{Board, Plain};
 use std::alloc::Global;
 
 impl Inputs {
-    /// Sets the counters that texts name, one after another.
+    /// Sets the counters that texts name, one after another. Where there are no texts nothing is refused.
     pub fn set_all_counters(&mut self, alloc: Global, texts: &[String]) -> Result<(), InputFault>
         ensures board { OnOk result (TextsInTurn SetsCounter texts.now self.old.board self.new.board) }
         ensures context { self.new.context ≡ self.old.context }
         ensures maps { self.new.maps ≡ self.old.maps }
         ensures env { self.new.env ≡ self.old.env }
+        ensures none { texts.now ≡ [] → IsOk result }
     {
         for text in texts {
             self.set_counter(alloc, text.as_str())?;

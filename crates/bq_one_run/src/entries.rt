@@ -1,5 +1,5 @@
 //! Entries of maps from the words of a command.
-ghost use Rattle.std.specs.Prelude.{◌≡◌, IfSome};
+ghost use Rattle.std.specs.Prelude.{◌≡◌, [], IfSome, IsOk};
 ghost use Rattle.std.specs.Result.{OnOk};
 ghost use Rattle.bq_one_run.specs.Naming.{NamesEntry, SetsEntry, TextsInTurn, padded};
 
@@ -10,12 +10,13 @@ use bq_maps::Maps;
 use std::alloc::{AllocError, Global};
 
 impl Inputs {
-    /// Sets the entries that texts name, one after another.
+    /// Sets the entries that texts name, one after another. Where there are no texts nothing is refused.
     pub fn set_all_entries(&mut self, alloc: Global, texts: &[String]) -> Result<(), InputFault>
         ensures maps { OnOk result (TextsInTurn SetsEntry texts.now self.old.maps self.new.maps) }
         ensures context { self.new.context ≡ self.old.context }
         ensures env { self.new.env ≡ self.old.env }
         ensures board { self.new.board ≡ self.old.board }
+        ensures none { texts.now ≡ [] → IsOk result }
     {
         for text in texts {
             self.set_entry(alloc, text.as_str())?;

@@ -1,5 +1,5 @@
 //! Fields of the context from the words of a command.
-ghost use Rattle.std.specs.Prelude.{◌≡◌};
+ghost use Rattle.std.specs.Prelude.{◌≡◌, [], IsOk};
 ghost use Rattle.std.specs.Result.{OnOk};
 ghost use Rattle.bq_one_run.specs.Naming.{SetsField, SetsFields, TextsInTurn};
 
@@ -11,7 +11,7 @@ use bq_bpf::{Hook, Version};
 use std::alloc::Global;
 
 impl Inputs {
-    /// Sets the fields that texts name, one after another.
+    /// Sets the fields that texts name, one after another. Where there are no texts nothing is refused.
     pub fn set_all_fields(
         &mut self,
         alloc: Global,
@@ -23,6 +23,7 @@ impl Inputs {
         ensures maps { self.new.maps ≡ self.old.maps }
         ensures env { self.new.env ≡ self.old.env }
         ensures board { self.new.board ≡ self.old.board }
+        ensures none { texts.now ≡ [] → IsOk result }
     {
         for text in texts {
             self.set_fields(alloc, hook, version, text.as_str())?;
