@@ -9,3 +9,4 @@ pub mod OrderLemmas
 pub mod ProgramLemmas
 pub mod TurningLemmas
 pub mod AddressLemmas
+pub mod RoomLemmas

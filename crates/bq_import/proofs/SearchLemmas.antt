@@ -45,6 +45,10 @@ module _ (slots : List (Option Insn)) (slot : ℕ) (insn : Insn) (here : instruc
   next_later true is to e = let same = some_same _ to (slot + slots_of insn) e is in let positive = slots_positive insn in omega (arith, same, positive)
   next_later false is to e = absurd (some_none _ to e is)
 
+  next_behind : (b : Bool) → targets.next ≡ (if b then Some (slot + slots_of insn) else None) → (to : ℕ) → targets.next ≡ Some to → to ≡ slot + slots_of insn
+  next_behind true is to e = some_same _ to (slot + slots_of insn) e is
+  next_behind false is to e = absurd (some_none _ to e is)
+
   pub are_targets : targets.next ≡ (if goes_on insn then Some (slot + slots_of insn) else None) → IfSome targets.jump (λ to. (far : ℤ) × (distance_of insn ≡ Some far) × LeadsTo slot far to) → IfNone targets.jump (distance_of insn ≡ None) → AreTargets slots slot insn targets
   are_targets next some none =
       let out = leads_out slots slot insn here targets next some none in
@@ -54,6 +58,7 @@ module _ (slots : List (Option Insn)) (slot : ℕ) (insn : Insn) (here : instruc
         jump = jump_there targets.jump refl some none;
         starts = starts_at out;
         later = next_later (goes_on insn) next;
+        behind = next_behind (goes_on insn) next;
       }
 
 -- the jump's copy lies behind

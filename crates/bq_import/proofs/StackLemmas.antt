@@ -1,6 +1,6 @@
 -- The stack of the search, and what is done.
-use Rattle.std.proofs.Common.{◌≡◌, ℕ, zero, suc, ◌+◌, ◌-◌, ◌<◌, ◌≤◌, ◌≢◌, Bool, true, false, List, [], ◌∷◌, ◌++◌, length, take, get_or, Option, Some, None, refl, arith, sym, ap, ◌∙◌, subst, ◌⊎◌, inl, inr, length-append, length-take}
-use Rattle.std.specs.Prelude.{slice_index, slice_set}
+use Rattle.std.proofs.Common.{◌≡◌, ℕ, zero, suc, ◌+◌, ◌-◌, ◌*◌, ◌<◌, ◌≤◌, ◌≢◌, Bool, true, false, List, [], ◌∷◌, ◌++◌, length, take, get_or, Option, Some, None, refl, arith, sym, ap, ◌∙◌, subst, ◌⊎◌, inl, inr, length-append, length-take}
+use Rattle.std.specs.Prelude.{slice_index, slice_set, sum_by}
 use Rattle.std.proofs.lemmas.List.{get_or_append_left, get_or-append-add, get_or-take, get_or-set_same, get_or-set_other, length-set}
 use Rattle.std.proofs.lemmas.List.Sums.{sum_by-set}
 use Rattle.bq_insn.specs.declared.Insn.{Insn}
@@ -8,6 +8,7 @@ use Rattle.bq_graph.specs.Edges.{IsEdge, IsStart}
 use Rattle.bq_graph.specs.Paths.{Path}
 use Rattle.bq_graph.proofs.EdgeLemmas.{some_same, some_none, start_inside, IsPath-push, end_of-push}
 use Rattle.bq_import.specs.Copies.{Stands}
+use Rattle.bq_import.proofs.RoomLemmas.{few_unopened, size_first, size_left}
 use Rattle.bq_import.specs.Backward.{IsBuilt, IsLengthened}
 use Rattle.bq_import.specs.Faults.{IsLoop}
 use Rattle.bq_import.specs.Search.{place_at, IsDone, AreKnown, AreClosed, IsReady, is_open, unopened, IsOn, IsTop, IsSearching, KeepsOpen, left_of}
@@ -95,8 +96,16 @@ module _ (maps : ℕ) (old back : List (Option Insn)) (origins : List ℕ) (plac
           | inr e ↦ subst (λ (n : ℕ). IsStart old n) (sym (ap (λ (n : ℕ). slice_index (stack ++ slot ∷ []) n) e ∙ last_on)) start
         ]
 
+    size_open : length back + (sum_by unopened (slice_set opens slot true) + length (stack ++ slot ∷ [])) * length old ≤ length old * length old
+    size_open =
+        let sum = sum_by-set unopened opens slot true false slot_inside in
+        let one : unopened (get_or opens slot false) ≡ 1 = ap unopened new in
+        let long = length-append stack (slot ∷ []) in
+        let same : sum_by unopened opens + length stack ≡ sum_by unopened (slice_set opens slot true) + length (stack ++ slot ∷ []) = omega (arith, sum, one, long) in
+        subst (λ (k : ℕ). length back + k * length old ≤ length old * length old) same at.size
+
     pub after_open : IsSearching maps old back origins places (slice_set opens slot true) (stack ++ slot ∷ [])
-    after_open = record { ordered = at.ordered; room = length-set opens slot true ∙ at.room; opened = opened_more; ways = ways_more; starts = starts_more }
+    after_open = record { ordered = at.ordered; room = length-set opens slot true ∙ at.room; opened = opened_more; ways = ways_more; starts = starts_more; size = size_open }
 
     pub open_now : is_open (slice_set opens slot true) slot ≡ true
     open_now = get_or-set_same opens slot true false slot_inside
@@ -114,7 +123,7 @@ module _ (maps : ℕ) (old back : List (Option Insn)) (origins : List ℕ) (plac
         let long = length-append stack (slot ∷ []) in
         omega (arith, sum, one, long)
 
-  module _ (top : IsTop stack slot) (ready : IsReady old places slot) (back' : List (Option Insn)) (origins' : List ℕ) (more : IsLengthened maps old back origins back' origins' slot) where
+  module _ (top : IsTop stack slot) (ready : IsReady old places slot) (back' : List (Option Insn)) (origins' : List ℕ) (more : IsLengthened maps old back origins back' origins' slot) (grown : length back' + slot ≤ length back + length old) where
     place : ℕ
     place = length back' - 1
 
@@ -188,6 +197,13 @@ module _ (maps : ℕ) (old back : List (Option Insn)) (origins : List ℕ) (plac
         let lt' : i < length stack - 1 = omega (arith, lt, taken) in
         subst (λ (n : ℕ). IsStart old n) (sym (taken_index i lt')) (at.starts i (omega (arith, lt')))
 
+    size_less : length back' + (sum_by unopened opens + length (take (length stack - 1) stack)) * length old ≤ length old * length old
+    size_less =
+        let taken = taken_long in
+        let long = top.long in
+        let one : sum_by unopened opens + length stack ≡ suc (sum_by unopened opens + length (take (length stack - 1) stack)) = omega (arith, taken, long) in
+        size_left (length back) (length back') (sum_by unopened opens + length stack) _ (length old) (length old * length old) (omega (arith, grown)) one at.size
+
     pub after_leave : IsSearching maps old back' origins' (slice_set places slot (Some (length back' - 1))) opens (take (length stack - 1) stack)
     unfolding place
     after_leave = record {
@@ -196,6 +212,7 @@ module _ (maps : ℕ) (old back : List (Option Insn)) (origins : List ℕ) (plac
       opened = opened_less;
       ways = ways_less;
       starts = starts_less;
+      size = size_less;
     }
 
     pub less_leave : left_of opens (take (length stack - 1) stack) < left_of opens stack
@@ -203,9 +220,10 @@ module _ (maps : ℕ) (old back : List (Option Insn)) (origins : List ℕ) (plac
 
 -- before the first slot
 pub nothing_begun : (maps : ℕ) (old back : List (Option Insn)) (origins : List ℕ) (places : List (Option ℕ)) (opens : List Bool) (stack : List ℕ) →
-    IsBuilt maps old back origins → ((k : ℕ) → place_at places k ≡ None) → length places ≡ length old → ((k : ℕ) → is_open opens k ≡ false) → length opens ≡ length old → stack ≡ [] →
+    IsBuilt maps old back origins → back ≡ [] → ((k : ℕ) → place_at places k ≡ None) → length places ≡ length old → ((k : ℕ) → is_open opens k ≡ false) → length opens ≡ length old → stack ≡ [] →
     IsSearching maps old back origins places opens stack
-nothing_begun maps old back origins places opens stack built none room shut room' empty =
+nothing_begun maps old back origins places opens stack built nothing none room shut room' empty =
+    let blank : length back ≡ 0 = ap length nothing in
     let short : length stack ≡ 0 = ap length empty in
     record {
       ordered = record {
@@ -218,6 +236,7 @@ nothing_begun maps old back origins places opens stack built none room shut room
       opened = λ slot e. absurd (let never : true ≡ false = sym e ∙ shut slot in true_false never);
       ways = λ i j le lt. absurd (omega (arith, lt, short));
       starts = λ i lt. absurd (omega (arith, lt, short));
+      size = size_first (length back) (sum_by unopened opens) (length stack) (length opens) (length old) blank short (few_unopened opens) room';
     }
   where
     true_false : true ≡ false → ⊥

@@ -33,6 +33,7 @@ pub record AreTargets (slots : List (Option Insn)) (slot : ℕ) (insn : Insn) (t
   pub jump : (far : ℤ) → distance_of insn ≡ Some far → (to : ℕ) × LeadsTo slot far to × (targets.jump ≡ Some to)
   pub starts : (to : ℕ) → IsOf targets to → IsStart slots to
   pub later : (to : ℕ) → targets.next ≡ Some to → slot < to
+  pub behind : (to : ℕ) → targets.next ≡ Some to → to ≡ slot + slots_of insn
 
 abbrev pub place_at : List (Option ℕ) → ℕ → Option ℕ
 place_at places slot = slice_index_or places slot None
@@ -87,21 +88,22 @@ pub record IsTop (stack : List ℕ) (slot : ℕ) : Type 0 where
   pub long : length stack ≡ below + 1
   pub slot_is : slice_index stack below ≡ slot
 
--- the stack is a path of slots that were opened and are not done
+-- 1 where the slot was not begun
+abbrev pub unopened : Bool → ℕ
+unopened true = 0
+unopened false = 1
+
+-- the stack is a path of slots that were opened and are not done; for each slot that is done the copy has at most as many slots as the program
 pub record IsSearching (maps : ℕ) (old back : List (Option Insn)) (origins : List ℕ) (places : List (Option ℕ)) (opens : List Bool) (stack : List ℕ) : Type 0 where
   pub ordered : IsOrdered maps old back origins places
   pub room : length opens ≡ length old
   pub opened : (slot : ℕ) → is_open opens slot ≡ true → IsDone places slot ⊎ IsOn stack slot
   pub ways : (i j : ℕ) → i ≤ j → j < length stack → Path old (slice_index stack i) (slice_index stack j)
   pub starts : (i : ℕ) → i < length stack → IsStart old (slice_index stack i)
+  pub size : length back + (sum_by unopened opens + length stack) * length old ≤ length old * length old
 
 abbrev pub KeepsOpen : List Bool → List Bool → Type 0
 KeepsOpen before after = (slot : ℕ) → is_open before slot ≡ true → is_open after slot ≡ true
-
--- 1 where the slot was not begun
-abbrev pub unopened : Bool → ℕ
-unopened true = 0
-unopened false = 1
 
 -- how much is left to do
 abbrev pub left_of : List Bool → List ℕ → ℕ

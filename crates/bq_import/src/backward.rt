@@ -1,5 +1,5 @@
 //! A copy of a program, written from its end: what is written is never moved, so that a jump's distance is known at once.
-ghost use Rattle.std.specs.Prelude.{◌≡◌, ◌<◌, ◌≤◌, ◌+◌, ◌-◌, ◌++◌, [], ◌∷◌, ℕ, List, replicate, OnOk, IfErr, IfSome, Option, Some, None};
+ghost use Rattle.std.specs.Prelude.{◌≡◌, ◌<◌, ◌≤◌, ◌+◌, ◌-◌, ◌++◌, [], ◌∷◌, ℕ, List, length, replicate, OnOk, IfErr, IfSome, Option, Some, None};
 ghost use Rattle.bq_insn.specs.Slots.{slots_of};
 ghost use Rattle.bq_insn.specs.declared.Insn.{Insn};
 ghost use Rattle.bq_import.specs.Copies.{copied, is_reference, wide_copy};
@@ -9,7 +9,7 @@ ghost use Rattle.bq_import.specs.Faults.{IsFull};
 use crate::fault::Disorder;
 use bq_bpf::addresses::REFERENCE;
 use bq_insn::Insn;
-use std::alloc::Global;
+use std::alloc::{AllocError, Global};
 
 /// The most slots of a program.
 const MOST: usize = 4096;
@@ -24,7 +24,8 @@ pub struct Backward {
 impl Backward {
     /// The copy of nothing.
     pub fn new(alloc: Global) -> Backward
-        ensures { (maps : ℕ) (old : List (Option Insn)) → IsBuilt maps old result.slots.items result.origins.items }
+        ensures built { (maps : ℕ) (old : List (Option Insn)) → IsBuilt maps old result.slots.items result.origins.items }
+        ensures empty { result.slots.items ≡ [] }
     {
         Backward {
             slots: Vec::new(alloc),
@@ -47,7 +48,8 @@ impl Backward {
         requires inside { from < 4096 }
         requires may { MayStand old.now self.old.slots.items self.old.origins.items from insn distance }
         ensures ok { OnOk result (IsLengthened maps old.now self.old.slots.items self.old.origins.items self.new.slots.items self.new.origins.items from) }
-        ensures full { IfErr result IsFull }
+        ensures grown { OnOk result (length self.new.slots.items ≡ length self.old.slots.items + slots_of insn) }
+        ensures full { IfErr result (IsFull (length self.old.slots.items + slots_of insn)) }
     {
         if self.slots.len() + insn.slots() > MOST {
             return Err(Disorder::Long);
@@ -58,10 +60,9 @@ impl Backward {
     }
 
     /// The first slot.
-    fn push_first(&mut self, copy: Insn, from: usize) -> Result<(), Disorder>
+    fn push_first(&mut self, copy: Insn, from: usize) -> Result<(), AllocError>
         ensures slots { OnOk result (self.new.slots.items ≡ self.old.slots.items ++ (Some copy ∷ [])) }
         ensures origins { OnOk result (self.new.origins.items ≡ self.old.origins.items ++ (from ∷ [])) }
-        ensures full { IfErr result IsFull }
     {
         self.slots.push(Some(copy))?;
         self.origins.push(from)?;
@@ -69,11 +70,10 @@ impl Backward {
     }
 
     /// The second slot, where the instruction has one.
-    fn push_rest(&mut self, insn: Insn, from: usize) -> Result<(), Disorder>
+    fn push_rest(&mut self, insn: Insn, from: usize) -> Result<(), AllocError>
         requires inside { from < 4096 }
         ensures slots { OnOk result (self.new.slots.items ≡ self.old.slots.items ++ replicate (slots_of insn - 1) None) }
         ensures origins { OnOk result (self.new.origins.items ≡ self.old.origins.items ++ replicate (slots_of insn - 1) (from + 1)) }
-        ensures full { IfErr result IsFull }
     {
         if insn.slots() == 2 {
             self.slots.push(None)?;

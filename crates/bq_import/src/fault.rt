@@ -15,7 +15,7 @@ pub enum Disorder {
     /// Control goes from the first slot to the second, and from there back to the first.
     #[error("slots {from} and {to}: a loop, by the jump from {from} to {to}; unroll it")]
     Loop { from: usize, to: usize },
-    /// The copies take more than 4096 slots.
+    /// The copies take more than 4096 slots. A program of fewer than 64 slots has no such fault.
     #[error("the program takes more than 4096 slots once every jump goes forward; make it shorter")]
     Long,
     /// A growth was refused.

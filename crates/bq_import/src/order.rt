@@ -7,7 +7,7 @@ ghost use Rattle.bq_insn.specs.Laws.{AllFit};
 ghost use Rattle.bq_graph.specs.Edges.{IsStart};
 ghost use Rattle.bq_import.specs.Copies.{IsCopy};
 ghost use Rattle.bq_import.specs.Backward.{IsBuilt, IsFront, insns_of};
-ghost use Rattle.bq_import.specs.Faults.{IsDisorder, IsFull};
+ghost use Rattle.bq_import.specs.Faults.{IsDisorder};
 ghost use Rattle.bq_import.specs.Search.{IsDone, IsLinked};
 ghost use Rattle.bq_import.specs.Searching.{IsDoneWith};
 
@@ -117,7 +117,7 @@ impl Search {
         requires done { IsDone self.old.places.items 0 }
         ensures built { OnOk result (IsBuilt maps old.now self.new.copy.slots.items self.new.copy.origins.items) }
         ensures front { OnOk result (IsFront self.new.copy.slots.items self.new.copy.origins.items 0) }
-        ensures full { IfErr result IsFull }
+        ensures err { IfErr result (IsDisorder old.now) }
     {
         let Some(_) = self.copy.missing_front(Some(0)) else {
             return Ok(());

@@ -1,6 +1,7 @@
 //! Putting an instruction in front, once everything to which control may go from it is in place.
-ghost use Rattle.std.specs.Prelude.{◌≡◌, ◌<◌, ◌≤◌, ◌+◌, ℕ, List, Option, length, OnOk, IfErr, IfSome, IfNone, Some, None};
+ghost use Rattle.std.specs.Prelude.{◌≡◌, ◌<◌, ◌≤◌, ◌+◌, ◌-◌, ℕ, List, Option, length, OnOk, IfErr, IfSome, IfNone, Some, None};
 ghost use Rattle.bq_insn.specs.declared.Insn.{Insn};
+ghost use Rattle.bq_insn.specs.Slots.{slots_of};
 ghost use Rattle.bq_bpf.specs.Steps.{instruction_at};
 ghost use Rattle.bq_graph.specs.Edges.{IsStart};
 ghost use Rattle.bq_import.specs.Backward.{IsBuilt, IsFront, IsLengthened};
@@ -62,7 +63,8 @@ impl Backward {
         requires ready { IsReady old.now places.now slot }
         requires front { (n : ℕ) → targets.next ≡ Some n → IsFront self.old.slots.items self.old.origins.items n }
         ensures ok { OnOk result (IsLengthened maps old.now self.old.slots.items self.old.origins.items self.new.slots.items self.new.origins.items slot) }
-        ensures full { IfErr result IsFull }
+        ensures grown { OnOk result (length self.new.slots.items ≡ length self.old.slots.items + slots_of insn) }
+        ensures full { IfErr result (IsFull (length self.old.slots.items + slots_of insn)) }
     {
         let distance = self.distance(places, targets.jump);
         self.push(old, maps, slot, insn, distance)
@@ -85,7 +87,8 @@ impl Backward {
         requires start { IsStart old.now slot }
         requires ready { IsReady old.now places.now slot }
         ensures ok { OnOk result (IsLengthened maps old.now self.old.slots.items self.old.origins.items self.new.slots.items self.new.origins.items slot) }
-        ensures full { IfErr result IsFull }
+        ensures grown { OnOk result (length self.new.slots.items + slot ≤ length self.old.slots.items + length old.now) }
+        ensures full { IfErr result (IsFull (length self.old.slots.items + (length old.now - slot))) }
     {
         let Some(insn) = instruction(old, slot) else {
             unreachable!()

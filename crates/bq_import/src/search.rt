@@ -3,7 +3,7 @@ ghost use Rattle.std.specs.Prelude.{◌≡◌, ◌<◌, ◌≤◌, ◌+◌, ℕ,
 ghost use Rattle.bq_insn.specs.declared.Insn.{Insn};
 ghost use Rattle.bq_graph.specs.Edges.{IsEdge, IsStart};
 ghost use Rattle.bq_graph.specs.Passes.{IsOf};
-ghost use Rattle.bq_import.specs.Faults.{IsDisorder, IsFull};
+ghost use Rattle.bq_import.specs.Faults.{IsDisorder};
 ghost use Rattle.bq_import.specs.Search.{IsDone, IsLinked, IsReady, IsTop, place_at, is_open};
 ghost use Rattle.bq_import.specs.Searching.{IsAt, WentOn, IsDoneWith};
 
@@ -132,7 +132,7 @@ impl Search {
         requires edge { (top : ℕ) → IsTop self.old.stack.items top → IsEdge old.now top slot }
         ensures ok { OnOk result (WentOn maps old.now self.old self.new) }
         ensures opened { OnOk result (is_open self.new.opens.items slot ≡ true) }
-        ensures full { IfErr result IsFull }
+        ensures err { IfErr result (IsDisorder old.now) }
     {
         self.opens[slot] = true;
         self.stack.push(slot)?;
@@ -147,7 +147,7 @@ impl Search {
         requires top { IsTop self.old.stack.items slot }
         requires ready { IsReady old.now self.old.places.items slot }
         ensures ok { OnOk result (WentOn maps old.now self.old self.new) }
-        ensures full { IfErr result IsFull }
+        ensures err { IfErr result (IsDisorder old.now) }
     {
         self.copy.place(old, maps, self.places.as_slice(), slot)?;
         self.places[slot] = Some(self.copy.slots.len() - 1);

@@ -1,8 +1,10 @@
-use Rattle.std.proofs.Common.{◌≡◌, ◌<◌, ◌-◌, ℕ, arith, List, Some, length, take, subst, sym, ap, ◌∙◌}
+use Rattle.std.proofs.Common.{◌≡◌, ◌<◌, ◌+◌, ◌-◌, ℕ, arith, List, Some, length, take, subst, sym, ap, ◌∙◌}
 use Rattle.std.specs.Prelude.{slice_set}
+use Rattle.std.proofs.lemmas.Result.{err_from_is_err_and}
 use Rattle.bq_import.specs.Search.{IsSearching, left_of}
 use Rattle.bq_graph.specs.Edges.{IsStart}
 use Rattle.bq_graph.proofs.EdgeLemmas.{start_inside}
+use Rattle.bq_import.proofs.RoomLemmas.{too_long}
 use Rattle.bq_import.proofs.StackLemmas.{after_leave, less_leave}
 use Rattle.bq_import.proofs.search.Search.leave.Goals as goal
 
@@ -33,13 +35,21 @@ returns-clause-ok c =
     let opens = before.opens.items in
     let stack = before.stack.items in
     let more = c.in_ok-place.ensures.ok in
+    let grown = c.in_ok-place.ensures.grown in
     let count : c.len.result ≡ length back' = c.len.ensures ∙ c.place.new.self.slots.ok.0 in
     let stack_is : c.pop.new.self.items ≡ take (length stack - 1) stack = c.pop.ensures.rest ∙ ap (λ (n : ℕ). take (n - 1) stack) before.stack.ok.0 in
-    let at = after_leave c.args.maps old before.copy.slots.items before.copy.origins.items places opens stack c.requires.at c.args.slot c.requires.top c.requires.ready back' origins' more in
-    let less = less_leave c.args.maps old before.copy.slots.items before.copy.origins.items places opens stack c.requires.at c.args.slot c.requires.top c.requires.ready back' origins' more in
+    let at = after_leave c.args.maps old before.copy.slots.items before.copy.origins.items places opens stack c.requires.at c.args.slot c.requires.top c.requires.ready back' origins' more grown in
+    let less = less_leave c.args.maps old before.copy.slots.items before.copy.origins.items places opens stack c.requires.at c.args.slot c.requires.top c.requires.ready back' origins' more grown in
     record {
       at = subst (λ (n : ℕ). IsSearching c.args.maps old back' origins' (slice_set places c.args.slot (Some (n - 1))) opens c.pop.new.self.items) (sym count)
           (subst (λ (s : List ℕ). IsSearching c.args.maps old back' origins' (slice_set places c.args.slot (Some (length back' - 1))) opens s) (sym stack_is) at);
       keeps = λ s e. e;
       less = subst (λ (s : List ℕ). left_of opens s < left_of opens stack) (sym stack_is) less;
     }
+
+pub returns-in_err-place-clause-err : goal.returns-in_err-place-clause-err
+returns-in_err-place-clause-err c =
+    let p = err_from_is_err_and c.from_residual.result c.from_residual.ensures.1 in
+    let most : ℕ = length c.args.self.now.copy.slots.items + (length c.args.old.now - c.args.slot) in
+    let size = c.requires.at.size in
+    rw (p.1, p.2) (too_long c.args.old.now most c.in_err-place.field-0.0 (omega (arith, size)) c.in_err-place.ensures.full)
