@@ -2,7 +2,7 @@
 use Rattle.std.proofs.Common.{◌≡◌, ℕ, List, [], ◌∷◌, ◌++◌, Some, None, refl, sym, ap, ◌∙◌, append_assoc, append-nil, subst}
 use Rattle.bq_trace.specs.News.{News, Told, TakesAll, Gets}
 use Rattle.bq_actions.specs.declared.workload.Workload.{Workload}
-use Rattle.bq_simulate.specs.Simulations.{IsSimulation}
+use Rattle.bq_simulate.specs.Simulations.{Accepted, IsSimulation}
 use Rattle.bq_comparison.specs.declared.values.Delay.{Delay}
 use Rattle.bq_comparison.specs.declared.gathering.Gatherer.{Gatherer}
 use Rattle.bq_comparison.specs.Gathering.{IsGathered, delays_after, delays_with, schedule_after, schedule_with}
@@ -26,9 +26,10 @@ delays-after old new ((n, x) ∷ more) h =
     ∙ append_assoc old.delays.items (delays_with old.schedule x) (delays_after (schedule_with old.schedule x) more)
 
 -- the schedule and the delays of a whole simulation
-pub gathered : (old new : Gatherer) (w : Workload) → old.schedule ≡ None → old.delays.items ≡ [] → Gets Takes old new (IsSimulation w)
+pub gathered : (old new : Gatherer) (policies : List Accepted) (w : Workload) → old.schedule ≡ None → old.delays.items ≡ [] → Gets Takes old new (IsSimulation policies w)
     → IsGathered w new.schedule new.delays.items
-gathered old new w none empty g = record {
+gathered old new policies w none empty g = record {
+  policies = policies;
   told = g.told;
   simulation = g.holds;
   schedule_is = schedule-after old new g.told g.taken ∙ ap (λ s. schedule_after s g.told) none;

@@ -7,7 +7,7 @@ use Rattle.bq_schedule.specs.declared.change.Start.{Start}
 use Rattle.bq_schedule.specs.Figures.{Figures, opening}
 use Rattle.bq_schedule.specs.Steps.{after, change}
 use Rattle.bq_comparison.specs.declared.values.Delay.{Delay}
-use Rattle.bq_simulate.specs.Simulations.{IsSimulation}
+use Rattle.bq_simulate.specs.Simulations.{Accepted, IsSimulation}
 
 -- the schedule begins with the machine, and each event is taken with its answer
 abbrev pub schedule_with : Option Figures → News → Option Figures
@@ -37,9 +37,10 @@ abbrev pub delays_after : Option Figures → Told → List Delay
 delays_after s [] = []
 delays_after s ((n, news) ∷ more) = delays_with s news ++ delays_after (schedule_with s news) more
 
--- the schedule and the delays of a simulation of that workload
+-- the schedule and the delays of a simulation of that workload, with some policies
 pub record IsGathered (w : Workload) (schedule : Option Figures) (delays : List Delay) : Type 0 where
+  pub policies : List Accepted
   pub told : Told
-  pub simulation : IsSimulation w told
+  pub simulation : IsSimulation policies w told
   pub schedule_is : schedule ≡ schedule_after None told
   pub delays_are : delays ≡ delays_after None told

@@ -5,10 +5,10 @@ use Rattle.std.specs.Prelude.{slice_get, slice_set}
 use Rattle.bq_parts.specs.declared.event.Event.{Event}
 use Rattle.bq_parts.specs.declared.event.Event.TheVariants.{BeginWake, EndWake, Drain}
 use Rattle.bq_parts.specs.declared.reply.Reply.{Reply}
-use Rattle.bq_trace.specs.News.{News, Told}
+use Rattle.bq_trace.specs.News.{News, Told, Gets}
 use Rattle.bq_trace.proofs.TakingLemmas.{TakesAll-append}
 use Rattle.bq_simulate.specs.declared.driver.Driver.{Driver}
-use Rattle.bq_simulate.specs.Drives.{Did, Does, Drives, Drove}
+use Rattle.bq_simulate.specs.Drives.{Did, Drives, Drove, Places}
 use Rattle.bq_actions.specs.Streams.{stream_of_task}
 use Rattle.bq_actions.specs.declared.action.Action.{Action}
 use Rattle.bq_actions.specs.declared.workload.TaskKind.{TaskKind}
@@ -21,8 +21,7 @@ use Rattle.bq_simulate.specs.declared.simulation.Simulation.{Simulation}
 use Rattle.bq_simulate.specs.Actions.{IsOfKind, acted, asked_by, next_action}
 use Rattle.bq_simulate.specs.Chronicles.{Acts, Book, Deed, Happens, IsDue, IsWoken, Joins, Lives, after_act, after_answer, after_event, drawn_with, events_of, joined, length_taken}
 use Rattle.bq_simulate.specs.Simulations.{Befell, DrawsFor, HasDrawn, Lived, Same, Silent, Stays, book_of, streams_after}
-use Rattle.bq_simulate.specs.Steps.{AreOfOpening, AreWake, Follow, IsAct}
-use Rattle.bq_simulate.proofs.StepLemmas.{AreOfOpening-join}
+use Rattle.bq_simulate.specs.Steps.{AreWake, Follow, IsAct, IsJoin}
 use Rattle.bq_simulate.proofs.StreamLemmas.{gives_if_asked, opened-streams}
 
 -- some, and then others
@@ -116,10 +115,6 @@ pub Lived-then : {S : Type 0} (takes : S → ℕ → News → S → Type 0) (kin
 Lived-then takes kinds A x y s t u first same =
     Lived-join takes kinds A AreNone A (λ xs ys are none. subst (λ (l : List Deed). A (xs ++ l)) (sym none) (subst A (sym (append-nil xs)) are)) x y y s t u first (Lived-same takes AreNone refl y t u same kinds)
 
--- the opening goes on
-pub Opening-join : {S : Type 0} (takes : S → ℕ → News → S → Type 0) (kinds : List TaskKind) (x y z : S) (s t u : Simulation) → Lived takes kinds AreOfOpening x s y t → Lived takes kinds AreOfOpening y t z u → Lived takes kinds AreOfOpening x s z u
-Opening-join takes kinds = Lived-join takes kinds AreOfOpening AreOfOpening AreOfOpening AreOfOpening-join
-
 -- an action is followed by what follows that action
 pub Follow-same : {S : Type 0} (takes : S → ℕ → News → S → Type 0) (a b : Option Action) (processor now : ℕ) (x y : S) (s t : Simulation) → a ≡ b → Befell takes (Follow b processor now) x s y t → Befell takes (Follow a processor now) x s y t
 Follow-same takes a b processor now x y s t is befell = subst (λ (o : Option Action). Befell takes (Follow o processor now) x s y t) (sym is) befell
@@ -177,7 +172,7 @@ Silent-acts kinds s m n t processor task now length action c next is ended drive
 pub Silent-joins : (kinds : List TaskKind) (s t : Simulation) (kind home : ℕ) → t.roster.pace ≡ s.roster.pace → t.seed ≡ s.seed → t.driver ≡ s.driver
     → t.roster.courses.items ≡ s.roster.courses.items ++ fresh kind home ∷ [] → t.roster.lanes.items ≡ s.roster.lanes.items
     → t.streams.items ≡ s.streams.items ++ stream_of_task s.seed (length s.streams.items) ∷ []
-    → IsOfKind kinds (length s.roster.courses.items) kind → Silent kinds AreOfOpening s t
+    → IsOfKind kinds (length s.roster.courses.items) kind → Silent kinds (IsJoin kind home) s t
 Silent-joins kinds s t kind home pace seed driver courses lanes streams of drawn had = record {
   deeds = Joins kind home ∷ [];
   after = drawn ++ 0 ∷ [];
@@ -185,7 +180,7 @@ Silent-joins kinds s t kind home pace seed driver courses lanes streams of drawn
   seed = seed;
   streams = opened-streams s t drawn seed streams had;
   lives = (of, (refl, driver, ap (λ (a : Accounts). record { accounts = a; drawn = drawn ++ 0 ∷ [] }) (same_accounts _ _ _ _ courses lanes)));
-  are = (tt, tt);
+  are = refl;
 }
 
 -- an event happens
@@ -226,14 +221,13 @@ Lived-drove takes A x y s t event are due stays quiet drove accounts kinds drawn
 
 -- a task is woken, and the processor on which it was placed takes it in
 pub Lived-wakes : {S : Type 0} (takes : S → ℕ → News → S → Type 0) (x y z : S) (s t : Simulation) (m : Driver) (from task to now : ℕ) (reply : Reply) → IsWoken (accounts_of s.roster) from task → Stays s t
-    → Drove takes x s.driver (BeginWake from task ∷ EndWake from now ∷ []) y m → Did takes y m (Drain to now) reply z t.driver
+    → Gets takes x y (λ told. Places s.driver from task now to told m) → Did takes y m (Drain to now) reply z t.driver
     → accounts_of t.roster ≡ after_event s.roster.pace.migration_cost (Drain to now) reply (of_task woken task (accounts_of s.roster)) → Befell takes (AreWake from task now) x s z t
 Lived-wakes takes x y z s t m from task to now reply due stays woke did accounts kinds drawn had =
     let h = woke.holds in
-    let k = h.5 in
     let kept = ap (λ (a : Accounts). record { accounts = a; drawn = drawn }) accounts in
     record {
-      deeds = Happens (BeginWake from task) h.0 ∷ Happens (EndWake from now) k.0 ∷ Happens (Drain to now) reply ∷ [];
+      deeds = Happens (BeginWake from task) h.begun ∷ Happens (EndWake from now) h.placed ∷ Happens (Drain to now) reply ∷ [];
       after = drawn;
       pace = stays.pace;
       seed = stays.seed;
@@ -241,15 +235,7 @@ Lived-wakes takes x y z s t m from task to now reply due stays woke did accounts
       tells = record {
         told = woke.told ++ did.told;
         taken = TakesAll-append takes x y z woke.told did.told woke.taken did.taken;
-        holds = (
-          due,
-          h.1,
-          h.2,
-          k.2 ++ did.told,
-          h.4,
-          (tt, k.1, k.2, did.told, k.4, (tt, t.driver, did.told, [], subst (λ (x : Driver). Does x (Drain to now) reply did.told t.driver) k.5.1 did.holds, (refl, refl, kept), sym (append-nil did.told)), refl),
-          ap (λ (x : Told). x ++ did.told) (h.6 ∙ ap (λ (x : Told). h.2 ++ x) (k.6 ∙ ap (λ (x : Told). k.2 ++ x) k.5.0 ∙ append-nil k.2)) ∙ append_assoc h.2 k.2 did.told,
-        );
+        holds = (due, h.mid, h.first, h.more ++ did.told, h.begins, (tt, m, h.more, did.told, h.ends, (tt, t.driver, did.told, [], did.holds, (refl, refl, kept), sym (append-nil did.told)), refl), ap (λ (x : Told). x ++ did.told) h.whole ∙ append_assoc h.first h.more did.told);
       };
-      are = (to, (h.0, Happens (EndWake from now) k.0 ∷ Happens (Drain to now) reply ∷ [], refl, (k.0, Happens (Drain to now) reply ∷ [], refl, (reply, [], refl, refl))));
+      are = (h.begun, h.placed, reply, to, h.place, refl);
     }

@@ -1,11 +1,12 @@
 -- Events after events.
-use Rattle.std.proofs.Common.{◌≡◌, ℕ, List, [], ◌∷◌, ◌++◌, refl, sym, ◌∙◌, ap, subst, append_assoc, append-nil}
+use Rattle.std.proofs.Common.{◌≡◌, ℕ, List, [], ◌∷◌, ◌++◌, Some, refl, sym, ◌∙◌, ap, subst, append_assoc, append-nil}
 use Rattle.bq_parts.specs.declared.event.Event.{Event}
+use Rattle.bq_parts.specs.declared.event.Event.TheVariants.{BeginWake, EndWake}
 use Rattle.bq_parts.specs.declared.reply.Reply.{Reply}
 use Rattle.bq_trace.specs.News.{News, Told, Gets}
 use Rattle.bq_trace.proofs.TakingLemmas.{TakesAll-append}
 use Rattle.bq_simulate.specs.declared.driver.Driver.{Driver}
-use Rattle.bq_simulate.specs.Drives.{Does, Drives, Drove, Went}
+use Rattle.bq_simulate.specs.Drives.{Did, Does, Drives, Drove, Places, Went, placed_at}
 
 -- events one after another, and then others
 pub Drives-append : (d m e : Driver) (xs ys : List Event) (told more : Told) → Drives d xs told m → Drives m ys more e → Drives d (xs ++ ys) (told ++ more) e
@@ -36,9 +37,24 @@ Drove-join takes a b c d m e xs ys first second = record {
   holds = Drives-append d m e xs ys first.told second.told first.holds second.holds;
 }
 
--- two events, one after the other
-pub Drove-two : {S : Type 0} (takes : S → ℕ → News → S → Type 0) (a b c : S) (d m e : Driver) (x y : Event) (reply : Reply) → Gets takes a b (λ told. Does d x reply told m) → Drove takes b m (y ∷ []) c e → Drove takes a d (x ∷ y ∷ []) c e
-Drove-two takes a b c d m e x y reply first second = Drove-join takes a b c d m e (x ∷ []) (y ∷ []) (Drove-one takes a b d m x reply first) second
+-- a wake begins, and ends with its task placed
+pub Places-of : {S : Type 0} (takes : S → ℕ → News → S → Type 0) (a b c : S) (d m e : Driver) (from task now to : ℕ) (begun placed : Reply) → Did takes a d (BeginWake from task) begun b m → placed_at placed ≡ Some to → Did takes b m (EndWake from now) placed c e
+    → Gets takes a c (λ told. Places d from task now to told e)
+Places-of takes a b c d m e from task now to begun placed first place second = record {
+  told = first.told ++ second.told;
+  taken = TakesAll-append takes a b c first.told second.told first.taken second.taken;
+  holds = record { begun = begun; placed = placed; mid = m; first = first.told; more = second.told; begins = first.holds; ends = second.holds; place = place; whole = refl };
+}
+
+-- a wake is two events
+pub Drove-places : {S : Type 0} (takes : S → ℕ → News → S → Type 0) (a b : S) (d e : Driver) (from task now to : ℕ) → Gets takes a b (λ told. Places d from task now to told e) → Drove takes a d (BeginWake from task ∷ EndWake from now ∷ []) b e
+Drove-places takes a b d e from task now to gets =
+    let h = gets.holds in
+    record {
+      told = gets.told;
+      taken = gets.taken;
+      holds = (h.begun, h.mid, h.first, h.more, h.begins, (h.placed, e, h.more, [], h.ends, (refl, refl), sym (append-nil h.more)), h.whole);
+    }
 
 -- some events
 pub Went-of : {S : Type 0} (takes : S → ℕ → News → S → Type 0) (a b : S) (d e : Driver) (xs : List Event) → Drove takes a d xs b e → Went takes a d b e

@@ -51,7 +51,7 @@ switched-others processor run now cost k a h =
     [ None ↦ refl | Some lane ↦ elim (is_same lane.run run) as (λ (b : Bool). lane_at k (if b then a else over) ≡ lane_at k a) [ true ↦ refl | false ↦ same ] ]
 
 -- numbers up to the next
-numbers_more : (first count : ℕ) → range_with_len first (count + 1) ≡ range_with_len first count ++ (first + count) ∷ []
+pub numbers_more : (first count : ℕ) → range_with_len first (count + 1) ≡ range_with_len first count ++ (first + count) ∷ []
 numbers_more first zero = let e : first ≡ first + 0 = omega arith in ap (λ n. n ∷ []) e
 numbers_more first (suc count) =
     let e : first + 1 + count ≡ first + suc count = omega arith in

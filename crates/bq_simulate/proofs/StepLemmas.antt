@@ -4,17 +4,12 @@ use Rattle.std.proofs.lemmas.Grind.{flat_map-append}
 use Rattle.bq_actions.specs.declared.due.Due.{Due}
 use Rattle.bq_parts.specs.declared.event.Event.{Event}
 use Rattle.bq_simulate.specs.Chronicles.{Deed}
-use Rattle.bq_simulate.specs.Steps.{AreJust, AreMet, AreOfOpening, Meet, Rise, Step, deeds_of}
+use Rattle.bq_simulate.specs.Steps.{AreJust, AreMet, Meet, Rise, Step, deeds_of}
 
 -- some events, and then others
 pub AreJust-join : (xs ys : List Event) (ds es : List Deed) → AreJust xs ds → AreJust ys es → AreJust (xs ++ ys) (ds ++ es)
 AreJust-join [] ys ds es h k = subst (λ (l : List Deed). AreJust ys (l ++ es)) (sym h) k
 AreJust-join (x ∷ xs) ys ds es (reply, more, is, rest) k = (reply, more ++ es, ap (λ (l : List Deed). l ++ es) is, AreJust-join xs ys more es rest k)
-
--- more of the opening
-pub AreOfOpening-join : (ds es : List Deed) → AreOfOpening ds → AreOfOpening es → AreOfOpening (ds ++ es)
-AreOfOpening-join [] es h k = k
-AreOfOpening-join (d ∷ ds) es h k = (h.0, AreOfOpening-join ds es h.1 k)
 
 -- instants that never fall, and one more
 Rise-more : (first last : ℕ) (steps : List Step) (step : Step) → Rise first steps last → last ≤ step.at → Rise first (steps ++ step ∷ []) step.at

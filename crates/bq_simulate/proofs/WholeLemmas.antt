@@ -1,8 +1,10 @@
 -- A simulation from its beginning to its end.
 use Rattle.std.proofs.Common.{◌≡◌, ℕ, List, [], ◌++◌, ap, refl, ◌∙◌, subst}
+use Rattle.bq_actions.specs.declared.workload.TaskKind.{TaskKind}
 use Rattle.bq_actions.specs.declared.workload.Workload.{Workload}
 use Rattle.bq_trace.specs.News.{News, Gets}
 use Rattle.bq_trace.proofs.TakingLemmas.{TakesAll-append}
+use Rattle.bq_verify.specs.Accepted.{Accepted}
 use Rattle.bq_words.specs.Sizes.{processors_in}
 use Rattle.bq_simulate.specs.declared.driver.Driver.{Driver}
 use Rattle.bq_simulate.specs.Drives.{Starts}
@@ -12,19 +14,23 @@ use Rattle.bq_simulate.specs.declared.simulation.Simulation.{Simulation}
 use Rattle.bq_simulate.specs.Bounds.{most_steps}
 use Rattle.bq_simulate.specs.Chronicles.{Book, Deed, Lives}
 use Rattle.bq_simulate.specs.Simulations.{IsSimulation, Proceeds, Runs, book_of, opening_book}
-use Rattle.bq_simulate.specs.Steps.{AreMet, AreOfOpening}
+use Rattle.bq_simulate.specs.Steps.{AreAllAdmitted, AreInstalled, AreMet, Opens}
 use Rattle.bq_simulate.proofs.DeedLemmas.{Lives-append, drives-of-lives}
 
+-- what is installed, and then what is admitted
+pub Opens-join : (policies : List Accepted) (processors : ℕ) (kinds : List TaskKind) (xs ys : List Deed) → AreInstalled processors policies xs → AreAllAdmitted processors 0 0 kinds ys → Opens policies processors kinds (xs ++ ys)
+Opens-join policies processors kinds xs ys installed admitted = record { installs = xs; admissions = ys; whole = refl; installed = installed; admitted = admitted }
+
 -- what opens it, and then what comes due
-pub Proceeds-join : (most end : ℕ) (xs ys : List Deed) → AreOfOpening xs → AreMet most end ys → Proceeds most end (xs ++ ys)
-Proceeds-join most end xs ys opens meets = record { opening = xs; met = ys; whole = refl; opens = opens; meets = meets }
+pub Proceeds-join : (policies : List Accepted) (processors : ℕ) (kinds : List TaskKind) (most end : ℕ) (xs ys : List Deed) → Opens policies processors kinds xs → AreMet most end ys → Proceeds policies processors kinds most end (xs ++ ys)
+Proceeds-join policies processors kinds most end xs ys opens meets = record { opening = xs; met = ys; whole = refl; opens = opens; meets = meets }
 
 -- what is told of the opening machine, and then of some deeds
-pub simulation-of : {S : Type 0} (takes : S → ℕ → News → S → Type 0) (a b c : S) (w : Workload) (d : Driver) (s t : Simulation)
+pub simulation-of : {S : Type 0} (takes : S → ℕ → News → S → Type 0) (a b c : S) (policies : List Accepted) (w : Workload) (d : Driver) (s t : Simulation)
     → Gets takes a b (λ told. Starts w.machine.rule w.machine.size told d) → s.driver ≡ d → accounts_of s.roster ≡ (opening_book w.machine).accounts
     → s.roster.pace.migration_cost ≡ w.machine.migration_cost → s.seed ≡ w.machine.seed → s.streams.items ≡ []
-    → Runs takes w.tasks.items (most_steps w) w.machine.duration (processors_in w.machine.size) b s c t → Gets takes a c (IsSimulation w)
-simulation-of takes a b c w d s t first driver accounts cost seed streams runs =
+    → Runs takes policies w.tasks.items (most_steps w) w.machine.duration (processors_in w.machine.size) b s c t → Gets takes a c (IsSimulation policies w)
+simulation-of takes a b c policies w d s t first driver accounts cost seed streams runs =
     let kinds = w.tasks.items in
     let machine = w.machine in
     let ended = runs.ended in

@@ -1,9 +1,9 @@
 -- A machine driven event by event, and what is told of it.
 use Rattle.std.specs.Prelude.{◌≡◌, ℕ, ◌<◌, ◌≤◌, ◌^◌, List, [], ◌∷◌, ◌++◌, Option, Some, None, Ok}
 use Rattle.bq_parts.specs.declared.event.Event.{Event}
-use Rattle.bq_parts.specs.declared.event.Event.TheVariants.{EndWake, Drain, Tick, Block, Pull}
+use Rattle.bq_parts.specs.declared.event.Event.TheVariants.{BeginWake, EndWake, Drain, Tick, Block, Pull}
 use Rattle.bq_parts.specs.declared.reply.Reply.{Reply}
-use Rattle.bq_parts.specs.declared.reply.Reply.TheVariants.{Drained, Ticked, Blocked, Pulled}
+use Rattle.bq_parts.specs.declared.reply.Reply.TheVariants.{Placed, Drained, Ticked, Blocked, Pulled}
 use Rattle.bq_words.specs.declared.rule.Rule.{Rule}
 use Rattle.bq_words.specs.declared.processor_count.ProcessorCount.{ProcessorCount}
 use Rattle.bq_trace.specs.Counts.{one_more}
@@ -60,6 +60,23 @@ count_entered reply = 0
 abbrev pub task_pulled : Reply → Option ℕ
 task_pulled (Pulled task run by steps) = task
 task_pulled reply = None
+
+-- the processor on which it placed a task
+abbrev pub placed_at : Reply → Option ℕ
+placed_at (Placed task to by steps) = Some to
+placed_at reply = None
+
+-- a wake from a processor begins and ends there, and its answer says that the task was placed on this one
+pub record Places (d : Driver) (from task now to : ℕ) (told : Told) (e : Driver) : Type 0 where
+  pub begun : Reply
+  pub placed : Reply
+  pub mid : Driver
+  pub first : Told
+  pub more : Told
+  pub begins : Does d (BeginWake from task) begun first mid
+  pub ends : Does mid (EndWake from now) placed more e
+  pub place : placed_at placed ≡ Some to
+  pub whole : told ≡ first ++ more
 
 -- some events are done one after another, and none is refused
 abbrev pub Drives : Driver → List Event → Told → Driver → Type 0

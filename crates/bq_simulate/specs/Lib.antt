@@ -4,6 +4,7 @@ pub mod Chronicles
 pub mod Simulations
 pub mod Steps
 pub mod Drives
+pub mod Faults
 pub mod Laws
 pub mod Spelling
 pub mod Retelling

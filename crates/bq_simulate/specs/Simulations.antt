@@ -6,6 +6,7 @@ use Rattle.bq_actions.specs.declared.setup.Setup.{Setup}
 use Rattle.bq_actions.specs.declared.workload.TaskKind.{TaskKind}
 use Rattle.bq_actions.specs.declared.workload.Workload.{Workload}
 use Rattle.bq_actions.specs.Streams.{stream_of_task, after_draw, after_draws}
+pub use Rattle.bq_verify.specs.Accepted.{Accepted}
 use Rattle.bq_words.specs.Sizes.{processors_in}
 use Rattle.bq_trace.specs.News.{News, Told, Gets}
 use Rattle.bq_simulate.specs.declared.driver.Driver.{Driver}
@@ -15,7 +16,7 @@ use Rattle.bq_simulate.specs.declared.simulation.Simulation.{Simulation}
 use Rattle.bq_simulate.specs.Actions.{next_length}
 use Rattle.bq_simulate.specs.Bounds.{most_steps}
 use Rattle.bq_simulate.specs.Chronicles.{Book, Deed, Lives, events_of}
-use Rattle.bq_simulate.specs.Steps.{AreJust, AreMet, AreOfOpening, all_processors, last_ticks}
+use Rattle.bq_simulate.specs.Steps.{AreJust, AreMet, Opens, all_processors, last_ticks}
 
 -- the same workload with another seed
 abbrev pub with_seed : Workload → ℕ → Workload
@@ -25,32 +26,32 @@ with_seed w seed = record w { machine = record w.machine { seed = seed } }
 abbrev pub opening_book : Setup → Book
 opening_book machine = record { accounts = opening (processors_in machine.size); drawn = [] }
 
--- first policies are installed and tasks admitted; then so many things at most come due until the end, and are met
-pub record Proceeds (most end : ℕ) (deeds : List Deed) : Type 0 where
+-- first these policies are installed and all tasks admitted; then so many things at most come due until the end, and are met
+pub record Proceeds (policies : List Accepted) (processors : ℕ) (kinds : List TaskKind) (most end : ℕ) (deeds : List Deed) : Type 0 where
   pub opening : List Deed
   pub met : List Deed
   pub whole : deeds ≡ opening ++ met
-  pub opens : AreOfOpening opening
+  pub opens : Opens policies processors kinds opening
   pub meets : AreMet most end met
 
 -- when nothing comes due any more each processor that runs something ticks at the end, by number, and nothing else is done
-pub record Ends (w : Workload) (d : Driver) (deeds : List Deed) : Type 0 where
+pub record Ends (policies : List Accepted) (w : Workload) (d : Driver) (deeds : List Deed) : Type 0 where
   pub until : List Deed
   pub last : List Deed
   pub whole : deeds ≡ until ++ last
-  pub proceeds : Proceeds (most_steps w) w.machine.duration until
+  pub proceeds : Proceeds policies (processors_in w.machine.size) w.tasks.items (most_steps w) w.machine.duration until
   pub told : Told
   pub driver : Driver
   pub book : Book
   pub lives : Lives w.tasks.items w.machine.seed w.machine.migration_cost d (opening_book w.machine) until told driver book
   pub ticks : AreJust (last_ticks w.machine.duration (all_processors (processors_in w.machine.size)) book.accounts) last
 
--- It makes the machine that the workload asks for, and then some events are done one after another, of which none is refused,
+-- It makes the machine that the workload asks for, with these policies at all processors, and then some events are done one after another, of which none is refused,
 -- with readings that never fall: so it is the trace of those events, with their answers. Who has run and how long is what
 -- the answers say. Each task goes through the actions of its kind in their order, and over again; it goes on only when it has
 -- got just the length of its run phase, and the costs of its changes of processor; and each length is the next of its task.
 -- All is done when something comes due, but for what opens it and for the ticks at its end.
-pub record IsSimulation (w : Workload) (told : Told) : Type 0 where
+pub record IsSimulation (policies : List Accepted) (w : Workload) (told : Told) : Type 0 where
   pub opening : Driver
   pub closing : Driver
   pub deeds : List Deed
@@ -61,7 +62,7 @@ pub record IsSimulation (w : Workload) (told : Told) : Type 0 where
   pub drives : Drives opening (events_of deeds) more closing
   pub lives : Lives w.tasks.items w.machine.seed w.machine.migration_cost opening (opening_book w.machine) deeds more closing book
   pub whole : told ≡ first ++ more
-  pub ends : Ends w opening deeds
+  pub ends : Ends policies w opening deeds
 
 -- the streams of the tasks from this number on, each after so many draws
 abbrev pub streams_after : ℕ → ℕ → List ℕ → List Lcg
@@ -105,10 +106,10 @@ abbrev pub Silent : List TaskKind → (List Deed → Type 0) → Simulation → 
 Silent kinds Are s t = (drawn : List ℕ) → HasDrawn s drawn → GoesUntold kinds Are s drawn t
 
 -- a simulation goes on until nothing comes due, and then to its end
-pub record Runs {S : Type 0} (takes : S → ℕ → News → S → Type 0) (kinds : List TaskKind) (most end processors : ℕ) (old : S) (s : Simulation) (new : S) (t : Simulation) : Type 0 where
+pub record Runs {S : Type 0} (takes : S → ℕ → News → S → Type 0) (policies : List Accepted) (kinds : List TaskKind) (most end processors : ℕ) (old : S) (s : Simulation) (new : S) (t : Simulation) : Type 0 where
   pub sink : S
   pub ended : Simulation
-  pub proceeds : Lived takes kinds (Proceeds most end) old s sink ended
+  pub proceeds : Lived takes kinds (Proceeds policies processors kinds most end) old s sink ended
   pub ticks : Lived takes kinds (AreJust (last_ticks end (all_processors processors) (accounts_of ended.roster))) sink ended new t
 
 -- what stays beside the machine and the accounts

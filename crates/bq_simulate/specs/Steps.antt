@@ -1,36 +1,87 @@
 -- What comes due in a simulation, and what is done then.
-use Rattle.std.specs.Prelude.{◌≡◌, ◌≢◌, ◌⊎◌, ◌≤◌, ℕ, List, [], ◌∷◌, Option, Some, length, map, filter, slice_get}
+use Rattle.std.specs.Prelude.{◌≡◌, ◌≢◌, ◌⊎◌, ◌<◌, ◌≤◌, ◌+◌, ℕ, zero, suc, true, false, List, [], ◌∷◌, ◌++◌, Option, Some, length, map, filter, slice_get}
 use Rattle.std.specs.List.{flat_map, range_with_len}
 use Rattle.bq_actions.specs.declared.action.Action.{Action}
 use Rattle.bq_actions.specs.declared.action.Action.TheVariants.{Run, Wake}
 use Rattle.bq_actions.specs.declared.due.Due.{Due}
+use Rattle.bq_actions.specs.declared.workload.TaskKind.{TaskKind}
+use Rattle.bq_hooks.specs.OwnPlace.{allows}
 use Rattle.bq_actions.specs.declared.due.Due.TheVariants as due
 use Rattle.bq_parts.specs.declared.event.Event.{Event}
 use Rattle.bq_parts.specs.declared.event.Event.TheVariants.{Admit, Draw, Install, BeginWake, EndWake, Drain, Tick, Block, Pull}
 use Rattle.bq_parts.specs.declared.reply.Reply.{Reply}
+use Rattle.bq_parts.specs.declared.reply.Reply.TheVariants.{Drawn}
+use Rattle.bq_verify.specs.Accepted.{Accepted}
 use Rattle.bq_actions.specs.Accounts.{Accounts}
 use Rattle.bq_simulate.specs.Chronicles.{Acts, Deed, Happens, Joins, is_busy}
+use Rattle.bq_simulate.specs.Drives.{placed_at}
 
 -- these events happen, whatever their answers are, and nothing beside them
 abbrev pub AreJust : List Event → List Deed → Type 0
 AreJust [] deeds = deeds ≡ []
 AreJust (event ∷ events) deeds = (reply : Reply) × (more : List Deed) × (deeds ≡ Happens event reply ∷ more) × AreJust events more
 
--- a policy is installed or its generation drawn, or a task is admitted and joins
-abbrev pub IsOfOpening : Deed → Type 0
-IsOfOpening (Happens Draw reply) = Unit {0}
-IsOfOpening (Happens (Install processor hook generation policy) reply) = Unit {0}
-IsOfOpening (Happens (Admit task nice mask slice) reply) = Unit {0}
-IsOfOpening (Joins kind home) = Unit {0}
-IsOfOpening deed = ⊥
+abbrev pub all_processors : ℕ → List ℕ
+all_processors count = range_with_len 0 count
 
-abbrev pub AreOfOpening : List Deed → Type 0
-AreOfOpening [] = Unit {0}
-AreOfOpening (deed ∷ deeds) = IsOfOpening deed × AreOfOpening deeds
+-- a policy is installed at its hook of each processor, by number, as a generation
+abbrev pub installs_of : ℕ → ℕ → Accepted → List Event
+installs_of processors generation policy = map (λ processor. Install processor policy.hook generation (Some policy)) (all_processors processors)
 
--- a task is woken from a processor, and the one on which it was placed takes it in at the same instant
+-- a generation is drawn, and a policy is installed as that generation
+abbrev pub IsInstalled : ℕ → Accepted → List Deed → Type 0
+IsInstalled processors policy deeds =
+    (generation : ℕ) × (some : List Deed) × (deeds ≡ Happens Draw (Drawn generation) ∷ some) × AreJust (installs_of processors generation policy) some
+
+-- these policies are installed, one after another
+abbrev pub AreInstalled : ℕ → List Accepted → List Deed → Type 0
+AreInstalled processors [] deeds = deeds ≡ []
+AreInstalled processors (policy ∷ policies) deeds =
+    (some : List Deed) × (more : List Deed) × (deeds ≡ some ++ more) × IsInstalled processors policy some × AreInstalled processors policies more
+
+-- the first of so many processors that a mask allows
+pub record IsFirst (processors mask home : ℕ) : Type 0 where
+  pub within : home < processors
+  pub allowed : allows mask home ≡ true
+  pub least : (lower : ℕ) → lower < home → allows mask lower ≡ false
+
+-- a task is there, of the kind of this number and with this home
+abbrev pub IsJoin : ℕ → ℕ → List Deed → Type 0
+IsJoin number home deeds = deeds ≡ Joins number home ∷ []
+
+-- a task of a kind is admitted as its kind says, and is there; its home is the first processor that it may use
+abbrev pub IsAdmission : ℕ → ℕ → TaskKind → ℕ → List Deed → Type 0
+IsAdmission processors number kind task deeds =
+    (reply : Reply) × (home : ℕ) × IsFirst processors kind.mask home
+    × (deeds ≡ Happens (Admit task kind.nice kind.mask kind.slice) reply ∷ Joins number home ∷ [])
+
+-- so many tasks of a kind are admitted, from this task on
+abbrev pub AreAdmitted : ℕ → ℕ → TaskKind → ℕ → ℕ → List Deed → Type 0
+AreAdmitted processors number kind task zero deeds = deeds ≡ []
+AreAdmitted processors number kind task (suc count) deeds =
+    (some : List Deed) × (more : List Deed) × (deeds ≡ some ++ more)
+    × IsAdmission processors number kind task some × AreAdmitted processors number kind (task + 1) count more
+
+-- all tasks of these kinds are admitted, kind by kind, from this kind and this task on
+abbrev pub AreAllAdmitted : ℕ → ℕ → ℕ → List TaskKind → List Deed → Type 0
+AreAllAdmitted processors number task [] deeds = deeds ≡ []
+AreAllAdmitted processors number task (kind ∷ kinds) deeds =
+    (some : List Deed) × (more : List Deed) × (deeds ≡ some ++ more)
+    × AreAdmitted processors number kind task kind.count some × AreAllAdmitted processors (number + 1) (task + kind.count) kinds more
+
+-- first these policies are installed, and then all tasks of these kinds are admitted
+pub record Opens (policies : List Accepted) (processors : ℕ) (kinds : List TaskKind) (deeds : List Deed) : Type 0 where
+  pub installs : List Deed
+  pub admissions : List Deed
+  pub whole : deeds ≡ installs ++ admissions
+  pub installed : AreInstalled processors policies installs
+  pub admitted : AreAllAdmitted processors 0 0 kinds admissions
+
+-- a task is woken from a processor, and the one on which the answer says that it was placed takes it in at the same instant
 abbrev pub AreWake : ℕ → ℕ → ℕ → List Deed → Type 0
-AreWake from task now deeds = (to : ℕ) × AreJust (BeginWake from task ∷ EndWake from now ∷ Drain to now ∷ []) deeds
+AreWake from task now deeds =
+    (begun : Reply) × (placed : Reply) × (drained : Reply) × (to : ℕ) × (placed_at placed ≡ Some to)
+    × (deeds ≡ Happens (BeginWake from task) begun ∷ Happens (EndWake from now) placed ∷ Happens (Drain to now) drained ∷ [])
 
 -- the task that runs at a processor wakes another from there, if that waits
 abbrev pub Wakes : ℕ → ℕ → List Deed → Type 0
@@ -78,9 +129,6 @@ pub record AreMet (most last : ℕ) (deeds : List Deed) : Type 0 where
 -- which of these processors run something: each of them ticks at the end
 abbrev pub last_ticks : ℕ → List ℕ → Accounts → List Event
 last_ticks end processors a = map (λ processor. Tick processor end) (filter (is_busy a) processors)
-
-abbrev pub all_processors : ℕ → List ℕ
-all_processors count = range_with_len 0 count
 
 -- only this processor may run something else
 abbrev pub KeepsOthers : ℕ → Accounts → Accounts → Type 0

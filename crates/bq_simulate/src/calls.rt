@@ -1,8 +1,10 @@
 //! The events by their answers.
-ghost use Rattle.std.specs.Prelude.{◌≡◌, ◌∷◌, [], IfOk, OnOk};
-ghost use Rattle.bq_parts.specs.declared.event.Event.TheVariants.{Admit, Draw, Install, BeginWake, EndWake, Drain, Tick, Block, Pull};
+ghost use Rattle.std.specs.Prelude.{◌≡◌, ◌∷◌, [], IfOk, OnOk, Some};
+ghost use Rattle.bq_parts.specs.declared.event.Event.TheVariants.{Admit, Draw, Install, EndWake, Drain, Tick, Block, Pull};
 ghost use Rattle.bq_parts.specs.declared.reply.Reply.{Reply};
-ghost use Rattle.bq_simulate.specs.Drives.{count_entered, Did, Drove, runs_now, task_pulled};
+ghost use Rattle.bq_parts.specs.declared.reply.Reply.TheVariants.{Drawn};
+ghost use Rattle.bq_simulate.specs.Drives.{count_entered, Did, Drove, Places, placed_at, runs_now, task_pulled};
+ghost use Rattle.bq_trace.specs.News.{Gets};
 
 use crate::drive_fault::DriveFault;
 use crate::driver::Driver;
@@ -58,7 +60,7 @@ impl Driver {
         now: u64,
         sink: &mut S,
     ) -> Result<u8, DriveFault>
-        ensures { OnOk result (Drove S.takes sink.old self.old (BeginWake processor task ∷ EndWake processor now ∷ []) sink.new self.new) }
+        ensures { IfOk result (λ to. Gets S.takes sink.old sink.new (λ told. Places self.old processor task now to told self.new)) }
     {
         match self.perform(alloc, Event::BeginWake { processor, task }, sink)? {
             Reply::Begun { .. } => self.place(alloc, processor, now, sink),
@@ -74,7 +76,7 @@ impl Driver {
         now: u64,
         sink: &mut S,
     ) -> Result<u8, DriveFault>
-        ensures { OnOk result (Drove S.takes sink.old self.old (EndWake processor now ∷ []) sink.new self.new) }
+        ensures { IfOk result (λ to. (reply : Reply) × (placed_at reply ≡ Some to) × Did S.takes sink.old self.old (EndWake processor now) reply sink.new self.new) }
     {
         match self.perform(alloc, Event::EndWake { processor, now }, sink)? {
             Reply::Placed { to, .. } => Ok(to),
@@ -154,7 +156,7 @@ impl Driver {
 
     /// The next generation's number.
     pub fn draw<S: Sink>(&mut self, alloc: Global, sink: &mut S) -> Result<u64, DriveFault>
-        ensures { OnOk result (Drove S.takes sink.old self.old (Draw ∷ []) sink.new self.new) }
+        ensures { IfOk result (λ generation. Did S.takes sink.old self.old Draw (Drawn generation) sink.new self.new) }
     {
         match self.perform(alloc, Event::Draw, sink)? {
             Reply::Drawn { generation } => Ok(generation),

@@ -1,4 +1,5 @@
 //! Why a simulation does not come to its end.
+ghost use Rattle.bq_simulate.specs.Faults.{IsUnsound};
 
 use crate::DriveFault;
 use crate::sound::Unsound;
@@ -24,6 +25,18 @@ pub enum SimulateFault {
     /// The loop took more steps than its workload allows. That would be a fault of this program.
     #[error("internal fault: the loop does not end")]
     Endless,
+}
+
+impl SimulateFault {
+    /// The fault as one that came once the workload was found sound: that it is not would be a fault of this program.
+    pub(crate) fn past_soundness(self) -> SimulateFault
+        ensures { ¬ IsUnsound result }
+    {
+        match self {
+            SimulateFault::Unsound(_) => SimulateFault::Astray,
+            fault => fault,
+        }
+    }
 }
 
 impl From<AllocError> for SimulateFault {

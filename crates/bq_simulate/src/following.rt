@@ -1,8 +1,9 @@
 //! A simulation from its beginning to its end.
-ghost use Rattle.std.specs.Prelude.{◌≡◌, [], ◌∷◌, OnOk, IfOk, length};
+ghost use Rattle.std.specs.Prelude.{◌≡◌, [], ◌∷◌, OnOk, IfOk, IfErr, length};
 ghost use Rattle.bq_actions.specs.Accounts.{accounts_of};
 ghost use Rattle.bq_words.specs.Sizes.{processors_in};
 ghost use Rattle.bq_simulate.specs.Bounds.{most_steps};
+ghost use Rattle.bq_simulate.specs.Faults.{IsUnsound};
 ghost use Rattle.bq_simulate.specs.Simulations.{Befell, IsSimulation, Lived, Runs, Same, opening_book, with_seed};
 ghost use Rattle.bq_simulate.specs.Steps.{AreJust, AreMet, KeepsOthers, all_processors, last_ticks};
 ghost use Rattle.bq_trace.specs.News.{Gets};
@@ -29,7 +30,8 @@ pub fn simulate<S: Sink>(
     policies: &[Policy],
     sink: &mut S,
 ) -> Result<Tally, SimulateFault>
-    ensures { OnOk result (Gets S.takes sink.old sink.new (IsSimulation workload.now)) }
+    ensures told { OnOk result (Gets S.takes sink.old sink.new (IsSimulation policies.now workload.now)) }
+    ensures unsound { IfErr result (λ fault. IsUnsound fault → sink.new ≡ sink.old) }
 {
     simulate_seed(alloc, workload, workload.machine.seed, policies, sink)
 }
@@ -42,9 +44,26 @@ pub fn simulate_seed<S: Sink>(
     policies: &[Policy],
     sink: &mut S,
 ) -> Result<Tally, SimulateFault>
-    ensures { OnOk result (Gets S.takes sink.old sink.new (IsSimulation (with_seed workload.now seed))) }
+    ensures told { OnOk result (Gets S.takes sink.old sink.new (IsSimulation policies.now (with_seed workload.now seed))) }
+    ensures unsound { IfErr result (λ fault. IsUnsound fault → sink.new ≡ sink.old) }
 {
     soundness(workload).map_err(SimulateFault::Unsound)?;
+    match follow(alloc, workload, seed, policies, sink) {
+        Ok(tally) => Ok(tally),
+        Err(fault) => Err(fault.past_soundness()),
+    }
+}
+
+/// Follows a workload that can be followed.
+fn follow<S: Sink>(
+    alloc: Global,
+    workload: &Workload,
+    seed: u64,
+    policies: &[Policy],
+    sink: &mut S,
+) -> Result<Tally, SimulateFault>
+    ensures { OnOk result (Gets S.takes sink.old sink.new (IsSimulation policies.now (with_seed workload.now seed))) }
+{
     let machine = &workload.machine;
     let driver = Driver::new(alloc, machine.rule, machine.size, sink)?;
     let mut simulation = Simulation::new(alloc, machine, seed, driver)?;
@@ -95,8 +114,9 @@ impl Simulation {
         policies: &[Policy],
         sink: &mut S,
     ) -> Result<Tally, SimulateFault>
-        requires { length self.old.roster.courses.items ≡ 0 }
-        ensures { OnOk result (Runs S.takes workload.now.tasks.items (most_steps workload.now) workload.now.machine.duration (processors_in workload.now.machine.size) sink.old self.old sink.new self.new) }
+        requires tasks { length self.old.roster.courses.items ≡ 0 }
+        requires streams { length self.old.streams.items ≡ 0 }
+        ensures { OnOk result (Runs S.takes policies.now workload.now.tasks.items (most_steps workload.now) workload.now.machine.duration (processors_in workload.now.machine.size) sink.old self.old sink.new self.new) }
     {
         let processors = workload.machine.size.processors();
         self.install(alloc, processors, policies, sink)?;

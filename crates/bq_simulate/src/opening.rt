@@ -1,9 +1,11 @@
 //! How a simulation begins: policies are installed, and tasks are admitted.
-ghost use Rattle.std.specs.Prelude.{◌≡◌, ◌+◌, OnOk, Some, List, length, slice_get};
+ghost use Rattle.std.specs.Prelude.{◌≡◌, ◌+◌, [], ◌∷◌, OnOk, Some, List, length, slice_get};
+ghost use Rattle.bq_parts.specs.declared.event.Event.TheVariants.{Admit};
 ghost use Rattle.bq_actions.specs.declared.workload.TaskKind.{TaskKind};
 ghost use Rattle.bq_simulate.specs.Actions.{IsOfKind, first_of};
 ghost use Rattle.bq_simulate.specs.Simulations.{Befell, Lived, Same, Silent};
-ghost use Rattle.bq_simulate.specs.Steps.{AreOfOpening};
+ghost use Rattle.bq_simulate.specs.Steps.{AreAdmitted, AreAllAdmitted, AreInstalled, AreJust, IsJoin, installs_of};
+ghost use Rattle.bq_words.specs.Sizes.{processors_in};
 
 use crate::fault::SimulateFault;
 use crate::simulation::Simulation;
@@ -22,8 +24,9 @@ impl Simulation {
         policies: &[Policy],
         sink: &mut S,
     ) -> Result<(), SimulateFault>
-        ensures befell { OnOk result (Befell S.takes AreOfOpening sink.old self.old sink.new self.new) }
+        ensures befell { OnOk result (Befell S.takes (AreInstalled processors policies.now) sink.old self.old sink.new self.new) }
         ensures roster { self.new.roster ≡ self.old.roster }
+        ensures streams { self.new.streams ≡ self.old.streams }
     {
         'policies: for policy in policies {
             let generation = self.driver.draw(alloc, sink)?;
@@ -40,8 +43,9 @@ impl Simulation {
         policy: &Policy,
         sink: &mut S,
     ) -> Result<(), SimulateFault>
-        ensures befell { OnOk result (Befell S.takes AreOfOpening sink.old self.old sink.new self.new) }
+        ensures befell { OnOk result (Befell S.takes (AreJust (installs_of processors generation policy.now)) sink.old self.old sink.new self.new) }
         ensures roster { self.new.roster ≡ self.old.roster }
+        ensures streams { self.new.streams ≡ self.old.streams }
     {
         'processors: for processor in 0..processors {
             let copy = policy.clone()?;
@@ -58,8 +62,9 @@ impl Simulation {
         workload: &Workload,
         sink: &mut S,
     ) -> Result<(), SimulateFault>
-        requires { length self.old.roster.courses.items ≡ 0 }
-        ensures { OnOk result (Lived S.takes workload.now.tasks.items AreOfOpening sink.old self.old sink.new self.new) }
+        requires tasks { length self.old.roster.courses.items ≡ 0 }
+        requires streams { length self.old.streams.items ≡ 0 }
+        ensures { OnOk result (Lived S.takes workload.now.tasks.items (AreAllAdmitted (processors_in workload.now.machine.size) 0 0 workload.now.tasks.items) sink.old self.old sink.new self.new) }
     {
         'kinds: for (number, kind) in workload.tasks.iter().enumerate() {
             self.begin_kind()?;
@@ -79,8 +84,10 @@ impl Simulation {
     ) -> Result<(), SimulateFault>
         requires kind { slice_get workload.now.tasks.items number ≡ Some kind.now }
         requires first { length self.old.roster.courses.items ≡ first_of workload.now.tasks.items number }
-        ensures lived { OnOk result (Lived S.takes workload.now.tasks.items AreOfOpening sink.old self.old sink.new self.new) }
+        requires streams { length self.old.streams.items ≡ first_of workload.now.tasks.items number }
+        ensures lived { OnOk result (Lived S.takes workload.now.tasks.items (AreAdmitted (processors_in workload.now.machine.size) number kind.now (first_of workload.now.tasks.items number) kind.now.count) sink.old self.old sink.new self.new) }
         ensures tasks { OnOk result (length self.new.roster.courses.items ≡ length self.old.roster.courses.items + kind.now.count) }
+        ensures streams { OnOk result (length self.new.streams.items ≡ length self.old.streams.items + kind.now.count) }
     {
         let processors = workload.machine.size.processors();
         let home = first_of_mask(kind.mask, processors).ok_or(SimulateFault::Astray)?;
@@ -124,7 +131,9 @@ impl Simulation {
 
     /// One more task of a kind, with a stream of its own; its first wake comes from this processor.
     fn join(&mut self, task: u16, kind: usize, home: u8) -> Result<(), SimulateFault>
-        ensures silent { OnOk result ((kinds : List TaskKind) → IsOfKind kinds (length self.old.roster.courses.items) kind → Silent kinds AreOfOpening self.old self.new) }
+        ensures silent { OnOk result ((kinds : List TaskKind) → IsOfKind kinds (length self.old.roster.courses.items) kind → Silent kinds (IsJoin kind home) self.old self.new) }
+        ensures number { OnOk result (task ≡ length self.old.streams.items) }
+        ensures streams { OnOk result (length self.new.streams.items ≡ length self.old.streams.items + 1) }
         ensures tasks { OnOk result (length self.new.roster.courses.items ≡ length self.old.roster.courses.items + 1) }
     {
         if self.streams.len() != usize::from(task) {
@@ -144,8 +153,9 @@ impl Simulation {
         kind: &TaskKind,
         sink: &mut S,
     ) -> Result<(), SimulateFault>
-        ensures befell { OnOk result (Befell S.takes AreOfOpening sink.old self.old sink.new self.new) }
+        ensures befell { OnOk result (Befell S.takes (AreJust (Admit task kind.now.nice kind.now.mask kind.now.slice ∷ [])) sink.old self.old sink.new self.new) }
         ensures courses { self.new.roster ≡ self.old.roster }
+        ensures streams { self.new.streams ≡ self.old.streams }
     {
         self.driver
             .admit(alloc, task, kind.nice, kind.mask, kind.slice, sink)?;

@@ -1,4 +1,7 @@
 //! Which workloads can be followed.
+ghost use Rattle.std.specs.Prelude.{◌≡◌, IfSome};
+ghost use Rattle.bq_hooks.specs.OwnPlace.{allows};
+ghost use Rattle.bq_simulate.specs.Steps.{IsFirst};
 
 use bq_actions::limits::{GREATEST_SLICE, LEAST_SLICE, LONGEST, MOST_TASKS};
 use bq_actions::{Action, Setup, TaskKind, Workload};
@@ -91,11 +94,20 @@ fn is_action(action: &Action, kinds: usize) -> bool {
 }
 
 /// The least processor of a mask, below so many.
-pub fn first_of_mask(mask: u64, processors: u8) -> Option<u8> {
-    for processor in 0..processors {
-        if processor < 64 && (mask >> processor) % 2 == 1 {
+pub fn first_of_mask(mask: u64, processors: u8) -> Option<u8>
+    ensures { IfSome result (IsFirst processors mask) }
+{
+    'processors: for processor in 0..processors {
+        if is_allowed(mask, processor) {
             return Some(processor);
         }
     }
     None
+}
+
+/// Whether a processor is one of a mask.
+fn is_allowed(mask: u64, processor: u8) -> bool
+    ensures { result ≡ allows mask processor }
+{
+    processor < 64 && (mask >> processor) % 2 == 1
 }

@@ -1,5 +1,5 @@
 -- A simulation that is told as a text.
-use Rattle.std.proofs.Common.{◌≡◌, [], ◌∷◌, ◌++◌, sym, ap, ◌∙◌, subst, string_bytes}
+use Rattle.std.proofs.Common.{◌≡◌, List, [], ◌∷◌, ◌++◌, sym, ap, ◌∙◌, subst, string_bytes}
 use Rattle.std.proofs.lemmas.Grind.{flat_map-append}
 use Rattle.bq_actions.specs.declared.workload.Workload.{Workload}
 use Rattle.bq_simulate.specs.Retelling.{Answers}
@@ -8,16 +8,16 @@ use Rattle.bq_simulate.specs.declared.trace_text.TraceText.{TraceText}
 use Rattle.bq_simulate.proofs.RetellingLemmas.{AreFitting-parts, texts_are_replayed}
 use Rattle.bq_simulate.proofs.TextLemmas.{Takes, writes_all}
 use Rattle.bq_simulate.specs.Chronicles.{events_of}
-use Rattle.bq_simulate.specs.Simulations.{IsSimulation}
+use Rattle.bq_simulate.specs.Simulations.{Accepted, IsSimulation}
 use Rattle.bq_trace.specs.Feeding.{with_feeds}
 use Rattle.bq_trace.specs.News.{Gets, Told, texts}
 use Rattle.bq_study.specs.Traces.{AreNames, IsTrace, TracesAreReplayed}
 use Rattle.bq_study.proofs.NameLemmas.{lines_named}
 
 -- names, and then a simulation, are written as a trace
-pub trace_written : (none named whole : TraceText) (w : Workload) (images : ByHook) → string_bytes none.text ≡ [] → image_at none.images ≡ images
-    → Gets Takes none named AreNames → Gets Takes named whole (IsSimulation w) → IsTrace w images (string_bytes whole.text)
-trace_written none named whole w images empty same g h =
+pub trace_written : (none named whole : TraceText) (w : Workload) (policies : List Accepted) (images : ByHook) → string_bytes none.text ≡ [] → image_at none.images ≡ images
+    → Gets Takes none named AreNames → Gets Takes named whole (IsSimulation policies w) → IsTrace w policies images (string_bytes whole.text)
+trace_written none named whole w policies images empty same g h =
     let first = writes_all none named g.told g.taken in
     let then = writes_all named whole h.told h.taken in
     let names : string_bytes named.text ≡ with_feeds g.holds.lines =
@@ -36,7 +36,7 @@ trace_written none named whole w images empty same g h =
 
 -- the text that tells a simulation is answered by the answers that it got, and leaves the same machine
 pub traces_are_replayed : TracesAreReplayed
-traces_are_replayed w images text t names from =
+traces_are_replayed w policies images text t names from =
     let s = t.simulation in
     let fits = (AreFitting-parts s.first s.more (subst AreFitting s.whole t.fits)).1 in
     let answers = texts_are_replayed images t.names w.machine.rule w.machine.size s.opening s.closing (events_of s.deeds) s.first s.more names s.starts s.drives from fits in

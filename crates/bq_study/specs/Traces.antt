@@ -9,7 +9,7 @@ use Rattle.bq_parts.specs.Refusals.{same_hook}
 use Rattle.bq_simulate.specs.Retelling.{Answers, IsComment, IsFromImages}
 use Rattle.bq_simulate.specs.Texts.{AreFitting, ByHook, told_lines}
 use Rattle.bq_simulate.specs.Chronicles.{events_of}
-use Rattle.bq_simulate.specs.Simulations.{IsSimulation}
+use Rattle.bq_simulate.specs.Simulations.{Accepted, IsSimulation}
 use Rattle.bq_study.specs.declared.asked.Asked.{Asked}
 use Rattle.bq_study.specs.declared.asked.Asked.TheVariants.{Trace, Timeline}
 use Rattle.bq_study.specs.declared.policies.Policies.{Policies}
@@ -37,23 +37,23 @@ pub record AreNames (told : Told) : Type 0 where
   pub named : AllByRecursion NamesTask lines
   pub utf8 : AllByRecursion IsUtf8 lines
 
--- The text names tasks, and then has the line of each piece of news of a simulation of the workload, in order.
-pub record IsTrace (w : Workload) (images : ByHook) (text : List ℕ) : Type 0 where
+-- The text names tasks, and then has the line of each piece of news of a simulation of the workload with these policies, in order.
+pub record IsTrace (w : Workload) (policies : List Accepted) (images : ByHook) (text : List ℕ) : Type 0 where
   pub names : List (List ℕ)
   pub told : Told
   pub named : AllByRecursion NamesTask names
-  pub simulation : IsSimulation w told
+  pub simulation : IsSimulation policies w told
   pub fits : AreFitting told
   pub whole : text ≡ with_feeds (names ++ told_lines images told)
 
 -- what is written of a workload that is run with these policies
 abbrev pub IsWritten : Asked → Workload → Policies → Written → Type 0
-IsWritten Trace w policies written = IsTrace w (image_for policies.images.items) (string_bytes written.text)
+IsWritten Trace w policies written = IsTrace w policies.loaded.items (image_for policies.images.items) (string_bytes written.text)
 IsWritten (Timeline settings) w policies written = Unit {0}
 
 -- Where the names can stand in comments, and each policy that is installed is that of the image at its hook, the text is
 -- answered by the answers that the simulation got, and leaves the same machine.
 abbrev pub TracesAreReplayed : Type 0
 TracesAreReplayed =
-    (w : Workload) (images : ByHook) (text : List ℕ) (t : IsTrace w images text) → AllByRecursion IsComment t.names
+    (w : Workload) (policies : List Accepted) (images : ByHook) (text : List ℕ) (t : IsTrace w policies images text) → AllByRecursion IsComment t.names
     → AllByRecursion (IsFromImages images) (events_of t.simulation.deeds) → Answers text (texts t.told) t.simulation.closing

@@ -40,7 +40,7 @@ fn as_trace(
     workload: &Workload,
     policies: &Policies,
 ) -> Result<Written, SimulateFault>
-    ensures { IfOk result (λ written. IsTrace workload.now (image_for policies.now.images.items) (string_bytes written.text)) }
+    ensures { IfOk result (λ written. IsTrace workload.now policies.now.loaded.items (image_for policies.now.images.items) (string_bytes written.text)) }
 {
     let mut sink = TraceText::new(alloc, policies.images());
     tell_names(alloc, workload, &mut sink)?;

@@ -2,4 +2,4 @@ use Rattle.bq_comparison.proofs.GatheringLemmas.{gathered}
 use Rattle.bq_comparison.proofs.gathering.gather.Goals as goal
 
 pub returns : goal.returns
-returns c = gathered _ _ _ c.new-gatherer.ensures.schedule c.new-gatherer.ensures.delays c.in_ok-simulate_seed.ensures
+returns c = gathered _ _ _ _ c.new-gatherer.ensures.schedule c.new-gatherer.ensures.delays c.in_ok-simulate_seed.ensures.told

@@ -1,13 +1,24 @@
-use Rattle.std.proofs.Common.{◌+◌, get_or, length, sym, ap, ◌∙◌}
+use Rattle.std.proofs.Common.{◌≡◌, ◌≤◌, ◌+◌, List, [], ◌++◌, get_or, length, take, take_all, refl, sym, ap, ◌∙◌, subst, arith}
 use Rattle.std.proofs.lemmas.Option.{slice_get_read}
 use Rattle.bq_actions.specs.declared.roster.Roster.{Roster}
-use Rattle.bq_simulate.specs.Steps.{AreOfOpening}
-use Rattle.bq_simulate.proofs.DeedLemmas.{Lived-same, Opening-join, Same-here}
+use Rattle.bq_actions.specs.declared.workload.TaskKind.{TaskKind}
+use Rattle.bq_words.specs.Sizes.{processors_in}
+use Rattle.bq_simulate.specs.Actions.{first_of}
+use Rattle.bq_simulate.specs.Chronicles.{Deed}
+use Rattle.bq_simulate.specs.Steps.{AreAdmitted, AreAllAdmitted}
+use Rattle.bq_simulate.proofs.AdmissionLemmas.{AreAllAdmitted-next}
+use Rattle.bq_simulate.proofs.DeedLemmas.{Lived-after, Lived-join, Lived-same, Lived-weaker, Same-here}
 use Rattle.bq_simulate.proofs.KindLemmas.{first-more}
 use Rattle.bq_simulate.proofs.simulation.Simulation.admit.Goals as goal
 
 pub kinds-init : goal.kinds-init
-kinds-init g c = record { lived = Lived-same g.S.Sink.takes AreOfOpening tt _ _ _ (Same-here _) c.args.workload.now.tasks.items; tasks = c.requires }
+kinds-init g c =
+    let w = c.args.workload.now in
+    record {
+      lived = Lived-same g.S.Sink.takes (AreAllAdmitted (processors_in w.machine.size) 0 0 []) refl _ _ _ (Same-here _) w.tasks.items;
+      tasks = c.requires.tasks;
+      streams = c.requires.streams;
+    }
 
 pub admit_kind-requires-clause-kind : goal.admit_kind-requires-clause-kind
 admit_kind-requires-clause-kind g c =
@@ -17,16 +28,38 @@ admit_kind-requires-clause-kind g c =
 pub admit_kind-requires-clause-first : goal.admit_kind-requires-clause-first
 admit_kind-requires-clause-first g c = ap (λ (r : Roster). length r.courses.items) c.in_ok-begin_kind.ensures.courses ∙ c.kinds.invariant.tasks
 
+pub admit_kind-requires-clause-streams : goal.admit_kind-requires-clause-streams
+admit_kind-requires-clause-streams g c = ap (λ v. length v.items) c.in_ok-begin_kind.ensures.same.stays.streams ∙ c.kinds.invariant.streams
+
 pub kinds-preserved : goal.kinds-preserved
 kinds-preserved g c =
     let takes = g.S.Sink.takes in
-    let kinds = c.args.workload.now.tasks.items in
+    let w = c.args.workload.now in
+    let kinds = w.tasks.items in
+    let all = processors_in w.machine.size in
+    let number = c.kinds.number in
     let kind = c.kind-item.result in
     let same = c.deref-kind-items.ensures.value in
-    let there = slice_get_read kinds _ c.kinds.number kind (ap length same) c.kinds-test.true (c.kind-item.is ∙ ap (λ l. get_or l c.kinds.number kind) same) in
-    let before = ap (λ (r : Roster). length r.courses.items) c.in_ok-begin_kind.ensures.courses ∙ c.kinds.invariant.tasks in
-    let begun = Opening-join takes kinds _ _ _ _ _ _ c.kinds.invariant.lived (Lived-same takes AreOfOpening tt _ _ _ c.in_ok-begin_kind.ensures.same kinds) in
+    let there = slice_get_read kinds _ number kind (ap length same) c.kinds-test.true (c.kind-item.is ∙ ap (λ l. get_or l number kind) same) in
+    let first = first_of kinds number in
+    let before = AreAllAdmitted all 0 0 (take number kinds) in
+    let these = AreAdmitted all number kind first kind.count in
+    let after = AreAllAdmitted all 0 0 (take (number + 1) kinds) in
+    let more : (xs ys : List Deed) → before xs → these ys → after (xs ++ ys) = λ xs ys h k. AreAllAdmitted-next all kinds number kind xs ys there h k in
+    let tasks = ap (λ (r : Roster). length r.courses.items) c.in_ok-begin_kind.ensures.courses ∙ c.kinds.invariant.tasks in
+    let streams = ap (λ v. length v.items) c.in_ok-begin_kind.ensures.same.stays.streams ∙ c.kinds.invariant.streams in
+    let next = sym (first-more kinds number kind there) in
     record {
-      lived = Opening-join takes kinds _ _ _ _ _ _ begun c.in_ok-admit_kind.ensures.lived;
-      tasks = c.in_ok-admit_kind.ensures.tasks ∙ ap (λ n. n + kind.count) before ∙ sym (first-more kinds c.kinds.number kind there);
+      lived = Lived-join takes kinds before these after more _ _ _ _ _ _ c.kinds.invariant.lived (Lived-after takes kinds these _ _ _ _ _ c.in_ok-begin_kind.ensures.same c.in_ok-admit_kind.ensures.lived);
+      tasks = c.in_ok-admit_kind.ensures.tasks ∙ ap (λ n. n + kind.count) tasks ∙ next;
+      streams = c.in_ok-admit_kind.ensures.streams ∙ ap (λ n. n + kind.count) streams ∙ next;
     }
+
+pub returns : goal.returns
+returns g c =
+    let w = c.args.workload.now in
+    let kinds = w.tasks.items in
+    let all = processors_in w.machine.size in
+    let number = c.kinds.number in
+    let late : length kinds ≤ number = omega (arith, ap length c.deref-kind-items.ensures.value, c.kinds-test.false) in
+    Lived-weaker g.S.Sink.takes kinds (AreAllAdmitted all 0 0 (take number kinds)) (AreAllAdmitted all 0 0 kinds) (λ xs are. subst (λ (l : List TaskKind). AreAllAdmitted all 0 0 l xs) (take_all number kinds late) are) _ _ _ _ c.kinds.invariant.lived

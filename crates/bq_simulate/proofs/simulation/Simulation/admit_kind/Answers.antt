@@ -1,27 +1,54 @@
-use Rattle.std.proofs.Common.{◌≡◌, ◌+◌, length, ap, ◌∙◌, arith}
+use Rattle.std.proofs.Common.{◌≡◌, ◌+◌, ℕ, suc, List, Option, ◌∷◌, [], ◌++◌, length, sym, ap, ◌∙◌, subst, arith, refl}
+use Rattle.std.specs.Prelude.{IfSome}
 use Rattle.bq_actions.specs.declared.roster.Roster.{Roster}
-use Rattle.bq_simulate.specs.Steps.{AreOfOpening}
-use Rattle.bq_simulate.proofs.DeedLemmas.{Lived-same, Lived-silent, Opening-join, Same-here}
+use Rattle.bq_parts.specs.declared.event.Event.TheVariants.{Admit}
+use Rattle.bq_words.specs.Sizes.{processors_in}
+use Rattle.bq_simulate.specs.Actions.{first_of}
+use Rattle.bq_simulate.specs.Chronicles.{Deed}
+use Rattle.bq_simulate.specs.Steps.{AreAdmitted, AreJust, IsAdmission, IsFirst, IsJoin}
+use Rattle.bq_simulate.proofs.AdmissionLemmas.{AreAdmitted-more, admission-of}
+use Rattle.bq_simulate.proofs.DeedLemmas.{Lived-join, Lived-same, Lived-silent, Lived-then, Same-here}
 use Rattle.bq_simulate.proofs.KindLemmas.{nth-of-kind}
 use Rattle.bq_simulate.proofs.simulation.Simulation.admit_kind.Goals as goal
 
 pub tasks-init : goal.tasks-init
-tasks-init g c = record {
-  lived = Lived-same g.S.Sink.takes AreOfOpening tt _ _ _ (Same-here _) c.args.workload.now.tasks.items;
-  tasks = omega arith;
-}
+tasks-init g c =
+    let w = c.args.workload.now in
+    record {
+      lived = Lived-same g.S.Sink.takes (AreAdmitted (processors_in w.machine.size) c.args.number c.args.kind.now (first_of w.tasks.items c.args.number) 0) refl _ _ _ (Same-here _) w.tasks.items;
+      tasks = omega arith;
+      streams = omega arith;
+    }
 
 pub tasks-preserved : goal.tasks-preserved
 tasks-preserved g c =
     let takes = g.S.Sink.takes in
-    let kinds = c.args.workload.now.tasks.items in
+    let w = c.args.workload.now in
+    let kinds = w.tasks.items in
+    let kind = c.args.kind.now in
+    let number = c.args.number in
+    let all = processors_in w.machine.size in
     let count = c.tasks.counter in
-    let first = length c.args.self.now.roster.courses.items in
-    let here : length c.admit_one.new.self.roster.courses.items ≡ first + count = ap (λ (r : Roster). length r.courses.items) c.in_ok-admit_one.ensures.courses ∙ c.tasks.invariant.tasks in
-    let of = nth-of-kind kinds c.args.kind.now _ c.args.number count c.requires.kind (here ∙ ap (λ n. n + count) c.requires.first) c.tasks-test.true in
-    let joined = Opening-join takes kinds _ _ _ _ _ _ (c.in_ok-admit_one.ensures.befell kinds) (Lived-silent takes kinds AreOfOpening _ _ _ (c.in_ok-join.ensures.silent kinds of)) in
-    let begun = Opening-join takes kinds _ _ _ _ _ _ joined (Lived-same takes AreOfOpening tt _ _ _ c.in_ok-begin_at.ensures.same kinds) in
+    let first = first_of kinds number in
+    let task = c.tasks.self.tally.tasks in
+    let home = c.in_ok-home.home in
+    let least : IsFirst c.processors-processors.result kind.mask home = subst (λ (o : Option ℕ). IfSome o (IsFirst c.processors-processors.result kind.mask)) c.in_ok-home.ensures.ok_part c.first_of_mask.ensures in
+    let mine : IsFirst all kind.mask home = subst (λ (n : ℕ). IsFirst n kind.mask home) c.processors-processors.ensures least in
+    let here : length c.admit_one.new.self.roster.courses.items ≡ first + count = ap (λ (r : Roster). length r.courses.items) c.in_ok-admit_one.ensures.courses ∙ c.tasks.invariant.tasks ∙ ap (λ n. n + count) c.requires.first in
+    let streams : length c.admit_one.new.self.streams.items ≡ first + count = ap (λ v. length v.items) c.in_ok-admit_one.ensures.streams ∙ c.tasks.invariant.streams ∙ ap (λ n. n + count) c.requires.streams in
+    let of = nth-of-kind kinds kind _ number count c.requires.kind here c.tasks-test.true in
+    let admits = AreJust (Admit task kind.nice kind.mask kind.slice ∷ []) in
+    let joins = IsJoin number home in
+    let one = IsAdmission all number kind task in
+    let joined = Lived-join takes kinds admits joins one (λ xs ys admit join. admission-of all number kind task home xs ys mine admit join) _ _ _ _ _ _ (c.in_ok-admit_one.ensures.befell kinds) (Lived-silent takes kinds joins _ _ _ (c.in_ok-join.ensures.silent kinds of)) in
+    let begun = Lived-then takes kinds one _ _ _ _ _ joined c.in_ok-begin_at.ensures.same in
+    let before = AreAdmitted all number kind first count in
+    let after = AreAdmitted all number kind first (count + 1) in
+    let next : suc count ≡ count + 1 = omega arith in
+    let more : (xs ys : List Deed) → before xs → one ys → after (xs ++ ys) =
+    λ xs ys h k. subst (λ (n : ℕ). AreAdmitted all number kind first n (xs ++ ys)) next (AreAdmitted-more all number kind first count task xs ys (c.in_ok-join.ensures.number ∙ streams) h k) in
     record {
-      lived = Opening-join takes kinds _ _ _ _ _ _ c.tasks.invariant.lived begun;
-      tasks = ap (λ v. length v.items) c.in_ok-begin_at.ensures.courses ∙ c.in_ok-join.ensures.tasks ∙ ap (λ n. n + 1) here ∙ omega arith;
+      lived = Lived-join takes kinds before one after more _ _ _ _ _ _ c.tasks.invariant.lived begun;
+      tasks = ap (λ v. length v.items) c.in_ok-begin_at.ensures.courses ∙ c.in_ok-join.ensures.tasks ∙ omega (arith, here, c.requires.first);
+      streams = ap (λ v. length v.items) c.in_ok-begin_at.ensures.same.stays.streams ∙ c.in_ok-join.ensures.streams ∙ omega (arith, streams, c.requires.streams);
     }

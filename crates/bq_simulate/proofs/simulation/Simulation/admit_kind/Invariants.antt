@@ -1,10 +1,13 @@
 use Rattle.std.proofs.Common.{◌≡◌, ◌+◌, length}
+use Rattle.bq_words.specs.Sizes.{processors_in}
+use Rattle.bq_simulate.specs.Actions.{first_of}
 use Rattle.bq_simulate.specs.Simulations.{Lived}
-use Rattle.bq_simulate.specs.Steps.{AreOfOpening}
+use Rattle.bq_simulate.specs.Steps.{AreAdmitted}
 use Rattle.bq_simulate.proofs.simulation.Simulation.admit_kind.Given as goal
 
 abbrev pub invariant-tasks : goal.invariant-tasks
 invariant-tasks g l = record {
-  lived : Lived g.S.Sink.takes l.workload.tasks.items AreOfOpening l.initial.sink l.initial.self l.sink l.self;
+  lived : Lived g.S.Sink.takes l.workload.tasks.items (AreAdmitted (processors_in l.workload.machine.size) l.number l.kind (first_of l.workload.tasks.items l.number) l.counter) l.initial.sink l.initial.self l.sink l.self;
   tasks : length l.self.roster.courses.items ≡ length l.initial.self.roster.courses.items + l.counter;
+  streams : length l.self.streams.items ≡ length l.initial.self.streams.items + l.counter;
 }

@@ -1,17 +1,48 @@
-use Rattle.std.proofs.Common.{refl, ◌∙◌}
+use Rattle.std.proofs.Common.{◌≡◌, ◌≤◌, ◌+◌, ℕ, List, [], ◌∷◌, ◌++◌, Some, ap, length, refl, ◌∙◌, subst, take, take_all}
+use Rattle.std.specs.Prelude.{slice_get}
+use Rattle.std.proofs.lemmas.Option.{slice_get_read}
 use Rattle.bq_parts.specs.declared.event.Event.TheVariants.{Draw}
-use Rattle.bq_simulate.specs.Steps.{AreOfOpening}
-use Rattle.bq_simulate.proofs.DeedLemmas.{Lived-drove, Lived-same, Opening-join, Same-here}
+use Rattle.bq_parts.specs.declared.reply.Reply.TheVariants.{Drawn}
+use Rattle.bq_verify.specs.Accepted.{Accepted}
+use Rattle.bq_simulate.specs.Chronicles.{Deed, Happens}
+use Rattle.bq_simulate.specs.Steps.{AreInstalled, AreJust, IsInstalled, installs_of}
+use Rattle.bq_simulate.proofs.DeedLemmas.{Lived-event, Lived-join, Lived-same, Lived-weaker, Same-here}
+use Rattle.bq_simulate.proofs.InstallLemmas.{AreInstalled-next}
 use Rattle.bq_simulate.proofs.simulation.Simulation.install.Goals as goal
+
+-- the answer to the draw is the generation that it gave
+abbrev IsDrawn : ℕ → List Deed → Type 0
+IsDrawn generation deeds = deeds ≡ Happens Draw (Drawn generation) ∷ []
 
 pub policies-preserved : goal.policies-preserved
 policies-preserved g c =
     let takes = g.S.Sink.takes in
-    let drawn = Lived-drove takes AreOfOpening _ _ _ _ Draw (λ reply. (tt, tt)) tt (record { pace = refl; seed = refl; streams = refl }) (λ reply a. refl) c.in_ok-generation.ensures refl in
+    let policies : List Accepted = c.args.policies.now in
+    let all = c.args.processors in
+    let generation = c.in_ok-generation.generation in
+    let number = c.policies.policy-index in
+    let policy : Accepted = c.policy-item.result in
+    let there : slice_get policies number ≡ Some policy = slice_get_read policies _ number policy refl c.policies-test.true c.policy-item.is in
+    let drawn = Lived-event takes (IsDrawn generation) _ _ _ _ Draw (Drawn generation) refl tt (record { pace = refl; seed = refl; streams = refl }) c.in_ok-generation.ensures refl in
+    let installs = AreJust (installs_of all generation policy) in
+    let one = IsInstalled all policy in
+    let both : (xs ys : List Deed) → IsDrawn generation xs → installs ys → one (xs ++ ys) = λ xs ys draw install. (generation, ys, ap (λ (l : List Deed). l ++ ys) draw, install) in
+    let before = AreInstalled all (take number policies) in
+    let after = AreInstalled all (take (number + 1) policies) in
+    let more : (xs ys : List Deed) → before xs → one ys → after (xs ++ ys) = λ xs ys h k. AreInstalled-next all policies number policy xs ys there h k in
     record {
-      befell = λ kinds. Opening-join takes kinds _ _ _ _ _ _ (c.policies.invariant.befell kinds) (Opening-join takes kinds _ _ _ _ _ _ (drawn kinds) (c.in_ok-install_one.ensures.befell kinds));
+      befell = λ kinds. Lived-join takes kinds before one after more _ _ _ _ _ _ (c.policies.invariant.befell kinds) (Lived-join takes kinds (IsDrawn generation) installs one both _ _ _ _ _ _ (drawn kinds) (c.in_ok-install_one.ensures.befell kinds));
       roster = c.in_ok-install_one.ensures.roster ∙ c.policies.invariant.roster;
+      streams = c.in_ok-install_one.ensures.streams ∙ c.policies.invariant.streams;
     }
 
 pub policies-init : goal.policies-init
-policies-init g c = record { befell = Lived-same g.S.Sink.takes AreOfOpening tt _ _ _ (Same-here _); roster = refl }
+policies-init g c = record { befell = Lived-same g.S.Sink.takes (AreInstalled c.args.processors []) refl _ _ _ (Same-here _); roster = refl; streams = refl }
+
+pub returns-clause-befell : goal.returns-clause-befell
+returns-clause-befell g c =
+    let policies : List Accepted = c.args.policies.now in
+    let all = c.args.processors in
+    let number = c.policies.policy-index in
+    let late : length policies ≤ number = c.policies-test.false in
+    λ kinds. Lived-weaker g.S.Sink.takes kinds (AreInstalled all (take number policies)) (AreInstalled all policies) (λ xs are. subst (λ (l : List Accepted). AreInstalled all l xs) (take_all number policies late) are) _ _ _ _ (c.policies.invariant.befell kinds)

@@ -1,10 +1,11 @@
-use Rattle.std.proofs.Common.{◌≡◌}
+use Rattle.std.proofs.Common.{◌≡◌, take}
 use Rattle.bq_simulate.specs.Simulations.{Befell}
-use Rattle.bq_simulate.specs.Steps.{AreOfOpening}
+use Rattle.bq_simulate.specs.Steps.{AreInstalled}
 use Rattle.bq_simulate.proofs.simulation.Simulation.install.Given as goal
 
 abbrev pub invariant-policies : goal.invariant-policies
 invariant-policies g l = record {
-  befell : Befell g.S.Sink.takes AreOfOpening l.initial.sink l.initial.self l.sink l.self;
+  befell : Befell g.S.Sink.takes (AreInstalled l.processors (take l.policy-index l.policies)) l.initial.sink l.initial.self l.sink l.self;
   roster : l.self.roster ≡ l.initial.self.roster;
+  streams : l.self.streams ≡ l.initial.self.streams;
 }

@@ -1,7 +1,7 @@
 use Rattle.std.proofs.Common.{ℕ, [], ◌∷◌, Option, refl, ap, sym, ◌∙◌}
 use Rattle.bq_parts.specs.declared.event.Event.TheVariants.{BeginWake, EndWake, Drain}
 use Rattle.bq_simulate.specs.Drives.{runs_now}
-use Rattle.bq_simulate.proofs.DriveLemmas.{Drove-join, Drove-one}
+use Rattle.bq_simulate.proofs.DriveLemmas.{Drove-join, Drove-one, Drove-places}
 use Rattle.bq_actions.specs.declared.roster.Pace.{Pace}
 use Rattle.bq_actions.specs.Accounts.{Accounts, accounts_of, entered_by, of_task}
 use Rattle.bq_actions.specs.Courses.{woken}
@@ -11,7 +11,7 @@ use Rattle.bq_simulate.proofs.simulation.Simulation.wake.Goals as goal
 pub returns-clause-events : goal.returns-clause-events
 returns-clause-events g c =
     let said = c.in_ok-entered.ensures in
-    (c.in_ok-to.to, Drove-join g.S.Sink.takes _ _ _ c.args.self.now.driver c.wake-2.new.self c.drain.new.self (BeginWake c.args.from c.args.task ∷ EndWake c.args.from c.args.now ∷ []) (Drain c.in_ok-to.to c.args.now ∷ []) c.in_ok-to.ensures (Drove-one g.S.Sink.takes _ _ _ _ (Drain c.in_ok-to.to c.args.now) said.0 said.3))
+    (c.in_ok-to.to, Drove-join g.S.Sink.takes _ _ _ c.args.self.now.driver c.wake-2.new.self c.drain.new.self (BeginWake c.args.from c.args.task ∷ EndWake c.args.from c.args.now ∷ []) (Drain c.in_ok-to.to c.args.now ∷ []) (Drove-places g.S.Sink.takes _ _ _ _ _ _ _ _ c.in_ok-to.ensures) (Drove-one g.S.Sink.takes _ _ _ _ (Drain c.in_ok-to.to c.args.now) said.0 said.3))
 
 -- the processor takes in as many as the answer says, and the task has no phase yet
 pub returns-clause-lived : goal.returns-clause-lived

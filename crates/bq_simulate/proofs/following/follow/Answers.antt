@@ -1,0 +1,9 @@
+use Rattle.std.proofs.lemmas.Result.{on_ok_weaker}
+use Rattle.bq_simulate.specs.Simulations.{with_seed}
+use Rattle.bq_simulate.proofs.WholeLemmas.{simulation-of}
+use Rattle.bq_simulate.proofs.following.follow.Goals as goal
+
+pub returns : goal.returns
+returns g c =
+    let s = c.in_ok-simulation.ensures in
+    on_ok_weaker c.run.result (λ h. simulation-of g.S.Sink.takes _ _ _ c.args.policies.now (with_seed c.args.workload.now c.args.seed) _ _ _ c.in_ok-driver.ensures s.driver s.accounts s.cost s.seed s.streams h) c.run.ensures
