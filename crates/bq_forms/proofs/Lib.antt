@@ -1,2 +1,1 @@
 pub mod LongestLemmas
-pub mod RowLemmas
