@@ -1,1 +1,2 @@
+pub mod Timelines
 pub mod Watching

@@ -1,9 +1,9 @@
 -- What a timeline keeps of the news of a trace: the schedule that they tell, and how many lines were bad or refused.
-use Rattle.std.specs.Prelude.{ℕ, Option, Some, None, Result, Ok, Err, nat_lt, if◌then◌else◌}
+use Rattle.std.specs.Prelude.{ℕ, List, [], ◌∷◌, Option, Some, None, Result, Ok, Err, nat_lt, if◌then◌else◌}
 use Rattle.bq_parts.specs.World.{count_in}
 use Rattle.bq_words.specs.Sizes.{processors_in}
 use Rattle.bq_trace.specs.Counts.{one_more}
-use Rattle.bq_trace.specs.News.{News, Opened, Answered, Unspelled, Unloaded, Shown, Bad}
+use Rattle.bq_trace.specs.News.{News, Told, Opened, Answered, Unspelled, Unloaded, Shown, Bad}
 use Rattle.bq_schedule.specs.Figures.{Figures, opening}
 use Rattle.bq_schedule.specs.Steps.{after}
 
@@ -21,3 +21,13 @@ troubled n (Unloaded why) = one_more n
 troubled n (Shown c m) = if nat_lt c (count_in m.world) then n else one_more n
 troubled n (Bad line) = one_more n
 troubled n news = n
+
+-- the schedule after all of them, one after another
+abbrev pub schedule_after : Option Figures → Told → Option Figures
+schedule_after s [] = s
+schedule_after s ((line, news) ∷ more) = schedule_after (watched s news) more
+
+-- the count after all of them
+abbrev pub troubles_after : ℕ → Told → ℕ
+troubles_after n [] = n
+troubles_after n ((line, news) ∷ more) = troubles_after (troubled n news) more

@@ -1,7 +1,11 @@
 //! A timeline of a whole trace, from any reader to any writer.
-ghost use Rattle.std.specs.Prelude.{◌≡◌, IfErr, OnOk};
-ghost use Rattle.bq_trace.specs.Counts.{calls_of, failures_of};
+ghost use Rattle.std.specs.Prelude.{◌≡◌, ℕ, List, [], IfOk, IfErr, OnOk};
+ghost use Rattle.bq_lines.specs.Kept.{StandsFor};
+ghost use Rattle.bq_trace.specs.Counts.{inner_of, calls_of, failures_of};
 ghost use Rattle.bq_trace.specs.Faults.{IsFault, IsWriteFault};
+ghost use Rattle.bq_trace.specs.Telling.{GoesOn};
+ghost use Rattle.bq_trace.specs.Trace.{start};
+ghost use Rattle.bq_timeline.specs.Timelines.{Watches, Closes, IsTimeline};
 
 use crate::settings::Settings;
 use crate::viewer::Viewer;
@@ -31,6 +35,9 @@ pub fn show<R: Read, W: Write>(
     input: &mut Counted<R>,
     output: &mut Counted<W>,
 ) -> Result<Outcome, ReplayFault>
+    // It is that of all lines that the reader gave.
+    ensures timeline { IfOk result (IsTimeline (R.remaining (inner_of input.old)) (R.remaining (inner_of input.new))) }
+
     // No read and no write has failed: the first failure ends it.
     ensures reads { OnOk result (failures_of input.new ≡ failures_of input.old) }
     ensures writes { OnOk result (failures_of output.new ≡ failures_of output.old) }
@@ -70,7 +77,12 @@ impl Drop for Turns {
 }
 
 impl Turns {
-    fn new(alloc: Global, settings: Settings) -> Turns {
+    fn new(alloc: Global, settings: Settings) -> Turns
+        ensures progress { result.standing.progress ≡ start }
+        ensures begun { result.standing.begun ≡ Some [] }
+        ensures schedule { result.viewer.schedule ≡ None }
+        ensures troubles { result.viewer.troubles ≡ 0 }
+    {
         Turns {
             alloc,
             standing: TracePosition::new(alloc),
@@ -80,6 +92,8 @@ impl Turns {
 
     /// Takes a piece, and writes what is ripe.
     fn feed<W: Write>(&mut self, piece: &[u8], output: &mut Counted<W>) -> Result<(), ReplayFault>
+        ensures told { OnOk result ((begun : List ℕ) → StandsFor self.old.standing.begun begun
+            → Watches self.old.viewer self.new.viewer (λ told. GoesOn self.old.standing begun piece.now told self.new.standing)) }
         ensures kept { OnOk result (failures_of output.new ≡ failures_of output.old) }
         ensures fault { IfErr result (λ e. IsWriteFault e (failures_of output.old) (failures_of output.new)) }
     {
@@ -91,6 +105,8 @@ impl Turns {
 
     /// The trace is over: writes what is left.
     fn finish<W: Write>(&mut self, output: &mut Counted<W>) -> Result<Outcome, ReplayFault>
+        ensures told { IfOk result (λ outcome. (begun : List ℕ) → StandsFor self.old.standing.begun begun
+            → Closes self.old begun outcome) }
         ensures kept { OnOk result (failures_of output.new ≡ failures_of output.old) }
         ensures fault { IfErr result (λ e. IsWriteFault e (failures_of output.old) (failures_of output.new)) }
     {

@@ -35,7 +35,10 @@ impl Viewer {
     }
 
     /// The trace is over.
-    pub fn end(&mut self) -> Result<(), AllocError> {
+    pub fn end(&mut self) -> Result<(), AllocError>
+        ensures schedule { self.new.schedule ≡ self.old.schedule }
+        ensures troubles { self.new.troubles ≡ self.old.troubles }
+    {
         match &self.schedule {
             Some(schedule) => self.screen.end(schedule, self.troubles),
             None => self.screen.sum_up(self.troubles),

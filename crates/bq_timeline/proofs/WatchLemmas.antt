@@ -1,0 +1,117 @@
+-- What a viewer keeps of the news of a trace that comes in pieces.
+use Rattle.std.proofs.Common.{◌≡◌, ℕ, ◌==◌, List, [], ◌∷◌, ◌++◌, map, refl, sym, ap, ◌∙◌, append-nil, subst, Some, None, Option}
+use Rattle.std.specs.List.{AllByRecursion}
+use Rattle.std.specs.Str.Lines.{lines, strip_carriage_return}
+use Rattle.std.specs.Io.KnownBytes.{Consumes, IsAtEnd}
+use Rattle.std.proofs.KnownBytes.{Consumes-nil, Consumes-trans}
+use Rattle.std.proofs.lemmas.List.{map-append}
+use Rattle.bq_lines.specs.Kept.{IsOneLine, StandsFor}
+use Rattle.bq_schedule.specs.Figures.{Figures}
+use Rattle.bq_trace.specs.Feeding.{with_feeds}
+use Rattle.bq_trace.specs.News.{News, Told, Gets, TakesAll}
+use Rattle.bq_trace.specs.Telling.{GoesOn, Story}
+use Rattle.bq_trace.specs.Trace.{start}
+use Rattle.bq_trace.proofs.ChainLemmas.{lines-with_feeds}
+use Rattle.bq_trace.proofs.ReplayLemmas.{with_feeds-join}
+use Rattle.bq_trace.proofs.StandingLemmas.{Story-append, stands_for_nothing}
+use Rattle.bq_timeline.specs.Timelines.{Closes, IsTimeline, Watches}
+use Rattle.bq_timeline.specs.Watching.{schedule_after, troubled, troubles_after, watched}
+use Rattle.bq_timeline.specs.declared.showing.Outcome.{Outcome}
+use Rattle.bq_timeline.specs.declared.showing.Turns.{Turns}
+use Rattle.bq_timeline.specs.declared.viewer.Viewer.{Viewer}
+
+-- a viewer takes a piece of news
+abbrev pub Takes : Viewer → ℕ → News → Viewer → Type 0
+Takes old n news new = (new.schedule ≡ watched old.schedule news) × (new.troubles ≡ troubled old.troubles news)
+
+-- news that a viewer takes leave it their schedule and their count
+pub takes_all : (old new : Viewer) (told : Told) → TakesAll Takes old told new → (new.schedule ≡ schedule_after old.schedule told) × (new.troubles ≡ troubles_after old.troubles told)
+takes_all old new [] h = (ap (λ (v : Viewer). v.schedule) h, ap (λ (v : Viewer). v.troubles) h)
+takes_all old new ((n, x) ∷ more) h =
+    let rest = takes_all h.0 new more h.2 in
+    (rest.0 ∙ ap (λ s. schedule_after s more) h.1.0, rest.1 ∙ ap (λ k. troubles_after k more) h.1.1)
+
+-- what a sink gets, where the viewer is one; what is written and cleared besides changes nothing of it
+pub watches : (old new then : Viewer) (Holds : Told → Type 0) → Gets Takes old new Holds → then.schedule ≡ new.schedule → then.troubles ≡ new.troubles → Watches old then Holds
+watches old new then Holds g schedule troubles =
+    let kept = takes_all old new g.told g.taken in
+    record { told = g.told; schedule = schedule ∙ kept.0; troubles = troubles ∙ kept.1; holds = g.holds }
+
+-- the schedule of news and of more behind them
+pub schedule_after-append : (s : Option Figures) (xs ys : Told) → schedule_after s (xs ++ ys) ≡ schedule_after (schedule_after s xs) ys
+schedule_after-append s [] ys = refl
+schedule_after-append s ((n, x) ∷ xs) ys = schedule_after-append (watched s x) xs ys
+
+-- the count of news and of more behind them
+pub troubles_after-append : (k : ℕ) (xs ys : Told) → troubles_after k (xs ++ ys) ≡ troubles_after (troubles_after k xs) ys
+troubles_after-append k [] ys = refl
+troubles_after-append k ((n, x) ∷ xs) ys = troubles_after-append (troubled k x) xs ys
+
+-- The reader gave input, whose whole lines the viewer was told, and the rest has begun.
+pub record Underway (from to : Option (List ℕ)) (turns : Turns) : Type 0 where
+  pub input : List ℕ
+  pub told : Told
+  pub ended : List (List ℕ)
+  pub rest : List ℕ
+  pub consumed : Consumes from to input
+  pub whole : input ≡ with_feeds ended ++ rest
+  pub each : AllByRecursion IsOneLine ended
+  pub story : Story start (map strip_carriage_return ended) told turns.standing.progress
+  pub stands : StandsFor turns.standing.begun rest
+  pub schedule : turns.viewer.schedule ≡ schedule_after None told
+  pub troubles : turns.viewer.troubles ≡ troubles_after 0 told
+
+-- at the start nothing has been read and nothing told
+pub Underway-none : (from : Option (List ℕ)) (turns : Turns) → turns.standing.progress ≡ start → turns.standing.begun ≡ Some [] → turns.viewer.schedule ≡ None → turns.viewer.troubles ≡ 0
+    → Underway from from turns
+Underway-none from turns first empty schedule troubles = record {
+  input = [];
+  told = [];
+  ended = [];
+  rest = [];
+  consumed = Consumes-nil from;
+  whole = refl;
+  each = tt;
+  story = (refl, first);
+  stands = subst (λ k. StandsFor k []) (sym empty) stands_for_nothing;
+  schedule = schedule;
+  troubles = troubles;
+}
+
+AllByRecursion-append : (xs ys : List (List ℕ)) → AllByRecursion IsOneLine xs → AllByRecursion IsOneLine ys → AllByRecursion IsOneLine (xs ++ ys)
+AllByRecursion-append [] ys h k = k
+AllByRecursion-append (x ∷ xs) ys h k = (h.0, AllByRecursion-append xs ys h.1 k)
+
+-- a piece that is read and told leaves the timeline underway
+pub Underway-more : (from mid to : Option (List ℕ)) (s t : Turns) (piece : List ℕ) → (h : Underway from mid s) → Consumes mid to piece
+    → Watches s.viewer t.viewer (λ told. GoesOn s.standing h.rest piece told t.standing) → Underway from to t
+Underway-more from mid to s t piece h consumed w =
+    let on = w.holds in
+    record {
+      input = h.input ++ piece;
+      told = h.told ++ w.told;
+      ended = h.ended ++ on.ended;
+      rest = on.rest;
+      consumed = Consumes-trans from mid to h.input piece h.consumed consumed;
+      whole = with_feeds-join [] h.input h.rest piece on.rest h.ended on.ended h.whole on.whole;
+      each = AllByRecursion-append h.ended on.ended h.each on.each;
+      story = subst (λ ls. Story start ls (h.told ++ w.told) t.standing.progress) (sym (map-append strip_carriage_return h.ended on.ended))
+          (Story-append start s.standing.progress t.standing.progress (map strip_carriage_return h.ended) (map strip_carriage_return on.ended) h.told w.told h.story on.story);
+      stands = on.stands;
+      schedule = w.schedule ∙ ap (λ k. schedule_after k w.told) h.schedule ∙ sym (schedule_after-append None h.told w.told);
+      troubles = w.troubles ∙ ap (λ k. troubles_after k w.told) h.troubles ∙ sym (troubles_after-append 0 h.told w.told);
+    }
+
+-- a timeline whose reader has no more and whose last line is told is done
+pub Underway-ends : (from mid to : Option (List ℕ)) (turns : Turns) (outcome : Outcome) → (h : Underway from mid turns) → Consumes mid to [] → IsAtEnd to → Closes turns h.rest outcome
+    → IsTimeline from to outcome
+Underway-ends from mid to turns outcome h consumed at_end f = record {
+  input = h.input;
+  told = h.told ++ f.told;
+  final = f.final;
+  consumed = subst (Consumes from to) (append-nil h.input) (Consumes-trans from mid to h.input [] h.consumed consumed);
+  at_end = at_end;
+  story = subst (λ ls. Story start ls (h.told ++ f.told) f.final) (sym (ap lines h.whole ∙ lines-with_feeds h.ended h.rest h.each))
+      (Story-append start turns.standing.progress f.final (map strip_carriage_return h.ended) (lines h.rest) h.told f.told h.story f.story);
+  clean = f.clean ∙ ap (λ k. k == 0) (ap (λ k. troubles_after k f.told) h.troubles ∙ sym (troubles_after-append 0 h.told f.told));
+}

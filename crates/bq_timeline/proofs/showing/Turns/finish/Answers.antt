@@ -1,0 +1,20 @@
+use Rattle.std.proofs.Common.{◌==◌, ap, ◌∙◌, refl}
+use Rattle.std.specs.Str.Lines.{lines}
+use Rattle.bq_trace.specs.Telling.{Story}
+use Rattle.bq_timeline.specs.Timelines.{Watches}
+use Rattle.bq_timeline.proofs.WatchLemmas.{watches}
+use Rattle.bq_timeline.proofs.showing.Turns.finish.Goals as goal
+
+pub returns-clause-told : goal.returns-clause-told
+returns-clause-told g c = λ begun stands.
+    let old = c.args.self.now in
+    let new = c.end.new.sink in
+    let w : Watches old.viewer new (λ told. Story old.standing.progress (lines begun) told c.end.new.self.progress) =
+    watches old.viewer new new (λ told. Story old.standing.progress (lines begun) told c.end.new.self.progress) (c.in_ok-end.ensures begun stands) refl refl
+    in
+    record {
+      told = w.told;
+      final = c.end.new.self.progress;
+      story = w.holds;
+      clean = ap (λ k. k == 0) (c.end-2.ensures.troubles ∙ w.troubles);
+    }
