@@ -20,7 +20,7 @@ _bqsim() {
     esac
     mapfile -t COMPREPLY < <(compgen -W "$words" -- "$word")
     case ${COMP_WORDS[1]} in
-        check|dis|import|run|simulate|timeline)
+        asm|check|dis|import|replay|run|simulate|timeline)
             [[ $word == -* ]] || mapfile -t -O "${#COMPREPLY[@]}" COMPREPLY < <(compgen -f -- "$word")
             ;;
     esac
