@@ -69,7 +69,8 @@ impl Map {
         names: &Names,
         text: &mut String,
     ) -> Result<(), AllocError> {
-        let Some(step) = round_step(extent.length(), self.columns()) else {
+        let columns = self.columns();
+        let Some(step) = round_step(extent.length(), columns) else {
             return Ok(());
         };
         let unit = Unit::for_step(step);
@@ -77,7 +78,9 @@ impl Map {
         write_ruler(self.alloc, extent, step, count, text)?;
         for (number, row) in self.rows.iter().enumerate() {
             if self.shows_row(number) {
-                self.write_row(number, row.as_slice(), extent, step, text)?;
+                write!(text, "cpu {number:<4}")?;
+                self.write_row(row.as_slice(), extent, step, columns, text)?;
+                text.push_str("\n")?;
             }
         }
         let length = Moment { time: step, unit };
@@ -99,31 +102,18 @@ impl Map {
         }
     }
 
-    /// The row of a processor, whose runs these are.
+    /// The columns of a processor, whose runs these are.
     fn write_row(
         &self,
-        number: usize,
         runs: &[Slice],
         extent: &Extent,
         step: u64,
-        text: &mut String,
-    ) -> Result<(), AllocError> {
-        write!(text, "cpu {number:<4}")?;
-        self.write_columns(runs, extent, step, text)?;
-        text.push_str("\n")
-    }
-
-    /// The columns of a processor, whose runs these are.
-    fn write_columns(
-        &self,
-        runs: &[Slice],
-        extent: &Extent,
-        step: u64,
+        columns: u16,
         text: &mut String,
     ) -> Result<(), AllocError> {
         let mut rest = runs;
         let mut from = extent.from;
-        for _ in 0..self.columns() {
+        for _ in 0..columns {
             if from >= extent.to {
                 break;
             }
@@ -143,7 +133,12 @@ impl Map {
 
     fn write_legend(&self, names: &Names, text: &mut String) -> Result<(), AllocError> {
         for (place, task) in self.tasks.iter().enumerate() {
-            write_legend_line(letter_at(place), *task, names, text)?;
+            let letter = letter_at(place);
+            write!(text, "{letter}  task {task}")?;
+            if let Some(name) = names.of(*task) {
+                write!(text, "  {name}")?;
+            }
+            text.push_str("\n")?;
         }
         Ok(())
     }
@@ -162,19 +157,6 @@ fn letter_at(place: usize) -> char {
     LETTERS.get(place).copied().unwrap_or('*')
 }
 
-/// The line of a task in the legend.
-fn write_legend_line(
-    letter: char,
-    task: u16,
-    names: &Names,
-    text: &mut String,
-) -> Result<(), AllocError> {
-    match names.of(task) {
-        Some(name) => write!(text, "{letter}  task {task}  {name}\n"),
-        None => write!(text, "{letter}  task {task}\n"),
-    }
-}
-
 /// The moments of every 20th column.
 fn write_ruler(
     alloc: Global,
@@ -184,31 +166,20 @@ fn write_ruler(
     text: &mut String,
 ) -> Result<(), AllocError> {
     let unit = Unit::for_step(step);
-    let ticks = count.div_ceil(TICK);
     text.push_str("        ")?;
-    for tick in 0..ticks {
+    let mut label = String::new(alloc);
+    for tick in 0..count.div_ceil(TICK) {
+        if tick > 0 {
+            write!(text, "{label:<20}")?;
+        }
         let time = extent
             .from
             .saturating_add(tick.saturating_mul(TICK).saturating_mul(step));
-        let is_last = tick >= ticks.saturating_sub(1);
-        write_tick(alloc, &Moment { time, unit }, is_last, text)?;
+        let moment = Moment { time, unit };
+        label = format!(in alloc; "|{moment}")?;
     }
+    text.push_str(label.as_str())?;
     text.push_str("\n")
-}
-
-/// A moment of the ruler, with room up to the next one.
-fn write_tick(
-    alloc: Global,
-    moment: &Moment,
-    is_last: bool,
-    text: &mut String,
-) -> Result<(), AllocError> {
-    let label = format!(in alloc; "|{moment}")?;
-    if is_last {
-        text.push_str(label.as_str())
-    } else {
-        write!(text, "{label:<20}")
-    }
 }
 
 impl Form for Map {
