@@ -1,1 +1,2 @@
 pub mod LongestLemmas
+pub mod RowLemmas

@@ -1,5 +1,7 @@
 //! The slices as comma-separated values.
-ghost use Rattle.std.specs.Prelude.{◌≡◌, ◌++◌, Option, OnOk, string_bytes};
+ghost use Rattle.std.specs.Prelude.{◌≡◌, ◌++◌, Option, IfOk, OnOk, map, string_bytes};
+ghost use Rattle.std.specs.Str.{IsUtf8};
+ghost use Rattle.csv.specs.Writing.{default_writer, row_text};
 ghost use Rattle.bq_schedule.specs.declared.slice.Slice.{Slice};
 ghost use Rattle.bq_forms.specs.Rows.{slice_row, row_of};
 ghost use Rattle.bq_forms.specs.Windows.{IsShownPart};
@@ -8,13 +10,16 @@ use crate::form::Form;
 use crate::names::Names;
 use crate::window::Window;
 use bq_schedule::{Change, Schedule, Slice};
+use csv::{Error, WriterBuilder};
 use std::alloc::{AllocError, Global};
 use std::marker::Model;
+use std::str;
 
 /// The slices that are shown, a row a slice, in the order in which they were charged: processor, task, from, to. Contracts see
 /// its window.
 #[derive(Drop)]
 pub struct Csv {
+    alloc: Global,
     window: Window,
 }
 
@@ -28,22 +33,54 @@ impl Model for Csv {
 
 impl Csv {
     /// The slices in the window.
-    pub fn new(_alloc: Global, window: Window) -> Csv
+    pub fn new(alloc: Global, window: Window) -> Csv
         ensures { result ≡ window }
     {
-        Csv { window }
+        Csv { alloc, window }
+    }
+
+    /// Adds the row of a slice.
+    fn write_slice(&self, slice: Slice, text: &mut String) -> Result<(), AllocError>
+        ensures { OnOk result (string_bytes text.new ≡ string_bytes text.old ++ slice_row slice) }
+    {
+        let processor = slice.processor.to_string(self.alloc)?;
+        let task = slice.task.to_string(self.alloc)?;
+        let from = slice.from.to_string(self.alloc)?;
+        let to = slice.to.to_string(self.alloc)?;
+        let fields = [
+            processor.as_bytes(),
+            task.as_bytes(),
+            from.as_bytes(),
+            to.as_bytes(),
+        ];
+        write_row(self.alloc, &fields, text)
     }
 }
 
-/// Adds the row of a slice.
-fn write_slice(slice: &Slice, text: &mut String) -> Result<(), AllocError>
-    ensures { OnOk result (string_bytes text.new ≡ string_bytes text.old ++ slice_row slice.now) }
+/// Adds a row of these fields, where it is text.
+fn write_row(alloc: Global, fields: &[&[u8]], text: &mut String) -> Result<(), AllocError>
+    ensures { OnOk result (IsUtf8 (row_text default_writer (map (λ f. f.now) fields.now))
+        → string_bytes text.new ≡ string_bytes text.old ++ row_text default_writer (map (λ f. f.now) fields.now)) }
 {
-    let processor = slice.processor;
-    let task = slice.task;
-    let from = slice.from;
-    let to = slice.to;
-    write!(text, "{processor},{task},{from},{to}\n")
+    let Ok(bytes) = row(alloc, fields) else {
+        return Err(AllocError);
+    };
+    match str::from_utf8(bytes.as_slice()) {
+        Ok(row) => text.push_str(row),
+        Err(_) => Ok(()),
+    }
+}
+
+/// A row of these fields.
+fn row(alloc: Global, fields: &[&[u8]]) -> Result<Vec<u8>, Error>
+    ensures { IfOk result (λ v. v.items ≡ row_text default_writer (map (λ f. f.now) fields.now)) }
+{
+    let mut writer = WriterBuilder::new().from_writer(Vec::new(alloc));
+    writer.write_fields(fields)?;
+    match writer.into_inner() {
+        Ok(text) => Ok(text),
+        Err(error) => Err(error.into_error()),
+    }
 }
 
 impl Form for Csv {
@@ -53,7 +90,13 @@ impl Form for Csv {
         _names: &Names,
         text: &mut String,
     ) -> Result<(), AllocError> {
-        text.push_str("processor,task,from,to\n")
+        let head = [
+            b"processor".as_slice(),
+            b"task".as_slice(),
+            b"from".as_slice(),
+            b"to".as_slice(),
+        ];
+        write_row(self.alloc, &head, text)
     }
 
     fn take(
@@ -68,7 +111,7 @@ impl Form for Csv {
         ensures same { self.new ≡ self.old }
     {
         match self.window.shown_part(change.slice) {
-            Some(slice) => write_slice(&slice, text),
+            Some(slice) => self.write_slice(slice, text),
             None => Ok(()),
         }
     }
