@@ -1,3 +1,4 @@
+pub mod Asking
 pub mod Differences
 pub mod Lines
 pub mod Sides

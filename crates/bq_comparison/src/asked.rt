@@ -1,5 +1,7 @@
 //! What is asked for, by the words of the command.
-ghost use Rattle.std.specs.Prelude.{◌≤◌, IfOk, IfSome};
+ghost use Rattle.std.specs.Prelude.{◌≡◌, ◌≤◌, ◌↔◌, IfOk, IfSome, IsErrOf, None};
+ghost use Rattle.bq_comparison.specs.Asking.{AskFor, AskForNone, seeds_asked, seeds_in};
+ghost use Rattle.bq_study.specs.declared.asked.AskedFault.TheVariants as why;
 
 use bq_forms::Window;
 use bq_study::{AskedFault, StudyWords};
@@ -31,7 +33,12 @@ pub struct Comparing {
 
 /// What the words ask for, if they ask for several seeds or for something to compare with. Without `--seeds` it is one seed.
 pub fn asked_comparison(alloc: Global, words: &StudyWords) -> Result<Option<Comparing>, AskedFault>
-    ensures { IfOk result (λ asked. IfSome asked (λ c. (1 ≤ c.seeds) × (c.seeds ≤ 1000))) }
+    // Nothing where the words ask for neither, and else so many seeds as they say.
+    ensures asked { IfOk result (AskFor words.now) }
+    ensures bound { IfOk result (λ asked. IfSome asked (λ c. (1 ≤ c.seeds) × (c.seeds ≤ 1000))) }
+
+    // That fault comes just where they say another number.
+    ensures seeds { IsErrOf result why.Seeds ↔ ((¬ AskForNone words.now) × (seeds_asked words.now.seeds ≡ None)) }
 {
     if words.seeds.is_none() && words.against.is_empty() {
         return Ok(None);
@@ -56,7 +63,8 @@ pub fn asked_comparison(alloc: Global, words: &StudyWords) -> Result<Option<Comp
 
 /// A number of seeds.
 fn seeds_of(word: &str) -> Option<u16>
-    ensures { IfSome result (λ n. (1 ≤ n) × (n ≤ 1000)) }
+    ensures value { result ≡ seeds_in word.now }
+    ensures bound { IfSome result (λ n. (1 ≤ n) × (n ≤ 1000)) }
 {
     let seeds = bq_lines::numbers::decimal(word.as_bytes())?;
     if 1 <= seeds && seeds <= MOST_SEEDS {
