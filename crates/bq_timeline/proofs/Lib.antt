@@ -1,1 +1,2 @@
+pub mod NoteLemmas
 pub mod WatchLemmas

@@ -14,6 +14,7 @@ use Rattle.bq_trace.specs.Trace.{start}
 use Rattle.bq_trace.proofs.ChainLemmas.{lines-with_feeds}
 use Rattle.bq_trace.proofs.ReplayLemmas.{with_feeds-join}
 use Rattle.bq_trace.proofs.StandingLemmas.{Story-append, stands_for_nothing}
+use Rattle.bq_timeline.specs.Notes.{last_notes}
 use Rattle.bq_timeline.specs.Timelines.{Closes, IsTimeline, Watches}
 use Rattle.bq_timeline.specs.Watching.{schedule_after, troubled, troubles_after, watched}
 use Rattle.bq_timeline.specs.declared.showing.Outcome.{Outcome}
@@ -105,13 +106,19 @@ Underway-more from mid to s t piece h consumed w =
 -- a timeline whose reader has no more and whose last line is told is done
 pub Underway-ends : (from mid to : Option (List ℕ)) (turns : Turns) (outcome : Outcome) → (h : Underway from mid turns) → Consumes mid to [] → IsAtEnd to → Closes turns h.rest outcome
     → IsTimeline from to outcome
-Underway-ends from mid to turns outcome h consumed at_end f = record {
-  input = h.input;
-  told = h.told ++ f.told;
-  final = f.final;
-  consumed = subst (Consumes from to) (append-nil h.input) (Consumes-trans from mid to h.input [] h.consumed consumed);
-  at_end = at_end;
-  story = subst (λ ls. Story start ls (h.told ++ f.told) f.final) (sym (ap lines h.whole ∙ lines-with_feeds h.ended h.rest h.each))
-      (Story-append start turns.standing.progress f.final (map strip_carriage_return h.ended) (lines h.rest) h.told f.told h.story f.story);
-  clean = f.clean ∙ ap (λ k. k == 0) (ap (λ k. troubles_after k f.told) h.troubles ∙ sym (troubles_after-append 0 h.told f.told));
-}
+Underway-ends from mid to turns outcome h consumed at_end f =
+    let count : troubles_after turns.viewer.troubles f.told ≡ troubles_after 0 (h.told ++ f.told) = ap (λ k. troubles_after k f.told) h.troubles ∙ sym (troubles_after-append 0 h.told f.told) in
+    let last : schedule_after turns.viewer.schedule f.told ≡ schedule_after None (h.told ++ f.told) = ap (λ s. schedule_after s f.told) h.schedule ∙ sym (schedule_after-append None h.told f.told) in
+    record {
+      input = h.input;
+      told = h.told ++ f.told;
+      final = f.final;
+      consumed = subst (Consumes from to) (append-nil h.input) (Consumes-trans from mid to h.input [] h.consumed consumed);
+      at_end = at_end;
+      story = subst (λ ls. Story start ls (h.told ++ f.told) f.final) (sym (ap lines h.whole ∙ lines-with_feeds h.ended h.rest h.each))
+          (Story-append start turns.standing.progress f.final (map strip_carriage_return h.ended) (lines h.rest) h.told f.told h.story f.story);
+      clean = f.clean ∙ ap (λ k. k == 0) count;
+      before = f.before;
+      notes = f.notes ∙ ap (λ k. f.before ++ last_notes (schedule_after turns.viewer.schedule f.told) k) count
+          ∙ ap (λ s. f.before ++ last_notes s (troubles_after 0 (h.told ++ f.told))) last;
+    }

@@ -1,2 +1,4 @@
+pub mod Asking
+pub mod Notes
 pub mod Timelines
 pub mod Watching

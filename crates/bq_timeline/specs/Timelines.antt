@@ -1,11 +1,12 @@
 -- A timeline of a whole trace.
-use Rattle.std.specs.Prelude.{◌≡◌, ◌==◌, ℕ, List, Option}
+use Rattle.std.specs.Prelude.{◌≡◌, ◌==◌, ℕ, List, ◌++◌, Option, None, string_bytes}
 use Rattle.std.specs.Io.KnownBytes.{Consumes, IsAtEnd}
 use Rattle.std.specs.Str.Lines.{lines}
 use Rattle.bq_trace.specs.News.{Told}
 use Rattle.bq_trace.specs.Telling.{Story}
 use Rattle.bq_trace.specs.Trace.{start}
 use Rattle.bq_trace.specs.declared.progress.Progress.{Progress}
+use Rattle.bq_timeline.specs.Notes.{last_notes}
 use Rattle.bq_timeline.specs.Watching.{schedule_after, troubles_after}
 use Rattle.bq_timeline.specs.declared.showing.Outcome.{Outcome}
 use Rattle.bq_timeline.specs.declared.showing.Turns.{Turns}
@@ -18,15 +19,18 @@ pub record Watches (old new : Viewer) (Holds : Told → Type 0) : Type 0 where
   pub troubles : new.troubles ≡ troubles_after old.troubles told
   pub holds : Holds told
 
--- The line that has begun is the last. It is clean where no line of the trace was bad or refused.
+-- The line that has begun is the last. It is clean where no line of the trace was bad or refused, and the last notes are those
+-- at the schedule of the whole trace.
 pub record Closes (turns : Turns) (begun : List ℕ) (outcome : Outcome) : Type 0 where
   pub told : Told
   pub final : Progress
   pub story : Story turns.standing.progress (lines begun) told final
   pub clean : outcome.clean ≡ (troubles_after turns.viewer.troubles told == 0)
+  pub before : List ℕ
+  pub notes : string_bytes outcome.notes ≡ before ++ last_notes (schedule_after turns.viewer.schedule told) (troubles_after turns.viewer.troubles told)
 
 -- The reader gave these bytes and has no more, and this came of their lines, all of them. It is clean where none of them was
--- bad or refused.
+-- bad or refused, and the last notes are those at the schedule that they tell.
 pub record IsTimeline (from to : Option (List ℕ)) (outcome : Outcome) : Type 0 where
   pub input : List ℕ
   pub told : Told
@@ -35,3 +39,5 @@ pub record IsTimeline (from to : Option (List ℕ)) (outcome : Outcome) : Type 0
   pub at_end : IsAtEnd to
   pub story : Story start (lines input) told final
   pub clean : outcome.clean ≡ (troubles_after 0 told == 0)
+  pub before : List ℕ
+  pub notes : string_bytes outcome.notes ≡ before ++ last_notes (schedule_after None told) (troubles_after 0 told)

@@ -1,4 +1,7 @@
 //! The words after `timeline`.
+ghost use Rattle.std.specs.Prelude.{IfOk};
+ghost use Rattle.clap.specs.Words.{found_of, rows_of};
+ghost use Rattle.bq_timeline.specs.Asking.{AreWords};
 
 use crate::settings::Words;
 use bq_options::{CommandText, Given, OptionText, WordsFault, matches_of, texts, word};
@@ -62,7 +65,9 @@ pub fn words<'a>(alloc: Global, given: &'a [&'a str]) -> Result<Words, WordsFaul
 }
 
 /// The words that were found which say what is shown, and how.
-pub fn shown_words(alloc: Global, matches: &ArgMatches<'_>) -> Result<Words, AllocError> {
+pub fn shown_words(alloc: Global, matches: &ArgMatches<'_>) -> Result<Words, AllocError>
+    ensures { IfOk result (AreWords (rows_of (found_of matches.now))) }
+{
     let file = word(alloc, matches, "file")?;
     let form = word(alloc, matches, "as")?;
     let from = word(alloc, matches, "from")?;

@@ -1,4 +1,6 @@
 //! What is written of a trace: the form, with notes on its lines where a person reads it, and what goes to standard error.
+ghost use Rattle.std.specs.Prelude.{◌≡◌, ◌++◌, OnOk, Some, string_bytes};
+ghost use Rattle.bq_timeline.specs.Notes.{last_notes, trouble_note, waiting_note, waiting_notes};
 
 use crate::faults::why_bad;
 use crate::near::Near;
@@ -157,27 +159,54 @@ impl Screen {
     }
 
     /// The trace is over. So many lines were bad or refused.
-    pub fn end(&mut self, schedule: &Schedule, troubles: u64) -> Result<(), AllocError> {
+    pub fn end(&mut self, schedule: &Schedule, troubles: u64) -> Result<(), AllocError>
+        ensures { OnOk result (string_bytes self.new.notes ≡ string_bytes self.old.notes ++ last_notes (Some schedule.now) troubles) }
+    {
         self.shown.end(schedule, &self.names, &mut self.text)?;
         if let Some(near) = &self.near {
             near.write(self.processors, &mut self.text)?;
         }
-        for task in 0..1024u16 {
-            if let Some(processor) = schedule.undrained(task) {
-                write!(
-                    &mut self.notes,
-                    "task {task} was placed on processor {processor}, which was never drained after\n"
-                )?;
-            }
-        }
+        note_waiting(&mut self.notes, schedule)?;
         self.sum_up(troubles)
     }
 
     /// Notes how many lines were bad or refused, if any were.
-    pub fn sum_up(&mut self, troubles: u64) -> Result<(), AllocError> {
-        if troubles > 0 {
-            write!(&mut self.notes, "lines bad or refused: {troubles}\n")?;
-        }
-        Ok(())
+    pub fn sum_up(&mut self, troubles: u64) -> Result<(), AllocError>
+        ensures { OnOk result (string_bytes self.new.notes ≡ string_bytes self.old.notes ++ trouble_note troubles) }
+    {
+        note_troubles(&mut self.notes, troubles)
     }
+}
+
+/// Notes each task that was placed on a processor which was never drained after.
+fn note_waiting(notes: &mut String, schedule: &Schedule) -> Result<(), AllocError>
+    ensures { OnOk result (string_bytes notes.new ≡ string_bytes notes.old ++ waiting_notes schedule.now 1024) }
+{
+    for task in 0..1024u16 {
+        note_task(notes, task, schedule.undrained(task))?;
+    }
+    Ok(())
+}
+
+/// Notes a task that was placed on such a processor, if it was.
+fn note_task(notes: &mut String, task: u16, processor: Option<u8>) -> Result<(), AllocError>
+    ensures { OnOk result (string_bytes notes.new ≡ string_bytes notes.old ++ waiting_note task processor) }
+{
+    match processor {
+        Some(processor) => write!(
+            notes,
+            "task {task} was placed on processor {processor}, which was never drained after\n"
+        ),
+        None => Ok(()),
+    }
+}
+
+/// Notes how many lines were bad or refused, if any were.
+fn note_troubles(notes: &mut String, troubles: u64) -> Result<(), AllocError>
+    ensures { OnOk result (string_bytes notes.new ≡ string_bytes notes.old ++ trouble_note troubles) }
+{
+    if troubles == 0 {
+        return Ok(());
+    }
+    write!(notes, "lines bad or refused: {troubles}\n")
 }

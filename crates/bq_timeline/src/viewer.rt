@@ -1,6 +1,7 @@
 //! The sink of a timeline: the schedule that a trace tells, and the form that it is shown in.
 ghost use Rattle.bq_timeline.specs.Watching.{watched, troubled};
-ghost use Rattle.std.specs.Prelude.{◌≡◌};
+ghost use Rattle.bq_timeline.specs.Notes.{last_notes};
+ghost use Rattle.std.specs.Prelude.{◌≡◌, ◌++◌, OnOk, string_bytes};
 
 use crate::screen::Screen;
 use crate::settings::Settings;
@@ -38,6 +39,8 @@ impl Viewer {
     pub fn end(&mut self) -> Result<(), AllocError>
         ensures schedule { self.new.schedule ≡ self.old.schedule }
         ensures troubles { self.new.troubles ≡ self.old.troubles }
+        ensures notes { OnOk result (string_bytes self.new.screen.notes
+            ≡ string_bytes self.old.screen.notes ++ last_notes self.old.schedule self.old.troubles) }
     {
         match &self.schedule {
             Some(schedule) => self.screen.end(schedule, self.troubles),

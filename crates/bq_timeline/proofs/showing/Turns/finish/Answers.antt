@@ -1,7 +1,11 @@
-use Rattle.std.proofs.Common.{◌==◌, ap, ◌∙◌, refl}
+use Rattle.std.proofs.Common.{◌==◌, ℕ, ◌++◌, Option, ap, ◌∙◌, refl}
+use Rattle.std.specs.Prelude.{string_bytes}
 use Rattle.std.specs.Str.Lines.{lines}
 use Rattle.bq_trace.specs.Telling.{Story}
+use Rattle.bq_schedule.specs.Figures.{Figures}
+use Rattle.bq_timeline.specs.Notes.{last_notes}
 use Rattle.bq_timeline.specs.Timelines.{Watches}
+use Rattle.bq_timeline.specs.Watching.{schedule_after}
 use Rattle.bq_timeline.proofs.WatchLemmas.{watches}
 use Rattle.bq_timeline.proofs.showing.Turns.finish.Goals as goal
 
@@ -12,9 +16,13 @@ returns-clause-told g c = λ begun stands.
     let w : Watches old.viewer new (λ told. Story old.standing.progress (lines begun) told c.end.new.self.progress) =
     watches old.viewer new new (λ told. Story old.standing.progress (lines begun) told c.end.new.self.progress) (c.in_ok-end.ensures begun stands) refl refl
     in
+    let before = string_bytes new.screen.notes in
     record {
       told = w.told;
       final = c.end.new.self.progress;
       story = w.holds;
       clean = ap (λ k. k == 0) (c.end-2.ensures.troubles ∙ w.troubles);
+      before = before;
+      notes = c.in_ok-notes.ensures.cases ∙ c.in_ok-end-2.ensures.notes ∙ ap (λ (s : Option Figures). before ++ last_notes s new.troubles) w.schedule
+          ∙ ap (λ (k : ℕ). before ++ last_notes (schedule_after old.viewer.schedule w.told) k) w.troubles;
     }

@@ -1,0 +1,18 @@
+-- The notes on tasks, one after another.
+use Rattle.std.proofs.Common.{◌≡◌, ℕ, ◌+◌, List, ◌++◌, ap, sym, ◌∙◌, append_assoc, append-nil, add-one}
+use Rattle.bq_schedule.specs.Figures.{Figures}
+use Rattle.bq_schedule.specs.Standing.{undrained}
+use Rattle.bq_timeline.specs.Notes.{waiting_note, waiting_notes}
+
+-- before the first task there is none
+pub waiting_notes-none : (s : Figures) (old : List ℕ) → old ≡ old ++ waiting_notes s 0
+unfolding waiting_notes
+waiting_notes-none s old = sym (append-nil old)
+
+-- a task's note stands behind those before it
+pub waiting_notes-more : (s : Figures) (old now next : List ℕ) (task : ℕ) → now ≡ old ++ waiting_notes s task → next ≡ now ++ waiting_note task (undrained s task)
+    → next ≡ old ++ waiting_notes s (task + 1)
+unfolding waiting_notes
+waiting_notes-more s old now next task h k =
+    k ∙ ap (λ l. l ++ waiting_note task (undrained s task)) h ∙ append_assoc old (waiting_notes s task) (waiting_note task (undrained s task))
+    ∙ ap (λ n. old ++ waiting_notes s n) (sym (add-one task))
