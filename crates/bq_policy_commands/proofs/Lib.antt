@@ -3,3 +3,5 @@ mod DifferenceLemmas
 mod JudgeLemmas
 mod TraceLemmas
 mod RunLemmas
+mod SayingLemmas
+mod HelperLemmas

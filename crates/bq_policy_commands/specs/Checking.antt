@@ -58,6 +58,11 @@ pub record ChecksAsked (w : CheckWords) (bytes : List ℕ) (answer : Answered) :
   pub has : HasLimits w limits
   pub checks : ChecksFile w bytes head limits answer
 
--- words that say none are refused
+-- the words say this head, and these limits
+pub record SaysTerms (w : CheckWords) (terms : Head × Limits) : Type 0 where
+  pub head : SaysHead w.policy terms.0
+  pub limits : HasLimits w terms.1
+
+-- words that say none are refused, and no others
 abbrev pub ChecksTo : CheckWords → List ℕ → Answered → Type 0
-ChecksTo w bytes answer = IsWordsFault answer ⊎ ChecksAsked w bytes answer
+ChecksTo w bytes answer = IsWordsFault (SaysTerms w) answer ⊎ ChecksAsked w bytes answer

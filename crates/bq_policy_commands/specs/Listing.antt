@@ -24,6 +24,6 @@ pub record IsListing (w : ListWords) (bytes : List ℕ) (h : Head) (answer : Ans
 abbrev pub ListsFile : ListWords → List ℕ → Head → Answered → Type 0
 ListsFile w bytes h answer = IsRefusedFile bytes h answer ⊎ IsListing w bytes h answer
 
--- by the head that the words say; words that say none are refused
+-- by the head that the words say; words that say none are refused, and no others
 abbrev pub ListsTo : ListWords → List ℕ → Answered → Type 0
-ListsTo w bytes answer = IsWordsFault answer ⊎ ((h : Head) × SaysHead w.policy h × ListsFile w bytes h answer)
+ListsTo w bytes answer = IsWordsFault (SaysHead w.policy) answer ⊎ ((h : Head) × SaysHead w.policy h × ListsFile w bytes h answer)

@@ -1,5 +1,5 @@
 -- What `run` answers to a policy's file.
-use Rattle.std.specs.Prelude.{◌≡◌, ℕ, ◌+◌, Bool, false, List, ◌++◌, length, replicate, ◌⊎◌, Option, Some, None, String, codes, string_bytes}
+use Rattle.std.specs.Prelude.{◌≡◌, ℕ, ◌+◌, ◌^◌, Bool, false, List, ◌++◌, length, replicate, ◌⊎◌, Option, Some, None, String, codes, string_bytes}
 use Rattle.std.specs.declared.alloc.Global.{Global}
 use Rattle.std.specs.Fmt.{decimal, digits}
 use Rattle.bq_insn.specs.Slots.{spread}
@@ -30,7 +30,7 @@ use Rattle.bq_policy_commands.specs.declared.words.RunWords.{RunWords}
 use Rattle.bq_policy_commands.specs.Judging.{TellsWord}
 use Rattle.bq_policy_commands.specs.Refusing.{IsRefusedFile}
 use Rattle.bq_policy_commands.specs.Tracing.{TellsSteps}
-use Rattle.bq_policy_commands.specs.Saying.{IsWordsFault, SaysHead, option_bytes}
+use Rattle.bq_policy_commands.specs.Saying.{IsNumberBelow, IsRefused, IsWordsFault, SaysHead, option_bytes}
 
 -- without a word the number is 0
 abbrev pub IsNumberOrZero : Option (List ℕ) → ℕ → Type 0
@@ -77,7 +77,7 @@ pub record TellsRun (program : Accepted) (context : List ℕ) (answer steps : �
 -- of so many runs as the word says, all but the last
 abbrev pub IsBefore : Option (List ℕ) → ℕ → Type 0
 IsBefore None n = n ≡ 0
-IsBefore (Some word) n = IsNumber word (n + 1)
+IsBefore (Some word) n = IsNumberBelow (2 ^ 32) word (n + 1)
 
 -- so many runs of the program on those inputs, one after another, lead to maps and counters from which there is a run more, whose steps begin from
 -- these moments of the machine: its answer is told, and its steps where that is asked for
@@ -99,12 +99,17 @@ pub record HasRun (traced : Bool) (others : ℕ) (program : Accepted) (inputs : 
   pub told : TellsRun program inputs.context.items answer steps executed (string_bytes text)
 
 abbrev pub RunsOn : Bool → ℕ → Accepted → Inputs → Answered → Type 0
-RunsOn traced others program inputs told_as = IsWordsFault told_as ⊎ HasRun traced others program inputs told_as
+RunsOn traced others program inputs told_as = IsRefused told_as ⊎ HasRun traced others program inputs told_as
 
--- on inputs that the words name, after as many others as they name
+-- on inputs that the words name
+abbrev pub RunsInputs : RunWords → Accepted → ℕ → Answered → Type 0
+RunsInputs w program others told_as =
+    IsRefused told_as ⊎ ((inputs : Inputs) × HasInputs w program inputs × RunsOn w.telling.is_traced others program inputs told_as)
+
+-- after as many others as the words name; where they name no number of runs they are refused
 abbrev pub RunsProgram : RunWords → Accepted → Answered → Type 0
 RunsProgram w program told_as =
-    IsWordsFault told_as ⊎ ((others : ℕ) × IsBefore (option_bytes w.telling.repeat) others × (inputs : Inputs) × HasInputs w program inputs × RunsOn w.telling.is_traced others program inputs told_as)
+    IsWordsFault (IsBefore (option_bytes w.telling.repeat)) told_as ⊎ ((others : ℕ) × IsBefore (option_bytes w.telling.repeat) others × RunsInputs w program others told_as)
 
 -- the program is that of the policy
 pub record IsProgramOf (p : Policy) (program : Accepted) : Type 0 where
@@ -141,4 +146,4 @@ RunsFile w bytes h told_as = IsRefusedFile bytes h told_as ⊎ ((p : Policy) × 
 
 -- by the head that the words say; words that say none are refused
 abbrev pub RunsTo : RunWords → List ℕ → Answered → Type 0
-RunsTo w bytes told_as = IsWordsFault told_as ⊎ ((h : Head) × SaysHead w.policy h × RunsFile w bytes h told_as)
+RunsTo w bytes told_as = IsWordsFault (SaysHead w.policy) told_as ⊎ ((h : Head) × SaysHead w.policy h × RunsFile w bytes h told_as)

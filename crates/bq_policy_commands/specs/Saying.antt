@@ -1,11 +1,14 @@
 -- What the words of a command say of a policy.
-use Rattle.std.specs.Prelude.{◌≡◌, ℕ, List, Option, Some, None, option_map, String, string_bytes}
+use Rattle.std.specs.Prelude.{◌≡◌, ℕ, ◌<◌, List, Option, Some, None, option_map, String, string_bytes}
 use Rattle.std.specs.declared.alloc.Global.{Global}
 use Rattle.bq_program.specs.declared.head.Head.{Head}
 use Rattle.bq_program.specs.Heads.{Names}
+use Rattle.bq_one_run.specs.Words.{IsNumber}
 use Rattle.bq_bpf.specs.Hooks.{hook_of, version_of}
 use Rattle.bq_policy_commands.specs.declared.answered.Answered.{Answered}
 use Rattle.bq_policy_commands.specs.declared.answered.Answered.TheVariants.{Words}
+use Rattle.bq_policy_commands.specs.declared.given.WordsFault.{WordsFault}
+use Rattle.bq_policy_commands.specs.declared.given.WordsFault.TheVariants as fault
 use Rattle.bq_policy_commands.specs.declared.words.PolicyWords.{PolicyWords}
 
 -- the bytes of a word, if there is one
@@ -18,12 +21,25 @@ IsHeadWord P None None = Unit {0}
 IsHeadWord P (Some word) (Some value) = P word value
 IsHeadWord P word value = ⊥
 
+-- the word writes the number in decimal, and it is below that limit
+abbrev pub IsNumberBelow : ℕ → List ℕ → ℕ → Type 0
+IsNumberBelow limit word number = IsNumber word number × (number < limit)
+
 -- each word says its part of the head
 pub record SaysHead (w : PolicyWords) (h : Head) : Type 0 where
   pub hook : IsHeadWord (λ word hook. hook_of word ≡ Some hook) (option_bytes w.hook) h.hook
   pub maps : IsHeadWord Names (option_bytes w.maps) h.maps
   pub format : IsHeadWord (λ word version. version_of word ≡ Some version) (option_bytes w.format) h.format
 
+-- words that are refused say none of that kind; want of memory says nothing of the words
+abbrev pub SaysNone : {A : Type 0} → (A → Type 0) → WordsFault → Type 0
+SaysNone {A} Says (fault.Words why) = (a : A) → ¬ Says a
+SaysNone Says fault.OutOfMemory = Unit {0}
+
 -- the words are refused
-abbrev pub IsWordsFault : Answered → Type 0
-IsWordsFault answer = (why : String Global) × (answer ≡ Words why)
+abbrev pub IsRefused : Answered → Type 0
+IsRefused answer = (why : String Global) × (answer ≡ Words why)
+
+-- the words are refused, and say none of that kind
+abbrev pub IsWordsFault : {A : Type 0} → (A → Type 0) → Answered → Type 0
+IsWordsFault {A} Says answer = IsRefused answer × ((a : A) → ¬ Says a)

@@ -1,10 +1,10 @@
 //! `check` of a policy's file.
-ghost use Rattle.std.specs.Prelude.{◌≡◌, ◌≢◌, IfOk, OnOk, string_bytes};
+ghost use Rattle.std.specs.Prelude.{◌≡◌, ◌≢◌, IfErr, IfOk, OnOk, string_bytes};
 ghost use Rattle.bq_program.specs.declared.fault.PolicyFault.TheVariants.{OutOfMemory};
-ghost use Rattle.bq_policy_commands.specs.Checking.{ChecksFile, ChecksTo, IsTold, TellsVerdict, answered};
+ghost use Rattle.bq_policy_commands.specs.Checking.{ChecksFile, ChecksTo, IsTold, SaysTerms, TellsVerdict, answered};
 ghost use Rattle.bq_policy_commands.specs.Limiting.{HasLimits};
 ghost use Rattle.bq_policy_commands.specs.Refusing.{fault_line};
-ghost use Rattle.bq_policy_commands.specs.Saying.{SaysHead};
+ghost use Rattle.bq_policy_commands.specs.Saying.{SaysHead, SaysNone};
 
 use crate::answered::Answered;
 use crate::fault_words::fault_line;
@@ -18,7 +18,8 @@ use bq_explain::{Limits, explain, judge, verdict_line};
 use bq_program::{Head, Policy, PolicyFault, read_policy};
 use std::alloc::{AllocError, Global};
 
-/// The verdict on the policy whose file has these bytes, or why the file is none.
+/// The verdict on the policy whose file has these bytes, or why the file is none. Words are refused only where they say no head or no
+/// limits.
 pub fn check(alloc: Global, words: &CheckWords, bytes: &[u8]) -> Result<Answered, AllocError>
     ensures { IfOk result (ChecksTo words.now bytes.now) }
 {
@@ -40,6 +41,7 @@ struct Terms {
 fn terms_of(alloc: Global, words: &CheckWords) -> Result<Terms, WordsFault>
     ensures says { IfOk result (λ terms. SaysHead words.now.policy terms.head) }
     ensures has { IfOk result (λ terms. HasLimits words.now terms.limits) }
+    ensures none { IfErr result (SaysNone (SaysTerms words.now)) }
 {
     let head = said_by(alloc, &words.policy)?;
     let limits = limits_of(alloc, words)?;

@@ -1,6 +1,6 @@
 //! What the words of a command say of a policy.
-ghost use Rattle.std.specs.Prelude.{◌≡◌, IfOk, Some};
-ghost use Rattle.bq_policy_commands.specs.Saying.{IsHeadWord, SaysHead, option_bytes};
+ghost use Rattle.std.specs.Prelude.{◌≡◌, IfErr, IfOk, Some};
+ghost use Rattle.bq_policy_commands.specs.Saying.{IsHeadWord, SaysHead, SaysNone, option_bytes};
 ghost use Rattle.bq_program.specs.Heads.{Names};
 ghost use Rattle.bq_bpf.specs.Hooks.{hook_of, version_of};
 
@@ -40,9 +40,10 @@ pub(crate) fn words_fault(text: Result<String, AllocError>) -> WordsFault {
     }
 }
 
-/// What the words say beside the file.
+/// What the words say beside the file. They are refused only where they say no head.
 pub fn said_by(alloc: Global, words: &PolicyWords) -> Result<Head, WordsFault>
-    ensures { IfOk result (SaysHead words.now) }
+    ensures says { IfOk result (SaysHead words.now) }
+    ensures none { IfErr result (SaysNone (SaysHead words.now)) }
 {
     let hook = hook_in(alloc, &words.hook)?;
     let maps = maps_in(alloc, &words.maps)?;
@@ -52,7 +53,8 @@ pub fn said_by(alloc: Global, words: &PolicyWords) -> Result<Head, WordsFault>
 
 /// The hook that a word names, if there is a word.
 fn hook_in(alloc: Global, word: &Option<String>) -> Result<Option<Hook>, WordsFault>
-    ensures { IfOk result (IsHeadWord (λ bytes hook. hook_of bytes ≡ Some hook) (option_bytes word.now)) }
+    ensures says { IfOk result (IsHeadWord (λ bytes hook. hook_of bytes ≡ Some hook) (option_bytes word.now)) }
+    ensures none { IfErr result (SaysNone (IsHeadWord (λ bytes hook. hook_of bytes ≡ Some hook) (option_bytes word.now))) }
 {
     let Some(word) = word else {
         return Ok(None);
@@ -67,7 +69,8 @@ fn hook_in(alloc: Global, word: &Option<String>) -> Result<Option<Hook>, WordsFa
 
 /// The version that a word names, if there is a word.
 fn format_in(alloc: Global, word: &Option<String>) -> Result<Option<Version>, WordsFault>
-    ensures { IfOk result (IsHeadWord (λ bytes version. version_of bytes ≡ Some version) (option_bytes word.now)) }
+    ensures says { IfOk result (IsHeadWord (λ bytes version. version_of bytes ≡ Some version) (option_bytes word.now)) }
+    ensures none { IfErr result (SaysNone (IsHeadWord (λ bytes version. version_of bytes ≡ Some version) (option_bytes word.now))) }
 {
     let Some(word) = word else {
         return Ok(None);
@@ -82,7 +85,8 @@ fn format_in(alloc: Global, word: &Option<String>) -> Result<Option<Version>, Wo
 
 /// The shapes of maps that a text names, if there is a text.
 fn maps_in(alloc: Global, text: &Option<String>) -> Result<Option<Vec<MapShape>>, WordsFault>
-    ensures { IfOk result (IsHeadWord Names (option_bytes text.now)) }
+    ensures says { IfOk result (IsHeadWord Names (option_bytes text.now)) }
+    ensures none { IfErr result (SaysNone (IsHeadWord Names (option_bytes text.now))) }
 {
     let Some(text) = text else {
         return Ok(None);

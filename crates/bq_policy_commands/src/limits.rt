@@ -1,17 +1,18 @@
 //! A keeper's own limits from the words of a command.
-ghost use Rattle.std.specs.Prelude.{◌≡◌, IfOk};
-ghost use Rattle.bq_policy_commands.specs.Saying.{IsHeadWord, option_bytes};
-ghost use Rattle.bq_policy_commands.specs.Limiting.{HasLimits};
-ghost use Rattle.bq_one_run.specs.Words.{IsNumber};
+ghost use Rattle.std.specs.Prelude.{◌≡◌, ◌^◌, [], List, ℤ, IfErr, IfOk, MatchBool, MatchOption};
+ghost use Rattle.bq_one_run.specs.Naming.{parts};
+ghost use Rattle.bq_policy_commands.specs.Saying.{IsHeadWord, IsNumberBelow, SaysNone, option_bytes};
+ghost use Rattle.bq_policy_commands.specs.Limiting.{AreHelpers, HasLimits, NamesHelpers, NamesNoHelpers};
 
 use crate::given::{WordsFault, words_fault};
 use crate::words::CheckWords;
 use bq_explain::Limits;
 use std::alloc::{AllocError, Global};
 
-/// The limits that the words set.
+/// The limits that the words set. They are refused only where they set none.
 pub fn limits_of(alloc: Global, words: &CheckWords) -> Result<Limits, WordsFault>
-    ensures { IfOk result (HasLimits words.now) }
+    ensures has { IfOk result (HasLimits words.now) }
+    ensures none { IfErr result (SaysNone (HasLimits words.now)) }
 {
     let steps = steps_in(alloc, &words.max_steps)?;
     let helpers = helpers_in(alloc, &words.helpers)?;
@@ -20,7 +21,8 @@ pub fn limits_of(alloc: Global, words: &CheckWords) -> Result<Limits, WordsFault
 
 /// The most instructions of a run, if there is a word of it.
 fn steps_in(alloc: Global, word: &Option<String>) -> Result<Option<u32>, WordsFault>
-    ensures { IfOk result (IsHeadWord IsNumber (option_bytes word.now)) }
+    ensures says { IfOk result (IsHeadWord (IsNumberBelow (2 ^ 32)) (option_bytes word.now)) }
+    ensures none { IfErr result (SaysNone (IsHeadWord (IsNumberBelow (2 ^ 32)) (option_bytes word.now))) }
 {
     let Some(word) = word else {
         return Ok(None);
@@ -34,7 +36,10 @@ fn steps_in(alloc: Global, word: &Option<String>) -> Result<Option<u32>, WordsFa
 }
 
 /// The helpers that may be called, if there is a word of them: numbers with commas between.
-fn helpers_in(alloc: Global, word: &Option<String>) -> Result<Option<Vec<i32>>, WordsFault> {
+fn helpers_in(alloc: Global, word: &Option<String>) -> Result<Option<Vec<i32>>, WordsFault>
+    ensures says { IfOk result (IsHeadWord NamesHelpers (option_bytes word.now)) }
+    ensures none { IfErr result (SaysNone (IsHeadWord NamesHelpers (option_bytes word.now))) }
+{
     let Some(word) = word else {
         return Ok(None);
     };
@@ -47,16 +52,25 @@ fn helpers_in(alloc: Global, word: &Option<String>) -> Result<Option<Vec<i32>>, 
 }
 
 /// The numbers of a text with commas between; none of an empty text.
-fn numbers_of(alloc: Global, text: &str) -> Result<Option<Vec<i32>>, AllocError> {
+#[tactic(auto, using(crate::proofs::HelperLemmas::none_named, crate::proofs::HelperLemmas::all_named, crate::proofs::HelperLemmas::not_named))]
+fn numbers_of(alloc: Global, text: &str) -> Result<Option<Vec<i32>>, AllocError>
+    ensures { IfOk result (λ named. MatchOption named (NamesNoHelpers text.now) (NamesHelpers text.now)) }
+{
     let mut numbers = Vec::new(alloc);
-    if text.is_empty() || push_numbers(&mut numbers, text)? {
+    if text.is_empty() {
+        return Ok(Some(numbers));
+    }
+    if push_numbers(&mut numbers, text)? {
         return Ok(Some(numbers));
     }
     Ok(None)
 }
 
 /// Adds the numbers of a text with commas between, up to a part that is none; whether there is no such part.
-fn push_numbers(numbers: &mut Vec<i32>, text: &str) -> Result<bool, AllocError> {
+fn push_numbers(numbers: &mut Vec<i32>, text: &str) -> Result<bool, AllocError>
+    requires { numbers.old.items ≡ [] }
+    ensures { IfOk result (λ all. MatchBool all (AreHelpers (parts text.now) numbers.new.items) ((helpers : List ℤ) → ¬ AreHelpers (parts text.now) helpers)) }
+{
     for part in text.split(',') {
         match part.parse::<i32>() {
             Ok(number) => numbers.push(number)?,

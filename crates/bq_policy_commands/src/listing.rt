@@ -12,7 +12,8 @@ use crate::words::ListWords;
 use bq_program::{Head, PolicyFault, policy_text, read_policy};
 use std::alloc::{AllocError, Global};
 
-/// The listing of the policy whose file has these bytes, under the marks that say its hook, maps and version.
+/// The listing of the policy whose file has these bytes, under the marks that say its hook, maps and version. Words
+/// are refused only where they say no head.
 pub fn list(alloc: Global, words: &ListWords, bytes: &[u8]) -> Result<Answered, AllocError>
     ensures { IfOk result (ListsTo words.now bytes.now) }
 {

@@ -1,14 +1,15 @@
 //! How many runs go before the one that is told.
-ghost use Rattle.std.specs.Prelude.{IfOk};
+ghost use Rattle.std.specs.Prelude.{IfErr, IfOk};
 ghost use Rattle.bq_policy_commands.specs.Running.{IsBefore};
-ghost use Rattle.bq_policy_commands.specs.Saying.{option_bytes};
+ghost use Rattle.bq_policy_commands.specs.Saying.{SaysNone, option_bytes};
 
 use crate::given::{WordsFault, words_fault};
 use std::alloc::Global;
 
 /// Of so many runs as a word says, all but the last; none without a word.
 pub(crate) fn runs_before(alloc: Global, word: &Option<String>) -> Result<u32, WordsFault>
-    ensures { IfOk result (IsBefore (option_bytes word.now)) }
+    ensures before { IfOk result (IsBefore (option_bytes word.now)) }
+    ensures none { IfErr result (SaysNone (IsBefore (option_bytes word.now))) }
 {
     let Some(word) = word else {
         return Ok(0);

@@ -1,6 +1,7 @@
 use Rattle.std.proofs.Common.{inl, inr, refl}
 use Rattle.std.proofs.lemmas.Result.{IfOk-weaker}
-use Rattle.bq_policy_commands.specs.Checking.{ChecksFile, ChecksTo}
+use Rattle.bq_policy_commands.specs.Checking.{ChecksFile, ChecksTo, SaysTerms}
+use Rattle.bq_policy_commands.proofs.SayingLemmas.{said_none}
 use Rattle.bq_policy_commands.proofs.checking.check.Goals as goal
 
 pub returns-in-Ok : goal.returns-in-Ok
@@ -10,4 +11,4 @@ returns-in-Ok c =
     (λ answer checks. inr record { head = terms.head; says = c.in-Ok.ensures.says; limits = terms.limits; has = c.in-Ok.ensures.has; checks = checks }) c.check_file.ensures
 
 pub returns-in-Err-Words : goal.returns-in-Err-Words
-returns-in-Err-Words c = inl (_, refl)
+returns-in-Err-Words c = inl ((_, refl), said_none (SaysTerms c.args.words.now) _ _ c.in-Err-Words.field-0-is c.in-Err-Words.ensures.none)
