@@ -151,7 +151,7 @@ impl<N: Naming> Counters<N> {
 
     /// The counters at the end: with the account of all seats, each is the sum of the recorded adds.
     pub fn close(self, all: Tally<N>) -> [u64; 64]
-        requires { all.seats ≡ self }
+        requires whole { all.seats ≡ self }
         ensures { AreSumsOf all.calls result }
     {
         let Counters { table, of: _ } = self;
