@@ -44,9 +44,11 @@ impl Names {
 fn naming(comment: &[u8]) -> Option<(u16, &str)> {
     let rest = comment.trim_ascii().strip_prefix(b"#")?;
     let rest = rest.trim_ascii().strip_prefix(b"task ")?;
-    let (task, name) = str::from_utf8(rest.trim_ascii()).ok()?.split_once(' ')?;
-    let task = task.parse::<u16>().ok()?;
-    Some((task, name.trim()))
+    let rest = rest.trim_ascii();
+    let end = rest.iter().position(|byte| *byte == b' ')?;
+    let task = str::from_utf8(&rest[..end]).ok()?.parse::<u16>().ok()?;
+    let name = str::from_utf8(&rest[end..]).ok()?.trim();
+    Some((task, name))
 }
 
 /// A task by its name, or by its number where it has none.
@@ -59,7 +61,7 @@ pub struct Label<'a> {
 impl fmt::Display for Label<'_> {
     fn fmt<W: fmt::Write>(&self, f: &mut fmt::Formatter<W>) -> fmt::Result {
         match self.names.of(self.task) {
-            Some(name) => f.write_str(name),
+            Some(name) => write!(f, "{name}"),
             None => {
                 let task = self.task;
                 write!(f, "task {task}")
