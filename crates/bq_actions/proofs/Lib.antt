@@ -1,2 +1,5 @@
+pub mod BoundLemmas
 pub mod DigitLemmas
+pub mod MaskLemmas
+pub mod SoundLemmas
 pub mod TreeLemmas

@@ -1,10 +1,11 @@
 -- The accounts of a simulation: what runs where and since when, and how far each task has come.
-use Rattle.std.specs.Prelude.{◌≡◌, ℕ, ◌+◌, ◌-◌, ◌==◌, Bool, true, false, if◌then◌else◌, List, [], replicate, Option, Some, None, slice_get, slice_set}
+use Rattle.std.specs.Prelude.{◌≡◌, ℕ, ◌+◌, ◌-◌, ◌==◌, Bool, true, false, ◌&&◌, if◌then◌else◌, List, [], replicate, Option, Some, None, slice_get, slice_set}
+use Rattle.std.specs.List.{list_all}
 use Rattle.std.specs.Option.{option_map_or}
 use Rattle.bq_actions.specs.declared.course.Course.{Course}
 use Rattle.bq_actions.specs.declared.lane.Lane.{Lane}
 use Rattle.bq_actions.specs.declared.roster.Roster.{Roster}
-use Rattle.bq_actions.specs.Courses.{run_for, moved_to}
+use Rattle.bq_actions.specs.Courses.{run_for, moved_to, lacks_more, keeps_time}
 
 -- how far each task has come, and what each processor runs
 pub record Accounts : Type 0 where
@@ -77,3 +78,11 @@ entered_by processor count run now cost a = switched processor run now cost (of_
 -- a task has gone from one queue to another
 abbrev pub passed : ℕ → ℕ → Accounts → Accounts
 passed from to a = of_processor (λ l. record l { size = l.size + 1 }) to (of_processor (λ l. record l { size = l.size - 1 }) from a)
+
+-- the phase of the task that runs there, if one does, ends after the end: it has come so far, and its time is counted until an instant
+abbrev pub runs_past : ℕ → List Course → Lane → Bool
+runs_past end courses lane = option_map_or (λ task. option_map_or (lacks_more lane.since end) (slice_get courses task) false) lane.run true
+
+-- no task has run past its phase, until the end no timer wakes one any more, and no phase of a task that runs ends
+abbrev pub is_over : ℕ → Accounts → Bool
+is_over end a = list_all (keeps_time end) a.courses && list_all (runs_past end a.courses) a.lanes

@@ -5,3 +5,6 @@ pub mod Courses
 pub mod Accounts
 pub mod Dues
 pub mod Minima
+pub mod Kinds
+pub mod Bounds
+pub mod Soundness

@@ -1,5 +1,6 @@
 //! What a task does.
 ghost use Rattle.std.specs.Prelude.{◌≡◌, ◌↔◌};
+ghost use Rattle.std.specs.List.{list_any};
 ghost use Rattle.bq_actions.specs.Lengths.{is_length, takes_time};
 
 use crate::limits::LONGEST;
@@ -50,4 +51,11 @@ impl Action {
     {
         matches!(self, Action::Run(_) | Action::Sleep(_))
     }
+}
+
+/// Whether one of some actions takes time.
+pub fn take_time(actions: &[Action]) -> bool
+    ensures { result ≡ list_any takes_time actions.now }
+{
+    actions.iter().any(|action| action.takes_time())
 }

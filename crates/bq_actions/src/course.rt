@@ -26,6 +26,8 @@ pub struct Course {
     /// How often it has done all its actions.
     pub loops: u64,
     pub stance: Stance,
+    /// When its timer wakes it, where it is asleep.
+    pub timer: u64,
     /// What its run phase takes: its length, and the costs of changes of processor.
     pub due: u64,
     /// What it has got of that.
@@ -37,11 +39,11 @@ pub struct Course {
 }
 
 impl Course {
-    ghost use Rattle.bq_actions.specs.Courses.{advanced, begun, fresh, run_for, moved_to, woken, is_done};
+    ghost use Rattle.bq_actions.specs.Courses.{advanced, begun, fresh, run_for, moved_to, woken, is_done, keeps_time, lacks_more, sleeps_past};
 
-    /// A task that has done nothing, and sleeps until its first timer.
-    pub fn new(kind: usize, home: u8) -> Course
-        ensures { result ≡ fresh kind home }
+    /// A task that has done nothing, and sleeps until its timer wakes it first.
+    pub fn new(kind: usize, home: u8, start: u64) -> Course
+        ensures { result ≡ fresh kind home start }
     {
         Course {
             kind,
@@ -49,6 +51,7 @@ impl Course {
             woken: 0,
             loops: 0,
             stance: Stance::Asleep,
+            timer: start,
             due: 0,
             got: 0,
             home,
@@ -73,12 +76,13 @@ impl Course {
         Some(())
     }
 
-    /// It begins to run at a processor: where it ran at another before, what is left of its phase is longer by the cost.
+    /// It begins to run at a processor: where it ran at another before, what is left of its phase is longer by the cost. A task
+    /// that has run past its phase has nothing left.
     pub fn move_to(&mut self, processor: u8, cost: u64) -> Option<()>
         ensures some { IfSome result (λ _. self.new ≡ moved_to processor cost self.old) }
         ensures none { IfNone result (self.new ≡ self.old) }
     {
-        if self.has_run && self.home != processor {
+        if self.has_run && self.home != processor && self.got <= self.due {
             self.due = self.due.checked_add(cost)?;
         }
         self.home = processor;
@@ -100,6 +104,30 @@ impl Course {
         ensures { result ≡ is_done self.now }
     {
         self.got == self.due
+    }
+
+    /// Whether it has got no more than its run phase takes, and no timer wakes it until the end.
+    pub fn keeps_time(&self, end: u64) -> bool
+        ensures { result ≡ keeps_time end self.now }
+    {
+        self.got <= self.due && self.sleeps_past(end)
+    }
+
+    /// Whether no timer wakes it until the end.
+    fn sleeps_past(&self, end: u64) -> bool
+        ensures { result ≡ sleeps_past end self.now }
+    {
+        match self.stance {
+            Stance::Asleep => end < self.timer,
+            _ => true,
+        }
+    }
+
+    /// Whether it lacks more of its phase than it can get from this instant until the end.
+    pub fn lacks_more(&self, since: u64, end: u64) -> bool
+        ensures { result ≡ lacks_more since end self.now }
+    {
+        u128::from(end) + u128::from(self.got) < u128::from(since) + u128::from(self.due)
     }
 
     /// Goes on to the next of so many actions; after the last to the first, and it has done them all once more.

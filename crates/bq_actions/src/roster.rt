@@ -1,7 +1,8 @@
 //! All tasks and processors of a simulation.
 ghost use Rattle.std.specs.Prelude.{◌≡◌, ◌<◌, ◌+◌, ◌-◌, ◌++◌, [], ◌∷◌, None, Some, IfOk, IfErr, OnOk, slice_get, slice_set, length};
-ghost use Rattle.bq_actions.specs.Courses.{moved_to, run_for, woken};
-ghost use Rattle.bq_actions.specs.Accounts.{accounts_of, charged, entered_by, IsDone, left_by, of_processor, of_task, opening, passed, switched, taken_over};
+ghost use Rattle.std.specs.List.{list_all};
+ghost use Rattle.bq_actions.specs.Courses.{keeps_time, moved_to, run_for, woken};
+ghost use Rattle.bq_actions.specs.Accounts.{accounts_of, charged, entered_by, IsDone, is_over, left_by, of_processor, of_task, opening, passed, runs_past, switched, taken_over};
 ghost use Rattle.bq_actions.specs.Dues.{IsDue, place_of};
 ghost use Rattle.bq_actions.specs.Minima.{at_place, never, ChangesOnly};
 
@@ -392,6 +393,40 @@ impl Roster {
         };
         lane.size = size;
         Ok(())
+    }
+
+    /// Whether no task has run past its phase, no timer wakes one any more until the end, and no phase of a task that runs ends.
+    pub fn is_over(&self, end: u64) -> bool
+        ensures { result ≡ is_over end (accounts_of self.now) }
+    {
+        self.all_keep_time(end) && self.all_run_past(end)
+    }
+
+    /// Whether no task has run past its phase, and no timer wakes one any more until the end.
+    fn all_keep_time(&self, end: u64) -> bool
+        ensures { result ≡ list_all (keeps_time end) self.now.courses.items }
+    {
+        self.courses.iter().all(|course| course.keeps_time(end))
+    }
+
+    /// Whether no phase of a task that runs ends any more until the end.
+    fn all_run_past(&self, end: u64) -> bool
+        ensures { result ≡ list_all (runs_past end self.now.courses.items) self.now.lanes.items }
+    {
+        self.lanes.iter().all(|lane| self.runs_past(lane, end))
+    }
+
+    /// Whether the phase of the task that runs at a processor ends after the end; also where none runs.
+    fn runs_past(&self, lane: &Lane, end: u64) -> bool
+        ensures { result ≡ runs_past end self.now.courses.items lane.now }
+    {
+        match lane.run {
+            Some(task) => match self.courses.get(usize::from(task)) {
+                Some(course) => course.lacks_more(lane.since, end),
+                None => false,
+            },
+            None => true,
+        }
     }
 
     /// The processor with the most tasks, the least number where several have, unless it has less than two.

@@ -1,17 +1,18 @@
 -- Tasks that are admitted one after another.
-use Rattle.std.proofs.Common.{◌≡◌, ℕ, zero, suc, ◌+◌, ◌≤◌, List, [], ◌∷◌, ◌++◌, Some, length, take, get_or, refl, sym, ap, ◌∙◌, subst, arith, append_assoc, append-nil, length-take-le}
+use Rattle.std.proofs.Common.{◌≡◌, ℕ, zero, suc, ◌+◌, ◌≤◌, List, [], ◌∷◌, ◌++◌, Some, length, take, refl, sym, ap, ◌∙◌, subst, arith, append_assoc, append-nil, length-take-le}
 use Rattle.std.specs.Prelude.{slice_get, sum_by}
 use Rattle.std.proofs.lemmas.List.{take_more}
 use Rattle.std.proofs.lemmas.List.Sums.{sum_by-append}
 use Rattle.std.proofs.lemmas.Option.{get_or_from_slice_get, slice_get_within}
 use Rattle.bq_actions.specs.declared.workload.TaskKind.{TaskKind}
+use Rattle.bq_actions.specs.Soundness.{IsFirstAllowed}
 use Rattle.bq_parts.specs.declared.event.Event.TheVariants.{Admit}
 use Rattle.bq_simulate.specs.Actions.{first_of}
 use Rattle.bq_simulate.specs.Chronicles.{Deed, Happens}
-use Rattle.bq_simulate.specs.Steps.{AreAdmitted, AreAllAdmitted, AreJust, IsAdmission, IsFirst, IsJoin}
+use Rattle.bq_simulate.specs.Steps.{AreAdmitted, AreAllAdmitted, AreJust, IsAdmission, IsJoin}
 
 -- a task is admitted, and then it is there
-pub admission-of : (processors number : ℕ) (kind : TaskKind) (task home : ℕ) (xs ys : List Deed) → IsFirst processors kind.mask home → AreJust (Admit task kind.nice kind.mask kind.slice ∷ []) xs → IsJoin number home ys → IsAdmission processors number kind task (xs ++ ys)
+pub admission-of : (processors number : ℕ) (kind : TaskKind) (task home : ℕ) (xs ys : List Deed) → IsFirstAllowed processors kind.mask home → AreJust (Admit task kind.nice kind.mask kind.slice ∷ []) xs → IsJoin number home ys → IsAdmission processors number kind task (xs ++ ys)
 admission-of processors number kind task home xs ys first admit join =
     let begin : Deed = Happens (Admit task kind.nice kind.mask kind.slice) admit.0 in
     (admit.0, home, first, ap (λ (l : List Deed). l ++ ys) (admit.2 ∙ ap (λ (l : List Deed). begin ∷ l) admit.3) ∙ ap (λ (l : List Deed). begin ∷ l) join)

@@ -18,8 +18,8 @@ use Rattle.bq_actions.specs.declared.roster.Pace.{Pace}
 use Rattle.bq_actions.specs.Accounts.{Accounts, IsDone, accounts_of, charged, of_task}
 use Rattle.bq_actions.specs.Courses.{fresh, woken}
 use Rattle.bq_simulate.specs.declared.simulation.Simulation.{Simulation}
-use Rattle.bq_simulate.specs.Actions.{IsOfKind, acted, asked_by, next_action}
-use Rattle.bq_simulate.specs.Chronicles.{Acts, Book, Deed, Happens, IsDue, IsWoken, Joins, Lives, after_act, after_answer, after_event, drawn_with, events_of, joined, length_taken}
+use Rattle.bq_simulate.specs.Actions.{IsOfKind, acted, asked_by, next_action, start_of}
+use Rattle.bq_simulate.specs.Chronicles.{Acts, Book, Deed, Happens, IsDue, IsWoken, Joins, Lives, Reaches, Rings, after_act, after_answer, after_event, drawn_with, events_of, joined, length_taken}
 use Rattle.bq_simulate.specs.Simulations.{Befell, DrawsFor, HasDrawn, Lived, Same, Silent, Stays, book_of, streams_after}
 use Rattle.bq_simulate.specs.Steps.{AreWake, Follow, IsAct, IsJoin}
 use Rattle.bq_simulate.proofs.StreamLemmas.{gives_if_asked, opened-streams}
@@ -33,15 +33,19 @@ Lives-append kinds seed cost d m e a b c [] ys told more h k =
     subst P (sym h.0) (subst Q h.1 (subst R h.2 k))
 Lives-append kinds seed cost d m e a b c (Happens event reply ∷ xs) ys told more (due, mid, first, rest, does, lives, whole) k =
     (due, mid, first, rest ++ more, does, Lives-append kinds seed cost mid m e (after_answer cost event reply a) b c xs ys rest more lives k, ap (λ t. t ++ more) whole ∙ append_assoc first rest more)
-Lives-append kinds seed cost d m e a b c (Joins kind home ∷ xs) ys told more (of, lives) k = (of, Lives-append kinds seed cost d m e (joined kind home a) b c xs ys told more lives k)
+Lives-append kinds seed cost d m e a b c (Joins kind home ∷ xs) ys told more (of, lives) k = (of, Lives-append kinds seed cost d m e (joined kinds kind home a) b c xs ys told more lives k)
 Lives-append kinds seed cost d m e a b c (Acts at task now action ∷ xs) ys told more (c', done, is, lives) k = (c', done, is, Lives-append kinds seed cost d m e (after_act kinds seed at task now c' a) b c xs ys told more lives k)
+Lives-append kinds seed cost d m e a b c (Rings task now ∷ xs) ys told more (c', there, asleep, timer, lives) k = (c', there, asleep, timer, Lives-append kinds seed cost d m e a b c xs ys told more lives k)
+Lives-append kinds seed cost d m e a b c (Reaches task ∷ xs) ys told more (c', there, waits, lives) k = (c', there, waits, Lives-append kinds seed cost d m e a b c xs ys told more lives k)
 
 -- the events among them were driven
 pub drives-of-lives : (kinds : List TaskKind) (seed cost : ℕ) (d e : Driver) (a b : Book) (xs : List Deed) (told : Told) → Lives kinds seed cost d a xs told e b → Drives d (events_of xs) told e
 drives-of-lives kinds seed cost d e a b [] told h = (h.0, h.1)
 drives-of-lives kinds seed cost d e a b (Happens event reply ∷ xs) told (due, mid, first, rest, does, lives, whole) = (reply, mid, first, rest, does, drives-of-lives kinds seed cost mid e (after_answer cost event reply a) b xs rest lives, whole)
-drives-of-lives kinds seed cost d e a b (Joins kind home ∷ xs) told (of, lives) = drives-of-lives kinds seed cost d e (joined kind home a) b xs told lives
+drives-of-lives kinds seed cost d e a b (Joins kind home ∷ xs) told (of, lives) = drives-of-lives kinds seed cost d e (joined kinds kind home a) b xs told lives
 drives-of-lives kinds seed cost d e a b (Acts at task now action ∷ xs) told (c, done, is, lives) = drives-of-lives kinds seed cost d e (after_act kinds seed at task now c a) b xs told lives
+drives-of-lives kinds seed cost d e a b (Rings task now ∷ xs) told (c, there, asleep, timer, lives) = drives-of-lives kinds seed cost d e a b xs told lives
+drives-of-lives kinds seed cost d e a b (Reaches task ∷ xs) told (c, there, waits, lives) = drives-of-lives kinds seed cost d e a b xs told lives
 
 -- a simulation goes on, and then on
 pub Lived-join : {S : Type 0} (takes : S → ℕ → News → S → Type 0) (kinds : List TaskKind) (A B C : List Deed → Type 0) → ((xs ys : List Deed) → A xs → B ys → C (xs ++ ys)) → (x y z : S) (s t u : Simulation)
@@ -146,7 +150,7 @@ of_task_at f task a c there = ap (λ (o : Option Course). both (option_map_or (�
 -- a phase has ended, and the task does its next action, for which a length is drawn where it takes one
 pub Silent-acts : (kinds : List TaskKind) (s m n t : Simulation) (processor task now length : ℕ) (action : Option Action) (c next : Course) → action ≡ next_action kinds c
     → Stays s m → m.driver ≡ s.driver → accounts_of m.roster ≡ charged processor now (accounts_of s.roster) → IsDone (accounts_of m.roster) processor task c
-    → DrawsFor task (asked_by (next_action kinds c)) m length n → next ≡ acted kinds (next_action kinds c) length c
+    → DrawsFor task (asked_by (next_action kinds c)) m length n → next ≡ acted kinds (next_action kinds c) length now c
     → Stays n t → t.driver ≡ n.driver → t.roster.courses.items ≡ slice_set n.roster.courses.items task next → t.roster.lanes.items ≡ n.roster.lanes.items → Silent kinds (IsAct processor task now action) s t
 Silent-acts kinds s m n t processor task now length action c next is ended driver counted done draws does set driver' courses lanes drawn had =
     let asked = asked_by (next_action kinds c) in
@@ -155,7 +159,7 @@ Silent-acts kinds s m n t processor task now length action c next is ended drive
     let same = ap accounts_of g.roster in
     let there : slice_get n.roster.courses.items task ≡ Some c = ap (λ (a : Accounts). slice_get a.courses task) same ∙ done.there in
     let value : length ≡ length_taken s.seed task drawn asked = g.value ∙ ap (λ k. length_taken k task drawn asked) ended.seed in
-    let becomes = does ∙ ap (λ l. acted kinds (next_action kinds c) l c) value in
+    let becomes = does ∙ ap (λ l. acted kinds (next_action kinds c) l now c) value in
     let accounts = same_accounts _ _ _ _ courses lanes ∙ sym (of_task_at (λ _. next) task (accounts_of n.roster) c there) ∙ ap (of_task (λ _. next) task) (same ∙ counted)
     ∙ ap (λ (k : Course). of_task (λ _. k) task (charged processor now (accounts_of s.roster))) becomes in
     record {
@@ -170,7 +174,7 @@ Silent-acts kinds s m n t processor task now length action c next is ended drive
 
 -- a task is there, with its stream
 pub Silent-joins : (kinds : List TaskKind) (s t : Simulation) (kind home : ℕ) → t.roster.pace ≡ s.roster.pace → t.seed ≡ s.seed → t.driver ≡ s.driver
-    → t.roster.courses.items ≡ s.roster.courses.items ++ fresh kind home ∷ [] → t.roster.lanes.items ≡ s.roster.lanes.items
+    → t.roster.courses.items ≡ s.roster.courses.items ++ fresh kind home (start_of kinds kind) ∷ [] → t.roster.lanes.items ≡ s.roster.lanes.items
     → t.streams.items ≡ s.streams.items ++ stream_of_task s.seed (length s.streams.items) ∷ []
     → IsOfKind kinds (length s.roster.courses.items) kind → Silent kinds (IsJoin kind home) s t
 Silent-joins kinds s t kind home pace seed driver courses lanes streams of drawn had = record {
@@ -182,6 +186,15 @@ Silent-joins kinds s t kind home pace seed driver courses lanes streams of drawn
   lives = (of, (refl, driver, ap (λ (a : Accounts). record { accounts = a; drawn = drawn ++ 0 ∷ [] }) (same_accounts _ _ _ _ courses lanes)));
   are = refl;
 }
+
+-- one deed of which nothing is told and which changes nothing, and then what befalls
+pub Befell-first : {S : Type 0} (takes : S → ℕ → News → S → Type 0) (A B : List Deed → Type 0) (x y : S) (s t : Simulation) (deed : Deed)
+    → ((kinds : List TaskKind) (drawn : List ℕ) → Lives kinds s.seed s.roster.pace.migration_cost s.driver (book_of s drawn) (deed ∷ []) [] s.driver (book_of s drawn))
+    → ((xs : List Deed) → A xs → B (deed ∷ xs)) → Befell takes A x s y t → Befell takes B x s y t
+Befell-first takes A B x y s t deed lives first befell kinds =
+    let one : List Deed → Type 0 = λ xs. xs ≡ deed ∷ [] in
+    let silent : Silent kinds one s s = λ drawn had. record { deeds = deed ∷ []; after = drawn; pace = refl; seed = refl; streams = had; lives = lives kinds drawn; are = refl } in
+    Lived-join takes kinds one A B (λ xs ys is are. subst (λ (l : List Deed). B (l ++ ys)) (sym is) (first ys are)) x x y s s t (Lived-silent takes kinds one x s s silent) (befell kinds)
 
 -- an event happens
 pub Lived-event : {S : Type 0} (takes : S → ℕ → News → S → Type 0) (A : List Deed → Type 0) (x y : S) (s t : Simulation) (event : Event) (reply : Reply) → A (Happens event reply ∷ []) → IsDue event (accounts_of s.roster) → Stays s t → Did takes x s.driver event reply y t.driver

@@ -1,9 +1,7 @@
 pub mod AdmissionLemmas
-pub mod BoundLemmas
 pub mod DeedLemmas
 pub mod InstallLemmas
 pub mod KindLemmas
-pub mod MaskLemmas
 pub mod LaneLemmas
 pub mod StepLemmas
 pub mod StreamLemmas

@@ -26,9 +26,7 @@ use Rattle.bq_simulate.specs.Laws.{CanStandInLine, IsWholeLine, asked}
 use Rattle.bq_simulate.proofs.LineLawLemmas.{are_lines, events_are_read, machines_are_read}
 use Rattle.bq_trace.specs.Bare.{bare}
 use Rattle.bq_trace.specs.Counts.{one_more}
-use Rattle.bq_trace.specs.Doing.{DoesAndAnswers}
 use Rattle.bq_trace.specs.Machines.{Driven, opening_machine}
-use Rattle.bq_trace.specs.Texts.{event_line}
 use Rattle.bq_trace.specs.Feeding.{with_feeds}
 use Rattle.bq_trace.specs.News.{Told, texts}
 use Rattle.bq_trace.specs.Telling.{Happens}
@@ -37,6 +35,7 @@ use Rattle.bq_trace.specs.declared.progress.Phase.{Phase}
 use Rattle.bq_trace.specs.declared.progress.Phase.TheVariants.{Waiting, Running}
 use Rattle.bq_trace.specs.declared.progress.Progress.{Progress}
 use Rattle.bq_trace.proofs.ChainLemmas.{AnswersAll-append, lines-with_feeds}
+use Rattle.bq_trace.proofs.StoryTextLemmas.{happens_text}
 use Rattle.bq_trace.proofs.TakingLemmas.{texts-append}
 use Rattle.bq_simulate.specs.Drives.{Does, Drives}
 use Rattle.bq_simulate.specs.declared.driver.Driver.{Driver}
@@ -68,18 +67,10 @@ skips (line ∷ comments) n h =
 opens : (rule : Rule) (size : ProcessorCount) (n : ℕ) → AnswersLine (after Waiting n) (machine_line rule size) [] (after (Running (opening_machine rule size)) (one_more n))
 opens rule size n = line_says (machine_line rule size) [] _ Waiting (Running (opening_machine rule size)) n (machines_are_read rule size) (refl, refl, refl)
 
--- an event that happens is done and answered
-does : (m k : Driven) (n : ℕ) (event : Event) (answer : Result Reply Refusal) (told : Told) → Happens m n event answer told k → DoesAndAnswers m event answer (texts told) k
-does m k n event answer told h = record {
-  same_rule = h.moves.same_rule;
-  step = record { calls = h.moves.step.calls; step = h.moves.step.step; through = h.moves.step.through; answered = h.answered };
-  line = ap texts h.tells ∙ append-nil (event_line answer);
-}
-
 -- the line of an event that happens, where it asks for the event itself
 as_it_is : (line : List ℕ) (m k : Driven) (n number : ℕ) (event : Event) (answer : Result Reply Refusal) (told : Told) → reading_of line ≡ says.Says (asks.Does event)
     → Happens m number event answer told k → AnswersLine (after (Running m) n) line (texts told) (after (Running k) (one_more n))
-as_it_is line m k n number event answer told is h = line_says line (texts told) _ (Running m) (Running k) n is (k, answer, does m k number event answer told h, refl, refl)
+as_it_is line m k n number event answer told is h = line_says line (texts told) _ (Running m) (Running k) n is (k, answer, happens_text m k number event answer told h, refl, refl)
 
 -- the bytes of a header and a program are not too many for a line
 framed_fits : (bytes : List ℕ) (header : Header) (program : List ℕ) → IsFramed bytes header program → header.slots ≤ 4096 → (0 < length bytes) × (length bytes ≤ 65472)
@@ -119,7 +110,7 @@ loads_again : (line : List ℕ) (image : Option (List ℕ)) (m k : Driven) (n nu
 loads_again line image m k n number c generation hook policy answer told is of h =
     line_says line (texts told) (says.Says (asks.Load c hook generation (encode_lower of.bytes))) (Running m) (Running k) n
     (is ∙ ap (λ i. says.Says (asked i (Install c hook generation (Some policy)))) of.there)
-    (k, inr (inr (of.bytes, policy, answer, decode_of-encode_lower of.bytes of.each, of.loads, does m k number _ answer told h)), refl, refl)
+    (k, inr (inr (of.bytes, policy, answer, decode_of-encode_lower of.bytes of.each, of.loads, happens_text m k number _ answer told h)), refl, refl)
 
 -- the line of each event that happens does it again
 again : (images : ByHook) (m k : Driven) (n number : ℕ) (event : Event) (answer : Result Reply Refusal) (told : Told)

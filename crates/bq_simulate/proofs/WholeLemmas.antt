@@ -11,7 +11,7 @@ use Rattle.bq_simulate.specs.Drives.{Starts}
 use Rattle.bq_actions.specs.Accounts.{Accounts, accounts_of}
 use Rattle.bq_actions.specs.declared.roster.Pace.{Pace}
 use Rattle.bq_simulate.specs.declared.simulation.Simulation.{Simulation}
-use Rattle.bq_simulate.specs.Bounds.{most_steps}
+use Rattle.bq_actions.specs.Bounds.{most_steps}
 use Rattle.bq_simulate.specs.Chronicles.{Book, Deed, Lives}
 use Rattle.bq_simulate.specs.Simulations.{IsSimulation, Proceeds, Runs, book_of, opening_book}
 use Rattle.bq_simulate.specs.Steps.{AreAllAdmitted, AreInstalled, AreMet, Opens}
@@ -72,6 +72,7 @@ simulation-of takes a b c policies w d s t first driver accounts cost seed strea
           driver = ended.driver;
           book = stood;
           lives = until;
+          over = runs.over;
           ticks = ticks.are;
         };
       };

@@ -1,5 +1,5 @@
 -- What a task does next, and what becomes of it with that.
-use Rattle.std.specs.Prelude.{◌≡◌, ℕ, ◌+◌, ◌≤◌, ◌<◌, if◌then◌else◌, nat_lt, List, Option, Some, None, length, slice_get, sum_by, take, option_and_then}
+use Rattle.std.specs.Prelude.{◌≡◌, ℕ, ◌+◌, ◌≤◌, ◌<◌, if◌then◌else◌, nat_lt, List, Option, Some, None, length, slice_get, min, sum_by, take, option_and_then}
 use Rattle.std.specs.Option.{option_map_or}
 use Rattle.rand_pcg.specs.Lcg.{Lcg}
 use Rattle.bq_actions.specs.declared.action.Action.{Action}
@@ -13,6 +13,7 @@ use Rattle.bq_actions.specs.declared.course.Course.{Course}
 use Rattle.bq_actions.specs.declared.course.Stance.{Stance}
 use Rattle.bq_actions.specs.declared.course.Stance.TheVariants.{Asleep, Waiting, Over}
 use Rattle.bq_actions.specs.Courses.{advanced, begun}
+use Rattle.bq_actions.specs.Kinds.{count_of}
 
 -- the action at which a task of this kind stands; none where it has done all as often as it is to
 abbrev pub action_at : TaskKind → Course → Option Action
@@ -25,9 +26,9 @@ next_action kinds c = option_and_then (λ kind. action_at kind c) (slice_get kin
 abbrev pub actions_of : List TaskKind → Course → ℕ
 actions_of kinds c = option_map_or (λ (kind : TaskKind). length kind.actions.items) (slice_get kinds c.kind) 0
 
--- how many tasks a kind has
-abbrev pub count_of : List TaskKind → ℕ → ℕ
-count_of kinds number = option_map_or (λ (kind : TaskKind). kind.count) (slice_get kinds number) 0
+-- when the timers of a kind first wake its tasks
+abbrev pub start_of : List TaskKind → ℕ → ℕ
+start_of kinds number = option_map_or (λ (kind : TaskKind). kind.start) (slice_get kinds number) 0
 
 -- running and sleeping take a length
 abbrev pub asked_by : Option Action → Option Length
@@ -55,13 +56,17 @@ woken_one_in kinds kind c = if nat_lt (c.woken + 1) (count_of kinds kind) then r
 abbrev pub resting : Stance → Course → Course
 resting stance c = record (begun 0 c) { stance = stance }
 
--- it does this action, which takes that length where it takes one; then it has a phase only where it runs
-abbrev pub acted : List TaskKind → Option Action → ℕ → Course → Course
-acted kinds None length c = resting Over c
-acted kinds (Some (Run asked)) length c = begun length (advanced_in kinds c)
-acted kinds (Some (Sleep asked)) length c = resting Asleep (advanced_in kinds c)
-acted kinds (Some Wait) length c = resting Waiting (advanced_in kinds c)
-acted kinds (Some (Wake kind)) length c = begun 0 (woken_one_in kinds kind c)
+-- it sleeps until its timer wakes it, which comes so much later, as far as 64 bits count
+abbrev pub asleep_for : ℕ → ℕ → Course → Course
+asleep_for length now c = record (resting Asleep c) { timer = min (now + length) 18446744073709551615 }
+
+-- at an instant it does this action, which takes that length where it takes one; then it has a phase only where it runs
+abbrev pub acted : List TaskKind → Option Action → ℕ → ℕ → Course → Course
+acted kinds None length now c = resting Over c
+acted kinds (Some (Run asked)) length now c = begun length (advanced_in kinds c)
+acted kinds (Some (Sleep asked)) length now c = asleep_for length now (advanced_in kinds c)
+acted kinds (Some Wait) length now c = resting Waiting (advanced_in kinds c)
+acted kinds (Some (Wake kind)) length now c = begun 0 (woken_one_in kinds kind c)
 
 -- the tasks before those of a kind
 abbrev pub first_of : List TaskKind → ℕ → ℕ

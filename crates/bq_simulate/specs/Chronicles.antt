@@ -16,7 +16,7 @@ use Rattle.bq_actions.specs.declared.course.Stance.TheVariants.{Asleep, Waiting}
 use Rattle.bq_actions.specs.declared.lane.Lane.{Lane}
 use Rattle.bq_actions.specs.Accounts.{Accounts, IsDone, changed_at, charged, entered_by, left_by, of_task, passed, switched}
 use Rattle.bq_actions.specs.Courses.{fresh, woken}
-use Rattle.bq_simulate.specs.Actions.{IsOfKind, acted, asked_by, length_of, next_action}
+use Rattle.bq_simulate.specs.Actions.{IsOfKind, acted, asked_by, length_of, next_action, start_of}
 
 -- one thing that a simulation does
 pub data Deed : Type 0 where
@@ -26,6 +26,10 @@ pub data Deed : Type 0 where
   Joins : ℕ → ℕ → Deed
   -- at an instant the phase of the task that runs at a processor ends, and it does this action; with none it has done all
   Acts : ℕ → ℕ → ℕ → Option Action → Deed
+  -- the timer of a task rings at an instant
+  Rings : ℕ → ℕ → Deed
+  -- the wake of another task comes to a task that waits
+  Reaches : ℕ → Deed
 
 -- whether a processor runs something
 abbrev pub is_busy : Accounts → ℕ → Bool
@@ -66,9 +70,9 @@ after_event cost event reply a = a
 abbrev pub after_answer : ℕ → Event → Reply → Book → Book
 after_answer cost event reply b = record b { accounts = after_event cost event reply b.accounts }
 
--- a task that has done nothing, and whose stream has given nothing
-abbrev pub joined : ℕ → ℕ → Book → Book
-joined kind home b = record { accounts = record b.accounts { courses = b.accounts.courses ++ fresh kind home ∷ [] }; drawn = b.drawn ++ 0 ∷ [] }
+-- a task that has done nothing, whose timer is that of its kind, and whose stream has given nothing
+abbrev pub joined : List TaskKind → ℕ → ℕ → Book → Book
+joined kinds kind home b = record { accounts = record b.accounts { courses = b.accounts.courses ++ fresh kind home (start_of kinds kind) ∷ [] }; drawn = b.drawn ++ 0 ∷ [] }
 
 -- how many lengths a task's stream has given
 abbrev pub draws_of : List ℕ → ℕ → ℕ
@@ -87,21 +91,26 @@ drawn_with task drawn (Some asked) = changed_at suc drawn task
 -- the task does its next action, once the time that it has run is counted
 abbrev pub after_act : List TaskKind → ℕ → ℕ → ℕ → ℕ → Course → Book → Book
 after_act kinds seed processor task now c b = record {
-  accounts = of_task (λ _. acted kinds (next_action kinds c) (length_taken seed task b.drawn (asked_by (next_action kinds c))) c) task (charged processor now b.accounts);
+  accounts = of_task (λ _. acted kinds (next_action kinds c) (length_taken seed task b.drawn (asked_by (next_action kinds c))) now c) task (charged processor now b.accounts);
   drawn = drawn_with task b.drawn (asked_by (next_action kinds c));
 }
 
 -- deeds one after another: what the sink is told of them, and what becomes of the machine and of what is kept, where tasks do what
--- their kinds say, lengths are drawn from this seed, and a change of processor costs so much
+-- their kinds say, lengths are drawn from this seed, and a change of processor costs so much. The timer that rings is of a task that
+-- is asleep until just then.
 abbrev pub Lives : List TaskKind → ℕ → ℕ → Driver → Book → List Deed → Told → Driver → Book → Type 0
 Lives kinds seed cost d b [] told e f = (told ≡ []) × (e ≡ d) × (f ≡ b)
 Lives kinds seed cost d b (Happens event reply ∷ deeds) told e f =
     IsDue event b.accounts × (mid : Driver) × (first : Told) × (more : Told)
     × Does d event reply first mid × Lives kinds seed cost mid (after_answer cost event reply b) deeds more e f × (told ≡ first ++ more)
-Lives kinds seed cost d b (Joins kind home ∷ deeds) told e f = IsOfKind kinds (length b.accounts.courses) kind × Lives kinds seed cost d (joined kind home b) deeds told e f
+Lives kinds seed cost d b (Joins kind home ∷ deeds) told e f = IsOfKind kinds (length b.accounts.courses) kind × Lives kinds seed cost d (joined kinds kind home b) deeds told e f
 Lives kinds seed cost d b (Acts processor task now action ∷ deeds) told e f =
     (c : Course) × IsDone (charged processor now b.accounts) processor task c × (action ≡ next_action kinds c)
     × Lives kinds seed cost d (after_act kinds seed processor task now c b) deeds told e f
+Lives kinds seed cost d b (Rings task now ∷ deeds) told e f =
+    (c : Course) × (slice_get b.accounts.courses task ≡ Some c) × (c.stance ≡ Asleep) × (c.timer ≡ now) × Lives kinds seed cost d b deeds told e f
+Lives kinds seed cost d b (Reaches task ∷ deeds) told e f =
+    (c : Course) × (slice_get b.accounts.courses task ≡ Some c) × (c.stance ≡ Waiting) × Lives kinds seed cost d b deeds told e f
 
 -- the events among them
 abbrev pub events_of : List Deed → List Event
@@ -109,3 +118,5 @@ events_of [] = []
 events_of (Happens event reply ∷ deeds) = event ∷ events_of deeds
 events_of (Joins kind home ∷ deeds) = events_of deeds
 events_of (Acts processor task now action ∷ deeds) = events_of deeds
+events_of (Rings task now ∷ deeds) = events_of deeds
+events_of (Reaches task ∷ deeds) = events_of deeds

@@ -1,8 +1,10 @@
 -- Why a simulation does not come to its end.
+use Rattle.std.specs.Prelude.{Option, Some, None}
+use Rattle.bq_actions.specs.declared.sound.Unsound.{Unsound}
 use Rattle.bq_simulate.specs.declared.fault.SimulateFault.{SimulateFault}
-use Rattle.bq_simulate.specs.declared.fault.SimulateFault.TheVariants.{Unsound}
+use Rattle.bq_simulate.specs.declared.fault.SimulateFault.TheVariants as fault
 
--- the workload cannot be followed
-abbrev pub IsUnsound : SimulateFault → Type 0
-IsUnsound (Unsound why) = Unit {0}
-IsUnsound fault = ⊥
+-- the flaw for which a workload is refused; none where it was followed
+abbrev pub flaw_told : SimulateFault → Option Unsound
+flaw_told (fault.Unsound flaw) = Some flaw
+flaw_told why = None

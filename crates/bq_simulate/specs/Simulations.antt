@@ -1,5 +1,5 @@
 -- What a simulation tells.
-use Rattle.std.specs.Prelude.{◌≡◌, ℕ, ◌++◌, ◌+◌, List, [], ◌∷◌, Option, Some, None, slice_get, slice_set}
+use Rattle.std.specs.Prelude.{◌≡◌, ℕ, ◌++◌, ◌+◌, true, List, [], ◌∷◌, Option, Some, None, slice_get, slice_set}
 use Rattle.rand_pcg.specs.Lcg.{Lcg}
 use Rattle.bq_actions.specs.declared.action.Length.{Length}
 use Rattle.bq_actions.specs.declared.setup.Setup.{Setup}
@@ -11,10 +11,10 @@ use Rattle.bq_words.specs.Sizes.{processors_in}
 use Rattle.bq_trace.specs.News.{News, Told, Gets}
 use Rattle.bq_simulate.specs.declared.driver.Driver.{Driver}
 use Rattle.bq_simulate.specs.Drives.{Starts, Drives}
-use Rattle.bq_actions.specs.Accounts.{accounts_of, opening}
+use Rattle.bq_actions.specs.Accounts.{accounts_of, is_over, opening}
 use Rattle.bq_simulate.specs.declared.simulation.Simulation.{Simulation}
 use Rattle.bq_simulate.specs.Actions.{next_length}
-use Rattle.bq_simulate.specs.Bounds.{most_steps}
+use Rattle.bq_actions.specs.Bounds.{most_steps}
 use Rattle.bq_simulate.specs.Chronicles.{Book, Deed, Lives, events_of}
 use Rattle.bq_simulate.specs.Steps.{AreJust, AreMet, Opens, all_processors, last_ticks}
 
@@ -34,7 +34,8 @@ pub record Proceeds (policies : List Accepted) (processors : ℕ) (kinds : List 
   pub opens : Opens policies processors kinds opening
   pub meets : AreMet most end met
 
--- when nothing comes due any more each processor that runs something ticks at the end, by number, and nothing else is done
+-- when no timer and no end of a phase is left until the end, each processor that runs something ticks then, by number, and nothing else
+-- is done
 pub record Ends (policies : List Accepted) (w : Workload) (d : Driver) (deeds : List Deed) : Type 0 where
   pub until : List Deed
   pub last : List Deed
@@ -44,13 +45,16 @@ pub record Ends (policies : List Accepted) (w : Workload) (d : Driver) (deeds : 
   pub driver : Driver
   pub book : Book
   pub lives : Lives w.tasks.items w.machine.seed w.machine.migration_cost d (opening_book w.machine) until told driver book
+  pub over : is_over w.machine.duration book.accounts ≡ true
   pub ticks : AreJust (last_ticks w.machine.duration (all_processors (processors_in w.machine.size)) book.accounts) last
 
 -- It makes the machine that the workload asks for, with these policies at all processors, and then some events are done one after another, of which none is refused,
 -- with readings that never fall: so it is the trace of those events, with their answers. Who has run and how long is what
 -- the answers say. Each task goes through the actions of its kind in their order, and over again; it goes on only when it has
--- got just the length of its run phase, and the costs of its changes of processor; and each length is the next of its task.
--- All is done when something comes due, but for what opens it and for the ticks at its end.
+-- got just the length of its run phase, and the costs of its changes of processor; its timer wakes it just when its sleep has lasted its
+-- length, and first at the start of its kind; and each length is the next of its task.
+-- All is done when something comes due, but for what opens it and for the ticks at its end. Then no timer and no end of a phase is left
+-- that comes until the end.
 pub record IsSimulation (policies : List Accepted) (w : Workload) (told : Told) : Type 0 where
   pub opening : Driver
   pub closing : Driver
@@ -105,11 +109,12 @@ pub record GoesUntold (kinds : List TaskKind) (Are : List Deed → Type 0) (s : 
 abbrev pub Silent : List TaskKind → (List Deed → Type 0) → Simulation → Simulation → Type 0
 Silent kinds Are s t = (drawn : List ℕ) → HasDrawn s drawn → GoesUntold kinds Are s drawn t
 
--- a simulation goes on until nothing comes due, and then to its end
+-- a simulation goes on until no timer and no end of a phase is left, and then to its end
 pub record Runs {S : Type 0} (takes : S → ℕ → News → S → Type 0) (policies : List Accepted) (kinds : List TaskKind) (most end processors : ℕ) (old : S) (s : Simulation) (new : S) (t : Simulation) : Type 0 where
   pub sink : S
   pub ended : Simulation
   pub proceeds : Lived takes kinds (Proceeds policies processors kinds most end) old s sink ended
+  pub over : is_over end (accounts_of ended.roster) ≡ true
   pub ticks : Lived takes kinds (AreJust (last_ticks end (all_processors processors) (accounts_of ended.roster))) sink ended new t
 
 -- what stays beside the machine and the accounts

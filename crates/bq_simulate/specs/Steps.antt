@@ -1,11 +1,10 @@
 -- What comes due in a simulation, and what is done then.
-use Rattle.std.specs.Prelude.{◌≡◌, ◌≢◌, ◌⊎◌, ◌<◌, ◌≤◌, ◌+◌, ℕ, zero, suc, true, false, List, [], ◌∷◌, ◌++◌, Option, Some, length, map, filter, slice_get}
+use Rattle.std.specs.Prelude.{◌≡◌, ◌≢◌, ◌⊎◌, ◌≤◌, ◌+◌, ℕ, zero, suc, List, [], ◌∷◌, ◌++◌, Option, Some, length, map, filter, slice_get}
 use Rattle.std.specs.List.{flat_map, range_with_len}
 use Rattle.bq_actions.specs.declared.action.Action.{Action}
 use Rattle.bq_actions.specs.declared.action.Action.TheVariants.{Run, Wake}
 use Rattle.bq_actions.specs.declared.due.Due.{Due}
 use Rattle.bq_actions.specs.declared.workload.TaskKind.{TaskKind}
-use Rattle.bq_hooks.specs.OwnPlace.{allows}
 use Rattle.bq_actions.specs.declared.due.Due.TheVariants as due
 use Rattle.bq_parts.specs.declared.event.Event.{Event}
 use Rattle.bq_parts.specs.declared.event.Event.TheVariants.{Admit, Draw, Install, BeginWake, EndWake, Drain, Tick, Block, Pull}
@@ -13,7 +12,8 @@ use Rattle.bq_parts.specs.declared.reply.Reply.{Reply}
 use Rattle.bq_parts.specs.declared.reply.Reply.TheVariants.{Drawn}
 use Rattle.bq_verify.specs.Accepted.{Accepted}
 use Rattle.bq_actions.specs.Accounts.{Accounts}
-use Rattle.bq_simulate.specs.Chronicles.{Acts, Deed, Happens, Joins, is_busy}
+use Rattle.bq_actions.specs.Soundness.{IsFirstAllowed}
+use Rattle.bq_simulate.specs.Chronicles.{Acts, Deed, Happens, Joins, Reaches, Rings, is_busy}
 use Rattle.bq_simulate.specs.Drives.{placed_at}
 
 -- these events happen, whatever their answers are, and nothing beside them
@@ -39,12 +39,6 @@ AreInstalled processors [] deeds = deeds ≡ []
 AreInstalled processors (policy ∷ policies) deeds =
     (some : List Deed) × (more : List Deed) × (deeds ≡ some ++ more) × IsInstalled processors policy some × AreInstalled processors policies more
 
--- the first of so many processors that a mask allows
-pub record IsFirst (processors mask home : ℕ) : Type 0 where
-  pub within : home < processors
-  pub allowed : allows mask home ≡ true
-  pub least : (lower : ℕ) → lower < home → allows mask lower ≡ false
-
 -- a task is there, of the kind of this number and with this home
 abbrev pub IsJoin : ℕ → ℕ → List Deed → Type 0
 IsJoin number home deeds = deeds ≡ Joins number home ∷ []
@@ -52,7 +46,7 @@ IsJoin number home deeds = deeds ≡ Joins number home ∷ []
 -- a task of a kind is admitted as its kind says, and is there; its home is the first processor that it may use
 abbrev pub IsAdmission : ℕ → ℕ → TaskKind → ℕ → List Deed → Type 0
 IsAdmission processors number kind task deeds =
-    (reply : Reply) × (home : ℕ) × IsFirst processors kind.mask home
+    (reply : Reply) × (home : ℕ) × IsFirstAllowed processors kind.mask home
     × (deeds ≡ Happens (Admit task kind.nice kind.mask kind.slice) reply ∷ Joins number home ∷ [])
 
 -- so many tasks of a kind are admitted, from this task on
@@ -85,7 +79,7 @@ AreWake from task now deeds =
 
 -- the task that runs at a processor wakes another from there, if that waits
 abbrev pub Wakes : ℕ → ℕ → List Deed → Type 0
-Wakes processor now deeds = (deeds ≡ []) ⊎ ((task : ℕ) × AreWake processor task now deeds)
+Wakes processor now deeds = (deeds ≡ []) ⊎ ((task : ℕ) × (more : List Deed) × (deeds ≡ Reaches task ∷ more) × AreWake processor task now more)
 
 -- what follows an action at once: a task that runs on does nothing, one that wakes others wakes one of them or misses it, and any other blocks
 abbrev pub Follow : Option Action → ℕ → ℕ → List Deed → Type 0
@@ -100,7 +94,7 @@ IsAct processor task now action deeds = deeds ≡ Acts processor task now action
 -- what is done when something comes due
 abbrev pub Meet : Due → ℕ → List Deed → Type 0
 Meet (due.End processor) now deeds = (task : ℕ) × (action : Option Action) × (more : List Deed) × (deeds ≡ Acts processor task now action ∷ more) × Follow action processor now more
-Meet (due.Wake task) now deeds = (home : ℕ) × AreWake home task now deeds
+Meet (due.Wake task) now deeds = (home : ℕ) × (more : List Deed) × (deeds ≡ Rings task now ∷ more) × AreWake home task now more
 Meet (due.Tick processor) now deeds = AreJust (Tick processor now ∷ []) deeds
 Meet (due.Pull processor) now deeds = (deeds ≡ []) ⊎ ((from : ℕ) × AreJust (Pull processor from now ∷ []) deeds)
 

@@ -2,7 +2,8 @@
 ghost use Rattle.std.specs.Prelude.{◌≡◌, [], ◌∷◌, IfOk, OnOk};
 ghost use Rattle.bq_parts.specs.declared.event.Event.TheVariants.{Block};
 ghost use Rattle.bq_actions.specs.Courses.{begun};
-ghost use Rattle.bq_simulate.specs.Actions.{acted, action_at, advanced_in, asked_by, count_of, next_action, resting, woken_one_in};
+ghost use Rattle.bq_actions.specs.Kinds.{count_of};
+ghost use Rattle.bq_simulate.specs.Actions.{acted, action_at, asleep_for, advanced_in, asked_by, next_action, resting, woken_one_in};
 ghost use Rattle.bq_simulate.specs.Simulations.{Befell, DrawsFor, Lived, Same, Silent};
 ghost use Rattle.bq_simulate.specs.Steps.{AreJust, Follow, IsAct, Meet, Wakes};
 
@@ -22,8 +23,6 @@ struct Doing {
     after: Course,
     /// Nothing where it has done all as often as it is to.
     action: Option<Action>,
-    /// What was drawn for it, where it takes a length.
-    length: u64,
 }
 
 /// What a task does next; nothing where it has done all as often as it is to.
@@ -108,19 +107,29 @@ fn begun(course: Course, length: u64) -> Course
     course
 }
 
+/// A task that sleeps, from an instant on, for so long.
+fn asleep_for(course: Course, length: u64, now: u64) -> Course
+    ensures { result ≡ asleep_for length now course }
+{
+    let mut course = resting(course, Stance::Asleep);
+    course.timer = now.saturating_add(length);
+    course
+}
+
 /// How far a task has come with its next action, which takes that length where it takes one. Only where it runs it has a phase.
 fn acted(
     workload: &Workload,
     course: Course,
     action: Option<Action>,
     length: u64,
+    now: u64,
 ) -> Result<Course, Astray>
-    ensures { IfOk result (λ next. next ≡ acted workload.now.tasks.items action length course) }
+    ensures { IfOk result (λ next. next ≡ acted workload.now.tasks.items action length now course) }
 {
     match action {
         None => Ok(resting(course, Stance::Over)),
         Some(Action::Run(_)) => Ok(begun(advanced(workload, course)?, length)),
-        Some(Action::Sleep(_)) => Ok(resting(advanced(workload, course)?, Stance::Asleep)),
+        Some(Action::Sleep(_)) => Ok(asleep_for(advanced(workload, course)?, length, now)),
         Some(Action::Wait) => Ok(resting(advanced(workload, course)?, Stance::Waiting)),
         Some(Action::Wake(kind)) => Ok(begun(woken_one(workload, course, kind)?, 0)),
     }
@@ -151,14 +160,13 @@ impl Simulation {
         let (task, before) = self.roster.end_phase(processor, now)?;
         let action = next_of(workload, &before)?;
         let length = self.length_for(task, asked_by(action))?;
-        let after = acted(workload, before, action, length)?;
+        let after = acted(workload, before, action, length, now)?;
         self.roster.set_course(task, after)?;
         Ok(Doing {
             task,
             before,
             after,
             action,
-            length,
         })
     }
 
@@ -197,7 +205,7 @@ impl Simulation {
                 Ok(())
             }
             Some(Action::Sleep(_)) => {
-                self.plan_wake(doing.task, now.saturating_add(doing.length))?;
+                self.plan_wake(doing.task, doing.after.timer)?;
                 self.block(alloc, processor, now, sink)
             }
             Some(Action::Wait) => self.block(alloc, processor, now, sink),

@@ -1,9 +1,9 @@
 //! Why a simulation does not come to its end.
-ghost use Rattle.bq_simulate.specs.Faults.{IsUnsound};
+ghost use Rattle.std.specs.Prelude.{◌≡◌, None};
+ghost use Rattle.bq_simulate.specs.Faults.{flaw_told};
 
 use crate::DriveFault;
-use crate::sound::Unsound;
-use bq_actions::Astray;
+use bq_actions::{Astray, Unsound};
 use std::alloc::AllocError;
 use thiserror::Error;
 
@@ -13,7 +13,7 @@ pub enum SimulateFault {
     /// A growth was refused.
     #[error("out of memory")]
     OutOfMemory,
-    /// The workload cannot be followed.
+    /// The workload cannot be followed: the first of its flaws.
     #[error("{0}")]
     Unsound(Unsound),
     /// The machine did not take what the loop gave it. That would be a fault of this program.
@@ -30,7 +30,7 @@ pub enum SimulateFault {
 impl SimulateFault {
     /// The fault as one that came once the workload was found sound: that it is not would be a fault of this program.
     pub(crate) fn past_soundness(self) -> SimulateFault
-        ensures { ¬ IsUnsound result }
+        ensures { flaw_told result ≡ None }
     {
         match self {
             SimulateFault::Unsound(_) => SimulateFault::Astray,

@@ -1,29 +1,29 @@
 //! A simulation from its beginning to its end.
-ghost use Rattle.std.specs.Prelude.{◌≡◌, [], ◌∷◌, OnOk, IfOk, IfErr, length};
+ghost use Rattle.std.specs.Prelude.{◌≡◌, ◌≢◌, None, [], ◌∷◌, OnOk, IfOk, IfErr, length};
 ghost use Rattle.bq_actions.specs.Accounts.{accounts_of};
 ghost use Rattle.bq_words.specs.Sizes.{processors_in};
-ghost use Rattle.bq_simulate.specs.Bounds.{most_steps};
-ghost use Rattle.bq_simulate.specs.Faults.{IsUnsound};
+ghost use Rattle.bq_actions.specs.Bounds.{most_steps};
+ghost use Rattle.bq_actions.specs.Soundness.{first_flaw};
+ghost use Rattle.bq_simulate.specs.Faults.{flaw_told};
 ghost use Rattle.bq_simulate.specs.Simulations.{Befell, IsSimulation, Lived, Runs, Same, opening_book, with_seed};
 ghost use Rattle.bq_simulate.specs.Steps.{AreJust, AreMet, KeepsOthers, all_processors, last_ticks};
 ghost use Rattle.bq_trace.specs.News.{Gets};
 
 use crate::Driver;
-use crate::bound::most_steps;
 use crate::fault::SimulateFault;
 use crate::simulation::Simulation;
-use crate::sound::soundness;
 use crate::tally::Tally;
-use bq_actions::{Due, Pace, Roster, Setup, Workload};
+use bq_actions::{Due, Pace, Roster, Setup, Workload, most_steps, soundness};
 use bq_core::Policy;
 use bq_trace::Sink;
 use std::alloc::Global;
 
 /// Follows a workload to its end, with these policies at all processors, and tells a sink of its events: line 1 of their
-/// trace makes the machine, and each event is a line. What was counted besides.
+/// trace makes the machine, and each event is a line. What was counted besides. Each sleep lasts just its length, and no
+/// timer and no end of a phase that comes until the end is left out.
 ///
-/// A workload that cannot be followed is `Unsound`, and nothing is told. After any other fault what was told is the beginning
-/// of a trace.
+/// A workload with a flaw is refused for the first of its flaws, as `Unsound`, and nothing is told. One without is never
+/// `Unsound`: after any other fault what was told is the beginning of a trace.
 pub fn simulate<S: Sink>(
     alloc: Global,
     workload: &Workload,
@@ -31,7 +31,9 @@ pub fn simulate<S: Sink>(
     sink: &mut S,
 ) -> Result<Tally, SimulateFault>
     ensures told { OnOk result (Gets S.takes sink.old sink.new (IsSimulation policies.now workload.now)) }
-    ensures unsound { IfErr result (λ fault. IsUnsound fault → sink.new ≡ sink.old) }
+    ensures sound { IfOk result (λ _. first_flaw workload.now ≡ None) }
+    ensures flaw { IfErr result (λ fault. flaw_told fault ≡ first_flaw workload.now) }
+    ensures untold { first_flaw workload.now ≢ None → sink.new ≡ sink.old }
 {
     simulate_seed(alloc, workload, workload.machine.seed, policies, sink)
 }
@@ -45,7 +47,9 @@ pub fn simulate_seed<S: Sink>(
     sink: &mut S,
 ) -> Result<Tally, SimulateFault>
     ensures told { OnOk result (Gets S.takes sink.old sink.new (IsSimulation policies.now (with_seed workload.now seed))) }
-    ensures unsound { IfErr result (λ fault. IsUnsound fault → sink.new ≡ sink.old) }
+    ensures sound { IfOk result (λ _. first_flaw workload.now ≡ None) }
+    ensures flaw { IfErr result (λ fault. flaw_told fault ≡ first_flaw workload.now) }
+    ensures untold { first_flaw workload.now ≢ None → sink.new ≡ sink.old }
 {
     soundness(workload).map_err(SimulateFault::Unsound)?;
     match follow(alloc, workload, seed, policies, sink) {
@@ -123,6 +127,9 @@ impl Simulation {
         self.admit(alloc, workload, sink)?;
         self.plan_pulls(processors)?;
         self.go_on(alloc, workload, most_steps(workload), sink)?;
+        if !self.roster.is_over(workload.machine.duration) {
+            return Err(SimulateFault::Astray);
+        }
         self.finish(alloc, processors, workload.machine.duration, sink)?;
         Ok(self.tally)
     }

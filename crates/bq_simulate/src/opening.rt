@@ -2,15 +2,14 @@
 ghost use Rattle.std.specs.Prelude.{◌≡◌, ◌+◌, [], ◌∷◌, OnOk, Some, List, length, slice_get};
 ghost use Rattle.bq_parts.specs.declared.event.Event.TheVariants.{Admit};
 ghost use Rattle.bq_actions.specs.declared.workload.TaskKind.{TaskKind};
-ghost use Rattle.bq_simulate.specs.Actions.{IsOfKind, first_of};
+ghost use Rattle.bq_simulate.specs.Actions.{IsOfKind, first_of, start_of};
 ghost use Rattle.bq_simulate.specs.Simulations.{Befell, Lived, Same, Silent};
 ghost use Rattle.bq_simulate.specs.Steps.{AreAdmitted, AreAllAdmitted, AreInstalled, AreJust, IsJoin, installs_of};
 ghost use Rattle.bq_words.specs.Sizes.{processors_in};
 
 use crate::fault::SimulateFault;
 use crate::simulation::Simulation;
-use crate::sound::first_of_mask;
-use bq_actions::{Astray, Course, Due, Stream, TaskKind, Workload};
+use bq_actions::{Astray, Course, Due, Stream, TaskKind, Workload, first_of_mask};
 use bq_core::Policy;
 use bq_trace::Sink;
 use std::alloc::Global;
@@ -94,7 +93,7 @@ impl Simulation {
         'tasks: for _ in 0..kind.count {
             let task = self.tally.tasks;
             self.admit_one(alloc, task, kind, sink)?;
-            self.join(task, number, home)?;
+            self.join(task, number, home, kind.start)?;
             self.begin_at(task, kind.start)?;
         }
         Ok(())
@@ -129,9 +128,9 @@ impl Simulation {
         self.roster.plan(Due::Wake(task), time)
     }
 
-    /// One more task of a kind, with a stream of its own; its first wake comes from this processor.
-    fn join(&mut self, task: u16, kind: usize, home: u8) -> Result<(), SimulateFault>
-        ensures silent { OnOk result ((kinds : List TaskKind) → IsOfKind kinds (length self.old.roster.courses.items) kind → Silent kinds (IsJoin kind home) self.old self.new) }
+    /// One more task of a kind, with a stream of its own; its first wake is at the start of its kind, from this processor.
+    fn join(&mut self, task: u16, kind: usize, home: u8, start: u64) -> Result<(), SimulateFault>
+        ensures silent { OnOk result ((kinds : List TaskKind) → IsOfKind kinds (length self.old.roster.courses.items) kind → start ≡ start_of kinds kind → Silent kinds (IsJoin kind home) self.old self.new) }
         ensures number { OnOk result (task ≡ length self.old.streams.items) }
         ensures streams { OnOk result (length self.new.streams.items ≡ length self.old.streams.items + 1) }
         ensures tasks { OnOk result (length self.new.roster.courses.items ≡ length self.old.roster.courses.items + 1) }
@@ -139,7 +138,7 @@ impl Simulation {
         if self.streams.len() != usize::from(task) {
             return Err(SimulateFault::Astray);
         }
-        self.roster.add(Course::new(kind, home))?;
+        self.roster.add(Course::new(kind, home, start))?;
         match self.streams.push(Stream::of_task(self.seed, task)) {
             Ok(()) => Ok(()),
             Err(_) => Err(SimulateFault::OutOfMemory),

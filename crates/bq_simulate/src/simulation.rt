@@ -48,7 +48,7 @@ impl Simulation {
         }
     }
 
-    /// A task's timer wakes it from the processor that it left last.
+    /// A task's timer rings just now, and wakes it from the processor that it left last.
     fn wake_by_timer<S: Sink>(
         &mut self,
         alloc: Global,
@@ -60,6 +60,9 @@ impl Simulation {
     {
         self.roster.drop_plan(Due::Wake(task))?;
         let course = self.roster.course(task)?;
+        if course.timer != now {
+            return Err(SimulateFault::Astray);
+        }
         match course.stance {
             Stance::Asleep => self.wake(alloc, course.home, task, now, sink),
             _ => Err(SimulateFault::Astray),

@@ -1,8 +1,8 @@
 //! Simulations, step by step.
 
 use crate::cases::holds;
-use bq_actions::{Action, Length, Setup, TaskKind, Workload};
-use bq_simulate::{SimulateFault, Tally, Unsound, simulate};
+use bq_actions::{Action, Length, Setup, TaskKind, Unsound, Workload};
+use bq_simulate::{SimulateFault, Tally, simulate};
 use bq_words::{ProcessorCount, Rule};
 use std::alloc::Global;
 use std::process::Abort;

@@ -1,11 +1,14 @@
 use Rattle.std.proofs.Common.{◌≡◌, ◌+◌, ℕ, suc, List, Option, ◌∷◌, [], ◌++◌, length, sym, ap, ◌∙◌, subst, arith, refl}
+use Rattle.std.specs.Option.{option_map_or}
 use Rattle.std.specs.Prelude.{IfSome}
+use Rattle.bq_actions.specs.declared.workload.TaskKind.{TaskKind}
 use Rattle.bq_actions.specs.declared.roster.Roster.{Roster}
+use Rattle.bq_actions.specs.Soundness.{IsFirstAllowed}
 use Rattle.bq_parts.specs.declared.event.Event.TheVariants.{Admit}
 use Rattle.bq_words.specs.Sizes.{processors_in}
-use Rattle.bq_simulate.specs.Actions.{first_of}
+use Rattle.bq_simulate.specs.Actions.{first_of, start_of}
 use Rattle.bq_simulate.specs.Chronicles.{Deed}
-use Rattle.bq_simulate.specs.Steps.{AreAdmitted, AreJust, IsAdmission, IsFirst, IsJoin}
+use Rattle.bq_simulate.specs.Steps.{AreAdmitted, AreJust, IsAdmission, IsJoin}
 use Rattle.bq_simulate.proofs.AdmissionLemmas.{AreAdmitted-more, admission-of}
 use Rattle.bq_simulate.proofs.DeedLemmas.{Lived-join, Lived-same, Lived-silent, Lived-then, Same-here}
 use Rattle.bq_simulate.proofs.KindLemmas.{nth-of-kind}
@@ -32,15 +35,16 @@ tasks-preserved g c =
     let first = first_of kinds number in
     let task = c.tasks.self.tally.tasks in
     let home = c.in_ok-home.home in
-    let least : IsFirst c.processors-processors.result kind.mask home = subst (λ (o : Option ℕ). IfSome o (IsFirst c.processors-processors.result kind.mask)) c.in_ok-home.ensures.ok_part c.first_of_mask.ensures in
-    let mine : IsFirst all kind.mask home = subst (λ (n : ℕ). IsFirst n kind.mask home) c.processors-processors.ensures least in
+    let least : IsFirstAllowed c.processors-processors.result kind.mask home = subst (λ (o : Option ℕ). IfSome o (IsFirstAllowed c.processors-processors.result kind.mask)) c.in_ok-home.ensures.ok_part c.first_of_mask.ensures.some in
+    let mine : IsFirstAllowed all kind.mask home = subst (λ (n : ℕ). IsFirstAllowed n kind.mask home) c.processors-processors.ensures least in
     let here : length c.admit_one.new.self.roster.courses.items ≡ first + count = ap (λ (r : Roster). length r.courses.items) c.in_ok-admit_one.ensures.courses ∙ c.tasks.invariant.tasks ∙ ap (λ n. n + count) c.requires.first in
     let streams : length c.admit_one.new.self.streams.items ≡ first + count = ap (λ v. length v.items) c.in_ok-admit_one.ensures.streams ∙ c.tasks.invariant.streams ∙ ap (λ n. n + count) c.requires.streams in
     let of = nth-of-kind kinds kind _ number count c.requires.kind here c.tasks-test.true in
+    let start : kind.start ≡ start_of kinds number = sym (ap (λ (o : Option TaskKind). option_map_or (λ (k : TaskKind). k.start) o 0) c.requires.kind) in
     let admits = AreJust (Admit task kind.nice kind.mask kind.slice ∷ []) in
     let joins = IsJoin number home in
     let one = IsAdmission all number kind task in
-    let joined = Lived-join takes kinds admits joins one (λ xs ys admit join. admission-of all number kind task home xs ys mine admit join) _ _ _ _ _ _ (c.in_ok-admit_one.ensures.befell kinds) (Lived-silent takes kinds joins _ _ _ (c.in_ok-join.ensures.silent kinds of)) in
+    let joined = Lived-join takes kinds admits joins one (λ xs ys admit join. admission-of all number kind task home xs ys mine admit join) _ _ _ _ _ _ (c.in_ok-admit_one.ensures.befell kinds) (Lived-silent takes kinds joins _ _ _ (c.in_ok-join.ensures.silent kinds of start)) in
     let begun = Lived-then takes kinds one _ _ _ _ _ joined c.in_ok-begin_at.ensures.same in
     let before = AreAdmitted all number kind first count in
     let after = AreAdmitted all number kind first (count + 1) in

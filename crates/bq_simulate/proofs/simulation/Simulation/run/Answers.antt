@@ -1,7 +1,7 @@
-use Rattle.std.proofs.Common.{ℕ, List, ◌++◌, subst}
+use Rattle.std.proofs.Common.{ℕ, List, ◌++◌, subst, sym, ◌∙◌}
 use Rattle.bq_actions.specs.Accounts.{accounts_of}
 use Rattle.bq_words.specs.Sizes.{processors_in}
-use Rattle.bq_simulate.specs.Bounds.{most_steps}
+use Rattle.bq_actions.specs.Bounds.{most_steps}
 use Rattle.bq_simulate.specs.Chronicles.{Deed}
 use Rattle.bq_simulate.specs.Simulations.{Proceeds}
 use Rattle.bq_simulate.specs.Steps.{AreAllAdmitted, AreInstalled, AreJust, AreMet, Opens, all_processors, last_ticks}
@@ -30,4 +30,4 @@ returns g c =
     λ xs ys opened met. Proceeds-join policies all kinds (most_steps w) end xs ys opened (subst (λ (n : ℕ). AreMet n end ys) c.most_steps.ensures met) in
     let proceeds = Lived-join takes kinds opens meets whole proceed _ _ _ _ _ _ planned c.in_ok-go_on.ensures in
     let ticks : ℕ → List Deed → Type 0 = λ n. AreJust (last_ticks end (all_processors n) (accounts_of ended.roster)) in
-    record { sink = c.go_on.new.sink; ended = ended; proceeds = proceeds; ticks = Lived-weaker takes kinds _ _ (λ xs are. subst (λ (n : ℕ). ticks n xs) c.processors-processors.ensures are) _ _ _ _ (c.in_ok-finish.ensures kinds) }
+    record { sink = c.go_on.new.sink; ended = ended; proceeds = proceeds; over = sym c.is_over.ensures ∙ c.if-not-is_over.false; ticks = Lived-weaker takes kinds _ _ (λ xs are. subst (λ (n : ℕ). ticks n xs) c.processors-processors.ensures are) _ _ _ _ (c.in_ok-finish.ensures kinds) }

@@ -1,0 +1,15 @@
+use Rattle.std.proofs.Common.{sym, ◌∙◌, arith}
+use Rattle.bq_actions.proofs.MaskLemmas.{none-allowed, none-more}
+use Rattle.bq_actions.proofs.sound.first_of_mask.Goals as goal
+
+pub processors-init : goal.processors-init
+processors-init c = λ lower low. absurd (omega (arith, low))
+
+pub processors-preserved : goal.processors-preserved
+processors-preserved c = none-more c.args.mask c.processors.processor c.processors.invariant (sym c.is_allowed.ensures ∙ c.if-is_allowed.false)
+
+pub returns-then-is_allowed-clause-some : goal.returns-then-is_allowed-clause-some
+returns-then-is_allowed-clause-some c = record { within = c.processors-test.true; allowed = sym c.is_allowed.ensures ∙ c.if-is_allowed.true; least = c.processors.invariant }
+
+pub returns-clause-none : goal.returns-clause-none
+returns-clause-none c = none-allowed c.args.mask c.args.processors (λ lower low. c.processors.invariant lower (omega (arith, low, c.processors-test.false)))
