@@ -1,2 +1,3 @@
 pub mod AllowedLemmas
 pub mod KeptLemmas
+pub mod SplittingLemmas

@@ -2,3 +2,4 @@ pub mod Bytes
 pub mod Kept
 pub mod Lines
 pub mod Numbers
+pub mod ProcessorSets

@@ -2,7 +2,7 @@
 
 use crate::cases::holds;
 use bq_timeline::faults::why_bad;
-use bq_timeline::numbers::{processors, tasks, time, width};
+use bq_timeline::numbers::{tasks, time, width};
 use bq_timeline::{Settings, Words, show};
 use bq_trace::Counted;
 use std::alloc::{AllocError, Global};
@@ -43,16 +43,22 @@ fn copied(alloc: Global, word: Option<&str>) -> Result<Option<String>, AllocErro
     }
 }
 
-/// The words for a form up to a time.
-fn words_of(alloc: Global, form: &str, to: Option<&str>) -> Result<Words, AllocError> {
-    let form = copied(alloc, Some(form))?;
+/// The words for a form up to a time, or for the processors that a word names.
+fn words_of(
+    alloc: Global,
+    form: Option<&str>,
+    to: Option<&str>,
+    cpus: Option<&str>,
+) -> Result<Words, AllocError> {
+    let form = copied(alloc, form)?;
     let to = copied(alloc, to)?;
+    let cpus = copied(alloc, cpus)?;
     Ok(Words {
         file: None,
         form,
         from: None,
         to,
-        cpus: None,
+        cpus,
         tasks: None,
         width: None,
     })
@@ -60,8 +66,17 @@ fn words_of(alloc: Global, form: &str, to: Option<&str>) -> Result<Words, AllocE
 
 /// The settings of a form up to a time.
 fn settings_of(alloc: Global, form: &str, to: Option<&str>) -> Result<Settings, Fail> {
-    let words = words_of(alloc, form, to)?;
+    let words = words_of(alloc, Some(form), to, None)?;
     Ok(Settings::of(alloc, &words)?)
+}
+
+/// What a word of `--cpus` comes to: the processors as bits, or why it is refused.
+fn told_of_cpus(alloc: Global, word: &str) -> Result<String, Fail> {
+    let words = words_of(alloc, None, None, Some(word))?;
+    match Settings::of(alloc, &words) {
+        Ok(settings) => Ok(settings.window.processors.to_string(alloc)?),
+        Err(fault) => Ok(fault.to_string(alloc)?),
+    }
 }
 
 /// What a row's form shows of its trace.
@@ -309,9 +324,18 @@ static TIMES: [(&str, Option<u64>); 8] = [
     ("99999999999s", None),
 ];
 
-/// Sets of processors, and widths.
-static SETS: [(&str, Option<u64>); 3] = [("0-3,8", Some(271)), ("64", None), ("0-", None)];
+/// Why a word names no processors.
+const NO_PROCESSORS: &str = "--cpus: processors are numbers from 0 to 63 and ranges, as 0-3 or 0,2";
 
+/// Words of `--cpus`, and what they come to: bits, or why they are refused.
+static SETS: [(&str, &str); 4] = [
+    ("0-3,8", "271"),
+    ("64", NO_PROCESSORS),
+    ("0-", NO_PROCESSORS),
+    ("3-1", NO_PROCESSORS),
+];
+
+/// Widths in columns.
 static WIDTHS: [(&str, Option<usize>); 2] = [("80", Some(80)), ("8", None)];
 
 /// Whether these are the tasks 1 and 4.
@@ -327,8 +351,9 @@ fn words_are_times_sets_and_widths(rt: HostRuntime) -> Result<(), Fail> {
     for (word, nanoseconds) in &TIMES {
         holds(&rt, time(word) == *nanoseconds, "another time", word);
     }
-    for (word, set) in &SETS {
-        holds(&rt, processors(word) == *set, "another set", word);
+    for (word, wanted) in &SETS {
+        let told = told_of_cpus(rt.alloc(), word)?;
+        holds(&rt, told.as_str() == *wanted, told.as_str(), wanted);
     }
     for (word, columns) in &WIDTHS {
         holds(&rt, width(word) == *columns, "another width", word);

@@ -1,4 +1,5 @@
 pub mod Asking
 pub mod Notes
+pub mod Settings
 pub mod Timelines
 pub mod Watching

@@ -1,4 +1,6 @@
 //! The forms by their names.
+ghost use Rattle.std.specs.Prelude.{◌≡◌};
+ghost use Rattle.bq_timeline.specs.Settings.{form_of};
 
 /// A form in which a schedule is shown.
 #[derive(Clone, Copy, Debug, PartialEq, Eq)]
@@ -15,7 +17,9 @@ pub enum FormName {
 
 impl FormName {
     /// The form of that name.
-    pub fn of_word(word: &str) -> Option<FormName> {
+    pub fn of_word(word: &str) -> Option<FormName>
+        ensures { result ≡ form_of word.now }
+    {
         match word {
             "report" => Some(FormName::Report),
             "map" => Some(FormName::Map),

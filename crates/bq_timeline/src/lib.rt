@@ -1,6 +1,6 @@
 //! The command `timeline`: a trace, read as `replay` reads it, shown as a schedule in a form that people read.
-//! Promises that the schedule shown is that of the events and answers of the trace, and that no refused or bad line is
-//! passed over.
+//! Promises that the schedule shown is that of the events and answers of the trace, that no refused or bad line is
+//! passed over, and that what is shown, and how, is just what the words of the options ask for.
 //! Stands on bq_trace's sinks, on bq_schedule and its forms, and on bq_why.
 #![tactic(auto)]
 

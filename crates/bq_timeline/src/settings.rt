@@ -1,8 +1,13 @@
 //! What a timeline is to show, by the words of its options.
+ghost use Rattle.std.specs.Prelude.{◌≡◌, IfErr, IfOk};
+ghost use Rattle.bq_lines.specs.ProcessorSets.{processors_of};
+ghost use Rattle.bq_timeline.specs.Settings.{AsksFor, IsNoSettings, asked_or, form_of, tasks_of, time_of, width_of};
+ghost use Rattle.bq_timeline.specs.declared.settings.SettingsFault.TheVariants.{OutOfMemory};
 
 use crate::form_names::FormName;
 use crate::numbers;
 use bq_forms::Window;
+use bq_lines::processor_sets::processors;
 use std::alloc::{AllocError, Global};
 use thiserror::Error;
 
@@ -13,23 +18,26 @@ pub struct Words {
     pub file: Option<String>,
     /// The form, `report` where none is named.
     pub form: Option<String>,
-    /// The first moment.
+    /// The first moment, as `1.5ms`; 0 where none is named.
     pub from: Option<String>,
-    /// The last moment.
+    /// The last moment, as `2s`; no end where none is named.
     pub to: Option<String>,
-    /// The processors.
+    /// The processors, from 0 to 63, as `0-3,8`; all where none is named.
     pub cpus: Option<String>,
-    /// The tasks.
+    /// The tasks, from 0 to 65535, as `1,4`; all where none is named.
     pub tasks: Option<String>,
-    /// The columns of a map.
+    /// The columns of a map, from 20 to 10,000; 80 where none are named.
     pub width: Option<String>,
 }
 
 /// What a timeline is to show.
 #[derive(Drop)]
 pub struct Settings {
+    /// In which form.
     pub form: FormName,
+    /// Which stretch of time, processors and tasks.
     pub window: Window,
+    /// The columns of a map, from 20 to 10,000.
     pub width: usize,
 }
 
@@ -59,6 +67,8 @@ pub enum SettingsFault {
 }
 
 impl From<AllocError> for SettingsFault {
+    ghost from_gives = { λ _ e. e ≡ OutOfMemory };
+
     fn from(_e: AllocError) -> SettingsFault {
         SettingsFault::OutOfMemory
     }
@@ -69,34 +79,67 @@ const COLUMNS: usize = 80;
 
 impl Settings {
     /// What the words ask for: all of a trace, in a report, unless they say otherwise.
-    pub fn of(alloc: Global, words: &Words) -> Result<Settings, SettingsFault> {
-        let mut settings = Settings {
-            form: FormName::Report,
-            window: Window::whole(alloc),
-            width: COLUMNS,
-        };
-        if let Some(word) = &words.form {
-            settings.form = FormName::of_word(word.as_str()).ok_or(SettingsFault::Form)?;
-        }
-        if let Some(word) = &words.from {
-            settings.window.from = numbers::time(word.as_str()).ok_or(SettingsFault::From)?;
-        }
-        if let Some(word) = &words.to {
-            settings.window.to = numbers::time(word.as_str()).ok_or(SettingsFault::To)?;
-        }
-        if let Some(word) = &words.cpus {
-            settings.window.processors = numbers::processors(word.as_str()).ok_or(
-                SettingsFault::Processors,
-            )?;
-        }
+    ///
+    /// A fault other than `OutOfMemory` names a word that is none of its kind: a form, a time, processors, tasks or a width.
+    pub fn of(alloc: Global, words: &Words) -> Result<Settings, SettingsFault>
+        ensures asked { IfOk result (AsksFor words.now) }
+        ensures refused { IfErr result (IsNoSettings words.now) }
+    {
+        let mut window = Window::whole(alloc);
+        let form = form_or(&words.form, FormName::Report).ok_or(SettingsFault::Form)?;
+        window.from = time_or(&words.from, window.from).ok_or(SettingsFault::From)?;
+        window.to = time_or(&words.to, window.to).ok_or(SettingsFault::To)?;
+        window.processors = processors_or(&words.cpus, window.processors).ok_or(
+            SettingsFault::Processors,
+        )?;
         if let Some(word) = &words.tasks {
-            settings.window.tasks = numbers::tasks(alloc, word.as_str())?.ok_or(
-                SettingsFault::Tasks,
-            )?;
+            window.tasks = numbers::tasks(alloc, word.as_str())?.ok_or(SettingsFault::Tasks)?;
         }
-        if let Some(word) = &words.width {
-            settings.width = numbers::width(word.as_str()).ok_or(SettingsFault::Width)?;
-        }
-        Ok(settings)
+        let width = width_or(&words.width, COLUMNS).ok_or(SettingsFault::Width)?;
+        Ok(Settings {
+            form,
+            window,
+            width,
+        })
+    }
+}
+
+/// The form that a word names, or the default where there is no word. None where no form has that name.
+fn form_or(word: &Option<String>, default: FormName) -> Option<FormName>
+    ensures { result ≡ asked_or default form_of word.now }
+{
+    match word {
+        Some(word) => FormName::of_word(word.as_str()),
+        None => Some(default),
+    }
+}
+
+/// The nanoseconds that a word writes, or the default where there is no word. None where the word is no time.
+fn time_or(word: &Option<String>, default: u64) -> Option<u64>
+    ensures { result ≡ asked_or default time_of word.now }
+{
+    match word {
+        Some(word) => numbers::time(word.as_str()),
+        None => Some(default),
+    }
+}
+
+/// The processors that a word names, as bits, or the default where there is no word. None where the word names something else.
+fn processors_or(word: &Option<String>, default: u64) -> Option<u64>
+    ensures { result ≡ asked_or default processors_of word.now }
+{
+    match word {
+        Some(word) => processors(word.as_bytes()),
+        None => Some(default),
+    }
+}
+
+/// The columns that a word asks for, or the default where there is no word. None where the word is no width.
+fn width_or(word: &Option<String>, default: usize) -> Option<usize>
+    ensures { result ≡ asked_or default width_of word.now }
+{
+    match word {
+        Some(word) => numbers::width(word.as_str()),
+        None => Some(default),
     }
 }

@@ -1,15 +1,15 @@
 -- The entries of a table as members.
-use Rattle.std.proofs.Common.{◌≡◌, ◌≢◌, ℕ, ◌+◌, ◌<◌, List, [], ◌∷◌, ◌++◌, length, get_or, drop, option_and_then, ◌∙◌, Some, None, string_bytes, String, Global, slice_get, refl, ap, sym, arith}
+use Rattle.std.proofs.Common.{◌≡◌, ◌≢◌, ℕ, ◌+◌, ◌<◌, List, [], ◌∷◌, ◌++◌, length, get_or, drop, option_and_then, ◌∙◌, Some, None, string_bytes, String, Global, slice_get, refl, ap, sym, subst, append_assoc, append-nil, arith}
 use Rattle.toml.specs.declared.value.Value.{Value}
 use Rattle.toml.specs.Data.{Members, as_table}
 use Rattle.toml.specs.View.{view, items_view, members_view}
 use Rattle.toml.proofs.Views.{Entry, items_view-drop}
 use Rattle.bq_actions.specs.declared.action.Action.{Action}
-use Rattle.bq_workload.specs.Actions.{action_of, actions_of}
+use Rattle.bq_workload.specs.Actions.{action_of, actions_of, named_at}
 use Rattle.bq_workload.specs.Lengths.{ends_of}
 use Rattle.bq_actions.specs.declared.workload.TaskKind.{TaskKind}
 use Rattle.bq_workload.specs.Tables.{only_of}
-use Rattle.bq_workload.specs.Workloads.{AreKinds, AreNames, IsKind, name_in}
+use Rattle.bq_workload.specs.Workloads.{AreKinds, AreNames, AreOthers, IsKind, name_in}
 
 -- where there is no one entry
 pub only-none : (es : List Entry) → length es ≢ 1 → None ≡ only_of (members_view es)
@@ -55,3 +55,9 @@ AreNames-more [] [] v n h e = (e, tt)
 AreNames-more [] (m ∷ ns) v n h e = absurd h
 AreNames-more (w ∷ vs) [] v n h e = absurd h
 AreNames-more (w ∷ vs) (m ∷ ns) v n h e = (h.0, AreNames-more vs ns v n h.1 e)
+
+-- a name that is none of some, and of others none that is one before it, is none before it in all of them
+pub AreOthers-more : (before names : List (String Global)) (n : String Global) → AreOthers before names → named_at (before ++ names) (string_bytes n) ≡ None → AreOthers before (names ++ n ∷ [])
+AreOthers-more before [] n h new = (subst (λ (all : List (String Global)). named_at all (string_bytes n) ≡ None) (append-nil before) new, tt)
+AreOthers-more before (x ∷ names) n h new =
+    (h.0, AreOthers-more (before ++ x ∷ []) names n h.1 (subst (λ (all : List (String Global)). named_at all (string_bytes n) ≡ None) (sym (append_assoc before (x ∷ []) names)) new))

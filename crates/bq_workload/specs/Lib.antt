@@ -4,4 +4,3 @@ pub mod Lengths
 pub mod Actions
 pub mod Workloads
 pub mod Durations
-pub mod Processors

@@ -1,5 +1,5 @@
 -- What a document says of a machine and of its tasks.
-use Rattle.std.specs.Prelude.{◌≡◌, ℕ, ◌-◌, ◌^◌, ◌≤◌, ℤ, pos, true, List, [], ◌∷◌, sum_by, Option, Some, None, unwrap_or, option_map, option_and_then, codes, String, string_bytes}
+use Rattle.std.specs.Prelude.{◌≡◌, ℕ, ◌-◌, ◌^◌, ◌≤◌, ℤ, pos, true, List, [], ◌∷◌, ◌++◌, sum_by, Option, Some, None, unwrap_or, option_map, option_and_then, codes, String, string_bytes}
 use Rattle.std.specs.List.{list_any}
 use Rattle.std.specs.Option.{IsSomeAnd}
 use Rattle.std.specs.declared.alloc.Global.{Global}
@@ -18,7 +18,7 @@ use Rattle.bq_actions.specs.declared.workload.Workload.{Workload}
 use Rattle.bq_workload.specs.declared.changes.Changes.{Changes}
 use Rattle.bq_workload.specs.Fields.{or_default, span_in, number_in, rule_in, size_in, loops_of, nice_of, mask_of, name_of}
 use Rattle.bq_workload.specs.Lengths.{length_of}
-use Rattle.bq_workload.specs.Actions.{actions_of}
+use Rattle.bq_workload.specs.Actions.{actions_of, named_at}
 
 -- a duration that takes time, at a key or else the default
 abbrev pub time_at : ℕ → List ℕ → Members → Option ℕ
@@ -87,6 +87,11 @@ AreNames no_items [] = Unit {0}
 AreNames (item d ds) (name ∷ names) = (name_in d ≡ Some (string_bytes name)) × AreNames ds names
 AreNames other names = ⊥
 
+-- no name is one of those before it
+abbrev pub AreOthers : List (String Global) → List (String Global) → Type 0
+AreOthers before [] = Unit {0}
+AreOthers before (name ∷ names) = (named_at before (string_bytes name) ≡ None) × AreOthers (before ++ name ∷ []) names
+
 -- the table of the machine; one without entries where the document has none
 abbrev pub machine_table : Option Data → Option Members
 machine_table None = Some no_members
@@ -103,10 +108,10 @@ tasks_of document = option_and_then as_array (get_member (codes "task") document
 abbrev pub all_of : ProcessorCount → ℕ
 all_of size = 2 ^ processors_in size - 1
 
--- the tasks that a document describes, on a machine of this size
+-- the tasks that a document describes, on a machine of this size; no two kinds have one name
 abbrev pub HasTasks : ProcessorCount → Members → List TaskKind → Type 0
 HasTasks size document kinds =
-    (items : Items) × (names : List (String Global)) × (tasks_of document ≡ Some items) × AreNames items names × AreKinds names (all_of size) items kinds
+    (items : Items) × (names : List (String Global)) × (tasks_of document ≡ Some items) × AreNames items names × AreOthers [] names × AreKinds names (all_of size) items kinds
 
 -- the workload that a document describes, on its machine with what is put in its place
 pub record IsWorkload (c : Changes) (document : Members) (w : Workload) : Type 0 where

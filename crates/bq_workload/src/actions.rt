@@ -1,9 +1,7 @@
 //! What a task does.
 ghost use Rattle.std.specs.Prelude.{◌≡◌, [], IfOk, option_map};
 ghost use Rattle.std.specs.Result.{result_ok};
-ghost use Rattle.std.specs.List.{list_any};
 ghost use Rattle.toml.specs.View.{view, items_view};
-ghost use Rattle.bq_actions.specs.Lengths.{takes_time};
 ghost use Rattle.bq_workload.specs.Lengths.{length_of};
 ghost use Rattle.bq_workload.specs.Actions.{action_of, entry_of, wait_of, wake_of, actions_of, named_at};
 
@@ -117,11 +115,4 @@ pub(crate) fn actions<'a>(
         }
     }
     Ok(Ok(actions))
-}
-
-/// Whether an action takes time.
-pub(crate) fn take_time(actions: &[Action]) -> bool
-    ensures { result ≡ list_any takes_time actions.now }
-{
-    actions.iter().any(|action| action.takes_time())
 }

@@ -3,13 +3,13 @@ ghost use Rattle.std.specs.Prelude.{◌≡◌, ◌≤◌, pos, IfOk, IfSome, cod
 ghost use Rattle.std.specs.Result.{result_ok};
 ghost use Rattle.toml.specs.Data.{as_str, get_member};
 ghost use Rattle.toml.specs.View.{view, table_view};
-ghost use Rattle.bq_workload.specs.Processors.{processors_of};
+ghost use Rattle.bq_lines.specs.ProcessorSets.{processors_of};
 ghost use Rattle.bq_workload.specs.Fields.{within, span_in, number_in, or_default, nice_of, rule_in, size_in, name_of, mask_of, loops_of};
 
 use crate::duration;
-use crate::processors::processors;
 use crate::tables::at;
 use crate::why::{Range, Wanted, Why};
+use bq_lines::processor_sets::processors;
 use bq_words::{ProcessorCount, Rule};
 use toml::{Table, Value};
 

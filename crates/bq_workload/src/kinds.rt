@@ -3,15 +3,14 @@ ghost use Rattle.std.specs.Prelude.{◌≡◌, IfOk};
 ghost use Rattle.toml.specs.View.{table_view};
 ghost use Rattle.bq_workload.specs.Workloads.{HasNumbers, IsKind, all_of};
 
-use crate::actions::take_time;
 use crate::blame::{Location, Trouble};
 use crate::doing::all_actions;
 use crate::fields::{loops, mask, name, nice, number_at, span_at};
-use crate::processors::bits;
 use crate::tables::all_known;
 use crate::why::{Range, Why};
-use bq_actions::TaskKind;
 use bq_actions::limits::{GREATEST_SLICE, LEAST_SLICE, LONGEST, MOST_TASKS};
+use bq_actions::{TaskKind, take_time};
+use bq_lines::processor_sets::bits;
 use bq_words::ProcessorCount;
 use std::alloc::Global;
 use toml::Table;

@@ -13,7 +13,6 @@ mod fields;
 mod kinds;
 mod lengths;
 mod near;
-pub mod processors;
 mod setup;
 mod tables;
 mod why;

@@ -1,8 +1,8 @@
 //! Whole workloads.
-ghost use Rattle.std.specs.Prelude.{◌≡◌, ◌≤◌, Some, IfOk, sum_by};
+ghost use Rattle.std.specs.Prelude.{◌≡◌, ◌≤◌, [], Some, IfOk, sum_by};
 ghost use Rattle.toml.specs.Data.{as_table};
 ghost use Rattle.toml.specs.View.{view, items_view, table_view};
-ghost use Rattle.bq_workload.specs.Workloads.{AreKinds, AreNames, Describes, IsMachine, tasks_of};
+ghost use Rattle.bq_workload.specs.Workloads.{AreKinds, AreNames, AreOthers, Describes, IsMachine, tasks_of};
 
 use crate::actions;
 use crate::blame::{Location, Trouble};
@@ -119,7 +119,8 @@ fn tables(document: &Table) -> Result<&[Value], Why<'_>>
 
 /// The names of the tasks, of which no two are the same.
 fn names<'a>(alloc: Global, tables: &'a [Value]) -> Result<Vec<String>, Trouble<'a>>
-    ensures { IfOk result (λ v. AreNames (items_view tables.now) v.items) }
+    ensures names { IfOk result (λ v. AreNames (items_view tables.now) v.items) }
+    ensures others { IfOk result (λ v. AreOthers [] v.items) }
 {
     let mut names = Vec::new(alloc);
     for (index, value) in tables.iter().enumerate() {

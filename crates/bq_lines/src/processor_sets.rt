@@ -1,0 +1,111 @@
+//! Sets of processors, as bits: bit k is processor k.
+ghost use Rattle.std.specs.Prelude.{◌≡◌, ◌<◌, ◌≤◌, ◌+◌, ◌-◌, ◌^◌, [], ◌∷◌, IfNone, IfSome, length, option_and_then, position};
+ghost use Rattle.std.specs.List.{slice_split};
+ghost use Rattle.bq_lines.specs.ProcessorSets.{processors_of, is_comma, is_dash, bits_of, span_of, processor_below};
+
+use crate::numbers;
+
+/// The processors that a word names: numbers and ranges with commas between them, as `0-3,5`. Each is below 64.
+///
+/// None where a part is neither, or a range runs backwards.
+pub fn processors(word: &[u8]) -> Option<u64>
+    ensures { result ≡ processors_of word.now }
+{
+    let mut mask: u64 = 0;
+    let mut rest = word;
+    'parts: loop {
+        match first_part(rest) {
+            Some((part, more)) => {
+                let bits = span(part)?;
+                mask |= bits;
+                rest = more;
+            }
+            None => {
+                let bits = span(rest)?;
+                return Some(mask | bits);
+            }
+        }
+    }
+}
+
+/// The part before the first comma, and what is behind it.
+fn first_part(word: &[u8]) -> Option<(&[u8], &[u8])>
+    ensures some { IfSome result (λ p. slice_split is_comma word.now ≡ p.0.now ∷ slice_split is_comma p.1.now) }
+    ensures less { IfSome result (λ p. length p.1.now < length word.now) }
+    ensures none { IfNone result (slice_split is_comma word.now ≡ word.now ∷ []) }
+{
+    match comma(word) {
+        Some(end) => Some((&word[..end], &word[end + 1..])),
+        None => None,
+    }
+}
+
+/// Where the first comma is.
+fn comma(word: &[u8]) -> Option<usize>
+    ensures value { result ≡ position is_comma word.now }
+    ensures within { IfSome result (λ end. end < length word.now) }
+{
+    word.iter().position(|byte| is_comma(*byte))
+}
+
+fn is_comma(byte: u8) -> bool
+    ensures { result ≡ is_comma byte }
+{
+    byte == b','
+}
+
+fn is_dash(byte: u8) -> bool
+    ensures { result ≡ is_dash byte }
+{
+    byte == b'-'
+}
+
+/// Where a range has its dash.
+fn dash(part: &[u8]) -> Option<usize>
+    ensures value { result ≡ position is_dash part.now }
+    ensures within { IfSome result (λ at. at < length part.now) }
+{
+    part.iter().position(|byte| is_dash(*byte))
+}
+
+/// The bits of a number, or of a range.
+fn span(part: &[u8]) -> Option<u64>
+    ensures { result ≡ span_of part.now }
+{
+    match dash(part) {
+        Some(dash) => range(&part[..dash], &part[dash + 1..]),
+        None => {
+            let only = processor(part)?;
+            Some(bits(only, only))
+        }
+    }
+}
+
+/// The bits of a range from one word to another.
+fn range(first: &[u8], last: &[u8]) -> Option<u64>
+    ensures { result ≡ option_and_then (λ f. option_and_then (bits_of f) (processor_below last.now)) (processor_below first.now) }
+{
+    let first = processor(first)?;
+    let last = processor(last)?;
+    if last < first {
+        return None;
+    }
+    Some(bits(first, last))
+}
+
+/// The bits from the first to the last.
+pub fn bits(first: u8, last: u8) -> u64
+    requires order { first ≤ last }
+    requires few { last < 64 }
+    ensures { result ≡ 2 ^ (last + 1) - 2 ^ first }
+{
+    ((1u128 << (last + 1)) - (1u128 << first)) as u64
+}
+
+/// A processor's number.
+fn processor(word: &[u8]) -> Option<u8>
+    ensures { result ≡ processor_below word.now }
+{
+    let number = numbers::processor(word)?;
+    if number < 64 { Some(number) } else { None }
+}

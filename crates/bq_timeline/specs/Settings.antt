@@ -1,0 +1,131 @@
+-- What the words of a timeline's options ask for.
+use Rattle.std.specs.Prelude.{◌≡◌, ℕ, Bool, not, ◌+◌, ◌*◌, ◌/◌, ◌-◌, ◌^◌, ◌&&◌, ◌||◌, ◌==◌, nat_le, nat_lt, List, [], ◌∷◌, length, take, drop, position, Option, Some, None, ⊤, String, if◌then◌else◌, codes, option_and_then, option_map, string_bytes}
+use Rattle.std.specs.Global.{Global}
+use Rattle.std.specs.Char.{digit_value, is_ascii_digit}
+use Rattle.std.specs.List.{list_all, slice_split}
+use Rattle.std.specs.Str.{bytes_eq}
+use Rattle.bq_words.specs.Numbers.{below}
+use Rattle.bq_words.specs.Units.{unit_of}
+use Rattle.bq_lines.specs.Numbers.{decimal_of, task_of}
+use Rattle.bq_lines.specs.ProcessorSets.{is_comma, processors_of}
+use Rattle.bq_timeline.specs.declared.form_names.FormName.{FormName}
+use Rattle.bq_timeline.specs.declared.form_names.FormName.TheVariants.{Report, Map, Timehist, Why, Csv, Json, Svg, Perfetto}
+use Rattle.bq_timeline.specs.declared.settings.Words.{Words}
+use Rattle.bq_timeline.specs.declared.settings.Settings.{Settings}
+use Rattle.bq_timeline.specs.declared.settings.SettingsFault.{SettingsFault}
+use Rattle.bq_timeline.specs.declared.settings.SettingsFault.TheVariants as fault
+
+-- the form of that name
+abbrev pub form_of : List ℕ → Option FormName
+form_of word =
+    if bytes_eq word (codes "report") then Some Report
+    else if bytes_eq word (codes "map") then Some Map
+    else if bytes_eq word (codes "timehist") then Some Timehist
+    else if bytes_eq word (codes "why") then Some Why
+    else if bytes_eq word (codes "csv") then Some Csv
+    else if bytes_eq word (codes "json") then Some Json
+    else if bytes_eq word (codes "svg") then Some Svg
+    else if bytes_eq word (codes "perfetto") then Some Perfetto
+    else None
+
+-- what the digits behind a point count together: each a tenth of what the one before it does, in whole nanoseconds
+abbrev pub parts_of : ℕ → List ℕ → ℕ
+parts_of unit [] = 0
+parts_of unit (c ∷ cs) = digit_value c * (unit / 10) + parts_of (unit / 10) cs
+
+-- the nanoseconds of a fraction of a unit: one digit or more
+abbrev pub fraction_of : ℕ → List ℕ → Option ℕ
+fraction_of unit digits =
+    if nat_lt 0 (length digits) && list_all (λ c. nat_lt (digit_value c) 10) digits then Some (parts_of unit digits) else None
+
+-- a point, which stands before a fraction
+abbrev pub is_point : ℕ → Bool
+is_point c = c == 46
+
+-- a number of units, in nanoseconds, below 2^64: whole ones, and where there is a point a fraction behind it
+abbrev pub amount_at : ℕ → List ℕ → Option ℕ → Option ℕ
+amount_at unit number None = option_and_then (λ whole. below (2 ^ 64) (Some (whole * unit))) (decimal_of number)
+amount_at unit number (Some point) =
+    option_and_then (λ whole. option_and_then (λ part. below (2 ^ 64) (Some (whole * unit + part))) (fraction_of unit (drop (point + 1) number))) (decimal_of (take point number))
+
+-- so many units of so many nanoseconds each
+abbrev pub amount_of : ℕ → List ℕ → Option ℕ
+amount_of unit number = amount_at unit number (position is_point number)
+
+-- the word cut where its number ends: so many of the unit that is behind it, or so many nanoseconds where nothing is
+abbrev pub time_at : List ℕ → Option ℕ → Option ℕ
+time_at word None = amount_of 1 word
+time_at word (Some end) = option_and_then (λ unit. amount_of unit (take end word)) (unit_of (drop end word))
+
+-- a byte that is neither a digit nor a point
+abbrev pub ends_number : ℕ → Bool
+ends_number c = not (is_ascii_digit c || is_point c)
+
+-- the nanoseconds that a word writes: a number, and from the first byte that is neither a digit nor a point its unit
+abbrev pub time_of : List ℕ → Option ℕ
+time_of word = time_at word (position ends_number word)
+
+-- the tasks that words name, one each: none where one of them is no task
+abbrev pub tasks_in : List (List ℕ) → Option (List ℕ)
+tasks_in [] = Some []
+tasks_in (part ∷ parts) = option_and_then (λ task. option_map (λ tasks. task ∷ tasks) (tasks_in parts)) (task_of part)
+
+-- the tasks that the parts between commas name
+abbrev pub tasks_of : List ℕ → Option (List ℕ)
+tasks_of word = tasks_in (slice_split is_comma word)
+
+-- so many columns, if they are from 20 to 10,000
+abbrev pub as_width : ℕ → Option ℕ
+as_width columns = if nat_le 20 columns && nat_le columns 10000 then Some columns else None
+
+-- the columns that a word asks for
+abbrev pub width_of : List ℕ → Option ℕ
+width_of word = option_and_then as_width (decimal_of word)
+
+-- what a word asks for, or the default where there is no word
+abbrev pub asked_or : {A : Type 0} → A → (List ℕ → Option A) → Option (String Global) → Option A
+asked_or a read None = Some a
+asked_or a read (Some word) = read (string_bytes word)
+
+-- the form, a report where none is named
+abbrev pub form_asked : Words → Option FormName
+form_asked w = asked_or Report form_of w.form
+
+-- the first moment, 0 where none is named
+abbrev pub from_asked : Words → Option ℕ
+from_asked w = asked_or 0 time_of w.from
+
+-- the last moment, no end where none is named
+abbrev pub to_asked : Words → Option ℕ
+to_asked w = asked_or (2 ^ 64 - 1) time_of w.to
+
+-- the processors as bits, all where none is named
+abbrev pub processors_asked : Words → Option ℕ
+processors_asked w = asked_or (2 ^ 64 - 1) processors_of w.cpus
+
+-- the tasks; where no word names any the list is empty, and stands for all
+abbrev pub tasks_asked : Words → Option (List ℕ)
+tasks_asked w = asked_or [] tasks_of w.tasks
+
+-- the columns of a map, 80 where no width is named
+abbrev pub width_asked : Words → Option ℕ
+width_asked w = asked_or 80 width_of w.width
+
+-- the words ask for these settings
+pub record AsksFor (w : Words) (s : Settings) : Type 0 where
+  pub form : form_asked w ≡ Some s.form
+  pub from : from_asked w ≡ Some s.window.from
+  pub to : to_asked w ≡ Some s.window.to
+  pub processors : processors_asked w ≡ Some s.window.processors
+  pub tasks : tasks_asked w ≡ Some s.window.tasks.items
+  pub width : width_asked w ≡ Some s.width
+
+-- the word that the fault names is none of its kind; memory may run out whatever the words are
+abbrev pub IsNoSettings : Words → SettingsFault → Type 0
+IsNoSettings w fault.Form = form_asked w ≡ None
+IsNoSettings w fault.From = from_asked w ≡ None
+IsNoSettings w fault.To = to_asked w ≡ None
+IsNoSettings w fault.Processors = processors_asked w ≡ None
+IsNoSettings w fault.Tasks = tasks_asked w ≡ None
+IsNoSettings w fault.Width = width_asked w ≡ None
+IsNoSettings w fault.OutOfMemory = ⊤
