@@ -1,5 +1,5 @@
 -- What a place context permits is what the rule permits.
-use Rattle.std.proofs.Common.{◌≡◌, ℕ, suc, ◌+◌, ◌-◌, ◌*◌, ◌<◌, ◌≤◌, ◌^◌, List, [], ◌∷◌, ◌++◌, Bool, true, false, cond, ◌⊎◌, inl, inr, refl, sym, ap, ◌∙◌, subst, arith}
+use Rattle.std.proofs.Common.{◌≡◌, ℕ, suc, ◌+◌, ◌-◌, ◌*◌, ◌<◌, ◌≤◌, ◌^◌, [], ◌∷◌, ◌++◌, Bool, true, false, cond, ◌⊎◌, inl, inr, refl, sym, ap, ◌∙◌, subst, arith}
 use Rattle.std.specs.Prelude.{◌%◌, ◌/◌, ◌==◌, ◌&&◌, min, nat_lt, slice_range}
 use Rattle.std.proofs.lemmas.Bool.Decides.{nat_tests}
 use Rattle.std.proofs.Math.Nat.{mod-lt, one-le-pow, pow-le-pow_right}
@@ -7,12 +7,10 @@ use Rattle.std.proofs.Math.Pow.{mod-mod-pow}
 use Rattle.std.proofs.lemmas.Nat.{mod-pow-add, div-mul-add}
 use Rattle.byteorder.specs.Endian.{little_number}
 use Rattle.byteorder.specs.Numbers.{little_number-reads_back}
-use Rattle.bq_disc.specs.Tasks.{Task}
 use Rattle.bq_hooks.specs.Contexts.{PlaceFacts, place_bytes_below, place_header}
 use Rattle.bq_hooks.specs.OwnPlace.{allows}
 use Rattle.bq_hooks.specs.Permitted.{may_place, may_preempt}
-use Rattle.bq_one_run.specs.declared.permitted.Word.{Word}
-use Rattle.bq_one_run.specs.declared.permitted.Word.TheVariants.{Permitted, NotPermitted, NotShown}
+use Rattle.bq_one_run.specs.declared.permitted.Word.TheVariants.{Permitted, NotPermitted}
 use Rattle.bq_one_run.specs.PermittingLaw.{IsWordOn}
 use Rattle.bq_one_run.specs.Permitting.{number_at, place_permits, place_word, preempt_word}
 

@@ -1,14 +1,14 @@
 -- What a pull context shows is the rule's.
 use Rattle.std.proofs.Common.{◌≡◌, ℕ, zero, suc, ◌+◌, ◌-◌, ◌*◌, ◌<◌, ◌≤◌, ◌^◌, List, [], ◌∷◌, ◌++◌, length, take, drop, map, Bool, true, false, cond, Option, Some, None, refl, sym, ap, ◌∙◌, subst, arith}
-use Rattle.std.specs.Prelude.{◌==◌, ◌||◌, min, nat_lt, slice_get, slice_range}
-use Rattle.std.specs.List.{flat_map, range_with_len, list_any, AllByRecursion}
+use Rattle.std.specs.Prelude.{◌==◌, ◌||◌, min, nat_lt, slice_get}
+use Rattle.std.specs.List.{flat_map, range_with_len, list_any}
 use Rattle.std.proofs.Math.Seq.{drop-append-add}
 use Rattle.std.proofs.lemmas.List.{take_all, length-map}
 use Rattle.std.proofs.lemmas.Bool.Decides.{nat_tests}
-use Rattle.byteorder.specs.Endian.{little_from, little_number}
+use Rattle.byteorder.specs.Endian.{little_from}
 use Rattle.byteorder.specs.Numbers.{little_number-reads_back, little_from-take}
 use Rattle.bq_disc.specs.Tasks.{Task}
-use Rattle.bq_disc.specs.Movable.{movable_to, ids, is_movable_to}
+use Rattle.bq_disc.specs.Movable.{ids, is_movable_to}
 use Rattle.bq_hooks.specs.Contexts.{PullFacts, pull_header, pull_bytes, task_bytes, nobody}
 use Rattle.bq_hooks.specs.Permitted.{may_pull}
 use Rattle.bq_hooks.proofs.LengthLemmas.{length-task_bytes}

@@ -68,7 +68,7 @@ pub fn run_often(verified: &Verified, inputs: &mut Inputs, count: u32) -> Option
 }
 
 /// The same as `run_once`, with what each instruction of the run began from, put into a list that is empty: as many as steps, and
-/// the machine's chain of as many steps comes to each. Where memory is wanted the context, the time and the processor are left as they
+/// the machine's chain of as many steps, with the run's calls as far as it has come, leads to each. Where memory is wanted the context, the time and the processor are left as they
 /// were; of maps and counters nothing is said.
 pub fn trace_once(
     verified: &Verified,
@@ -77,7 +77,7 @@ pub fn trace_once(
 ) -> Result<Option<OneRun>, AllocError>
     requires { moments.old.items ≡ [] }
     ensures run { IfOk result (λ o. IfSome o (λ r. IsRun verified.now inputs.old.context.items inputs.old.env.now inputs.old.env.processor (kept_in inputs.old) r.steps r.calls.items r.r0 (kept_in inputs.new))) }
-    ensures moments { IfOk result (λ o. IfSome o (λ r. AreMoments (setting_of verified.now inputs.old.context.items inputs.old.env.now inputs.old.env.processor) (start inputs.old.maps.bytes) 0 moments.new.items)) }
+    ensures moments { IfOk result (λ o. IfSome o (λ r. AreMoments (setting_of verified.now inputs.old.context.items inputs.old.env.now inputs.old.env.processor) (start inputs.old.maps.bytes) r.calls.items 0 moments.new.items)) }
     ensures each { IfOk result (λ o. IfSome o (λ r. length moments.new.items ≡ r.steps)) }
     ensures whole { IfOk result (λ o. IfSome o (λ _. length inputs.old.context.items ≡ context_length_of verified.now.hook verified.now.version)) }
     ensures none { IfOk result (λ o. IfNone o (¬ Fits verified.now inputs.old)) }

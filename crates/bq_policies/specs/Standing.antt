@@ -26,7 +26,7 @@ MayStand hook attached = IsFor hook attached.policy × IsEquipped attached.polic
 abbrev pub AreReady : Attachments → Type 0
 AreReady hooks = (hook : Hook) → MayStand hook (at_hook hook hooks)
 
--- a run of the policy on a context of its length gives that answer, in so many steps
+-- a run of the policy on a context of its length and on maps of its shapes gives that answer, in so many steps
 pub record HasAnswered (policy : Accepted) (done : Done) : Type 0 where
   pub context : List ℕ
   pub maps : List (List ℕ)
@@ -35,6 +35,7 @@ pub record HasAnswered (policy : Accepted) (done : Done) : Type 0 where
   pub processor : ℕ
   pub calls : List Asked
   pub long : length context ≡ context_length_of policy.hook policy.version
+  pub shapes : HaveShapes policy.shapes maps
   pub answers : Answers policy context maps now processor done.r0 left done.steps calls
   pub within : IsWithin policy done.steps calls
 

@@ -18,7 +18,7 @@ pub when_some : {A : Type 0} (P : A → Type 0) (o : Option A) (x : A) → IfSom
 when_some {A} P o x h e = subst (λ (p : Option A). IfSome p P) e h
 
 -- the runs before leave context, time and processor as they are, so the last has those of the first
-pub has_run : (traced : Bool) (others : ℕ) (program : Accepted) (inputs between : Inputs) (moments : List Moment) (steps answer : ℕ) (calls : List Asked) (after : Kept) (text : String Global) (executed : List ℕ) → AreRuns program inputs.context.items inputs.env.now inputs.env.processor others (kept_in inputs) (kept_in between) → between.context ≡ inputs.context → between.env ≡ inputs.env → IsRun program between.context.items between.env.now between.env.processor (kept_in between) steps calls answer after → AreMoments (setting_of program between.context.items between.env.now between.env.processor) (start between.maps.bytes) 0 moments → length moments ≡ steps → TellsSteps traced program moments executed → TellsRun program between.context.items answer steps executed (string_bytes text) → HasRun traced others program inputs (Done text)
+pub has_run : (traced : Bool) (others : ℕ) (program : Accepted) (inputs between : Inputs) (moments : List Moment) (steps answer : ℕ) (calls : List Asked) (after : Kept) (text : String Global) (executed : List ℕ) → AreRuns program inputs.context.items inputs.env.now inputs.env.processor others (kept_in inputs) (kept_in between) → between.context ≡ inputs.context → between.env ≡ inputs.env → IsRun program between.context.items between.env.now between.env.processor (kept_in between) steps calls answer after → AreMoments (setting_of program between.context.items between.env.now between.env.processor) (start between.maps.bytes) calls 0 moments → length moments ≡ steps → TellsSteps traced program moments executed → TellsRun program between.context.items answer steps executed (string_bytes text) → HasRun traced others program inputs (Done text)
 has_run traced others program inputs between moments steps answer calls after text executed runs context env run are each steps_told told = record {
   steps = steps;
   calls = calls;

@@ -79,8 +79,8 @@ abbrev pub IsBefore : Option (List ℕ) → ℕ → Type 0
 IsBefore None n = n ≡ 0
 IsBefore (Some word) n = IsNumberBelow (2 ^ 32) word (n + 1)
 
--- so many runs of the program on those inputs, one after another, lead to maps and counters from which there is a run more, whose steps begin from
--- these moments of the machine: its answer is told, and its steps where that is asked for
+-- so many runs of the program on those inputs, one after another, lead to maps and counters from which there is a run more, whose steps, with its
+-- own calls of counters, begin from these moments of the machine: its answer is told, and its steps where that is asked for
 pub record HasRun (traced : Bool) (others : ℕ) (program : Accepted) (inputs : Inputs) (told_as : Answered) : Type 0 where
   pub steps : ℕ
   pub calls : List Asked
@@ -90,7 +90,7 @@ pub record HasRun (traced : Bool) (others : ℕ) (program : Accepted) (inputs : 
   pub moments : List Moment
   pub runs : AreRuns program inputs.context.items inputs.env.now inputs.env.processor others (kept_in inputs) before
   pub run : IsRun program inputs.context.items inputs.env.now inputs.env.processor before steps calls answer after
-  pub are : AreMoments (setting_of program inputs.context.items inputs.env.now inputs.env.processor) (start before.maps) 0 moments
+  pub are : AreMoments (setting_of program inputs.context.items inputs.env.now inputs.env.processor) (start before.maps) calls 0 moments
   pub each : length moments ≡ steps
   pub text : String Global
   pub is : told_as ≡ Done text
