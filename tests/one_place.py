@@ -26,24 +26,15 @@ FACTS = [
     ('how far ahead a task may be under CFS', r'GRANULARITY: u64', {'bq_cfs/src/discipline.rt'}),
 ]
 
-LATER = 'a private lemma of a few lines: to share it the lower crate makes it public, when what stands on that is proved anew anyway'
 
 # What may stand in two places, and why.
 ALLOWED = {
-    'how far ahead a task may be under CFS: bq_bounds/src/charge.rt': "the discipline's own constant is private; it can be shared when bq_cfs, on which most crates stand, is proved anew anyway",
     'the word of a hook: bq_cli/src/asm_words.rt': 'the values that an option takes, beside the text of its refusal, which lists them',
     'the word of a hook: bq_forms/src/summary.rt': 'keys of a form in JSON, which stay what they are whatever traces call a hook',
     'the word of a hook: bq_forms/src/tables.rt': 'the column of a report, which stays what it is whatever traces call a hook',
     'the word of a hook: bq_lines/src/lines.rt': 'the command `pull` of a trace, an event, whose word only happens to be that of a hook too',
     'the word of a hook: bq_timeline/src/faults.rt': 'the command `pull` of a trace, an event, whose word only happens to be that of a hook too',
     'the word of a hook: bq_why/src/happenings.rt': 'the name of an event, which only happens to be the word of a hook too',
-    'the same function: bq_policy_desk/src/import_text.rt: format_mark, bq_program/src/policy_marks.rt: format_mark': "two arms over one definition (MarkLines.antt): it can be shared when bq_program, on which nine crates stand, is proved anew anyway",
-    'the same text: bq_policy_desk/src/import_text.rt, bq_program/src/policy_marks.rt: ;@ hook {hook}\\n{maps}{format}': 'the same',
-    'the same definition: bq_comparison/specs/Gathering.antt: schedule_with, bq_timeline/specs/Watching.antt: watched': "three lines over a trace's news and a schedule: no crate that stands on both lies below these two",
-    'the same lemma: bq_cells/proofs/OpeningLemmas.antt: all_same, bq_core/proofs/OnTheWayLemmas.antt: same_everywhere, bq_passing/proofs/SoundLemmas.antt: same_everywhere': LATER,
-    'the same lemma: bq_cfs/proofs/SpreadStayLemmas.antt: least_is_found, bq_fair/proofs/CfsFairLemmas.antt: least_is_found': LATER,
-    'the same lemma: bq_graph/proofs/SpreadLemmas.antt: one_or_two, bq_verify/proofs/FrameLemmas.antt: one_or_two': LATER,
-    'the same lemma: bq_simulate/proofs/RetellingLemmas.antt: does, bq_trace/proofs/StoryTextLemmas.antt: happens_text': LATER,
 }
 
 

@@ -4,11 +4,9 @@ ghost use Rattle.bq_weights.specs.VirtualTime.{IsWeight, vdelta_of};
 ghost use Rattle.bq_bounds.specs.Charges.{charge_of, charge_from};
 
 use crate::running_task::RunningTask;
+use bq_cfs::GRANULARITY;
 use bq_weights::GREATEST;
 use bq_words::Rule;
-
-/// Under CFS a task gives way where it is further ahead than this, in virtual nanoseconds.
-pub const GRANULARITY: u64 = 1_000_000;
 
 /// How far the task that ran was beyond where its rule measures from when its time was charged, and how far it may be: virtual
 /// nanoseconds.

@@ -15,7 +15,7 @@ pub mod totals;
 pub mod watch;
 
 pub use bounds::Bounds;
-pub use charge::{Charge, GRANULARITY};
+pub use charge::Charge;
 pub use glance::Glance;
 pub use lags::Lags;
 pub use running_task::RunningTask;

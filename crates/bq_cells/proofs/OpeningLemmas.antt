@@ -1,5 +1,5 @@
 -- The parts at the start: each once, and as the opening world has them.
-use Rattle.std.proofs.Common.{◌≡◌, ◌≢◌, ℕ, zero, suc, ◌+◌, ◌-◌, ◌<◌, ◌≤◌, List, [], ◌∷◌, ◌++◌, map, Bool, cond, eqb, eq-eqb, ne_eqb, refl, ap, ◌∙◌, arith, get_or, replicate}
+use Rattle.std.proofs.Common.{◌≡◌, ◌≢◌, ℕ, zero, suc, ◌+◌, ◌-◌, ◌<◌, ◌≤◌, List, [], ◌∷◌, ◌++◌, map, Bool, cond, eqb, eq-eqb, ne_eqb, refl, ap, ◌∙◌, arith}
 use mathlib.Core.Logic.{dite}
 use native.Mathlib.Decide.{ℕ_discrete}
 use Rattle.bq_tie.specs.Whole.{count, Each}
@@ -7,6 +7,7 @@ use Rattle.bq_tie.proofs.MoveLemmas.{count-append, each-append}
 use Rattle.bq_history.specs.Items.{part_item}
 use Rattle.std.proofs.lemmas.List.{length-replicate}
 use Rattle.bq_parts.specs.Processors.{opening}
+use Rattle.bq_core.proofs.OnTheWayLemmas.{same_everywhere}
 use Rattle.bq_parts.specs.World.{opening_world}
 use Rattle.bq_cells.specs.Parts.{same_part, HasPart, first_parts, cpus_from, inboxes_from}
 use Rattle.bq_cells.specs.Opened.{ItemOf, cpu_items, inbox_items}
@@ -77,18 +78,13 @@ each_part_once n (part.Lobby l) =
     let b = no_lobby l 0 n in
     omega arith
 
-all_same : {X : Type 0} (x : X) (n i : ℕ) → get_or (replicate n x) i x ≡ x
-all_same x zero i = refl
-all_same x (suc n) zero = refl
-all_same x (suc n) (suc i) = all_same x n i
-
 cpus_there : (all c n : ℕ) → c + n ≡ all → Each (HasPart (opening_world all)) (cpus_from c n)
 cpus_there all c zero e = tt
-cpus_there all c (suc n) e = ((rw length-replicate (omega arith), all_same opening all c), cpus_there all (c + 1) n (omega arith))
+cpus_there all c (suc n) e = ((rw length-replicate (omega arith), same_everywhere opening all c), cpus_there all (c + 1) n (omega arith))
 
 inboxes_there : (all c n : ℕ) → c + n ≡ all → Each (HasPart (opening_world all)) (inboxes_from c n)
 inboxes_there all c zero e = tt
-inboxes_there all c (suc n) e = ((rw length-replicate (omega arith), all_same [] all c), inboxes_there all (c + 1) n (omega arith))
+inboxes_there all c (suc n) e = ((rw length-replicate (omega arith), same_everywhere [] all c), inboxes_there all (c + 1) n (omega arith))
 
 -- each of the first parts is one that the opening world has
 pub parts_there : (n : ℕ) → Each (HasPart (opening_world n)) (first_parts n)

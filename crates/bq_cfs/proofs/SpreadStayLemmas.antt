@@ -59,7 +59,7 @@ stays V d n p distinct h runs =
 -- Nothing runs, and the queue's choice starts
 
 -- with distinct ids, the least task is the one of its id
-least_is_found : (x : Task) (xs : List Task) → HasDistinctIds (x ∷ xs) → (let m = former runs_before x (least xs) in with_id m.id (x ∷ xs) ≡ Some m)
+pub least_is_found : (x : Task) (xs : List Task) → HasDistinctIds (x ∷ xs) → (let m = former runs_before x (least xs) in with_id m.id (x ∷ xs) ≡ Some m)
 least_is_found x xs d =
     let m = former runs_before x (least xs) in
     let c = first_by-member runs_before (x ∷ xs) in

@@ -10,8 +10,8 @@ ghost use Rattle.bq_cfs.specs.Lawful.{cfs_lawful};
 use bq_disc::{Discipline, Node, RuledQueue, Timeline};
 use bq_tree::{NoSums, Tree};
 
-/// The current task gives way to one that is more than this behind it.
-const GRANULARITY: u64 = 1_000_000;
+/// The current task gives way to one that is more than this behind it, in virtual nanoseconds (sched-design-CFS.rst).
+pub const GRANULARITY: u64 = 1_000_000;
 
 /// A woken task enters at most this much behind the mark.
 const BONUS: i64 = 3_000_000;

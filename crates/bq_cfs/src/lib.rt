@@ -4,4 +4,4 @@
 pub mod discipline;
 pub mod laws;
 
-pub use discipline::{Cfs, CfsQueue};
+pub use discipline::{Cfs, CfsQueue, GRANULARITY};

@@ -5,27 +5,27 @@ use Rattle.bq_actions.specs.declared.workload.Workload.{Workload}
 use Rattle.bq_comparison.specs.declared.naming.Figure.{Figure}
 use Rattle.bq_comparison.specs.declared.runs.Run.{Run}
 use Rattle.bq_simulate.specs.declared.fault.SimulateFault.{SimulateFault}
-use Rattle.bq_simulate.specs.Simulations.{with_seed}
+use Rattle.bq_simulate.specs.Simulations.{Accepted, with_seed}
 use Rattle.bq_comparison.specs.Seeds.{AreResults, AreRuns, Comes, IsRun}
 
 -- what came of runs that all came to their end
-ran : (w : Workload) (figures : List Figure) (seed : ℕ) (runs : List Run) → AreResults w figures seed (map Ok runs) → AreRuns w figures seed runs
-ran w figures seed [] h = tt
-ran w figures seed (x ∷ xs) h =
-    let P : ℕ → Type 0 = λ s. IsRun (with_seed w s) figures x in
-    let rest : AreResults w figures (seed + 1) (map Ok xs) = λ i r there.
-    subst (λ s. IfOk r (IsRun (with_seed w s) figures)) (omega arith) (h (suc i) r there) in
-    (subst P (omega arith) (h zero (Ok x) refl), ran w figures (seed + 1) xs rest)
+ran : (policies : List Accepted) (w : Workload) (figures : List Figure) (seed : ℕ) (runs : List Run) → AreResults policies w figures seed (map Ok runs) → AreRuns policies w figures seed runs
+ran policies w figures seed [] h = tt
+ran policies w figures seed (x ∷ xs) h =
+    let P : ℕ → Type 0 = λ s. IsRun policies (with_seed w s) figures x in
+    let rest : AreResults policies w figures (seed + 1) (map Ok xs) = λ i r there.
+    subst (λ s. IfOk r (IsRun policies (with_seed w s) figures)) (omega arith) (h (suc i) r there) in
+    (subst P (omega arith) (h zero (Ok x) refl), ran policies w figures (seed + 1) xs rest)
 
 -- runs with some seeds, and results with the seeds after them that are runs, are runs together
-pub AreRuns-append : (w : Workload) (figures : List Figure) (seed : ℕ) (runs more : List Run)
-    → AreRuns w figures seed runs → AreResults w figures (seed + length runs) (map Ok more) → AreRuns w figures seed (runs ++ more)
-AreRuns-append w figures seed [] more h k =
-    let P : ℕ → Type 0 = λ s. AreResults w figures s (map Ok more) in
-    ran w figures seed more (subst P (omega arith) k)
-AreRuns-append w figures seed (x ∷ xs) more h k =
-    let P : ℕ → Type 0 = λ s. AreResults w figures s (map Ok more) in
-    (h.0, AreRuns-append w figures (seed + 1) xs more h.1 (subst P (omega arith) k))
+pub AreRuns-append : (policies : List Accepted) (w : Workload) (figures : List Figure) (seed : ℕ) (runs more : List Run)
+    → AreRuns policies w figures seed runs → AreResults policies w figures (seed + length runs) (map Ok more) → AreRuns policies w figures seed (runs ++ more)
+AreRuns-append policies w figures seed [] more h k =
+    let P : ℕ → Type 0 = λ s. AreResults policies w figures s (map Ok more) in
+    ran policies w figures seed more (subst P (omega arith) k)
+AreRuns-append policies w figures seed (x ∷ xs) more h k =
+    let P : ℕ → Type 0 = λ s. AreResults policies w figures s (map Ok more) in
+    (h.0, AreRuns-append policies w figures (seed + 1) xs more h.1 (subst P (omega arith) k))
 
 abbrev ended : Run → Result Run SimulateFault
 ended = Ok
@@ -45,10 +45,10 @@ Comes-count before after results (more, ok, is) =
     ap length is ∙ length-append before more ∙ ap (λ n. length before + n) (sym (length-map more ended) ∙ ap length (sym ok))
 
 -- those with the next seeds stand behind those before
-pub AreRuns-come : (w : Workload) (figures : List Figure) (seed next : ℕ) (before after : List Run) (results : List (Result Run SimulateFault))
-    → next ≡ seed + length before → AreRuns w figures seed before → AreResults w figures next results → Comes before results after → AreRuns w figures seed after
-AreRuns-come w figures seed next before after results at h k (more, ok, is) =
-    let P : List Run → Type 0 = λ l. AreRuns w figures seed l in
-    let Q : ℕ → Type 0 = λ s. AreResults w figures s results in
-    let R : List (Result Run SimulateFault) → Type 0 = λ l. AreResults w figures (seed + length before) l in
-    subst P (sym is) (AreRuns-append w figures seed before more h (subst R ok (subst Q at k)))
+pub AreRuns-come : (policies : List Accepted) (w : Workload) (figures : List Figure) (seed next : ℕ) (before after : List Run) (results : List (Result Run SimulateFault))
+    → next ≡ seed + length before → AreRuns policies w figures seed before → AreResults policies w figures next results → Comes before results after → AreRuns policies w figures seed after
+AreRuns-come policies w figures seed next before after results at h k (more, ok, is) =
+    let P : List Run → Type 0 = λ l. AreRuns policies w figures seed l in
+    let Q : ℕ → Type 0 = λ s. AreResults policies w figures s results in
+    let R : List (Result Run SimulateFault) → Type 0 = λ l. AreResults policies w figures (seed + length before) l in
+    subst P (sym is) (AreRuns-append policies w figures seed before more h (subst R ok (subst Q at k)))

@@ -1,19 +1,13 @@
 -- What is kept of the news of a simulation: its schedule, and each delay from a wake until its task ran.
 use Rattle.std.specs.Prelude.{◌≡◌, ℕ, List, [], ◌∷◌, ◌++◌, Option, Some, None}
 use Rattle.bq_actions.specs.declared.workload.Workload.{Workload}
-use Rattle.bq_words.specs.Sizes.{processors_in}
-use Rattle.bq_trace.specs.News.{News, Told, Opened, Answered}
+use Rattle.bq_trace.specs.News.{News, Told, Answered}
 use Rattle.bq_schedule.specs.declared.change.Start.{Start}
-use Rattle.bq_schedule.specs.Figures.{Figures, opening}
-use Rattle.bq_schedule.specs.Steps.{after, change}
+use Rattle.bq_schedule.specs.Figures.{Figures}
+use Rattle.bq_schedule.specs.Steps.{change}
 use Rattle.bq_comparison.specs.declared.values.Delay.{Delay}
 use Rattle.bq_simulate.specs.Simulations.{Accepted, IsSimulation}
-
--- the schedule begins with the machine, and each event is taken with its answer
-abbrev pub schedule_with : Option Figures → News → Option Figures
-schedule_with s (Opened rule size) = Some (opening (processors_in size))
-schedule_with (Some s) (Answered event answer m) = Some (after s event answer)
-schedule_with s news = s
+use Rattle.bq_timeline.specs.Watching.{schedule_after, watched}
 
 abbrev pub delay_of : ℕ → Option ℕ → List Delay
 delay_of task None = []
@@ -28,18 +22,12 @@ abbrev pub delays_with : Option Figures → News → List Delay
 delays_with (Some s) (Answered event answer m) = delay_at (change s event answer).start
 delays_with s news = []
 
--- all of them, one after another
-abbrev pub schedule_after : Option Figures → Told → Option Figures
-schedule_after s [] = s
-schedule_after s ((n, news) ∷ more) = schedule_after (schedule_with s news) more
-
 abbrev pub delays_after : Option Figures → Told → List Delay
 delays_after s [] = []
-delays_after s ((n, news) ∷ more) = delays_with s news ++ delays_after (schedule_with s news) more
+delays_after s ((n, news) ∷ more) = delays_with s news ++ delays_after (watched s news) more
 
--- the schedule and the delays of a simulation of that workload, with some policies
-pub record IsGathered (w : Workload) (schedule : Option Figures) (delays : List Delay) : Type 0 where
-  pub policies : List Accepted
+-- the schedule and the delays of a simulation of that workload with these policies
+pub record IsGathered (policies : List Accepted) (w : Workload) (schedule : Option Figures) (delays : List Delay) : Type 0 where
   pub told : Told
   pub simulation : IsSimulation policies w told
   pub schedule_is : schedule ≡ schedule_after None told

@@ -8,32 +8,32 @@ use Rattle.bq_comparison.specs.declared.runs.Run.{Run}
 use Rattle.bq_comparison.specs.declared.values.Delay.{Delay}
 use Rattle.bq_comparison.specs.Rows.{AreRows}
 use Rattle.bq_comparison.specs.Runs.{IsRunOf}
-use Rattle.bq_simulate.specs.Simulations.{with_seed}
+use Rattle.bq_simulate.specs.Simulations.{Accepted, with_seed}
 use Rattle.bq_comparison.specs.Gathering.{IsGathered}
 use Rattle.bq_simulate.specs.declared.fault.SimulateFault.{SimulateFault}
 
--- the figures of a simulation of that workload
-pub record IsRun (w : Workload) (figures : List Figure) (run : Run) : Type 0 where
+-- the figures of a simulation of that workload with these policies
+pub record IsRun (policies : List Accepted) (w : Workload) (figures : List Figure) (run : Run) : Type 0 where
   pub schedule : Figures
   pub delays : List Delay
-  pub gathered : IsGathered w (Some schedule) delays
+  pub gathered : IsGathered policies w (Some schedule) delays
   pub told : IsRunOf schedule delays figures run
 
 -- a run with each seed in turn, from that one on
-abbrev pub AreRuns : Workload → List Figure → ℕ → List Run → Type 0
-AreRuns w figures seed [] = Unit {0}
-AreRuns w figures seed (run ∷ runs) = IsRun (with_seed w seed) figures run × AreRuns w figures (seed + 1) runs
+abbrev pub AreRuns : List Accepted → Workload → List Figure → ℕ → List Run → Type 0
+AreRuns policies w figures seed [] = Unit {0}
+AreRuns policies w figures seed (run ∷ runs) = IsRun policies (with_seed w seed) figures run × AreRuns policies w figures (seed + 1) runs
 
 -- what the runs with so many seeds, from the workload's own on, say of each figure
-pub record IsSummary (w : Workload) (count : ℕ) (figures : List Figure) (rows : List Row) : Type 0 where
+pub record IsSummary (policies : List Accepted) (w : Workload) (count : ℕ) (figures : List Figure) (rows : List Row) : Type 0 where
   pub runs : List Run
   pub number : length runs ≡ count
-  pub runs_are : AreRuns w figures w.machine.seed runs
+  pub runs_are : AreRuns policies w figures w.machine.seed runs
   pub rows_are : AreRows runs figures rows
 
 -- what came of a run with each seed from that one on: its figures, where it came to its end
-abbrev pub AreResults : Workload → List Figure → ℕ → List (Result Run SimulateFault) → Type 0
-AreResults w figures seed results = (i : ℕ) (result : Result Run SimulateFault) → slice_get results i ≡ Some result → IfOk result (IsRun (with_seed w (seed + i)) figures)
+abbrev pub AreResults : List Accepted → Workload → List Figure → ℕ → List (Result Run SimulateFault) → Type 0
+AreResults policies w figures seed results = (i : ℕ) (result : Result Run SimulateFault) → slice_get results i ≡ Some result → IfOk result (IsRun policies (with_seed w (seed + i)) figures)
 
 -- each of them came to its end, and they stand behind those before
 abbrev pub Comes : List Run → List (Result Run SimulateFault) → List Run → Type 0

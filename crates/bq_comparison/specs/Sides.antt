@@ -1,9 +1,12 @@
 -- The two sides of a comparison.
-use Rattle.std.specs.Prelude.{ℕ, min, IfSome, sum_by}
+use Rattle.std.specs.Prelude.{◌≡◌, ℕ, min, List, Option, Some, None, option_map, sum_by}
+use Rattle.std.specs.Option.{IsSomeAnd}
 use Rattle.bq_words.specs.Sizes.{processors_in}
 use Rattle.bq_actions.specs.declared.workload.Workload.{Workload}
 use Rattle.bq_comparison.specs.declared.all.Extent.{Extent}
 use Rattle.bq_comparison.specs.Report.{figures_of_report}
+use Rattle.bq_simulate.specs.Simulations.{Accepted}
+use Rattle.bq_comparison.specs.declared.summing.Row.{Row}
 use Rattle.bq_comparison.specs.Seeds.{IsSummary}
 use Rattle.bq_comparison.specs.declared.sides.Sides.{Sides}
 
@@ -11,7 +14,12 @@ use Rattle.bq_comparison.specs.declared.sides.Sides.{Sides}
 abbrev pub extent_of : Workload → Extent
 extent_of w = record { tasks = min (sum_by (λ kind. kind.count) w.tasks.items) 65535; processors = processors_in w.machine.size }
 
--- each side tells of so many runs, and of all figures of the report
-pub record IsComparison (w : Workload) (seeds : ℕ) (sides : Sides) : Type 0 where
-  pub ours : IsSummary w seeds (figures_of_report (extent_of w)) sides.ours.items
-  pub theirs : IfSome sides.theirs (λ rows. IsSummary w seeds (figures_of_report (extent_of w)) rows.items)
+-- there is another side just where there are other policies, and it tells of so many runs with these
+abbrev pub AreTheirs : Option (List Accepted) → Workload → ℕ → Option (List Row) → Type 0
+AreTheirs None w seeds rows = rows ≡ None
+AreTheirs (Some others) w seeds rows = IsSomeAnd rows (IsSummary others w seeds (figures_of_report (extent_of w)))
+
+-- each side tells of so many runs with its policies, and of all figures of the report
+pub record IsComparison (policies : List Accepted) (others : Option (List Accepted)) (w : Workload) (seeds : ℕ) (sides : Sides) : Type 0 where
+  pub ours : IsSummary policies w seeds (figures_of_report (extent_of w)) sides.ours.items
+  pub theirs : AreTheirs others w seeds (option_map (λ rows. rows.items) sides.theirs)

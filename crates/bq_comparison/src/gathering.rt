@@ -1,6 +1,7 @@
 //! What is kept of one simulation.
 ghost use Rattle.std.specs.Prelude.{◌≡◌, ◌++◌, [], IfOk, None};
-ghost use Rattle.bq_comparison.specs.Gathering.{IsGathered, delays_with, schedule_with};
+ghost use Rattle.bq_comparison.specs.Gathering.{IsGathered, delays_with};
+ghost use Rattle.bq_timeline.specs.Watching.{watched};
 ghost use Rattle.bq_simulate.specs.Simulations.{with_seed};
 
 use crate::Delay;
@@ -36,7 +37,7 @@ impl Gatherer {
 }
 
 impl Sink for Gatherer {
-    ghost takes = { λ old n news new. (new.schedule ≡ schedule_with old.schedule news) × (new.delays.items ≡ old.delays.items ++ delays_with old.schedule news) };
+    ghost takes = { λ old n news new. (new.schedule ≡ watched old.schedule news) × (new.delays.items ≡ old.delays.items ++ delays_with old.schedule news) };
 
     fn opened(
         &mut self,
@@ -116,7 +117,7 @@ pub(crate) fn gather(
     seed: u64,
     policies: &[Policy],
 ) -> Result<Gatherer, SimulateFault>
-    ensures { IfOk result (λ g. IsGathered (with_seed workload.now seed) g.schedule g.delays.items) }
+    ensures { IfOk result (λ g. IsGathered policies.now (with_seed workload.now seed) g.schedule g.delays.items) }
 {
     let mut gatherer = Gatherer::new(alloc);
     simulate_seed(alloc, workload, seed, policies, &mut gatherer)?;

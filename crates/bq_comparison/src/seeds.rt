@@ -42,7 +42,7 @@ pub fn summary<T: Threads + Sync>(
     count: u16,
     figures: &[Figure],
 ) -> Result<Rows, SeedsFault>
-    ensures rows { IfOk result (λ rows. IsSummary workload.now count figures.now rows.items) }
+    ensures rows { IfOk result (λ rows. IsSummary policies.now workload.now count figures.now rows.items) }
     ensures last { result ≡ Err Last → 2 ^ 64 < workload.now.machine.seed + count }
 {
     let experiment = Experiment {
@@ -62,7 +62,7 @@ fn runs<T: Threads + Sync>(
     experiment: &Experiment<'_>,
     count: u16,
 ) -> Result<Vec<Run>, SeedsFault>
-    ensures runs { IfOk result (λ runs. AreRuns experiment.now.workload.now experiment.now.figures.now experiment.now.workload.now.machine.seed runs.items) }
+    ensures runs { IfOk result (λ runs. AreRuns experiment.now.policies.now experiment.now.workload.now experiment.now.figures.now experiment.now.workload.now.machine.seed runs.items) }
     ensures count { IfOk result (λ runs. vec_len runs ≡ count) }
     ensures last { result ≡ Err Last → 2 ^ 64 < experiment.now.workload.now.machine.seed + count }
 {
@@ -101,7 +101,7 @@ fn at_once<T: Threads + Sync>(
     first: u64,
     count: usize,
 ) -> Result<Results, AllocError>
-    ensures results { IfOk result (λ results. AreResults experiment.now.workload.now experiment.now.figures.now first results.items) }
+    ensures results { IfOk result (λ results. AreResults experiment.now.policies.now experiment.now.workload.now experiment.now.figures.now first results.items) }
     ensures count { IfOk result (λ results. vec_len results ≡ count) }
 {
     map_indices(
@@ -119,7 +119,7 @@ fn nth_run(
     first: u64,
     number: usize,
 ) -> Result<Run, SimulateFault>
-    ensures { IfOk result (IsRun (with_seed experiment.now.workload.now (first + number)) experiment.now.figures.now) }
+    ensures { IfOk result (IsRun experiment.now.policies.now (with_seed experiment.now.workload.now (first + number)) experiment.now.figures.now) }
 {
     let seed = first
         .checked_add(number as u64)
@@ -140,7 +140,7 @@ fn add_all(runs: &mut Vec<Run>, results: Results) -> Result<(), SeedsFault>
 
 /// One run, with this seed in place of the workload's own.
 fn run(alloc: Global, experiment: &Experiment<'_>, seed: u64) -> Result<Run, SimulateFault>
-    ensures { IfOk result (IsRun (with_seed experiment.now.workload.now seed) experiment.now.figures.now) }
+    ensures { IfOk result (IsRun experiment.now.policies.now (with_seed experiment.now.workload.now seed) experiment.now.figures.now) }
 {
     let Experiment {
         workload,

@@ -1,5 +1,5 @@
 //! The two sides of a comparison.
-ghost use Rattle.std.specs.Prelude.{◌≡◌, ◌↔◌, IfOk, IsSome};
+ghost use Rattle.std.specs.Prelude.{◌≡◌, IfOk, option_map};
 ghost use Rattle.bq_comparison.specs.Sides.{IsComparison, extent_of};
 
 use crate::{Extent, Rows, SeedsFault, all_figures, summary};
@@ -25,8 +25,7 @@ pub fn compare<T: Threads + Sync>(
     others: Option<&Policies>,
     seeds: u16,
 ) -> Result<Sides, SeedsFault>
-    ensures sides { IfOk result (IsComparison workload.now seeds) }
-    ensures theirs { IfOk result (λ sides. IsSome sides.theirs ↔ IsSome others.entry) }
+    ensures { IfOk result (IsComparison policies.now.loaded.items (option_map (λ p. p.now.loaded.items) others.entry) workload.now seeds) }
 {
     let figures = all_figures(alloc, extent_of(workload))?;
     let figures = figures.as_slice();

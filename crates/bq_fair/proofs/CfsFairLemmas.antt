@@ -7,13 +7,11 @@ use Rattle.bq_weights.specs.VirtualTime.{vdelta_of}
 use Rattle.bq_disc.specs.Tasks.{Task, with_id, runs_before, former}
 use Rattle.bq_disc.specs.Queues.{HasDistinctIds}
 use Rattle.bq_disc.specs.Discipline.{next_of}
-use Rattle.bq_disc.specs.Orders.{first_by-member}
 use Rattle.bq_disc.specs.OneProcessor.{Running, present_at, charge, decided, own_preempt, exchanged}
-use Rattle.bq_disc.proofs.SetLemmas.{with_id-Contains}
 use Rattle.bq_cfs.specs.Cfs.{cfs, least}
 use Rattle.bq_cfs.proofs.BoundLemmas.{weaker, none_below_least}
 use Rattle.bq_cfs.proofs.MoveLemmas.{each-with_id}
-use Rattle.bq_cfs.proofs.SpreadStayLemmas.{near_each, next_is_least}
+use Rattle.bq_cfs.proofs.SpreadStayLemmas.{least_is_found, near_each, next_is_least}
 use Rattle.bq_fair.specs.Histories.{ticked, history, rise, RisesByAtMost, task_at}
 use Rattle.bq_fair.proofs.PlaceLemmas.{idle, busy, current_present}
 use Rattle.bq_fair.proofs.TickLemmas.{Change, Stays, Runs, came, tick_keeps, charged_distinct}
@@ -24,13 +22,6 @@ use Rattle.bq_fair.proofs.SoundLemmas.{of_each, vdelta_of-le, IsWellFormed, rise
 -- a task is at most 1,000,000 beyond each of some
 abbrev pub IsNearEach : List Task → Task → Type 0
 IsNearEach xs m = AllByRecursion (λ t. m.v ≤ t.v + 1000000) xs
-
--- with distinct ids, the least task is the one of its id
-least_is_found : (x : Task) (xs : List Task) → HasDistinctIds (x ∷ xs) → (let m = former runs_before x (least xs) in with_id m.id (x ∷ xs) ≡ Some m)
-least_is_found x xs d =
-    let m = former runs_before x (least xs) in
-    let c = first_by-member runs_before (x ∷ xs) in
-    with_id-Contains (x ∷ xs) m c.0 d c.1 c.2
 
 started_near : (q : List Task) (kept last : ℕ) → HasDistinctIds q → IfSome (decided cfs (idle q kept last) None false).current (IsNearEach q)
 started_near [] kept last d = tt

@@ -16,7 +16,7 @@ spread-push (y ∷ ys) x =
     ∙ sym (append_assoc (Some y ∷ replicate (slots_of y - 1) None) (spread ys) _)
 
 -- an instruction has one slot or two
-one_or_two : (insn : Insn) → (slots_of insn ≡ 1) ⊎ (slots_of insn ≡ 2)
+pub one_or_two : (insn : Insn) → (slots_of insn ≡ 1) ⊎ (slots_of insn ≡ 2)
 one_or_two (Imm64 d v) = inr refl
 one_or_two (MapRef d i) = inr refl
 one_or_two _ = inl refl

@@ -1,6 +1,6 @@
 -- Under EEVDF whoever enters at a processor of the world is due within one slice from where it stands.
-use Rattle.std.proofs.Common.{◌≡◌, ℕ, ◌+◌, ◌≤◌, Bool, true, false, cond, List, [], ◌∷◌, ◌++◌, Option, Some, None, Result, Ok, Err, refl, sym, subst, arith}
-use Rattle.std.specs.Prelude.{ℤ, pos, negsuc, min, ◌==◌, ◌^◌, ◌-◌}
+use Rattle.std.proofs.Common.{◌≡◌, ℕ, ◌+◌, ◌≤◌, Bool, true, false, cond, List, [], ◌∷◌, ◌++◌, Option, Some, None, Result, Ok, Err, sym, subst, arith}
+use Rattle.std.specs.Prelude.{ℤ, pos, negsuc, ◌==◌, ◌^◌, ◌-◌}
 use Rattle.bq_weights.specs.VirtualTime.{vdelta_of, advance_of, shift_of, held_within}
 use Rattle.bq_disc.specs.Tasks.{Task, id_of}
 use Rattle.bq_disc.specs.OneProcessor.{Running, charge, marked}

@@ -6,7 +6,7 @@ use Rattle.bq_disc.specs.Tasks.{Task, with_id, place, present, id_of}
 use Rattle.bq_disc.specs.Discipline.{Discipline, woken, pulled, left_at}
 use Rattle.bq_disc.specs.OneProcessor.{Running, present_at, charge, marked}
 use Rattle.bq_bpf.specs.declared.board.Call.{Call as Asked}
-use Rattle.bq_fair.specs.Steps.{Step, Pass, Decide, Enter, Leave, Mark, stepped, after, IsNew, EachEntersNew}
+use Rattle.bq_fair.specs.Steps.{Step, Enter, stepped, after, IsNew, EachEntersNew}
 use Rattle.bq_fair.specs.Events.{entries}
 use Rattle.bq_hooks.specs.Permitted.{task_numbered}
 use Rattle.bq_parts.specs.declared.event.Event.{Event}
@@ -16,7 +16,7 @@ use Rattle.bq_parts.specs.declared.reply.Reply.TheVariants.{Blocked as Went, Pul
 use Rattle.bq_parts.specs.declared.refusal.Refusal.{Refusal}
 use Rattle.bq_parts.specs.Processors.{count_of, HasEachOnce}
 use Rattle.bq_parts.specs.Moves.{taken_from}
-use Rattle.bq_parts.specs.World.{World, processor, inbox, count_in}
+use Rattle.bq_parts.specs.World.{World, processor, inbox}
 use Rattle.bq_parts.specs.StandsOnce.{IsOrderly}
 use Rattle.bq_parts.specs.Choices.{policies, Decision}
 use Rattle.bq_parts.specs.Steps.{WorldStep}

@@ -1,47 +1,39 @@
 -- Each event of the world is some steps at each processor, and so is each history.
-use Rattle.std.proofs.Common.{◌≡◌, ◌≢◌, ℕ, ◌<◌, Bool, true, false, cond, List, [], ◌∷◌, ◌++◌, Option, Some, None, Result, Ok, Err, refl, ap, sym, subst, ◌∙◌, arith}
+use Rattle.std.proofs.Common.{◌≡◌, ◌≢◌, ℕ, ◌<◌, Bool, true, false, cond, List, [], ◌∷◌, ◌++◌, Option, Some, None, Ok, Err, refl, ap, sym, subst, ◌∙◌, arith}
 use Rattle.std.specs.Prelude.{ℤ, ◌==◌}
 use Rattle.std.specs.Option.{option_map_or}
 use Rattle.std.proofs.lemmas.List.{length-set, get_or-set_same, get_or-set_other}
 use Rattle.std.proofs.lemmas.Bool.Decides.{nat_tests}
-use Rattle.bq_disc.specs.Tasks.{Task, with_id, without, place}
+use Rattle.bq_disc.specs.Tasks.{Task, with_id}
 use Rattle.bq_disc.specs.Queues.{HasDistinctIds, can_use}
-use Rattle.bq_disc.specs.Discipline.{Discipline, pulled, left_at}
-use Rattle.bq_disc.specs.OneProcessor.{Running, present_at, charge, marked, enter_all, decided, own_preempt}
-use Rattle.bq_disc.specs.Movable.{is_movable_to}
+use Rattle.bq_disc.specs.Discipline.{Discipline}
+use Rattle.bq_disc.specs.OneProcessor.{Running, present_at, charge, marked, enter_all}
 use Rattle.bq_bpf.specs.declared.board.Call.{Call as Asked}
-use Rattle.bq_bpf.specs.declared.hook.Hook.{Hook}
-use Rattle.bq_verify.specs.Accepted.{Accepted}
-use Rattle.bq_hooks.specs.declared.settled.By.{By}
 use Rattle.bq_hooks.specs.declared.settled.By.TheVariants as who
 use Rattle.bq_hooks.specs.Contexts.{or_nobody}
 use Rattle.bq_hooks.specs.Permitted.{may_pull, task_numbered}
-use Rattle.bq_fair.specs.Steps.{Step, Pass, Decide, Enter, Leave, Mark, stepped, after}
+use Rattle.bq_fair.specs.Steps.{Step, Pass, Decide, stepped, after}
 use Rattle.bq_fair.specs.Events.{entries}
 use Rattle.bq_fair.proofs.EventLemmas.{events_are_steps}
-use Rattle.bq_parts.specs.declared.event.Event.{Event}
 use Rattle.bq_parts.specs.declared.event.Event.TheVariants.{Admit, Retire, Draw, Install, BeginWake, EndWake, Drain, Tick, Block, Pull}
 use Rattle.bq_parts.specs.declared.reply.Reply.{Reply}
-use Rattle.bq_parts.specs.declared.reply.Reply.TheVariants.{Admitted, Retired, Drawn, Installed, Begun, Placed, Drained, Ticked, Blocked as Went, Pulled as Moved}
 use Rattle.bq_parts.specs.declared.refusal.Refusal.{Refusal}
 use Rattle.bq_parts.specs.declared.refusal.Refusal.TheVariants as no
 use Rattle.bq_parts.specs.Processors.{Processor, opening}
 use Rattle.bq_parts.specs.declared.lobby_entry.LobbyEntry.{LobbyEntry}
 use Rattle.bq_parts.specs.Refusals.{either, argument_refusal, refusal}
-use Rattle.bq_parts.specs.World.{World, processor, inbox, seat, count_in, with_processor}
-use Rattle.bq_parts.specs.Moves.{after_leaving, taken_from, without_task, with_pulled, started_if_idle}
+use Rattle.bq_parts.specs.World.{World, processor, inbox, count_in, with_processor}
+use Rattle.bq_parts.specs.Moves.{taken_from, without_task, with_pulled, started_if_idle}
 use Rattle.bq_parts.specs.StandsOnce.{IsOrderly}
-use Rattle.bq_parts.specs.Choices.{policies, Decision, own_pull, decided_by}
+use Rattle.bq_parts.specs.Choices.{policies, Decision, own_pull}
 use Rattle.bq_parts.specs.Shares.{Ticks, Drains, Blocks, Pulls, after_time, remarked}
-use Rattle.bq_parts.specs.Steps.{WorldStep}
 use Rattle.bq_parts.proofs.CountLemmas.{each_once_queue, HasDistinctIds-from_counts}
 use Rattle.bq_parts.proofs.NumberTestLemmas.{differ_from_test}
 use Rattle.bq_parts.proofs.OnceLemmas.{each_once_running}
 use Rattle.bq_parts.proofs.PermittedLemmas.{settled_permitted, own_pull_permitted, may_pull_names}
 use Rattle.bq_core.proofs.OrderLemmas.{step_tidy, step_keeps, passed, there}
-use Rattle.bq_core.proofs.OnTheWayLemmas.{IsTidy}
-use Rattle.bq_passing.specs.Seen.{running_at, entry, begins, own_steps, leaving, steps_at, DecidesAlone, IsSeenAt, EventIsSteps, HistoryIsSteps}
-use Rattle.bq_passing.proofs.PassingLemmas.{discipline_passes, own_decision}
+use Rattle.bq_passing.specs.Seen.{running_at, entry, begins, own_steps, leaving, steps_at, DecidesAlone, EventIsSteps, HistoryIsSteps}
+use Rattle.bq_passing.proofs.PassingLemmas.{own_decision}
 
 -- What is read of a world after a processor was written
 

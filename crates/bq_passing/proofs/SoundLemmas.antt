@@ -1,14 +1,14 @@
 -- What every task of a world keeps: its weight is of the table's range, and where it is present a fact that the discipline keeps
 -- of each that enters and runs.
-use Rattle.std.proofs.Common.{◌≡◌, ℕ, zero, suc, ◌+◌, ◌-◌, ◌<◌, ◌≤◌, Bool, true, false, cond, List, [], ◌∷◌, ◌++◌, length, Option, Some, None, Result, Ok, Err, refl, ap, sym, subst, ◌∙◌, arith, get_or, set}
-use Rattle.std.specs.Prelude.{ℤ, pos, negsuc, ◌==◌, ◌||◌, ◌^◌, ◌%◌, nat_le, All, slice_index, replicate}
+use Rattle.std.proofs.Common.{◌≡◌, ℕ, zero, suc, ◌+◌, ◌-◌, ◌<◌, ◌≤◌, Bool, true, false, cond, List, [], ◌∷◌, ◌++◌, length, Option, Some, None, refl, ap, sym, subst, ◌∙◌, arith, set}
+use Rattle.std.specs.Prelude.{ℤ, pos, negsuc, ◌==◌, ◌||◌, ◌^◌, ◌%◌, nat_le, slice_index}
 use Rattle.std.specs.List.{AllByRecursion}
 use Rattle.std.specs.Option.{option_map}
 use Rattle.std.proofs.lemmas.Bool.Decides.{nat_tests}
 use Rattle.bq_weights.specs.VirtualTime.{IsWeight, weights, weight_of}
 use Rattle.bq_disc.specs.Tasks.{Task, has_id, with_id, without, place, present, runs_before, id_of}
 use Rattle.bq_disc.specs.Discipline.{Discipline, charged, woken, pulled, left_at, next_of}
-use Rattle.bq_disc.specs.OneProcessor.{Running, present_at, reading, charge, run_id, start, exchanged, switched, decided, entered, enter_all}
+use Rattle.bq_disc.specs.OneProcessor.{Running, present_at, charge, run_id, start, exchanged, decided, entered, enter_all}
 use Rattle.bq_bpf.specs.declared.board.Call.{Call as Asked}
 use Rattle.bq_parts.specs.declared.carried.Carried.{Carried}
 use Rattle.bq_parts.specs.declared.lobby_entry.LobbyEntry.{LobbyEntry}
@@ -20,12 +20,13 @@ use Rattle.bq_parts.specs.declared.refusal.Refusal.TheVariants as no
 use Rattle.bq_parts.specs.Processors.{Processor, opening}
 use Rattle.bq_parts.specs.Refusals.{refusal, argument_refusal, out_of_nice}
 use Rattle.bq_parts.specs.World.{World, opening_world, processor, inbox, seat, count_in, with_processor, with_inbox, with_seats}
-use Rattle.bq_parts.specs.Choices.{Regime, Decision, decided_by}
+use Rattle.bq_parts.specs.Choices.{Regime, Decision}
 use Rattle.bq_parts.specs.Moves.{taken_from, without_task, with_pulled, started_if_idle, admitted}
 use Rattle.bq_parts.specs.Shares.{Decides, after_time, remarked}
 use Rattle.bq_parts.specs.Steps.{Performs}
 use Rattle.bq_core.proofs.OrderLemmas.{passed}
 use Rattle.bq_core.proofs.EachProcessorLemmas.{at_set}
+use Rattle.bq_core.proofs.OnTheWayLemmas.{same_everywhere}
 use Rattle.bq_passing.proofs.SeenLemmas.{by_arguments}
 
 -- Lists of tasks
@@ -260,11 +261,6 @@ performs_sound s P k w (event.Pull cpu from now) calls r w' y free h =
     rw h.3 (sound_processor P (with_processor w cpu h.0) from h.1 one (rw x.1.4 (holds_taken P source.running _ there)) (rw x.1.4 (y.hand from)))
 
 -- The opening
-
-same_everywhere : {X : Type 0} (x : X) (n i : ℕ) → get_or (replicate n x) i x ≡ x
-same_everywhere x zero i = refl
-same_everywhere x (suc n) zero = refl
-same_everywhere x (suc n) (suc i) = same_everywhere x n i
 
 -- in the opening world, where no task is, any fact is kept of every task
 pub opening_sound : (P : Task → Type 0) (count : ℕ) → IsSoundWorld P (opening_world count)

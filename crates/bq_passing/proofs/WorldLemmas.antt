@@ -1,24 +1,22 @@
 -- Two tasks that stay at a processor of the world where the discipline alone decides are served in proportion.
-use Rattle.std.proofs.Common.{◌≡◌, ℕ, ◌+◌, ◌<◌, ◌≤◌, List, [], ◌∷◌, ◌++◌, length, Some, Result, refl, ap, sym, subst, ◌∙◌, arith}
-use Rattle.std.specs.Prelude.{◌^◌, max, replicate, All, Ok, Err}
+use Rattle.std.proofs.Common.{◌≡◌, ℕ, ◌+◌, ◌<◌, ◌≤◌, List, [], ◌∷◌, ◌++◌, Result, ap, subst, ◌∙◌, arith}
+use Rattle.std.specs.Prelude.{◌^◌, max, All, Ok, Err}
 use Rattle.std.proofs.lemmas.List.{length-replicate}
 use Rattle.bq_weights.specs.VirtualTime.{IsWeight, vdelta_of, held_within}
 use Rattle.bq_disc.specs.Tasks.{Task}
-use Rattle.bq_disc.specs.Queues.{HasDistinctIds}
 use Rattle.bq_disc.specs.Discipline.{Discipline, charged, woken, pulled}
-use Rattle.bq_disc.specs.OneProcessor.{Running, present_at}
+use Rattle.bq_disc.specs.OneProcessor.{present_at}
 use Rattle.bq_bpf.specs.declared.board.Call.{Call as Asked}
 use Rattle.bq_cfs.specs.Cfs.{cfs, held_above}
 use Rattle.bq_cfs.specs.Spread.{IsSound}
 use Rattle.bq_eevdf.specs.Eevdf.{eevdf}
-use Rattle.bq_fair.specs.Histories.{HasRoom, task_at}
+use Rattle.bq_fair.specs.Histories.{task_at}
 use Rattle.bq_fair.specs.EevdfDeadlines.{HasDeadlines}
-use Rattle.bq_fair.specs.Steps.{Step, Pass, Decide, Enter, Leave, Mark, after, EachEntersNew, EntersDue, DecidesWithin, StaysThroughout}
-use Rattle.bq_fair.specs.Events.{entries}
+use Rattle.bq_fair.specs.Steps.{Step, after, EachEntersNew, EntersDue}
 use Rattle.bq_fair.proofs.ListLemmas.{All-from_ids}
 use Rattle.bq_fair.proofs.SoundLemmas.{well_formed, each_has_room}
 use Rattle.bq_fair.proofs.DueLemmas.{IsDue, charged_due}
-use Rattle.bq_fair.proofs.NearThroughoutLemmas.{GotBy, got_by}
+use Rattle.bq_fair.proofs.NearThroughoutLemmas.{got_by}
 use Rattle.bq_fair.proofs.ThroughoutLemmas.{cfs_serves_throughout, eevdf_serves_throughout}
 use Rattle.bq_parts.specs.declared.event.Event.{Event}
 use Rattle.bq_parts.specs.declared.reply.Reply.{Reply}
@@ -32,7 +30,7 @@ use Rattle.bq_core.proofs.OrderLemmas.{opening_is_orderly, step_tidy, step_keeps
 use Rattle.bq_passing.specs.Seen.{running_at, steps_at, IsSeenAt}
 use Rattle.bq_passing.specs.WorldFairness.{CfsWorldServes, EevdfWorldServes}
 use Rattle.bq_passing.proofs.SeenLemmas.{distinct_at, event_is_steps, history_is_steps}
-use Rattle.bq_passing.proofs.SoundLemmas.{Each, each_found, IsKept, IsSoundWorld, holds_present, performs_sound, opening_sound}
+use Rattle.bq_passing.proofs.SoundLemmas.{each_found, IsKept, IsSoundWorld, holds_present, performs_sound, opening_sound}
 use Rattle.bq_passing.proofs.NewLemmas.{EachEntersNew-append, event_new}
 use Rattle.bq_passing.proofs.DueLemmas.{shift_ends, entered_due, EntersDue-append, event_due}
 

@@ -3,13 +3,12 @@ use Rattle.std.specs.Prelude.{◌≡◌, ℕ, List, [], ◌++◌, ◌||◌, ◌�
 use Rattle.std.specs.Char.{is_ascii_hexdigit}
 use Rattle.std.specs.List.{list_all}
 use Rattle.std.specs.declared.alloc.Global.{Global}
-use Rattle.bq_bpf.specs.Hooks.{hook_word}
 use Rattle.bq_insn.specs.declared.Insn.{Insn}
 use Rattle.bq_asm.specs.Text.{listing_text}
 use Rattle.bq_import.specs.Importing.{Imports}
 use Rattle.bq_policy_desk.specs.declared.import_settings.ImportSettings.{ImportSettings}
 use Rattle.bq_program.specs.HexText.{SpellsBytes, is_blank}
-use Rattle.bq_program.specs.MarkLines.{format_mark}
+use Rattle.bq_program.specs.MarkLines.{marks_text}
 
 -- a digit of hex, or a blank
 abbrev pub is_hex_byte : ℕ → Bool
@@ -26,7 +25,7 @@ maps_line (Some maps) = codes ";@ maps " ++ (string_bytes maps ++ codes "\n")
 
 -- the lines that say what the program is for: its hook, its maps if there are some, and its version if it is not the first
 abbrev pub settings_marks : ImportSettings → List ℕ
-settings_marks s = codes ";@ hook " ++ (hook_word s.form.hook ++ (codes "\n" ++ (maps_line s.maps ++ format_mark s.form.version)))
+settings_marks s = marks_text s.form.hook (maps_line s.maps) s.form.version
 
 -- the marks of what was asked for, and then the listing of what was imported for the bytes beside so many maps; no more
 pub record IsTextOf (settings : ImportSettings) (bytes text : List ℕ) : Type 0 where

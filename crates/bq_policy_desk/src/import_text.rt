@@ -2,14 +2,12 @@
 ghost use Rattle.std.specs.Prelude.{◌≡◌, ◌⊎◌, ℕ, IfOk, List};
 ghost use Rattle.std.specs.List.{list_all};
 ghost use Rattle.std.specs.String.{string_bytes};
-ghost use Rattle.bq_program.specs.HexText.{is_blank};
-ghost use Rattle.bq_program.specs.MarkLines.{format_mark};
 ghost use Rattle.bq_policy_desk.specs.ImportText.{IsSection, IsTextOf, is_hex_byte, maps_line, settings_marks};
 
 use crate::import_settings::ImportSettings;
 use bq_asm::listing;
 use bq_import::{ImportFault, import};
-use bq_program::{Version, bytes_of};
+use bq_program::{bytes_of, is_blank, marks_text};
 use std::alloc::{AllocError, AllocFailed, Global};
 use thiserror::Error;
 
@@ -78,10 +76,13 @@ fn imported_bytes(
 fn marks(alloc: Global, settings: &ImportSettings) -> Result<String, AllocError>
     ensures { IfOk result (λ text. string_bytes text ≡ settings_marks settings.now) }
 {
-    let hook = settings.form.hook.word();
     let maps = maps_line(alloc, &settings.maps)?;
-    let format = format_mark(settings.form.version);
-    format!(in alloc; ";@ hook {hook}\n{maps}{format}")
+    marks_text(
+        alloc,
+        settings.form.hook,
+        maps.as_str(),
+        settings.form.version,
+    )
 }
 
 /// The line that names the maps, if there are some.
@@ -91,16 +92,6 @@ fn maps_line(alloc: Global, maps: &Option<String>) -> Result<String, AllocError>
     match maps {
         None => Ok(String::new(alloc)),
         Some(maps) => format!(in alloc; ";@ maps {maps}\n"),
-    }
-}
-
-/// The line that names the version, if it is not the first.
-fn format_mark(version: Version) -> &'static str
-    ensures { result.now ≡ format_mark version }
-{
-    match version {
-        Version::First => "",
-        Version::Second => ";@ format 2\n",
     }
 }
 
@@ -116,11 +107,4 @@ fn is_hex_byte(byte: u8) -> bool
     ensures { result ≡ is_hex_byte byte }
 {
     byte.is_ascii_hexdigit() || is_blank(byte)
-}
-
-/// A space, a tab, or a part of a line's end.
-fn is_blank(byte: u8) -> bool
-    ensures { result ≡ is_blank byte }
-{
-    byte == b' ' || byte == b'\t' || byte == b'\r' || byte == b'\n'
 }

@@ -3,6 +3,7 @@ use Rattle.std.specs.Prelude.{◌≡◌, ℕ, List, [], ◌∷◌, ◌++◌, cod
 use Rattle.std.specs.Fmt.{decimal}
 use Rattle.bq_bpf.specs.declared.shape.MapShape.{MapShape}
 use Rattle.bq_bpf.specs.Hooks.{hook_word}
+use Rattle.bq_bpf.specs.declared.hook.Hook.{Hook}
 use Rattle.bq_bpf.specs.declared.hook.Version.{Version}
 use Rattle.bq_bpf.specs.declared.hook.Version.TheVariants.{First, Second}
 use Rattle.bq_program.specs.declared.policy.Policy.{Policy}
@@ -25,6 +26,10 @@ abbrev pub format_mark : Version → List ℕ
 format_mark First = []
 format_mark Second = codes ";@ format 2\n"
 
+-- the lines that say a hook and a version, with this line of maps between
+abbrev pub marks_text : Hook → List ℕ → Version → List ℕ
+marks_text hook maps version = codes ";@ hook " ++ (hook_word hook ++ (codes "\n" ++ (maps ++ format_mark version)))
+
 -- the lines that say what a policy is: its hook, its maps if there are some, and its version if it is not the first
 abbrev pub AreMarks : Policy → List ℕ → Type 0
-AreMarks p text = text ≡ codes ";@ hook " ++ (hook_word p.hook ++ (codes "\n" ++ (maps_mark p.shapes.items ++ format_mark p.version)))
+AreMarks p text = text ≡ marks_text p.hook (maps_mark p.shapes.items) p.version

@@ -27,7 +27,7 @@ fn digits_in(alloc: Global, text: &[u8]) -> Result<Vec<u8>, AllocError>
 }
 
 /// A space, a tab, or a part of a line's end.
-fn is_blank(byte: u8) -> bool
+pub fn is_blank(byte: u8) -> bool
     ensures { result ≡ is_blank byte }
 {
     byte == b' ' || byte == b'\t' || byte == b'\r' || byte == b'\n'

@@ -1,19 +1,31 @@
 //! The marks that say what a policy is.
 ghost use Rattle.std.specs.Prelude.{◌≡◌, IfOk, string_bytes};
-ghost use Rattle.bq_program.specs.MarkLines.{AreMarks, format_mark, maps_mark, more_maps};
+ghost use Rattle.bq_program.specs.MarkLines.{AreMarks, format_mark, maps_mark, marks_text, more_maps};
 
 use crate::Policy;
 use bq_bpf::MapShape;
-use bq_load::Version;
+use bq_load::{Hook, Version};
 use std::alloc::{AllocError, Global};
 
 /// The lines that say the hook of a policy, its maps if it has some, and its version if that is not the first.
 pub fn marks(alloc: Global, policy: &Policy) -> Result<String, AllocError>
     ensures { IfOk result (λ text. AreMarks policy.now (string_bytes text)) }
 {
-    let hook = policy.hook.word();
     let maps = maps_mark(alloc, policy.shapes.as_slice())?;
-    let format = format_mark(policy.version);
+    marks_text(alloc, policy.hook, maps.as_str(), policy.version)
+}
+
+/// The lines that say a hook, and a version if it is not the first, with a line of maps between, or none.
+pub fn marks_text(
+    alloc: Global,
+    hook: Hook,
+    maps: &str,
+    version: Version,
+) -> Result<String, AllocError>
+    ensures { IfOk result (λ text. string_bytes text ≡ marks_text hook maps.now version) }
+{
+    let hook = hook.word();
+    let format = format_mark(version);
     format!(in alloc; ";@ hook {hook}\n{maps}{format}")
 }
 
@@ -45,6 +57,7 @@ pub fn more_maps(alloc: Global, shapes: &[MapShape]) -> Result<String, AllocErro
     Ok(text)
 }
 
+/// The line that says the version, if it is not the first.
 fn format_mark(version: Version) -> &'static str
     ensures { result.now ≡ format_mark version }
 {

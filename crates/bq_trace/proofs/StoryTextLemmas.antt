@@ -26,7 +26,8 @@ use Rattle.bq_trace.specs.declared.progress.Progress.{Progress}
 use Rattle.bq_trace.specs.declared.trace_position.TracePosition.{TracePosition}
 use Rattle.bq_trace.proofs.TakingLemmas.{texts-append, added_by}
 
-happens_text : (m k : Driven) (n : ℕ) (event : Event) (answer : Result Reply Refusal) (told : Told) → Happens m n event answer told k → DoesAndAnswers m event answer (texts told) k
+-- an event that happens is done and answered
+pub happens_text : (m k : Driven) (n : ℕ) (event : Event) (answer : Result Reply Refusal) (told : Told) → Happens m n event answer told k → DoesAndAnswers m event answer (texts told) k
 happens_text m k n event answer told h = record {
   same_rule = h.moves.same_rule;
   step = record { calls = h.moves.step.calls; step = h.moves.step.step; through = h.moves.step.through; answered = h.answered };

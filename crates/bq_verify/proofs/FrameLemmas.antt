@@ -16,6 +16,7 @@ use Rattle.bq_bpf.specs.Steps.{instruction_at}
 use Rattle.bq_graph.specs.declared.cause.GraphCause.TheVariants.{Frame}
 use Rattle.bq_graph.specs.Faults.{IsFaultless, destination_of}
 use Rattle.bq_graph.proofs.EdgeLemmas.{some_same, some_none}
+use Rattle.bq_graph.proofs.SpreadLemmas.{one_or_two}
 use Rattle.bq_verify.specs.Control.{SparesFrame}
 
 -- each instruction of a well-formed program is in range
@@ -33,11 +34,6 @@ behind_none slots rest (suc k) insn here = rest k insn here
 behind_some : (first : Insn) (slots : List (Option Insn)) → is_insn first ≡ true → AreInsns slots → AreInsns (Some first ∷ slots)
 behind_some first slots good rest zero insn here = subst (λ (i : Insn). is_insn i ≡ true) (some_same _ _ _ refl here) good
 behind_some first slots good rest (suc k) insn here = rest k insn here
-
-one_or_two : (insn : Insn) → (slots_of insn ≡ 1) ⊎ (slots_of insn ≡ 2)
-one_or_two (Imm64 d v) = inr refl
-one_or_two (MapRef d i) = inr refl
-one_or_two _ = inl refl
 
 behind : (first : Insn) (slots : List (Option Insn)) → is_insn first ≡ true → AreInsns slots → (slots_of first ≡ 1) ⊎ (slots_of first ≡ 2) → AreInsns ((Some first ∷ replicate (slots_of first - 1) None) ++ slots)
 behind first slots good rest (inl one) =

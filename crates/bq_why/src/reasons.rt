@@ -4,7 +4,7 @@ ghost use Rattle.bq_disc.specs.Tasks.{with_id};
 ghost use Rattle.bq_why.specs.Reasons.{reason_of, cfs_reason_of, least_reason_of, eevdf_reason_of};
 
 use crate::choices::choice;
-use bq_bounds::GRANULARITY;
+use bq_cfs::GRANULARITY;
 use bq_disc::Entity;
 use bq_hooks::By;
 use bq_words::Rule;

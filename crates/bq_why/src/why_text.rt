@@ -6,7 +6,7 @@ use crate::presence::present;
 use crate::reasons::{Reason, why};
 use crate::table::{Row, rows};
 use crate::words_of::{Ids, Lag, Virtual, Who};
-use bq_bounds::GRANULARITY;
+use bq_cfs::GRANULARITY;
 use bq_core::{By, Event, Hook, Reply};
 use bq_forms::{Millis, Names, Window};
 use bq_schedule::Change;

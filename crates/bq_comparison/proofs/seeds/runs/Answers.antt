@@ -13,6 +13,6 @@ numbers-preserved g c =
     let count : length after ≡ length before + length results = Comes-count before after results comes in
     let wave : length before + length results ≤ c.from-count.result = search (rules, arith) in
     record {
-      runs_are = AreRuns-come w c.args.experiment.now.figures.now w.machine.seed _ before after results next c.numbers.invariant.runs_are c.in_ok-results.ensures.results comes;
+      runs_are = AreRuns-come c.args.experiment.now.policies.now w c.args.experiment.now.figures.now w.machine.seed _ before after results next c.numbers.invariant.runs_are c.in_ok-results.ensures.results comes;
       low = omega (arith, count, wave);
     }

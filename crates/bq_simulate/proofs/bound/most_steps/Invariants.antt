@@ -1,9 +1,0 @@
-use Rattle.std.proofs.Common.{◌≡◌, ◌^◌, ◌-◌, min, take}
-use Rattle.bq_simulate.specs.Bounds.{steps_of_tasks, tasks_in}
-use Rattle.bq_simulate.proofs.bound.most_steps.Given as goal
-
-abbrev pub invariant-kinds : goal.invariant-kinds
-invariant-kinds l = record {
-  units : l.units ≡ min (steps_of_tasks l.workload.tasks.items (take l.kind-index l.workload.tasks.items)) (2 ^ 64 - 1);
-  tasks : l.tasks ≡ min (tasks_in (take l.kind-index l.workload.tasks.items)) (2 ^ 64 - 1);
-}

@@ -1,6 +1,0 @@
-use Rattle.std.proofs.Common.{◌≡◌, ◌<◌, ℕ, false}
-use Rattle.bq_hooks.specs.OwnPlace.{allows}
-use Rattle.bq_simulate.proofs.sound.first_of_mask.Given as goal
-
-abbrev pub invariant-processors : goal.invariant-processors
-invariant-processors l = (lower : ℕ) → lower < l.processor → allows l.mask lower ≡ false
