@@ -14,13 +14,11 @@ ghost use Rattle.bq_parts.specs.Processors.{opening, load_of, size_of, count_of,
 ghost use Rattle.bq_parts.specs.Moves.{taken_from, without_task, with_pulled, started_if_idle};
 
 use crate::{Carried, Hook, Hooks, Inbox, Installed, Unlinked};
+use bq_disc::clock::LATEST;
 use bq_disc::node::{self, Link};
 use bq_disc::{Entry, Node, RunQueue};
 use bq_policies::Done;
 use std::marker::Model;
-
-/// Clock readings count as at most this.
-const LATEST: u64 = (1 << 48) - 1;
 
 /// A processor. Each of its calls is its share of an event's step.
 #[derive(Drop)]

@@ -5,13 +5,11 @@ use bq_bpf::Call;
 use bq_cells::{event_again, is_same_answer};
 use bq_core::{Board, Core, Event, Hook, Plain, Refusal, Reply};
 use bq_disc::RunQueue;
+use bq_disc::clock::LATEST;
 use bq_machine::Closed;
 use bq_trace::shows::write_processor;
 use std::alloc::Global;
 use std::process::Abort;
-
-/// The greatest reading of a clock.
-const LATEST: u64 = (1 << 48) - 1;
 
 /// A board that answers what a record tells.
 #[derive(Drop)]

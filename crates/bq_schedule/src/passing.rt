@@ -7,9 +7,7 @@ use crate::change::{Change, Reading, Start};
 use crate::figures::{ProcessorFigures, TaskFigures};
 use crate::schedule::{PARTS, Schedule};
 use crate::slice::Slice;
-
-/// The greatest reading of a clock.
-const LATEST: u64 = (1 << 48) - 1;
+use bq_disc::clock::LATEST;
 
 impl Schedule {
     /// The clock of a processor is read.

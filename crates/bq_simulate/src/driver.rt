@@ -5,13 +5,11 @@ ghost use Rattle.bq_trace.specs.News.{Gets};
 
 use crate::drive_fault::DriveFault;
 use bq_core::{Event, Refusal, Reply};
+use bq_disc::clock::LATEST;
 use bq_trace::bare::bare;
 use bq_trace::{AnyCore, Sink};
 use bq_words::{ProcessorCount, Rule};
 use std::alloc::Global;
-
-/// The latest reading of a clock: 2^48 - 1 nanoseconds.
-const LATEST: u64 = 281_474_976_710_655;
 
 /// A machine, the number of the last line of its trace, and the last reading that was given to a clock.
 #[derive(Drop)]
