@@ -95,7 +95,7 @@ fn machine_words(operands: &[u8]) -> Option<(Rule, ProcessorCount)>
     let (second, rest) = next_word(rest)?;
     end_of_words(rest)?;
     let rule = Rule::of_word(first)?;
-    let size = ProcessorCount::of_number(numbers::processor(second)?)?;
+    let size = numbers::size(second)?;
     Some((rule, size))
 }
 

@@ -1,8 +1,9 @@
 //! The numbers that words write.
 ghost use Rattle.std.specs.Prelude.{◌≡◌};
+ghost use Rattle.bq_lines.specs.Lines.{size_of};
 ghost use Rattle.bq_lines.specs.Numbers.{decimal_of, processor_of, task_of, mask_of, nice_of};
 
-use bq_words::number;
+use bq_words::{ProcessorCount, number};
 
 /// A generation, a slice or a clock reading: decimal, below 2^64.
 pub fn decimal(word: &[u8]) -> Option<u64>
@@ -16,6 +17,13 @@ pub fn processor(word: &[u8]) -> Option<u8>
     ensures { result ≡ processor_of word.now }
 {
     u8::try_from(decimal(word)?).ok()
+}
+
+/// How many processors a machine has: decimal, one of 1, 2, 4, 8, 16, 32 and 64.
+pub fn size(word: &[u8]) -> Option<ProcessorCount>
+    ensures { result ≡ size_of word.now }
+{
+    ProcessorCount::of_number(processor(word)?)
 }
 
 /// A task: decimal, below 2^16.

@@ -28,8 +28,8 @@ pub fn processors(word: &[u8]) -> Option<u64>
     }
 }
 
-/// The part before the first comma, and what is behind it.
-fn first_part(word: &[u8]) -> Option<(&[u8], &[u8])>
+/// The part before the first comma, and what is behind it. None where there is no comma.
+pub fn first_part(word: &[u8]) -> Option<(&[u8], &[u8])>
     ensures some { IfSome result (λ p. slice_split is_comma word.now ≡ p.0.now ∷ slice_split is_comma p.1.now) }
     ensures less { IfSome result (λ p. length p.1.now < length word.now) }
     ensures none { IfNone result (slice_split is_comma word.now ≡ word.now ∷ []) }

@@ -1,4 +1,3 @@
 pub mod NoteLemmas
-pub mod TaskLemmas
 pub mod TimeLemmas
 pub mod WatchLemmas

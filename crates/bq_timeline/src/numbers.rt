@@ -1,10 +1,9 @@
 //! Times, tasks and widths as words.
-ghost use Rattle.std.specs.Prelude.{◌≡◌, ◌<◌, [], ◌∷◌, IfNone, IfOk, IfSome, length, option_map, position};
-ghost use Rattle.std.specs.List.{slice_split};
-ghost use Rattle.bq_lines.specs.ProcessorSets.{is_comma};
+ghost use Rattle.std.specs.Prelude.{◌≡◌, ◌<◌, IfOk, IfSome, length, option_map, position};
 ghost use Rattle.bq_timeline.specs.Settings.{amount_of, ends_number, fraction_of, is_point, tasks_of, time_of, width_of};
 
 use bq_lines::numbers::{decimal, task};
+use bq_lines::processor_sets::first_part;
 use bq_words::nanoseconds;
 use std::alloc::{AllocError, Global};
 
@@ -96,32 +95,18 @@ pub fn tasks(alloc: Global, word: &str) -> Result<Option<Vec<u16>>, AllocError>
 {
     let mut tasks = Vec::new(alloc);
     let mut rest = word.as_bytes();
-    while let Some(end) = comma(rest) {
-        match task(&rest[..end]) {
+    while let Some((part, more)) = first_part(rest) {
+        match task(part) {
             Some(number) => tasks.push(number)?,
             None => return Ok(None),
         }
-        rest = &rest[end + 1..];
+        rest = more;
     }
     match task(rest) {
         Some(number) => tasks.push(number)?,
         None => return Ok(None),
     }
     Ok(Some(tasks))
-}
-
-/// Where the first comma is.
-fn comma(word: &[u8]) -> Option<usize>
-    ensures value { result ≡ position is_comma word.now }
-    ensures within { IfSome result (λ end. end < length word.now) }
-{
-    word.iter().position(|byte| is_comma(*byte))
-}
-
-fn is_comma(byte: u8) -> bool
-    ensures { result ≡ is_comma byte }
-{
-    byte == b','
 }
 
 /// The columns that a word asks for: from 20 to 10,000.
