@@ -1,8 +1,8 @@
 //! What was found for an option.
-ghost use Rattle.std.specs.Prelude.{◌≡◌, ◌↔◌, ℕ, List, IsTrue, Some, IfOk, codes, option_map};
+ghost use Rattle.std.specs.Prelude.{◌≡◌, ◌↔◌, ℕ, List, [], IsTrue, Some, IfOk, codes, map, option_map, unwrap_or};
 ghost use Rattle.std.specs.Borrow.{Bor};
 ghost use Rattle.std.specs.String.{string_bytes};
-ghost use Rattle.clap.specs.Words.{first_of, found_of, rows_of};
+ghost use Rattle.clap.specs.Words.{all_of, first_of, found_of, rows_of};
 
 use clap::ArgMatches;
 use std::alloc::{AllocError, Global};
@@ -43,12 +43,22 @@ pub fn all_words(
     alloc: Global,
     matches: &ArgMatches<'_>,
     option: &str,
-) -> Result<Vec<String>, AllocError> {
+) -> Result<Vec<String>, AllocError>
+    ensures { IfOk result (λ all. map (λ t. string_bytes t) all.items ≡ unwrap_or (all_of option.now (rows_of (found_of matches.now))) []) }
+{
+    match matches.get_strs(option) {
+        Some(words) => texts_of(alloc, words),
+        None => Ok(Vec::new(alloc)),
+    }
+}
+
+/// Texts of their own with these words, in their order.
+fn texts_of(alloc: Global, words: &[&str]) -> Result<Vec<String>, AllocError>
+    ensures { IfOk result (λ all. map (λ t. string_bytes t) all.items ≡ map (λ w. w.now) words.now) }
+{
     let mut all = Vec::new(alloc);
-    if let Some(words) = matches.get_strs(option) {
-        for word in words {
-            all.push(String::from_str(alloc, *word)?)?;
-        }
+    'words: for word in words {
+        all.push(String::from_str(alloc, *word)?)?;
     }
     Ok(all)
 }

@@ -1,3 +1,4 @@
 pub mod Asked
+pub mod ImportAsked
 pub mod ImportText
 pub mod Status

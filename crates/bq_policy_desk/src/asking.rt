@@ -2,7 +2,7 @@
 ghost use Rattle.std.specs.Prelude.{◌≡◌, IfOk, codes};
 ghost use Rattle.clap.specs.Words.{first_of, found_of, rows_of};
 ghost use Rattle.bq_policy_commands.specs.Saying.{option_bytes};
-ghost use Rattle.bq_policy_desk.specs.Asked.{AreCheckWords, AreListWords, ArePolicyWords, AreRunWords, AreTellingWords};
+ghost use Rattle.bq_policy_desk.specs.Asked.{AreAll, AreCheckWords, AreListWords, ArePolicyWords, AreRunWords, AreTellingWords};
 
 use crate::commands::program;
 use bq_options::{WordsFault, all_words, found_in, is_set, word};
@@ -111,7 +111,11 @@ fn moment_words(
 fn begun_with(
     alloc: Global,
     matches: &ArgMatches<'_>,
-) -> Result<(Vec<String>, Vec<String>, Vec<String>), AllocError> {
+) -> Result<(Vec<String>, Vec<String>, Vec<String>), AllocError>
+    ensures fields { IfOk result (λ w. AreAll (codes "set") (rows_of (found_of matches.now)) w.0.items) }
+    ensures entries { IfOk result (λ w. AreAll (codes "map") (rows_of (found_of matches.now)) w.1.items) }
+    ensures counters { IfOk result (λ w. AreAll (codes "counter") (rows_of (found_of matches.now)) w.2.items) }
+{
     let fields = all_words(alloc, matches, "set")?;
     let entries = all_words(alloc, matches, "map")?;
     let counters = all_words(alloc, matches, "counter")?;

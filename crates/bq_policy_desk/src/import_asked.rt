@@ -1,4 +1,7 @@
 //! The words after `import`.
+ghost use Rattle.std.specs.Prelude.{◌≡◌, IfErr, IfOk, map, true};
+ghost use Rattle.clap.specs.Words.{found_of, rows_of, takes};
+ghost use Rattle.bq_policy_desk.specs.Asked.{AreImportWords};
 
 use crate::import_settings::ImportWords;
 use bq_options::{CommandText, Given, OptionText, WordsFault, matches_of, texts, word};
@@ -40,7 +43,9 @@ pub fn import_words<'a>(alloc: Global, given: &'a [&'a str]) -> Result<ImportWor
 }
 
 /// The words that were found.
-fn found(alloc: Global, matches: &ArgMatches<'_>) -> Result<ImportWords, AllocError> {
+fn found(alloc: Global, matches: &ArgMatches<'_>) -> Result<ImportWords, AllocError>
+    ensures { IfOk result (AreImportWords (rows_of (found_of matches.now))) }
+{
     let file = word(alloc, matches, "file")?;
     let hook = match word(alloc, matches, "hook")? {
         Some(hook) => hook,

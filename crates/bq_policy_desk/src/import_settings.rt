@@ -1,6 +1,11 @@
 //! What the words after `import` ask for.
+ghost use Rattle.std.specs.Prelude.{◌≡◌, None, Some, IfErr, IfOk, string_bytes};
+ghost use Rattle.bq_bpf.specs.Hooks.{hook_of};
+ghost use Rattle.bq_policy_commands.specs.Saying.{option_bytes};
+ghost use Rattle.bq_policy_desk.specs.ImportAsked.{AskFor, HasFault, version_in};
+ghost use Rattle.bq_policy_desk.specs.declared.import_settings.ImportSettingsFault.TheVariants.{OutOfMemory};
 
-use bq_program::{Form, Hook, ImageForm, Options, OptionsFault, Version};
+use bq_program::{Hook, ImageForm, Version, shapes_of};
 use std::alloc::{AllocError, Global};
 use thiserror::Error;
 
@@ -28,6 +33,8 @@ pub enum ImportSettingsFault {
 }
 
 impl From<AllocError> for ImportSettingsFault {
+    ghost from_gives = { λ _ e. e ≡ OutOfMemory };
+
     fn from(_e: AllocError) -> ImportSettingsFault {
         ImportSettingsFault::OutOfMemory
     }
@@ -43,47 +50,59 @@ pub struct ImportSettings {
 }
 
 impl ImportSettings {
-    /// What the words ask for.
-    pub fn of(alloc: Global, words: &ImportWords) -> Result<ImportSettings, ImportSettingsFault> {
+    /// What the words ask for. Of several faults the first is told: of the hook, of the format, of the maps.
+    pub fn of(alloc: Global, words: &ImportWords) -> Result<ImportSettings, ImportSettingsFault>
+        ensures asked { IfOk result (AskFor words.now) }
+        ensures fault { IfErr result (HasFault words.now) }
+    {
         let hook = hook_in(words)?;
-        let format = format_in(words)?;
-        let options = Options {
-            hook: Some(hook),
-            maps: copy_of(alloc, &words.maps)?,
-            format,
+        let version = version_in(words)?;
+        let shapes = match &words.maps {
+            None => Vec::new(alloc),
+            Some(text) => match shapes_of(alloc, text.as_bytes())? {
+                Some(shapes) => shapes,
+                None => return Err(ImportSettingsFault::Maps),
+            },
+        };
+        let form = ImageForm {
+            hook,
+            shapes,
+            version,
         };
         let maps = copy_of(alloc, &words.maps)?;
-        match options.form(alloc) {
-            Ok(Form::Image(form)) => Ok(ImportSettings { form, maps }),
-            Ok(Form::Program) => Err(ImportSettingsFault::Hook),
-            Err(OptionsFault::Maps) => Err(ImportSettingsFault::Maps),
-            Err(OptionsFault::Format) => Err(ImportSettingsFault::Format),
-            Err(OptionsFault::OutOfMemory) => Err(ImportSettingsFault::OutOfMemory),
-        }
+        Ok(ImportSettings { form, maps })
     }
 }
 
 /// The hook that the words name.
-fn hook_in(words: &ImportWords) -> Result<Hook, ImportSettingsFault> {
+fn hook_in(words: &ImportWords) -> Result<Hook, ImportSettingsFault>
+    ensures ok { IfOk result (λ hook. hook_of (string_bytes words.now.hook) ≡ Some hook) }
+    ensures err { IfErr result (HasFault words.now) }
+{
     match Hook::of_word(words.hook.as_bytes()) {
         Some(hook) => Ok(hook),
         None => Err(ImportSettingsFault::Hook),
     }
 }
 
-/// The format that the words name, if they do.
-fn format_in(words: &ImportWords) -> Result<Option<Version>, ImportSettingsFault> {
+/// The version that the words name; the first without a word for it.
+fn version_in(words: &ImportWords) -> Result<Version, ImportSettingsFault>
+    ensures ok { IfOk result (λ version. version_in (option_bytes words.now.format) ≡ Some version) }
+    ensures none { IfErr result (λ e. (e ≡ ImportSettingsFault.Format) × (version_in (option_bytes words.now.format) ≡ None)) }
+{
     let Some(word) = &words.format else {
-        return Ok(None);
+        return Ok(Version::First);
     };
     match Version::of_word(word.as_bytes()) {
-        Some(version) => Ok(Some(version)),
+        Some(version) => Ok(version),
         None => Err(ImportSettingsFault::Format),
     }
 }
 
 /// The same text once more, if there is one.
-fn copy_of(alloc: Global, text: &Option<String>) -> Result<Option<String>, AllocError> {
+fn copy_of(alloc: Global, text: &Option<String>) -> Result<Option<String>, AllocError>
+    ensures { IfOk result (λ copy. option_bytes copy ≡ option_bytes text.now) }
+{
     match text {
         None => Ok(None),
         Some(text) => Ok(Some(String::from_str(alloc, text.as_str())?)),
