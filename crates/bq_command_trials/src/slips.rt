@@ -16,7 +16,7 @@ fn explained(alloc: Global, text: &str) -> Result<Explained, Fail> {
 }
 
 /// What a policy's text is, and what its explanation says: the first line, and words of the others.
-static REFUSED: [(&str, &str, &str, &str); 18] = [
+static REFUSED: [(&str, &str, &str, &str); 19] = [
     // r1 after a call
     (
         ";@ hook preempt\ncall 5\nldxw r0, [r1+48]\nexit\n",
@@ -100,6 +100,13 @@ static REFUSED: [(&str, &str, &str, &str); 18] = [
         "refused L8 V5 0\n",
         "reads 4 bytes at context + 104; the context of place, version 1, has 104 bytes",
         "or format 2, whose context has 296 bytes",
+    ),
+    // no format lets a policy write its context
+    (
+        ";@ hook place\nmov64 r0, 0\nstxw [r1+104], r0\nexit\n",
+        "refused L8 V5 1\n",
+        "writes 4 bytes at context + 104; the context is only read",
+        "  helps: write to the stack, at r10 - 8 or below, or to an entry of a map, which stays for the next call\n",
     ),
     // the last 4 of the 296 bytes of format 2: 292 + 4 is 296
     (

@@ -1,6 +1,6 @@
 //! What helps against each cause, in one sentence.
 use bq_bpf::{Hook, Version, context_length};
-use bq_insn::Insn;
+use bq_insn::{Insn, Size};
 use bq_needs::reads;
 use bq_program::Policy;
 use bq_states::abstract_state::{AbstractState, AbstractValue, Kind};
@@ -93,9 +93,16 @@ fn access_advice(policy: &Policy, view: &AbstractState, insn: Insn) -> &'static 
     }
 }
 
-/// What helps with the context; format 2 only where the whole access would be in its longer one.
+/// What helps with the context, which is only read; format 2 only where all that is loaded would be in its longer one.
 fn context_advice(policy: &Policy, pointer: AbstractValue, insn: Insn) -> &'static str {
-    match (policy.hook, policy.version, is_in_second(pointer, insn)) {
+    let Insn::Load { size, off, .. } = insn else {
+        return "write to the stack, at r10 - 8 or below, or to an entry of a map, which stays for the next call";
+    };
+    match (
+        policy.hook,
+        policy.version,
+        is_in_second(pointer, size, off),
+    ) {
         (Hook::Place, Version::First, true) => {
             "a smaller mask or a test (jgt64) before the address is made, or format 2, whose context has 296 bytes; docs/CONTEXTS.md has the fields"
         }
@@ -105,14 +112,8 @@ fn context_advice(policy: &Policy, pointer: AbstractValue, insn: Insn) -> &'stat
     }
 }
 
-/// Whether all bytes of the access are in the context of format 2's place policies, with each address that its pointer may have.
-fn is_in_second(pointer: AbstractValue, insn: Insn) -> bool {
-    let (size, off) = match insn {
-        Insn::Load { size, off, .. }
-        | Insn::StoreImm { size, off, .. }
-        | Insn::StoreReg { size, off, .. } => (size, off),
-        _ => return false,
-    };
+/// Whether all bytes of a load are in the context of format 2's place policies, with each address that its pointer may have.
+fn is_in_second(pointer: AbstractValue, size: Size, off: i16) -> bool {
     let further = i64::from(off).cast_unsigned();
     let lo = pointer.offset.lo.wrapping_add(further);
     let hi = pointer.offset.hi.wrapping_add(further);
