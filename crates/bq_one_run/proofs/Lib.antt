@@ -1,7 +1,9 @@
 mod FieldLemmas
-mod InTurnLemmas
+pub mod InTurnLemmas
 mod MovableIdLemmas
 mod OftenLemmas
 mod PlaceLawLemmas
 mod PullLawLemmas
+pub mod RefusalLemmas
 mod ShownLemmas
+mod WordLemmas

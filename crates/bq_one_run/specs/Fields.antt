@@ -1,5 +1,5 @@
 -- The fields of contexts by their names, as docs/CONTEXTS.md lists them.
-use Rattle.std.specs.Prelude.{◌≡◌, ℕ, ◌+◌, ◌*◌, ◌^◌, ◌<◌, ◌≤◌, List, [], ◌∷◌, ◌++◌, length, ◌⊎◌, Option, Some, codes}
+use Rattle.std.specs.Prelude.{◌≡◌, ℕ, ◌+◌, ◌*◌, ◌^◌, ◌<◌, ◌≤◌, List, [], ◌∷◌, length, ◌⊎◌, Option, Some, codes}
 use Rattle.std.specs.Borrow.{Bor}
 use Rattle.std.specs.Int.{bytes_low_first}
 use Rattle.std.specs.List.{find}
@@ -12,7 +12,7 @@ use Rattle.bq_bpf.specs.declared.hook.Version.{Version}
 use Rattle.bq_one_run.specs.declared.fields.Field.{Field}
 use Rattle.bq_one_run.specs.declared.fields.Width.{Width}
 use Rattle.bq_one_run.specs.declared.fields.Width.TheVariants.{Four, Eight}
-use Rattle.bq_one_run.specs.Words.{IsNumber}
+use Rattle.bq_one_run.specs.Words.{IsCut, IsNumber}
 
 abbrev pub bytes_in : Width → ℕ
 bytes_in Four = 4
@@ -104,11 +104,11 @@ pub record HasNumber (hook : Hook) (stem digits : List ℕ) (field : Field) : Ty
   pub is_number : IsNumber digits number
   pub numbered : IsNumbered row number field
 
--- a name, a dot and a number
+-- a name, the first dot and a number
 pub record GoesByNumber (hook : Hook) (name : List ℕ) (field : Field) : Type 0 where
   pub stem : List ℕ
   pub digits : List ℕ
-  pub splits : name ≡ stem ++ (46 ∷ digits)
+  pub splits : IsCut 46 name stem digits
   pub has : HasNumber hook stem digits field
 
 abbrev pub GoesBy : Hook → List ℕ → Field → Type 0

@@ -1,5 +1,5 @@
 -- What the words of a command make of the inputs of a run.
-use Rattle.std.specs.Prelude.{◌≡◌, ◌==◌, ℕ, ◌-◌, ◌<◌, ◌≤◌, List, [], ◌∷◌, ◌++◌, length, replicate, Option, Some, None, Ok, String, slice_index, slice_set, string_bytes}
+use Rattle.std.specs.Prelude.{◌≡◌, ◌==◌, ℕ, ◌-◌, ◌^◌, ◌<◌, ◌≤◌, List, [], ◌∷◌, ◌++◌, length, replicate, Option, Some, None, Ok, String, slice_index, slice_set, string_bytes}
 use Rattle.std.specs.declared.alloc.Global.{Global}
 use Rattle.std.specs.List.{slice_split}
 use Rattle.hex.specs.Hex.{decode_of}
@@ -7,9 +7,11 @@ use Rattle.bq_maps.specs.Arrays.{Arrays, HasEntry, bytes_of, first_of, value_siz
 use Rattle.bq_bpf.specs.declared.shape.MapShape.{MapShape}
 use Rattle.bq_bpf.specs.declared.hook.Hook.{Hook}
 use Rattle.bq_bpf.specs.declared.hook.Version.{Version}
+use Rattle.bq_one_run.specs.declared.faults.InputFault.{InputFault}
+use Rattle.bq_one_run.specs.declared.faults.InputFault.TheVariants as fault
 use Rattle.bq_one_run.specs.declared.fields.Field.{Field}
 use Rattle.bq_one_run.specs.Fields.{IsField, IsPut}
-use Rattle.bq_one_run.specs.Words.{IsNumber, IsValue}
+use Rattle.bq_one_run.specs.Words.{IsCut, IsNumber, IsValue}
 
 -- each word makes its step, one after another: where two name the same place, the last counts
 abbrev pub InTurn : {W S : Type 0} → (W → S → S → Type 0) → List W → S → S → Type 0
@@ -20,11 +22,16 @@ InTurn {W} {S} step (word ∷ words) before after = (between : S) × step word b
 abbrev pub TextsInTurn : {S : Type 0} → (List ℕ → S → S → Type 0) → List (String Global) → S → S → Type 0
 TextsInTurn step texts before after = InTurn (λ (t : String Global). step (string_bytes t)) texts before after
 
+-- words that are refused make none of that kind; want of memory says nothing of the words
+abbrev pub MakesNone : {A : Type 0} → (A → Type 0) → InputFault → Type 0
+MakesNone {A} Makes (fault.Words why) = (a : A) → ¬ Makes a
+MakesNone Makes fault.OutOfMemory = Unit {0}
+
 -- as `task=3`: the number stands in the field of that name, and no other byte changes
 pub record SetsField (hook : Hook) (version : Version) (part before after : List ℕ) : Type 0 where
   pub name : List ℕ
   pub text : List ℕ
-  pub splits : part ≡ name ++ (61 ∷ text)
+  pub splits : IsCut 61 part name text
   pub field : Field
   pub is_field : IsField hook version name field
   pub word : ℕ
@@ -43,19 +50,20 @@ SetsFields hook version text before after = InTurn (SetsField hook version) (par
 abbrev pub padded : ℕ → List ℕ → List ℕ
 padded size bytes = bytes ++ replicate (size - length bytes) 0
 
--- a map's number, a colon and an entry's number
+-- a map's number, of 64 bits, a colon and an entry's number
 pub record NamesEntry (text : List ℕ) (m entry : ℕ) : Type 0 where
   pub number : List ℕ
   pub place : List ℕ
-  pub splits : text ≡ number ++ (58 ∷ place)
+  pub splits : IsCut 58 text number place
   pub is_map : IsNumber number m
   pub is_entry : IsNumber place entry
+  pub fits : m < 2 ^ 64
 
 -- as `0:2=0a00`: the bytes stand in that entry of that map, and no other byte changes
 pub record SetsEntry (text : List ℕ) (before after : Arrays) : Type 0 where
   pub place : List ℕ
   pub value : List ℕ
-  pub splits : text ≡ place ++ (61 ∷ value)
+  pub splits : IsCut 61 text place value
   pub m : ℕ
   pub entry : ℕ
   pub names : NamesEntry place m entry
@@ -69,16 +77,17 @@ pub record SetsEntry (text : List ℕ) (before after : Arrays) : Type 0 where
 pub record NamesCounter (text : List ℕ) (counter word : ℕ) : Type 0 where
   pub number : List ℕ
   pub value : List ℕ
-  pub splits : text ≡ number ++ (61 ∷ value)
+  pub splits : IsCut 61 text number value
   pub is_counter : IsNumber number counter
   pub is_word : IsValue value word
 
--- as `3=10`: the counter is that number, and no other changes
+-- as `3=10`: the counter is that number, of 64 bits, and no other changes
 pub record SetsCounter (text before after : List ℕ) : Type 0 where
   pub counter : ℕ
   pub word : ℕ
   pub names : NamesCounter text counter word
   pub below : counter < 64
+  pub fits : word < 2 ^ 64
   pub put : after ≡ slice_set before counter word
 
 -- maps of these shapes, all bytes 0

@@ -1,6 +1,15 @@
--- Numbers as the words of a command write them.
-use Rattle.std.specs.Prelude.{◌≡◌, ℕ, List, ◌++◌, ◌⊎◌, codes}
+-- Parts and numbers of the words of a command.
+use Rattle.std.specs.Prelude.{◌≡◌, ◌≢◌, ℕ, ◌<◌, List, ◌∷◌, ◌++◌, ◌⊎◌, codes, length, slice_index}
 use Rattle.std.specs.Str.Parse.{IsNumeral, digits_value, without_leading_plus}
+
+-- the mark does not stand in the text
+abbrev pub IsFreeOf : ℕ → List ℕ → Type 0
+IsFreeOf mark text = (i : ℕ) → i < length text → slice_index text i ≢ mark
+
+-- the two parts of the text around its first such mark
+pub record IsCut (mark : ℕ) (text before behind : List ℕ) : Type 0 where
+  pub splits : text ≡ before ++ (mark ∷ behind)
+  pub first : IsFreeOf mark before
 
 -- the word writes the number in that base
 pub record IsNumberIn (base : ℕ) (word : List ℕ) (number : ℕ) : Type 0 where

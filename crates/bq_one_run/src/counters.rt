@@ -1,7 +1,7 @@
 //! Counters from the words of a command.
-ghost use Rattle.std.specs.Prelude.{◌≡◌, ◌<◌, [], IfSome, IsOk, slice_set};
+ghost use Rattle.std.specs.Prelude.{◌≡◌, ◌<◌, ◌^◌, ℕ, [], IfErr, IfNone, IfSome, IsOk, slice_set};
 ghost use Rattle.std.specs.Result.{OnOk};
-ghost use Rattle.bq_one_run.specs.Naming.{NamesCounter, SetsCounter, TextsInTurn};
+ghost use Rattle.bq_one_run.specs.Naming.{MakesNone, NamesCounter, SetsCounter, TextsInTurn};
 
 use crate::faults::{InputFault, refused};
 use crate::inputs::Inputs;
@@ -10,9 +10,11 @@ use bq_bpf::{Board, Plain};
 use std::alloc::Global;
 
 impl Inputs {
-    /// Sets the counters that texts name, one after another. Where there are no texts nothing is refused.
+    /// Sets the counters that texts name, one after another. Texts are refused only where one of them names none, and where there are
+    /// none nothing is.
     pub fn set_all_counters(&mut self, alloc: Global, texts: &[String]) -> Result<(), InputFault>
         ensures board { OnOk result (TextsInTurn SetsCounter texts.now self.old.board self.new.board) }
+        ensures refused { IfErr result (MakesNone (TextsInTurn SetsCounter texts.now self.old.board)) }
         ensures context { self.new.context ≡ self.old.context }
         ensures maps { self.new.maps ≡ self.old.maps }
         ensures env { self.new.env ≡ self.old.env }
@@ -24,9 +26,10 @@ impl Inputs {
         Ok(())
     }
 
-    /// Sets a counter, as `3=10` does.
+    /// Sets a counter, as `3=10` does. A text is refused only where it names none.
     pub fn set_counter(&mut self, alloc: Global, text: &str) -> Result<(), InputFault>
         ensures board { OnOk result (SetsCounter text.now self.old.board self.new.board) }
+        ensures refused { IfErr result (MakesNone (SetsCounter text.now self.old.board)) }
         ensures context { self.new.context ≡ self.old.context }
         ensures maps { self.new.maps ≡ self.old.maps }
         ensures env { self.new.env ≡ self.old.env }
@@ -44,7 +47,8 @@ impl Inputs {
 
 /// The counter that a text names, and its value.
 fn counter_named(text: &str) -> Option<(usize, u64)>
-    ensures { IfSome result (λ named. NamesCounter text.now named.0 named.1) }
+    ensures some { IfSome result (λ named. NamesCounter text.now named.0 named.1) }
+    ensures none { IfNone result ((counter word : ℕ) → counter < 2 ^ 64 → word < 2 ^ 64 → ¬ NamesCounter text.now counter word) }
 {
     let (number, word) = cut(text, '=')?;
     decimal(number).zip(value(word))

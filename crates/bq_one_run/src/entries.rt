@@ -1,7 +1,7 @@
 //! Entries of maps from the words of a command.
-ghost use Rattle.std.specs.Prelude.{◌≡◌, [], IfSome, IsOk};
+ghost use Rattle.std.specs.Prelude.{◌≡◌, ◌<◌, ◌^◌, ℕ, [], IfErr, IfNone, IfSome, IsOk};
 ghost use Rattle.std.specs.Result.{OnOk};
-ghost use Rattle.bq_one_run.specs.Naming.{NamesEntry, SetsEntry, TextsInTurn, padded};
+ghost use Rattle.bq_one_run.specs.Naming.{MakesNone, NamesEntry, SetsEntry, TextsInTurn, padded};
 
 use crate::faults::{InputFault, refused};
 use crate::inputs::{Inputs, bytes_named};
@@ -10,9 +10,11 @@ use bq_maps::Maps;
 use std::alloc::{AllocError, Global};
 
 impl Inputs {
-    /// Sets the entries that texts name, one after another. Where there are no texts nothing is refused.
+    /// Sets the entries that texts name, one after another. Texts are refused only where one of them names none, or no value of its
+    /// map, and where there are none nothing is.
     pub fn set_all_entries(&mut self, alloc: Global, texts: &[String]) -> Result<(), InputFault>
         ensures maps { OnOk result (TextsInTurn SetsEntry texts.now self.old.maps self.new.maps) }
+        ensures refused { IfErr result (MakesNone (TextsInTurn SetsEntry texts.now self.old.maps)) }
         ensures context { self.new.context ≡ self.old.context }
         ensures env { self.new.env ≡ self.old.env }
         ensures board { self.new.board ≡ self.old.board }
@@ -24,9 +26,11 @@ impl Inputs {
         Ok(())
     }
 
-    /// Sets an entry of a map, as `0:0=0a00` does; bytes that are left out are 0.
+    /// Sets an entry of a map, as `0:0=0a00` does; bytes that are left out are 0. A text is refused only where it names none, or no
+    /// value of its map.
     pub fn set_entry(&mut self, alloc: Global, text: &str) -> Result<(), InputFault>
         ensures maps { OnOk result (SetsEntry text.now self.old.maps self.new.maps) }
+        ensures refused { IfErr result (MakesNone (SetsEntry text.now self.old.maps)) }
         ensures context { self.new.context ≡ self.old.context }
         ensures env { self.new.env ≡ self.old.env }
         ensures board { self.new.board ≡ self.old.board }
@@ -37,7 +41,8 @@ impl Inputs {
 
 /// Puts the bytes that a text names into the entry that it names.
 fn put_entry(maps: &mut Maps, alloc: Global, text: &str) -> Result<(), InputFault>
-    ensures { OnOk result (SetsEntry text.now maps.old maps.new) }
+    ensures maps { OnOk result (SetsEntry text.now maps.old maps.new) }
+    ensures refused { IfErr result (MakesNone (SetsEntry text.now maps.old)) }
 {
     let Some((place, value)) = cut(text, '=') else {
         return Err(refused(alloc, "map", text, "an entry is set as 0:0=0a00"));
@@ -63,7 +68,8 @@ fn put_entry(maps: &mut Maps, alloc: Global, text: &str) -> Result<(), InputFaul
 
 /// The map and the entry that a text names, as `0:2`.
 fn entry_named(place: &str) -> Option<(usize, u32)>
-    ensures { IfSome result (λ named. NamesEntry place.now named.0 named.1) }
+    ensures some { IfSome result (λ named. NamesEntry place.now named.0 named.1) }
+    ensures none { IfNone result ((m entry : ℕ) → entry < 2 ^ 32 → ¬ NamesEntry place.now m entry) }
 {
     let (map, entry) = cut(place, ':')?;
     let map = decimal(map)?;

@@ -1,9 +1,10 @@
 //! The fields of contexts by their names, as docs/CONTEXTS.md lists them.
-ghost use Rattle.std.specs.Prelude.{◌≡◌, map, Some, IfSome};
-ghost use Rattle.std.specs.Bool.{OnTrue};
+ghost use Rattle.std.specs.Prelude.{◌≡◌, ◌+◌, ◌<◌, ◌≤◌, ◌^◌, List, ℕ, length, map, None, Some, IfNone, IfSome};
+ghost use Rattle.std.specs.Bool.{OnFalse, OnTrue};
 ghost use Rattle.std.specs.List.{find};
 ghost use Rattle.std.specs.Str.{bytes_eq};
 ghost use Rattle.bq_one_run.specs.Fields.{GoesBy, GoesByName, HasNumber, IsField, IsNumbered, IsPasted, IsPut, IsSingle, bytes_in, fields_of, row_named, row_of};
+ghost use Rattle.bq_one_run.specs.declared.fields.Field.{Field as OfField};
 
 use crate::words::{cut, decimal};
 use bq_bpf::{Hook, Version, context_length};
@@ -77,7 +78,8 @@ const PULL: [Row; 10] = [
 
 /// The field of that name: of one that stands several times it has a dot and the number.
 pub(crate) fn field_named(hook: Hook, version: Version, name: &str) -> Option<Field>
-    ensures { IfSome result (IsField hook version name.now) }
+    ensures some { IfSome result (IsField hook version name.now) }
+    ensures none { IfNone result ((field : OfField) → ¬ IsField hook version name.now field) }
 {
     let field = field_by(hook, name)?;
     let end = field.at.checked_add(field.width.bytes())?;
@@ -89,7 +91,8 @@ pub(crate) fn field_named(hook: Hook, version: Version, name: &str) -> Option<Fi
 
 /// The same, wherever the context ends.
 fn field_by(hook: Hook, name: &str) -> Option<Field>
-    ensures { IfSome result (GoesBy hook name.now) }
+    ensures some { IfSome result (GoesBy hook name.now) }
+    ensures none { IfNone result ((field : OfField) → field.at < 2 ^ 64 → ¬ GoesBy hook name.now field) }
 {
     match cut(name, '.') {
         None => by_name(hook, name),
@@ -99,7 +102,8 @@ fn field_by(hook: Hook, name: &str) -> Option<Field>
 
 /// The field of that name, if it stands once.
 fn by_name(hook: Hook, name: &str) -> Option<Field>
-    ensures { IfSome result (GoesByName hook name.now) }
+    ensures some { IfSome result (GoesByName hook name.now) }
+    ensures none { IfNone result ((field : OfField) → ¬ GoesByName hook name.now field) }
 {
     let row = row_named(hook, name)?;
     single(row)
@@ -107,7 +111,8 @@ fn by_name(hook: Hook, name: &str) -> Option<Field>
 
 /// The field of that name and that number, if there are several.
 fn by_number(hook: Hook, stem: &str, digits: &str) -> Option<Field>
-    ensures { IfSome result (HasNumber hook stem.now digits.now) }
+    ensures some { IfSome result (HasNumber hook stem.now digits.now) }
+    ensures none { IfNone result ((field : OfField) → field.at < 2 ^ 64 → ¬ HasNumber hook stem.now digits.now field) }
 {
     let row = row_named(hook, stem)?;
     let number = decimal(digits)?;
@@ -127,7 +132,8 @@ fn rows(hook: Hook) -> &'static [Row]
 
 /// The row of that name of a hook, if there is one.
 fn row_named(hook: Hook, name: &str) -> Option<Row>
-    ensures { IfSome result (λ row. row_named (fields_of hook) name.now ≡ Some (row_of row)) }
+    ensures some { IfSome result (λ row. row_named (fields_of hook) name.now ≡ Some (row_of row)) }
+    ensures none { IfNone result (row_named (fields_of hook) name.now ≡ None) }
 {
     first_named(rows(hook), name)
 }
@@ -141,7 +147,8 @@ fn first_named(rows: &[Row], name: &str) -> Option<Row>
 
 /// The field of a row, if it stands once.
 fn single(row: Row) -> Option<Field>
-    ensures { IfSome result (IsSingle (row_of row.entry)) }
+    ensures some { IfSome result (IsSingle (row_of row.entry)) }
+    ensures none { IfNone result ((field : OfField) → ¬ IsSingle (row_of row.entry) field) }
 {
     if row.4 != 1 {
         return None;
@@ -154,7 +161,8 @@ fn single(row: Row) -> Option<Field>
 
 /// The field of that number of a row, if it stands several times.
 fn numbered(row: Row, number: usize) -> Option<Field>
-    ensures { IfSome result (IsNumbered (row_of row.entry) number) }
+    ensures some { IfSome result (IsNumbered (row_of row.entry) number) }
+    ensures none { IfNone result ((field : OfField) → field.at < 2 ^ 64 → ¬ IsNumbered (row_of row.entry) number field) }
 {
     if row.4 < 2 || number >= row.4 {
         return None;
@@ -165,7 +173,8 @@ fn numbered(row: Row, number: usize) -> Option<Field>
 
 /// Puts a word into a field, and says whether it fits there.
 pub(crate) fn put(context: &mut [u8], field: Field, word: u64) -> bool
-    ensures { OnTrue result (IsPut field word context.old context.new) }
+    ensures put { OnTrue result (IsPut field word context.old context.new) }
+    ensures none { OnFalse result ((after : List ℕ) → ¬ IsPut field word context.old after) }
 {
     match field.width {
         Width::Four => match u32::try_from(word) {
@@ -178,7 +187,8 @@ pub(crate) fn put(context: &mut [u8], field: Field, word: u64) -> bool
 
 /// Puts bytes there, if there is room.
 fn paste(context: &mut [u8], at: usize, bytes: &[u8]) -> bool
-    ensures { OnTrue result (IsPasted at bytes.now context.old context.new) }
+    ensures pasted { OnTrue result (IsPasted at bytes.now context.old context.new) }
+    ensures none { OnFalse result (¬ (at + length bytes.now ≤ length context.old)) }
 {
     let Some(end) = at.checked_add(bytes.len()) else {
         return false;

@@ -1,9 +1,9 @@
 //! What a run is given.
-ghost use Rattle.std.specs.Prelude.{◌≡◌, IfOk, IfSome, length, replicate};
+ghost use Rattle.std.specs.Prelude.{◌≡◌, ◌≢◌, List, ℕ, IfErr, IfNone, IfOk, IfSome, length, replicate};
 ghost use Rattle.std.specs.Result.{OnOk};
 ghost use Rattle.hex.specs.Hex.{decode_of};
 ghost use Rattle.bq_bpf.specs.Hooks.{context_length_of};
-ghost use Rattle.bq_one_run.specs.Naming.{BeginsWith, IsClean};
+ghost use Rattle.bq_one_run.specs.Naming.{BeginsWith, IsClean, MakesNone};
 
 use crate::faults::{InputFault, fault};
 use bq_bpf::{Plain, context_length};
@@ -45,9 +45,10 @@ pub fn inputs_of(alloc: Global, verified: &Verified, env: Env) -> Result<Inputs,
 }
 
 impl Inputs {
-    /// Puts the bytes of a hex text in place of the context, which has as many.
+    /// Puts the bytes of a hex text in place of the context, which has as many. A text is refused only where it writes no such bytes.
     pub fn set_context(&mut self, alloc: Global, text: &str) -> Result<(), InputFault>
         ensures context { OnOk result (BeginsWith (Some text.now) (length self.old.context.items) self.new.context.items) }
+        ensures refused { IfErr result (MakesNone (BeginsWith (Some text.now) (length self.old.context.items))) }
         ensures maps { self.new.maps ≡ self.old.maps }
         ensures env { self.new.env ≡ self.old.env }
         ensures board { self.new.board ≡ self.old.board }
@@ -69,7 +70,8 @@ impl Inputs {
 
 /// The bytes of a hex text, if it is one.
 pub(crate) fn bytes_named(alloc: Global, text: &str) -> Result<Option<Vec<u8>>, AllocError>
-    ensures { IfOk result (λ named. IfSome named (λ bytes. decode_of text.now ≡ Ok bytes.items)) }
+    ensures some { IfOk result (λ named. IfSome named (λ bytes. decode_of text.now ≡ Ok bytes.items)) }
+    ensures none { IfOk result (λ named. IfNone named ((bytes : List ℕ) → decode_of text.now ≢ Ok bytes)) }
 {
     match hex::decode(alloc, text.as_bytes()) {
         Ok(bytes) => Ok(Some(bytes)),

@@ -1,7 +1,7 @@
 //! Fields of the context from the words of a command.
-ghost use Rattle.std.specs.Prelude.{◌≡◌, [], IsOk};
+ghost use Rattle.std.specs.Prelude.{◌≡◌, [], IfErr, IsOk};
 ghost use Rattle.std.specs.Result.{OnOk};
-ghost use Rattle.bq_one_run.specs.Naming.{SetsField, SetsFields, TextsInTurn};
+ghost use Rattle.bq_one_run.specs.Naming.{MakesNone, SetsField, SetsFields, TextsInTurn};
 
 use crate::faults::{InputFault, fault, refused};
 use crate::fields::{field_named, field_names, put};
@@ -11,7 +11,8 @@ use bq_bpf::{Hook, Version};
 use std::alloc::Global;
 
 impl Inputs {
-    /// Sets the fields that texts name, one after another. Where there are no texts nothing is refused.
+    /// Sets the fields that texts name, one after another. Texts are refused only where one of them names no fields, or what does not
+    /// fit, and where there are none nothing is.
     pub fn set_all_fields(
         &mut self,
         alloc: Global,
@@ -20,6 +21,7 @@ impl Inputs {
         texts: &[String],
     ) -> Result<(), InputFault>
         ensures context { OnOk result (TextsInTurn (SetsFields hook version) texts.now self.old.context.items self.new.context.items) }
+        ensures refused { IfErr result (MakesNone (TextsInTurn (SetsFields hook version) texts.now self.old.context.items)) }
         ensures maps { self.new.maps ≡ self.old.maps }
         ensures env { self.new.env ≡ self.old.env }
         ensures board { self.new.board ≡ self.old.board }
@@ -31,7 +33,7 @@ impl Inputs {
         Ok(())
     }
 
-    /// Sets the fields that a text names, as `task=3,mask=0x6,load.1=2` does.
+    /// Sets the fields that a text names, as `task=3,mask=0x6,load.1=2` does. A text is refused only where it names none.
     pub fn set_fields(
         &mut self,
         alloc: Global,
@@ -40,6 +42,7 @@ impl Inputs {
         text: &str,
     ) -> Result<(), InputFault>
         ensures context { OnOk result (SetsFields hook version text.now self.old.context.items self.new.context.items) }
+        ensures refused { IfErr result (MakesNone (SetsFields hook version text.now self.old.context.items)) }
         ensures maps { self.new.maps ≡ self.old.maps }
         ensures env { self.new.env ≡ self.old.env }
         ensures board { self.new.board ≡ self.old.board }
@@ -58,6 +61,7 @@ impl Inputs {
         part: &str,
     ) -> Result<(), InputFault>
         ensures context { OnOk result (SetsField hook version part.now self.old.context.items self.new.context.items) }
+        ensures refused { IfErr result (MakesNone (SetsField hook version part.now self.old.context.items)) }
         ensures maps { self.new.maps ≡ self.old.maps }
         ensures env { self.new.env ≡ self.old.env }
         ensures board { self.new.board ≡ self.old.board }
@@ -74,7 +78,8 @@ fn put_field(
     version: Version,
     part: &str,
 ) -> Result<(), InputFault>
-    ensures { OnOk result (SetsField hook version part.now context.old context.new) }
+    ensures context { OnOk result (SetsField hook version part.now context.old context.new) }
+    ensures refused { IfErr result (MakesNone (SetsField hook version part.now context.old)) }
 {
     let Some((name, text)) = cut(part, '=') else {
         return Err(refused(alloc, "set", part, "a field is set as task=3"));

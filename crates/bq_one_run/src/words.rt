@@ -1,18 +1,19 @@
 //! Parts and numbers of the words of a command.
-ghost use Rattle.std.specs.Prelude.{◌≡◌, ◌<◌, ◌++◌, ◌∷◌, IfSome};
-ghost use Rattle.bq_one_run.specs.Words.{IsHexNumber, IsNumber, IsValue};
+ghost use Rattle.std.specs.Prelude.{ℕ, ◌<◌, ◌^◌, IfNone, IfSome, MatchOption};
+ghost use Rattle.bq_one_run.specs.Words.{IsCut, IsFreeOf, IsHexNumber, IsNumber, IsValue};
 
 /// The two parts around the first such mark, if it stands there.
 pub(crate) fn cut(text: &str, mark: char) -> Option<(&str, &str)>
     requires { mark < 128 }
-    ensures { IfSome result (λ parts. text.now ≡ parts.0.now ++ (mark ∷ parts.1.now)) }
+    ensures { MatchOption result (IsFreeOf mark text.now) (λ parts. IsCut mark text.now parts.0.now parts.1.now) }
 {
     text.split_once(mark)
 }
 
 /// A number in decimal.
 pub(crate) fn decimal(word: &str) -> Option<usize>
-    ensures { IfSome result (IsNumber word.now) }
+    ensures some { IfSome result (IsNumber word.now) }
+    ensures none { IfNone result ((number : ℕ) → number < 2 ^ 64 → ¬ IsNumber word.now number) }
 {
     match word.parse::<usize>() {
         Ok(number) => Some(number),
@@ -22,7 +23,8 @@ pub(crate) fn decimal(word: &str) -> Option<usize>
 
 /// A number in decimal, or in hex after `0x`.
 pub(crate) fn value(word: &str) -> Option<u64>
-    ensures { IfSome result (IsValue word.now) }
+    ensures some { IfSome result (IsValue word.now) }
+    ensures none { IfNone result ((number : ℕ) → number < 2 ^ 64 → ¬ IsValue word.now number) }
 {
     match hexadecimal(word) {
         Some(number) => Some(number),
@@ -35,7 +37,8 @@ pub(crate) fn value(word: &str) -> Option<u64>
 
 /// A number in hex after `0x`.
 fn hexadecimal(word: &str) -> Option<u64>
-    ensures { IfSome result (IsHexNumber word.now) }
+    ensures some { IfSome result (IsHexNumber word.now) }
+    ensures none { IfNone result ((number : ℕ) → number < 2 ^ 64 → ¬ IsHexNumber word.now number) }
 {
     let digits = word.strip_prefix("0x")?;
     match u64::from_str_radix(digits, 16) {

@@ -10,13 +10,13 @@ use Rattle.bq_explain.specs.Verdicts.{IsRefusedPolicy, IsSafePolicy, verdict_lin
 use Rattle.bq_one_run.specs.declared.inputs.Inputs.{Inputs}
 use Rattle.bq_maps.specs.Arrays.{Arrays}
 use Rattle.bq_bpf.specs.Runs.{start}
+use Rattle.bq_interp.specs.declared.env.Env.{Env}
 use Rattle.bq_interp.specs.declared.traced.Moment.{Moment}
 use Rattle.bq_interp.specs.Chains.{setting_of}
 use Rattle.bq_interp.specs.Moments.{AreMoments}
 use Rattle.bq_one_run.specs.Naming.{BeginsWith, IsClean, SetsCounter, SetsEntry, SetsFields, TextsInTurn}
 use Rattle.bq_one_run.specs.Permitting.{word_of}
 use Rattle.bq_one_run.specs.Runs.{AreRuns, IsRun, Kept, kept_in}
-use Rattle.bq_one_run.specs.Words.{IsNumber}
 use Rattle.bq_verify.specs.declared.cause.Cause.{Cause}
 use Rattle.bq_verify.specs.Accepted.{Accepted}
 use Rattle.bq_bpf.specs.Hooks.{context_length_of}
@@ -30,17 +30,17 @@ use Rattle.bq_policy_commands.specs.declared.words.RunWords.{RunWords}
 use Rattle.bq_policy_commands.specs.Judging.{TellsWord}
 use Rattle.bq_policy_commands.specs.Refusing.{IsRefusedFile}
 use Rattle.bq_policy_commands.specs.Tracing.{TellsSteps}
-use Rattle.bq_policy_commands.specs.Saying.{IsNumberBelow, IsRefused, IsWordsFault, SaysHead, option_bytes}
+use Rattle.bq_policy_commands.specs.Saying.{IsNumberBelow, IsWordsFault, SaysHead, option_bytes}
 
--- without a word the number is 0
-abbrev pub IsNumberOrZero : Option (List ℕ) → ℕ → Type 0
-IsNumberOrZero None n = n ≡ 0
-IsNumberOrZero (Some word) n = IsNumber word n
+-- without a word the number is 0, and it is below that limit
+abbrev pub IsNumberOrZero : ℕ → Option (List ℕ) → ℕ → Type 0
+IsNumberOrZero limit None n = n ≡ 0
+IsNumberOrZero limit (Some word) n = IsNumberBelow limit word n
 
--- the time and the processor are those that the words name
-pub record HasClock (w : RunWords) (inputs : Inputs) : Type 0 where
-  pub now : IsNumberOrZero (option_bytes w.time) inputs.env.now
-  pub processor : IsNumberOrZero (option_bytes w.processor) inputs.env.processor
+-- the time, of 64 bits, and the processor, of 32, are those that the words name
+pub record HasClock (w : RunWords) (env : Env) : Type 0 where
+  pub now : IsNumberOrZero (2 ^ 64) (option_bytes w.time) env.now
+  pub processor : IsNumberOrZero (2 ^ 32) (option_bytes w.processor) env.processor
 
 -- the context is all 0, or the bytes that a word names, with each field that words name in its turn
 pub record HasContext (w : RunWords) (program : Accepted) (context : List ℕ) : Type 0 where
@@ -54,9 +54,15 @@ pub record HasMaps (w : RunWords) (program : Accepted) (maps : Arrays) : Type 0 
   pub is_clean : IsClean program.shapes clean
   pub entries : TextsInTurn SetsEntry w.entries.items clean maps
 
+-- each field, entry and counter that words name leads in its turn from the one to the other
+pub record SetsParts (w : RunWords) (program : Accepted) (before after : Inputs) : Type 0 where
+  pub fields : TextsInTurn (SetsFields program.hook program.version) w.fields.items before.context.items after.context.items
+  pub entries : TextsInTurn SetsEntry w.entries.items before.maps after.maps
+  pub counters : TextsInTurn SetsCounter w.counters.items before.board after.board
+
 -- the inputs are those that the words name
 pub record HasInputs (w : RunWords) (program : Accepted) (inputs : Inputs) : Type 0 where
-  pub clock : HasClock w inputs
+  pub clock : HasClock w inputs.env
   pub context : HasContext w program inputs.context.items
   pub maps : HasMaps w program inputs.maps
   pub counters : TextsInTurn SetsCounter w.counters.items (replicate 64 0) inputs.board
@@ -98,13 +104,10 @@ pub record HasRun (traced : Bool) (others : ℕ) (program : Accepted) (inputs : 
   pub steps_told : TellsSteps traced program moments executed
   pub told : TellsRun program inputs.context.items answer steps executed (string_bytes text)
 
-abbrev pub RunsOn : Bool → ℕ → Accepted → Inputs → Answered → Type 0
-RunsOn traced others program inputs told_as = IsRefused told_as ⊎ HasRun traced others program inputs told_as
-
--- on inputs that the words name
+-- on inputs that the words name; where they name none they are refused
 abbrev pub RunsInputs : RunWords → Accepted → ℕ → Answered → Type 0
 RunsInputs w program others told_as =
-    IsRefused told_as ⊎ ((inputs : Inputs) × HasInputs w program inputs × RunsOn w.telling.is_traced others program inputs told_as)
+    IsWordsFault (HasInputs w program) told_as ⊎ ((inputs : Inputs) × HasInputs w program inputs × HasRun w.telling.is_traced others program inputs told_as)
 
 -- after as many others as the words name; where they name no number of runs they are refused
 abbrev pub RunsProgram : RunWords → Accepted → Answered → Type 0

@@ -1,9 +1,9 @@
 //! The inputs that the words of `run` name.
-ghost use Rattle.std.specs.Prelude.{◌≡◌, IfOk, OnOk, replicate};
+ghost use Rattle.std.specs.Prelude.{◌≡◌, ◌^◌, IfErr, IfOk, OnOk, replicate};
 ghost use Rattle.bq_bpf.specs.Hooks.{context_length_of};
-ghost use Rattle.bq_one_run.specs.Naming.{BeginsWith, IsClean, SetsCounter, SetsEntry, SetsFields, TextsInTurn};
-ghost use Rattle.bq_policy_commands.specs.Running.{HasInputs, IsNumberOrZero};
-ghost use Rattle.bq_policy_commands.specs.Saying.{option_bytes};
+ghost use Rattle.bq_one_run.specs.Naming.{BeginsWith, IsClean, MakesNone, SetsCounter, SetsEntry, SetsFields, TextsInTurn};
+ghost use Rattle.bq_policy_commands.specs.Running.{HasClock, HasInputs, IsNumberOrZero, SetsParts};
+ghost use Rattle.bq_policy_commands.specs.Saying.{SaysNone, option_bytes};
 
 use crate::given::{WordsFault, words_fault};
 use crate::words::RunWords;
@@ -13,6 +13,10 @@ use bq_verify::Verified;
 use std::alloc::Global;
 
 impl From<InputFault> for WordsFault {
+    ghost use Rattle.bq_policy_commands.specs.Saying.{of_input};
+
+    ghost from_gives = { λ f e. e ≡ of_input f };
+
     fn from(fault: InputFault) -> WordsFault {
         match fault {
             InputFault::Words(why) => WordsFault::Words(why),
@@ -21,13 +25,14 @@ impl From<InputFault> for WordsFault {
     }
 }
 
-/// The inputs that the words name; all others are 0.
+/// The inputs that the words name; all others are 0. Words are refused only where they name none.
 pub(crate) fn inputs_named(
     alloc: Global,
     words: &RunWords,
     verified: &Verified,
 ) -> Result<Inputs, WordsFault>
-    ensures { IfOk result (HasInputs words.now verified.now) }
+    ensures names { IfOk result (HasInputs words.now verified.now) }
+    ensures none { IfErr result (SaysNone (HasInputs words.now verified.now)) }
 {
     let env = env_named(alloc, words)?;
     let mut inputs = first_inputs(alloc, words, verified, env)?;
@@ -46,6 +51,7 @@ fn set_parts(
     ensures maps { OnOk result (TextsInTurn SetsEntry words.now.entries.items inputs.old.maps inputs.new.maps) }
     ensures board { OnOk result (TextsInTurn SetsCounter words.now.counters.items inputs.old.board inputs.new.board) }
     ensures env { OnOk result (inputs.new.env ≡ inputs.old.env) }
+    ensures refused { IfErr result (MakesNone (SetsParts words.now verified.now inputs.old)) }
 {
     let hook = verified.hook();
     let version = verified.version();
@@ -66,6 +72,7 @@ fn first_inputs(
     ensures maps { IfOk result (λ i. IsClean verified.now.shapes i.maps) }
     ensures env { IfOk result (λ i. i.env ≡ env) }
     ensures board { IfOk result (λ i. i.board ≡ replicate 64 0) }
+    ensures refused { IfErr result (MakesNone (BeginsWith (option_bytes words.now.context) (context_length_of verified.now.hook verified.now.version))) }
 {
     let mut inputs = inputs_of(alloc, verified, env)?;
     if let Some(text) = &words.context {
@@ -76,8 +83,8 @@ fn first_inputs(
 
 /// The time and the processor.
 fn env_named(alloc: Global, words: &RunWords) -> Result<Env, WordsFault>
-    ensures now { IfOk result (λ env. IsNumberOrZero (option_bytes words.now.time) env.now) }
-    ensures processor { IfOk result (λ env. IsNumberOrZero (option_bytes words.now.processor) env.processor) }
+    ensures clock { IfOk result (HasClock words.now) }
+    ensures none { IfErr result (SaysNone (HasClock words.now)) }
 {
     let now = number(alloc, "time", &words.time)?;
     let processor = number(alloc, "processor", &words.processor)?;
@@ -90,8 +97,10 @@ fn env_named(alloc: Global, words: &RunWords) -> Result<Env, WordsFault>
     }
 }
 
+/// The number that a word names; 0 without a word.
 fn number(alloc: Global, option: &str, word: &Option<String>) -> Result<u64, WordsFault>
-    ensures { IfOk result (IsNumberOrZero (option_bytes word.now)) }
+    ensures number { IfOk result (IsNumberOrZero (2 ^ 64) (option_bytes word.now)) }
+    ensures none { IfErr result (SaysNone (IsNumberOrZero (2 ^ 64) (option_bytes word.now))) }
 {
     let Some(word) = word else {
         return Ok(0);

@@ -1,7 +1,8 @@
 //! `run` of a policy's file.
 ghost use Rattle.std.specs.Prelude.{◌≡◌, IfOk, length, string_bytes};
 ghost use Rattle.bq_bpf.specs.Hooks.{context_length_of};
-ghost use Rattle.bq_policy_commands.specs.Running.{RunsFile, RunsOn, RunsPolicy, RunsProgram, RunsTo, TellsRun, TellsVerdict, answer_line};
+ghost use Rattle.bq_one_run.specs.Runs.{Fits};
+ghost use Rattle.bq_policy_commands.specs.Running.{HasRun, RunsFile, RunsPolicy, RunsProgram, RunsTo, TellsRun, TellsVerdict, answer_line};
 
 use crate::answered::Answered;
 use crate::given::{WordsFault, said_by};
@@ -121,7 +122,7 @@ struct Series {
     before: u32,
 }
 
-/// The last run of a series; the line that says how long runs take stands last.
+/// The last run of a series, on inputs of the program's hook; the line that says how long runs take stands last.
 fn run_on(
     alloc: Global,
     words: &RunWords,
@@ -130,7 +131,8 @@ fn run_on(
     series: &mut Series,
     line: &String,
 ) -> Result<Answered, AllocError>
-    ensures { IfOk result (RunsOn words.now.telling.is_traced series.old.before verified.now series.old.inputs) }
+    requires { Fits verified.now series.old.inputs }
+    ensures { IfOk result (HasRun words.now.telling.is_traced series.old.before verified.now series.old.inputs) }
 {
     let mut moments = Vec::new(alloc);
     let first = copied(alloc, &series.inputs.maps)?;

@@ -1,4 +1,4 @@
-use Rattle.std.proofs.Common.{◌≡◌, String, string_bytes}
+use Rattle.std.proofs.Common.{◌≡◌, length, String, string_bytes}
 use Rattle.std.specs.declared.alloc.Global.{Global}
 use Rattle.bq_one_run.specs.Naming.{SetsFields}
 use Rattle.bq_one_run.proofs.InTurnLemmas.{LeadsOn}
@@ -8,6 +8,7 @@ abbrev pub invariant-loop-text : goal.invariant-loop-text
 invariant-loop-text l = record {
   made : LeadsOn (λ (t : String Global). SetsFields l.hook l.version (string_bytes t)) l.texts l.text-index l.initial.self.context.items l.self.context.items;
   env : l.self.env ≡ l.initial.self.env;
+  size : length l.self.context.items ≡ length l.initial.self.context.items;
   maps : l.self.maps ≡ l.initial.self.maps;
   board : l.self.board ≡ l.initial.self.board;
 }
