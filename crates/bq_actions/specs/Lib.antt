@@ -5,6 +5,7 @@ pub mod Courses
 pub mod Accounts
 pub mod Dues
 pub mod Minima
+pub mod Plans
 pub mod Kinds
 pub mod Bounds
 pub mod Soundness

@@ -4,16 +4,17 @@
 //! Promises which flaw of a workload is told: the first, in the order of `flaws_of`, and none just where there is none; and
 //! how many steps a workload takes at most. That the nth length of a task is a function of the seed, the task's number, n and
 //! what is asked for, so another task changes none of them; how each change of a roster is kept: what a task that ceases to
-//! run has got of its phase, what a change of processor adds to it, that a processor ticks only while it runs something, and
-//! whether a timer or the end of a phase is left until an instant; and that of the things that are due, in the order of their
-//! time and, at one instant, of their kind and number, the first is found at once, and a change takes a step for each halving
-//! of their number.
+//! run has got of its phase, what a change of processor adds to it, when a processor ticks next and looks next for a task to
+//! pull, from which it pulls one, what comes due with all that, and whether a timer, the end of a phase, a tick or a look is
+//! left until an instant; and that of the things that are due, in the order of their time and, at one instant, of their kind
+//! and number, the first is found at once, and a change takes a step for each halving of their number.
 //! Stands on the words of a workload, and on what it is for a mask to allow a processor.
 #![tactic(auto)]
 
 pub mod action;
 pub mod agenda;
 pub mod bound;
+pub mod clocks;
 pub mod course;
 pub mod due;
 pub mod exponential;

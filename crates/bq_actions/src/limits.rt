@@ -1,6 +1,6 @@
 //! How large the numbers of a workload may be.
 
-/// The latest reading of a clock, and the longest duration: 2^48 - 1 nanoseconds, more than three days.
+/// The longest duration: 2^48 - 1 nanoseconds, more than three days, as long as a clock goes.
 pub const LONGEST: u64 = 281_474_976_710_655;
 
 /// How many tasks there may be in all.

@@ -1,18 +1,18 @@
 //! All tasks and processors of a simulation.
-ghost use Rattle.std.specs.Prelude.{◌≡◌, ◌<◌, ◌+◌, ◌-◌, ◌++◌, [], ◌∷◌, None, Some, IfOk, IfErr, OnOk, slice_get, slice_set, length};
+ghost use Rattle.std.specs.Prelude.{◌≡◌, ℕ, ◌<◌, ◌≤◌, ◌⊎◌, ◌+◌, ◌-◌, ◌^◌, ◌++◌, [], ◌∷◌, min, None, Some, IfOk, IfErr, IfSome, MatchOption, OnOk, option_and_then, slice_get, slice_set, length};
 ghost use Rattle.std.specs.List.{list_all};
 ghost use Rattle.bq_actions.specs.Courses.{keeps_time, moved_to, run_for, woken};
-ghost use Rattle.bq_actions.specs.Accounts.{accounts_of, charged, entered_by, IsDone, is_over, left_by, of_processor, of_task, opening, passed, runs_past, switched, taken_over};
-ghost use Rattle.bq_actions.specs.Dues.{IsDue, place_of};
-ghost use Rattle.bq_actions.specs.Minima.{at_place, never, ChangesOnly};
+ghost use Rattle.bq_actions.specs.Accounts.{accounts_of, charged, entered_by, first_look, grown, IsDone, is_over, left_by, of_task, opening, passed, rests_past, runs_past, shrunk, switched, taken_over};
+ghost use Rattle.bq_actions.specs.Dues.{AreLooks, IsDropped, IsDue, IsPlanned, due_at, end_of, place_of, until};
+ghost use Rattle.bq_actions.specs.Minima.{AreNever, IsFirst};
+ghost use Rattle.bq_actions.specs.Plans.{PlansNone, PlansSwitch, PlansTask};
 
+use crate::clocks::first_look;
 use crate::course::Course;
 use crate::lane::Lane;
 use crate::{Agenda, Due};
+use bq_disc::clock::LATEST;
 use std::alloc::{AllocError, Global};
-
-/// The latest instant: 2^48 - 1 nanoseconds.
-const LATEST: u64 = 281_474_976_710_655;
 
 /// A number that stands for no task or processor, a time that does not fit, or a phase that ended too early or too late:
 /// whoever keeps the roster lost count.
@@ -32,19 +32,24 @@ pub struct Pace {
 #[derive(Drop)]
 pub struct Roster {
     courses: Vec<Course>,
-    lanes: Vec<Lane>,
+    pub(crate) lanes: Vec<Lane>,
     agenda: Agenda,
-    pace: Pace,
+    pub(crate) pace: Pace,
 }
 
 impl Roster {
-    /// So many processors that run nothing, and no task.
+    /// So many processors that run nothing, and no task. Where there are at least two, each looks for a task to pull at the
+    /// first multiple of the time between two looks.
     pub fn new(alloc: Global, processors: u8, pace: Pace) -> Result<Roster, AllocError>
-        ensures accounts { IfOk result (λ roster. accounts_of roster ≡ opening processors) }
+        ensures accounts { IfOk result (λ roster. accounts_of roster ≡ opening processors pace.balance) }
         ensures pace { IfOk result (λ roster. roster.pace ≡ pace) }
+        ensures looks { IfOk result (λ roster. AreLooks (min processors 64) (option_and_then (until pace.end) (first_look processors pace.balance)) roster.agenda) }
     {
-        let lanes = vec![in alloc; Lane::new(); usize::from(processors)]?;
-        let agenda = Agenda::new(alloc)?;
+        let look = first_look(processors, pace.balance);
+        let lanes = vec![in alloc; Lane::new(look); usize::from(processors)]?;
+        let mut agenda = Agenda::new(alloc)?;
+        let seen = look.and_then(|time| until(pace.end, time));
+        plan_looks(&mut agenda, processors.min(64), seen);
         Ok(Roster {
             courses: Vec::new(alloc),
             lanes,
@@ -57,6 +62,7 @@ impl Roster {
     pub fn add(&mut self, course: Course) -> Result<(), AllocError>
         ensures courses { OnOk result (self.new.courses.items ≡ self.old.courses.items ++ course ∷ []) }
         ensures lanes { self.new.lanes ≡ self.old.lanes }
+        ensures agenda { self.new.agenda ≡ self.old.agenda }
         ensures pace { self.new.pace ≡ self.old.pace }
     {
         self.courses.push(course)?;
@@ -97,7 +103,7 @@ impl Roster {
             .ok_or(Astray)
     }
 
-    fn set_lane(&mut self, processor: u8, lane: Lane) -> Result<(), Astray>
+    pub(crate) fn set_lane(&mut self, processor: u8, lane: Lane) -> Result<(), Astray>
         ensures there { OnOk result (processor < length self.old.lanes.items) }
         ensures lanes { OnOk result (self.new.lanes.items ≡ slice_set self.old.lanes.items processor lane) }
         ensures courses { self.new.courses ≡ self.old.courses }
@@ -119,7 +125,10 @@ impl Roster {
     }
 
     /// What comes due first, and when.
-    pub fn first(&self) -> Result<Option<(u64, Due)>, Astray> {
+    pub fn first(&self) -> Result<Option<(u64, Due)>, Astray>
+        ensures first { IfOk result (λ due. MatchOption due (AreNever self.now.agenda) (λ d. IsFirst self.now.agenda d.0 (place_of d.1))) }
+        ensures stray { IfErr result (λ _. (time : ℕ) × (place : ℕ) × IsFirst self.now.agenda time place × (due_at place ≡ None)) }
+    {
         match self.agenda.first() {
             None => Ok(None),
             Some((time, place)) => match Due::at(place) {
@@ -131,21 +140,21 @@ impl Roster {
 
     /// This comes due then; what would come after the end never does.
     pub fn plan(&mut self, due: Due, time: u64) -> Result<(), Astray>
-        ensures others { OnOk result (ChangesOnly (place_of due) self.old.agenda self.new.agenda) }
+        ensures planned { OnOk result (IsPlanned self.old.pace.end due time self.old.agenda self.new.agenda) }
+        ensures stray { IfErr result (λ _. IsDue due → ⊥) }
         ensures courses { self.new.courses ≡ self.old.courses }
         ensures lanes { self.new.lanes ≡ self.old.lanes }
         ensures pace { self.new.pace ≡ self.old.pace }
     {
         let place = place_of(due)?;
-        let is_seen = time <= self.pace.end && time <= LATEST;
-        self.agenda.set(place, is_seen.then_some(time));
+        self.agenda.set(place, until(self.pace.end, time));
         Ok(())
     }
 
     /// This does not come due.
     pub fn drop_plan(&mut self, due: Due) -> Result<(), Astray>
-        ensures due { OnOk result (at_place self.new.agenda (place_of due) ≡ never) }
-        ensures others { OnOk result (ChangesOnly (place_of due) self.old.agenda self.new.agenda) }
+        ensures dropped { OnOk result (IsDropped due self.old.agenda self.new.agenda) }
+        ensures stray { IfErr result (λ _. IsDue due → ⊥) }
         ensures courses { self.new.courses ≡ self.old.courses }
         ensures lanes { self.new.lanes ≡ self.old.lanes }
         ensures pace { self.new.pace ≡ self.old.pace }
@@ -156,11 +165,33 @@ impl Roster {
     }
 }
 
+/// A time that comes neither after the end nor after the latest instant.
+fn until(end: u64, time: u64) -> Option<u64>
+    ensures seen { result ≡ until end time }
+    ensures early { IfSome result (λ t. t < 2 ^ 48) }
+{
+    let is_seen = time <= end && time <= LATEST;
+    is_seen.then_some(time)
+}
+
+/// Each of so many processors looks for a task to pull then, if ever.
+fn plan_looks(agenda: &mut Agenda, processors: u8, time: Option<u64>)
+    requires few { processors ≤ 64 }
+    requires early { IfSome time (λ t. t < 2 ^ 48) }
+    requires never { AreNever agenda.old }
+    ensures { AreLooks processors time agenda.new }
+{
+    'processors: for processor in 0..processors {
+        agenda.set(Due::Pull(processor).place(), time);
+    }
+}
+
 /// The place of what comes due.
 fn place_of(due: Due) -> Result<u16, Astray>
     ensures place { IfOk result (λ place. place ≡ place_of due) }
     ensures few { IfOk result (λ place. place < 2048) }
     ensures due { OnOk result (IsDue due) }
+    ensures stray { IfErr result (λ _. IsDue due → ⊥) }
 {
     let is_due = match due {
         Due::End(processor) | Due::Tick(processor) | Due::Pull(processor) => processor < 64,
@@ -172,21 +203,11 @@ fn place_of(due: Due) -> Result<u16, Astray>
     Ok(due.place())
 }
 
-/// The next multiple of a time between two things, after an instant.
-fn next_after(now: u64, between: u64) -> Result<u64, Astray> {
-    if between == 0 {
-        return Err(Astray);
-    }
-    (now / between)
-        .saturating_add(1)
-        .checked_mul(between)
-        .ok_or(Astray)
-}
-
 impl Roster {
     /// From now on this task runs at a processor, or none does.
     pub fn switch(&mut self, processor: u8, run: Option<u16>, now: u64) -> Result<(), Astray>
-        ensures accounts { OnOk result (accounts_of self.new ≡ switched processor run now self.old.pace.migration_cost (accounts_of self.old)) }
+        ensures accounts { OnOk result (accounts_of self.new ≡ switched processor run now self.old.pace (accounts_of self.old)) }
+        ensures plans { OnOk result (PlansSwitch self.old.pace processor run now (accounts_of self.old) self.new.courses.items self.old.agenda self.new.agenda) }
         ensures pace { self.new.pace ≡ self.old.pace }
     {
         let lane = self.lane(processor)?;
@@ -195,7 +216,7 @@ impl Roster {
         }
         self.charge(processor, now)?;
         match run {
-            Some(task) => self.start(processor, task, now, lane.run.is_none()),
+            Some(task) => self.start(processor, task, now),
             None => self.idle(processor, now),
         }
     }
@@ -230,24 +251,26 @@ impl Roster {
     }
 
     /// A task runs at a processor from now on.
-    fn start(&mut self, processor: u8, task: u16, now: u64, was_idle: bool) -> Result<(), Astray>
-        ensures accounts { OnOk result (accounts_of self.new ≡ taken_over processor (Some task) now self.old.pace.migration_cost (accounts_of self.old)) }
+    fn start(&mut self, processor: u8, task: u16, now: u64) -> Result<(), Astray>
+        ensures accounts { OnOk result (accounts_of self.new ≡ taken_over processor (Some task) now self.old.pace (accounts_of self.old)) }
+        ensures plans { OnOk result ((lane : Lane) × (slice_get self.old.lanes.items processor ≡ Some lane) × (course : Course) × (slice_get self.new.courses.items task ≡ Some course) × PlansTask self.old.pace processor now lane.tick course self.old.agenda self.new.agenda) }
         ensures pace { self.new.pace ≡ self.old.pace }
     {
         let mut lane = self.lane(processor)?;
+        let tick = self.next_tick(processor, lane.tick, now)?;
         lane.run = Some(task);
         lane.since = now;
+        lane.tick = Some(tick);
         self.set_lane(processor, lane)?;
         let course = self.move_to(processor, task)?;
-        if was_idle {
-            self.plan_next_tick(processor, now)?;
-        }
         self.plan_end(processor, &course, now)
     }
 
     /// A task is taken to a processor: how far it has come with that.
     fn move_to(&mut self, processor: u8, task: u16) -> Result<Course, Astray>
         ensures accounts { OnOk result (accounts_of self.new ≡ of_task (moved_to processor self.old.pace.migration_cost) task (accounts_of self.old)) }
+        ensures there { IfOk result (λ course. slice_get self.new.courses.items task ≡ Some course) }
+        ensures agenda { self.new.agenda ≡ self.old.agenda }
         ensures pace { self.new.pace ≡ self.old.pace }
     {
         let cost = self.pace.migration_cost;
@@ -260,34 +283,27 @@ impl Roster {
         Ok(*course)
     }
 
-    /// The next tick of a processor, at a multiple of the time between two.
-    fn plan_next_tick(&mut self, processor: u8, now: u64) -> Result<(), Astray>
-        ensures accounts { accounts_of self.new ≡ accounts_of self.old }
-        ensures pace { self.new.pace ≡ self.old.pace }
-    {
-        self.plan(Due::Tick(processor), next_after(now, self.pace.tick)?)
-    }
-
     /// Nothing runs at a processor from now on: it does not tick, and looks at once for a task to pull.
     fn idle(&mut self, processor: u8, now: u64) -> Result<(), Astray>
-        ensures accounts { OnOk result (accounts_of self.new ≡ taken_over processor None now self.old.pace.migration_cost (accounts_of self.old)) }
+        ensures accounts { OnOk result (accounts_of self.new ≡ taken_over processor None now self.old.pace (accounts_of self.old)) }
         ensures pace { self.new.pace ≡ self.old.pace }
-        ensures tick { OnOk result (at_place self.new.agenda (place_of (Due.Tick processor)) ≡ never) }
-        ensures end { OnOk result (at_place self.new.agenda (place_of (Due.End processor)) ≡ never) }
+        ensures plans { OnOk result ((lane : Lane) × (slice_get self.old.lanes.items processor ≡ Some lane) × PlansNone self.old.pace processor now lane.look self.old.agenda self.new.agenda) }
     {
         let mut lane = self.lane(processor)?;
+        let look = lane.look;
         lane.run = None;
+        lane.tick = None;
+        lane.look = look.map(|_| now);
         self.set_lane(processor, lane)?;
         self.drop_plan(Due::End(processor))?;
         self.drop_plan(Due::Tick(processor))?;
-        if self.processors() < 2 {
-            return Ok(());
-        }
-        self.plan(Due::Pull(processor), now)
+        self.look_at_once(processor, look, now)
     }
 
     /// The phase of the task that runs at a processor ends when it has got what is left of it.
     pub fn plan_end(&mut self, processor: u8, course: &Course, now: u64) -> Result<(), Astray>
+        ensures planned { OnOk result (IsPlanned self.old.pace.end (Due.End processor) (end_of now course.now) self.old.agenda self.new.agenda) }
+        ensures stray { IfErr result (λ _. (course.now.due < course.now.got) ⊎ (64 ≤ processor)) }
         ensures courses { self.new.courses ≡ self.old.courses }
         ensures lanes { self.new.lanes ≡ self.old.lanes }
         ensures pace { self.new.pace ≡ self.old.pace }
@@ -316,6 +332,7 @@ impl Roster {
     pub fn end_phase(&mut self, processor: u8, now: u64) -> Result<(u16, Course), Astray>
         ensures done { IfOk result (λ ended. IsDone (accounts_of self.new) processor ended.0 ended.1) }
         ensures accounts { OnOk result (accounts_of self.new ≡ charged processor now (accounts_of self.old)) }
+        ensures agenda { self.new.agenda ≡ self.old.agenda }
         ensures pace { self.new.pace ≡ self.old.pace }
     {
         self.charge(processor, now)?;
@@ -331,7 +348,8 @@ impl Roster {
 
     /// The task that ran at a processor has gone from its queue; the next one runs there, or none.
     pub fn leave(&mut self, processor: u8, run: Option<u16>, now: u64) -> Result<(), Astray>
-        ensures accounts { OnOk result (accounts_of self.new ≡ left_by processor run now self.old.pace.migration_cost (accounts_of self.old)) }
+        ensures accounts { OnOk result (accounts_of self.new ≡ left_by processor run now self.old.pace (accounts_of self.old)) }
+        ensures plans { OnOk result (PlansSwitch self.old.pace processor run now (shrunk processor (accounts_of self.old)) self.new.courses.items self.old.agenda self.new.agenda) }
         ensures pace { self.new.pace ≡ self.old.pace }
     {
         self.shrink(processor)?;
@@ -346,7 +364,8 @@ impl Roster {
         run: Option<u16>,
         now: u64,
     ) -> Result<(), Astray>
-        ensures accounts { OnOk result (accounts_of self.new ≡ entered_by processor count run now self.old.pace.migration_cost (accounts_of self.old)) }
+        ensures accounts { OnOk result (accounts_of self.new ≡ entered_by processor count run now self.old.pace (accounts_of self.old)) }
+        ensures plans { OnOk result (PlansSwitch self.old.pace processor run now (grown processor count (accounts_of self.old)) self.new.courses.items self.old.agenda self.new.agenda) }
         ensures pace { self.new.pace ≡ self.old.pace }
     {
         self.grow(processor, count)?;
@@ -365,7 +384,7 @@ impl Roster {
 
     /// A processor has one task less.
     fn shrink(&mut self, processor: u8) -> Result<(), Astray>
-        ensures accounts { OnOk result (accounts_of self.new ≡ of_processor (λ l. record l { size = l.size - 1 }) processor (accounts_of self.old)) }
+        ensures accounts { OnOk result (accounts_of self.new ≡ shrunk processor (accounts_of self.old)) }
         ensures agenda { self.new.agenda ≡ self.old.agenda }
         ensures pace { self.new.pace ≡ self.old.pace }
     {
@@ -381,7 +400,7 @@ impl Roster {
 
     /// A processor has so many tasks more.
     fn grow(&mut self, processor: u8, count: u32) -> Result<(), Astray>
-        ensures accounts { OnOk result (accounts_of self.new ≡ of_processor (λ l. record l { size = l.size + count }) processor (accounts_of self.old)) }
+        ensures accounts { OnOk result (accounts_of self.new ≡ grown processor count (accounts_of self.old)) }
         ensures agenda { self.new.agenda ≡ self.old.agenda }
         ensures pace { self.new.pace ≡ self.old.pace }
     {
@@ -395,11 +414,12 @@ impl Roster {
         Ok(())
     }
 
-    /// Whether no task has run past its phase, no timer wakes one any more until the end, and no phase of a task that runs ends.
+    /// Whether no task has run past its phase, and until the end no timer wakes one any more, no phase of a task that runs ends,
+    /// and no processor ticks or looks for a task to pull.
     pub fn is_over(&self, end: u64) -> bool
         ensures { result ≡ is_over end (accounts_of self.now) }
     {
-        self.all_keep_time(end) && self.all_run_past(end)
+        self.all_keep_time(end) && self.all_run_past(end) && self.all_rest_past(end)
     }
 
     /// Whether no task has run past its phase, and no timer wakes one any more until the end.
@@ -416,6 +436,13 @@ impl Roster {
         self.lanes.iter().all(|lane| self.runs_past(lane, end))
     }
 
+    /// Whether no processor ticks or looks for a task to pull any more until the end.
+    fn all_rest_past(&self, end: u64) -> bool
+        ensures { result ≡ list_all (rests_past end) self.now.lanes.items }
+    {
+        self.lanes.iter().all(|lane| lane.rests_past(end))
+    }
+
     /// Whether the phase of the task that runs at a processor ends after the end; also where none runs.
     fn runs_past(&self, lane: &Lane, end: u64) -> bool
         ensures { result ≡ runs_past end self.now.courses.items lane.now }
@@ -427,39 +454,5 @@ impl Roster {
             },
             None => true,
         }
-    }
-
-    /// The processor with the most tasks, the least number where several have, unless it has less than two.
-    pub fn largest(&self) -> Option<u8> {
-        let mut best: Option<u8> = None;
-        let mut size = 1;
-        for processor in 0..64 {
-            if let Some(lane) = self.lanes.get(usize::from(processor)) {
-                if lane.size > size {
-                    best = Some(processor);
-                    size = lane.size;
-                }
-            }
-        }
-        best
-    }
-
-    /// The next tick of a processor that has ticked.
-    pub fn plan_tick(&mut self, processor: u8, now: u64) -> Result<(), Astray>
-        ensures accounts { accounts_of self.new ≡ accounts_of self.old }
-        ensures pace { self.new.pace ≡ self.old.pace }
-    {
-        if self.lane(processor)?.run.is_none() {
-            return Ok(());
-        }
-        self.plan_next_tick(processor, now)
-    }
-
-    /// The next pull of a processor that has looked for a task.
-    pub fn plan_pull(&mut self, processor: u8, now: u64) -> Result<(), Astray>
-        ensures accounts { accounts_of self.new ≡ accounts_of self.old }
-        ensures pace { self.new.pace ≡ self.old.pace }
-    {
-        self.plan(Due::Pull(processor), next_after(now, self.pace.balance)?)
     }
 }

@@ -15,65 +15,74 @@ use Rattle.bq_actions.specs.declared.workload.TaskKind.{TaskKind}
 use Rattle.bq_actions.specs.declared.course.Course.{Course}
 use Rattle.bq_actions.specs.declared.lane.Lane.{Lane}
 use Rattle.bq_actions.specs.declared.roster.Pace.{Pace}
-use Rattle.bq_actions.specs.Accounts.{Accounts, IsDone, accounts_of, charged, of_task}
+use Rattle.bq_actions.specs.Accounts.{Accounts, IsDone, LooksAt, TicksAt, accounts_of, beaten, charged, looked, of_task}
 use Rattle.bq_actions.specs.Courses.{fresh, woken}
+use Rattle.bq_actions.specs.Dues.{IsSource}
 use Rattle.bq_simulate.specs.declared.simulation.Simulation.{Simulation}
-use Rattle.bq_simulate.specs.Actions.{IsOfKind, acted, asked_by, next_action, start_of}
-use Rattle.bq_simulate.specs.Chronicles.{Acts, Book, Deed, Happens, IsDue, IsWoken, Joins, Lives, Reaches, Rings, after_act, after_answer, after_event, drawn_with, events_of, joined, length_taken}
-use Rattle.bq_simulate.specs.Simulations.{Befell, DrawsFor, HasDrawn, Lived, Same, Silent, Stays, book_of, streams_after}
-use Rattle.bq_simulate.specs.Steps.{AreWake, Follow, IsAct, IsJoin}
+use Rattle.bq_simulate.specs.Actions.{IsOfKind, acted, aim_of, asked_by, first_of, next_action, start_of}
+use Rattle.bq_simulate.specs.Chronicles.{Acts, Beats, Book, Deed, Happens, IsDue, IsWoken, Joins, Lives, Looks, Misses, Reaches, Rings, after_act, after_answer, after_beat, after_event, after_look, drawn_with, events_of, joined, length_taken}
+use Rattle.bq_simulate.specs.Simulations.{Befell, DrawsFor, HasDrawn, HasFirsts, Lived, Same, Silent, Stays, book_of, streams_after}
+use Rattle.bq_simulate.specs.Steps.{AreJust, AreWake, Follow, IsAct, IsJoin}
+use Rattle.bq_simulate.proofs.KindLemmas.{firsts-pushed}
 use Rattle.bq_simulate.proofs.StreamLemmas.{gives_if_asked, opened-streams}
 
 -- some, and then others
-pub Lives-append : (kinds : List TaskKind) (seed cost : ℕ) (d m e : Driver) (a b c : Book) (xs ys : List Deed) (told more : Told) → Lives kinds seed cost d a xs told m b → Lives kinds seed cost m b ys more e c → Lives kinds seed cost d a (xs ++ ys) (told ++ more) e c
-Lives-append kinds seed cost d m e a b c [] ys told more h k =
-    let P : Told → Type 0 = λ t. Lives kinds seed cost d a ys (t ++ more) e c in
-    let Q : Driver → Type 0 = λ x. Lives kinds seed cost x a ys more e c in
-    let R : Book → Type 0 = λ x. Lives kinds seed cost m x ys more e c in
+pub Lives-append : (kinds : List TaskKind) (seed : ℕ) (pace : Pace) (d m e : Driver) (a b c : Book) (xs ys : List Deed) (told more : Told) → Lives kinds seed pace d a xs told m b → Lives kinds seed pace m b ys more e c → Lives kinds seed pace d a (xs ++ ys) (told ++ more) e c
+Lives-append kinds seed pace d m e a b c [] ys told more h k =
+    let P : Told → Type 0 = λ t. Lives kinds seed pace d a ys (t ++ more) e c in
+    let Q : Driver → Type 0 = λ x. Lives kinds seed pace x a ys more e c in
+    let R : Book → Type 0 = λ x. Lives kinds seed pace m x ys more e c in
     subst P (sym h.0) (subst Q h.1 (subst R h.2 k))
-Lives-append kinds seed cost d m e a b c (Happens event reply ∷ xs) ys told more (due, mid, first, rest, does, lives, whole) k =
-    (due, mid, first, rest ++ more, does, Lives-append kinds seed cost mid m e (after_answer cost event reply a) b c xs ys rest more lives k, ap (λ t. t ++ more) whole ∙ append_assoc first rest more)
-Lives-append kinds seed cost d m e a b c (Joins kind home ∷ xs) ys told more (of, lives) k = (of, Lives-append kinds seed cost d m e (joined kinds kind home a) b c xs ys told more lives k)
-Lives-append kinds seed cost d m e a b c (Acts at task now action ∷ xs) ys told more (c', done, is, lives) k = (c', done, is, Lives-append kinds seed cost d m e (after_act kinds seed at task now c' a) b c xs ys told more lives k)
-Lives-append kinds seed cost d m e a b c (Rings task now ∷ xs) ys told more (c', there, asleep, timer, lives) k = (c', there, asleep, timer, Lives-append kinds seed cost d m e a b c xs ys told more lives k)
-Lives-append kinds seed cost d m e a b c (Reaches task ∷ xs) ys told more (c', there, waits, lives) k = (c', there, waits, Lives-append kinds seed cost d m e a b c xs ys told more lives k)
+Lives-append kinds seed pace d m e a b c (Happens event reply ∷ xs) ys told more (due, mid, first, rest, does, lives, whole) k =
+    (due, mid, first, rest ++ more, does, Lives-append kinds seed pace mid m e (after_answer pace event reply a) b c xs ys rest more lives k, ap (λ t. t ++ more) whole ∙ append_assoc first rest more)
+Lives-append kinds seed pace d m e a b c (Joins kind home ∷ xs) ys told more (of, lives) k = (of, Lives-append kinds seed pace d m e (joined kinds kind home a) b c xs ys told more lives k)
+Lives-append kinds seed pace d m e a b c (Acts at task now action aim ∷ xs) ys told more (c', done, is, to, lives) k = (c', done, is, to, Lives-append kinds seed pace d m e (after_act kinds seed at task now c' a) b c xs ys told more lives k)
+Lives-append kinds seed pace d m e a b c (Rings task now ∷ xs) ys told more (c', there, asleep, timer, lives) k = (c', there, asleep, timer, Lives-append kinds seed pace d m e a b c xs ys told more lives k)
+Lives-append kinds seed pace d m e a b c (Reaches task ∷ xs) ys told more (c', there, waits, lives) k = (c', there, waits, Lives-append kinds seed pace d m e a b c xs ys told more lives k)
+Lives-append kinds seed pace d m e a b c (Misses task ∷ xs) ys told more (c', there, waits, lives) k = (c', there, waits, Lives-append kinds seed pace d m e a b c xs ys told more lives k)
+Lives-append kinds seed pace d m e a b c (Beats at now ∷ xs) ys told more (ticks, lives) k = (ticks, Lives-append kinds seed pace d m e (after_beat pace at now a) b c xs ys told more lives k)
+Lives-append kinds seed pace d m e a b c (Looks at now source ∷ xs) ys told more (looks, from, lives) k = (looks, from, Lives-append kinds seed pace d m e (after_look pace at now a) b c xs ys told more lives k)
 
 -- the events among them were driven
-pub drives-of-lives : (kinds : List TaskKind) (seed cost : ℕ) (d e : Driver) (a b : Book) (xs : List Deed) (told : Told) → Lives kinds seed cost d a xs told e b → Drives d (events_of xs) told e
-drives-of-lives kinds seed cost d e a b [] told h = (h.0, h.1)
-drives-of-lives kinds seed cost d e a b (Happens event reply ∷ xs) told (due, mid, first, rest, does, lives, whole) = (reply, mid, first, rest, does, drives-of-lives kinds seed cost mid e (after_answer cost event reply a) b xs rest lives, whole)
-drives-of-lives kinds seed cost d e a b (Joins kind home ∷ xs) told (of, lives) = drives-of-lives kinds seed cost d e (joined kinds kind home a) b xs told lives
-drives-of-lives kinds seed cost d e a b (Acts at task now action ∷ xs) told (c, done, is, lives) = drives-of-lives kinds seed cost d e (after_act kinds seed at task now c a) b xs told lives
-drives-of-lives kinds seed cost d e a b (Rings task now ∷ xs) told (c, there, asleep, timer, lives) = drives-of-lives kinds seed cost d e a b xs told lives
-drives-of-lives kinds seed cost d e a b (Reaches task ∷ xs) told (c, there, waits, lives) = drives-of-lives kinds seed cost d e a b xs told lives
+pub drives-of-lives : (kinds : List TaskKind) (seed : ℕ) (pace : Pace) (d e : Driver) (a b : Book) (xs : List Deed) (told : Told) → Lives kinds seed pace d a xs told e b → Drives d (events_of xs) told e
+drives-of-lives kinds seed pace d e a b [] told h = (h.0, h.1)
+drives-of-lives kinds seed pace d e a b (Happens event reply ∷ xs) told (due, mid, first, rest, does, lives, whole) = (reply, mid, first, rest, does, drives-of-lives kinds seed pace mid e (after_answer pace event reply a) b xs rest lives, whole)
+drives-of-lives kinds seed pace d e a b (Joins kind home ∷ xs) told (of, lives) = drives-of-lives kinds seed pace d e (joined kinds kind home a) b xs told lives
+drives-of-lives kinds seed pace d e a b (Acts at task now action aim ∷ xs) told (c, done, is, to, lives) = drives-of-lives kinds seed pace d e (after_act kinds seed at task now c a) b xs told lives
+drives-of-lives kinds seed pace d e a b (Rings task now ∷ xs) told (c, there, asleep, timer, lives) = drives-of-lives kinds seed pace d e a b xs told lives
+drives-of-lives kinds seed pace d e a b (Reaches task ∷ xs) told (c, there, waits, lives) = drives-of-lives kinds seed pace d e a b xs told lives
+drives-of-lives kinds seed pace d e a b (Misses task ∷ xs) told (c, there, waits, lives) = drives-of-lives kinds seed pace d e a b xs told lives
+drives-of-lives kinds seed pace d e a b (Beats at now ∷ xs) told (ticks, lives) = drives-of-lives kinds seed pace d e (after_beat pace at now a) b xs told lives
+drives-of-lives kinds seed pace d e a b (Looks at now source ∷ xs) told (looks, from, lives) = drives-of-lives kinds seed pace d e (after_look pace at now a) b xs told lives
 
 -- a simulation goes on, and then on
 pub Lived-join : {S : Type 0} (takes : S → ℕ → News → S → Type 0) (kinds : List TaskKind) (A B C : List Deed → Type 0) → ((xs ys : List Deed) → A xs → B ys → C (xs ++ ys)) → (x y z : S) (s t u : Simulation)
     → Lived takes kinds A x s y t → Lived takes kinds B y t z u → Lived takes kinds C x s z u
-Lived-join takes kinds A B C join x y z s t u goes more drawn had =
-    let first = goes drawn had in
-    let second = more first.after first.streams in
-    let P : Pace → Type 0 = λ pace. Lives kinds t.seed pace.migration_cost t.driver (book_of t first.after) second.deeds second.tells.told u.driver (book_of u second.after) in
-    let Q : ℕ → Type 0 = λ seed. Lives kinds seed s.roster.pace.migration_cost t.driver (book_of t first.after) second.deeds second.tells.told u.driver (book_of u second.after) in
+Lived-join takes kinds A B C join x y z s t u goes more drawn had firsts =
+    let first = goes drawn had firsts in
+    let second = more first.after first.streams first.firsts in
+    let P : Pace → Type 0 = λ pace. Lives kinds t.seed pace t.driver (book_of t first.after) second.deeds second.tells.told u.driver (book_of u second.after) in
+    let Q : ℕ → Type 0 = λ seed. Lives kinds seed s.roster.pace t.driver (book_of t first.after) second.deeds second.tells.told u.driver (book_of u second.after) in
     record {
       deeds = first.deeds ++ second.deeds;
       after = second.after;
       pace = second.pace ∙ first.pace;
       seed = second.seed ∙ first.seed;
       streams = second.streams;
+      firsts = second.firsts;
       tells = record {
         told = first.tells.told ++ second.tells.told;
         taken = TakesAll-append takes x y z first.tells.told second.tells.told first.tells.taken second.tells.taken;
-        holds = Lives-append kinds s.seed s.roster.pace.migration_cost s.driver t.driver u.driver (book_of s drawn) (book_of t first.after) (book_of u second.after) first.deeds second.deeds first.tells.told second.tells.told first.tells.holds (subst Q first.seed (subst P first.pace second.tells.holds));
+        holds = Lives-append kinds s.seed s.roster.pace s.driver t.driver u.driver (book_of s drawn) (book_of t first.after) (book_of u second.after) first.deeds second.deeds first.tells.told second.tells.told first.tells.holds (subst Q first.seed (subst P first.pace second.tells.holds));
       };
       are = join first.deeds second.deeds first.are second.are;
     }
 
 -- what holds of its deeds holds in other words
 pub Lived-weaker : {S : Type 0} (takes : S → ℕ → News → S → Type 0) (kinds : List TaskKind) (A B : List Deed → Type 0) → ((xs : List Deed) → A xs → B xs) → (x y : S) (s t : Simulation) → Lived takes kinds A x s y t → Lived takes kinds B x s y t
-Lived-weaker takes kinds A B weaker x y s t goes drawn had =
-    let h = goes drawn had in
-    record { deeds = h.deeds; after = h.after; pace = h.pace; seed = h.seed; streams = h.streams; tells = h.tells; are = weaker h.deeds h.are }
+Lived-weaker takes kinds A B weaker x y s t goes drawn had firsts =
+    let h = goes drawn had firsts in
+    record { deeds = h.deeds; after = h.after; pace = h.pace; seed = h.seed; streams = h.streams; firsts = h.firsts; tells = h.tells; are = weaker h.deeds h.are }
 
 -- what holds of its events holds in other words
 pub Befell-weaker : {S : Type 0} (takes : S → ℕ → News → S → Type 0) (A B : List Deed → Type 0) → ((xs : List Deed) → A xs → B xs) → (x y : S) (s t : Simulation) → Befell takes A x s y t → Befell takes B x s y t
@@ -81,22 +90,27 @@ Befell-weaker takes A B weaker x y s t befell kinds = Lived-weaker takes kinds A
 
 -- of deeds of which nothing is told a sink is told nothing
 pub Lived-silent : {S : Type 0} (takes : S → ℕ → News → S → Type 0) (kinds : List TaskKind) (A : List Deed → Type 0) (x : S) (s t : Simulation) → Silent kinds A s t → Lived takes kinds A x s x t
-Lived-silent takes kinds A x s t silent drawn had =
-    let h = silent drawn had in
-    record { deeds = h.deeds; after = h.after; pace = h.pace; seed = h.seed; streams = h.streams; tells = record { told = []; taken = refl; holds = h.lives }; are = h.are }
+Lived-silent takes kinds A x s t silent drawn had firsts =
+    let h = silent drawn had firsts in
+    record { deeds = h.deeds; after = h.after; pace = h.pace; seed = h.seed; streams = h.streams; firsts = h.firsts; tells = record { told = []; taken = refl; holds = h.lives }; are = h.are }
 
 -- streams that have not changed
 streams-stay : (s t : Simulation) (drawn : List ℕ) → Stays s t → HasDrawn s drawn → HasDrawn t drawn
 streams-stay s t drawn stays had = ap (λ v. v.items) stays.streams ∙ had ∙ ap (λ n. streams_after n 0 drawn) (sym stays.seed)
 
+-- the first tasks of kinds have not changed
+firsts-stay : (kinds : List TaskKind) (s t : Simulation) → Stays s t → HasFirsts kinds s → HasFirsts kinds t
+firsts-stay kinds s t stays had number first there = had number first (ap (λ v. slice_get v.items number) (sym stays.firsts) ∙ there)
+
 -- nothing was done
 pub Lived-same : {S : Type 0} (takes : S → ℕ → News → S → Type 0) (A : List Deed → Type 0) → A [] → (x : S) (s t : Simulation) → Same s t → Befell takes A x s x t
-Lived-same takes A none x s t same kinds drawn had = record {
+Lived-same takes A none x s t same kinds drawn had firsts = record {
   deeds = [];
   after = drawn;
   pace = same.stays.pace;
   seed = same.stays.seed;
   streams = streams-stay s t drawn same.stays had;
+  firsts = firsts-stay kinds s t same.stays firsts;
   tells = record { told = []; taken = refl; holds = (refl, same.driver, ap (λ (a : Accounts). record { accounts = a; drawn = drawn }) same.accounts) };
   are = none;
 }
@@ -119,21 +133,26 @@ pub Lived-then : {S : Type 0} (takes : S → ℕ → News → S → Type 0) (kin
 Lived-then takes kinds A x y s t u first same =
     Lived-join takes kinds A AreNone A (λ xs ys are none. subst (λ (l : List Deed). A (xs ++ l)) (sym none) (subst A (sym (append-nil xs)) are)) x y y s t u first (Lived-same takes AreNone refl y t u same kinds)
 
+-- what follows an action of a task, and comes to the one that it aims at
+abbrev follows : List TaskKind → Course → ℕ → ℕ → Option Action → List Deed → Type 0
+follows kinds c processor now action deeds = Follow action (aim_of kinds c action) processor now deeds
+
 -- an action is followed by what follows that action
-pub Follow-same : {S : Type 0} (takes : S → ℕ → News → S → Type 0) (a b : Option Action) (processor now : ℕ) (x y : S) (s t : Simulation) → a ≡ b → Befell takes (Follow b processor now) x s y t → Befell takes (Follow a processor now) x s y t
-Follow-same takes a b processor now x y s t is befell = subst (λ (o : Option Action). Befell takes (Follow o processor now) x s y t) (sym is) befell
+pub Follow-same : {S : Type 0} (takes : S → ℕ → News → S → Type 0) (kinds : List TaskKind) (c : Course) (a b : Option Action) (processor now : ℕ) (x y : S) (s t : Simulation) → a ≡ b
+    → Lived takes kinds (Follow b (aim_of kinds c b) processor now) x s y t → Lived takes kinds (Follow a (aim_of kinds c a) processor now) x s y t
+Follow-same takes kinds c a b processor now x y s t is lived = subst (λ (o : Option Action). Lived takes kinds (follows kinds c processor now o) x s y t) (sym is) lived
 
 -- where twice nothing was done, nothing was done
 pub Same-join : (s t u : Simulation) → Same s t → Same t u → Same s u
 Same-join s t u first more = record {
   driver = more.driver ∙ first.driver;
   accounts = more.accounts ∙ first.accounts;
-  stays = record { pace = more.stays.pace ∙ first.stays.pace; seed = more.stays.seed ∙ first.stays.seed; streams = more.stays.streams ∙ first.stays.streams };
+  stays = record { pace = more.stays.pace ∙ first.stays.pace; seed = more.stays.seed ∙ first.stays.seed; streams = more.stays.streams ∙ first.stays.streams; firsts = more.stays.firsts ∙ first.stays.firsts };
 }
 
 -- in one simulation nothing was done
 pub Same-here : (s : Simulation) → Same s s
-Same-here s = record { driver = refl; accounts = refl; stays = record { pace = refl; seed = refl; streams = refl } }
+Same-here s = record { driver = refl; accounts = refl; stays = record { pace = refl; seed = refl; streams = refl; firsts = refl } }
 
 -- accounts of equal lists
 abbrev pub both : List Course → List Lane → Accounts
@@ -151,8 +170,8 @@ of_task_at f task a c there = ap (λ (o : Option Course). both (option_map_or (�
 pub Silent-acts : (kinds : List TaskKind) (s m n t : Simulation) (processor task now length : ℕ) (action : Option Action) (c next : Course) → action ≡ next_action kinds c
     → Stays s m → m.driver ≡ s.driver → accounts_of m.roster ≡ charged processor now (accounts_of s.roster) → IsDone (accounts_of m.roster) processor task c
     → DrawsFor task (asked_by (next_action kinds c)) m length n → next ≡ acted kinds (next_action kinds c) length now c
-    → Stays n t → t.driver ≡ n.driver → t.roster.courses.items ≡ slice_set n.roster.courses.items task next → t.roster.lanes.items ≡ n.roster.lanes.items → Silent kinds (IsAct processor task now action) s t
-Silent-acts kinds s m n t processor task now length action c next is ended driver counted done draws does set driver' courses lanes drawn had =
+    → Stays n t → t.driver ≡ n.driver → t.roster.courses.items ≡ slice_set n.roster.courses.items task next → t.roster.lanes.items ≡ n.roster.lanes.items → Silent kinds (IsAct processor task now action (aim_of kinds c action)) s t
+Silent-acts kinds s m n t processor task now length action c next is ended driver counted done draws does set driver' courses lanes drawn had firsts =
     let asked = asked_by (next_action kinds c) in
     let g = gives_if_asked task asked m length n draws drawn (streams-stay s m drawn ended had) in
     let P : Accounts → Type 0 = λ a. IsDone a processor task c in
@@ -163,48 +182,84 @@ Silent-acts kinds s m n t processor task now length action c next is ended drive
     let accounts = same_accounts _ _ _ _ courses lanes ∙ sym (of_task_at (λ _. next) task (accounts_of n.roster) c there) ∙ ap (of_task (λ _. next) task) (same ∙ counted)
     ∙ ap (λ (k : Course). of_task (λ _. k) task (charged processor now (accounts_of s.roster))) becomes in
     record {
-      deeds = Acts processor task now action ∷ [];
+      deeds = Acts processor task now action (aim_of kinds c action) ∷ [];
       after = drawn_with task drawn asked;
       pace = set.pace ∙ ap (λ r. r.pace) g.roster ∙ ended.pace;
       seed = set.seed ∙ g.seed ∙ ended.seed;
       streams = streams-stay n t (drawn_with task drawn asked) set g.streams;
-      lives = (c, subst P counted done, is, (refl, driver' ∙ g.driver ∙ driver, ap (λ (a : Accounts). record { accounts = a; drawn = drawn_with task drawn asked }) accounts));
+      firsts = λ number first there. firsts number first (ap (λ v. slice_get v.items number) (sym (set.firsts ∙ g.firsts ∙ ended.firsts)) ∙ there);
+      lives = (c, subst P counted done, is, ap (aim_of kinds c) is, (refl, driver' ∙ g.driver ∙ driver, ap (λ (a : Accounts). record { accounts = a; drawn = drawn_with task drawn asked }) accounts));
       are = refl;
     }
 
 -- a task is there, with its stream
-pub Silent-joins : (kinds : List TaskKind) (s t : Simulation) (kind home : ℕ) → t.roster.pace ≡ s.roster.pace → t.seed ≡ s.seed → t.driver ≡ s.driver
+pub Silent-joins : (kinds : List TaskKind) (s t : Simulation) (kind home : ℕ) → t.roster.pace ≡ s.roster.pace → t.seed ≡ s.seed → t.driver ≡ s.driver → t.firsts ≡ s.firsts
     → t.roster.courses.items ≡ s.roster.courses.items ++ fresh kind home (start_of kinds kind) ∷ [] → t.roster.lanes.items ≡ s.roster.lanes.items
     → t.streams.items ≡ s.streams.items ++ stream_of_task s.seed (length s.streams.items) ∷ []
     → IsOfKind kinds (length s.roster.courses.items) kind → Silent kinds (IsJoin kind home) s t
-Silent-joins kinds s t kind home pace seed driver courses lanes streams of drawn had = record {
+Silent-joins kinds s t kind home pace seed driver kept courses lanes streams of drawn had firsts = record {
   deeds = Joins kind home ∷ [];
   after = drawn ++ 0 ∷ [];
   pace = pace;
   seed = seed;
   streams = opened-streams s t drawn seed streams had;
+  firsts = λ number first there. firsts number first (ap (λ v. slice_get v.items number) (sym kept) ∙ there);
   lives = (of, (refl, driver, ap (λ (a : Accounts). record { accounts = a; drawn = drawn ++ 0 ∷ [] }) (same_accounts _ _ _ _ courses lanes)));
   are = refl;
 }
 
--- one deed of which nothing is told and which changes nothing, and then what befalls
-pub Befell-first : {S : Type 0} (takes : S → ℕ → News → S → Type 0) (A B : List Deed → Type 0) (x y : S) (s t : Simulation) (deed : Deed)
-    → ((kinds : List TaskKind) (drawn : List ℕ) → Lives kinds s.seed s.roster.pace.migration_cost s.driver (book_of s drawn) (deed ∷ []) [] s.driver (book_of s drawn))
-    → ((xs : List Deed) → A xs → B (deed ∷ xs)) → Befell takes A x s y t → Befell takes B x s y t
-Befell-first takes A B x y s t deed lives first befell kinds =
+-- the first task of the next kind is kept
+pub Silent-begins : (kinds : List TaskKind) (s t : Simulation) (number : ℕ) → length s.firsts.items ≡ number → t.roster ≡ s.roster → t.seed ≡ s.seed → t.streams ≡ s.streams → t.driver ≡ s.driver
+    → t.firsts.items ≡ s.firsts.items ++ first_of kinds number ∷ [] → Silent kinds (AreJust []) s t
+Silent-begins kinds s t number long roster seed streams driver pushed drawn had firsts = record {
+  deeds = [];
+  after = drawn;
+  pace = ap (λ r. r.pace) roster;
+  seed = seed;
+  streams = ap (λ v. v.items) streams ∙ had ∙ ap (λ n. streams_after n 0 drawn) (sym seed);
+  firsts = λ n first there. firsts-pushed kinds s.firsts.items number long firsts n first (ap (λ (l : List ℕ). slice_get l n) (sym pushed) ∙ there);
+  lives = (refl, driver, ap (λ r. record { accounts = accounts_of r; drawn = drawn }) roster);
+  are = refl;
+}
+
+-- one deed of which nothing is told and for which no length is drawn, and then what befalls
+pub Befell-first : {S : Type 0} (takes : S → ℕ → News → S → Type 0) (A B : List Deed → Type 0) (x y : S) (s t u : Simulation) (deed : Deed) → Stays s t
+    → ((kinds : List TaskKind) (drawn : List ℕ) → Lives kinds s.seed s.roster.pace s.driver (book_of s drawn) (deed ∷ []) [] t.driver (book_of t drawn))
+    → ((xs : List Deed) → A xs → B (deed ∷ xs)) → Befell takes A x t y u → Befell takes B x s y u
+Befell-first takes A B x y s t u deed stays lives first befell kinds =
     let one : List Deed → Type 0 = λ xs. xs ≡ deed ∷ [] in
-    let silent : Silent kinds one s s = λ drawn had. record { deeds = deed ∷ []; after = drawn; pace = refl; seed = refl; streams = had; lives = lives kinds drawn; are = refl } in
-    Lived-join takes kinds one A B (λ xs ys is are. subst (λ (l : List Deed). B (l ++ ys)) (sym is) (first ys are)) x x y s s t (Lived-silent takes kinds one x s s silent) (befell kinds)
+    let silent : Silent kinds one s t =
+    λ drawn had firsts. record { deeds = deed ∷ []; after = drawn; pace = stays.pace; seed = stays.seed; streams = streams-stay s t drawn stays had; firsts = firsts-stay kinds s t stays firsts; lives = lives kinds drawn; are = refl } in
+    Lived-join takes kinds one A B (λ xs ys is are. subst (λ (l : List Deed). B (l ++ ys)) (sym is) (first ys are)) x x y s t u (Lived-silent takes kinds one x s t silent) (befell kinds)
+
+-- in one simulation nothing changes
+pub Stays-here : (s : Simulation) → Stays s s
+Stays-here s = record { pace = refl; seed = refl; streams = refl; firsts = refl }
+
+-- a clock beats, and then what befalls
+pub Befell-beats : {S : Type 0} (takes : S → ℕ → News → S → Type 0) (A B : List Deed → Type 0) (x y : S) (s t u : Simulation) (processor now : ℕ) → TicksAt (accounts_of s.roster) processor now → Stays s t
+    → t.driver ≡ s.driver → accounts_of t.roster ≡ beaten processor now s.roster.pace.tick (accounts_of s.roster)
+    → ((xs : List Deed) → A xs → B (Beats processor now ∷ xs)) → Befell takes A x t y u → Befell takes B x s y u
+Befell-beats takes A B x y s t u processor now ticks stays driver accounts first befell =
+    Befell-first takes A B x y s t u (Beats processor now) stays (λ kinds drawn. (ticks, (refl, driver, ap (λ (a : Accounts). record { accounts = a; drawn = drawn }) accounts))) first befell
+
+-- a processor looks for a task to pull, and then what befalls
+pub Befell-looks : {S : Type 0} (takes : S → ℕ → News → S → Type 0) (A B : List Deed → Type 0) (x y : S) (s t u : Simulation) (processor now : ℕ) (source : Option ℕ) → LooksAt (accounts_of s.roster) processor now → IsSource s.roster.lanes.items processor source → Stays s t
+    → t.driver ≡ s.driver → accounts_of t.roster ≡ looked processor now s.roster.pace.balance (accounts_of s.roster)
+    → ((xs : List Deed) → A xs → B (Looks processor now source ∷ xs)) → Befell takes A x t y u → Befell takes B x s y u
+Befell-looks takes A B x y s t u processor now source looks from stays driver accounts first befell =
+    Befell-first takes A B x y s t u (Looks processor now source) stays (λ kinds drawn. (looks, from, (refl, driver, ap (λ (a : Accounts). record { accounts = a; drawn = drawn }) accounts))) first befell
 
 -- an event happens
 pub Lived-event : {S : Type 0} (takes : S → ℕ → News → S → Type 0) (A : List Deed → Type 0) (x y : S) (s t : Simulation) (event : Event) (reply : Reply) → A (Happens event reply ∷ []) → IsDue event (accounts_of s.roster) → Stays s t → Did takes x s.driver event reply y t.driver
-    → accounts_of t.roster ≡ after_event s.roster.pace.migration_cost event reply (accounts_of s.roster) → Befell takes A x s y t
-Lived-event takes A x y s t event reply are due stays did accounts kinds drawn had = record {
+    → accounts_of t.roster ≡ after_event s.roster.pace event reply (accounts_of s.roster) → Befell takes A x s y t
+Lived-event takes A x y s t event reply are due stays did accounts kinds drawn had firsts = record {
   deeds = Happens event reply ∷ [];
   after = drawn;
   pace = stays.pace;
   seed = stays.seed;
   streams = streams-stay s t drawn stays had;
+  firsts = firsts-stay kinds s t stays firsts;
   tells = record {
     told = did.told;
     taken = did.taken;
@@ -214,9 +269,9 @@ Lived-event takes A x y s t event reply are due stays did accounts kinds drawn h
 }
 
 -- an event of which the accounts know nothing
-pub Lived-drove : {S : Type 0} (takes : S → ℕ → News → S → Type 0) (A : List Deed → Type 0) (x y : S) (s t : Simulation) (event : Event) → ((reply : Reply) → A (Happens event reply ∷ [])) → IsDue event (accounts_of s.roster) → Stays s t → ((reply : Reply) (a : Accounts) → after_event s.roster.pace.migration_cost event reply a ≡ a)
+pub Lived-drove : {S : Type 0} (takes : S → ℕ → News → S → Type 0) (A : List Deed → Type 0) (x y : S) (s t : Simulation) (event : Event) → ((reply : Reply) → A (Happens event reply ∷ [])) → IsDue event (accounts_of s.roster) → Stays s t → ((reply : Reply) (a : Accounts) → after_event s.roster.pace event reply a ≡ a)
     → Drove takes x s.driver (event ∷ []) y t.driver → accounts_of t.roster ≡ accounts_of s.roster → Befell takes A x s y t
-Lived-drove takes A x y s t event are due stays quiet drove accounts kinds drawn had =
+Lived-drove takes A x y s t event are due stays quiet drove accounts kinds drawn had firsts =
     let h = drove.holds in
     record {
       deeds = Happens event h.0 ∷ [];
@@ -224,6 +279,7 @@ Lived-drove takes A x y s t event are due stays quiet drove accounts kinds drawn
       pace = stays.pace;
       seed = stays.seed;
       streams = streams-stay s t drawn stays had;
+      firsts = firsts-stay kinds s t stays firsts;
       tells = record {
         told = drove.told;
         taken = drove.taken;
@@ -235,8 +291,8 @@ Lived-drove takes A x y s t event are due stays quiet drove accounts kinds drawn
 -- a task is woken, and the processor on which it was placed takes it in
 pub Lived-wakes : {S : Type 0} (takes : S → ℕ → News → S → Type 0) (x y z : S) (s t : Simulation) (m : Driver) (from task to now : ℕ) (reply : Reply) → IsWoken (accounts_of s.roster) from task → Stays s t
     → Gets takes x y (λ told. Places s.driver from task now to told m) → Did takes y m (Drain to now) reply z t.driver
-    → accounts_of t.roster ≡ after_event s.roster.pace.migration_cost (Drain to now) reply (of_task woken task (accounts_of s.roster)) → Befell takes (AreWake from task now) x s z t
-Lived-wakes takes x y z s t m from task to now reply due stays woke did accounts kinds drawn had =
+    → accounts_of t.roster ≡ after_event s.roster.pace (Drain to now) reply (of_task woken task (accounts_of s.roster)) → Befell takes (AreWake from task now) x s z t
+Lived-wakes takes x y z s t m from task to now reply due stays woke did accounts kinds drawn had firsts =
     let h = woke.holds in
     let kept = ap (λ (a : Accounts). record { accounts = a; drawn = drawn }) accounts in
     record {
@@ -245,6 +301,7 @@ Lived-wakes takes x y z s t m from task to now reply due stays woke did accounts
       pace = stays.pace;
       seed = stays.seed;
       streams = streams-stay s t drawn stays had;
+      firsts = firsts-stay kinds s t stays firsts;
       tells = record {
         told = woke.told ++ did.told;
         taken = TakesAll-append takes x y z woke.told did.told woke.taken did.taken;

@@ -1,5 +1,5 @@
 -- Which tasks are of which kind.
-use Rattle.std.proofs.Common.{◌≡◌, ℕ, ◌+◌, ◌<◌, List, [], ◌∷◌, Some, ap, ◌∙◌, arith, get_or, take}
+use Rattle.std.proofs.Common.{◌≡◌, ℕ, zero, suc, ◌+◌, ◌<◌, ◌⊎◌, inl, inr, List, [], ◌∷◌, ◌++◌, None, Some, ap, sym, refl, ◌∙◌, arith, get_or, length, take}
 use Rattle.std.specs.Prelude.{slice_get, sum_by}
 use Rattle.std.proofs.lemmas.List.{take_more}
 use Rattle.std.proofs.lemmas.List.Sums.{sum_by-append}
@@ -21,3 +21,29 @@ first-more kinds number kind there =
 -- the tasks of a kind, one after another
 pub nth-of-kind : (kinds : List TaskKind) (kind : TaskKind) (task number before : ℕ) → slice_get kinds number ≡ Some kind → task ≡ first_of kinds number + before → before < kind.count → IsOfKind kinds task number
 nth-of-kind kinds kind task number before there at low = record { kind = kind; there = there; from = omega (arith, at); below = omega (arith, at, low) }
+
+no_first : (n : ℕ) → None ≡ Some n → ⊥
+no_first n e = cc
+
+same_first : (m n : ℕ) → Some m ≡ Some n → m ≡ n
+same_first m n e = cc
+
+-- what stands in a longer list stands in the shorter one, or is the last
+in_longer : (ns : List ℕ) (last n place : ℕ) → slice_get (ns ++ last ∷ []) place ≡ Some n → (slice_get ns place ≡ Some n) ⊎ ((place ≡ length ns) × (last ≡ n))
+in_longer [] last n zero e = inr (refl, same_first last n e)
+in_longer [] last n (suc place) e = absurd (no_first n e)
+in_longer (m ∷ ns) last n zero e = inl e
+in_longer (m ∷ ns) last n (suc place) e = one (in_longer ns last n place e)
+  where
+    one : (slice_get ns place ≡ Some n) ⊎ ((place ≡ length ns) × (last ≡ n)) → (slice_get (m ∷ ns) (suc place) ≡ Some n) ⊎ ((suc place ≡ length (m ∷ ns)) × (last ≡ n))
+    one (inl there) = inl there
+    one (inr at) = inr (ap suc at.0, at.1)
+
+-- with the first task of the next kind, each is still that of its kind
+pub firsts-pushed : (kinds : List TaskKind) (firsts : List ℕ) (number : ℕ) → length firsts ≡ number → ((place first : ℕ) → slice_get firsts place ≡ Some first → first ≡ first_of kinds place)
+    → (place first : ℕ) → slice_get (firsts ++ first_of kinds number ∷ []) place ≡ Some first → first ≡ first_of kinds place
+firsts-pushed kinds firsts number long had place first there = one (in_longer firsts (first_of kinds number) first place there)
+  where
+    one : (slice_get firsts place ≡ Some first) ⊎ ((place ≡ length firsts) × (first_of kinds number ≡ first)) → first ≡ first_of kinds place
+    one (inl before) = had place first before
+    one (inr last) = sym last.1 ∙ ap (first_of kinds) (sym (last.0 ∙ long))

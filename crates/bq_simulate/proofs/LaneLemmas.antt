@@ -8,7 +8,8 @@ use Rattle.std.proofs.lemmas.List.{map-append}
 use Rattle.bq_parts.specs.declared.event.Event.{Event}
 use Rattle.bq_parts.specs.declared.event.Event.TheVariants.{Tick}
 use Rattle.bq_actions.specs.declared.lane.Lane.{Lane}
-use Rattle.bq_actions.specs.Accounts.{Accounts, changed_at, charged, charged_by, is_same, of_processor, switched, taken_over}
+use Rattle.bq_actions.specs.declared.roster.Pace.{Pace}
+use Rattle.bq_actions.specs.Accounts.{Accounts, changed_at, charged, charged_by, idled, is_same, occupied, of_processor, switched, taken_over}
 use Rattle.bq_simulate.specs.Chronicles.{is_busy}
 use Rattle.bq_simulate.specs.Steps.{all_processors, last_ticks}
 
@@ -38,15 +39,15 @@ charged-others processor now k a h =
     elim (slice_get a.lanes processor) as (λ (o : Option Lane). lane_at k (option_map_or (λ (lane : Lane). of_processor f processor (charged_by lane now a)) o a) ≡ lane_at k a)
     [ None ↦ refl | Some lane ↦ changed_at-others f (charged_by lane now a).lanes processor k h ∙ ap (λ (l : List Lane). slice_get l k) (charged_by-lanes lane now a) ]
 
-taken_over-others : (processor : ℕ) (run : Option ℕ) (now cost k : ℕ) (a : Accounts) → k ≢ processor → lane_at k (taken_over processor run now cost a) ≡ lane_at k a
-taken_over-others processor None now cost k a h = changed_at-others _ a.lanes processor k h
-taken_over-others processor (Some task) now cost k a h = changed_at-others _ a.lanes processor k h
+taken_over-others : (processor : ℕ) (run : Option ℕ) (now : ℕ) (pace : Pace) (k : ℕ) (a : Accounts) → k ≢ processor → lane_at k (taken_over processor run now pace a) ≡ lane_at k a
+taken_over-others processor None now pace k a h = changed_at-others (idled now) a.lanes processor k h
+taken_over-others processor (Some task) now pace k a h = changed_at-others (occupied pace.tick task now) a.lanes processor k h
 
 -- only the lane changes at which another task runs now
-pub switched-others : (processor : ℕ) (run : Option ℕ) (now cost k : ℕ) (a : Accounts) → k ≢ processor → lane_at k (switched processor run now cost a) ≡ lane_at k a
-switched-others processor run now cost k a h =
-    let over = taken_over processor run now cost (charged processor now a) in
-    let same : lane_at k over ≡ lane_at k a = taken_over-others processor run now cost k (charged processor now a) h ∙ charged-others processor now k a h in
+pub switched-others : (processor : ℕ) (run : Option ℕ) (now : ℕ) (pace : Pace) (k : ℕ) (a : Accounts) → k ≢ processor → lane_at k (switched processor run now pace a) ≡ lane_at k a
+switched-others processor run now pace k a h =
+    let over = taken_over processor run now pace (charged processor now a) in
+    let same : lane_at k over ≡ lane_at k a = taken_over-others processor run now pace k (charged processor now a) h ∙ charged-others processor now k a h in
     elim (slice_get a.lanes processor) as (λ (o : Option Lane). lane_at k (option_map_or (λ (lane : Lane). if is_same lane.run run then a else over) o a) ≡ lane_at k a)
     [ None ↦ refl | Some lane ↦ elim (is_same lane.run run) as (λ (b : Bool). lane_at k (if b then a else over) ≡ lane_at k a) [ true ↦ refl | false ↦ same ] ]
 

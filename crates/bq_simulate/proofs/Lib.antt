@@ -7,6 +7,7 @@ pub mod StepLemmas
 pub mod StreamLemmas
 pub mod WholeLemmas
 pub mod DriveLemmas
+pub mod FromImagesLemmas
 pub mod HexWordLemmas
 pub mod LineLawLemmas
 pub mod NumberWordLemmas

@@ -57,6 +57,7 @@ pub record Gave (task : ℕ) (asked : Option Length) (s : Simulation) (drawn : L
   pub driver : t.driver ≡ s.driver
   pub roster : t.roster ≡ s.roster
   pub seed : t.seed ≡ s.seed
+  pub firsts : t.firsts ≡ s.firsts
 
 drew : (task : ℕ) (asked : Length) (s : Simulation) (length : ℕ) (t : Simulation) → Draws task asked s length t → (drawn : List ℕ) → HasDrawn s drawn → Gave task (Some asked) s drawn length t
 drew task asked s length t d drawn had =
@@ -74,6 +75,7 @@ drew task asked s length t d drawn had =
       driver = d.driver;
       roster = d.roster;
       seed = d.seed;
+      firsts = d.firsts;
     }
 
 -- where a length is drawn if one is asked for, it is the next of that task's stream, and nothing else changes
@@ -84,6 +86,7 @@ gives_if_asked task None s length t h drawn had = record {
   driver = ap (λ (x : Simulation). x.driver) h.1;
   roster = ap (λ (x : Simulation). x.roster) h.1;
   seed = ap (λ (x : Simulation). x.seed) h.1;
+  firsts = ap (λ (x : Simulation). x.firsts) h.1;
 }
 gives_if_asked task (Some asked) s length t h drawn had = drew task asked s length t h drawn had
 

@@ -1,5 +1,6 @@
 -- A simulation from its beginning to its end.
-use Rattle.std.proofs.Common.{◌≡◌, ℕ, List, [], ◌++◌, ap, refl, ◌∙◌, subst}
+use Rattle.std.proofs.Common.{◌≡◌, ℕ, List, [], ◌++◌, ap, refl, sym, ◌∙◌, subst, true≢false}
+use Rattle.std.specs.Prelude.{is_some, slice_get}
 use Rattle.bq_actions.specs.declared.workload.TaskKind.{TaskKind}
 use Rattle.bq_actions.specs.declared.workload.Workload.{Workload}
 use Rattle.bq_trace.specs.News.{News, Gets}
@@ -13,7 +14,7 @@ use Rattle.bq_actions.specs.declared.roster.Pace.{Pace}
 use Rattle.bq_simulate.specs.declared.simulation.Simulation.{Simulation}
 use Rattle.bq_actions.specs.Bounds.{most_steps}
 use Rattle.bq_simulate.specs.Chronicles.{Book, Deed, Lives}
-use Rattle.bq_simulate.specs.Simulations.{IsSimulation, Proceeds, Runs, book_of, opening_book}
+use Rattle.bq_simulate.specs.Simulations.{HasFirsts, IsSimulation, Proceeds, Runs, book_of, opening_book, pace_of}
 use Rattle.bq_simulate.specs.Steps.{AreAllAdmitted, AreInstalled, AreMet, Opens}
 use Rattle.bq_simulate.proofs.DeedLemmas.{Lives-append, drives-of-lives}
 
@@ -25,30 +26,34 @@ Opens-join policies processors kinds xs ys installed admitted = record { install
 pub Proceeds-join : (policies : List Accepted) (processors : ℕ) (kinds : List TaskKind) (most end : ℕ) (xs ys : List Deed) → Opens policies processors kinds xs → AreMet most end ys → Proceeds policies processors kinds most end (xs ++ ys)
 Proceeds-join policies processors kinds most end xs ys opens meets = record { opening = xs; met = ys; whole = refl; opens = opens; meets = meets }
 
+-- where none is kept, each is that of its kind
+firsts-none : (kinds : List TaskKind) (s : Simulation) → s.firsts.items ≡ [] → HasFirsts kinds s
+firsts-none kinds s none number first there = absurd (true≢false (sym (ap is_some (sym (ap (λ (l : List ℕ). slice_get l number) none) ∙ there))))
+
 -- what is told of the opening machine, and then of some deeds
 pub simulation-of : {S : Type 0} (takes : S → ℕ → News → S → Type 0) (a b c : S) (policies : List Accepted) (w : Workload) (d : Driver) (s t : Simulation)
     → Gets takes a b (λ told. Starts w.machine.rule w.machine.size told d) → s.driver ≡ d → accounts_of s.roster ≡ (opening_book w.machine).accounts
-    → s.roster.pace.migration_cost ≡ w.machine.migration_cost → s.seed ≡ w.machine.seed → s.streams.items ≡ []
+    → s.roster.pace ≡ pace_of w.machine → s.seed ≡ w.machine.seed → s.streams.items ≡ [] → s.firsts.items ≡ []
     → Runs takes policies w.tasks.items (most_steps w) w.machine.duration (processors_in w.machine.size) b s c t → Gets takes a c (IsSimulation policies w)
-simulation-of takes a b c policies w d s t first driver accounts cost seed streams runs =
+simulation-of takes a b c policies w d s t first driver accounts pace seed streams none runs =
     let kinds = w.tasks.items in
     let machine = w.machine in
     let ended = runs.ended in
-    let met = runs.proceeds [] streams in
-    let ticks = runs.ticks met.after met.streams in
+    let met = runs.proceeds [] streams (firsts-none kinds s none) in
+    let ticks = runs.ticks met.after met.streams met.firsts in
     let stood = book_of ended met.after in
-    let T : ℕ → Type 0 = λ x. Lives kinds x s.roster.pace.migration_cost s.driver (book_of s []) met.deeds met.tells.told ended.driver stood in
-    let P : Driver → Type 0 = λ x. Lives kinds machine.seed machine.migration_cost x (opening_book machine) met.deeds met.tells.told ended.driver stood in
-    let Q : Book → Type 0 = λ x. Lives kinds machine.seed machine.migration_cost s.driver x met.deeds met.tells.told ended.driver stood in
-    let R : ℕ → Type 0 = λ x. Lives kinds machine.seed x s.driver (book_of s []) met.deeds met.tells.told ended.driver stood in
-    let U : ℕ → Type 0 = λ x. Lives kinds x ended.roster.pace.migration_cost ended.driver stood ticks.deeds ticks.tells.told t.driver (book_of t ticks.after) in
-    let V : ℕ → Type 0 = λ x. Lives kinds machine.seed x ended.driver stood ticks.deeds ticks.tells.told t.driver (book_of t ticks.after) in
+    let T : ℕ → Type 0 = λ x. Lives kinds x s.roster.pace s.driver (book_of s []) met.deeds met.tells.told ended.driver stood in
+    let P : Driver → Type 0 = λ x. Lives kinds machine.seed (pace_of machine) x (opening_book machine) met.deeds met.tells.told ended.driver stood in
+    let Q : Book → Type 0 = λ x. Lives kinds machine.seed (pace_of machine) s.driver x met.deeds met.tells.told ended.driver stood in
+    let R : Pace → Type 0 = λ x. Lives kinds machine.seed x s.driver (book_of s []) met.deeds met.tells.told ended.driver stood in
+    let U : ℕ → Type 0 = λ x. Lives kinds x ended.roster.pace ended.driver stood ticks.deeds ticks.tells.told t.driver (book_of t ticks.after) in
+    let V : Pace → Type 0 = λ x. Lives kinds machine.seed x ended.driver stood ticks.deeds ticks.tells.told t.driver (book_of t ticks.after) in
     let opens : book_of s [] ≡ opening_book machine = ap (λ (x : Accounts). record { accounts = x; drawn = [] }) accounts in
-    let until = subst P driver (subst Q opens (subst R cost (subst T seed met.tells.holds))) in
-    let last = subst V (ap (λ (p : Pace). p.migration_cost) met.pace ∙ cost) (subst U (met.seed ∙ seed) ticks.tells.holds) in
+    let until = subst P driver (subst Q opens (subst R pace (subst T seed met.tells.holds))) in
+    let last = subst V (met.pace ∙ pace) (subst U (met.seed ∙ seed) ticks.tells.holds) in
     let deeds = met.deeds ++ ticks.deeds in
     let told = met.tells.told ++ ticks.tells.told in
-    let lives = Lives-append kinds machine.seed machine.migration_cost d ended.driver t.driver (opening_book machine) stood (book_of t ticks.after) met.deeds ticks.deeds met.tells.told ticks.tells.told until last in
+    let lives = Lives-append kinds machine.seed (pace_of machine) d ended.driver t.driver (opening_book machine) stood (book_of t ticks.after) met.deeds ticks.deeds met.tells.told ticks.tells.told until last in
     record {
       told = first.told ++ told;
       taken = TakesAll-append takes a b c first.told told first.taken (TakesAll-append takes b runs.sink c met.tells.told ticks.tells.told met.tells.taken ticks.tells.taken);
@@ -60,7 +65,7 @@ simulation-of takes a b c policies w d s t first driver accounts cost seed strea
         first = first.told;
         more = told;
         starts = first.holds;
-        drives = drives-of-lives kinds machine.seed machine.migration_cost d t.driver (opening_book machine) (book_of t ticks.after) deeds told lives;
+        drives = drives-of-lives kinds machine.seed (pace_of machine) d t.driver (opening_book machine) (book_of t ticks.after) deeds told lives;
         lives = lives;
         whole = refl;
         ends = record {

@@ -72,6 +72,14 @@ acted kinds (Some (Wake kind)) length now c = begun 0 (woken_one_in kinds kind c
 abbrev pub first_of : List TaskKind → ℕ → ℕ
 first_of kinds number = sum_by (λ (kind : TaskKind). kind.count) (take number kinds)
 
+-- the task to which a wake comes next, where the action is one: the first of its kind, and then one after another
+abbrev pub aim_of : List TaskKind → Course → Option Action → Option ℕ
+aim_of kinds c (Some (Wake kind)) = Some (first_of kinds kind + c.woken)
+aim_of kinds c action = None
+
+abbrev pub aimed : List TaskKind → Course → Option ℕ
+aimed kinds c = aim_of kinds c (next_action kinds c)
+
 -- the kind of a task, by their numbers: its tasks follow those of the kinds before it
 pub record IsOfKind (kinds : List TaskKind) (task number : ℕ) : Type 0 where
   pub kind : TaskKind

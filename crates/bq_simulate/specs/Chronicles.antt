@@ -1,5 +1,5 @@
 -- What happens in a simulation, one thing after another: events of the trace with their answers, and what tasks do beside them.
-use Rattle.std.specs.Prelude.{◌≡◌, ℕ, suc, Bool, true, false, List, [], ◌∷◌, ◌++◌, Option, Some, None, is_some, length, slice_get, unwrap_or}
+use Rattle.std.specs.Prelude.{◌≡◌, ◌≢◌, ℕ, suc, Bool, true, false, List, [], ◌∷◌, ◌++◌, Option, Some, None, is_some, length, slice_get, unwrap_or}
 use Rattle.std.specs.Option.{option_map_or}
 use Rattle.bq_actions.specs.declared.action.Action.{Action}
 use Rattle.bq_actions.specs.declared.action.Length.{Length}
@@ -14,9 +14,11 @@ use Rattle.bq_actions.specs.declared.course.Course.{Course}
 use Rattle.bq_actions.specs.declared.course.Stance.{Stance}
 use Rattle.bq_actions.specs.declared.course.Stance.TheVariants.{Asleep, Waiting}
 use Rattle.bq_actions.specs.declared.lane.Lane.{Lane}
-use Rattle.bq_actions.specs.Accounts.{Accounts, IsDone, changed_at, charged, entered_by, left_by, of_task, passed, switched}
+use Rattle.bq_actions.specs.declared.roster.Pace.{Pace}
+use Rattle.bq_actions.specs.Accounts.{Accounts, IsDone, LooksAt, TicksAt, beaten, changed_at, charged, entered_by, left_by, looked, of_task, passed, switched}
 use Rattle.bq_actions.specs.Courses.{fresh, woken}
-use Rattle.bq_simulate.specs.Actions.{IsOfKind, acted, asked_by, length_of, next_action, start_of}
+use Rattle.bq_actions.specs.Dues.{IsSource}
+use Rattle.bq_simulate.specs.Actions.{IsOfKind, acted, aimed, asked_by, length_of, next_action, start_of}
 
 -- one thing that a simulation does
 pub data Deed : Type 0 where
@@ -24,12 +26,19 @@ pub data Deed : Type 0 where
   Happens : Event → Reply → Deed
   -- one more task is there, of this kind, whose first wake comes from this processor
   Joins : ℕ → ℕ → Deed
-  -- at an instant the phase of the task that runs at a processor ends, and it does this action; with none it has done all
-  Acts : ℕ → ℕ → ℕ → Option Action → Deed
+  -- at an instant the phase of the task that runs at a processor ends, and it does this action, with none it has done all; where that
+  -- is a wake, it comes to this task
+  Acts : ℕ → ℕ → ℕ → Option Action → Option ℕ → Deed
   -- the timer of a task rings at an instant
   Rings : ℕ → ℕ → Deed
   -- the wake of another task comes to a task that waits
   Reaches : ℕ → Deed
+  -- the wake of another task comes to one that does not wait, and does nothing
+  Misses : ℕ → Deed
+  -- the clock of a processor beats at an instant
+  Beats : ℕ → ℕ → Deed
+  -- a processor looks at an instant for a task to pull, and finds that it pulls one from this other, or none
+  Looks : ℕ → ℕ → Option ℕ → Deed
 
 -- whether a processor runs something
 abbrev pub is_busy : Accounts → ℕ → Bool
@@ -59,16 +68,16 @@ pub record Book : Type 0 where
   pub drawn : List ℕ
 
 -- where the answer says that another runs now, what ran before has its time; who is woken has no phase yet
-abbrev pub after_event : ℕ → Event → Reply → Accounts → Accounts
-after_event cost (BeginWake c task) reply a = of_task woken task a
-after_event cost (Drain c now) reply a = entered_by c (count_entered reply) (runs_now reply) now cost a
-after_event cost (Tick c now) reply a = switched c (runs_now reply) now cost a
-after_event cost (Block c now) reply a = left_by c (runs_now reply) now cost a
-after_event cost (Pull c from now) reply a = switched c (runs_now reply) now cost (option_map_or (λ task. passed from c a) (task_pulled reply) a)
-after_event cost event reply a = a
+abbrev pub after_event : Pace → Event → Reply → Accounts → Accounts
+after_event pace (BeginWake c task) reply a = of_task woken task a
+after_event pace (Drain c now) reply a = entered_by c (count_entered reply) (runs_now reply) now pace a
+after_event pace (Tick c now) reply a = switched c (runs_now reply) now pace a
+after_event pace (Block c now) reply a = left_by c (runs_now reply) now pace a
+after_event pace (Pull c from now) reply a = switched c (runs_now reply) now pace (option_map_or (λ task. passed from c a) (task_pulled reply) a)
+after_event pace event reply a = a
 
-abbrev pub after_answer : ℕ → Event → Reply → Book → Book
-after_answer cost event reply b = record b { accounts = after_event cost event reply b.accounts }
+abbrev pub after_answer : Pace → Event → Reply → Book → Book
+after_answer pace event reply b = record b { accounts = after_event pace event reply b.accounts }
 
 -- a task that has done nothing, whose timer is that of its kind, and whose stream has given nothing
 abbrev pub joined : List TaskKind → ℕ → ℕ → Book → Book
@@ -95,28 +104,45 @@ after_act kinds seed processor task now c b = record {
   drawn = drawn_with task b.drawn (asked_by (next_action kinds c));
 }
 
+-- its clock beats
+abbrev pub after_beat : Pace → ℕ → ℕ → Book → Book
+after_beat pace processor now b = record b { accounts = beaten processor now pace.tick b.accounts }
+
+-- it looks for a task to pull
+abbrev pub after_look : Pace → ℕ → ℕ → Book → Book
+after_look pace processor now b = record b { accounts = looked processor now pace.balance b.accounts }
+
 -- deeds one after another: what the sink is told of them, and what becomes of the machine and of what is kept, where tasks do what
--- their kinds say, lengths are drawn from this seed, and a change of processor costs so much. The timer that rings is of a task that
--- is asleep until just then.
-abbrev pub Lives : List TaskKind → ℕ → ℕ → Driver → Book → List Deed → Told → Driver → Book → Type 0
-Lives kinds seed cost d b [] told e f = (told ≡ []) × (e ≡ d) × (f ≡ b)
-Lives kinds seed cost d b (Happens event reply ∷ deeds) told e f =
+-- their kinds say, lengths are drawn from this seed, and times between ticks and between looks, and what a change of processor costs,
+-- are of this pace. A wake comes to the tasks of its kind one after another, by number. The timer that rings is of a task that is asleep until just then; a clock beats, and a processor looks, just when
+-- it is to, and it finds the processor with the most tasks.
+abbrev pub Lives : List TaskKind → ℕ → Pace → Driver → Book → List Deed → Told → Driver → Book → Type 0
+Lives kinds seed pace d b [] told e f = (told ≡ []) × (e ≡ d) × (f ≡ b)
+Lives kinds seed pace d b (Happens event reply ∷ deeds) told e f =
     IsDue event b.accounts × (mid : Driver) × (first : Told) × (more : Told)
-    × Does d event reply first mid × Lives kinds seed cost mid (after_answer cost event reply b) deeds more e f × (told ≡ first ++ more)
-Lives kinds seed cost d b (Joins kind home ∷ deeds) told e f = IsOfKind kinds (length b.accounts.courses) kind × Lives kinds seed cost d (joined kinds kind home b) deeds told e f
-Lives kinds seed cost d b (Acts processor task now action ∷ deeds) told e f =
-    (c : Course) × IsDone (charged processor now b.accounts) processor task c × (action ≡ next_action kinds c)
-    × Lives kinds seed cost d (after_act kinds seed processor task now c b) deeds told e f
-Lives kinds seed cost d b (Rings task now ∷ deeds) told e f =
-    (c : Course) × (slice_get b.accounts.courses task ≡ Some c) × (c.stance ≡ Asleep) × (c.timer ≡ now) × Lives kinds seed cost d b deeds told e f
-Lives kinds seed cost d b (Reaches task ∷ deeds) told e f =
-    (c : Course) × (slice_get b.accounts.courses task ≡ Some c) × (c.stance ≡ Waiting) × Lives kinds seed cost d b deeds told e f
+    × Does d event reply first mid × Lives kinds seed pace mid (after_answer pace event reply b) deeds more e f × (told ≡ first ++ more)
+Lives kinds seed pace d b (Joins kind home ∷ deeds) told e f = IsOfKind kinds (length b.accounts.courses) kind × Lives kinds seed pace d (joined kinds kind home b) deeds told e f
+Lives kinds seed pace d b (Acts processor task now action aim ∷ deeds) told e f =
+    (c : Course) × IsDone (charged processor now b.accounts) processor task c × (action ≡ next_action kinds c) × (aim ≡ aimed kinds c)
+    × Lives kinds seed pace d (after_act kinds seed processor task now c b) deeds told e f
+Lives kinds seed pace d b (Rings task now ∷ deeds) told e f =
+    (c : Course) × (slice_get b.accounts.courses task ≡ Some c) × (c.stance ≡ Asleep) × (c.timer ≡ now) × Lives kinds seed pace d b deeds told e f
+Lives kinds seed pace d b (Reaches task ∷ deeds) told e f =
+    (c : Course) × (slice_get b.accounts.courses task ≡ Some c) × (c.stance ≡ Waiting) × Lives kinds seed pace d b deeds told e f
+Lives kinds seed pace d b (Misses task ∷ deeds) told e f =
+    (c : Course) × (slice_get b.accounts.courses task ≡ Some c) × (c.stance ≢ Waiting) × Lives kinds seed pace d b deeds told e f
+Lives kinds seed pace d b (Beats processor now ∷ deeds) told e f = TicksAt b.accounts processor now × Lives kinds seed pace d (after_beat pace processor now b) deeds told e f
+Lives kinds seed pace d b (Looks processor now source ∷ deeds) told e f =
+    LooksAt b.accounts processor now × IsSource b.accounts.lanes processor source × Lives kinds seed pace d (after_look pace processor now b) deeds told e f
 
 -- the events among them
 abbrev pub events_of : List Deed → List Event
 events_of [] = []
 events_of (Happens event reply ∷ deeds) = event ∷ events_of deeds
 events_of (Joins kind home ∷ deeds) = events_of deeds
-events_of (Acts processor task now action ∷ deeds) = events_of deeds
+events_of (Acts processor task now action aim ∷ deeds) = events_of deeds
 events_of (Rings task now ∷ deeds) = events_of deeds
 events_of (Reaches task ∷ deeds) = events_of deeds
+events_of (Misses task ∷ deeds) = events_of deeds
+events_of (Beats processor now ∷ deeds) = events_of deeds
+events_of (Looks processor now source ∷ deeds) = events_of deeds

@@ -26,6 +26,10 @@ pub record IsOfImage (image : Option (List ℕ)) (policy : Accepted) : Type 0 wh
   pub each : IsBytes bytes
   pub loads : Loads bytes policy
 
+-- each of these policies is that of the image at its hook
+abbrev pub AreOfImages : ByHook → List Accepted → Type 0
+AreOfImages images policies = AllByRecursion (λ (policy : Accepted). IsOfImage (images policy.hook) policy) policies
+
 -- a policy that is installed is that of the image at its hook, and none is taken away where there is one
 abbrev pub IsFromImages : ByHook → Event → Type 0
 IsFromImages images (Install c hook generation None) = images hook ≡ None

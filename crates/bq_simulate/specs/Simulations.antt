@@ -2,6 +2,7 @@
 use Rattle.std.specs.Prelude.{◌≡◌, ℕ, ◌++◌, ◌+◌, true, List, [], ◌∷◌, Option, Some, None, slice_get, slice_set}
 use Rattle.rand_pcg.specs.Lcg.{Lcg}
 use Rattle.bq_actions.specs.declared.action.Length.{Length}
+use Rattle.bq_actions.specs.declared.roster.Pace.{Pace}
 use Rattle.bq_actions.specs.declared.setup.Setup.{Setup}
 use Rattle.bq_actions.specs.declared.workload.TaskKind.{TaskKind}
 use Rattle.bq_actions.specs.declared.workload.Workload.{Workload}
@@ -13,7 +14,7 @@ use Rattle.bq_simulate.specs.declared.driver.Driver.{Driver}
 use Rattle.bq_simulate.specs.Drives.{Starts, Drives}
 use Rattle.bq_actions.specs.Accounts.{accounts_of, is_over, opening}
 use Rattle.bq_simulate.specs.declared.simulation.Simulation.{Simulation}
-use Rattle.bq_simulate.specs.Actions.{next_length}
+use Rattle.bq_simulate.specs.Actions.{first_of, next_length}
 use Rattle.bq_actions.specs.Bounds.{most_steps}
 use Rattle.bq_simulate.specs.Chronicles.{Book, Deed, Lives, events_of}
 use Rattle.bq_simulate.specs.Steps.{AreJust, AreMet, Opens, all_processors, last_ticks}
@@ -24,7 +25,11 @@ with_seed w seed = record w { machine = record w.machine { seed = seed } }
 
 -- no task is there, and nothing runs
 abbrev pub opening_book : Setup → Book
-opening_book machine = record { accounts = opening (processors_in machine.size); drawn = [] }
+opening_book machine = record { accounts = opening (processors_in machine.size) machine.balance; drawn = [] }
+
+-- when a machine's simulation ends, the times between its ticks and between its looks, and what a change of processor costs
+abbrev pub pace_of : Setup → Pace
+pace_of machine = record { end = machine.duration; tick = machine.tick; balance = machine.balance; migration_cost = machine.migration_cost }
 
 -- first these policies are installed and all tasks admitted; then so many things at most come due until the end, and are met
 pub record Proceeds (policies : List Accepted) (processors : ℕ) (kinds : List TaskKind) (most end : ℕ) (deeds : List Deed) : Type 0 where
@@ -34,8 +39,8 @@ pub record Proceeds (policies : List Accepted) (processors : ℕ) (kinds : List 
   pub opens : Opens policies processors kinds opening
   pub meets : AreMet most end met
 
--- when no timer and no end of a phase is left until the end, each processor that runs something ticks then, by number, and nothing else
--- is done
+-- when no timer, no end of a phase, no tick and no look for a task is left until the end, each processor that runs something ticks then,
+-- by number, and nothing else is done
 pub record Ends (policies : List Accepted) (w : Workload) (d : Driver) (deeds : List Deed) : Type 0 where
   pub until : List Deed
   pub last : List Deed
@@ -44,7 +49,7 @@ pub record Ends (policies : List Accepted) (w : Workload) (d : Driver) (deeds : 
   pub told : Told
   pub driver : Driver
   pub book : Book
-  pub lives : Lives w.tasks.items w.machine.seed w.machine.migration_cost d (opening_book w.machine) until told driver book
+  pub lives : Lives w.tasks.items w.machine.seed (pace_of w.machine) d (opening_book w.machine) until told driver book
   pub over : is_over w.machine.duration book.accounts ≡ true
   pub ticks : AreJust (last_ticks w.machine.duration (all_processors (processors_in w.machine.size)) book.accounts) last
 
@@ -52,9 +57,11 @@ pub record Ends (policies : List Accepted) (w : Workload) (d : Driver) (deeds : 
 -- with readings that never fall: so it is the trace of those events, with their answers. Who has run and how long is what
 -- the answers say. Each task goes through the actions of its kind in their order, and over again; it goes on only when it has
 -- got just the length of its run phase, and the costs of its changes of processor; its timer wakes it just when its sleep has lasted its
--- length, and first at the start of its kind; and each length is the next of its task.
--- All is done when something comes due, but for what opens it and for the ticks at its end. Then no timer and no end of a phase is left
--- that comes until the end.
+-- length, and first at the start of its kind; and each length is the next of its task. A processor that runs something ticks just at
+-- multiples of the time between two ticks; where there are others each looks for a task just at multiples of the time between two looks,
+-- and when it falls idle, and pulls one from the processor with the most tasks.
+-- All is done when something comes due, but for what opens it and for the ticks at its end. Then no timer, no end of a phase, no tick
+-- and no look is left that comes until the end.
 pub record IsSimulation (policies : List Accepted) (w : Workload) (told : Told) : Type 0 where
   pub opening : Driver
   pub closing : Driver
@@ -64,7 +71,7 @@ pub record IsSimulation (policies : List Accepted) (w : Workload) (told : Told) 
   pub more : Told
   pub starts : Starts w.machine.rule w.machine.size first opening
   pub drives : Drives opening (events_of deeds) more closing
-  pub lives : Lives w.tasks.items w.machine.seed w.machine.migration_cost opening (opening_book w.machine) deeds more closing book
+  pub lives : Lives w.tasks.items w.machine.seed (pace_of w.machine) opening (opening_book w.machine) deeds more closing book
   pub whole : told ≡ first ++ more
   pub ends : Ends policies w opening deeds
 
@@ -76,6 +83,10 @@ streams_after seed task (draws ∷ more) = after_draws draws (stream_of_task see
 abbrev pub HasDrawn : Simulation → List ℕ → Type 0
 HasDrawn s drawn = s.streams.items ≡ streams_after s.seed 0 drawn
 
+-- each first task of a kind that is kept is that of the kind
+abbrev pub HasFirsts : List TaskKind → Simulation → Type 0
+HasFirsts kinds s = (number first : ℕ) → slice_get s.firsts.items number ≡ Some first → first ≡ first_of kinds number
+
 abbrev pub book_of : Simulation → List ℕ → Book
 book_of s drawn = record { accounts = accounts_of s.roster; drawn = drawn }
 
@@ -86,11 +97,12 @@ pub record Goes {S : Type 0} (takes : S → ℕ → News → S → Type 0) (kind
   pub pace : t.roster.pace ≡ s.roster.pace
   pub seed : t.seed ≡ s.seed
   pub streams : HasDrawn t after
-  pub tells : Gets takes old new (λ told. Lives kinds s.seed s.roster.pace.migration_cost s.driver (book_of s drawn) deeds told t.driver (book_of t after))
+  pub firsts : HasFirsts kinds t
+  pub tells : Gets takes old new (λ told. Lives kinds s.seed s.roster.pace s.driver (book_of s drawn) deeds told t.driver (book_of t after))
   pub are : Are deeds
 
 abbrev pub Lived : {S : Type 0} → (S → ℕ → News → S → Type 0) → List TaskKind → (List Deed → Type 0) → S → Simulation → S → Simulation → Type 0
-Lived takes kinds Are old s new t = (drawn : List ℕ) → HasDrawn s drawn → Goes takes kinds Are old s drawn new t
+Lived takes kinds Are old s new t = (drawn : List ℕ) → HasDrawn s drawn → HasFirsts kinds s → Goes takes kinds Are old s drawn new t
 
 -- events alone: what tasks do has no part in it
 abbrev pub Befell : {S : Type 0} → (S → ℕ → News → S → Type 0) → (List Deed → Type 0) → S → Simulation → S → Simulation → Type 0
@@ -103,13 +115,14 @@ pub record GoesUntold (kinds : List TaskKind) (Are : List Deed → Type 0) (s : 
   pub pace : t.roster.pace ≡ s.roster.pace
   pub seed : t.seed ≡ s.seed
   pub streams : HasDrawn t after
-  pub lives : Lives kinds s.seed s.roster.pace.migration_cost s.driver (book_of s drawn) deeds [] t.driver (book_of t after)
+  pub firsts : HasFirsts kinds t
+  pub lives : Lives kinds s.seed s.roster.pace s.driver (book_of s drawn) deeds [] t.driver (book_of t after)
   pub are : Are deeds
 
 abbrev pub Silent : List TaskKind → (List Deed → Type 0) → Simulation → Simulation → Type 0
-Silent kinds Are s t = (drawn : List ℕ) → HasDrawn s drawn → GoesUntold kinds Are s drawn t
+Silent kinds Are s t = (drawn : List ℕ) → HasDrawn s drawn → HasFirsts kinds s → GoesUntold kinds Are s drawn t
 
--- a simulation goes on until no timer and no end of a phase is left, and then to its end
+-- a simulation goes on until no timer, no end of a phase, no tick and no look is left, and then to its end
 pub record Runs {S : Type 0} (takes : S → ℕ → News → S → Type 0) (policies : List Accepted) (kinds : List TaskKind) (most end processors : ℕ) (old : S) (s : Simulation) (new : S) (t : Simulation) : Type 0 where
   pub sink : S
   pub ended : Simulation
@@ -122,6 +135,7 @@ pub record Stays (s t : Simulation) : Type 0 where
   pub pace : t.roster.pace ≡ s.roster.pace
   pub seed : t.seed ≡ s.seed
   pub streams : t.streams ≡ s.streams
+  pub firsts : t.firsts ≡ s.firsts
 
 -- nothing was done but to plan or to count
 pub record Same (s t : Simulation) : Type 0 where
@@ -138,6 +152,7 @@ pub record Draws (task : ℕ) (asked : Length) (s : Simulation) (length : ℕ) (
   pub driver : t.driver ≡ s.driver
   pub roster : t.roster ≡ s.roster
   pub seed : t.seed ≡ s.seed
+  pub firsts : t.firsts ≡ s.firsts
 
 -- where a length is asked for
 abbrev pub DrawsFor : ℕ → Option Length → Simulation → ℕ → Simulation → Type 0

@@ -1,5 +1,5 @@
 -- What comes due in a simulation, and what is done then.
-use Rattle.std.specs.Prelude.{◌≡◌, ◌≢◌, ◌⊎◌, ◌≤◌, ◌+◌, ℕ, zero, suc, List, [], ◌∷◌, ◌++◌, Option, Some, length, map, filter, slice_get}
+use Rattle.std.specs.Prelude.{◌≡◌, ◌≢◌, ◌⊎◌, ◌≤◌, ◌+◌, ℕ, zero, suc, List, [], ◌∷◌, ◌++◌, Option, None, Some, length, map, filter, slice_get}
 use Rattle.std.specs.List.{flat_map, range_with_len}
 use Rattle.bq_actions.specs.declared.action.Action.{Action}
 use Rattle.bq_actions.specs.declared.action.Action.TheVariants.{Run, Wake}
@@ -13,7 +13,7 @@ use Rattle.bq_parts.specs.declared.reply.Reply.TheVariants.{Drawn}
 use Rattle.bq_verify.specs.Accepted.{Accepted}
 use Rattle.bq_actions.specs.Accounts.{Accounts}
 use Rattle.bq_actions.specs.Soundness.{IsFirstAllowed}
-use Rattle.bq_simulate.specs.Chronicles.{Acts, Deed, Happens, Joins, Reaches, Rings, is_busy}
+use Rattle.bq_simulate.specs.Chronicles.{Acts, Beats, Deed, Happens, Joins, Looks, Misses, Reaches, Rings, is_busy}
 use Rattle.bq_simulate.specs.Drives.{placed_at}
 
 -- these events happen, whatever their answers are, and nothing beside them
@@ -77,26 +77,43 @@ AreWake from task now deeds =
     (begun : Reply) × (placed : Reply) × (drained : Reply) × (to : ℕ) × (placed_at placed ≡ Some to)
     × (deeds ≡ Happens (BeginWake from task) begun ∷ Happens (EndWake from now) placed ∷ Happens (Drain to now) drained ∷ [])
 
--- the task that runs at a processor wakes another from there, if that waits
-abbrev pub Wakes : ℕ → ℕ → List Deed → Type 0
-Wakes processor now deeds = (deeds ≡ []) ⊎ ((task : ℕ) × (more : List Deed) × (deeds ≡ Reaches task ∷ more) × AreWake processor task now more)
+-- the task that runs at a processor wakes this one from there, if it waits, and else misses it
+abbrev pub Wakes : ℕ → ℕ → ℕ → List Deed → Type 0
+Wakes task processor now deeds = (deeds ≡ Misses task ∷ []) ⊎ ((more : List Deed) × (deeds ≡ Reaches task ∷ more) × AreWake processor task now more)
 
--- what follows an action at once: a task that runs on does nothing, one that wakes others wakes one of them or misses it, and any other blocks
-abbrev pub Follow : Option Action → ℕ → ℕ → List Deed → Type 0
-Follow (Some (Run asked)) processor now deeds = deeds ≡ []
-Follow (Some (Wake kind)) processor now deeds = Wakes processor now deeds
-Follow action processor now deeds = AreJust (Block processor now ∷ []) deeds
+-- what follows an action at once: a task that runs on does nothing, one that wakes others wakes the one that it aims at or misses it, and
+-- any other blocks
+abbrev pub Follow : Option Action → Option ℕ → ℕ → ℕ → List Deed → Type 0
+Follow (Some (Run asked)) aim processor now deeds = deeds ≡ []
+Follow (Some (Wake kind)) (Some task) processor now deeds = Wakes task processor now deeds
+Follow (Some (Wake kind)) None processor now deeds = ⊥
+Follow action aim processor now deeds = AreJust (Block processor now ∷ []) deeds
 
 -- a task takes up its next action
-abbrev pub IsAct : ℕ → ℕ → ℕ → Option Action → List Deed → Type 0
-IsAct processor task now action deeds = deeds ≡ Acts processor task now action ∷ []
+abbrev pub IsAct : ℕ → ℕ → ℕ → Option Action → Option ℕ → List Deed → Type 0
+IsAct processor task now action aim deeds = deeds ≡ Acts processor task now action aim ∷ []
+
+-- the clock of a processor beats
+abbrev pub IsBeat : ℕ → ℕ → List Deed → Type 0
+IsBeat processor now deeds = deeds ≡ Beats processor now ∷ []
+
+-- a processor looks for a task to pull
+abbrev pub IsLook : ℕ → ℕ → Option ℕ → List Deed → Type 0
+IsLook processor now source deeds = deeds ≡ Looks processor now source ∷ []
+
+-- a processor that has found one from which it pulls a task does so at once
+abbrev pub pulls_of : ℕ → ℕ → Option ℕ → List Event
+pulls_of processor now None = []
+pulls_of processor now (Some from) = Pull processor from now ∷ []
 
 -- what is done when something comes due
 abbrev pub Meet : Due → ℕ → List Deed → Type 0
-Meet (due.End processor) now deeds = (task : ℕ) × (action : Option Action) × (more : List Deed) × (deeds ≡ Acts processor task now action ∷ more) × Follow action processor now more
+Meet (due.End processor) now deeds =
+    (task : ℕ) × (action : Option Action) × (aim : Option ℕ) × (more : List Deed)
+    × (deeds ≡ Acts processor task now action aim ∷ more) × Follow action aim processor now more
 Meet (due.Wake task) now deeds = (home : ℕ) × (more : List Deed) × (deeds ≡ Rings task now ∷ more) × AreWake home task now more
-Meet (due.Tick processor) now deeds = AreJust (Tick processor now ∷ []) deeds
-Meet (due.Pull processor) now deeds = (deeds ≡ []) ⊎ ((from : ℕ) × AreJust (Pull processor from now ∷ []) deeds)
+Meet (due.Tick processor) now deeds = (more : List Deed) × (deeds ≡ Beats processor now ∷ more) × AreJust (Tick processor now ∷ []) more
+Meet (due.Pull processor) now deeds = (source : Option ℕ) × (more : List Deed) × (deeds ≡ Looks processor now source ∷ more) × AreJust (pulls_of processor now source) more
 
 -- something that comes due, when, and the deeds by which it is met
 pub record Step : Type 0 where

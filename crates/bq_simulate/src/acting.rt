@@ -1,9 +1,10 @@
 //! What a task does next, once it has run long enough.
-ghost use Rattle.std.specs.Prelude.{◌≡◌, [], ◌∷◌, IfOk, OnOk};
+ghost use Rattle.std.specs.Prelude.{◌≡◌, ◌+◌, [], ◌∷◌, IfOk, List, OnOk, Some, slice_get};
 ghost use Rattle.bq_parts.specs.declared.event.Event.TheVariants.{Block};
 ghost use Rattle.bq_actions.specs.Courses.{begun};
 ghost use Rattle.bq_actions.specs.Kinds.{count_of};
-ghost use Rattle.bq_simulate.specs.Actions.{acted, action_at, asleep_for, advanced_in, asked_by, next_action, resting, woken_one_in};
+ghost use Rattle.bq_actions.specs.declared.workload.TaskKind.{TaskKind};
+ghost use Rattle.bq_simulate.specs.Actions.{acted, action_at, asleep_for, advanced_in, aim_of, asked_by, first_of, next_action, resting, woken_one_in};
 ghost use Rattle.bq_simulate.specs.Simulations.{Befell, DrawsFor, Lived, Same, Silent};
 ghost use Rattle.bq_simulate.specs.Steps.{AreJust, Follow, IsAct, Meet, Wakes};
 
@@ -155,7 +156,7 @@ impl Simulation {
     /// The run phase of the task that runs at a processor has ended, with just what it takes, and its next action is taken up:
     /// where it takes a length, that is the next of the task.
     fn take_action(&mut self, workload: &Workload, processor: u8, now: u64) -> Result<Doing, Astray>
-        ensures { IfOk result (λ doing. Silent workload.now.tasks.items (IsAct processor doing.task now doing.action) self.old self.new) }
+        ensures { IfOk result (λ doing. Silent workload.now.tasks.items (IsAct processor doing.task now doing.action (aim_of workload.now.tasks.items doing.before doing.action)) self.old self.new) }
     {
         let (task, before) = self.roster.end_phase(processor, now)?;
         let action = next_of(workload, &before)?;
@@ -197,7 +198,7 @@ impl Simulation {
         now: u64,
         sink: &mut S,
     ) -> Result<(), SimulateFault>
-        ensures { OnOk result (Befell S.takes (Follow doing.now.action processor now) sink.old self.old sink.new self.new) }
+        ensures { OnOk result ((kinds : List TaskKind) → Lived S.takes kinds (Follow doing.now.action (aim_of kinds doing.now.before doing.now.action) processor now) sink.old self.old sink.new self.new) }
     {
         match doing.action {
             Some(Action::Run(_)) => {
@@ -249,9 +250,9 @@ impl Simulation {
         now: u64,
         sink: &mut S,
     ) -> Result<(), SimulateFault>
-        ensures { OnOk result (Befell S.takes (Wakes processor now) sink.old self.old sink.new self.new) }
+        ensures { OnOk result ((kinds : List TaskKind) → Lived S.takes kinds (Wakes (first_of kinds kind + woken) processor now) sink.old self.old sink.new self.new) }
     {
-        let first = *self.firsts.get(kind).ok_or(SimulateFault::Astray)?;
+        let first = self.first_of(kind)?;
         let target = first.checked_add(woken).ok_or(SimulateFault::Astray)?;
         let lane = self.roster.lane(processor)?;
         let Some(_) = lane.run else {
@@ -265,6 +266,13 @@ impl Simulation {
                 Ok(())
             }
         }
+    }
+
+    /// The first task of a kind.
+    fn first_of(&self, kind: usize) -> Result<u16, Astray>
+        ensures { IfOk result (λ first. slice_get self.now.firsts.items kind ≡ Some first) }
+    {
+        self.firsts.get(kind).copied().ok_or(Astray)
     }
 
     /// A wake comes to a task that does not wait.

@@ -5,7 +5,7 @@ ghost use Rattle.bq_words.specs.Sizes.{processors_in};
 ghost use Rattle.bq_actions.specs.Bounds.{most_steps};
 ghost use Rattle.bq_actions.specs.Soundness.{first_flaw};
 ghost use Rattle.bq_simulate.specs.Faults.{flaw_told};
-ghost use Rattle.bq_simulate.specs.Simulations.{Befell, IsSimulation, Lived, Runs, Same, opening_book, with_seed};
+ghost use Rattle.bq_simulate.specs.Simulations.{Befell, IsSimulation, Lived, Runs, opening_book, pace_of, with_seed};
 ghost use Rattle.bq_simulate.specs.Steps.{AreJust, AreMet, KeepsOthers, all_processors, last_ticks};
 ghost use Rattle.bq_trace.specs.News.{Gets};
 
@@ -13,14 +13,15 @@ use crate::Driver;
 use crate::fault::SimulateFault;
 use crate::simulation::Simulation;
 use crate::tally::Tally;
-use bq_actions::{Due, Pace, Roster, Setup, Workload, most_steps, soundness};
+use bq_actions::{Pace, Roster, Setup, Workload, most_steps, soundness};
 use bq_core::Policy;
 use bq_trace::Sink;
 use std::alloc::Global;
 
 /// Follows a workload to its end, with these policies at all processors, and tells a sink of its events: line 1 of their
-/// trace makes the machine, and each event is a line. What was counted besides. Each sleep lasts just its length, and no
-/// timer and no end of a phase that comes until the end is left out.
+/// trace makes the machine, and each event is a line. What was counted besides. Each sleep lasts just its length, each tick and
+/// each look for a task to pull comes just when it is to, and no timer, no end of a phase, no tick and no look that comes until
+/// the end is left out.
 ///
 /// A workload with a flaw is refused for the first of its flaws, as `Unsound`, and nothing is told. One without is never
 /// `Unsound`: after any other fault what was told is the beginning of a trace.
@@ -86,8 +87,9 @@ impl Simulation {
         ensures accounts { IfOk result (λ simulation. accounts_of simulation.roster ≡ (opening_book machine.now).accounts) }
         ensures seed { IfOk result (λ simulation. simulation.seed ≡ seed) }
         ensures streams { IfOk result (λ simulation. simulation.streams.items ≡ []) }
+        ensures firsts { IfOk result (λ simulation. simulation.firsts.items ≡ []) }
         ensures tasks { IfOk result (λ simulation. simulation.roster.courses.items ≡ []) }
-        ensures cost { IfOk result (λ simulation. simulation.roster.pace.migration_cost ≡ machine.now.migration_cost) }
+        ensures pace { IfOk result (λ simulation. simulation.roster.pace ≡ pace_of machine.now) }
     {
         let pace = Pace {
             end: machine.duration,
@@ -125,26 +127,12 @@ impl Simulation {
         let processors = workload.machine.size.processors();
         self.install(alloc, processors, policies, sink)?;
         self.admit(alloc, workload, sink)?;
-        self.plan_pulls(processors)?;
         self.go_on(alloc, workload, most_steps(workload), sink)?;
         if !self.roster.is_over(workload.machine.duration) {
             return Err(SimulateFault::Astray);
         }
         self.finish(alloc, processors, workload.machine.duration, sink)?;
         Ok(self.tally)
-    }
-
-    /// Each processor looks for a task at multiples of the time between two balancings, where there are others.
-    fn plan_pulls(&mut self, processors: u8) -> Result<(), SimulateFault>
-        ensures { OnOk result (Same self.old self.new) }
-    {
-        if processors < 2 {
-            return Ok(());
-        }
-        'processors: for processor in 0..processors {
-            self.roster.plan_pull(processor, 0)?;
-        }
-        Ok(())
     }
 
     /// Does what comes due, one thing after another, until nothing does. Nothing comes before what came already, or beyond the

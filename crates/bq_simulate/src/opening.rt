@@ -66,7 +66,7 @@ impl Simulation {
         ensures { OnOk result (Lived S.takes workload.now.tasks.items (AreAllAdmitted (processors_in workload.now.machine.size) 0 0 workload.now.tasks.items) sink.old self.old sink.new self.new) }
     {
         'kinds: for (number, kind) in workload.tasks.iter().enumerate() {
-            self.begin_kind()?;
+            self.begin_kind(number)?;
             self.admit_kind(alloc, workload, number, kind, sink)?;
         }
         Ok(())
@@ -99,15 +99,23 @@ impl Simulation {
         Ok(())
     }
 
-    /// The next task is the first of the next kind.
-    fn begin_kind(&mut self) -> Result<(), SimulateFault>
-        ensures same { OnOk result (Same self.old self.new) }
+    /// The next task is the first of the next kind, which has this number.
+    fn begin_kind(&mut self, number: usize) -> Result<(), SimulateFault>
+        ensures silent { OnOk result ((kinds : List TaskKind) → length self.old.streams.items ≡ first_of kinds number → Silent kinds (AreJust []) self.old self.new) }
         ensures courses { self.new.roster ≡ self.old.roster }
+        ensures streams { self.new.streams ≡ self.old.streams }
     {
-        if self.firsts.push(self.tally.tasks).is_err() {
-            return Err(SimulateFault::OutOfMemory);
+        let first = self.tally.tasks;
+        if self.firsts.len() != number {
+            return Err(SimulateFault::Astray);
         }
-        Ok(())
+        if self.streams.len() != usize::from(first) {
+            return Err(SimulateFault::Astray);
+        }
+        match self.firsts.push(first) {
+            Ok(()) => Ok(()),
+            Err(_) => Err(SimulateFault::OutOfMemory),
+        }
     }
 
     /// The timer of the next task, which is the last so far.

@@ -89,7 +89,7 @@ impl Simulation {
         Ok(())
     }
 
-    /// The clock of a processor ticks: it runs something.
+    /// The clock of a processor that runs something beats just now, and it ticks.
     fn tick_on_time<S: Sink>(
         &mut self,
         alloc: Global,
@@ -99,6 +99,7 @@ impl Simulation {
     ) -> Result<(), SimulateFault>
         ensures { OnOk result (Befell S.takes (Meet (Due.Tick processor) now) sink.old self.old sink.new self.new) }
     {
+        self.roster.beat(processor, now)?;
         let lane = self.roster.lane(processor)?;
         match lane.run {
             Some(_) => self.tick(alloc, processor, now, sink),
@@ -120,11 +121,10 @@ impl Simulation {
     {
         let run = self.driver.tick(alloc, processor, now, sink)?;
         self.roster.switch(processor, run, now)?;
-        self.roster.plan_tick(processor, now)?;
         Ok(())
     }
 
-    /// A processor looks for a task in the queue of the one that has the most, if another has.
+    /// A processor looks just now for a task in the queue of the one that has the most, if another has.
     fn pull<S: Sink>(
         &mut self,
         alloc: Global,
@@ -134,10 +134,10 @@ impl Simulation {
     ) -> Result<(), SimulateFault>
         ensures { OnOk result (Befell S.takes (Meet (Due.Pull processor) now) sink.old self.old sink.new self.new) }
     {
-        self.roster.plan_pull(processor, now)?;
-        match self.roster.largest() {
-            Some(from) if from != processor => self.pull_from(alloc, processor, from, now, sink),
-            _ => Ok(()),
+        let source = self.roster.look(processor, now)?;
+        match source {
+            Some(from) => self.pull_from(alloc, processor, from, now, sink),
+            None => Ok(()),
         }
     }
 
@@ -178,7 +178,7 @@ fn keep_pull(
     moved: Moved,
     now: u64,
 ) -> Result<(), Astray>
-    ensures accounts { OnOk result (accounts_of roster.new ≡ switched processor moved.run now roster.old.pace.migration_cost (option_map_or (λ task. passed from processor (accounts_of roster.old)) moved.task (accounts_of roster.old))) }
+    ensures accounts { OnOk result (accounts_of roster.new ≡ switched processor moved.run now roster.old.pace (option_map_or (λ task. passed from processor (accounts_of roster.old)) moved.task (accounts_of roster.old))) }
     ensures pace { roster.new.pace ≡ roster.old.pace }
 {
     if moved.task.is_some() {

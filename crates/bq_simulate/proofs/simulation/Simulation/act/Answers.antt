@@ -1,6 +1,7 @@
 use Rattle.std.proofs.Common.{List, ◌++◌, ap}
 use Rattle.std.proofs.lemmas.Result.{on_ok_weaker}
 use Rattle.bq_actions.specs.declared.due.Due.TheVariants.{End}
+use Rattle.bq_simulate.specs.Actions.{aim_of}
 use Rattle.bq_simulate.specs.Chronicles.{Deed}
 use Rattle.bq_simulate.specs.Steps.{Follow, IsAct, Meet}
 use Rattle.bq_simulate.proofs.DeedLemmas.{Lived-after, Lived-join, Lived-silent}
@@ -13,7 +14,8 @@ returns g c =
     let processor = c.args.processor in
     let now = c.args.now in
     let doing = c.in_ok-doing.doing in
-    let acts = IsAct processor doing.task now doing.action in
-    let follows = Follow doing.action processor now in
-    let meets : (xs ys : List Deed) → acts xs → follows ys → Meet (End processor) now (xs ++ ys) = λ xs ys act follow. (doing.task, doing.action, ys, ap (λ (l : List Deed). l ++ ys) act, follow) in
+    let aim = aim_of kinds doing.before doing.action in
+    let acts = IsAct processor doing.task now doing.action aim in
+    let follows = Follow doing.action aim processor now in
+    let meets : (xs ys : List Deed) → acts xs → follows ys → Meet (End processor) now (xs ++ ys) = λ xs ys act follow. (doing.task, doing.action, aim, ys, ap (λ (l : List Deed). l ++ ys) act, follow) in
     on_ok_weaker c.follow.result (λ h. Lived-join takes kinds acts follows (Meet (End processor) now) meets _ _ _ _ _ _ (Lived-silent takes kinds acts _ _ _ c.in_ok-doing.ensures) (Lived-after takes kinds follows _ _ _ _ _ c.count_phase.ensures (h kinds))) c.follow.ensures

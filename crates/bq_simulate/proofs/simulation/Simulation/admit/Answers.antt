@@ -5,9 +5,9 @@ use Rattle.bq_actions.specs.declared.workload.TaskKind.{TaskKind}
 use Rattle.bq_words.specs.Sizes.{processors_in}
 use Rattle.bq_simulate.specs.Actions.{first_of}
 use Rattle.bq_simulate.specs.Chronicles.{Deed}
-use Rattle.bq_simulate.specs.Steps.{AreAdmitted, AreAllAdmitted}
+use Rattle.bq_simulate.specs.Steps.{AreAdmitted, AreAllAdmitted, AreJust}
 use Rattle.bq_simulate.proofs.AdmissionLemmas.{AreAllAdmitted-next}
-use Rattle.bq_simulate.proofs.DeedLemmas.{Lived-after, Lived-join, Lived-same, Lived-weaker, Same-here}
+use Rattle.bq_simulate.proofs.DeedLemmas.{Lived-join, Lived-same, Lived-silent, Lived-weaker, Same-here}
 use Rattle.bq_simulate.proofs.KindLemmas.{first-more}
 use Rattle.bq_simulate.proofs.simulation.Simulation.admit.Goals as goal
 
@@ -29,7 +29,7 @@ pub admit_kind-requires-clause-first : goal.admit_kind-requires-clause-first
 admit_kind-requires-clause-first g c = ap (λ (r : Roster). length r.courses.items) c.in_ok-begin_kind.ensures.courses ∙ c.kinds.invariant.tasks
 
 pub admit_kind-requires-clause-streams : goal.admit_kind-requires-clause-streams
-admit_kind-requires-clause-streams g c = ap (λ v. length v.items) c.in_ok-begin_kind.ensures.same.stays.streams ∙ c.kinds.invariant.streams
+admit_kind-requires-clause-streams g c = ap (λ v. length v.items) c.in_ok-begin_kind.ensures.streams ∙ c.kinds.invariant.streams
 
 pub kinds-preserved : goal.kinds-preserved
 kinds-preserved g c =
@@ -47,10 +47,10 @@ kinds-preserved g c =
     let after = AreAllAdmitted all 0 0 (take (number + 1) kinds) in
     let more : (xs ys : List Deed) → before xs → these ys → after (xs ++ ys) = λ xs ys h k. AreAllAdmitted-next all kinds number kind xs ys there h k in
     let tasks = ap (λ (r : Roster). length r.courses.items) c.in_ok-begin_kind.ensures.courses ∙ c.kinds.invariant.tasks in
-    let streams = ap (λ v. length v.items) c.in_ok-begin_kind.ensures.same.stays.streams ∙ c.kinds.invariant.streams in
+    let streams = ap (λ v. length v.items) c.in_ok-begin_kind.ensures.streams ∙ c.kinds.invariant.streams in
     let next = sym (first-more kinds number kind there) in
     record {
-      lived = Lived-join takes kinds before these after more _ _ _ _ _ _ c.kinds.invariant.lived (Lived-after takes kinds these _ _ _ _ _ c.in_ok-begin_kind.ensures.same c.in_ok-admit_kind.ensures.lived);
+      lived = Lived-join takes kinds before these after more _ _ _ _ _ _ c.kinds.invariant.lived (Lived-join takes kinds (AreJust []) these these (λ xs ys none are. subst (λ (l : List Deed). these (l ++ ys)) (sym none) are) _ _ _ _ _ _ (Lived-silent takes kinds (AreJust []) _ _ _ (c.in_ok-begin_kind.ensures.silent kinds c.kinds.invariant.streams)) c.in_ok-admit_kind.ensures.lived);
       tasks = c.in_ok-admit_kind.ensures.tasks ∙ ap (λ n. n + kind.count) tasks ∙ next;
       streams = c.in_ok-admit_kind.ensures.streams ∙ ap (λ n. n + kind.count) streams ∙ next;
     }

@@ -14,7 +14,7 @@ returns-in_ok-plan_end-in-Some-Run g c =
     let is : c.args.doing.now.action ≡ action = arm.is ∙ ap (λ (a : Action). Some a) (rw arm.is at arm.field-0-is) in
     let processor = c.args.processor in
     let now = c.args.now in
-    Follow-same takes _ action processor now _ _ _ _ is (Lived-same takes (Follow action processor now) refl _ _ _ c.plan_end.ensures)
+    λ kinds. Follow-same takes kinds c.args.doing.now.before _ action processor now _ _ _ _ is (Lived-same takes (Follow action None processor now) refl _ _ _ c.plan_end.ensures kinds)
 
 pub returns-in_ok-plan_wake-in-Some-Sleep : goal.returns-in_ok-plan_wake-in-Some-Sleep
 returns-in_ok-plan_wake-in-Some-Sleep g c =
@@ -24,18 +24,18 @@ returns-in_ok-plan_wake-in-Some-Sleep g c =
     let is : c.args.doing.now.action ≡ action = arm.is ∙ ap (λ (a : Action). Some a) (rw arm.is at arm.field-0-is) in
     let processor = c.args.processor in
     let now = c.args.now in
-    on_ok_weaker c.block.result (λ h. Follow-same takes _ action processor now _ _ _ _ is (Befell-after takes (Follow action processor now) _ _ _ _ _ c.plan_wake.ensures.same h)) c.block.ensures
+    on_ok_weaker c.block.result (λ h kinds. Follow-same takes kinds c.args.doing.now.before _ action processor now _ _ _ _ is (Befell-after takes (Follow action None processor now) _ _ _ _ _ c.plan_wake.ensures.same h kinds)) c.block.ensures
 
 pub returns-in-Some-Wait : goal.returns-in-Some-Wait
 returns-in-Some-Wait g c =
     let is : c.args.doing.now.action ≡ Some Wait = c.in-Some-Wait.is ∙ ap (λ (a : Action). Some a) (rw c.in-Some-Wait.is at c.in-Some-Wait.field-0-is) in
-    on_ok_weaker c.block-in-Some-Wait.result (Follow-same g.S.Sink.takes _ (Some Wait) c.args.processor c.args.now _ _ _ _ is) c.block-in-Some-Wait.ensures
+    on_ok_weaker c.block-in-Some-Wait.result (λ h kinds. Follow-same g.S.Sink.takes kinds c.args.doing.now.before _ (Some Wait) c.args.processor c.args.now _ _ _ _ is (h kinds)) c.block-in-Some-Wait.ensures
 
 pub returns-in-Some-Wake : goal.returns-in-Some-Wake
 returns-in-Some-Wake g c =
     let action = Some (Wake c.in-Some-Wake.kind) in
     let is : c.args.doing.now.action ≡ action = c.in-Some-Wake.is ∙ ap (λ (a : Action). Some a) (rw c.in-Some-Wake.is at c.in-Some-Wake.field-0-is) in
-    on_ok_weaker c.wake_next.result (Follow-same g.S.Sink.takes _ action c.args.processor c.args.now _ _ _ _ is) c.wake_next.ensures
+    on_ok_weaker c.wake_next.result (λ h kinds. Follow-same g.S.Sink.takes kinds c.args.doing.now.before _ action c.args.processor c.args.now _ _ _ _ is (h kinds)) c.wake_next.ensures
 
 pub returns-in-None : goal.returns-in-None
-returns-in-None g c = on_ok_weaker c.block-in-None.result (Follow-same g.S.Sink.takes _ None c.args.processor c.args.now _ _ _ _ c.in-None.is) c.block-in-None.ensures
+returns-in-None g c = on_ok_weaker c.block-in-None.result (λ h kinds. Follow-same g.S.Sink.takes kinds c.args.doing.now.before _ None c.args.processor c.args.now _ _ _ _ c.in-None.is (h kinds)) c.block-in-None.ensures

@@ -12,4 +12,4 @@ returns-in-Ok-clause-silent c =
     let place : c.args.task ≡ length was.streams.items = grind (arith, c.len.ensures, c.from.ensures, c.if-len-from.false) in
     let stream = c.of_task.ensures ∙ ap (stream_of_task was.seed) place in
     let added = c.in_ok-add.ensures in
-    λ kinds of first. Silent-joins kinds _ _ c.args.kind c.args.home added.pace refl refl (added.courses ∙ ap (λ (k : Course). was.roster.courses.items ++ k ∷ []) (c.new.ensures ∙ ap (fresh c.args.kind c.args.home) first)) (ap (λ l. l.items) added.lanes) (c.in-Ok.ensures.items ∙ ap (λ (g : Lcg). was.streams.items ++ g ∷ []) stream) of
+    λ kinds of first. Silent-joins kinds _ _ c.args.kind c.args.home added.pace refl refl refl (added.courses ∙ ap (λ (k : Course). was.roster.courses.items ++ k ∷ []) (c.new.ensures ∙ ap (fresh c.args.kind c.args.home) first)) (ap (λ l. l.items) added.lanes) (c.in-Ok.ensures.items ∙ ap (λ (g : Lcg). was.streams.items ++ g ∷ []) stream) of

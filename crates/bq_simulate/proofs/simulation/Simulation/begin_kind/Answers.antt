@@ -1,0 +1,10 @@
+use Rattle.std.proofs.Common.{◌≡◌, ◌++◌, ◌∷◌, [], ℕ, length, refl, ap, ◌∙◌, arith}
+use Rattle.bq_simulate.proofs.DeedLemmas.{Silent-begins}
+use Rattle.bq_simulate.proofs.simulation.Simulation.begin_kind.Goals as goal
+
+pub returns-in-Ok-clause-silent : goal.returns-in-Ok-clause-silent
+returns-in-Ok-clause-silent c =
+    let was = c.args.self.now in
+    let long : length was.firsts.items ≡ c.args.number = grind (arith, c.len.ensures, c.if-len-number.false) in
+    let place : was.tally.tasks ≡ length was.streams.items = grind (arith, c.len-2.ensures, c.from.ensures, c.if-len-from.false) in
+    λ kinds streams. Silent-begins kinds _ _ c.args.number long refl refl refl refl (c.in-Ok.ensures.items ∙ ap (λ (n : ℕ). was.firsts.items ++ n ∷ []) (place ∙ streams))
