@@ -25,28 +25,14 @@ pub fn compare<T: Threads + Sync>(
     others: Option<&Policies>,
     seeds: u16,
 ) -> Result<Sides, SeedsFault>
-    ensures { IfOk result (IsComparison policies.now.loaded.items (option_map (λ p. p.now.loaded.items) others.entry) workload.now seeds) }
+    ensures { IfOk result (IsComparison policies.now.loaded (option_map (λ p. p.now.loaded) others.entry) workload.now seeds) }
 {
     let figures = all_figures(alloc, extent_of(workload))?;
     let figures = figures.as_slice();
-    let ours = summary(
-        threads,
-        alloc,
-        workload,
-        policies.loaded.as_slice(),
-        seeds,
-        figures,
-    )?;
+    let ours = summary(threads, alloc, workload, policies.loaded(), seeds, figures)?;
     let theirs = match others {
         Some(others) => {
-            let rows = summary(
-                threads,
-                alloc,
-                workload,
-                others.loaded.as_slice(),
-                seeds,
-                figures,
-            )?;
+            let rows = summary(threads, alloc, workload, others.loaded(), seeds, figures)?;
             Some(rows)
         }
         None => None,

@@ -1,2 +1,4 @@
 pub mod NameLemmas
+pub mod StandingLemmas
+pub mod TakingLemmas
 pub mod TraceLemmas

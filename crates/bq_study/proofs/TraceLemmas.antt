@@ -2,9 +2,10 @@
 use Rattle.std.proofs.Common.{◌≡◌, List, [], ◌∷◌, ◌++◌, sym, ap, ◌∙◌, subst, string_bytes}
 use Rattle.std.proofs.lemmas.Grind.{flat_map-append}
 use Rattle.bq_actions.specs.declared.workload.Workload.{Workload}
-use Rattle.bq_simulate.specs.Retelling.{Answers}
+use Rattle.bq_simulate.specs.Retelling.{Answers, AreOfImages}
 use Rattle.bq_simulate.specs.Texts.{AreFitting, ByHook, image_at, told_lines}
 use Rattle.bq_simulate.specs.declared.trace_text.TraceText.{TraceText}
+use Rattle.bq_simulate.proofs.FromImagesLemmas.{installs_of_images}
 use Rattle.bq_simulate.proofs.RetellingLemmas.{AreFitting-parts, texts_are_replayed}
 use Rattle.bq_simulate.proofs.TextLemmas.{Takes, writes_all}
 use Rattle.bq_simulate.specs.Chronicles.{events_of}
@@ -12,12 +13,12 @@ use Rattle.bq_simulate.specs.Simulations.{Accepted, IsSimulation}
 use Rattle.bq_trace.specs.Feeding.{with_feeds}
 use Rattle.bq_trace.specs.News.{Gets, Told, texts}
 use Rattle.bq_study.specs.Traces.{AreNames, IsTrace, TracesAreReplayed}
-use Rattle.bq_study.proofs.NameLemmas.{lines_named}
+use Rattle.bq_study.proofs.NameLemmas.{are_comments, lines_named}
 
--- names, and then a simulation, are written as a trace
-pub trace_written : (none named whole : TraceText) (w : Workload) (policies : List Accepted) (images : ByHook) → string_bytes none.text ≡ [] → image_at none.images ≡ images
+-- names, and then a simulation whose policies are those of the images, are written as a trace
+pub trace_written : (none named whole : TraceText) (w : Workload) (policies : List Accepted) (images : ByHook) → string_bytes none.text ≡ [] → image_at none.images ≡ images → AreOfImages images policies
     → Gets Takes none named AreNames → Gets Takes named whole (IsSimulation policies w) → IsTrace w policies images (string_bytes whole.text)
-trace_written none named whole w policies images empty same g h =
+trace_written none named whole w policies images empty same of g h =
     let first = writes_all none named g.told g.taken in
     let then = writes_all named whole h.told h.taken in
     let names : string_bytes named.text ≡ with_feeds g.holds.lines =
@@ -29,6 +30,7 @@ trace_written none named whole w policies images empty same g h =
       named = g.holds.named;
       simulation = h.holds;
       fits = then.1.fits;
+      of_images = of;
       whole = then.1.text ∙ ap (λ l. l ++ with_feeds (told_lines (image_at named.images) h.told)) names
           ∙ sym (flat_map-append (λ line. line ++ 10 ∷ []) g.holds.lines (told_lines (image_at named.images) h.told))
           ∙ ap (λ (at : ByHook). with_feeds (g.holds.lines ++ told_lines at h.told)) as_images;
@@ -36,8 +38,10 @@ trace_written none named whole w policies images empty same g h =
 
 -- the text that tells a simulation is answered by the answers that it got, and leaves the same machine
 pub traces_are_replayed : TracesAreReplayed
-traces_are_replayed w policies images text t names from =
+traces_are_replayed w policies images text t short =
     let s = t.simulation in
+    let names = are_comments t.names t.named short in
+    let from = installs_of_images images policies w t.told s t.of_images in
     let fits = (AreFitting-parts s.first s.more (subst AreFitting s.whole t.fits)).1 in
     let answers = texts_are_replayed images t.names w.machine.rule w.machine.size s.opening s.closing (events_of s.deeds) s.first s.more names s.starts s.drives from fits in
     subst (λ x. Answers x (texts t.told) s.closing) (sym t.whole)

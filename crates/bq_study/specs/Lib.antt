@@ -1,1 +1,4 @@
+pub mod Asking
+pub mod Standing
+pub mod Taking
 pub mod Traces

@@ -1,6 +1,14 @@
 //! What a simulation is asked for, by the words of its options.
+ghost use Rattle.std.specs.Prelude.{◌≡◌, ◌↔◌, IfErr, IfOk, IsTrue, Some, codes};
+ghost use Rattle.bq_lines.specs.Lines.{size_of};
+ghost use Rattle.bq_lines.specs.Numbers.{decimal_of};
+ghost use Rattle.bq_policy_commands.specs.Saying.{option_bytes};
+ghost use Rattle.bq_words.specs.Sizes.{rule_of};
+ghost use Rattle.bq_study.specs.Asking.{AskForChanges, AskToShow, IsNoChange, IsNotShown, change_asked, time_in};
 
 use crate::command::StudyWords;
+use bq_actions::limits::LONGEST;
+use bq_lines::numbers::{decimal, size};
 use bq_timeline::{Settings, SettingsFault};
 use bq_words::{ProcessorCount, Rule};
 use bq_workload::{Changes, duration};
@@ -39,11 +47,12 @@ pub enum AskedFault {
 
 impl Asked {
     /// How the words want it shown: in a report, unless they say otherwise.
-    pub fn of(alloc: Global, words: &StudyWords) -> Result<Asked, AskedFault> {
-        if let Some(form) = &words.shown.form {
-            if form.as_str() == "trace" {
-                return Ok(Asked::Trace);
-            }
+    pub fn of(alloc: Global, words: &StudyWords) -> Result<Asked, AskedFault>
+        ensures asked { IfOk result (AskToShow words.now) }
+        ensures fault { IfErr result (IsNotShown words.now) }
+    {
+        if names_trace(&words.shown.form) {
+            return Ok(Asked::Trace);
         }
         match Settings::of(alloc, &words.shown) {
             Ok(settings) => Ok(Asked::Timeline(settings)),
@@ -53,37 +62,80 @@ impl Asked {
     }
 }
 
-/// What the words put in the place of a workload's own machine.
-pub fn asked_changes(words: &StudyWords) -> Result<Changes, AskedFault> {
-    let mut changes = Changes::NONE;
-    if let Some(word) = &words.machine.discipline {
-        let rule = Rule::of_word(word.as_bytes()).ok_or(AskedFault::Discipline)?;
-        changes.rule = Some(rule);
+/// Whether a form is called a trace.
+fn names_trace(form: &Option<String>) -> bool
+    ensures { IsTrue result ↔ (option_bytes form.now ≡ Some (codes "trace")) }
+{
+    match form {
+        Some(form) => form.as_str() == "trace",
+        None => false,
     }
-    if let Some(word) = &words.machine.processors {
-        let size = size(word.as_str()).ok_or(AskedFault::Processors)?;
-        changes.size = Some(size);
-    }
-    if let Some(word) = &words.machine.duration {
-        let time = time(word.as_str()).ok_or(AskedFault::Duration)?;
-        changes.duration = Some(time);
-    }
-    if let Some(word) = &words.machine.seed {
-        let seed = bq_lines::numbers::decimal(word.as_bytes()).ok_or(AskedFault::Seed)?;
-        changes.seed = Some(seed);
-    }
-    Ok(changes)
 }
 
-fn size(word: &str) -> Option<ProcessorCount> {
-    let number = bq_lines::numbers::processor(word.as_bytes())?;
-    ProcessorCount::of_number(number)
+/// What the words put in the place of a workload's own machine.
+pub fn asked_changes(words: &StudyWords) -> Result<Changes, AskedFault>
+    ensures asked { IfOk result (AskForChanges words.now.machine) }
+    ensures fault { IfErr result (IsNoChange words.now.machine) }
+{
+    let words = &words.machine;
+    let rule = rule_asked(&words.discipline).ok_or(AskedFault::Discipline)?;
+    let size = size_asked(&words.processors).ok_or(AskedFault::Processors)?;
+    let duration = time_asked(&words.duration).ok_or(AskedFault::Duration)?;
+    let seed = seed_asked(&words.seed).ok_or(AskedFault::Seed)?;
+    Ok(Changes {
+        rule,
+        size,
+        duration,
+        seed,
+    })
+}
+
+/// The rule that a word asks for, if there is a word.
+fn rule_asked(word: &Option<String>) -> Option<Option<Rule>>
+    ensures { result ≡ change_asked rule_of word.now }
+{
+    match word {
+        None => Some(None),
+        Some(word) => Some(Some(Rule::of_word(word.as_bytes())?)),
+    }
+}
+
+/// The number of processors that a word asks for, if there is a word.
+fn size_asked(word: &Option<String>) -> Option<Option<ProcessorCount>>
+    ensures { result ≡ change_asked size_of word.now }
+{
+    match word {
+        None => Some(None),
+        Some(word) => Some(Some(size(word.as_bytes())?)),
+    }
+}
+
+/// The duration that a word asks for, if there is a word.
+fn time_asked(word: &Option<String>) -> Option<Option<u64>>
+    ensures { result ≡ change_asked time_in word.now }
+{
+    match word {
+        None => Some(None),
+        Some(word) => Some(Some(time(word.as_bytes())?)),
+    }
+}
+
+/// The seed that a word asks for, if there is a word.
+fn seed_asked(word: &Option<String>) -> Option<Option<u64>>
+    ensures { result ≡ change_asked decimal_of word.now }
+{
+    match word {
+        None => Some(None),
+        Some(word) => Some(Some(decimal(word.as_bytes())?)),
+    }
 }
 
 /// A duration that can be simulated.
-fn time(word: &str) -> Option<u64> {
-    let time = duration(word.as_bytes())?;
-    if 1 <= time && time <= bq_actions::limits::LONGEST {
+fn time(word: &[u8]) -> Option<u64>
+    ensures { result ≡ time_in word.now }
+{
+    let time = duration(word)?;
+    if 1 <= time && time <= LONGEST {
         Some(time)
     } else {
         None

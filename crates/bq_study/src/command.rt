@@ -1,4 +1,7 @@
 //! The words after `simulate`.
+ghost use Rattle.std.specs.Prelude.{IfOk};
+ghost use Rattle.clap.specs.Words.{found_of, rows_of};
+ghost use Rattle.bq_study.specs.Asking.{AreHookWords, AreMachineWords, AreStudyWords};
 
 use bq_core::Hook;
 use bq_options::{CommandText, Given, OptionText, WordsFault, all_words, matches_of, texts, word};
@@ -113,7 +116,9 @@ pub fn study_words<'a>(alloc: Global, given: &'a [&'a str]) -> Result<StudyWords
 }
 
 /// The words that were found.
-fn found(alloc: Global, matches: &ArgMatches<'_>) -> Result<StudyWords, AllocError> {
+fn found(alloc: Global, matches: &ArgMatches<'_>) -> Result<StudyWords, AllocError>
+    ensures { IfOk result (AreStudyWords (rows_of (found_of matches.now))) }
+{
     let machine = machine_words(alloc, matches)?;
     let seeds = word(alloc, matches, "seeds")?;
     let hooks = hook_words(alloc, matches)?;
@@ -129,7 +134,9 @@ fn found(alloc: Global, matches: &ArgMatches<'_>) -> Result<StudyWords, AllocErr
 }
 
 /// The words for the machine.
-fn machine_words(alloc: Global, matches: &ArgMatches<'_>) -> Result<MachineWords, AllocError> {
+fn machine_words(alloc: Global, matches: &ArgMatches<'_>) -> Result<MachineWords, AllocError>
+    ensures { IfOk result (AreMachineWords (rows_of (found_of matches.now))) }
+{
     let discipline = word(alloc, matches, "discipline")?;
     let processors = word(alloc, matches, "processors")?;
     let duration = word(alloc, matches, "duration")?;
@@ -143,7 +150,9 @@ fn machine_words(alloc: Global, matches: &ArgMatches<'_>) -> Result<MachineWords
 }
 
 /// The words for the hooks.
-fn hook_words(alloc: Global, matches: &ArgMatches<'_>) -> Result<HookWords, AllocError> {
+fn hook_words(alloc: Global, matches: &ArgMatches<'_>) -> Result<HookWords, AllocError>
+    ensures { IfOk result (AreHookWords (rows_of (found_of matches.now))) }
+{
     let place = word(alloc, matches, Hook::Place.word())?;
     let preempt = word(alloc, matches, Hook::Preempt.word())?;
     let pull = word(alloc, matches, Hook::Pull.word())?;

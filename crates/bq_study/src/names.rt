@@ -1,5 +1,7 @@
 //! The names of a workload's tasks.
-ghost use Rattle.std.specs.Prelude.{OnOk};
+ghost use Rattle.std.specs.Prelude.{◌≡◌, ◌<◌, true, IfOk, OnOk, string_bytes};
+ghost use Rattle.std.specs.List.{list_all};
+ghost use Rattle.bq_lines.specs.Bytes.{is_allowed};
 ghost use Rattle.bq_trace.specs.News.{Gets};
 ghost use Rattle.bq_study.specs.Traces.{AreNames};
 
@@ -42,11 +44,20 @@ pub fn tell_names<S: Sink>(
 }
 
 /// The name as a line of a trace can have it: a character that is no printable ASCII stands as `?`.
-fn plain(alloc: Global, name: &str) -> Result<String, AllocError> {
+fn plain(alloc: Global, name: &str) -> Result<String, AllocError>
+    ensures { IfOk result (λ text. list_all is_allowed (string_bytes text) ≡ true) }
+{
     let mut text = String::new(alloc);
     for letter in name.chars() {
-        let is_plain = letter.is_ascii_graphic() || letter == ' ';
-        text.push(if is_plain { letter } else { '?' })?;
+        text.push(plain_letter(letter))?;
     }
     Ok(text)
+}
+
+fn plain_letter(letter: char) -> char
+    ensures ascii { result < 128 }
+    ensures allowed { is_allowed result ≡ true }
+{
+    let is_plain = letter.is_ascii_graphic() || letter == ' ';
+    if is_plain { letter } else { '?' }
 }

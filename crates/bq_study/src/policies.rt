@@ -1,9 +1,14 @@
 //! The policies that stand at the hooks of all processors.
-ghost use Rattle.std.specs.Prelude.{◌≡◌, ℕ, List};
+ghost use Rattle.std.specs.Prelude.{◌≡◌, ℕ, List, [], Some, None, IfOk, IfErr, OnOk, OnErr};
 ghost use Rattle.std.specs.Borrow.{Bor};
 ghost use Rattle.std.specs.Option.{option_map};
+ghost use Rattle.bq_insn.specs.Spelling.{spelling};
+ghost use Rattle.bq_load.specs.Layout.{IsImage};
+ghost use Rattle.bq_program.specs.Files.{IsPolicy, IsPolicyFault};
+ghost use Rattle.bq_simulate.specs.Retelling.{IsOfImage};
 ghost use Rattle.bq_simulate.specs.Texts.{image_at};
-ghost use Rattle.bq_study.specs.Traces.{image_for};
+ghost use Rattle.bq_study.specs.Standing.{Adds, AreOfTheirImages, image_for};
+ghost use Rattle.bq_study.specs.Taking.{IsNone, IsRead, IsTold, IsToldOf, IsToldOfImage, Takes};
 
 use bq_core::{Hook, Policy};
 use bq_insn::encode::encode;
@@ -12,6 +17,7 @@ use bq_policy_commands::fault_reason;
 use bq_program::{Head, read_policy};
 use bq_simulate::Images;
 use std::alloc::{AllocError, AllocFailed, Global};
+use std::marker::Model;
 use thiserror::Error;
 
 /// Why a file is no policy for a hook.
@@ -31,37 +37,70 @@ pub enum PolicyFault {
     OutOfMemory,
 }
 
-/// The policies, and the image of each, in the order in which they came.
+/// The policies, and the image of each, in the order in which they came. Each policy is that of the image at its hook.
 #[derive(Drop)]
 pub struct Policies {
-    pub loaded: Vec<Policy>,
+    loaded: Vec<Policy>,
     images: Vec<(Hook, Vec<u8>)>,
+}
+
+impl Model for Policies {
+    ghost use Rattle.bq_study.specs.Standing.{AreOfTheirImages, Standing, standing};
+
+    ghost Value = { Standing };
+
+    ghost view = { λ p. standing p.loaded.items p.images.items };
+
+    ghost invariant = { λ p. AreOfTheirImages (standing p.loaded.items p.images.items) };
 }
 
 impl Policies {
     /// No policy stands anywhere.
-    pub fn new(alloc: Global) -> Policies {
+    pub fn new(alloc: Global) -> Policies
+        ensures loaded { result.loaded ≡ [] }
+        ensures images { result.images ≡ [] }
+    {
         Policies {
             loaded: Vec::new(alloc),
             images: Vec::new(alloc),
         }
     }
 
+    /// The policies. Each is that of the image at its hook.
+    pub fn loaded(&self) -> &[Policy]
+        ensures value { result.now ≡ self.now.loaded }
+        ensures of_images { AreOfTheirImages self.now }
+    {
+        self.loaded.as_slice()
+    }
+
     /// Takes the policy for this hook that a file holds: an image, the hex of one, or an assembler text whose head says what
-    /// it leaves out. No policy was taken for the hook before.
-    pub fn add(&mut self, alloc: Global, hook: Hook, file: &[u8]) -> Result<(), PolicyFault> {
+    /// it leaves out. No policy was taken for the hook before. Where it is not taken, all is as it was.
+    pub fn add(&mut self, alloc: Global, hook: Hook, file: &[u8]) -> Result<(), PolicyFault>
+        ensures taken { OnOk result (Takes (IsRead (Some hook) file.now) hook self.old self.new) }
+        ensures refused { OnErr result (self.new ≡ self.old) }
+        ensures told { IfErr result (IsTold (IsRead (Some hook) file.now) (IsNone (Some hook) file.now) self.old) }
+    {
         let mut asked = Head::nothing();
         asked.hook = Some(hook);
         self.take(alloc, &asked, file)
     }
 
     /// The same, for the hook that the file says.
-    pub fn add_as_said(&mut self, alloc: Global, file: &[u8]) -> Result<(), PolicyFault> {
+    pub fn add_as_said(&mut self, alloc: Global, file: &[u8]) -> Result<(), PolicyFault>
+        ensures taken { OnOk result ((hook : Hook) × Takes (IsRead None file.now) hook self.old self.new) }
+        ensures refused { OnErr result (self.new ≡ self.old) }
+        ensures told { IfErr result (IsTold (IsRead None file.now) (IsNone None file.now) self.old) }
+    {
         self.take(alloc, &Head::nothing(), file)
     }
 
     /// Takes the policy of a file that agrees with what was asked for.
-    fn take(&mut self, alloc: Global, asked: &Head, file: &[u8]) -> Result<(), PolicyFault> {
+    fn take(&mut self, alloc: Global, asked: &Head, file: &[u8]) -> Result<(), PolicyFault>
+        ensures taken { OnOk result ((hook : Hook) × Takes (IsPolicy file.now asked.now) hook self.old self.new) }
+        ensures refused { OnErr result (self.new ≡ self.old) }
+        ensures told { IfErr result (IsTold (IsPolicy file.now asked.now) (IsPolicyFault file.now asked.now) self.old) }
+    {
         let read = match read_policy(alloc, file, asked) {
             Ok(read) => read,
             Err(fault) => return Err(told(alloc, file, fault)),
@@ -70,20 +109,31 @@ impl Policies {
             return Err(PolicyFault::Twice);
         }
         let image = image_of(alloc, &read)?;
-        let program = match load(alloc, image.as_slice()) {
-            Ok(program) => program,
-            Err(LoadFault::OutOfMemory) => return Err(PolicyFault::OutOfMemory),
-            Err(fault) => return Err(PolicyFault::Program(fault)),
-        };
-        let policy = Policy::new(alloc, program)?;
-        self.images.push((read.hook, image))?;
-        self.loaded.push(policy)?;
+        let policy = policy_of(alloc, image.as_slice())?;
+        self.keep(read.hook, image, policy)
+    }
+
+    /// Keeps a policy and its image, for a hook at which none is.
+    fn keep(&mut self, hook: Hook, image: Vec<u8>, policy: Policy) -> Result<(), PolicyFault>
+        requires of { IsOfImage (Some image.items) policy }
+        requires hook { policy.hook ≡ hook }
+        requires free { image_for self.old.images hook ≡ None }
+        ensures adds { OnOk result (Adds hook image.items policy self.old self.new) }
+        ensures refused { OnErr result (self.new ≡ self.old) }
+        ensures other { IfErr result (λ fault. fault ≡ PolicyFault.OutOfMemory) }
+    {
+        let count = self.images.len();
+        self.images.push((hook, image))?;
+        if let Err(_) = self.loaded.push(policy) {
+            self.images.truncate(count);
+            return Err(PolicyFault::OutOfMemory);
+        }
         Ok(())
     }
 
     /// The image at a hook.
     pub fn image_at(&self, hook: Hook) -> Option<&[u8]>
-        ensures { option_map (λ (b : Bor (List ℕ)). b.now) result ≡ image_for self.now.images.items hook }
+        ensures { option_map (λ (b : Bor (List ℕ)). b.now) result ≡ image_for self.now.images hook }
     {
         'images: for (place, image) in &self.images {
             if *place == hook {
@@ -95,7 +145,7 @@ impl Policies {
 
     /// The images at all hooks.
     pub fn images(&self) -> Images<'_>
-        ensures { image_at result ≡ image_for self.now.images.items }
+        ensures { image_at result ≡ image_for self.now.images }
     {
         Images {
             place: self.image_at(Hook::Place),
@@ -106,19 +156,31 @@ impl Policies {
 }
 
 impl From<AllocError> for PolicyFault {
+    ghost use Rattle.std.specs.Prelude.{◌≡◌};
+    ghost use Rattle.bq_study.specs.declared.policies.PolicyFault.TheVariants.{OutOfMemory};
+
+    ghost from_gives = { λ _ e. e ≡ OutOfMemory };
+
     fn from(_e: AllocError) -> PolicyFault {
         PolicyFault::OutOfMemory
     }
 }
 
 impl<T: Drop> From<AllocFailed<T>> for PolicyFault {
+    ghost use Rattle.std.specs.Prelude.{◌≡◌};
+    ghost use Rattle.bq_study.specs.declared.policies.PolicyFault.TheVariants.{OutOfMemory};
+
+    ghost from_gives = { λ _ e. e ≡ OutOfMemory };
+
     fn from(_e: AllocFailed<T>) -> PolicyFault {
         PolicyFault::OutOfMemory
     }
 }
 
 /// Why the file is no policy for the hook, in words.
-fn told(alloc: Global, file: &[u8], fault: bq_program::PolicyFault) -> PolicyFault {
+fn told(alloc: Global, file: &[u8], fault: bq_program::PolicyFault) -> PolicyFault
+    ensures { IsToldOf fault result }
+{
     if let bq_program::PolicyFault::Disagrees(_) = fault {
         return PolicyFault::Hook;
     }
@@ -128,8 +190,23 @@ fn told(alloc: Global, file: &[u8], fault: bq_program::PolicyFault) -> PolicyFau
     }
 }
 
+/// The policy of an image.
+fn policy_of(alloc: Global, image: &[u8]) -> Result<Policy, PolicyFault>
+    ensures of { IfOk result (IsOfImage (Some image.now)) }
+    ensures told { IfErr result (IsToldOfImage image.now) }
+{
+    let program = match load(alloc, image) {
+        Ok(program) => program,
+        Err(LoadFault::OutOfMemory) => return Err(PolicyFault::OutOfMemory),
+        Err(fault) => return Err(PolicyFault::Program(fault)),
+    };
+    Ok(Policy::new(alloc, program)?)
+}
+
 /// The bytes of the image of a policy.
-fn image_of(alloc: Global, policy: &bq_program::Policy) -> Result<Vec<u8>, AllocError> {
+fn image_of(alloc: Global, policy: &bq_program::Policy) -> Result<Vec<u8>, AllocError>
+    ensures { IfOk result (λ image. IsImage image.items policy.now.version policy.now.hook policy.now.shapes.items (spelling policy.now.insns.items)) }
+{
     let mut program = Vec::new(alloc);
     encode(policy.insns.as_slice(), &mut program)?;
     let image = Image {

@@ -1,6 +1,7 @@
 //! One run of a workload, and what is written of it.
 ghost use Rattle.std.specs.Prelude.{IfOk, string_bytes};
-ghost use Rattle.bq_study.specs.Traces.{IsTrace, IsWritten, image_for};
+ghost use Rattle.bq_study.specs.Standing.{image_for};
+ghost use Rattle.bq_study.specs.Traces.{IsTrace, IsWritten};
 
 use crate::asked::Asked;
 use crate::later::Later;
@@ -40,11 +41,11 @@ fn as_trace(
     workload: &Workload,
     policies: &Policies,
 ) -> Result<Written, SimulateFault>
-    ensures { IfOk result (λ written. IsTrace workload.now policies.now.loaded.items (image_for policies.now.images.items) (string_bytes written.text)) }
+    ensures { IfOk result (λ written. IsTrace workload.now policies.now.loaded (image_for policies.now.images) (string_bytes written.text)) }
 {
     let mut sink = TraceText::new(alloc, policies.images());
     tell_names(alloc, workload, &mut sink)?;
-    simulate(alloc, workload, policies.loaded.as_slice(), &mut sink)?;
+    simulate(alloc, workload, policies.loaded(), &mut sink)?;
     Ok(Written {
         text: sink.text,
         notes: String::new(alloc),
@@ -60,7 +61,7 @@ fn as_timeline(
     let mut viewer = Viewer::new(alloc, settings);
     let above = tell_names(alloc, workload, &mut viewer)?;
     let mut later = Later { viewer, above };
-    simulate(alloc, workload, policies.loaded.as_slice(), &mut later)?;
+    simulate(alloc, workload, policies.loaded(), &mut later)?;
     later.viewer.end()?;
     Ok(Written {
         text: later.viewer.screen.text.clone()?,

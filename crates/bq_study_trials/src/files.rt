@@ -50,7 +50,7 @@ static REFUSED: [(&str, &str); 6] = [
 fn stands(policies: &Policies) -> bool {
     policies.image_at(Hook::Preempt) == Some(IMAGE.as_slice())
         && policies.image_at(Hook::Pull).is_none()
-        && policies.loaded.len() == 1
+        && policies.loaded().len() == 1
 }
 
 /// Whether the file is taken among no policies, as that one.
@@ -86,7 +86,7 @@ fn files_taken(rt: HostRuntime) {
 /// Why the file is refused among no policies, which leaves none.
 fn said_by(alloc: Global, policies: &mut Policies, file: &[u8]) -> Result<String, Fail> {
     match policies.add(alloc, Hook::Preempt, file) {
-        Err(fault) if policies.loaded.is_empty() => Ok(format!(in alloc; "{fault}")?),
+        Err(fault) if policies.loaded().is_empty() => Ok(format!(in alloc; "{fault}")?),
         _ => Err(Fail::from("it was taken")),
     }
 }

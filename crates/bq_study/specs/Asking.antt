@@ -1,0 +1,81 @@
+-- What the words of `simulate` ask for.
+use Rattle.std.specs.Prelude.{◌≡◌, ℕ, ◌&&◌, nat_le, List, [], Option, Some, None, String, if◌then◌else◌, codes, map, option_and_then, option_map, string_bytes, unwrap_or}
+use Rattle.std.specs.Global.{Global}
+use Rattle.clap.specs.Words.{Row, all_of, first_of}
+use Rattle.bq_actions.specs.Lengths.{longest}
+use Rattle.bq_lines.specs.Lines.{size_of}
+use Rattle.bq_lines.specs.Numbers.{decimal_of}
+use Rattle.bq_policy_commands.specs.Saying.{option_bytes}
+use Rattle.bq_timeline.specs.Asking.{AreWords}
+use Rattle.bq_timeline.specs.Settings.{AsksFor, IsNoSettings, asked_or, form_asked}
+use Rattle.bq_words.specs.Sizes.{rule_of}
+use Rattle.bq_workload.specs.Durations.{duration_of}
+use Rattle.bq_workload.specs.declared.changes.Changes.{Changes}
+use Rattle.bq_study.specs.declared.asked.Asked.{Asked}
+use Rattle.bq_study.specs.declared.asked.Asked.TheVariants.{Trace, Timeline}
+use Rattle.bq_study.specs.declared.asked.AskedFault.{AskedFault}
+use Rattle.bq_study.specs.declared.asked.AskedFault.TheVariants as fault
+use Rattle.bq_study.specs.declared.command.HookWords.{HookWords}
+use Rattle.bq_study.specs.declared.command.MachineWords.{MachineWords}
+use Rattle.bq_study.specs.declared.command.StudyWords.{StudyWords}
+
+-- each word is the first that was found for its option
+pub record AreMachineWords (rows : List Row) (w : MachineWords) : Type 0 where
+  pub discipline : option_bytes w.discipline ≡ first_of (codes "discipline") rows
+  pub processors : option_bytes w.processors ≡ first_of (codes "processors") rows
+  pub duration : option_bytes w.duration ≡ first_of (codes "duration") rows
+  pub seed : option_bytes w.seed ≡ first_of (codes "seed") rows
+
+pub record AreHookWords (rows : List Row) (w : HookWords) : Type 0 where
+  pub place : option_bytes w.place ≡ first_of (codes "place") rows
+  pub preempt : option_bytes w.preempt ≡ first_of (codes "preempt") rows
+  pub pull : option_bytes w.pull ≡ first_of (codes "pull") rows
+
+-- and those after `--against` are all, in their order
+pub record AreStudyWords (rows : List Row) (w : StudyWords) : Type 0 where
+  pub machine : AreMachineWords rows w.machine
+  pub seeds : option_bytes w.seeds ≡ first_of (codes "seeds") rows
+  pub hooks : AreHookWords rows w.hooks
+  pub against : map (λ (t : String Global). string_bytes t) w.against.items ≡ unwrap_or (all_of (codes "against") rows) []
+  pub shown : AreWords rows w.shown
+
+-- a change, where a word asks for one
+abbrev pub change_asked : {A : Type 0} → (List ℕ → Option A) → Option (String Global) → Option (Option A)
+change_asked read word = asked_or None (λ w. option_map Some (read w)) word
+
+-- a time that can be simulated: from 1 to 2^48 - 1 ns
+abbrev pub simulable : ℕ → Option ℕ
+simulable time = if nat_le 1 time && nat_le time longest then Some time else None
+
+abbrev pub time_in : List ℕ → Option ℕ
+time_in word = option_and_then simulable (duration_of word)
+
+-- the words ask for these changes of the machine
+pub record AskForChanges (w : MachineWords) (c : Changes) : Type 0 where
+  pub rule : change_asked rule_of w.discipline ≡ Some c.rule
+  pub size : change_asked size_of w.processors ≡ Some c.size
+  pub duration : change_asked time_in w.duration ≡ Some c.duration
+  pub seed : change_asked decimal_of w.seed ≡ Some c.seed
+
+-- the word that the fault names is none of its kind
+abbrev pub IsNoChange : MachineWords → AskedFault → Type 0
+IsNoChange w fault.Discipline = change_asked rule_of w.discipline ≡ None
+IsNoChange w fault.Processors = change_asked size_of w.processors ≡ None
+IsNoChange w fault.Duration = change_asked time_in w.duration ≡ None
+IsNoChange w fault.Seed = change_asked decimal_of w.seed ≡ None
+IsNoChange w other = ⊥
+
+-- the form is called a trace
+abbrev pub NamesTrace : StudyWords → Type 0
+NamesTrace w = option_bytes w.shown.form ≡ Some (codes "trace")
+
+-- a trace where the form is called so, else what a timeline shows by these words
+abbrev pub AskToShow : StudyWords → Asked → Type 0
+AskToShow w Trace = NamesTrace w
+AskToShow w (Timeline settings) = (¬ NamesTrace w) × AsksFor w.shown settings
+
+-- the word that the fault names is none of its kind
+abbrev pub IsNotShown : StudyWords → AskedFault → Type 0
+IsNotShown w fault.Form = (¬ NamesTrace w) × (form_asked w.shown ≡ None)
+IsNotShown w (fault.Settings why) = (¬ NamesTrace w) × IsNoSettings w.shown why
+IsNotShown w other = ⊥

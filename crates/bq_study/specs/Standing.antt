@@ -1,0 +1,34 @@
+-- What stands at hooks: policies, and the images that they are of.
+use Rattle.std.specs.Prelude.{◌≡◌, ℕ, List, [], ◌∷◌, ◌++◌, Some, None, Vec, if◌then◌else◌, map}
+use Rattle.std.specs.Global.{Global}
+use Rattle.bq_bpf.specs.declared.hook.Hook.{Hook}
+use Rattle.bq_parts.specs.Refusals.{same_hook}
+use Rattle.bq_simulate.specs.Retelling.{AreOfImages}
+use Rattle.bq_simulate.specs.Texts.{ByHook}
+use Rattle.bq_simulate.specs.Simulations.{Accepted}
+
+-- policies, and images with their hooks, in the order in which they came
+pub record Standing : Type 0 where
+  pub loaded : List Accepted
+  pub images : List (Hook × List ℕ)
+
+-- the image at a hook: the first that is for it
+abbrev pub image_for : List (Hook × List ℕ) → ByHook
+image_for [] hook = None
+image_for ((place, image) ∷ more) hook = if same_hook place hook then Some image else image_for more hook
+
+-- each policy is that of the image at its hook
+abbrev pub AreOfTheirImages : Standing → Type 0
+AreOfTheirImages s = AreOfImages (image_for s.images) s.loaded
+
+-- an image with its hook, as bytes
+abbrev pub with_bytes : Hook × Vec ℕ Global → Hook × List ℕ
+with_bytes image = (image.0, image.1.items)
+
+abbrev pub standing : List Accepted → List (Hook × Vec ℕ Global) → Standing
+standing loaded images = record { loaded = loaded; images = map with_bytes images }
+
+-- one policy more stands there, and one image more at this hook
+pub record Adds (hook : Hook) (image : List ℕ) (policy : Accepted) (old new : Standing) : Type 0 where
+  pub loaded : new.loaded ≡ old.loaded ++ policy ∷ []
+  pub images : new.images ≡ old.images ++ (hook, image) ∷ []
