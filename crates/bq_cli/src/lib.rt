@@ -1,4 +1,4 @@
-//! The program's commands: the words that ask for one, what it does, and the exit status of what came of it.
+//! The program's commands: the words that ask for one, and what it does.
 //! Promises that words ask for what clap finds in them, that `asm`, `check` and `dis` write exactly what bq_program
 //! answers for the whole of their input, and that a replay keeps the promise of bq_trace.
 #![tactic(auto)]
@@ -9,11 +9,10 @@ pub mod commands;
 mod filter;
 mod par_words;
 pub mod program;
-pub mod status;
 pub mod whole;
 pub mod words;
 
+pub use bq_replay_desk::exit_status;
 pub use bq_trace::{Counted, ReplayFault, Session, replay};
 pub use commands::perform;
-pub use status::exit_status;
 pub use words::job;

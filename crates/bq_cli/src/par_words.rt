@@ -59,17 +59,10 @@ fn size_in(alloc: Global, word: Option<&str>) -> Result<ProcessorCount, WordsFau
     let Some(word) = word else {
         return Err(refused(alloc, "processors", "", SIZES));
     };
-    match size_named(word.as_bytes()) {
+    match numbers::size(word.as_bytes()) {
         Some(size) => Ok(size),
         None => Err(refused(alloc, "processors", word, SIZES)),
     }
-}
-
-/// The size of so many processors, in decimal.
-fn size_named(word: &[u8]) -> Option<ProcessorCount>
-    ensures { result ≡ size_of word.now }
-{
-    ProcessorCount::of_number(numbers::processor(word)?)
 }
 
 /// The number of ticks that a word names.

@@ -2,8 +2,8 @@
 
 use crate::inputs::{name_of, whole_input};
 use crate::outputs::{out_of_memory, write_out};
-use bq_cli::status::REFUSED;
 use bq_policy_desk::{ImportRefusal, ImportSettings, ImportSettingsFault, ImportWords, imported};
+use bq_replay_desk::status::REFUSED;
 use std::process::ExitCode;
 
 /// The exit status of a program that is not imported.

@@ -1,16 +1,15 @@
 //! The jobs of bq_cli: `asm`, `check`, `dis`, `par` and `replay`.
 
-use crate::faults::{Streams, say_fault};
 use crate::inputs::{file_named, whole_input};
 use crate::outputs::{out_of_memory, written};
 use bq_cli::asked::Job;
-use bq_cli::{Counted, exit_status, perform};
+use bq_cli::{Counted, perform};
 use bq_explain::complaint;
-use bq_options::{Kept, say_unread};
+use bq_options::Kept;
 use bq_policy_commands::{AsmRefusal, asm_refusal, options_complaint};
 use bq_program::Options;
-use std::fs;
-use std::io::{IsTerminal, Read};
+use bq_replay_desk::{ended, replay_file};
+use std::io::Read;
 use std::process::ExitCode;
 use std::sync::Wait;
 use std::thread::Threads;
@@ -29,61 +28,28 @@ pub(crate) fn work<T: Threads + Wait + Sync>(
         Job::Asm(options) => match options_complaint(rt.alloc(), options) {
             Ok(None) => assemble_input(rt, threads, job, options, file),
             Ok(Some(why)) => {
-                let code = work_on(rt, threads, job, None, rt.stdin());
+                let code = work_on(rt, threads, job, rt.stdin());
                 let _ = eprintln!(rt; "bqsim: {why}");
                 code
             }
             Err(_) => out_of_memory(rt),
         },
-        Job::Replay => replay(rt, threads, job, file),
-        _ => work_on(rt, threads, job, None, rt.stdin()),
+        Job::Replay => replay_file(rt, file_named(file)),
+        _ => work_on(rt, threads, job, rt.stdin()),
     }
 }
 
-/// Replays a trace. On a terminal it says that it waits.
-fn replay<T: Threads + Wait + Sync>(
-    rt: &HostRuntime,
-    threads: &T,
-    job: &Job,
-    file: &Option<String>,
-) -> ExitCode {
-    match file_named(file) {
-        Some(path) => match fs::open(rt, path) {
-            Ok(trace) => work_on(rt, threads, job, Some(path), trace),
-            Err(error) => say_unread(rt, Some(path), &error),
-        },
-        None => {
-            let input = rt.stdin();
-            if input.is_terminal() {
-                let _ = eprintln!(rt;
-                    "bqsim: waiting for a trace on standard input; Ctrl-D ends it"
-                );
-            }
-            work_on(rt, threads, job, None, input)
-        }
-    }
-}
-
-/// Does a job on what is read from the file of that name, or from standard input.
+/// Does a job on what is read.
 fn work_on<T: Threads + Wait + Sync, R: Read + Drop>(
     rt: &HostRuntime,
     threads: &T,
     job: &Job,
-    name: Option<&str>,
     reader: R,
 ) -> ExitCode {
     let mut input = Counted::new(Kept::new(reader));
     let mut output = Counted::new(Kept::new(rt.stdout()));
     let outcome = perform(threads, rt.alloc(), job, &mut input, &mut output);
-    if let Err(fault) = &outcome {
-        let streams = Streams {
-            name,
-            read: input.into_inner().failure(),
-            written: output.into_inner().failure(),
-        };
-        say_fault(rt, *fault, &streams);
-    }
-    ExitCode::from(exit_status(&outcome))
+    ended(rt, None, &outcome, input, output)
 }
 
 /// Assembles the file that is named, or standard input, unless its marks say another thing than the options.
@@ -119,7 +85,7 @@ fn assemble<T: Threads + Wait + Sync>(
     job: &Job,
     text: &[u8],
 ) -> ExitCode {
-    let code = work_on(rt, threads, job, None, text);
+    let code = work_on(rt, threads, job, text);
     if let Ok(Some(why)) = complaint(rt.alloc(), text) {
         let _ = eprint!(rt; "bqsim: {why}");
     }

@@ -1,7 +1,6 @@
 //! Does what its words ask, from standard input or a file to standard output.
 #![tactic(auto)]
 
-mod faults;
 mod import;
 mod inputs;
 mod jobs;
@@ -11,9 +10,9 @@ mod simulate;
 mod timeline;
 
 use crate::requests::{Request, asked};
-use bq_cli::status::REFUSED;
 use bq_options::WordsFault;
 use bq_policy_desk::do_policy;
+use bq_replay_desk::status::REFUSED;
 use std::process::ExitCode;
 use std::sync::Wait;
 use std::thread::Threads;

@@ -4,11 +4,10 @@ use bq_cli::asked::Job;
 use bq_cli::job;
 use bq_options::WordsFault;
 use bq_policy_desk::{PolicyRequest, policy_request};
+use bq_replay_desk::{as_texts, given_words};
 use bq_study::{StudyWords, study_words};
 use bq_timeline::{Words, words};
 use std::alloc::Global;
-use std::env;
-use std::io::ErrorKind;
 
 /// What the program is asked to do.
 #[derive(Drop)]
@@ -23,27 +22,9 @@ pub(crate) enum Request {
 
 /// What the words after the program's name ask for. A word that is no text is refused.
 pub(crate) fn asked(rt: &HostRuntime) -> Result<Request, WordsFault> {
-    let alloc = rt.alloc();
-    let mut given = Vec::new(alloc);
-    match env::args(rt) {
-        Ok(args) => {
-            for arg in args.skip(1) {
-                given.push(arg)?;
-            }
-        }
-        Err(error) => {
-            if error.kind() == ErrorKind::OutOfMemory {
-                return Err(WordsFault::OutOfMemory);
-            }
-            let text = String::from_str(alloc, "error: a word is no UTF-8 text\n")?;
-            return Err(WordsFault::Words(text));
-        }
-    }
-    let mut words = Vec::new(alloc);
-    for word in &given {
-        words.push(word.as_str())?;
-    }
-    request_of(alloc, words.as_slice())
+    let given = given_words(rt)?;
+    let words = as_texts(rt.alloc(), &given)?;
+    request_of(rt.alloc(), words.as_slice())
 }
 
 /// What the words ask for. `help` before a command's name asks what `--help` after it does.

@@ -3,9 +3,9 @@
 use crate::inputs::{name_of, whole_file, whole_input};
 use crate::outputs::{out_of_memory, write_out};
 use bq_actions::Workload;
-use bq_cli::status::REFUSED;
 use bq_comparison::{Comparing, SeedsFault, asked_comparison, compare, lines, written};
 use bq_core::Hook;
+use bq_replay_desk::status::REFUSED;
 use bq_simulate::SimulateFault;
 use bq_study::{Asked, AskedFault, Policies, PolicyFault, StudyWords, asked_changes, run_as};
 use bq_timeline::SettingsFault;

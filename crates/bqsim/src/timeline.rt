@@ -1,11 +1,11 @@
 //! `bqsim timeline`.
 
-use crate::faults::{Streams, say_fault};
 use crate::inputs::file_named;
 use crate::outputs::out_of_memory;
-use bq_cli::status::REFUSED;
-use bq_cli::{Counted, exit_status};
+use bq_cli::Counted;
 use bq_options::{Kept, say_unread};
+use bq_replay_desk::ended;
+use bq_replay_desk::status::REFUSED;
 use bq_timeline::{Settings, SettingsFault, Words, show};
 use std::fs;
 use std::io::Read;
@@ -45,15 +45,7 @@ fn show_from<R: Read + Drop>(
             let _ = eprint!(rt; "{notes}");
             Ok(outcome.clean)
         }
-        Err(fault) => {
-            let streams = Streams {
-                name,
-                read: input.into_inner().failure(),
-                written: output.into_inner().failure(),
-            };
-            say_fault(rt, fault, &streams);
-            Err(fault)
-        }
+        Err(fault) => Err(fault),
     };
-    ExitCode::from(exit_status(&outcome))
+    ended(rt, name, &outcome, input, output)
 }

@@ -1,14 +1,12 @@
-//! How the program ends.
+//! How a job ends.
 ghost use Rattle.std.specs.Prelude.{◌≡◌};
-ghost use Rattle.bq_cli.specs.Status.{status_of};
+ghost use Rattle.bq_replay_desk.specs.Status.{status_of};
 
+use bq_options::{OUT_OF_MEMORY, UNREADABLE};
 use bq_trace::ReplayFault;
 
 /// The exit status of words that ask for nothing.
 pub const REFUSED: u8 = 2;
-
-/// The exit status where memory was wanted.
-pub const OUT_OF_MEMORY: u8 = 3;
 
 /// The exit status of an outcome: 0 where all is well, 1 where something was refused or bad, 3 where memory was wanted,
 /// 4 where a read or a write failed or the input was too long.
@@ -19,6 +17,6 @@ pub fn exit_status(outcome: &Result<bool, ReplayFault>) -> u8
         Ok(true) => 0,
         Ok(false) => 1,
         Err(ReplayFault::OutOfMemory) => OUT_OF_MEMORY,
-        Err(ReplayFault::Read | ReplayFault::Write | ReplayFault::TooLong) => 4,
+        Err(ReplayFault::Read | ReplayFault::Write | ReplayFault::TooLong) => UNREADABLE,
     }
 }

@@ -1,0 +1,14 @@
+//! `replay` of a file: from the words after the program's name to the exit status.
+//!
+//! What a job's outcome gives as exit status is so by contract. What standard error says makes no promise beyond that it is safe.
+#![tactic(auto)]
+
+mod ending;
+mod given;
+mod replaying;
+pub mod status;
+
+pub use ending::ended;
+pub use given::{as_texts, given_words};
+pub use replaying::replay_file;
+pub use status::exit_status;

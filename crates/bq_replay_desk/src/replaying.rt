@@ -1,0 +1,36 @@
+//! A trace is replayed, from a file or from standard input, to standard output.
+
+use crate::ending::ended;
+use bq_options::{Kept, say_unread};
+use bq_trace::{Counted, replay};
+use std::fs;
+use std::io::{IsTerminal, Read};
+use std::process::ExitCode;
+
+/// Replays the trace in the file of that name, or on standard input. On a terminal it says that it waits. The exit status is
+/// that of [`exit_status`](crate::exit_status); where the file can't be opened it is 4.
+pub fn replay_file(rt: &HostRuntime, name: Option<&str>) -> ExitCode {
+    match name {
+        Some(path) => match fs::open(rt, path) {
+            Ok(trace) => replay_from(rt, name, trace),
+            Err(error) => say_unread(rt, name, &error),
+        },
+        None => {
+            let input = rt.stdin();
+            if input.is_terminal() {
+                let _ = eprintln!(rt;
+                    "bqsim: waiting for a trace on standard input; Ctrl-D ends it"
+                );
+            }
+            replay_from(rt, None, input)
+        }
+    }
+}
+
+/// Replays the trace that is read from there.
+fn replay_from<R: Read + Drop>(rt: &HostRuntime, name: Option<&str>, trace: R) -> ExitCode {
+    let mut input = Counted::new(Kept::new(trace));
+    let mut output = Counted::new(Kept::new(rt.stdout()));
+    let outcome = replay(rt.alloc(), &mut input, &mut output);
+    ended(rt, name, &outcome, input, output)
+}
