@@ -24,6 +24,8 @@ FACTS = [
     ('the word of a rule', r'b?"(?:cfs|eevdf)"', {'bq_words/src/rule.rt'}),
     ('the word of a version', r'Version::\w+ => \d', {'bq_bpf/src/hook.rt'}),
     ('how far ahead a task may be under CFS', r'GRANULARITY: u64', {'bq_cfs/src/discipline.rt'}),
+    ('the latest reading of a clock', r'1 << 48', {'bq_disc/src/clock.rt'}),
+    ('the longest duration', r'281_?474_?976_?710_?655;', {'bq_actions/src/limits.rt'}),
 ]
 
 
