@@ -6,7 +6,7 @@ ghost use Rattle.bq_actions.specs.Lengths.{is_length, takes_time};
 use crate::limits::LONGEST;
 
 /// How long something takes, in nanoseconds. Each is from 1 to `LONGEST`, 2^48 - 1: so nothing takes no time.
-#[derive(Clone, Copy, Debug, PartialEq, Eq)]
+#[derive(Clone, Copy, PartialEq, Eq)]
 pub enum Length {
     /// Always the same.
     Fixed(u64),
@@ -32,7 +32,7 @@ impl Length {
 }
 
 /// One thing that a task does, while it runs.
-#[derive(Clone, Copy, Debug, PartialEq, Eq)]
+#[derive(Clone, Copy, PartialEq, Eq)]
 pub enum Action {
     /// It runs for so much time of a processor: a run phase.
     Run(Length),

@@ -2,7 +2,7 @@
 ghost use Rattle.std.specs.Prelude.{◌≡◌, ◌+◌, ◌≤◌, ◌^◌, ◌<◌, Some, None, IfSome, IfNone, ◌↔◌};
 
 /// Where a task is.
-#[derive(Clone, Copy, Debug, PartialEq, Eq)]
+#[derive(Clone, Copy)]
 pub enum Stance {
     /// It sleeps until its timer wakes it.
     Asleep,
@@ -15,7 +15,7 @@ pub enum Stance {
 }
 
 /// How far a task has come. Times are nanoseconds.
-#[derive(Clone, Copy, Debug, PartialEq, Eq)]
+#[derive(Clone, Copy)]
 pub struct Course {
     /// The index of its kind.
     pub kind: usize,

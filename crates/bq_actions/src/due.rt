@@ -4,7 +4,7 @@ ghost use Rattle.bq_actions.specs.Dues.{IsDue, place_of, due_at};
 
 /// Something that comes due. At one instant they come in this order, and those of one kind by their numbers. Processors
 /// are numbered from 0 to 63, tasks from 0 to 1023.
-#[derive(Clone, Copy, Debug, PartialEq, Eq)]
+#[derive(Clone, Copy)]
 pub enum Due {
     /// The run phase of the task that runs at a processor ends.
     End(u8),

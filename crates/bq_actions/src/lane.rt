@@ -3,7 +3,7 @@ ghost use Rattle.std.specs.Prelude.{◌≡◌};
 ghost use Rattle.bq_actions.specs.Accounts.{at_rest, is_past, rests_past};
 
 /// What runs at a processor.
-#[derive(Clone, Copy, Debug, PartialEq, Eq)]
+#[derive(Clone, Copy)]
 pub struct Lane {
     /// The task that runs.
     pub run: Option<u16>,

@@ -16,11 +16,11 @@ use std::alloc::{AllocError, Global};
 
 /// A number that stands for no task or processor, a time that does not fit, or a phase that ended too early or too late:
 /// whoever keeps the roster lost count.
-#[derive(Clone, Copy, Debug, PartialEq, Eq, Drop)]
+#[derive(Clone, Copy, Drop)]
 pub struct Astray;
 
 /// How a simulation goes: when it ends, the times between ticks and between pulls, and what a change of processor costs.
-#[derive(Clone, Copy, Debug, PartialEq, Eq)]
+#[derive(Clone, Copy)]
 pub struct Pace {
     pub end: u64,
     pub tick: u64,

@@ -3,7 +3,7 @@
 use bq_words::{ProcessorCount, Rule};
 
 /// The machine of a simulation, and how long it is watched. Times are nanoseconds.
-#[derive(Clone, Copy, Debug, PartialEq, Eq)]
+#[derive(Clone, Copy, PartialEq, Eq)]
 pub struct Setup {
     /// How processors choose among their tasks.
     pub rule: Rule,

@@ -4,7 +4,7 @@ use crate::action::Action;
 use crate::setup::Setup;
 
 /// Some tasks that do the same.
-#[derive(Debug, Drop)]
+#[derive(Drop)]
 pub struct TaskKind {
     pub name: String,
     /// How many tasks there are of this kind, at least 1. All kinds have at most 1,024 together.
@@ -24,7 +24,7 @@ pub struct TaskKind {
 }
 
 /// What is simulated. Tasks are numbered from 0 in the order of their kinds.
-#[derive(Debug, Drop)]
+#[derive(Drop)]
 pub struct Workload {
     pub machine: Setup,
     pub tasks: Vec<TaskKind>,

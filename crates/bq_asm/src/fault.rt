@@ -37,7 +37,7 @@ impl Cause {
 }
 
 /// Why a text is refused.
-#[derive(Clone, Copy, Debug, PartialEq, Eq, Error)]
+#[derive(Clone, Copy, Debug, Error)]
 pub enum AsmFault {
     /// The first line with a fault, counted from 1, and the least of its causes. Only where no line has one of
     /// the others, a text with no instruction is `Slots` at line 0, and else the first jump whose label is set

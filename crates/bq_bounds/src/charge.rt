@@ -10,7 +10,7 @@ use bq_words::Rule;
 
 /// How far the task that ran was beyond where its rule measures from when its time was charged, and how far it may be: virtual
 /// nanoseconds.
-#[derive(Clone, Copy, Debug, PartialEq, Eq)]
+#[derive(Clone, Copy)]
 pub struct Charge {
     pub difference: u64,
     pub bound: u64,

@@ -1,7 +1,7 @@
 //! What is known of a processor's tasks without a look at each.
 
 /// What is known of a processor's tasks without a look at each.
-#[derive(Clone, Copy, Debug)]
+#[derive(Clone, Copy)]
 pub struct Glance {
     /// No task that is there has a lesser virtual runtime.
     pub least: u64,

@@ -14,7 +14,7 @@ use bq_disc::Entity;
 use bq_parts::{By, Event, Reply};
 
 /// What an event does to the tasks that are there.
-#[derive(Clone, Copy, Debug, PartialEq, Eq)]
+#[derive(Clone, Copy)]
 pub enum Course {
     /// Time is charged, and nobody decides.
     Passes,
@@ -25,7 +25,7 @@ pub enum Course {
 }
 
 /// The lags of a processor's tasks. Counts stop at their type's greatest number.
-#[derive(Clone, Copy, Debug, PartialEq, Eq)]
+#[derive(Clone, Copy)]
 pub struct Lags {
     /// The stretch that goes on; `None` where none has begun, or a task was pulled from here since.
     pub stretch: Option<Stretch>,

@@ -2,7 +2,7 @@
 ghost use Rattle.bq_weights.specs.VirtualTime.{IsWeight};
 
 /// The task that runs at a processor, before its time is charged.
-#[derive(Clone, Copy, Debug)]
+#[derive(Clone, Copy)]
 pub struct RunningTask {
     /// Its virtual runtime.
     pub v: u64,

@@ -12,7 +12,7 @@ use bq_disc::Entity;
 
 /// A stretch as it goes on. Under EEVDF no task gets further ahead of the mean in it than one was at its beginning, but for one
 /// rise of the clock between two decisions; so none is owed more than the others can be ahead by together.
-#[derive(Clone, Copy, Debug, PartialEq, Eq)]
+#[derive(Clone, Copy)]
 pub struct Stretch {
     /// How far the furthest task was ahead of the mean at the beginning, in virtual nanoseconds.
     pub ahead: u64,

@@ -8,7 +8,7 @@ use bq_parts::{By, Event, Reply};
 use bq_words::Rule;
 
 /// A processor as its charges come. Counts stop at their type's greatest number.
-#[derive(Clone, Copy, Debug, PartialEq, Eq)]
+#[derive(Clone, Copy)]
 pub struct Watch {
     /// How far its clock has risen since its discipline decided who runs; `None` where a policy decided last, or a pull has
     /// disturbed what the discipline saw.

@@ -15,7 +15,7 @@ pub const READ_COUNTER: i32 = 101;
 
 /// What a call asks of the machine (RFC 9669 section 4.3.1): the arguments are in registers 1 to 5, the answer comes in
 /// register 0.
-#[derive(Clone, Copy, Debug, PartialEq, Eq)]
+#[derive(Clone, Copy)]
 pub enum Helper {
     /// The address of an entry of a map, or 0.
     Lookup,

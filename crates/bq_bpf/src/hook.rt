@@ -43,7 +43,7 @@ impl Hook {
 }
 
 /// The version of an image.
-#[derive(Clone, Copy, Debug, PartialEq, Eq)]
+#[derive(Clone, Copy, PartialEq, Eq)]
 pub enum Version {
     /// The context of a placement has 104 bytes.
     First,

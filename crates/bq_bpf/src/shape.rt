@@ -4,7 +4,7 @@ ghost use Rattle.std.specs.Prelude.{◌≡◌, ◌≤◌, ◌%◌, ◌↔◌, Is
 /// How many bytes a value has, and how many entries there are.
 ///
 /// A value has 8 to 256 bytes, in eights, and there are 1 to 256 entries.
-#[derive(Clone, Copy, Debug, PartialEq, Eq)]
+#[derive(Clone, Copy, PartialEq, Eq)]
 pub struct MapShape {
     /// The bytes of one value.
     pub value_size: u16,

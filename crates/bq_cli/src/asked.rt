@@ -4,7 +4,7 @@ use bq_program::Options;
 use bq_words::{ProcessorCount, Rule};
 
 /// What the program is asked to do.
-#[derive(Debug, Drop)]
+#[derive(Drop)]
 pub enum Job {
     /// Reads an assembler text and writes the hex of its program, or of an image with it.
     Asm(Options),
@@ -19,7 +19,7 @@ pub enum Job {
 }
 
 /// What `par` is to run: under which rule, how many processors, and how often each of them ticks, at most 1,000,000 times.
-#[derive(Clone, Copy, Debug)]
+#[derive(Clone, Copy)]
 pub struct Parallel {
     pub rule: Rule,
     pub size: ProcessorCount,

@@ -309,7 +309,7 @@ fn slots(rt: HostRuntime) -> Result<(), Fail> {
     for (end, count) in &COUNTED {
         let text = repeated(rt.alloc(), "", "lddw r1, 0\n", 2047, end)?;
         let outcome = outcome(rt.alloc(), text.as_str());
-        holds(&rt, outcome == Ok(*count), end, "in another count");
+        holds(&rt, outcome.ok() == Some(*count), end, "in another count");
     }
     Ok(())
 }
@@ -324,7 +324,7 @@ fn options_without_a_hook_are_refused(rt: HostRuntime) {
     let fault = options.form(rt.alloc()).err();
     holds(
         &rt,
-        fault == Some(OptionsFault::Format),
+        matches!(fault, Some(OptionsFault::Format)),
         "another fault",
         "refused format",
     );

@@ -7,7 +7,7 @@ use bq_parts::Hook;
 use std::alloc::{AllocError, Global};
 
 /// How many tasks and processors there are.
-#[derive(Clone, Copy, Debug, PartialEq, Eq)]
+#[derive(Clone, Copy)]
 pub struct Extent {
     pub tasks: u16,
     pub processors: u8,

@@ -3,7 +3,7 @@
 use bq_parts::Hook;
 
 /// A figure of a task. Times are nanoseconds.
-#[derive(Clone, Copy, Debug, PartialEq, Eq)]
+#[derive(Clone, Copy)]
 pub enum TaskFigure {
     /// The time that it ran.
     Ran,
@@ -22,7 +22,7 @@ pub enum TaskFigure {
 }
 
 /// A figure of a processor. Times are nanoseconds.
-#[derive(Clone, Copy, Debug, PartialEq, Eq)]
+#[derive(Clone, Copy)]
 pub enum ProcessorFigure {
     /// The time in which a task ran.
     Busy,
@@ -33,7 +33,7 @@ pub enum ProcessorFigure {
 }
 
 /// A figure of a hook at a processor.
-#[derive(Clone, Copy, Debug, PartialEq, Eq)]
+#[derive(Clone, Copy)]
 pub enum HookFigure {
     /// How often a policy was asked.
     Asked,
@@ -44,7 +44,7 @@ pub enum HookFigure {
 }
 
 /// A figure of a report.
-#[derive(Clone, Copy, Debug, PartialEq, Eq)]
+#[derive(Clone, Copy)]
 pub enum Figure {
     /// A figure of a task.
     Task(u16, TaskFigure),

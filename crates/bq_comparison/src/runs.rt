@@ -8,14 +8,14 @@ use bq_schedule::Schedule;
 use std::alloc::{AllocError, Global};
 
 /// A figure with its value in a run, if it has one there.
-#[derive(Clone, Copy, Debug, PartialEq, Eq)]
+#[derive(Clone, Copy)]
 pub struct FigureValue {
     pub figure: Figure,
     pub value: Option<u64>,
 }
 
 /// The figures of one run, each with its value.
-#[derive(Debug, Drop)]
+#[derive(Drop)]
 pub struct Run {
     pub values: Vec<FigureValue>,
 }

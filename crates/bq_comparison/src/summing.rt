@@ -8,7 +8,7 @@ use crate::{deviation, mean};
 use std::alloc::{AllocError, Global};
 
 /// What several runs say of a figure, in thousandths of its unit, rounded down.
-#[derive(Clone, Copy, Debug, PartialEq, Eq)]
+#[derive(Clone, Copy)]
 pub struct Row {
     pub figure: Figure,
     /// How many runs have a value.

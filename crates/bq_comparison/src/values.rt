@@ -9,7 +9,7 @@ use bq_schedule::{Latencies, Schedule};
 use std::alloc::{AllocError, Global};
 
 /// How long a task waited from a wake until it ran, in nanoseconds.
-#[derive(Clone, Copy, Debug, PartialEq, Eq)]
+#[derive(Clone, Copy)]
 pub struct Delay {
     pub task: u16,
     pub latency: u64,

@@ -25,7 +25,7 @@ use bq_verify::{Cause, Program, view_at};
 use std::alloc::{AllocError, Global};
 
 /// What is said of a policy.
-#[derive(Debug, Drop)]
+#[derive(Drop)]
 pub struct Explained {
     /// The text, line by line; the first line is `accepted` or `refused` and why.
     pub text: String,

@@ -5,7 +5,7 @@ ghost use Rattle.bq_explain.specs.Verdicts.{CallsNoOther, IsBeside, IsCalledAgai
 use bq_insn::Insn;
 
 /// The limits that a program has to keep beside being safe.
-#[derive(Debug, Drop)]
+#[derive(Drop)]
 pub struct Limits {
     /// The most instructions of a run.
     pub steps: Option<u32>,

@@ -11,7 +11,7 @@ use bq_verify::{Cause, Program, Refused, verify};
 use std::alloc::{AllocError, Global};
 
 /// The answer to a policy under limits.
-#[derive(Clone, Copy, Debug)]
+#[derive(Clone, Copy)]
 pub enum Verdict {
     /// It is safe, and its runs of at most so many instructions are within the limits.
     Accepted { budget: u32 },

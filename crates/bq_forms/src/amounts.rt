@@ -23,7 +23,7 @@ impl fmt::Display for Thousandths {
 /// Nanoseconds, as milliseconds with three decimals. What is less than a microsecond is cut off.
 ///
 /// 1,234,567 ns are `1.234`.
-#[derive(Clone, Copy, Debug, PartialEq, Eq)]
+#[derive(Clone, Copy)]
 pub struct Millis(pub u64);
 
 impl fmt::Display for Millis {
@@ -38,7 +38,7 @@ impl fmt::Display for Millis {
 /// Nanoseconds, as microseconds with three decimals.
 ///
 /// 1,234,567 ns are `1234.567`.
-#[derive(Clone, Copy, Debug, PartialEq, Eq)]
+#[derive(Clone, Copy)]
 pub struct Micros(pub u64);
 
 impl fmt::Display for Micros {
@@ -51,7 +51,7 @@ impl fmt::Display for Micros {
 }
 
 /// A unit of time to show moments in.
-#[derive(Clone, Copy, Debug, PartialEq, Eq)]
+#[derive(Clone, Copy)]
 pub enum Unit {
     Microseconds,
     Milliseconds,
@@ -73,7 +73,7 @@ impl Unit {
 /// A moment or a length of time, with its unit.
 ///
 /// 1,234,567 ns are `1.234 ms` or `1234.567 us`.
-#[derive(Clone, Copy, Debug, PartialEq, Eq)]
+#[derive(Clone, Copy)]
 pub struct Moment {
     pub time: u64,
     pub unit: Unit,

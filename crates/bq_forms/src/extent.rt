@@ -7,7 +7,7 @@ use bq_schedule::Schedule;
 
 /// The stretch of time that a picture is drawn over: from the first reading of a clock to the last, of the processors that are
 /// shown, as far as the window goes. It is not empty.
-#[derive(Clone, Copy, Debug, PartialEq, Eq)]
+#[derive(Clone, Copy)]
 pub struct Extent {
     pub from: u64,
     pub to: u64,

@@ -8,7 +8,7 @@ use std::fmt;
 /// nothing every part is 0.
 ///
 /// 3 of 4 are `75.00`.
-#[derive(Clone, Copy, Debug, PartialEq, Eq)]
+#[derive(Clone, Copy)]
 pub struct Percent {
     pub part: u64,
     pub whole: u64,

@@ -13,7 +13,7 @@ pub struct WakeLatencies {
 
 /// What so many percent of a task's latencies do not exceed, by nearest rank, and the greatest, in nanoseconds. `None` where it
 /// has none.
-#[derive(Clone, Copy, Debug, PartialEq, Eq)]
+#[derive(Clone, Copy)]
 pub struct Percentiles {
     pub p50: Option<u64>,
     pub p95: Option<u64>,

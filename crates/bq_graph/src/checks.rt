@@ -12,7 +12,7 @@ use crate::single::{calls_unknown, is_bad_jump, is_counter_call, runs_out, write
 use bq_insn::Insn;
 
 /// Where a program is at fault, and why.
-#[derive(Clone, Copy, Debug, PartialEq, Eq)]
+#[derive(Clone, Copy)]
 pub struct Fault {
     /// The slot at which the faulty instruction begins.
     pub slot: usize,

@@ -4,7 +4,7 @@ use std::alloc::{AllocError, AllocFailed};
 use thiserror::Error;
 
 /// Why a program has no copy in which each jump goes forward, or none that fits.
-#[derive(Clone, Copy, Debug, PartialEq, Eq, Error)]
+#[derive(Clone, Copy, Debug, Error)]
 pub enum Disorder {
     /// The jump at this slot leads to where no instruction begins.
     #[error("slot {slot}: a jump out of the program")]

@@ -6,7 +6,7 @@ use bq_insn::fault::Cause;
 use std::fmt;
 
 /// What stands at a slot that is no instruction here, or needs what only a linker has.
-#[derive(Clone, Copy, Debug, PartialEq, Eq)]
+#[derive(Clone, Copy, Debug)]
 pub enum Reason {
     /// The length is 0, no multiple of 8, or too great.
     Length,

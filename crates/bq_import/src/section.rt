@@ -15,7 +15,7 @@ use std::alloc::{AllocError, Global};
 use thiserror::Error;
 
 /// Why the bytes of a compiled program are not imported.
-#[derive(Clone, Copy, Debug, PartialEq, Eq, Error)]
+#[derive(Clone, Copy, Debug, Error)]
 pub enum ImportFault {
     /// What stands at the slot is no instruction here, or needs a linker.
     #[error("slot {slot}: {reason}")]

@@ -19,7 +19,7 @@ ghost use Rattle.std.specs.Prelude.{◌≡◌};
 ghost use Rattle.bq_insn.specs.Slots.{byte_count, slots_of};
 
 /// How many low bits of its operands an instruction works on (RFC 9669, section 3.3).
-#[derive(Clone, Copy, Debug, PartialEq, Eq)]
+#[derive(Clone, Copy, PartialEq, Eq)]
 pub enum Width {
     /// The low 32 bits; arithmetic makes the upper 32 bits of its result zero. Classes ALU and JMP32.
     W32,
@@ -29,7 +29,7 @@ pub enum Width {
 
 /// What an arithmetic instruction does with its two operands, the first of which is the destination (RFC 9669,
 /// section 4.1). Sums, differences and products wrap; a shift's amount is masked by the width.
-#[derive(Clone, Copy, Debug, PartialEq, Eq)]
+#[derive(Clone, Copy, PartialEq, Eq)]
 pub enum Operation {
     /// The sum.
     Add,
@@ -62,7 +62,7 @@ pub enum Operation {
 }
 
 /// The second operand (RFC 9669, section 4): a number in the instruction, or a register.
-#[derive(Clone, Copy, Debug, PartialEq, Eq)]
+#[derive(Clone, Copy, PartialEq, Eq)]
 pub enum Source {
     /// A signed number, whose sign is extended to 64 bits (K in the RFC).
     Imm(i32),
@@ -71,7 +71,7 @@ pub enum Source {
 }
 
 /// How many bytes a load or a store moves (RFC 9669, section 5).
-#[derive(Clone, Copy, Debug, PartialEq, Eq)]
+#[derive(Clone, Copy, PartialEq, Eq)]
 pub enum Size {
     /// One byte.
     Byte,
@@ -84,7 +84,7 @@ pub enum Size {
 }
 
 /// When a branch is taken: how its first operand stands to its second (RFC 9669, section 4.3).
-#[derive(Clone, Copy, Debug, PartialEq, Eq)]
+#[derive(Clone, Copy, PartialEq, Eq)]
 pub enum Condition {
     /// Both are equal.
     Equal,
@@ -111,7 +111,7 @@ pub enum Condition {
 }
 
 /// Which byte order an operand is brought to, on a host that is little-endian (RFC 9669, section 4.2).
-#[derive(Clone, Copy, Debug, PartialEq, Eq)]
+#[derive(Clone, Copy, PartialEq, Eq)]
 pub enum Order {
     /// To little-endian: the low bytes stay as they are.
     Little,
@@ -122,7 +122,7 @@ pub enum Order {
 }
 
 /// How many low bits are kept, by an extension of the sign or a byte order.
-#[derive(Clone, Copy, Debug, PartialEq, Eq)]
+#[derive(Clone, Copy, PartialEq, Eq)]
 pub enum Bits {
     /// Eight; no byte order has it.
     B8,
@@ -135,7 +135,7 @@ pub enum Bits {
 }
 
 /// One instruction. Registers are numbered from 0 to 10; which values the fields may have is `well_formed`'s.
-#[derive(Clone, Copy, Debug, PartialEq, Eq)]
+#[derive(Clone, Copy, PartialEq, Eq)]
 pub enum Insn {
     /// `dst` becomes the result of the operation on `dst` and `src` (RFC 9669, section 4.1).
     Alu {

@@ -1,7 +1,7 @@
 // What a run may ask of the machine.
 
 /// The time and the processor of a run.
-#[derive(Clone, Copy, Debug, PartialEq, Eq)]
+#[derive(Clone, Copy)]
 pub struct Env {
     /// The processor's last reading of its clock, in nanoseconds.
     pub now: u64,

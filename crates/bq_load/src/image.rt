@@ -8,7 +8,7 @@ use bq_bpf::{Hook, MapShape, Version};
 use std::alloc::Global;
 
 /// An image: a program's bytes, the choice that it makes, and the shapes of its maps.
-#[derive(Debug, Drop)]
+#[derive(Drop)]
 pub struct Image {
     /// The version, on which the length of the program's context rests.
     pub version: Version,

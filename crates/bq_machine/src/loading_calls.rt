@@ -24,7 +24,7 @@ use std::sync::Wait;
 use thiserror::Error;
 
 /// Why nothing was loaded, and nothing recorded.
-#[derive(Clone, Copy, Debug, PartialEq, Eq, Error)]
+#[derive(Clone, Copy, Debug, Error)]
 pub enum LoadRefused {
     /// The bytes are no image of a program that is accepted.
     #[error("{0}")]

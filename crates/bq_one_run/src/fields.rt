@@ -10,7 +10,7 @@ use crate::words::{cut, decimal};
 use bq_bpf::{Hook, Version, context_length};
 
 /// How many bytes a field has: four, or eight.
-#[derive(Clone, Copy, Debug, PartialEq, Eq)]
+#[derive(Clone, Copy)]
 pub enum Width {
     Four,
     Eight,
@@ -29,7 +29,7 @@ impl Width {
 }
 
 /// Where a field stands: its first byte, and how many it has.
-#[derive(Clone, Copy, Debug, PartialEq, Eq)]
+#[derive(Clone, Copy)]
 pub struct Field {
     pub at: usize,
     pub width: Width,

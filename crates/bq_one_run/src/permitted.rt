@@ -14,7 +14,7 @@ const NOBODY: u64 = 0xffff_ffff;
 const SHOWN: u32 = 8;
 
 /// What the rule says of an answer.
-#[derive(Clone, Copy, Debug, PartialEq, Eq)]
+#[derive(Clone, Copy)]
 pub enum Word {
     Permitted,
     NotPermitted,

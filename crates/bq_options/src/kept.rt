@@ -14,7 +14,7 @@ use std::io::{Error, Read, Write};
 /// let outcome = work(&mut input);
 /// let why = input.failure();
 /// ```
-#[derive(Debug, Drop)]
+#[derive(Drop)]
 pub struct Kept<T> {
     inner: T,
     failure: Option<Error>,

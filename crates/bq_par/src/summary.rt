@@ -17,7 +17,7 @@ use bq_tie::Naming;
 use std::alloc::{AllocError, Global};
 
 /// How many events the history has, how many of them are ticks, and how many of the receipts stand in it.
-#[derive(Clone, Copy, Debug, PartialEq, Eq)]
+#[derive(Clone, Copy)]
 pub struct Summary {
     pub events: u64,
     pub ticks: u64,

@@ -10,7 +10,7 @@ use std::alloc::{AllocError, Global};
 use thiserror::Error;
 
 /// The words after `import`.
-#[derive(Debug, Drop)]
+#[derive(Drop)]
 pub struct ImportWords {
     /// The file; standard input without it, or as `-`.
     pub file: Option<String>,
@@ -20,7 +20,7 @@ pub struct ImportWords {
 }
 
 /// Why the words are refused.
-#[derive(Clone, Copy, Debug, PartialEq, Eq, Error)]
+#[derive(Clone, Copy, Debug, Error)]
 pub enum ImportSettingsFault {
     #[error("--hook is place, preempt or pull")]
     Hook,
@@ -41,7 +41,7 @@ impl From<AllocError> for ImportSettingsFault {
 }
 
 /// What a compiled program is for.
-#[derive(Debug, Drop)]
+#[derive(Drop)]
 pub struct ImportSettings {
     /// Its hook, maps and format.
     pub form: ImageForm,

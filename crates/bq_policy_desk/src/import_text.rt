@@ -12,7 +12,7 @@ use std::alloc::{AllocError, AllocFailed, Global};
 use thiserror::Error;
 
 /// Why there is no text.
-#[derive(Clone, Copy, Debug, PartialEq, Eq, Error)]
+#[derive(Clone, Copy, Debug, Error)]
 pub enum ImportRefusal {
     /// The input begins as hex and is none.
     #[error("the hex has a half byte at its end")]

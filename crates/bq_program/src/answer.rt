@@ -5,7 +5,7 @@ ghost use Rattle.bq_program.specs.Refusals.{refusal};
 use std::alloc::{AllocError, Global};
 
 /// What a command answers for its input.
-#[derive(Debug, Drop)]
+#[derive(Drop)]
 pub struct Answer {
     /// The text for standard output, with its line ends.
     pub text: String,

@@ -21,7 +21,7 @@ pub enum HeadCause {
 }
 
 /// Why the marks of a text are refused.
-#[derive(Clone, Copy, Debug, PartialEq, Eq)]
+#[derive(Clone, Copy)]
 pub enum HeadFault {
     /// The first line that is refused, counted from 1, and why.
     At { line: usize, cause: HeadCause },
@@ -47,7 +47,7 @@ impl From<AllocError> for HeadFault {
 }
 
 /// Why a file is no policy.
-#[derive(Clone, Copy, Debug, PartialEq, Eq, Error)]
+#[derive(Clone, Copy, Debug, Error)]
 pub enum PolicyFault {
     /// It is neither an image nor hex, and no UTF-8 text.
     Text,

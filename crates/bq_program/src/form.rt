@@ -9,7 +9,7 @@ use bq_insn::encode::encode;
 use std::alloc::{AllocError, Global};
 
 /// In what form a program is written.
-#[derive(Debug, Drop)]
+#[derive(Drop)]
 pub enum Form {
     /// The bytes of its instructions alone.
     Program,

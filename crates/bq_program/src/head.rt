@@ -10,7 +10,7 @@ use bq_load::{Hook, Version};
 use std::alloc::Global;
 
 /// What is said of a program beside its instructions: by the marks of a text, or by words of a command.
-#[derive(Debug, Drop)]
+#[derive(Drop)]
 pub struct Head {
     /// The choice that the program makes.
     pub hook: Option<Hook>,

@@ -8,7 +8,7 @@ use bq_load::{Hook, Image, Version, write_image};
 use std::alloc::{AllocError, Global};
 
 /// What an image says beside its program.
-#[derive(Debug, Drop)]
+#[derive(Drop)]
 pub struct ImageForm {
     /// The choice that the program makes.
     pub hook: Hook,

@@ -4,7 +4,7 @@ ghost use Rattle.bq_program.specs.Files.{first_dark, kind_at, kind_of};
 ghost use Rattle.bq_program.specs.HexText.{is_blank};
 
 /// What a file holds.
-#[derive(Clone, Copy, Debug, PartialEq, Eq)]
+#[derive(Clone, Copy, PartialEq, Eq)]
 pub enum Kind {
     /// An image, which begins with its letters.
     Image,

@@ -13,7 +13,7 @@ use std::fmt;
 use thiserror::Error;
 
 /// The options of `asm`.
-#[derive(Debug, Drop)]
+#[derive(Drop)]
 pub struct Options {
     /// The choice that the program makes. With it the image of the program is written, without it the program alone.
     pub hook: Option<Hook>,
@@ -24,7 +24,7 @@ pub struct Options {
 }
 
 /// Why options are refused.
-#[derive(Clone, Copy, Debug, PartialEq, Eq, Error)]
+#[derive(Clone, Copy, Debug, Error)]
 pub enum OptionsFault {
     /// Maps are named without a hook, or by a text that names no shapes, or more than 8.
     Maps,

@@ -7,7 +7,7 @@ use bq_insn::Insn;
 use bq_load::{Hook, Version};
 
 /// A program with the choice that it makes and the shapes of its maps.
-#[derive(Debug, Drop)]
+#[derive(Drop)]
 pub struct Policy {
     /// The choice that the program makes.
     pub hook: Hook,

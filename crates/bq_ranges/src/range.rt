@@ -5,7 +5,7 @@ ghost use Rattle.bq_bpf.specs.Meaning.{modulus};
 use bq_insn::{Bits, Width};
 
 /// The words from `lo` to `hi`, both included; there is always at least one.
-#[derive(Clone, Copy, Debug, PartialEq, Eq)]
+#[derive(Clone, Copy)]
 pub struct Range {
     pub lo: u64,
     pub hi: u64,

@@ -7,7 +7,7 @@ use bq_parts::{By, Hook};
 
 /// What one answer changes. An event that is refused changes nothing, nor does one whose answer is not of its kind, or that
 /// names a processor that is not there. Times are nanoseconds of the clock of the event's processor.
-#[derive(Clone, Copy, Debug, PartialEq, Eq)]
+#[derive(Clone, Copy, PartialEq, Eq)]
 pub struct Change {
     /// The reading of the processor's clock, where the event has one.
     pub reading: Option<Reading>,
@@ -49,7 +49,7 @@ impl Change {
 }
 
 /// A reading of a processor's clock.
-#[derive(Clone, Copy, Debug, PartialEq, Eq)]
+#[derive(Clone, Copy, PartialEq, Eq)]
 pub struct Reading {
     pub processor: u8,
     /// The reading before, 0 at first.
@@ -61,7 +61,7 @@ pub struct Reading {
 }
 
 /// A hook came to its choice.
-#[derive(Clone, Copy, Debug, PartialEq, Eq)]
+#[derive(Clone, Copy, PartialEq, Eq)]
 pub struct Decision {
     pub hook: Hook,
     pub by: By,
@@ -95,7 +95,7 @@ impl Decision {
 }
 
 /// A woken task was placed, and is runnable from now on.
-#[derive(Clone, Copy, Debug, PartialEq, Eq)]
+#[derive(Clone, Copy, PartialEq, Eq)]
 pub struct Wake {
     pub task: u16,
     /// The processor that woke it.
@@ -107,7 +107,7 @@ pub struct Wake {
 }
 
 /// A runnable task was pulled.
-#[derive(Clone, Copy, Debug, PartialEq, Eq)]
+#[derive(Clone, Copy, PartialEq, Eq)]
 pub struct Moved {
     pub task: u16,
     pub from: u8,
@@ -118,7 +118,7 @@ pub struct Moved {
 }
 
 /// A task began to run.
-#[derive(Clone, Copy, Debug, PartialEq, Eq)]
+#[derive(Clone, Copy, PartialEq, Eq)]
 pub struct Start {
     pub processor: u8,
     pub task: u16,
@@ -148,7 +148,7 @@ impl Start {
 }
 
 /// A task ceased to run.
-#[derive(Clone, Copy, Debug, PartialEq, Eq)]
+#[derive(Clone, Copy, PartialEq, Eq)]
 pub struct Stop {
     /// How it had begun.
     pub start: Start,
@@ -157,7 +157,7 @@ pub struct Stop {
 }
 
 /// Why a task ceased to run.
-#[derive(Clone, Copy, Debug, PartialEq, Eq)]
+#[derive(Clone, Copy, PartialEq, Eq)]
 pub enum Left {
     /// Another runs in its place, and it waits.
     Preempted,

@@ -6,7 +6,7 @@ use crate::change::Start;
 use crate::slice::Slice;
 
 /// The figures of a task. A count stops at its type's greatest number. An id that is admitted anew is counted on.
-#[derive(Clone, Copy, Debug, PartialEq, Eq)]
+#[derive(Clone, Copy)]
 pub struct TaskFigures {
     /// Whether the id was ever admitted.
     pub is_admitted: bool,
@@ -81,7 +81,7 @@ impl TaskFigures {
 }
 
 /// The figures of a processor. A count stops at its type's greatest number.
-#[derive(Clone, Copy, Debug, PartialEq, Eq)]
+#[derive(Clone, Copy)]
 pub struct ProcessorFigures {
     /// The first reading of its clock.
     pub first: Option<u64>,
@@ -150,7 +150,7 @@ impl ProcessorFigures {
 }
 
 /// The figures of a hook of a processor.
-#[derive(Clone, Copy, Debug, PartialEq, Eq)]
+#[derive(Clone, Copy)]
 pub struct HookFigures {
     /// How often a policy was asked.
     pub asked: u64,

@@ -4,7 +4,7 @@
 ///
 /// A slice is what one reading of the clock charges: from the reading before to this one. A run is what slices of a task
 /// make that touch each other, as long as no slice of another task or idle time comes between.
-#[derive(Clone, Copy, Debug, PartialEq, Eq)]
+#[derive(Clone, Copy, PartialEq, Eq)]
 pub struct Slice {
     pub processor: u8,
     pub task: u16,

@@ -1,7 +1,7 @@
 //! What a simulation counts beside its trace.
 
 /// What a simulation counts beside its trace. Each count stops at its greatest value.
-#[derive(Clone, Copy, Debug, PartialEq, Eq)]
+#[derive(Clone, Copy, PartialEq, Eq)]
 pub struct Tally {
     /// How many tasks there were.
     pub tasks: u16,

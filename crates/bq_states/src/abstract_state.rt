@@ -4,7 +4,7 @@ use bq_insn::Size;
 use bq_ranges::Range;
 
 /// What a word counts from.
-#[derive(Clone, Copy, Debug, PartialEq, Eq)]
+#[derive(Clone, Copy, PartialEq, Eq)]
 pub enum Kind {
     /// Nothing: the word is a number.
     Number,
@@ -21,7 +21,7 @@ pub enum Kind {
 }
 
 /// A word: so far above what it counts from.
-#[derive(Clone, Copy, Debug)]
+#[derive(Clone, Copy)]
 pub struct AbstractValue {
     pub kind: Kind,
     /// How far above; of a pointer in bytes.
@@ -29,7 +29,7 @@ pub struct AbstractValue {
 }
 
 /// Some bytes of the stack: the number that is stored in them, its low byte first, is of the range.
-#[derive(Clone, Copy, Debug)]
+#[derive(Clone, Copy)]
 pub struct Part {
     /// Where the first of them is, in bytes above the stack's lowest one.
     pub first: u16,

@@ -10,7 +10,7 @@ use clap::ArgMatches;
 use std::alloc::{AllocError, Global};
 
 /// The words of the options, as they were given.
-#[derive(Debug, Drop)]
+#[derive(Drop)]
 pub struct StudyWords {
     pub machine: MachineWords,
     /// How many seeds it is run with.
@@ -23,7 +23,7 @@ pub struct StudyWords {
 }
 
 /// What stands in the place of the workload's own machine.
-#[derive(Debug, Drop)]
+#[derive(Drop)]
 pub struct MachineWords {
     pub discipline: Option<String>,
     pub processors: Option<String>,
@@ -32,7 +32,7 @@ pub struct MachineWords {
 }
 
 /// What stands at the hooks: files of policies, or `none`.
-#[derive(Debug, Drop)]
+#[derive(Drop)]
 pub struct HookWords {
     pub place: Option<String>,
     pub preempt: Option<String>,

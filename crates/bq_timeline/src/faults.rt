@@ -7,7 +7,7 @@ use bq_words::{ProcessorCount, Rule, next_word};
 use std::{fmt, str};
 
 /// What a word of a line is to be.
-#[derive(Clone, Copy, Debug, PartialEq, Eq)]
+#[derive(Clone, Copy)]
 pub enum Kind {
     Rule,
     ProcessorCount,

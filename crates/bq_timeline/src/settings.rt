@@ -12,7 +12,7 @@ use std::alloc::{AllocError, Global};
 use thiserror::Error;
 
 /// The words of the options, as they were given.
-#[derive(Debug, Drop)]
+#[derive(Drop)]
 pub struct Words {
     /// The trace; none, or `-`, is standard input.
     pub file: Option<String>,

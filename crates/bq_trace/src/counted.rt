@@ -8,7 +8,7 @@ use crate::fault::ReplayFault;
 use std::io::{Read, Write};
 
 /// A reader or a writer, with how often it was called and how often it failed. Each count stops at its greatest value.
-#[derive(Debug, Drop)]
+#[derive(Drop)]
 pub struct Counted<T> {
     inner: T,
     calls: u64,

@@ -13,7 +13,7 @@ use crate::stop::Stop;
 use std::alloc::AllocError;
 
 /// Why a program is not accepted: a cause at a slot, or want of memory.
-#[derive(Clone, Copy, Debug, PartialEq, Eq)]
+#[derive(Clone, Copy, Debug)]
 pub enum Refused {
     /// The cause, and the slot of the instruction that has it.
     At { slot: usize, cause: Cause },

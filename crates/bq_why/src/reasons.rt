@@ -10,7 +10,7 @@ use bq_hooks::By;
 use bq_words::Rule;
 
 /// Why the task that runs does so.
-#[derive(Clone, Copy, Debug, PartialEq, Eq)]
+#[derive(Clone, Copy)]
 pub enum Reason {
     /// Nothing is there that could run.
     Nobody,

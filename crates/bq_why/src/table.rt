@@ -7,7 +7,7 @@ use bq_disc::Entity;
 use std::alloc::{AllocError, Global};
 
 /// A task as a choice saw it.
-#[derive(Clone, Copy, Debug)]
+#[derive(Clone, Copy)]
 pub struct Row {
     /// Its number.
     pub task: u16,

@@ -3,7 +3,7 @@ ghost use Rattle.std.specs.Prelude.{◌≡◌};
 ghost use Rattle.bq_words.specs.Sizes.{processors_in, size_numbered};
 
 /// How many processors there are: a power of 2 up to 64.
-#[derive(Clone, Copy, Debug, PartialEq, Eq)]
+#[derive(Clone, Copy, PartialEq, Eq)]
 pub enum ProcessorCount {
     One,
     Two,

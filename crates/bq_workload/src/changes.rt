@@ -5,7 +5,7 @@ use bq_actions::Setup;
 use bq_words::{ProcessorCount, Rule};
 
 /// What the words of a command put in the place of a machine's own.
-#[derive(Clone, Copy, Debug, PartialEq, Eq)]
+#[derive(Clone, Copy)]
 pub struct Changes {
     pub rule: Option<Rule>,
     pub size: Option<ProcessorCount>,
