@@ -1,6 +1,7 @@
 pub mod Processors
 pub mod World
 pub mod Refusals
+pub mod RefusalTexts
 pub mod Choices
 pub mod Events
 pub mod Moves

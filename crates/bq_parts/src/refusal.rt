@@ -1,53 +1,90 @@
 //! Why an event is refused.
+ghost use Rattle.std.specs.Prelude.{◌≡◌, Some};
+ghost use Rattle.bq_parts.specs.RefusalTexts.{refusal_name};
 
-use thiserror::Error;
+use std::error::Error;
+use std::fmt;
 
 /// Why an event was refused. A refused event leaves the world as it was. The texts are those that a trace is answered.
-#[derive(Clone, Copy, Debug, PartialEq, Eq, Error)]
+#[derive(Clone, Copy, PartialEq, Eq)]
 pub enum Refusal {
     /// A processor's number is not below the number of processors.
-    #[error("C1 NoProcessor")]
     NoProcessor,
     /// The id is over 1023, or is not admitted.
-    #[error("C2 NoTask")]
     NoTask,
     /// The task is not in the lobby.
-    #[error("C3 NotBlocked")]
     NotBlocked,
     /// The id is admitted already.
-    #[error("C4 TaskExists")]
     TaskExists,
     /// The mask names no processor of the machine.
-    #[error("C5 EmptyMask")]
     EmptyMask,
     /// The nice value is outside -20 to 19.
-    #[error("C6 Nice")]
     Nice,
     /// The slice is outside 100,000 to 100,000,000 nanoseconds.
-    #[error("C7 Slice")]
     Slice,
     /// Nothing runs.
-    #[error("C8 Idle")]
     Idle,
     /// A processor would pull from itself.
-    #[error("C9 SameProcessor")]
     SameProcessor,
     /// The processor's hand is full.
-    #[error("C10 InHand")]
     InHand,
     /// The processor's hand is empty.
-    #[error("C11 NothingInHand")]
     NothingInHand,
     /// The generation is not above the newest one of that processor and hook, which is named.
-    #[error("C12 Older {0}")]
     Older(u64),
     /// The generation is 0, or was not drawn.
-    #[error("C13 NotDrawn")]
     NotDrawn,
     /// The policy was verified for another hook.
-    #[error("C14 WrongHook")]
     WrongHook,
     /// A growth was refused.
-    #[error("C15 OutOfMemory")]
     OutOfMemory,
 }
+
+impl Refusal {
+    /// Its number and its name; a number may come after it.
+    fn name(self) -> &'static str
+        ensures { result.now ≡ refusal_name self }
+    {
+        match self {
+            Refusal::NoProcessor => "C1 NoProcessor",
+            Refusal::NoTask => "C2 NoTask",
+            Refusal::NotBlocked => "C3 NotBlocked",
+            Refusal::TaskExists => "C4 TaskExists",
+            Refusal::EmptyMask => "C5 EmptyMask",
+            Refusal::Nice => "C6 Nice",
+            Refusal::Slice => "C7 Slice",
+            Refusal::Idle => "C8 Idle",
+            Refusal::SameProcessor => "C9 SameProcessor",
+            Refusal::InHand => "C10 InHand",
+            Refusal::NothingInHand => "C11 NothingInHand",
+            Refusal::Older(_) => "C12 Older ",
+            Refusal::NotDrawn => "C13 NotDrawn",
+            Refusal::WrongHook => "C14 WrongHook",
+            Refusal::OutOfMemory => "C15 OutOfMemory",
+        }
+    }
+}
+
+/// The text that a trace is answered.
+impl fmt::Display for Refusal {
+    ghost use Rattle.bq_parts.specs.RefusalTexts.{refusal_text};
+
+    ghost output = { λ r. Some (refusal_text r) };
+
+    fn fmt<W: fmt::Write>(&self, f: &mut fmt::Formatter<W>) -> fmt::Result {
+        f.write_str(self.name())?;
+        match *self {
+            Refusal::Older(newest) => write!(f, "{newest}"),
+            _ => Ok(()),
+        }
+    }
+}
+
+/// The same text.
+impl fmt::Debug for Refusal {
+    fn fmt<W: fmt::Write>(&self, f: &mut fmt::Formatter<W>) -> fmt::Result {
+        fmt::Display::fmt(self, f)
+    }
+}
+
+impl Error for Refusal {}

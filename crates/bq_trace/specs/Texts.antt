@@ -10,7 +10,8 @@ use Rattle.bq_hooks.specs.declared.settled.By.TheVariants.{Policy, Discipline}
 use Rattle.bq_parts.specs.declared.reply.Reply.{Reply}
 use Rattle.bq_parts.specs.declared.reply.Reply.TheVariants.{Admitted, Retired, Drawn, Installed, Begun, Placed, Drained, Ticked, Blocked, Pulled}
 use Rattle.bq_parts.specs.declared.refusal.Refusal.{Refusal}
-use Rattle.bq_parts.specs.declared.refusal.Refusal.TheVariants.{NoProcessor, NoTask, NotBlocked, TaskExists, EmptyMask, Nice, Slice, Idle, SameProcessor, InHand, NothingInHand, Older, NotDrawn, WrongHook, OutOfMemory}
+use Rattle.bq_parts.specs.declared.refusal.Refusal.TheVariants.{NoProcessor}
+use Rattle.bq_parts.specs.RefusalTexts.{refusal_text}
 
 -- a task or `none`
 abbrev pub task_text : Option ℕ → List ℕ
@@ -42,23 +43,6 @@ reply_text (Drained count run by steps) = codes "drain " ++ (decimal count ++ ru
 reply_text (Ticked run by steps) = codes "tick" ++ run_text run by steps
 reply_text (Blocked task run) = codes "block " ++ (decimal task ++ (codes " run " ++ task_text run))
 reply_text (Pulled task run by steps) = codes "pull " ++ (task_text task ++ run_text run by steps)
-
-abbrev pub refusal_text : Refusal → List ℕ
-refusal_text NoProcessor = codes "C1 NoProcessor"
-refusal_text NoTask = codes "C2 NoTask"
-refusal_text NotBlocked = codes "C3 NotBlocked"
-refusal_text TaskExists = codes "C4 TaskExists"
-refusal_text EmptyMask = codes "C5 EmptyMask"
-refusal_text Nice = codes "C6 Nice"
-refusal_text Slice = codes "C7 Slice"
-refusal_text Idle = codes "C8 Idle"
-refusal_text SameProcessor = codes "C9 SameProcessor"
-refusal_text InHand = codes "C10 InHand"
-refusal_text NothingInHand = codes "C11 NothingInHand"
-refusal_text (Older newest) = codes "C12 Older " ++ decimal newest
-refusal_text NotDrawn = codes "C13 NotDrawn"
-refusal_text WrongHook = codes "C14 WrongHook"
-refusal_text OutOfMemory = codes "C15 OutOfMemory"
 
 -- the line that answers an event
 abbrev pub event_line : Result Reply Refusal → List ℕ

@@ -182,23 +182,7 @@ fn write_reply(text: &mut String, reply: &Reply) -> Result<(), AllocError>
 pub fn write_refusal(text: &mut String, refusal: Refusal) -> Result<(), AllocError>
     ensures { OnOk result (string_bytes text.new ≡ string_bytes text.old ++ event_line (Err refusal)) }
 {
-    match refusal {
-        Refusal::NoProcessor => write!(text, "refused C1 NoProcessor\n"),
-        Refusal::NoTask => write!(text, "refused C2 NoTask\n"),
-        Refusal::NotBlocked => write!(text, "refused C3 NotBlocked\n"),
-        Refusal::TaskExists => write!(text, "refused C4 TaskExists\n"),
-        Refusal::EmptyMask => write!(text, "refused C5 EmptyMask\n"),
-        Refusal::Nice => write!(text, "refused C6 Nice\n"),
-        Refusal::Slice => write!(text, "refused C7 Slice\n"),
-        Refusal::Idle => write!(text, "refused C8 Idle\n"),
-        Refusal::SameProcessor => write!(text, "refused C9 SameProcessor\n"),
-        Refusal::InHand => write!(text, "refused C10 InHand\n"),
-        Refusal::NothingInHand => write!(text, "refused C11 NothingInHand\n"),
-        Refusal::Older(newest) => write!(text, "refused C12 Older {newest}\n"),
-        Refusal::NotDrawn => write!(text, "refused C13 NotDrawn\n"),
-        Refusal::WrongHook => write!(text, "refused C14 WrongHook\n"),
-        Refusal::OutOfMemory => write!(text, "refused C15 OutOfMemory\n"),
-    }
+    write!(text, "refused {refusal}\n")
 }
 
 /// Adds the line that calls a line of this number bad.
