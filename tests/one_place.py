@@ -25,6 +25,8 @@ FACTS = [
     ('the word of a version', r'Version::\w+ => \d', {'bq_bpf/src/hook.rt'}),
     ('how far ahead a task may be under CFS', r'GRANULARITY: u64', {'bq_cfs/src/discipline.rt'}),
     ('the latest reading of a clock', r'1 << 48', {'bq_disc/src/clock.rt'}),
+    ('the text of a refused event', r'"(?:refused )?C\d+ ', {'bq_parts/src/refusal.rt'}),
+    ('what is no number of processors', r'is no number of processors', {'bq_lines/src/numbers.rt'}),
     ('the longest duration', r'281_?474_?976_?710_?655;', {'bq_actions/src/limits.rt'}),
 ]
 

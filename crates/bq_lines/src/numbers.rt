@@ -19,6 +19,9 @@ pub fn processor(word: &[u8]) -> Option<u8>
     u8::try_from(decimal(word)?).ok()
 }
 
+/// What a word that `size` does not take is said to be.
+pub const NO_SIZE: &str = "is no number of processors (1, 2, 4, 8, 16, 32 or 64)";
+
 /// How many processors a machine has: decimal, one of 1, 2, 4, 8, 16, 32 and 64.
 pub fn size(word: &[u8]) -> Option<ProcessorCount>
     ensures { result ≡ size_of word.now }

@@ -46,7 +46,7 @@ impl Kind {
     fn words(self) -> &'static str {
         match self {
             Kind::Rule => "is no rule (cfs or eevdf)",
-            Kind::ProcessorCount => "is no number of processors (1, 2, 4, 8, 16, 32 or 64)",
+            Kind::ProcessorCount => numbers::NO_SIZE,
             Kind::Processor => "does not fit a processor's number (0 to 255)",
             Kind::Task => "does not fit a task's number (0 to 65535)",
             Kind::Nice => "does not fit a nice value (-128 to 127)",

@@ -1,6 +1,7 @@
 //! What can be wrong with a table or a value.
 
 use crate::duration;
+use bq_lines::numbers::NO_SIZE;
 use std::fmt;
 use toml::Value;
 
@@ -133,7 +134,7 @@ fn misfit<W: fmt::Write>(f: &mut fmt::Formatter<W>, value: &Value, wanted: &Want
             " is no whole number from {} to {}",
             range.least, range.greatest
         ),
-        other => f.write_str(described(other)),
+        other => write!(f, " {}", described(other)),
     }
 }
 
@@ -156,18 +157,18 @@ fn no_time<W: fmt::Write>(f: &mut fmt::Formatter<W>, value: &Value, range: &Rang
 /// What a value is not, where the words are always the same.
 fn described(wanted: &Wanted) -> &'static str {
     match wanted {
-        Wanted::Nice => " is no nice value (a whole number from -20 to 19)",
-        Wanted::Rule => " is no discipline (\"cfs\" or \"eevdf\")",
-        Wanted::Size => " is no number of processors (1, 2, 4, 8, 16, 32 or 64)",
+        Wanted::Nice => "is no nice value (a whole number from -20 to 19)",
+        Wanted::Rule => "is no discipline (\"cfs\" or \"eevdf\")",
+        Wanted::Size => NO_SIZE,
         Wanted::Processors =>
-            " is no list of processors (numbers from 0 to 63 and ranges, as \"0-2,5\")",
-        Wanted::Name => " is no name (a text with something in it)",
-        Wanted::True => " is not true, which is all that it takes",
+            "is no list of processors (numbers from 0 to 63 and ranges, as \"0-2,5\")",
+        Wanted::Name => "is no name (a text with something in it)",
+        Wanted::True => "is not true, which is all that it takes",
         Wanted::Action =>
-            " is no action (one of { run = LENGTH }, { sleep = LENGTH }, { wait = true } and { wake = TASK })",
-        Wanted::Actions => " is no list of actions",
-        Wanted::Table => " is no table",
-        _ => " is no list of tables ([[task]])",
+            "is no action (one of { run = LENGTH }, { sleep = LENGTH }, { wait = true } and { wake = TASK })",
+        Wanted::Actions => "is no list of actions",
+        Wanted::Table => "is no table",
+        _ => "is no list of tables ([[task]])",
     }
 }
 
