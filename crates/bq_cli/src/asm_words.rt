@@ -8,7 +8,8 @@ ghost use Rattle.bq_bpf.specs.declared.hook.Hook.{Hook as Place};
 ghost use Rattle.bq_bpf.specs.declared.hook.Version.{Version as Number};
 ghost use Rattle.bq_cli.specs.Jobs.{AreOptions, version_word};
 
-use bq_options::{WordsFault, value, word};
+use bq_console::WordsFault;
+use bq_options::{value, word};
 use bq_program::{Hook, Options, Version};
 use clap::ArgMatches;
 use std::alloc::{AllocError, Global};

@@ -11,8 +11,9 @@ ghost use Rattle.bq_cli.specs.Jobs.{IsParallel, ticks_of};
 
 use crate::asked::Parallel;
 use crate::asm_words::refused;
+use bq_console::WordsFault;
 use bq_lines::numbers;
-use bq_options::{WordsFault, value};
+use bq_options::value;
 use bq_words::{ProcessorCount, Rule};
 use clap::ArgMatches;
 use std::alloc::Global;

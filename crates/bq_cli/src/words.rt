@@ -8,7 +8,8 @@ use crate::asked::Job;
 use crate::asm_words::options;
 use crate::par_words::parallel;
 use crate::program::program;
-use bq_options::{WordsFault, found_in};
+use bq_console::WordsFault;
+use bq_options::found_in;
 use clap::ArgMatches;
 use std::alloc::Global;
 

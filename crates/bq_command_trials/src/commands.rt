@@ -2,7 +2,7 @@
 
 use crate::done::{Row, all_give, all_give_unread, holds, words_of};
 use bq_cli::job;
-use bq_options::WordsFault;
+use bq_console::WordsFault;
 use std::alloc::Global;
 use std::test::Fail;
 

@@ -5,8 +5,8 @@ use Rattle.std.specs.Prelude.{IfErr}
 use Rattle.std.specs.Borrow.{Bor}
 use Rattle.clap.specs.Words.{App, Text, takes, with_rule, with_subcommand}
 use Rattle.clap.specs.declared.parser.matches.ArgMatches.{ArgMatches}
-use Rattle.bq_options.specs.declared.fault.WordsFault.{WordsFault}
-use Rattle.bq_options.specs.declared.fault.WordsFault.TheVariants.{OutOfMemory}
+use Rattle.bq_console.specs.declared.fault.WordsFault.{WordsFault}
+use Rattle.bq_console.specs.declared.fault.WordsFault.TheVariants.{OutOfMemory}
 use Rattle.bq_options.specs.declared.tables.OptionText.{OptionText}
 use Rattle.bq_options.specs.declared.tables.CommandText.{CommandText}
 use Rattle.bq_options.specs.Tables.{app_told, rule_told, with_commands, with_options, with_tables}

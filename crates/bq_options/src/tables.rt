@@ -4,7 +4,8 @@ ghost use Rattle.clap.specs.Words.{HasMatchesOf, app_of, rule_of, takes};
 ghost use Rattle.clap.specs.declared.builder.command.Command.TheViews.{out-Command as fields_of};
 ghost use Rattle.bq_options.specs.Tables.{alone, app_told, named, rule_told, with_commands, with_options, with_tables};
 
-use crate::fault::WordsFault;
+use crate::refused::fault_of;
+use bq_console::WordsFault;
 use clap::{Arg, ArgAction, ArgMatches, Command};
 use std::alloc::{AllocError, Global};
 
@@ -139,7 +140,7 @@ pub fn found_in<'a>(
 {
     match command.try_get_matches_from(given) {
         Ok(matches) => Ok(matches),
-        Err(error) => Err(WordsFault::of(alloc, &error)),
+        Err(error) => Err(fault_of(alloc, &error)),
     }
 }
 

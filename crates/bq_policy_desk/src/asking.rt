@@ -5,7 +5,8 @@ ghost use Rattle.bq_policy_commands.specs.Saying.{option_bytes};
 ghost use Rattle.bq_policy_desk.specs.Asked.{AreAll, AreCheckWords, AreListWords, ArePolicyWords, AreRunWords, AreTellingWords};
 
 use crate::commands::program;
-use bq_options::{WordsFault, all_words, found_in, is_set, word};
+use bq_console::WordsFault;
+use bq_options::{all_words, found_in, is_set, word};
 use bq_policy_commands::{CheckWords, ListWords, PolicyWords, RunWords, TellingWords};
 use clap::ArgMatches;
 use std::alloc::{AllocError, Global};

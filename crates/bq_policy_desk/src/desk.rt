@@ -2,7 +2,7 @@
 use crate::asking::Asked;
 use crate::request::PolicyRequest;
 use crate::status::exit_status;
-use bq_options::{say_out_of_memory, whole_input, written};
+use bq_console::{say_out_of_memory, whole_input, written};
 use bq_policy_commands::{Answered, check, list, run};
 use std::alloc::{AllocError, Global};
 use std::process::ExitCode;

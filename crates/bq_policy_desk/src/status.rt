@@ -2,7 +2,7 @@
 ghost use Rattle.std.specs.Prelude.{◌≡◌};
 ghost use Rattle.bq_policy_desk.specs.Status.{status_of};
 
-use bq_options::OUT_OF_MEMORY;
+use bq_console::OUT_OF_MEMORY;
 use bq_policy_commands::Answered;
 use std::alloc::AllocError;
 

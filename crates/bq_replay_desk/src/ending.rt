@@ -1,7 +1,7 @@
 //! How a job ends that reads and writes: with what standard error says where a read or a write broke off.
 
 use crate::status::exit_status;
-use bq_options::{Kept, say_unread, say_unwritten};
+use bq_console::{Kept, say_unread, say_unwritten};
 use bq_trace::{Counted, ReplayFault};
 use std::io::{Error, Read, Write};
 use std::process::ExitCode;

@@ -4,11 +4,9 @@
 #![tactic(auto)]
 
 mod ending;
-mod given;
 mod replaying;
 pub mod status;
 
 pub use ending::ended;
-pub use given::{as_texts, given_words};
 pub use replaying::replay_file;
 pub use status::exit_status;

@@ -1,7 +1,7 @@
 //! A trace is replayed, from a file or from standard input, to standard output.
 
 use crate::ending::ended;
-use bq_options::{Kept, say_unread};
+use bq_console::{Kept, say_unread};
 use bq_trace::{Counted, replay};
 use std::fs;
 use std::io::{IsTerminal, Read};

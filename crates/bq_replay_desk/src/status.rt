@@ -2,7 +2,7 @@
 ghost use Rattle.std.specs.Prelude.{◌≡◌};
 ghost use Rattle.bq_replay_desk.specs.Status.{status_of};
 
-use bq_options::{OUT_OF_MEMORY, UNREADABLE};
+use bq_console::{OUT_OF_MEMORY, UNREADABLE};
 use bq_trace::ReplayFault;
 
 /// The exit status of words that ask for nothing.

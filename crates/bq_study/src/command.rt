@@ -3,8 +3,9 @@ ghost use Rattle.std.specs.Prelude.{IfOk};
 ghost use Rattle.clap.specs.Words.{found_of, rows_of};
 ghost use Rattle.bq_study.specs.Asking.{AreHookWords, AreMachineWords, AreStudyWords};
 
+use bq_console::WordsFault;
 use bq_core::Hook;
-use bq_options::{CommandText, Given, OptionText, WordsFault, all_words, matches_of, texts, word};
+use bq_options::{CommandText, Given, OptionText, all_words, matches_of, texts, word};
 use bq_timeline::{SHOWN_OPTIONS, Words, shown_words};
 use clap::ArgMatches;
 use std::alloc::{AllocError, Global};

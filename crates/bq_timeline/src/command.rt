@@ -4,7 +4,8 @@ ghost use Rattle.clap.specs.Words.{found_of, rows_of};
 ghost use Rattle.bq_timeline.specs.Asking.{AreWords};
 
 use crate::settings::Words;
-use bq_options::{CommandText, Given, OptionText, WordsFault, matches_of, texts, word};
+use bq_console::WordsFault;
+use bq_options::{CommandText, Given, OptionText, matches_of, texts, word};
 use clap::ArgMatches;
 use std::alloc::{AllocError, Global};
 

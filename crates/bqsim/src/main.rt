@@ -10,7 +10,7 @@ mod simulate;
 mod timeline;
 
 use crate::requests::{Request, asked};
-use bq_options::WordsFault;
+use bq_console::WordsFault;
 use bq_policy_desk::do_policy;
 use bq_replay_desk::status::REFUSED;
 use std::process::ExitCode;

@@ -1,6 +1,6 @@
 //! What commands write, and how they end.
 
-pub(crate) use bq_options::{say_out_of_memory as out_of_memory, written};
+pub(crate) use bq_console::{say_out_of_memory as out_of_memory, written};
 use std::process::ExitCode;
 
 /// Writes an answer to standard output.

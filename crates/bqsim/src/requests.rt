@@ -2,9 +2,8 @@
 
 use bq_cli::asked::Job;
 use bq_cli::job;
-use bq_options::WordsFault;
+use bq_console::{WordsFault, as_texts, given_words};
 use bq_policy_desk::{PolicyRequest, policy_request};
-use bq_replay_desk::{as_texts, given_words};
 use bq_study::{StudyWords, study_words};
 use bq_timeline::{Words, words};
 use std::alloc::Global;

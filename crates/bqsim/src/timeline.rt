@@ -3,7 +3,7 @@
 use crate::inputs::file_named;
 use crate::outputs::out_of_memory;
 use bq_cli::Counted;
-use bq_options::{Kept, say_unread};
+use bq_console::{Kept, say_unread};
 use bq_replay_desk::ended;
 use bq_replay_desk::status::REFUSED;
 use bq_timeline::{Settings, SettingsFault, Words, show};

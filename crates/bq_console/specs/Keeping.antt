@@ -1,7 +1,7 @@
 -- Readers and writers that keep why they failed.
 use Rattle.std.specs.Prelude.{Option}
 use Rattle.std.specs.declared.io.Error.{Error}
-use Rattle.bq_options.specs.declared.kept.Kept.{Kept}
+use Rattle.bq_console.specs.declared.kept.Kept.{Kept}
 
 -- the reader or the writer itself
 abbrev pub inner_of : {T : Type 0} → Kept T → T

@@ -1,6 +1,6 @@
 //! The words after the program's name.
 
-use bq_options::WordsFault;
+use crate::fault::WordsFault;
 use std::alloc::{AllocError, Global};
 use std::env;
 use std::io::ErrorKind;

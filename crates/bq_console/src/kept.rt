@@ -2,7 +2,7 @@
 ghost use Rattle.std.specs.Prelude.{◌≡◌, None, Some, IfErr, OnOk};
 ghost use Rattle.std.specs.Io.KnownBytes.{Keeps, ReadConsumes, WriteAppends};
 ghost use Rattle.std.specs.Io.{ReadsAtMost, WritesAtMost};
-ghost use Rattle.bq_options.specs.Keeping.{failure_of, inner_of};
+ghost use Rattle.bq_console.specs.Keeping.{failure_of, inner_of};
 
 use std::io;
 use std::io::{Error, Read, Write};

@@ -1,0 +1,35 @@
+//! Why words are none of a command.
+ghost use Rattle.std.specs.Prelude.{◌≡◌};
+
+use std::alloc::{AllocError, AllocFailed};
+use thiserror::Error;
+
+/// Why words are none of a command.
+#[derive(Debug, Drop, Error)]
+pub enum WordsFault {
+    /// They are refused, or they ask for help. The text says so, with its line ends.
+    #[error("{0}")]
+    Words(String),
+    #[error("out of memory")]
+    OutOfMemory,
+}
+
+impl From<AllocError> for WordsFault {
+    ghost use Rattle.bq_console.specs.declared.fault.WordsFault.TheVariants.{OutOfMemory};
+
+    ghost from_gives = { λ _ e. e ≡ OutOfMemory };
+
+    fn from(_e: AllocError) -> WordsFault {
+        WordsFault::OutOfMemory
+    }
+}
+
+impl<T: Drop> From<AllocFailed<T>> for WordsFault {
+    ghost use Rattle.bq_console.specs.declared.fault.WordsFault.TheVariants.{OutOfMemory};
+
+    ghost from_gives = { λ _ e. e ≡ OutOfMemory };
+
+    fn from(_e: AllocFailed<T>) -> WordsFault {
+        WordsFault::OutOfMemory
+    }
+}
