@@ -1,4 +1,6 @@
 //! The words after the program's name.
+ghost use Rattle.std.specs.Prelude.{◌≡◌, IfOk, map};
+ghost use Rattle.std.specs.String.{string_bytes};
 
 use crate::fault::WordsFault;
 use std::alloc::{AllocError, Global};
@@ -26,10 +28,12 @@ pub fn given_words(rt: &HostRuntime) -> Result<Vec<String>, WordsFault> {
     }
 }
 
-/// The texts of words.
-pub fn as_texts<'a>(alloc: Global, words: &'a Vec<String>) -> Result<Vec<&'a str>, AllocError> {
+/// The texts of words, in their order.
+pub fn as_texts<'a>(alloc: Global, words: &'a Vec<String>) -> Result<Vec<&'a str>, AllocError>
+    ensures { IfOk result (λ texts. map (λ t. t.now) texts.items ≡ map (λ w. string_bytes w) words.entry.now.items) }
+{
     let mut texts = Vec::new(alloc);
-    for word in words {
+    'words: for word in words {
         texts.push(word.as_str())?;
     }
     Ok(texts)

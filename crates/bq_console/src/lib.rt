@@ -1,8 +1,8 @@
 //! What a program shares with whoever calls it: the words that it is given, and the streams that it reads and writes.
 //!
 //! A reader or a writer as [`Kept`] reads and writes as ever, by contract, and keeps the error of its last call that failed. So
-//! a job whose fault is only that a read failed can still be told with its reason, once it has ended. What standard error says
-//! makes no promise beyond that it is safe.
+//! a job whose fault is only that a read failed can still be told with its reason, once it has ended. The texts of words are
+//! those words, by contract. What standard error says makes no promise beyond that it is safe.
 #![tactic(auto)]
 
 pub mod fault;

@@ -9,6 +9,10 @@ use Rattle.bq_options.specs.declared.tables.Given.TheVariants.{Alone, Once, Need
 use Rattle.bq_options.specs.declared.tables.OptionText.{OptionText}
 use Rattle.bq_options.specs.declared.tables.CommandText.{CommandText}
 
+-- a word without a name
+abbrev pub word_rule : Text → Rule
+word_rule name = record (new_rule name) { value_names = 1 }
+
 -- an option that takes one value
 abbrev pub option_rule : Text → Rule
 option_rule name = record (new_rule name) { long = Some name; value_names = 1 }
@@ -17,13 +21,21 @@ option_rule name = record (new_rule name) { long = Some name; value_names = 1 }
 abbrev pub needed_rule : Text → Rule
 needed_rule name = record (option_rule name) { required = true }
 
+-- an option that may stand several times, each time with one value
+abbrev pub often_rule : Text → Rule
+often_rule name = record (option_rule name) { action = Some Append }
+
+-- an option without a value
+abbrev pub flag_rule : Text → Rule
+flag_rule name = record (new_rule name) { long = Some name; action = Some SetTrue }
+
 -- an option by how it is given
 abbrev pub rule_given : Text → Given → Rule
-rule_given name (Alone value) = record (new_rule name) { value_names = 1 }
+rule_given name (Alone value) = word_rule name
 rule_given name (Once value) = option_rule name
 rule_given name (Needed value) = needed_rule name
-rule_given name (Often value) = record (option_rule name) { action = Some Append }
-rule_given name Flag = record (new_rule name) { long = Some name; action = Some SetTrue }
+rule_given name (Often value) = often_rule name
+rule_given name Flag = flag_rule name
 
 -- an option of a table
 abbrev pub rule_told : OptionText → Rule
@@ -43,9 +55,13 @@ with_tables a (t ∷ more) = with_tables (with_options a t.now) more
 abbrev pub app_told : CommandText → App
 app_told c = with_tables (new_app c.name.now) c.options.now
 
--- a command of a table by itself: words come without its name
+-- a command by itself: words come without its name
+abbrev pub by_itself : App → App
+by_itself a = on_top (λ s. record s { no_binary_name = true }) a
+
+-- a command of a table by itself
 abbrev pub alone : CommandText → App
-alone c = on_top (λ s. record s { no_binary_name = true }) (app_told c)
+alone c = by_itself (app_told c)
 
 -- a program with these commands more, one after another
 abbrev pub with_commands : App → List CommandText → App

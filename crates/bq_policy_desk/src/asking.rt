@@ -1,8 +1,9 @@
 //! What words ask of a policy.
-ghost use Rattle.std.specs.Prelude.{◌≡◌, IfOk, codes};
-ghost use Rattle.clap.specs.Words.{first_of, found_of, rows_of};
+ghost use Rattle.std.specs.Prelude.{◌≡◌, IfOk, codes, map};
+ghost use Rattle.clap.specs.Words.{first_of, found_of, rows_of, subcommand_rows_of};
 ghost use Rattle.bq_policy_commands.specs.Saying.{option_bytes};
 ghost use Rattle.bq_policy_desk.specs.Asked.{AreAll, AreCheckWords, AreListWords, ArePolicyWords, AreRunWords, AreTellingWords};
+ghost use Rattle.bq_policy_desk.specs.Requests.{IsAsked, IsAskedIn};
 
 use crate::commands::program;
 use bq_console::WordsFault;
@@ -22,7 +23,9 @@ pub(crate) enum Asked {
 }
 
 /// Reads the words after the program's name.
-pub(crate) fn read_words<'a>(alloc: Global, words: &'a [&'a str]) -> Result<Asked, AllocError> {
+pub(crate) fn read_words<'a>(alloc: Global, words: &'a [&'a str]) -> Result<Asked, AllocError>
+    ensures { IfOk result (IsAsked (map (λ w. w.now) words.entry.now)) }
+{
     let command = program(alloc)?;
     match found_in(alloc, command, words) {
         Ok(matches) => asked_in(alloc, &matches),
@@ -32,7 +35,9 @@ pub(crate) fn read_words<'a>(alloc: Global, words: &'a [&'a str]) -> Result<Aske
 }
 
 /// What was found among the words.
-fn asked_in(alloc: Global, matches: &ArgMatches<'_>) -> Result<Asked, AllocError> {
+fn asked_in(alloc: Global, matches: &ArgMatches<'_>) -> Result<Asked, AllocError>
+    ensures { IfOk result (IsAskedIn (subcommand_rows_of matches.now)) }
+{
     if let Some(matches) = matches.subcommand_matches("check") {
         return Ok(Asked::Check(check_words(alloc, matches)?));
     }

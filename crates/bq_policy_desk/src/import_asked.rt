@@ -1,7 +1,8 @@
 //! The words after `import`.
 ghost use Rattle.std.specs.Prelude.{◌≡◌, IfErr, IfOk, map, true};
-ghost use Rattle.clap.specs.Words.{found_of, rows_of, takes};
+ghost use Rattle.clap.specs.Words.{found_of, matches_of, rows_of, takes};
 ghost use Rattle.bq_policy_desk.specs.Asked.{AreImportWords};
+ghost use Rattle.bq_policy_desk.specs.ImportApp.{import_app};
 
 use crate::import_settings::ImportWords;
 use bq_console::WordsFault;
@@ -38,9 +39,17 @@ static IMPORT: CommandText<'static> = CommandText {
 };
 
 /// Reads the words after `import`.
-pub fn import_words<'a>(alloc: Global, given: &'a [&'a str]) -> Result<ImportWords, WordsFault> {
-    let matches = matches_of(alloc, &IMPORT, "bqsim import", given)?;
-    Ok(found(alloc, &matches)?)
+pub fn import_words<'a>(alloc: Global, given: &'a [&'a str]) -> Result<ImportWords, WordsFault>
+    // They are the values that clap finds for the options of `import`.
+    ensures found { IfOk result (AreImportWords (matches_of import_app (map (λ w. w.now) given.entry.now))) }
+
+    // Words that clap takes are refused for want of memory alone.
+    ensures taken { IfErr result (λ e. takes import_app (map (λ w. w.now) given.entry.now) ≡ true → e ≡ WordsFault.OutOfMemory) }
+{
+    match matches_of(alloc, &IMPORT, "bqsim import", given) {
+        Ok(matches) => Ok(found(alloc, &matches)?),
+        Err(fault) => Err(fault),
+    }
 }
 
 /// The words that were found.

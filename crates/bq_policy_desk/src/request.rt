@@ -1,4 +1,6 @@
 //! Which words are for this desk.
+ghost use Rattle.std.specs.Prelude.{◌≡◌, IfOk, MatchOption, false, map, true};
+ghost use Rattle.bq_policy_desk.specs.Requests.{IsAsked, ask_of_policy, asked_of, is_command};
 
 use crate::asking::{Asked, read_words};
 use std::alloc::{AllocError, Global};
@@ -13,7 +15,11 @@ pub struct PolicyRequest {
 pub fn policy_request<'a>(
     alloc: Global,
     words: &'a [&'a str],
-) -> Result<Option<PolicyRequest>, AllocError> {
+) -> Result<Option<PolicyRequest>, AllocError>
+    ensures { IfOk result (λ r. MatchOption r
+        (ask_of_policy (map (λ w. w.now) words.entry.now) ≡ false)
+        (λ request. (ask_of_policy (map (λ w. w.now) words.entry.now) ≡ true) × IsAsked (map (λ w. w.now) words.entry.now) (asked_of request))) }
+{
     if !is_request(words) {
         return Ok(None);
     }
@@ -23,15 +29,20 @@ pub fn policy_request<'a>(
 }
 
 /// Whether the words are for this desk.
-fn is_request(words: &[&str]) -> bool {
+fn is_request(words: &[&str]) -> bool
+    ensures { result ≡ ask_of_policy (map (λ w. w.now) words.now) }
+{
     match words {
-        ["run", ..] => true,
-        ["help", command] | [command, _, ..] => is_command(command),
-        _ => false,
+        [] => false,
+        [command] => *command == "run",
+        [command, second] => is_command(command) || (*command == "help" && is_command(second)),
+        [command, ..] => is_command(command),
     }
 }
 
 /// Whether this desk has a command of that name.
-fn is_command(word: &str) -> bool {
+fn is_command(word: &str) -> bool
+    ensures { result ≡ is_command word.now }
+{
     word == "check" || word == "run" || word == "dis"
 }

@@ -1,4 +1,4 @@
-//! `replay` of a file: from the words after the program's name to the exit status.
+//! `replay` of a file: from its name to the exit status.
 //!
 //! What a job's outcome gives as exit status is so by contract. What standard error says makes no promise beyond that it is safe.
 #![tactic(auto)]

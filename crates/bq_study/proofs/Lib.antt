@@ -1,3 +1,4 @@
+pub mod CommandLemmas
 pub mod NameLemmas
 pub mod StandingLemmas
 pub mod TakingLemmas

@@ -1,7 +1,10 @@
 //! The words after `simulate`.
-ghost use Rattle.std.specs.Prelude.{IfOk};
-ghost use Rattle.clap.specs.Words.{found_of, rows_of};
+ghost use Rattle.std.specs.Prelude.{◌≡◌, IfErr, IfOk, map, true};
+ghost use Rattle.clap.specs.Words.{found_of, matches_of, rows_of, takes};
+ghost use Rattle.bq_bpf.specs.Hooks.{hook_word};
+ghost use Rattle.bq_options.specs.Tables.{option_rule, rule_told};
 ghost use Rattle.bq_study.specs.Asking.{AreHookWords, AreMachineWords, AreStudyWords};
+ghost use Rattle.bq_study.specs.SimulateApp.{simulate_app};
 
 use bq_console::WordsFault;
 use bq_core::Hook;
@@ -89,7 +92,9 @@ const FORM_OPTIONS: [OptionText; 2] = [
 ];
 
 /// The option that bears a hook's word.
-fn hook_option(hook: Hook, help: &'static str) -> OptionText {
+fn hook_option(hook: Hook, help: &'static str) -> OptionText
+    ensures { rule_told result ≡ option_rule (hook_word hook) }
+{
     OptionText {
         name: hook.word(),
         given: Given::Once("POLICY"),
@@ -98,7 +103,13 @@ fn hook_option(hook: Hook, help: &'static str) -> OptionText {
 }
 
 /// Reads the words after `simulate`.
-pub fn study_words<'a>(alloc: Global, given: &'a [&'a str]) -> Result<StudyWords, WordsFault> {
+pub fn study_words<'a>(alloc: Global, given: &'a [&'a str]) -> Result<StudyWords, WordsFault>
+    // They are the values that clap finds for the options of `simulate`.
+    ensures found { IfOk result (AreStudyWords (matches_of simulate_app (map (λ w. w.now) given.entry.now))) }
+
+    // Words that clap takes are refused for want of memory alone.
+    ensures taken { IfErr result (λ e. takes simulate_app (map (λ w. w.now) given.entry.now) ≡ true → e ≡ WordsFault.OutOfMemory) }
+{
     let hooks = [
         hook_option(
             Hook::Place,
@@ -112,8 +123,10 @@ pub fn study_words<'a>(alloc: Global, given: &'a [&'a str]) -> Result<StudyWords
         about: texts::SIMULATE,
         options: &[&MACHINE_OPTIONS, &hooks, &FORM_OPTIONS, &SHOWN_OPTIONS],
     };
-    let matches = matches_of(alloc, &command, "bqsim simulate", given)?;
-    Ok(found(alloc, &matches)?)
+    match matches_of(alloc, &command, "bqsim simulate", given) {
+        Ok(matches) => Ok(found(alloc, &matches)?),
+        Err(fault) => Err(fault),
+    }
 }
 
 /// The words that were found.

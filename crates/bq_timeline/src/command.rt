@@ -1,7 +1,8 @@
 //! The words after `timeline`.
-ghost use Rattle.std.specs.Prelude.{IfOk};
-ghost use Rattle.clap.specs.Words.{found_of, rows_of};
+ghost use Rattle.std.specs.Prelude.{◌≡◌, IfErr, IfOk, map, true};
+ghost use Rattle.clap.specs.Words.{found_of, matches_of, rows_of, takes};
 ghost use Rattle.bq_timeline.specs.Asking.{AreWords};
+ghost use Rattle.bq_timeline.specs.TimelineApp.{timeline_app};
 
 use crate::settings::Words;
 use bq_console::WordsFault;
@@ -60,9 +61,17 @@ static TIMELINE: CommandText<'static> = CommandText {
 };
 
 /// Reads the words after `timeline`.
-pub fn words<'a>(alloc: Global, given: &'a [&'a str]) -> Result<Words, WordsFault> {
-    let matches = matches_of(alloc, &TIMELINE, "bqsim timeline", given)?;
-    Ok(shown_words(alloc, &matches)?)
+pub fn words<'a>(alloc: Global, given: &'a [&'a str]) -> Result<Words, WordsFault>
+    // They are the values that clap finds for the options of `timeline`.
+    ensures found { IfOk result (AreWords (matches_of timeline_app (map (λ w. w.now) given.entry.now))) }
+
+    // Words that clap takes are refused for want of memory alone.
+    ensures taken { IfErr result (λ e. takes timeline_app (map (λ w. w.now) given.entry.now) ≡ true → e ≡ WordsFault.OutOfMemory) }
+{
+    match matches_of(alloc, &TIMELINE, "bqsim timeline", given) {
+        Ok(matches) => Ok(shown_words(alloc, &matches)?),
+        Err(fault) => Err(fault),
+    }
 }
 
 /// The words that were found which say what is shown, and how.
