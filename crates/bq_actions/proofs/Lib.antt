@@ -1,6 +1,10 @@
+pub mod AgreeLemmas
+pub mod AgreedLemmas
 pub mod BoundLemmas
+pub mod DueLemmas
 pub mod DigitLemmas
 pub mod LargestLemmas
 pub mod MaskLemmas
+pub mod OverLemmas
 pub mod SoundLemmas
 pub mod TreeLemmas

@@ -46,9 +46,13 @@ rings_past end stance timer = true
 abbrev pub sleeps_past : ℕ → Course → Bool
 sleeps_past end c = rings_past end c.stance c.timer
 
--- it has got no more than its phase takes, and no timer wakes it until the end
+-- it has got no more than its phase takes
+abbrev pub keeps_phase : Course → Bool
+keeps_phase c = nat_le c.got c.due
+
+-- nor does a timer wake it until the end
 abbrev pub keeps_time : ℕ → Course → Bool
-keeps_time end c = nat_le c.got c.due && sleeps_past end c
+keeps_time end c = keeps_phase c && sleeps_past end c
 
 -- it lacks more of its phase than it can get from an instant until the end
 abbrev pub lacks_more : ℕ → ℕ → Course → Bool

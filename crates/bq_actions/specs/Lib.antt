@@ -6,6 +6,7 @@ pub mod Accounts
 pub mod Dues
 pub mod Minima
 pub mod Plans
+pub mod Next
 pub mod Kinds
 pub mod Bounds
 pub mod Soundness

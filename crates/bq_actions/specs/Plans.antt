@@ -1,7 +1,9 @@
 -- What comes due once another task runs at a processor, or none.
 use Rattle.std.specs.Prelude.{◌≡◌, ℕ, Bool, true, false, List, Option, None, Some, slice_get}
 use Rattle.bq_actions.specs.declared.course.Course.{Course}
-use Rattle.bq_actions.specs.declared.due.Due.TheVariants.{End, Tick, Pull}
+use Rattle.bq_actions.specs.declared.course.Stance.{Stance}
+use Rattle.bq_actions.specs.declared.course.Stance.TheVariants.{Asleep}
+use Rattle.bq_actions.specs.declared.due.Due.TheVariants.{End, Wake, Tick, Pull}
 use Rattle.bq_actions.specs.declared.lane.Lane.{Lane}
 use Rattle.bq_actions.specs.declared.roster.Pace.{Pace}
 use Rattle.bq_actions.specs.Accounts.{Accounts, is_same}
@@ -46,3 +48,16 @@ pub record PlansSwitch (pace : Pace) (processor : ℕ) (run : Option ℕ) (now :
   pub lane : Lane
   pub at : slice_get a.lanes processor ≡ Some lane
   pub plans : PlansUnless (is_same lane.run run) pace processor run now lane courses old new
+
+-- the timer of a task is put down where it sleeps by one, and else none
+abbrev pub PlansTimer : ℕ → ℕ → Stance → ℕ → List ℕ → List ℕ → Type 0
+PlansTimer end task Asleep timer old new = IsPlanned end (Wake task) timer old new
+PlansTimer end task stance timer old new = IsDropped (Wake task) old new
+
+-- the task that runs at a processor has come so far: its timer is put down, and the end of its phase
+pub record PlansCourse (end processor task : ℕ) (lane : Lane) (c : Course) (old new : List ℕ) : Type 0 where
+  pub mid : List ℕ
+  pub runs : lane.run ≡ Some task
+  pub home : c.home ≡ processor
+  pub timer : PlansTimer end task c.stance c.timer old mid
+  pub ends : IsPlanned end (End processor) (end_of lane.since c) mid new

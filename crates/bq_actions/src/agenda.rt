@@ -49,7 +49,11 @@ impl Agenda {
         ensures others { ChangesOnly place self.old self.new }
     {
         let leaf = PLACES + usize::from(place);
-        self.numbers[leaf] = number_of(place, time);
+        let number = number_of(place, time);
+        if self.numbers[leaf] == number {
+            return;
+        }
+        self.numbers[leaf] = number;
         settle(&mut self.numbers, leaf);
     }
 

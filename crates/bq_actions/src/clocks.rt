@@ -2,6 +2,7 @@
 ghost use Rattle.std.specs.Prelude.{◌≡◌, ◌⊎◌, ◌≤◌, ◌^◌, None, Some, IfOk, IfErr, OnOk, unwrap_or};
 ghost use Rattle.bq_actions.specs.Accounts.{LooksAt, TicksAt, accounts_of, beaten, first_look, looked};
 ghost use Rattle.bq_actions.specs.Dues.{HasLargest, IsPlanned, IsSource, larger, next_multiple, size_at};
+ghost use Rattle.bq_actions.specs.Next.{StaysAgreed};
 ghost use Rattle.bq_actions.specs.Plans.{PlansLook, PlansTick};
 
 use crate::Due;
@@ -32,6 +33,7 @@ impl Roster {
         ensures due { OnOk result (TicksAt (accounts_of self.old) processor now) }
         ensures accounts { OnOk result (accounts_of self.new ≡ beaten processor now self.old.pace.tick (accounts_of self.old)) }
         ensures planned { OnOk result (IsPlanned self.old.pace.end (Due.Tick processor) (next_multiple self.old.pace.tick now) self.old.agenda self.new.agenda) }
+        ensures agrees { OnOk result (StaysAgreed self.old self.new) }
         ensures pace { self.new.pace ≡ self.old.pace }
     {
         let mut lane = self.lane(processor)?;
@@ -101,6 +103,7 @@ impl Roster {
         ensures source { IfOk result (λ source. IsSource self.old.lanes.items processor source) }
         ensures accounts { OnOk result (accounts_of self.new ≡ looked processor now self.old.pace.balance (accounts_of self.old)) }
         ensures planned { OnOk result (IsPlanned self.old.pace.end (Due.Pull processor) (next_multiple self.old.pace.balance now) self.old.agenda self.new.agenda) }
+        ensures agrees { OnOk result (StaysAgreed self.old self.new) }
         ensures pace { self.new.pace ≡ self.old.pace }
     {
         let mut lane = self.lane(processor)?;

@@ -24,6 +24,7 @@ pub mod roster;
 pub mod setup;
 pub mod sound;
 pub mod stream;
+pub mod switching;
 pub mod workload;
 
 pub use action::{Action, Length, take_time};

@@ -1,14 +1,15 @@
 //! All tasks and processors of a simulation.
-ghost use Rattle.std.specs.Prelude.{◌≡◌, ℕ, ◌<◌, ◌≤◌, ◌⊎◌, ◌+◌, ◌-◌, ◌^◌, ◌++◌, [], ◌∷◌, min, None, Some, IfOk, IfErr, IfSome, MatchOption, OnOk, option_and_then, slice_get, slice_set, length};
+ghost use Rattle.std.specs.Prelude.{◌≡◌, ℕ, ◌<◌, ◌≤◌, ◌⊎◌, ◌^◌, ◌++◌, [], ◌∷◌, min, None, Some, IfOk, IfErr, IfSome, MatchOption, OnOk, option_and_then, slice_get, slice_set, length};
 ghost use Rattle.std.specs.List.{list_all};
-ghost use Rattle.bq_actions.specs.Courses.{keeps_time, moved_to, run_for, woken};
-ghost use Rattle.bq_actions.specs.Accounts.{accounts_of, charged, entered_by, first_look, grown, IsDone, is_over, left_by, of_task, opening, passed, rests_past, runs_past, shrunk, switched, taken_over};
+ghost use Rattle.bq_actions.specs.Courses.{keeps_phase, keeps_time, woken};
+ghost use Rattle.bq_actions.specs.Accounts.{accounts_of, charged, first_look, IsDone, is_over, of_task, opening, rests_past, runs_past};
 ghost use Rattle.bq_actions.specs.Dues.{AreLooks, IsDropped, IsDue, IsPlanned, due_at, end_of, place_of, until};
 ghost use Rattle.bq_actions.specs.Minima.{AreNever, IsFirst};
-ghost use Rattle.bq_actions.specs.Plans.{PlansNone, PlansSwitch, PlansTask};
+ghost use Rattle.bq_actions.specs.Next.{HaveHomes, IsAgreed, IsNext, NothingComes, Rests, StaysAgreed, runs_at};
+ghost use Rattle.bq_actions.specs.Plans.{PlansCourse, PlansTimer};
 
 use crate::clocks::first_look;
-use crate::course::Course;
+use crate::course::{Course, Stance};
 use crate::lane::Lane;
 use crate::{Agenda, Due};
 use bq_disc::clock::LATEST;
@@ -31,7 +32,7 @@ pub struct Pace {
 /// Who runs where, how far each task has come, and what comes due until the end.
 #[derive(Drop)]
 pub struct Roster {
-    courses: Vec<Course>,
+    pub(crate) courses: Vec<Course>,
     pub(crate) lanes: Vec<Lane>,
     agenda: Agenda,
     pub(crate) pace: Pace,
@@ -78,7 +79,7 @@ impl Roster {
     }
 
     /// A task has come so far.
-    pub fn set_course(&mut self, task: u16, course: Course) -> Result<(), Astray>
+    fn set_course(&mut self, task: u16, course: Course) -> Result<(), Astray>
         ensures there { OnOk result (task < length self.old.courses.items) }
         ensures courses { OnOk result (self.new.courses.items ≡ slice_set self.old.courses.items task course) }
         ensures lanes { self.new.lanes ≡ self.old.lanes }
@@ -127,6 +128,7 @@ impl Roster {
     /// What comes due first, and when.
     pub fn first(&self) -> Result<Option<(u64, Due)>, Astray>
         ensures first { IfOk result (λ due. MatchOption due (AreNever self.now.agenda) (λ d. IsFirst self.now.agenda d.0 (place_of d.1))) }
+        ensures next { IfOk result (λ due. IsAgreed self.now → MatchOption due (NothingComes self.now.pace.end (accounts_of self.now)) (λ d. IsNext self.now.pace.end (accounts_of self.now) d.1 d.0)) }
         ensures stray { IfErr result (λ _. (time : ℕ) × (place : ℕ) × IsFirst self.now.agenda time place × (due_at place ≡ None)) }
     {
         match self.agenda.first() {
@@ -152,7 +154,7 @@ impl Roster {
     }
 
     /// This does not come due.
-    pub fn drop_plan(&mut self, due: Due) -> Result<(), Astray>
+    pub(crate) fn drop_plan(&mut self, due: Due) -> Result<(), Astray>
         ensures dropped { OnOk result (IsDropped due self.old.agenda self.new.agenda) }
         ensures stray { IfErr result (λ _. IsDue due → ⊥) }
         ensures courses { self.new.courses ≡ self.old.courses }
@@ -204,104 +206,34 @@ fn place_of(due: Due) -> Result<u16, Astray>
 }
 
 impl Roster {
-    /// From now on this task runs at a processor, or none does.
-    pub fn switch(&mut self, processor: u8, run: Option<u16>, now: u64) -> Result<(), Astray>
-        ensures accounts { OnOk result (accounts_of self.new ≡ switched processor run now self.old.pace (accounts_of self.old)) }
-        ensures plans { OnOk result (PlansSwitch self.old.pace processor run now (accounts_of self.old) self.new.courses.items self.old.agenda self.new.agenda) }
-        ensures pace { self.new.pace ≡ self.old.pace }
+    /// A task does not run where it ran last, as far as is kept; so it runs nowhere.
+    pub(crate) fn find_at_rest(&self, task: u16) -> Result<(), Astray>
+        ensures { OnOk result (Rests (accounts_of self.now) task) }
     {
-        let lane = self.lane(processor)?;
-        if lane.run == run {
-            return Ok(());
+        let course = self.course(task)?;
+        if self.runs_at(course.home, task) {
+            return Err(Astray);
         }
-        self.charge(processor, now)?;
-        match run {
-            Some(task) => self.start(processor, task, now),
-            None => self.idle(processor, now),
+        Ok(())
+    }
+
+    /// Whether a task runs at a processor.
+    fn runs_at(&self, processor: u8, task: u16) -> bool
+        ensures { result ≡ runs_at self.now.lanes.items processor task }
+    {
+        match self.lanes.get(usize::from(processor)) {
+            Some(lane) => lane.run == Some(task),
+            None => false,
         }
-    }
-
-    /// The task that runs at a processor has run until now.
-    pub fn charge(&mut self, processor: u8, now: u64) -> Result<(), Astray>
-        ensures accounts { OnOk result (accounts_of self.new ≡ charged processor now (accounts_of self.old)) }
-        ensures agenda { self.new.agenda ≡ self.old.agenda }
-        ensures pace { self.new.pace ≡ self.old.pace }
-    {
-        let mut lane = self.lane(processor)?;
-        if let Some(task) = lane.run {
-            self.run_since(task, lane.since, now)?;
-        }
-        lane.since = now;
-        self.set_lane(processor, lane)
-    }
-
-    /// A task has run from one instant to another.
-    fn run_since(&mut self, task: u16, since: u64, now: u64) -> Result<(), Astray>
-        ensures accounts { OnOk result (accounts_of self.new ≡ of_task (run_for (now - since)) task (accounts_of self.old)) }
-        ensures agenda { self.new.agenda ≡ self.old.agenda }
-        ensures pace { self.new.pace ≡ self.old.pace }
-    {
-        let Some(ran) = now.checked_sub(since) else {
-            return Err(Astray);
-        };
-        let Some(course) = self.courses.get_mut(usize::from(task)) else {
-            return Err(Astray);
-        };
-        course.run_for(ran).ok_or(Astray)
-    }
-
-    /// A task runs at a processor from now on.
-    fn start(&mut self, processor: u8, task: u16, now: u64) -> Result<(), Astray>
-        ensures accounts { OnOk result (accounts_of self.new ≡ taken_over processor (Some task) now self.old.pace (accounts_of self.old)) }
-        ensures plans { OnOk result ((lane : Lane) × (slice_get self.old.lanes.items processor ≡ Some lane) × (course : Course) × (slice_get self.new.courses.items task ≡ Some course) × PlansTask self.old.pace processor now lane.tick course self.old.agenda self.new.agenda) }
-        ensures pace { self.new.pace ≡ self.old.pace }
-    {
-        let mut lane = self.lane(processor)?;
-        let tick = self.next_tick(processor, lane.tick, now)?;
-        lane.run = Some(task);
-        lane.since = now;
-        lane.tick = Some(tick);
-        self.set_lane(processor, lane)?;
-        let course = self.move_to(processor, task)?;
-        self.plan_end(processor, &course, now)
-    }
-
-    /// A task is taken to a processor: how far it has come with that.
-    fn move_to(&mut self, processor: u8, task: u16) -> Result<Course, Astray>
-        ensures accounts { OnOk result (accounts_of self.new ≡ of_task (moved_to processor self.old.pace.migration_cost) task (accounts_of self.old)) }
-        ensures there { IfOk result (λ course. slice_get self.new.courses.items task ≡ Some course) }
-        ensures agenda { self.new.agenda ≡ self.old.agenda }
-        ensures pace { self.new.pace ≡ self.old.pace }
-    {
-        let cost = self.pace.migration_cost;
-        let Some(course) = self.courses.get_mut(usize::from(task)) else {
-            return Err(Astray);
-        };
-        let Some(()) = course.move_to(processor, cost) else {
-            return Err(Astray);
-        };
-        Ok(*course)
-    }
-
-    /// Nothing runs at a processor from now on: it does not tick, and looks at once for a task to pull.
-    fn idle(&mut self, processor: u8, now: u64) -> Result<(), Astray>
-        ensures accounts { OnOk result (accounts_of self.new ≡ taken_over processor None now self.old.pace (accounts_of self.old)) }
-        ensures pace { self.new.pace ≡ self.old.pace }
-        ensures plans { OnOk result ((lane : Lane) × (slice_get self.old.lanes.items processor ≡ Some lane) × PlansNone self.old.pace processor now lane.look self.old.agenda self.new.agenda) }
-    {
-        let mut lane = self.lane(processor)?;
-        let look = lane.look;
-        lane.run = None;
-        lane.tick = None;
-        lane.look = look.map(|_| now);
-        self.set_lane(processor, lane)?;
-        self.drop_plan(Due::End(processor))?;
-        self.drop_plan(Due::Tick(processor))?;
-        self.look_at_once(processor, look, now)
     }
 
     /// The phase of the task that runs at a processor ends when it has got what is left of it.
-    pub fn plan_end(&mut self, processor: u8, course: &Course, now: u64) -> Result<(), Astray>
+    pub(crate) fn plan_end(
+        &mut self,
+        processor: u8,
+        course: &Course,
+        now: u64,
+    ) -> Result<(), Astray>
         ensures planned { OnOk result (IsPlanned self.old.pace.end (Due.End processor) (end_of now course.now) self.old.agenda self.new.agenda) }
         ensures stray { IfErr result (λ _. (course.now.due < course.now.got) ⊎ (64 ≤ processor)) }
         ensures courses { self.new.courses ≡ self.old.courses }
@@ -314,8 +246,20 @@ impl Roster {
         }
     }
 
-    /// A task is woken, and has no phase yet.
+    /// A task that runs nowhere is woken, and has no phase yet; no timer wakes it.
     pub fn wake(&mut self, task: u16) -> Result<(), Astray>
+        ensures accounts { OnOk result (accounts_of self.new ≡ of_task woken task (accounts_of self.old)) }
+        ensures dropped { OnOk result (IsDropped (Due.Wake task) self.old.agenda self.new.agenda) }
+        ensures agrees { OnOk result (StaysAgreed self.old self.new) }
+        ensures pace { self.new.pace ≡ self.old.pace }
+    {
+        self.find_at_rest(task)?;
+        self.drop_plan(Due::Wake(task))?;
+        self.rouse(task)
+    }
+
+    /// A task has no phase yet, and can run.
+    fn rouse(&mut self, task: u16) -> Result<(), Astray>
         ensures accounts { OnOk result (accounts_of self.new ≡ of_task woken task (accounts_of self.old)) }
         ensures agenda { self.new.agenda ≡ self.old.agenda }
         ensures pace { self.new.pace ≡ self.old.pace }
@@ -327,15 +271,64 @@ impl Roster {
         Ok(())
     }
 
+    /// The task that runs at a processor has come so far: the end of its phase is put down, and its timer where it sleeps by one.
+    pub fn take_up(&mut self, processor: u8, task: u16, course: Course) -> Result<(), Astray>
+        ensures there { OnOk result (task < length self.old.courses.items) }
+        ensures courses { OnOk result (self.new.courses.items ≡ slice_set self.old.courses.items task course) }
+        ensures lanes { self.new.lanes ≡ self.old.lanes }
+        ensures plans { OnOk result ((lane : Lane) × (slice_get self.old.lanes.items processor ≡ Some lane) × PlansCourse self.old.pace.end processor task lane course self.old.agenda self.new.agenda) }
+        ensures agrees { OnOk result (StaysAgreed self.old self.new) }
+        ensures pace { self.new.pace ≡ self.old.pace }
+    {
+        self.set_course(task, course)?;
+        self.plan_course(processor, task, &course)
+    }
+
+    /// The end of the phase of the task that runs at a processor is put down, and its timer where it sleeps by one.
+    fn plan_course(&mut self, processor: u8, task: u16, course: &Course) -> Result<(), Astray>
+        ensures plans { OnOk result ((lane : Lane) × (slice_get self.old.lanes.items processor ≡ Some lane) × PlansCourse self.old.pace.end processor task lane course.now self.old.agenda self.new.agenda) }
+        ensures courses { self.new.courses ≡ self.old.courses }
+        ensures lanes { self.new.lanes ≡ self.old.lanes }
+        ensures pace { self.new.pace ≡ self.old.pace }
+    {
+        let lane = self.lane(processor)?;
+        if lane.run != Some(task) || course.home != processor {
+            return Err(Astray);
+        }
+        self.plan_timer(task, course)?;
+        self.plan_end(processor, course, lane.since)
+    }
+
+    /// The timer of a task is put down where it sleeps by one.
+    fn plan_timer(&mut self, task: u16, course: &Course) -> Result<(), Astray>
+        ensures timer { OnOk result (PlansTimer self.old.pace.end task course.now.stance course.now.timer self.old.agenda self.new.agenda) }
+        ensures courses { self.new.courses ≡ self.old.courses }
+        ensures lanes { self.new.lanes ≡ self.old.lanes }
+        ensures pace { self.new.pace ≡ self.old.pace }
+    {
+        match course.stance {
+            Stance::Asleep => self.plan(Due::Wake(task), course.timer),
+            _ => self.drop_plan(Due::Wake(task)),
+        }
+    }
+
     /// The phase of the task that runs at a processor has ended just now. The task, and how far it has come: it has got what
     /// its phase takes, no more and no less.
     pub fn end_phase(&mut self, processor: u8, now: u64) -> Result<(u16, Course), Astray>
         ensures done { IfOk result (λ ended. IsDone (accounts_of self.new) processor ended.0 ended.1) }
         ensures accounts { OnOk result (accounts_of self.new ≡ charged processor now (accounts_of self.old)) }
         ensures agenda { self.new.agenda ≡ self.old.agenda }
+        ensures agrees { OnOk result (StaysAgreed self.old self.new) }
         ensures pace { self.new.pace ≡ self.old.pace }
     {
         self.charge(processor, now)?;
+        self.done_at(processor)
+    }
+
+    /// The task that runs at a processor, and how far it has come, where it has got what its phase takes.
+    fn done_at(&self, processor: u8) -> Result<(u16, Course), Astray>
+        ensures { IfOk result (λ ended. IsDone (accounts_of self.now) processor ended.0 ended.1) }
+    {
         let Some(task) = self.lane(processor)?.run else {
             return Err(Astray);
         };
@@ -346,78 +339,12 @@ impl Roster {
         Ok((task, course))
     }
 
-    /// The task that ran at a processor has gone from its queue; the next one runs there, or none.
-    pub fn leave(&mut self, processor: u8, run: Option<u16>, now: u64) -> Result<(), Astray>
-        ensures accounts { OnOk result (accounts_of self.new ≡ left_by processor run now self.old.pace (accounts_of self.old)) }
-        ensures plans { OnOk result (PlansSwitch self.old.pace processor run now (shrunk processor (accounts_of self.old)) self.new.courses.items self.old.agenda self.new.agenda) }
-        ensures pace { self.new.pace ≡ self.old.pace }
-    {
-        self.shrink(processor)?;
-        self.switch(processor, run, now)
-    }
-
-    /// So many tasks have entered the queue of a processor, where this one runs now.
-    pub fn enter(
-        &mut self,
-        processor: u8,
-        count: u32,
-        run: Option<u16>,
-        now: u64,
-    ) -> Result<(), Astray>
-        ensures accounts { OnOk result (accounts_of self.new ≡ entered_by processor count run now self.old.pace (accounts_of self.old)) }
-        ensures plans { OnOk result (PlansSwitch self.old.pace processor run now (grown processor count (accounts_of self.old)) self.new.courses.items self.old.agenda self.new.agenda) }
-        ensures pace { self.new.pace ≡ self.old.pace }
-    {
-        self.grow(processor, count)?;
-        self.switch(processor, run, now)
-    }
-
-    /// A task has gone from the queue of one processor to another.
-    pub fn pass(&mut self, from: u8, to: u8) -> Result<(), Astray>
-        ensures accounts { OnOk result (accounts_of self.new ≡ passed from to (accounts_of self.old)) }
-        ensures agenda { self.new.agenda ≡ self.old.agenda }
-        ensures pace { self.new.pace ≡ self.old.pace }
-    {
-        self.shrink(from)?;
-        self.grow(to, 1)
-    }
-
-    /// A processor has one task less.
-    fn shrink(&mut self, processor: u8) -> Result<(), Astray>
-        ensures accounts { OnOk result (accounts_of self.new ≡ shrunk processor (accounts_of self.old)) }
-        ensures agenda { self.new.agenda ≡ self.old.agenda }
-        ensures pace { self.new.pace ≡ self.old.pace }
-    {
-        let Some(lane) = self.lanes.get_mut(usize::from(processor)) else {
-            return Err(Astray);
-        };
-        let Some(size) = lane.size.checked_sub(1) else {
-            return Err(Astray);
-        };
-        lane.size = size;
-        Ok(())
-    }
-
-    /// A processor has so many tasks more.
-    fn grow(&mut self, processor: u8, count: u32) -> Result<(), Astray>
-        ensures accounts { OnOk result (accounts_of self.new ≡ grown processor count (accounts_of self.old)) }
-        ensures agenda { self.new.agenda ≡ self.old.agenda }
-        ensures pace { self.new.pace ≡ self.old.pace }
-    {
-        let Some(lane) = self.lanes.get_mut(usize::from(processor)) else {
-            return Err(Astray);
-        };
-        let Some(size) = lane.size.checked_add(count) else {
-            return Err(Astray);
-        };
-        lane.size = size;
-        Ok(())
-    }
-
     /// Whether no task has run past its phase, and until the end no timer wakes one any more, no phase of a task that runs ends,
-    /// and no processor ticks or looks for a task to pull.
+    /// and no processor ticks or looks for a task to pull. Where nothing comes any more that is so unless a task has run past its
+    /// phase.
     pub fn is_over(&self, end: u64) -> bool
-        ensures { result ≡ is_over end (accounts_of self.now) }
+        ensures over { result ≡ is_over end (accounts_of self.now) }
+        ensures none { end < 2 ^ 48 → HaveHomes (accounts_of self.now) → NothingComes end (accounts_of self.now) → result ≡ list_all keeps_phase self.now.courses.items }
     {
         self.all_keep_time(end) && self.all_run_past(end) && self.all_rest_past(end)
     }

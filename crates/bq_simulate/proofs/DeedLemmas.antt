@@ -13,15 +13,17 @@ use Rattle.bq_actions.specs.Streams.{stream_of_task}
 use Rattle.bq_actions.specs.declared.action.Action.{Action}
 use Rattle.bq_actions.specs.declared.workload.TaskKind.{TaskKind}
 use Rattle.bq_actions.specs.declared.course.Course.{Course}
-use Rattle.bq_actions.specs.declared.lane.Lane.{Lane}
 use Rattle.bq_actions.specs.declared.roster.Pace.{Pace}
 use Rattle.bq_actions.specs.Accounts.{Accounts, IsDone, LooksAt, TicksAt, accounts_of, beaten, charged, looked, of_task}
 use Rattle.bq_actions.specs.Courses.{fresh, woken}
 use Rattle.bq_actions.specs.Dues.{IsSource}
+use Rattle.bq_actions.specs.Next.{IsAgreed, StaysAgreed}
+use Rattle.bq_actions.proofs.AgreedLemmas.{both}
+use Rattle.bq_actions.proofs.DueLemmas.{same-accounts}
 use Rattle.bq_simulate.specs.declared.simulation.Simulation.{Simulation}
 use Rattle.bq_simulate.specs.Actions.{IsOfKind, acted, aim_of, asked_by, first_of, next_action, start_of}
 use Rattle.bq_simulate.specs.Chronicles.{Acts, Beats, Book, Deed, Happens, IsDue, IsWoken, Joins, Lives, Looks, Misses, Reaches, Rings, after_act, after_answer, after_beat, after_event, after_look, drawn_with, events_of, joined, length_taken}
-use Rattle.bq_simulate.specs.Simulations.{Befell, DrawsFor, HasDrawn, HasFirsts, Lived, Same, Silent, Stays, book_of, streams_after}
+use Rattle.bq_simulate.specs.Simulations.{Befell, DrawsFor, Goes, HasDrawn, HasFirsts, Lived, Same, Silent, Stays, book_of, streams_after}
 use Rattle.bq_simulate.specs.Steps.{AreJust, AreWake, Follow, IsAct, IsJoin}
 use Rattle.bq_simulate.proofs.KindLemmas.{firsts-pushed}
 use Rattle.bq_simulate.proofs.StreamLemmas.{gives_if_asked, opened-streams}
@@ -55,12 +57,10 @@ drives-of-lives kinds seed pace d e a b (Misses task ∷ xs) told (c, there, wai
 drives-of-lives kinds seed pace d e a b (Beats at now ∷ xs) told (ticks, lives) = drives-of-lives kinds seed pace d e (after_beat pace at now a) b xs told lives
 drives-of-lives kinds seed pace d e a b (Looks at now source ∷ xs) told (looks, from, lives) = drives-of-lives kinds seed pace d e (after_look pace at now a) b xs told lives
 
--- a simulation goes on, and then on
-pub Lived-join : {S : Type 0} (takes : S → ℕ → News → S → Type 0) (kinds : List TaskKind) (A B C : List Deed → Type 0) → ((xs ys : List Deed) → A xs → B ys → C (xs ++ ys)) → (x y z : S) (s t u : Simulation)
-    → Lived takes kinds A x s y t → Lived takes kinds B y t z u → Lived takes kinds C x s z u
-Lived-join takes kinds A B C join x y z s t u goes more drawn had firsts =
-    let first = goes drawn had firsts in
-    let second = more first.after first.streams first.firsts in
+-- from what its streams have given a simulation goes on, and then on
+pub Goes-join : {S : Type 0} (takes : S → ℕ → News → S → Type 0) (kinds : List TaskKind) (A B C : List Deed → Type 0) (x y z : S) (s t u : Simulation) (drawn : List ℕ) (first : Goes takes kinds A x s drawn y t) (second : Goes takes kinds B y t first.after z u) → C (first.deeds ++ second.deeds)
+    → Goes takes kinds C x s drawn z u
+Goes-join takes kinds A B C x y z s t u drawn first second are =
     let P : Pace → Type 0 = λ pace. Lives kinds t.seed pace t.driver (book_of t first.after) second.deeds second.tells.told u.driver (book_of u second.after) in
     let Q : ℕ → Type 0 = λ seed. Lives kinds seed s.roster.pace t.driver (book_of t first.after) second.deeds second.tells.told u.driver (book_of u second.after) in
     record {
@@ -70,19 +70,30 @@ Lived-join takes kinds A B C join x y z s t u goes more drawn had firsts =
       seed = second.seed ∙ first.seed;
       streams = second.streams;
       firsts = second.firsts;
+      agrees = λ h. second.agrees (first.agrees h);
       tells = record {
         told = first.tells.told ++ second.tells.told;
         taken = TakesAll-append takes x y z first.tells.told second.tells.told first.tells.taken second.tells.taken;
         holds = Lives-append kinds s.seed s.roster.pace s.driver t.driver u.driver (book_of s drawn) (book_of t first.after) (book_of u second.after) first.deeds second.deeds first.tells.told second.tells.told first.tells.holds (subst Q first.seed (subst P first.pace second.tells.holds));
       };
-      are = join first.deeds second.deeds first.are second.are;
+      are = are;
     }
+
+-- a simulation goes on, and then on
+pub Lived-join : {S : Type 0} (takes : S → ℕ → News → S → Type 0) (kinds : List TaskKind) (A B C : List Deed → Type 0) → ((xs ys : List Deed) → A xs → B ys → C (xs ++ ys)) → (x y z : S) (s t u : Simulation)
+    → Lived takes kinds A x s y t → Lived takes kinds B y t z u → Lived takes kinds C x s z u
+Lived-join takes kinds A B C join x y z s t u goes more drawn had firsts =
+    let first = goes drawn had firsts in
+    let second = more first.after first.streams first.firsts in
+    Goes-join takes kinds A B C x y z s t u drawn first second (join first.deeds second.deeds first.are second.are)
+
+-- what holds of the deeds by which it goes on holds in other words
+pub Goes-weaker : {S : Type 0} (takes : S → ℕ → News → S → Type 0) (kinds : List TaskKind) (A B : List Deed → Type 0) → ((xs : List Deed) → A xs → B xs) → (x y : S) (s : Simulation) (drawn : List ℕ) (t : Simulation) → Goes takes kinds A x s drawn y t → Goes takes kinds B x s drawn y t
+Goes-weaker takes kinds A B weaker x y s drawn t h = record { deeds = h.deeds; after = h.after; pace = h.pace; seed = h.seed; streams = h.streams; firsts = h.firsts; agrees = h.agrees; tells = h.tells; are = weaker h.deeds h.are }
 
 -- what holds of its deeds holds in other words
 pub Lived-weaker : {S : Type 0} (takes : S → ℕ → News → S → Type 0) (kinds : List TaskKind) (A B : List Deed → Type 0) → ((xs : List Deed) → A xs → B xs) → (x y : S) (s t : Simulation) → Lived takes kinds A x s y t → Lived takes kinds B x s y t
-Lived-weaker takes kinds A B weaker x y s t goes drawn had firsts =
-    let h = goes drawn had firsts in
-    record { deeds = h.deeds; after = h.after; pace = h.pace; seed = h.seed; streams = h.streams; firsts = h.firsts; tells = h.tells; are = weaker h.deeds h.are }
+Lived-weaker takes kinds A B weaker x y s t goes drawn had firsts = Goes-weaker takes kinds A B weaker x y s drawn t (goes drawn had firsts)
 
 -- what holds of its events holds in other words
 pub Befell-weaker : {S : Type 0} (takes : S → ℕ → News → S → Type 0) (A B : List Deed → Type 0) → ((xs : List Deed) → A xs → B xs) → (x y : S) (s t : Simulation) → Befell takes A x s y t → Befell takes B x s y t
@@ -92,7 +103,7 @@ Befell-weaker takes A B weaker x y s t befell kinds = Lived-weaker takes kinds A
 pub Lived-silent : {S : Type 0} (takes : S → ℕ → News → S → Type 0) (kinds : List TaskKind) (A : List Deed → Type 0) (x : S) (s t : Simulation) → Silent kinds A s t → Lived takes kinds A x s x t
 Lived-silent takes kinds A x s t silent drawn had firsts =
     let h = silent drawn had firsts in
-    record { deeds = h.deeds; after = h.after; pace = h.pace; seed = h.seed; streams = h.streams; firsts = h.firsts; tells = record { told = []; taken = refl; holds = h.lives }; are = h.are }
+    record { deeds = h.deeds; after = h.after; pace = h.pace; seed = h.seed; streams = h.streams; firsts = h.firsts; agrees = h.agrees; tells = record { told = []; taken = refl; holds = h.lives }; are = h.are }
 
 -- streams that have not changed
 streams-stay : (s t : Simulation) (drawn : List ℕ) → Stays s t → HasDrawn s drawn → HasDrawn t drawn
@@ -111,6 +122,7 @@ Lived-same takes A none x s t same kinds drawn had firsts = record {
   seed = same.stays.seed;
   streams = streams-stay s t drawn same.stays had;
   firsts = firsts-stay kinds s t same.stays firsts;
+  agrees = same.stays.agrees;
   tells = record { told = []; taken = refl; holds = (refl, same.driver, ap (λ (a : Accounts). record { accounts = a; drawn = drawn }) same.accounts) };
   are = none;
 }
@@ -147,20 +159,12 @@ pub Same-join : (s t u : Simulation) → Same s t → Same t u → Same s u
 Same-join s t u first more = record {
   driver = more.driver ∙ first.driver;
   accounts = more.accounts ∙ first.accounts;
-  stays = record { pace = more.stays.pace ∙ first.stays.pace; seed = more.stays.seed ∙ first.stays.seed; streams = more.stays.streams ∙ first.stays.streams; firsts = more.stays.firsts ∙ first.stays.firsts };
+  stays = record { agrees = λ h. more.stays.agrees (first.stays.agrees h); pace = more.stays.pace ∙ first.stays.pace; seed = more.stays.seed ∙ first.stays.seed; streams = more.stays.streams ∙ first.stays.streams; firsts = more.stays.firsts ∙ first.stays.firsts };
 }
 
 -- in one simulation nothing was done
 pub Same-here : (s : Simulation) → Same s s
-Same-here s = record { driver = refl; accounts = refl; stays = record { pace = refl; seed = refl; streams = refl; firsts = refl } }
-
--- accounts of equal lists
-abbrev pub both : List Course → List Lane → Accounts
-both cs ls = record { courses = cs; lanes = ls }
-
--- accounts of equal courses and equal lanes are equal
-pub same_accounts : (cs ds : List Course) (ls ms : List Lane) → cs ≡ ds → ls ≡ ms → both cs ls ≡ both ds ms
-same_accounts cs ds ls ms e f = ap (λ x. both x ls) e ∙ ap (both ds) f
+Same-here s = record { driver = refl; accounts = refl; stays = record { agrees = λ h. h; pace = refl; seed = refl; streams = refl; firsts = refl } }
 
 -- what a task becomes, where it is there
 of_task_at : (f : Course → Course) (task : ℕ) (a : Accounts) (c : Course) → slice_get a.courses task ≡ Some c → of_task f task a ≡ both (slice_set a.courses task (f c)) a.lanes
@@ -179,7 +183,7 @@ Silent-acts kinds s m n t processor task now length action c next is ended drive
     let there : slice_get n.roster.courses.items task ≡ Some c = ap (λ (a : Accounts). slice_get a.courses task) same ∙ done.there in
     let value : length ≡ length_taken s.seed task drawn asked = g.value ∙ ap (λ k. length_taken k task drawn asked) ended.seed in
     let becomes = does ∙ ap (λ l. acted kinds (next_action kinds c) l now c) value in
-    let accounts = same_accounts _ _ _ _ courses lanes ∙ sym (of_task_at (λ _. next) task (accounts_of n.roster) c there) ∙ ap (of_task (λ _. next) task) (same ∙ counted)
+    let accounts = same-accounts _ _ _ _ courses lanes ∙ sym (of_task_at (λ _. next) task (accounts_of n.roster) c there) ∙ ap (of_task (λ _. next) task) (same ∙ counted)
     ∙ ap (λ (k : Course). of_task (λ _. k) task (charged processor now (accounts_of s.roster))) becomes in
     record {
       deeds = Acts processor task now action (aim_of kinds c action) ∷ [];
@@ -188,23 +192,25 @@ Silent-acts kinds s m n t processor task now length action c next is ended drive
       seed = set.seed ∙ g.seed ∙ ended.seed;
       streams = streams-stay n t (drawn_with task drawn asked) set g.streams;
       firsts = λ number first there. firsts number first (ap (λ v. slice_get v.items number) (sym (set.firsts ∙ g.firsts ∙ ended.firsts)) ∙ there);
+      agrees = λ h. set.agrees (subst IsAgreed (sym g.roster) (ended.agrees h));
       lives = (c, subst P counted done, is, ap (aim_of kinds c) is, (refl, driver' ∙ g.driver ∙ driver, ap (λ (a : Accounts). record { accounts = a; drawn = drawn_with task drawn asked }) accounts));
       are = refl;
     }
 
 -- a task is there, with its stream
-pub Silent-joins : (kinds : List TaskKind) (s t : Simulation) (kind home : ℕ) → t.roster.pace ≡ s.roster.pace → t.seed ≡ s.seed → t.driver ≡ s.driver → t.firsts ≡ s.firsts
+pub Silent-joins : (kinds : List TaskKind) (s t : Simulation) (kind home : ℕ) → StaysAgreed s.roster t.roster → t.roster.pace ≡ s.roster.pace → t.seed ≡ s.seed → t.driver ≡ s.driver → t.firsts ≡ s.firsts
     → t.roster.courses.items ≡ s.roster.courses.items ++ fresh kind home (start_of kinds kind) ∷ [] → t.roster.lanes.items ≡ s.roster.lanes.items
     → t.streams.items ≡ s.streams.items ++ stream_of_task s.seed (length s.streams.items) ∷ []
     → IsOfKind kinds (length s.roster.courses.items) kind → Silent kinds (IsJoin kind home) s t
-Silent-joins kinds s t kind home pace seed driver kept courses lanes streams of drawn had firsts = record {
+Silent-joins kinds s t kind home agrees pace seed driver kept courses lanes streams of drawn had firsts = record {
   deeds = Joins kind home ∷ [];
   after = drawn ++ 0 ∷ [];
   pace = pace;
   seed = seed;
   streams = opened-streams s t drawn seed streams had;
   firsts = λ number first there. firsts number first (ap (λ v. slice_get v.items number) (sym kept) ∙ there);
-  lives = (of, (refl, driver, ap (λ (a : Accounts). record { accounts = a; drawn = drawn ++ 0 ∷ [] }) (same_accounts _ _ _ _ courses lanes)));
+  agrees = agrees;
+  lives = (of, (refl, driver, ap (λ (a : Accounts). record { accounts = a; drawn = drawn ++ 0 ∷ [] }) (same-accounts _ _ _ _ courses lanes)));
   are = refl;
 }
 
@@ -218,6 +224,7 @@ Silent-begins kinds s t number long roster seed streams driver pushed drawn had 
   seed = seed;
   streams = ap (λ v. v.items) streams ∙ had ∙ ap (λ n. streams_after n 0 drawn) (sym seed);
   firsts = λ n first there. firsts-pushed kinds s.firsts.items number long firsts n first (ap (λ (l : List ℕ). slice_get l n) (sym pushed) ∙ there);
+  agrees = λ h. subst IsAgreed (sym roster) h;
   lives = (refl, driver, ap (λ r. record { accounts = accounts_of r; drawn = drawn }) roster);
   are = refl;
 }
@@ -229,12 +236,12 @@ pub Befell-first : {S : Type 0} (takes : S → ℕ → News → S → Type 0) (A
 Befell-first takes A B x y s t u deed stays lives first befell kinds =
     let one : List Deed → Type 0 = λ xs. xs ≡ deed ∷ [] in
     let silent : Silent kinds one s t =
-    λ drawn had firsts. record { deeds = deed ∷ []; after = drawn; pace = stays.pace; seed = stays.seed; streams = streams-stay s t drawn stays had; firsts = firsts-stay kinds s t stays firsts; lives = lives kinds drawn; are = refl } in
+    λ drawn had firsts. record { deeds = deed ∷ []; after = drawn; pace = stays.pace; seed = stays.seed; streams = streams-stay s t drawn stays had; firsts = firsts-stay kinds s t stays firsts; agrees = stays.agrees; lives = lives kinds drawn; are = refl } in
     Lived-join takes kinds one A B (λ xs ys is are. subst (λ (l : List Deed). B (l ++ ys)) (sym is) (first ys are)) x x y s t u (Lived-silent takes kinds one x s t silent) (befell kinds)
 
 -- in one simulation nothing changes
 pub Stays-here : (s : Simulation) → Stays s s
-Stays-here s = record { pace = refl; seed = refl; streams = refl; firsts = refl }
+Stays-here s = record { agrees = λ h. h; pace = refl; seed = refl; streams = refl; firsts = refl }
 
 -- a clock beats, and then what befalls
 pub Befell-beats : {S : Type 0} (takes : S → ℕ → News → S → Type 0) (A B : List Deed → Type 0) (x y : S) (s t u : Simulation) (processor now : ℕ) → TicksAt (accounts_of s.roster) processor now → Stays s t
@@ -260,6 +267,7 @@ Lived-event takes A x y s t event reply are due stays did accounts kinds drawn h
   seed = stays.seed;
   streams = streams-stay s t drawn stays had;
   firsts = firsts-stay kinds s t stays firsts;
+  agrees = stays.agrees;
   tells = record {
     told = did.told;
     taken = did.taken;
@@ -280,6 +288,7 @@ Lived-drove takes A x y s t event are due stays quiet drove accounts kinds drawn
       seed = stays.seed;
       streams = streams-stay s t drawn stays had;
       firsts = firsts-stay kinds s t stays firsts;
+      agrees = stays.agrees;
       tells = record {
         told = drove.told;
         taken = drove.taken;
@@ -302,6 +311,7 @@ Lived-wakes takes x y z s t m from task to now reply due stays woke did accounts
       seed = stays.seed;
       streams = streams-stay s t drawn stays had;
       firsts = firsts-stay kinds s t stays firsts;
+      agrees = stays.agrees;
       tells = record {
         told = woke.told ++ did.told;
         taken = TakesAll-append takes x y z woke.told did.told woke.taken did.taken;

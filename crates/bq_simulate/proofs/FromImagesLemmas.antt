@@ -5,13 +5,14 @@ use Rattle.bq_actions.specs.declared.action.Action.{Action}
 use Rattle.bq_actions.specs.declared.action.Action.TheVariants.{Run, Wake}
 use Rattle.bq_actions.specs.declared.due.Due.{Due}
 use Rattle.bq_actions.specs.declared.due.Due.TheVariants as due
+use Rattle.bq_actions.specs.declared.roster.Pace.{Pace}
 use Rattle.bq_actions.specs.declared.workload.TaskKind.{TaskKind}
 use Rattle.bq_actions.specs.declared.workload.Workload.{Workload}
 use Rattle.bq_parts.specs.declared.event.Event.{Event}
 use Rattle.bq_parts.specs.declared.event.Event.TheVariants.{Block, Install, Tick}
 use Rattle.bq_trace.specs.News.{Told}
 use Rattle.bq_verify.specs.Accepted.{Accepted}
-use Rattle.bq_simulate.specs.Chronicles.{Deed, Happens, events_of}
+use Rattle.bq_simulate.specs.Chronicles.{Book, Deed, Happens, events_of}
 use Rattle.bq_simulate.specs.Retelling.{AreOfImages, IsFromImages, IsOfImage}
 use Rattle.bq_simulate.specs.Simulations.{IsSimulation, Proceeds}
 use Rattle.bq_simulate.specs.Steps.{AreAdmitted, AreAllAdmitted, AreInstalled, AreJust, AreWake, Follow, Meet, Step, deeds_of, pulls_of}
@@ -91,9 +92,9 @@ all_met : (images : ByHook) (steps : List Step) → InstallsImages images (deeds
 all_met images [] = tt
 all_met images (step ∷ steps) = joined images step.deeds (deeds_of steps) (meets images step.due step.at step.deeds step.meet) (all_met images steps)
 
-proceeds : (images : ByHook) (policies : List Accepted) (processors : ℕ) (kinds : List TaskKind) (most end : ℕ) (deeds : List Deed) → AreOfImages images policies
-    → Proceeds policies processors kinds most end deeds → InstallsImages images deeds
-proceeds images policies processors kinds most end deeds h p =
+proceeds : (images : ByHook) (policies : List Accepted) (processors : ℕ) (kinds : List TaskKind) (seed : ℕ) (pace : Pace) (most end : ℕ) (b : Book) (deeds : List Deed) → AreOfImages images policies
+    → Proceeds policies processors kinds seed pace most end b deeds → InstallsImages images deeds
+proceeds images policies processors kinds seed pace most end b deeds h p =
     let opens = p.opens in
     let first = installed images processors policies opens.installs h opens.installed in
     let then = all_admitted images processors 0 0 kinds opens.admissions opens.admitted in
@@ -104,5 +105,5 @@ pub installs_of_images : (images : ByHook) (policies : List Accepted) (w : Workl
     → AllByRecursion (IsFromImages images) (events_of s.deeds)
 installs_of_images images policies w told s h =
     let e = s.ends in
-    let until = proceeds images policies _ _ _ _ e.until h e.proceeds in
+    let until = proceeds images policies _ _ _ _ _ _ _ e.until h e.proceeds in
     parts images e.until e.last e.whole until (just images _ e.last (ticks images w.machine.duration _) e.ticks)

@@ -1,6 +1,6 @@
 -- Which processors run something.
 use Rattle.std.proofs.Common.{◌≡◌, ◌≢◌, ℕ, zero, suc, ◌+◌, Bool, true, false, List, [], ◌∷◌, ◌++◌, Option, Some, None, refl, ap, ◌∙◌, arith, is_some, map, filter, cond}
-use Rattle.std.specs.Prelude.{slice_get, slice_set, if◌then◌else◌}
+use Rattle.std.specs.Prelude.{slice_get, if◌then◌else◌}
 use Rattle.std.specs.List.{range_with_len}
 use Rattle.std.specs.Option.{option_map_or}
 use Rattle.std.proofs.lemmas.List.Elements.{filter-append}
@@ -9,21 +9,10 @@ use Rattle.bq_parts.specs.declared.event.Event.{Event}
 use Rattle.bq_parts.specs.declared.event.Event.TheVariants.{Tick}
 use Rattle.bq_actions.specs.declared.lane.Lane.{Lane}
 use Rattle.bq_actions.specs.declared.roster.Pace.{Pace}
-use Rattle.bq_actions.specs.Accounts.{Accounts, changed_at, charged, charged_by, idled, is_same, occupied, of_processor, switched, taken_over}
+use Rattle.bq_actions.specs.Accounts.{Accounts, charged, charged_by, idled, is_same, occupied, of_processor, switched, taken_over}
+use Rattle.bq_actions.proofs.AgreeLemmas.{changed_at-others}
 use Rattle.bq_simulate.specs.Chronicles.{is_busy}
 use Rattle.bq_simulate.specs.Steps.{all_processors, last_ticks}
-
--- a write to one place leaves the others
-slice_get-set_other : {A : Type 0} (xs : List A) (n k : ℕ) (x : A) → k ≢ n → slice_get (slice_set xs n x) k ≡ slice_get xs k
-slice_get-set_other [] n k x h = refl
-slice_get-set_other (y ∷ ys) zero zero x h = absurd (h refl)
-slice_get-set_other (y ∷ ys) zero (suc k) x h = refl
-slice_get-set_other (y ∷ ys) (suc n) zero x h = refl
-slice_get-set_other (y ∷ ys) (suc n) (suc k) x h = slice_get-set_other ys n k x (λ e. h (ap suc e))
-
-changed_at-others : {A : Type 0} (f : A → A) (xs : List A) (n k : ℕ) → k ≢ n → slice_get (changed_at f xs n) k ≡ slice_get xs k
-changed_at-others {A} f xs n k h =
-    elim (slice_get xs n) as (λ (o : Option A). slice_get (option_map_or (λ (x : A). slice_set xs n (f x)) o xs) k ≡ slice_get xs k) [ None ↦ refl | Some x ↦ slice_get-set_other xs n k (f x) h ]
 
 -- the lanes of which there are accounts
 abbrev lane_at : ℕ → Accounts → Option Lane

@@ -3,6 +3,7 @@ pub mod DeedLemmas
 pub mod InstallLemmas
 pub mod KindLemmas
 pub mod LaneLemmas
+pub mod OrderLemmas
 pub mod StepLemmas
 pub mod StreamLemmas
 pub mod WholeLemmas

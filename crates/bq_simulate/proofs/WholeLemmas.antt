@@ -14,17 +14,29 @@ use Rattle.bq_actions.specs.declared.roster.Pace.{Pace}
 use Rattle.bq_simulate.specs.declared.simulation.Simulation.{Simulation}
 use Rattle.bq_actions.specs.Bounds.{most_steps}
 use Rattle.bq_simulate.specs.Chronicles.{Book, Deed, Lives}
-use Rattle.bq_simulate.specs.Simulations.{HasFirsts, IsSimulation, Proceeds, Runs, book_of, opening_book, pace_of}
+use Rattle.bq_actions.specs.Next.{IsAgreed, NothingComes}
+use Rattle.bq_simulate.specs.Simulations.{HasFirsts, IsSimulation, Lived, LivedFrom, Proceeds, Runs, book_of, opening_book, pace_of}
 use Rattle.bq_simulate.specs.Steps.{AreAllAdmitted, AreInstalled, AreMet, Opens}
-use Rattle.bq_simulate.proofs.DeedLemmas.{Lives-append, drives-of-lives}
+use Rattle.bq_simulate.proofs.DeedLemmas.{Goes-join, Lives-append, drives-of-lives}
+use Rattle.bq_simulate.proofs.OrderLemmas.{book-after}
 
 -- what is installed, and then what is admitted
 pub Opens-join : (policies : List Accepted) (processors : ℕ) (kinds : List TaskKind) (xs ys : List Deed) → AreInstalled processors policies xs → AreAllAdmitted processors 0 0 kinds ys → Opens policies processors kinds (xs ++ ys)
 Opens-join policies processors kinds xs ys installed admitted = record { installs = xs; admissions = ys; whole = refl; installed = installed; admitted = admitted }
 
 -- what opens it, and then what comes due
-pub Proceeds-join : (policies : List Accepted) (processors : ℕ) (kinds : List TaskKind) (most end : ℕ) (xs ys : List Deed) → Opens policies processors kinds xs → AreMet most end ys → Proceeds policies processors kinds most end (xs ++ ys)
-Proceeds-join policies processors kinds most end xs ys opens meets = record { opening = xs; met = ys; whole = refl; opens = opens; meets = meets }
+pub Proceeds-join : {S : Type 0} (takes : S → ℕ → News → S → Type 0) (policies : List Accepted) (processors : ℕ) (kinds : List TaskKind) (most end : ℕ) (x y z : S) (s t u : Simulation)
+    → Lived takes kinds (Opens policies processors kinds) x s y t → LivedFrom takes kinds (AreMet kinds t.seed t.roster.pace most end) y t z u → LivedFrom takes kinds (Proceeds policies processors kinds s.seed s.roster.pace most end) x s z u
+Proceeds-join takes policies processors kinds most end x y z s t u opened met drawn had firsts agreed =
+    let one = opened drawn had firsts in
+    let two = met one.after one.streams one.firsts (one.agrees agreed) in
+    let opens = Opens policies processors kinds in
+    let start = book_of s drawn in
+    let P : ℕ → Type 0 = λ n. AreMet kinds n t.roster.pace most end (book_of t one.after) two.deeds in
+    let Q : Pace → Type 0 = λ p. AreMet kinds s.seed p most end (book_of t one.after) two.deeds in
+    let R : Book → Type 0 = λ b. AreMet kinds s.seed s.roster.pace most end b two.deeds in
+    let meets = subst R (book-after takes kinds opens x y s t drawn one) (subst Q one.pace (subst P one.seed two.are)) in
+    Goes-join takes kinds opens (AreMet kinds t.seed t.roster.pace most end (book_of t one.after)) (Proceeds policies processors kinds s.seed s.roster.pace most end start) x y z s t u drawn one two (record { opening = one.deeds; met = two.deeds; whole = refl; opens = one.are; meets = meets })
 
 -- where none is kept, each is that of its kind
 firsts-none : (kinds : List TaskKind) (s : Simulation) → s.firsts.items ≡ [] → HasFirsts kinds s
@@ -33,13 +45,13 @@ firsts-none kinds s none number first there = absurd (true≢false (sym (ap is_s
 -- what is told of the opening machine, and then of some deeds
 pub simulation-of : {S : Type 0} (takes : S → ℕ → News → S → Type 0) (a b c : S) (policies : List Accepted) (w : Workload) (d : Driver) (s t : Simulation)
     → Gets takes a b (λ told. Starts w.machine.rule w.machine.size told d) → s.driver ≡ d → accounts_of s.roster ≡ (opening_book w.machine).accounts
-    → s.roster.pace ≡ pace_of w.machine → s.seed ≡ w.machine.seed → s.streams.items ≡ [] → s.firsts.items ≡ []
+    → s.roster.pace ≡ pace_of w.machine → IsAgreed s.roster → s.seed ≡ w.machine.seed → s.streams.items ≡ [] → s.firsts.items ≡ []
     → Runs takes policies w.tasks.items (most_steps w) w.machine.duration (processors_in w.machine.size) b s c t → Gets takes a c (IsSimulation policies w)
-simulation-of takes a b c policies w d s t first driver accounts pace seed streams none runs =
+simulation-of takes a b c policies w d s t first driver accounts pace agreed seed streams none runs =
     let kinds = w.tasks.items in
     let machine = w.machine in
     let ended = runs.ended in
-    let met = runs.proceeds [] streams (firsts-none kinds s none) in
+    let met = runs.proceeds [] streams (firsts-none kinds s none) agreed in
     let ticks = runs.ticks met.after met.streams met.firsts in
     let stood = book_of ended met.after in
     let T : ℕ → Type 0 = λ x. Lives kinds x s.roster.pace s.driver (book_of s []) met.deeds met.tells.told ended.driver stood in
@@ -49,6 +61,14 @@ simulation-of takes a b c policies w d s t first driver accounts pace seed strea
     let U : ℕ → Type 0 = λ x. Lives kinds x ended.roster.pace ended.driver stood ticks.deeds ticks.tells.told t.driver (book_of t ticks.after) in
     let V : Pace → Type 0 = λ x. Lives kinds machine.seed x ended.driver stood ticks.deeds ticks.tells.told t.driver (book_of t ticks.after) in
     let opens : book_of s [] ≡ opening_book machine = ap (λ (x : Accounts). record { accounts = x; drawn = [] }) accounts in
+    let processors = processors_in machine.size in
+    let most = most_steps w in
+    let end = machine.duration in
+    let K : ℕ → Type 0 = λ x. Proceeds policies processors kinds x s.roster.pace most end (book_of s []) met.deeds in
+    let L : Pace → Type 0 = λ x. Proceeds policies processors kinds machine.seed x most end (book_of s []) met.deeds in
+    let M : Book → Type 0 = λ x. Proceeds policies processors kinds machine.seed (pace_of machine) most end x met.deeds in
+    let proceeds = subst M opens (subst L pace (subst K seed met.are)) in
+    let none = subst (λ (p : Pace). NothingComes p.end (accounts_of ended.roster)) (met.pace ∙ pace) (runs.none (met.agrees agreed)) in
     let until = subst P driver (subst Q opens (subst R pace (subst T seed met.tells.holds))) in
     let last = subst V (met.pace ∙ pace) (subst U (met.seed ∙ seed) ticks.tells.holds) in
     let deeds = met.deeds ++ ticks.deeds in
@@ -72,11 +92,12 @@ simulation-of takes a b c policies w d s t first driver accounts pace seed strea
           until = met.deeds;
           last = ticks.deeds;
           whole = refl;
-          proceeds = met.are;
+          proceeds = proceeds;
           told = met.tells.told;
           driver = ended.driver;
           book = stood;
           lives = until;
+          none = none;
           over = runs.over;
           ticks = ticks.are;
         };

@@ -112,6 +112,22 @@ after_beat pace processor now b = record b { accounts = beaten processor now pac
 abbrev pub after_look : Pace → ℕ → ℕ → Book → Book
 after_look pace processor now b = record b { accounts = looked processor now pace.balance b.accounts }
 
+-- what is kept after a deed: what a task does is its next action, by how far it has come
+abbrev pub after_deed : List TaskKind → ℕ → Pace → Deed → Book → Book
+after_deed kinds seed pace (Happens event reply) b = after_answer pace event reply b
+after_deed kinds seed pace (Joins kind home) b = joined kinds kind home b
+after_deed kinds seed pace (Acts processor task now action aim) b = option_map_or (λ c. after_act kinds seed processor task now c b) (slice_get (charged processor now b.accounts).courses task) b
+after_deed kinds seed pace (Rings task now) b = b
+after_deed kinds seed pace (Reaches task) b = b
+after_deed kinds seed pace (Misses task) b = b
+after_deed kinds seed pace (Beats processor now) b = after_beat pace processor now b
+after_deed kinds seed pace (Looks processor now source) b = after_look pace processor now b
+
+-- and after some deeds, one after another
+abbrev pub after_deeds : List TaskKind → ℕ → Pace → Book → List Deed → Book
+after_deeds kinds seed pace b [] = b
+after_deeds kinds seed pace b (deed ∷ deeds) = after_deeds kinds seed pace (after_deed kinds seed pace deed b) deeds
+
 -- deeds one after another: what the sink is told of them, and what becomes of the machine and of what is kept, where tasks do what
 -- their kinds say, lengths are drawn from this seed, and times between ticks and between looks, and what a change of processor costs,
 -- are of this pace. A wake comes to the tasks of its kind one after another, by number. The timer that rings is of a task that is asleep until just then; a clock beats, and a processor looks, just when

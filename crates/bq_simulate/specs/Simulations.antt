@@ -16,7 +16,8 @@ use Rattle.bq_actions.specs.Accounts.{accounts_of, is_over, opening}
 use Rattle.bq_simulate.specs.declared.simulation.Simulation.{Simulation}
 use Rattle.bq_simulate.specs.Actions.{first_of, next_length}
 use Rattle.bq_actions.specs.Bounds.{most_steps}
-use Rattle.bq_simulate.specs.Chronicles.{Book, Deed, Lives, events_of}
+use Rattle.bq_actions.specs.Next.{IsAgreed, NothingComes, StaysAgreed}
+use Rattle.bq_simulate.specs.Chronicles.{Book, Deed, Lives, after_deeds, events_of}
 use Rattle.bq_simulate.specs.Steps.{AreJust, AreMet, Opens, all_processors, last_ticks}
 
 -- the same workload with another seed
@@ -31,25 +32,27 @@ opening_book machine = record { accounts = opening (processors_in machine.size) 
 abbrev pub pace_of : Setup → Pace
 pace_of machine = record { end = machine.duration; tick = machine.tick; balance = machine.balance; migration_cost = machine.migration_cost }
 
--- first these policies are installed and all tasks admitted; then so many things at most come due until the end, and are met
-pub record Proceeds (policies : List Accepted) (processors : ℕ) (kinds : List TaskKind) (most end : ℕ) (deeds : List Deed) : Type 0 where
+-- first these policies are installed and all tasks admitted; then so many things at most come due until the end, each the next by the
+-- accounts, and are met
+pub record Proceeds (policies : List Accepted) (processors : ℕ) (kinds : List TaskKind) (seed : ℕ) (pace : Pace) (most end : ℕ) (b : Book) (deeds : List Deed) : Type 0 where
   pub opening : List Deed
   pub met : List Deed
   pub whole : deeds ≡ opening ++ met
   pub opens : Opens policies processors kinds opening
-  pub meets : AreMet most end met
+  pub meets : AreMet kinds seed pace most end (after_deeds kinds seed pace b opening) met
 
--- when no timer, no end of a phase, no tick and no look for a task is left until the end, each processor that runs something ticks then,
+-- when nothing comes any more, and no timer, no end of a phase, no tick and no look for a task is left until the end, each processor that runs something ticks then,
 -- by number, and nothing else is done
 pub record Ends (policies : List Accepted) (w : Workload) (d : Driver) (deeds : List Deed) : Type 0 where
   pub until : List Deed
   pub last : List Deed
   pub whole : deeds ≡ until ++ last
-  pub proceeds : Proceeds policies (processors_in w.machine.size) w.tasks.items (most_steps w) w.machine.duration until
+  pub proceeds : Proceeds policies (processors_in w.machine.size) w.tasks.items w.machine.seed (pace_of w.machine) (most_steps w) w.machine.duration (opening_book w.machine) until
   pub told : Told
   pub driver : Driver
   pub book : Book
   pub lives : Lives w.tasks.items w.machine.seed (pace_of w.machine) d (opening_book w.machine) until told driver book
+  pub none : NothingComes w.machine.duration book.accounts
   pub over : is_over w.machine.duration book.accounts ≡ true
   pub ticks : AreJust (last_ticks w.machine.duration (all_processors (processors_in w.machine.size)) book.accounts) last
 
@@ -60,7 +63,8 @@ pub record Ends (policies : List Accepted) (w : Workload) (d : Driver) (deeds : 
 -- length, and first at the start of its kind; and each length is the next of its task. A processor that runs something ticks just at
 -- multiples of the time between two ticks; where there are others each looks for a task just at multiples of the time between two looks,
 -- and when it falls idle, and pulls one from the processor with the most tasks.
--- All is done when something comes due, but for what opens it and for the ticks at its end. Then no timer, no end of a phase, no tick
+-- All is done when something comes due, but for what opens it and for the ticks at its end; and what is met is, by the accounts just
+-- before, the first that comes: by time, at one instant by kind, and of one kind by number. Then no timer, no end of a phase, no tick
 -- and no look is left that comes until the end.
 pub record IsSimulation (policies : List Accepted) (w : Workload) (told : Told) : Type 0 where
   pub opening : Driver
@@ -98,11 +102,16 @@ pub record Goes {S : Type 0} (takes : S → ℕ → News → S → Type 0) (kind
   pub seed : t.seed ≡ s.seed
   pub streams : HasDrawn t after
   pub firsts : HasFirsts kinds t
+  pub agrees : StaysAgreed s.roster t.roster
   pub tells : Gets takes old new (λ told. Lives kinds s.seed s.roster.pace s.driver (book_of s drawn) deeds told t.driver (book_of t after))
   pub are : Are deeds
 
 abbrev pub Lived : {S : Type 0} → (S → ℕ → News → S → Type 0) → List TaskKind → (List Deed → Type 0) → S → Simulation → S → Simulation → Type 0
 Lived takes kinds Are old s new t = (drawn : List ℕ) → HasDrawn s drawn → HasFirsts kinds s → Goes takes kinds Are old s drawn new t
+
+-- from accounts with which its agenda agrees it goes on by deeds of which this holds, by what was kept
+abbrev pub LivedFrom : {S : Type 0} → (S → ℕ → News → S → Type 0) → List TaskKind → (Book → List Deed → Type 0) → S → Simulation → S → Simulation → Type 0
+LivedFrom takes kinds Are old s new t = (drawn : List ℕ) → HasDrawn s drawn → HasFirsts kinds s → IsAgreed s.roster → Goes takes kinds (Are (book_of s drawn)) old s drawn new t
 
 -- events alone: what tasks do has no part in it
 abbrev pub Befell : {S : Type 0} → (S → ℕ → News → S → Type 0) → (List Deed → Type 0) → S → Simulation → S → Simulation → Type 0
@@ -116,6 +125,7 @@ pub record GoesUntold (kinds : List TaskKind) (Are : List Deed → Type 0) (s : 
   pub seed : t.seed ≡ s.seed
   pub streams : HasDrawn t after
   pub firsts : HasFirsts kinds t
+  pub agrees : StaysAgreed s.roster t.roster
   pub lives : Lives kinds s.seed s.roster.pace s.driver (book_of s drawn) deeds [] t.driver (book_of t after)
   pub are : Are deeds
 
@@ -126,12 +136,14 @@ Silent kinds Are s t = (drawn : List ℕ) → HasDrawn s drawn → HasFirsts kin
 pub record Runs {S : Type 0} (takes : S → ℕ → News → S → Type 0) (policies : List Accepted) (kinds : List TaskKind) (most end processors : ℕ) (old : S) (s : Simulation) (new : S) (t : Simulation) : Type 0 where
   pub sink : S
   pub ended : Simulation
-  pub proceeds : Lived takes kinds (Proceeds policies processors kinds most end) old s sink ended
+  pub proceeds : LivedFrom takes kinds (Proceeds policies processors kinds s.seed s.roster.pace most end) old s sink ended
+  pub none : IsAgreed ended.roster → NothingComes ended.roster.pace.end (accounts_of ended.roster)
   pub over : is_over end (accounts_of ended.roster) ≡ true
   pub ticks : Lived takes kinds (AreJust (last_ticks end (all_processors processors) (accounts_of ended.roster))) sink ended new t
 
--- what stays beside the machine and the accounts
+-- what stays beside the machine and the accounts, and that the agenda agrees with them
 pub record Stays (s t : Simulation) : Type 0 where
+  pub agrees : StaysAgreed s.roster t.roster
   pub pace : t.roster.pace ≡ s.roster.pace
   pub seed : t.seed ≡ s.seed
   pub streams : t.streams ≡ s.streams

@@ -12,8 +12,10 @@ use Rattle.bq_parts.specs.declared.reply.Reply.{Reply}
 use Rattle.bq_parts.specs.declared.reply.Reply.TheVariants.{Drawn}
 use Rattle.bq_verify.specs.Accepted.{Accepted}
 use Rattle.bq_actions.specs.Accounts.{Accounts}
+use Rattle.bq_actions.specs.declared.roster.Pace.{Pace}
+use Rattle.bq_actions.specs.Next.{IsNext}
 use Rattle.bq_actions.specs.Soundness.{IsFirstAllowed}
-use Rattle.bq_simulate.specs.Chronicles.{Acts, Beats, Deed, Happens, Joins, Looks, Misses, Reaches, Rings, is_busy}
+use Rattle.bq_simulate.specs.Chronicles.{Acts, Beats, Book, Deed, Happens, Joins, Looks, Misses, Reaches, Rings, after_deeds, is_busy}
 use Rattle.bq_simulate.specs.Drives.{placed_at}
 
 -- these events happen, whatever their answers are, and nothing beside them
@@ -130,12 +132,19 @@ abbrev pub Rise : ℕ → List Step → ℕ → Type 0
 Rise first [] last = first ≤ last
 Rise first (step ∷ steps) last = (first ≤ step.at) × Rise step.at steps last
 
--- so many things at most come due until an instant, one after another, and each is met
-pub record AreMet (most last : ℕ) (deeds : List Deed) : Type 0 where
+-- each of these is the next by the accounts just before: of all that comes until the end it comes first, by its time, at one instant
+-- by its kind, and of one kind by its number
+abbrev pub AreInOrder : List TaskKind → ℕ → Pace → Book → List Step → Type 0
+AreInOrder kinds seed pace b [] = Unit {0}
+AreInOrder kinds seed pace b (step ∷ steps) = IsNext pace.end b.accounts step.due step.at × AreInOrder kinds seed pace (after_deeds kinds seed pace b step.deeds) steps
+
+-- from what is kept so many things at most come due until an instant, one after another in their order, and each is met
+pub record AreMet (kinds : List TaskKind) (seed : ℕ) (pace : Pace) (most last : ℕ) (b : Book) (deeds : List Deed) : Type 0 where
   pub steps : List Step
   pub whole : deeds ≡ deeds_of steps
   pub rise : Rise 0 steps last
   pub few : length steps ≤ most
+  pub order : AreInOrder kinds seed pace b steps
 
 -- which of these processors run something: each of them ticks at the end
 abbrev pub last_ticks : ℕ → List ℕ → Accounts → List Event

@@ -20,8 +20,6 @@ struct Doing {
     task: u16,
     /// How far it had come.
     before: Course,
-    /// How far it has come with that.
-    after: Course,
     /// Nothing where it has done all as often as it is to.
     action: Option<Action>,
 }
@@ -162,11 +160,10 @@ impl Simulation {
         let action = next_of(workload, &before)?;
         let length = self.length_for(task, asked_by(action))?;
         let after = acted(workload, before, action, length, now)?;
-        self.roster.set_course(task, after)?;
+        self.roster.take_up(processor, task, after)?;
         Ok(Doing {
             task,
             before,
-            after,
             action,
         })
     }
@@ -201,27 +198,14 @@ impl Simulation {
         ensures { OnOk result ((kinds : List TaskKind) → Lived S.takes kinds (Follow doing.now.action (aim_of kinds doing.now.before doing.now.action) processor now) sink.old self.old sink.new self.new) }
     {
         match doing.action {
-            Some(Action::Run(_)) => {
-                self.plan_end(processor, &doing.after, now)?;
-                Ok(())
-            }
-            Some(Action::Sleep(_)) => {
-                self.plan_wake(doing.task, doing.after.timer)?;
-                self.block(alloc, processor, now, sink)
-            }
+            Some(Action::Run(_)) => Ok(()),
+            Some(Action::Sleep(_)) => self.block(alloc, processor, now, sink),
             Some(Action::Wait) => self.block(alloc, processor, now, sink),
             None => self.block(alloc, processor, now, sink),
             Some(Action::Wake(kind)) => {
                 self.wake_next(alloc, processor, kind, doing.before.woken, now, sink)
             }
         }
-    }
-
-    /// The phase of the task that runs at a processor ends once it has got what it takes.
-    fn plan_end(&mut self, processor: u8, course: &Course, now: u64) -> Result<(), Astray>
-        ensures { Same self.old self.new }
-    {
-        self.roster.plan_end(processor, course, now)
     }
 
     /// The task that runs at a processor goes to sleep.

@@ -3,9 +3,10 @@ ghost use Rattle.std.specs.Prelude.{◌≡◌, ◌≢◌, None, [], ◌∷◌, O
 ghost use Rattle.bq_actions.specs.Accounts.{accounts_of};
 ghost use Rattle.bq_words.specs.Sizes.{processors_in};
 ghost use Rattle.bq_actions.specs.Bounds.{most_steps};
+ghost use Rattle.bq_actions.specs.Next.{IsAgreed, NothingComes};
 ghost use Rattle.bq_actions.specs.Soundness.{first_flaw};
 ghost use Rattle.bq_simulate.specs.Faults.{flaw_told};
-ghost use Rattle.bq_simulate.specs.Simulations.{Befell, IsSimulation, Lived, Runs, opening_book, pace_of, with_seed};
+ghost use Rattle.bq_simulate.specs.Simulations.{Befell, IsSimulation, LivedFrom, Runs, opening_book, pace_of, with_seed};
 ghost use Rattle.bq_simulate.specs.Steps.{AreJust, AreMet, KeepsOthers, all_processors, last_ticks};
 ghost use Rattle.bq_trace.specs.News.{Gets};
 
@@ -90,6 +91,7 @@ impl Simulation {
         ensures firsts { IfOk result (λ simulation. simulation.firsts.items ≡ []) }
         ensures tasks { IfOk result (λ simulation. simulation.roster.courses.items ≡ []) }
         ensures pace { IfOk result (λ simulation. simulation.roster.pace ≡ pace_of machine.now) }
+        ensures agrees { IfOk result (λ simulation. IsAgreed simulation.roster) }
     {
         let pace = Pace {
             end: machine.duration,
@@ -135,8 +137,8 @@ impl Simulation {
         Ok(self.tally)
     }
 
-    /// Does what comes due, one thing after another, until nothing does. Nothing comes before what came already, or beyond the
-    /// duration.
+    /// Does what comes due, one thing after another, until nothing does: each is the first that comes by the accounts. Nothing
+    /// comes before what came already, or beyond the duration.
     fn go_on<S: Sink>(
         &mut self,
         alloc: Global,
@@ -144,7 +146,8 @@ impl Simulation {
         most: u64,
         sink: &mut S,
     ) -> Result<(), SimulateFault>
-        ensures { OnOk result (Lived S.takes workload.now.tasks.items (AreMet most workload.now.machine.duration) sink.old self.old sink.new self.new) }
+        ensures none { OnOk result (IsAgreed self.new.roster → NothingComes self.new.roster.pace.end (accounts_of self.new.roster)) }
+        ensures lived { OnOk result (LivedFrom S.takes workload.now.tasks.items (AreMet workload.now.tasks.items self.old.seed self.old.roster.pace most workload.now.machine.duration) sink.old self.old sink.new self.new) }
     {
         let end = workload.machine.duration;
         let mut last: u64 = 0;

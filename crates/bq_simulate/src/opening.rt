@@ -9,7 +9,7 @@ ghost use Rattle.bq_words.specs.Sizes.{processors_in};
 
 use crate::fault::SimulateFault;
 use crate::simulation::Simulation;
-use bq_actions::{Astray, Course, Due, Stream, TaskKind, Workload, first_of_mask};
+use bq_actions::{Course, Due, Stream, TaskKind, Workload, first_of_mask};
 use bq_core::Policy;
 use bq_trace::Sink;
 use std::alloc::Global;
@@ -94,7 +94,7 @@ impl Simulation {
             let task = self.tally.tasks;
             self.admit_one(alloc, task, kind, sink)?;
             self.join(task, number, home, kind.start)?;
-            self.begin_at(task, kind.start)?;
+            self.count_task(task);
         }
         Ok(())
     }
@@ -118,27 +118,18 @@ impl Simulation {
         }
     }
 
-    /// The timer of the next task, which is the last so far.
-    fn begin_at(&mut self, task: u16, start: u64) -> Result<(), Astray>
-        ensures same { OnOk result (Same self.old self.new) }
-        ensures courses { self.new.roster.courses ≡ self.old.roster.courses }
-    {
-        self.plan_wake(task, start)?;
-        self.tally.tasks = task.saturating_add(1);
-        Ok(())
-    }
-
-    /// The timer of a task.
-    pub(crate) fn plan_wake(&mut self, task: u16, time: u64) -> Result<(), Astray>
+    /// Counts a task, which is the last so far.
+    fn count_task(&mut self, task: u16)
         ensures same { Same self.old self.new }
         ensures courses { self.new.roster.courses ≡ self.old.roster.courses }
     {
-        self.roster.plan(Due::Wake(task), time)
+        self.tally.tasks = task.saturating_add(1);
     }
 
-    /// One more task of a kind, with a stream of its own; its first wake is at the start of its kind, from this processor.
+    /// One more task of a kind, with a stream of its own; its first wake is at the start of its kind, from this processor, and
+    /// its timer is put down.
     fn join(&mut self, task: u16, kind: usize, home: u8, start: u64) -> Result<(), SimulateFault>
-        ensures silent { OnOk result ((kinds : List TaskKind) → IsOfKind kinds (length self.old.roster.courses.items) kind → start ≡ start_of kinds kind → Silent kinds (IsJoin kind home) self.old self.new) }
+        ensures silent { OnOk result ((kinds : List TaskKind) → IsOfKind kinds (length self.old.roster.courses.items) kind → start ≡ start_of kinds kind → length self.old.streams.items ≡ length self.old.roster.courses.items → Silent kinds (IsJoin kind home) self.old self.new) }
         ensures number { OnOk result (task ≡ length self.old.streams.items) }
         ensures streams { OnOk result (length self.new.streams.items ≡ length self.old.streams.items + 1) }
         ensures tasks { OnOk result (length self.new.roster.courses.items ≡ length self.old.roster.courses.items + 1) }
@@ -147,6 +138,7 @@ impl Simulation {
             return Err(SimulateFault::Astray);
         }
         self.roster.add(Course::new(kind, home, start))?;
+        self.roster.plan(Due::Wake(task), start)?;
         match self.streams.push(Stream::of_task(self.seed, task)) {
             Ok(()) => Ok(()),
             Err(_) => Err(SimulateFault::OutOfMemory),

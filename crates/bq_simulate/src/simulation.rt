@@ -4,6 +4,7 @@ ghost use Rattle.bq_parts.specs.declared.event.Event.TheVariants.{BeginWake, End
 ghost use Rattle.bq_simulate.specs.Drives.{Drove};
 ghost use Rattle.std.specs.Option.{option_map_or};
 ghost use Rattle.bq_actions.specs.Accounts.{accounts_of, passed, switched};
+ghost use Rattle.bq_actions.specs.Next.{StaysAgreed};
 ghost use Rattle.bq_simulate.specs.Chronicles.{IsWoken, is_busy};
 ghost use Rattle.bq_simulate.specs.Simulations.{Befell, Draws, Lived};
 ghost use Rattle.bq_simulate.specs.Steps.{AreJust, AreWake, KeepsOthers, Meet};
@@ -58,7 +59,6 @@ impl Simulation {
     ) -> Result<(), SimulateFault>
         ensures { OnOk result (Befell S.takes (Meet (Due.Wake task) now) sink.old self.old sink.new self.new) }
     {
-        self.roster.drop_plan(Due::Wake(task))?;
         let course = self.roster.course(task)?;
         if course.timer != now {
             return Err(SimulateFault::Astray);
@@ -179,10 +179,21 @@ fn keep_pull(
     now: u64,
 ) -> Result<(), Astray>
     ensures accounts { OnOk result (accounts_of roster.new ≡ switched processor moved.run now roster.old.pace (option_map_or (λ task. passed from processor (accounts_of roster.old)) moved.task (accounts_of roster.old))) }
+    ensures agrees { OnOk result (StaysAgreed roster.old roster.new) }
     ensures pace { roster.new.pace ≡ roster.old.pace }
 {
-    if moved.task.is_some() {
-        roster.pass(from, processor)?;
-    }
+    pass_where_taken(roster, moved.task, from, processor)?;
     roster.switch(processor, moved.run, now)
+}
+
+/// A task that was taken has gone from the queue of one processor to another.
+fn pass_where_taken(roster: &mut Roster, taken: Option<u16>, from: u8, to: u8) -> Result<(), Astray>
+    ensures accounts { OnOk result (accounts_of roster.new ≡ option_map_or (λ task. passed from to (accounts_of roster.old)) taken (accounts_of roster.old)) }
+    ensures agrees { OnOk result (StaysAgreed roster.old roster.new) }
+    ensures pace { roster.new.pace ≡ roster.old.pace }
+{
+    match taken {
+        Some(_) => roster.pass(from, to),
+        None => Ok(()),
+    }
 }

@@ -44,8 +44,8 @@ tasks-preserved g c =
     let admits = AreJust (Admit task kind.nice kind.mask kind.slice ∷ []) in
     let joins = IsJoin number home in
     let one = IsAdmission all number kind task in
-    let joined = Lived-join takes kinds admits joins one (λ xs ys admit join. admission-of all number kind task home xs ys mine admit join) _ _ _ _ _ _ (c.in_ok-admit_one.ensures.befell kinds) (Lived-silent takes kinds joins _ _ _ (c.in_ok-join.ensures.silent kinds of start)) in
-    let begun = Lived-then takes kinds one _ _ _ _ _ joined c.in_ok-begin_at.ensures.same in
+    let joined = Lived-join takes kinds admits joins one (λ xs ys admit join. admission-of all number kind task home xs ys mine admit join) _ _ _ _ _ _ (c.in_ok-admit_one.ensures.befell kinds) (Lived-silent takes kinds joins _ _ _ (c.in_ok-join.ensures.silent kinds of start (streams ∙ sym here))) in
+    let begun = Lived-then takes kinds one _ _ _ _ _ joined c.count_task.ensures.same in
     let before = AreAdmitted all number kind first count in
     let after = AreAdmitted all number kind first (count + 1) in
     let next : suc count ≡ count + 1 = omega arith in
@@ -53,6 +53,6 @@ tasks-preserved g c =
     λ xs ys h k. subst (λ (n : ℕ). AreAdmitted all number kind first n (xs ++ ys)) next (AreAdmitted-more all number kind first count task xs ys (c.in_ok-join.ensures.number ∙ streams) h k) in
     record {
       lived = Lived-join takes kinds before one after more _ _ _ _ _ _ c.tasks.invariant.lived begun;
-      tasks = ap (λ v. length v.items) c.in_ok-begin_at.ensures.courses ∙ c.in_ok-join.ensures.tasks ∙ omega (arith, here, c.requires.first);
-      streams = ap (λ v. length v.items) c.in_ok-begin_at.ensures.same.stays.streams ∙ c.in_ok-join.ensures.streams ∙ omega (arith, streams, c.requires.streams);
+      tasks = ap (λ v. length v.items) c.count_task.ensures.courses ∙ c.in_ok-join.ensures.tasks ∙ omega (arith, here, c.requires.first);
+      streams = ap (λ v. length v.items) c.count_task.ensures.same.stays.streams ∙ c.in_ok-join.ensures.streams ∙ omega (arith, streams, c.requires.streams);
     }

@@ -3,28 +3,25 @@ use Rattle.std.proofs.lemmas.Result.{on_ok_weaker}
 use Rattle.bq_actions.specs.declared.action.Action.{Action}
 use Rattle.bq_actions.specs.declared.action.Action.TheVariants.{Run, Sleep, Wait, Wake}
 use Rattle.bq_simulate.specs.Steps.{Follow}
-use Rattle.bq_simulate.proofs.DeedLemmas.{Befell-after, Follow-same, Lived-same}
+use Rattle.bq_simulate.proofs.DeedLemmas.{Follow-same, Lived-same, Same-here}
 use Rattle.bq_simulate.proofs.simulation.Simulation.follow.Goals as goal
 
-pub returns-in_ok-plan_end-in-Some-Run : goal.returns-in_ok-plan_end-in-Some-Run
-returns-in_ok-plan_end-in-Some-Run g c =
+pub returns-in-Some-Run : goal.returns-in-Some-Run
+returns-in-Some-Run g c =
     let takes = g.S.Sink.takes in
     let arm = c.in-Some-Run in
     let action = Some (Run arm.field-0-0) in
     let is : c.args.doing.now.action ≡ action = arm.is ∙ ap (λ (a : Action). Some a) (rw arm.is at arm.field-0-is) in
     let processor = c.args.processor in
     let now = c.args.now in
-    λ kinds. Follow-same takes kinds c.args.doing.now.before _ action processor now _ _ _ _ is (Lived-same takes (Follow action None processor now) refl _ _ _ c.plan_end.ensures kinds)
+    λ kinds. Follow-same takes kinds c.args.doing.now.before _ action processor now _ _ _ _ is (Lived-same takes (Follow action None processor now) refl _ _ _ (Same-here _) kinds)
 
-pub returns-in_ok-plan_wake-in-Some-Sleep : goal.returns-in_ok-plan_wake-in-Some-Sleep
-returns-in_ok-plan_wake-in-Some-Sleep g c =
-    let takes = g.S.Sink.takes in
+pub returns-in-Some-Sleep : goal.returns-in-Some-Sleep
+returns-in-Some-Sleep g c =
     let arm = c.in-Some-Sleep in
     let action = Some (Sleep arm.field-0-0) in
     let is : c.args.doing.now.action ≡ action = arm.is ∙ ap (λ (a : Action). Some a) (rw arm.is at arm.field-0-is) in
-    let processor = c.args.processor in
-    let now = c.args.now in
-    on_ok_weaker c.block.result (λ h kinds. Follow-same takes kinds c.args.doing.now.before _ action processor now _ _ _ _ is (Befell-after takes (Follow action None processor now) _ _ _ _ _ c.plan_wake.ensures.same h kinds)) c.block.ensures
+    on_ok_weaker c.block.result (λ h kinds. Follow-same g.S.Sink.takes kinds c.args.doing.now.before _ action c.args.processor c.args.now _ _ _ _ is (h kinds)) c.block.ensures
 
 pub returns-in-Some-Wait : goal.returns-in-Some-Wait
 returns-in-Some-Wait g c =

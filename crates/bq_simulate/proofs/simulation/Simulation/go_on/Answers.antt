@@ -1,7 +1,12 @@
-use Rattle.std.proofs.Common.{◌≤◌, ◌+◌, arith}
-use Rattle.bq_simulate.specs.Steps.{AreMet, Meet}
-use Rattle.bq_simulate.proofs.DeedLemmas.{Lived-join, Lived-same, Lived-weaker, Same-here}
-use Rattle.bq_simulate.proofs.StepLemmas.{AreMet-more, AreMet-none, AreMet-within}
+use Rattle.std.proofs.Common.{◌≤◌, arith}
+use Rattle.std.proofs.lemmas.Option.{MatchOption-at_none, MatchOption-at_some}
+use Rattle.bq_actions.specs.Accounts.{accounts_of}
+use Rattle.bq_actions.specs.Next.{IsAgreed, IsNext, NothingComes}
+use Rattle.bq_simulate.specs.Simulations.{book_of}
+use Rattle.bq_simulate.specs.Steps.{AreMet}
+use Rattle.bq_simulate.proofs.DeedLemmas.{Goes-weaker, Lived-same, Same-here}
+use Rattle.bq_simulate.proofs.OrderLemmas.{met-more}
+use Rattle.bq_simulate.proofs.StepLemmas.{AreMet-none, AreMet-within}
 use Rattle.bq_simulate.proofs.simulation.Simulation.go_on.Goals as goal
 
 pub steps-preserved : goal.steps-preserved
@@ -11,21 +16,35 @@ steps-preserved g c =
     let due = c.in-Some.due in
     let now = c.in-Some.now in
     let later : last ≤ now = omega (arith, c.if-now-last.false) in
+    let here = c.steps.self.roster in
+    let next : IsAgreed here → IsNext here.pace.end (accounts_of here) due now =
+    λ agreed. MatchOption-at_some (NothingComes here.pace.end (accounts_of here)) (λ d. IsNext here.pace.end (accounts_of here) d.1 d.0) (now, due) c.in-Some.is (c.in_ok-now.ensures.next agreed) in
     record {
-      lived = Lived-join g.S.Sink.takes c.args.workload.now.tasks.items (AreMet count last) (Meet due now) (AreMet (count + 1) now) (λ xs ys met meet. AreMet-more due count last now xs ys later met meet) _ _ _ _ _ _ c.steps.invariant.lived c.in_ok-meet.ensures;
+      lived = met-more g.S.Sink.takes c.args.workload.now.tasks.items count last now due _ _ _ _ _ _ later next c.steps.invariant.lived c.in_ok-meet.ensures;
       within = omega (arith, c.if-now-end.false);
     }
 
 pub steps-init : goal.steps-init
-steps-init g c = record {
-  lived = Lived-same g.S.Sink.takes (AreMet 0 0) AreMet-none _ _ _ (Same-here _) c.args.workload.now.tasks.items;
-  within = omega arith;
-}
+steps-init g c =
+    let was = c.args.self.now in
+    let kinds = c.args.workload.now.tasks.items in
+    record {
+      lived = λ drawn had firsts agreed. Lived-same g.S.Sink.takes (AreMet kinds was.seed was.roster.pace 0 0 (book_of was drawn)) (AreMet-none kinds was.seed was.roster.pace (book_of was drawn)) _ _ _ (Same-here _) kinds drawn had firsts;
+      within = omega arith;
+    }
 
-pub returns-in_default : goal.returns-in_default
-returns-in_default g c =
+pub returns-in_default-clause-none : goal.returns-in_default-clause-none
+returns-in_default-clause-none g c =
+    let here = c.steps.self.roster in
+    λ agreed. MatchOption-at_none (NothingComes here.pace.end (accounts_of here)) (λ d. IsNext here.pace.end (accounts_of here) d.1 d.0) c.in_default.is (c.in_ok-now.ensures.next agreed)
+
+pub returns-in_default-clause-lived : goal.returns-in_default-clause-lived
+returns-in_default-clause-lived g c =
+    let was = c.args.self.now in
+    let kinds = c.args.workload.now.tasks.items in
     let count = c.steps.counter in
     let last = c.steps.last in
     let end = c.args.workload.now.machine.duration in
     let few : count ≤ c.args.most = omega (arith, c.steps-test.true) in
-    Lived-weaker g.S.Sink.takes c.args.workload.now.tasks.items (AreMet count last) (AreMet c.args.most end) (λ xs met. AreMet-within count c.args.most last end xs few c.steps.invariant.within met) _ _ _ _ c.steps.invariant.lived
+    λ drawn had firsts agreed. Goes-weaker g.S.Sink.takes kinds (AreMet kinds was.seed was.roster.pace count last (book_of was drawn)) (AreMet kinds was.seed was.roster.pace c.args.most end (book_of was drawn))
+    (λ xs met. AreMet-within kinds was.seed was.roster.pace count c.args.most last end (book_of was drawn) xs few c.steps.invariant.within met) _ _ _ drawn _ (c.steps.invariant.lived drawn had firsts agreed)

@@ -13,7 +13,7 @@ returns-clause-befell g c =
     let was = c.args.self.now.roster in
     let event = Tick c.args.processor c.args.now in
     let accounts = c.in_ok-switch.ensures.accounts ∙ ap (λ (r : Option ℕ). switched c.args.processor r c.args.now was.pace (accounts_of was)) (sym said.1) in
-    Lived-event g.S.Sink.takes (AreJust (event ∷ [])) _ _ _ _ event said.0 (said.0, [], refl, refl) c.requires (record { pace = c.in_ok-switch.ensures.pace; seed = refl; streams = refl; firsts = refl }) said.2 accounts
+    Lived-event g.S.Sink.takes (AreJust (event ∷ [])) _ _ _ _ event said.0 (said.0, [], refl, refl) c.requires (record { agrees = c.in_ok-switch.ensures.agrees; pace = c.in_ok-switch.ensures.pace; seed = refl; streams = refl; firsts = refl }) said.2 accounts
 
 -- only what runs at this processor may be another task
 pub returns-clause-others : goal.returns-clause-others

@@ -27,4 +27,4 @@ returns-clause-lived g c =
     let rises = ap (λ (a : Accounts). entered_by to entered.count entered.run now was.pace a) c.in_ok-wake.ensures.accounts in
     let runs = ap (λ (r : Option ℕ). entered_by to entered.count r now was.pace rest) (sym said.1) in
     let counts = ap (λ (n : ℕ). entered_by to n (runs_now said.0) now was.pace rest) (sym said.2) in
-    Lived-wakes g.S.Sink.takes _ _ _ _ _ c.wake-2.new.self c.args.from c.args.task to now said.0 c.requires (record { pace = c.in_ok-enter.ensures.pace ∙ c.in_ok-wake.ensures.pace; seed = refl; streams = refl; firsts = refl }) c.in_ok-to.ensures said.3 (c.in_ok-enter.ensures.accounts ∙ costs ∙ rises ∙ runs ∙ counts)
+    Lived-wakes g.S.Sink.takes _ _ _ _ _ c.wake-2.new.self c.args.from c.args.task to now said.0 c.requires (record { agrees = λ h. c.in_ok-enter.ensures.agrees (c.in_ok-wake.ensures.agrees h); pace = c.in_ok-enter.ensures.pace ∙ c.in_ok-wake.ensures.pace; seed = refl; streams = refl; firsts = refl }) c.in_ok-to.ensures said.3 (c.in_ok-enter.ensures.accounts ∙ costs ∙ rises ∙ runs ∙ counts)

@@ -1,26 +1,21 @@
-use Rattle.std.proofs.Common.{refl, ap}
+use Rattle.std.proofs.Common.{refl}
 use Rattle.std.proofs.lemmas.Result.{on_ok_weaker}
 use Rattle.bq_actions.specs.declared.due.Due.TheVariants.{Wake}
 use Rattle.bq_simulate.specs.declared.simulation.Simulation.{Simulation}
 use Rattle.bq_simulate.specs.Chronicles.{Rings}
-use Rattle.bq_simulate.specs.Simulations.{Same}
 use Rattle.bq_simulate.specs.Steps.{AreWake, Meet}
-use Rattle.bq_simulate.proofs.DeedLemmas.{Befell-after, Befell-first, Stays-here, same_accounts}
+use Rattle.bq_simulate.proofs.DeedLemmas.{Befell-first, Stays-here}
 use Rattle.bq_simulate.proofs.simulation.Simulation.wake_by_timer.Goals as goal
 
 pub returns-in-Asleep : goal.returns-in-Asleep
 returns-in-Asleep g c =
-    let dropped = c.in_ok-drop_plan.ensures in
-    let accounts = same_accounts _ _ _ _ (ap (λ v. v.items) dropped.courses) (ap (λ v. v.items) dropped.lanes) in
     let takes = g.S.Sink.takes in
-    let here : Simulation = record c.args.self.now { roster = c.drop_plan.new.self } in
-    let same : Same c.args.self.now here = record { driver = refl; accounts = accounts; stays = record { pace = dropped.pace; seed = refl; streams = refl; firsts = refl } } in
+    let here : Simulation = c.args.self.now in
     let home = c.in_ok-course.course.home in
     let task = c.args.task in
     let now = c.args.now in
     let met = Meet (Wake task) now in
     on_ok_weaker c.wake.result
-    (λ h. Befell-after takes met _ _ _ _ _ same
-    (Befell-first takes (AreWake home task now) met _ _ here here _ (Rings task now) (Stays-here here)
-    (λ kinds drawn. (c.in_ok-course.course, c.in_ok-course.ensures.there, c.in-Asleep.is, c.if-course-now.false, (refl, refl, refl))) (λ deeds are. (home, deeds, refl, are)) h))
+    (λ h. Befell-first takes (AreWake home task now) met _ _ here here _ (Rings task now) (Stays-here here)
+    (λ kinds drawn. (c.in_ok-course.course, c.in_ok-course.ensures.there, c.in-Asleep.is, c.if-course-now.false, (refl, refl, refl))) (λ deeds are. (home, deeds, refl, are)) h)
     c.wake.ensures.lived

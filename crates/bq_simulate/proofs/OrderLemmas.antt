@@ -1,0 +1,48 @@
+-- What is kept by the deeds alone, and what comes next by it.
+use Rattle.std.proofs.Common.{◌≡◌, ℕ, ◌+◌, ◌≤◌, List, [], ◌∷◌, Option, sym, ap, ◌∙◌, subst}
+use Rattle.std.specs.Option.{option_map_or}
+use Rattle.bq_trace.specs.News.{News, Told}
+use Rattle.bq_actions.specs.declared.course.Course.{Course}
+use Rattle.bq_actions.specs.declared.due.Due.{Due}
+use Rattle.bq_actions.specs.declared.roster.Pace.{Pace}
+use Rattle.bq_actions.specs.declared.workload.TaskKind.{TaskKind}
+use Rattle.bq_actions.specs.Accounts.{accounts_of}
+use Rattle.bq_actions.specs.Next.{IsAgreed, IsNext}
+use Rattle.bq_simulate.specs.declared.driver.Driver.{Driver}
+use Rattle.bq_simulate.specs.declared.simulation.Simulation.{Simulation}
+use Rattle.bq_simulate.specs.Chronicles.{Acts, Beats, Book, Deed, Happens, Joins, Lives, Looks, Misses, Reaches, Rings, after_act, after_answer, after_beat, after_deeds, after_look, joined}
+use Rattle.bq_simulate.specs.Simulations.{Goes, Lived, LivedFrom, book_of}
+use Rattle.bq_simulate.specs.Steps.{AreMet, Meet}
+use Rattle.bq_simulate.proofs.DeedLemmas.{Goes-join}
+use Rattle.bq_simulate.proofs.StepLemmas.{AreMet-more}
+
+-- what is kept follows from the deeds
+pub kept-by : (kinds : List TaskKind) (seed : ℕ) (pace : Pace) (d e : Driver) (a b : Book) (xs : List Deed) (told : Told) → Lives kinds seed pace d a xs told e b → b ≡ after_deeds kinds seed pace a xs
+kept-by kinds seed pace d e a b [] told h = h.2
+kept-by kinds seed pace d e a b (Happens event reply ∷ xs) told (due, mid, first, rest, does, lives, whole) = kept-by kinds seed pace mid e (after_answer pace event reply a) b xs rest lives
+kept-by kinds seed pace d e a b (Joins kind home ∷ xs) told (of, lives) = kept-by kinds seed pace d e (joined kinds kind home a) b xs told lives
+kept-by kinds seed pace d e a b (Acts at task now action aim ∷ xs) told (c, done, is, to, lives) =
+    let after : Option Course → Book = λ o. option_map_or (λ (k : Course). after_act kinds seed at task now k a) o a in
+    kept-by kinds seed pace d e (after_act kinds seed at task now c a) b xs told lives ∙ sym (ap (λ (o : Option Course). after_deeds kinds seed pace (after o) xs) done.there)
+kept-by kinds seed pace d e a b (Rings task now ∷ xs) told (c, there, asleep, timer, lives) = kept-by kinds seed pace d e a b xs told lives
+kept-by kinds seed pace d e a b (Reaches task ∷ xs) told (c, there, waits, lives) = kept-by kinds seed pace d e a b xs told lives
+kept-by kinds seed pace d e a b (Misses task ∷ xs) told (c, there, waits, lives) = kept-by kinds seed pace d e a b xs told lives
+kept-by kinds seed pace d e a b (Beats at now ∷ xs) told (ticks, lives) = kept-by kinds seed pace d e (after_beat pace at now a) b xs told lives
+kept-by kinds seed pace d e a b (Looks at now source ∷ xs) told (looks, from, lives) = kept-by kinds seed pace d e (after_look pace at now a) b xs told lives
+
+-- so do the accounts of a simulation that has gone on
+pub book-after : {S : Type 0} (takes : S → ℕ → News → S → Type 0) (kinds : List TaskKind) (A : List Deed → Type 0) (x y : S) (s t : Simulation) (drawn : List ℕ) (goes : Goes takes kinds A x s drawn y t) → book_of t goes.after ≡ after_deeds kinds s.seed s.roster.pace (book_of s drawn) goes.deeds
+book-after takes kinds A x y s t drawn goes = kept-by kinds s.seed s.roster.pace s.driver t.driver (book_of s drawn) (book_of t goes.after) goes.deeds goes.tells.told goes.tells.holds
+
+-- the next thing by the agenda is met, which agrees with the accounts
+pub met-more : {S : Type 0} (takes : S → ℕ → News → S → Type 0) (kinds : List TaskKind) (count last now : ℕ) (due : Due) (x y z : S) (s t u : Simulation) → last ≤ now → (IsAgreed t.roster → IsNext t.roster.pace.end (accounts_of t.roster) due now)
+    → LivedFrom takes kinds (AreMet kinds s.seed s.roster.pace count last) x s y t → Lived takes kinds (Meet due now) y t z u → LivedFrom takes kinds (AreMet kinds s.seed s.roster.pace (count + 1) now) x s z u
+met-more takes kinds count last now due x y z s t u later next lived meet drawn had firsts agreed =
+    let pace = s.roster.pace in
+    let start = book_of s drawn in
+    let one = lived drawn had firsts agreed in
+    let two = meet one.after one.streams one.firsts in
+    let is : IsNext t.roster.pace.end (accounts_of t.roster) due now = next (one.agrees agreed) in
+    let here : IsNext pace.end (after_deeds kinds s.seed pace start one.deeds).accounts due now =
+    subst (λ (b : Book). IsNext pace.end b.accounts due now) (book-after takes kinds (AreMet kinds s.seed pace count last start) x y s t drawn one) (subst (λ (p : Pace). IsNext p.end (accounts_of t.roster) due now) one.pace is) in
+    Goes-join takes kinds (AreMet kinds s.seed pace count last start) (Meet due now) (AreMet kinds s.seed pace (count + 1) now start) x y z s t u drawn one two (AreMet-more kinds s.seed pace start due count last now one.deeds two.deeds later one.are here two.are)
