@@ -1,5 +1,5 @@
 -- Which workloads can be followed, and what the flaws of the others are. Kinds of tasks and their actions are numbered from 0.
-use Rattle.std.specs.Prelude.{◌≡◌, ℕ, ◌+◌, ◌<◌, Bool, true, false, ◌&&◌, nat_lt, nat_le, pos, negsuc, int_le, List, [], ◌∷◌, ◌++◌, Option, Some, None, length, slice_get}
+use Rattle.std.specs.Prelude.{◌≡◌, ℕ, ◌+◌, ◌<◌, Bool, true, false, ◌&&◌, nat_lt, nat_le, pos, negsuc, int_le, List, [], ◌∷◌, ◌++◌, Option, Some, None, length, slice_get, string_bytes}
 use Rattle.std.specs.List.{list_any, range_with_len}
 use Rattle.bq_actions.specs.declared.action.Action.{Action}
 use Rattle.bq_actions.specs.declared.action.Action.TheVariants.{Run, Sleep, Wait, Wake}
@@ -26,6 +26,10 @@ has_times machine = is_long machine.duration && is_long machine.tick && is_long 
 abbrev pub goes_round : Option ℕ → Bool
 goes_round None = true
 goes_round (Some loops) = nat_le 1 loops
+
+-- the name of a kind has at most so many bytes
+abbrev pub has_name : TaskKind → Bool
+has_name kind = nat_le (length (string_bytes kind.name)) 1024
 
 -- there are tasks of a kind, and its numbers are in their ranges
 abbrev pub has_numbers : TaskKind → Bool
@@ -65,7 +69,8 @@ flaws_of_doing kinds number actions = flaws_of_actions kinds number 0 actions ++
 -- of one of so many kinds, on so many processors
 abbrev pub flaws_of_kind : ℕ → ℕ → ℕ → TaskKind → List Unsound
 flaws_of_kind processors kinds number kind =
-    unless (has_numbers kind) (flaw.Kind number) ++ unless (allows_one processors kind.mask) (flaw.Mask number) ++ flaws_of_doing kinds number kind.actions.items
+    unless (has_name kind) (flaw.Name number) ++ unless (has_numbers kind) (flaw.Kind number) ++ unless (allows_one processors kind.mask) (flaw.Mask number)
+    ++ flaws_of_doing kinds number kind.actions.items
 
 -- of the kinds from a number on
 abbrev pub flaws_of_kinds : ℕ → ℕ → ℕ → List TaskKind → List Unsound

@@ -11,3 +11,6 @@ pub const LEAST_SLICE: u64 = 100_000;
 
 /// The longest slice that a task may ask for, in nanoseconds.
 pub const GREATEST_SLICE: u64 = 100_000_000;
+
+/// How many bytes the name of a kind of tasks may have.
+pub const LONGEST_NAME: usize = 1024;

@@ -3,9 +3,9 @@ ghost use Rattle.std.specs.Prelude.{◌≡◌, false, IfNone, IfSome, slice_get}
 ghost use Rattle.std.specs.Result.{result_err};
 ghost use Rattle.bq_hooks.specs.OwnPlace.{allows};
 ghost use Rattle.bq_actions.specs.Lengths.{is_long};
-ghost use Rattle.bq_actions.specs.Soundness.{IsFirstAllowed, allows_one, first_flaw, flaws_of_doing, flaws_of_kind, flaws_of_machine, has_numbers, is_action};
+ghost use Rattle.bq_actions.specs.Soundness.{IsFirstAllowed, allows_one, first_flaw, flaws_of_doing, flaws_of_kind, flaws_of_machine, has_name, has_numbers, is_action};
 
-use crate::limits::{GREATEST_SLICE, LEAST_SLICE, LONGEST, MOST_TASKS};
+use crate::limits::{GREATEST_SLICE, LEAST_SLICE, LONGEST, LONGEST_NAME, MOST_TASKS};
 use crate::{Action, Setup, TaskKind, Workload, take_time};
 use thiserror::Error;
 
@@ -16,6 +16,8 @@ pub enum Unsound {
     Machine,
     #[error("more than 1024 tasks")]
     Tasks,
+    #[error("task {0}: its name has more than 1024 bytes")]
+    Name(usize),
     #[error("task {0}: a number is out of its range")]
     Kind(usize),
     #[error("task {0}: no processor that it may use")]
@@ -66,10 +68,13 @@ fn is_time(time: u64) -> bool
     1 <= time && time <= LONGEST
 }
 
-/// Whether tasks of a kind can be followed, as one of so many kinds: first its numbers, then its mask, then what it does.
+/// Whether tasks of a kind can be followed, as one of so many kinds: first its name, then its numbers, its mask, and what it does.
 fn sound_kind(number: usize, kind: &TaskKind, processors: u8, kinds: usize) -> Result<(), Unsound>
     ensures { result_err result ≡ slice_get (flaws_of_kind processors kinds number kind.now) 0 }
 {
+    if !has_name(kind) {
+        return Err(Unsound::Name(number));
+    }
     if !has_numbers(kind) {
         return Err(Unsound::Kind(number));
     }
@@ -77,6 +82,13 @@ fn sound_kind(number: usize, kind: &TaskKind, processors: u8, kinds: usize) -> R
         return Err(Unsound::Mask(number));
     }
     sound_actions(number, &kind.actions, kinds)
+}
+
+/// Whether the name of a kind is no longer than one may be.
+fn has_name(kind: &TaskKind) -> bool
+    ensures { result ≡ has_name kind.now }
+{
+    kind.name.len() <= LONGEST_NAME
 }
 
 /// Whether the numbers of a kind are in their ranges.

@@ -6,6 +6,7 @@ use crate::setup::Setup;
 /// Some tasks that do the same.
 #[derive(Drop)]
 pub struct TaskKind {
+    /// At most 1,024 bytes.
     pub name: String,
     /// How many tasks there are of this kind, at least 1. All kinds have at most 1,024 together.
     pub count: u16,

@@ -4,8 +4,8 @@
 //! readings that never fall; that each task does what its kind says, action by action, each with the next length of its own,
 //! and sleeps for just that length; that a wake comes to each task of its kind in turn, and wakes each that waits; that a
 //! processor ticks, and looks for a task to pull, just when it is to; that all is done when something comes due, at most as
-//! often as the workload allows; that no timer, no end of a phase, no tick and no look is left that comes until the end; and at
-//! last the ticks at the end.
+//! often as the workload allows, and each time what comes first by what was done before; that no timer, no end of a phase, no
+//! tick and no look is left that comes until the end; and at last the ticks at the end.
 //! A workload is refused as unsound just where it has a flaw, for the first of its flaws, and then nothing is told.
 //!
 //! The sink that writes a trace promises that each line is the one that its definition says and asks for just that event or

@@ -175,6 +175,30 @@ fn what_is_wrong_is_named(rt: HostRuntime) -> Result<(), Fail> {
     Ok(())
 }
 
+/// A workload of one kind of tasks, with this name.
+fn of_name(alloc: Global, name: &str) -> Result<String, Fail> {
+    Ok(format!(in alloc; "[[task]]\nname = \"{name}\"\nrun = \"1ms\"\n")?)
+}
+
+/// A name of 512 letters of two bytes each is as long as one may be; one more letter is too many.
+#[test]
+fn a_name_has_at_most_1024_bytes(rt: HostRuntime) -> Result<(), Fail> {
+    let alloc = rt.alloc();
+    let mut name = String::new(alloc);
+    for _ in 0..512 {
+        name.push('\u{e4}')?;
+    }
+    let text = of_name(alloc, name.as_str())?;
+    let is_taken = read(alloc, text.as_str(), Changes::NONE).is_ok();
+    holds(&rt, is_taken, text.as_str(), "taken");
+    name.push('n')?;
+    let text = of_name(alloc, name.as_str())?;
+    let said = said(alloc, text.as_str())?;
+    let wanted = ": task 1: name: it has more than 1024 bytes";
+    holds(&rt, said.as_str() == wanted, said.as_str(), wanted);
+    Ok(())
+}
+
 /// Texts that are no TOML, and where: the line and the column, which counts characters.
 static NO_TOML: [(&str, &str); 3] = [
     ("[[task]]\nname = \"a\" nice = 5\n", ":2:12: "),

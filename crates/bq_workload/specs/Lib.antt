@@ -1,4 +1,5 @@
 pub mod Tables
+pub mod Keys
 pub mod Fields
 pub mod Lengths
 pub mod Actions

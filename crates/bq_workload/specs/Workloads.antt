@@ -17,6 +17,7 @@ use Rattle.bq_actions.specs.declared.workload.TaskKind.{TaskKind}
 use Rattle.bq_actions.specs.declared.workload.Workload.{Workload}
 use Rattle.bq_workload.specs.declared.changes.Changes.{Changes}
 use Rattle.bq_workload.specs.Fields.{or_default, span_in, number_in, rule_in, size_in, loops_of, nice_of, mask_of, name_of}
+use Rattle.bq_workload.specs.Keys.{document_keys, first_unknown, machine_keys, task_keys}
 use Rattle.bq_workload.specs.Lengths.{length_of}
 use Rattle.bq_workload.specs.Actions.{actions_of, named_at}
 
@@ -24,8 +25,9 @@ use Rattle.bq_workload.specs.Actions.{actions_of, named_at}
 abbrev pub time_at : ℕ → List ℕ → Members → Option ℕ
 time_at default key ms = or_default default (span_in 1 longest) (get_member key ms)
 
--- the machine that a table describes
+-- the machine that a table describes, each of whose keys means something
 pub record IsSetup (ms : Members) (s : Setup) : Type 0 where
+  pub known : first_unknown machine_keys ms ≡ None
   pub rule : or_default Cfs rule_in (get_member (codes "discipline") ms) ≡ Some s.rule
   pub size : or_default One size_in (get_member (codes "processors") ms) ≡ Some s.size
   pub duration : time_at 100000000 (codes "duration") ms ≡ Some s.duration
@@ -64,8 +66,9 @@ pub record HasNumbers (all : ℕ) (ms : Members) (count : ℕ) (nice : ℤ) (mas
   pub start_is : or_default 0 (span_in 0 longest) (get_member (codes "start") ms) ≡ Some start
   pub loops_is : loops_of (get_member (codes "loops") ms) ≡ Some loops
 
--- the kind of tasks that a table describes
+-- the kind of tasks that a table describes, each of whose keys means something
 pub record IsKind (names : List (String Global)) (all : ℕ) (ms : Members) (k : TaskKind) : Type 0 where
+  pub known : first_unknown task_keys ms ≡ None
   pub name : option_and_then name_of (get_member (codes "name") ms) ≡ Some (string_bytes k.name)
   pub numbers : HasNumbers all ms k.count k.nice k.mask k.slice k.start k.loops
   pub actions : doing names (get_member (codes "do") ms) (get_member (codes "run") ms) (get_member (codes "sleep") ms) ≡ Some k.actions.items
@@ -113,8 +116,9 @@ abbrev pub HasTasks : ProcessorCount → Members → List TaskKind → Type 0
 HasTasks size document kinds =
     (items : Items) × (names : List (String Global)) × (tasks_of document ≡ Some items) × AreNames items names × AreOthers [] names × AreKinds names (all_of size) items kinds
 
--- the workload that a document describes, on its machine with what is put in its place
+-- the workload that a document describes, each of whose keys means something, on its machine with what is put in its place
 pub record IsWorkload (c : Changes) (document : Members) (w : Workload) : Type 0 where
+  pub known : first_unknown document_keys document ≡ None
   pub machine : (s : Setup) × IsMachine document s × (w.machine ≡ changed_by c s)
   pub tasks : HasTasks w.machine.size document w.tasks.items
   pub few : sum_by (λ k. k.count) w.tasks.items ≤ 1024

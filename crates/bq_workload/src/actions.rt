@@ -13,7 +13,7 @@ use std::alloc::{AllocError, Global};
 use toml::Value;
 
 /// The keys of an action.
-const ACTION: &str = "run sleep wait wake";
+static ACTION: [&str; 4] = ["run", "sleep", "wait", "wake"];
 
 /// One action: a table of one entry.
 pub(crate) fn action<'a>(value: &'a Value, names: &'a [String]) -> Result<Action, Why<'a>>
@@ -42,7 +42,10 @@ fn entry<'a>(key: &'a str, value: &'a Value, names: &'a [String]) -> Result<Acti
         "sleep" => Ok(Action::Sleep(phase("sleep", value)?)),
         "wait" => waiting(value),
         "wake" => waking(value, names),
-        _ => Err(Why::UnknownKey { key, known: ACTION }),
+        _ => Err(Why::UnknownKey {
+            key,
+            known: &ACTION,
+        }),
     }
 }
 

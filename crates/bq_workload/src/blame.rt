@@ -1,6 +1,7 @@
 //! Where something is wrong in a document.
-ghost use Rattle.std.specs.Prelude.{◌≡◌};
-ghost use Rattle.std.specs.Result.{result_ok};
+ghost use Rattle.std.specs.Prelude.{◌≡◌, option_and_then};
+ghost use Rattle.std.specs.Result.{result_err, result_ok};
+ghost use Rattle.bq_workload.specs.Keys.{unknown_key, unknown_there};
 
 use crate::why::Why;
 use std::alloc::{AllocError, AllocFailed};
@@ -91,7 +92,8 @@ impl<'a> Location<'a> {
 
     /// What was read here, or what is wrong here.
     pub(crate) fn says<T: Drop>(self, read: Result<T, Why<'a>>) -> Result<T, Trouble<'a>>
-        ensures { result_ok result ≡ result_ok read.entry }
+        ensures read { result_ok result ≡ result_ok read.entry }
+        ensures unknown { option_and_then unknown_there (result_err result) ≡ option_and_then unknown_key (result_err read.entry) }
     {
         match read {
             Ok(value) => Ok(value),

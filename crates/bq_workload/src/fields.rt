@@ -9,6 +9,7 @@ ghost use Rattle.bq_workload.specs.Fields.{within, span_in, number_in, or_defaul
 use crate::duration;
 use crate::tables::at;
 use crate::why::{Range, Wanted, Why};
+use bq_actions::limits::LONGEST_NAME;
 use bq_lines::processor_sets::processors;
 use bq_words::{ProcessorCount, Rule};
 use toml::{Table, Value};
@@ -237,6 +238,7 @@ pub(crate) fn name(table: &Table) -> Result<&str, Why<'_>>
         Some(value) => value,
     };
     match value.as_str() {
+        Some(name) if name.len() > LONGEST_NAME => Err(Why::LongName),
         Some(name) if !name.is_empty() => Ok(name),
         _ => Err(Why::NoSuch {
             key: "name",

@@ -1,6 +1,10 @@
 //! The kinds of tasks of a workload.
-ghost use Rattle.std.specs.Prelude.{◌≡◌, IfOk};
+ghost use Rattle.std.specs.Prelude.{◌≡◌, ℕ, List, Some, None, IfOk, IsSome, codes, option_and_then};
+ghost use Rattle.std.specs.Result.{result_err};
+ghost use Rattle.toml.specs.Data.{get_member};
 ghost use Rattle.toml.specs.View.{table_view};
+ghost use Rattle.bq_workload.specs.Fields.{name_of};
+ghost use Rattle.bq_workload.specs.Keys.{first_unknown, task_keys, unknown_key, unknown_there};
 ghost use Rattle.bq_workload.specs.Workloads.{HasNumbers, IsKind, all_of};
 
 use crate::blame::{Location, Trouble};
@@ -16,7 +20,9 @@ use std::alloc::Global;
 use toml::Table;
 
 /// The keys of a task.
-const TASK: &str = "name count nice cpus slice start loops run sleep do";
+static TASK: [&str; 10] = [
+    "name", "count", "nice", "cpus", "slice", "start", "loops", "run", "sleep", "do",
+];
 
 /// 3 ms.
 const SLICE: u64 = 3_000_000;
@@ -52,11 +58,13 @@ struct Numbers {
     loops: Option<u64>,
 }
 
-/// The numbers of a kind.
+/// The numbers of a kind, whose keys all mean something.
 fn all_numbers<'a>(table: &'a Table, processors: Processors) -> Result<Numbers, Why<'a>>
-    ensures { IfOk result (λ n. HasNumbers processors.all (table_view table.now) n.count n.nice n.mask n.slice n.start n.loops) }
+    ensures numbers { IfOk result (λ n. HasNumbers processors.all (table_view table.now) n.count n.nice n.mask n.slice n.start n.loops) }
+    ensures known { IfOk result (λ _. first_unknown task_keys (table_view table.now) ≡ None) }
+    ensures unknown { (key : List ℕ) → first_unknown task_keys (table_view table.now) ≡ Some key → option_and_then unknown_key (result_err result) ≡ Some key }
 {
-    all_known(table, TASK)?;
+    all_known(table, &TASK)?;
     let counts = Range {
         least: 1,
         greatest: u64::from(MOST_TASKS),
@@ -93,7 +101,8 @@ pub(crate) fn kind<'a>(
     names: &'a [String],
     processors: Processors,
 ) -> Result<TaskKind, Trouble<'a>>
-    ensures { IfOk result (IsKind names.now processors.all (table_view table.now)) }
+    ensures read { IfOk result (IsKind names.now processors.all (table_view table.now)) }
+    ensures unknown { (key : List ℕ) → IsSome (option_and_then name_of (get_member (codes "name") (table_view table.now))) → first_unknown task_keys (table_view table.now) ≡ Some key → option_and_then unknown_there (result_err result) ≡ Some key }
 {
     let called = name(table);
     let place = Location::Task {

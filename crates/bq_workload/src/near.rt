@@ -13,15 +13,15 @@ pub(crate) struct Near<'a> {
 }
 
 impl<'a> Near<'a> {
-    /// The nearest of some words with blanks between them.
+    /// The nearest of some words.
     pub(crate) fn of_words(
         alloc: Global,
         meant: &str,
-        words: &'a str,
+        words: &'a [&'static str],
     ) -> Result<Near<'a>, AllocError> {
         let mut near = Near { best: None };
-        for known in words.split(' ') {
-            near.consider(alloc, meant, known)?;
+        for known in words {
+            near.consider(alloc, meant, *known)?;
         }
         Ok(near)
     }

@@ -1,7 +1,9 @@
 //! The machine of a workload.
-ghost use Rattle.std.specs.Prelude.{IfOk};
+ghost use Rattle.std.specs.Prelude.{◌≡◌, ℕ, List, Some, IfOk, option_and_then};
+ghost use Rattle.std.specs.Result.{result_err};
 ghost use Rattle.toml.specs.Data.{no_members};
 ghost use Rattle.toml.specs.View.{table_view};
+ghost use Rattle.bq_workload.specs.Keys.{first_unknown, machine_keys, unknown_key};
 ghost use Rattle.bq_workload.specs.Workloads.{IsSetup};
 
 use crate::fields::{number_at, rule, size, span_at};
@@ -13,7 +15,15 @@ use bq_words::{ProcessorCount, Rule};
 use toml::Table;
 
 /// The keys of a machine.
-const MACHINE: &str = "discipline processors duration tick balance migration_cost seed";
+static MACHINE: [&str; 7] = [
+    "discipline",
+    "processors",
+    "duration",
+    "tick",
+    "balance",
+    "migration_cost",
+    "seed",
+];
 
 /// The machine of a text that says nothing of it: one processor under CFS for 100 ms, with a tick each 4 ms.
 const DEFAULT: Setup = Setup {
@@ -35,9 +45,10 @@ pub(crate) fn absent() -> Setup
 
 /// The machine that a table describes.
 pub(crate) fn setup(table: &Table) -> Result<Setup, Why<'_>>
-    ensures { IfOk result (IsSetup (table_view table.now)) }
+    ensures read { IfOk result (IsSetup (table_view table.now)) }
+    ensures unknown { (key : List ℕ) → first_unknown machine_keys (table_view table.now) ≡ Some key → option_and_then unknown_key (result_err result) ≡ Some key }
 {
-    all_known(table, MACHINE)?;
+    all_known(table, &MACHINE)?;
     let time = Range {
         least: 1,
         greatest: LONGEST,

@@ -1,7 +1,11 @@
 //! Look-ups in the tables of a document.
-ghost use Rattle.std.specs.Prelude.{◌≡◌, option_map};
+ghost use Rattle.std.specs.Prelude.{◌≡◌, Some, map, option_map};
+ghost use Rattle.std.specs.List.{list_any};
+ghost use Rattle.std.specs.Result.{result_err};
+ghost use Rattle.std.specs.Str.{bytes_eq};
 ghost use Rattle.toml.specs.Data.{get_member};
 ghost use Rattle.toml.specs.View.{view, table_view};
+ghost use Rattle.bq_workload.specs.Keys.{first_unknown, unknown_key};
 ghost use Rattle.bq_workload.specs.Tables.{only_of};
 
 use crate::why::Why;
@@ -27,9 +31,11 @@ pub(crate) fn only(table: &Table) -> Option<(&str, &Value)>
     }
 }
 
-/// Each key is one of the known words.
-pub(crate) fn all_known<'a>(table: &'a Table, known: &'static str) -> Result<(), Why<'a>> {
-    for (key, _) in table.iter() {
+/// Each key is one of the known words; where not, the first that is none is told.
+pub(crate) fn all_known<'a>(table: &'a Table, known: &'static [&'static str]) -> Result<(), Why<'a>>
+    ensures { option_map unknown_key (result_err result) ≡ option_map (λ key. Some key) (first_unknown (map (λ word. word.now) known.now) (table_view table.now)) }
+{
+    'keys: for (key, _value) in table.iter() {
         if !is_word(key.as_str(), known) {
             return Err(Why::UnknownKey {
                 key: key.as_str(),
@@ -40,7 +46,9 @@ pub(crate) fn all_known<'a>(table: &'a Table, known: &'static str) -> Result<(),
     Ok(())
 }
 
-/// Whether a key is one of some words, which have blanks between them.
-fn is_word(key: &str, words: &str) -> bool {
-    words.split(' ').any(|word| word == key)
+/// Whether a key is one of some words.
+fn is_word(key: &str, words: &[&str]) -> bool
+    ensures { result ≡ list_any (λ word. bytes_eq word.now key.now) words.now }
+{
+    words.iter().any(|word| *word == key)
 }

@@ -38,10 +38,10 @@ pub(crate) enum Wanted {
 /// What is wrong.
 #[derive(Clone, Copy)]
 pub(crate) enum Why<'a> {
-    /// Such a table has no such key, but these words, with blanks between them.
+    /// Such a table has no such key, but these.
     UnknownKey {
         key: &'a str,
-        known: &'static str,
+        known: &'static [&'static str],
     },
     /// The key has to be there.
     Missing(&'static str),
@@ -61,6 +61,8 @@ pub(crate) enum Why<'a> {
         name: &'a str,
         names: &'a [String],
     },
+    /// A name has more bytes than one may have.
+    LongName,
     /// An earlier task has the name: the one of this number.
     TwoOfName {
         name: &'a str,
@@ -92,6 +94,7 @@ impl fmt::Display for Why<'_> {
             Why::UnknownTask { name, names: _ } => {
                 write!(f, "wake: no task has the name {name:?}")
             }
+            Why::LongName => f.write_str("name: it has more than 1024 bytes"),
             Why::TwoOfName { name, first } => {
                 write!(f, "name: {name:?} is the name of task {first} too")
             }

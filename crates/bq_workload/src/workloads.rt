@@ -1,7 +1,9 @@
 //! Whole workloads.
-ghost use Rattle.std.specs.Prelude.{◌≡◌, ◌≤◌, [], Some, IfOk, sum_by};
+ghost use Rattle.std.specs.Prelude.{◌≡◌, ◌≤◌, ℕ, List, [], Some, None, IfOk, option_and_then, sum_by};
+ghost use Rattle.std.specs.Result.{result_err};
 ghost use Rattle.toml.specs.Data.{as_table};
 ghost use Rattle.toml.specs.View.{view, items_view, table_view};
+ghost use Rattle.bq_workload.specs.Keys.{document_keys, first_unknown, unknown_there};
 ghost use Rattle.bq_workload.specs.Workloads.{AreKinds, AreNames, AreOthers, Describes, IsMachine, tasks_of};
 
 use crate::actions;
@@ -19,7 +21,7 @@ use std::alloc::Global;
 use toml::{Table, Value};
 
 /// The keys of a document.
-const DOCUMENT: &str = "machine task";
+static DOCUMENT: [&str; 2] = ["machine", "task"];
 
 /// The workload that a text describes, on its machine with these changes.
 pub fn read(alloc: Global, text: &str, changes: Changes) -> Result<Workload, Fault>
@@ -62,10 +64,12 @@ fn told(alloc: Global, trouble: &Trouble<'_>) -> Fault {
 
 /// The machine of a document, and the tables of its tasks.
 fn outline(document: &Table) -> Result<(Setup, &[Value]), Trouble<'_>>
+    ensures known { IfOk result (λ _. first_unknown document_keys (table_view document.now) ≡ None) }
+    ensures unknown { (key : List ℕ) → first_unknown document_keys (table_view document.now) ≡ Some key → option_and_then unknown_there (result_err result) ≡ Some key }
     ensures machine { IfOk result (λ p. IsMachine (table_view document.now) p.0) }
     ensures tasks { IfOk result (λ p. tasks_of (table_view document.now) ≡ Some (items_view p.1.now)) }
 {
-    Location::Document.says(all_known(document, DOCUMENT))?;
+    Location::Document.says(all_known(document, &DOCUMENT))?;
     let machine = machine(document)?;
     let tables = Location::Document.says(tables(document))?;
     Ok((machine, tables))

@@ -1,8 +1,7 @@
-use Rattle.std.proofs.Common.{◌≡◌, true, string_bytes}
-use Rattle.std.specs.List.{list_all}
-use Rattle.bq_lines.specs.Bytes.{is_allowed}
+use Rattle.std.proofs.Common.{◌≡◌, map, string_bytes}
+use Rattle.bq_study.specs.Names.{plain_of}
 use Rattle.bq_study.proofs.names.plain.Given as goal
 
--- what stands there may stand in a line
+-- what stands there is plain
 abbrev pub invariant-loop-letter : goal.invariant-loop-letter
-invariant-loop-letter l = list_all is_allowed (string_bytes l.text) ≡ true
+invariant-loop-letter l = string_bytes l.text ≡ map plain_of l.yielded

@@ -13,4 +13,4 @@ returns c =
     let policies = c.args.policies.now.loaded in
     let told = subst (λ (l : List Accepted). Gets Takes c.tell_names.new.sink c.simulate.new.sink (IsSimulation l c.args.workload.now)) c.loaded.ensures.value c.in_ok-simulate.ensures.told in
     trace_written c.new-sink.result c.tell_names.new.sink c.simulate.new.sink c.args.workload.now policies (image_for c.args.policies.now.images)
-    c.new-sink.ensures.text (ap image_at c.new-sink.ensures.images ∙ c.images.ensures) c.loaded.ensures.of_images c.in_ok-tell_names.ensures told
+    c.new-sink.ensures.text (ap image_at c.new-sink.ensures.images ∙ c.images.ensures) c.loaded.ensures.of_images c.in_ok-simulate.ensures.sound c.in_ok-tell_names.ensures.told told
