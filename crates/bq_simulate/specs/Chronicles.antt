@@ -130,8 +130,8 @@ after_deeds kinds seed pace b (deed ∷ deeds) = after_deeds kinds seed pace (af
 
 -- deeds one after another: what the sink is told of them, and what becomes of the machine and of what is kept, where tasks do what
 -- their kinds say, lengths are drawn from this seed, and times between ticks and between looks, and what a change of processor costs,
--- are of this pace. A wake comes to the tasks of its kind one after another, by number. The timer that rings is of a task that is asleep until just then; a clock beats, and a processor looks, just when
--- it is to, and it finds the processor with the most tasks.
+-- are of this pace. A wake comes to the tasks of its kind one after another, by number. The timer that rings is of a task that is asleep
+-- until just then; a clock beats, and a processor looks, just when it is to, and it finds the processor with the most tasks.
 abbrev pub Lives : List TaskKind → ℕ → Pace → Driver → Book → List Deed → Told → Driver → Book → Type 0
 Lives kinds seed pace d b [] told e f = (told ≡ []) × (e ≡ d) × (f ≡ b)
 Lives kinds seed pace d b (Happens event reply ∷ deeds) told e f =

@@ -41,8 +41,8 @@ pub record Proceeds (policies : List Accepted) (processors : ℕ) (kinds : List 
   pub opens : Opens policies processors kinds opening
   pub meets : AreMet kinds seed pace most end (after_deeds kinds seed pace b opening) met
 
--- when nothing comes any more, and no timer, no end of a phase, no tick and no look for a task is left until the end, each processor that runs something ticks then,
--- by number, and nothing else is done
+-- when nothing comes any more, and no timer, no end of a phase, no tick and no look for a task is left until the end, each processor that
+-- runs something ticks then, by number, and nothing else is done
 pub record Ends (policies : List Accepted) (w : Workload) (d : Driver) (deeds : List Deed) : Type 0 where
   pub until : List Deed
   pub last : List Deed
@@ -56,11 +56,11 @@ pub record Ends (policies : List Accepted) (w : Workload) (d : Driver) (deeds : 
   pub over : is_over w.machine.duration book.accounts ≡ true
   pub ticks : AreJust (last_ticks w.machine.duration (all_processors (processors_in w.machine.size)) book.accounts) last
 
--- It makes the machine that the workload asks for, with these policies at all processors, and then some events are done one after another, of which none is refused,
--- with readings that never fall: so it is the trace of those events, with their answers. Who has run and how long is what
--- the answers say. Each task goes through the actions of its kind in their order, and over again; it goes on only when it has
--- got just the length of its run phase, and the costs of its changes of processor; its timer wakes it just when its sleep has lasted its
--- length, and first at the start of its kind; and each length is the next of its task. A processor that runs something ticks just at
+-- It makes the machine that the workload asks for, with these policies at all processors, and then some events are done one after
+-- another, of which none is refused, with readings that never fall: so it is the trace of those events, with their answers. Who has run
+-- and how long is what the answers say. Each task goes through the actions of its kind in their order, and over again; it goes on only
+-- when it has got just the length of its run phase, and the costs of its changes of processor; its timer wakes it just when its sleep has
+-- lasted its length, and first at the start of its kind; and each length is the next of its task. A processor that runs something ticks just at
 -- multiples of the time between two ticks; where there are others each looks for a task just at multiples of the time between two looks,
 -- and when it falls idle, and pulls one from the processor with the most tasks.
 -- All is done when something comes due, but for what opens it and for the ticks at its end; and what is met is, by the accounts just
