@@ -5,7 +5,8 @@ use Rattle.clap.specs.Words.{Row, Text}
 use Rattle.bq_cli.specs.Jobs.{IsJobOf, IsParallel}
 use Rattle.bq_cli.specs.declared.asked.Parallel.{Parallel}
 use Rattle.bq_cli.specs.declared.asked.Job.{Job}
-use Rattle.bq_cli.specs.declared.asked.Job.TheVariants.{Asm, Check, Dis, Par, Replay}
+use Rattle.bq_cli.specs.declared.asked.Job.TheVariants.{Filter, Par, Replay}
+use Rattle.bq_filters.specs.declared.filtering.Filtering.TheVariants.{Asm, Check, Dis}
 
 -- the first letter of a name
 abbrev first : Text → ℕ
@@ -25,8 +26,8 @@ entered (Some x) f g word name rows rows' a b e =
 
 -- only a job of `par` has its name
 pub asked : (name : Text) (rows rows' : List Row) (job : Job) (Out : Type 0) → name ≡ codes "par" → rows ≡ rows' → IsJobOf name rows job → ((p : Parallel) → IsParallel rows' p → Out) → Out
-asked name rows rows' (Asm o) Out is same (e, given) k = let letters : 97 ≡ 112 = ap first (sym e ∙ is) in absurd (omega (arith, letters))
-asked name rows rows' Check Out is same e k = let letters : 99 ≡ 112 = ap first (sym e ∙ is) in absurd (omega (arith, letters))
-asked name rows rows' Dis Out is same e k = let letters : 100 ≡ 112 = ap first (sym e ∙ is) in absurd (omega (arith, letters))
+asked name rows rows' (Filter (Asm o)) Out is same (e, given) k = let letters : 97 ≡ 112 = ap first (sym e ∙ is) in absurd (omega (arith, letters))
+asked name rows rows' (Filter Check) Out is same e k = let letters : 99 ≡ 112 = ap first (sym e ∙ is) in absurd (omega (arith, letters))
+asked name rows rows' (Filter Dis) Out is same e k = let letters : 100 ≡ 112 = ap first (sym e ∙ is) in absurd (omega (arith, letters))
 asked name rows rows' (Par p) Out is same (e, given) k = k p (subst (λ r. IsParallel r p) same given)
 asked name rows rows' Replay Out is same e k = let letters : 114 ≡ 112 = ap first (sym e ∙ is) in absurd (omega (arith, letters))

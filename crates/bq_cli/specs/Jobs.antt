@@ -1,11 +1,6 @@
 -- What words ask for.
-use Rattle.std.specs.Prelude.{◌≡◌, ℕ, List, Option, Some, option_map, option_and_then, codes}
+use Rattle.std.specs.Prelude.{◌≡◌, ℕ, List, Option, Some, option_and_then, codes}
 use Rattle.clap.specs.Words.{Row, Text, first_of, subcommand_of}
-use Rattle.bq_bpf.specs.declared.hook.Version.{Version}
-use Rattle.bq_bpf.specs.declared.hook.Version.TheVariants.{First, Second}
-use Rattle.bq_bpf.specs.Hooks.{hook_word}
-use Rattle.bq_program.specs.Forms.{maps_text}
-use Rattle.bq_program.specs.declared.options.Options.{Options}
 use Rattle.bq_words.specs.Sizes.{rule_of}
 use Rattle.bq_words.specs.Numbers.{below}
 use Rattle.bq_lines.specs.Lines.{size_of}
@@ -13,17 +8,10 @@ use Rattle.bq_lines.specs.Numbers.{decimal_of}
 use Rattle.bq_cli.specs.Program.{program}
 use Rattle.bq_cli.specs.declared.asked.Parallel.{Parallel}
 use Rattle.bq_cli.specs.declared.asked.Job.{Job}
-use Rattle.bq_cli.specs.declared.asked.Job.TheVariants.{Asm, Check, Dis, Par, Replay}
-
-abbrev pub version_word : Version → List ℕ
-version_word First = codes "1"
-version_word Second = codes "2"
-
--- the options have the values that were found; the text of the maps is taken as it stands
-pub record AreOptions (rows : List Row) (o : Options) : Type 0 where
-  pub hook : option_map (λ h. hook_word h) o.hook ≡ first_of (codes "hook") rows
-  pub maps : maps_text o ≡ first_of (codes "maps") rows
-  pub format : option_map (λ v. version_word v) o.format ≡ first_of (codes "format") rows
+use Rattle.bq_cli.specs.declared.asked.Job.TheVariants.{Filter, Par, Replay}
+use Rattle.bq_filters.specs.Asked.{AreOptions}
+use Rattle.bq_filters.specs.declared.filtering.Filtering.{Filtering}
+use Rattle.bq_filters.specs.declared.filtering.Filtering.TheVariants.{Asm, Check, Dis}
 
 -- a number of ticks, at most 1,000,000
 abbrev pub ticks_of : List ℕ → Option ℕ
@@ -35,11 +23,15 @@ pub record IsParallel (rows : List Row) (p : Parallel) : Type 0 where
   pub size : option_and_then size_of (first_of (codes "processors") rows) ≡ Some p.size
   pub ticks : option_and_then ticks_of (first_of (codes "ticks") rows) ≡ Some p.ticks
 
+-- a filter by its name and what was found for its options
+abbrev pub IsFilterOf : Text → List Row → Filtering → Type 0
+IsFilterOf name rows (Asm o) = (name ≡ codes "asm") × AreOptions rows o
+IsFilterOf name rows Check = name ≡ codes "check"
+IsFilterOf name rows Dis = name ≡ codes "dis"
+
 -- a command by its name and what was found for its options
 abbrev pub IsJobOf : Text → List Row → Job → Type 0
-IsJobOf name rows (Asm o) = (name ≡ codes "asm") × AreOptions rows o
-IsJobOf name rows Check = name ≡ codes "check"
-IsJobOf name rows Dis = name ≡ codes "dis"
+IsJobOf name rows (Filter f) = IsFilterOf name rows f
 IsJobOf name rows (Par p) = (name ≡ codes "par") × IsParallel rows p
 IsJobOf name rows Replay = name ≡ codes "replay"
 

@@ -2,10 +2,8 @@
 use Rattle.std.specs.Prelude.{true, codes}
 use Rattle.clap.specs.Simple.{on_top}
 use Rattle.clap.specs.Words.{App, Text, new_app, with_rule, with_subcommand}
-use Rattle.bq_options.specs.Tables.{named, needed_rule, option_rule}
-
-abbrev pub asm_app : App
-asm_app = with_rule (with_rule (with_rule (new_app (codes "asm")) (option_rule (codes "hook"))) (option_rule (codes "maps"))) (option_rule (codes "format"))
+use Rattle.bq_options.specs.Tables.{named, needed_rule}
+use Rattle.bq_filters.specs.AsmApp.{asm_app}
 
 abbrev pub check_app : App
 check_app = new_app (codes "check")

@@ -1,13 +1,13 @@
 //! What the program does for a job.
 ghost use Rattle.std.specs.Prelude.{◌≡◌, ℕ, true, IfOk, IfErr, OnOk, OnErr};
-ghost use Rattle.bq_trace.specs.Counts.{inner_of, calls_of, failures_of};
-ghost use Rattle.bq_trace.specs.Faults.{IsFault};
-ghost use Rattle.bq_cli.specs.Performing.{AsmPerforms, AsmPerformsInPart, Performs, PerformsInPart, WritesPar, WritesParInPart};
+ghost use Rattle.bq_streams.specs.Counts.{inner_of, calls_of, failures_of};
+ghost use Rattle.bq_streams.specs.Faults.{IsFault};
+ghost use Rattle.bq_cli.specs.Performing.{Performs, PerformsInPart, WritesPar, WritesParInPart};
 
 use crate::asked::{Job, Parallel};
-use crate::filter::{Checker, Disassembler, answer_all, write_answer};
-use bq_program::{Options, refused_options};
-use bq_trace::{Counted, ReplayFault, replay};
+use bq_filters::run_filter;
+use bq_streams::{Counted, StreamFault};
+use bq_trace::replay;
 use std::alloc::Global;
 use std::io::{Read, Write};
 use std::sync::Wait;
@@ -21,7 +21,7 @@ pub fn perform<T: Threads + Wait + Sync, R: Read, W: Write>(
     job: &Job,
     input: &mut Counted<R>,
     output: &mut Counted<W>,
-) -> Result<bool, ReplayFault>
+) -> Result<bool, StreamFault>
     ensures ok { IfOk result (Performs job.now (R.remaining (inner_of input.old)) (R.remaining (inner_of input.new))
         (W.contents (inner_of output.old)) (W.contents (inner_of output.new))) }
     ensures reads { OnOk result (failures_of input.new ≡ failures_of input.old) }
@@ -32,9 +32,7 @@ pub fn perform<T: Threads + Wait + Sync, R: Read, W: Write>(
         (failures_of output.old) (failures_of output.new) (calls_of input.old) (calls_of input.new)) }
 {
     match job {
-        Job::Asm(options) => perform_asm(alloc, options, input, output),
-        Job::Check => answer_all(alloc, &Checker, input, output),
-        Job::Dis => answer_all(alloc, &Disassembler, input, output),
+        Job::Filter(filtering) => run_filter(alloc, filtering, input, output),
         Job::Par(parallel) => perform_par(rt, alloc, parallel, output),
         Job::Replay => replay(alloc, input, output),
     }
@@ -46,7 +44,7 @@ fn perform_par<T: Threads + Wait + Sync, W: Write>(
     alloc: Global,
     parallel: &Parallel,
     output: &mut Counted<W>,
-) -> Result<bool, ReplayFault>
+) -> Result<bool, StreamFault>
     ensures ok { IfOk result (λ done. (done ≡ true) × WritesPar parallel.now (W.contents (inner_of output.old)) (W.contents (inner_of output.new))) }
     ensures kept { OnOk result (failures_of output.new ≡ failures_of output.old) }
     ensures part { OnErr result (WritesParInPart parallel.now (W.contents (inner_of output.old)) (W.contents (inner_of output.new))) }
@@ -56,30 +54,4 @@ fn perform_par<T: Threads + Wait + Sync, W: Write>(
     let line = summary.line(alloc)?;
     output.write_text(line.as_bytes())?;
     Ok(true)
-}
-
-/// Reads an assembler text and writes what answers it in the form that the options ask for. Options that are refused are
-/// answered before anything is read.
-fn perform_asm<R: Read, W: Write>(
-    alloc: Global,
-    options: &Options,
-    input: &mut Counted<R>,
-    output: &mut Counted<W>,
-) -> Result<bool, ReplayFault>
-    ensures ok { IfOk result (AsmPerforms options.now (R.remaining (inner_of input.old)) (R.remaining (inner_of input.new))
-        (W.contents (inner_of output.old)) (W.contents (inner_of output.new))) }
-    ensures reads { OnOk result (failures_of input.new ≡ failures_of input.old) }
-    ensures writes { OnOk result (failures_of output.new ≡ failures_of output.old) }
-    ensures part { OnErr result (AsmPerformsInPart options.now (R.remaining (inner_of input.old)) (R.remaining (inner_of input.new))
-        (W.contents (inner_of output.old)) (W.contents (inner_of output.new))) }
-    ensures fault { IfErr result (λ e. IsFault e (failures_of input.old) (failures_of input.new)
-        (failures_of output.old) (failures_of output.new) (calls_of input.old) (calls_of input.new)) }
-{
-    match options.form(alloc) {
-        Ok(form) => answer_all(alloc, &form, input, output),
-        Err(fault) => {
-            let answer = refused_options(alloc, fault)?;
-            write_answer(&answer, output)
-        }
-    }
 }

@@ -10,8 +10,8 @@ ghost use Rattle.bq_cli.specs.declared.asked.Parallel.{Parallel as Asked};
 ghost use Rattle.bq_cli.specs.Jobs.{IsParallel, ticks_of};
 
 use crate::asked::Parallel;
-use crate::asm_words::refused;
 use bq_console::WordsFault;
+use bq_filters::refused;
 use bq_lines::numbers;
 use bq_options::value;
 use bq_words::{ProcessorCount, Rule};

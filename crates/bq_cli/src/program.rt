@@ -3,6 +3,7 @@ ghost use Rattle.std.specs.Prelude.{◌≡◌, IfOk};
 ghost use Rattle.clap.specs.Words.{app_of};
 ghost use Rattle.bq_cli.specs.Program.{program};
 
+use bq_filters::ASM;
 use bq_options::{CommandText, Given, OptionText, texts, with_commands};
 use clap::Command;
 use std::alloc::{AllocError, Global};
@@ -10,27 +11,7 @@ use std::alloc::{AllocError, Global};
 /// The commands, in the order of the help page. One without options here is known by its name alone where words are read:
 /// whoever does it takes its options.
 static COMMANDS: [CommandText<'static>; 9] = [
-    CommandText {
-        name: "asm",
-        about: "Reads an assembler text, from the file that is named first or last or from standard input, and writes the hex of its program",
-        options: &[&[
-            OptionText {
-                name: "hook",
-                given: Given::Once("HOOK"),
-                help: "Writes an image for this hook: place, preempt or pull",
-            },
-            OptionText {
-                name: "maps",
-                given: Given::Once("MAPS"),
-                help: texts::MAPS,
-            },
-            OptionText {
-                name: "format",
-                given: Given::Once("FORMAT"),
-                help: texts::FORMAT,
-            },
-        ]],
-    },
+    ASM,
     CommandText {
         name: "check",
         about: "Reads the hex of an image from standard input and writes its hook and its budget",

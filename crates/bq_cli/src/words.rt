@@ -5,10 +5,10 @@ ghost use Rattle.bq_cli.specs.Program.{program};
 ghost use Rattle.bq_cli.specs.Jobs.{IsJob, IsJobIn};
 
 use crate::asked::Job;
-use crate::asm_words::options;
 use crate::par_words::parallel;
 use crate::program::program;
 use bq_console::WordsFault;
+use bq_filters::{Filtering, options};
 use bq_options::found_in;
 use clap::ArgMatches;
 use std::alloc::Global;
@@ -32,13 +32,13 @@ fn job_in(alloc: Global, matches: &ArgMatches<'_>) -> Result<Job, WordsFault>
     ensures taken { IfErr result (λ e. (job : Job) → IsJobIn (subcommand_rows_of matches.now) job → e ≡ WordsFault.OutOfMemory) }
 {
     if let Some(matches) = matches.subcommand_matches("asm") {
-        return Ok(Job::Asm(options(alloc, matches)?));
+        return Ok(Job::Filter(Filtering::Asm(options(alloc, matches)?)));
     }
     if let Some(_) = matches.subcommand_matches("check") {
-        return Ok(Job::Check);
+        return Ok(Job::Filter(Filtering::Check));
     }
     if let Some(_) = matches.subcommand_matches("dis") {
-        return Ok(Job::Dis);
+        return Ok(Job::Filter(Filtering::Dis));
     }
     if let Some(matches) = matches.subcommand_matches("par") {
         return Ok(Job::Par(parallel(alloc, matches)?));

@@ -1,8 +1,8 @@
 // Programs as the bytes of a text section, with their texts: orders, distances and slots were worked out by hand.
 
 use crate::done::holds;
-use bq_policy_desk::{ImportSettings, import_words, imported};
 use bq_program::{Head, read_policy};
+use bq_run_desk::{ImportSettings, import_words, imported};
 use std::alloc::Global;
 use std::process::Abort;
 use std::test::Fail;

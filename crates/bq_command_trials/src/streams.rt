@@ -1,7 +1,8 @@
 //! Streams that fail, and what is said of errors: the system's words for them are those of errno's manual.
 
 use crate::done::holds;
-use bq_console::{Kept, reason};
+use bq_console::reason;
+use bq_streams::Kept;
 use std::io;
 use std::io::{Error, Read, Write};
 use std::test::Fail;

@@ -1,0 +1,2 @@
+pub mod SayingLemmas
+pub mod WordLemmas

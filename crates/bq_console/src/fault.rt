@@ -14,6 +14,14 @@ pub enum WordsFault {
     OutOfMemory,
 }
 
+/// The fault of words, with the text that says what is wrong, if there is memory for it.
+pub fn words_fault(text: Result<String, AllocError>) -> WordsFault {
+    match text {
+        Ok(text) => WordsFault::Words(text),
+        Err(_) => WordsFault::OutOfMemory,
+    }
+}
+
 impl From<AllocError> for WordsFault {
     ghost use Rattle.bq_console.specs.declared.fault.WordsFault.TheVariants.{OutOfMemory};
 

@@ -1,11 +1,17 @@
 //! What commands read whole: a file, or standard input.
+ghost use Rattle.std.specs.Prelude.{◌≡◌, List, option_map, ℕ};
+ghost use Rattle.std.specs.Borrow.{Bor};
+ghost use Rattle.bq_console.specs.Files.{file_named, name_of};
+
 use crate::saying::say_unread;
 use std::fs;
 use std::io::{IsTerminal, Read};
 use std::process::ExitCode;
 
 /// The file that is named, unless it is `-`, which stands for standard input.
-pub fn file_named(file: &Option<String>) -> Option<&str> {
+pub fn file_named(file: &Option<String>) -> Option<&str>
+    ensures { option_map (λ (f : Bor (List ℕ)). f.now) result ≡ file_named file.now }
+{
     match file {
         Some(path) if path.as_str() != "-" => Some(path.as_str()),
         _ => None,
@@ -13,7 +19,9 @@ pub fn file_named(file: &Option<String>) -> Option<&str> {
 }
 
 /// What messages about its contents call the file that is named.
-pub fn name_of(file: &Option<String>) -> &str {
+pub fn name_of(file: &Option<String>) -> &str
+    ensures { result.now ≡ name_of file.now }
+{
     match file_named(file) {
         Some(path) => path,
         None => "standard input",

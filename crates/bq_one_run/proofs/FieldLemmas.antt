@@ -12,8 +12,8 @@ use Rattle.bq_bpf.specs.declared.hook.Version.{Version}
 use Rattle.bq_bpf.specs.declared.hook.Version.TheVariants.{First, Second}
 use Rattle.bq_one_run.specs.declared.fields.Field.{Field}
 use Rattle.bq_one_run.specs.Fields.{GoesBy, GoesByName, HasNumber, IsField, IsNumbered, IsSingle, NamedField, bytes_in, fields_of, row_named, row_of}
-use Rattle.bq_one_run.specs.Words.{IsCut, IsFreeOf, IsNumber}
-use Rattle.bq_one_run.proofs.WordLemmas.{cut_once, free_cut, number_once}
+use Rattle.bq_console.specs.Words.{IsCut, IsFreeOf, IsNumber}
+use Rattle.bq_console.proofs.WordLemmas.{cut_once, free_cut, number_once}
 
 -- a row as the code's table has it
 abbrev pub Row : Type 0

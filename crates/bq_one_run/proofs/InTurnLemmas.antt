@@ -1,9 +1,10 @@
 -- A word more of those that make their steps one after another, and one that makes none.
 use Rattle.std.proofs.Common.{◌≡◌, ℕ, zero, suc, ◌+◌, ◌<◌, ◌≤◌, List, [], ◌∷◌, length, get_or, drop, drop-cons, add-one, refl, sym, subst, ap, ◌∙◌, arith}
 use Rattle.std.proofs.lemmas.List.{drop_all}
-use Rattle.bq_one_run.specs.declared.faults.InputFault.{InputFault}
-use Rattle.bq_one_run.specs.declared.faults.InputFault.TheVariants.{Words, OutOfMemory}
-use Rattle.bq_one_run.specs.Naming.{InTurn, MakesNone}
+use Rattle.bq_console.specs.declared.fault.WordsFault.{WordsFault}
+use Rattle.bq_console.specs.declared.fault.WordsFault.TheVariants.{Words, OutOfMemory}
+use Rattle.bq_console.specs.Words.{SaysNone}
+use Rattle.bq_one_run.specs.Naming.{InTurn}
 
 -- what is left leads on from there
 abbrev pub LeadsOn : {W S : Type 0} → (W → S → S → Type 0) → List W → ℕ → S → S → Type 0
@@ -48,6 +49,6 @@ turn_reached step seen is (word ∷ words) (suc i) d first last now (between, ma
     turn_reached step seen is words i d between last now rest (omega arith) (e ∙ sym (is.keeps word first between made))
 
 -- where one of the words is refused, for it makes no step, they are refused in turn
-pub turn_refused : {W S V : Type 0} (step : W → S → S → Type 0) (seen : S → V) → IsSeen step seen → (words : List W) (i : ℕ) (d : W) (first now : S) (e : InputFault) → i < length words → seen now ≡ seen first → MakesNone (step (get_or words i d) now) e → MakesNone (InTurn step words first) e
+pub turn_refused : {W S V : Type 0} (step : W → S → S → Type 0) (seen : S → V) → IsSeen step seen → (words : List W) (i : ℕ) (d : W) (first now : S) (e : WordsFault) → i < length words → seen now ≡ seen first → SaysNone (step (get_or words i d) now) e → SaysNone (InTurn step words first) e
 turn_refused step seen is words i d first now (Words why) h same none = λ last turns. let reached = turn_reached step seen is words i d first last now turns h same in none reached.0 reached.1
 turn_refused step seen is words i d first now OutOfMemory h same none = tt

@@ -6,4 +6,3 @@ mod PlaceLawLemmas
 mod PullLawLemmas
 pub mod RefusalLemmas
 mod ShownLemmas
-mod WordLemmas

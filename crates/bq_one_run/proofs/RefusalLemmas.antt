@@ -10,22 +10,16 @@ use Rattle.bq_bpf.specs.Memory.{overwrite}
 use Rattle.bq_bpf.specs.declared.shape.MapShape.{MapShape}
 use Rattle.bq_bpf.specs.declared.hook.Hook.{Hook}
 use Rattle.bq_bpf.specs.declared.hook.Version.{Version}
-use Rattle.bq_one_run.specs.declared.faults.InputFault.{InputFault}
-use Rattle.bq_one_run.specs.declared.faults.InputFault.TheVariants.{Words, OutOfMemory}
+use Rattle.bq_console.specs.declared.fault.WordsFault.{WordsFault}
 use Rattle.bq_one_run.specs.declared.fields.Field.{Field}
 use Rattle.bq_one_run.specs.declared.fields.Width.{Width}
 use Rattle.bq_one_run.specs.declared.fields.Width.TheVariants.{Four, Eight}
 use Rattle.bq_one_run.specs.Fields.{IsField, IsPasted, IsPut, bytes_in}
-use Rattle.bq_one_run.specs.Naming.{MakesNone, NamesCounter, NamesEntry, SetsCounter, SetsEntry, SetsField, SetsFields, TextsInTurn, padded, parts}
-use Rattle.bq_one_run.specs.Words.{IsCut, IsFreeOf, IsNumber, IsValue}
+use Rattle.bq_one_run.specs.Naming.{NamesCounter, NamesEntry, SetsCounter, SetsEntry, SetsField, SetsFields, TextsInTurn, padded}
+use Rattle.bq_console.specs.Words.{IsCut, IsFreeOf, IsNumber, IsValue, SaysNone, parts}
 use Rattle.bq_one_run.proofs.FieldLemmas.{goes_once}
 use Rattle.bq_one_run.proofs.InTurnLemmas.{IsSeen, turn_refused, turns_seen}
-use Rattle.bq_one_run.proofs.WordLemmas.{cut_once, free_cut, number_once, value_once}
-
--- words that make none may be refused by any text
-pub none_made : {A : Type 0} (Makes : A → Type 0) (e : InputFault) → ((a : A) → ¬ Makes a) → MakesNone Makes e
-none_made Makes (Words why) none = none
-none_made Makes OutOfMemory none = tt
+use Rattle.bq_console.proofs.WordLemmas.{cut_once, free_cut, number_once, value_once}
 
 -- a word that fits a field is of 64 bits
 word_small : (width : Width) (word : ℕ) → word < 256 ^ bytes_in width → word < 2 ^ 64
@@ -91,10 +85,10 @@ pub texts_seen : {S V : Type 0} (step : List ℕ → S → S → Type 0) (seen :
 texts_seen step seen is = record { keeps = λ t. is.keeps (string_bytes t); moves = λ t. is.moves (string_bytes t) }
 
 -- where one of the texts is refused, for its bytes make no step, they are refused in turn
-pub text_refused : {S V : Type 0} (step : List ℕ → S → S → Type 0) (seen : S → V) → IsSeen step seen → (texts : List (String Global)) (i : ℕ) (item : String Global) (bytes : List ℕ) (first now : S) (e : InputFault) → i < length texts → item ≡ get_or texts i item → bytes ≡ string_bytes item → seen now ≡ seen first → MakesNone (step bytes now) e → MakesNone (TextsInTurn step texts first) e
+pub text_refused : {S V : Type 0} (step : List ℕ → S → S → Type 0) (seen : S → V) → IsSeen step seen → (texts : List (String Global)) (i : ℕ) (item : String Global) (bytes : List ℕ) (first now : S) (e : WordsFault) → i < length texts → item ≡ get_or texts i item → bytes ≡ string_bytes item → seen now ≡ seen first → SaysNone (step bytes now) e → SaysNone (TextsInTurn step texts first) e
 text_refused step seen is texts i item bytes first now e h item_is bytes_is same none =
     turn_refused (λ (t : String Global). step (string_bytes t)) seen (texts_seen step seen is) texts i item first now e h same
-    (subst (λ (b : List ℕ). MakesNone (step b now) e) (bytes_is ∙ ap (λ (t : String Global). string_bytes t) item_is) none)
+    (subst (λ (b : List ℕ). SaysNone (step b now) e) (bytes_is ∙ ap (λ (t : String Global). string_bytes t) item_is) none)
 
 -- a place is of one entry
 entry_once : (place : List ℕ) (m n entry other : ℕ) → NamesEntry place m entry → NamesEntry place n other → (m ≡ n) × (entry ≡ other)

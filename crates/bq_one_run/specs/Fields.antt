@@ -12,7 +12,7 @@ use Rattle.bq_bpf.specs.declared.hook.Version.{Version}
 use Rattle.bq_one_run.specs.declared.fields.Field.{Field}
 use Rattle.bq_one_run.specs.declared.fields.Width.{Width}
 use Rattle.bq_one_run.specs.declared.fields.Width.TheVariants.{Four, Eight}
-use Rattle.bq_one_run.specs.Words.{IsCut, IsNumber}
+use Rattle.bq_console.specs.Words.{IsCut, IsNumber}
 
 abbrev pub bytes_in : Width → ℕ
 bytes_in Four = 4

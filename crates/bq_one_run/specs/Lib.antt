@@ -3,4 +3,3 @@ pub mod Naming
 pub mod Permitting
 pub mod PermittingLaw
 pub mod Runs
-pub mod Words

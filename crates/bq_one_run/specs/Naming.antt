@@ -1,17 +1,14 @@
 -- What the words of a command make of the inputs of a run.
-use Rattle.std.specs.Prelude.{◌≡◌, ◌==◌, ℕ, ◌-◌, ◌^◌, ◌<◌, ◌≤◌, List, [], ◌∷◌, ◌++◌, length, replicate, Option, Some, None, Ok, String, slice_index, slice_set, string_bytes}
+use Rattle.std.specs.Prelude.{◌≡◌, ℕ, ◌-◌, ◌^◌, ◌<◌, ◌≤◌, List, [], ◌∷◌, ◌++◌, length, replicate, Option, Some, None, Ok, String, slice_index, slice_set, string_bytes}
 use Rattle.std.specs.declared.alloc.Global.{Global}
-use Rattle.std.specs.List.{slice_split}
 use Rattle.hex.specs.Hex.{decode_of}
 use Rattle.bq_maps.specs.Arrays.{Arrays, HasEntry, bytes_of, first_of, value_size_of, with_bytes}
 use Rattle.bq_bpf.specs.declared.shape.MapShape.{MapShape}
 use Rattle.bq_bpf.specs.declared.hook.Hook.{Hook}
 use Rattle.bq_bpf.specs.declared.hook.Version.{Version}
-use Rattle.bq_one_run.specs.declared.faults.InputFault.{InputFault}
-use Rattle.bq_one_run.specs.declared.faults.InputFault.TheVariants as fault
 use Rattle.bq_one_run.specs.declared.fields.Field.{Field}
 use Rattle.bq_one_run.specs.Fields.{IsField, IsPut}
-use Rattle.bq_one_run.specs.Words.{IsCut, IsNumber, IsValue}
+use Rattle.bq_console.specs.Words.{IsCut, IsNumber, IsValue, parts}
 
 -- each word makes its step, one after another: where two name the same place, the last counts
 abbrev pub InTurn : {W S : Type 0} → (W → S → S → Type 0) → List W → S → S → Type 0
@@ -21,11 +18,6 @@ InTurn {W} {S} step (word ∷ words) before after = (between : S) × step word b
 -- the same of texts
 abbrev pub TextsInTurn : {S : Type 0} → (List ℕ → S → S → Type 0) → List (String Global) → S → S → Type 0
 TextsInTurn step texts before after = InTurn (λ (t : String Global). step (string_bytes t)) texts before after
-
--- words that are refused make none of that kind; want of memory says nothing of the words
-abbrev pub MakesNone : {A : Type 0} → (A → Type 0) → InputFault → Type 0
-MakesNone {A} Makes (fault.Words why) = (a : A) → ¬ Makes a
-MakesNone Makes fault.OutOfMemory = Unit {0}
 
 -- as `task=3`: the number stands in the field of that name, and no other byte changes
 pub record SetsField (hook : Hook) (version : Version) (part before after : List ℕ) : Type 0 where
@@ -37,10 +29,6 @@ pub record SetsField (hook : Hook) (version : Version) (part before after : List
   pub word : ℕ
   pub is_word : IsValue text word
   pub put : IsPut field word before after
-
--- the parts between commas
-abbrev pub parts : List ℕ → List (List ℕ)
-parts text = slice_split (λ b. b == 44) text
 
 -- as `task=3,mask=0x6`
 abbrev pub SetsFields : Hook → Version → List ℕ → List ℕ → List ℕ → Type 0

@@ -1,20 +1,22 @@
 //! Counters from the words of a command.
 ghost use Rattle.std.specs.Prelude.{◌≡◌, ◌<◌, ◌^◌, ℕ, [], IfErr, IfNone, IfSome, IsOk, slice_set};
 ghost use Rattle.std.specs.Result.{OnOk};
-ghost use Rattle.bq_one_run.specs.Naming.{MakesNone, NamesCounter, SetsCounter, TextsInTurn};
+ghost use Rattle.bq_console.specs.Words.{SaysNone};
+ghost use Rattle.bq_one_run.specs.Naming.{NamesCounter, SetsCounter, TextsInTurn};
 
-use crate::faults::{InputFault, refused};
+use crate::faults::refused;
 use crate::inputs::Inputs;
-use crate::words::{cut, decimal, value};
 use bq_bpf::{Board, Plain};
+use bq_console::WordsFault;
+use bq_console::words::{cut, decimal, value};
 use std::alloc::Global;
 
 impl Inputs {
     /// Sets the counters that texts name, one after another. Texts are refused only where one of them names none, and where there are
     /// none nothing is.
-    pub fn set_all_counters(&mut self, alloc: Global, texts: &[String]) -> Result<(), InputFault>
+    pub fn set_all_counters(&mut self, alloc: Global, texts: &[String]) -> Result<(), WordsFault>
         ensures board { OnOk result (TextsInTurn SetsCounter texts.now self.old.board self.new.board) }
-        ensures refused { IfErr result (MakesNone (TextsInTurn SetsCounter texts.now self.old.board)) }
+        ensures refused { IfErr result (SaysNone (TextsInTurn SetsCounter texts.now self.old.board)) }
         ensures context { self.new.context ≡ self.old.context }
         ensures maps { self.new.maps ≡ self.old.maps }
         ensures env { self.new.env ≡ self.old.env }
@@ -27,9 +29,9 @@ impl Inputs {
     }
 
     /// Sets a counter, as `3=10` does. A text is refused only where it names none.
-    pub fn set_counter(&mut self, alloc: Global, text: &str) -> Result<(), InputFault>
+    pub fn set_counter(&mut self, alloc: Global, text: &str) -> Result<(), WordsFault>
         ensures board { OnOk result (SetsCounter text.now self.old.board self.new.board) }
-        ensures refused { IfErr result (MakesNone (SetsCounter text.now self.old.board)) }
+        ensures refused { IfErr result (SaysNone (SetsCounter text.now self.old.board)) }
         ensures context { self.new.context ≡ self.old.context }
         ensures maps { self.new.maps ≡ self.old.maps }
         ensures env { self.new.env ≡ self.old.env }

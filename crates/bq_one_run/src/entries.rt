@@ -1,20 +1,22 @@
 //! Entries of maps from the words of a command.
 ghost use Rattle.std.specs.Prelude.{◌≡◌, ◌<◌, ◌^◌, ℕ, [], IfErr, IfNone, IfSome, IsOk};
 ghost use Rattle.std.specs.Result.{OnOk};
-ghost use Rattle.bq_one_run.specs.Naming.{MakesNone, NamesEntry, SetsEntry, TextsInTurn, padded};
+ghost use Rattle.bq_console.specs.Words.{SaysNone};
+ghost use Rattle.bq_one_run.specs.Naming.{NamesEntry, SetsEntry, TextsInTurn, padded};
 
-use crate::faults::{InputFault, refused};
+use crate::faults::refused;
 use crate::inputs::{Inputs, bytes_named};
-use crate::words::{cut, decimal};
+use bq_console::WordsFault;
+use bq_console::words::{cut, decimal};
 use bq_maps::Maps;
 use std::alloc::{AllocError, Global};
 
 impl Inputs {
     /// Sets the entries that texts name, one after another. Texts are refused only where one of them names none, or no value of its
     /// map, and where there are none nothing is.
-    pub fn set_all_entries(&mut self, alloc: Global, texts: &[String]) -> Result<(), InputFault>
+    pub fn set_all_entries(&mut self, alloc: Global, texts: &[String]) -> Result<(), WordsFault>
         ensures maps { OnOk result (TextsInTurn SetsEntry texts.now self.old.maps self.new.maps) }
-        ensures refused { IfErr result (MakesNone (TextsInTurn SetsEntry texts.now self.old.maps)) }
+        ensures refused { IfErr result (SaysNone (TextsInTurn SetsEntry texts.now self.old.maps)) }
         ensures context { self.new.context ≡ self.old.context }
         ensures env { self.new.env ≡ self.old.env }
         ensures board { self.new.board ≡ self.old.board }
@@ -28,9 +30,9 @@ impl Inputs {
 
     /// Sets an entry of a map, as `0:0=0a00` does; bytes that are left out are 0. A text is refused only where it names none, or no
     /// value of its map.
-    pub fn set_entry(&mut self, alloc: Global, text: &str) -> Result<(), InputFault>
+    pub fn set_entry(&mut self, alloc: Global, text: &str) -> Result<(), WordsFault>
         ensures maps { OnOk result (SetsEntry text.now self.old.maps self.new.maps) }
-        ensures refused { IfErr result (MakesNone (SetsEntry text.now self.old.maps)) }
+        ensures refused { IfErr result (SaysNone (SetsEntry text.now self.old.maps)) }
         ensures context { self.new.context ≡ self.old.context }
         ensures env { self.new.env ≡ self.old.env }
         ensures board { self.new.board ≡ self.old.board }
@@ -40,9 +42,9 @@ impl Inputs {
 }
 
 /// Puts the bytes that a text names into the entry that it names.
-fn put_entry(maps: &mut Maps, alloc: Global, text: &str) -> Result<(), InputFault>
+fn put_entry(maps: &mut Maps, alloc: Global, text: &str) -> Result<(), WordsFault>
     ensures maps { OnOk result (SetsEntry text.now maps.old maps.new) }
-    ensures refused { IfErr result (MakesNone (SetsEntry text.now maps.old)) }
+    ensures refused { IfErr result (SaysNone (SetsEntry text.now maps.old)) }
 {
     let Some((place, value)) = cut(text, '=') else {
         return Err(refused(alloc, "map", text, "an entry is set as 0:0=0a00"));

@@ -3,10 +3,11 @@ ghost use Rattle.std.specs.Prelude.{◌≡◌, ◌≢◌, List, ℕ, IfErr, IfNo
 ghost use Rattle.std.specs.Result.{OnOk};
 ghost use Rattle.hex.specs.Hex.{decode_of};
 ghost use Rattle.bq_bpf.specs.Hooks.{context_length_of};
-ghost use Rattle.bq_one_run.specs.Naming.{BeginsWith, IsClean, MakesNone};
+ghost use Rattle.bq_console.specs.Words.{SaysNone};
+ghost use Rattle.bq_one_run.specs.Naming.{BeginsWith, IsClean};
 
-use crate::faults::{InputFault, fault};
 use bq_bpf::{Plain, context_length};
+use bq_console::{WordsFault, words_fault};
 use bq_interp::Env;
 use bq_maps::Maps;
 use bq_verify::Verified;
@@ -46,20 +47,20 @@ pub fn inputs_of(alloc: Global, verified: &Verified, env: Env) -> Result<Inputs,
 
 impl Inputs {
     /// Puts the bytes of a hex text in place of the context, which has as many. A text is refused only where it writes no such bytes.
-    pub fn set_context(&mut self, alloc: Global, text: &str) -> Result<(), InputFault>
+    pub fn set_context(&mut self, alloc: Global, text: &str) -> Result<(), WordsFault>
         ensures context { OnOk result (BeginsWith (Some text.now) (length self.old.context.items) self.new.context.items) }
-        ensures refused { IfErr result (MakesNone (BeginsWith (Some text.now) (length self.old.context.items))) }
+        ensures refused { IfErr result (SaysNone (BeginsWith (Some text.now) (length self.old.context.items))) }
         ensures maps { self.new.maps ≡ self.old.maps }
         ensures env { self.new.env ≡ self.old.env }
         ensures board { self.new.board ≡ self.old.board }
     {
         let Some(bytes) = bytes_named(alloc, text)? else {
-            return Err(fault(String::from_str(alloc, "--ctx is no hex")));
+            return Err(words_fault(String::from_str(alloc, "--ctx is no hex")));
         };
         let wanted = self.context.len();
         let count = bytes.len();
         if wanted != count {
-            return Err(fault(format!(in alloc;
+            return Err(words_fault(format!(in alloc;
                 "--ctx has {count} bytes, the context of the hook has {wanted}"
             )));
         }

@@ -11,11 +11,9 @@ pub mod laws;
 mod one_run;
 mod permitted;
 mod settings;
-mod words;
 
 pub use bq_interp::Moment;
 pub use changes::{copied, write_calls, write_changes};
-pub use faults::InputFault;
 pub use fields::{Field, Width};
 pub use inputs::{Inputs, inputs_of};
 pub use one_run::{OneRun, run_often, run_once, trace_once};

@@ -1,13 +1,15 @@
 //! Fields of the context from the words of a command.
 ghost use Rattle.std.specs.Prelude.{◌≡◌, [], IfErr, IsOk};
 ghost use Rattle.std.specs.Result.{OnOk};
-ghost use Rattle.bq_one_run.specs.Naming.{MakesNone, SetsField, SetsFields, TextsInTurn};
+ghost use Rattle.bq_console.specs.Words.{SaysNone};
+ghost use Rattle.bq_one_run.specs.Naming.{SetsField, SetsFields, TextsInTurn};
 
-use crate::faults::{InputFault, fault, refused};
+use crate::faults::refused;
 use crate::fields::{field_named, field_names, put};
 use crate::inputs::Inputs;
-use crate::words::{cut, value};
 use bq_bpf::{Hook, Version};
+use bq_console::words::{cut, value};
+use bq_console::{WordsFault, words_fault};
 use std::alloc::Global;
 
 impl Inputs {
@@ -19,9 +21,9 @@ impl Inputs {
         hook: Hook,
         version: Version,
         texts: &[String],
-    ) -> Result<(), InputFault>
+    ) -> Result<(), WordsFault>
         ensures context { OnOk result (TextsInTurn (SetsFields hook version) texts.now self.old.context.items self.new.context.items) }
-        ensures refused { IfErr result (MakesNone (TextsInTurn (SetsFields hook version) texts.now self.old.context.items)) }
+        ensures refused { IfErr result (SaysNone (TextsInTurn (SetsFields hook version) texts.now self.old.context.items)) }
         ensures maps { self.new.maps ≡ self.old.maps }
         ensures env { self.new.env ≡ self.old.env }
         ensures board { self.new.board ≡ self.old.board }
@@ -40,9 +42,9 @@ impl Inputs {
         hook: Hook,
         version: Version,
         text: &str,
-    ) -> Result<(), InputFault>
+    ) -> Result<(), WordsFault>
         ensures context { OnOk result (SetsFields hook version text.now self.old.context.items self.new.context.items) }
-        ensures refused { IfErr result (MakesNone (SetsFields hook version text.now self.old.context.items)) }
+        ensures refused { IfErr result (SaysNone (SetsFields hook version text.now self.old.context.items)) }
         ensures maps { self.new.maps ≡ self.old.maps }
         ensures env { self.new.env ≡ self.old.env }
         ensures board { self.new.board ≡ self.old.board }
@@ -59,9 +61,9 @@ impl Inputs {
         hook: Hook,
         version: Version,
         part: &str,
-    ) -> Result<(), InputFault>
+    ) -> Result<(), WordsFault>
         ensures context { OnOk result (SetsField hook version part.now self.old.context.items self.new.context.items) }
-        ensures refused { IfErr result (MakesNone (SetsField hook version part.now self.old.context.items)) }
+        ensures refused { IfErr result (SaysNone (SetsField hook version part.now self.old.context.items)) }
         ensures maps { self.new.maps ≡ self.old.maps }
         ensures env { self.new.env ≡ self.old.env }
         ensures board { self.new.board ≡ self.old.board }
@@ -77,9 +79,9 @@ fn put_field(
     hook: Hook,
     version: Version,
     part: &str,
-) -> Result<(), InputFault>
+) -> Result<(), WordsFault>
     ensures context { OnOk result (SetsField hook version part.now context.old context.new) }
-    ensures refused { IfErr result (MakesNone (SetsField hook version part.now context.old)) }
+    ensures refused { IfErr result (SaysNone (SetsField hook version part.now context.old)) }
 {
     let Some((name, text)) = cut(part, '=') else {
         return Err(refused(alloc, "set", part, "a field is set as task=3"));
@@ -97,12 +99,12 @@ fn put_field(
 }
 
 /// The fault of a part whose value is of no use, with what is wrong with that.
-fn unfit(alloc: Global, part: &str, value: &str, why: &str) -> InputFault {
-    fault(format!(in alloc; "--set {part}: {value} {why}"))
+fn unfit(alloc: Global, part: &str, value: &str, why: &str) -> WordsFault {
+    words_fault(format!(in alloc; "--set {part}: {value} {why}"))
 }
 
 /// The fault of a part that names no field of the hook, with the names that there are.
-fn unknown(alloc: Global, part: &str, name: &str, hook: Hook) -> InputFault {
+fn unknown(alloc: Global, part: &str, name: &str, hook: Hook) -> WordsFault {
     let names = field_names(hook);
-    fault(format!(in alloc; "--set {part}: there is no field {name}; the fields are {names}"))
+    words_fault(format!(in alloc; "--set {part}: there is no field {name}; the fields are {names}"))
 }

@@ -2,7 +2,7 @@
 use Rattle.std.proofs.Common.{◌≡◌, ℕ, zero, suc, ℤ, ◌+◌, ◌<◌, ◌≤◌, List, [], ◌∷◌, ◌++◌, length, get_or, drop, drop-cons, add-one, append_assoc, append-nil, refl, sym, subst, ap, ◌∙◌, arith}
 use Rattle.std.proofs.lemmas.List.{drop_all}
 use Rattle.bq_policy_commands.specs.Limiting.{AreHelpers, IsHelper, NamesNoHelpers, helper_words}
-use Rattle.bq_one_run.specs.Naming.{parts}
+use Rattle.bq_console.specs.Words.{parts}
 
 -- what the words that are left write, behind what was read, all write
 abbrev pub ReadsOn : List (List ℕ) → ℕ → List ℤ → Type 0

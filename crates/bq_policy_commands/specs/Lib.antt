@@ -1,10 +1,7 @@
 pub mod Checking
 pub mod Complaining
 pub mod Disagreeing
-pub mod Judging
 pub mod Limiting
 pub mod Listing
 pub mod Refusing
-pub mod Running
 pub mod Saying
-pub mod Tracing

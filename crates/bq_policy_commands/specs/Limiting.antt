@@ -6,7 +6,7 @@ use Rattle.std.specs.Str.Parse.{IsNumeral, signed_digits_value, without_leading_
 use Rattle.std.specs.declared.alloc.Global.{Global}
 use Rattle.std.specs.declared.vec.Vec.{Vec}
 use Rattle.bq_explain.specs.declared.limits.Limits.{Limits}
-use Rattle.bq_one_run.specs.Naming.{parts}
+use Rattle.bq_console.specs.Words.{parts}
 use Rattle.bq_policy_commands.specs.declared.words.CheckWords.{CheckWords}
 use Rattle.bq_policy_commands.specs.Saying.{IsHeadWord, IsNumberBelow, option_bytes}
 

@@ -3,14 +3,10 @@ use Rattle.std.specs.Prelude.{◌≡◌, ℕ, ◌<◌, List, Option, Some, None,
 use Rattle.std.specs.declared.alloc.Global.{Global}
 use Rattle.bq_program.specs.declared.head.Head.{Head}
 use Rattle.bq_program.specs.Heads.{Names}
-use Rattle.bq_one_run.specs.Words.{IsNumber}
-use Rattle.bq_one_run.specs.declared.faults.InputFault.{InputFault}
-use Rattle.bq_one_run.specs.declared.faults.InputFault.TheVariants as input
+use Rattle.bq_console.specs.Words.{IsNumber}
 use Rattle.bq_bpf.specs.Hooks.{hook_of, version_of}
 use Rattle.bq_policy_commands.specs.declared.answered.Answered.{Answered}
 use Rattle.bq_policy_commands.specs.declared.answered.Answered.TheVariants.{Words}
-use Rattle.bq_policy_commands.specs.declared.given.WordsFault.{WordsFault}
-use Rattle.bq_policy_commands.specs.declared.given.WordsFault.TheVariants as fault
 use Rattle.bq_policy_commands.specs.declared.words.PolicyWords.{PolicyWords}
 
 -- the bytes of a word, if there is one
@@ -32,16 +28,6 @@ pub record SaysHead (w : PolicyWords) (h : Head) : Type 0 where
   pub hook : IsHeadWord (λ word hook. hook_of word ≡ Some hook) (option_bytes w.hook) h.hook
   pub maps : IsHeadWord Names (option_bytes w.maps) h.maps
   pub format : IsHeadWord (λ word version. version_of word ≡ Some version) (option_bytes w.format) h.format
-
--- words that are refused say none of that kind; want of memory says nothing of the words
-abbrev pub SaysNone : {A : Type 0} → (A → Type 0) → WordsFault → Type 0
-SaysNone {A} Says (fault.Words why) = (a : A) → ¬ Says a
-SaysNone Says fault.OutOfMemory = Unit {0}
-
--- what a fault of inputs is as one of words
-abbrev pub of_input : InputFault → WordsFault
-of_input (input.Words why) = fault.Words why
-of_input input.OutOfMemory = fault.OutOfMemory
 
 -- the words are refused
 abbrev pub IsRefused : Answered → Type 0

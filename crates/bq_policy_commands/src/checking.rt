@@ -4,16 +4,18 @@ ghost use Rattle.bq_program.specs.declared.fault.PolicyFault.TheVariants.{OutOfM
 ghost use Rattle.bq_policy_commands.specs.Checking.{ChecksFile, ChecksTo, IsTold, SaysTerms, TellsVerdict, answered};
 ghost use Rattle.bq_policy_commands.specs.Limiting.{HasLimits};
 ghost use Rattle.bq_policy_commands.specs.Refusing.{fault_line};
-ghost use Rattle.bq_policy_commands.specs.Saying.{SaysHead, SaysNone};
+ghost use Rattle.bq_console.specs.Words.{SaysNone};
+ghost use Rattle.bq_policy_commands.specs.Saying.{SaysHead};
 
 use crate::answered::Answered;
 use crate::fault_words::fault_line;
-use crate::given::{WordsFault, said_by};
+use crate::given::said_by;
 use crate::json_text::json_text;
 use crate::limits::limits_of;
 use crate::listing::reasoned;
 use crate::named::with_name;
 use crate::words::CheckWords;
+use bq_console::WordsFault;
 use bq_explain::{Limits, explain, judge, verdict_line};
 use bq_program::{Head, Policy, PolicyFault, read_policy};
 use std::alloc::{AllocError, Global};

@@ -1,44 +1,17 @@
 //! What the words of a command say of a policy.
 ghost use Rattle.std.specs.Prelude.{◌≡◌, IfErr, IfOk, Some};
-ghost use Rattle.bq_policy_commands.specs.Saying.{IsHeadWord, SaysHead, SaysNone, option_bytes};
+ghost use Rattle.bq_console.specs.Words.{SaysNone};
+ghost use Rattle.bq_policy_commands.specs.Saying.{IsHeadWord, SaysHead, option_bytes};
 ghost use Rattle.bq_program.specs.Heads.{Names};
 ghost use Rattle.bq_bpf.specs.Hooks.{hook_of, version_of};
 
 use crate::asm_options::maps_option_words;
 use crate::words::PolicyWords;
 use bq_bpf::MapShape;
+use bq_console::{WordsFault, words_fault};
 use bq_load::{Hook, Version};
 use bq_program::{Head, shapes_of};
 use std::alloc::{AllocError, Global};
-use thiserror::Error;
-
-/// Why words say nothing that a command can do.
-#[derive(Debug, Drop, Error)]
-pub enum WordsFault {
-    /// What is wrong, in words.
-    #[error("{0}")]
-    Words(String),
-    #[error("out of memory")]
-    OutOfMemory,
-}
-
-impl From<AllocError> for WordsFault {
-    ghost use Rattle.bq_policy_commands.specs.declared.given.WordsFault.TheVariants.{OutOfMemory};
-
-    ghost from_gives = { λ _ e. e ≡ OutOfMemory };
-
-    fn from(_e: AllocError) -> WordsFault {
-        WordsFault::OutOfMemory
-    }
-}
-
-/// The fault of words, with the text that says what is wrong, if there is memory for it.
-pub(crate) fn words_fault(text: Result<String, AllocError>) -> WordsFault {
-    match text {
-        Ok(text) => WordsFault::Words(text),
-        Err(_) => WordsFault::OutOfMemory,
-    }
-}
 
 /// What the words say beside the file. They are refused only where they say no head.
 pub fn said_by(alloc: Global, words: &PolicyWords) -> Result<Head, WordsFault>

@@ -1,11 +1,12 @@
 //! A keeper's own limits from the words of a command.
 ghost use Rattle.std.specs.Prelude.{◌≡◌, ◌^◌, [], List, ℤ, IfErr, IfOk, MatchBool, MatchOption};
-ghost use Rattle.bq_one_run.specs.Naming.{parts};
-ghost use Rattle.bq_policy_commands.specs.Saying.{IsHeadWord, IsNumberBelow, SaysNone, option_bytes};
+ghost use Rattle.bq_console.specs.Words.{parts};
+ghost use Rattle.bq_console.specs.Words.{SaysNone};
+ghost use Rattle.bq_policy_commands.specs.Saying.{IsHeadWord, IsNumberBelow, option_bytes};
 ghost use Rattle.bq_policy_commands.specs.Limiting.{AreHelpers, HasLimits, NamesHelpers, NamesNoHelpers};
 
-use crate::given::{WordsFault, words_fault};
 use crate::words::CheckWords;
+use bq_console::{WordsFault, words_fault};
 use bq_explain::Limits;
 use std::alloc::{AllocError, Global};
 

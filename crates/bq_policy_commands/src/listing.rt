@@ -6,9 +6,10 @@ ghost use Rattle.bq_policy_commands.specs.Refusing.{Refuses};
 
 use crate::answered::Answered;
 use crate::fault_words::{fault_line, fault_reason};
-use crate::given::{WordsFault, said_by};
+use crate::given::said_by;
 use crate::named::placed;
 use crate::words::ListWords;
+use bq_console::WordsFault;
 use bq_program::{Head, PolicyFault, policy_text, read_policy};
 use std::alloc::{AllocError, Global};
 
@@ -45,7 +46,7 @@ fn list_file(
 }
 
 /// The line that refuses a file, and what is wrong with it.
-pub(crate) fn refused_file(
+pub fn refused_file(
     alloc: Global,
     file: &Option<String>,
     bytes: &[u8],

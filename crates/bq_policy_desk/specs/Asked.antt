@@ -8,7 +8,6 @@ use Rattle.bq_policy_commands.specs.declared.words.ListWords.{ListWords}
 use Rattle.bq_policy_commands.specs.declared.words.PolicyWords.{PolicyWords}
 use Rattle.bq_policy_commands.specs.declared.words.RunWords.{RunWords}
 use Rattle.bq_policy_commands.specs.declared.words.TellingWords.{TellingWords}
-use Rattle.bq_policy_desk.specs.declared.import_settings.ImportWords.{ImportWords}
 
 -- a flag that stands among the words
 abbrev pub IsSet : Text → List Row → Bool → Type 0
@@ -48,13 +47,6 @@ pub record AreRunWords (rows : List Row) (w : RunWords) : Type 0 where
   pub counters : AreAll (codes "counter") rows w.counters.items
   pub time : option_bytes w.time ≡ first_of (codes "time") rows
   pub processor : option_bytes w.processor ≡ first_of (codes "processor") rows
-
--- the words of `import`; clap asks for its hook
-pub record AreImportWords (rows : List Row) (w : ImportWords) : Type 0 where
-  pub file : option_bytes w.file ≡ first_of (codes "file") rows
-  pub hook : string_bytes w.hook ≡ unwrap_or (first_of (codes "hook") rows) []
-  pub maps : option_bytes w.maps ≡ first_of (codes "maps") rows
-  pub format : option_bytes w.format ≡ first_of (codes "format") rows
 
 -- the words of `dis`
 pub record AreListWords (rows : List Row) (w : ListWords) : Type 0 where

@@ -1,7 +1,5 @@
 pub mod Asked
-pub mod ImportApp
-pub mod ImportAsked
-pub mod ImportText
+pub mod Desk
 pub mod PolicyProgram
 pub mod Requests
 pub mod Status

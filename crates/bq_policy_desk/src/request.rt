@@ -1,14 +1,29 @@
 //! Which words are for this desk.
-ghost use Rattle.std.specs.Prelude.{◌≡◌, IfOk, MatchOption, false, map, true};
+ghost use Rattle.std.specs.Prelude.{◌≡◌, ◌≢◌, IfOk, MatchOption, false, map, true};
+ghost use Rattle.bq_policy_commands.specs.declared.words.RunWords.{RunWords as Words};
+ghost use Rattle.bq_policy_desk.specs.declared.asking.Asked.TheVariants.{Run};
 ghost use Rattle.bq_policy_desk.specs.Requests.{IsAsked, ask_of_policy, asked_of, is_command};
 
 use crate::asking::{Asked, read_words};
+use bq_policy_commands::RunWords;
 use std::alloc::{AllocError, Global};
 
 /// What is asked of a policy.
 #[derive(Drop)]
 pub struct PolicyRequest {
     pub(crate) asked: Asked,
+}
+
+impl PolicyRequest {
+    /// The words of `run`, where it is asked for.
+    pub fn run_words(&self) -> Option<&RunWords>
+        ensures { MatchOption result ((words : Words) → asked_of self.now ≢ Run words) (λ words. asked_of self.now ≡ Run words.now) }
+    {
+        match &self.asked {
+            Asked::Run(words) => Some(words),
+            _ => None,
+        }
+    }
 }
 
 /// What the words ask of a policy, if they do: any words after `run`, some words after `check` and `dis`, and help on one of them.

@@ -1,14 +1,14 @@
 //! A trace is replayed, from a file or from standard input, to standard output.
 
-use crate::ending::ended;
-use bq_console::{Kept, say_unread};
-use bq_trace::{Counted, replay};
+use bq_console::{ended, say_unread};
+use bq_streams::{Counted, Kept};
+use bq_trace::replay;
 use std::fs;
 use std::io::{IsTerminal, Read};
 use std::process::ExitCode;
 
 /// Replays the trace in the file of that name, or on standard input. On a terminal it says that it waits. The exit status is
-/// that of [`exit_status`](crate::exit_status); where the file can't be opened it is 4.
+/// that of `bq_console::exit_status`; where the file can't be opened it is 4.
 pub fn replay_file(rt: &HostRuntime, name: Option<&str>) -> ExitCode {
     match name {
         Some(path) => match fs::open(rt, path) {

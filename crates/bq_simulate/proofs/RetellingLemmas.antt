@@ -25,7 +25,7 @@ use Rattle.bq_simulate.specs.Spelling.{HasFittingNumbers, asking_line, machine_l
 use Rattle.bq_simulate.specs.Laws.{CanStandInLine, IsWholeLine, asked}
 use Rattle.bq_simulate.proofs.LineLawLemmas.{are_lines, events_are_read, machines_are_read}
 use Rattle.bq_trace.specs.Bare.{bare}
-use Rattle.bq_trace.specs.Counts.{one_more}
+use Rattle.bq_streams.specs.Counts.{one_more}
 use Rattle.bq_trace.specs.Machines.{Driven, opening_machine}
 use Rattle.bq_trace.specs.Feeding.{with_feeds}
 use Rattle.bq_trace.specs.News.{Told, texts}

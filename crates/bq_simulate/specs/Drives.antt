@@ -6,7 +6,7 @@ use Rattle.bq_parts.specs.declared.reply.Reply.{Reply}
 use Rattle.bq_parts.specs.declared.reply.Reply.TheVariants.{Placed, Drained, Ticked, Blocked, Pulled}
 use Rattle.bq_words.specs.declared.rule.Rule.{Rule}
 use Rattle.bq_words.specs.declared.processor_count.ProcessorCount.{ProcessorCount}
-use Rattle.bq_trace.specs.Counts.{one_more}
+use Rattle.bq_streams.specs.Counts.{one_more}
 use Rattle.bq_trace.specs.Machines.{opening_machine}
 use Rattle.bq_trace.specs.News.{News, Told, Opened, Gets}
 use Rattle.bq_trace.specs.Telling.{Happens}

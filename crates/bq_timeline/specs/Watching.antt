@@ -2,7 +2,7 @@
 use Rattle.std.specs.Prelude.{ℕ, List, [], ◌∷◌, Option, Some, None, Result, Ok, Err, nat_lt, if◌then◌else◌}
 use Rattle.bq_parts.specs.World.{count_in}
 use Rattle.bq_words.specs.Sizes.{processors_in}
-use Rattle.bq_trace.specs.Counts.{one_more}
+use Rattle.bq_streams.specs.Counts.{one_more}
 use Rattle.bq_trace.specs.News.{News, Told, Opened, Answered, Unspelled, Unloaded, Shown, Bad}
 use Rattle.bq_schedule.specs.Figures.{Figures, opening}
 use Rattle.bq_schedule.specs.Steps.{after}

@@ -1,23 +1,18 @@
 //! A timeline of a whole trace, from any reader to any writer.
 ghost use Rattle.std.specs.Prelude.{◌≡◌, ℕ, List, [], IfOk, IfErr, OnOk};
 ghost use Rattle.bq_lines.specs.Kept.{StandsFor};
-ghost use Rattle.bq_trace.specs.Counts.{inner_of, calls_of, failures_of};
-ghost use Rattle.bq_trace.specs.Faults.{IsFault, IsWriteFault};
+ghost use Rattle.bq_streams.specs.Counts.{inner_of, calls_of, failures_of};
+ghost use Rattle.bq_streams.specs.Faults.{IsFault, IsWriteFault};
 ghost use Rattle.bq_trace.specs.Telling.{GoesOn};
 ghost use Rattle.bq_trace.specs.Trace.{start};
 ghost use Rattle.bq_timeline.specs.Timelines.{Watches, Closes, IsTimeline};
 
 use crate::settings::Settings;
 use crate::viewer::Viewer;
-use bq_trace::{Counted, ReplayFault, TracePosition};
+use bq_streams::{Counted, PIECE, READS, StreamFault};
+use bq_trace::TracePosition;
 use std::alloc::Global;
 use std::io::{Read, Write};
-
-/// The most that one read takes.
-const PIECE: usize = 4096;
-
-/// The most reads of one trace.
-const READS: u64 = 1 << 32;
 
 /// What came of a timeline.
 #[derive(Drop)]
@@ -34,7 +29,7 @@ pub fn show<R: Read, W: Write>(
     settings: Settings,
     input: &mut Counted<R>,
     output: &mut Counted<W>,
-) -> Result<Outcome, ReplayFault>
+) -> Result<Outcome, StreamFault>
     // It is that of all lines that the reader gave.
     ensures timeline { IfOk result (IsTimeline (R.remaining (inner_of input.old)) (R.remaining (inner_of input.new))) }
 
@@ -55,7 +50,7 @@ pub fn show<R: Read, W: Write>(
         }
         turns.feed(&piece[..count], output)?;
     }
-    Err(ReplayFault::TooLong)
+    Err(StreamFault::TooLong)
 }
 
 /// A timeline of the pieces so far.
@@ -91,7 +86,7 @@ impl Turns {
     }
 
     /// Takes a piece, and writes what is ripe.
-    fn feed<W: Write>(&mut self, piece: &[u8], output: &mut Counted<W>) -> Result<(), ReplayFault>
+    fn feed<W: Write>(&mut self, piece: &[u8], output: &mut Counted<W>) -> Result<(), StreamFault>
         ensures told { OnOk result ((begun : List ℕ) → StandsFor self.old.standing.begun begun
             → Watches self.old.viewer self.new.viewer (λ told. GoesOn self.old.standing begun piece.now told self.new.standing)) }
         ensures kept { OnOk result (failures_of output.new ≡ failures_of output.old) }
@@ -104,7 +99,7 @@ impl Turns {
     }
 
     /// The trace is over: writes what is left.
-    fn finish<W: Write>(&mut self, output: &mut Counted<W>) -> Result<Outcome, ReplayFault>
+    fn finish<W: Write>(&mut self, output: &mut Counted<W>) -> Result<Outcome, StreamFault>
         ensures told { IfOk result (λ outcome. (begun : List ℕ) → StandsFor self.old.standing.begun begun
             → Closes self.old begun outcome) }
         ensures kept { OnOk result (failures_of output.new ≡ failures_of output.old) }

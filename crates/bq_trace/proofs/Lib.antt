@@ -9,4 +9,3 @@ pub mod StoryTextLemmas
 pub mod TakingLemmas
 pub mod WakeLemmas
 pub mod WholeSessionLemmas
-pub mod WritingLemmas

@@ -1,10 +1,10 @@
 -- Answers to the lines of a piece, and what a writer got of them.
-use Rattle.std.proofs.Common.{ℕ, List, [], ◌++◌, map, refl, sym, ap, ◌∙◌, append-nil, subst, Option, Result, Ok, Err}
-use Rattle.std.specs.Prelude.{OnErr}
+use Rattle.std.proofs.Common.{ℕ, List, [], ◌++◌, map, refl, sym, ap, ◌∙◌, append-nil, subst, Option}
 use Rattle.std.specs.Str.Lines.{lines, strip_carriage_return}
 use Rattle.std.specs.Io.KnownBytes.{Appends}
 use Rattle.std.proofs.KnownBytes.{Appends-nil}
-use Rattle.bq_trace.specs.Writing.{AppendsPart, Adds}
+use Rattle.bq_streams.specs.Writing.{AppendsPart}
+use Rattle.bq_trace.specs.Writing.{Adds}
 use Rattle.bq_trace.specs.Trace.{AnswersAll}
 use Rattle.bq_trace.specs.Feeding.{Continues, Feeds, BreaksOff, Finishes}
 use Rattle.bq_trace.proofs.ChainLemmas.{lines-with_feeds}
@@ -62,8 +62,3 @@ finishes_part s t begun answers old new a part = record {
   chain = only answers (λ l. AnswersAll s.progress (lines begun) l t.progress) a;
   part = part;
 }
-
--- what holds anyhow holds where the result is an error
-pub OnErr-anyhow : {T E P : Type 0} (r : Result T E) → P → OnErr r P
-OnErr-anyhow (Ok x) p = tt
-OnErr-anyhow (Err e) p = p

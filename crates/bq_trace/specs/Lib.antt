@@ -1,8 +1,6 @@
 pub mod Bare
 pub mod Cores
-pub mod Counts
 pub mod Doing
-pub mod Faults
 pub mod Feeding
 pub mod Laws
 pub mod Loading

@@ -20,7 +20,7 @@ use Rattle.bq_lines.specs.declared.command.Command.TheVariants.{Machine, Does, W
 use Rattle.bq_lines.specs.declared.command.Reading.{Reading}
 use Rattle.bq_lines.specs.declared.command.Reading.TheVariants as says
 use Rattle.bq_trace.specs.Bare.{bare}
-use Rattle.bq_trace.specs.Counts.{one_more}
+use Rattle.bq_streams.specs.Counts.{one_more}
 use Rattle.bq_trace.specs.Feeding.{with_feeds}
 use Rattle.bq_trace.specs.Machines.{Driven, opening_machine, setting_of, Advances}
 use Rattle.bq_trace.specs.News.{Told, Opened, Skipped, Comes, Answered, Unspelled, Unloaded, Shown, Counted, Bad}

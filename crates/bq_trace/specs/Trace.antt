@@ -4,11 +4,11 @@ use Rattle.std.specs.Str.Lines.{lines}
 use Rattle.bq_parts.specs.declared.event.Event.TheVariants.{BeginWake, EndWake}
 use Rattle.bq_parts.specs.declared.reply.Reply.{Reply}
 use Rattle.bq_parts.specs.declared.refusal.Refusal.{Refusal}
-use Rattle.bq_trace.specs.Counts.{one_more}
+use Rattle.bq_streams.specs.Counts.{one_more}
 use Rattle.bq_trace.specs.Machines.{Driven, opening_machine}
 use Rattle.bq_trace.specs.Doing.{DoesAndAnswers}
 use Rattle.bq_trace.specs.Loading.{LoadsAndAnswers}
-use Rattle.bq_trace.specs.Writing.{AppendsPart}
+use Rattle.bq_streams.specs.Writing.{AppendsPart}
 use Rattle.bq_lines.specs.Lines.{reading_of}
 use Rattle.bq_trace.specs.Texts.{bad_line, show_line, counter_line}
 use Rattle.bq_lines.specs.declared.command.Command.TheVariants.{Machine, Does, Wake, Load, Show, Counter}

@@ -1,13 +1,11 @@
 //! A trace of events, read in pieces from any reader, and the lines that answer it, written to any writer.
 //! Promises that what is written is the text of the replies that the core gives, line by line.
 //! Whatever takes what comes of a trace, line by line, is a sink; that text is one.
-//! Stands on the lines of a trace, on the core's step and on the two disciplines.
+//! Stands on counted streams, on the lines of a trace, on the core's step and on the two disciplines.
 #![tactic(auto)]
 
 mod any_core;
 pub mod bare;
-mod counted;
-pub mod fault;
 pub mod laws;
 mod loading;
 mod pieces;
@@ -20,8 +18,7 @@ pub mod texts;
 mod trace_position;
 
 pub use any_core::{AnyCore, Seen};
-pub use counted::Counted;
-pub use fault::ReplayFault;
+pub use bq_streams::{Counted, StreamFault as ReplayFault};
 pub use pieces::replay;
 pub use session::Session;
 pub use sink::Sink;

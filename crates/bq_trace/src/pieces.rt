@@ -1,27 +1,20 @@
 //! A replay of a whole trace, from any reader to any writer.
 ghost use Rattle.std.specs.Prelude.{◌≡◌, IfOk, IfErr, OnOk, OnErr};
-ghost use Rattle.bq_trace.specs.Counts.{inner_of, calls_of, failures_of};
+ghost use Rattle.bq_streams.specs.Counts.{inner_of, calls_of, failures_of};
 ghost use Rattle.bq_trace.specs.Replaying.{Replays, ReplaysInPart};
-ghost use Rattle.bq_trace.specs.Faults.{IsFault};
+ghost use Rattle.bq_streams.specs.Faults.{IsFault};
 
-use crate::counted::Counted;
-use crate::fault::ReplayFault;
 use crate::session::Session;
+use bq_streams::{Counted, PIECE, READS, StreamFault};
 use std::alloc::Global;
 use std::io::{Read, Write};
-
-/// The most that one read takes.
-const PIECE: usize = 4096;
-
-/// The most reads of one replay.
-const READS: u64 = 1 << 32;
 
 /// Reads a trace to its end and writes what answers it. True where no line was bad.
 pub fn replay<R: Read, W: Write>(
     alloc: Global,
     input: &mut Counted<R>,
     output: &mut Counted<W>,
-) -> Result<bool, ReplayFault>
+) -> Result<bool, StreamFault>
     // What was read and what was written are a trace and its answers, and nothing is left.
     ensures ok { IfOk result (λ clean. Replays (R.remaining (inner_of input.old)) (R.remaining (inner_of input.new))
         (W.contents (inner_of output.old)) (W.contents (inner_of output.new)) clean) }
@@ -47,5 +40,5 @@ pub fn replay<R: Read, W: Write>(
         }
         session = session.feed(&piece[..count], output)?;
     }
-    Err(ReplayFault::TooLong)
+    Err(StreamFault::TooLong)
 }

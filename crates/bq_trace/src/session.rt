@@ -1,12 +1,11 @@
 //! A replay of a trace that comes in pieces.
 ghost use Rattle.std.specs.Prelude.{◌≡◌, ℕ, List, [], IfOk, IfErr, OnOk, OnErr, Some};
-ghost use Rattle.bq_trace.specs.Counts.{inner_of, failures_of};
-ghost use Rattle.bq_trace.specs.Faults.{IsWriteFault};
+ghost use Rattle.bq_streams.specs.Counts.{inner_of, failures_of};
+ghost use Rattle.bq_streams.specs.Faults.{IsWriteFault};
 ghost use Rattle.bq_lines.specs.Kept.{StandsFor};
 
-use crate::counted::Counted;
-use crate::fault::ReplayFault;
 use crate::trace_position::TracePosition;
+use bq_streams::{Counted, StreamFault};
 use std::alloc::Global;
 use std::io::Write;
 use std::marker::Model;
@@ -57,7 +56,7 @@ impl Session {
         }
     }
 
-    fn go_on<W: Write>(&mut self, piece: &[u8], out: &mut Counted<W>) -> Result<(), ReplayFault>
+    fn go_on<W: Write>(&mut self, piece: &[u8], out: &mut Counted<W>) -> Result<(), StreamFault>
         ensures ok { OnOk result ((begun : List ℕ) → StandsFor self.old.begun begun
             → Feeds self.old begun piece.now self.new (W.contents (inner_of out.old)) (W.contents (inner_of out.new))) }
         ensures kept { OnOk result (failures_of out.new ≡ failures_of out.old) }
@@ -77,7 +76,7 @@ impl Session {
         mut self,
         piece: &[u8],
         out: &mut Counted<W>,
-    ) -> Result<Session, ReplayFault>
+    ) -> Result<Session, StreamFault>
         ensures ok { IfOk result (λ next. (begun : List ℕ) → StandsFor self.begun begun
             → Feeds self begun piece.now next (W.contents (inner_of out.old)) (W.contents (inner_of out.new))) }
         ensures kept { OnOk result (failures_of out.new ≡ failures_of out.old) }
@@ -89,7 +88,7 @@ impl Session {
         Ok(self)
     }
 
-    fn end<W: Write>(&mut self, out: &mut Counted<W>) -> Result<bool, ReplayFault>
+    fn end<W: Write>(&mut self, out: &mut Counted<W>) -> Result<bool, StreamFault>
         ensures ok { IfOk result (λ clean. (begun : List ℕ) → StandsFor self.old.begun begun
             → Finishes self.old begun (W.contents (inner_of out.old)) (W.contents (inner_of out.new)) clean) }
         ensures kept { OnOk result (failures_of out.new ≡ failures_of out.old) }
@@ -104,7 +103,7 @@ impl Session {
     }
 
     /// Runs the last line, where no line feed ended it. True where no line of the trace was bad.
-    pub fn finish<W: Write>(mut self, out: &mut Counted<W>) -> Result<bool, ReplayFault>
+    pub fn finish<W: Write>(mut self, out: &mut Counted<W>) -> Result<bool, StreamFault>
         ensures ok { IfOk result (λ clean. (begun : List ℕ) → StandsFor self.begun begun
             → Finishes self begun (W.contents (inner_of out.old)) (W.contents (inner_of out.new)) clean) }
         ensures kept { OnOk result (failures_of out.new ≡ failures_of out.old) }

@@ -1,7 +1,6 @@
 //! Does what its words ask, from standard input or a file to standard output.
 #![tactic(auto)]
 
-mod import;
 mod inputs;
 mod jobs;
 mod outputs;
@@ -11,8 +10,9 @@ mod timeline;
 
 use crate::requests::{Request, asked};
 use bq_console::WordsFault;
+use bq_console::status::REFUSED;
 use bq_policy_desk::do_policy;
-use bq_replay_desk::status::REFUSED;
+use bq_run_desk::{do_import, do_run};
 use std::process::ExitCode;
 use std::sync::Wait;
 use std::thread::Threads;
@@ -34,7 +34,10 @@ fn done<T: Threads + Wait + Sync>(rt: &HostRuntime, threads: &T, request: &Reque
         Request::Job(job, file) => jobs::work(rt, threads, job, file),
         Request::Timeline(words) => timeline::timeline(rt, words),
         Request::Simulate(words) => simulate::simulate(rt, threads, words),
-        Request::Import(words) => import::import(rt, words),
-        Request::Policy(request) => do_policy(rt, request),
+        Request::Import(words) => do_import(rt, words),
+        Request::Policy(request) => match request.run_words() {
+            Some(words) => do_run(rt, words),
+            None => do_policy(rt, request),
+        },
     }
 }

@@ -3,6 +3,7 @@
 use bq_cli::asked::Job;
 use bq_cli::job;
 use bq_console::{WordsFault, as_texts, given_words};
+use bq_filters::{FileWords, file_apart};
 use bq_policy_desk::{PolicyRequest, policy_request};
 use bq_study::{StudyWords, study_words};
 use bq_timeline::{Words, words};
@@ -15,7 +16,7 @@ pub(crate) enum Request {
     Job(Job, Option<String>),
     Timeline(Words),
     Simulate(StudyWords),
-    Import(bq_policy_desk::ImportWords),
+    Import(bq_run_desk::ImportWords),
     Policy(PolicyRequest),
 }
 
@@ -44,43 +45,9 @@ fn request_of<'a>(alloc: Global, words: &'a [&'a str]) -> Result<Request, WordsF
 
 /// What the words of the other commands ask for. `asm` and `replay` may name a file, first or last.
 fn job_words(alloc: Global, words: &[&str]) -> Result<Request, WordsFault> {
-    let place = file_place(words);
-    let mut file = None;
-    let mut others = Vec::new(alloc);
-    for (at, word) in words.iter().enumerate() {
-        if place == Some(at) {
-            file = Some(String::from_str(alloc, *word)?);
-        } else {
-            others.push(*word)?;
-        }
-    }
+    let FileWords { file, others } = file_apart(alloc, words)?;
     let job = job(alloc, others.as_slice())?;
     Ok(Request::Job(job, file))
-}
-
-/// Where a file stands among the words, if there is one.
-fn file_place(words: &[&str]) -> Option<usize> {
-    match words {
-        ["asm" | "replay", rest @ ..] => match rest {
-            [first, ..] if is_file(first) => Some(1),
-            [.., option, last] if is_file(last) && !takes_value(option) => Some(rest.len()),
-            _ => None,
-        },
-        _ => None,
-    }
-}
-
-/// Whether a word names a file: it is no option; `-` is standard input.
-fn is_file(word: &str) -> bool {
-    word == "-" || !word.starts_with('-')
-}
-
-/// Whether the word after this one is its value.
-fn takes_value(option: &str) -> bool {
-    match option {
-        "--hook" | "--maps" | "--format" => true,
-        _ => false,
-    }
 }
 
 /// What the words after `timeline` ask for.
@@ -95,5 +62,5 @@ fn simulate_words<'a>(alloc: Global, given: &'a [&'a str]) -> Result<Request, Wo
 
 /// What the words after `import` ask for.
 fn import_words<'a>(alloc: Global, given: &'a [&'a str]) -> Result<Request, WordsFault> {
-    Ok(Request::Import(bq_policy_desk::import_words(alloc, given)?))
+    Ok(Request::Import(bq_run_desk::import_words(alloc, given)?))
 }

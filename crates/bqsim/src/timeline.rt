@@ -2,10 +2,9 @@
 
 use crate::inputs::file_named;
 use crate::outputs::out_of_memory;
-use bq_cli::Counted;
-use bq_console::{Kept, say_unread};
-use bq_replay_desk::ended;
-use bq_replay_desk::status::REFUSED;
+use bq_console::status::REFUSED;
+use bq_console::{ended, say_unread};
+use bq_streams::{Counted, Kept};
 use bq_timeline::{Settings, SettingsFault, Words, show};
 use std::fs;
 use std::io::Read;

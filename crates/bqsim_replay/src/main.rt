@@ -1,9 +1,9 @@
 //! `bqsim replay` alone: what a first use of `./bqsim replay` proves and builds, and runs until the whole program is there.
 #![tactic(auto)]
 
+use bq_console::status::REFUSED;
 use bq_console::{WordsFault, as_texts, given_words, say_out_of_memory};
 use bq_replay_desk::replay_file;
-use bq_replay_desk::status::REFUSED;
 use std::process::ExitCode;
 
 fn main(rt: HostRuntime) -> ExitCode {

@@ -1,7 +1,7 @@
 use Rattle.std.proofs.Common.{inl, inr, refl}
 use Rattle.std.proofs.lemmas.Result.{IfOk-weaker}
 use Rattle.bq_policy_commands.specs.Checking.{ChecksFile, ChecksTo, SaysTerms}
-use Rattle.bq_policy_commands.proofs.SayingLemmas.{said_none}
+use Rattle.bq_console.proofs.SayingLemmas.{said_none}
 use Rattle.bq_policy_commands.proofs.checking.check.Goals as goal
 
 pub returns-in-Ok : goal.returns-in-Ok

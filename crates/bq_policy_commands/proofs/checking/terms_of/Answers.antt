@@ -4,7 +4,7 @@ use Rattle.bq_program.specs.declared.head.Head.{Head}
 use Rattle.bq_policy_commands.specs.Checking.{SaysTerms}
 use Rattle.bq_policy_commands.specs.Limiting.{HasLimits}
 use Rattle.bq_policy_commands.specs.Saying.{SaysHead}
-use Rattle.bq_policy_commands.proofs.SayingLemmas.{none_whole}
+use Rattle.bq_console.proofs.SayingLemmas.{none_whole}
 use Rattle.bq_policy_commands.proofs.checking.terms_of.Goals as goal
 
 pub returns-in_err-head-clause-none : goal.returns-in_err-head-clause-none

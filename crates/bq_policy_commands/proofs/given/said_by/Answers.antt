@@ -6,7 +6,7 @@ use Rattle.bq_bpf.specs.Hooks.{hook_of, version_of}
 use Rattle.bq_bpf.specs.declared.hook.Hook.{Hook}
 use Rattle.bq_bpf.specs.declared.hook.Version.{Version}
 use Rattle.bq_policy_commands.specs.Saying.{IsHeadWord, SaysHead, option_bytes}
-use Rattle.bq_policy_commands.proofs.SayingLemmas.{none_whole}
+use Rattle.bq_console.proofs.SayingLemmas.{none_whole}
 use Rattle.bq_policy_commands.proofs.given.said_by.Goals as goal
 
 pub returns-in_err-hook-clause-none : goal.returns-in_err-hook-clause-none

@@ -3,7 +3,7 @@ use Rattle.std.proofs.lemmas.Result.{err_from_is_err_and}
 use Rattle.bq_explain.specs.declared.limits.Limits.{Limits}
 use Rattle.bq_policy_commands.specs.Limiting.{HasLimits, NamesHelpers}
 use Rattle.bq_policy_commands.specs.Saying.{IsHeadWord, IsNumberBelow, option_bytes}
-use Rattle.bq_policy_commands.proofs.SayingLemmas.{none_whole}
+use Rattle.bq_console.proofs.SayingLemmas.{none_whole}
 use Rattle.bq_policy_commands.proofs.limits.limits_of.Goals as goal
 
 pub returns-in_err-steps-clause-none : goal.returns-in_err-steps-clause-none

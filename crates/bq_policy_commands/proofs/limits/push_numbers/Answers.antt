@@ -1,7 +1,7 @@
 use Rattle.std.proofs.Common.{ℕ, ℤ, FitsSigned, w32, ◌+◌, ◌≤◌, List, [], ◌∷◌, ◌++◌, length, get_or, sym, subst, ap, ◌∙◌, to_z-of_z, length-append, arith}
 use Rattle.std.proofs.lemmas.Iterator.Splits.{YieldsList-from_str_split}
 use Rattle.std.proofs.lemmas.Iterator.Consumers.{YieldsList-turn, YieldsList-end}
-use Rattle.bq_one_run.specs.Naming.{parts}
+use Rattle.bq_console.specs.Words.{parts}
 use Rattle.bq_policy_commands.specs.Limiting.{IsHelper}
 use Rattle.bq_policy_commands.proofs.HelperLemmas.{ReadsOn, read_more, read_all, one_none}
 use Rattle.bq_policy_commands.proofs.limits.push_numbers.Goals as goal

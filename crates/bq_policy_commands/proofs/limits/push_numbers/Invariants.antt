@@ -1,5 +1,5 @@
 use Rattle.std.proofs.Common.{length}
-use Rattle.bq_one_run.specs.Naming.{parts}
+use Rattle.bq_console.specs.Words.{parts}
 use Rattle.bq_policy_commands.proofs.HelperLemmas.{ReadsOn}
 use Rattle.bq_policy_commands.proofs.limits.push_numbers.Given as goal
 

@@ -2,7 +2,7 @@ use Rattle.std.proofs.Common.{inl, inr, refl}
 use Rattle.std.proofs.lemmas.Result.{IfOk-weaker}
 use Rattle.bq_policy_commands.specs.Listing.{ListsFile, ListsTo}
 use Rattle.bq_policy_commands.specs.Saying.{SaysHead}
-use Rattle.bq_policy_commands.proofs.SayingLemmas.{said_none}
+use Rattle.bq_console.proofs.SayingLemmas.{said_none}
 use Rattle.bq_policy_commands.proofs.listing.list.Goals as goal
 
 pub returns-in-Ok : goal.returns-in-Ok

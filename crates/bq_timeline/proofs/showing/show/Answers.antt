@@ -1,7 +1,7 @@
 use Rattle.std.proofs.Common.{◌≡◌, [], subst, refl, rules, arith, take}
 use Rattle.std.specs.Io.KnownBytes.{Consumes, IsAtEnd}
 use Rattle.std.proofs.lemmas.Result.{IfOk-weaker}
-use Rattle.bq_trace.specs.Counts.{inner_of}
+use Rattle.bq_streams.specs.Counts.{inner_of}
 use Rattle.bq_timeline.proofs.WatchLemmas.{Underway-none, Underway-more, Underway-ends}
 use Rattle.bq_timeline.proofs.showing.show.Goals as goal
 

@@ -1,5 +1,5 @@
 use Rattle.std.proofs.Common.{◌≡◌}
-use Rattle.bq_trace.specs.Counts.{inner_of, calls_of, failures_of, HasCounted}
+use Rattle.bq_streams.specs.Counts.{inner_of, calls_of, failures_of, HasCounted}
 use Rattle.bq_timeline.proofs.WatchLemmas.{Underway}
 use Rattle.bq_timeline.proofs.showing.show.Given as goal
 

@@ -2,8 +2,8 @@ use Rattle.std.proofs.Common.{◌≡◌, [], subst, refl, rules, arith, take}
 use Rattle.std.specs.Io.KnownBytes.{Consumes, IsAtEnd}
 use Rattle.std.proofs.KnownBytes.{Keeps-refl}
 use Rattle.std.proofs.lemmas.Result.{IfOk-weaker, on_err_weaker}
-use Rattle.bq_trace.specs.Counts.{inner_of}
-use Rattle.bq_trace.proofs.SessionLemmas.{OnErr-anyhow}
+use Rattle.bq_streams.specs.Counts.{inner_of}
+use Rattle.bq_streams.proofs.ResultLemmas.{OnErr-anyhow}
 use Rattle.bq_trace.proofs.ReplayLemmas.{Underway-none, Underway-more, Underway-ends, Underway-breaks, Underway-stops}
 use Rattle.bq_trace.proofs.pieces.replay.Goals as goal
 

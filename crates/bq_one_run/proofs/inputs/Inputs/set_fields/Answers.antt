@@ -2,7 +2,8 @@ use Rattle.std.proofs.Common.{ℕ, ◌+◌, ◌≤◌, List, [], ◌∷◌, leng
 use Rattle.std.proofs.lemmas.Iterator.Splits.{YieldsList-from_str_split}
 use Rattle.std.proofs.lemmas.Iterator.Consumers.{YieldsList-turn, YieldsList-end}
 use Rattle.std.proofs.lemmas.Result.{err_from_is_err_and}
-use Rattle.bq_one_run.specs.Naming.{MakesNone, SetsField, parts}
+use Rattle.bq_console.specs.Words.{SaysNone, parts}
+use Rattle.bq_one_run.specs.Naming.{SetsField}
 use Rattle.bq_one_run.proofs.InTurnLemmas.{LeadsOn, turn_more, turn_all, turn_refused}
 use Rattle.bq_one_run.proofs.RefusalLemmas.{field_seen}
 use Rattle.bq_one_run.proofs.inputs.Inputs.set_fields.Goals as goal
@@ -44,6 +45,6 @@ returns-in_err-set_field-clause-refused c =
     let fault = c.in_err-set_field.field-0.0 in
     let words = parts c.args.text.now in
     let turn = YieldsList-turn (YieldsList-from_str_split 44 c.args.text.now (omega arith) (cc) (cc) (cc)) yielded _ c.loop-part.yielded_by _ _ c.in-Some.part c.in-Some.is c.next.ensures.steps in
-    let none : MakesNone (step (get_or words (length yielded) c.in-Some.part.now) now) fault = subst (λ (part : List ℕ). MakesNone (step part now) fault) turn.1 c.in_err-set_field.ensures.refused in
+    let none : SaysNone (step (get_or words (length yielded) c.in-Some.part.now) now) fault = subst (λ (part : List ℕ). SaysNone (step part now) fault) turn.1 c.in_err-set_field.ensures.refused in
     let error = err_from_is_err_and c.from_residual.result c.from_residual.ensures.1 in
     rw (error.1, error.2) (turn_refused step (λ (context : List ℕ). length context) (field_seen c.args.hook c.args.version) words (length yielded) c.in-Some.part.now first now fault turn.0 c.loop-part.invariant.size none)

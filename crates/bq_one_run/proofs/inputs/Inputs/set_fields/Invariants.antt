@@ -1,5 +1,6 @@
 use Rattle.std.proofs.Common.{◌≡◌, length}
-use Rattle.bq_one_run.specs.Naming.{SetsField, parts}
+use Rattle.bq_console.specs.Words.{parts}
+use Rattle.bq_one_run.specs.Naming.{SetsField}
 use Rattle.bq_one_run.proofs.InTurnLemmas.{LeadsOn}
 use Rattle.bq_one_run.proofs.inputs.Inputs.set_fields.Given as goal
 

@@ -2,15 +2,17 @@ use Rattle.std.proofs.Common.{ℕ, List, [], subst}
 use Rattle.std.specs.Prelude.{string_bytes}
 use Rattle.std.specs.Str.Lines.{lines}
 use Rattle.std.specs.Io.KnownBytes.{Appends}
-use Rattle.bq_trace.specs.Counts.{inner_of}
+use Rattle.bq_streams.specs.Counts.{inner_of}
 use Rattle.bq_lines.specs.Kept.{StandsFor}
 use Rattle.bq_trace.specs.Trace.{AnswersAll}
-use Rattle.bq_trace.specs.Writing.{Adds, AppendsPart}
+use Rattle.bq_streams.specs.Writing.{AppendsPart}
+use Rattle.bq_trace.specs.Writing.{Adds}
 use Rattle.bq_trace.specs.Feeding.{BreaksOff, Finishes}
 use Rattle.bq_trace.specs.Telling.{Story}
 use Rattle.bq_trace.specs.declared.trace_position.TracePosition.{TracePosition}
 use Rattle.bq_trace.proofs.StoryTextLemmas.{gets_text, story_text}
-use Rattle.bq_trace.proofs.SessionLemmas.{OnErr-anyhow, feeds_none, finishes_part, finishes_all}
+use Rattle.bq_streams.proofs.ResultLemmas.{OnErr-anyhow}
+use Rattle.bq_trace.proofs.SessionLemmas.{feeds_none, finishes_part, finishes_all}
 use Rattle.bq_trace.proofs.session.Session.end.Goals as goal
 
 pub returns-in_err-end-clause-part : goal.returns-in_err-end-clause-part

@@ -1,0 +1,28 @@
+-- Words that say none.
+use Rattle.std.proofs.Common.{◌≡◌, ℕ, List, sym, subst, String}
+use Rattle.std.specs.declared.alloc.Global.{Global}
+use Rattle.bq_console.specs.declared.fault.WordsFault.{WordsFault}
+use Rattle.bq_console.specs.declared.fault.WordsFault.TheVariants.{Words, OutOfMemory}
+use Rattle.bq_console.specs.Words.{SaysNone}
+
+-- words that say none may be refused by any text
+pub none_said : {A : Type 0} (Says : A → Type 0) (e : WordsFault) → ((a : A) → ¬ Says a) → SaysNone Says e
+none_said Says (Words why) none = none
+none_said Says OutOfMemory none = tt
+
+-- want of memory says nothing of the words
+pub no_memory : {A : Type 0} (Says : A → Type 0) (e : WordsFault) → e ≡ OutOfMemory → SaysNone Says e
+no_memory {A} Says e is = subst (λ (f : WordsFault). SaysNone Says f) (sym is) tt
+
+-- where words say no part, they say no whole
+pub none_of_part : {A B : Type 0} (Part : A → Type 0) (Whole : B → Type 0) (e : WordsFault) → ((b : B) → Whole b → (a : A) × Part a) → SaysNone Part e → SaysNone Whole e
+none_of_part Part Whole (Words why) has none = λ b whole. let part = has b whole in none part.0 part.1
+none_of_part Part Whole OutOfMemory has none = tt
+
+-- where a part is not said, the whole is not
+pub none_whole : {A B : Type 0} (Part : A → Type 0) (Whole : B → Type 0) (part : B → A) (e : WordsFault) → ((b : B) → Whole b → Part (part b)) → SaysNone Part e → SaysNone Whole e
+none_whole Part Whole part e has none = none_of_part Part Whole e (λ b whole. (part b, has b whole)) none
+
+-- refused words say none
+pub said_none : {A : Type 0} (Says : A → Type 0) (e : WordsFault) (why : String Global) → e ≡ Words why → SaysNone Says e → (a : A) → ¬ Says a
+said_none {A} Says e why is none = subst (λ (f : WordsFault). SaysNone Says f) is none

@@ -1,0 +1,41 @@
+-- The words of a command: their parts, the numbers that they write, and what it means that they are refused.
+use Rattle.std.specs.Prelude.{◌≡◌, ◌≢◌, ◌==◌, ℕ, ◌<◌, List, ◌∷◌, ◌++◌, ◌⊎◌, codes, length, slice_index}
+use Rattle.std.specs.List.{slice_split}
+use Rattle.std.specs.Str.Parse.{IsNumeral, digits_value, without_leading_plus}
+use Rattle.bq_console.specs.declared.fault.WordsFault.{WordsFault}
+use Rattle.bq_console.specs.declared.fault.WordsFault.TheVariants as fault
+
+-- words that are refused say none of that kind; want of memory says nothing of the words
+abbrev pub SaysNone : {A : Type 0} → (A → Type 0) → WordsFault → Type 0
+SaysNone {A} Says (fault.Words why) = (a : A) → ¬ Says a
+SaysNone Says fault.OutOfMemory = Unit {0}
+
+-- the mark does not stand in the text
+abbrev pub IsFreeOf : ℕ → List ℕ → Type 0
+IsFreeOf mark text = (i : ℕ) → i < length text → slice_index text i ≢ mark
+
+-- the two parts of the text around its first such mark
+pub record IsCut (mark : ℕ) (text before behind : List ℕ) : Type 0 where
+  pub splits : text ≡ before ++ (mark ∷ behind)
+  pub first : IsFreeOf mark before
+
+-- the parts between commas
+abbrev pub parts : List ℕ → List (List ℕ)
+parts text = slice_split (λ b. b == 44) text
+
+-- the word writes the number in that base
+pub record IsNumberIn (base : ℕ) (word : List ℕ) (number : ℕ) : Type 0 where
+  pub numeral : IsNumeral base (without_leading_plus word)
+  pub value : number ≡ digits_value base (without_leading_plus word)
+
+-- in decimal
+abbrev pub IsNumber : List ℕ → ℕ → Type 0
+IsNumber word number = IsNumberIn 10 word number
+
+-- in hex, after `0x`
+abbrev pub IsHexNumber : List ℕ → ℕ → Type 0
+IsHexNumber word number = (digits : List ℕ) × (word ≡ codes "0x" ++ digits) × IsNumberIn 16 digits number
+
+-- in decimal, or in hex after `0x`
+abbrev pub IsValue : List ℕ → ℕ → Type 0
+IsValue word number = IsNumber word number ⊎ IsHexNumber word number

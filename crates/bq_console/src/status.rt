@@ -1,0 +1,22 @@
+//! How a job ends.
+ghost use Rattle.std.specs.Prelude.{◌≡◌};
+ghost use Rattle.bq_console.specs.Status.{status_of};
+
+use crate::saying::{OUT_OF_MEMORY, UNREADABLE};
+use bq_streams::StreamFault;
+
+/// The exit status of words that ask for nothing.
+pub const REFUSED: u8 = 2;
+
+/// The exit status of an outcome: 0 where all is well, 1 where something was refused or bad, 3 where memory was wanted,
+/// 4 where a read or a write failed or the input was too long.
+pub fn exit_status(outcome: &Result<bool, StreamFault>) -> u8
+    ensures { result ≡ status_of outcome.now }
+{
+    match outcome {
+        Ok(true) => 0,
+        Ok(false) => 1,
+        Err(StreamFault::OutOfMemory) => OUT_OF_MEMORY,
+        Err(StreamFault::Read | StreamFault::Write | StreamFault::TooLong) => UNREADABLE,
+    }
+}

@@ -1,0 +1,4 @@
+pub mod AsmApp
+pub mod Asked
+pub mod FileWords
+pub mod Filtering

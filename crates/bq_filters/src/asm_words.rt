@@ -1,0 +1,68 @@
+//! The options of `asm` among its words.
+ghost use Rattle.std.specs.Prelude.{◌≡◌, ℕ, List, Option, IfOk, IfErr, option_map};
+ghost use Rattle.std.specs.Borrow.{Bor};
+ghost use Rattle.clap.specs.Words.{found_of, rows_of};
+ghost use Rattle.bq_bpf.specs.Hooks.{hook_word};
+ghost use Rattle.bq_program.specs.declared.options.Options.{Options as Given};
+ghost use Rattle.bq_bpf.specs.declared.hook.Hook.{Hook as Place};
+ghost use Rattle.bq_bpf.specs.declared.hook.Version.{Version as Number};
+ghost use Rattle.bq_filters.specs.Asked.{AreOptions, version_word};
+
+use bq_console::WordsFault;
+use bq_options::{value, word};
+use bq_program::{Hook, Options, Version};
+use clap::ArgMatches;
+use std::alloc::{AllocError, Global};
+
+/// The options of `asm` among what was found. A hook or a format of another name is refused; the text of the maps is not looked at.
+pub fn options(alloc: Global, matches: &ArgMatches<'_>) -> Result<Options, WordsFault>
+    ensures ok { IfOk result (AreOptions (rows_of (found_of matches.now))) }
+    ensures taken { IfErr result (λ e. (o : Given) → AreOptions (rows_of (found_of matches.now)) o → e ≡ WordsFault.OutOfMemory) }
+{
+    let hook = hook_in(alloc, value(matches, "hook"))?;
+    let format = format_in(alloc, value(matches, "format"))?;
+    let maps = word(alloc, matches, "maps")?;
+    Ok(Options { hook, maps, format })
+}
+
+/// The values of `--hook`, as its refusal lists them.
+const HOOKS: &str = "place, preempt, pull";
+/// The values of `--format`, as its refusal lists them.
+const FORMATS: &str = "1, 2";
+
+/// The hook that a word names, if there is one.
+fn hook_in(alloc: Global, word: Option<&str>) -> Result<Option<Hook>, WordsFault>
+    ensures ok { IfOk result (λ named. option_map (λ h. hook_word h) named ≡ option_map (λ (w : Bor (List ℕ)). w.now) word.entry) }
+    ensures taken { IfErr result (λ e. (named : Option Place) → option_map (λ h. hook_word h) named ≡ option_map (λ (w : Bor (List ℕ)). w.now) word.entry → e ≡ WordsFault.OutOfMemory) }
+{
+    match word {
+        None => Ok(None),
+        Some("place") => Ok(Some(Hook::Place)),
+        Some("preempt") => Ok(Some(Hook::Preempt)),
+        Some("pull") => Ok(Some(Hook::Pull)),
+        Some(other) => Err(refused(alloc, "hook", other, HOOKS)),
+    }
+}
+
+/// The version that a word names, if there is one.
+fn format_in(alloc: Global, word: Option<&str>) -> Result<Option<Version>, WordsFault>
+    ensures ok { IfOk result (λ named. option_map (λ v. version_word v) named ≡ option_map (λ (w : Bor (List ℕ)). w.now) word.entry) }
+    ensures taken { IfErr result (λ e. (named : Option Number) → option_map (λ v. version_word v) named ≡ option_map (λ (w : Bor (List ℕ)). w.now) word.entry → e ≡ WordsFault.OutOfMemory) }
+{
+    match word {
+        None => Ok(None),
+        Some("1") => Ok(Some(Version::First)),
+        Some("2") => Ok(Some(Version::Second)),
+        Some(other) => Err(refused(alloc, "format", other, FORMATS)),
+    }
+}
+
+/// The fault of an option's value that is none of those that it takes, which are listed.
+pub fn refused(alloc: Global, option: &str, value: &str, taken: &str) -> WordsFault {
+    match format!(in alloc;
+        "error: invalid value '{value}' for '--{option}'\n  [possible values: {taken}]\n\nFor more information, try '--help'.\n"
+    ) {
+        Ok(text) => WordsFault::Words(text),
+        Err(_) => WordsFault::OutOfMemory,
+    }
+}

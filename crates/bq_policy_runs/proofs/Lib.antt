@@ -1,0 +1,5 @@
+mod AcceptedLemmas
+mod JudgeLemmas
+mod TraceLemmas
+mod NamingLemmas
+mod RunLemmas

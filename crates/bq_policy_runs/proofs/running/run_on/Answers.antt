@@ -1,0 +1,25 @@
+use Rattle.std.proofs.Common.{◌∙◌, ℕ, Global, ap, length, string_bytes, List, subst}
+use Rattle.std.specs.declared.vec.Vec.{Vec}
+use Rattle.bq_interp.specs.declared.traced.Moment.{Moment}
+use Rattle.bq_one_run.specs.Runs.{kept_in}
+use Rattle.bq_policy_runs.specs.Running.{TellsRun}
+use Rattle.bq_policy_runs.specs.Tracing.{TellsSteps}
+use Rattle.bq_policy_runs.proofs.RunLemmas.{has_run, when_some}
+use Rattle.bq_policy_runs.proofs.running.run_on.Goals as goal
+
+pub returns : goal.returns
+returns c =
+    let runs = when_some _ _ _ c.run_often-others.ensures.runs c.in-Some-Some.is-0 in
+    let run = when_some _ _ _ c.in_ok-last.ensures.run c.in-Some-Some.is-1 in
+    let moments = when_some _ _ _ c.in_ok-last.ensures.moments c.in-Some-Some.is-1 in
+    let each = when_some _ _ _ c.in_ok-last.ensures.each c.in-Some-Some.is-1 in
+    let executed : TellsSteps c.args.words.now.telling.is_traced c.args.verified.now c.trace_once.new.moments.items (string_bytes c.in_ok-executed.executed) =
+    subst (λ (ms : List Moment). TellsSteps c.args.words.now.telling.is_traced c.args.verified.now ms (string_bytes c.in_ok-executed.executed)) c.as_slice.ensures.value c.in_ok-executed.ensures in
+    let told = subst (λ (context : List ℕ). TellsRun c.args.verified.now context c.in-Some-Some.ran.r0 c.in-Some-Some.ran.steps (string_bytes c.in_ok-executed.executed) (string_bytes c.in_ok-text.text))
+    (ap (λ (context : Vec ℕ Global). context.items) c.in_ok-last.ensures.context) c.in_ok-text.ensures in
+    has_run c.args.words.now.telling.is_traced c.args.series.now.before c.args.verified.now c.args.series.now.inputs c.run_often-others.new.inputs c.trace_once.new.moments.items c.in-Some-Some.ran.steps c.in-Some-Some.ran.r0 c.in-Some-Some.ran.calls.items (kept_in c.trace_once.new.inputs) c.in_ok-text.text (string_bytes c.in_ok-executed.executed) runs c.run_often-others.ensures.context c.run_often-others.ensures.env run moments each executed told
+
+pub told-requires : goal.told-requires
+told-requires c =
+    let whole = when_some _ _ _ c.in_ok-last.ensures.whole c.in-Some-Some.is-1 in
+    ap (λ (context : Vec ℕ Global). length context.items) c.in_ok-last.ensures.context ∙ whole

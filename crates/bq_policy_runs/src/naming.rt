@@ -1,0 +1,100 @@
+//! The inputs that the words of `run` name.
+ghost use Rattle.std.specs.Prelude.{◌≡◌, ◌^◌, IfErr, IfOk, OnOk, replicate};
+ghost use Rattle.bq_bpf.specs.Hooks.{context_length_of};
+ghost use Rattle.bq_one_run.specs.Naming.{BeginsWith, IsClean, SetsCounter, SetsEntry, SetsFields, TextsInTurn};
+ghost use Rattle.bq_policy_runs.specs.Running.{HasClock, HasInputs, IsNumberOrZero, SetsParts};
+ghost use Rattle.bq_console.specs.Words.{SaysNone};
+ghost use Rattle.bq_policy_commands.specs.Saying.{option_bytes};
+
+use bq_console::{WordsFault, words_fault};
+use bq_interp::Env;
+use bq_one_run::{Inputs, inputs_of};
+use bq_policy_commands::RunWords;
+use bq_verify::Verified;
+use std::alloc::Global;
+
+/// The inputs that the words name; all others are 0. Words are refused only where they name none.
+pub(crate) fn inputs_named(
+    alloc: Global,
+    words: &RunWords,
+    verified: &Verified,
+) -> Result<Inputs, WordsFault>
+    ensures names { IfOk result (HasInputs words.now verified.now) }
+    ensures none { IfErr result (SaysNone (HasInputs words.now verified.now)) }
+{
+    let env = env_named(alloc, words)?;
+    let mut inputs = first_inputs(alloc, words, verified, env)?;
+    set_parts(alloc, words, verified, &mut inputs)?;
+    Ok(inputs)
+}
+
+/// Sets the fields, entries and counters that the words name.
+fn set_parts(
+    alloc: Global,
+    words: &RunWords,
+    verified: &Verified,
+    inputs: &mut Inputs,
+) -> Result<(), WordsFault>
+    ensures context { OnOk result (TextsInTurn (SetsFields verified.now.hook verified.now.version) words.now.fields.items inputs.old.context.items inputs.new.context.items) }
+    ensures maps { OnOk result (TextsInTurn SetsEntry words.now.entries.items inputs.old.maps inputs.new.maps) }
+    ensures board { OnOk result (TextsInTurn SetsCounter words.now.counters.items inputs.old.board inputs.new.board) }
+    ensures env { OnOk result (inputs.new.env ≡ inputs.old.env) }
+    ensures refused { IfErr result (SaysNone (SetsParts words.now verified.now inputs.old)) }
+{
+    let hook = verified.hook();
+    let version = verified.version();
+    inputs.set_all_fields(alloc, hook, version, words.fields.as_slice())?;
+    inputs.set_all_entries(alloc, words.entries.as_slice())?;
+    inputs.set_all_counters(alloc, words.counters.as_slice())?;
+    Ok(())
+}
+
+/// The inputs before words set parts of them: the context that a word names, and all else 0.
+fn first_inputs(
+    alloc: Global,
+    words: &RunWords,
+    verified: &Verified,
+    env: Env,
+) -> Result<Inputs, WordsFault>
+    ensures context { IfOk result (λ i. BeginsWith (option_bytes words.now.context) (context_length_of verified.now.hook verified.now.version) i.context.items) }
+    ensures maps { IfOk result (λ i. IsClean verified.now.shapes i.maps) }
+    ensures env { IfOk result (λ i. i.env ≡ env) }
+    ensures board { IfOk result (λ i. i.board ≡ replicate 64 0) }
+    ensures refused { IfErr result (SaysNone (BeginsWith (option_bytes words.now.context) (context_length_of verified.now.hook verified.now.version))) }
+{
+    let mut inputs = inputs_of(alloc, verified, env)?;
+    if let Some(text) = &words.context {
+        inputs.set_context(alloc, text.as_str())?;
+    }
+    Ok(inputs)
+}
+
+/// The time and the processor.
+fn env_named(alloc: Global, words: &RunWords) -> Result<Env, WordsFault>
+    ensures clock { IfOk result (HasClock words.now) }
+    ensures none { IfErr result (SaysNone (HasClock words.now)) }
+{
+    let now = number(alloc, "time", &words.time)?;
+    let processor = number(alloc, "processor", &words.processor)?;
+    match u32::try_from(processor) {
+        Ok(processor) => Ok(Env { now, processor }),
+        Err(_) => Err(words_fault(String::from_str(
+            alloc,
+            "--processor is a number below 4294967296",
+        ))),
+    }
+}
+
+/// The number that a word names; 0 without a word.
+fn number(alloc: Global, option: &str, word: &Option<String>) -> Result<u64, WordsFault>
+    ensures number { IfOk result (IsNumberOrZero (2 ^ 64) (option_bytes word.now)) }
+    ensures none { IfErr result (SaysNone (IsNumberOrZero (2 ^ 64) (option_bytes word.now))) }
+{
+    let Some(word) = word else {
+        return Ok(0);
+    };
+    match word.as_str().parse::<u64>() {
+        Ok(number) => Ok(number),
+        Err(_) => Err(words_fault(format!(in alloc; "--{option} {word} is no number"))),
+    }
+}

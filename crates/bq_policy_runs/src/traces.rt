@@ -1,0 +1,120 @@
+//! The instructions of a run, one after another, in words.
+ghost use Rattle.std.specs.Prelude.{◌≡◌, ◌++◌, IfOk, string_bytes};
+ghost use Rattle.bq_policy_runs.specs.Tracing.{AreSteps, TellsSteps, changes_below, changes_to, slot_text, step_text};
+
+use bq_asm::listing;
+use bq_insn::Insn;
+use bq_one_run::Moment;
+use bq_program::Policy;
+use bq_verify::Verified;
+use std::alloc::{AllocError, Global};
+
+/// The instructions that the run executed, where that is asked for; else nothing.
+pub(crate) fn executed_text(
+    alloc: Global,
+    is_traced: bool,
+    policy: &Policy,
+    verified: &Verified,
+    moments: &[Moment],
+) -> Result<String, AllocError>
+    ensures { IfOk result (λ text. TellsSteps is_traced verified.now moments.now (string_bytes text)) }
+{
+    if is_traced {
+        steps_text(alloc, policy, verified, moments)
+    } else {
+        Ok(String::new(alloc))
+    }
+}
+
+/// For each instruction where it stands, itself, and a line for each register that it changed.
+fn steps_text(
+    alloc: Global,
+    policy: &Policy,
+    verified: &Verified,
+    moments: &[Moment],
+) -> Result<String, AllocError>
+    ensures { IfOk result (λ text. AreSteps verified.now moments.now (string_bytes text)) }
+{
+    let mut text = String::new(alloc);
+    let mut rest = moments;
+    while let [moment, after @ ..] = rest {
+        let place = place_of(alloc, policy, moment.slot)?;
+        let step = step_text(alloc, verified, moment, after)?;
+        write!(text, "{place}{step}")?;
+        rest = after;
+    }
+    Ok(text)
+}
+
+/// One instruction with its slot, and what it changed.
+fn step_text(
+    alloc: Global,
+    verified: &Verified,
+    moment: &Moment,
+    after: &[Moment],
+) -> Result<String, AllocError>
+    ensures { IfOk result (λ text. string_bytes text ≡ step_text verified.now moment.now after.now) }
+{
+    let slot = moment.slot;
+    let said = slot_text(alloc, verified.at(slot).copied())?;
+    let changes = changes_to(alloc, moment, after)?;
+    format!(in alloc; "slot {slot}: {said}{changes}")
+}
+
+/// An instruction as it is listed, with the line's end.
+fn slot_text(alloc: Global, insn: Option<Insn>) -> Result<String, AllocError>
+    ensures { IfOk result (λ text. string_bytes text ≡ slot_text insn) }
+{
+    match insn {
+        Some(insn) => listing(alloc, &[insn]),
+        None => String::from_str(alloc, "\n"),
+    }
+}
+
+/// The registers that differ where the next instruction begins.
+fn changes_to(alloc: Global, moment: &Moment, after: &[Moment]) -> Result<String, AllocError>
+    ensures { IfOk result (λ text. string_bytes text ≡ changes_to moment.now after.now) }
+{
+    match after {
+        [] => Ok(String::new(alloc)),
+        [next, ..] => changes_text(alloc, moment, next),
+    }
+}
+
+/// The registers whose words differ, with the words that they have now.
+fn changes_text(alloc: Global, before: &Moment, now: &Moment) -> Result<String, AllocError>
+    ensures { IfOk result (λ text. string_bytes text ≡ changes_below 11 before.now.registers now.now.registers) }
+{
+    let mut text = String::new(alloc);
+    for register in 0..11usize {
+        let word = now.registers[register];
+        if before.registers[register] != word {
+            write!(text, "    r{register} = {word} (0x{word:x})\n")?;
+        }
+    }
+    Ok(text)
+}
+
+/// The line of the instruction at a slot and a comma, where the policy is a text.
+fn place_of(alloc: Global, policy: &Policy, slot: usize) -> Result<String, AllocError> {
+    let line = match index_at(policy.insns.as_slice(), slot) {
+        Some(index) => policy.lines.get(index),
+        None => None,
+    };
+    match line {
+        Some(line) => format!(in alloc; "line {line}, "),
+        None => Ok(String::new(alloc)),
+    }
+}
+
+/// The index of the instruction that begins at a slot.
+fn index_at(insns: &[Insn], slot: usize) -> Option<usize> {
+    let mut begins: usize = 0;
+    for (index, insn) in insns.iter().enumerate() {
+        if begins == slot {
+            return Some(index);
+        }
+        begins = begins.saturating_add(insn.slots());
+    }
+    None
+}

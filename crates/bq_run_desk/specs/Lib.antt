@@ -1,0 +1,4 @@
+pub mod ImportApp
+pub mod ImportAsked
+pub mod ImportText
+pub mod ImportWords

@@ -1,0 +1,2 @@
+pub mod ResultLemmas
+pub mod WritingLemmas

@@ -1,0 +1,27 @@
+-- Readers and writers that are counted, and counts of 64 bits.
+use Rattle.std.specs.Prelude.{◌≡◌, ℕ, ◌+◌, ◌-◌, ◌^◌, ◌<◌, ◌≤◌, ◌⊎◌, min}
+use Rattle.bq_streams.specs.declared.counted.Counted.{Counted}
+
+-- the reader or the writer itself
+abbrev pub inner_of : {T : Type 0} → Counted T → T
+inner_of c = c.inner
+
+-- how often it was called
+abbrev pub calls_of : {T : Type 0} → Counted T → ℕ
+calls_of c = c.calls
+
+-- how often it failed
+abbrev pub failures_of : {T : Type 0} → Counted T → ℕ
+failures_of c = c.failures
+
+-- a count after one more: the greatest stays
+abbrev pub one_more : ℕ → ℕ
+one_more n = min (n + 1) (2 ^ 64 - 1)
+
+-- the count went up, or it is the greatest and cannot show it
+abbrev pub HasRisen : ℕ → ℕ → Type 0
+HasRisen old new = (old < new) ⊎ (new ≡ 2 ^ 64 - 1)
+
+-- the count went up by so many, or to the greatest
+abbrev pub HasCounted : ℕ → ℕ → ℕ → Type 0
+HasCounted n old new = min (old + n) (2 ^ 64 - 1) ≤ new

@@ -1,0 +1,101 @@
+//! Readers and writers whose calls and failures are counted.
+ghost use Rattle.std.specs.Prelude.{◌≡◌, ◌<◌, ◌≤◌, length, take, IfOk, IfErr, OnOk, OnErr, is_ok, if◌then◌else◌};
+ghost use Rattle.std.specs.Io.KnownBytes.{Appends, Keeps, ReadConsumes};
+ghost use Rattle.bq_streams.specs.Counts.{inner_of, calls_of, failures_of, one_more, HasRisen};
+ghost use Rattle.bq_streams.specs.Writing.{AppendsPart};
+
+use crate::fault::StreamFault;
+use std::io::{Read, Write};
+
+/// A reader or a writer, with how often it was called and how often it failed. Each count stops at its greatest value.
+#[derive(Drop)]
+pub struct Counted<T> {
+    inner: T,
+    calls: u64,
+    failures: u64,
+}
+
+impl<T> Counted<T> {
+    /// Counts the calls of a reader or a writer, of which there was none yet.
+    pub fn new(inner: T) -> Counted<T>
+        ensures wraps { inner_of result ≡ inner }
+        ensures calls { calls_of result ≡ 0 }
+        ensures failures { failures_of result ≡ 0 }
+    {
+        Counted {
+            inner,
+            calls: 0,
+            failures: 0,
+        }
+    }
+
+    /// The reader or the writer.
+    pub fn into_inner(self) -> T
+        ensures { result ≡ inner_of self }
+    {
+        let Counted {
+            inner,
+            calls: _,
+            failures: _,
+        } = self;
+        inner
+    }
+}
+
+impl<R: Read> Counted<R> {
+    /// One read into `buf`. Its only error is `StreamFault::Read`.
+    pub fn read(&mut self, buf: &mut [u8]) -> Result<usize, StreamFault>
+        ensures bound { IfOk result (λ n. n ≤ length buf.new) }
+        ensures bytes { ReadConsumes (R.remaining (inner_of self.old)) (R.remaining (inner_of self.new)) result buf.new }
+        ensures calls { calls_of self.new ≡ one_more (calls_of self.old) }
+        ensures failures { failures_of self.new ≡ (if is_ok result then failures_of self.old else one_more (failures_of self.old)) }
+        ensures fault { IfErr result (λ e. e ≡ StreamFault.Read) }
+    {
+        self.calls = self.calls.saturating_add(1);
+        match self.inner.read(buf) {
+            Ok(n) => Ok(n),
+            Err(_) => {
+                self.failures = self.failures.saturating_add(1);
+                Err(StreamFault::Read)
+            }
+        }
+    }
+}
+
+impl<W: Write> Counted<W> {
+    /// One write of a piece that is not empty, of which some is taken. A write that takes nothing is a failure.
+    pub fn write_some(&mut self, piece: &[u8]) -> Result<usize, StreamFault>
+        requires { 0 < length piece.now }
+        ensures taken { IfOk result (λ n. (0 < n) × (n ≤ length piece.now)
+            × Appends (W.contents (inner_of self.old)) (W.contents (inner_of self.new)) (take n piece.now)) }
+        ensures kept { OnErr result (Keeps (W.contents (inner_of self.old)) (W.contents (inner_of self.new))) }
+        ensures calls { calls_of self.new ≡ one_more (calls_of self.old) }
+        ensures failures { failures_of self.new ≡ (if is_ok result then failures_of self.old else one_more (failures_of self.old)) }
+        ensures fault { IfErr result (λ e. e ≡ StreamFault.Write) }
+    {
+        self.calls = self.calls.saturating_add(1);
+        match self.inner.write(piece) {
+            Ok(0) | Err(_) => {
+                self.failures = self.failures.saturating_add(1);
+                Err(StreamFault::Write)
+            }
+            Ok(n) => Ok(n),
+        }
+    }
+
+    /// Writes the whole text, or a beginning of it where a write fails.
+    pub fn write_text(&mut self, text: &[u8]) -> Result<(), StreamFault>
+        ensures whole { OnOk result (Appends (W.contents (inner_of self.old)) (W.contents (inner_of self.new)) text.now) }
+        ensures kept { OnOk result (failures_of self.new ≡ failures_of self.old) }
+        ensures part { OnErr result (AppendsPart (W.contents (inner_of self.old)) (W.contents (inner_of self.new)) text.now) }
+        ensures risen { OnErr result (HasRisen (failures_of self.old) (failures_of self.new)) }
+        ensures fault { IfErr result (λ e. e ≡ StreamFault.Write) }
+    {
+        let mut rest = text;
+        while !rest.is_empty() {
+            let taken = self.write_some(rest)?;
+            rest = &rest[taken..];
+        }
+        Ok(())
+    }
+}

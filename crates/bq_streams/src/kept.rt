@@ -1,0 +1,93 @@
+//! Readers and writers that keep why they failed.
+ghost use Rattle.std.specs.Prelude.{◌≡◌, None, Some, IfErr, OnOk};
+ghost use Rattle.std.specs.Io.KnownBytes.{Keeps, ReadConsumes, WriteAppends};
+ghost use Rattle.std.specs.Io.{ReadsAtMost, WritesAtMost};
+ghost use Rattle.bq_streams.specs.Keeping.{failure_of, inner_of};
+
+use std::io;
+use std::io::{Error, Read, Write};
+
+/// A reader or a writer, with the error of its last call that failed.
+///
+/// ```text
+/// let mut input = Kept::new(file);
+/// let outcome = work(&mut input);
+/// let why = input.failure();
+/// ```
+#[derive(Drop)]
+pub struct Kept<T> {
+    inner: T,
+    failure: Option<Error>,
+}
+
+impl<T> Kept<T> {
+    /// Keeps the failures of a reader or a writer, of which there was none yet.
+    pub fn new(inner: T) -> Kept<T>
+        ensures inner { inner_of result ≡ inner }
+        ensures failure { failure_of result ≡ None }
+    {
+        Kept {
+            inner,
+            failure: None,
+        }
+    }
+
+    /// The error of the last call that failed, if one did.
+    pub fn failure(&self) -> Option<Error>
+        ensures { result ≡ failure_of self.now }
+    {
+        self.failure
+    }
+}
+
+impl<R: Read> Read for Kept<R> {
+    ghost remaining = { λ k. R.remaining (inner_of k) };
+
+    fn read(&mut self, buf: &mut [u8]) -> io::Result<usize>
+        ensures bound { ReadsAtMost result buf.new }
+        ensures bytes { ReadConsumes (R.remaining (inner_of self.old)) (R.remaining (inner_of self.new)) result buf.new }
+        ensures kept { IfErr result (λ e. failure_of self.new ≡ Some e) }
+        ensures same { OnOk result (failure_of self.new ≡ failure_of self.old) }
+    {
+        match self.inner.read(buf) {
+            Ok(count) => Ok(count),
+            Err(error) => {
+                self.failure = Some(error);
+                Err(error)
+            }
+        }
+    }
+}
+
+impl<W: Write> Write for Kept<W> {
+    ghost contents = { λ k. W.contents (inner_of k) };
+
+    fn write(&mut self, buf: &[u8]) -> io::Result<usize>
+        ensures bound { WritesAtMost result buf.now }
+        ensures bytes { WriteAppends (W.contents (inner_of self.old)) (W.contents (inner_of self.new)) result buf.now }
+        ensures kept { IfErr result (λ e. failure_of self.new ≡ Some e) }
+        ensures same { OnOk result (failure_of self.new ≡ failure_of self.old) }
+    {
+        match self.inner.write(buf) {
+            Ok(count) => Ok(count),
+            Err(error) => {
+                self.failure = Some(error);
+                Err(error)
+            }
+        }
+    }
+
+    fn flush(&mut self) -> io::Result<()>
+        ensures bytes { Keeps (W.contents (inner_of self.old)) (W.contents (inner_of self.new)) }
+        ensures kept { IfErr result (λ e. failure_of self.new ≡ Some e) }
+        ensures same { OnOk result (failure_of self.new ≡ failure_of self.old) }
+    {
+        match self.inner.flush() {
+            Ok(()) => Ok(()),
+            Err(error) => {
+                self.failure = Some(error);
+                Err(error)
+            }
+        }
+    }
+}

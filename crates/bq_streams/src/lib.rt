@@ -1,0 +1,15 @@
+//! Streams: readers and writers that count their calls and failures, or keep why they failed, and inputs that are read whole.
+//!
+//! A read or a write fails here with a [`StreamFault`], which is answered only for its cause, by contract: a fault of the reader
+//! only where its failures rose, one of the writer only where the writer's did.
+#![tactic(auto)]
+
+mod counted;
+pub mod fault;
+mod kept;
+mod whole;
+
+pub use counted::Counted;
+pub use fault::StreamFault;
+pub use kept::Kept;
+pub use whole::{PIECE, READS, read_whole};
