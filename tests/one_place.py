@@ -27,6 +27,8 @@ FACTS = [
     ('the latest reading of a clock', r'1 << 48', {'bq_disc/src/clock.rt'}),
     ('the text of a refused event', r'"(?:refused )?C\d+ ', {'bq_parts/src/refusal.rt'}),
     ('what is no number of processors', r'is no number of processors', {'bq_lines/src/numbers.rt'}),
+    ('the first words of instructions', r'\bjsle64\b|\bsmod32\b', {'bq_asm/src/table.rt'}),
+    ('an exit status', r'u8 = [1-4];', {'bq_console/src/status.rt', 'bq_console/src/saying.rt'}),
     ('the longest duration', r'281_?474_?976_?710_?655;', {'bq_actions/src/limits.rt'}),
 ]
 

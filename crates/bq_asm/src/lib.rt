@@ -21,4 +21,6 @@ mod told;
 pub use assembler::assemble;
 pub use canonical::listing;
 pub use fault::{AsmFault, Cause};
+pub use mnemonic::Mnemonic;
+pub use table::{mnemonics, named};
 pub use told::says_instruction;

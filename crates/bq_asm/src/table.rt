@@ -1,6 +1,6 @@
 //! Every first word with what it says.
 ghost use Rattle.std.specs.Prelude.{◌≡◌};
-ghost use Rattle.bq_asm.specs.Named.{named, entry_with, by_bytes};
+ghost use Rattle.bq_asm.specs.Named.{named, entry_with, by_bytes, table};
 
 use crate::mnemonic::Mnemonic;
 use crate::mnemonic::Mnemonic::{
@@ -17,8 +17,9 @@ use bq_insn::Order::{Big, Little, Swapped};
 use bq_insn::Size::{Byte, Double, Half, Word};
 use bq_insn::Width::{W32, W64};
 
-/// The first words and what they say. No word stands here twice.
+/// The first words and what they say, those of 64 bits before those of 32. No word stands here twice.
 static MNEMONICS: [(&str, Mnemonic); 87] = [
+    ("mov64", Alu(W64, Mov)),
     ("add64", Alu(W64, Add)),
     ("sub64", Alu(W64, Sub)),
     ("mul64", Alu(W64, Mul)),
@@ -26,13 +27,13 @@ static MNEMONICS: [(&str, Mnemonic); 87] = [
     ("sdiv64", Alu(W64, Sdiv)),
     ("or64", Alu(W64, Or)),
     ("and64", Alu(W64, And)),
+    ("xor64", Alu(W64, Xor)),
     ("lsh64", Alu(W64, Lsh)),
     ("rsh64", Alu(W64, Rsh)),
+    ("arsh64", Alu(W64, Arsh)),
     ("mod64", Alu(W64, Rem)),
     ("smod64", Alu(W64, Srem)),
-    ("xor64", Alu(W64, Xor)),
-    ("mov64", Alu(W64, Mov)),
-    ("arsh64", Alu(W64, Arsh)),
+    ("neg64", Neg(W64)),
     ("jeq64", Branch(W64, Equal)),
     ("jgt64", Branch(W64, Greater)),
     ("jge64", Branch(W64, GreaterEqual)),
@@ -44,7 +45,7 @@ static MNEMONICS: [(&str, Mnemonic); 87] = [
     ("jle64", Branch(W64, LessEqual)),
     ("jslt64", Branch(W64, SignedLess)),
     ("jsle64", Branch(W64, SignedLessEqual)),
-    ("neg64", Neg(W64)),
+    ("mov32", Alu(W32, Mov)),
     ("add32", Alu(W32, Add)),
     ("sub32", Alu(W32, Sub)),
     ("mul32", Alu(W32, Mul)),
@@ -52,13 +53,13 @@ static MNEMONICS: [(&str, Mnemonic); 87] = [
     ("sdiv32", Alu(W32, Sdiv)),
     ("or32", Alu(W32, Or)),
     ("and32", Alu(W32, And)),
+    ("xor32", Alu(W32, Xor)),
     ("lsh32", Alu(W32, Lsh)),
     ("rsh32", Alu(W32, Rsh)),
+    ("arsh32", Alu(W32, Arsh)),
     ("mod32", Alu(W32, Rem)),
     ("smod32", Alu(W32, Srem)),
-    ("xor32", Alu(W32, Xor)),
-    ("mov32", Alu(W32, Mov)),
-    ("arsh32", Alu(W32, Arsh)),
+    ("neg32", Neg(W32)),
     ("jeq32", Branch(W32, Equal)),
     ("jgt32", Branch(W32, Greater)),
     ("jge32", Branch(W32, GreaterEqual)),
@@ -70,12 +71,11 @@ static MNEMONICS: [(&str, Mnemonic); 87] = [
     ("jle32", Branch(W32, LessEqual)),
     ("jslt32", Branch(W32, SignedLess)),
     ("jsle32", Branch(W32, SignedLessEqual)),
-    ("neg32", Neg(W32)),
-    ("movsx32_8", MovSx(W32, B8)),
-    ("movsx32_16", MovSx(W32, B16)),
     ("movsx64_8", MovSx(W64, B8)),
     ("movsx64_16", MovSx(W64, B16)),
     ("movsx64_32", MovSx(W64, B32)),
+    ("movsx32_8", MovSx(W32, B8)),
+    ("movsx32_16", MovSx(W32, B16)),
     ("le16", End(Little, B16)),
     ("le32", End(Little, B32)),
     ("le64", End(Little, B64)),
@@ -118,6 +118,13 @@ fn look_up(entries: &[(&str, Mnemonic)], word: &[u8]) -> Option<Mnemonic>
         }
     }
     None
+}
+
+/// All first words with what they say. Of two that are as near to a word that is none, the first is the likelier one.
+pub fn mnemonics() -> &'static [(&'static str, Mnemonic)]
+    ensures { by_bytes result.now ≡ table }
+{
+    &MNEMONICS
 }
 
 /// What a first word says, if it is one.

@@ -5,6 +5,9 @@ ghost use Rattle.bq_console.specs.Status.{status_of};
 use crate::saying::{OUT_OF_MEMORY, UNREADABLE};
 use bq_streams::StreamFault;
 
+/// The exit status where an input is bad, or what it says is refused.
+pub const BAD_INPUT: u8 = 1;
+
 /// The exit status of words that ask for nothing.
 pub const REFUSED: u8 = 2;
 
@@ -15,7 +18,7 @@ pub fn exit_status(outcome: &Result<bool, StreamFault>) -> u8
 {
     match outcome {
         Ok(true) => 0,
-        Ok(false) => 1,
+        Ok(false) => BAD_INPUT,
         Err(StreamFault::OutOfMemory) => OUT_OF_MEMORY,
         Err(StreamFault::Read | StreamFault::Write | StreamFault::TooLong) => UNREADABLE,
     }

@@ -1,5 +1,6 @@
 //! `asm`, `check` and `dis` as filters: from what they read to the exit status.
 
+use bq_console::status::BAD_INPUT;
 use bq_console::{ended, say_out_of_memory, whole_input, written};
 use bq_explain::complaint;
 use bq_filters::{Filtering, run_filter};
@@ -8,9 +9,6 @@ use bq_program::Options;
 use bq_streams::{Counted, Kept};
 use std::io::Read;
 use std::process::ExitCode;
-
-/// The exit status where a text is refused.
-const REFUSED_TEXT: u8 = 1;
 
 /// Filters the file that is named, or standard input; `check` and `dis` read standard input alone.
 pub fn do_filter(rt: &HostRuntime, filtering: &Filtering, file: &Option<String>) -> ExitCode {
@@ -58,7 +56,7 @@ fn assemble_input(
 fn refuse(rt: &HostRuntime, refusal: &AsmRefusal) -> ExitCode {
     let reason = &refusal.reason;
     let _ = eprintln!(rt; "bqsim: {reason}");
-    written(rt, refusal.line.as_str(), ExitCode::from(REFUSED_TEXT))
+    written(rt, refusal.line.as_str(), ExitCode::from(BAD_INPUT))
 }
 
 /// Assembles a text, and says beside the answer what is wrong with it.

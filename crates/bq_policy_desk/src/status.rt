@@ -3,6 +3,7 @@ ghost use Rattle.std.specs.Prelude.{◌≡◌};
 ghost use Rattle.bq_policy_desk.specs.Status.{status_of};
 
 use bq_console::OUT_OF_MEMORY;
+use bq_console::status::{BAD_INPUT, REFUSED};
 use bq_policy_commands::Answered;
 use std::alloc::AllocError;
 
@@ -12,8 +13,8 @@ pub fn exit_status(answer: &Result<Answered, AllocError>) -> u8
 {
     match answer {
         Ok(Answered::Done(_)) => 0,
-        Ok(Answered::Refused(_)) => 1,
-        Ok(Answered::Words(_)) => 2,
+        Ok(Answered::Refused(_)) => BAD_INPUT,
+        Ok(Answered::Words(_)) => REFUSED,
         Err(_) => OUT_OF_MEMORY,
     }
 }

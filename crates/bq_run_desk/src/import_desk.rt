@@ -2,12 +2,9 @@
 
 use crate::import_settings::{ImportSettings, ImportSettingsFault, ImportWords};
 use crate::import_text::{ImportRefusal, imported};
-use bq_console::status::REFUSED;
+use bq_console::status::{BAD_INPUT, REFUSED};
 use bq_console::{name_of, say_out_of_memory, whole_input, written};
 use std::process::ExitCode;
-
-/// The exit status of a program that is not imported.
-const NOT_IMPORTED: u8 = 1;
 
 /// Writes a compiled program, from the file that the words name or from standard input, as an assembler text.
 pub fn do_import(rt: &HostRuntime, words: &ImportWords) -> ExitCode {
@@ -29,7 +26,7 @@ pub fn do_import(rt: &HostRuntime, words: &ImportWords) -> ExitCode {
         Err(refusal) => {
             let name = name_of(&words.file);
             let _ = eprintln!(rt; "{name}: {refusal}");
-            ExitCode::from(NOT_IMPORTED)
+            ExitCode::from(BAD_INPUT)
         }
     }
 }

@@ -4,7 +4,7 @@ use crate::inputs::{name_of, whole_file, whole_input};
 use crate::outputs::{out_of_memory, write_out};
 use bq_actions::Workload;
 use bq_comparison::{Comparing, SeedsFault, asked_comparison, compare, lines, written};
-use bq_console::status::REFUSED;
+use bq_console::status::{BAD_INPUT, REFUSED};
 use bq_core::Hook;
 use bq_simulate::SimulateFault;
 use bq_study::{Asked, AskedFault, Policies, PolicyFault, StudyWords, asked_changes, run_as};
@@ -13,9 +13,6 @@ use bq_workload::{Changes, Fault, read};
 use std::process::ExitCode;
 use std::str::from_utf8;
 use std::thread::Threads;
-
-/// The exit status of a workload or a policy that is none.
-const BAD_INPUT: u8 = 1;
 
 /// Runs a workload, from the file that the words name or from standard input, and shows it as they ask.
 pub(crate) fn simulate<T: Threads + Sync>(
