@@ -35,7 +35,6 @@ FACTS = [
 
 # What may stand in two places, and why.
 ALLOWED = {
-    'the word of a hook: bq_filters/src/asm_words.rt': 'the values that an option takes, beside the text of its refusal, which lists them',
     'the word of a hook: bq_forms/src/summary.rt': 'keys of a form in JSON, which stay what they are whatever traces call a hook',
     'the word of a hook: bq_forms/src/tables.rt': 'the column of a report, which stays what it is whatever traces call a hook',
     'the word of a hook: bq_lines/src/lines.rt': 'the command `pull` of a trace, an event, whose word only happens to be that of a hook too',

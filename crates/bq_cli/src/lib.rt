@@ -1,4 +1,4 @@
-//! The program's commands: the words that ask for one, and what it does.
+//! The jobs `asm`, `check`, `dis`, `par` and `replay`: the words that ask for one, and what it reads and writes.
 //! Promises that words ask for what clap finds in them, that filters keep the promise of bq_filters, and that a replay keeps that of
 //! bq_trace.
 #![tactic(auto)]

@@ -2,11 +2,11 @@
 ghost use Rattle.std.specs.Prelude.{◌≡◌, ℕ, List, Option, IfOk, IfErr, option_map};
 ghost use Rattle.std.specs.Borrow.{Bor};
 ghost use Rattle.clap.specs.Words.{found_of, rows_of};
-ghost use Rattle.bq_bpf.specs.Hooks.{hook_word};
+ghost use Rattle.bq_bpf.specs.Hooks.{hook_of, version_of};
 ghost use Rattle.bq_program.specs.declared.options.Options.{Options as Given};
 ghost use Rattle.bq_bpf.specs.declared.hook.Hook.{Hook as Place};
 ghost use Rattle.bq_bpf.specs.declared.hook.Version.{Version as Number};
-ghost use Rattle.bq_filters.specs.Asked.{AreOptions, version_word};
+ghost use Rattle.bq_filters.specs.Asked.{AreOptions, Names};
 
 use bq_console::WordsFault;
 use bq_options::{value, word};
@@ -32,28 +32,29 @@ const FORMATS: &str = "1, 2";
 
 /// The hook that a word names, if there is one.
 fn hook_in(alloc: Global, word: Option<&str>) -> Result<Option<Hook>, WordsFault>
-    ensures ok { IfOk result (λ named. option_map (λ h. hook_word h) named ≡ option_map (λ (w : Bor (List ℕ)). w.now) word.entry) }
-    ensures taken { IfErr result (λ e. (named : Option Place) → option_map (λ h. hook_word h) named ≡ option_map (λ (w : Bor (List ℕ)). w.now) word.entry → e ≡ WordsFault.OutOfMemory) }
+    ensures ok { IfOk result (Names hook_of (option_map (λ (w : Bor (List ℕ)). w.now) word.entry)) }
+    ensures taken { IfErr result (λ e. (named : Option Place) → Names hook_of (option_map (λ (w : Bor (List ℕ)). w.now) word.entry) named → e ≡ WordsFault.OutOfMemory) }
 {
-    match word {
-        None => Ok(None),
-        Some("place") => Ok(Some(Hook::Place)),
-        Some("preempt") => Ok(Some(Hook::Preempt)),
-        Some("pull") => Ok(Some(Hook::Pull)),
-        Some(other) => Err(refused(alloc, "hook", other, HOOKS)),
+    let Some(word) = word else {
+        return Ok(None);
+    };
+    match Hook::of_word(word.as_bytes()) {
+        Some(hook) => Ok(Some(hook)),
+        None => Err(refused(alloc, "hook", word, HOOKS)),
     }
 }
 
 /// The version that a word names, if there is one.
 fn format_in(alloc: Global, word: Option<&str>) -> Result<Option<Version>, WordsFault>
-    ensures ok { IfOk result (λ named. option_map (λ v. version_word v) named ≡ option_map (λ (w : Bor (List ℕ)). w.now) word.entry) }
-    ensures taken { IfErr result (λ e. (named : Option Number) → option_map (λ v. version_word v) named ≡ option_map (λ (w : Bor (List ℕ)). w.now) word.entry → e ≡ WordsFault.OutOfMemory) }
+    ensures ok { IfOk result (Names version_of (option_map (λ (w : Bor (List ℕ)). w.now) word.entry)) }
+    ensures taken { IfErr result (λ e. (named : Option Number) → Names version_of (option_map (λ (w : Bor (List ℕ)). w.now) word.entry) named → e ≡ WordsFault.OutOfMemory) }
 {
-    match word {
-        None => Ok(None),
-        Some("1") => Ok(Some(Version::First)),
-        Some("2") => Ok(Some(Version::Second)),
-        Some(other) => Err(refused(alloc, "format", other, FORMATS)),
+    let Some(word) = word else {
+        return Ok(None);
+    };
+    match Version::of_word(word.as_bytes()) {
+        Some(version) => Ok(Some(version)),
+        None => Err(refused(alloc, "format", word, FORMATS)),
     }
 }
 

@@ -21,7 +21,8 @@ pub enum DeskRequest {
     Policy(PolicyRequest),
 }
 
-/// What the words after the program's name ask for, if they begin with `asm`, `check`, `dis` or `run`.
+/// What the words after the program's name ask for, if they begin with `asm`, `check`, `dis` or `run`, or are `help` and one of the
+/// last three.
 pub fn desk_request<'a>(
     alloc: Global,
     words: &'a [&'a str],

@@ -1,10 +1,27 @@
-//! Worked traces in which policies choose, with values from outside this program. Images are those of the format: their
-//! programs are short enough to read as bytes.
+//! Worked traces in which policies choose, with values from outside this program. Images are those of the format, in hex; above
+//! each trace stands the text of its programs, in the order in which they are installed.
 
 use crate::cases::{Case, replays};
 use std::test::Fail;
 
 /// A policy's map is kept from run to run, each processor has maps of its own, and a new policy begins with zeros.
+///
+/// ```text
+/// stw [r10-4], 0
+/// ldmap r1, 0
+/// mov64 r2, r10
+/// add64 r2, -4
+/// call 1
+/// jne64 r0, 0, +2
+/// mov64 r0, 2
+/// exit
+/// ldxdw r3, [r0+0]
+/// mov64 r4, r3
+/// add64 r4, 1
+/// stxdw [r0+0], r4
+/// mov64 r0, r3
+/// exit
+/// ```
 const A_MAP_IS_KEPT: Case = Case {
     trace: "machine cfs 2\n\
         admit 1 0 1 3000000\n\
@@ -66,7 +83,7 @@ const A_MAP_IS_KEPT: Case = Case {
     clean: true,
 };
 
-/// A task that runs alone gives way to itself.
+/// A task that runs alone gives way to itself: `mov64 r0, 1; exit`.
 const GIVES_WAY_TO_ITSELF: Case = Case {
     trace: "machine cfs 1\n\
         admit 1 0 1 3000000\n\
@@ -85,7 +102,7 @@ const GIVES_WAY_TO_ITSELF: Case = Case {
     clean: true,
 };
 
-/// A place policy names a processor of the mask, or the discipline chooses.
+/// A place policy names a processor of the mask, or the discipline chooses: `mov64 r0, N; exit` for 200, 0, -1 and 1.
 const PLACES: Case = Case {
     trace: "machine cfs 2\n\
         admit 3 0 2 3000000\n\
@@ -137,7 +154,7 @@ const PLACES: Case = Case {
     clean: true,
 };
 
-/// A place policy may answer the discipline's own choice, which it is shown.
+/// A place policy may answer the discipline's own choice, which it is shown: `ldxw r0, [r1+36]; exit`.
 const OWN_PLACE_IS_SHOWN: Case = Case {
     trace: "machine cfs 2\n\
         admit 1 0 3 3000000\n\
@@ -152,7 +169,8 @@ const OWN_PLACE_IS_SHOWN: Case = Case {
     clean: true,
 };
 
-/// On more than 16 processors an image of version 1 is not shown an own choice over 15; it may still name it.
+/// On more than 16 processors an image of version 1 is not shown an own choice over 15; it may still name it:
+/// `mov64 r0, 20; exit` in version 1 and 2, then `ldxw r0, [r1+36]; exit` in version 2 and 1.
 const TWO_VERSIONS: Case = Case {
     trace: "machine cfs 32\n\
         admit 1 0 0x100000 3000000\n\
@@ -204,7 +222,8 @@ const TWO_VERSIONS: Case = Case {
     clean: true,
 };
 
-/// A pull policy names a task that may go, or nobody; else the discipline chooses.
+/// A pull policy names a task that may go, or nobody; else the discipline chooses. All tasks are placed by `mov64 r0, 0; exit`;
+/// pulls are chosen by `mov64 r0, 1; exit`, `ldxw r0, [r1+24]; exit` and `mov64 r0, 2; exit`.
 const PULLED_BY_POLICIES: Case = Case {
     trace: "machine cfs 2\n\
         admit 1 0 1 3000000\n\
@@ -255,7 +274,7 @@ const PULLED_BY_POLICIES: Case = Case {
     clean: true,
 };
 
-/// A pulled task keeps its lag, under EEVDF.
+/// A pulled task keeps its lag, under EEVDF. Both tasks are placed by `mov64 r0, 0; exit`.
 const EEVDF_PULL: Case = Case {
     trace: "machine eevdf 2\n\
         admit 1 0 3 3000000\n\
@@ -285,7 +304,7 @@ const EEVDF_PULL: Case = Case {
     clean: true,
 };
 
-/// Generations only rise, are drawn first, and a policy stands at its own hook.
+/// Generations only rise, are drawn first, and a policy stands at its own hook: `mov64 r0, 0; exit`.
 const INSTALLED: Case = Case {
     trace: "machine cfs 2\n\
         draw\n\
@@ -307,7 +326,7 @@ const INSTALLED: Case = Case {
     clean: false,
 };
 
-/// Policies add to counters that are shared.
+/// Policies add to counters that are shared: `mov64 r1, 3; mov64 r2, 5; call 100; mov64 r0, 0; exit`.
 const COUNTERS: Case = Case {
     trace: "machine cfs 1\n\
         admit 1 0 1 3000000\n\
@@ -335,7 +354,9 @@ const COUNTERS: Case = Case {
     clean: false,
 };
 
-/// What doesn't load is refused by its fault, before the event is tried.
+/// What doesn't load is refused by its fault, before the event is tried: first `mov64 r0, 0; exit` with one thing wrong in its bytes,
+/// and then the program of `A_MAP_IS_KEPT` with `ldmap r1, 1`, `add64 r2, -8`, `jne64 r0, 0, +1`, `ldxdw r3, [r0+1]`,
+/// `mov64 r10, r3` and `mov64 r0, r10` in the places of its own.
 const UNLOADED: Case = Case {
     trace: "machine cfs 1\n\
         install 0 1 preempt xyz\n\
