@@ -1,5 +1,5 @@
 -- Which workloads can be followed, and what the flaws of the others are. Kinds of tasks and their actions are numbered from 0.
-use Rattle.std.specs.Prelude.{◌≡◌, ℕ, ◌+◌, ◌<◌, Bool, true, false, ◌&&◌, nat_lt, nat_le, pos, negsuc, int_le, List, [], ◌∷◌, ◌++◌, Option, Some, None, length, slice_get, string_bytes}
+use Rattle.std.specs.Prelude.{◌≡◌, ℕ, ◌+◌, ◌<◌, Bool, true, false, ◌&&◌, nat_lt, nat_le, List, [], ◌∷◌, ◌++◌, Option, Some, None, length, slice_get, string_bytes}
 use Rattle.std.specs.List.{list_any, range_with_len}
 use Rattle.bq_actions.specs.declared.action.Action.{Action}
 use Rattle.bq_actions.specs.declared.action.Action.TheVariants.{Run, Sleep, Wait, Wake}
@@ -11,6 +11,7 @@ use Rattle.bq_actions.specs.declared.workload.Workload.{Workload}
 use Rattle.bq_actions.specs.Kinds.{tasks_in}
 use Rattle.bq_actions.specs.Lengths.{is_length, is_long, longest, takes_time}
 use Rattle.bq_hooks.specs.OwnPlace.{allows}
+use Rattle.bq_weights.specs.VirtualTime.{is_nice}
 use Rattle.bq_words.specs.Sizes.{processors_in}
 
 -- a flaw where something does not hold
@@ -34,7 +35,7 @@ has_name kind = nat_le (length (string_bytes kind.name)) 1024
 -- there are tasks of a kind, and its numbers are in their ranges
 abbrev pub has_numbers : TaskKind → Bool
 has_numbers kind =
-    nat_le 1 kind.count && int_le (negsuc 19) kind.nice && int_le kind.nice (pos 19) && nat_le 100000 kind.slice && nat_le kind.slice 100000000
+    nat_le 1 kind.count && is_nice kind.nice && nat_le 100000 kind.slice && nat_le kind.slice 100000000
     && nat_le kind.start longest && goes_round kind.loops
 
 -- a mask allows one of so many processors

@@ -67,7 +67,7 @@ impl Course {
         self.got = 0;
     }
 
-    /// It has run for so long. None where its phase would take more than 64 bits can count.
+    /// It has run for so long. None where what it has got would be more than 64 bits can count.
     pub fn run_for(&mut self, ran: u64) -> Option<()>
         ensures some { IfSome result (λ _. self.new ≡ run_for ran self.old) }
         ensures none { IfNone result (self.new ≡ self.old) }
@@ -77,7 +77,7 @@ impl Course {
     }
 
     /// It begins to run at a processor: where it ran at another before, what is left of its phase is longer by the cost. A task
-    /// that has run past its phase has nothing left.
+    /// that has run past its phase has nothing left. None where its phase would take more than 64 bits can count.
     pub fn move_to(&mut self, processor: u8, cost: u64) -> Option<()>
         ensures some { IfSome result (λ _. self.new ≡ moved_to processor cost self.old) }
         ensures none { IfNone result (self.new ≡ self.old) }

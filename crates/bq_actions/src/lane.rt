@@ -2,7 +2,8 @@
 ghost use Rattle.std.specs.Prelude.{◌≡◌};
 ghost use Rattle.bq_actions.specs.Accounts.{at_rest, is_past, rests_past};
 
-/// What runs at a processor.
+/// What a simulation knows of a processor: what runs there and since when, how many tasks it has, when it ticks and when it looks
+/// for a task next.
 #[derive(Clone, Copy)]
 pub struct Lane {
     /// The task that runs.

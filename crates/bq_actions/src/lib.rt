@@ -8,7 +8,7 @@
 //! pull, from which it pulls one, what comes due with all that, and whether a timer, the end of a phase, a tick or a look is
 //! left until an instant; that what is due agrees with all that after each change, so that what is named as the next is the
 //! first that comes by it; and that of the things that are due, in the order of their time and, at one instant, of their kind
-//! and number, the first is found at once, and a change takes a step for each halving of their number.
+//! and number, the one that is named is the first.
 //! Stands on the words of a workload, and on what it is for a mask to allow a processor.
 #![tactic(auto)]
 

@@ -13,6 +13,7 @@ use crate::course::{Course, Stance};
 use crate::lane::Lane;
 use crate::{Agenda, Due};
 use bq_disc::clock::LATEST;
+use bq_disc::limits::TASKS;
 use std::alloc::{AllocError, Global};
 
 /// A number that stands for no task or processor, a time that does not fit, or a phase that ended too early or too late:
@@ -93,7 +94,7 @@ impl Roster {
         Ok(())
     }
 
-    /// What runs at a processor.
+    /// What is known of a processor.
     pub fn lane(&self, processor: u8) -> Result<Lane, Astray>
         ensures there { IfOk result (λ lane. slice_get self.now.lanes.items processor ≡ Some lane) }
         ensures missing { IfErr result (λ _. slice_get self.now.lanes.items processor ≡ None) }
@@ -197,7 +198,7 @@ fn place_of(due: Due) -> Result<u16, Astray>
 {
     let is_due = match due {
         Due::End(processor) | Due::Tick(processor) | Due::Pull(processor) => processor < 64,
-        Due::Wake(task) => task < 1024,
+        Due::Wake(task) => task < TASKS,
     };
     if !is_due {
         return Err(Astray);

@@ -5,8 +5,9 @@ ghost use Rattle.bq_hooks.specs.OwnPlace.{allows};
 ghost use Rattle.bq_actions.specs.Lengths.{is_long};
 ghost use Rattle.bq_actions.specs.Soundness.{IsFirstAllowed, allows_one, first_flaw, flaws_of_doing, flaws_of_kind, flaws_of_machine, has_name, has_numbers, is_action};
 
-use crate::limits::{GREATEST_SLICE, LEAST_SLICE, LONGEST, LONGEST_NAME, MOST_TASKS};
+use crate::limits::{GREATEST_SLICE, LEAST_SLICE, LONGEST, LONGEST_NAME, TASKS};
 use crate::{Action, Setup, TaskKind, Workload, take_time};
+use bq_weights::is_nice;
 use thiserror::Error;
 
 /// Why a workload cannot be followed. Kinds of tasks and their actions are numbered from 0.
@@ -41,7 +42,7 @@ pub fn soundness(workload: &Workload) -> Result<(), Unsound>
         sound_kind(number, kind, processors, kinds)?;
         tasks = tasks.saturating_add(kind.count);
     }
-    if tasks > MOST_TASKS {
+    if tasks > TASKS {
         return Err(Unsound::Tasks);
     }
     Ok(())
@@ -96,8 +97,7 @@ fn has_numbers(kind: &TaskKind) -> bool
     ensures { result ≡ has_numbers kind.now }
 {
     kind.count >= 1
-        && kind.nice >= -20
-        && kind.nice <= 19
+        && is_nice(i64::from(kind.nice))
         && kind.slice >= LEAST_SLICE
         && kind.slice <= GREATEST_SLICE
         && kind.start <= LONGEST

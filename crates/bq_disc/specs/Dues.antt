@@ -1,7 +1,7 @@
 -- Virtual deadlines, by (deadline, id).
-use Rattle.std.specs.Prelude.{Bool, ◌||◌, ◌&&◌, ◌==◌, nat_lt, if◌then◌else◌, List, Option, Some, None}
+use Rattle.std.specs.Prelude.{Bool, if◌then◌else◌, List, Option, Some, None}
 use Rattle.std.specs.Option.{option_map}
-use Rattle.bq_disc.specs.Tasks.{Task, first_by, due_before}
+use Rattle.bq_disc.specs.Tasks.{Task, first_by, comes_before, due_before}
 use Rattle.bq_disc.specs.declared.due.Due.{Due}
 
 -- when a task is due
@@ -12,8 +12,9 @@ due_of t = record { deadline = t.deadline; id = t.id }
 abbrev pub first_due : List Task → Option Due
 first_due xs = option_map due_of (first_by due_before xs)
 
+-- by least (deadline, id)
 abbrev pub is_earlier : Due → Due → Bool
-is_earlier a b = nat_lt a.deadline b.deadline || (a.deadline == b.deadline && nat_lt a.id b.id)
+is_earlier a b = comes_before a.deadline a.id b.deadline b.id
 
 -- the earlier of two
 abbrev pub earlier_of : Due → Due → Due

@@ -1,7 +1,7 @@
 -- Queues: sets of tasks with distinct ids, as the list of their tasks by rising (v, id), with the mark that is kept.
-use Rattle.std.specs.Prelude.{◌≡◌, ℕ, ◌<◌, ◌^◌, List, [], ◌∷◌, Option, Some, None, refl, Bool, true, ◌/◌, ◌%◌, ◌==◌, ◌||◌, ◌&&◌, nat_lt}
+use Rattle.std.specs.Prelude.{◌≡◌, ℕ, ◌<◌, ◌^◌, List, [], ◌∷◌, Option, Some, None, refl, Bool, true, ◌/◌, ◌%◌, ◌==◌}
 use Rattle.std.specs.Coded.{Coded, code_by, coded×, coded_ℕ, coded_list}
-use Rattle.bq_disc.specs.Tasks.{Task, coded_task, with_id}
+use Rattle.bq_disc.specs.Tasks.{Task, coded_task, comes_before, with_id}
 
 -- the tasks that wait, and the mark of virtual time that is kept for them
 pub record Queue : Type 0 where
@@ -28,7 +28,7 @@ key_of t = (t.v, t.id)
 
 -- the first task that comes after some (v, id)
 abbrev pub comes_after : ℕ → ℕ → Task → Bool
-comes_after v id t = nat_lt v t.v || (v == t.v && nat_lt id t.id)
+comes_after v id t = comes_before v id t.v t.id
 
 -- whether a task comes after the one of this (v, id); after none, each does
 abbrev pub follows : Option (ℕ × ℕ) → Task → Bool

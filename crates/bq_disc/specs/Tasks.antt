@@ -43,13 +43,17 @@ pub record IsProper (t : Task) : Type 0 where
   pub v_high : t.v ≤ 2 ^ 62
   pub deadline_high : t.deadline ≤ 2 ^ 62
 
+-- the lesser time comes first, and of equal times that of the lesser id
+abbrev pub comes_before : ℕ → ℕ → ℕ → ℕ → Bool
+comes_before time id other_time other_id = nat_lt time other_time || (time == other_time && nat_lt id other_id)
+
 -- by least (v, id)
 abbrev pub runs_before : Task → Task → Bool
-runs_before a b = nat_lt a.v b.v || (a.v == b.v && nat_lt a.id b.id)
+runs_before a b = comes_before a.v a.id b.v b.id
 
 -- by least (deadline, id)
 abbrev pub due_before : Task → Task → Bool
-due_before a b = nat_lt a.deadline b.deadline || (a.deadline == b.deadline && nat_lt a.id b.id)
+due_before a b = comes_before a.deadline a.id b.deadline b.id
 
 -- x, unless one that is given comes before it
 abbrev pub former : (Task → Task → Bool) → Task → Option Task → Task

@@ -3,7 +3,9 @@ ghost use Rattle.std.specs.Prelude.{◌≡◌, ◌<◌, ◌≤◌, Some, None};
 ghost use Rattle.bq_parts.specs.Refusals.{argument_refusal};
 
 use crate::{Event, Hook, Policy, Refusal};
+use bq_disc::limits::{GREATEST_SLICE, LEAST_SLICE, TASKS};
 use bq_hooks::low_bits;
+use bq_weights::is_nice;
 
 /// The refusal that an event's arguments have in any world of so many processors; the first by number, where there are
 /// several.
@@ -19,7 +21,7 @@ pub fn argument_refusal(count: usize, event: &Event) -> Option<Refusal>
             mask,
             slice,
         } => admit_refusal(count, *task, *nice, *mask, *slice),
-        Event::Retire { task } => (*task >= 1024).then_some(Refusal::NoTask),
+        Event::Retire { task } => (*task >= TASKS).then_some(Refusal::NoTask),
         Event::Install {
             processor,
             hook,
@@ -29,7 +31,7 @@ pub fn argument_refusal(count: usize, event: &Event) -> Option<Refusal>
         Event::BeginWake { processor, task } => {
             if usize::from(*processor) >= count {
                 Some(Refusal::NoProcessor)
-            } else if *task >= 1024 {
+            } else if *task >= TASKS {
                 Some(Refusal::NoTask)
             } else {
                 None
@@ -65,13 +67,13 @@ fn admit_refusal(count: usize, task: u16, nice: i8, mask: u64, slice: u64) -> Op
     requires { count ≤ 64 }
     ensures { result ≡ argument_refusal count (Event.Admit task nice mask slice) }
 {
-    if task >= 1024 {
+    if task >= TASKS {
         Some(Refusal::NoTask)
     } else if low_bits(mask, count) == 0 {
         Some(Refusal::EmptyMask)
-    } else if nice < -20 || nice > 19 {
+    } else if !is_nice(i64::from(nice)) {
         Some(Refusal::Nice)
-    } else if slice < 100_000 || slice > 100_000_000 {
+    } else if slice < LEAST_SLICE || slice > GREATEST_SLICE {
         Some(Refusal::Slice)
     } else {
         None

@@ -4,11 +4,9 @@ ghost use Rattle.bq_parts.specs.Refusals.{is_absent, is_away};
 ghost use Rattle.bq_parts.specs.declared.lobby_entry.LobbyEntry.TheVariants.{Absent, Blocked, Away};
 
 use crate::{LobbyEntry, Unlinked};
+use bq_disc::limits::TASKS;
 use std::alloc::{AllocError, Global};
 use std::marker::Model;
-
-/// How many tasks there may be: ids are 0 to 1023.
-const SEATS: usize = 1024;
 
 /// The seat of each id. So a task is found by its id at once.
 #[derive(Drop)]
@@ -32,8 +30,8 @@ impl Lobby {
     pub fn new(alloc: Global) -> Result<Lobby, AllocError>
         ensures { IfOk result (λ l. l ≡ replicate 1024 Absent) }
     {
-        let mut seats = Vec::with_capacity(alloc, SEATS)?;
-        'seats: for _ in 0..SEATS {
+        let mut seats = Vec::with_capacity(alloc, usize::from(TASKS))?;
+        'seats: for _ in 0..usize::from(TASKS) {
             seats.push(LobbyEntry::Absent)?;
         }
         Ok(Lobby { seats })

@@ -15,8 +15,8 @@ use bq_bpf::Board;
 use bq_disc::RunQueue;
 
 impl<Q: RunQueue> Cpu<Q> {
-    /// The processor takes a task from the queue of another: the one that its policy names, or that of the discipline,
-    /// where the other has more tasks. Each is called by its number.
+    /// The processor takes a task from the queue of another: the one that its policy names, where that is permitted, and else
+    /// that of the discipline, which takes one where the other has at least two tasks more. Each is called by its number.
     pub fn pull<B: Board>(
         &mut self,
         source: &mut Cpu<Q>,

@@ -1,11 +1,11 @@
 -- What every task of a world keeps: its weight is of the table's range, and where it is present a fact that the discipline keeps
 -- of each that enters and runs.
-use Rattle.std.proofs.Common.{◌≡◌, ℕ, zero, suc, ◌+◌, ◌-◌, ◌<◌, ◌≤◌, Bool, true, false, cond, List, [], ◌∷◌, ◌++◌, length, Option, Some, None, refl, ap, sym, subst, ◌∙◌, arith, set}
+use Rattle.std.proofs.Common.{not, ◌≡◌, ℕ, zero, suc, ◌+◌, ◌-◌, ◌<◌, ◌≤◌, Bool, true, false, cond, List, [], ◌∷◌, ◌++◌, length, Option, Some, None, refl, ap, sym, subst, ◌∙◌, arith, set}
 use Rattle.std.specs.Prelude.{ℤ, pos, negsuc, ◌==◌, ◌||◌, ◌^◌, ◌%◌, nat_le, slice_index}
 use Rattle.std.specs.List.{AllByRecursion}
 use Rattle.std.specs.Option.{option_map}
 use Rattle.std.proofs.lemmas.Bool.Decides.{nat_tests}
-use Rattle.bq_weights.specs.VirtualTime.{IsWeight, weights, weight_of}
+use Rattle.bq_weights.specs.VirtualTime.{IsWeight, is_nice, weights, weight_of}
 use Rattle.bq_disc.specs.Tasks.{Task, has_id, with_id, without, place, present, runs_before, id_of}
 use Rattle.bq_disc.specs.Discipline.{Discipline, charged, woken, pulled, left_at, next_of}
 use Rattle.bq_disc.specs.OneProcessor.{Running, present_at, charge, run_id, start, exchanged, decided, entered, enter_all}
@@ -18,7 +18,7 @@ use Rattle.bq_parts.specs.declared.event.Event.TheVariants as event
 use Rattle.bq_parts.specs.declared.reply.Reply.{Reply}
 use Rattle.bq_parts.specs.declared.refusal.Refusal.TheVariants as no
 use Rattle.bq_parts.specs.Processors.{Processor, opening}
-use Rattle.bq_parts.specs.Refusals.{refusal, argument_refusal, out_of_nice}
+use Rattle.bq_parts.specs.Refusals.{refusal, argument_refusal}
 use Rattle.bq_parts.specs.World.{World, opening_world, processor, inbox, seat, count_in, with_processor, with_inbox, with_seats}
 use Rattle.bq_parts.specs.Choices.{Regime, Decision}
 use Rattle.bq_parts.specs.Moves.{taken_from, without_task, with_pulled, started_if_idle, admitted}
@@ -190,7 +190,7 @@ weight_there [] k h l = absurd (omega arith)
 weight_there (x ∷ xs) zero h l = h.0
 weight_there (x ∷ xs) (suc k) h l = weight_there xs k h.1 (omega arith)
 
-nice_weight : (n : ℤ) → out_of_nice n ≡ false → IsWeight (weight_of n)
+nice_weight : (n : ℤ) → not (is_nice n) ≡ false → IsWeight (weight_of n)
 nice_weight (pos n) e = weight_there weights (20 + n) all_weights (let l : n ≤ 19 = grind (arith, nat_tests) in omega arith)
 nice_weight (negsuc n) e = weight_there weights (19 - n) all_weights (omega arith)
 
@@ -209,7 +209,7 @@ held_task x c e = let same : x ≡ c = cc in ap (λ (y : Carried). y.task) same
 pub performs_sound : (s : Regime) (P : Task → Type 0) → IsKept s.discipline P → (w : World) (e : Event) (calls : List Asked) (r : Reply) (w' : World) → IsSoundWorld P w → refusal w e ≡ None → Performs s w e calls r w' → IsSoundWorld P w'
 performs_sound s P k w (event.Admit id nice mask slice) calls r w' y free h =
     let arguments = by_arguments (argument_refusal (count_in w) (event.Admit id nice mask slice)) _ free in
-    let f = passed (out_of_nice nice) no.Nice _ (passed (mask % 2 ^ count_in w == 0) no.EmptyMask _ (passed (nat_le 1024 id) no.NoTask _ arguments).1).1 in
+    let f = passed (not (is_nice nice)) no.Nice _ (passed (mask % 2 ^ count_in w == 0) no.EmptyMask _ (passed (nat_le 1024 id) no.NoTask _ arguments).1).1 in
     rw (h.3, h.1.2) (sound_seat P w id (Blocked (admitted (count_in w) id nice mask slice)) y (blocked_is _ (nice_weight nice f.0)))
 performs_sound s P k w (event.Retire id) calls r w' y free h = rw (h.3, h.1.2) (sound_seat P w id Absent y (λ t e. cc))
 performs_sound s P k w event.Draw calls r w' y free h = rw h.2 (sound_drawn P w _ y)

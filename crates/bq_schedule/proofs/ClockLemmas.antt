@@ -18,7 +18,7 @@ use Rattle.bq_schedule.specs.declared.figures.ProcessorFigures.{ProcessorFigures
 use Rattle.bq_schedule.specs.Moments.{Moment, History}
 use Rattle.bq_schedule.specs.Figures.{Figures, opening, unread, processor_of}
 use Rattle.bq_schedule.specs.Passing.{read_at, processor_read}
-use Rattle.bq_schedule.specs.Standing.{leaves, comes}
+use Rattle.bq_schedule.specs.Runnable.{leaves, comes}
 use Rattle.bq_schedule.specs.Running.{switched}
 use Rattle.bq_schedule.specs.Slices.{Sight, sight, sight_of, clock_after, clock, runner_after, runner}
 use Rattle.bq_schedule.specs.Steps.{asked, taken, emptied, decided, placed, blocked, pulled, performed, time_at, is_there, after, figures}

@@ -8,7 +8,7 @@ use Rattle.bq_schedule.specs.declared.figures.TaskFigures.{TaskFigures}
 use Rattle.bq_schedule.specs.declared.figures.ProcessorFigures.{ProcessorFigures}
 use Rattle.bq_schedule.specs.Counts.{counted}
 use Rattle.bq_schedule.specs.Figures.{Figures, unknown, processor_of, task_of, with_processor, with_task}
-use Rattle.bq_schedule.specs.Standing.{processor_joined, joins}
+use Rattle.bq_schedule.specs.Runnable.{processor_joined, joins}
 use Rattle.bq_schedule.specs.Steps.{admitted}
 use Rattle.bq_schedule.specs.FairTimes.{weight_there, weights_at}
 use Rattle.bq_schedule.proofs.FrameLemmas.{task_kept}

@@ -15,7 +15,7 @@ use Rattle.bq_schedule.specs.declared.figures.TaskFigures.{TaskFigures}
 use Rattle.bq_schedule.specs.declared.figures.ProcessorFigures.{ProcessorFigures}
 use Rattle.bq_schedule.specs.Figures.{Figures, unread, unknown, processor_of, task_of, with_processor, with_task}
 use Rattle.bq_schedule.specs.Passing.{with_charged, read_at, processor_read}
-use Rattle.bq_schedule.specs.Standing.{left_from, leaves, joins, comes}
+use Rattle.bq_schedule.specs.Runnable.{left_from, leaves, joins, comes}
 use Rattle.bq_schedule.specs.Running.{stopped, started, begun_if, starts_as, processor_runs, switched, is_run_by, with_latency}
 use Rattle.bq_schedule.specs.Steps.{processor_asked, asked, waited_there, taken}
 

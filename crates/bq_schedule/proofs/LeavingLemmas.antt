@@ -9,7 +9,7 @@ use Rattle.bq_weights.specs.VirtualTime.{weights, weight_of}
 use Rattle.bq_schedule.specs.declared.figures.TaskFigures.{TaskFigures}
 use Rattle.bq_schedule.specs.declared.figures.ProcessorFigures.{ProcessorFigures}
 use Rattle.bq_schedule.specs.Figures.{Figures, unread, unknown, processor_of, task_of, with_processor, with_task}
-use Rattle.bq_schedule.specs.Standing.{fair_at, processor_left, left_from, leaves}
+use Rattle.bq_schedule.specs.Runnable.{fair_at, processor_left, left_from, leaves}
 use Rattle.bq_schedule.specs.Steps.{weight_at}
 use Rattle.bq_schedule.specs.FairTimes.{is_place, weight_there, weights_at}
 use Rattle.bq_schedule.proofs.FrameLemmas.{processor_kept, task_kept}
@@ -34,9 +34,9 @@ weight_of-le : (nice : ℤ) → weight_of nice ≤ 88761
 weight_of-le (pos n) = omega (arith, greatest, get_or-le-most weights (20 + n))
 weight_of-le (negsuc n) = omega (arith, greatest, get_or-le-most weights (19 - n))
 
-weight_at_if : (b : Bool) (n : ℕ) → n ≤ 88761 → cond b 0 n ≤ 88761
-weight_at_if true n h = omega arith
-weight_at_if false n h = h
+weight_at_if : (b : Bool) (n : ℕ) → n ≤ 88761 → cond b n 0 ≤ 88761
+weight_at_if true n h = h
+weight_at_if false n h = omega arith
 
 -- no nice value has a weight above 88761
 pub weight_at-le : (nice : ℤ) → weight_at nice ≤ 88761

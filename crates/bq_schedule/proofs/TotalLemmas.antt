@@ -22,7 +22,7 @@ use Rattle.bq_schedule.specs.Counts.{parts}
 use Rattle.bq_schedule.specs.Moments.{Moment, History}
 use Rattle.bq_schedule.specs.Figures.{Figures, opening, unread, unknown, processor_of, task_of, with_processor, with_task}
 use Rattle.bq_schedule.specs.Passing.{slice_at, length_of, part_of, processor_read, read_at, with_charged}
-use Rattle.bq_schedule.specs.Standing.{fair_at, fair_of, leaves, comes}
+use Rattle.bq_schedule.specs.Runnable.{fair_at, fair_of, leaves, comes}
 use Rattle.bq_schedule.specs.Running.{switched}
 use Rattle.bq_schedule.specs.Slices.{Sight, sight, sight_of}
 use Rattle.bq_schedule.specs.Steps.{asked, admitted, waited_there, emptied, taken, placed, decided, blocked, pulled, performed, time_at, is_there, after, figures}

@@ -21,7 +21,7 @@ use Rattle.bq_schedule.specs.declared.figures.TaskFigures.{TaskFigures}
 use Rattle.bq_schedule.specs.Moments.{History}
 use Rattle.bq_schedule.specs.Figures.{Figures, unknown, processor_of, task_of, with_processor, with_task}
 use Rattle.bq_schedule.specs.Passing.{read_at, with_charged, processor_read, slice_at}
-use Rattle.bq_schedule.specs.Standing.{left_from, leaves, comes}
+use Rattle.bq_schedule.specs.Runnable.{left_from, leaves, comes}
 use Rattle.bq_schedule.specs.Running.{stopped, started, starts_as, start_of, start_at, begun_if, switched, is_run_by}
 use Rattle.bq_schedule.specs.Slices.{Sight, sight, sight_of, clock, clock_after, runner}
 use Rattle.bq_schedule.specs.Wakes.{is_run, begins_as, begins, wake_end, awaited_after, awaited}

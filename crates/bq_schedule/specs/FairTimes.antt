@@ -5,7 +5,7 @@ use Rattle.bq_schedule.specs.declared.figures.TaskFigures.{TaskFigures}
 use Rattle.bq_schedule.specs.declared.figures.ProcessorFigures.{ProcessorFigures}
 use Rattle.bq_schedule.specs.Figures.{Figures, processor_of, task_of}
 use Rattle.bq_schedule.specs.Passing.{slice_at, length_of, part_of}
-use Rattle.bq_schedule.specs.Standing.{fair_at}
+use Rattle.bq_schedule.specs.Runnable.{fair_at}
 use Rattle.bq_schedule.specs.Slices.{Sight}
 
 -- a task is runnable at that processor

@@ -16,7 +16,7 @@ use Rattle.bq_schedule.specs.Moments.{Moment, History}
 use Rattle.bq_schedule.specs.Figures.{processor_of, task_of}
 use Rattle.bq_schedule.specs.Counts.{parts}
 use Rattle.bq_schedule.specs.Passing.{idle_of, part_of}
-use Rattle.bq_schedule.specs.Standing.{fair_of}
+use Rattle.bq_schedule.specs.Runnable.{fair_of}
 use Rattle.bq_schedule.specs.FairTimes.{share, all_fair, all_unshared, all_busy}
 use Rattle.bq_schedule.specs.Slices.{Sight, sight_of, clock, runner, slices, time_in, is_of, is_at, StandApart, slices_at, runs}
 use Rattle.bq_schedule.specs.Wakes.{begins, awaited}

@@ -2,7 +2,7 @@ pub mod Moments
 pub mod Counts
 pub mod Figures
 pub mod Passing
-pub mod Standing
+pub mod Runnable
 pub mod Running
 pub mod Steps
 pub mod Percentiles

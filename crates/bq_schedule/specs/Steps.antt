@@ -1,13 +1,12 @@
 -- What each moment changes: in the figures, and as it is told.
 use Rattle.std.specs.Prelude.{ℕ, ◌-◌, ℤ, true, false, Bool, ◌||◌, ◌&&◌, not, nat_lt, [], ◌∷◌, length, Option, Some, None, Result, Ok, Err, if◌then◌else◌}
 use Rattle.std.specs.Option.{option_map}
-use Rattle.bq_weights.specs.VirtualTime.{weight_of}
+use Rattle.bq_weights.specs.VirtualTime.{is_nice, weight_of}
 use Rattle.bq_hooks.specs.declared.settled.By.{By}
 use Rattle.bq_hooks.specs.declared.settled.By.TheVariants as who
 use Rattle.bq_bpf.specs.declared.hook.Hook.{Hook}
 use Rattle.bq_bpf.specs.declared.hook.Hook.TheVariants.{Place, Preempt, Pull as OnPull}
 use Rattle.bq_disc.specs.OneProcessor.{reading}
-use Rattle.bq_parts.specs.Refusals.{out_of_nice}
 use Rattle.bq_parts.specs.declared.refusal.Refusal.{Refusal}
 use Rattle.bq_parts.specs.declared.event.Event.{Event}
 use Rattle.bq_parts.specs.declared.event.Event.TheVariants.{Admit, EndWake, Drain, Tick, Block, Pull}
@@ -23,7 +22,7 @@ use Rattle.bq_schedule.specs.Counts.{counted}
 use Rattle.bq_schedule.specs.Moments.{History}
 use Rattle.bq_schedule.specs.Figures.{Figures, opening, processor_of, task_of, with_processor, with_task}
 use Rattle.bq_schedule.specs.Passing.{reading_at, slice_at, ended_run, read_at}
-use Rattle.bq_schedule.specs.Standing.{leaves, comes}
+use Rattle.bq_schedule.specs.Runnable.{leaves, comes}
 use Rattle.bq_schedule.specs.Running.{switched, stop_at, start_at}
 
 -- nothing is told
@@ -59,7 +58,7 @@ asked cpu d s = with_processor s cpu (processor_asked (processor_of s cpu) d d.h
 
 -- the weight of a nice value; none is outside the table
 abbrev pub weight_at : ℤ → ℕ
-weight_at nice = if out_of_nice nice then 0 else weight_of nice
+weight_at nice = if is_nice nice then weight_of nice else 0
 
 -- an id is admitted, with its nice value
 abbrev pub admitted : ℕ → ℤ → Figures → Figures

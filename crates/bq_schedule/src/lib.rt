@@ -10,10 +10,10 @@ pub mod latencies;
 pub mod laws;
 mod passing;
 mod performing;
+mod runnable;
 mod running;
 pub mod schedule;
 pub mod slice;
-mod standing;
 
 pub use change::{Change, Decision, Left, Moved, Reading, Start, Stop, Wake};
 pub use figures::{HookFigures, ProcessorFigures, TaskFigures};

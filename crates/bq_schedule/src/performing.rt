@@ -2,12 +2,12 @@
 ghost use Rattle.std.specs.Prelude.{◌≡◌, ◌-◌, ◌<◌, length, true};
 ghost use Rattle.bq_schedule.specs.Steps.{weight_at, admitted, woken, emptied, taken, waited_there, moves_as, placed, placed_told, decided, decided_told, blocked, blocked_told, pulled, pulled_told, performed, performed_told, is_there};
 ghost use Rattle.bq_schedule.specs.Figures.{task_of};
-ghost use Rattle.bq_schedule.specs.Standing.{leaves};
+ghost use Rattle.bq_schedule.specs.Runnable.{leaves};
 
 use crate::change::{Change, Decision, Left, Moved, Wake};
 use crate::schedule::Schedule;
 use bq_parts::{Event, Hook, Reply};
-use bq_weights::weight;
+use bq_weights::{is_nice, weight};
 
 impl Schedule {
     /// What an answer changes. One that is not of its event's kind changes nothing.
@@ -246,7 +246,7 @@ impl Schedule {
 fn weight_at(nice: i8) -> u32
     ensures { result ≡ weight_at nice }
 {
-    if (-20..=19).contains(&nice) {
+    if is_nice(i64::from(nice)) {
         weight(nice)
     } else {
         0

@@ -1,20 +1,18 @@
 //! A schedule as far as answers tell it.
 ghost use Rattle.std.specs.Prelude.{◌≡◌, IfOk, length};
 ghost use Rattle.bq_schedule.specs.Figures.{opening, processor_of, task_of, with_processor, with_task};
-ghost use Rattle.bq_schedule.specs.Standing.{fair_of, undrained};
+ghost use Rattle.bq_schedule.specs.Runnable.{fair_of, undrained};
 ghost use Rattle.bq_schedule.specs.Steps.{after, change, is_there};
 
 use crate::change::Change;
 use crate::figures::{ProcessorFigures, TaskFigures};
+use bq_disc::limits::TASKS;
 use bq_parts::{Event, Refusal, Reply};
 use std::alloc::{AllocError, Global};
 use std::marker::Model;
 
 /// How many parts of a nanosecond there are: fair times are counted in parts.
 pub const PARTS: u128 = 1_000_000_000_000;
-
-/// How many tasks there may be: ids are 0 to 1023.
-const TASKS: usize = 1024;
 
 /// A schedule: who ran where and when, as events and their answers have told it so far.
 ///
@@ -44,8 +42,8 @@ impl Schedule {
         'processors: for _ in 0..processors {
             figures.push(ProcessorFigures::new())?;
         }
-        let mut tasks = Vec::with_capacity(alloc, TASKS)?;
-        'tasks: for _ in 0..TASKS {
+        let mut tasks = Vec::with_capacity(alloc, usize::from(TASKS))?;
+        'tasks: for _ in 0..usize::from(TASKS) {
             tasks.push(TaskFigures::new())?;
         }
         Ok(Schedule {

@@ -1,10 +1,10 @@
 -- What a tree of tasks keeps, with the key of its first task and its table of times.
-use Rattle.std.specs.Prelude.{◌≡◌, ℕ, ◌<◌, ◌≤◌, ◌^◌, List, Option, None, Some, IfSome, find, length, slice_index, nat_lt, ◌==◌, ◌||◌, ◌&&◌, if◌then◌else◌}
+use Rattle.std.specs.Prelude.{◌≡◌, ℕ, ◌<◌, ◌≤◌, ◌^◌, List, Option, None, Some, IfSome, find, length, slice_index, if◌then◌else◌}
 use Rattle.std.specs.Option.{option_map}
 use Rattle.std.specs.List.{AllByRecursion}
 use Rattle.std.specs.declared.boxed.Box.{Box}
 use Rattle.std.specs.declared.alloc.Global.{Global}
-use Rattle.bq_disc.specs.Tasks.{Task}
+use Rattle.bq_disc.specs.Tasks.{Task, comes_before}
 use Rattle.bq_disc.specs.Queues.{HasDistinctIds, HasSmallIds, follows, key_of}
 use Rattle.bq_disc.specs.Rising.{IsRising}
 use Rattle.bq_tree.specs.Trees.{Knowledge, IsTreeBehind, in_order_behind}
@@ -21,7 +21,7 @@ first_key xs = option_map key_of (find (follows None) xs)
 -- the lesser of a key and of one that may be there
 abbrev pub lesser_of : ℕ × ℕ → Option (ℕ × ℕ) → ℕ × ℕ
 lesser_of a None = a
-lesser_of a (Some b) = if nat_lt a.0 b.0 || (a.0 == b.0 && nat_lt a.1 b.1) then a else b
+lesser_of a (Some b) = if comes_before a.0 a.1 b.0 b.1 then a else b
 
 -- the tree, its length, its least key and the times of ids say the same of one rising list of tasks
 pub record IsSound (knowledge : Knowledge) (root : Option (Box Node Global)) (len : ℕ) (least : Option (ℕ × ℕ)) (times : List ℕ) : Type 0 where

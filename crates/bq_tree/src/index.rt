@@ -9,12 +9,13 @@ ghost use Rattle.bq_tree.specs.Sound.{Knows, first_key, lesser_of};
 use crate::edits::{insert_into, pop_least, take_from};
 use crate::summary::Summary;
 use crate::{balance, walks};
+use bq_disc::limits::TASKS;
 use bq_disc::node::Link;
 use bq_disc::{Due, Movable, Node, Timeline, Totals};
 use std::marker::{Model, PhantomData};
 
-/// The ids whose times stand in the table.
-const IDS: usize = 1024;
+/// The ids whose times stand in the table: all.
+const IDS: usize = TASKS as usize;
 
 /// Tasks with distinct ids, by rising (v, id), as a balanced tree of their own nodes, each of which knows what `S` says.
 #[derive(Drop)]

@@ -1,8 +1,8 @@
 //! Weights of nice values, and the scaling of time used by weight.
 #![tactic(auto)]
 
-ghost use Rattle.std.specs.Prelude.{◌≡◌, ◌+◌, ◌-◌, ◌*◌, ◌/◌, ◌<◌, ◌≤◌, ◌^◌, pos, negsuc, ◌≤ℤ◌, slice_index};
-ghost use Rattle.bq_weights.specs.VirtualTime.{weights, weight_of, IsWeight, vdelta_of, advance_of, shift_of, held_within, distance_of};
+ghost use Rattle.std.specs.Prelude.{◌≡◌, ◌+◌, ◌-◌, ◌*◌, ◌/◌, ◌<◌, ◌≤◌, ◌^◌, pos, negsuc, ◌≤ℤ◌, IsTrue, slice_index};
+ghost use Rattle.bq_weights.specs.VirtualTime.{is_nice, weights, weight_of, IsWeight, vdelta_of, advance_of, shift_of, held_within, distance_of};
 
 /// The greatest virtual time.
 pub const GREATEST: u64 = 1 << 62;
@@ -10,11 +10,26 @@ pub const GREATEST: u64 = 1 << 62;
 /// How far from the mark a task that leaves is remembered to be.
 pub const FARTHEST: u64 = 1 << 30;
 
+/// The least nice value, which has the greatest weight.
+pub const LEAST_NICE: i64 = -20;
+
+/// The greatest nice value, which has the least weight.
+pub const GREATEST_NICE: i64 = 19;
+
 static WEIGHTS: [u32; 40] = [
     88761, 71755, 56483, 46273, 36291, 29154, 23254, 18705, 14949, 11916, 9548, 7620, 6100, 4904,
     3906, 3121, 2501, 1991, 1586, 1277, 1024, 820, 655, 526, 423, 335, 272, 215, 172, 137, 110, 87,
     70, 56, 45, 36, 29, 23, 18, 15,
 ];
+
+/// Whether a number is a nice value.
+pub fn is_nice(number: i64) -> bool
+    ensures value { result ≡ is_nice number }
+    ensures low { IsTrue result → negsuc 19 ≤ℤ number }
+    ensures high { IsTrue result → number ≤ℤ pos 19 }
+{
+    LEAST_NICE <= number && number <= GREATEST_NICE
+}
 
 /// The weight of a nice value.
 pub fn weight(nice: i8) -> u32

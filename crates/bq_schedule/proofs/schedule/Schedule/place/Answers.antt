@@ -2,7 +2,7 @@ use Rattle.std.proofs.Common.{◌≡◌, ℕ, ◌∙◌, refl, ap}
 use Rattle.bq_schedule.specs.declared.figures.ProcessorFigures.{ProcessorFigures}
 use Rattle.bq_schedule.specs.Figures.{Figures, processor_of}
 use Rattle.bq_schedule.specs.Passing.{read_at}
-use Rattle.bq_schedule.specs.Standing.{comes}
+use Rattle.bq_schedule.specs.Runnable.{comes}
 use Rattle.bq_schedule.specs.Steps.{time_at, asked, woken}
 use Rattle.bq_schedule.proofs.ClockLemmas.{read_there}
 use Rattle.bq_schedule.proofs.schedule.Schedule.place.Goals as goal

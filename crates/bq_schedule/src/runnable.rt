@@ -1,6 +1,6 @@
 //! Where tasks are runnable: they come to a processor, and leave it.
 ghost use Rattle.std.specs.Prelude.{◌≡◌};
-ghost use Rattle.bq_schedule.specs.Standing.{pending, fair_at, processor_left, processor_joined, leaves, joins, comes};
+ghost use Rattle.bq_schedule.specs.Runnable.{pending, fair_at, processor_left, processor_joined, leaves, joins, comes};
 
 use crate::figures::{ProcessorFigures, TaskFigures};
 use crate::schedule::Schedule;
