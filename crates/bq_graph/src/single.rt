@@ -1,12 +1,12 @@
 //! Faults that one instruction has by itself.
 ghost use Rattle.std.specs.Prelude.{◌≡◌, ◌≢◌, ◌<◌, ◌≤◌, ◌+◌, length, IsTrue, ◌↔◌, Some};
-ghost use Rattle.bq_bpf.specs.Steps.{instruction_at};
+ghost use Rattle.bq_bpf.specs.Steps.{instruction_at, IsCounterCall};
 ghost use Rattle.bq_graph.specs.Paths.{asks_counter};
 ghost use Rattle.bq_graph.specs.Faults.{destination_of, is_helper, IsBadJump, RunsOut, WritesFrame, CallsUnknown};
 
 use crate::cause::GraphCause;
 use crate::edges::{distance, instruction, landing, may_go_on};
-use bq_bpf::helper::{ADD_COUNTER, LOOKUP, NOW, PROCESSOR, READ_COUNTER, UPDATE};
+use bq_bpf::helper::{ADD_COUNTER, Helper, READ_COUNTER};
 use bq_insn::Insn;
 
 /// The register that an instruction writes, if it names one.
@@ -29,17 +29,14 @@ pub fn destination(insn: Insn) -> Option<u8>
 pub fn is_known_helper(helper: i32) -> bool
     ensures { result ≡ is_helper helper }
 {
-    helper == LOOKUP
-        || helper == UPDATE
-        || helper == NOW
-        || helper == PROCESSOR
-        || helper == ADD_COUNTER
-        || helper == READ_COUNTER
+    Helper::of(helper).is_some()
 }
 
 /// Whether an instruction asks a counter of the machine: helper 100 adds to one, and helper 101 reads one.
 pub fn is_counter_call(insn: Insn) -> bool
-    ensures { result ≡ asks_counter insn }
+    ensures asks { result ≡ asks_counter insn }
+    ensures is { IsTrue result → IsCounterCall insn }
+    ensures only { IsCounterCall insn → IsTrue result }
 {
     match insn {
         Insn::Call { helper } => helper == ADD_COUNTER || helper == READ_COUNTER,

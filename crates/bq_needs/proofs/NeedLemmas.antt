@@ -4,7 +4,7 @@ use Rattle.std.proofs.Common.{◌≡◌, ◌≢◌, ◌∷◌, ℕ, ℤ, pos, ze
 use Rattle.std.specs.Prelude.{codes}
 use Rattle.std.specs.Fmt.{decimal}
 use Rattle.bq_insn.specs.declared.Insn.{Insn}
-use Rattle.bq_states.specs.Standing.{Exact, Pointer, Stands, StandsAt}
+use Rattle.bq_states.specs.Certainty.{Exact, Pointer, Stands, StandsAt}
 use Rattle.bq_states.specs.declared.abstract_state.Kind.TheVariants as kind
 use Rattle.bq_states.specs.declared.abstract_state.AbstractValue.{AbstractValue}
 use Rattle.bq_states.specs.declared.abstract_state.AbstractState.{AbstractState}

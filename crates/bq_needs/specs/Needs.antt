@@ -7,7 +7,7 @@ use Rattle.bq_transfer.specs.declared.doubt.Doubt.TheVariants.{Unset, Access, Po
 use Rattle.bq_verify.specs.declared.cause.Cause.{Cause}
 use Rattle.bq_verify.specs.declared.cause.Cause.TheVariants.{State}
 use Rattle.bq_bpf.specs.declared.shape.MapShape.{MapShape}
-use Rattle.bq_states.specs.Standing.{Exact, Pointer, Scalar, StandsAt}
+use Rattle.bq_states.specs.Certainty.{Exact, Pointer, Scalar, StandsAt}
 use Rattle.bq_states.specs.declared.abstract_state.Kind.TheVariants.{Number, Map}
 use Rattle.bq_states.specs.declared.abstract_state.AbstractValue.{AbstractValue}
 use Rattle.bq_states.specs.declared.abstract_state.AbstractState.{AbstractState}

@@ -5,15 +5,13 @@ ghost use Rattle.bq_needs.specs.Accesses.{AreSet, GoesBeyond, IsMoved, IsShown, 
 
 use crate::known::{kind_text, known_text};
 use crate::operands::Access;
+use bq_bpf::addresses::STACK_SIZE;
 use bq_bpf::context_length;
 use bq_program::Policy;
 use bq_ranges::Range;
 use bq_states::abstract_state::{AbstractState, AbstractValue, Kind};
 use bq_states::places::shape_of;
 use std::alloc::{AllocError, Global};
-
-/// The bytes of a policy's stack.
-const STACK: usize = 512;
 
 /// Why what is known of its pointer does not show an access to be good.
 #[derive(Clone, Copy)]
@@ -93,7 +91,7 @@ fn stack_lack(
     requires kind { pointer.kind ≡ Kind.Stack }
     ensures { MatchOption result (IsShown policy.now view.now access pointer) (Lacks policy.now view.now access pointer) }
 {
-    if !stays(access, pointer.offset, STACK) {
+    if !stays(access, pointer.offset, STACK_SIZE as usize) {
         return Some(Lack::BeyondStack);
     }
     if access.writes {

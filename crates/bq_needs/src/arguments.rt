@@ -1,6 +1,6 @@
 //! What is wrong with an argument of a helper or the number of a map, in words.
 ghost use Rattle.std.specs.Prelude.{◌≡◌, ◌↔◌, ◌≤◌, ℕ, IfOk, IsTrue, MatchOption, length, string_bytes};
-ghost use Rattle.bq_states.specs.Standing.{Exact, Pointer, Scalar, StandsAt};
+ghost use Rattle.bq_states.specs.Certainty.{Exact, Pointer, Scalar, StandsAt};
 ghost use Rattle.bq_needs.specs.Needs.{AreGiven, AreGoodArguments, GivesHelper, GivesValue, IsCounter, IsMap, NamesEntry, PointsTo, TellsArgument, TellsCall, argument_text, arguments_below, call_text, helper_of, map_text, wanted_text};
 ghost use Rattle.bq_needs.specs.Operands.{known_in};
 ghost use Rattle.bq_needs.specs.declared.arguments.Wanted.{Wanted as Asked};

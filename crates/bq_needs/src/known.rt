@@ -6,12 +6,10 @@ ghost use Rattle.bq_states.specs.AbstractStates.{Describes};
 ghost use Rattle.bq_needs.specs.Saying.{Says};
 ghost use Rattle.bq_needs.specs.Texts.{between, kind_text, known_text, number_text, offset_text, range_text, stack_text};
 
+use bq_bpf::addresses::STACK_SIZE;
 use bq_ranges::Range;
 use bq_states::abstract_state::{AbstractValue, Kind};
 use std::alloc::{AllocError, Global};
-
-/// The bytes of a policy's stack.
-const STACK: u64 = 512;
 
 /// Words from here on are printed as what is taken away.
 const NEGATIVE: u64 = 1 << 63;
@@ -112,12 +110,12 @@ fn below(offset: u64) -> u64
 fn stack_text(alloc: Global, range: Range) -> Result<String, AllocError>
     ensures { IfOk result (λ text. string_bytes text ≡ stack_text range) }
 {
-    if range.hi > STACK {
+    if range.hi > STACK_SIZE {
         return pointer_text(alloc, "stack begin", range);
     }
-    if range.lo == STACK {
+    if range.lo == STACK_SIZE {
         return String::from_str(alloc, "stack end");
     }
-    let distance = between(alloc, STACK - range.lo, STACK - range.hi)?;
+    let distance = between(alloc, STACK_SIZE - range.lo, STACK_SIZE - range.hi)?;
     format!(in alloc; "stack end - {distance}")
 }

@@ -1,6 +1,6 @@
 //! What an instruction needs and the view before it does not give, in words, for causes of what is known of the states.
 ghost use Rattle.std.specs.Prelude.{◌≡◌, ◌↔◌, ◌<◌, Some, true, IfOk, IsTrue, MatchOption, string_bytes};
-ghost use Rattle.bq_states.specs.Standing.{Scalar, StandsAt};
+ghost use Rattle.bq_states.specs.Certainty.{Scalar, StandsAt};
 ghost use Rattle.bq_needs.specs.Accesses.{verb};
 ghost use Rattle.bq_needs.specs.Needs.{AreKnown, AreNumbers, IsGoodAccess, IsMet, IsNeed, IsPointerWorkedOn, TellsAccessOf, TellsNeed, TellsPointer, answer_text, pointer_rule, unset_below, unset_need, unset_text};
 ghost use Rattle.bq_needs.specs.Operands.{known_in, reads, works_on};

@@ -8,7 +8,7 @@ use Rattle.bq_states.specs.declared.abstract_state.AbstractValue.{AbstractValue}
 use Rattle.bq_states.specs.declared.abstract_state.AbstractState.{AbstractState}
 use Rattle.std.proofs.lemmas.Bool.{cases_lt}
 use Rattle.std.proofs.lemmas.List.{get_or_read}
-use Rattle.bq_states.specs.Standing.{Standing, NoPointer, Stands, Fact, Never, AtRegister, IsSetAt, IsPlainAt, Has}
+use Rattle.bq_states.specs.Certainty.{Certainty, NoPointer, Stands, Fact, Never, AtRegister, IsSetAt, IsPlainAt, Has}
 use Rattle.bq_states.specs.Copies.{KeepsClasses}
 use Rattle.bq_states.specs.Parts.{AllowsPart}
 use Rattle.bq_states.proofs.CopyLemmas.{copies_kept}
@@ -54,7 +54,7 @@ some_same o a b p q = cc
 pub some_none : {A : Type 0} (o : Option A) (a : A) → o ≡ Some a → o ≡ None → ⊥
 some_none o a p q = cc
 
-stands_by : (s : Standing) (old now other : List (Option AbstractValue)) (i : ℕ) (x a b : Option AbstractValue) → i < length now → i < length other → a ≡ get_or now i a → b ≡ get_or other i b → get_or now i None ≡ get_or old i None → (Stands s a → Stands s b → Stands s x) → ((k : ℕ) → k < i → Stands s (get_or old k None) → Stands s (get_or other k None) → Stands s (get_or now k None)) → (k : ℕ) (t : Bool) → k < i + 1 → ((t ≡ true) × (k ≡ i)) ⊎ ((t ≡ false) × (k ≢ i)) → Stands s (get_or old k None) → Stands s (get_or other k None) → Stands s (get_or (set now i x) k None)
+stands_by : (s : Certainty) (old now other : List (Option AbstractValue)) (i : ℕ) (x a b : Option AbstractValue) → i < length now → i < length other → a ≡ get_or now i a → b ≡ get_or other i b → get_or now i None ≡ get_or old i None → (Stands s a → Stands s b → Stands s x) → ((k : ℕ) → k < i → Stands s (get_or old k None) → Stands s (get_or other k None) → Stands s (get_or now k None)) → (k : ℕ) (t : Bool) → k < i + 1 → ((t ≡ true) × (k ≡ i)) ⊎ ((t ≡ false) × (k ≢ i)) → Stands s (get_or old k None) → Stands s (get_or other k None) → Stands s (get_or (set now i x) k None)
 stands_by s old now other i x a b lt lt' is_a is_b same both before k t le (inr (_, other_k)) p q =
     subst (λ (v : Option AbstractValue). Stands s v) (sym (get_or-set_other now i k x None other_k)) (before k (omega arith) p q)
 stands_by s old now other i x a b lt lt' is_a is_b same both before k t le (inl (_, e)) p q =
@@ -64,20 +64,20 @@ stands_by s old now other i x a b lt lt' is_a is_b same both before k t le (inl 
     subst (λ (v : Option AbstractValue). Stands s v) (sym there) (both (subst (λ (v : Option AbstractValue). Stands s v) read_a p) (subst (λ (v : Option AbstractValue). Stands s v) read_b q))
 
 -- one more place of a join
-pub stands_more : (s : Standing) (old now other : List (Option AbstractValue)) (i : ℕ) (x a b : Option AbstractValue) → i < length now → i < length other → a ≡ get_or now i a → b ≡ get_or other i b → get_or now i None ≡ get_or old i None → (Stands s a → Stands s b → Stands s x) → ((k : ℕ) → k < i → Stands s (get_or old k None) → Stands s (get_or other k None) → Stands s (get_or now k None)) → (k : ℕ) → k < i + 1 → Stands s (get_or old k None) → Stands s (get_or other k None) → Stands s (get_or (set now i x) k None)
+pub stands_more : (s : Certainty) (old now other : List (Option AbstractValue)) (i : ℕ) (x a b : Option AbstractValue) → i < length now → i < length other → a ≡ get_or now i a → b ≡ get_or other i b → get_or now i None ≡ get_or old i None → (Stands s a → Stands s b → Stands s x) → ((k : ℕ) → k < i → Stands s (get_or old k None) → Stands s (get_or other k None) → Stands s (get_or now k None)) → (k : ℕ) → k < i + 1 → Stands s (get_or old k None) → Stands s (get_or other k None) → Stands s (get_or (set now i x) k None)
 stands_more s old now other i x a b lt lt' is_a is_b same both before k le p q =
     stands_by s old now other i x a b lt lt' is_a is_b same both before k _ le (eqb_tells k i) p q
 
-stands_all_by : (s : Standing) (old now other : List (Option AbstractValue)) (i : ℕ) → ((k : ℕ) → i ≤ k → get_or now k None ≡ get_or old k None) → ((k : ℕ) → k < i → Stands s (get_or old k None) → Stands s (get_or other k None) → Stands s (get_or now k None)) → (k : ℕ) → (k < i) ⊎ (i ≤ k) → Stands s (get_or old k None) → Stands s (get_or other k None) → Stands s (get_or now k None)
+stands_all_by : (s : Certainty) (old now other : List (Option AbstractValue)) (i : ℕ) → ((k : ℕ) → i ≤ k → get_or now k None ≡ get_or old k None) → ((k : ℕ) → k < i → Stands s (get_or old k None) → Stands s (get_or other k None) → Stands s (get_or now k None)) → (k : ℕ) → (k < i) ⊎ (i ≤ k) → Stands s (get_or old k None) → Stands s (get_or other k None) → Stands s (get_or now k None)
 stands_all_by s old now other i rest before k (inl lt) p q = before k lt p q
 stands_all_by s old now other i rest before k (inr le) p q = subst (λ (v : Option AbstractValue). Stands s v) (sym (rest k le)) p
 
 -- all places of a join
-pub stands_all : (s : Standing) (old now other : List (Option AbstractValue)) (i : ℕ) → ((k : ℕ) → i ≤ k → get_or now k None ≡ get_or old k None) → ((k : ℕ) → k < i → Stands s (get_or old k None) → Stands s (get_or other k None) → Stands s (get_or now k None)) → (k : ℕ) → Stands s (get_or old k None) → Stands s (get_or other k None) → Stands s (get_or now k None)
+pub stands_all : (s : Certainty) (old now other : List (Option AbstractValue)) (i : ℕ) → ((k : ℕ) → i ≤ k → get_or now k None ≡ get_or old k None) → ((k : ℕ) → k < i → Stands s (get_or old k None) → Stands s (get_or other k None) → Stands s (get_or now k None)) → (k : ℕ) → Stands s (get_or old k None) → Stands s (get_or other k None) → Stands s (get_or now k None)
 stands_all s old now other i rest before k p q = stands_all_by s old now other i rest before k (cases_lt k i) p q
 
 -- what is sure of both views is sure of one that has what both have
-pub Has-both : (x : Fact) (a b v : AbstractState) → ((s : Standing) (k : ℕ) → Stands s (slice_index_or a.registers k None) → Stands s (slice_index_or b.registers k None) → Stands s (slice_index_or v.registers k None)) → ((k : ℕ) → slice_index_or a.set k false ≡ true → slice_index_or b.set k false ≡ true → slice_index_or v.set k false ≡ true) → ((s : Standing) (k : ℕ) → Stands s (slice_index_or a.kept k None) → Stands s (slice_index_or b.kept k None) → Stands s (slice_index_or v.kept k None)) → Has x a → Has x b → Has x v
+pub Has-both : (x : Fact) (a b v : AbstractState) → ((s : Certainty) (k : ℕ) → Stands s (slice_index_or a.registers k None) → Stands s (slice_index_or b.registers k None) → Stands s (slice_index_or v.registers k None)) → ((k : ℕ) → slice_index_or a.set k false ≡ true → slice_index_or b.set k false ≡ true → slice_index_or v.set k false ≡ true) → ((s : Certainty) (k : ℕ) → Stands s (slice_index_or a.kept k None) → Stands s (slice_index_or b.kept k None) → Stands s (slice_index_or v.kept k None)) → Has x a → Has x b → Has x v
 Has-both Never a b v registers set kept p q = p
 Has-both (AtRegister s r) a b v registers set kept p q = registers s r p q
 Has-both (IsSetAt i) a b v registers set kept p q = set i p q

@@ -10,7 +10,7 @@ use Rattle.bq_bpf.specs.Memory.{Setting, State, number_of}
 use Rattle.bq_states.specs.declared.abstract_state.AbstractValue.{AbstractValue}
 use Rattle.bq_states.specs.declared.abstract_state.AbstractState.{AbstractState}
 use Rattle.bq_states.specs.Copies.{HasWord}
-use Rattle.bq_states.specs.Standing.{Standing, Stands, NoPointer, Fact, Never, AtRegister, IsSetAt, IsPlainAt, Has}
+use Rattle.bq_states.specs.Certainty.{Certainty, Stands, NoPointer, Fact, Never, AtRegister, IsSetAt, IsPlainAt, Has}
 use Rattle.bq_states.specs.Told.{HasLearnt, IsLasting, IsLastingWord, IsSharper}
 use Rattle.bq_states.specs.AbstractStates.{Contains, Describes, Holds, Keeps}
 use Rattle.bq_states.proofs.AccessLemmas.{number_of_word}
@@ -109,7 +109,7 @@ module _ (f : Setting) (v : AbstractState) (s : State) (told : AbstractValue) (r
       slot_at j b (inr (_, other)) = subst (λ (k : Option AbstractValue). Keeps f.shapes k s.stack j) (sym (others' j other)) (covers.kept j)
 
 -- what stays sure of a view of which more is known
-pub has_sharper : (x : Fact) (v : AbstractState) (registers kept : List (Option AbstractValue)) → ((s : Standing) (k : ℕ) → IsLastingWord s → Stands s (slice_index_or v.registers k None) → Stands s (slice_index_or registers k None)) → ((s : Standing) (k : ℕ) → IsLastingWord s → Stands s (slice_index_or v.kept k None) → Stands s (slice_index_or kept k None)) → IsLasting x → Has x v → Has x (record v { registers = registers; kept = kept })
+pub has_sharper : (x : Fact) (v : AbstractState) (registers kept : List (Option AbstractValue)) → ((s : Certainty) (k : ℕ) → IsLastingWord s → Stands s (slice_index_or v.registers k None) → Stands s (slice_index_or registers k None)) → ((s : Certainty) (k : ℕ) → IsLastingWord s → Stands s (slice_index_or v.kept k None) → Stands s (slice_index_or kept k None)) → IsLasting x → Has x v → Has x (record v { registers = registers; kept = kept })
 has_sharper Never v registers kept stands stands' lasting has = has
 has_sharper (AtRegister s r) v registers kept stands stands' lasting has = stands s r lasting has
 has_sharper (IsSetAt i) v registers kept stands stands' lasting has = has
@@ -126,7 +126,7 @@ covers_left f v s dst n left there is covers d = record {
   copies = covers.copies;
 }
 
-learnt_at : (s : Standing) (old new : List (Option AbstractValue)) (dst r : ℕ) (left : AbstractValue) (b : Bool) → dst < length old → dst < length new → ((b ≡ true) × (r ≡ dst)) ⊎ ((b ≡ false) × (r ≢ dst)) → (Stands s (get_or old r None) → Stands s (get_or new r None)) → Stands s (get_or (set old dst (Some left)) r None) → Stands s (get_or (set new dst (Some left)) r None)
+learnt_at : (s : Certainty) (old new : List (Option AbstractValue)) (dst r : ℕ) (left : AbstractValue) (b : Bool) → dst < length old → dst < length new → ((b ≡ true) × (r ≡ dst)) ⊎ ((b ≡ false) × (r ≢ dst)) → (Stands s (get_or old r None) → Stands s (get_or new r None)) → Stands s (get_or (set old dst (Some left)) r None) → Stands s (get_or (set new dst (Some left)) r None)
 learnt_at s old new dst r left b there there' (inl (_, e)) more has =
     let before : get_or (set old dst (Some left)) r None ≡ Some left = rw (e, get_or-set_same old dst (Some left) None there) refl in
     let after : get_or (set new dst (Some left)) r None ≡ Some left = rw (e, get_or-set_same new dst (Some left) None there') refl in

@@ -1,5 +1,5 @@
 pub mod Copies
 pub mod Parts
 pub mod AbstractStates
-pub mod Standing
+pub mod Certainty
 pub mod Told

@@ -6,7 +6,7 @@ use Rattle.bq_bpf.specs.declared.shape.MapShape.{MapShape}
 use Rattle.bq_bpf.specs.Memory.{Setting, State}
 use Rattle.bq_states.specs.declared.abstract_state.AbstractValue.{AbstractValue}
 use Rattle.bq_states.specs.declared.abstract_state.AbstractState.{AbstractState}
-use Rattle.bq_states.specs.Standing.{Standing, Pointer, Fact, AtRegister, Has}
+use Rattle.bq_states.specs.Certainty.{Certainty, Pointer, Fact, AtRegister, Has}
 use Rattle.bq_states.specs.AbstractStates.{Describes}
 use Rattle.bq_states.specs.declared.abstract_state.Kind.TheVariants.{EntryOrNull}
 use Rattle.bq_states.specs.declared.abstract_state.Kind.{Kind}
@@ -17,7 +17,7 @@ IsCertain (EntryOrNull m) = ⊥
 IsCertain kind = Unit {0}
 
 -- what stays sure of a word of which more is told: all but an answer of a look-up, which becomes an entry or 0
-abbrev pub IsLastingWord : Standing → Type 0
+abbrev pub IsLastingWord : Certainty → Type 0
 IsLastingWord (Pointer kind o) = IsCertain kind
 IsLastingWord s = Unit {0}
 

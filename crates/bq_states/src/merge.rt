@@ -2,7 +2,7 @@
 
 ghost use Rattle.std.specs.Prelude.{◌≡◌, ◌≢◌, ℕ, true, None, Some, length, slice_index_or, false};
 ghost use Rattle.bq_bpf.specs.Memory.{Setting, State};
-ghost use Rattle.bq_states.specs.Standing.{Fact, Has, Standing, Stands};
+ghost use Rattle.bq_states.specs.Certainty.{Fact, Has, Certainty, Stands};
 ghost use Rattle.bq_states.specs.AbstractStates.{Allows, Contains};
 
 use crate::abstract_state::{AbstractState, AbstractValue, Kind};
@@ -13,7 +13,7 @@ use crate::parts::join_parts;
 pub fn join(a: Option<AbstractValue>, b: Option<AbstractValue>) -> Option<AbstractValue>
     ensures left { Allows a result }
     ensures right { Allows b result }
-    ensures stands { (s : Standing) → Stands s a → Stands s b → Stands s result }
+    ensures stands { (s : Certainty) → Stands s a → Stands s b → Stands s result }
 {
     let (Some(a), Some(b)) = (a, b) else {
         return None;
@@ -32,7 +32,7 @@ fn join_answers(a: AbstractValue, b: AbstractValue) -> Option<AbstractValue>
     requires { a.kind ≢ b.kind }
     ensures left { Allows (Some a) result }
     ensures right { Allows (Some b) result }
-    ensures stands { (s : Standing) → Stands s (Some a) → Stands s (Some b) → Stands s result }
+    ensures stands { (s : Certainty) → Stands s (Some a) → Stands s (Some b) → Stands s result }
 {
     let map = match (a.kind, b.kind) {
         (Kind::Entry(map), Kind::EntryOrNull(other)) if map == other => map,
@@ -49,7 +49,7 @@ fn join_all(into: &mut [Option<AbstractValue>], other: &[Option<AbstractValue>])
     requires { length into.old ≡ length other.now }
     ensures left { (k : ℕ) → Allows (slice_index_or into.old k None) (slice_index_or into.new k None) }
     ensures right { (k : ℕ) → Allows (slice_index_or other.now k None) (slice_index_or into.new k None) }
-    ensures stands { (s : Standing) (k : ℕ) → Stands s (slice_index_or into.old k None) → Stands s (slice_index_or other.now k None) → Stands s (slice_index_or into.new k None) }
+    ensures stands { (s : Certainty) (k : ℕ) → Stands s (slice_index_or into.old k None) → Stands s (slice_index_or other.now k None) → Stands s (slice_index_or into.new k None) }
 {
     for i in 0..into.len() {
         into[i] = join(into[i], other[i]);

@@ -8,6 +8,7 @@ ghost use Rattle.bq_ranges.specs.Within.{Within};
 ghost use Rattle.bq_states.specs.Parts.{AllowsPart, HasBytes, HaveParts, Outlives};
 
 use crate::abstract_state::Part;
+use bq_bpf::addresses::STACK_SIZE;
 use bq_insn::Size;
 use bq_ranges::Range;
 
@@ -36,7 +37,7 @@ pub fn numbers_at(parts: &[Option<Part>], at: Range, size: Size) -> Range
     requires { length parts.now ≡ 4 }
     ensures { (stack : ℕ → Option ℕ) (o : ℕ) (bytes : List ℕ) → HaveParts stack parts.now → Within at o → HasBytes stack o (byte_count size) bytes → number_of bytes < 256 ^ byte_count size → Within result (number_of bytes) }
 {
-    if !at.is_single() || at.lo >= 512 {
+    if !at.is_single() || at.lo >= STACK_SIZE {
         return numbers(size);
     }
     let first = at.lo as u16;

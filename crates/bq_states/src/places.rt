@@ -3,12 +3,13 @@
 ghost use Rattle.std.specs.Prelude.{Some, ◌↔◌, ◌≡◌, ◌+◌, ◌^◌, ◌<◌, ◌≤◌, ℕ, IsTrue, length, IfSome, false, true, slice_get, slice_index_or, None};
 ghost use Rattle.bq_insn.specs.Slots.{byte_count};
 ghost use Rattle.bq_ranges.specs.Within.{Within};
-ghost use Rattle.bq_states.specs.Standing.{Pointer, StandsAt};
+ghost use Rattle.bq_states.specs.Certainty.{Pointer, StandsAt};
 ghost use Rattle.bq_states.specs.AbstractStates.{bound_of, Bounds, FindsBytes};
 
 use crate::abstract_state::{AbstractState, Kind};
 use crate::registers::known;
 use bq_bpf::MapShape;
+use bq_bpf::addresses::STACK_SIZE;
 use bq_insn::Size;
 use bq_ranges::Range;
 
@@ -20,7 +21,7 @@ pub fn bound(kind: Kind, shapes: &[MapShape], context: usize) -> Option<usize>
 {
     match kind {
         Kind::Context => Some(context),
-        Kind::Stack => Some(512),
+        Kind::Stack => Some(STACK_SIZE as usize),
         Kind::Entry(map) => {
             let Some(shape) = shape_of(shapes, map) else {
                 return None;
@@ -62,7 +63,7 @@ pub fn is_readable(view: &AbstractState, kind: Kind, at: Range, size: Size) -> b
 {
     match kind {
         Kind::Stack => {
-            if !stays(at, size, 512) {
+            if !stays(at, size, STACK_SIZE as usize) {
                 return false;
             }
             is_set(view, at, size)
@@ -155,7 +156,7 @@ fn stack_is_set(view: &AbstractState, at: Range, count: usize) -> bool
     ensures all { IsTrue result → (o i : ℕ) → Within at o → i < count → slice_index_or view.now.set (o + i) false ≡ true }
     ensures found { at.hi + count ≤ 512 → ((i : ℕ) → at.lo ≤ i → i < at.hi + count → slice_index_or view.now.set i false ≡ true) → IsTrue result }
 {
-    if at.hi > (512 - count) as u64 {
+    if at.hi > STACK_SIZE - count as u64 {
         return false;
     }
     all_set(&view.set, at.lo as usize, at.hi as usize + count)

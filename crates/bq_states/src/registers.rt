@@ -2,7 +2,7 @@
 
 ghost use Rattle.std.specs.Prelude.{◌≡◌, ◌<◌, ℕ, ℤ, None, IfSome, length, slice_index_or};
 ghost use Rattle.bq_bpf.specs.Meaning.{word_of};
-ghost use Rattle.bq_states.specs.Standing.{IsScalarOperand, IsWord, Scalar, Stands};
+ghost use Rattle.bq_states.specs.Certainty.{IsScalarOperand, IsWord, Scalar, Stands};
 ghost use Rattle.bq_states.specs.AbstractStates.{Clears, Finds, knowing};
 
 use crate::abstract_state::{AbstractState, AbstractValue, Kind};

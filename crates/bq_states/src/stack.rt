@@ -5,7 +5,7 @@ ghost use Rattle.bq_insn.specs.Slots.{byte_count};
 ghost use Rattle.bq_bpf.specs.Memory.{Setting, State, InStack, written};
 ghost use Rattle.bq_bpf.specs.Steps.{next};
 ghost use Rattle.bq_ranges.specs.Within.{Within};
-ghost use Rattle.bq_states.specs.Standing.{IsStoredAt};
+ghost use Rattle.bq_states.specs.Certainty.{IsStoredAt};
 ghost use Rattle.bq_states.specs.AbstractStates.{Contains, Forgets, Marks, keeping};
 
 use crate::abstract_state::{AbstractState, AbstractValue};

@@ -2,7 +2,7 @@
 
 ghost use Rattle.std.specs.Prelude.{◌≡◌, ◌≢◌, ◌+◌, ◌<◌, ◌≤◌, ℕ, Some, None, length, slice_index, slice_index_or};
 ghost use Rattle.bq_bpf.specs.Memory.{Setting, State};
-ghost use Rattle.bq_states.specs.Standing.{Fact, Has, Standing, Stands};
+ghost use Rattle.bq_states.specs.Certainty.{Fact, Has, Certainty, Stands};
 ghost use Rattle.bq_states.specs.Told.{HasLearnt, IsLasting, IsLastingWord, IsSharper, IsTold};
 ghost use Rattle.bq_states.specs.AbstractStates.{Contains, Describes};
 
@@ -68,7 +68,7 @@ fn sharpen_all(
     requires { first + length words.old ≤ length classes.now }
     ensures sharper { (k : ℕ) → IsSharper told (slice_index_or words.old k None) (slice_index_or words.new k None) }
     ensures others { (k : ℕ) → slice_index classes.now (first + k) ≢ class → slice_index_or words.new k None ≡ slice_index_or words.old k None }
-    ensures stands { (s : Standing) (k : ℕ) → IsLastingWord s → Stands s (slice_index_or words.old k None) → Stands s (slice_index_or words.new k None) }
+    ensures stands { (s : Certainty) (k : ℕ) → IsLastingWord s → Stands s (slice_index_or words.old k None) → Stands s (slice_index_or words.new k None) }
 {
     for i in 0..words.len() {
         words[i] = sharper_in(class, classes[first + i], words[i], told);
@@ -84,7 +84,7 @@ fn sharper_in(
 ) -> Option<AbstractValue>
     ensures sharper { IsSharper told known result }
     ensures other { own ≢ class → result ≡ known }
-    ensures stands { (s : Standing) → IsLastingWord s → Stands s known → Stands s result }
+    ensures stands { (s : Certainty) → IsLastingWord s → Stands s known → Stands s result }
 {
     if own != class {
         return known;
@@ -95,7 +95,7 @@ fn sharper_in(
 /// What is known of a word, if anything is, that is also as told.
 fn sharper(known: Option<AbstractValue>, told: AbstractValue) -> Option<AbstractValue>
     ensures sharper { IsSharper told known result }
-    ensures stands { (s : Standing) → IsLastingWord s → Stands s known → Stands s result }
+    ensures stands { (s : Certainty) → IsLastingWord s → Stands s known → Stands s result }
 {
     let Some(word) = known else {
         return None;

@@ -1,6 +1,6 @@
 pub mod ResultLemmas
 pub mod PutLemmas
-pub mod StandingLemmas
+pub mod CertaintyLemmas
 pub mod PlaceLemmas
 pub mod LoadLemmas
 pub mod CallLemmas

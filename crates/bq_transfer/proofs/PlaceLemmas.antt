@@ -15,7 +15,7 @@ use Rattle.bq_states.specs.declared.abstract_state.Kind.{Kind}
 use Rattle.bq_states.specs.declared.abstract_state.Kind.TheVariants.{Entry, Stack}
 use Rattle.bq_states.specs.declared.abstract_state.AbstractValue.{AbstractValue}
 use Rattle.bq_states.specs.declared.abstract_state.AbstractState.{AbstractState}
-use Rattle.bq_states.specs.Standing.{Pointer, Stands}
+use Rattle.bq_states.specs.Certainty.{Pointer, Stands}
 use Rattle.bq_transfer.specs.Ready.{IsPlaced}
 use Rattle.bq_states.specs.AbstractStates.{bound_of}
 

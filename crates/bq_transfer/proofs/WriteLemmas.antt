@@ -1,5 +1,5 @@
 -- What a store leaves known: on the stack, and in an entry.
-use Rattle.bq_states.specs.Standing.{NoPointer, Stands}
+use Rattle.bq_states.specs.Certainty.{NoPointer, Stands}
 use Rattle.std.proofs.Common.{◌≡◌, ◌≢◌, ℕ, zero, suc, ◌+◌, ◌*◌, ◌^◌, ◌<◌, ◌≤◌, Bool, true, false, List, Option, Some, None, length, get_or, set, refl, sym, ap, subst, arith, ◌⊎◌, inl, inr, ℤ, get_or-set_same, get_or-set_other, [], ◌∷◌}
 use Rattle.std.specs.Prelude.{slice_index, IfSome, IfOk, OnOk, Ok, Err, slice_index_or, slice_set}
 use Rattle.std.specs.declared.result.Result.{Result}

@@ -14,7 +14,7 @@ use Rattle.bq_insn.specs.declared.Width.TheVariants.{W64}
 use Rattle.bq_insn.specs.declared.Width.{Width}
 use Rattle.bq_bpf.specs.declared.shape.MapShape.{MapShape}
 use Rattle.bq_graph.specs.Faults.{destination_of}
-use Rattle.bq_states.specs.Standing.{Scalar, Pointer, StandsAt, IsSetAt, IsPlainAt, Has, IsScalarOperand}
+use Rattle.bq_states.specs.Certainty.{Scalar, Pointer, StandsAt, IsSetAt, IsPlainAt, Has, IsScalarOperand}
 use Rattle.bq_states.specs.AbstractStates.{bound_of, size_of_shape}
 use Rattle.bq_states.specs.declared.abstract_state.Kind.TheVariants.{Number, Stack, Entry, EntryOrNull, Map}
 use Rattle.bq_states.specs.declared.abstract_state.Kind.{Kind}

@@ -5,7 +5,7 @@ use Rattle.bq_insn.specs.declared.Condition.{Condition}
 use Rattle.bq_insn.specs.declared.Source.{Source}
 use Rattle.bq_insn.specs.declared.Width.{Width}
 use Rattle.bq_transfer.specs.Ready.{IsNullCheck}
-use Rattle.bq_states.specs.Standing.{Pointer, Stands}
+use Rattle.bq_states.specs.Certainty.{Pointer, Stands}
 use Rattle.bq_states.specs.AbstractStates.{Describes}
 use Rattle.bq_states.specs.declared.abstract_state.Kind.{Kind}
 use Rattle.bq_states.specs.declared.abstract_state.Kind.TheVariants.{Number, Entry, EntryOrNull}

@@ -4,7 +4,7 @@ ghost use Rattle.std.specs.Prelude.{◌≡◌, ◌≢◌, ◌<◌, length, IsTru
 ghost use Rattle.bq_bpf.specs.declared.shape.MapShape.{MapShape};
 ghost use Rattle.bq_bpf.specs.Meaning.{alu_result, word_of};
 ghost use Rattle.bq_transfer.specs.Doubts.{MayDoubt};
-ghost use Rattle.bq_states.specs.Standing.{Fact, Has, Scalar, Exact, Pointer, Stands, StandsAt, IsScalarOperand, IsGiven, IsMade, IsWord};
+ghost use Rattle.bq_states.specs.Certainty.{Fact, Has, Scalar, Exact, Pointer, Stands, StandsAt, IsScalarOperand, IsGiven, IsMade, IsWord};
 ghost use Rattle.bq_transfer.specs.After.{After};
 ghost use Rattle.bq_transfer.specs.Ready.{IsReady, IsCopyOfFrame, IsMoveOfPointer};
 ghost use Rattle.bq_bpf.specs.Memory.{State};

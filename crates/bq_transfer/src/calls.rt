@@ -7,7 +7,7 @@ ghost use Rattle.bq_bpf.specs.declared.shape.MapShape.{MapShape};
 ghost use Rattle.bq_ranges.specs.Within.{Within};
 ghost use Rattle.bq_transfer.specs.Doubts.{MayDoubt};
 ghost use Rattle.bq_transfer.specs.After.{After};
-ghost use Rattle.bq_states.specs.Standing.{Fact, Has, IsAnswered, IsCalled, IsMade, Pointer, Scalar, StandsAt};
+ghost use Rattle.bq_states.specs.Certainty.{Fact, Has, IsAnswered, IsCalled, IsMade, Pointer, Scalar, StandsAt};
 ghost use Rattle.bq_transfer.specs.Ready.{IsAtMost, IsReady, IsUpdating, IsNamingEntry};
 ghost use Rattle.bq_transfer.specs.Transfers.{Transfers, IsBelow};
 ghost use Rattle.bq_states.specs.AbstractStates.{Contains};

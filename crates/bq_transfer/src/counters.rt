@@ -1,15 +1,15 @@
 // Calls of counters.
 
-ghost use Rattle.std.specs.Prelude.{◌<◌, pos, false, IsTrue, ◌≡◌, OnOk, IsOk, IfErr, ℤ};
+ghost use Rattle.std.specs.Prelude.{◌<◌, pos, false, ◌≡◌, OnOk, IsOk, IfErr, ℤ};
 ghost use Rattle.bq_transfer.specs.Doubts.{MayDoubt};
 ghost use Rattle.bq_bpf.specs.Steps.{IsCounterCall};
 ghost use Rattle.bq_transfer.specs.Ready.{IsAsking};
-ghost use Rattle.bq_states.specs.Standing.{IsAnswered};
+ghost use Rattle.bq_states.specs.Certainty.{IsAnswered};
 ghost use Rattle.bq_transfer.specs.Transfers.{AsksFrom};
 
 use crate::calls::{answer, is_at_most};
 use crate::doubt::Doubt;
-use bq_bpf::helper::{ADD_COUNTER, READ_COUNTER};
+use bq_bpf::helper::ADD_COUNTER;
 use bq_insn::{Insn, Width};
 use bq_ranges::Range;
 use bq_states::abstract_state::AbstractState;
@@ -41,17 +41,6 @@ fn read(view: &mut AbstractState) -> Result<(), Doubt>
     }
     answer(view, Range::full(Width::W64));
     Ok(())
-}
-
-/// Whether the instruction is a call of a counter.
-pub fn is_counter_call(insn: Insn) -> bool
-    ensures is { IsTrue result → IsCounterCall insn }
-    ensures only { IsCounterCall insn → IsTrue result }
-{
-    match insn {
-        Insn::Call { helper } => helper == ADD_COUNTER || helper == READ_COUNTER,
-        _ => false,
-    }
 }
 
 /// The view after a call of a counter.

@@ -8,13 +8,14 @@ ghost use Rattle.bq_insn.specs.declared.Insn.{Insn};
 ghost use Rattle.bq_bpf.specs.Memory.{number_of};
 ghost use Rattle.bq_states.specs.Parts.{HasBytes, HaveParts};
 ghost use Rattle.bq_transfer.specs.Doubts.{MayDoubt};
-ghost use Rattle.bq_states.specs.Standing.{IsGiven};
+ghost use Rattle.bq_states.specs.Certainty.{IsGiven};
 ghost use Rattle.bq_transfer.specs.Ready.{IsReadable};
 ghost use Rattle.bq_transfer.specs.Transfers.{Transfers};
 
 use crate::access::{Access, Location, locate};
 use crate::doubt::Doubt;
 use bq_bpf::MapShape;
+use bq_bpf::addresses::STACK_SIZE;
 use bq_insn::{Bits, Insn, Size, Width};
 use bq_ranges::{Range, moves};
 use bq_states::abstract_state::{AbstractState, AbstractValue, Kind};
@@ -66,7 +67,7 @@ fn kept_at(view: &AbstractState, place: Location, size: Size, signed: bool) -> O
     if place.kind != Kind::Stack || size != Size::Double || signed {
         return None;
     }
-    if !place.at.is_single() || place.at.lo % 8 != 0 || place.at.lo >= 512 {
+    if !place.at.is_single() || place.at.lo % 8 != 0 || place.at.lo >= STACK_SIZE {
         return None;
     }
     kept_in(view, place.at.lo as usize / 8)

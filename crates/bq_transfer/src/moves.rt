@@ -1,7 +1,7 @@
 // Moves that change a number on the way, and numbers from the instruction.
 
 ghost use Rattle.std.specs.Prelude.{◌≡◌, ◌<◌, ℕ, List, IsOk, OnOk, IfOk, IfErr, length};
-ghost use Rattle.bq_states.specs.Standing.{IsGiven, Scalar, StandsAt};
+ghost use Rattle.bq_states.specs.Certainty.{IsGiven, Scalar, StandsAt};
 ghost use Rattle.bq_insn.specs.declared.Insn.{Insn};
 ghost use Rattle.bq_bpf.specs.declared.shape.MapShape.{MapShape};
 ghost use Rattle.bq_transfer.specs.Doubts.{MayDoubt, ReadsOperand, UsesWord};

@@ -5,7 +5,7 @@ ghost use Rattle.bq_insn.specs.declared.Insn.{Insn};
 ghost use Rattle.bq_bpf.specs.Meaning.{taken, word_of};
 ghost use Rattle.bq_bpf.specs.declared.shape.MapShape.{MapShape};
 ghost use Rattle.bq_transfer.specs.Doubts.{MayDoubt, UsesWord};
-ghost use Rattle.bq_states.specs.Standing.{IsWord, Pointer, Stands};
+ghost use Rattle.bq_states.specs.Certainty.{IsWord, Pointer, Stands};
 ghost use Rattle.bq_transfer.specs.Ready.{IsNullCheck, IsNullTest};
 ghost use Rattle.bq_transfer.specs.Sides.{IsCompared, IsNumberIfAny, IsSide, IsTested, IsTestedIfAny, is_found, Fits};
 ghost use Rattle.bq_states.specs.AbstractStates.{Describes};

@@ -10,13 +10,14 @@ ghost use Rattle.bq_ranges.specs.Within.{Within};
 ghost use Rattle.bq_states.specs.Copies.{AreCopies, HasWord};
 ghost use Rattle.bq_transfer.specs.Doubts.{IsAccess, MayDoubt, ReadsOperand, UsesWord};
 ghost use Rattle.bq_transfer.specs.Ready.{IsPlaced};
-ghost use Rattle.bq_states.specs.Standing.{IsStoredAt, Scalar, StandsAt};
+ghost use Rattle.bq_states.specs.Certainty.{IsStoredAt, Scalar, StandsAt};
 ghost use Rattle.bq_transfer.specs.Transfers.{Transfers, IsWholeSlot, Stores};
 ghost use Rattle.bq_states.specs.AbstractStates.{Contains, Describes};
 
 use crate::access::{Access, locate};
 use crate::doubt::Doubt;
 use bq_bpf::MapShape;
+use bq_bpf::addresses::STACK_SIZE;
 use bq_insn::{Insn, Size};
 use bq_ranges::Range;
 use bq_states::abstract_state::{AbstractState, AbstractValue, Kind};
@@ -134,7 +135,7 @@ fn store_on_stack(
     ensures doubts { IfErr result (λ doubt. (insn : Insn) → IsAccess insn → (word.kind ≢ Kind.Number → UsesWord insn) → MayDoubt doubt insn) }
     ensures accepts { word.kind ≡ Kind.Number → (place : ℕ) → at.lo ≡ place → at.hi ≡ place → place + byte_count size ≤ 512 → IsOk result × IsStoredAt view.old view.new place (place + byte_count size) }
 {
-    if !stays(at, size, 512) {
+    if !stays(at, size, STACK_SIZE as usize) {
         return Err(Doubt::Access);
     }
     if size == Size::Double && at.is_single() && at.lo % 8 == 0 {

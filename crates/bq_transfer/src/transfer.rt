@@ -4,7 +4,7 @@ ghost use Rattle.std.specs.Prelude.{ℕ, IsOk, ◌<◌, ◌≤◌, ◌^◌, OnOk
 ghost use Rattle.bq_transfer.specs.Doubts.{MayDoubt};
 ghost use Rattle.bq_transfer.specs.Transfers.{Transfers, IsStraight};
 ghost use Rattle.bq_transfer.specs.After.{After};
-ghost use Rattle.bq_states.specs.Standing.{Fact, Has};
+ghost use Rattle.bq_states.specs.Certainty.{Fact, Has};
 ghost use Rattle.bq_transfer.specs.Ready.{IsTransferred, IsReady, WritesBelowFrame};
 
 use crate::access::Access;

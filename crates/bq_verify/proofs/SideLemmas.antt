@@ -16,13 +16,13 @@ use Rattle.bq_states.specs.declared.abstract_state.AbstractValue.{AbstractValue}
 use Rattle.bq_states.specs.declared.abstract_state.AbstractState.{AbstractState}
 use Rattle.bq_states.specs.AbstractStates.{knowing}
 use Rattle.bq_states.specs.Told.{HasLearnt, IsLasting, IsCertain}
-use Rattle.bq_states.specs.Standing.{Scalar, Exact, Pointer, NoPointer, Stands, StandsAt, Fact, Never, AtRegister, IsSetAt, IsPlainAt, Has, Outlasts}
+use Rattle.bq_states.specs.Certainty.{Scalar, Exact, Pointer, NoPointer, Stands, StandsAt, Fact, Never, AtRegister, IsSetAt, IsPlainAt, Has, Outlasts}
 use Rattle.bq_verify.specs.Ways.{HasOnSide, AfterTest, IsApartFrom}
 use Rattle.bq_transfer.specs.Sides.{IsNumberIfAny, IsTested, is_found}
 use Rattle.bq_transfer.specs.Ready.{IsTransferred}
 use Rattle.bq_transfer.specs.After.{IsFoundSide, After}
 use Rattle.bq_states.proofs.MergeLemmas.{some_none}
-use Rattle.bq_transfer.proofs.StandingLemmas.{not_both, pointer_is, given_has, knowing_given}
+use Rattle.bq_transfer.proofs.CertaintyLemmas.{not_both, pointer_is, given_has, knowing_given}
 
 known_within : (xs : List (Option AbstractValue)) (r : ℕ) (k : AbstractValue) → Some k ≡ slice_index_or xs r None → (r < length xs) ⊎ (length xs ≤ r) → r < length xs
 known_within xs r k known (inl within) = within

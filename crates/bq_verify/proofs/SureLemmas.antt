@@ -27,13 +27,13 @@ use Rattle.bq_graph.proofs.EdgeLemmas.{end_of-push, IsPath-push}
 use Rattle.bq_states.specs.declared.abstract_state.Kind.{Kind}
 use Rattle.bq_states.specs.declared.abstract_state.Kind.TheVariants.{Context, Stack, Entry, EntryOrNull, Map}
 use Rattle.bq_states.specs.declared.abstract_state.AbstractState.{AbstractState}
-use Rattle.bq_states.specs.Standing.{Scalar, Exact, Pointer, NoPointer, StandsAt, Fact, Never, AtRegister, IsSetAt, IsPlainAt, Has, IsScalarOperand}
+use Rattle.bq_states.specs.Certainty.{Scalar, Exact, Pointer, NoPointer, StandsAt, Fact, Never, AtRegister, IsSetAt, IsPlainAt, Has, IsScalarOperand}
 use Rattle.bq_verify.specs.Ways.{HasWaiting, GoesOnSure}
 use Rattle.bq_transfer.specs.Ready.{IsAsking, IsAtMost, IsCopyOfFrame, IsLeftReady, IsMoveOfPointer, IsNamingEntry, IsPlaced, IsReadable, IsOnFrame, IsIntoEntry, IsReady, IsReadyToAsk, IsUpdating}
 use Rattle.bq_states.specs.AbstractStates.{size_of_shape}
 use Rattle.bq_transfer.specs.After.{GivesExact, GivesNumber, GivesPointer, IsNoTestOf, LeavesNumber, LeavesPointer, Spares, IsStackByte, StoresByte, After}
 use Rattle.bq_states.specs.Told.{IsCertain}
-use Rattle.bq_transfer.proofs.StandingLemmas.{exact_at_most}
+use Rattle.bq_transfer.proofs.CertaintyLemmas.{exact_at_most}
 use Rattle.bq_verify.specs.Straight.{held_along, OnEachPath, is_register, writes, leaves, spares, loads, untouched, stores, always, never, IsWritten, IsStored, IsLoaded, IsContextLeft, IsWrittenOperand, IsWrittenLeft, IsOnStack, MakesPointer, LeavesPointerIn, IsPointerFrom, IsPointerAt, IsInEntry, IsGoodLoad, IsGoodStore, IsCopyOfEnd, IsMoveOnStack, IsNaming, IsGiving, IsCounting, Needs, IsStraightProgram}
 use Rattle.bq_verify.specs.Sure.{IsDue, IsSure}
 

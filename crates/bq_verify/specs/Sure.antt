@@ -6,7 +6,7 @@ use Rattle.bq_insn.specs.declared.Insn.{Insn}
 use Rattle.bq_graph.specs.Paths.{Path}
 use Rattle.bq_states.specs.declared.abstract_state.Kind.TheVariants.{Context, Stack}
 use Rattle.bq_states.specs.declared.abstract_state.AbstractState.{AbstractState}
-use Rattle.bq_states.specs.Standing.{Scalar, Exact, Pointer, NoPointer, Fact, Never, AtRegister, IsSetAt, IsPlainAt}
+use Rattle.bq_states.specs.Certainty.{Scalar, Exact, Pointer, NoPointer, Fact, Never, AtRegister, IsSetAt, IsPlainAt}
 use Rattle.bq_verify.specs.Ways.{IsSureOf}
 use Rattle.bq_verify.specs.Straight.{IsWritten, IsLoaded, IsByteStored, IsContextLeft, IsPointerAt}
 

@@ -5,7 +5,7 @@ use Rattle.std.specs.declared.boxed.Box.{Box}
 use Rattle.bq_insn.specs.declared.Insn.{Insn}
 use Rattle.bq_graph.specs.Edges.{IsEdge}
 use Rattle.bq_transfer.specs.After.{After}
-use Rattle.bq_states.specs.Standing.{Pointer, Fact, AtRegister, Has}
+use Rattle.bq_states.specs.Certainty.{Pointer, Fact, AtRegister, Has}
 use Rattle.bq_states.specs.Told.{HasLearnt, IsLasting}
 use Rattle.bq_states.specs.declared.abstract_state.Kind.TheVariants.{Entry}
 use Rattle.bq_states.specs.declared.abstract_state.AbstractValue.{AbstractValue}

@@ -7,7 +7,7 @@ ghost use Rattle.bq_bpf.specs.Runs.{start as beginning};
 ghost use Rattle.bq_graph.specs.Edges.{IsStart};
 ghost use Rattle.bq_graph.specs.Passes.{IsSound};
 ghost use Rattle.bq_verify.specs.Refusals.{IsOutOfMemory, IsStopped};
-ghost use Rattle.bq_states.specs.Standing.{Pointer, Has, IsPlainAt, StandsAt};
+ghost use Rattle.bq_states.specs.Certainty.{Pointer, Has, IsPlainAt, StandsAt};
 ghost use Rattle.bq_verify.specs.Straight.{IsStraightProgram};
 ghost use Rattle.bq_verify.specs.Sure.{IsSure};
 ghost use Rattle.bq_states.specs.AbstractStates.{Contains};
@@ -17,6 +17,7 @@ use crate::flow::visit;
 use crate::refused::{Refused, refuse};
 use crate::subject::Subject;
 use crate::waiting::{arrive, nothing_waits};
+use bq_bpf::addresses::STACK_SIZE;
 use bq_graph::edges::instruction;
 use bq_ranges::Range;
 use bq_states::abstract_state::{AbstractState, AbstractValue, Kind, Part};
@@ -126,7 +127,7 @@ pub(crate) fn start() -> AbstractState
         10,
         AbstractValue {
             kind: Kind::Stack,
-            offset: Range::single(512),
+            offset: Range::single(STACK_SIZE),
         },
     );
     view

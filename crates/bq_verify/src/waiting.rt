@@ -2,7 +2,7 @@
 
 ghost use Rattle.std.specs.Prelude.{◌≡◌, ◌<◌, ℕ, true, None, length, slice_index_or, IfOk, OnOk};
 ghost use Rattle.bq_bpf.specs.Memory.{Setting, State};
-ghost use Rattle.bq_states.specs.Standing.{Fact, Has};
+ghost use Rattle.bq_states.specs.Certainty.{Fact, Has};
 ghost use Rattle.bq_verify.specs.Ways.{HasIn, HasWaiting, IsSureOf};
 ghost use Rattle.bq_states.specs.AbstractStates.{Contains};
 ghost use Rattle.bq_verify.specs.Control.{IsIn, WaitsBoxed, IsKnown};

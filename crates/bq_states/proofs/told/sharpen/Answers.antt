@@ -1,7 +1,7 @@
 use Rattle.std.proofs.Common.{◌≡◌, ◌<◌, ◌≤◌, ℕ, Option, Some, length, refl, sym, subst, arith, rules}
 use Rattle.std.specs.Prelude.{slice_index}
 use Rattle.bq_states.proofs.ToldLemmas.{covers_sharper_all, covers_sharper_one, has_sharper, set_each}
-use Rattle.bq_states.specs.Standing.{Stands}
+use Rattle.bq_states.specs.Certainty.{Stands}
 use Rattle.bq_states.specs.declared.abstract_state.AbstractValue.{AbstractValue}
 use Rattle.bq_states.specs.Told.{IsLastingWord, IsSharper}
 use Rattle.bq_states.proofs.told.sharpen.Goals as goal

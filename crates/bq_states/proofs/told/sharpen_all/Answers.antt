@@ -1,6 +1,6 @@
 use Rattle.std.proofs.Common.{◌≡◌, ◌≢◌, ◌+◌, ◌<◌, length, slice_index, arith}
 use Rattle.std.proofs.lemmas.Grind.{common_steps}
-use Rattle.bq_states.specs.Standing.{Stands}
+use Rattle.bq_states.specs.Certainty.{Stands}
 use Rattle.bq_states.specs.Told.{IsLastingWord, IsSharper}
 use Rattle.bq_states.proofs.ToldLemmas.{set_each}
 use Rattle.bq_states.proofs.told.sharpen_all.Goals as goal

@@ -1,7 +1,7 @@
 use Rattle.std.proofs.Common.{subst, refl, inl, inr, ◌≡◌, rules}
 use Rattle.bq_transfer.specs.After.{After, GivesExact}
 use Rattle.bq_transfer.specs.Ready.{IsCopyOfFrame}
-use Rattle.bq_transfer.proofs.StandingLemmas.{exact_moves, has_copied, has_exact, has_given, has_moved, left_scalar, no_pointer, on_ok_at}
+use Rattle.bq_transfer.proofs.CertaintyLemmas.{exact_moves, has_copied, has_exact, has_given, has_moved, left_scalar, no_pointer, on_ok_at}
 use Rattle.bq_insn.specs.declared.Operation.{Operation}
 use Rattle.bq_insn.specs.declared.Operation.TheVariants.{Add, Mov}
 use Rattle.bq_insn.specs.declared.Source.{Source}

@@ -3,13 +3,13 @@ use Rattle.bq_insn.specs.declared.Operation.TheVariants.{Mov}
 use Rattle.bq_bpf.specs.Meaning.{alu_result, word_of}
 use Rattle.bq_states.specs.declared.abstract_state.AbstractValue.{AbstractValue}
 use Rattle.bq_states.specs.declared.abstract_state.AbstractState.{AbstractState}
-use Rattle.bq_states.specs.Standing.{Exact, IsMade, Stands}
+use Rattle.bq_states.specs.Certainty.{Exact, IsMade, Stands}
 use Rattle.bq_insn.specs.declared.Source.{Source}
 use Rattle.bq_insn.specs.declared.Source.TheVariants.{Reg}
 use Rattle.bq_bpf.specs.Steps.{IsOperand, put}
 use Rattle.bq_states.specs.AbstractStates.{Contains, knowing}
 use Rattle.bq_states.proofs.CopyLemmas.{put_here, put_there}
-use Rattle.bq_transfer.proofs.StandingLemmas.{knowing_made, made_classes}
+use Rattle.bq_transfer.proofs.CertaintyLemmas.{knowing_made, made_classes}
 use Rattle.bq_transfer.proofs.PutLemmas.{covers_put, covers_same}
 use Rattle.bq_transfer.proofs.alu.copy.Goals as goal
 

@@ -4,9 +4,9 @@ use Rattle.bq_bpf.specs.Meaning.{alu_result, word_of}
 use Rattle.bq_states.specs.declared.abstract_state.Kind.TheVariants.{Stack}
 use Rattle.bq_states.specs.declared.abstract_state.AbstractValue.{AbstractValue}
 use Rattle.bq_states.specs.declared.abstract_state.AbstractState.{AbstractState}
-use Rattle.bq_states.specs.Standing.{IsMade, IsWord, Pointer, Stands}
+use Rattle.bq_states.specs.Certainty.{IsMade, IsWord, Pointer, Stands}
 use Rattle.bq_transfer.proofs.PlaceLemmas.{sum_on_stack}
-use Rattle.bq_transfer.proofs.StandingLemmas.{knowing_made}
+use Rattle.bq_transfer.proofs.CertaintyLemmas.{knowing_made}
 use Rattle.bq_transfer.proofs.PutLemmas.{carries_put, left_from_set}
 use Rattle.bq_states.proofs.LearnLemmas.{found_at}
 use Rattle.bq_transfer.proofs.alu.operate.Goals as goal

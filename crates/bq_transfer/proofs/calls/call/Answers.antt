@@ -1,7 +1,7 @@
 use Rattle.std.proofs.Common.{ℕ, pos, subst, sym, ap, inl, inr, ◌∙◌, ℤ, arith, ◌≡◌, ◌≢◌, rules}
 use Rattle.bq_insn.specs.declared.Insn.{Insn}
 use Rattle.bq_transfer.specs.After.{After}
-use Rattle.bq_transfer.proofs.StandingLemmas.{has_answered, has_looked_up}
+use Rattle.bq_transfer.proofs.CertaintyLemmas.{has_answered, has_looked_up}
 use Rattle.bq_insn.specs.declared.Insn.TheVariants.{Call}
 use mir.Syntax.{w32}
 use mir.Val.{SFits}

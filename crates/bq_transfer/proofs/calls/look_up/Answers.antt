@@ -1,8 +1,8 @@
 use Rattle.std.proofs.Common.{◌≡◌, ◌<◌, Some, length, refl, sym, subst, arith}
 use Rattle.bq_states.specs.declared.abstract_state.Kind.TheVariants.{EntryOrNull}
 use Rattle.bq_states.specs.declared.abstract_state.AbstractState.{AbstractState}
-use Rattle.bq_states.specs.Standing.{IsCalled, Pointer}
-use Rattle.bq_transfer.proofs.StandingLemmas.{answer_stands, called_by}
+use Rattle.bq_states.specs.Certainty.{IsCalled, Pointer}
+use Rattle.bq_transfer.proofs.CertaintyLemmas.{answer_stands, called_by}
 use Rattle.bq_transfer.proofs.CallLemmas.{carries_look_up}
 use Rattle.bq_transfer.proofs.calls.look_up.Goals as goal
 

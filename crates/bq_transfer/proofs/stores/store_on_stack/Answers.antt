@@ -10,7 +10,7 @@ use Rattle.bq_states.specs.declared.abstract_state.Kind.TheVariants.{Number}
 use Rattle.bq_states.proofs.WordLemmas.{number_within}
 use Rattle.bq_states.proofs.PartLemmas.{covers_parts, has_written}
 use Rattle.bq_states.specs.AbstractStates.{Keeps}
-use Rattle.bq_states.specs.Standing.{IsStoredAt}
+use Rattle.bq_states.specs.Certainty.{IsStoredAt}
 use Rattle.bq_bpf.specs.Memory.{InStack, stack_with, written}
 use Rattle.bq_bpf.specs.Steps.{low_bytes, next}
 use Rattle.bq_transfer.proofs.stores.store_on_stack.Goals as goal

@@ -2,7 +2,7 @@ use Rattle.std.proofs.Common.{◌≡◌, ℕ, List, Option, refl, sym, subst}
 use Rattle.std.proofs.lemmas.Bool.{false≢true}
 use Rattle.bq_states.specs.declared.abstract_state.Kind.TheVariants.{Number}
 use Rattle.bq_states.specs.declared.abstract_state.AbstractValue.{AbstractValue}
-use Rattle.bq_states.specs.Standing.{Scalar, Stands}
+use Rattle.bq_states.specs.Certainty.{Scalar, Stands}
 use Rattle.bq_states.proofs.LearnLemmas.{found_at}
 use Rattle.bq_transfer.proofs.WriteLemmas.{carries_reg}
 use Rattle.bq_transfer.proofs.stores.store_reg.Goals as goal

@@ -3,7 +3,7 @@ use Rattle.std.proofs.lemmas.Bool.{false≢true}
 use Rattle.std.proofs.lemmas.Result.{err_from_is_err_and}
 use Rattle.bq_states.specs.declared.abstract_state.Kind.TheVariants.{EntryOrNull, Number}
 use Rattle.bq_states.specs.declared.abstract_state.AbstractValue.{AbstractValue}
-use Rattle.bq_states.specs.Standing.{Pointer, Scalar, Stands}
+use Rattle.bq_states.specs.Certainty.{Pointer, Scalar, Stands}
 use Rattle.bq_transfer.specs.Sides.{is_found}
 use Rattle.bq_verify.proofs.SideLemmas.{known_inside, has_on_side, has_on_tested}
 use Rattle.bq_verify.specs.Control.{IsKnown}

@@ -5,7 +5,7 @@ use Rattle.bq_insn.specs.declared.Insn.TheVariants.{Call}
 use Rattle.bq_bpf.specs.Steps.{instruction_at}
 use Rattle.bq_graph.specs.Edges.{IsEdge}
 use Rattle.bq_transfer.specs.After.{After}
-use Rattle.bq_transfer.proofs.StandingLemmas.{has_answered}
+use Rattle.bq_transfer.proofs.CertaintyLemmas.{has_answered}
 use Rattle.bq_verify.specs.Control.{IsKnown}
 use Rattle.bq_verify.proofs.AskLemmas.{asked, not_asked}
 use Rattle.bq_verify.proofs.PassLemmas.{goes_asking}

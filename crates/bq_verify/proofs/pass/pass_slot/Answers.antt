@@ -1,6 +1,6 @@
 use Rattle.std.proofs.Common.{◌+◌, sym}
 use Rattle.bq_verify.specs.Control.{IsKnown}
-use Rattle.bq_states.specs.Standing.{Fact}
+use Rattle.bq_states.specs.Certainty.{Fact}
 use Rattle.bq_verify.specs.Sure.{IsDue}
 use Rattle.bq_verify.proofs.SureLemmas.{sure_over, sure_on, ready_at}
 use Rattle.bq_verify.proofs.PassLemmas.{passes_by}

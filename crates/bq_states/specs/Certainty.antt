@@ -8,13 +8,13 @@ use Rattle.bq_states.specs.declared.abstract_state.AbstractValue.{AbstractValue}
 use Rattle.bq_states.specs.declared.abstract_state.AbstractState.{AbstractState}
 
 -- a number; that number; a pointer that is so far above what it counts from; no pointer, but perhaps nothing
-pub data Standing : Type 0 where
-  Scalar : Standing
-  Exact : ℕ → Standing
-  Pointer : Kind → ℕ → Standing
-  NoPointer : Standing
+pub data Certainty : Type 0 where
+  Scalar : Certainty
+  Exact : ℕ → Certainty
+  Pointer : Kind → ℕ → Certainty
+  NoPointer : Certainty
 
-abbrev pub Stands : Standing → Option AbstractValue → Type 0
+abbrev pub Stands : Certainty → Option AbstractValue → Type 0
 Stands Scalar None = ⊥
 Stands (Exact n) None = ⊥
 Stands (Pointer kind o) None = ⊥
@@ -24,13 +24,13 @@ Stands (Exact n) (Some k) = (k.kind ≡ Number) × (k.offset.lo ≡ n) × (k.off
 Stands (Pointer kind o) (Some k) = (k.kind ≡ kind) × (kind ≢ Number) × (k.offset.lo ≡ o) × (k.offset.hi ≡ o)
 Stands NoPointer (Some k) = k.kind ≡ Number
 
-abbrev pub StandsAt : Standing → AbstractState → ℕ → Type 0
+abbrev pub StandsAt : Certainty → AbstractState → ℕ → Type 0
 StandsAt s view r = Stands s (slice_index_or view.registers r None)
 
 -- of a register, of a byte of the stack that it is set, of a slot of eight bytes that no pointer is kept there; and what is true of no view
 pub data Fact : Type 0 where
   Never : Fact
-  AtRegister : Standing → ℕ → Fact
+  AtRegister : Certainty → ℕ → Fact
   IsSetAt : ℕ → Fact
   IsPlainAt : ℕ → Fact
 
@@ -55,7 +55,7 @@ IsWord word None = ⊥
 IsWord word (Some k) = (k.kind ≡ Number) × (k.offset.lo ≡ word) × (k.offset.hi ≡ word)
 
 -- the register has such a word now, and nothing else has changed
-pub record IsMade (s : Standing) (old new : AbstractState) (dst : ℕ) : Type 0 where
+pub record IsMade (s : Certainty) (old new : AbstractState) (dst : ℕ) : Type 0 where
   pub given : StandsAt s new dst
   pub kept : (r : ℕ) → r ≢ dst → slice_index_or new.registers r None ≡ slice_index_or old.registers r None
   pub set_same : new.set ≡ old.set
@@ -65,7 +65,7 @@ abbrev pub IsGiven : AbstractState → AbstractState → ℕ → Type 0
 IsGiven old new dst = IsMade Scalar old new dst
 
 -- register 0 has such a word now, and registers from 6 on and the stack have not changed
-pub record IsCalled (s : Standing) (old new : AbstractState) : Type 0 where
+pub record IsCalled (s : Certainty) (old new : AbstractState) : Type 0 where
   pub given : StandsAt s new 0
   pub kept : (r : ℕ) → 6 ≤ r → slice_index_or new.registers r None ≡ slice_index_or old.registers r None
   pub set_same : new.set ≡ old.set

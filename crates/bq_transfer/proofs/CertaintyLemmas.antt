@@ -19,7 +19,7 @@ use Rattle.bq_states.specs.declared.abstract_state.AbstractValue.{AbstractValue}
 use Rattle.bq_states.specs.declared.abstract_state.AbstractState.{AbstractState}
 use Rattle.bq_ranges.specs.declared.range.Range.{Range}
 use Rattle.bq_states.specs.AbstractStates.{Clears, knowing}
-use Rattle.bq_states.specs.Standing.{Standing, Scalar, Exact, Pointer, NoPointer, Stands, StandsAt, Fact, Never, AtRegister, IsSetAt, IsPlainAt, Has, Outlasts, IsMade, IsGiven, IsCalled, IsAnswered, IsStoredAt, IsScalarOperand}
+use Rattle.bq_states.specs.Certainty.{Certainty, Scalar, Exact, Pointer, NoPointer, Stands, StandsAt, Fact, Never, AtRegister, IsSetAt, IsPlainAt, Has, Outlasts, IsMade, IsGiven, IsCalled, IsAnswered, IsStoredAt, IsScalarOperand}
 use Rattle.bq_transfer.specs.Ready.{IsAtMost, IsLeftReady}
 use Rattle.bq_transfer.specs.After.{GivesExact, GivesNumber, LeavesNumber, GivesPointer, LeavesPointer, Spares, StoresByte, After}
 use Rattle.bq_states.proofs.MergeLemmas.{some_none}
@@ -38,14 +38,14 @@ same_pointer : (k : Option AbstractValue) (kind : Kind) (o : ℕ) (kind' : Kind)
 same_pointer k kind o kind' o' v p q stands = let e = pointer_is k kind o kind' o' p q in rw (e.0, e.1) stands
 
 -- what outlasts a number of a register that is a number is that it is one
-apart : (k : Option AbstractValue) (s : Standing) (r : ℕ) → Outlasts (AtRegister s r) r → Stands Scalar k → Stands s k → (s ≡ Scalar) ⊎ (s ≡ NoPointer)
+apart : (k : Option AbstractValue) (s : Certainty) (r : ℕ) → Outlasts (AtRegister s r) r → Stands Scalar k → Stands s k → (s ≡ Scalar) ⊎ (s ≡ NoPointer)
 apart None s r lasts p q = absurd p
 apart (Some k) Scalar r lasts p q = inl refl
 apart (Some k) (Exact n) r lasts p q = absurd (lasts refl)
 apart (Some k) (Pointer kind o) r lasts p q = absurd (q.1 (sym q.0 ∙ p))
 apart (Some k) NoPointer r lasts p q = inr refl
 
-scalar_is : (k : Option AbstractValue) (s : Standing) → Stands Scalar k → (s ≡ Scalar) ⊎ (s ≡ NoPointer) → Stands s k
+scalar_is : (k : Option AbstractValue) (s : Certainty) → Stands Scalar k → (s ≡ Scalar) ⊎ (s ≡ NoPointer) → Stands s k
 scalar_is None s p either = absurd p
 scalar_is (Some k) Scalar p either = p
 scalar_is (Some k) NoPointer p either = p
@@ -54,7 +54,7 @@ scalar_is (Some k) (Exact n) p (inr e) = absurd (let no : ⊥ = cc in no)
 scalar_is (Some k) (Pointer kind o) p (inl e) = absurd (let no : ⊥ = cc in no)
 scalar_is (Some k) (Pointer kind o) p (inr e) = absurd (let no : ⊥ = cc in no)
 
-given_by : (s : Standing) (old new : AbstractState) (dst r : ℕ) (t : Bool) → Outlasts (AtRegister s r) dst → StandsAt Scalar old dst → IsGiven old new dst → StandsAt s old r → ((t ≡ true) × (r ≡ dst)) ⊎ ((t ≡ false) × (r ≢ dst)) → StandsAt s new r
+given_by : (s : Certainty) (old new : AbstractState) (dst r : ℕ) (t : Bool) → Outlasts (AtRegister s r) dst → StandsAt Scalar old dst → IsGiven old new dst → StandsAt s old r → ((t ≡ true) × (r ≡ dst)) ⊎ ((t ≡ false) × (r ≢ dst)) → StandsAt s new r
 given_by s old new dst r t lasts scalar given stands (inr (_, other)) = subst (λ (v : Option AbstractValue). Stands s v) (sym (given.kept r other)) stands
 given_by s old new dst r t lasts scalar given stands (inl (_, same)) =
     let here_lasts : Outlasts (AtRegister s dst) dst = subst (λ (n : ℕ). Outlasts (AtRegister s n) dst) same lasts in
@@ -101,10 +101,10 @@ stack_same (IsSetAt i) slot k insn old new none set kept scalars exacts pointers
 stack_same (IsSetAt i) slot k insn old new none set kept scalars exacts pointers (inr has) = subst (λ (l : List Bool). slice_index_or l i false ≡ true) (sym set) has
 stack_same (IsPlainAt j) slot k insn old new none set kept scalars exacts pointers after = subst (λ (l : List (Option AbstractValue)). Stands NoPointer (slice_index_or l j None)) (sym kept) after
 
-kept_at : (s t : Standing) (old new : AbstractState) (dst r : ℕ) → IsMade t old new dst → r ≢ dst → StandsAt s old r → StandsAt s new r
+kept_at : (s t : Certainty) (old new : AbstractState) (dst r : ℕ) → IsMade t old new dst → r ≢ dst → StandsAt s old r → StandsAt s new r
 kept_at s t old new dst r made other stands = subst (λ (v : Option AbstractValue). Stands s v) (sym (made.kept r other)) stands
 
-here_at : (s : Standing) (new : AbstractState) (dst r : ℕ) → r ≡ dst → StandsAt s new dst → StandsAt s new r
+here_at : (s : Certainty) (new : AbstractState) (dst r : ℕ) → r ≡ dst → StandsAt s new dst → StandsAt s new r
 here_at s new dst r same stands = subst (λ (n : ℕ). StandsAt s new n) (sym same) stands
 
 -- after an instruction that gives a register a number
@@ -196,7 +196,7 @@ has_named x slot k dst index m old new is made after =
     ])
     after
 
-called_at : (s t : Standing) (old new : AbstractState) (r : ℕ) → IsCalled t old new → 6 ≤ r → StandsAt s old r → StandsAt s new r
+called_at : (s t : Certainty) (old new : AbstractState) (r : ℕ) → IsCalled t old new → 6 ≤ r → StandsAt s old r → StandsAt s new r
 called_at s t old new r called above stands = subst (λ (v : Option AbstractValue). Stands s v) (sym (called.kept r above)) stands
 
 -- after a call that answers a number
@@ -273,7 +273,7 @@ pub bytes_at : (a b count i : ℕ) (off : ℤ) → pos a ≡ (pos 512 +ℤ off) 
 bytes_at a b count i off p q le lt = let same : pos a ≡ pos b = p ∙ sym q in let e : a ≡ b = cc in (omega arith, omega arith)
 
 -- one register is learnt anew
-pub knowing_made : (s : Standing) (view : AbstractState) (dst : ℕ) (k : AbstractValue) → dst < length view.registers → Stands s (Some k) → IsMade s view (knowing view dst k) dst
+pub knowing_made : (s : Certainty) (view : AbstractState) (dst : ℕ) (k : AbstractValue) → dst < length view.registers → Stands s (Some k) → IsMade s view (knowing view dst k) dst
 knowing_made s view dst k there stands = record {
   given = subst (λ (v : Option AbstractValue). Stands s v) (sym (get_or-set_same view.registers dst (Some k) None there)) stands;
   kept = λ r other. get_or-set_other view.registers dst r (Some k) None other;
@@ -282,7 +282,7 @@ knowing_made s view dst k there stands = record {
 }
 
 -- classes say nothing of that
-pub made_classes : (s : Standing) (old new : AbstractState) (dst : ℕ) (classes : List ℕ) → IsMade s old new dst → IsMade s old (record new { classes = classes }) dst
+pub made_classes : (s : Certainty) (old new : AbstractState) (dst : ℕ) (classes : List ℕ) → IsMade s old new dst → IsMade s old (record new { classes = classes }) dst
 made_classes s old new dst classes made = record { given = made.given; kept = made.kept; set_same = made.set_same; kept_same = made.kept_same }
 
 -- a view that learns a number in a register has a number there, and all else as before
@@ -290,7 +290,7 @@ pub knowing_given : (view : AbstractState) (dst : ℕ) (k : AbstractValue) → d
 knowing_given view dst k there number = knowing_made Scalar view dst k there number
 
 -- registers 1 to 5 are forgotten, and register 0 is learnt anew
-pub called_by : (s : Standing) (view : AbstractState) (registers : List (Option AbstractValue)) (classes : List ℕ) (k : AbstractValue) → 0 < length registers → Clears view.registers registers → Stands s (Some k) → IsCalled s view (knowing (record view { registers = registers; classes = classes }) 0 k)
+pub called_by : (s : Certainty) (view : AbstractState) (registers : List (Option AbstractValue)) (classes : List ℕ) (k : AbstractValue) → 0 < length registers → Clears view.registers registers → Stands s (Some k) → IsCalled s view (knowing (record view { registers = registers; classes = classes }) 0 k)
 called_by s view registers classes k there clears stands = record {
   given = subst (λ (v : Option AbstractValue). Stands s v) (sym (get_or-set_same registers 0 (Some k) None there)) stands;
   kept = λ r above. get_or-set_other registers 0 r (Some k) None (λ e. absurd (omega arith)) ∙ clears.others r above;
