@@ -39,8 +39,8 @@ pub record HasAnswered (policy : Accepted) (done : Done) : Type 0 where
   pub answers : Answers policy context maps now processor done.r0 left done.steps calls
   pub within : IsWithin policy done.steps calls
 
--- what is remembered of a policy is an answer of that policy
+-- what is remembered of a policy is an answer of that policy; where none stands, nothing is
 abbrev pub WasAnswered : Option Accepted → Option Done → Type 0
 WasAnswered policy None = Unit {0}
-WasAnswered None (Some done) = Unit {0}
+WasAnswered None (Some done) = ⊥
 WasAnswered (Some policy) (Some done) = HasAnswered policy done
