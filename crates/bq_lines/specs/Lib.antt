@@ -1,5 +1,6 @@
 pub mod Bytes
 pub mod Kept
+pub mod Keywords
 pub mod Lines
 pub mod Numbers
 pub mod ProcessorSets

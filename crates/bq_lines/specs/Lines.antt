@@ -11,6 +11,9 @@ use Rattle.bq_lines.specs.Numbers.{decimal_of, processor_of, task_of, mask_of, n
 use Rattle.bq_words.specs.declared.processor_count.ProcessorCount.{ProcessorCount}
 use Rattle.bq_words.specs.declared.rule.Rule.{Rule}
 use Rattle.bq_words.specs.Sizes.{rule_of, size_numbered}
+use Rattle.bq_lines.specs.Keywords.{keyword_of}
+use Rattle.bq_lines.specs.declared.keyword.Keyword.{Keyword}
+use Rattle.bq_lines.specs.declared.keyword.Keyword.TheVariants as keywords
 use Rattle.bq_lines.specs.declared.command.Command.{Command}
 use Rattle.bq_lines.specs.declared.command.Command.TheVariants.{Machine, Does, Wake, Load, Show, Counter}
 use Rattle.bq_lines.specs.declared.command.Reading.{Reading}
@@ -113,24 +116,26 @@ show_of operands = option_map (λ c. Show c) (one_number operands)
 abbrev pub counter_of : List (List ℕ) → Option Command
 counter_of operands = option_map (λ i. Counter i) (one_number operands)
 
+-- what the words after a keyword ask for
+abbrev pub command_after : Keyword → List (List ℕ) → Option Command
+command_after keywords.Install operands = install_of operands
+command_after keywords.Machine operands = machine_of operands
+command_after keywords.Admit operands = admit_of operands
+command_after keywords.Retire operands = retire_of operands
+command_after keywords.Draw operands = draw_of operands
+command_after keywords.Begin operands = begin_of operands
+command_after keywords.End operands = end_of operands
+command_after keywords.Wake operands = wake_of operands
+command_after keywords.Drain operands = drain_of operands
+command_after keywords.Tick operands = tick_of operands
+command_after keywords.Block operands = block_of operands
+command_after keywords.Pull operands = pull_of operands
+command_after keywords.Show operands = show_of operands
+command_after keywords.Counter operands = counter_of operands
+
 -- a command by its name and the words after it
 abbrev pub command_of : List ℕ → List (List ℕ) → Option Command
-command_of name operands =
-    if bytes_eq name (codes "install") then install_of operands
-    else if bytes_eq name (codes "machine") then machine_of operands
-    else if bytes_eq name (codes "admit") then admit_of operands
-    else if bytes_eq name (codes "retire") then retire_of operands
-    else if bytes_eq name (codes "draw") then draw_of operands
-    else if bytes_eq name (codes "begin") then begin_of operands
-    else if bytes_eq name (codes "end") then end_of operands
-    else if bytes_eq name (codes "wake") then wake_of operands
-    else if bytes_eq name (codes "drain") then drain_of operands
-    else if bytes_eq name (codes "tick") then tick_of operands
-    else if bytes_eq name (codes "block") then block_of operands
-    else if bytes_eq name (codes "pull") then pull_of operands
-    else if bytes_eq name (codes "show") then show_of operands
-    else if bytes_eq name (codes "counter") then counter_of operands
-    else None
+command_of name operands = option_and_then (λ k. command_after k operands) (keyword_of name)
 
 abbrev pub said : Option Command → Reading
 said None = Bad

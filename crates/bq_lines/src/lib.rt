@@ -6,6 +6,7 @@
 pub mod begun;
 pub mod command;
 pub mod image;
+pub mod keyword;
 pub mod lines;
 pub mod numbers;
 pub mod processor_sets;
@@ -14,4 +15,5 @@ pub mod words;
 pub use begun::{Begun, first_line};
 pub use command::{Command, Reading};
 pub use image::HexWord;
+pub use keyword::Keyword;
 pub use lines::read_heard;

@@ -7,6 +7,7 @@ ghost use Rattle.bq_lines.specs.Lines.{machine_of, admit_of, retire_of, draw_of,
 
 use crate::command::{Command, Reading};
 use crate::image::HexWord;
+use crate::keyword::Keyword;
 use crate::numbers;
 use crate::words::{end_of_words, is_allowed_line};
 use bq_core::{Event, Hook};
@@ -54,36 +55,22 @@ fn read_words(line: &[u8]) -> Reading<'_>
 fn command<'a>(name: &[u8], operands: &'a [u8]) -> Reading<'a>
     ensures { result ≡ said (command_of name.now (words operands.now)) }
 {
-    if name == b"install".as_slice() {
-        install(operands)
-    } else if name == b"machine".as_slice() {
-        machine(operands)
-    } else if name == b"admit".as_slice() {
-        admit(operands)
-    } else if name == b"retire".as_slice() {
-        retire(operands)
-    } else if name == b"draw".as_slice() {
-        draw(operands)
-    } else if name == b"begin".as_slice() {
-        begin(operands)
-    } else if name == b"end".as_slice() {
-        end(operands)
-    } else if name == b"wake".as_slice() {
-        wake(operands)
-    } else if name == b"drain".as_slice() {
-        drain(operands)
-    } else if name == b"tick".as_slice() {
-        tick(operands)
-    } else if name == b"block".as_slice() {
-        block(operands)
-    } else if name == b"pull".as_slice() {
-        pull(operands)
-    } else if name == b"show".as_slice() {
-        show(operands)
-    } else if name == b"counter".as_slice() {
-        counter(operands)
-    } else {
-        Reading::Bad
+    match Keyword::of_word(name) {
+        Some(Keyword::Install) => install(operands),
+        Some(Keyword::Machine) => machine(operands),
+        Some(Keyword::Admit) => admit(operands),
+        Some(Keyword::Retire) => retire(operands),
+        Some(Keyword::Draw) => draw(operands),
+        Some(Keyword::Begin) => begin(operands),
+        Some(Keyword::End) => end(operands),
+        Some(Keyword::Wake) => wake(operands),
+        Some(Keyword::Drain) => drain(operands),
+        Some(Keyword::Tick) => tick(operands),
+        Some(Keyword::Block) => block(operands),
+        Some(Keyword::Pull) => pull(operands),
+        Some(Keyword::Show) => show(operands),
+        Some(Keyword::Counter) => counter(operands),
+        None => Reading::Bad,
     }
 }
 

@@ -16,6 +16,9 @@ use Rattle.bq_words.specs.declared.rule.Rule.{Rule}
 use Rattle.bq_words.specs.declared.rule.Rule.TheVariants.{Cfs, Eevdf}
 use Rattle.bq_words.specs.declared.processor_count.ProcessorCount.{ProcessorCount}
 use Rattle.bq_words.specs.declared.processor_count.ProcessorCount.TheVariants.{One, Two, Four, Eight, Sixteen, ThirtyTwo, SixtyFour}
+use Rattle.bq_lines.specs.Keywords.{keyword_word}
+use Rattle.bq_lines.specs.declared.keyword.Keyword.{Keyword}
+use Rattle.bq_lines.specs.declared.keyword.Keyword.TheVariants as keywords
 use Rattle.bq_lines.specs.Lines.{reading_of, reading_of_words, said, size_of, installing as reads_install}
 use Rattle.bq_lines.specs.declared.command.Command.{Command}
 use Rattle.bq_lines.specs.declared.command.Command.TheVariants.{Does, Machine}
@@ -37,6 +40,22 @@ reading-spaced ws plain fits =
 -- a word that is written out
 known : (w : List ℕ) → (ltb 0 (length w) && list_all is_plain w) ≡ true → IsPlain w
 known w h = let parts = and_parts (ltb 0 (length w)) (list_all is_plain w) h in record { some = let long = parts.0 in grind (arith, nat_tests); each = parts.1 }
+
+plain_keyword : (keyword : Keyword) → IsPlain (keyword_word keyword)
+plain_keyword keywords.Install = known _ refl
+plain_keyword keywords.Machine = known _ refl
+plain_keyword keywords.Admit = known _ refl
+plain_keyword keywords.Retire = known _ refl
+plain_keyword keywords.Draw = known _ refl
+plain_keyword keywords.Begin = known _ refl
+plain_keyword keywords.End = known _ refl
+plain_keyword keywords.Wake = known _ refl
+plain_keyword keywords.Drain = known _ refl
+plain_keyword keywords.Tick = known _ refl
+plain_keyword keywords.Block = known _ refl
+plain_keyword keywords.Pull = known _ refl
+plain_keyword keywords.Show = known _ refl
+plain_keyword keywords.Counter = known _ refl
 
 plain_hook : (hook : Hook) → IsPlain (hook_word hook)
 plain_hook hooks.Place = known (codes "place") refl
@@ -64,18 +83,18 @@ short_image (Some bytes) h = let most = h.room in let len = length-encode_with l
 -- the words of an event are plain
 pub plain_words : (image : Option (List ℕ)) (event : Event) → CanStandInLine image → HasFittingNumbers event → AllByRecursion IsPlain (event_words image event)
 plain_words image (Admit task nice mask slice) can h =
-    (known (codes "admit") refl, (plain_decimal task (omega arith), (plain_signed nice h.1, (plain_decimal mask h.2, (plain_decimal slice h.3, tt)))))
-plain_words image (Retire task) can h = (known (codes "retire") refl, (plain_decimal task (omega arith), tt))
-plain_words image Draw can h = (known (codes "draw") refl, tt)
+    (plain_keyword keywords.Admit, (plain_decimal task (omega arith), (plain_signed nice h.1, (plain_decimal mask h.2, (plain_decimal slice h.3, tt)))))
+plain_words image (Retire task) can h = (plain_keyword keywords.Retire, (plain_decimal task (omega arith), tt))
+plain_words image Draw can h = (plain_keyword keywords.Draw, tt)
 plain_words image (Install c hook generation policy) can h =
-    (known (codes "install") refl, (plain_decimal c (omega arith), (plain_decimal generation h.1, (plain_hook hook, (plain_image image can, tt)))))
-plain_words image (BeginWake c task) can h = (known (codes "begin") refl, (plain_decimal c (omega arith), (plain_decimal task (omega arith), tt)))
-plain_words image (EndWake c now) can h = (known (codes "end") refl, (plain_decimal c (omega arith), (plain_decimal now h.1, tt)))
-plain_words image (Drain c now) can h = (known (codes "drain") refl, (plain_decimal c (omega arith), (plain_decimal now h.1, tt)))
-plain_words image (Tick c now) can h = (known (codes "tick") refl, (plain_decimal c (omega arith), (plain_decimal now h.1, tt)))
-plain_words image (Block c now) can h = (known (codes "block") refl, (plain_decimal c (omega arith), (plain_decimal now h.1, tt)))
+    (plain_keyword keywords.Install, (plain_decimal c (omega arith), (plain_decimal generation h.1, (plain_hook hook, (plain_image image can, tt)))))
+plain_words image (BeginWake c task) can h = (plain_keyword keywords.Begin, (plain_decimal c (omega arith), (plain_decimal task (omega arith), tt)))
+plain_words image (EndWake c now) can h = (plain_keyword keywords.End, (plain_decimal c (omega arith), (plain_decimal now h.1, tt)))
+plain_words image (Drain c now) can h = (plain_keyword keywords.Drain, (plain_decimal c (omega arith), (plain_decimal now h.1, tt)))
+plain_words image (Tick c now) can h = (plain_keyword keywords.Tick, (plain_decimal c (omega arith), (plain_decimal now h.1, tt)))
+plain_words image (Block c now) can h = (plain_keyword keywords.Block, (plain_decimal c (omega arith), (plain_decimal now h.1, tt)))
 plain_words image (Pull c from now) can h =
-    (known (codes "pull") refl, (plain_decimal c (omega arith), (plain_decimal from (omega arith), (plain_decimal now h.2, tt))))
+    (plain_keyword keywords.Pull, (plain_decimal c (omega arith), (plain_decimal from (omega arith), (plain_decimal now h.2, tt))))
 
 -- two numbers after a name
 two_numbers : (a b : ℕ) → a < 2 ^ 64 → b < 2 ^ 64 → length (decimal a) + (1 + (length (decimal b) + (1 + 0))) ≤ 42
@@ -141,7 +160,7 @@ words_say image (Pull c from now) can h =
 
 -- the words of a machine
 abbrev pub machine_words : Rule → ProcessorCount → List (List ℕ)
-machine_words rule size = codes "machine" ∷ rule_word rule ∷ decimal (processors_in size) ∷ []
+machine_words rule size = keyword_word keywords.Machine ∷ rule_word rule ∷ decimal (processors_in size) ∷ []
 
 small_size : (size : ProcessorCount) → processors_in size ≤ 64
 small_size One = lit≤ tt
@@ -162,7 +181,7 @@ short_rule Eevdf = lit≤ tt
 
 -- the words of a machine are plain
 pub plain_machine : (rule : Rule) (size : ProcessorCount) → AllByRecursion IsPlain (machine_words rule size)
-plain_machine rule size = let small = small_size size in (known (codes "machine") refl, (plain_rule rule, (plain_decimal (processors_in size) (omega arith), tt)))
+plain_machine rule size = let small = small_size size in (plain_keyword keywords.Machine, (plain_rule rule, (plain_decimal (processors_in size) (omega arith), tt)))
 
 -- a line has room for the words of a machine
 pub room_machine : (rule : Rule) (size : ProcessorCount) → room (machine_words rule size) ≤ 131072

@@ -8,6 +8,8 @@ use Rattle.hex.specs.Hex.{encode_lower}
 use Rattle.bq_bpf.specs.Hooks.{hook_word}
 use Rattle.bq_parts.specs.declared.event.Event.{Event}
 use Rattle.bq_parts.specs.declared.event.Event.TheVariants.{Admit, Retire, Draw, Install, BeginWake, EndWake, Drain, Tick, Block, Pull}
+use Rattle.bq_lines.specs.Keywords.{keyword_of_event, keyword_word}
+use Rattle.bq_lines.specs.declared.keyword.Keyword.TheVariants as keywords
 use Rattle.bq_words.specs.Sizes.{processors_in, rule_word}
 use Rattle.bq_words.specs.declared.rule.Rule.{Rule}
 use Rattle.bq_words.specs.declared.processor_count.ProcessorCount.{ProcessorCount}
@@ -21,18 +23,22 @@ abbrev pub image_word : Option (List ℕ) → List ℕ
 image_word None = codes "none"
 image_word (Some bytes) = encode_lower bytes
 
--- the words that ask for an event; an install brings this image
+-- the words after the keyword of the line that asks for an event; an install brings this image
+abbrev pub event_operands : Option (List ℕ) → Event → List (List ℕ)
+event_operands image (Admit task nice mask slice) = decimal task ∷ signed_decimal nice ∷ decimal mask ∷ decimal slice ∷ []
+event_operands image (Retire task) = decimal task ∷ []
+event_operands image Draw = []
+event_operands image (Install c hook generation policy) = decimal c ∷ decimal generation ∷ hook_word hook ∷ image_word image ∷ []
+event_operands image (BeginWake c task) = decimal c ∷ decimal task ∷ []
+event_operands image (EndWake c now) = decimal c ∷ decimal now ∷ []
+event_operands image (Drain c now) = decimal c ∷ decimal now ∷ []
+event_operands image (Tick c now) = decimal c ∷ decimal now ∷ []
+event_operands image (Block c now) = decimal c ∷ decimal now ∷ []
+event_operands image (Pull c from now) = decimal c ∷ decimal from ∷ decimal now ∷ []
+
+-- the words that ask for an event
 abbrev pub event_words : Option (List ℕ) → Event → List (List ℕ)
-event_words image (Admit task nice mask slice) = codes "admit" ∷ decimal task ∷ signed_decimal nice ∷ decimal mask ∷ decimal slice ∷ []
-event_words image (Retire task) = codes "retire" ∷ decimal task ∷ []
-event_words image Draw = codes "draw" ∷ []
-event_words image (Install c hook generation policy) = codes "install" ∷ decimal c ∷ decimal generation ∷ hook_word hook ∷ image_word image ∷ []
-event_words image (BeginWake c task) = codes "begin" ∷ decimal c ∷ decimal task ∷ []
-event_words image (EndWake c now) = codes "end" ∷ decimal c ∷ decimal now ∷ []
-event_words image (Drain c now) = codes "drain" ∷ decimal c ∷ decimal now ∷ []
-event_words image (Tick c now) = codes "tick" ∷ decimal c ∷ decimal now ∷ []
-event_words image (Block c now) = codes "block" ∷ decimal c ∷ decimal now ∷ []
-event_words image (Pull c from now) = codes "pull" ∷ decimal c ∷ decimal from ∷ decimal now ∷ []
+event_words image event = keyword_word (keyword_of_event event) ∷ event_operands image event
 
 -- the line that asks for an event, without what ends it
 abbrev pub asking_line : Option (List ℕ) → Event → List ℕ
@@ -40,7 +46,7 @@ asking_line image event = spaced_words (event_words image event)
 
 -- the line that asks for a machine
 abbrev pub machine_line : Rule → ProcessorCount → List ℕ
-machine_line rule size = spaced_words (codes "machine" ∷ rule_word rule ∷ decimal (processors_in size) ∷ [])
+machine_line rule size = spaced_words (keyword_word keywords.Machine ∷ rule_word rule ∷ decimal (processors_in size) ∷ [])
 
 -- each number of the event fits its type
 abbrev pub HasFittingNumbers : Event → Type 0

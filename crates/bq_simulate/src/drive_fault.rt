@@ -4,7 +4,8 @@ use bq_core::Refusal;
 use std::alloc::AllocError;
 use thiserror::Error;
 
-/// Why a drive ends before its time. What the sink was told by then is the beginning of a trace.
+/// Why a drive ends before its time. What the sink was told by then is to be the beginning of a trace; that is only
+/// tested.
 #[derive(Debug, Drop, Error)]
 pub enum DriveFault {
     /// A growth was refused.

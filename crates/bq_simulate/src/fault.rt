@@ -7,7 +7,8 @@ use bq_actions::{Astray, Unsound};
 use std::alloc::AllocError;
 use thiserror::Error;
 
-/// Why a simulation does not come to its end. What the sink was told by then is the beginning of a trace.
+/// Why a simulation does not come to its end. What the sink was told by then is to be the beginning of a trace; that is only
+/// tested.
 #[derive(Debug, Drop, Error)]
 pub enum SimulateFault {
     /// A growth was refused.

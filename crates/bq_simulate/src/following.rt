@@ -25,7 +25,7 @@ use std::alloc::Global;
 /// phase, no tick and no look that comes until the end is left out.
 ///
 /// A workload with a flaw is refused for the first of its flaws, as `Unsound`, and nothing is told. One without is never
-/// `Unsound`: after any other fault what was told is the beginning of a trace.
+/// `Unsound`: after any other fault what was told is to be the beginning of a trace, which is only tested.
 pub fn simulate<S: Sink>(
     alloc: Global,
     workload: &Workload,

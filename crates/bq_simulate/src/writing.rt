@@ -1,12 +1,15 @@
 //! Events and machines as lines.
-ghost use Rattle.std.specs.Prelude.{◌≡◌, ◌++◌, ◌∷◌, [], ℕ, List, OnOk, codes, string_bytes};
+ghost use Rattle.std.specs.Prelude.{◌≡◌, ◌++◌, ◌∷◌, [], ℕ, List, OnOk, string_bytes};
 ghost use Rattle.std.specs.Borrow.{Bor};
 ghost use Rattle.std.specs.Fmt.{decimal};
 ghost use Rattle.std.specs.Option.{option_map};
 ghost use Rattle.bq_bpf.specs.Hooks.{hook_word};
+ghost use Rattle.bq_lines.specs.Keywords.{keyword_word};
+ghost use Rattle.bq_lines.specs.declared.keyword.Keyword.TheVariants as keywords;
 ghost use Rattle.bq_simulate.specs.Spelling.{HasFittingNumbers, asking_line, image_word, machine_line, spaced_words};
 
 use bq_core::{Event, Hook};
+use bq_lines::Keyword;
 use bq_words::{ProcessorCount, Rule};
 use std::alloc::{AllocError, Global};
 use std::fmt::Write;
@@ -35,31 +38,32 @@ pub fn write_event(
     ensures line { OnOk result (string_bytes text.new ≡ string_bytes text.old ++ (asking_line (option_map (λ (b : Bor (List ℕ)). b.now) image.entry) event.now ++ 10 ∷ [])) }
     ensures numbers { HasFittingNumbers event.now }
 {
+    let keyword = Keyword::of_event(event).word();
     match *event {
         Event::Admit {
             task,
             nice,
             mask,
             slice,
-        } => write!(text, "admit {task} {nice} {mask} {slice}\n"),
-        Event::Retire { task } => write!(text, "retire {task}\n"),
-        Event::Draw => text.push_str("draw\n"),
+        } => write!(text, "{keyword} {task} {nice} {mask} {slice}\n"),
+        Event::Retire { task } => write!(text, "{keyword} {task}\n"),
+        Event::Draw => write!(text, "{keyword}\n"),
         Event::Install {
             processor,
             hook,
             generation,
             policy: _,
         } => write_install(alloc, text, processor, generation, hook, image),
-        Event::BeginWake { processor, task } => write!(text, "begin {processor} {task}\n"),
-        Event::EndWake { processor, now } => write_pair(text, "end", processor, now),
-        Event::Drain { processor, now } => write_pair(text, "drain", processor, now),
-        Event::Tick { processor, now } => write_pair(text, "tick", processor, now),
-        Event::Block { processor, now } => write_pair(text, "block", processor, now),
+        Event::BeginWake { processor, task } => write!(text, "{keyword} {processor} {task}\n"),
+        Event::EndWake { processor, now } => write_pair(text, keyword, processor, now),
+        Event::Drain { processor, now } => write_pair(text, keyword, processor, now),
+        Event::Tick { processor, now } => write_pair(text, keyword, processor, now),
+        Event::Block { processor, now } => write_pair(text, keyword, processor, now),
         Event::Pull {
             processor,
             from,
             now,
-        } => write!(text, "pull {processor} {from} {now}\n"),
+        } => write!(text, "{keyword} {processor} {from} {now}\n"),
     }
 }
 
@@ -79,10 +83,11 @@ fn write_install(
     hook: Hook,
     image: Option<&[u8]>,
 ) -> Result<(), AllocError>
-    ensures { OnOk result (string_bytes text.new ≡ string_bytes text.old ++ (spaced_words (codes "install" ∷ decimal processor ∷ decimal generation ∷ hook_word hook ∷ image_word (option_map (λ (b : Bor (List ℕ)). b.now) image.entry) ∷ []) ++ 10 ∷ [])) }
+    ensures { OnOk result (string_bytes text.new ≡ string_bytes text.old ++ (spaced_words (keyword_word keywords.Install ∷ decimal processor ∷ decimal generation ∷ hook_word hook ∷ image_word (option_map (λ (b : Bor (List ℕ)). b.now) image.entry) ∷ []) ++ 10 ∷ [])) }
 {
+    let keyword = Keyword::Install.word();
     let hook = hook.word();
-    write!(text, "install {processor} {generation} {hook} ")?;
+    write!(text, "{keyword} {processor} {generation} {hook} ")?;
     write_image(alloc, text, image)
 }
 
@@ -103,7 +108,8 @@ fn write_image(alloc: Global, text: &mut String, image: Option<&[u8]>) -> Result
 pub fn write_machine(text: &mut String, rule: Rule, size: ProcessorCount) -> Result<(), AllocError>
     ensures { OnOk result (string_bytes text.new ≡ string_bytes text.old ++ (machine_line rule size ++ 10 ∷ [])) }
 {
+    let keyword = Keyword::Machine.word();
     let rule = rule.word();
     let processors = size.processors();
-    write!(text, "machine {rule} {processors}\n")
+    write!(text, "{keyword} {rule} {processors}\n")
 }

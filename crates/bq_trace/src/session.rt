@@ -70,8 +70,8 @@ impl Session {
         Ok(())
     }
 
-    /// Runs the lines that this piece ends, and writes what answers them. After a fault there is no session: a
-    /// beginning of it is written, and the writer's fault comes only where it failed.
+    /// Runs the lines that this piece ends, and writes what answers them. After a fault there is no session any more, a beginning of
+    /// the answers is written, and the writer's fault comes only where it failed.
     pub fn feed<W: Write>(
         mut self,
         piece: &[u8],

@@ -1,0 +1,118 @@
+//! The words that lines begin with.
+ghost use Rattle.std.specs.Prelude.{◌≡◌};
+ghost use Rattle.bq_lines.specs.Keywords.{keyword_of, keyword_of_event, keyword_word};
+
+use bq_core::Event;
+
+/// What a line asks for, by its first word.
+#[derive(Clone, Copy)]
+pub enum Keyword {
+    /// A policy is installed, or taken away.
+    Install,
+    /// A machine is made.
+    Machine,
+    /// A task is admitted.
+    Admit,
+    /// A task leaves.
+    Retire,
+    /// A generation is drawn.
+    Draw,
+    /// A wake begins.
+    Begin,
+    /// A wake ends.
+    End,
+    /// A wake begins, and ends at once.
+    Wake,
+    /// A processor takes in what was placed on it.
+    Drain,
+    /// A clock ticks.
+    Tick,
+    /// The running task goes to sleep.
+    Block,
+    /// A processor takes a task from another.
+    Pull,
+    /// A processor is shown.
+    Show,
+    /// A counter is shown.
+    Counter,
+}
+
+impl Keyword {
+    /// The word itself, as `tick`.
+    pub fn word(self) -> &'static str
+        ensures { result.now ≡ keyword_word self }
+    {
+        match self {
+            Keyword::Install => "install",
+            Keyword::Machine => "machine",
+            Keyword::Admit => "admit",
+            Keyword::Retire => "retire",
+            Keyword::Draw => "draw",
+            Keyword::Begin => "begin",
+            Keyword::End => "end",
+            Keyword::Wake => "wake",
+            Keyword::Drain => "drain",
+            Keyword::Tick => "tick",
+            Keyword::Block => "block",
+            Keyword::Pull => "pull",
+            Keyword::Show => "show",
+            Keyword::Counter => "counter",
+        }
+    }
+
+    /// The keyword that a word is, if it is one.
+    #[inline(always)]
+    pub fn of_word(word: &[u8]) -> Option<Keyword>
+        ensures { result ≡ keyword_of word.now }
+    {
+        if word == b"install".as_slice() {
+            Some(Keyword::Install)
+        } else if word == b"machine".as_slice() {
+            Some(Keyword::Machine)
+        } else if word == b"admit".as_slice() {
+            Some(Keyword::Admit)
+        } else if word == b"retire".as_slice() {
+            Some(Keyword::Retire)
+        } else if word == b"draw".as_slice() {
+            Some(Keyword::Draw)
+        } else if word == b"begin".as_slice() {
+            Some(Keyword::Begin)
+        } else if word == b"end".as_slice() {
+            Some(Keyword::End)
+        } else if word == b"wake".as_slice() {
+            Some(Keyword::Wake)
+        } else if word == b"drain".as_slice() {
+            Some(Keyword::Drain)
+        } else if word == b"tick".as_slice() {
+            Some(Keyword::Tick)
+        } else if word == b"block".as_slice() {
+            Some(Keyword::Block)
+        } else if word == b"pull".as_slice() {
+            Some(Keyword::Pull)
+        } else if word == b"show".as_slice() {
+            Some(Keyword::Show)
+        } else if word == b"counter".as_slice() {
+            Some(Keyword::Counter)
+        } else {
+            None
+        }
+    }
+
+    /// The keyword of the line that asks for an event.
+    pub fn of_event(event: &Event) -> Keyword
+        ensures { result ≡ keyword_of_event event.now }
+    {
+        match event {
+            Event::Admit { .. } => Keyword::Admit,
+            Event::Retire { .. } => Keyword::Retire,
+            Event::Draw => Keyword::Draw,
+            Event::Install { .. } => Keyword::Install,
+            Event::BeginWake { .. } => Keyword::Begin,
+            Event::EndWake { .. } => Keyword::End,
+            Event::Drain { .. } => Keyword::Drain,
+            Event::Tick { .. } => Keyword::Tick,
+            Event::Block { .. } => Keyword::Block,
+            Event::Pull { .. } => Keyword::Pull,
+        }
+    }
+}
