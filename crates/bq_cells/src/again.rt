@@ -22,7 +22,7 @@ pub fn event_again(event: &Event) -> Result<Event, AllocError>
 /// None, or the same policy once more. There is an error only where it would then stand in more places than can be
 /// counted.
 #[inline(always)]
-fn policy_again(policy: &Option<Policy>) -> Result<Option<Policy>, AllocError>
+pub fn policy_again(policy: &Option<Policy>) -> Result<Option<Policy>, AllocError>
     ensures same { IfOk result (λ again. again ≡ policy.now) }
     ensures counted { OnErr result (IsTrue (is_some policy.now)) }
 {

@@ -3,7 +3,8 @@ ghost use Rattle.std.specs.Prelude.{◌≡◌, ◌↔◌, IsTrue};
 
 use bq_parts::{Event, Policy, Refusal, Reply};
 
-/// Whether both are the same event; policies are the same where their programs are.
+/// Whether both are the same event; policies are the same where what was accepted of them is: instructions, shapes of maps, hook,
+/// version and budget.
 pub fn is_same_event(event: &Event, other: &Event) -> bool
     ensures { IsTrue result ↔ (event.now ≡ other.now) }
 {

@@ -10,7 +10,7 @@ use crate::clock::Clock;
 use crate::locks::Machine;
 use bq_disc::RunQueue;
 use bq_recording::{Closed, Locks, Recorder, Seat};
-use bq_seats::Naming as Counting;
+use bq_seats::Counting;
 use bq_tie::Naming;
 
 impl<Q: RunQueue + Drop, K: Clock + Drop, N: Naming + Counting, const P: usize> Machine<

@@ -17,7 +17,7 @@ use bq_history::Receipt;
 use bq_load::{LoadFault, load};
 use bq_parts::{Event, Hook, Policy, Refusal};
 use bq_recording::{Caller, Seat, Spare, one_spare};
-use bq_seats::Naming as Counting;
+use bq_seats::Counting;
 use bq_tie::Naming;
 use std::alloc::{AllocError, Global};
 use std::sync::Wait;

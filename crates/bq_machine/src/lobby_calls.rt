@@ -11,7 +11,7 @@ use bq_disc::RunQueue;
 use bq_history::{Receipt, Room};
 use bq_parts::{Event, Refusal, Unlinked, argument_refusal, new_task};
 use bq_recording::{Admission, Seat};
-use bq_seats::Naming as Counting;
+use bq_seats::Counting;
 use bq_tie::Naming;
 use std::alloc::Global;
 use std::sync::Wait;

@@ -6,7 +6,7 @@ use crate::clock::Clock;
 use bq_cells::{NumberedCpu, NumberedInbox, OneLobby, UnderLock};
 use bq_disc::RunQueue;
 use bq_recording::{ClosingRoom, Recorder, Seat, lock, need_own};
-use bq_seats::Naming as Counting;
+use bq_seats::Counting;
 use bq_tie::Naming;
 use std::sync::{Mutex, MutexGuard, Wait};
 

@@ -10,7 +10,7 @@ use bq_cells::{CallRooms, Record, call_rooms, record_room};
 use bq_disc::RunQueue;
 use bq_history::Room;
 use bq_parts::{Event, Refusal};
-use bq_seats::Naming as Counting;
+use bq_seats::Counting;
 use bq_tie::Naming;
 use std::alloc::Global;
 

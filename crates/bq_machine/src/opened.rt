@@ -6,7 +6,7 @@ use crate::clock::Clock;
 use crate::locks::Machine;
 use bq_disc::RunQueue;
 use bq_recording::{Opening, Prepared, Seat, no_tasks};
-use bq_seats::{Naming as Counting, Unnamed};
+use bq_seats::{Counting, Unnamed};
 use bq_tie::Naming;
 use std::alloc::{AllocError, Global};
 

@@ -9,7 +9,7 @@ use bq_disc::RunQueue;
 use bq_history::Receipt;
 use bq_parts::{Event, Refusal};
 use bq_recording::{EventRooms, Seat};
-use bq_seats::Naming as Counting;
+use bq_seats::Counting;
 use bq_tie::Naming;
 use std::alloc::Global;
 use std::sync::Wait;

@@ -18,7 +18,7 @@ use bq_disc::RunQueue;
 use bq_history::{Receipt, Room};
 use bq_parts::{Event, Refusal, argument_refusal};
 use bq_recording::{BeginRooms, Caller, CpuCell, EventRooms, LoadRooms, Placing, Seat};
-use bq_seats::Naming as Counting;
+use bq_seats::Counting;
 use bq_tie::Naming;
 use std::alloc::Global;
 use std::sync::Wait;

@@ -8,7 +8,7 @@ use Rattle.arrayvec.proofs.array_vec.ArrayVec.TheSendSync as list
 use Rattle.bq_bpf.proofs.board.Call.TheSendSync as call
 use Rattle.bq_tie.specs.declared.law.Naming as Naming
 use Rattle.bq_tie.proofs.holder.Holder.TheSendSync as holder
-use Rattle.bq_seats.specs.declared.account.Naming as Counting
+use Rattle.bq_seats.specs.declared.account.Counting as Counting
 use Rattle.bq_history.specs.contracts.chain.Slip as Slip
 use Rattle.bq_history.specs.contracts.chain.Slip.TheInside as slip
 use Rattle.bq_history.specs.contracts.chunk.Chunk as Chunk

@@ -13,7 +13,7 @@ use bq_disc::RunQueue;
 use bq_eevdf::EevdfQueue;
 use bq_machine::{Machine, Prepared, Seat, Unnamed, prepare};
 use bq_parts::Refusal;
-use bq_seats::Naming as Counting;
+use bq_seats::Counting;
 use bq_tie::Naming;
 use bq_words::{ProcessorCount, Rule};
 use std::alloc::{AllocError, Global};

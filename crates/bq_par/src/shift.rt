@@ -7,7 +7,7 @@ use bq_disc::RunQueue;
 use bq_history::{Numbered, Receipt};
 use bq_machine::{Clock, Machine, Record, Seat, WakeReceipts};
 use bq_parts::Refusal;
-use bq_seats::Naming as Counting;
+use bq_seats::Counting;
 use bq_tie::Naming;
 use std::alloc::Global;
 use std::sync::Wait;

@@ -12,7 +12,7 @@ use bq_disc::RunQueue;
 use bq_history::{Compared, Receipt};
 use bq_machine::{Clock, Machine, Record, Seat};
 use bq_parts::{Event, Refusal};
-use bq_seats::Naming as Counting;
+use bq_seats::Counting;
 use bq_tie::Naming;
 use std::alloc::{AllocError, Global};
 

@@ -18,7 +18,7 @@ use bq_core::Core;
 use bq_disc::RunQueue;
 use bq_history::{Item, Journal, gather};
 use bq_parts::{Cpu, Inbox, Lobby};
-use bq_seats::{Counters, Naming as Counting, Seat};
+use bq_seats::{Counters, Counting, Seat};
 use bq_tie::{Holder, Naming, contents_in_order};
 use std::sync::Mutex;
 

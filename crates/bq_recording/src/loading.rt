@@ -8,11 +8,11 @@ ghost use Rattle.bq_cells.specs.Parts.{told_calls};
 
 use crate::recorder::{Caller, Recorder};
 use crate::told::{answer_twice, both_records, no_calls, quiet_twice};
-use bq_cells::{NumberedCpu, Record, UnderLock};
+use bq_cells::{NumberedCpu, Record, UnderLock, policy_again};
 use bq_disc::RunQueue;
 use bq_history::{Draft, Receipt, Room};
 use bq_parts::{Event, Hook, Installed, Policy, Reply};
-use bq_seats::Naming as Counting;
+use bq_seats::Counting;
 use bq_tie::Naming;
 use std::alloc::{AllocError, Global};
 use std::sync::Wait;
@@ -31,23 +31,13 @@ pub struct Spare {
     pub ghost fresh: { installed.maps ≡ fresh_maps installed.policy },
 }
 
-/// The same policy once more, or none.
-fn again(policy: &Option<Policy>) -> Result<Option<Policy>, AllocError>
-    ensures { IfOk result (λ p. p ≡ policy.now) }
-{
-    match policy {
-        None => Ok(None),
-        Some(policy) => Ok(Some(policy.clone()?)),
-    }
-}
-
 /// What one install hands over.
 pub fn one_spare(alloc: Global, policy: &Option<Policy>) -> Result<Spare, AllocError>
     ensures { IfOk result (λ s. s.installed.policy ≡ policy.now) }
 {
-    let installed = Installed::new(alloc, again(policy)?, 0)?;
-    let for_record = again(policy)?;
-    let for_receipt = again(policy)?;
+    let installed = Installed::new(alloc, policy_again(policy)?, 0)?;
+    let for_record = policy_again(policy)?;
+    let for_receipt = policy_again(policy)?;
     let mut room = Room::new();
     room.prepare(alloc)?;
     Ok(Spare {

@@ -11,7 +11,7 @@ use bq_cells::{OneLobby, Record, UnderLock};
 use bq_disc::RunQueue;
 use bq_history::{Draft, Receipt, Room};
 use bq_parts::{Event, Unlinked};
-use bq_seats::Naming as Counting;
+use bq_seats::Counting;
 use bq_tie::Naming;
 use std::sync::Wait;
 

@@ -12,7 +12,7 @@ use bq_cells::{Kept, NumberedCpu, NumberedInbox, OneLobby, Part, Record, UnderLo
 use bq_disc::RunQueue;
 use bq_history::{Item, Journal};
 use bq_parts::Loads;
-use bq_seats::{Naming as Counting, Tally, Unnamed, seats};
+use bq_seats::{Counting, Tally, Unnamed, seats};
 use bq_tie::{Holder, Naming};
 use std::alloc::{AllocError, Global};
 use std::sync::Mutex;

@@ -10,7 +10,7 @@ use bq_cells::{NumberedCpu, Record, UnderLock, hold_calls};
 use bq_disc::RunQueue;
 use bq_history::{Draft, Receipt, look_at_both};
 use bq_parts::Event;
-use bq_seats::Naming as Counting;
+use bq_seats::Counting;
 use bq_tie::Naming;
 use std::sync::Wait;
 

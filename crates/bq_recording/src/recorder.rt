@@ -5,7 +5,7 @@ ghost use Rattle.std.specs.Sync.Mutex.{mutex_guard_value};
 use bq_cells::{Kept, NumberedCpu, Part, Record, Shared};
 use bq_disc::RunQueue;
 use bq_history::{Cell, Journal};
-use bq_seats::{Counters, Naming as Counting, Working};
+use bq_seats::{Counters, Counting, Working};
 use bq_tie::Naming;
 use std::sync::{Mutex, MutexGuard, Wait};
 

@@ -10,7 +10,7 @@ use bq_cells::{Answer, NumberedCpu, NumberedInbox, OneLobby, Record, UnderLock, 
 use bq_disc::RunQueue;
 use bq_history::{Draft, Receipt, Room, look_at_both};
 use bq_parts::{Event, Reply};
-use bq_seats::Naming as Counting;
+use bq_seats::Counting;
 use bq_tie::Naming;
 use std::sync::Wait;
 

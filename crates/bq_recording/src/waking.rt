@@ -18,7 +18,7 @@ use bq_cells::{Answer, NumberedCpu, NumberedInbox, OneLobby, Record, UnderLock, 
 use bq_disc::RunQueue;
 use bq_history::{Draft, Receipt};
 use bq_parts::{Event, Placement, Reply};
-use bq_seats::Naming as Counting;
+use bq_seats::Counting;
 use bq_tie::Naming;
 use std::sync::{Mutex, MutexGuard, Wait};
 

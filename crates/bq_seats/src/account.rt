@@ -13,11 +13,11 @@ pub struct Account {
 }
 
 /// Names the counters of one machine, so that types can say that they belong to them.
-pub trait Naming {
+pub trait Counting {
     ghost counters: { TableId };
 }
 
-impl Naming for Brand {
+impl Counting for Brand {
     ghost use Rattle.std.specs.Prelude.{[]};
 
     ghost counters = { record { words = 0; slots = 0; views_name = 0; atom = 0; block = 0; offset = 0; slot_names = [] } };
@@ -25,12 +25,12 @@ impl Naming for Brand {
 
 /// An account of the counters that `N` names. It has no bytes.
 #[derive(Drop)]
-pub struct Tally<N: Naming> {
+pub struct Tally<N: Counting> {
     pub(crate) seat: Seat<(), Account>,
     pub(crate) of: PhantomData<N>,
 }
 
-impl<N: Naming> Model for Tally<N> {
+impl<N: Counting> Model for Tally<N> {
     ghost use Rattle.std.specs.Prelude.{◌≡◌, []};
     ghost use Rattle.bq_seats.specs.declared.account.Account.{Account as AccountOf};
 

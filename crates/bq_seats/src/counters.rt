@@ -4,7 +4,7 @@ ghost use Rattle.bq_bpf.specs.declared.board.Call.TheVariants.{Add, Read};
 ghost use Rattle.bq_seats.specs.Sums.{AreSumsOf, both, calling, opened, spent, without_one};
 
 use crate::account::{
-    Account, Adding, Apart, Blank, Looking, Naming, Reading, Summed, Tally, Together, Whole,
+    Account, Adding, Apart, Blank, Counting, Looking, Reading, Summed, Tally, Together, Whole,
 };
 use atomic_table::{Seat, Table};
 use std::alloc::{AllocError, Global};
@@ -31,12 +31,12 @@ impl Model for Unnamed {
 
 /// The counters of a machine. Contracts see them as the number of seats.
 #[derive(Drop)]
-pub struct Counters<N: Naming> {
+pub struct Counters<N: Counting> {
     table: Table<(), Account, u64, Summed, Global>,
     of: PhantomData<N>,
 }
 
-impl<N: Naming> Model for Counters<N> {
+impl<N: Counting> Model for Counters<N> {
     ghost use Rattle.std.specs.Prelude.{◌≡◌, ℕ};
 
     ghost Value = { ℕ };
@@ -56,7 +56,7 @@ impl Unnamed {
     }
 
     /// The counters, and the account of all seats.
-    pub fn named<N: Naming>(self) -> (Counters<N>, Tally<N>)
+    pub fn named<N: Counting>(self) -> (Counters<N>, Tally<N>)
         requires { self.0 ≡ N.counters }
         ensures { (result.0 ≡ self.1) × (result.1 ≡ opened self.1) }
     {
@@ -74,7 +74,7 @@ impl Unnamed {
     }
 }
 
-impl<N: Naming> Counters<N> {
+impl<N: Counting> Counters<N> {
     /// An account of no seat.
     pub fn none(&self) -> Tally<N>
         ensures { result ≡ spent }

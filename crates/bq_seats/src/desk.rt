@@ -1,19 +1,19 @@
 //! The counters as one program sees them.
 ghost use Rattle.std.specs.Prelude.{◌≡◌, ◌≤◌};
 
-use crate::account::{Naming, Tally};
+use crate::account::{Counting, Tally};
 use crate::counters::Counters;
 use bq_bpf::{Board, Call};
 
 /// The counters of a machine, with the account of the seat that runs a program.
 #[derive(Drop)]
-pub struct Desk<'a, N: Naming> {
+pub struct Desk<'a, N: Counting> {
     pub counters: &'a Counters<N>,
     pub tally: Tally<N>,
     ghost seated: { 1 ≤ tally.seats },
 }
 
-impl<'a, N: Naming> Board for Desk<'a, N> {
+impl<'a, N: Counting> Board for Desk<'a, N> {
     ghost use Rattle.std.specs.Prelude.{◌≡◌};
     ghost use Rattle.bq_seats.specs.Sums.{calling};
 

@@ -1,7 +1,7 @@
 use Rattle.bq_par.proofs.runs.run_under.Given as goal
 
-abbrev pub ghosts-run_sized-N-Naming-1 : goal.ghosts-run_sized-N-Naming-1
-ghosts-run_sized-N-Naming-1 g a = record { table = a.prepared.0 }
+abbrev pub ghosts-run_sized-N-Naming : goal.ghosts-run_sized-N-Naming
+ghosts-run_sized-N-Naming g a = record { table = a.prepared.0 }
 
-abbrev pub ghosts-run_sized-N-Naming-2 : goal.ghosts-run_sized-N-Naming-2
-ghosts-run_sized-N-Naming-2 g a = record { counters = a.unnamed.0 }
+abbrev pub ghosts-run_sized-N-Counting : goal.ghosts-run_sized-N-Counting
+ghosts-run_sized-N-Counting g a = record { counters = a.unnamed.0 }

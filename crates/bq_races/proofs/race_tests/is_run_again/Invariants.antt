@@ -1,7 +1,7 @@
 use Rattle.bq_races.proofs.race_tests.is_run_again.Given as goal
 
-abbrev pub ghosts-race_under-N-Naming-1 : goal.ghosts-race_under-N-Naming-1
-ghosts-race_under-N-Naming-1 g a = record { table = a.prepared.0 }
+abbrev pub ghosts-race_under-N-Naming : goal.ghosts-race_under-N-Naming
+ghosts-race_under-N-Naming g a = record { table = a.prepared.0 }
 
-abbrev pub ghosts-race_under-N-Naming-2 : goal.ghosts-race_under-N-Naming-2
-ghosts-race_under-N-Naming-2 g a = record { counters = a.unnamed.0 }
+abbrev pub ghosts-race_under-N-Counting : goal.ghosts-race_under-N-Counting
+ghosts-race_under-N-Counting g a = record { counters = a.unnamed.0 }

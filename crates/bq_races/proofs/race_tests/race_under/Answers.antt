@@ -9,7 +9,7 @@ use Rattle.bq_par.specs.contracts.metronome.MetronomeClock.TheImpl as metronome
 use Rattle.bq_par.proofs.SeatLemmas.{seat_send}
 use Rattle.bq_par.proofs.SharingLemmas.{machine_sync}
 use Rattle.bq_tie.specs.declared.law.Naming as Naming
-use Rattle.bq_seats.specs.declared.account.Naming as Counting
+use Rattle.bq_seats.specs.declared.account.Counting as Counting
 use Rattle.bq_races.specs.contracts.drawn.Racer as Racer
 use Rattle.bq_races.proofs.race_tests.race_under.Goals as goal
 
@@ -19,7 +19,7 @@ metronome_sync = search (crosses, sendable) depth 20
 pub map_vec-requires-sync-F : goal.map_vec-requires-sync-F
 map_vec-requires-sync-F g c κs within =
     let t = c.type_bounds.sync-T in
-    let m = machine_sync (param 0 g.row.Q) Metronome.the_row (param 1 g.row.N) (number 64) (param 3 g.row.Q-R) metronome.ghosts g.N.Naming-1 g.N.Naming-2 g.Q.RunQueue g.Q.R.Discipline c.type_bounds.send-Q metronome_sync in
+    let m = machine_sync (param 0 g.row.Q) Metronome.the_row (param 1 g.row.N) (number 64) (param 3 g.row.Q-R) metronome.ghosts g.N.Naming g.N.Counting g.Q.RunQueue g.Q.R.Discipline c.type_bounds.send-Q metronome_sync in
     search (crosses, sendable) depth 20
 
 -- a seat with its seed

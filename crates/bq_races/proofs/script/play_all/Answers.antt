@@ -11,7 +11,7 @@ use Rattle.bq_par.proofs.SendLemmas.{cfs_queue_send}
 use Rattle.bq_par.proofs.SeatLemmas.{seat_send}
 use Rattle.bq_par.proofs.SharingLemmas.{machine_sync}
 use Rattle.bq_tie.specs.declared.law.Naming as Naming
-use Rattle.bq_seats.specs.declared.account.Naming as Counting
+use Rattle.bq_seats.specs.declared.account.Counting as Counting
 use Rattle.bq_history.specs.History.{EachOnce}
 use Rattle.bq_history.specs.contracts.law.Receipt as Receipt
 use Rattle.bq_history.proofs.law.Receipt.TheSendSync as receipt
@@ -35,7 +35,7 @@ clock_sync = search (gate.the_send, gate.the_sync, crosses, sendable) depth 40
 pub map_vec-requires-sync-F : goal.map_vec-requires-sync-F
 map_vec-requires-sync-F g c κs within =
     let t = c.type_bounds.sync-R in
-    let m = machine_sync Held.the_row Counted.the_row (param 0 g.row.N) (number 4) Cfs.the_row clock.ghosts g.N.Naming-1 g.N.Naming-2 held.ghosts cfs.ghosts held_send clock_sync in
+    let m = machine_sync Held.the_row Counted.the_row (param 0 g.row.N) (number 4) Cfs.the_row clock.ghosts g.N.Naming g.N.Counting held.ghosts cfs.ghosts held_send clock_sync in
     search (crosses, sendable) depth 20
 
 receipt_send : IsSend (Receipt.the_row Record.the_row)
