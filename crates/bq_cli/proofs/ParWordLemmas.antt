@@ -1,5 +1,5 @@
 -- Where `par` was entered, the job is that of `par`.
-use Rattle.std.proofs.Common.{◌≡◌, ◌∙◌, ℕ, List, [], ◌∷◌, Option, Some, None, refl, ap, sym, subst, arith}
+use Rattle.std.proofs.Common.{◌≡◌, ◌∙◌, ℕ, List, Option, Some, None, ap, sym, subst, arith}
 use Rattle.std.specs.Prelude.{option_map, codes, slice_index_or}
 use Rattle.clap.specs.Words.{Row, Text}
 use Rattle.bq_cli.specs.Jobs.{IsJobOf, IsParallel}

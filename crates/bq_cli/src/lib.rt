@@ -10,6 +10,6 @@ pub mod program;
 pub mod words;
 
 pub use bq_console::exit_status;
-pub use bq_trace::{Counted, ReplayFault, Session, replay};
+pub use bq_trace::Counted;
 pub use commands::perform;
 pub use words::job;

@@ -1,9 +1,9 @@
 -- Words that say none.
-use Rattle.std.proofs.Common.{◌≡◌, ℕ, List, sym, subst, String}
+use Rattle.std.proofs.Common.{◌≡◌, ℕ, List, Option, Some, None, sym, subst, String}
 use Rattle.std.specs.declared.alloc.Global.{Global}
 use Rattle.bq_console.specs.declared.fault.WordsFault.{WordsFault}
 use Rattle.bq_console.specs.declared.fault.WordsFault.TheVariants.{Words, OutOfMemory}
-use Rattle.bq_console.specs.Words.{SaysNone}
+use Rattle.bq_console.specs.Words.{SaysNone, SaysWord}
 
 -- words that say none may be refused by any text
 pub none_said : {A : Type 0} (Says : A → Type 0) (e : WordsFault) → ((a : A) → ¬ Says a) → SaysNone Says e
@@ -26,3 +26,8 @@ none_whole Part Whole part e has none = none_of_part Part Whole e (λ b whole. (
 -- refused words say none
 pub said_none : {A : Type 0} (Says : A → Type 0) (e : WordsFault) (why : String Global) → e ≡ Words why → SaysNone Says e → (a : A) → ¬ Says a
 said_none {A} Says e why is none = subst (λ (f : WordsFault). SaysNone Says f) is none
+
+-- a word that stands for no value
+pub no_value : {A : Type 0} (P : List ℕ → A → Type 0) (word : List ℕ) → ((a : A) → ¬ P word a) → (value : Option A) → ¬ SaysWord P (Some word) value
+no_value P word none None h = h
+no_value P word none (Some a) h = none a h

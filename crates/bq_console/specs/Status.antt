@@ -1,5 +1,9 @@
 -- The exit statuses.
-use Rattle.std.specs.Prelude.{ℕ, Bool, true, false, Result, Ok, Err}
+use Rattle.std.specs.Prelude.{◌≡◌, ◌≢◌, ◌⊎◌, ℕ, Bool, true, false, Result, Ok, Err}
+use Rattle.std.specs.Process.{exit_status}
+use Rattle.std.specs.declared.process.ExitCode.{ExitCode}
+use Rattle.std.specs.declared.io.ErrorKind.{ErrorKind}
+use Rattle.std.specs.declared.io.ErrorKind.TheVariants as kind
 use Rattle.bq_streams.specs.declared.fault.StreamFault.{StreamFault}
 use Rattle.bq_streams.specs.declared.fault.StreamFault.TheVariants.{Read, Write, TooLong, OutOfMemory}
 
@@ -10,3 +14,12 @@ status_of (Err OutOfMemory) = 3
 status_of (Err Read) = 4
 status_of (Err Write) = 4
 status_of (Err TooLong) = 4
+
+-- how a program ends where a call of the system failed: 3 where memory was wanted, and else 4
+pub record EndsFor (failed : ErrorKind) (code : ExitCode) : Type 0 where
+  pub memory : failed ≡ kind.OutOfMemory → exit_status code ≡ 3
+  pub other : failed ≢ kind.OutOfMemory → exit_status code ≡ 4
+
+-- the same, whatever it was that failed
+abbrev pub EndsFailed : ExitCode → Type 0
+EndsFailed code = (exit_status code ≡ 3) ⊎ (exit_status code ≡ 4)

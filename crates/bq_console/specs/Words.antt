@@ -1,14 +1,32 @@
 -- The words of a command: their parts, the numbers that they write, and what it means that they are refused.
-use Rattle.std.specs.Prelude.{◌≡◌, ◌≢◌, ◌==◌, ℕ, ◌<◌, List, ◌∷◌, ◌++◌, ◌⊎◌, codes, length, slice_index}
+use Rattle.std.specs.Prelude.{◌≡◌, ◌≢◌, ◌==◌, ℕ, ◌<◌, List, ◌∷◌, ◌++◌, ◌⊎◌, Option, Some, None, Result, Ok, Err, String, codes, string_bytes, length, slice_index}
 use Rattle.std.specs.List.{slice_split}
 use Rattle.std.specs.Str.Parse.{IsNumeral, digits_value, without_leading_plus}
+use Rattle.std.specs.declared.alloc.AllocError.{AllocError}
+use Rattle.std.specs.declared.alloc.Global.{Global}
 use Rattle.bq_console.specs.declared.fault.WordsFault.{WordsFault}
 use Rattle.bq_console.specs.declared.fault.WordsFault.TheVariants as fault
+
+-- the fault with this text, or want of memory where there was none for it
+abbrev pub words_fault : Result (String Global) AllocError → WordsFault
+words_fault (Ok text) = fault.Words text
+words_fault (Err e) = fault.OutOfMemory
+
+-- the fault is that text, or want of memory for it
+abbrev pub IsRefusedBy : List ℕ → WordsFault → Type 0
+IsRefusedBy text (fault.Words why) = string_bytes why ≡ text
+IsRefusedBy text fault.OutOfMemory = Unit {0}
 
 -- words that are refused say none of that kind; want of memory says nothing of the words
 abbrev pub SaysNone : {A : Type 0} → (A → Type 0) → WordsFault → Type 0
 SaysNone {A} Says (fault.Words why) = (a : A) → ¬ Says a
 SaysNone Says fault.OutOfMemory = Unit {0}
+
+-- without a word there is no value; a word stands for its value
+abbrev pub SaysWord : {A : Type 0} → (List ℕ → A → Type 0) → Option (List ℕ) → Option A → Type 0
+SaysWord P None None = Unit {0}
+SaysWord P (Some word) (Some value) = P word value
+SaysWord P word value = ⊥
 
 -- the mark does not stand in the text
 abbrev pub IsFreeOf : ℕ → List ℕ → Type 0

@@ -1,5 +1,9 @@
 //! How a job ends that reads and writes: with what standard error says where a read or a write broke off.
 
+ghost use Rattle.std.specs.Prelude.{◌≡◌};
+ghost use Rattle.std.specs.Process.{exit_status as status};
+ghost use Rattle.bq_console.specs.Status.{status_of};
+
 use crate::saying::{say_unread, say_unwritten};
 use crate::status::exit_status;
 use bq_streams::{Counted, Kept, StreamFault};
@@ -22,7 +26,9 @@ pub fn ended<R: Read + Drop, W: Write + Drop>(
     outcome: &Result<bool, StreamFault>,
     input: Counted<Kept<R>>,
     output: Counted<Kept<W>>,
-) -> ExitCode {
+) -> ExitCode
+    ensures { status result ≡ status_of outcome.now }
+{
     if let Err(fault) = outcome {
         let streams = Streams {
             name,

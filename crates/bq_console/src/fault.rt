@@ -1,5 +1,6 @@
 //! Why words are none of a command.
 ghost use Rattle.std.specs.Prelude.{◌≡◌};
+ghost use Rattle.bq_console.specs.Words.{words_fault};
 
 use std::alloc::{AllocError, AllocFailed};
 use thiserror::Error;
@@ -15,7 +16,9 @@ pub enum WordsFault {
 }
 
 /// The fault of words, with the text that says what is wrong, if there is memory for it.
-pub fn words_fault(text: Result<String, AllocError>) -> WordsFault {
+pub fn words_fault(text: Result<String, AllocError>) -> WordsFault
+    ensures { result ≡ words_fault text }
+{
     match text {
         Ok(text) => WordsFault::Words(text),
         Err(_) => WordsFault::OutOfMemory,

@@ -1,8 +1,9 @@
 //! What a program shares with whoever calls it: the words that it is given, the files and streams that it reads and writes, and how
 //! it ends.
 //!
-//! The texts of words are those words, the numbers that words write are those numbers, and what a job's outcome gives as exit status
-//! is so, by contract. What standard error says makes no promise beyond that it is safe.
+//! The texts of words are those words, the numbers that words write are those numbers, and a job ends by the exit status that its
+//! outcome gives, as a program does for which a read or a write failed, by contract. What standard error says makes no promise beyond
+//! that it is safe.
 #![tactic(auto)]
 
 mod ending;

@@ -1,7 +1,8 @@
 //! What commands read whole: a file, or standard input.
-ghost use Rattle.std.specs.Prelude.{◌≡◌, List, option_map, ℕ};
+ghost use Rattle.std.specs.Prelude.{◌≡◌, IfErr, List, option_map, ℕ};
 ghost use Rattle.std.specs.Borrow.{Bor};
 ghost use Rattle.bq_console.specs.Files.{file_named, name_of};
+ghost use Rattle.bq_console.specs.Status.{EndsFailed};
 
 use crate::saying::say_unread;
 use std::fs;
@@ -30,7 +31,9 @@ pub fn name_of(file: &Option<String>) -> &str
 
 /// All bytes of the file that is named, or of standard input. Where they can't be read, standard error says why, and the error
 /// is the exit status.
-pub fn whole_input(rt: &HostRuntime, file: &Option<String>) -> Result<Vec<u8>, ExitCode> {
+pub fn whole_input(rt: &HostRuntime, file: &Option<String>) -> Result<Vec<u8>, ExitCode>
+    ensures { IfErr result EndsFailed }
+{
     match file_named(file) {
         Some(path) => whole_file(rt, path),
         None => standard_input(rt),
@@ -38,12 +41,19 @@ pub fn whole_input(rt: &HostRuntime, file: &Option<String>) -> Result<Vec<u8>, E
 }
 
 /// All bytes of a file.
-pub fn whole_file(rt: &HostRuntime, path: &str) -> Result<Vec<u8>, ExitCode> {
-    fs::read(rt, path).map_err(|error| say_unread(rt, Some(path), &error))
+pub fn whole_file(rt: &HostRuntime, path: &str) -> Result<Vec<u8>, ExitCode>
+    ensures { IfErr result EndsFailed }
+{
+    match fs::read(rt, path) {
+        Ok(bytes) => Ok(bytes),
+        Err(error) => Err(say_unread(rt, Some(path), &error)),
+    }
 }
 
 /// All bytes of standard input. On a terminal it says that it waits.
-pub fn standard_input(rt: &HostRuntime) -> Result<Vec<u8>, ExitCode> {
+pub fn standard_input(rt: &HostRuntime) -> Result<Vec<u8>, ExitCode>
+    ensures { IfErr result EndsFailed }
+{
     let mut input = rt.stdin();
     if input.is_terminal() {
         let _ = eprintln!(rt; "bqsim: waiting for standard input; Ctrl-D ends it");

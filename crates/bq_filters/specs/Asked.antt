@@ -1,18 +1,17 @@
 -- What the words of `asm` ask for.
-use Rattle.std.specs.Prelude.{◌≡◌, ℕ, List, Option, Some, None, codes}
+use Rattle.std.specs.Prelude.{◌≡◌, ℕ, List, ◌++◌, Some, codes}
 use Rattle.clap.specs.Words.{Row, first_of}
 use Rattle.bq_bpf.specs.Hooks.{hook_of, version_of}
+use Rattle.bq_console.specs.Words.{SaysWord}
 use Rattle.bq_program.specs.Forms.{maps_text}
 use Rattle.bq_program.specs.declared.options.Options.{Options}
 
--- without a word there is no value; a word names its value
-abbrev pub Names : {A : Type 0} → (List ℕ → Option A) → Option (List ℕ) → Option A → Type 0
-Names of None None = Unit {0}
-Names of (Some word) (Some value) = of word ≡ Some value
-Names of word value = ⊥
-
 -- the options have the values that were found; the text of the maps is taken as it stands
 pub record AreOptions (rows : List Row) (o : Options) : Type 0 where
-  pub hook : Names hook_of (first_of (codes "hook") rows) o.hook
+  pub hook : SaysWord (λ word hook. hook_of word ≡ Some hook) (first_of (codes "hook") rows) o.hook
   pub maps : maps_text o ≡ first_of (codes "maps") rows
-  pub format : Names version_of (first_of (codes "format") rows) o.format
+  pub format : SaysWord (λ word version. version_of word ≡ Some version) (first_of (codes "format") rows) o.format
+
+-- the text that refuses the value of an option beside those that it takes
+abbrev pub refusal : List ℕ → List ℕ → List ℕ → List ℕ
+refusal option value taken = codes "error: invalid value '" ++ (value ++ (codes "' for '--" ++ (option ++ (codes "'\n  [possible values: " ++ (taken ++ codes "]\n\nFor more information, try '--help'.\n")))))

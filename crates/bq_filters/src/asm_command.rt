@@ -7,7 +7,7 @@ ghost use Rattle.bq_program.specs.declared.options.Options.{Options as Chosen};
 
 use crate::asm_words::options;
 use bq_console::WordsFault;
-use bq_options::{CommandText, Given, OptionText, matches_of, texts};
+use bq_options::{CommandText, Given, OptionText, matches_of, texts, with_hooks};
 use bq_program::Options;
 use std::alloc::Global;
 
@@ -19,7 +19,7 @@ pub const ASM: CommandText<'static> = CommandText {
         OptionText {
             name: "hook",
             given: Given::Once("HOOK"),
-            help: "Writes an image for this hook: place, preempt or pull",
+            help: with_hooks!("Writes an image for this hook: "),
         },
         OptionText {
             name: "maps",

@@ -1,14 +1,15 @@
 //! The options of `asm` among its words.
-ghost use Rattle.std.specs.Prelude.{◌≡◌, ℕ, List, Option, IfOk, IfErr, option_map};
+ghost use Rattle.std.specs.Prelude.{◌≡◌, ℕ, List, Option, Some, IfOk, IfErr, option_map};
 ghost use Rattle.std.specs.Borrow.{Bor};
 ghost use Rattle.clap.specs.Words.{found_of, rows_of};
 ghost use Rattle.bq_bpf.specs.Hooks.{hook_of, version_of};
 ghost use Rattle.bq_program.specs.declared.options.Options.{Options as Given};
 ghost use Rattle.bq_bpf.specs.declared.hook.Hook.{Hook as Place};
 ghost use Rattle.bq_bpf.specs.declared.hook.Version.{Version as Number};
-ghost use Rattle.bq_filters.specs.Asked.{AreOptions, Names};
+ghost use Rattle.bq_console.specs.Words.{IsRefusedBy, SaysWord};
+ghost use Rattle.bq_filters.specs.Asked.{AreOptions, refusal};
 
-use bq_console::WordsFault;
+use bq_console::{WordsFault, words_fault};
 use bq_options::{value, word};
 use bq_program::{Hook, Options, Version};
 use clap::ArgMatches;
@@ -32,8 +33,8 @@ const FORMATS: &str = "1, 2";
 
 /// The hook that a word names, if there is one.
 fn hook_in(alloc: Global, word: Option<&str>) -> Result<Option<Hook>, WordsFault>
-    ensures ok { IfOk result (Names hook_of (option_map (λ (w : Bor (List ℕ)). w.now) word.entry)) }
-    ensures taken { IfErr result (λ e. (named : Option Place) → Names hook_of (option_map (λ (w : Bor (List ℕ)). w.now) word.entry) named → e ≡ WordsFault.OutOfMemory) }
+    ensures ok { IfOk result (SaysWord (λ bytes hook. hook_of bytes ≡ Some hook) (option_map (λ (w : Bor (List ℕ)). w.now) word.entry)) }
+    ensures taken { IfErr result (λ e. (named : Option Place) → SaysWord (λ bytes hook. hook_of bytes ≡ Some hook) (option_map (λ (w : Bor (List ℕ)). w.now) word.entry) named → e ≡ WordsFault.OutOfMemory) }
 {
     let Some(word) = word else {
         return Ok(None);
@@ -46,8 +47,8 @@ fn hook_in(alloc: Global, word: Option<&str>) -> Result<Option<Hook>, WordsFault
 
 /// The version that a word names, if there is one.
 fn format_in(alloc: Global, word: Option<&str>) -> Result<Option<Version>, WordsFault>
-    ensures ok { IfOk result (Names version_of (option_map (λ (w : Bor (List ℕ)). w.now) word.entry)) }
-    ensures taken { IfErr result (λ e. (named : Option Number) → Names version_of (option_map (λ (w : Bor (List ℕ)). w.now) word.entry) named → e ≡ WordsFault.OutOfMemory) }
+    ensures ok { IfOk result (SaysWord (λ bytes version. version_of bytes ≡ Some version) (option_map (λ (w : Bor (List ℕ)). w.now) word.entry)) }
+    ensures taken { IfErr result (λ e. (named : Option Number) → SaysWord (λ bytes version. version_of bytes ≡ Some version) (option_map (λ (w : Bor (List ℕ)). w.now) word.entry) named → e ≡ WordsFault.OutOfMemory) }
 {
     let Some(word) = word else {
         return Ok(None);
@@ -59,11 +60,10 @@ fn format_in(alloc: Global, word: Option<&str>) -> Result<Option<Version>, Words
 }
 
 /// The fault of an option's value that is none of those that it takes, which are listed.
-pub fn refused(alloc: Global, option: &str, value: &str, taken: &str) -> WordsFault {
-    match format!(in alloc;
+pub fn refused(alloc: Global, option: &str, value: &str, taken: &str) -> WordsFault
+    ensures { IsRefusedBy (refusal option.now value.now taken.now) result }
+{
+    words_fault(format!(in alloc;
         "error: invalid value '{value}' for '--{option}'\n  [possible values: {taken}]\n\nFor more information, try '--help'.\n"
-    ) {
-        Ok(text) => WordsFault::Words(text),
-        Err(_) => WordsFault::OutOfMemory,
-    }
+    ))
 }

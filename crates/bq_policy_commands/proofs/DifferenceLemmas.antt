@@ -1,12 +1,26 @@
 -- The mark from which words differ, of a fault.
-use Rattle.std.proofs.Common.{◌≡◌, ℕ, List, Option, Some, None, inr, sym}
+use Rattle.std.proofs.Common.{◌≡◌, ℕ, List, Option, Some, None, inr, is_some, subst, sym, true}
 use Rattle.bq_program.specs.declared.fault.PolicyFault.{PolicyFault}
 use Rattle.bq_program.specs.declared.head.Head.{Head}
 use Rattle.bq_program.specs.declared.mark.Key.{Key}
 use Rattle.bq_program.specs.Files.{IsPolicyFault}
-use Rattle.bq_policy_commands.specs.Disagreeing.{IsDifference, differing}
+use Rattle.bq_program.specs.Forms.{maps_text}
+use Rattle.bq_program.specs.Heads.{Names}
+use Rattle.bq_program.specs.ShapesText.{NamesNoShapes}
+use Rattle.bq_program.specs.declared.options.Options.{Options}
+use Rattle.bq_console.specs.Words.{SaysWord}
+use Rattle.bq_console.proofs.SayingLemmas.{no_value}
+use Rattle.bq_policy_commands.specs.Disagreeing.{IsDifference, SaysImage, differing}
 
 -- the mark that a fault of the file names is the one from which the words differ
 pub IsDifference-of_fault : (bytes : List ℕ) (h : Head) (named : PolicyFault) (told : Option Key) → IsPolicyFault bytes h named → told ≡ differing named → IsDifference bytes h told
 IsDifference-of_fault bytes h named None is e = inr (inr (named, is, sym e))
 IsDifference-of_fault bytes h named (Some key) is e = (named, is, sym e)
+
+-- options without a hook ask for no image
+pub no_image : (o : Options) → o.hook ≡ None → (h : Head) → ¬ SaysImage o h
+no_image o none h says = let asked : is_some o.hook ≡ true = says.asked in absurd (cc)
+
+-- nor do those that name no maps
+pub no_maps : (o : Options) (text : List ℕ) → maps_text o ≡ Some text → NamesNoShapes text → (h : Head) → ¬ SaysImage o h
+no_maps o text named none h says = no_value Names text (λ shapes. none shapes.items) h.maps (subst (λ (word : Option (List ℕ)). SaysWord Names word h.maps) named says.maps)

@@ -1,3 +1,2 @@
 mod DifferenceLemmas
-mod SayingLemmas
 mod HelperLemmas

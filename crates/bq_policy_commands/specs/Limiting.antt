@@ -6,9 +6,9 @@ use Rattle.std.specs.Str.Parse.{IsNumeral, signed_digits_value, without_leading_
 use Rattle.std.specs.declared.alloc.Global.{Global}
 use Rattle.std.specs.declared.vec.Vec.{Vec}
 use Rattle.bq_explain.specs.declared.limits.Limits.{Limits}
-use Rattle.bq_console.specs.Words.{parts}
+use Rattle.bq_console.specs.Words.{SaysWord, parts}
 use Rattle.bq_policy_commands.specs.declared.words.CheckWords.{CheckWords}
-use Rattle.bq_policy_commands.specs.Saying.{IsHeadWord, IsNumberBelow, option_bytes}
+use Rattle.bq_policy_commands.specs.Saying.{IsNumberBelow, option_bytes}
 
 -- a number of 32 bits in decimal, where a sign may stand first
 pub record IsHelper (word : List ℕ) (helper : ℤ) : Type 0 where
@@ -35,5 +35,5 @@ NamesNoHelpers text = (helpers : Vec ℤ Global) → ¬ NamesHelpers text helper
 
 -- the limit of steps is the number that is said, of 32 bits; helpers are limited where a list of them is said, to those
 pub record HasLimits (w : CheckWords) (l : Limits) : Type 0 where
-  pub steps : IsHeadWord (IsNumberBelow (2 ^ 32)) (option_bytes w.max_steps) l.steps
-  pub helpers : IsHeadWord NamesHelpers (option_bytes w.helpers) l.helpers
+  pub steps : SaysWord (IsNumberBelow (2 ^ 32)) (option_bytes w.max_steps) l.steps
+  pub helpers : SaysWord NamesHelpers (option_bytes w.helpers) l.helpers

@@ -1,9 +1,9 @@
 -- What the words of a command say of a policy.
-use Rattle.std.specs.Prelude.{◌≡◌, ℕ, ◌<◌, List, Option, Some, None, option_map, String, string_bytes}
+use Rattle.std.specs.Prelude.{◌≡◌, ℕ, ◌<◌, List, Option, Some, option_map, String, string_bytes}
 use Rattle.std.specs.declared.alloc.Global.{Global}
 use Rattle.bq_program.specs.declared.head.Head.{Head}
 use Rattle.bq_program.specs.Heads.{Names}
-use Rattle.bq_console.specs.Words.{IsNumber}
+use Rattle.bq_console.specs.Words.{IsNumber, SaysWord}
 use Rattle.bq_bpf.specs.Hooks.{hook_of, version_of}
 use Rattle.bq_policy_commands.specs.declared.answered.Answered.{Answered}
 use Rattle.bq_policy_commands.specs.declared.answered.Answered.TheVariants.{Words}
@@ -13,21 +13,15 @@ use Rattle.bq_policy_commands.specs.declared.words.PolicyWords.{PolicyWords}
 abbrev pub option_bytes : Option (String Global) → Option (List ℕ)
 option_bytes word = option_map (λ w. string_bytes w) word
 
--- without a word nothing is said; a word stands for its value
-abbrev pub IsHeadWord : {A : Type 0} → (List ℕ → A → Type 0) → Option (List ℕ) → Option A → Type 0
-IsHeadWord P None None = Unit {0}
-IsHeadWord P (Some word) (Some value) = P word value
-IsHeadWord P word value = ⊥
-
 -- the word writes the number in decimal, and it is below that limit
 abbrev pub IsNumberBelow : ℕ → List ℕ → ℕ → Type 0
 IsNumberBelow limit word number = IsNumber word number × (number < limit)
 
 -- each word says its part of the head
 pub record SaysHead (w : PolicyWords) (h : Head) : Type 0 where
-  pub hook : IsHeadWord (λ word hook. hook_of word ≡ Some hook) (option_bytes w.hook) h.hook
-  pub maps : IsHeadWord Names (option_bytes w.maps) h.maps
-  pub format : IsHeadWord (λ word version. version_of word ≡ Some version) (option_bytes w.format) h.format
+  pub hook : SaysWord (λ word hook. hook_of word ≡ Some hook) (option_bytes w.hook) h.hook
+  pub maps : SaysWord Names (option_bytes w.maps) h.maps
+  pub format : SaysWord (λ word version. version_of word ≡ Some version) (option_bytes w.format) h.format
 
 -- the words are refused
 abbrev pub IsRefused : Answered → Type 0

@@ -1,6 +1,7 @@
 //! The words of `asm` beside the marks of its text.
-ghost use Rattle.std.specs.Prelude.{◌≡◌, IfOk};
-ghost use Rattle.bq_policy_commands.specs.Disagreeing.{IsDifference, differing};
+ghost use Rattle.std.specs.Prelude.{◌≡◌, IfOk, MatchOption};
+ghost use Rattle.bq_program.specs.declared.head.Head.{Head as Said};
+ghost use Rattle.bq_policy_commands.specs.Disagreeing.{IsAsmRefusal, IsDifference, IsRefusalBeside, SaysImage, differing};
 
 use crate::fault_words::{fault_line, fault_reason};
 use bq_program::{Head, Key, Kind, Options, PolicyFault, kind_of, read_policy, shapes_of};
@@ -20,7 +21,9 @@ pub fn asm_refusal(
     alloc: Global,
     options: &Options,
     text: &[u8],
-) -> Result<Option<AsmRefusal>, AllocError> {
+) -> Result<Option<AsmRefusal>, AllocError>
+    ensures { IfOk result (IsAsmRefusal options.now text.now) }
+{
     match head_of(alloc, options)? {
         None => Ok(None),
         Some(given) => refusal_beside(alloc, &given, text),
@@ -32,7 +35,9 @@ fn refusal_beside(
     alloc: Global,
     given: &Head,
     text: &[u8],
-) -> Result<Option<AsmRefusal>, AllocError> {
+) -> Result<Option<AsmRefusal>, AllocError>
+    ensures { IfOk result (IsRefusalBeside text.now given.now) }
+{
     match difference(alloc, given, text)? {
         None => Ok(None),
         Some(key) => {
@@ -45,22 +50,28 @@ fn refusal_beside(
 }
 
 /// What the words say of the image, if they ask for one. Maps that are none are refused by `asm` itself.
-fn head_of(alloc: Global, options: &Options) -> Result<Option<Head>, AllocError> {
+#[tactic(auto, using(crate::proofs::DifferenceLemmas::no_image, crate::proofs::DifferenceLemmas::no_maps))]
+fn head_of(alloc: Global, options: &Options) -> Result<Option<Head>, AllocError>
+    ensures { IfOk result (λ said. MatchOption said ((h : Said) → ¬ SaysImage options.now h) (SaysImage options.now)) }
+{
     if options.hook.is_none() {
         return Ok(None);
     }
-    let maps = match &options.maps {
-        None => None,
-        Some(text) => match shapes_of(alloc, text.as_bytes())? {
-            None => return Ok(None),
-            Some(shapes) => Some(shapes),
-        },
+    let Some(text) = &options.maps else {
+        return Ok(Some(Head {
+            hook: options.hook,
+            maps: None,
+            format: options.format,
+        }));
     };
-    Ok(Some(Head {
-        hook: options.hook,
-        maps,
-        format: options.format,
-    }))
+    match shapes_of(alloc, text.as_bytes())? {
+        None => Ok(None),
+        Some(shapes) => Ok(Some(Head {
+            hook: options.hook,
+            maps: Some(shapes),
+            format: options.format,
+        })),
+    }
 }
 
 /// The first mark of a text from which the words differ, if there is one.

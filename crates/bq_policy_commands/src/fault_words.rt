@@ -17,6 +17,12 @@ use bq_load::LoadFault;
 use bq_program::{HeadCause, Key, PolicyFault};
 use std::alloc::{AllocError, Global};
 
+/// Which hooks there are, where a word names none.
+pub(crate) const HOOKS: &str = "hooks are place, preempt and pull";
+
+/// Which versions there are, where a word names none.
+pub(crate) const FORMATS: &str = "formats are 1 and 2";
+
 /// The line that refuses the file. Want of memory is handed on as such.
 pub fn fault_line(alloc: Global, fault: PolicyFault) -> Result<String, AllocError>
     ensures line { IfOk result (λ text. string_bytes text ≡ fault_line fault) }
@@ -162,11 +168,11 @@ fn head_words(cause: HeadCause) -> &'static str {
         HeadCause::Unknown => {
             "a line that begins with ;@ says one thing: ;@ hook place, ;@ maps 8:1,16:4 or ;@ format 2"
         }
-        HeadCause::Value(Key::Hook) => "hooks are place, preempt and pull",
+        HeadCause::Value(Key::Hook) => HOOKS,
         HeadCause::Value(Key::Maps) => {
             "a map is its value size, 8 to 256 in eights, a colon, and its entries, 1 to 256, as 8:2; at most 8 of them, with commas between and no blanks"
         }
-        HeadCause::Value(Key::Format) => "formats are 1 and 2",
+        HeadCause::Value(Key::Format) => FORMATS,
         HeadCause::Twice(_) => "this was said in a line before",
     }
 }

@@ -1,11 +1,12 @@
 //! What the words of a command say of a policy.
 ghost use Rattle.std.specs.Prelude.{◌≡◌, IfErr, IfOk, Some};
-ghost use Rattle.bq_console.specs.Words.{SaysNone};
-ghost use Rattle.bq_policy_commands.specs.Saying.{IsHeadWord, SaysHead, option_bytes};
+ghost use Rattle.bq_console.specs.Words.{SaysNone, SaysWord};
+ghost use Rattle.bq_policy_commands.specs.Saying.{SaysHead, option_bytes};
 ghost use Rattle.bq_program.specs.Heads.{Names};
 ghost use Rattle.bq_bpf.specs.Hooks.{hook_of, version_of};
 
 use crate::asm_options::maps_option_words;
+use crate::fault_words::{FORMATS, HOOKS};
 use crate::words::PolicyWords;
 use bq_bpf::MapShape;
 use bq_console::{WordsFault, words_fault};
@@ -26,8 +27,8 @@ pub fn said_by(alloc: Global, words: &PolicyWords) -> Result<Head, WordsFault>
 
 /// The hook that a word names, if there is a word.
 fn hook_in(alloc: Global, word: &Option<String>) -> Result<Option<Hook>, WordsFault>
-    ensures says { IfOk result (IsHeadWord (λ bytes hook. hook_of bytes ≡ Some hook) (option_bytes word.now)) }
-    ensures none { IfErr result (SaysNone (IsHeadWord (λ bytes hook. hook_of bytes ≡ Some hook) (option_bytes word.now))) }
+    ensures says { IfOk result (SaysWord (λ bytes hook. hook_of bytes ≡ Some hook) (option_bytes word.now)) }
+    ensures none { IfErr result (SaysNone (SaysWord (λ bytes hook. hook_of bytes ≡ Some hook) (option_bytes word.now))) }
 {
     let Some(word) = word else {
         return Ok(None);
@@ -35,15 +36,15 @@ fn hook_in(alloc: Global, word: &Option<String>) -> Result<Option<Hook>, WordsFa
     match Hook::of_word(word.as_bytes()) {
         Some(hook) => Ok(Some(hook)),
         None => Err(words_fault(format!(in alloc;
-            "--hook {word}: there is no such hook; hooks are place, preempt and pull"
+            "--hook {word}: there is no such hook; {HOOKS}"
         ))),
     }
 }
 
 /// The version that a word names, if there is a word.
 fn format_in(alloc: Global, word: &Option<String>) -> Result<Option<Version>, WordsFault>
-    ensures says { IfOk result (IsHeadWord (λ bytes version. version_of bytes ≡ Some version) (option_bytes word.now)) }
-    ensures none { IfErr result (SaysNone (IsHeadWord (λ bytes version. version_of bytes ≡ Some version) (option_bytes word.now))) }
+    ensures says { IfOk result (SaysWord (λ bytes version. version_of bytes ≡ Some version) (option_bytes word.now)) }
+    ensures none { IfErr result (SaysNone (SaysWord (λ bytes version. version_of bytes ≡ Some version) (option_bytes word.now))) }
 {
     let Some(word) = word else {
         return Ok(None);
@@ -51,15 +52,15 @@ fn format_in(alloc: Global, word: &Option<String>) -> Result<Option<Version>, Wo
     match Version::of_word(word.as_bytes()) {
         Some(version) => Ok(Some(version)),
         None => Err(words_fault(format!(in alloc;
-            "--format {word}: there is no such format; formats are 1 and 2"
+            "--format {word}: there is no such format; {FORMATS}"
         ))),
     }
 }
 
 /// The shapes of maps that a text names, if there is a text.
 fn maps_in(alloc: Global, text: &Option<String>) -> Result<Option<Vec<MapShape>>, WordsFault>
-    ensures says { IfOk result (IsHeadWord Names (option_bytes text.now)) }
-    ensures none { IfErr result (SaysNone (IsHeadWord Names (option_bytes text.now))) }
+    ensures says { IfOk result (SaysWord Names (option_bytes text.now)) }
+    ensures none { IfErr result (SaysNone (SaysWord Names (option_bytes text.now))) }
 {
     let Some(text) = text else {
         return Ok(None);

@@ -1,5 +1,5 @@
 //! An answer of `check` as JSON.
-use crate::named::name_of;
+use bq_console::file_named;
 use serde_json::{Value, json};
 use std::alloc::{AllocError, Global};
 use std::str::Lines;
@@ -37,7 +37,7 @@ fn answer_value(
 
 /// The name of the file, or null of standard input.
 fn file_value(alloc: Global, file: &Option<String>) -> Result<Value, AllocError> {
-    match name_of(file) {
+    match file_named(file) {
         Some(name) => Value::try_from_str(alloc, name),
         None => Ok(Value::Null),
     }

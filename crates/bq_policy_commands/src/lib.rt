@@ -1,4 +1,5 @@
-//! What `check` and `dis` answer to a policy's file, the words of these and of `run`, and why a file is none.
+//! What `check` and `dis` answer to a policy's file, the words of these and of `run`, why a file is none, and what is wrong with the
+//! options of `asm`, by themselves and beside the marks of its text.
 //!
 //! A command's words come as text, its file as bytes, and its answer goes back as text. So what a command does is a function of
 //! both, with a contract: the verdict, the listing. `run` is in bq_policy_runs.

@@ -1,8 +1,7 @@
 //! A keeper's own limits from the words of a command.
 ghost use Rattle.std.specs.Prelude.{◌≡◌, ◌^◌, [], List, ℤ, IfErr, IfOk, MatchBool, MatchOption};
-ghost use Rattle.bq_console.specs.Words.{parts};
-ghost use Rattle.bq_console.specs.Words.{SaysNone};
-ghost use Rattle.bq_policy_commands.specs.Saying.{IsHeadWord, IsNumberBelow, option_bytes};
+ghost use Rattle.bq_console.specs.Words.{SaysNone, SaysWord, parts};
+ghost use Rattle.bq_policy_commands.specs.Saying.{IsNumberBelow, option_bytes};
 ghost use Rattle.bq_policy_commands.specs.Limiting.{AreHelpers, HasLimits, NamesHelpers, NamesNoHelpers};
 
 use crate::words::CheckWords;
@@ -22,8 +21,8 @@ pub fn limits_of(alloc: Global, words: &CheckWords) -> Result<Limits, WordsFault
 
 /// The most instructions of a run, if there is a word of it.
 fn steps_in(alloc: Global, word: &Option<String>) -> Result<Option<u32>, WordsFault>
-    ensures says { IfOk result (IsHeadWord (IsNumberBelow (2 ^ 32)) (option_bytes word.now)) }
-    ensures none { IfErr result (SaysNone (IsHeadWord (IsNumberBelow (2 ^ 32)) (option_bytes word.now))) }
+    ensures says { IfOk result (SaysWord (IsNumberBelow (2 ^ 32)) (option_bytes word.now)) }
+    ensures none { IfErr result (SaysNone (SaysWord (IsNumberBelow (2 ^ 32)) (option_bytes word.now))) }
 {
     let Some(word) = word else {
         return Ok(None);
@@ -38,8 +37,8 @@ fn steps_in(alloc: Global, word: &Option<String>) -> Result<Option<u32>, WordsFa
 
 /// The helpers that may be called, if there is a word of them: numbers with commas between.
 fn helpers_in(alloc: Global, word: &Option<String>) -> Result<Option<Vec<i32>>, WordsFault>
-    ensures says { IfOk result (IsHeadWord NamesHelpers (option_bytes word.now)) }
-    ensures none { IfErr result (SaysNone (IsHeadWord NamesHelpers (option_bytes word.now))) }
+    ensures says { IfOk result (SaysWord NamesHelpers (option_bytes word.now)) }
+    ensures none { IfErr result (SaysNone (SaysWord NamesHelpers (option_bytes word.now))) }
 {
     let Some(word) = word else {
         return Ok(None);

@@ -1,13 +1,7 @@
 //! The name of a file before what is said of a place in it.
-use std::alloc::{AllocError, Global};
 
-/// The name of the file; None of standard input.
-pub(crate) fn name_of(file: &Option<String>) -> Option<&str> {
-    match file {
-        Some(name) if name.as_str() != "-" => Some(name.as_str()),
-        _ => None,
-    }
-}
+use bq_console::file_named;
+use std::alloc::{AllocError, Global};
 
 /// What is wrong, after the file's name: `p.s line 3: why`, `p.s: why`.
 pub(crate) fn placed(
@@ -15,7 +9,7 @@ pub(crate) fn placed(
     file: &Option<String>,
     reason: String,
 ) -> Result<String, AllocError> {
-    match name_of(file) {
+    match file_named(file) {
         None => Ok(reason),
         Some(name) => named_reason(alloc, name, reason.as_str()),
     }
@@ -34,7 +28,7 @@ pub(crate) fn with_name(
     file: &Option<String>,
     text: String,
 ) -> Result<String, AllocError> {
-    let Some(name) = name_of(file) else {
+    let Some(name) = file_named(file) else {
         return Ok(text);
     };
     match named_place(alloc, name, text.as_str())? {

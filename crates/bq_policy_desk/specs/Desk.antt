@@ -1,7 +1,7 @@
 -- Which words ask for something that is assembled, checked or listed, and what.
 use Rattle.std.specs.Prelude.{◌≡◌, Bool, List, [], ◌∷◌, codes, drop, false, true}
 use Rattle.std.specs.Str.{bytes_eq}
-use Rattle.clap.specs.Words.{Text, matches_of}
+use Rattle.clap.specs.Words.{Text, matches_of, takes}
 use Rattle.bq_filters.specs.AsmApp.{asm_alone}
 use Rattle.bq_filters.specs.Asked.{AreOptions}
 use Rattle.bq_filters.specs.FileWords.{file_of, file_place, without}
@@ -31,6 +31,10 @@ asm_words words = drop 1 (without (file_place words) words)
 -- the options are those that clap finds in these words by `asm`'s own table
 abbrev pub AreAsmOptions : List Text → Options → Type 0
 AreAsmOptions words o = AreOptions (matches_of asm_alone (asm_words words)) o
+
+-- if the words are those of `asm`, clap takes them by its table, and they name a hook and a version where they name any
+abbrev pub AreTaken : List Text → Type 0
+AreTaken words = is_asm words ≡ true → (takes asm_alone (asm_words words) ≡ true) × (o : Options) × AreAsmOptions words o
 
 -- `asm` with its options, or `check` or `dis` alone
 abbrev pub IsFilterAsked : List Text → Filtering → Type 0

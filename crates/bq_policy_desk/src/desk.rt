@@ -1,4 +1,9 @@
 //! What is done for a request: its file read, its answer written.
+ghost use Rattle.std.specs.Prelude.{◌≡◌, ◌⊎◌};
+ghost use Rattle.std.specs.Process.{exit_status as status};
+ghost use Rattle.bq_console.specs.Status.{EndsFailed};
+ghost use Rattle.bq_policy_desk.specs.Status.{status_of};
+
 use crate::asking::Asked;
 use crate::request::PolicyRequest;
 use crate::status::exit_status;
@@ -42,7 +47,10 @@ fn list_file(rt: &HostRuntime, words: &ListWords) -> ExitCode {
 }
 
 /// Writes the answer: on standard output what was done and what is refused, on standard error what is wrong with the words.
-pub fn told(rt: &HostRuntime, answer: &Result<Answered, AllocError>) -> ExitCode {
+pub fn told(rt: &HostRuntime, answer: &Result<Answered, AllocError>) -> ExitCode
+    // It ends by the exit status of the answer, unless that can't be written.
+    ensures { (status result ≡ status_of answer.now) ⊎ EndsFailed result }
+{
     match answer {
         Ok(Answered::Done(text) | Answered::Refused(text)) => {
             written(rt, text.as_str(), ExitCode::from(exit_status(answer)))

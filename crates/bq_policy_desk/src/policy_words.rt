@@ -1,8 +1,11 @@
 //! What words ask for that name a program or a policy, to be assembled, checked or listed.
-ghost use Rattle.std.specs.Prelude.{◌≡◌, IfOk, MatchOption, drop, map};
-ghost use Rattle.bq_policy_desk.specs.Desk.{AreAsmOptions, AskForNone, IsDeskRequest, is_alone, is_asm};
+ghost use Rattle.std.specs.Prelude.{◌≡◌, IfErr, IfOk, MatchOption, drop, map, true};
+ghost use Rattle.bq_policy_desk.specs.Desk.{AreAsmOptions, AreTaken, AskForNone, IsDeskRequest, asm_words, is_alone, is_asm};
+ghost use Rattle.bq_filters.specs.AsmApp.{asm_alone};
 ghost use Rattle.bq_filters.specs.FileWords.{file_of};
 ghost use Rattle.bq_policy_commands.specs.Saying.{option_bytes};
+ghost use Rattle.bq_program.specs.declared.options.Options.{Options as Chosen};
+ghost use Rattle.clap.specs.Words.{takes};
 
 use crate::desk::do_policy;
 use crate::filter_desk::do_filter;
@@ -27,7 +30,11 @@ pub fn desk_request<'a>(
     alloc: Global,
     words: &'a [&'a str],
 ) -> Result<Option<DeskRequest>, WordsFault>
-    ensures { IfOk result (λ r. MatchOption r (AskForNone (map (λ w. w.now) words.entry.now)) (IsDeskRequest (map (λ w. w.now) words.entry.now))) }
+    ensures asked { IfOk result (λ r. MatchOption r (AskForNone (map (λ w. w.now) words.entry.now)) (IsDeskRequest (map (λ w. w.now) words.entry.now))) }
+
+    // Words are refused for want of memory alone, unless they are those of `asm`, and clap does not take them or they name no hook
+    // or no format.
+    ensures taken { IfErr result (λ e. AreTaken (map (λ w. w.now) words.entry.now) → e ≡ WordsFault.OutOfMemory) }
 {
     if let Some(request) = policy_request(alloc, words)? {
         return Ok(Some(DeskRequest::Policy(request)));
@@ -72,6 +79,8 @@ fn asm_request<'a>(
 ) -> Result<(Options, Option<String>), WordsFault>
     ensures options { IfOk result (λ r. AreAsmOptions (map (λ w. w.now) words.entry.now) r.0) }
     ensures file { IfOk result (λ r. option_bytes r.1 ≡ file_of (map (λ w. w.now) words.entry.now)) }
+    ensures taken { IfErr result (λ e. takes asm_alone (asm_words (map (λ w. w.now) words.entry.now)) ≡ true
+        → (o : Chosen) → AreAsmOptions (map (λ w. w.now) words.entry.now) o → e ≡ WordsFault.OutOfMemory) }
 {
     let FileWords { file, others } = file_apart(alloc, words)?;
     let options = asm_options(alloc, behind_the_name(others.as_slice()))?;

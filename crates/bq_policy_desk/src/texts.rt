@@ -1,6 +1,6 @@
 //! What help pages tell of the commands on policies.
 
-use bq_options::{CommandText, Given, OptionText};
+use bq_options::{CommandText, Given, OptionText, with_hooks, with_versions};
 
 /// The options that name a policy and say what its file does not. Each command has them first.
 const POLICY_OPTIONS: [OptionText; 4] = [
@@ -12,7 +12,7 @@ const POLICY_OPTIONS: [OptionText; 4] = [
     OptionText {
         name: "hook",
         given: Given::Once("HOOK"),
-        help: "The choice that the program makes, where the file does not say it: place, preempt or pull",
+        help: with_hooks!("The choice that the program makes, where the file does not say it: "),
     },
     OptionText {
         name: "maps",
@@ -22,7 +22,10 @@ const POLICY_OPTIONS: [OptionText; 4] = [
     OptionText {
         name: "format",
         given: Given::Once("FORMAT"),
-        help: "The version of the image, where the file does not say it: 1 or 2; 1 if neither says it",
+        help: with_versions!(
+            "The version of the image, where the file does not say it: ",
+            "; 1 if neither says it"
+        ),
     },
 ];
 

@@ -1,7 +1,8 @@
 //! What a file holds, by its first bytes.
 ghost use Rattle.std.specs.Prelude.{◌≡◌};
 ghost use Rattle.bq_program.specs.Files.{first_dark, kind_at, kind_of};
-ghost use Rattle.bq_program.specs.HexText.{is_blank};
+
+use crate::hex_text::is_blank;
 
 /// What a file holds.
 #[derive(Clone, Copy, PartialEq, Eq)]
@@ -52,11 +53,4 @@ fn first_dark(bytes: &[u8]) -> Option<u8>
         rest = more;
     }
     None
-}
-
-/// A space, a tab, or a part of a line's end.
-fn is_blank(byte: u8) -> bool
-    ensures { result ≡ is_blank byte }
-{
-    byte == b' ' || byte == b'\t' || byte == b'\r' || byte == b'\n'
 }

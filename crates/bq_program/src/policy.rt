@@ -6,7 +6,7 @@ use bq_bpf::MapShape;
 use bq_insn::Insn;
 use bq_load::{Hook, Version};
 
-/// A program with the choice that it makes and the shapes of its maps.
+/// A program with the choice that it makes, its version, the shapes of its maps, and the lines of its text.
 #[derive(Drop)]
 pub struct Policy {
     /// The choice that the program makes.

@@ -6,7 +6,7 @@ ghost use Rattle.bq_run_desk.specs.ImportApp.{import_app};
 
 use crate::import_settings::ImportWords;
 use bq_console::WordsFault;
-use bq_options::{CommandText, Given, OptionText, matches_of, texts, word};
+use bq_options::{CommandText, Given, OptionText, matches_of, texts, with_hooks, word};
 use clap::ArgMatches;
 use std::alloc::{AllocError, Global};
 
@@ -23,7 +23,7 @@ static IMPORT: CommandText<'static> = CommandText {
         OptionText {
             name: "hook",
             given: Given::Needed("HOOK"),
-            help: "The choice that the program makes: place, preempt or pull",
+            help: with_hooks!("The choice that the program makes: "),
         },
         OptionText {
             name: "maps",
