@@ -1,8 +1,13 @@
 -- Which texts are complained of.
-use Rattle.std.specs.Prelude.{ℕ, List, Option, Some, None}
+use Rattle.std.specs.Prelude.{◌==◌, ℕ, List, ◌++◌, Option, Some, None, codes, if◌then◌else◌}
+use Rattle.std.specs.Fmt.{decimal}
 use Rattle.std.specs.Str.{IsUtf8}
 use Rattle.bq_insn.specs.declared.Insn.{Insn}
+use Rattle.bq_asm.specs.declared.fault.Cause.{Cause}
+use Rattle.bq_asm.specs.Lines.{lines_of}
 use Rattle.bq_asm.specs.Assembly.{Assembles}
+use Rattle.bq_asm.specs.Faults.{Faulty}
+use Rattle.bq_explain.specs.Beginnings.{BeginsWith}
 
 -- the text is UTF-8, and it stands for instructions
 abbrev pub IsAssembly : List ℕ → Type 0
@@ -12,3 +17,14 @@ IsAssembly text = IsUtf8 text × ((insns : List Insn) × Assembles text insns)
 abbrev pub ComplainsOf : {S : Type 0} → List ℕ → Option S → Type 0
 ComplainsOf text None = IsAssembly text
 ComplainsOf text (Some told) = ¬ (IsAssembly text)
+
+-- how a complaint of that line begins; lines are counted from 1, and line 0 stands for a text without instruction
+abbrev pub line_words : ℕ → List ℕ
+line_words line = if line == 0 then codes "the text has no instruction" else codes "line " ++ (decimal line ++ codes ": ")
+
+-- what is told of a text begins with the line of its fault
+pub record NamesLine (text told : List ℕ) : Type 0 where
+  pub line : ℕ
+  pub cause : Cause
+  pub fault : Faulty (lines_of text) line cause
+  pub begins : BeginsWith told (line_words line)

@@ -1,5 +1,5 @@
 -- What is answered to a policy under limits, and how it is told.
-use Rattle.std.specs.Prelude.{◌≡◌, ℕ, ℤ, ◌<◌, ◌≤◌, Bool, true, false, List, ◌++◌, Option, Some, None, option_map, codes, All, Contains}
+use Rattle.std.specs.Prelude.{◌≡◌, ℕ, ℤ, ◌<◌, ◌≤◌, Bool, true, false, List, ◌++◌, Option, Some, None, option_map, codes, All, Contains, slice_get, take}
 use Rattle.std.specs.Fmt.{decimal, signed_decimal}
 use Rattle.bq_insn.specs.declared.Insn.{Insn}
 use Rattle.bq_insn.specs.declared.Insn.TheVariants.{Call}
@@ -51,9 +51,11 @@ pub record IsBeside (helpers : List ℤ) (insn : Insn) (helper : ℤ) : Type 0 w
   pub calls : insn ≡ Call helper
   pub beside : ¬ (Contains helpers helper)
 
--- one of the instructions calls that helper, which may not be called
+-- the first of the instructions that calls a helper which may not be called calls this one
 pub record IsCalledAgainst (helpers : Option (List ℤ)) (insns : List Insn) (helper : ℤ) : Type 0 where
-  pub called : Contains insns (Call helper)
+  pub place : ℕ
+  pub called : slice_get insns place ≡ Some (Call helper)
+  pub first : All (CallsNoOther helpers) (take place insns)
   pub against : ¬ (CallsNoOther helpers (Call helper))
 
 -- the verifier's answer, or what is beyond the limits of a program that is safe

@@ -1,15 +1,18 @@
 //! What is wrong with a text that the assembler refuses.
-ghost use Rattle.std.specs.Prelude.{IfOk};
-ghost use Rattle.bq_explain.specs.Complaints.{ComplainsOf};
+ghost use Rattle.std.specs.Prelude.{IfOk, IfSome, string_bytes};
+ghost use Rattle.std.specs.Str.{IsUtf8};
+ghost use Rattle.bq_explain.specs.Beginnings.{BeginsWith};
+ghost use Rattle.bq_explain.specs.Complaints.{ComplainsOf, NamesLine, line_words};
 
 use crate::forms::form_of;
 use crate::vocabulary::{is_word, nearest};
 use bq_asm::{AsmFault, Cause, assemble};
 use std::alloc::{AllocError, Global};
 
-/// One line on what is wrong with the text; None exactly where the assembler takes it.
+/// One line on what is wrong with the text, by the number of the line at fault; None exactly where the assembler takes it.
 pub fn complaint(alloc: Global, text: &[u8]) -> Result<Option<String>, AllocError>
-    ensures { IfOk result (ComplainsOf text.now) }
+    ensures complains { IfOk result (ComplainsOf text.now) }
+    ensures line { IfOk result (λ c. IfSome c (λ told. IsUtf8 text.now → NamesLine text.now (string_bytes told))) }
 {
     let Ok(text) = std::str::from_utf8(text) else {
         return Ok(Some(String::from_str(alloc, "the text is no UTF-8\n")?));
@@ -27,7 +30,9 @@ fn line_complaint(
     text: &str,
     number: usize,
     cause: Cause,
-) -> Result<String, AllocError> {
+) -> Result<String, AllocError>
+    ensures { IfOk result (λ told. BeginsWith (string_bytes told) (line_words number)) }
+{
     if number == 0 {
         return String::from_str(alloc, "the text has no instruction\n");
     }

@@ -4,6 +4,7 @@ ghost use Rattle.bq_explain.specs.Beginnings.{BeginsWith, accepted_words, maps_t
 
 use bq_bpf::MapShape;
 use bq_bpf::helper::{ADD_COUNTER, LOOKUP, NOW, PROCESSOR, READ_COUNTER, UPDATE};
+use bq_graph::single::is_counter_call;
 use bq_insn::Insn;
 use bq_program::{Policy, more_maps};
 use std::alloc::{AllocError, Global};
@@ -91,10 +92,8 @@ fn calls(insns: &[Insn], number: i32) -> bool {
 fn counter_calls(insns: &[Insn]) -> usize {
     let mut count: usize = 0;
     for insn in insns {
-        if let Insn::Call { helper } = insn {
-            if *helper == ADD_COUNTER || *helper == READ_COUNTER {
-                count = count.saturating_add(1);
-            }
+        if is_counter_call(*insn) {
+            count = count.saturating_add(1);
         }
     }
     count

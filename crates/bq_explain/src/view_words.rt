@@ -6,12 +6,13 @@ ghost use Rattle.bq_explain.specs.Telling.{TellsState};
 ghost use Rattle.bq_needs.specs.Accesses.{AreSet};
 ghost use Rattle.bq_explain.specs.Texts.{AreRuns, EndsAt, IsStackText, IsViewText, kept_below, kept_text, register_text, registers_below, run_text, unset_below, unset_name, unset_text};
 
+use bq_bpf::addresses::STACK_SIZE;
 use bq_needs::known_text;
 use bq_states::abstract_state::{AbstractState, AbstractValue};
 use std::alloc::{AllocError, Global};
 
 /// The bytes of the stack.
-const STACK: usize = 512;
+const STACK: usize = STACK_SIZE as usize;
 
 /// One line with what each register is known to be and the stack's written bytes, and a line for each word that is kept there.
 /// It holds of every state that the view covers.

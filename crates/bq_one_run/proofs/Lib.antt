@@ -1,7 +1,10 @@
 mod FieldLemmas
+mod FieldTableLemmas
+mod FieldsLawLemmas
 pub mod InTurnLemmas
 mod MovableIdLemmas
 mod OftenLemmas
+mod PieceLemmas
 mod PlaceLawLemmas
 mod PullLawLemmas
 pub mod RefusalLemmas

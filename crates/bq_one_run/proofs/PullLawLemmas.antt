@@ -1,22 +1,22 @@
 -- What a pull context shows is the rule's.
-use Rattle.std.proofs.Common.{◌≡◌, ℕ, zero, suc, ◌+◌, ◌-◌, ◌*◌, ◌<◌, ◌≤◌, ◌^◌, List, [], ◌∷◌, ◌++◌, length, take, drop, map, Bool, true, false, cond, Option, Some, None, refl, sym, ap, ◌∙◌, subst, arith}
+use Rattle.std.proofs.Common.{◌≡◌, ℕ, zero, suc, ◌+◌, ◌*◌, ◌<◌, ◌≤◌, ◌^◌, List, [], ◌∷◌, length, take, map, Bool, true, false, cond, Option, refl, sym, ap, ◌∙◌, subst, arith}
 use Rattle.std.specs.Prelude.{◌==◌, ◌||◌, min, nat_lt, slice_get}
-use Rattle.std.specs.List.{flat_map, range_with_len, list_any}
-use Rattle.std.proofs.Math.Seq.{drop-append-add}
+use Rattle.std.specs.List.{range_with_len, list_any}
+use Rattle.std.specs.Option.{option_map_or}
 use Rattle.std.proofs.lemmas.List.{take_all, length-map}
 use Rattle.std.proofs.lemmas.Bool.Decides.{nat_tests}
-use Rattle.byteorder.specs.Endian.{little_from}
-use Rattle.byteorder.specs.Numbers.{little_number-reads_back, little_from-take}
+use Rattle.byteorder.specs.Endian.{little_number}
+use Rattle.byteorder.specs.Numbers.{little_number-reads_back}
 use Rattle.bq_disc.specs.Tasks.{Task}
 use Rattle.bq_disc.specs.Movable.{ids, is_movable_to}
-use Rattle.bq_hooks.specs.Contexts.{PullFacts, pull_header, pull_bytes, task_bytes, nobody}
+use Rattle.bq_hooks.specs.Contexts.{PullFacts, pull_header, pull_bytes, nobody}
 use Rattle.bq_hooks.specs.Permitted.{may_pull}
-use Rattle.bq_hooks.proofs.LengthLemmas.{length-task_bytes}
 use Rattle.bq_one_run.specs.declared.permitted.Word.{Word}
 use Rattle.bq_one_run.specs.declared.permitted.Word.TheVariants.{Permitted, NotPermitted, NotShown}
 use Rattle.bq_one_run.specs.PermittingLaw.{IsWordOn, IsPullFrom}
 use Rattle.bq_one_run.specs.Permitting.{number_at, shown_ids, shows_task, hides_tasks, pull_word}
 use Rattle.bq_one_run.proofs.MovableIdLemmas.{any_movable, movable_small, AreSmall}
+use Rattle.bq_one_run.proofs.PieceLemmas.{tasks_hold}
 
 -- it tells how many tasks are movable
 movable_shown : (f : PullFacts) → length f.movable < 2 ^ 32 → number_at (pull_bytes f) 16 ≡ length f.movable
@@ -28,39 +28,16 @@ count_shown : (f : PullFacts) → number_at (pull_bytes f) 20 ≡ min (length f.
 unfolding pull_bytes pull_header
 count_shown f = little_number-reads_back 4 (min (length f.movable) 8) [] (omega arith)
 
--- one of pieces of 16 bytes, and what comes after it
-piece_at : (g : ℕ → List ℕ) (a n k : ℕ) → ((i : ℕ) → length (g i) ≡ 16) → k < n → (rest : List ℕ) × (drop (16 * k) (flat_map g (range_with_len a n)) ≡ g (a + k) ++ rest)
-piece_at g a zero k h l = absurd (omega arith)
-piece_at g a (suc n) zero h l = (flat_map g (range_with_len (a + 1) n), ap (λ i. g i ++ flat_map g (range_with_len (a + 1) n)) (let e : a ≡ a + 0 = omega arith in e))
-piece_at g a (suc n) (suc k) h l =
-    let later = piece_at g (a + 1) n k h (omega arith) in
-    let further : 16 * suc k ≡ length (g a) + 16 * k = omega (arith, h a) in
-    let there : a + 1 + k ≡ a + suc k = omega arith in
-    (later.0, ap (λ m. drop m (g a ++ flat_map g (range_with_len (a + 1) n))) further ∙ drop-append-add (g a) (flat_map g (range_with_len (a + 1) n)) (16 * k) ∙ later.1 ∙ ap (λ i. g i ++ later.0) there)
-
 -- the id of the task, 0 where there is none
 abbrev id_or_0 : Option Task → ℕ
-id_or_0 None = 0
-id_or_0 (Some t) = t.id
-
-id_read : (o : Option Task) (rest : List ℕ) → id_or_0 o < 2 ^ 16 → little_from 0 4 (task_bytes 0 o ++ rest) ≡ id_or_0 o
-id_read None rest h = refl
-id_read (Some t) rest h = little_number-reads_back 4 t.id [] (omega arith)
+id_or_0 o = option_map_or (λ (t : Task). t.id) o 0
 
 -- the number at the place of a task is its id
 id_shown : (f : PullFacts) (k : ℕ) → k < 8 → id_or_0 (slice_get f.movable k) < 2 ^ 16 → number_at (pull_bytes f) (32 + 16 * k) ≡ id_or_0 (slice_get f.movable k)
-unfolding pull_bytes pull_header
 id_shown f k h small =
-    let g : ℕ → List ℕ = λ k. task_bytes 0 (slice_get f.movable k) in
-    let pieces : List ℕ = flat_map g (range_with_len 0 8) in
-    let there = piece_at g 0 8 k (λ i. length-task_bytes 0 (slice_get f.movable i)) h in
-    let begun : drop (32 + 16 * k) (pull_bytes f) ≡ g (0 + k) ++ there.0 = drop-append-add (pull_header f) pieces (16 * k) ∙ there.1 in
-    let here : 0 + k ≡ k = omega arith in
-    let four : 32 + 16 * k + 4 - (32 + 16 * k) ≡ 4 = omega arith in
-    (λ i. little_from 0 4 (take (four i) (begun i)))
-    ∙ little_from-take 0 4 4 (g (0 + k) ++ there.0) (omega arith)
-    ∙ ap (λ n. little_from 0 4 (g n ++ there.0)) here
-    ∙ id_read (slice_get f.movable k) there.0 small
+    let id : ℕ = id_or_0 (slice_get f.movable k) in
+    let here : 32 + 16 * k ≡ 32 + k * 16 = omega arith in
+    ap (number_at (pull_bytes f)) here ∙ ap (little_number 4) (tasks_hold f k h).0 ∙ little_number-reads_back 4 id [] (omega (arith, small))
 
 -- the numbers at the places of the first tasks are their ids
 ids_read : (number : ℕ → ℕ) (a n : ℕ) (xs : List Task) → ((k : ℕ) → k < n → number (a + k) ≡ id_or_0 (slice_get xs k)) → map number (range_with_len a (min (length xs) n)) ≡ take n (ids xs)

@@ -1,4 +1,6 @@
+pub mod Changes
 pub mod Fields
+pub mod FieldsLaw
 pub mod Naming
 pub mod Permitting
 pub mod PermittingLaw

@@ -1,11 +1,16 @@
 //! What a run changed of maps and counters, in words.
+ghost use Rattle.std.specs.Prelude.{◌≡◌, ◌++◌, IfOk, OnOk, map, string_bytes};
+ghost use Rattle.bq_one_run.specs.Changes.{call_line, calls_text};
+
 use crate::inputs::Inputs;
 use bq_bpf::{Call, MapShape};
 use bq_maps::Maps;
 use std::alloc::{AllocError, Global};
 
 /// The bytes of each map.
-pub fn copied(alloc: Global, maps: &Maps) -> Result<Vec<Vec<u8>>, AllocError> {
+pub fn copied(alloc: Global, maps: &Maps) -> Result<Vec<Vec<u8>>, AllocError>
+    ensures { IfOk result (λ all. map (λ v. v.items) all.items ≡ maps.now.bytes) }
+{
     let mut all = Vec::new(alloc);
     for number in 0..maps.shapes().len() {
         all.push(Vec::from_slice(alloc, maps.contents(number))?)?;
@@ -79,7 +84,9 @@ fn part(bytes: &[u8], at: usize, count: usize) -> &[u8] {
 }
 
 /// A line for each call of a counter.
-pub fn write_calls(calls: &[Call], text: &mut String) -> Result<(), AllocError> {
+pub fn write_calls(calls: &[Call], text: &mut String) -> Result<(), AllocError>
+    ensures { OnOk result (string_bytes text.new ≡ string_bytes text.old ++ calls_text calls.now) }
+{
     for call in calls {
         write_call(call, text)?;
     }
@@ -87,7 +94,9 @@ pub fn write_calls(calls: &[Call], text: &mut String) -> Result<(), AllocError> 
 }
 
 /// The line of a call.
-fn write_call(call: &Call, text: &mut String) -> Result<(), AllocError> {
+fn write_call(call: &Call, text: &mut String) -> Result<(), AllocError>
+    ensures { OnOk result (string_bytes text.new ≡ string_bytes text.old ++ call_line call.now) }
+{
     match call {
         Call::Add {
             counter,

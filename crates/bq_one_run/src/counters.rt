@@ -1,6 +1,6 @@
 //! Counters from the words of a command.
 ghost use Rattle.std.specs.Prelude.{◌≡◌, ◌<◌, ◌^◌, ℕ, [], IfErr, IfNone, IfSome, IsOk, slice_set};
-ghost use Rattle.std.specs.Result.{OnOk};
+ghost use Rattle.std.specs.Result.{OnErr, OnOk};
 ghost use Rattle.bq_console.specs.Words.{SaysNone};
 ghost use Rattle.bq_one_run.specs.Naming.{NamesCounter, SetsCounter, TextsInTurn};
 
@@ -32,6 +32,7 @@ impl Inputs {
     pub fn set_counter(&mut self, alloc: Global, text: &str) -> Result<(), WordsFault>
         ensures board { OnOk result (SetsCounter text.now self.old.board self.new.board) }
         ensures refused { IfErr result (SaysNone (SetsCounter text.now self.old.board)) }
+        ensures left { OnErr result (self.new ≡ self.old) }
         ensures context { self.new.context ≡ self.old.context }
         ensures maps { self.new.maps ≡ self.old.maps }
         ensures env { self.new.env ≡ self.old.env }

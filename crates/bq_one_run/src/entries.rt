@@ -1,6 +1,6 @@
 //! Entries of maps from the words of a command.
 ghost use Rattle.std.specs.Prelude.{◌≡◌, ◌<◌, ◌^◌, ℕ, [], IfErr, IfNone, IfSome, IsOk};
-ghost use Rattle.std.specs.Result.{OnOk};
+ghost use Rattle.std.specs.Result.{OnErr, OnOk};
 ghost use Rattle.bq_console.specs.Words.{SaysNone};
 ghost use Rattle.bq_one_run.specs.Naming.{NamesEntry, SetsEntry, TextsInTurn, padded};
 
@@ -33,6 +33,7 @@ impl Inputs {
     pub fn set_entry(&mut self, alloc: Global, text: &str) -> Result<(), WordsFault>
         ensures maps { OnOk result (SetsEntry text.now self.old.maps self.new.maps) }
         ensures refused { IfErr result (SaysNone (SetsEntry text.now self.old.maps)) }
+        ensures left { OnErr result (self.new ≡ self.old) }
         ensures context { self.new.context ≡ self.old.context }
         ensures env { self.new.env ≡ self.old.env }
         ensures board { self.new.board ≡ self.old.board }
@@ -45,6 +46,7 @@ impl Inputs {
 fn put_entry(maps: &mut Maps, alloc: Global, text: &str) -> Result<(), WordsFault>
     ensures maps { OnOk result (SetsEntry text.now maps.old maps.new) }
     ensures refused { IfErr result (SaysNone (SetsEntry text.now maps.old)) }
+    ensures left { OnErr result (maps.new ≡ maps.old) }
 {
     let Some((place, value)) = cut(text, '=') else {
         return Err(refused(alloc, "map", text, "an entry is set as 0:0=0a00"));

@@ -1,6 +1,6 @@
 //! What a run is given.
 ghost use Rattle.std.specs.Prelude.{◌≡◌, ◌≢◌, List, ℕ, IfErr, IfNone, IfOk, IfSome, length, replicate};
-ghost use Rattle.std.specs.Result.{OnOk};
+ghost use Rattle.std.specs.Result.{OnErr, OnOk};
 ghost use Rattle.hex.specs.Hex.{decode_of};
 ghost use Rattle.bq_bpf.specs.Hooks.{context_length_of};
 ghost use Rattle.bq_console.specs.Words.{SaysNone};
@@ -50,6 +50,7 @@ impl Inputs {
     pub fn set_context(&mut self, alloc: Global, text: &str) -> Result<(), WordsFault>
         ensures context { OnOk result (BeginsWith (Some text.now) (length self.old.context.items) self.new.context.items) }
         ensures refused { IfErr result (SaysNone (BeginsWith (Some text.now) (length self.old.context.items))) }
+        ensures left { OnErr result (self.new ≡ self.old) }
         ensures maps { self.new.maps ≡ self.old.maps }
         ensures env { self.new.env ≡ self.old.env }
         ensures board { self.new.board ≡ self.old.board }
