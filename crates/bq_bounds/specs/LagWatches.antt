@@ -1,5 +1,5 @@
 -- The lags of a processor's tasks, event by event.
-use Rattle.std.specs.Prelude.{ℕ, zero, suc, List, Option, Some, None, slice_index_or, slice_set}
+use Rattle.std.specs.Prelude.{◌^◌, ◌-◌, ℕ, zero, suc, min, Bool, false, nat_le, List, Option, Some, None, slice_index_or, slice_set}
 use Rattle.bq_hooks.specs.declared.settled.By.{By}
 use Rattle.bq_hooks.specs.declared.settled.By.TheVariants as who
 use Rattle.bq_parts.specs.declared.event.Event.{Event}
@@ -12,6 +12,8 @@ use Rattle.bq_bounds.specs.declared.stretch.Stretch.{Stretch}
 use Rattle.bq_bounds.specs.declared.lags.Course.{Course}
 use Rattle.bq_bounds.specs.declared.lags.Course.TheVariants.{Passes, Decides, Breaks}
 use Rattle.bq_bounds.specs.declared.lags.Lags.{Lags}
+use Rattle.bq_bounds.specs.declared.glance.Glance.{Glance}
+use Rattle.bq_bounds.specs.Glances.{at_most_owed}
 use Rattle.bq_bounds.specs.Lags.{beginning, stretched, most_owed}
 use Rattle.bq_bounds.specs.Watches.{one_more, greater}
 
@@ -41,6 +43,20 @@ owing (Some c) l = record l { measured = one_more l.measured; greatest = Some (g
 
 abbrev pub forgotten : Lags → Lags
 forgotten l = record l { stretch = None }
+
+-- what is known of a stretch's tasks shows that none is owed more than one was before, where the stretch goes on
+abbrev pub is_within : Course → Glance → Stretch → Charge → Bool
+is_within Breaks g s best = false
+is_within c g s best = nat_le (min (at_most_owed g s) (2 ^ 64 - 1)) best.difference
+
+-- the same where a stretch and a greatest are there
+abbrev pub is_within_of : Course → Glance → Option Stretch → Option Charge → Bool
+is_within_of c g (Some s) (Some best) = is_within c g s best
+is_within_of c g s best = false
+
+-- whether the lags after an event are known without a look at each task
+abbrev pub needs_no_look : Course → Glance → Lags → Bool
+needs_no_look c g l = is_within_of c g l.stretch l.greatest
 
 -- a stretch begins
 abbrev pub begun_anew : List Task → Lags → Lags

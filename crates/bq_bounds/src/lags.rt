@@ -4,7 +4,7 @@ ghost use Rattle.bq_disc.specs.Tasks.{Task};
 ghost use Rattle.bq_bounds.specs.Glances.{IsGlance};
 ghost use Rattle.bq_bounds.specs.Lags.{stretched};
 ghost use Rattle.bq_bounds.specs.Watches.{one_more};
-ghost use Rattle.bq_bounds.specs.LagWatches.{course_by, course_of, decided_in, forgotten, gone_on, lags_after, unasked};
+ghost use Rattle.bq_bounds.specs.LagWatches.{course_by, course_of, decided_in, forgotten, gone_on, lags_after, needs_no_look, unasked};
 
 use crate::charge::Charge;
 use crate::glance::Glance;
@@ -70,6 +70,7 @@ impl Lags {
     pub fn take_unseen(&mut self, event: &Event, reply: &Reply, rise: u64, glance: Glance) -> bool
         ensures done { (xs : List Task) → IsTrue result → IsGlance glance self.old.stretch xs → self.new ≡ lags_after (course_of event.now reply.now) rise xs self.old }
         ensures left { result ≡ false → self.new ≡ self.old }
+        ensures when { result ≡ needs_no_look (course_of event.now reply.now) glance self.old }
     {
         let course = course_of(event, reply);
         let (Some(stretch), Some(greatest)) = (self.stretch, self.greatest) else {

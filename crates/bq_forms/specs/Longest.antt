@@ -10,7 +10,13 @@ time_in from to run = min run.to to - max run.from from
 abbrev pub time_of : ℕ → ℕ → List Slice → ℕ → ℕ
 time_of from to runs task = sum_by (λ (run : Slice). if run.task == task then time_in from to run else 0) runs
 
--- the task runs, and no other runs longer
-pub record IsLongest (from to : ℕ) (runs : List Slice) (task : ℕ) : Type 0 where
-  pub runs_there : 0 < time_of from to runs task
-  pub most : (other : ℕ) → other < 1024 → time_of from to runs other ≤ time_of from to runs task
+-- the place of the greatest of the first n of these numbers, which is not 0; of equal ones the first
+pub record IsGreatest (n : ℕ) (number : ℕ → ℕ) (place : ℕ) : Type 0 where
+  pub there : place < n
+  pub some : 0 < number place
+  pub most : (other : ℕ) → other < n → number other ≤ number place
+  pub first : (other : ℕ) → other < place → number other < number place
+
+-- the task runs, and no other runs longer; of equal ones it is the one of the least number
+abbrev pub IsLongest : ℕ → ℕ → List Slice → ℕ → Type 0
+IsLongest from to runs task = IsGreatest 1024 (time_of from to runs) task

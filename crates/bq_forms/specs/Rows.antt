@@ -3,6 +3,10 @@ use Rattle.std.specs.Prelude.{ℕ, List, [], ◌++◌, Option, Some, None, codes
 use Rattle.std.specs.Fmt.{decimal}
 use Rattle.bq_schedule.specs.declared.slice.Slice.{Slice}
 
+-- the row above them, which names what stands in each column
+abbrev pub head_row : List ℕ
+head_row = codes "processor,task,from,to\n"
+
 -- the row of a slice: processor, task, from, to
 abbrev pub slice_row : Slice → List ℕ
 slice_row s =

@@ -1,12 +1,13 @@
 //! Who ran longest between two moments.
-ghost use Rattle.std.specs.Prelude.{◌≡◌, ℕ, ◌<◌, ◌≤◌, length, slice_index, vec_len, IfOk, IfSome, IfNone};
-ghost use Rattle.bq_forms.specs.Longest.{time_of, IsLongest};
+ghost use Rattle.std.specs.Prelude.{◌≡◌, ℕ, ◌<◌, length, slice_index, vec_len, IfOk, IfSome, IfNone};
+ghost use Rattle.bq_forms.specs.Longest.{time_of, IsGreatest, IsLongest};
 
+use bq_disc::limits::TASKS;
 use bq_schedule::Slice;
 use std::alloc::{AllocError, Global};
 
-/// How many ids tasks may have.
-pub const IDS: u16 = 1024;
+/// The places of a table by ids.
+const IDS: usize = TASKS as usize;
 
 /// The task that ran longest from one moment to another, of these runs; of equal ones the one of the least number. `None`
 /// where none ran.
@@ -28,7 +29,7 @@ fn times_in(alloc: Global, runs: &[Slice], from: u64, to: u64) -> Result<Vec<u12
     ensures length { IfOk result (λ v. vec_len v ≡ 1024) }
     ensures times { IfOk result (λ v. (task : ℕ) → task < 1024 → slice_index v.items task ≡ time_of from to runs.now task) }
 {
-    let mut times = vec![in alloc; 0u128; 1024]?;
+    let mut times = vec![in alloc; 0u128; IDS]?;
     for run in runs {
         let time = run.to.min(to).saturating_sub(run.from.max(from));
         let task = usize::from(run.task);
@@ -43,13 +44,12 @@ fn times_in(alloc: Global, runs: &[Slice], from: u64, to: u64) -> Result<Vec<u12
 /// The place of the greatest time, of equal ones the first. `None` where all are 0.
 fn greatest(times: &[u128]) -> Option<u16>
     requires { length times.now ≡ 1024 }
-    ensures greatest { IfSome result (λ task. (0 < slice_index times.now task)
-        × ((other : ℕ) → other < 1024 → slice_index times.now other ≤ slice_index times.now task)) }
+    ensures greatest { IfSome result (IsGreatest 1024 (λ task. slice_index times.now task)) }
     ensures none { IfNone result ((task : ℕ) → task < 1024 → slice_index times.now task ≡ 0) }
 {
     let mut greatest = None;
     let mut most = 0;
-    for task in 0..IDS {
+    for task in 0..TASKS {
         let time = times[usize::from(task)];
         if time > most {
             greatest = Some(task);

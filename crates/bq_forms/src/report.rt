@@ -1,7 +1,6 @@
 //! The report: a table of the tasks, of their latencies, of the processors and of the policies.
 
 use crate::form::Form;
-use crate::longest::IDS;
 use crate::names::Names;
 use crate::percentiles::WakeLatencies;
 use crate::tables::{
@@ -9,6 +8,7 @@ use crate::tables::{
     write_latency_line, write_processor_line, write_task_line,
 };
 use crate::window::Window;
+use bq_disc::limits::TASKS;
 use bq_schedule::{Change, ProcessorFigures, Schedule};
 use std::alloc::{AllocError, Global};
 
@@ -36,7 +36,7 @@ impl Report {
         text: &mut String,
     ) -> Result<(), AllocError> {
         text.push_str(TASK_HEAD)?;
-        for task in 0..IDS {
+        for task in 0..TASKS {
             let figures = schedule.task(task);
             if figures.is_admitted && self.window.shows_task(task) {
                 let name = names.of(task).unwrap_or("");
@@ -54,7 +54,7 @@ impl Report {
         text: &mut String,
     ) -> Result<(), AllocError> {
         text.push_str(LATENCY_HEAD)?;
-        for task in 0..IDS {
+        for task in 0..TASKS {
             let figures = schedule.task(task);
             if figures.is_admitted && self.window.shows_task(task) {
                 let percentiles = self.latencies.percentiles(task);

@@ -3,7 +3,7 @@ ghost use Rattle.std.specs.Prelude.{◌≡◌, ◌++◌, Option, IfOk, OnOk, map
 ghost use Rattle.std.specs.Str.{IsUtf8};
 ghost use Rattle.csv.specs.Writing.{default_writer, row_text};
 ghost use Rattle.bq_schedule.specs.declared.slice.Slice.{Slice};
-ghost use Rattle.bq_forms.specs.Rows.{slice_row, row_of};
+ghost use Rattle.bq_forms.specs.Rows.{head_row, slice_row, row_of};
 ghost use Rattle.bq_forms.specs.Windows.{IsShownPart};
 
 use crate::form::Form;
@@ -89,14 +89,11 @@ impl Form for Csv {
         _schedule: &Schedule,
         _names: &Names,
         text: &mut String,
-    ) -> Result<(), AllocError> {
-        let head = [
-            b"processor".as_slice(),
-            b"task".as_slice(),
-            b"from".as_slice(),
-            b"to".as_slice(),
-        ];
-        write_row(self.alloc, &head, text)
+    ) -> Result<(), AllocError>
+        ensures head { OnOk result (string_bytes text.new ≡ string_bytes text.old ++ head_row) }
+        ensures same { self.new ≡ self.old }
+    {
+        text.push_str("processor,task,from,to\n")
     }
 
     fn take(
@@ -120,8 +117,11 @@ impl Form for Csv {
         &mut self,
         _schedule: &Schedule,
         _names: &Names,
-        _text: &mut String,
-    ) -> Result<(), AllocError> {
+        text: &mut String,
+    ) -> Result<(), AllocError>
+        ensures none { string_bytes text.new ≡ string_bytes text.old }
+        ensures same { self.new ≡ self.old }
+    {
         Ok(())
     }
 }

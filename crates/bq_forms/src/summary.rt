@@ -4,11 +4,11 @@ ghost use Rattle.serde_json.specs.View.{view};
 ghost use Rattle.bq_forms.specs.Objects.{hook_object, latency_object, number_or_null};
 
 use crate::form::Form;
-use crate::longest::IDS;
 use crate::names::Names;
 use crate::percentiles::{Percentiles, WakeLatencies};
 use crate::tables::nanoseconds;
 use crate::window::Window;
+use bq_disc::limits::TASKS;
 use bq_schedule::{Change, HookFigures, ProcessorFigures, Schedule, TaskFigures};
 use serde_json::{Map, Value, json, put};
 use std::alloc::{AllocError, Global};
@@ -38,7 +38,7 @@ impl Json {
         text: &mut String,
     ) -> Result<(), AllocError> {
         let mut is_first = true;
-        for task in 0..IDS {
+        for task in 0..TASKS {
             let figures = schedule.task(task);
             if figures.is_admitted && self.window.shows_task(task) {
                 let fair = nanoseconds(schedule.fair_time(task));

@@ -1,6 +1,9 @@
 //! Waits side by side.
+ghost use Rattle.std.specs.Prelude.{◌≡◌, ◌<◌, IfOk, IfSome, [], length, nat_le};
+ghost use Rattle.bq_pictures.specs.Lanes.{first_free, lane_of, taken};
 
 use std::alloc::{AllocError, Global};
+use std::marker::Model;
 
 /// How many waits of a processor are drawn one above another. Where more tasks wait, the rest are left out.
 pub const LANES: usize = 8;
@@ -13,30 +16,44 @@ pub struct Wait {
     pub task: u16,
 }
 
-/// The lanes of a processor, each free from a moment on.
+/// The lanes of a processor, each free from a moment on. Contracts see these moments.
 #[derive(Drop)]
 pub struct Lanes {
     free: Vec<u64>,
 }
 
+impl Model for Lanes {
+    ghost use Rattle.std.specs.Prelude.{ℕ, List};
+
+    ghost Value = { List ℕ };
+
+    ghost view = { λ l. l.free.items };
+}
+
 impl Lanes {
     /// No lane is there yet.
-    pub fn new(alloc: Global) -> Lanes {
+    pub fn new(alloc: Global) -> Lanes
+        ensures { result ≡ [] }
+    {
         Lanes {
             free: Vec::new(alloc),
         }
     }
 
     /// How many lanes there are.
-    pub fn count(&self) -> usize {
+    pub fn count(&self) -> usize
+        ensures { result ≡ length self.now }
+    {
         self.free.len()
     }
 
     /// The first lane that is free where a wait begins, which it takes; one more where none is. `None` where all are taken.
     /// Waits come in the order in which they begin.
-    pub fn take(&mut self, wait: &Wait) -> Result<Option<usize>, AllocError> {
-        let place = self.free.iter().position(|free| *free <= wait.from);
-        if let Some(place) = place {
+    pub fn take(&mut self, wait: &Wait) -> Result<Option<usize>, AllocError>
+        ensures lane { IfOk result (λ lane. lane ≡ lane_of wait.now self.old) }
+        ensures taken { IfOk result (λ lane. self.new ≡ taken lane wait.now.to self.old) }
+    {
+        if let Some(place) = self.first_free(wait.from) {
             if let Some(free) = self.free.get_mut(place) {
                 *free = wait.to;
                 return Ok(Some(place));
@@ -48,4 +65,19 @@ impl Lanes {
         self.free.push(wait.to)?;
         Ok(Some(self.free.len() - 1))
     }
+
+    /// The first lane that is free at a moment.
+    fn first_free(&self, at: u64) -> Option<usize>
+        ensures value { result ≡ first_free at self.now }
+        ensures within { IfSome result (λ lane. lane < length self.now) }
+    {
+        self.free.iter().position(|free| is_over(*free, at))
+    }
+}
+
+/// Whether what lasts until a moment is over at another.
+fn is_over(until: u64, at: u64) -> bool
+    ensures { result ≡ nat_le until at }
+{
+    until <= at
 }

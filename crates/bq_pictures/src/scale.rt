@@ -1,6 +1,6 @@
 //! Where a moment lies in the picture.
-ghost use Rattle.std.specs.Prelude.{◌≡◌};
-ghost use Rattle.bq_pictures.specs.Places.{place_of};
+ghost use Rattle.std.specs.Prelude.{◌≡◌, Some};
+ghost use Rattle.bq_pictures.specs.Places.{place_of, width_of, hundredths};
 
 use bq_forms::Extent;
 use std::fmt;
@@ -12,6 +12,8 @@ use std::fmt;
 pub struct Hundredths(pub u64);
 
 impl fmt::Display for Hundredths {
+    ghost output = { λ h. Some (hundredths h.0) };
+
     fn fmt<W: fmt::Write>(&self, f: &mut fmt::Formatter<W>) -> fmt::Result {
         let whole = self.0 / 100;
         let tenths = self.0 / 10 % 10;
@@ -44,7 +46,9 @@ impl Scale {
     }
 
     /// How wide the stretch between two moments is drawn, and no less than can be seen.
-    pub fn width(&self, from: u64, to: u64) -> Hundredths {
+    pub fn width(&self, from: u64, to: u64) -> Hundredths
+        ensures { result.0 ≡ width_of self.now.extent from to }
+    {
         let Hundredths(begin) = self.place(from);
         let Hundredths(end) = self.place(to);
         Hundredths(end.saturating_sub(begin).max(40))

@@ -2,6 +2,7 @@
 
 use crate::drawing::Drawing;
 use crate::lanes::Wait;
+use bq_disc::limits::TASKS;
 use bq_forms::{Extent, Form, Names, Window};
 use bq_schedule::{Change, Moved, Schedule, Slice, Start, Wake};
 use std::alloc::{AllocError, Global};
@@ -86,7 +87,7 @@ impl Svg {
 
     /// Holds the waits that are not over.
     fn hold_waiting(&mut self, schedule: &Schedule) -> Result<(), AllocError> {
-        for id in 0..1024u16 {
+        for id in 0..TASKS {
             let task = schedule.task(id);
             if let Some(place) = task.place {
                 let figures = schedule.processor(place);

@@ -1,7 +1,7 @@
 -- The notes on tasks, one after another.
 use Rattle.std.proofs.Common.{◌≡◌, ℕ, ◌+◌, List, ◌++◌, ap, sym, ◌∙◌, append_assoc, append-nil, add-one}
 use Rattle.bq_schedule.specs.Figures.{Figures}
-use Rattle.bq_schedule.specs.Standing.{undrained}
+use Rattle.bq_schedule.specs.Runnable.{undrained}
 use Rattle.bq_timeline.specs.Notes.{waiting_note, waiting_notes}
 
 -- before the first task there is none

@@ -2,7 +2,7 @@
 use Rattle.std.specs.Prelude.{ℕ, zero, suc, ◌==◌, List, [], ◌++◌, Option, Some, None, if◌then◌else◌, codes}
 use Rattle.std.specs.Fmt.{decimal}
 use Rattle.bq_schedule.specs.Figures.{Figures}
-use Rattle.bq_schedule.specs.Standing.{undrained}
+use Rattle.bq_schedule.specs.Runnable.{undrained}
 
 -- the note on a task that was placed on a processor which was never drained after, if it was
 abbrev pub waiting_note : ℕ → Option ℕ → List ℕ

@@ -1,8 +1,8 @@
 //! Why a line is bad.
 
 use bq_core::Hook;
-use bq_lines::numbers;
 use bq_lines::words::is_allowed_line;
+use bq_lines::{Keyword, numbers};
 use bq_words::{ProcessorCount, Rule, next_word};
 use std::{fmt, str};
 
@@ -67,28 +67,22 @@ impl fmt::Display for Kind {
     }
 }
 
-/// The words that follow a command's name.
-fn operands_of(name: &[u8]) -> Option<&'static [Kind]> {
-    match str::from_utf8(name) {
-        Ok(name) => operands_of_text(name),
-        Err(_) => None,
-    }
-}
-
-fn operands_of_text(name: &str) -> Option<&'static [Kind]> {
-    match name {
-        "machine" => Some(&[Kind::Rule, Kind::ProcessorCount]),
-        "admit" => Some(&[Kind::Task, Kind::Nice, Kind::Mask, Kind::Slice]),
-        "retire" => Some(&[Kind::Task]),
-        "draw" => Some(&[]),
-        "install" => Some(&[Kind::Processor, Kind::Generation, Kind::Hook, Kind::Image]),
-        "begin" => Some(&[Kind::Processor, Kind::Task]),
-        "wake" => Some(&[Kind::Processor, Kind::Task, Kind::Time]),
-        "end" | "drain" | "tick" | "block" => Some(&[Kind::Processor, Kind::Time]),
-        "pull" => Some(&[Kind::Processor, Kind::Processor, Kind::Time]),
-        "show" => Some(&[Kind::Processor]),
-        "counter" => Some(&[Kind::Counter]),
-        _ => None,
+/// The words that follow a keyword.
+fn operands_of(keyword: Keyword) -> &'static [Kind] {
+    match keyword {
+        Keyword::Machine => &[Kind::Rule, Kind::ProcessorCount],
+        Keyword::Admit => &[Kind::Task, Kind::Nice, Kind::Mask, Kind::Slice],
+        Keyword::Retire => &[Kind::Task],
+        Keyword::Draw => &[],
+        Keyword::Install => &[Kind::Processor, Kind::Generation, Kind::Hook, Kind::Image],
+        Keyword::Begin => &[Kind::Processor, Kind::Task],
+        Keyword::Wake => &[Kind::Processor, Kind::Task, Kind::Time],
+        Keyword::End | Keyword::Drain | Keyword::Tick | Keyword::Block => {
+            &[Kind::Processor, Kind::Time]
+        }
+        Keyword::Pull => &[Kind::Processor, Kind::Processor, Kind::Time],
+        Keyword::Show => &[Kind::Processor],
+        Keyword::Counter => &[Kind::Counter],
     }
 }
 
@@ -122,10 +116,10 @@ pub fn why_bad(line: Option<&[u8]>, is_open: bool) -> Fault<'_> {
     let Some((name, rest)) = next_word(line) else {
         return Fault::NoMachine;
     };
-    let Some(kinds) = operands_of(name) else {
+    let Some(keyword) = Keyword::of_word(name) else {
         return Fault::Name(name);
     };
-    match word_fault(name, rest, kinds) {
+    match word_fault(name, rest, operands_of(keyword)) {
         Some(fault) => fault,
         None if is_open => Fault::Again,
         None => Fault::NoMachine,

@@ -7,6 +7,7 @@ use crate::near::Near;
 use crate::settings::Settings;
 use crate::shown::Shown;
 use bq_core::{Event, Refusal, Reply};
+use bq_disc::limits::TASKS;
 use bq_forms::Names;
 use bq_load::LoadFault;
 use bq_schedule::{Change, Schedule};
@@ -182,7 +183,7 @@ impl Screen {
 fn note_waiting(notes: &mut String, schedule: &Schedule) -> Result<(), AllocError>
     ensures { OnOk result (string_bytes notes.new ≡ string_bytes notes.old ++ waiting_notes schedule.now 1024) }
 {
-    for task in 0..1024u16 {
+    for task in 0..TASKS {
         note_task(notes, task, schedule.undrained(task))?;
     }
     Ok(())

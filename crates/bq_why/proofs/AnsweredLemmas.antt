@@ -1,13 +1,12 @@
 -- What is remembered of a policy that stands is an answer of that policy.
-use Rattle.std.proofs.Common.{◌≡◌, ℕ, Option, Some, None, subst}
-use Rattle.std.specs.Prelude.{IfSome}
+use Rattle.std.proofs.Common.{◌≡◌, ℕ, Option, Some, None, refl, subst}
 use Rattle.bq_verify.specs.Accepted.{Accepted}
 use Rattle.bq_interp.specs.declared.runs.Done.{Done}
 use Rattle.bq_policies.specs.Standing.{HasAnswered, WasAnswered}
 
 -- what is remembered of a policy that stands is an answer which it gave, in so many steps
-pub answered_by : (p : Option Accepted) (d : Done) (steps : ℕ) → d.steps ≡ steps → WasAnswered p (Some d) → IfSome p (λ policy. HasAnswered policy (record { r0 = d.r0; steps = steps }))
-answered_by None d steps e h = tt
+pub answered_by : (p : Option Accepted) (d : Done) (steps : ℕ) → d.steps ≡ steps → WasAnswered p (Some d) → (policy : Accepted) × (p ≡ Some policy) × HasAnswered policy (record { r0 = d.r0; steps = steps })
+answered_by None d steps e h = absurd h
 answered_by (Some policy) d steps e h =
     let P : ℕ → Type 0 = λ n. HasAnswered policy (record { r0 = d.r0; steps = n }) in
-    subst P e h
+    (policy, refl, subst P e h)

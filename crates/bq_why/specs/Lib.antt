@@ -1,2 +1,3 @@
 pub mod Reasons
 pub mod Rows
+pub mod Words

@@ -1,7 +1,8 @@
 //! What policies answered.
-ghost use Rattle.std.specs.Prelude.{IfSome};
+ghost use Rattle.std.specs.Prelude.{◌≡◌, IfSome, Some};
 ghost use Rattle.bq_policies.specs.Attachments.{at_hook};
 ghost use Rattle.bq_policies.specs.Standing.{HasAnswered};
+ghost use Rattle.bq_verify.specs.Accepted.{Accepted};
 
 use bq_core::{Cpu, Hook};
 use bq_disc::RunQueue;
@@ -10,8 +11,8 @@ use bq_disc::RunQueue;
 /// stands there gives that number in so many.
 #[tactic(auto, using(crate::proofs::AnsweredLemmas::answered_by))]
 pub fn answer<Q: RunQueue>(cpu: &Cpu<Q>, hook: Hook, steps: u32) -> Option<u64>
-    ensures { IfSome result (λ r0. IfSome (at_hook hook cpu.now.hooks).policy
-        (λ policy. HasAnswered policy (record { r0 = r0; steps = steps }))) }
+    ensures { IfSome result (λ r0. (policy : Accepted) × ((at_hook hook cpu.now.hooks).policy ≡ Some policy)
+        × HasAnswered policy (record { r0 = r0; steps = steps })) }
 {
     match cpu.answered(hook) {
         Some(done) if done.steps == steps => Some(done.r0),

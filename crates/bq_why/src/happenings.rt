@@ -1,6 +1,7 @@
 //! Events and refusals in words.
 
 use bq_core::{Event, Refusal};
+use bq_lines::Keyword;
 use std::fmt;
 
 /// An event, as the trace names it, without its time.
@@ -9,7 +10,7 @@ pub struct InWords<'a>(pub &'a Event);
 
 impl fmt::Display for InWords<'_> {
     fn fmt<W: fmt::Write>(&self, f: &mut fmt::Formatter<W>) -> fmt::Result {
-        f.write_str(name_of(self.0))?;
+        f.write_str(Keyword::of_event(self.0).word())?;
         let (first, second) = numbers_of(self.0);
         if let Some(first) = first {
             write!(f, " {first}")?;
@@ -24,22 +25,6 @@ impl fmt::Display for InWords<'_> {
             }
             _ => Ok(()),
         }
-    }
-}
-
-/// The name of an event's line.
-fn name_of(event: &Event) -> &'static str {
-    match event {
-        Event::Admit { .. } => "admit",
-        Event::Retire { .. } => "retire",
-        Event::Draw => "draw",
-        Event::Install { .. } => "install",
-        Event::BeginWake { .. } => "begin",
-        Event::EndWake { .. } => "end",
-        Event::Drain { .. } => "drain",
-        Event::Tick { .. } => "tick",
-        Event::Block { .. } => "block",
-        Event::Pull { .. } => "pull",
     }
 }
 

@@ -17,7 +17,7 @@ pub mod words_of;
 pub use answers::answer;
 pub use choices::choice;
 pub use happenings::{Because, InWords};
-pub use presence::{MOST, present};
+pub use presence::present;
 pub use reasons::{Reason, why};
 pub use table::{Row, rows};
 pub use why_text::{Occurrence, Why, place_of};

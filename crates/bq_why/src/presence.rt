@@ -3,11 +3,9 @@ ghost use Rattle.std.specs.Prelude.{◌≡◌, ◌≤◌, ◌++◌, length, IfOk
 ghost use Rattle.bq_disc.specs.OneProcessor.{present_at};
 
 use bq_core::Cpu;
+use bq_disc::limits::TASKS;
 use bq_disc::{Entity, RunQueue};
 use std::alloc::{AllocError, Global};
-
-/// The most tasks that a processor may have: ids are 0 to 1023.
-pub const MOST: usize = 1024;
 
 /// The tasks that run or wait at a processor, the running one first, then by rising (v, id). Were there more than 1,024, some
 /// would be left out; there are only so many ids.
@@ -30,7 +28,7 @@ fn add_queue<Q: RunQueue>(cpu: &Cpu<Q>, tasks: &mut Vec<Entity>) -> Result<(), A
     ensures all { OnOk result (length (tasks.old.items ++ cpu.now.running.queue) ≤ 1024 → tasks.new.items ≡ tasks.old.items ++ cpu.now.running.queue) }
 {
     let mut last: Option<(u64, u16)> = None;
-    while tasks.len() < MOST {
+    while tasks.len() < usize::from(TASKS) {
         let Some(node) = cpu.after(last) else {
             return Ok(());
         };

@@ -1,11 +1,13 @@
 //! The form `why`: at each choice the tasks that were there, and why the one that runs was chosen.
+ghost use Rattle.std.specs.Prelude.{◌≡◌};
+ghost use Rattle.bq_why.specs.Words.{place_of};
 
 use crate::answers::answer;
 use crate::happenings::InWords;
 use crate::presence::present;
 use crate::reasons::{Reason, why};
 use crate::table::{Row, rows};
-use crate::words_of::{Ids, Lag, Virtual, Who};
+use crate::words_of::{Ids, Lag, Virtual, Who, standing};
 use bq_cfs::GRANULARITY;
 use bq_core::{By, Event, Hook, Reply};
 use bq_forms::{Millis, Names, Window};
@@ -94,7 +96,9 @@ pub struct Why {
 }
 
 /// The processor at which an event may choose, and its time.
-pub fn place_of(event: &Event) -> Option<(u8, u64)> {
+pub fn place_of(event: &Event) -> Option<(u8, u64)>
+    ensures { result ≡ place_of event.now }
+{
     match event {
         Event::EndWake { processor, now }
         | Event::Drain { processor, now }
@@ -312,11 +316,7 @@ impl Why {
             if let Rule::Eevdf = rule {
                 let deadline = format!(in self.alloc; "{}", Virtual(row.deadline))?;
                 let lag = format!(in self.alloc; "{}", Lag(row))?;
-                let eligible = if row.is_eligible {
-                    "eligible"
-                } else {
-                    "not eligible"
-                };
+                let eligible = standing(row);
                 write!(text, " {deadline:>10} {lag:>10}  {eligible}")?;
             }
             text.push_str("\n")?;

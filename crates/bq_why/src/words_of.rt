@@ -1,4 +1,6 @@
 //! Tasks, virtual times and lags as text.
+ghost use Rattle.std.specs.Prelude.{◌≡◌, ◌^◌, ◌-◌, min, Some};
+ghost use Rattle.bq_why.specs.Words.{lag_text, sign_of, standing};
 
 use crate::table::Row;
 use bq_forms::{Millis, Names};
@@ -71,9 +73,36 @@ impl fmt::Display for Virtual {
 pub struct Lag<'a>(pub &'a Row);
 
 impl fmt::Display for Lag<'_> {
+    ghost output = { λ l. Some (lag_text l.0.now) };
+
     fn fmt<W: fmt::Write>(&self, f: &mut fmt::Formatter<W>) -> fmt::Result {
-        let amount = Millis(u64::try_from(self.0.lag).unwrap_or(u64::MAX));
-        let sign = if self.0.is_eligible { '+' } else { '-' };
+        let amount = Millis(amount(self.0));
+        let sign = sign(self.0);
         write!(f, "{sign}{amount}")
+    }
+}
+
+/// The nanoseconds of a row's lag, as many as 64 bits hold.
+fn amount(row: &Row) -> u64
+    ensures { result ≡ min row.now.lag (2 ^ 64 - 1) }
+{
+    u64::try_from(row.lag).unwrap_or(u64::MAX)
+}
+
+/// The sign of a row's lag.
+fn sign(row: &Row) -> &'static str
+    ensures { result.now ≡ sign_of row.now.is_eligible }
+{
+    if row.is_eligible { "+" } else { "-" }
+}
+
+/// Whether a row may run, in words.
+pub fn standing(row: &Row) -> &'static str
+    ensures { result.now ≡ standing row.now }
+{
+    if row.is_eligible {
+        "eligible"
+    } else {
+        "not eligible"
     }
 }

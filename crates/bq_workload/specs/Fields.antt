@@ -1,6 +1,7 @@
 -- What the values of a workload's keys stand for.
 use Rattle.std.specs.Prelude.{ℕ, length, ◌&&◌, ◌==◌, nat_le, nat_lt, ℤ, pos, negsuc, List, Option, Some, None, option_map, option_and_then, if◌then◌else◌, bit_and}
 use Rattle.toml.specs.Data.{Data, as_str, as_integer}
+use Rattle.bq_weights.specs.VirtualTime.{is_nice}
 use Rattle.bq_words.specs.declared.rule.Rule.{Rule}
 use Rattle.bq_words.specs.declared.processor_count.ProcessorCount.{ProcessorCount}
 use Rattle.bq_words.specs.Sizes.{rule_of, size_numbered}
@@ -34,13 +35,9 @@ abbrev pub loops_of : Option Data → Option (Option ℕ)
 loops_of None = Some None
 loops_of (Some d) = option_map (λ n. Some n) (number_in 1 9223372036854775807 d)
 
--- from -20 to 19
-abbrev pub nice_in : ℤ → Option ℤ
-nice_in (pos n) = if nat_le n 19 then Some (pos n) else None
-nice_in (negsuc n) = if nat_le n 19 then Some (negsuc n) else None
-
+-- a nice value
 abbrev pub nice_of : Data → Option ℤ
-nice_of d = option_and_then nice_in (as_integer d)
+nice_of d = option_and_then (λ n. if is_nice n then Some n else None) (as_integer d)
 
 -- a set of which one at least is among all
 abbrev pub some_of : ℕ → ℕ → Option ℕ

@@ -1,5 +1,5 @@
 -- What a document says of a machine and of its tasks.
-use Rattle.std.specs.Prelude.{◌≡◌, ℕ, ◌-◌, ◌^◌, ◌≤◌, ℤ, pos, true, List, [], ◌∷◌, ◌++◌, sum_by, Option, Some, None, unwrap_or, option_map, option_and_then, codes, String, string_bytes}
+use Rattle.std.specs.Prelude.{◌≡◌, ℕ, ◌-◌, ◌^◌, ◌≤◌, ℤ, pos, true, List, [], ◌∷◌, ◌++◌, sum_by, Option, Some, None, IsSome, unwrap_or, option_map, option_and_then, codes, String, string_bytes}
 use Rattle.std.specs.List.{list_any}
 use Rattle.std.specs.Option.{IsSomeAnd}
 use Rattle.std.specs.declared.alloc.Global.{Global}
@@ -16,6 +16,8 @@ use Rattle.bq_actions.specs.declared.setup.Setup.{Setup}
 use Rattle.bq_actions.specs.declared.workload.TaskKind.{TaskKind}
 use Rattle.bq_actions.specs.declared.workload.Workload.{Workload}
 use Rattle.bq_workload.specs.declared.changes.Changes.{Changes}
+use Rattle.bq_workload.specs.declared.fault.Fault.{Fault}
+use Rattle.bq_workload.specs.declared.fault.Fault.TheVariants.{Syntax, Meaning, OutOfMemory}
 use Rattle.bq_workload.specs.Fields.{or_default, span_in, number_in, rule_in, size_in, loops_of, nice_of, mask_of, name_of}
 use Rattle.bq_workload.specs.Keys.{document_keys, first_unknown, machine_keys, task_keys}
 use Rattle.bq_workload.specs.Lengths.{length_of}
@@ -126,3 +128,9 @@ pub record IsWorkload (c : Changes) (document : Members) (w : Workload) : Type 0
 -- the workload that a text describes
 abbrev pub Describes : List ℕ → Changes → Workload → Type 0
 Describes text c w = (document : Members) × (parse_document text ≡ Some document) × IsWorkload c document w
+
+-- a text is called no TOML only where it is none, and to say no workload only where it is TOML
+abbrev pub IsReadFault : List ℕ → Fault → Type 0
+IsReadFault text (Syntax line column message) = parse_document text ≡ None
+IsReadFault text (Meaning words) = IsSome (parse_document text)
+IsReadFault text OutOfMemory = Unit {0}

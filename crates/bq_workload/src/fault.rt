@@ -1,4 +1,8 @@
 //! Why a text is no workload, as its reader tells it.
+ghost use Rattle.std.specs.Prelude.{◌≡◌, ℕ, List, None, IfOk, IsSome};
+ghost use Rattle.toml.specs.Errors.{IsMemory};
+ghost use Rattle.toml.specs.Parse.{parse_document};
+ghost use Rattle.bq_workload.specs.Workloads.{IsReadFault};
 
 use crate::blame::Location;
 use crate::near::Near;
@@ -31,7 +35,10 @@ impl From<AllocError> for Fault {
 }
 
 /// Where a text is no TOML, and why.
-pub(crate) fn syntax(alloc: Global, text: &str, error: &toml::de::Error) -> Fault {
+pub(crate) fn syntax(alloc: Global, text: &str, error: &toml::de::Error) -> Fault
+    requires { ¬ IsMemory error.now → parse_document text.now ≡ None }
+    ensures { IsReadFault text.now result }
+{
     if error.is_memory() {
         return Fault::OutOfMemory;
     }
@@ -70,7 +77,9 @@ pub(crate) fn meaning(
     alloc: Global,
     place: &Location<'_>,
     why: &Why<'_>,
-) -> Result<Fault, AllocError> {
+) -> Result<Fault, AllocError>
+    ensures { IfOk result (λ fault. (text : List ℕ) → IsSome (parse_document text) → IsReadFault text fault) }
+{
     let mut text = String::new(alloc);
     write!(text, "{place}{why}")?;
     let near = match why {

@@ -11,6 +11,7 @@ use crate::tables::at;
 use crate::why::{Range, Wanted, Why};
 use bq_actions::limits::LONGEST_NAME;
 use bq_lines::processor_sets::processors;
+use bq_weights::is_nice;
 use bq_words::{ProcessorCount, Rule};
 use toml::{Table, Value};
 
@@ -119,7 +120,7 @@ fn nice_value(value: &Value) -> Option<i8>
     ensures { result ≡ nice_of (view value.now) }
 {
     let number = value.as_integer()?;
-    if -20 <= number && number <= 19 {
+    if is_nice(number) {
         Some(number as i8)
     } else {
         None

@@ -12,7 +12,7 @@ use crate::doing::all_actions;
 use crate::fields::{loops, mask, name, nice, number_at, span_at};
 use crate::tables::all_known;
 use crate::why::{Range, Why};
-use bq_actions::limits::{GREATEST_SLICE, LEAST_SLICE, LONGEST, MOST_TASKS};
+use bq_actions::limits::{GREATEST_SLICE, LEAST_SLICE, LONGEST, TASKS};
 use bq_actions::{TaskKind, take_time};
 use bq_lines::processor_sets::bits;
 use bq_words::ProcessorCount;
@@ -67,7 +67,7 @@ fn all_numbers<'a>(table: &'a Table, processors: Processors) -> Result<Numbers, 
     all_known(table, &TASK)?;
     let counts = Range {
         least: 1,
-        greatest: u64::from(MOST_TASKS),
+        greatest: u64::from(TASKS),
     };
     let slices = Range {
         least: LEAST_SLICE,

@@ -1,10 +1,11 @@
 //! Whole workloads.
-ghost use Rattle.std.specs.Prelude.{◌≡◌, ◌≤◌, ℕ, List, [], Some, None, IfOk, option_and_then, sum_by};
+ghost use Rattle.std.specs.Prelude.{◌≡◌, ◌≤◌, ℕ, List, [], Some, None, IfErr, IfOk, IsSome, option_and_then, sum_by};
 ghost use Rattle.std.specs.Result.{result_err};
 ghost use Rattle.toml.specs.Data.{as_table};
+ghost use Rattle.toml.specs.Parse.{parse_document};
 ghost use Rattle.toml.specs.View.{view, items_view, table_view};
 ghost use Rattle.bq_workload.specs.Keys.{document_keys, first_unknown, unknown_there};
-ghost use Rattle.bq_workload.specs.Workloads.{AreKinds, AreNames, AreOthers, Describes, IsMachine, tasks_of};
+ghost use Rattle.bq_workload.specs.Workloads.{AreKinds, AreNames, AreOthers, Describes, IsMachine, IsReadFault, tasks_of};
 
 use crate::actions;
 use crate::blame::{Location, Trouble};
@@ -15,7 +16,7 @@ use crate::kinds::{Processors, kind};
 use crate::setup::{absent, setup};
 use crate::tables::{all_known, at};
 use crate::why::{Wanted, Why};
-use bq_actions::limits::MOST_TASKS;
+use bq_actions::limits::TASKS;
 use bq_actions::{Setup, TaskKind, Workload};
 use std::alloc::Global;
 use toml::{Table, Value};
@@ -23,9 +24,10 @@ use toml::{Table, Value};
 /// The keys of a document.
 static DOCUMENT: [&str; 2] = ["machine", "task"];
 
-/// The workload that a text describes, on its machine with these changes.
+/// The workload that a text describes, on its machine with these changes. A text is called no TOML only where it is none.
 pub fn read(alloc: Global, text: &str, changes: Changes) -> Result<Workload, Fault>
-    ensures { IfOk result (Describes text.now changes) }
+    ensures describes { IfOk result (Describes text.now changes) }
+    ensures fault { IfErr result (IsReadFault text.now) }
 {
     let document = match toml::table_from_str(alloc, text) {
         Ok(document) => document,
@@ -52,7 +54,9 @@ pub fn read(alloc: Global, text: &str, changes: Changes) -> Result<Workload, Fau
 }
 
 /// The fault that a trouble is told as.
-fn told(alloc: Global, trouble: &Trouble<'_>) -> Fault {
+fn told(alloc: Global, trouble: &Trouble<'_>) -> Fault
+    ensures { (text : List ℕ) → IsSome (parse_document text) → IsReadFault text result }
+{
     match trouble {
         Trouble::OutOfMemory => Fault::OutOfMemory,
         Trouble::At { place, why } => match meaning(alloc, place, why) {
@@ -164,7 +168,7 @@ fn kinds<'a>(
         let table = Location::Document.says(table_at("task", value))?;
         let kind = kind(alloc, table, index + 1, names, processors)?;
         tasks = match tasks.checked_add(kind.count) {
-            Some(tasks) if tasks <= MOST_TASKS => tasks,
+            Some(tasks) if tasks <= TASKS => tasks,
             _ => return Err(Trouble::At {
                 place: Location::Document,
                 why: Why::TooMany,

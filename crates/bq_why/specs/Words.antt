@@ -1,0 +1,33 @@
+-- What is said of a choice.
+use Rattle.std.specs.Prelude.{◌^◌, ◌-◌, ℕ, min, Bool, true, false, List, ◌++◌, Option, Some, None, codes}
+use Rattle.bq_parts.specs.declared.event.Event.{Event}
+use Rattle.bq_parts.specs.declared.event.Event.TheVariants.{EndWake, Drain, Tick, Block, Pull}
+use Rattle.bq_forms.specs.Amounts.{millis_text}
+use Rattle.bq_why.specs.declared.table.Row.{Row}
+
+-- the processor at which an event may choose, and its time
+abbrev pub place_of : Event → Option (ℕ × ℕ)
+place_of (EndWake cpu now) = Some (cpu, now)
+place_of (Drain cpu now) = Some (cpu, now)
+place_of (Tick cpu now) = Some (cpu, now)
+place_of (Block cpu now) = Some (cpu, now)
+place_of (Pull cpu from now) = Some (cpu, now)
+place_of other = None
+
+-- the sign of a lag: what is eligible is owed, and what is not has had more than its share
+abbrev pub sign_of : Bool → List ℕ
+sign_of true = codes "+"
+sign_of false = codes "-"
+
+-- a row's lag, in milliseconds, of as many nanoseconds as 64 bits hold
+abbrev pub lag_text : Row → List ℕ
+lag_text row = sign_of row.is_eligible ++ millis_text (min row.lag (2 ^ 64 - 1))
+
+-- whether a task may run, in words
+abbrev pub standing_of : Bool → List ℕ
+standing_of true = codes "eligible"
+standing_of false = codes "not eligible"
+
+-- the same of a row
+abbrev pub standing : Row → List ℕ
+standing row = standing_of row.is_eligible
