@@ -9,7 +9,7 @@ use Rattle.bq_schedule.specs.declared.figures.HookFigures.{HookFigures}
 use Rattle.bq_schedule.specs.Figures.{Figures, processor_of, task_of}
 use Rattle.bq_schedule.specs.Passing.{idle_of}
 use Rattle.bq_schedule.specs.Percentiles.{rank}
-use Rattle.bq_schedule.specs.Standing.{fair_of}
+use Rattle.bq_schedule.specs.Runnable.{fair_of}
 use Rattle.bq_comparison.specs.declared.naming.Figure.{Figure}
 use Rattle.bq_comparison.specs.declared.naming.Figure.TheVariants as figure
 use Rattle.bq_comparison.specs.declared.naming.HookFigure.{HookFigure}

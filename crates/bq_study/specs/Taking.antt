@@ -13,8 +13,8 @@ use Rattle.bq_program.specs.declared.mark.Key.{Key}
 use Rattle.bq_program.specs.declared.policy.Policy.{Policy}
 use Rattle.bq_simulate.specs.Retelling.{IsOfImage}
 use Rattle.bq_study.specs.Standing.{Adds, Standing, image_for}
-use Rattle.bq_study.specs.declared.policies.PolicyFault.{PolicyFault}
-use Rattle.bq_study.specs.declared.policies.PolicyFault.TheVariants as told
+use Rattle.bq_study.specs.declared.policies.AttachFault.{AttachFault}
+use Rattle.bq_study.specs.declared.policies.AttachFault.TheVariants as told
 use Rattle.bq_simulate.specs.Simulations.{Accepted}
 
 -- a hook is asked for, or none, and nothing beside it
@@ -57,7 +57,7 @@ pub record IsUnaccepted (Reads : Policy → Type 0) (named : LoadFault) : Type 0
 
 -- Why a file is not taken: it holds a policy for a hook at which an image was, it disagrees with what was asked for, it is none in words,
 -- or its program is not accepted. Want of memory says nothing of it.
-abbrev pub IsTold : (Policy → Type 0) → (FileFault → Type 0) → Standing → PolicyFault → Type 0
+abbrev pub IsTold : (Policy → Type 0) → (FileFault → Type 0) → Standing → AttachFault → Type 0
 IsTold Reads Refuses s told.Twice = IsSecond Reads s
 IsTold Reads Refuses s told.Hook = (key : Key) × Refuses (Disagrees key)
 IsTold Reads Refuses s (told.File words) = (named : FileFault) × Refuses named
@@ -65,14 +65,14 @@ IsTold Reads Refuses s (told.Program named) = IsUnaccepted Reads named
 IsTold Reads Refuses s told.OutOfMemory = Unit {0}
 
 -- what is told of a file that is none
-abbrev pub IsToldOf : FileFault → PolicyFault → Type 0
+abbrev pub IsToldOf : FileFault → AttachFault → Type 0
 IsToldOf (Disagrees key) said = said ≡ told.Hook
 IsToldOf named (told.File words) = Unit {0}
 IsToldOf named told.OutOfMemory = Unit {0}
 IsToldOf named said = ⊥
 
 -- what is told of an image that is not loaded
-abbrev pub IsToldOfImage : List ℕ → PolicyFault → Type 0
+abbrev pub IsToldOfImage : List ℕ → AttachFault → Type 0
 IsToldOfImage image (told.Program named) = IsUnloaded image named
 IsToldOfImage image told.OutOfMemory = Unit {0}
 IsToldOfImage image said = ⊥

@@ -16,5 +16,5 @@ pub mod running;
 pub use asked::{Asked, AskedFault, asked_changes};
 pub use command::{HookWords, MachineWords, StudyWords, study_words};
 pub use names::task_names;
-pub use policies::{Policies, PolicyFault};
+pub use policies::{AttachFault, Policies};
 pub use running::{Written, run_as};

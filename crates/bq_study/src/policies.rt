@@ -22,7 +22,7 @@ use thiserror::Error;
 
 /// Why a file is no policy for a hook.
 #[derive(Debug, Drop, Error)]
-pub enum PolicyFault {
+pub enum AttachFault {
     /// It is no policy: why, in words.
     #[error("{0}")]
     File(String),
@@ -75,8 +75,8 @@ impl Policies {
     }
 
     /// Takes the policy for this hook that a file holds: an image, the hex of one, or an assembler text whose head says what
-    /// it leaves out. No policy was taken for the hook before. Where it is not taken, all is as it was.
-    pub fn add(&mut self, alloc: Global, hook: Hook, file: &[u8]) -> Result<(), PolicyFault>
+    /// it leaves out. Where one was taken for that hook before it is refused. Where it is not taken, all is as it was.
+    pub fn add(&mut self, alloc: Global, hook: Hook, file: &[u8]) -> Result<(), AttachFault>
         ensures taken { OnOk result (Takes (IsRead (Some hook) file.now) hook self.old self.new) }
         ensures refused { OnErr result (self.new ≡ self.old) }
         ensures told { IfErr result (IsTold (IsRead (Some hook) file.now) (IsNone (Some hook) file.now) self.old) }
@@ -87,7 +87,7 @@ impl Policies {
     }
 
     /// The same, for the hook that the file says.
-    pub fn add_as_said(&mut self, alloc: Global, file: &[u8]) -> Result<(), PolicyFault>
+    pub fn add_as_said(&mut self, alloc: Global, file: &[u8]) -> Result<(), AttachFault>
         ensures taken { OnOk result ((hook : Hook) × Takes (IsRead None file.now) hook self.old self.new) }
         ensures refused { OnErr result (self.new ≡ self.old) }
         ensures told { IfErr result (IsTold (IsRead None file.now) (IsNone None file.now) self.old) }
@@ -96,7 +96,7 @@ impl Policies {
     }
 
     /// Takes the policy of a file that agrees with what was asked for.
-    fn take(&mut self, alloc: Global, asked: &Head, file: &[u8]) -> Result<(), PolicyFault>
+    fn take(&mut self, alloc: Global, asked: &Head, file: &[u8]) -> Result<(), AttachFault>
         ensures taken { OnOk result ((hook : Hook) × Takes (IsPolicy file.now asked.now) hook self.old self.new) }
         ensures refused { OnErr result (self.new ≡ self.old) }
         ensures told { IfErr result (IsTold (IsPolicy file.now asked.now) (IsPolicyFault file.now asked.now) self.old) }
@@ -106,7 +106,7 @@ impl Policies {
             Err(fault) => return Err(told(alloc, file, fault)),
         };
         if self.image_at(read.hook).is_some() {
-            return Err(PolicyFault::Twice);
+            return Err(AttachFault::Twice);
         }
         let image = image_of(alloc, &read)?;
         let policy = policy_of(alloc, image.as_slice())?;
@@ -114,19 +114,19 @@ impl Policies {
     }
 
     /// Keeps a policy and its image, for a hook at which none is.
-    fn keep(&mut self, hook: Hook, image: Vec<u8>, policy: Policy) -> Result<(), PolicyFault>
+    fn keep(&mut self, hook: Hook, image: Vec<u8>, policy: Policy) -> Result<(), AttachFault>
         requires of { IsOfImage (Some image.items) policy }
         requires hook { policy.hook ≡ hook }
         requires free { image_for self.old.images hook ≡ None }
         ensures adds { OnOk result (Adds hook image.items policy self.old self.new) }
         ensures refused { OnErr result (self.new ≡ self.old) }
-        ensures other { IfErr result (λ fault. fault ≡ PolicyFault.OutOfMemory) }
+        ensures other { IfErr result (λ fault. fault ≡ AttachFault.OutOfMemory) }
     {
         let count = self.images.len();
         self.images.push((hook, image))?;
         if let Err(_) = self.loaded.push(policy) {
             self.images.truncate(count);
-            return Err(PolicyFault::OutOfMemory);
+            return Err(AttachFault::OutOfMemory);
         }
         Ok(())
     }
@@ -155,50 +155,50 @@ impl Policies {
     }
 }
 
-impl From<AllocError> for PolicyFault {
+impl From<AllocError> for AttachFault {
     ghost use Rattle.std.specs.Prelude.{◌≡◌};
-    ghost use Rattle.bq_study.specs.declared.policies.PolicyFault.TheVariants.{OutOfMemory};
+    ghost use Rattle.bq_study.specs.declared.policies.AttachFault.TheVariants.{OutOfMemory};
 
     ghost from_gives = { λ _ e. e ≡ OutOfMemory };
 
-    fn from(_e: AllocError) -> PolicyFault {
-        PolicyFault::OutOfMemory
+    fn from(_e: AllocError) -> AttachFault {
+        AttachFault::OutOfMemory
     }
 }
 
-impl<T: Drop> From<AllocFailed<T>> for PolicyFault {
+impl<T: Drop> From<AllocFailed<T>> for AttachFault {
     ghost use Rattle.std.specs.Prelude.{◌≡◌};
-    ghost use Rattle.bq_study.specs.declared.policies.PolicyFault.TheVariants.{OutOfMemory};
+    ghost use Rattle.bq_study.specs.declared.policies.AttachFault.TheVariants.{OutOfMemory};
 
     ghost from_gives = { λ _ e. e ≡ OutOfMemory };
 
-    fn from(_e: AllocFailed<T>) -> PolicyFault {
-        PolicyFault::OutOfMemory
+    fn from(_e: AllocFailed<T>) -> AttachFault {
+        AttachFault::OutOfMemory
     }
 }
 
 /// Why the file is no policy for the hook, in words.
-fn told(alloc: Global, file: &[u8], fault: bq_program::PolicyFault) -> PolicyFault
+fn told(alloc: Global, file: &[u8], fault: bq_program::PolicyFault) -> AttachFault
     ensures { IsToldOf fault result }
 {
     if let bq_program::PolicyFault::Disagrees(_) = fault {
-        return PolicyFault::Hook;
+        return AttachFault::Hook;
     }
     match fault_reason(alloc, file, fault) {
-        Ok(why) => PolicyFault::File(why),
-        Err(_) => PolicyFault::OutOfMemory,
+        Ok(why) => AttachFault::File(why),
+        Err(_) => AttachFault::OutOfMemory,
     }
 }
 
 /// The policy of an image.
-fn policy_of(alloc: Global, image: &[u8]) -> Result<Policy, PolicyFault>
+fn policy_of(alloc: Global, image: &[u8]) -> Result<Policy, AttachFault>
     ensures of { IfOk result (IsOfImage (Some image.now)) }
     ensures told { IfErr result (IsToldOfImage image.now) }
 {
     let program = match load(alloc, image) {
         Ok(program) => program,
-        Err(LoadFault::OutOfMemory) => return Err(PolicyFault::OutOfMemory),
-        Err(fault) => return Err(PolicyFault::Program(fault)),
+        Err(LoadFault::OutOfMemory) => return Err(AttachFault::OutOfMemory),
+        Err(fault) => return Err(AttachFault::Program(fault)),
     };
     Ok(Policy::new(alloc, program)?)
 }

@@ -2,7 +2,8 @@
 
 use crate::cases::holds;
 use bq_actions::{Action, Length, Setup, TaskKind, Unsound, Workload};
-use bq_simulate::{SimulateFault, Tally, simulate};
+use bq_core::Event;
+use bq_simulate::{SimulateFault, Tally, simulate, write_event};
 use bq_words::{ProcessorCount, Rule};
 use std::alloc::Global;
 use std::process::Abort;
@@ -158,5 +159,20 @@ fn simulations_are_told_and_counted(rt: HostRuntime) -> Result<(), Fail> {
         let workload = workload_of(rt.alloc(), row)?;
         is_simulated(&rt, rt.alloc(), &workload, row);
     }
+    Ok(())
+}
+
+/// The example of `write_event`.
+#[test]
+fn an_event_is_written_as_its_line(rt: HostRuntime) -> Result<(), Fail> {
+    let pull = Event::Pull {
+        processor: 1,
+        from: 0,
+        now: 2000,
+    };
+    let wanted = "pull 1 0 2000\n";
+    let mut text = String::new(rt.alloc());
+    write_event(rt.alloc(), &mut text, &pull, None)?;
+    holds(&rt, text.as_str() == wanted, text.as_str(), wanted);
     Ok(())
 }

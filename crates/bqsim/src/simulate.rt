@@ -7,7 +7,7 @@ use bq_comparison::{Comparing, SeedsFault, asked_comparison, compare, lines, wri
 use bq_console::status::{BAD_INPUT, REFUSED};
 use bq_core::Hook;
 use bq_simulate::SimulateFault;
-use bq_study::{Asked, AskedFault, Policies, PolicyFault, StudyWords, asked_changes, run_as};
+use bq_study::{Asked, AskedFault, AttachFault, Policies, StudyWords, asked_changes, run_as};
 use bq_timeline::SettingsFault;
 use bq_workload::{Changes, Fault, read};
 use std::process::ExitCode;
@@ -161,10 +161,10 @@ fn add(
 }
 
 /// Says why a file is no policy.
-fn told(rt: &HostRuntime, path: &str, taken: Result<(), PolicyFault>) -> Result<(), ExitCode> {
+fn told(rt: &HostRuntime, path: &str, taken: Result<(), AttachFault>) -> Result<(), ExitCode> {
     match taken {
         Ok(()) => Ok(()),
-        Err(PolicyFault::OutOfMemory) => Err(out_of_memory(rt)),
+        Err(AttachFault::OutOfMemory) => Err(out_of_memory(rt)),
         Err(fault) => {
             let _ = eprintln!(rt; "{path}: {fault}");
             Err(ExitCode::from(BAD_INPUT))
