@@ -17,8 +17,13 @@ TOP = Path(__file__).resolve().parent.parent / 'crates'
 # What each fact looks like, and the only files that may say it.
 FACTS = [
     ('the word of a hook', r'"(?:place|preempt|pull)"', {'bq_bpf/src/hook.rt'}),
+    ('the keyword of a line of a trace', r'b?"(?:admit|retire|draw|install|begin|end|drain|block|show)"|"(?:machine|admit|retire|install|begin|end|wake|drain|tick|block|pull) \{', {'bq_lines/src/keyword.rt'}),
+    ('the words of hooks as a list', r'place, preempt', {'bq_options/src/texts.rt', 'bq_filters/src/asm_words.rt', 'bq_policy_commands/src/fault_words.rt'}),
     ('an address of the machine', r'0x2_0000_0\d\d\d|0x10_0000_0000|0x4000_0000_0000', {'bq_bpf/src/addresses.rt'}),
     ('the number of a helper', r'helper\s*(?:==|=>)\s*\d', {'bq_bpf/src/helper.rt'}),
+    ('the list of the helpers', r'\bUPDATE\W+(?:helper\W+)?NOW\b', {'bq_bpf/src/helper.rt'}),
+    ('which helpers are of counters', r'ADD_COUNTER \|\| \*?helper == READ_COUNTER', {'bq_graph/src/single.rt'}),
+    ('the size of the stack', r'(?m)^(?! *(?:requires|ensures|ghost)\b)[^"\n]*?(?<!; )\b512\b', {'bq_bpf/src/addresses.rt'}),
     ('the number of a fault or a cause', r'(?:Cause|Doubt)::\w+ => \d', {'bq_insn/src/fault.rt', 'bq_asm/src/fault.rt', 'bq_graph/src/cause.rt', 'bq_transfer/src/doubt.rt'}),
     ('the number of processors of a machine', r'ProcessorCount::\w+ => \d', {'bq_words/src/processor_count.rt'}),
     ('the word of a rule', r'b?"(?:cfs|eevdf)"', {'bq_words/src/rule.rt'}),
@@ -29,17 +34,29 @@ FACTS = [
     ('what is no number of processors', r'is no number of processors', {'bq_lines/src/numbers.rt'}),
     ('the first words of instructions', r'\bjsle64\b|\bsmod32\b', {'bq_asm/src/table.rt'}),
     ('an exit status', r'u8 = [1-4];', {'bq_console/src/status.rt', 'bq_console/src/saying.rt'}),
-    ('the longest duration', r'281_?474_?976_?710_?655;', {'bq_actions/src/limits.rt'}),
+    ('the longest duration', r'281_?474_?976_?710_?655;', set()),
+    ('how many tasks there may be', r'(?<!NAME: usize) = 1_?024;|\.\.1_?024\b|>= 1_?024\b', {'bq_disc/src/limits.rt'}),
+    ('from which to which nice values are', r'(?:[<>=]=? |\()-20\b|\b19 ?>=|<=? ?19\b', {'bq_weights/src/lib.rt'}),
+    ('from which to which length slices are', r'(?i)slice(?:: u64 =| <=?| >=?) *100_?000', {'bq_disc/src/limits.rt'}),
+    ('what a task is called that may run under EEVDF', r'"(?:not )?eligible"', {'bq_why/src/words_of.rt'}),
+    ('how many waits of a processor are drawn', r'LANES: usize', {'bq_pictures/src/lanes.rt'}),
+]
+
+# The same of definitions.
+DEFINED = [
+    ('the order by time and id', r'nat_lt (\S+) (\S+) \|\| \(\1 == \2 && nat_lt', {'bq_disc/specs/Tasks.antt'}),
+    ('which numbers are nice values', r'negsuc 19\b', {'bq_weights/specs/VirtualTime.antt'}),
 ]
 
 
 # What may stand in two places, and why.
 ALLOWED = {
+    'the list of the helpers: bq_explain/src/summary.rt': 'the order in which a summary names helpers; a helper that it lacked would only not be named',
+    'which helpers are of counters: bq_interp/src/counters.rt': 'asked at each call of a run, of the number alone, by a function that stands in its loop',
     'the word of a hook: bq_forms/src/summary.rt': 'keys of a form in JSON, which stay what they are whatever traces call a hook',
     'the word of a hook: bq_forms/src/tables.rt': 'the column of a report, which stays what it is whatever traces call a hook',
-    'the word of a hook: bq_lines/src/lines.rt': 'the command `pull` of a trace, an event, whose word only happens to be that of a hook too',
-    'the word of a hook: bq_timeline/src/faults.rt': 'the command `pull` of a trace, an event, whose word only happens to be that of a hook too',
-    'the word of a hook: bq_why/src/happenings.rt': 'the name of an event, which only happens to be the word of a hook too',
+    'the word of a hook: bq_lines/src/keyword.rt': 'the keyword `pull` of a trace, an event, whose word only happens to be that of a hook too',
+    'the words of hooks as a list: bq_timeline/src/faults.rt': 'why a word is no hook, in a sentence of its own that ends by a bracket',
 }
 
 
@@ -52,10 +69,10 @@ def product(folder, ending):
         yield str(path.relative_to(TOP)), path.read_text(encoding='utf-8').split('#[cfg(test)]')[0]
 
 
-def facts(files):
+def facts(files, known, comment):
     for name, text in files:
-        bare = re.sub(r'(?m)//.*$', '', text)
-        for what, pattern, homes in FACTS:
+        bare = re.sub(rf'(?m){comment}.*$', '', text)
+        for what, pattern, homes in known:
             if name not in homes and re.search(pattern, bare):
                 yield f'{what}: {name}'
 
@@ -111,7 +128,7 @@ def texts(files):
 
 def main():
     code, specs, proofs = list(product('src', '.rt')), list(product('specs', '.antt')), list(product('proofs', '.antt'))
-    found = [*facts(code), *functions(code), *definitions(specs), *lemmas(proofs), *texts(code)]
+    found = [*facts(code, FACTS, '//'), *facts(specs, DEFINED, '--'), *functions(code), *definitions(specs), *lemmas(proofs), *texts(code)]
     bad = [it for it in found if it not in ALLOWED]
     for it in bad:
         print(it)
