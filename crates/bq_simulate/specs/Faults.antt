@@ -1,6 +1,8 @@
 -- Why a simulation does not come to its end.
-use Rattle.std.specs.Prelude.{Option, Some, None}
+use Rattle.std.specs.Prelude.{◌≡◌, Option, Some, None, IfSome}
+use Rattle.bq_actions.specs.Soundness.{first_flaw}
 use Rattle.bq_actions.specs.declared.sound.Unsound.{Unsound}
+use Rattle.bq_actions.specs.declared.workload.Workload.{Workload}
 use Rattle.bq_simulate.specs.declared.fault.SimulateFault.{SimulateFault}
 use Rattle.bq_simulate.specs.declared.fault.SimulateFault.TheVariants as fault
 
@@ -8,3 +10,7 @@ use Rattle.bq_simulate.specs.declared.fault.SimulateFault.TheVariants as fault
 abbrev pub flaw_told : SimulateFault → Option Unsound
 flaw_told (fault.Unsound flaw) = Some flaw
 flaw_told why = None
+
+-- no other flaw is told than the first of the workload; a fault may tell none
+abbrev pub TellsNoOther : Workload → SimulateFault → Type 0
+TellsNoOther w why = IfSome (flaw_told why) (λ flaw. first_flaw w ≡ Some flaw)

@@ -1,6 +1,7 @@
 //! Why a simulation does not come to its end.
 ghost use Rattle.std.specs.Prelude.{◌≡◌, None};
 ghost use Rattle.bq_simulate.specs.Faults.{flaw_told};
+ghost use Rattle.bq_simulate.specs.declared.fault.SimulateFault.TheVariants.{OutOfMemory};
 
 use crate::DriveFault;
 use bq_actions::{Astray, Unsound};
@@ -41,6 +42,8 @@ impl SimulateFault {
 }
 
 impl From<AllocError> for SimulateFault {
+    ghost from_gives = { λ _ e. e ≡ OutOfMemory };
+
     fn from(_error: AllocError) -> SimulateFault {
         SimulateFault::OutOfMemory
     }

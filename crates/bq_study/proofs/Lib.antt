@@ -3,3 +3,4 @@ pub mod NameLemmas
 pub mod StandingLemmas
 pub mod TakingLemmas
 pub mod TraceLemmas
+pub mod ViewLemmas

@@ -4,3 +4,4 @@ pub mod SimulateApp
 pub mod Standing
 pub mod Taking
 pub mod Traces
+pub mod Views

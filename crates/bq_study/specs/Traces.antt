@@ -1,5 +1,5 @@
 -- What is written of a workload that is run, as a trace.
-use Rattle.std.specs.Prelude.{◌≡◌, ℕ, List, ◌++◌, None, string_bytes}
+use Rattle.std.specs.Prelude.{◌≡◌, ℕ, List, [], ◌++◌, None, string_bytes}
 use Rattle.bq_actions.specs.Soundness.{first_flaw}
 use Rattle.bq_actions.specs.declared.workload.Workload.{Workload}
 use Rattle.bq_simulate.specs.Retelling.{Answers, AreOfImages}
@@ -11,6 +11,7 @@ use Rattle.bq_study.specs.declared.asked.Asked.TheVariants.{Trace, Timeline}
 use Rattle.bq_study.specs.declared.policies.Policies.{Policies}
 use Rattle.bq_study.specs.declared.running.Written.{Written}
 use Rattle.bq_study.specs.Standing.{image_for}
+use Rattle.bq_study.specs.Views.{AreNotesOf}
 use Rattle.bq_trace.specs.Feeding.{with_feeds}
 use Rattle.bq_trace.specs.News.{News, Told, Skipped, texts}
 
@@ -28,10 +29,10 @@ pub record IsTrace (w : Workload) (policies : List Accepted) (images : ByHook) (
   pub of_images : AreOfImages images policies
   pub whole : text ≡ with_feeds (comments_of w ++ told_lines images told)
 
--- what is written of a workload that is run with these policies
+-- What is written of a workload that is run with these policies: a trace, and no notes; or what a viewer of a simulation has.
 abbrev pub IsWritten : Asked → Workload → Policies → Written → Type 0
-IsWritten Trace w policies written = IsTrace w policies.loaded (image_for policies.images) (string_bytes written.text)
-IsWritten (Timeline settings) w policies written = Unit {0}
+IsWritten Trace w policies written = IsTrace w policies.loaded (image_for policies.images) (string_bytes written.text) × (string_bytes written.notes ≡ [])
+IsWritten (Timeline settings) w policies written = AreNotesOf policies.loaded w (string_bytes written.notes)
 
 -- The text is answered by the answers that the simulation got, and leaves the same machine.
 abbrev pub TracesAreReplayed : Type 0

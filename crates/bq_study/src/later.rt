@@ -1,4 +1,6 @@
 //! Lines that stand further below.
+ghost use Rattle.std.specs.Prelude.{◌≡◌};
+ghost use Rattle.bq_timeline.specs.Timelines.{Keeps};
 
 use bq_core::{Event, Refusal, Reply};
 use bq_load::LoadFault;
@@ -22,7 +24,7 @@ impl Later {
 }
 
 impl Sink for Later {
-    ghost takes = { λ old n news new. Unit {0} };
+    ghost takes = { λ old n news new. (new.above ≡ old.above) × Keeps old.viewer news new.viewer };
 
     fn opened(&mut self, number: u64, rule: Rule, size: ProcessorCount) -> Result<(), AllocError> {
         let number = self.number(number);

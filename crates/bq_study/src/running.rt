@@ -1,7 +1,9 @@
 //! One run of a workload, and what is written of it.
-ghost use Rattle.std.specs.Prelude.{IfOk, string_bytes};
-ghost use Rattle.bq_study.specs.Standing.{image_for};
-ghost use Rattle.bq_study.specs.Traces.{IsTrace, IsWritten};
+ghost use Rattle.std.specs.Prelude.{IfErr, IfOk, string_bytes};
+ghost use Rattle.bq_simulate.specs.Faults.{TellsNoOther};
+ghost use Rattle.bq_study.specs.Traces.{IsWritten};
+ghost use Rattle.bq_study.specs.Views.{AreNotesOf, IsViewed};
+ghost use Rattle.bq_study.specs.declared.asked.Asked.TheVariants.{Trace};
 
 use crate::asked::Asked;
 use crate::later::Later;
@@ -27,7 +29,10 @@ pub fn run_as(
     policies: &Policies,
     asked: Asked,
 ) -> Result<Written, SimulateFault>
-    ensures { IfOk result (λ written. IsWritten asked workload.now policies.now written) }
+    ensures written { IfOk result (IsWritten asked workload.now policies.now) }
+
+    // Where a flaw is told, it is the first that the workload has.
+    ensures flaw { IfErr result (TellsNoOther workload.now) }
 {
     match asked {
         Asked::Trace => as_trace(alloc, workload, policies),
@@ -41,7 +46,8 @@ fn as_trace(
     workload: &Workload,
     policies: &Policies,
 ) -> Result<Written, SimulateFault>
-    ensures { IfOk result (λ written. IsTrace workload.now policies.now.loaded (image_for policies.now.images) (string_bytes written.text)) }
+    ensures written { IfOk result (IsWritten Trace workload.now policies.now) }
+    ensures flaw { IfErr result (TellsNoOther workload.now) }
 {
     let mut sink = TraceText::new(alloc, policies.images());
     tell_names(alloc, workload, &mut sink)?;
@@ -52,19 +58,37 @@ fn as_trace(
     })
 }
 
+/// Runs it, and shows its schedule by these settings.
 fn as_timeline(
     alloc: Global,
     workload: &Workload,
     policies: &Policies,
     settings: Settings,
-) -> Result<Written, SimulateFault> {
+) -> Result<Written, SimulateFault>
+    ensures written { IfOk result (λ written. AreNotesOf policies.now.loaded workload.now (string_bytes written.notes)) }
+    ensures flaw { IfErr result (TellsNoOther workload.now) }
+{
+    let mut viewer = viewed(alloc, workload, policies, settings)?;
+    viewer.end()?;
+    Ok(Written {
+        text: viewer.screen.text.clone()?,
+        notes: viewer.screen.notes.clone()?,
+    })
+}
+
+/// Runs it before a viewer, which is told the names of its tasks first.
+fn viewed(
+    alloc: Global,
+    workload: &Workload,
+    policies: &Policies,
+    settings: Settings,
+) -> Result<Viewer, SimulateFault>
+    ensures viewed { IfOk result (IsViewed policies.now.loaded workload.now) }
+    ensures flaw { IfErr result (TellsNoOther workload.now) }
+{
     let mut viewer = Viewer::new(alloc, settings);
     let above = tell_names(alloc, workload, &mut viewer)?;
     let mut later = Later { viewer, above };
     simulate(alloc, workload, policies.loaded(), &mut later)?;
-    later.viewer.end()?;
-    Ok(Written {
-        text: later.viewer.screen.text.clone()?,
-        notes: later.viewer.screen.notes.clone()?,
-    })
+    Ok(later.viewer)
 }

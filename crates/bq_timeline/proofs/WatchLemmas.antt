@@ -15,7 +15,7 @@ use Rattle.bq_trace.proofs.ChainLemmas.{lines-with_feeds}
 use Rattle.bq_trace.proofs.ReplayLemmas.{with_feeds-join}
 use Rattle.bq_trace.proofs.StandingLemmas.{Story-append, stands_for_nothing}
 use Rattle.bq_timeline.specs.Notes.{last_notes}
-use Rattle.bq_timeline.specs.Timelines.{Closes, IsTimeline, Watches}
+use Rattle.bq_timeline.specs.Timelines.{Closes, IsTimeline, Keeps, Watches}
 use Rattle.bq_timeline.specs.Watching.{schedule_after, troubled, troubles_after, watched}
 use Rattle.bq_timeline.specs.declared.showing.Outcome.{Outcome}
 use Rattle.bq_timeline.specs.declared.showing.Turns.{Turns}
@@ -23,7 +23,7 @@ use Rattle.bq_timeline.specs.declared.viewer.Viewer.{Viewer}
 
 -- a viewer takes a piece of news
 abbrev pub Takes : Viewer → ℕ → News → Viewer → Type 0
-Takes old n news new = (new.schedule ≡ watched old.schedule news) × (new.troubles ≡ troubled old.troubles news)
+Takes old n news new = Keeps old news new
 
 -- news that a viewer takes leave it their schedule and their count
 pub takes_all : (old new : Viewer) (told : Told) → TakesAll Takes old told new → (new.schedule ≡ schedule_after old.schedule told) × (new.troubles ≡ troubles_after old.troubles told)

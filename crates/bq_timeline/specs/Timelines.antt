@@ -2,15 +2,19 @@
 use Rattle.std.specs.Prelude.{◌≡◌, ◌==◌, ℕ, List, ◌++◌, Option, None, string_bytes}
 use Rattle.std.specs.Io.KnownBytes.{Consumes, IsAtEnd}
 use Rattle.std.specs.Str.Lines.{lines}
-use Rattle.bq_trace.specs.News.{Told}
+use Rattle.bq_trace.specs.News.{News, Told}
 use Rattle.bq_trace.specs.Telling.{Story}
 use Rattle.bq_trace.specs.Trace.{start}
 use Rattle.bq_trace.specs.declared.progress.Progress.{Progress}
 use Rattle.bq_timeline.specs.Notes.{last_notes}
-use Rattle.bq_timeline.specs.Watching.{schedule_after, troubles_after}
+use Rattle.bq_timeline.specs.Watching.{schedule_after, troubled, troubles_after, watched}
 use Rattle.bq_timeline.specs.declared.showing.Outcome.{Outcome}
 use Rattle.bq_timeline.specs.declared.showing.Turns.{Turns}
 use Rattle.bq_timeline.specs.declared.viewer.Viewer.{Viewer}
+
+-- A viewer was told a piece of news: it has the schedule that goes on by it, and has counted it where it is trouble.
+abbrev pub Keeps : Viewer → News → Viewer → Type 0
+Keeps old news new = (new.schedule ≡ watched old.schedule news) × (new.troubles ≡ troubled old.troubles news)
 
 -- The viewer was told news of which this holds: it has the schedule that they tell, and the count of those that are trouble.
 pub record Watches (old new : Viewer) (Holds : Told → Type 0) : Type 0 where

@@ -1,6 +1,7 @@
 //! The forms by their names.
 ghost use Rattle.std.specs.Prelude.{◌≡◌};
 ghost use Rattle.bq_timeline.specs.Settings.{form_of};
+ghost use Rattle.bq_timeline.specs.Shown.{is_read_by_lines};
 
 /// A form in which a schedule is shown.
 #[derive(Clone, Copy)]
@@ -34,7 +35,9 @@ impl FormName {
     }
 
     /// Whether a person reads it line by line, so that notes on lines may stand in it.
-    pub fn has_notes(self) -> bool {
+    pub fn has_notes(self) -> bool
+        ensures { result ≡ is_read_by_lines self }
+    {
         match self {
             FormName::Report | FormName::Map | FormName::Timehist | FormName::Why => true,
             FormName::Csv | FormName::Json | FormName::Svg | FormName::Perfetto => false,

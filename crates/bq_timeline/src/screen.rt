@@ -1,6 +1,7 @@
 //! What is written of a trace: the form, with notes on its lines where a person reads it, and what goes to standard error.
 ghost use Rattle.std.specs.Prelude.{◌≡◌, ◌++◌, OnOk, Some, string_bytes};
 ghost use Rattle.bq_timeline.specs.Notes.{last_notes, trouble_note, waiting_note, waiting_notes};
+ghost use Rattle.bq_timeline.specs.Shown.{IsAskedFor, is_read_by_lines};
 
 use crate::faults::why_bad;
 use crate::near::Near;
@@ -34,7 +35,10 @@ pub struct Screen {
 
 impl Screen {
     /// Nothing is written yet.
-    pub fn new(alloc: Global, settings: Settings) -> Screen {
+    pub fn new(alloc: Global, settings: Settings) -> Screen
+        ensures shown { IsAskedFor settings result.shown }
+        ensures notes { result.has_notes ≡ is_read_by_lines settings.form }
+    {
         let has_notes = settings.form.has_notes();
         let processors = settings.window.processors;
         Screen {

@@ -1,4 +1,5 @@
 //! The forms, behind one name.
+ghost use Rattle.bq_timeline.specs.Shown.{IsAskedFor};
 
 use crate::form_names::FormName;
 use crate::settings::Settings;
@@ -24,7 +25,9 @@ pub enum Shown {
 
 impl Shown {
     /// The form that the settings ask for, of what they show.
-    pub fn of(alloc: Global, settings: Settings) -> Shown {
+    pub fn of(alloc: Global, settings: Settings) -> Shown
+        ensures { IsAskedFor settings result }
+    {
         let Settings {
             form,
             window,

@@ -1,6 +1,7 @@
 //! The sink of a timeline: the schedule that a trace tells, and the form that it is shown in.
-ghost use Rattle.bq_timeline.specs.Watching.{watched, troubled};
 ghost use Rattle.bq_timeline.specs.Notes.{last_notes};
+ghost use Rattle.bq_timeline.specs.Shown.{IsAskedFor};
+ghost use Rattle.bq_timeline.specs.Timelines.{Keeps};
 ghost use Rattle.std.specs.Prelude.{◌≡◌, ◌++◌, OnOk, string_bytes};
 
 use crate::screen::Screen;
@@ -26,6 +27,7 @@ impl Viewer {
     pub fn new(alloc: Global, settings: Settings) -> Viewer
         ensures schedule { result.schedule ≡ None }
         ensures troubles { result.troubles ≡ 0 }
+        ensures shown { IsAskedFor settings result.screen.shown }
     {
         Viewer {
             alloc,
@@ -50,7 +52,7 @@ impl Viewer {
 }
 
 impl Sink for Viewer {
-    ghost takes = { λ old n news new. (new.schedule ≡ watched old.schedule news) × (new.troubles ≡ troubled old.troubles news) };
+    ghost takes = { λ old n news new. Keeps old news new };
 
     fn opened(&mut self, _number: u64, rule: Rule, size: ProcessorCount) -> Result<(), AllocError> {
         let schedule = Schedule::new(self.alloc, size.processors())?;

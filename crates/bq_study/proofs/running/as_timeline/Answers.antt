@@ -1,0 +1,16 @@
+-- The notes end with those at the schedule that was viewed.
+use Rattle.std.proofs.Common.{◌++◌, ap, string_bytes, ◌∙◌}
+use Rattle.bq_timeline.specs.Notes.{last_notes}
+use Rattle.bq_study.proofs.running.as_timeline.Goals as goal
+
+pub returns-clause-written : goal.returns-clause-written
+returns-clause-written c =
+    let viewer = c.in_ok-viewer.viewer in
+    let viewed = c.in_ok-viewer.ensures.viewed in
+    let before = string_bytes viewer.screen.notes in
+    record {
+      viewer = viewer;
+      viewed = viewed;
+      before = before;
+      whole = c.in_ok-clone-2.ensures.cases ∙ c.in_ok-end.ensures.notes ∙ ap (λ n. before ++ last_notes viewer.schedule n) viewed.clean;
+    }

@@ -1,0 +1,40 @@
+-- The form in which a schedule is shown.
+use Rattle.std.specs.Prelude.{◌≡◌, Bool, true, false, Option, Some, None, IfSome}
+use Rattle.bq_forms.specs.declared.window.Window.{Window}
+use Rattle.bq_timeline.specs.declared.form_names.FormName.{FormName}
+use Rattle.bq_timeline.specs.declared.form_names.FormName.TheVariants as named
+use Rattle.bq_timeline.specs.declared.settings.Settings.{Settings}
+use Rattle.bq_timeline.specs.declared.shown.Shown.{Shown}
+use Rattle.bq_timeline.specs.declared.shown.Shown.TheVariants as form
+
+-- a person reads the form line by line, so that notes on lines may stand in it
+abbrev pub is_read_by_lines : FormName → Bool
+is_read_by_lines named.Report = true
+is_read_by_lines named.Map = true
+is_read_by_lines named.Timehist = true
+is_read_by_lines named.Why = true
+is_read_by_lines named.Csv = false
+is_read_by_lines named.Json = false
+is_read_by_lines named.Svg = false
+is_read_by_lines named.Perfetto = false
+
+-- the name of a form
+abbrev pub name_of : Shown → FormName
+name_of (form.Report _) = named.Report
+name_of (form.Map _) = named.Map
+name_of (form.Timehist _) = named.Timehist
+name_of (form.Csv _) = named.Csv
+name_of (form.Json _) = named.Json
+name_of (form.Svg _) = named.Svg
+name_of (form.Perfetto _) = named.Perfetto
+name_of (form.Why _) = named.Why
+
+-- the stretch of time, processors and tasks whose slices stand in rows of CSV
+abbrev pub window_of_rows : Shown → Option Window
+window_of_rows (form.Csv window) = Some window
+window_of_rows other = None
+
+-- It is the form of that name, and its rows, where it has some, are those of the window.
+pub record IsAskedFor (s : Settings) (shown : Shown) : Type 0 where
+  pub form : name_of shown ≡ s.form
+  pub window : IfSome (window_of_rows shown) (λ w. w ≡ s.window)
