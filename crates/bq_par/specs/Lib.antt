@@ -1,2 +1,3 @@
+pub mod Shifts
 pub mod Summaries
 pub mod Ticks

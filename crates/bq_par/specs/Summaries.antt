@@ -5,14 +5,15 @@ use Rattle.bq_disc.specs.Discipline.{Discipline}
 use Rattle.bq_cfs.specs.Cfs.{cfs}
 use Rattle.bq_eevdf.specs.Eevdf.{eevdf}
 use Rattle.bq_tie.specs.Whole.{total, Each}
-use Rattle.bq_history.specs.History.{Leaves, AreReceiptsOf}
+use Rattle.bq_history.specs.History.{EachOnce, Leaves, AreReceiptsOf}
 use Rattle.bq_history.specs.declared.law.Receipt.{Receipt}
 use Rattle.bq_parts.specs.World.{World, opening_world}
 use Rattle.bq_cells.specs.Parts.{RecordStep}
 use Rattle.bq_cells.specs.declared.record.Record.{Record}
 use Rattle.bq_words.specs.declared.rule.Rule.{Rule}
 use Rattle.bq_words.specs.declared.rule.Rule.TheVariants.{Cfs, Eevdf}
-use Rattle.bq_par.specs.Ticks.{ticks_in, ticks_of}
+use Rattle.bq_par.specs.Shifts.{IsShift}
+use Rattle.bq_par.specs.Ticks.{ticks_in}
 use Rattle.bq_par.specs.declared.summary.Summary.{Summary}
 
 abbrev pub discipline_of : Rule → Discipline
@@ -28,9 +29,10 @@ pub record IsSummary (d : Discipline) (processors ticks : ℕ) (s : Summary) : T
   pub leaves : Leaves (RecordStep d) (opening_world processors) log world
   -- the receipts of the callers share the records out, each at its place
   pub receipts : AreReceiptsOf log callers
-  -- there is a caller for each processor, and each has receipts for just the ticks that were asked for
+  -- there is just one caller for each processor, whose number it has, and its receipts are those of that processor's shift: its task comes, is woken and is drained there, and then it ticks just as often as was asked for
   pub many : length callers ≡ processors
-  pub each : Each (λ (c : ℕ × List (Receipt Record)). ticks_of c.1 ≡ ticks) callers
+  pub numbers : EachOnce processors callers
+  pub shifts : Each (λ (c : ℕ × List (Receipt Record)). IsShift c.0 ticks c.1) callers
   -- the line says how long the history is, how many of its records are ticks, and how many receipts stand in it: all
   pub events : s.events ≡ length log
   pub ticked : s.ticks ≡ ticks_in log

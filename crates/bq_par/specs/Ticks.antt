@@ -1,7 +1,6 @@
 -- Ticks among what a history tells.
 use Rattle.std.specs.Prelude.{ℕ, List}
 use Rattle.bq_tie.specs.Whole.{total}
-use Rattle.bq_history.specs.declared.law.Receipt.{Receipt}
 use Rattle.bq_parts.specs.declared.event.Event.{Event}
 use Rattle.bq_parts.specs.declared.event.Event.TheVariants.{Tick}
 use Rattle.bq_cells.specs.declared.record.Record.{Record}
@@ -17,7 +16,3 @@ one_tick r = tick_of r.event
 -- how many of the records are of ticks
 abbrev pub ticks_in : List Record → ℕ
 ticks_in log = total one_tick log
-
--- how many of the receipts are for ticks
-abbrev pub ticks_of : List (Receipt Record) → ℕ
-ticks_of l = total (λ (x : Receipt Record). one_tick x.entry) l

@@ -2,8 +2,8 @@
 ghost use Rattle.std.specs.Prelude.{◌≡◌, ◌<◌, ◌≤◌, [], IfOk, vec_len};
 ghost use Rattle.std.specs.List.{All};
 ghost use Rattle.bq_words.specs.Sizes.{processors_in};
+ghost use Rattle.bq_par.specs.Shifts.{IsShift};
 ghost use Rattle.bq_par.specs.Summaries.{IsSummary, discipline_of};
-ghost use Rattle.bq_par.specs.Ticks.{ticks_of};
 
 use crate::metronome::Metronome;
 use crate::shift::{Done, drive};
@@ -136,7 +136,7 @@ where
     Q::R: Send,
     requires fresh { All (λ s. (s.0 < 256) × (s.1 ≡ [])) seats.items }
     ensures many { IfOk result (λ done. vec_len done ≡ vec_len seats) }
-    ensures ticked { IfOk result (λ done. All (λ r. IfOk r (λ d. ticks_of d.seat.1 ≡ ticks)) done.items) }
+    ensures shifts { IfOk result (λ done. All (λ r. IfOk r (λ d. IsShift d.seat.0 ticks d.seat.1)) done.items) }
 {
     map_vec(
         rt,
@@ -144,7 +144,7 @@ where
         &|seat: Seat<N>| -> Result<Done<N>, Refusal>
             requires number { seat.0 < 256 }
             requires fresh { seat.1 ≡ [] }
-            ensures { IfOk result (λ d. ticks_of d.seat.1 ≡ ticks) }
+            ensures { IfOk result (λ d. IsShift d.seat.0 ticks d.seat.1) }
         { drive(rt, alloc, machine, seat, ticks) },
     )
 }

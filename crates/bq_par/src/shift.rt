@@ -1,7 +1,7 @@
 //! What one thread does: it admits the task of its processor, wakes it there, and lets the processor tick.
-ghost use Rattle.std.specs.Prelude.{◌≡◌, ◌+◌, ◌<◌, ◌++◌, ◌∷◌, [], IfOk, IfSome, OnOk};
+ghost use Rattle.std.specs.Prelude.{◌≡◌, ◌<◌, ◌++◌, ◌∷◌, [], IfOk, OnOk};
 ghost use Rattle.std.specs.Option.{option_to_list};
-ghost use Rattle.bq_par.specs.Ticks.{one_tick, ticks_of};
+ghost use Rattle.bq_par.specs.Shifts.{IsShift, IsStart, TicksMore};
 
 use bq_disc::RunQueue;
 use bq_history::{Numbered, Receipt};
@@ -41,7 +41,8 @@ pub fn drive<Q: RunQueue + Drop, K: Clock + Drop, N: Naming + Counting, R: Wait,
 ) -> Result<Done<N>, Refusal>
     requires number { seat.0 < 256 }
     requires fresh { seat.1 ≡ [] }
-    ensures { IfOk result (λ d. ticks_of d.seat.1 ≡ ticks) }
+    ensures own { IfOk result (λ d. d.seat.0 ≡ seat.0) }
+    ensures shift { IfOk result (λ d. IsShift d.seat.0 ticks d.seat.1) }
 {
     let mut seat = seat;
     let processor = seat.number() as u8;
@@ -66,8 +67,8 @@ fn tick_all<Q: RunQueue + Drop, K: Clock + Drop, N: Naming + Counting, R: Wait, 
     duty: &Duty,
 ) -> Result<(), Refusal>
     requires { seat.old.1 ≡ receipts.old.items }
-    ensures held { OnOk result (seat.new.1 ≡ receipts.new.items) }
-    ensures ticks { OnOk result (ticks_of receipts.new.items ≡ ticks_of receipts.old.items + duty.now.ticks) }
+    ensures held { OnOk result (seat.new ≡ (seat.old.0, receipts.new.items)) }
+    ensures ticks { OnOk result (TicksMore duty.now.processor duty.now.ticks receipts.old.items receipts.new.items) }
 {
     let Duty { processor, ticks } = *duty;
     'ticks: for _ in 0..ticks {
@@ -86,9 +87,10 @@ fn start<Q: RunQueue + Drop, K: Clock + Drop, N: Naming + Counting, R: Wait, con
     receipts: &mut Vec<Receipt<Record>>,
     processor: u8,
 ) -> Result<(), Refusal>
-    requires { seat.old.1 ≡ receipts.old.items }
-    ensures held { OnOk result (seat.new.1 ≡ receipts.new.items) }
-    ensures ticks { OnOk result (ticks_of receipts.new.items ≡ ticks_of receipts.old.items) }
+    requires fresh { seat.old.1 ≡ [] }
+    requires none { receipts.old.items ≡ [] }
+    ensures held { OnOk result (seat.new ≡ (seat.old.0, receipts.new.items)) }
+    ensures start { OnOk result (IsStart processor receipts.new.items) }
 {
     let task = u16::from(processor);
     let admitted = machine.admit(rt, alloc, seat, task, 0, u64::MAX, SLICE)?;
@@ -101,10 +103,7 @@ fn start<Q: RunQueue + Drop, K: Clock + Drop, N: Naming + Counting, R: Wait, con
 
 /// The receipts of a wake more.
 fn keep_wake(receipts: &mut Vec<Receipt<Record>>, woken: WakeReceipts) -> Result<(), Refusal>
-    requires begin { one_tick woken.begin.entry ≡ 0 }
-    requires end { IfSome woken.end (λ r. one_tick r.entry ≡ 0) }
-    ensures items { OnOk result (receipts.new.items ≡ (receipts.old.items ++ woken.begin ∷ []) ++ option_to_list woken.end) }
-    ensures ticks { OnOk result (ticks_of receipts.new.items ≡ ticks_of receipts.old.items) }
+    ensures { OnOk result (receipts.new.items ≡ (receipts.old.items ++ woken.begin ∷ []) ++ option_to_list woken.end) }
 {
     let WakeReceipts { begin, end } = woken;
     keep(receipts, begin)?;
@@ -116,10 +115,8 @@ fn keep_wake(receipts: &mut Vec<Receipt<Record>>, woken: WakeReceipts) -> Result
 
 /// One receipt more.
 #[inline(always)]
-#[tactic(auto, using(bq_tie::proofs::MoveLemmas::total_snoc))]
 fn keep(receipts: &mut Vec<Receipt<Record>>, receipt: Receipt<Record>) -> Result<(), Refusal>
-    ensures items { OnOk result (receipts.new.items ≡ receipts.old.items ++ receipt ∷ []) }
-    ensures ticks { OnOk result (ticks_of receipts.new.items ≡ ticks_of receipts.old.items + one_tick receipt.entry) }
+    ensures { OnOk result (receipts.new.items ≡ receipts.old.items ++ receipt ∷ []) }
 {
     if receipts.reserve(1).is_err() {
         return Err(Refusal::OutOfMemory);

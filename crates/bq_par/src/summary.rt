@@ -4,8 +4,9 @@ ghost use Rattle.std.specs.List.{All, sum_by};
 ghost use Rattle.std.specs.Option.{option_map};
 ghost use Rattle.bq_tie.specs.Whole.{Each};
 ghost use Rattle.bq_history.specs.History.{IsConfirmed, Stands};
+ghost use Rattle.bq_par.specs.Shifts.{IsShift};
 ghost use Rattle.bq_par.specs.Summaries.{IsSummary, summary_line};
-ghost use Rattle.bq_par.specs.Ticks.{one_tick, ticks_of};
+ghost use Rattle.bq_par.specs.Ticks.{one_tick};
 
 use crate::shift::Done;
 use bq_disc::RunQueue;
@@ -46,16 +47,17 @@ struct ReturnedSeats<N: Naming + Counting> {
     ghost same: { map (λ l. l.items) lists.items ≡ map (λ s. s.1) seats.items },
 }
 
-/// Ends a machine whose seats have come back, each with receipts for so many ticks, and says what its history is. Want of
-/// memory is the only error.
+/// Ends a machine whose seats have come back, each with the receipts of its processor's shift, and says what its history is.
+/// Want of memory is the only error.
 pub fn finish<Q: RunQueue + Drop, K: Clock + Drop, N: Naming + Counting, const P: usize>(
     alloc: Global,
     machine: Machine<Q, K, N, P>,
     done: Vec<Result<Done<N>, Refusal>>,
     ticks: u32,
 ) -> Result<Summary, AllocError>
+    requires callers { machine.recorder.history.callers ≡ P }
     requires many { vec_len done ≡ P }
-    requires ticked { All (λ r. IfOk r (λ d. ticks_of d.seat.1 ≡ ticks)) done.items }
+    requires shifts { All (λ r. IfOk r (λ d. IsShift d.seat.0 ticks d.seat.1)) done.items }
     ensures { IfOk result (IsSummary Q.R.discipline P ticks) }
 {
     let ReturnedSeats { seats, lists } = returned(alloc, done, ticks)?;
@@ -72,15 +74,15 @@ pub fn finish<Q: RunQueue + Drop, K: Clock + Drop, N: Naming + Counting, const P
     })
 }
 
-/// The seats and the receipts of all threads, each with receipts for so many ticks. A thread that wanted memory is an error.
+/// The seats and the receipts of all threads, each those of its processor's shift. A thread that wanted memory is an error.
 fn returned<N: Naming + Counting>(
     alloc: Global,
     done: Vec<Result<Done<N>, Refusal>>,
     ticks: u32,
 ) -> Result<ReturnedSeats<N>, AllocError>
-    requires { All (λ r. IfOk r (λ d. ticks_of d.seat.1 ≡ ticks)) done.items }
+    requires { All (λ r. IfOk r (λ d. IsShift d.seat.0 ticks d.seat.1)) done.items }
     ensures many { IfOk result (λ r. length r.seats.items ≡ vec_len done) }
-    ensures ticked { IfOk result (λ r. Each (λ s. ticks_of s.1 ≡ ticks) r.seats.items) }
+    ensures shifts { IfOk result (λ r. Each (λ s. IsShift s.0 ticks s.1) r.seats.items) }
 {
     let mut done = done;
     let mut seats = Vec::with_capacity(alloc, done.len())?;

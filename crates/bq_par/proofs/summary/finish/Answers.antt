@@ -1,8 +1,11 @@
-use Rattle.std.proofs.Common.{◌≡◌, ◌*◌, ℕ, length, map, rules, arith, sym, ap, ◌∙◌}
+use Rattle.std.proofs.Common.{◌≡◌, ◌*◌, ℕ, length, map, rules, arith, sym, ap, subst, ◌∙◌}
 use Rattle.std.specs.List.{sum_by}
 use Rattle.bq_history.specs.History.{EachOnce, Stands, IsRising}
-use Rattle.bq_par.specs.Ticks.{one_tick, ticks_in, ticks_of}
+use Rattle.bq_history.proofs.RecordingLemmas.{each_map}
+use Rattle.bq_par.specs.Shifts.{IsShift}
+use Rattle.bq_par.specs.Ticks.{one_tick, ticks_in}
 use Rattle.bq_par.proofs.CountLemmas.{all_items, same_many, total_map, total_times}
+use Rattle.bq_par.proofs.ShiftLemmas.{shift_counts, ticks_of}
 use Rattle.bq_par.proofs.summary.finish.Goals as goal
 
 pub close-closed-requires : goal.close-closed-requires
@@ -30,6 +33,8 @@ returns g c =
     let log = c.close-closed.result.history in
     let records = c.in_ok-records.records.items in
     let many : length back.seats.items ≡ g.row.P = said.many ∙ c.requires.many in
+    let owned : EachOnce c.args.machine.recorder.history.callers back.seats.items = rw (← c.deref.ensures.value) (c.owns.ensures.0 c.if-not-owns.false) in
+    let each = each_map (λ s. IsShift s.0 c.args.ticks s.1) (λ s. ticks_of s.1 ≡ c.args.ticks) back.seats.items (λ s shift. shift_counts s.0 c.args.ticks s.1 shift) said.shifts in
     let ticked : c.ticks_among.result ≡ ticks_in log =
     c.ticks_among.ensures ∙ (ap (λ vs. sum_by (λ v. one_tick v.now) vs) c.deref-2.ensures.value
     ∙ (sym (total_map one_tick (λ v. v.now) records) ∙ ap (λ l. ticks_in l) c.in_ok-records.ensures)) in
@@ -40,9 +45,10 @@ returns g c =
       leaves = c.close-closed.ensures.history;
       receipts = r;
       many = many;
-      each = said.ticked;
+      numbers = subst (λ (n : ℕ). EachOnce n back.seats.items) c.requires.callers owned;
+      shifts = said.shifts;
       events = c.len.ensures;
       ticked = ticked;
-      asked = ticked ∙ (sym (r.counts one_tick) ∙ (total_times (λ s. ticks_of s.1) c.args.ticks back.seats.items said.ticked ∙ ap (λ (n : ℕ). n * c.args.ticks) many));
+      asked = ticked ∙ (sym (r.counts one_tick) ∙ (total_times (λ s. ticks_of s.1) c.args.ticks back.seats.items each ∙ ap (λ (n : ℕ). n * c.args.ticks) many));
       confirmed = c.confirmed_among.ensures ∙ (ap (λ vs. sum_by (λ v. length v.items) vs) c.deref-4.ensures.value ∙ same_many (λ s. s.1) (λ v. v.items) back.seats.items back.lists.items back.same);
     }

@@ -1,0 +1,37 @@
+-- What one thread of a parallel run does: the shift of its processor.
+use Rattle.std.specs.Prelude.{◌≡◌, ◌↔◌, ℕ, ◌-◌, ◌^◌, pos, List, [], ◌∷◌, ◌++◌, length, Option, IfSome, IsOk, IsSome}
+use Rattle.std.specs.Option.{option_to_list}
+use Rattle.bq_tie.specs.Whole.{Each}
+use Rattle.bq_history.specs.declared.law.Receipt.{Receipt}
+use Rattle.bq_parts.specs.declared.event.Event.TheVariants.{Admit, BeginWake, EndWake, Drain, Tick}
+use Rattle.bq_cells.specs.declared.record.Record.{Record}
+
+-- the receipt is for a tick of that processor
+abbrev pub IsTickAt : ℕ → Receipt Record → Type 0
+IsTickAt p r = (now : ℕ) × (r.entry.event ≡ Tick p now)
+
+-- the processor's task, whose id is the processor's number, is admitted for all processors, then woken there, and then drained there; the wake ends just where its beginning was not refused
+pub record IsStart (p : ℕ) (l : List (Receipt Record)) : Type 0 where
+  pub admit : Receipt Record
+  pub begin : Receipt Record
+  pub end : Option (Receipt Record)
+  pub drain : Receipt Record
+  pub whole : l ≡ admit ∷ begin ∷ (option_to_list end ++ drain ∷ [])
+  pub admitted : admit.entry.event ≡ Admit p (pos 0) (2 ^ 64 - 1) 3000000
+  pub begun : begin.entry.event ≡ BeginWake p p
+  pub woken : IfSome end (λ (r : Receipt Record). (now : ℕ) × (r.entry.event ≡ EndWake p now))
+  pub ended : IsSome end ↔ IsOk begin.entry.reply
+  pub drained : (now : ℕ) × (drain.entry.event ≡ Drain p now)
+
+-- so many ticks of the processor stand behind the receipts before
+pub record TicksMore (p ticks : ℕ) (before after : List (Receipt Record)) : Type 0 where
+  pub beats : List (Receipt Record)
+  pub behind : after ≡ before ++ beats
+  pub many : length beats ≡ ticks
+  pub each : Each (IsTickAt p) beats
+
+-- the receipts of a shift: the task comes, is woken and is drained there, and then the processor ticks so often
+pub record IsShift (p ticks : ℕ) (l : List (Receipt Record)) : Type 0 where
+  pub start : List (Receipt Record)
+  pub started : IsStart p start
+  pub ticked : TicksMore p ticks start l
