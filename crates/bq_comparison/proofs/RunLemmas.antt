@@ -1,10 +1,16 @@
 -- Runs, and more of them at the end.
-use Rattle.std.proofs.Common.{◌≡◌, ℕ, ◌+◌, List, [], ◌∷◌, ◌++◌, length, map, Ok, Result, IfOk, ap, sym, refl, zero, suc, subst, append_assoc, append-nil, ◌∙◌, arith}
+use Rattle.std.proofs.Common.{◌≡◌, ℕ, ◌+◌, List, [], ◌∷◌, ◌++◌, length, map, Ok, Err, Result, IfOk, ◌⊎◌, inl, inr, ap, sym, refl, zero, suc, subst, append_assoc, append-nil, ◌∙◌, arith}
 use Rattle.std.proofs.lemmas.List.{length-append, length-map, map-append}
 use Rattle.bq_actions.specs.declared.workload.Workload.{Workload}
 use Rattle.bq_comparison.specs.declared.naming.Figure.{Figure}
 use Rattle.bq_comparison.specs.declared.runs.Run.{Run}
+use Rattle.bq_comparison.specs.declared.fault.SeedsFault.{SeedsFault}
+use Rattle.bq_comparison.specs.declared.fault.SeedsFault.TheVariants as fault
+use Rattle.bq_comparison.specs.Faults.{HasFault, IsNoRun, IsNoSummary, fault_of_run}
+use Rattle.bq_actions.specs.Soundness.{first_flaw}
+use Rattle.bq_simulate.specs.Faults.{flaw_told}
 use Rattle.bq_simulate.specs.declared.fault.SimulateFault.{SimulateFault}
+use Rattle.bq_simulate.specs.declared.fault.SimulateFault.TheVariants as run_fault
 use Rattle.bq_simulate.specs.Simulations.{Accepted, with_seed}
 use Rattle.bq_comparison.specs.Seeds.{AreResults, AreRuns, Comes, IsRun}
 
@@ -14,8 +20,10 @@ ran policies w figures seed [] h = tt
 ran policies w figures seed (x ∷ xs) h =
     let P : ℕ → Type 0 = λ s. IsRun policies (with_seed w s) figures x in
     let rest : AreResults policies w figures (seed + 1) (map Ok xs) = λ i r there.
-    subst (λ s. IfOk r (IsRun policies (with_seed w s) figures)) (omega arith) (h (suc i) r there) in
-    (subst P (omega arith) (h zero (Ok x) refl), ran policies w figures (seed + 1) xs rest)
+    let next = h (suc i) r there in
+    (subst (λ s. IfOk r (IsRun policies (with_seed w s) figures)) (omega arith) next.0, next.1) in
+    let first = h zero (Ok x) refl in
+    (subst P (omega arith) first.0, ran policies w figures (seed + 1) xs rest)
 
 -- runs with some seeds, and results with the seeds after them that are runs, are runs together
 pub AreRuns-append : (policies : List Accepted) (w : Workload) (figures : List Figure) (seed : ℕ) (runs more : List Run)
@@ -27,11 +35,11 @@ AreRuns-append policies w figures seed (x ∷ xs) more h k =
     let P : ℕ → Type 0 = λ s. AreResults policies w figures s (map Ok more) in
     (h.0, AreRuns-append policies w figures (seed + 1) xs more h.1 (subst P (omega arith) k))
 
-abbrev ended : Run → Result Run SimulateFault
+abbrev ended : Run → Result Run SeedsFault
 ended = Ok
 
 -- one more
-pub Comes-more : (before after : List Run) (results : List (Result Run SimulateFault)) (run : Run) → Comes before results after → Comes before (results ++ Ok run ∷ []) (after ++ run ∷ [])
+pub Comes-more : (before after : List Run) (results : List (Result Run SeedsFault)) (run : Run) → Comes before results after → Comes before (results ++ Ok run ∷ []) (after ++ run ∷ [])
 Comes-more before after results run (more, ok, is) =
     (more ++ run ∷ [], ap (λ l. l ++ Ok run ∷ []) ok ∙ sym (map-append ended more (run ∷ [])), ap (λ l. l ++ run ∷ []) is ∙ append_assoc before more (run ∷ []))
 
@@ -40,15 +48,35 @@ pub Comes-none : (before : List Run) → Comes before [] before
 Comes-none before = ([], refl, sym (append-nil before))
 
 -- as many as came to their end
-pub Comes-count : (before after : List Run) (results : List (Result Run SimulateFault)) → Comes before results after → length after ≡ length before + length results
+pub Comes-count : (before after : List Run) (results : List (Result Run SeedsFault)) → Comes before results after → length after ≡ length before + length results
 Comes-count before after results (more, ok, is) =
     ap length is ∙ length-append before more ∙ ap (λ n. length before + n) (sym (length-map more ended) ∙ ap length (sym ok))
 
 -- those with the next seeds stand behind those before
-pub AreRuns-come : (policies : List Accepted) (w : Workload) (figures : List Figure) (seed next : ℕ) (before after : List Run) (results : List (Result Run SimulateFault))
+pub AreRuns-come : (policies : List Accepted) (w : Workload) (figures : List Figure) (seed next : ℕ) (before after : List Run) (results : List (Result Run SeedsFault))
     → next ≡ seed + length before → AreRuns policies w figures seed before → AreResults policies w figures next results → Comes before results after → AreRuns policies w figures seed after
 AreRuns-come policies w figures seed next before after results at h k (more, ok, is) =
     let P : List Run → Type 0 = λ l. AreRuns policies w figures seed l in
     let Q : ℕ → Type 0 = λ s. AreResults policies w figures s results in
-    let R : List (Result Run SimulateFault) → Type 0 = λ l. AreResults policies w figures (seed + length before) l in
+    let R : List (Result Run SeedsFault) → Type 0 = λ l. AreResults policies w figures (seed + length before) l in
     subst P (sym is) (AreRuns-append policies w figures seed before more h (subst R ok (subst Q at k)))
+
+-- the fault of a run, in the words of a summary, says as much
+pub refused : (w : Workload) (why : SimulateFault) → flaw_told why ≡ first_flaw w → IsNoRun w (fault_of_run why)
+refused w run_fault.OutOfMemory h = tt
+refused w (run_fault.Unsound flaw) h = h
+refused w (run_fault.Drive fault) h = h
+refused w run_fault.Astray h = h
+refused w run_fault.Endless h = h
+
+-- where a run is refused, so are all
+refused_all : (w : Workload) (count : ℕ) (why : SeedsFault) → IsNoRun w why → IsNoSummary w count why
+refused_all w count (fault.Run why) h = h
+refused_all w count fault.Last h = absurd h
+refused_all w count fault.OutOfMemory h = tt
+
+-- and where one of the results is a fault, or memory runs out
+pub none_comes : (policies : List Accepted) (w : Workload) (figures : List Figure) (seed count : ℕ) (results : List (Result Run SeedsFault)) (why : SeedsFault)
+    → AreResults policies w figures seed results → (why ≡ fault.OutOfMemory) ⊎ HasFault results why → IsNoSummary w count why
+none_comes policies w figures seed count results why are (inl out) = subst (λ e. IsNoSummary w count e) (sym out) tt
+none_comes policies w figures seed count results why are (inr (i, there)) = let one = are i (Err why) there in refused_all w count why one.1

@@ -1,9 +1,18 @@
 -- What the words of a comparison ask for.
-use Rattle.std.specs.Prelude.{◌≡◌, ℕ, ◌&&◌, nat_le, List, [], Option, Some, None, IsNone, String, if◌then◌else◌, string_bytes}
+use Rattle.std.specs.Prelude.{◌≡◌, ℕ, ◌&&◌, nat_le, List, [], Option, Some, None, IsNone, String, if◌then◌else◌, option_and_then, string_bytes}
 use Rattle.std.specs.Global.{Global}
 use Rattle.bq_lines.specs.Numbers.{decimal_of}
+use Rattle.bq_timeline.specs.Settings.{AsksFor, IsNoSettings, form_asked}
+use Rattle.bq_timeline.specs.declared.form_names.FormName.{FormName}
+use Rattle.bq_timeline.specs.declared.form_names.FormName.TheVariants as form
+use Rattle.bq_timeline.specs.declared.settings.Settings.{Settings}
+use Rattle.bq_timeline.specs.declared.settings.Words.{Words}
+use Rattle.bq_study.specs.declared.asked.AskedFault.{AskedFault}
+use Rattle.bq_study.specs.declared.asked.AskedFault.TheVariants as fault
 use Rattle.bq_study.specs.declared.command.StudyWords.{StudyWords}
 use Rattle.bq_comparison.specs.declared.asked.Comparing.{Comparing}
+use Rattle.bq_comparison.specs.declared.asked.TableForm.{TableForm}
+use Rattle.bq_comparison.specs.declared.asked.TableForm.TheVariants as table
 
 -- a number from the least to the most
 abbrev pub within : ℕ → ℕ → Option ℕ → Option ℕ
@@ -19,11 +28,41 @@ abbrev pub seeds_asked : Option (String Global) → Option ℕ
 seeds_asked None = Some 1
 seeds_asked (Some word) = seeds_in (string_bytes word)
 
+-- the form of a table, if it is one
+abbrev pub table_of : FormName → Option TableForm
+table_of form.Report = Some table.Report
+table_of form.Csv = Some table.Csv
+table_of form.Json = Some table.Json
+table_of other = None
+
+-- the form of a table, where the words are right: a report, where none is named
+abbrev pub table_asked : Words → Option TableForm
+table_asked w = option_and_then table_of (form_asked w)
+
 -- neither several seeds nor something to compare with
 abbrev pub AskForNone : StudyWords → Type 0
 AskForNone words = IsNone words.seeds × (words.against.items ≡ [])
 
--- nothing where neither is asked for, and else so many seeds
+-- the words ask for so many seeds, and for a table of that form that shows the window that they ask for
+pub record AskToCompare (words : StudyWords) (c : Comparing) : Type 0 where
+  pub seeds : seeds_asked words.seeds ≡ Some c.seeds
+  pub settings : Settings
+  pub shown : AsksFor words.shown settings
+  pub window : c.window ≡ settings.window
+  pub form : table_of settings.form ≡ Some c.form
+
+-- nothing where neither is asked for, and else this comparison
 abbrev pub AskFor : StudyWords → Option Comparing → Type 0
 AskFor words None = AskForNone words
-AskFor words (Some c) = (¬ AskForNone words) × (seeds_asked words.seeds ≡ Some c.seeds)
+AskFor words (Some c) = (¬ AskForNone words) × AskToCompare words c
+
+-- the word that the fault names is none of its kind: no number of seeds, no form of a table, or none of what a timeline shows
+abbrev pub HasNoWord : StudyWords → AskedFault → Type 0
+HasNoWord words fault.Seeds = seeds_asked words.seeds ≡ None
+HasNoWord words fault.TableForm = table_asked words.shown ≡ None
+HasNoWord words (fault.Settings why) = IsNoSettings words.shown why
+HasNoWord words other = ⊥
+
+-- a comparison is asked for, and the word that the fault names is none of its kind
+abbrev pub IsNoComparison : StudyWords → AskedFault → Type 0
+IsNoComparison words why = (¬ AskForNone words) × HasNoWord words why

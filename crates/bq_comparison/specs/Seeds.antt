@@ -1,5 +1,5 @@
 -- Runs of one workload with several seeds.
-use Rattle.std.specs.Prelude.{◌≡◌, ℕ, ◌+◌, List, [], ◌∷◌, ◌++◌, Some, Result, Ok, IfOk, map, length, slice_get}
+use Rattle.std.specs.Prelude.{◌≡◌, ℕ, ◌+◌, List, [], ◌∷◌, ◌++◌, Some, Result, Ok, IfErr, IfOk, map, length, slice_get}
 use Rattle.bq_actions.specs.declared.workload.Workload.{Workload}
 use Rattle.bq_schedule.specs.Figures.{Figures}
 use Rattle.bq_comparison.specs.declared.naming.Figure.{Figure}
@@ -10,7 +10,8 @@ use Rattle.bq_comparison.specs.Rows.{AreRows}
 use Rattle.bq_comparison.specs.Runs.{IsRunOf}
 use Rattle.bq_simulate.specs.Simulations.{Accepted, with_seed}
 use Rattle.bq_comparison.specs.Gathering.{IsGathered}
-use Rattle.bq_simulate.specs.declared.fault.SimulateFault.{SimulateFault}
+use Rattle.bq_comparison.specs.declared.fault.SeedsFault.{SeedsFault}
+use Rattle.bq_comparison.specs.Faults.{IsNoRun}
 
 -- the figures of a simulation of that workload with these policies
 pub record IsRun (policies : List Accepted) (w : Workload) (figures : List Figure) (run : Run) : Type 0 where
@@ -31,10 +32,10 @@ pub record IsSummary (policies : List Accepted) (w : Workload) (count : ℕ) (fi
   pub runs_are : AreRuns policies w figures w.machine.seed runs
   pub rows_are : AreRows runs figures rows
 
--- what came of a run with each seed from that one on: its figures, where it came to its end
-abbrev pub AreResults : List Accepted → Workload → List Figure → ℕ → List (Result Run SimulateFault) → Type 0
-AreResults policies w figures seed results = (i : ℕ) (result : Result Run SimulateFault) → slice_get results i ≡ Some result → IfOk result (IsRun policies (with_seed w (seed + i)) figures)
+-- what came of a run with each seed from that one on: its figures, where it came to its end, and else why it did not
+abbrev pub AreResults : List Accepted → Workload → List Figure → ℕ → List (Result Run SeedsFault) → Type 0
+AreResults policies w figures seed results = (i : ℕ) (result : Result Run SeedsFault) → slice_get results i ≡ Some result → IfOk result (IsRun policies (with_seed w (seed + i)) figures) × IfErr result (IsNoRun w)
 
 -- each of them came to its end, and they stand behind those before
-abbrev pub Comes : List Run → List (Result Run SimulateFault) → List Run → Type 0
+abbrev pub Comes : List Run → List (Result Run SeedsFault) → List Run → Type 0
 Comes before results after = (more : List Run) × (results ≡ map Ok more) × (after ≡ before ++ more)

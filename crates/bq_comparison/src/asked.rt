@@ -1,6 +1,6 @@
 //! What is asked for, by the words of the command.
-ghost use Rattle.std.specs.Prelude.{◌≡◌, ◌≤◌, ◌↔◌, IfOk, IfSome, IsErrOf, None};
-ghost use Rattle.bq_comparison.specs.Asking.{AskFor, AskForNone, seeds_asked, seeds_in};
+ghost use Rattle.std.specs.Prelude.{◌≡◌, ◌≤◌, ◌↔◌, IfErr, IfOk, IfSome, IsErrOf, None};
+ghost use Rattle.bq_comparison.specs.Asking.{AskFor, AskForNone, IsNoComparison, seeds_asked, seeds_in, table_of};
 ghost use Rattle.bq_study.specs.declared.asked.AskedFault.TheVariants as why;
 
 use bq_forms::Window;
@@ -33,11 +33,14 @@ pub struct Comparing {
 
 /// What the words ask for, if they ask for several seeds or for something to compare with. Without `--seeds` it is one seed.
 pub fn asked_comparison(alloc: Global, words: &StudyWords) -> Result<Option<Comparing>, AskedFault>
-    // Nothing where the words ask for neither, and else so many seeds as they say.
+    // Nothing where the words ask for neither, and else so many seeds as they say, in the window and the form that they name.
     ensures asked { IfOk result (AskFor words.now) }
     ensures bound { IfOk result (λ asked. IfSome asked (λ c. (1 ≤ c.seeds) × (c.seeds ≤ 1000))) }
 
-    // That fault comes just where they say another number.
+    // The fault names a word that is none of its kind.
+    ensures fault { IfErr result (IsNoComparison words.now) }
+
+    // That of the seeds comes just where they say another number.
     ensures seeds { IsErrOf result why.Seeds ↔ ((¬ AskForNone words.now) × (seeds_asked words.now.seeds ≡ None)) }
 {
     if words.seeds.is_none() && words.against.is_empty() {
@@ -75,7 +78,9 @@ fn seeds_of(word: &str) -> Option<u16>
 }
 
 /// The form of a table, if it is one.
-fn table_form(form: FormName) -> Option<TableForm> {
+fn table_form(form: FormName) -> Option<TableForm>
+    ensures { result ≡ table_of form }
+{
     match form {
         FormName::Report => Some(TableForm::Report),
         FormName::Csv => Some(TableForm::Csv),

@@ -18,10 +18,10 @@ pub enum SeedsFault {
 }
 
 impl From<SimulateFault> for SeedsFault {
-    ghost use Rattle.std.specs.Prelude.{◌≢◌};
-    ghost use Rattle.bq_comparison.specs.declared.fault.SeedsFault.TheVariants.{Last};
+    ghost use Rattle.std.specs.Prelude.{◌≡◌};
+    ghost use Rattle.bq_comparison.specs.Faults.{fault_of_run};
 
-    ghost from_gives = { λ _ e. e ≢ Last };
+    ghost from_gives = { λ f e. e ≡ fault_of_run f };
 
     fn from(fault: SimulateFault) -> SeedsFault {
         match fault {

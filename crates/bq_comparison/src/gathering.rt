@@ -1,7 +1,9 @@
 //! What is kept of one simulation.
-ghost use Rattle.std.specs.Prelude.{◌≡◌, ◌++◌, [], IfOk, None};
+ghost use Rattle.std.specs.Prelude.{◌≡◌, ◌++◌, [], IfErr, IfOk, None};
+ghost use Rattle.bq_actions.specs.Soundness.{first_flaw};
 ghost use Rattle.bq_comparison.specs.Gathering.{IsGathered, delays_with};
 ghost use Rattle.bq_timeline.specs.Watching.{watched};
+ghost use Rattle.bq_simulate.specs.Faults.{flaw_told};
 ghost use Rattle.bq_simulate.specs.Simulations.{with_seed};
 
 use crate::Delay;
@@ -117,7 +119,9 @@ pub(crate) fn gather(
     seed: u64,
     policies: &[Policy],
 ) -> Result<Gatherer, SimulateFault>
-    ensures { IfOk result (λ g. IsGathered policies.now (with_seed workload.now seed) g.schedule g.delays.items) }
+    ensures gathered { IfOk result (λ g. IsGathered policies.now (with_seed workload.now seed) g.schedule g.delays.items) }
+    ensures sound { IfOk result (λ _. first_flaw workload.now ≡ None) }
+    ensures flaw { IfErr result (λ fault. flaw_told fault ≡ first_flaw workload.now) }
 {
     let mut gatherer = Gatherer::new(alloc);
     simulate_seed(alloc, workload, seed, policies, &mut gatherer)?;

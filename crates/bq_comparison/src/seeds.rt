@@ -1,7 +1,8 @@
 //! A workload run with several seeds.
-ghost use Rattle.std.specs.Prelude.{◌≡◌, ◌≢◌, ◌<◌, ◌+◌, ◌≤◌, ◌^◌, vec_len, IfOk, OnOk, Err};
+ghost use Rattle.std.specs.Prelude.{◌≡◌, ◌<◌, ◌+◌, ◌≤◌, ◌^◌, ◌⊎◌, vec_len, IfErr, IfOk, OnOk};
+ghost use Rattle.bq_comparison.specs.Faults.{HasFault, IsNoRun, IsNoSummary};
 ghost use Rattle.bq_comparison.specs.Seeds.{AreResults, AreRuns, Comes, IsRun, IsSummary};
-ghost use Rattle.bq_comparison.specs.declared.fault.SeedsFault.TheVariants.{Last};
+ghost use Rattle.bq_comparison.specs.declared.fault.SeedsFault.TheVariants.{OutOfMemory};
 ghost use Rattle.bq_simulate.specs.Simulations.{with_seed};
 
 use crate::fault::SeedsFault;
@@ -17,7 +18,7 @@ use std::thread::{Threads, available_parallelism, map_indices};
 pub type Rows = Vec<Row>;
 
 /// What comes of some runs.
-type Results = Vec<Result<Run, SimulateFault>>;
+type Results = Vec<Result<Run, SeedsFault>>;
 
 /// What runs share that differ by their seeds alone.
 #[derive(Clone, Copy)]
@@ -33,7 +34,8 @@ struct Experiment<'a> {
 const MOST_AT_ONCE: usize = 64;
 
 /// Runs a workload with so many seeds, from its own on, with these policies at all processors; what the runs say of each of
-/// the figures. So many runs are done at once as there are processors at hand, each on a thread of its own.
+/// the figures. So many runs are done at once as there are processors at hand, each on a thread of its own. A workload with a
+/// flaw is refused for the first of its flaws, and `Last` comes just where the last seed would be 2^64 or more.
 pub fn summary<T: Threads + Sync>(
     threads: &T,
     alloc: Global,
@@ -43,7 +45,7 @@ pub fn summary<T: Threads + Sync>(
     figures: &[Figure],
 ) -> Result<Rows, SeedsFault>
     ensures rows { IfOk result (λ rows. IsSummary policies.now workload.now count figures.now rows.items) }
-    ensures last { result ≡ Err Last → 2 ^ 64 < workload.now.machine.seed + count }
+    ensures fault { IfErr result (IsNoSummary workload.now count) }
 {
     let experiment = Experiment {
         workload,
@@ -64,7 +66,7 @@ fn runs<T: Threads + Sync>(
 ) -> Result<Vec<Run>, SeedsFault>
     ensures runs { IfOk result (λ runs. AreRuns experiment.now.policies.now experiment.now.workload.now experiment.now.figures.now experiment.now.workload.now.machine.seed runs.items) }
     ensures count { IfOk result (λ runs. vec_len runs ≡ count) }
-    ensures last { result ≡ Err Last → 2 ^ 64 < experiment.now.workload.now.machine.seed + count }
+    ensures fault { IfErr result (IsNoSummary experiment.now.workload.now count) }
 {
     let first = experiment.workload.machine.seed;
     let others = u64::from(count).saturating_sub(1);
@@ -101,6 +103,7 @@ fn at_once<T: Threads + Sync>(
     first: u64,
     count: usize,
 ) -> Result<Results, AllocError>
+    requires { first + count ≤ 2 ^ 64 }
     ensures results { IfOk result (λ results. AreResults experiment.now.policies.now experiment.now.workload.now experiment.now.figures.now first results.items) }
     ensures count { IfOk result (λ results. vec_len results ≡ count) }
 {
@@ -118,19 +121,20 @@ fn nth_run(
     experiment: &Experiment<'_>,
     first: u64,
     number: usize,
-) -> Result<Run, SimulateFault>
-    ensures { IfOk result (IsRun experiment.now.policies.now (with_seed experiment.now.workload.now (first + number)) experiment.now.figures.now) }
+) -> Result<Run, SeedsFault>
+    ensures run { IfOk result (IsRun experiment.now.policies.now (with_seed experiment.now.workload.now (first + number)) experiment.now.figures.now) }
+    ensures fault { first + number < 2 ^ 64 → IfErr result (IsNoRun experiment.now.workload.now) }
 {
     let seed = first
         .checked_add(number as u64)
-        .ok_or(SimulateFault::Astray)?;
+        .ok_or(SeedsFault::Run(SimulateFault::Astray))?;
     run(alloc, experiment, seed)
 }
 
 /// Adds what came of some runs; where one did not come to its end, the first such fault.
 fn add_all(runs: &mut Vec<Run>, results: Results) -> Result<(), SeedsFault>
     ensures comes { OnOk result (Comes runs.old.items results.items runs.new.items) }
-    ensures last { result ≢ Err Last }
+    ensures fault { IfErr result (λ why. (why ≡ OutOfMemory) ⊎ HasFault results.items why) }
 {
     'results: for result in results {
         runs.push(result?)?;
@@ -139,8 +143,9 @@ fn add_all(runs: &mut Vec<Run>, results: Results) -> Result<(), SeedsFault>
 }
 
 /// One run, with this seed in place of the workload's own.
-fn run(alloc: Global, experiment: &Experiment<'_>, seed: u64) -> Result<Run, SimulateFault>
-    ensures { IfOk result (IsRun experiment.now.policies.now (with_seed experiment.now.workload.now seed) experiment.now.figures.now) }
+fn run(alloc: Global, experiment: &Experiment<'_>, seed: u64) -> Result<Run, SeedsFault>
+    ensures run { IfOk result (IsRun experiment.now.policies.now (with_seed experiment.now.workload.now seed) experiment.now.figures.now) }
+    ensures fault { IfErr result (IsNoRun experiment.now.workload.now) }
 {
     let Experiment {
         workload,
@@ -150,6 +155,6 @@ fn run(alloc: Global, experiment: &Experiment<'_>, seed: u64) -> Result<Run, Sim
     let gathered = gather(alloc, workload, seed, policies)?;
     match &gathered.schedule {
         Some(schedule) => Ok(run_of(alloc, schedule, gathered.delays.as_slice(), figures)?),
-        None => Err(SimulateFault::Astray),
+        None => Err(SeedsFault::Run(SimulateFault::Astray)),
     }
 }

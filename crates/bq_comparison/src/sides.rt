@@ -1,5 +1,6 @@
 //! The two sides of a comparison.
-ghost use Rattle.std.specs.Prelude.{◌≡◌, IfOk, option_map};
+ghost use Rattle.std.specs.Prelude.{◌≡◌, IfErr, IfOk, option_map};
+ghost use Rattle.bq_comparison.specs.Faults.{IsNoSummary};
 ghost use Rattle.bq_comparison.specs.Sides.{IsComparison, extent_of};
 
 use crate::{Extent, Rows, SeedsFault, all_figures, summary};
@@ -16,7 +17,8 @@ pub struct Sides {
 }
 
 /// Runs a workload with so many seeds, from its own on, under policies, and with the same seeds under others, if there are
-/// others; as many runs at once as there are processors at hand.
+/// others; as many runs at once as there are processors at hand. A workload with a flaw is refused for the first of its flaws,
+/// and `Last` comes just for the numbers of the seeds.
 pub fn compare<T: Threads + Sync>(
     threads: &T,
     alloc: Global,
@@ -25,7 +27,8 @@ pub fn compare<T: Threads + Sync>(
     others: Option<&Policies>,
     seeds: u16,
 ) -> Result<Sides, SeedsFault>
-    ensures { IfOk result (IsComparison policies.now.loaded (option_map (λ p. p.now.loaded) others.entry) workload.now seeds) }
+    ensures sides { IfOk result (IsComparison policies.now.loaded (option_map (λ p. p.now.loaded) others.entry) workload.now seeds) }
+    ensures fault { IfErr result (IsNoSummary workload.now seeds) }
 {
     let figures = all_figures(alloc, extent_of(workload))?;
     let figures = figures.as_slice();

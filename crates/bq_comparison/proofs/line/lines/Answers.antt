@@ -1,4 +1,4 @@
-use Rattle.std.proofs.Common.{rules, ◌≡◌, ℕ, ◌+◌, ◌<◌, List, [], ◌∷◌, ◌++◌, length, get_or, take, subst, sym, ap, ◌∙◌, None, refl, arith}
+use Rattle.std.proofs.Common.{rules, ◌≡◌, ◌+◌, ◌<◌, List, [], ◌∷◌, ◌++◌, length, get_or, take, subst, sym, ap, ◌∙◌, None, refl, arith}
 use Rattle.std.proofs.lemmas.List.{length-take, take_more}
 use Rattle.bq_comparison.specs.declared.naming.Figure.TheVariants.{Task}
 use Rattle.bq_comparison.specs.declared.naming.TaskFigure.TheVariants.{Ran}

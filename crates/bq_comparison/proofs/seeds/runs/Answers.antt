@@ -1,5 +1,6 @@
 use Rattle.std.proofs.Common.{rules, ◌≡◌, ◌+◌, ◌≤◌, length, arith}
-use Rattle.bq_comparison.proofs.RunLemmas.{AreRuns-come, Comes-count}
+use Rattle.std.proofs.lemmas.Result.{err_from_is_err_and}
+use Rattle.bq_comparison.proofs.RunLemmas.{AreRuns-come, Comes-count, none_comes}
 use Rattle.bq_comparison.proofs.seeds.runs.Goals as goal
 
 pub numbers-preserved : goal.numbers-preserved
@@ -16,3 +17,9 @@ numbers-preserved g c =
       runs_are = AreRuns-come c.args.experiment.now.policies.now w c.args.experiment.now.figures.now w.machine.seed _ before after results next c.numbers.invariant.runs_are c.in_ok-results.ensures.results comes;
       low = omega (arith, count, wave);
     }
+
+pub returns-in_err-add_all-clause-fault : goal.returns-in_err-add_all-clause-fault
+returns-in_err-add_all-clause-fault g c =
+    let e = c.args.experiment.now in
+    let p = err_from_is_err_and c.from_residual-in_err-add_all.result c.from_residual-in_err-add_all.ensures.1 in
+    rw (p.1, p.2) (none_comes e.policies.now e.workload.now e.figures.now _ c.args.count c.in_ok-results.results.items c.in_err-add_all.field-0.0 c.in_ok-results.ensures.results c.in_err-add_all.ensures.fault)

@@ -1,0 +1,14 @@
+use Rattle.std.proofs.Common.{rules, refl}
+use Rattle.bq_comparison.proofs.asked.asked_comparison.Goals as goal
+
+pub returns-clause-asked : goal.returns-clause-asked
+returns-clause-asked c = (
+  search rules,
+  record {
+    seeds = search rules;
+    settings = c.in-Ok.settings;
+    shown = c.in-Ok.ensures.asked;
+    window = refl;
+    form = search rules;
+  },
+)
