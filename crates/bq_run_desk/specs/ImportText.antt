@@ -5,9 +5,11 @@ use Rattle.std.specs.List.{list_all}
 use Rattle.std.specs.declared.alloc.Global.{Global}
 use Rattle.bq_insn.specs.declared.Insn.{Insn}
 use Rattle.bq_asm.specs.Text.{listing_text}
-use Rattle.bq_import.specs.Importing.{Imports}
+use Rattle.bq_import.specs.Importing.{Imports, IsImportFault}
 use Rattle.bq_run_desk.specs.declared.import_settings.ImportSettings.{ImportSettings}
-use Rattle.bq_program.specs.HexText.{SpellsBytes, is_blank}
+use Rattle.bq_run_desk.specs.declared.import_text.ImportRefusal.{ImportRefusal}
+use Rattle.bq_run_desk.specs.declared.import_text.ImportRefusal.TheVariants as refusal
+use Rattle.bq_program.specs.HexText.{IsNoHex, SpellsBytes, is_blank}
 use Rattle.bq_program.specs.MarkLines.{marks_text}
 
 -- a digit of hex, or a blank
@@ -17,6 +19,18 @@ is_hex_byte b = is_ascii_hexdigit b || is_blank b
 -- the section that is read: what the input spells, where all of it is hex, and else the input itself
 abbrev pub IsSection : List ℕ → List ℕ → Type 0
 IsSection input bytes = ((list_all is_hex_byte input ≡ true) × SpellsBytes input bytes) ⊎ ((list_all is_hex_byte input ≡ false) × (bytes ≡ input))
+
+-- why bytes are not imported; want of memory says nothing of them
+abbrev pub IsUnimported : List ℕ → ImportRefusal → Type 0
+IsUnimported bytes refusal.Hex = ⊥
+IsUnimported bytes (refusal.Import named) = IsImportFault bytes named
+IsUnimported bytes refusal.OutOfMemory = Unit {0}
+
+-- why there is no text: all of the input is hex and yet spells no bytes, or its section is not imported
+abbrev pub IsRefused : List ℕ → ImportRefusal → Type 0
+IsRefused input refusal.Hex = (list_all is_hex_byte input ≡ true) × IsNoHex input
+IsRefused input (refusal.Import named) = (bytes : List ℕ) × IsSection input bytes × IsImportFault bytes named
+IsRefused input refusal.OutOfMemory = Unit {0}
 
 -- the line that names the maps in the words that were given for them, if there are some
 abbrev pub maps_line : Option (String Global) → List ℕ

@@ -1,8 +1,9 @@
 //! The text of a compiled program.
-ghost use Rattle.std.specs.Prelude.{◌≡◌, ◌⊎◌, ℕ, IfOk, List};
+ghost use Rattle.std.specs.Prelude.{◌≡◌, ◌⊎◌, ℕ, IfErr, IfOk, List};
 ghost use Rattle.std.specs.List.{list_all};
 ghost use Rattle.std.specs.String.{string_bytes};
-ghost use Rattle.bq_run_desk.specs.ImportText.{IsSection, IsTextOf, is_hex_byte, maps_line, settings_marks};
+ghost use Rattle.bq_run_desk.specs.declared.import_text.ImportRefusal.TheVariants.{OutOfMemory};
+ghost use Rattle.bq_run_desk.specs.ImportText.{IsRefused, IsSection, IsTextOf, IsUnimported, is_hex_byte, maps_line, settings_marks};
 
 use crate::import_settings::ImportSettings;
 use bq_asm::listing;
@@ -25,12 +26,16 @@ pub enum ImportRefusal {
 }
 
 impl From<AllocError> for ImportRefusal {
+    ghost from_gives = { λ _ e. e ≡ OutOfMemory };
+
     fn from(_e: AllocError) -> ImportRefusal {
         ImportRefusal::OutOfMemory
     }
 }
 
 impl<T: Drop> From<AllocFailed<T>> for ImportRefusal {
+    ghost from_gives = { λ _ e. e ≡ OutOfMemory };
+
     fn from(_e: AllocFailed<T>) -> ImportRefusal {
         ImportRefusal::OutOfMemory
     }
@@ -38,12 +43,14 @@ impl<T: Drop> From<AllocFailed<T>> for ImportRefusal {
 
 /// The text of the program whose text section this is, as bytes, or as hex where it has digits and blanks alone: the marks that
 /// the settings say, and the listing of a copy of it in which every jump goes forward.
+#[tactic(auto, using(crate::proofs::RefusalLemmas::refused_by, crate::proofs::RefusalLemmas::refused_for_memory))]
 pub fn imported(
     alloc: Global,
     settings: &ImportSettings,
     input: &[u8],
 ) -> Result<String, ImportRefusal>
-    ensures { IfOk result (λ text. (bytes : List ℕ) × IsSection input.now bytes × IsTextOf settings.now bytes (string_bytes text)) }
+    ensures text { IfOk result (λ text. (bytes : List ℕ) × IsSection input.now bytes × IsTextOf settings.now bytes (string_bytes text)) }
+    ensures refused { IfErr result (IsRefused input.now) }
 {
     if !is_hex(input) {
         return imported_bytes(alloc, settings, input);
@@ -60,7 +67,8 @@ fn imported_bytes(
     settings: &ImportSettings,
     bytes: &[u8],
 ) -> Result<String, ImportRefusal>
-    ensures { IfOk result (λ text. IsTextOf settings.now bytes.now (string_bytes text)) }
+    ensures text { IfOk result (λ text. IsTextOf settings.now bytes.now (string_bytes text)) }
+    ensures refused { IfErr result (IsUnimported bytes.now) }
 {
     let ordered = match import(alloc, bytes, settings.form.shapes.len()) {
         Ok(ordered) => ordered,
