@@ -115,9 +115,6 @@ operand_good kind.Memory w d h = memory_good (inside w)
 operand_good kind.Near w d h = near_good w d h
 operand_good kind.Far w d h = far_good w d h
 
-AllGood : List Operand → Type 0
-AllGood os = AllByRecursion IsInRange os
-
 next_good : (a : Result Operand Cause) (b : Result (List Operand) Cause) → IfOk a IsInRange → IfOk b (AllByRecursion IsInRange) → IfOk (with_next a b) (AllByRecursion IsInRange)
 next_good (Ok o) (Ok os) h k = (h, k)
 next_good (Ok o) (Err c) h k = tt

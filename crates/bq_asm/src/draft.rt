@@ -7,12 +7,9 @@ use crate::fault::{AsmFault, Cause, refusal};
 use crate::instruction::instruction_of;
 use crate::jump::{Jump, push_jump, set_jumps, target_of};
 use crate::line::{is_label, without_comment, words};
-use bq_insn::Insn;
+use bq_insn::{Insn, SLOTS};
 use indexmap::IndexMap;
 use std::alloc::Global;
-
-/// The most slots of a program.
-const SLOTS: usize = 4096;
 
 /// What is known of the lines that have been read.
 #[derive(Drop)]

@@ -1,5 +1,5 @@
 //! The words after the first.
-ghost use Rattle.std.specs.Prelude.{◌≡◌, Some};
+ghost use Rattle.std.specs.Prelude.{Some};
 ghost use Rattle.bq_asm.specs.Text.{operand_text};
 
 use std::fmt;

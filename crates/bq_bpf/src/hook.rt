@@ -1,4 +1,4 @@
-// Where a policy is asked, how that is named, and how long its context is.
+//! Where a policy is asked, how that is named, and how long its context is.
 
 ghost use Rattle.std.specs.Prelude.{◌≡◌};
 ghost use Rattle.bq_bpf.specs.Hooks.{context_length_of, hook_of, hook_word, version_number, version_of};

@@ -1,6 +1,9 @@
 //! The shape of a map.
 ghost use Rattle.std.specs.Prelude.{◌≡◌, ◌≤◌, ◌%◌, ◌↔◌, IsTrue};
 
+/// How many maps a program has at most.
+pub const MAPS: usize = 8;
+
 /// How many bytes a value has, and how many entries there are.
 ///
 /// A value has 8 to 256 bytes, in eights, and there are 1 to 256 entries.

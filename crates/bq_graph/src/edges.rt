@@ -1,9 +1,9 @@
 //! Where control may go from a slot.
-ghost use Rattle.std.specs.Prelude.{◌≡◌, ◌<◌, ◌≤◌, ◌+◌, ℕ, length, IfSome, IfNone, ◌↔◌, Some};
+ghost use Rattle.std.specs.Prelude.{◌≡◌, ◌<◌, ◌≤◌, ◌+◌, ℕ, length, IfSome, IfNone, Some};
 ghost use Rattle.bq_bpf.specs.Steps.{LeadsTo, instruction_at};
 ghost use Rattle.bq_graph.specs.Edges.{distance_of, goes_on, IsStart};
 
-use bq_insn::Insn;
+use bq_insn::{Insn, SLOTS};
 
 /// How far a jump goes, in slots from the one after it (RFC 9669 section 4.3); `None` where the instruction is no jump.
 pub fn distance(insn: Insn) -> Option<i64>
@@ -42,7 +42,7 @@ pub fn landing(slots: &[Option<Insn>], slot: usize, distance: i64) -> Option<usi
     ensures some { IfSome result (λ to. LeadsTo slot distance to × (slot < to) × IsStart slots.now to) }
     ensures none { IfNone result ((to : ℕ) → LeadsTo slot distance to → slot < to → ¬ IsStart slots.now to) }
 {
-    if distance < 0 || distance >= 4096 {
+    if distance < 0 || distance >= SLOTS as i64 {
         return None;
     }
     let to = slot + 1 + distance as usize;

@@ -1,5 +1,5 @@
 //! Faults that one instruction has by itself.
-ghost use Rattle.std.specs.Prelude.{◌≡◌, ◌≢◌, ◌<◌, ◌≤◌, ◌+◌, length, IsTrue, ◌↔◌, Some};
+ghost use Rattle.std.specs.Prelude.{◌≡◌, ◌<◌, ◌≤◌, ◌+◌, length, IsTrue, ◌↔◌, Some};
 ghost use Rattle.bq_bpf.specs.Steps.{instruction_at, IsCounterCall};
 ghost use Rattle.bq_graph.specs.Paths.{asks_counter};
 ghost use Rattle.bq_graph.specs.Faults.{destination_of, is_helper, IsBadJump, RunsOut, WritesFrame, CallsUnknown};

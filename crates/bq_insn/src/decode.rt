@@ -1,27 +1,26 @@
 //! From bytes to instructions.
-ghost use Rattle.std.specs.Prelude.{◌≡◌, ◌≤◌, ◌%◌, ◌*◌, ◌++◌, length, true, IfOk, IfErr};
+ghost use Rattle.std.specs.Prelude.{◌≡◌, ◌≤◌, ◌%◌, ◌*◌, length, true, IfOk, IfErr};
 ghost use Rattle.bq_insn.specs.Spelling.{spelling, is_well_formed};
 ghost use Rattle.bq_insn.specs.Laws.{AllFit};
 ghost use Rattle.bq_insn.specs.Faults.{IsSlot, BeginsWith, FrontHasCause, HasFront, IsFault};
 
-use crate::Insn;
 use crate::fault::{Cause, DecodeFault};
 use crate::form::Form;
 use crate::judge::cause_at;
 use crate::reading::insn_of;
 use crate::slot::Slot;
+use crate::{Insn, SLOTS};
 use std::alloc::Global;
 
-/// The instructions that the bytes spell (RFC 9669, section 3): a program of 1 to 4096 slots whose registers and widths are
-/// in range. Else names the least slot at which a faulty instruction begins, and there the least cause; a wrong length is
-/// named first, at slot 0.
+/// The instructions that the bytes spell (RFC 9669, section 3): a program of 1 to 4096 slots, registers and widths in range.
+/// Else the least slot at which a faulty instruction begins, and there the least cause; a wrong length first, at slot 0.
 pub fn decode(alloc: Global, bytes: &[u8]) -> Result<Vec<Insn>, DecodeFault>
     ensures well_formed { IfOk result (λ insns. is_well_formed insns.items ≡ true) }
     ensures numbers { IfOk result (λ insns. AllFit insns.items) }
     ensures spelled { IfOk result (λ insns. bytes.now ≡ spelling insns.items) }
     ensures fault { IfErr result (IsFault bytes.now) }
 {
-    if bytes.is_empty() || bytes.len() % 8 != 0 || bytes.len() > 32768 {
+    if bytes.is_empty() || bytes.len() % 8 != 0 || bytes.len() > 8 * SLOTS {
         return Err(DecodeFault::At {
             slot: 0,
             cause: Cause::Length,

@@ -5,7 +5,7 @@ ghost use Rattle.std.specs.List.{list_all};
 ghost use Rattle.bq_insn.specs.Appending.{StartsWith};
 
 use crate::spelling::slots_of;
-use crate::{Bits, Insn, Size, Source, Width};
+use crate::{Bits, Insn, SLOTS, Size, Source, Width};
 use std::alloc::AllocError;
 
 /// Whether the list is a program: every register is at most 10, every width is one that its form has, and the
@@ -19,7 +19,7 @@ pub fn well_formed(insns: &[Insn]) -> bool
             return false;
         }
         slots += insn.slots();
-        if slots > 4096 {
+        if slots > SLOTS {
             return false;
         }
     }

@@ -1,6 +1,5 @@
-//! Instructions of BPF as values, and their way from bytes and to bytes: RFC 9669, groups base32, base64, divmul32 and
-//! divmul64. `decode` answers with the list of instructions that the bytes spell, or names the first faulty one and its
-//! least cause; `encode` appends the bytes of a list. All layers above speak of instructions by the types of this file.
+//! Instructions of BPF as values, from bytes and to bytes: RFC 9669, groups base32, base64, divmul32 and divmul64. `decode`
+//! lists what the bytes spell, or names the first faulty instruction and its least cause; `encode` appends a list's bytes.
 #![tactic(auto)]
 
 pub mod decode;
@@ -17,6 +16,9 @@ mod uses;
 
 ghost use Rattle.std.specs.Prelude.{◌≡◌};
 ghost use Rattle.bq_insn.specs.Slots.{byte_count, slots_of};
+
+/// How many slots of eight bytes a program has at most.
+pub const SLOTS: usize = 4096;
 
 /// How many low bits of its operands an instruction works on (RFC 9669, section 3.3).
 #[derive(Clone, Copy, PartialEq, Eq)]

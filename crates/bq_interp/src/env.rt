@@ -1,4 +1,4 @@
-// What a run may ask of the machine.
+//! What a run may ask of the machine.
 
 /// The time and the processor of a run.
 #[derive(Clone, Copy)]

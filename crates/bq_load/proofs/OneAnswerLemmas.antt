@@ -1,5 +1,5 @@
 -- Bytes with a fault of their own, of their program or of its control graph have no other answer, and at most one program is loaded.
-use Rattle.std.proofs.Common.{◌≡◌, ℕ, ◌<◌, List, Option, Result, Ok, Err, refl, sym, ap, subst, ◌∙◌, ◌⊎◌, inl, inr, arith}
+use Rattle.std.proofs.Common.{◌≡◌, ℕ, List, Option, Result, Ok, Err, refl, sym, ap, subst, ◌∙◌, ◌⊎◌, inl, inr, arith}
 use Rattle.std.specs.Prelude.{true, ◌&&◌, nat_le}
 use Rattle.std.specs.List.{list_all}
 use Rattle.bq_insn.specs.declared.fault.Cause.{Cause}

@@ -5,7 +5,7 @@ use Rattle.bq_load.specs.declared.fault.LoadFault.{LoadFault}
 use Rattle.bq_load.specs.declared.fault.LoadFault.TheVariants as fault
 use Rattle.bq_load.specs.Layout.{Header, header_bytes, IsHeader}
 use Rattle.bq_load.specs.Fields.{Headed}
-use Rattle.bq_load.specs.Faults.{IsCut, HasMore, HasFaultyProgram, IsFault}
+use Rattle.bq_load.specs.Faults.{IsCut, HasMore, HasFaultyProgram}
 use Rattle.bq_load.specs.Feeding.{Fed, HasFailed, IsTooLong, Holds, stands, StandsFor, GoesOn}
 use Rattle.bq_load.specs.Headers.{with_shapes}
 use Rattle.bq_load.specs.Laws.{AreBytes}
@@ -51,10 +51,6 @@ failed_goes_on fed piece f e bytes h = stands_failed fed (bytes ++ piece) f e (f
 -- the fault that a reader has answered is the only one that stays, of its bytes and any further piece
 pub failed_exact : (fed : Fed) (piece : List ℕ) (f : LoadFault) → fed.failed ≡ Some f → (bytes : List ℕ) (g : LoadFault) → StandsFor fed bytes → AreBytes (bytes ++ piece) → HasFailed (bytes ++ piece) g → f ≡ g
 failed_exact fed piece f e bytes g h fits d = one_fault (bytes ++ piece) f g fits (failed_stays bytes piece f (failed_of fed bytes f e h)).1 d.1
-
--- the fault that a reader has answered is one of the bytes that it stands for
-pub failed_is : (fed : Fed) (f : LoadFault) → fed.failed ≡ Some f → (bytes : List ℕ) → StandsFor fed bytes → IsFault bytes f
-failed_is fed f e bytes h = (failed_of fed bytes f e h).1
 
 -- a reader that has not
 none_of : (o : Option LoadFault) → ((f : LoadFault) → o ≡ Some f → ⊥) → o ≡ None

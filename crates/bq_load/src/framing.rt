@@ -9,8 +9,12 @@ ghost use Rattle.bq_load.specs.declared.fault.LoadFault.TheVariants.{OutOfMemory
 use crate::fault::LoadFault;
 use crate::header::{Header, read_header, shape};
 use bq_bpf::MapShape;
+use bq_insn::SLOTS;
 use bq_insn::fault::Cause;
 use std::alloc::Global;
+
+/// How many slots there are at most, as headers count them.
+const MOST: u32 = SLOTS as u32;
 
 /// The header and the program of an image.
 pub fn parts(bytes: &[u8]) -> Result<(Header<'_>, &[u8]), LoadFault>
@@ -18,7 +22,7 @@ pub fn parts(bytes: &[u8]) -> Result<(Header<'_>, &[u8]), LoadFault>
     ensures err { IfErr result (IsFault bytes.now) }
 {
     let (header, program) = frame(bytes)?;
-    if header.slots == 0 || header.slots > 4096 {
+    if header.slots == 0 || header.slots > MOST {
         return Err(LoadFault::Decode {
             slot: 0,
             cause: Cause::Length,

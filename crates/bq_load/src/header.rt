@@ -5,6 +5,7 @@ ghost use Rattle.bq_load.specs.Reading.{Gives, magic_at, version_at, hook_at, nu
 ghost use Rattle.bq_load.specs.Headers.{spelled_of};
 
 use crate::fault::LoadFault;
+use bq_bpf::shape::MAPS;
 use bq_bpf::{Hook, MapShape, Version};
 use byteorder::{ByteOrder, LittleEndian};
 
@@ -90,7 +91,7 @@ fn count(bytes: &[u8]) -> Result<(u16, &[u8]), LoadFault>
     ensures { Gives (λ x. (x.0, x.1.now)) result (count_at bytes.now) }
 {
     let (count, rest) = half(bytes)?;
-    if count <= 8 {
+    if count <= MAPS as u16 {
         Ok((count, rest))
     } else {
         Err(LoadFault::Shape)

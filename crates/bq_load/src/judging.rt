@@ -7,6 +7,7 @@ ghost use Rattle.bq_load.specs.declared.fault.LoadFault.{LoadFault as Fault};
 use crate::fault::LoadFault;
 use crate::header::read_header;
 use arrayvec::ArrayVec;
+use bq_insn::SLOTS;
 
 /// How many bytes of the piece are to be kept beside those that are held; the others are only counted. Else the fault
 /// that the piece completes.
@@ -35,7 +36,7 @@ pub fn judge(held: &[u8], past: usize, piece: &[u8]) -> Result<usize, LoadFault>
     if length > begin + 8 * header.slots as usize {
         return Err(LoadFault::Rest);
     }
-    if header.slots > 4096 {
+    if header.slots as usize > SLOTS {
         return Ok(begin.saturating_sub(held.len()));
     }
     Ok(piece.len())

@@ -18,14 +18,6 @@ AreBytes bytes = (i b : ℕ) → slice_get bytes i ≡ Some b → b < 256
 none_there : {X : Type 0} (m : ℕ) (x : X) → slice_get [] m ≡ Some x → ⊥
 none_there m x found = let inside = slice_get_within [] m x found in omega arith
 
--- no map has all shapes of none
-pub have_none : HaveShapes [] []
-have_none = record {
-  as_many = refl;
-  sizes = λ m s found. absurd (none_there m s found);
-  bytes = λ m i b found. absurd (none_there i b found);
-}
-
 -- what stands below the length stood there before the push
 before_push : {X : Type 0} (xs : List X) (y x : X) (m : ℕ) → m < length xs → slice_get (xs ++ y ∷ []) m ≡ Some x → slice_get xs m ≡ Some x
 before_push xs y x m lt found =

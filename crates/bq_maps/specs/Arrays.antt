@@ -1,5 +1,5 @@
 -- Array maps: the bytes of all values of a map stand one after another, the first entry first.
-use Rattle.std.specs.Prelude.{◌≡◌, ℕ, ◌+◌, ◌*◌, ◌<◌, List, [], length, Option, Some, None, slice_get, slice_index_or, slice_range, slice_set}
+use Rattle.std.specs.Prelude.{ℕ, ◌+◌, ◌*◌, ◌<◌, List, [], Option, Some, None, slice_get, slice_index_or, slice_range, slice_set}
 use Rattle.bq_bpf.specs.declared.shape.MapShape.{MapShape}
 use Rattle.bq_bpf.specs.Memory.{overwrite}
 

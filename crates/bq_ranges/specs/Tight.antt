@@ -1,9 +1,9 @@
 -- Where an answer is the least range that has every outcome.
-use Rattle.std.specs.Prelude.{◌≡◌, ℕ, ◌+◌, ◌*◌, ◌%◌, ◌<◌, Bool, Option, Some, None}
+use Rattle.std.specs.Prelude.{◌≡◌, ℕ, ◌+◌, ◌*◌, ◌%◌, ◌<◌, ◌≤◌, Bool, Option, Some, None}
 use Rattle.bq_insn.specs.declared.Width.{Width}
 use Rattle.bq_insn.specs.declared.Width.TheVariants.{W64}
 use Rattle.bq_insn.specs.declared.Operation.{Operation}
-use Rattle.bq_insn.specs.declared.Operation.TheVariants.{Add, Mul, Rsh, Mov}
+use Rattle.bq_insn.specs.declared.Operation.TheVariants.{Add, Sub, Mul, Rsh, Mov}
 use Rattle.bq_insn.specs.declared.Condition.{Condition}
 use Rattle.bq_insn.specs.declared.Condition.TheVariants.{Equal, NotEqual, Greater, GreaterEqual, Less, LessEqual, SignedGreater, SignedGreaterEqual, SignedLess, SignedLessEqual}
 use Rattle.bq_bpf.specs.Meaning.{alu_result, modulus, taken}
@@ -19,9 +19,10 @@ pub record IsTight (w : Width) (op : Operation) (a b result : Range) : Type 0 wh
   pub low : Reaches w op a b result.lo
   pub high : Reaches w op a b result.hi
 
--- where that is promised: sums and products that cannot wrap, shifts to the right by one amount, copies
+-- where that is promised: sums, differences and products that cannot wrap, shifts to the right by one amount, copies
 abbrev pub IsTightAt : Width → Operation → Range → Range → Type 0
 IsTightAt w Add a b = (x y : ℕ) → Within a x → Within b y → x % modulus w + y % modulus w < modulus w
+IsTightAt w Sub a b = (x y : ℕ) → Within a x → Within b y → y % modulus w ≤ x % modulus w
 IsTightAt w Mul a b = (x y : ℕ) → Within a x → Within b y → (x % modulus w) * (y % modulus w) < modulus w
 IsTightAt w Rsh a b = b.lo ≡ b.hi
 IsTightAt w Mov a b = Unit {0}
@@ -49,10 +50,21 @@ IsByOrder _ = ⊥
 -- the same on operands of the width
 abbrev pub IsTightWithin : Width → Operation → Range → Range → Type 0
 IsTightWithin w Add a b = a.hi + b.hi < modulus w
+IsTightWithin w Sub a b = b.hi ≤ a.lo
 IsTightWithin w Mul a b = a.hi * b.hi < modulus w
 IsTightWithin w Rsh a b = b.lo ≡ b.hi
 IsTightWithin w Mov a b = Unit {0}
 IsTightWithin w _ a b = ⊥
+
+-- the end of the second operand that gives the least outcome: the most taken away leaves the least
+abbrev pub least_by : Operation → Range → ℕ
+least_by Sub b = b.hi
+least_by _ b = b.lo
+
+-- and the end that gives the greatest
+abbrev pub greatest_by : Operation → Range → ℕ
+greatest_by Sub b = b.lo
+greatest_by _ b = b.hi
 
 -- the tests of signed numbers
 abbrev pub IsSigned : Condition → Type 0

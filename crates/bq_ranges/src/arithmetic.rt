@@ -2,7 +2,7 @@
 ghost use Rattle.std.specs.Prelude.{◌≡◌, ◌+◌, ◌-◌, ◌*◌, ◌/◌, ◌%◌, ◌^◌, ◌<◌, ◌≤◌, ℕ, bit_and, bit_or, bit_xor};
 ghost use Rattle.bq_bpf.specs.Meaning.{alu_result, modulus, bit_count, operate};
 ghost use Rattle.bq_ranges.specs.Within.{Within};
-ghost use Rattle.bq_ranges.specs.Tight.{IsTight, IsTightAt, IsTightWithin};
+ghost use Rattle.bq_ranges.specs.Tight.{IsTight, IsTightAt, IsTightWithin, greatest_by, least_by};
 
 use crate::bits::{multiple_within, ones};
 use crate::range::{Range, greatest, sign};
@@ -12,7 +12,7 @@ use bq_insn::{Operation, Width};
 /// The results of an arithmetic instruction (RFC 9669 section 4.1) on members of the two ranges.
 ///
 /// Single words give a single word, AND goes no higher than its lesser operand, and the least range
-/// is answered for sums and products that cannot wrap, shifts to the right by one amount, and copies.
+/// is answered for sums, differences and products that cannot wrap, shifts to the right by one amount, and copies.
 pub fn alu(width: Width, op: Operation, a: Range, b: Range) -> Range
     ensures holds { (x y : ℕ) → Within a x → Within b y → Within result (alu_result width op x y) }
     ensures single_low { a.lo ≡ a.hi → b.lo ≡ b.hi → result.lo ≡ alu_result width op a.lo b.lo }
@@ -34,8 +34,8 @@ fn outcomes(width: Width, op: Operation, a: Range, b: Range) -> Range
     ensures holds { (x y : ℕ) → Within a x → Within b y → Within result (operate width op x y % modulus width) }
     ensures and_left { op ≡ Operation.And → result.hi ≤ a.hi }
     ensures and_right { op ≡ Operation.And → result.hi ≤ b.hi }
-    ensures tight_low { IsTightWithin width op a b → result.lo ≡ operate width op a.lo b.lo % modulus width }
-    ensures tight_high { IsTightWithin width op a b → result.hi ≡ operate width op a.hi b.hi % modulus width }
+    ensures tight_low { IsTightWithin width op a b → result.lo ≡ operate width op a.lo (least_by op b) % modulus width }
+    ensures tight_high { IsTightWithin width op a b → result.hi ≡ operate width op a.hi (greatest_by op b) % modulus width }
 {
     match op {
         Operation::Add => add(width, a, b),
@@ -78,11 +78,13 @@ pub fn add(width: Width, a: Range, b: Range) -> Range
     }
 }
 
-/// The wrapping differences.
+/// The wrapping differences; the least range where none wraps.
 pub fn sub(width: Width, a: Range, b: Range) -> Range
     requires left { a.hi < modulus width }
     requires right { b.hi < modulus width }
-    ensures { (x y : ℕ) → Within a x → Within b y → Within result ((x + (modulus width - y)) % modulus width) }
+    ensures holds { (x y : ℕ) → Within a x → Within b y → Within result ((x + (modulus width - y)) % modulus width) }
+    ensures tight_low { b.hi ≤ a.lo → result.lo ≡ a.lo - b.hi }
+    ensures tight_high { b.hi ≤ a.lo → result.hi ≡ a.hi - b.lo }
 {
     if b.hi <= a.lo {
         return Range {

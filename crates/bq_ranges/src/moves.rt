@@ -1,5 +1,5 @@
 //! NEG, sign extension and byte order on ranges.
-ghost use Rattle.std.specs.Prelude.{◌≡◌, ◌+◌, ℕ};
+ghost use Rattle.std.specs.Prelude.{◌≡◌, ℕ};
 ghost use Rattle.bq_bpf.specs.Meaning.{negated, extended, reordered};
 ghost use Rattle.bq_ranges.specs.Within.{Within};
 

@@ -71,11 +71,12 @@ impl Range {
         }
     }
 
-    /// Its words that the other has too; all of its own where there are none.
+    /// Its words that the other has too, and no more; all of its own where there are none.
     pub fn meet(self, other: Range) -> Range
         ensures both { (x : ℕ) → Within self x → Within other x → Within result x }
         ensures lo { self.lo ≤ result.lo }
         ensures hi { result.hi ≤ self.hi }
+        ensures ends { (x : ℕ) → Within self x → Within other x → (other.lo ≤ result.lo) × (result.hi ≤ other.hi) }
     {
         let lo = self.lo.max(other.lo);
         let hi = self.hi.min(other.hi);

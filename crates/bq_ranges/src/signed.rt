@@ -1,5 +1,5 @@
 //! What a signed comparison says of its operand: the words with the sign bit lie below all others.
-ghost use Rattle.std.specs.Prelude.{◌≡◌, ◌≤◌, ◌<◌, ◌^◌, ◌⊎◌, ℕ};
+ghost use Rattle.std.specs.Prelude.{◌≡◌, ◌≤◌, ◌<◌, ◌⊎◌, ℕ};
 ghost use Rattle.bq_bpf.specs.Meaning.{compares, modulus};
 ghost use Rattle.bq_ranges.specs.Within.{EndsAre, NarrowsTo, Within};
 ghost use Rattle.bq_ranges.specs.Signed.{EndsMeet, IsSignedAtMost, IsSignedBelow};

@@ -14,11 +14,6 @@ use Rattle.bq_states.specs.Parts.{AllowsPart}
 use Rattle.bq_states.proofs.CopyLemmas.{copies_kept}
 use Rattle.bq_states.specs.AbstractStates.{Holds, Keeps, Contains, Allows}
 
--- every word of what is known is allowed by it
-pub Allows-same : (k : Option AbstractValue) → Allows k k
-Allows-same None = tt
-Allows-same (Some k) = λ shapes word d. d
-
 -- what is known of a register is true too where more words are allowed
 pub Holds-more : (shapes : List MapShape) (a b : Option AbstractValue) (v : Option ℕ) → Allows a b → Holds shapes a v → Holds shapes b v
 Holds-more shapes a None v more h = tt
@@ -41,10 +36,6 @@ Contains-more f s v w registers set kept parts classes covers = record {
   maps = covers.maps;
   copies = copies_kept v.classes w.classes s classes covers.copies;
 }
-
--- after a write at one place
-pub Allows-set : (xs : List (Option AbstractValue)) (i k : ℕ) (x from : Option AbstractValue) → i < length xs → Allows from x → k ≡ i → Allows from (get_or (set xs i x) k None)
-Allows-set xs i k x from lt h e = rw (e, get_or-set_same xs i x None lt) h
 
 -- one option holds one value
 pub some_same : {A : Type 0} (o : Option A) (a b : A) → o ≡ Some a → o ≡ Some b → a ≡ b

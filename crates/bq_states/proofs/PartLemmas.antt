@@ -5,10 +5,8 @@ use Rattle.std.proofs.lemmas.Bool.{cases_lt}
 use Rattle.std.proofs.lemmas.Bool.Decides.{eqb_tells}
 use Rattle.std.proofs.lemmas.List.{get_or_past, get_or_read}
 use Rattle.bq_insn.specs.declared.Size.{Size}
-use Rattle.bq_insn.specs.declared.Size.TheVariants.{Byte, Half, Word, Double}
 use Rattle.bq_insn.specs.Slots.{byte_count}
 use Rattle.bq_bpf.specs.Memory.{Setting, State, Region, Reads, byte_at, number_of, stack_with}
-use Rattle.bq_bpf.specs.Steps.{low_bytes}
 use Rattle.bq_ranges.specs.declared.range.Range.{Range}
 use Rattle.bq_ranges.specs.Within.{Within}
 use Rattle.bq_states.specs.declared.abstract_state.Kind.{Kind}
@@ -17,36 +15,12 @@ use Rattle.bq_states.specs.declared.abstract_state.Part.{Part}
 use Rattle.bq_states.specs.declared.abstract_state.AbstractState.{AbstractState}
 use Rattle.bq_states.specs.Parts.{AllowsPart, HasBytes, HasPart, HaveParts, Outlives}
 use Rattle.bq_states.specs.AbstractStates.{Contains, IsOfKind}
-use Rattle.bq_states.proofs.StoreLemmas.{outside, inside, stack_cases}
+use Rattle.bq_states.proofs.StoreLemmas.{inside, stack_cases}
 use Rattle.bq_states.proofs.MergeLemmas.{some_same}
-
--- the number of a word's low bytes
-pub number_low : (size : Size) (v : ℕ) → v < 256 ^ byte_count size → number_of (low_bytes size v) ≡ v
-number_low Byte v small = omega arith
-number_low Half v small = omega arith
-number_low Word v small = omega arith
-number_low Double v small = omega arith
-
--- is one of so many bytes
-pub number_less : (size : Size) (v : ℕ) → number_of (low_bytes size v) < 256 ^ byte_count size
-number_less Byte v = omega arith
-number_less Half v = omega arith
-number_less Word v = omega arith
-number_less Double v = omega arith
 
 -- the bytes of a write are there
 pub has_written : (stack : ℕ → Option ℕ) (at count : ℕ) (bytes : List ℕ) → length bytes ≡ count → HasBytes (stack_with stack at bytes) at count bytes
 has_written stack at count bytes long = (long, λ i lt. inside stack at bytes i (omega (arith, long)) (stack_cases stack at bytes (at + i)))
-
--- bytes that a write does not touch stay
-pub bytes_apart : (stack : ℕ → Option ℕ) (first count at : ℕ) (bytes own : List ℕ) → (first + count ≤ at) ⊎ (at + length bytes ≤ first) → HasBytes stack first count own → HasBytes (stack_with stack at bytes) first count own
-bytes_apart stack first count at bytes own (inl below) h = (h.0, λ i lt. outside stack at bytes (first + i) (inl (omega arith)) (stack_cases stack at bytes (first + i)) ∙ h.1 i lt)
-bytes_apart stack first count at bytes own (inr past) h = (h.0, λ i lt. outside stack at bytes (first + i) (inr (omega arith)) (stack_cases stack at bytes (first + i)) ∙ h.1 i lt)
-
--- so does a part
-pub part_apart : (p : Part) (from to : ℕ) → (p.first + byte_count p.size ≤ from) ⊎ (to ≤ p.first) → Outlives from to (Some p) (Some p)
-part_apart p from to (inl below) = record { has = λ stack at bytes low high h. (h.0, bytes_apart stack p.first (byte_count p.size) at bytes h.0 (inl (omega arith)) h.1, h.2) }
-part_apart p from to (inr past) = record { has = λ stack at bytes low high h. (h.0, bytes_apart stack p.first (byte_count p.size) at bytes h.0 (inr (omega arith)) h.1, h.2) }
 
 -- a place has one list of so many bytes
 pub same_bytes : (stack : ℕ → Option ℕ) (first count : ℕ) (a b : List ℕ) → HasBytes stack first count a → HasBytes stack first count b → a ≡ b
@@ -67,24 +41,6 @@ pub part_number : (stack : ℕ → Option ℕ) (p : Part) (o : ℕ) (size : Size
 part_number stack p o size bytes place same h has =
     let own = subst (λ (n : ℕ). HasBytes stack n (byte_count size) h.0) place (subst (λ (z : Size). HasBytes stack p.first (byte_count z) h.0) same h.1) in
     subst (λ (xs : List ℕ). Within p.range (number_of xs)) (same_bytes stack o (byte_count size) h.0 bytes own has) h.2
-
-part_at : (stack : ℕ → Option ℕ) (parts : List (Option Part)) (i j : ℕ) (p : Part) (b : Bool) → i < length parts → HasPart stack (Some p) → HaveParts stack parts → ((b ≡ true) × (j ≡ i)) ⊎ ((b ≡ false) × (j ≢ i)) → HasPart stack (get_or (set parts i (Some p)) j None)
-part_at stack parts i j p b there has have (inl (_, same)) = rw (same, get_or-set_same parts i (Some p) None there) has
-part_at stack parts i j p b there has have (inr (_, other)) = subst (λ (v : Option Part). HasPart stack v) (sym (get_or-set_other parts i j (Some p) None other)) (have j)
-
--- one more part
-pub parts_kept : (stack : ℕ → Option ℕ) (parts : List (Option Part)) (i : ℕ) (p : Part) → i < length parts → HasPart stack (Some p) → HaveParts stack parts → HaveParts stack (set parts i (Some p))
-parts_kept stack parts i p there has have j = part_at stack parts i j p _ there has have (eqb_tells j i)
-
--- a part has a wider one
-pub part_wider : (a b : Part) → b.first ≡ a.first → b.size ≡ a.size → ((x : ℕ) → Within a.range x → Within b.range x) → AllowsPart (Some a) (Some b)
-part_wider a b place same wide = record {
-  has = λ stack h. (
-    h.0,
-    subst (λ (n : ℕ). HasBytes stack n (byte_count b.size) h.0) (sym place) (subst (λ (z : Size). HasBytes stack a.first (byte_count z) h.0) (sym same) h.1),
-    wide _ h.2,
-  );
-}
 
 related_at : (R : Option Part → Option Part → Type 0) (old now : List (Option Part)) (i : ℕ) (x a : Option Part) → i < length now → get_or old i None ≡ a → R a x → ((k : ℕ) → k < i → R (get_or old k None) (get_or now k None)) → (k : ℕ) (b : Bool) → k < i + 1 → ((b ≡ true) × (k ≡ i)) ⊎ ((b ≡ false) × (k ≢ i)) → R (get_or old k None) (get_or (set now i x) k None)
 related_at R old now i x a lt read r before k b le (inr (_, other)) =

@@ -1,4 +1,4 @@
-// What is known of a state when the control flow comes to a slot.
+//! What is known of a state when the control flow comes to a slot.
 
 use bq_insn::Size;
 use bq_ranges::Range;

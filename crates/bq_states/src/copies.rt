@@ -1,4 +1,4 @@
-// Places that are known to hold one word: registers, and from 11 on slots of eight bytes of the stack.
+//! Places that are known to hold one word: registers, and from 11 on slots of eight bytes of the stack.
 
 ghost use Rattle.std.specs.Prelude.{◌≡◌, ◌≢◌, ◌+◌, ◌<◌, ◌≤◌, ℕ, length, slice_index};
 ghost use Rattle.bq_bpf.specs.Memory.{State};

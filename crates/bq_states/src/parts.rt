@@ -1,4 +1,4 @@
-// Numbers that are stored in a few bytes of the stack.
+//! Numbers that are stored in a few bytes of the stack.
 
 ghost use Rattle.std.specs.Prelude.{◌≡◌, ◌+◌, ◌^◌, ◌<◌, ℕ, Some, None, List, Option, length, slice_index_or};
 ghost use Rattle.bq_insn.specs.Slots.{byte_count};

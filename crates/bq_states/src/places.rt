@@ -1,4 +1,4 @@
-// How far a pointer reaches, and what may be read there.
+//! How far a pointer reaches, and what may be read there.
 
 ghost use Rattle.std.specs.Prelude.{Some, ◌↔◌, ◌≡◌, ◌+◌, ◌^◌, ◌<◌, ◌≤◌, ℕ, IsTrue, length, IfSome, false, true, slice_get, slice_index_or, None};
 ghost use Rattle.bq_insn.specs.Slots.{byte_count};

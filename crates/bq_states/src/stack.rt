@@ -1,4 +1,4 @@
-// Bytes of the stack that are written: which are set then, and what is forgotten.
+//! Bytes of the stack that are written: which are set then, and what is forgotten.
 
 ghost use Rattle.std.specs.Prelude.{◌≡◌, ◌+◌, ◌*◌, ◌<◌, ◌≤◌, ℕ, true, false, List, None, Some, length, slice_index, slice_index_or};
 ghost use Rattle.bq_insn.specs.Slots.{byte_count};

@@ -1,5 +1,5 @@
 -- What may not be shown of which instruction.
-use Rattle.std.specs.Prelude.{◌≡◌, ℕ}
+use Rattle.std.specs.Prelude.{◌≡◌, ◌≢◌, ℕ, Some, None, slice_index_or}
 use Rattle.bq_insn.specs.declared.Insn.{Insn}
 use Rattle.bq_insn.specs.declared.Insn.TheVariants.{Alu, MovSx, Neg, End, Load, StoreImm, StoreReg, MapRef, Branch, Call, Exit}
 use Rattle.bq_insn.specs.declared.Operation.{Operation}
@@ -8,6 +8,9 @@ use Rattle.bq_insn.specs.declared.Source.{Source}
 use Rattle.bq_insn.specs.declared.Source.TheVariants.{Reg}
 use Rattle.bq_insn.specs.declared.Width.{Width}
 use Rattle.bq_insn.specs.declared.Width.TheVariants.{W32}
+use Rattle.bq_states.specs.declared.abstract_state.Kind.TheVariants.{Number}
+use Rattle.bq_states.specs.declared.abstract_state.AbstractValue.{AbstractValue}
+use Rattle.bq_states.specs.declared.abstract_state.AbstractState.{AbstractState}
 use Rattle.bq_transfer.specs.declared.doubt.Doubt.{Doubt}
 use Rattle.bq_transfer.specs.declared.doubt.Doubt.TheVariants.{Unset, Access, PointerUse, Argument, Answer}
 
@@ -63,6 +66,14 @@ MayDoubt PointerUse insn = UsesWord insn
 MayDoubt Access insn = IsAccess insn
 MayDoubt Argument insn = TakesArgument insn
 MayDoubt Answer insn = IsExit insn
+
+-- of the register it is not shown that it is set
+abbrev pub IsUnknownAt : AbstractState → ℕ → Type 0
+IsUnknownAt view r = slice_index_or view.registers r None ≡ None
+
+-- the register is set, and not to a number
+abbrev pub IsNoNumberAt : AbstractState → ℕ → Type 0
+IsNoNumberAt view r = (k : AbstractValue) × (slice_index_or view.registers r None ≡ Some k) × (k.kind ≢ Number)
 
 -- the number of a doubt, after the letter V
 abbrev pub doubt_number : Doubt → ℕ

@@ -1,9 +1,9 @@
-// Where an access by a register goes.
+//! Where an access by a register goes.
 
-ghost use Rattle.std.specs.Prelude.{Some, ◌≡◌, ◌^◌, ◌<◌, ℕ, IsOk, IfErr, IfOk};
+ghost use Rattle.std.specs.Prelude.{Some, ◌↔◌, ◌≡◌, ◌^◌, ◌<◌, ℕ, IsOk, IfErr, IfOk};
 ghost use Rattle.bq_bpf.specs.Meaning.{word_of};
 ghost use Rattle.bq_insn.specs.declared.Insn.{Insn};
-ghost use Rattle.bq_transfer.specs.Doubts.{IsAccess, MayDoubt, ReadsOperand};
+ghost use Rattle.bq_transfer.specs.Doubts.{IsAccess, IsUnknownAt, MayDoubt, ReadsOperand};
 ghost use Rattle.bq_transfer.specs.Ready.{IsPlaced};
 ghost use Rattle.bq_states.specs.declared.abstract_state.Kind.{Kind as Base};
 ghost use Rattle.bq_transfer.specs.Transfers.{FindsPlace};
@@ -31,7 +31,7 @@ pub struct Location {
     pub at: Range,
 }
 
-/// Where an access goes, if it stays inside.
+/// Where an access goes, if it stays inside. What is in doubt is that the register is set, where nothing is known of it, and else the access.
 pub fn locate(
     view: &AbstractState,
     shapes: &[MapShape],
@@ -41,6 +41,7 @@ pub fn locate(
     requires context { context < 2 ^ 16 }
     ensures finds { IfOk result (λ p. FindsPlace shapes.now context view.now access.base access.off access.size p.kind p.at) }
     ensures doubts { IfErr result (λ doubt. (insn : Insn) → IsAccess insn → ReadsOperand insn → MayDoubt doubt insn) }
+    ensures unset { IfErr result (λ doubt. doubt ≡ Doubt.Unset ↔ IsUnknownAt view.now access.base) }
     ensures accepts { (kind : Base) (place : ℕ) → IsPlaced shapes.now context view.now access.size access.base access.off kind place → IsOk result }
     ensures there { IfOk result (λ p. (kind : Base) (place : ℕ) → IsPlaced shapes.now context view.now access.size access.base access.off kind place → (p.kind ≡ kind) × (p.at.lo ≡ place) × (p.at.hi ≡ place)) }
 {

@@ -1,4 +1,4 @@
-// Arithmetic on what is known.
+//! Arithmetic on what is known.
 
 ghost use Rattle.std.specs.Prelude.{◌≡◌, ◌≢◌, ◌<◌, length, IsTrue, IfSome, OnOk, IsOk, IfErr, List, ℕ, ℤ, Some};
 ghost use Rattle.bq_bpf.specs.declared.shape.MapShape.{MapShape};

@@ -1,4 +1,4 @@
-// Map references and calls of helpers.
+//! Map references and calls of helpers.
 
 ghost use Rattle.std.specs.Prelude.{◌≡◌, ◌<◌, ◌≤◌, ◌^◌, ◌-◌, ℕ, pos, List, IfSome, IsOk, OnOk, Some, length, IfErr, IsTrue, None, slice_index_or};
 ghost use Rattle.bq_bpf.specs.Memory.{Setting, State, reference};
@@ -15,6 +15,7 @@ ghost use Rattle.bq_states.specs.AbstractStates.{Contains};
 use crate::doubt::Doubt;
 use bq_bpf::MapShape;
 use bq_bpf::helper::{LOOKUP, NOW, PROCESSOR, UPDATE};
+use bq_bpf::shape::MAPS;
 use bq_insn::{Insn, Size, Width};
 use bq_ranges::Range;
 use bq_states::abstract_state::{AbstractState, AbstractValue, Kind};
@@ -56,7 +57,7 @@ fn map_number(shapes: &[MapShape], index: i32) -> Option<u8>
     ensures there { IfSome result (λ m. m < length shapes.now) }
     ensures found { (m : ℕ) → index ≡ pos m → m < length shapes.now → result ≡ Some m }
 {
-    if index < 0 || index >= 8 {
+    if index < 0 || index >= MAPS as i32 {
         return None;
     }
     let map = index as u8;

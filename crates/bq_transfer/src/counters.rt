@@ -1,6 +1,6 @@
-// Calls of counters.
+//! Calls of counters.
 
-ghost use Rattle.std.specs.Prelude.{◌<◌, pos, false, ◌≡◌, OnOk, IsOk, IfErr, ℤ};
+ghost use Rattle.std.specs.Prelude.{◌<◌, pos, ◌≡◌, OnOk, IsOk, IfErr, ℤ};
 ghost use Rattle.bq_transfer.specs.Doubts.{MayDoubt};
 ghost use Rattle.bq_bpf.specs.Steps.{IsCounterCall};
 ghost use Rattle.bq_transfer.specs.Ready.{IsAsking};
@@ -9,10 +9,14 @@ ghost use Rattle.bq_transfer.specs.Transfers.{AsksFrom};
 
 use crate::calls::{answer, is_at_most};
 use crate::doubt::Doubt;
+use bq_bpf::board::COUNTERS;
 use bq_bpf::helper::ADD_COUNTER;
 use bq_insn::{Insn, Width};
 use bq_ranges::Range;
 use bq_states::abstract_state::AbstractState;
+
+/// The number of the last counter.
+const LAST: u64 = COUNTERS as u64 - 1;
 
 /// An add: register 1 is a counter, and register 2 an amount.
 fn add(view: &mut AbstractState) -> Result<(), Doubt>
@@ -20,7 +24,7 @@ fn add(view: &mut AbstractState) -> Result<(), Doubt>
     ensures accepts { IsAsking view.old (pos 100) → IsOk result × IsAnswered view.old view.new }
     ensures doubts { IfErr result (λ doubt. (helper : ℤ) → MayDoubt doubt (Insn.Call helper)) }
 {
-    if !is_at_most(view, 1, 63) {
+    if !is_at_most(view, 1, LAST) {
         return Err(Doubt::Argument);
     }
     if !is_at_most(view, 2, u64::MAX) {
@@ -36,7 +40,7 @@ fn read(view: &mut AbstractState) -> Result<(), Doubt>
     ensures accepts { IsAsking view.old (pos 101) → IsOk result × IsAnswered view.old view.new }
     ensures doubts { IfErr result (λ doubt. (helper : ℤ) → MayDoubt doubt (Insn.Call helper)) }
 {
-    if !is_at_most(view, 1, 63) {
+    if !is_at_most(view, 1, LAST) {
         return Err(Doubt::Argument);
     }
     answer(view, Range::full(Width::W64));

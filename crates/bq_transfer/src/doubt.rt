@@ -1,4 +1,4 @@
-// What may be in doubt of an instruction.
+//! What may be in doubt of an instruction.
 
 ghost use Rattle.std.specs.Prelude.{◌≡◌};
 ghost use Rattle.bq_transfer.specs.Doubts.{doubt_number};

@@ -1,8 +1,8 @@
-// Loads.
+//! Loads.
 
 ghost use Rattle.std.specs.Prelude.{Some, List, Option, ◌≡◌, ◌≢◌, ◌^◌, ◌<◌, ℕ, IsOk, IfSome, OnOk, false, slice_index_or, IfErr, ◌*◌, None};
 ghost use Rattle.bq_insn.specs.Slots.{byte_count};
-ghost use Rattle.bq_bpf.specs.Steps.{loaded, bits_of as bits_in};
+ghost use Rattle.bq_bpf.specs.Steps.{loaded};
 ghost use Rattle.bq_ranges.specs.Within.{Within};
 ghost use Rattle.bq_insn.specs.declared.Insn.{Insn};
 ghost use Rattle.bq_bpf.specs.Memory.{number_of};
@@ -16,7 +16,8 @@ use crate::access::{Access, Location, locate};
 use crate::doubt::Doubt;
 use bq_bpf::MapShape;
 use bq_bpf::addresses::STACK_SIZE;
-use bq_insn::{Bits, Insn, Size, Width};
+use bq_bpf::words::bits_of;
+use bq_insn::{Insn, Size, Width};
 use bq_ranges::{Range, moves};
 use bq_states::abstract_state::{AbstractState, AbstractValue, Kind};
 use bq_states::copies::link;
@@ -100,16 +101,4 @@ fn loads(numbers: Range, size: Size, signed: bool) -> Range
         return moves::extend(Width::W64, bits_of(size), numbers);
     }
     numbers
-}
-
-/// How many bits so many bytes have.
-fn bits_of(size: Size) -> Bits
-    ensures { result ≡ bits_in size }
-{
-    match size {
-        Size::Byte => Bits::B8,
-        Size::Half => Bits::B16,
-        Size::Word => Bits::B32,
-        Size::Double => Bits::B64,
-    }
 }

@@ -1,10 +1,10 @@
-// Moves that change a number on the way, and numbers from the instruction.
+//! Moves that change a number on the way, and numbers from the instruction.
 
-ghost use Rattle.std.specs.Prelude.{◌≡◌, ◌<◌, ℕ, List, IsOk, OnOk, IfOk, IfErr, length};
+ghost use Rattle.std.specs.Prelude.{◌↔◌, ◌≡◌, ◌<◌, ℕ, List, IsOk, OnOk, IfOk, IfErr, length};
 ghost use Rattle.bq_states.specs.Certainty.{IsGiven, Scalar, StandsAt};
 ghost use Rattle.bq_insn.specs.declared.Insn.{Insn};
 ghost use Rattle.bq_bpf.specs.declared.shape.MapShape.{MapShape};
-ghost use Rattle.bq_transfer.specs.Doubts.{MayDoubt, ReadsOperand, UsesWord};
+ghost use Rattle.bq_transfer.specs.Doubts.{IsNoNumberAt, IsUnknownAt, MayDoubt, ReadsOperand, UsesWord};
 ghost use Rattle.bq_states.specs.declared.abstract_state.Kind.TheVariants.{Number};
 ghost use Rattle.bq_transfer.specs.Transfers.{Transfers, HoldsNumber};
 ghost use Rattle.bq_states.specs.AbstractStates.{knowing};
@@ -15,10 +15,12 @@ use bq_ranges::{Range, moves};
 use bq_states::abstract_state::{AbstractState, AbstractValue, Kind};
 use bq_states::registers::{known, learn};
 
-/// The range of a register that is a number.
+/// The range of a register that is a number. What is in doubt is that it is set, where nothing is known of it, and else how a pointer is used.
 pub fn number(view: &AbstractState, register: u8) -> Result<Range, Doubt>
     ensures holds { IfOk result (HoldsNumber view.now register) }
     ensures doubts { IfErr result (λ doubt. (insn : Insn) → ReadsOperand insn → UsesWord insn → MayDoubt doubt insn) }
+    ensures unset { IfErr result (λ doubt. doubt ≡ Doubt.Unset ↔ IsUnknownAt view.now register) }
+    ensures pointer { IfErr result (λ doubt. doubt ≡ Doubt.PointerUse ↔ IsNoNumberAt view.now register) }
     ensures accepts { StandsAt Scalar view.now register → IsOk result }
 {
     let Some(word) = known(view, register) else {

@@ -1,4 +1,4 @@
-// What a branch tells of its left operand, on each side.
+//! What a branch tells of its left operand, on each side.
 
 ghost use Rattle.std.specs.Prelude.{◌≡◌, ◌<◌, ℕ, ℤ, IfOk, IfSome, IfErr, IsOk, OnOk, List, Some, true, false};
 ghost use Rattle.bq_insn.specs.declared.Insn.{Insn};

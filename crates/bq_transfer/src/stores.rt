@@ -1,4 +1,4 @@
-// Stores, and what they leave known.
+//! Stores, and what they leave known.
 
 ghost use Rattle.std.specs.Prelude.{◌≡◌, ◌≢◌, ◌+◌, ◌<◌, ◌≤◌, ◌^◌, ℕ, None, Some, length, IsOk, OnOk, IfOk, IfSome, IfErr};
 ghost use Rattle.bq_insn.specs.declared.Insn.{Insn};

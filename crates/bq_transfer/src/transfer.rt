@@ -1,4 +1,4 @@
-// Instructions after which the next one runs.
+//! Instructions after which the next one runs.
 
 ghost use Rattle.std.specs.Prelude.{ℕ, IsOk, ◌<◌, ◌≤◌, ◌^◌, OnOk, length, IfErr};
 ghost use Rattle.bq_transfer.specs.Doubts.{MayDoubt};

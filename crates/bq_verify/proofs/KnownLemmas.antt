@@ -1,5 +1,5 @@
 -- What the pass knows before a slot covers every run that comes there.
-use Rattle.std.proofs.Common.{◌≡◌, ◌≢◌, ℕ, zero, suc, ◌+◌, ◌^◌, ◌<◌, ◌≤◌, Bool, true, false, List, [], ◌++◌, Option, Some, None, Box, Global, length, refl, arith, sym, ap, ◌∙◌, subst, zero-le, ◌⊎◌, inl, inr, ℤ}
+use Rattle.std.proofs.Common.{◌≡◌, ◌≢◌, ℕ, zero, suc, ◌+◌, ◌^◌, ◌<◌, ◌≤◌, Bool, true, false, List, [], ◌∷◌, ◌++◌, Option, Some, None, Box, Global, length, refl, arith, sym, ap, ◌∙◌, subst, zero-le, ◌⊎◌, inl, inr, ℤ}
 use Rattle.std.specs.Prelude.{slice_index_or}
 use Rattle.std.proofs.lemmas.Bool.Decides.{eqb_tells}
 use Rattle.bq_insn.specs.declared.Insn.{Insn}
@@ -14,9 +14,10 @@ use Rattle.bq_bpf.specs.Safe.{IsSetting}
 use Rattle.bq_graph.specs.Edges.{IsEdge, IsStart, Leaves}
 use Rattle.bq_graph.specs.Passes.{IsSound}
 use Rattle.bq_states.specs.declared.abstract_state.AbstractState.{AbstractState}
+use Rattle.bq_states.specs.declared.abstract_state.Kind.TheVariants.{Map}
 use Rattle.bq_states.specs.AbstractStates.{Contains}
 use Rattle.bq_verify.specs.Control.{IsKnown, LeadsOn, PassesOn}
-use Rattle.bq_verify.specs.KnownAt.{CoversRuns, RestIsCovered}
+use Rattle.bq_verify.specs.KnownAt.{CoversRuns, IsNotReached, RestIsCovered}
 use Rattle.bq_verify.proofs.ChainLemmas.{no_step, one_step}
 use Rattle.bq_verify.proofs.PassLemmas.{waits_at_slot, none_waits}
 
@@ -79,6 +80,7 @@ no_call c e = cc
 same_call : (c d : Asked) → Some c ≡ Some d → c ≡ d
 same_call c d e = cc
 
+-- a test does not come out both ways
 no_both : (b : Bool) → b ≡ false → b ≡ true → ⊥
 no_both b p q = cc
 
@@ -148,6 +150,42 @@ module _ (slots : List (Option Insn)) (shapes : List MapShape) (context_length :
       is_seen : IsKnown after seen arrived target f s → s.slot ≡ target → Contains f seen s
       is_seen (inl waits) there = absurd (none_waits f s (slice_index_or after target None) empty (waits_at_slot f s after target there waits))
       is_seen (inr (e, same, covers)) there = covers
+
+  -- and where nothing is known there, no chain that is left to follow comes to it
+  pub covered_by_any : (target : ℕ) (pending after : List (Option (Box AbstractState Global))) (view seen any : AbstractState) (live arrived : Bool)
+      → ((f : Setting) (s : State) → IsKnown pending view live target f s → IsKnown after seen arrived target f s) → slice_index_or after target None ≡ None → arrived ≡ false
+      → RestIsCovered slots shapes context_length target any target (IsKnown pending view live target)
+  covered_by_any target pending after view seen any live arrived arrives empty not f s setting le begins known (suc n) calls t chain here =
+      absurd (omega (arith, farther f setting s n calls t chain, here, le))
+  covered_by_any target pending after view seen any live arrived arrives empty not f s setting le begins known zero calls t (none, is) here =
+      let there : s.slot ≡ target = ap (λ (x : State). x.slot) (sym is) ∙ here in
+      absurd (is_none (arrives f s known) there)
+    where
+      is_none : IsKnown after seen arrived target f s → s.slot ≡ target → ⊥
+      is_none (inl waits) there = none_waits f s (slice_index_or after target None) empty (waits_at_slot f s after target there waits)
+      is_none (inr (e, same, covers)) there = no_both arrived not e
+
+-- a view of no state: its first register names a map that there is not
+pub nowhere : List MapShape → AbstractState
+nowhere shapes = record {
+  registers = Some (record { kind = Map (length shapes); offset = record { lo = 0; hi = 0; ordered = zero-le; fits = omega arith } }) ∷ [];
+  set = [];
+  kept = [];
+  parts = [];
+  classes = [];
+}
+
+contains_none : (f : Setting) (s : State) → Contains f (nowhere f.shapes) s → ⊥
+unfolding nowhere
+contains_none f s covers =
+    let word = covers.registers 0 in
+    let base = word.2.is_base in
+    omega (arith, base.1)
+
+-- what covers the runs with the view of no state says that there are none
+pub not_reached : (slots : List (Option Insn)) (shapes : List MapShape) (context_length target : ℕ) → CoversRuns slots shapes context_length target (nowhere shapes) → IsNotReached slots shapes context_length target
+not_reached slots shapes context_length target covers f maps setting have n calls t chain here =
+    contains_none f t (subst (λ (x : List MapShape). Contains f (nowhere x) t) (sym setting.shapes_are) (covers f maps setting have n calls t chain here))
 
 -- a view that covers the rest from the start covers the runs
 pub covers_runs : (slots : List (Option Insn)) (shapes : List MapShape) (context_length target : ℕ) (seen : AbstractState) (pending : List (Option (Box AbstractState Global))) (view : AbstractState)

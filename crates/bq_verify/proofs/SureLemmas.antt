@@ -34,7 +34,7 @@ use Rattle.bq_states.specs.AbstractStates.{size_of_shape}
 use Rattle.bq_transfer.specs.After.{GivesExact, GivesNumber, GivesPointer, IsNoTestOf, LeavesNumber, LeavesPointer, Spares, IsStackByte, StoresByte, After}
 use Rattle.bq_states.specs.Told.{IsCertain}
 use Rattle.bq_transfer.proofs.CertaintyLemmas.{exact_at_most}
-use Rattle.bq_verify.specs.Straight.{held_along, OnEachPath, is_register, writes, leaves, spares, loads, untouched, stores, always, never, IsWritten, IsStored, IsLoaded, IsContextLeft, IsWrittenOperand, IsWrittenLeft, IsOnStack, MakesPointer, LeavesPointerIn, IsPointerFrom, IsPointerAt, IsInEntry, IsGoodLoad, IsGoodStore, IsCopyOfEnd, IsMoveOnStack, IsNaming, IsGiving, IsCounting, Needs, IsStraightProgram}
+use Rattle.bq_verify.specs.Straight.{held_along, OnEachPath, is_register, writes, leaves, spares, loads, untouched, stores, always, never, IsWritten, IsStored, IsLoaded, IsContextLeft, IsWrittenOperand, IsWrittenLeft, IsOnStack, MakesPointer, LeavesPointerIn, IsPointerFrom, IsPointerAt, IsInEntry, IsGoodLoad, IsGoodStore, IsCopyOfEnd, IsMoveOnStack, IsNaming, IsGiving, IsCounting, Needs, IsStraightBefore, IsStraightProgram}
 use Rattle.bq_verify.specs.Sure.{IsDue, IsSure}
 
 -- of tests joined
@@ -148,8 +148,8 @@ gives_pointer kind o r slot k (Call helper) view Was frame known (none, one, m, 
 gives_pointer kind o r slot k (Branch w c dst src off) view Was frame known (same, m, is, zero, was, side) = (same, m, is, zero, subst (λ (n : ℕ). StandsAt (Pointer (EntryOrNull m) 0) view n) (sym same) (known (EntryOrNull m) 0 r was), side)
 gives_pointer kind o r slot k _ view Was frame known made = absurd made
 
--- one slot of a straight program
-module _ (slots : List (Option Insn)) (shapes : List MapShape) (context slot : ℕ) (insn : Insn) (view : AbstractState) (here : instruction_at slots slot ≡ Some insn) (straight : IsStraightProgram slots shapes context) (has : (x : Fact) → IsDue slots x slot → Has x view) where
+-- one slot of a program that is straight up to it
+module _ (slots : List (Option Insn)) (shapes : List MapShape) (context slot : ℕ) (insn : Insn) (view : AbstractState) (here : instruction_at slots slot ≡ Some insn) (straight : IsStraightBefore slots shapes context (slot + 1)) (has : (x : Fact) → IsDue slots x slot → Has x view) where
   reached : (Path slots 0 slot → ⊥) → ⊥
   reached none = has Never none
 
@@ -336,11 +336,19 @@ module _ (slots : List (Option Insn)) (shapes : List MapShape) (context slot : �
   ready_of Exit n = inl (has (AtRegister Scalar 0) n)
 
   pub ready_at : IsReady shapes context view insn ⊎ IsReadyToAsk view insn
-  ready_at = ready_of insn (straight.each slot insn here)
+  ready_at = ready_of insn (straight.before slot insn (omega arith) here)
 
   -- one slot further the pass is as sure
   pub sure_on : (pending new : List (Option (Box AbstractState Global))) (after : AbstractState) (on : Bool) → ((x : Fact) (k : ℕ) → IsDue slots x k → HasWaiting x pending k) → GoesOnSure slots slot insn view pending new after on → IsSure slots new after on (slot + 1)
   sure_on pending new after on waits goes x k due = goes x k (waits x k due) (λ edge. due_on k edge x due)
+
+-- a straight program is straight before each slot
+pub straight_before : (slots : List (Option Insn)) (shapes : List MapShape) (context slot : ℕ) → IsStraightProgram slots shapes context → IsStraightBefore slots shapes context slot
+straight_before slots shapes context slot straight = record { faultless = straight.faultless; before = λ k insn below here. straight.each k insn here }
+
+-- what is straight before a slot is so before each that comes earlier
+pub straight_earlier : (slots : List (Option Insn)) (shapes : List MapShape) (context slot later : ℕ) → slot ≤ later → IsStraightBefore slots shapes context later → IsStraightBefore slots shapes context slot
+straight_earlier slots shapes context slot later order straight = record { faultless = straight.faultless; before = λ k insn below here. straight.before k insn (omega arith) here }
 
 -- where no view is transferred on
 pub sure_over : (slots : List (Option Insn)) (pending : List (Option (Box AbstractState Global))) (view : AbstractState) (slot : ℕ) → ((x : Fact) (k : ℕ) → IsDue slots x k → HasWaiting x pending k) → IsSure slots pending view false slot

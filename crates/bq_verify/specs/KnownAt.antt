@@ -1,5 +1,5 @@
 -- What is known of every run that comes to a slot.
-use Rattle.std.specs.Prelude.{◌≡◌, ℕ, ◌≤◌, List, Option}
+use Rattle.std.specs.Prelude.{◌≡◌, ◌≢◌, ℕ, ◌≤◌, List, Option}
 use Rattle.bq_insn.specs.declared.Insn.{Insn}
 use Rattle.bq_bpf.specs.declared.shape.MapShape.{MapShape}
 use Rattle.bq_bpf.specs.declared.board.Call.{Call as Asked}
@@ -16,6 +16,12 @@ abbrev pub CoversRuns : List (Option Insn) → List MapShape → ℕ → ℕ →
 CoversRuns slots shapes context_length slot view =
     (f : Setting) (maps : List (List ℕ)) → IsSetting slots shapes context_length f → HaveShapes shapes maps →
     (n : ℕ) (calls : List Asked) (t : State) → Steps f (start maps) n calls t → t.slot ≡ slot → Contains f view t
+
+-- whatever they are, no chain of steps from the start comes to the slot
+abbrev pub IsNotReached : List (Option Insn) → List MapShape → ℕ → ℕ → Type 0
+IsNotReached slots shapes context_length slot =
+    (f : Setting) (maps : List (List ℕ)) → IsSetting slots shapes context_length f → HaveShapes shapes maps →
+    (n : ℕ) (calls : List Asked) (t : State) → Steps f (start maps) n calls t → t.slot ≢ slot
 
 -- from each known state at an instruction, at that slot or later, a chain that comes to the target leaves there a state of the view
 abbrev pub RestIsCovered : List (Option Insn) → List MapShape → ℕ → ℕ → AbstractState → ℕ → (Setting → State → Type 0) → Type 0

@@ -244,3 +244,8 @@ Needs slots shapes context slot Exit = IsWritten slots slot 0
 pub record IsStraightProgram (slots : List (Option Insn)) (shapes : List MapShape) (context : ℕ) : Type 0 where
   pub faultless : IsFaultless slots
   pub each : (slot : ℕ) (insn : Insn) → instruction_at slots slot ≡ Some insn → Needs slots shapes context slot insn
+
+-- the same of the instructions before that slot alone, in a control graph that has no fault anywhere
+pub record IsStraightBefore (slots : List (Option Insn)) (shapes : List MapShape) (context slot : ℕ) : Type 0 where
+  pub faultless : IsFaultless slots
+  pub before : (k : ℕ) (insn : Insn) → k < slot → instruction_at slots k ≡ Some insn → Needs slots shapes context k insn

@@ -1,4 +1,4 @@
-// Where control goes from a slot, and what is known there.
+//! Where control goes from a slot, and what is known there.
 
 ghost use Rattle.std.specs.Prelude.{◌≡◌, ◌<◌, ◌≤◌, ◌+◌, ◌^◌, ℕ, length, IfOk, IfErr, IsOk, OnOk, Some, true, false, ◌⊎◌};
 ghost use Rattle.bq_insn.specs.declared.Insn.{Insn};

@@ -1,6 +1,6 @@
-// What is known where control comes to a slot, of programs that are accepted and of others.
+//! What is known where control comes to a slot, of programs that are accepted and of others.
 
-ghost use Rattle.std.specs.Prelude.{◌≡◌, ◌≤◌, ◌<◌, ◌^◌, length, true, IfOk, IfSome};
+ghost use Rattle.std.specs.Prelude.{◌≡◌, ◌≤◌, ◌<◌, ◌^◌, ℕ, length, true, None, IfErr, IfOk, IfNone, IfSome, slice_index_or};
 ghost use Rattle.bq_insn.specs.Slots.{spread};
 ghost use Rattle.bq_insn.specs.Spelling.{is_insn, is_well_formed};
 ghost use Rattle.std.specs.List.{list_all};
@@ -9,7 +9,10 @@ ghost use Rattle.bq_graph.specs.Edges.{IsStart};
 ghost use Rattle.bq_graph.specs.Passes.{IsSound};
 ghost use Rattle.bq_bpf.specs.Hooks.{context_length_of};
 ghost use Rattle.bq_verify.specs.Control.{IsKnown, SparesFrame};
-ghost use Rattle.bq_verify.specs.KnownAt.{CoversRuns, RestIsCovered};
+ghost use Rattle.bq_verify.specs.KnownAt.{CoversRuns, IsNotReached, RestIsCovered};
+ghost use Rattle.bq_verify.specs.Refusals.{IsOutOfMemory};
+ghost use Rattle.bq_verify.specs.Straight.{IsStraightBefore};
+ghost use Rattle.bq_verify.specs.Sure.{IsSure};
 
 use crate::pass::{pass_slot, start};
 use crate::program::{Program, check_graph};
@@ -25,6 +28,7 @@ use std::alloc::{AllocError, Global};
 ///
 /// `None` where nothing is: the control graph has a fault, the pass of the verifier stops at a slot before, or none of its ways
 /// leads there. So of a program that `verify` refuses at a slot for what is not shown of the states, this tells what is known there.
+/// Where each instruction before the slot finds what it needs on every path (`IsStraightBefore`), `None` says that no run comes to it (`none`).
 pub fn view_at(
     alloc: Global,
     program: &Program,
@@ -32,7 +36,8 @@ pub fn view_at(
 ) -> Result<Option<AbstractState>, AllocError>
     requires whole { is_well_formed program.now.insns.items ≡ true }
     requires few { length program.now.shapes.items ≤ 8 }
-    ensures { IfOk result (λ known. IfSome known (CoversRuns (spread program.now.insns.items) program.now.shapes.items (context_length_of program.now.hook program.now.version) slot)) }
+    ensures covers { IfOk result (λ known. IfSome known (CoversRuns (spread program.now.insns.items) program.now.shapes.items (context_length_of program.now.hook program.now.version) slot)) }
+    ensures none { slot < length (spread program.now.insns.items) → IsStraightBefore (spread program.now.insns.items) program.now.shapes.items (context_length_of program.now.hook program.now.version) slot → IfOk result (λ known. IfNone known (IsNotReached (spread program.now.insns.items) program.now.shapes.items (context_length_of program.now.hook program.now.version) slot)) }
 {
     known_in_slots(alloc, program, slot)
 }
@@ -47,7 +52,8 @@ fn known_in_slots(
     requires some { 0 < length (spread program.now.insns.items) }
     requires short { length (spread program.now.insns.items) ≤ 4096 }
     requires few { length program.now.shapes.items ≤ 8 }
-    ensures { IfOk result (λ known. IfSome known (CoversRuns (spread program.now.insns.items) program.now.shapes.items (context_length_of program.now.hook program.now.version) slot)) }
+    ensures covers { IfOk result (λ known. IfSome known (CoversRuns (spread program.now.insns.items) program.now.shapes.items (context_length_of program.now.hook program.now.version) slot)) }
+    ensures none { slot < length (spread program.now.insns.items) → IsStraightBefore (spread program.now.insns.items) program.now.shapes.items (context_length_of program.now.hook program.now.version) slot → IfOk result (λ known. IfNone known (IsNotReached (spread program.now.insns.items) program.now.shapes.items (context_length_of program.now.hook program.now.version) slot)) }
 {
     let slots = lay_out(alloc, program.insns.as_slice())?;
     if slot >= slots.len() {
@@ -80,7 +86,8 @@ fn known_at(
     requires few { length subject.now.shapes.now ≤ 8 }
     requires frame { SparesFrame subject.now.slots.now }
     requires inside { slot < length subject.now.slots.now }
-    ensures { IfOk result (λ known. IfSome known (CoversRuns subject.now.slots.now subject.now.shapes.now subject.now.context slot)) }
+    ensures covers { IfOk result (λ known. IfSome known (CoversRuns subject.now.slots.now subject.now.shapes.now subject.now.context slot)) }
+    ensures none { IsStraightBefore subject.now.slots.now subject.now.shapes.now subject.now.context slot → IfOk result (λ known. IfNone known (IsNotReached subject.now.slots.now subject.now.shapes.now subject.now.context slot)) }
 {
     let mut pending = nothing_waits(alloc, subject.slots.len())?;
     known_with(alloc, subject, slot, pending.as_mut_slice())
@@ -101,7 +108,8 @@ fn known_with(
     requires frame { SparesFrame subject.now.slots.now }
     requires inside { slot < length subject.now.slots.now }
     requires room { length pending.old ≡ length subject.now.slots.now }
-    ensures { IfOk result (λ known. IfSome known (CoversRuns subject.now.slots.now subject.now.shapes.now subject.now.context slot)) }
+    ensures covers { IfOk result (λ known. IfSome known (CoversRuns subject.now.slots.now subject.now.shapes.now subject.now.context slot)) }
+    ensures none { ((k : ℕ) → slice_index_or pending.old k None ≡ None) → IsStraightBefore subject.now.slots.now subject.now.shapes.now subject.now.context slot → IfOk result (λ known. IfNone known (IsNotReached subject.now.slots.now subject.now.shapes.now subject.now.context slot)) }
 {
     let mut view = start();
     match pass_before(alloc, subject, slot, &mut view, pending) {
@@ -133,6 +141,7 @@ fn pass_before(
     requires frame { SparesFrame subject.now.slots.now }
     requires inside { until < length subject.now.slots.now }
     ensures long { length pending.new ≡ length pending.old }
+    ensures accepts { IsStraightBefore subject.now.slots.now subject.now.shapes.now subject.now.context until → IsSure subject.now.slots.now pending.old view.old true 0 → IfErr result IsOutOfMemory }
     ensures covered { IfOk result (λ live. (seen : Knowledge) → RestIsCovered subject.now.slots.now subject.now.shapes.now subject.now.context until seen until (IsKnown pending.new view.new live until)
         → RestIsCovered subject.now.slots.now subject.now.shapes.now subject.now.context until seen 0 (IsKnown pending.old view.old true 0)) }
 {

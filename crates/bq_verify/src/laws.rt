@@ -4,7 +4,7 @@ ghost use Rattle.bq_verify.specs.Laws.{FaultlessHasNone, OneFirstFault, RunsOnLo
 ghost use Rattle.bq_verify.specs.Worked.{CallingIsStraight, WorkedIsStraight};
 
 /// A program that is safe on a context is safe on a longer one, within the same budget: so one that is safe on the
-/// first version of a context is safe on the second, which begins with it.
+/// first version of a context is safe on the second, which is longer.
 pub fn safe_on_longer()
     ensures { SafeOnLonger }
 {}

@@ -1,4 +1,4 @@
-// One pass over the slots, by rising number.
+//! One pass over the slots, by rising number.
 
 ghost use Rattle.std.specs.Prelude.{◌≡◌, ◌<◌, ◌≤◌, ◌+◌, ◌^◌, ℕ, List, length, IfOk, IfErr, OnOk, None, false, true, slice_index, slice_index_or};
 ghost use Rattle.bq_bpf.specs.Memory.{Setting, State, HaveShapes};
@@ -8,7 +8,7 @@ ghost use Rattle.bq_graph.specs.Edges.{IsStart};
 ghost use Rattle.bq_graph.specs.Passes.{IsSound};
 ghost use Rattle.bq_verify.specs.Refusals.{IsOutOfMemory, IsStopped};
 ghost use Rattle.bq_states.specs.Certainty.{Pointer, Has, IsPlainAt, StandsAt};
-ghost use Rattle.bq_verify.specs.Straight.{IsStraightProgram};
+ghost use Rattle.bq_verify.specs.Straight.{IsStraightBefore, IsStraightProgram};
 ghost use Rattle.bq_verify.specs.Sure.{IsSure};
 ghost use Rattle.bq_states.specs.AbstractStates.{Contains};
 ghost use Rattle.bq_verify.specs.Control.{AreHeights, AreMade, IsKnown, PassesOn, RestIsSafe, SparesFrame};
@@ -91,8 +91,8 @@ pub(crate) fn pass_slot(
     ensures long { length pending.new ≡ length pending.old }
     ensures passes { IfOk result (λ on. PassesOn subject.now.slots.now subject.now.shapes.now subject.now.context slot (IsKnown pending.old view.old live slot) (IsKnown pending.new view.new on (slot + 1))) }
     ensures stopped { IfErr result (IsStopped subject.now.slots.now) }
-    ensures accepts { IsStraightProgram subject.now.slots.now subject.now.shapes.now subject.now.context → IsSure subject.now.slots.now pending.old view.old live slot → IfErr result IsOutOfMemory }
-    ensures sure { IsStraightProgram subject.now.slots.now subject.now.shapes.now subject.now.context → IsSure subject.now.slots.now pending.old view.old live slot → IfOk result (λ on. IsSure subject.now.slots.now pending.new view.new on (slot + 1)) }
+    ensures accepts { IsStraightBefore subject.now.slots.now subject.now.shapes.now subject.now.context (slot + 1) → IsSure subject.now.slots.now pending.old view.old live slot → IfErr result IsOutOfMemory }
+    ensures sure { IsStraightBefore subject.now.slots.now subject.now.shapes.now subject.now.context (slot + 1) → IsSure subject.now.slots.now pending.old view.old live slot → IfOk result (λ on. IsSure subject.now.slots.now pending.new view.new on (slot + 1)) }
 {
     if !arrive(view, live, pending, slot) {
         return Ok(false);

@@ -1,4 +1,4 @@
-// Whole programs, and the answer to each.
+//! Whole programs, and the answer to each.
 
 ghost use Rattle.std.specs.Prelude.{◌≡◌, ◌<◌, ◌≤◌, ℕ, length, OnOk, IfOk, IfErr, None, true, slice_index_or};
 ghost use Rattle.bq_insn.specs.Slots.{spread};

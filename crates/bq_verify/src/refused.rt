@@ -1,4 +1,4 @@
-// The answer to a program that is not accepted.
+//! The answer to a program that is not accepted.
 
 ghost use Rattle.std.specs.Prelude.{◌≡◌, Some, List, Option};
 ghost use Rattle.bq_insn.specs.declared.Insn.{Insn};

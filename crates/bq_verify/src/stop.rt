@@ -1,4 +1,4 @@
-// Why the pass stops.
+//! Why the pass stops.
 
 use bq_transfer::doubt::Doubt;
 use std::alloc::AllocError;

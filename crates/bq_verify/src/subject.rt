@@ -1,4 +1,4 @@
-// What the pass goes over.
+//! What the pass goes over.
 
 use bq_bpf::MapShape;
 use bq_insn::Insn;

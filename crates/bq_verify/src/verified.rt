@@ -1,4 +1,4 @@
-// Programs that were accepted.
+//! Programs that were accepted.
 
 use crate::pass::judge;
 use crate::refused::Refused;

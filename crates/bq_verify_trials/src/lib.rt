@@ -27,3 +27,5 @@ mod runs;
 mod tests;
 #[cfg(test)]
 mod verdicts;
+#[cfg(test)]
+mod whole_programs;

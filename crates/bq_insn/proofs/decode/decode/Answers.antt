@@ -12,7 +12,7 @@ returns-in-Err-clause-fault c =
     let bytes = c.args.bytes.now in
     let before = c.loop-rest.invariant in
     let some : 1 ≤ length bytes = grind (arith, nat_tests) in
-    is_fault bytes c.loop-rest.slot _ (has_length bytes c.if-bytes-ne0.false some c.if-bytes-gt32768.false) (record {
+    is_fault bytes c.loop-rest.slot _ (has_length bytes c.if-bytes-ne0.false some c.if-bytes.false) (record {
       before = c.loop-rest.insns.items;
       rest = c.loop-rest.rest.now;
       are_insns = before.ranged;

@@ -19,5 +19,5 @@ pub returns-clause-ok : goal.returns-clause-ok
 returns-clause-ok c = record {
   frames = frame_ok c.args.bytes.now (spelled_of c.in_ok-header.header, c.in_ok-header.program.now) (AreBytes-fit c.args.bytes.now c.type_inv.bytes) c.in_ok-header.ensures;
   some = omega arith;
-  most = c.if-header-gt4096.false;
+  most = c.if-header-gt-MOST.false;
 }

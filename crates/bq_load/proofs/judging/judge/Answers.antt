@@ -71,21 +71,21 @@ returns-then-length-begin-clause-failed c = λ bytes h.
     ) in
     past_fails (bytes ++ piece) j.header j.tail j.good j.bytes_are more
 
-pub returns-then-header-gt4096-clause-within : goal.returns-then-header-gt4096-clause-within
-returns-then-header-gt4096-clause-within c =
+pub returns-then-header-gt-SLOTS-clause-within : goal.returns-then-header-gt-SLOTS-clause-within
+returns-then-header-gt-SLOTS-clause-within c =
     let held = c.args.held.now in
     let piece = c.args.piece.now in
     omega (arith, c.saturating_sub.ensures, c.len.ensures.value, ap length c.front_of-front.ensures, length-take 44 (held ++ piece), length-append held piece)
 
-pub returns-then-header-gt4096-clause-stands : goal.returns-then-header-gt4096-clause-stands
-returns-then-header-gt4096-clause-stands c = λ bytes h.
+pub returns-then-header-gt-SLOTS-clause-stands : goal.returns-then-header-gt-SLOTS-clause-stands
+returns-then-header-gt-SLOTS-clause-stands c = λ bytes h.
     let held = c.args.held.now in
     let piece = c.args.piece.now in
     let s = spelled_of c.in-Ok.read.0 in
     let fits : AreBytes (take 44 (held ++ piece)) = first_bytes held piece (AreBytes-fit held c.type_inv.held) (AreBytes-fit piece c.type_inv.piece) in
     let read : header_at (take 44 (held ++ piece)) ≡ Ok (s, c.in-Ok.read.1.now) = ap header_at (sym (c.as_slice.ensures.value ∙ c.front_of-front.ensures)) ∙ c.in-Ok.ensures in
     let j = read_header_of_all held piece bytes c.args.past s c.in-Ok.read.1.now fits read h in
-    counted_stands (take 44 (held ++ piece)) held piece bytes c.args.past s c.in-Ok.read.1.now c.saturating_sub.result j c.if-header-gt4096.true
+    counted_stands (take 44 (held ++ piece)) held piece bytes c.args.past s c.in-Ok.read.1.now c.saturating_sub.result j c.if-header-gt-SLOTS.true
     (omega (
       arith,
       c.saturating_sub.ensures,
@@ -95,8 +95,8 @@ returns-then-header-gt4096-clause-stands c = λ bytes h.
     ))
     h
 
-pub returns-then-header-gt4096-clause-going : goal.returns-then-header-gt4096-clause-going
-returns-then-header-gt4096-clause-going c = λ bytes f h whole failed.
+pub returns-then-header-gt-SLOTS-clause-going : goal.returns-then-header-gt-SLOTS-clause-going
+returns-then-header-gt-SLOTS-clause-going c = λ bytes f h whole failed.
     let held = c.args.held.now in
     let piece = c.args.piece.now in
     let s = spelled_of c.in-Ok.read.0 in
@@ -132,10 +132,10 @@ returns c =
       within = omega arith;
       counts = omega (arith, c.ranges.past.fits);
       bounded = λ few.
-          omega (arith, few, c.if-length-begin.false, c.if-header-gt4096.false, c.saturating_add.ensures, c.saturating_add-length.ensures, c.len.ensures.value, long, length-take 44 (held ++ piece));
+          omega (arith, few, c.if-length-begin.false, c.if-header-gt-SLOTS.false, c.saturating_add.ensures, c.saturating_add-length.ensures, c.len.ensures.value, long, length-take 44 (held ++ piece));
       stands = λ bytes h.
           let j = read_header_of_all held piece bytes c.args.past s rest fits read h in
-          kept_stands held piece bytes c.args.past (not_over front held piece bytes c.args.past s rest j c.if-header-gt4096.false) h;
+          kept_stands held piece bytes c.args.past (not_over front held piece bytes c.args.past s rest j c.if-header-gt-SLOTS.false) h;
       going = λ bytes f h whole failed.
           let j = read_header_of_all held piece bytes c.args.past s rest fits read h in
           let within : length j.tail ≤ 8 * j.header.slots =

@@ -1,6 +1,7 @@
 use Rattle.std.proofs.Common.{refl, arith}
 use Rattle.bq_bpf.specs.Meaning.{operate}
 use Rattle.bq_ranges.proofs.OutcomeLemmas.{as_word, held, held_bits, held_by_all, quotient_held, remainder_held, union_between, difference_between}
+use Rattle.bq_ranges.proofs.TightLemmas.{as_difference}
 use Rattle.bq_ranges.proofs.arithmetic.outcomes.Goals as goal
 
 pub returns-in-Add-clause-holds : goal.returns-in-Add-clause-holds
@@ -41,7 +42,19 @@ returns-in-Mul-clause-tight_high c = λ h.
 
 pub returns-in-Sub-clause-holds : goal.returns-in-Sub-clause-holds
 unfolding operate
-returns-in-Sub-clause-holds c = λ x y p q. rw c.in-Sub.is (c.sub.ensures x y p q)
+returns-in-Sub-clause-holds c = λ x y p q. rw c.in-Sub.is (c.sub.ensures.holds x y p q)
+
+pub returns-in-Sub-clause-tight_low : goal.returns-in-Sub-clause-tight_low
+unfolding operate
+returns-in-Sub-clause-tight_low c = λ h.
+    let order = rw c.in-Sub.is at h in
+    rw c.in-Sub.is (as_difference c.args.width c.sub.result.lo c.args.a.lo c.args.b.hi (c.sub.ensures.tight_low order) order (omega arith))
+
+pub returns-in-Sub-clause-tight_high : goal.returns-in-Sub-clause-tight_high
+unfolding operate
+returns-in-Sub-clause-tight_high c = λ h.
+    let order = rw c.in-Sub.is at h in
+    rw c.in-Sub.is (as_difference c.args.width c.sub.result.hi c.args.a.hi c.args.b.lo (c.sub.ensures.tight_high order) (omega arith) (omega arith))
 
 pub returns-in-Lsh-clause-holds : goal.returns-in-Lsh-clause-holds
 unfolding operate

@@ -4,6 +4,7 @@ use Rattle.bq_insn.specs.Slots.{spread}
 use Rattle.bq_graph.specs.Faults.{IsFaultless}
 use Rattle.bq_verify.proofs.GraphLemmas.{spread_whole, spread_first, faultless_sound}
 use Rattle.bq_verify.proofs.FrameLemmas.{spares_frame}
+use Rattle.bq_verify.specs.declared.refused.Refused.TheVariants.{OutOfMemory}
 use Rattle.bq_verify.proofs.known_at.known_in_slots.Goals as goal
 
 pub check_graph-requires-clause-whole : goal.check_graph-requires-clause-whole
@@ -24,3 +25,10 @@ known_at-requires-clause-frame c =
     let same : c.as_slice-in-Ok.result.now ≡ spread c.args.program.now.insns.items = c.as_slice-in-Ok.ensures.value ∙ c.in_ok-slots.ensures ∙ ap spread c.as_slice.ensures.value in
     let faultless = c.as_slice-2.ensures.value ∙ sym c.as_slice-in-Ok.ensures.value in
     spares_frame c.args.program.now.insns.items c.as_slice-in-Ok.result.now same c.requires.registers (subst (λ (s : List (Option Insn)). IsFaultless s) faultless c.in-Ok.ensures.ok)
+
+pub returns-in-Err-At-clause-none : goal.returns-in-Err-At-clause-none
+returns-in-Err-At-clause-none c = λ inside straight.
+    let same : c.as_slice-2.result.now ≡ spread c.args.program.now.insns.items = c.as_slice-2.ensures.value ∙ c.in_ok-slots.ensures ∙ ap spread c.as_slice.ensures.value in
+    let memory : c.in-Err-At.field-0 ≡ OutOfMemory = c.in-Err-At.ensures.passes (subst (λ (s : List (Option Insn)). IsFaultless s) (sym same) straight.faultless) in
+    let other = c.in-Err-At.field-0-is in
+    absurd (let no : ⊥ = cc in no)

@@ -1,10 +1,30 @@
-use Rattle.bq_verify.proofs.KnownLemmas.{covered_at, covers_runs}
+use Rattle.std.proofs.Common.{◌≡◌}
+use Rattle.bq_verify.specs.declared.refused.Refused.TheVariants.{OutOfMemory}
+use Rattle.bq_verify.proofs.KnownLemmas.{covered_at, covered_by_any, covers_runs, not_reached, nowhere}
+use Rattle.bq_verify.proofs.SureLemmas.{sure_start}
 use Rattle.bq_verify.proofs.known_at.known_with.Goals as goal
 
-pub returns-then-arrive : goal.returns-then-arrive
-returns-then-arrive c =
+pub returns-then-arrive-clause-covers : goal.returns-then-arrive-clause-covers
+returns-then-arrive-clause-covers c =
     covers_runs c.args.subject.now.slots.now c.args.subject.now.shapes.now c.args.subject.now.context c.args.slot c.arrive.new.view c.args.pending.now c.start-view.result
     c.requires.first c.start-view.ensures.covers
     (c.in-Ok.ensures.covered c.arrive.new.view
     (covered_at c.args.subject.now.slots.now c.args.subject.now.shapes.now c.args.subject.now.context c.requires.sound c.requires.context c.args.slot
     c.pass_before.new.pending c.arrive.new.pending c.pass_before.new.view c.arrive.new.view c.in-Ok.live c.arrive.result c.arrive.ensures.known c.arrive.ensures.empty))
+
+pub returns-else-arrive-clause-none : goal.returns-else-arrive-clause-none
+returns-else-arrive-clause-none c = λ blank straight.
+    let any = nowhere c.args.subject.now.shapes.now in
+    not_reached c.args.subject.now.slots.now c.args.subject.now.shapes.now c.args.subject.now.context c.args.slot
+    (covers_runs c.args.subject.now.slots.now c.args.subject.now.shapes.now c.args.subject.now.context c.args.slot any c.args.pending.now c.start-view.result
+    c.requires.first c.start-view.ensures.covers
+    (c.in-Ok.ensures.covered any
+    (covered_by_any c.args.subject.now.slots.now c.args.subject.now.shapes.now c.args.subject.now.context c.requires.sound c.requires.context c.args.slot
+    c.pass_before.new.pending c.arrive.new.pending c.pass_before.new.view c.arrive.new.view any c.in-Ok.live c.arrive.result c.arrive.ensures.known c.arrive.ensures.empty c.if-arrive.false)))
+
+pub returns-in-Err-At-clause-none : goal.returns-in-Err-At-clause-none
+returns-in-Err-At-clause-none c = λ blank straight.
+    let begins = sure_start c.args.subject.now.slots.now c.args.pending.now c.start-view.result c.requires.sound blank c.start-view.ensures.context c.start-view.ensures.frame c.start-view.ensures.plain in
+    let memory : c.in-Err-At.field-0 ≡ OutOfMemory = c.in-Err-At.ensures.accepts straight begins in
+    let other = c.in-Err-At.field-0-is in
+    absurd (let no : ⊥ = cc in no)

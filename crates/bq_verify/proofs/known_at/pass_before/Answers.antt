@@ -1,6 +1,8 @@
 use Rattle.std.proofs.Common.{◌≡◌, ℕ, ◌+◌, ◌<◌, rules, arith, subst}
 use Rattle.bq_verify.specs.Control.{IsKnown}
 use Rattle.bq_verify.specs.KnownAt.{RestIsCovered}
+use Rattle.bq_verify.specs.Refusals.{IsOutOfMemory}
+use Rattle.bq_verify.proofs.SureLemmas.{straight_earlier}
 use Rattle.bq_verify.proofs.KnownLemmas.{covered_before}
 use Rattle.bq_verify.proofs.known_at.pass_before.Goals as goal
 
@@ -15,6 +17,8 @@ loop-slot-preserved c =
           (IsKnown c.loop-slot.pending c.loop-slot.view c.loop-slot.live c.loop-slot.slot)
           (IsKnown c.pass_slot.new.pending c.pass_slot.new.view c.in_ok-live.live (c.loop-slot.slot + 1))
           before c.in_ok-live.ensures.passes rest);
+      sure = λ straight begins.
+          c.in_ok-live.ensures.sure (straight_earlier c.args.subject.now.slots.now c.args.subject.now.shapes.now c.args.subject.now.context (c.loop-slot.slot + 1) c.args.until (omega arith) straight) (c.loop-slot.invariant.sure straight begins);
     }
 
 pub returns-clause-covered : goal.returns-clause-covered
@@ -22,3 +26,9 @@ returns-clause-covered c = λ seen rest.
     let same : c.args.until ≡ c.loop-slot.slot = omega arith in
     c.loop-slot.invariant.rest seen
     (subst (λ (n : ℕ). RestIsCovered c.args.subject.now.slots.now c.args.subject.now.shapes.now c.args.subject.now.context c.args.until seen n (IsKnown c.loop-slot.pending c.loop-slot.view c.loop-slot.live n)) same rest)
+
+pub returns-in_err-live-clause-accepts : goal.returns-in_err-live-clause-accepts
+returns-in_err-live-clause-accepts c = λ straight begins.
+    let memory : IsOutOfMemory c.in_err-live.field-0.0 =
+    c.in_err-live.ensures.accepts (straight_earlier c.args.subject.now.slots.now c.args.subject.now.shapes.now c.args.subject.now.context (c.loop-slot.slot + 1) c.args.until (omega arith) straight) (c.loop-slot.invariant.sure straight begins) in
+    search rules

@@ -1,6 +1,7 @@
 use Rattle.std.proofs.Common.{◌+◌, rules, arith}
 use Rattle.bq_verify.specs.Control.{IsKnown}
 use Rattle.bq_verify.specs.Refusals.{IsOutOfMemory}
+use Rattle.bq_verify.proofs.SureLemmas.{straight_before}
 use Rattle.bq_verify.proofs.PassLemmas.{rest_before, rest_at_end}
 use Rattle.bq_verify.proofs.pass.pass.Goals as goal
 
@@ -13,7 +14,7 @@ loop-slot-preserved c = record {
       (IsKnown c.loop-slot.pending c.loop-slot.view c.loop-slot.live c.loop-slot.slot)
       (IsKnown c.pass_slot.new.pending c.pass_slot.new.view c.in_ok-live.live (c.loop-slot.slot + 1))
       c.in_ok-live.ensures.passes rest);
-  sure = λ straight begins. c.in_ok-live.ensures.sure straight (c.loop-slot.invariant.sure straight begins);
+  sure = λ straight begins. c.in_ok-live.ensures.sure (straight_before c.args.subject.now.slots.now c.args.subject.now.shapes.now c.args.subject.now.context (c.loop-slot.slot + 1) straight) (c.loop-slot.invariant.sure straight begins);
 }
 
 pub returns-clause-safe : goal.returns-clause-safe
@@ -22,5 +23,5 @@ returns-clause-safe c = λ made rise.
 
 pub returns-in_err-live-clause-accepts : goal.returns-in_err-live-clause-accepts
 returns-in_err-live-clause-accepts c = λ straight begins.
-    let memory : IsOutOfMemory c.in_err-live.field-0.0 = c.in_err-live.ensures.accepts straight (c.loop-slot.invariant.sure straight begins) in
+    let memory : IsOutOfMemory c.in_err-live.field-0.0 = c.in_err-live.ensures.accepts (straight_before c.args.subject.now.slots.now c.args.subject.now.shapes.now c.args.subject.now.context (c.loop-slot.slot + 1) straight) (c.loop-slot.invariant.sure straight begins) in
     search rules
