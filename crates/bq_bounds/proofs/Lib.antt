@@ -4,3 +4,5 @@ pub mod GreatestLemmas
 pub mod OwedLemmas
 pub mod FromTheBackLemmas
 pub mod UnchangedLagLemmas
+pub mod MeasureLemmas
+pub mod LagBoundLemmas

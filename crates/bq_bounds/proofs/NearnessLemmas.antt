@@ -6,7 +6,7 @@ use Rattle.std.proofs.Math.Nat.{mul-le-mul_left}
 use Rattle.bq_disc.specs.Tasks.{Task, present}
 use Rattle.bq_disc.specs.Totals.{total_weight, weighted_sum}
 use Rattle.bq_disc.specs.Discipline.{charged}
-use Rattle.bq_disc.specs.OneProcessor.{Running, present_at, reading, own_preempt}
+use Rattle.bq_disc.specs.OneProcessor.{Running, present_at, reading}
 use Rattle.bq_cfs.specs.Cfs.{cfs}
 use Rattle.bq_cfs.proofs.MoveLemmas.{each-with_id}
 use Rattle.bq_eevdf.specs.Eevdf.{eevdf, is_eligible}
@@ -15,7 +15,7 @@ use Rattle.bq_fair.proofs.PlaceLemmas.{busy}
 use Rattle.bq_fair.proofs.ListLemmas.{of_some}
 use Rattle.bq_fair.proofs.CfsFairLemmas.{IsNearEach, runs_near_each}
 use Rattle.bq_fair.proofs.EligibleLemmas.{IsEarliestOf, runs_earliest, earliest_is_eligible}
-use Rattle.bq_fair.proofs.SumLemmas.{sum_decided, total_weight-sum, weighted_sum-sum}
+use Rattle.bq_fair.proofs.SumLemmas.{total_weight-decided, weighted_sum-decided}
 use Rattle.bq_bounds.specs.Nearness.{CfsStaysNear, EevdfStaysNear}
 use Rattle.bq_bounds.proofs.PassLemmas.{ran_at}
 
@@ -56,14 +56,6 @@ mean_at p a v now nows e low ends =
     let P : Option Task → Type 0 = λ o. total_weight (present o p.queue) * v ≤ weighted_sum (present o p.queue) → v ≤ (after eevdf (record p { current = o }) (map Pass (now ∷ nows))).kept in
     subst P (sym e) (mean p.queue p.kept a p.last v now nows low ends)
 
--- a decision keeps the weight of all that are present
-pub weight_stays : (p : Running) → total_weight (present_at (stepped eevdf p Decide)) ≡ total_weight (present_at p)
-weight_stays p = total_weight-sum (present_at (stepped eevdf p Decide)) ∙ sum_decided (λ (t : Task). t.weight) eevdf p.queue p.kept p.current p.last (own_preempt eevdf p.queue p.current) ∙ sym (total_weight-sum (present_at p))
-
--- a decision keeps the weighted sum of all that are present
-pub sum_stays : (p : Running) → weighted_sum (present_at (stepped eevdf p Decide)) ≡ weighted_sum (present_at p)
-sum_stays p = weighted_sum-sum (present_at (stepped eevdf p Decide)) ∙ sum_decided (λ (t : Task). t.weight * t.v) eevdf p.queue p.kept p.current p.last (own_preempt eevdf p.queue p.current) ∙ sym (weighted_sum-sum (present_at p))
-
 -- a task that is eligible is at most at the mean
 pub eligible_at_most_mean : (xs : List Task) (t : Task) → is_eligible xs t ≡ true → total_weight xs * t.v ≤ weighted_sum xs
 eligible_at_most_mean xs t h = grind (arith, nat_tests)
@@ -80,7 +72,7 @@ eevdf_stays_near p now nows a u distinct weight ends decides runs =
     let same : u ≡ rest.task = some_same u rest.task (sym runs ∙ rest.runs) in
     let first = of_some (IsEarliestOf (present_at p)) q.current a (runs_earliest p distinct) decides in
     let eligible = eligible_at_most_mean (present_at p) a (earliest_is_eligible (present_at p) a distinct first) in
-    let kept = at_most_of_same (total_weight (present_at p)) (total_weight (present_at q)) (weighted_sum (present_at p)) (weighted_sum (present_at q)) a.v (weight_stays p) (sum_stays p) eligible in
+    let kept = at_most_of_same (total_weight (present_at p)) (total_weight (present_at q)) (weighted_sum (present_at p)) (weighted_sum (present_at q)) a.v (total_weight-decided eevdf p) (weighted_sum-decided eevdf p) eligible in
     let le = mean_at q a a.v now nows decides weight.0 ends kept in
     let up = rest.v in
     (ap (λ (t : Task). t.weight) same ∙ rest.weight, omega (arith, ap (λ (t : Task). t.v) same))

@@ -17,7 +17,7 @@ use Rattle.bq_fair.specs.EevdfFairness.{most_ahead, IsBalanced}
 use Rattle.bq_fair.specs.Steps.{Step, Pass, Decide, Enter, Leave, Mark, stepped, after, DecidesWithin}
 use Rattle.bq_fair.proofs.TickLemmas.{Change, Stays, Runs, charge_came}
 use Rattle.bq_fair.proofs.SoundLemmas.{of_each, vdelta_of-le, IsWellFormed, well_formed}
-use Rattle.bq_fair.proofs.SumLemmas.{total_weight-ticked, weighted_sum-busy}
+use Rattle.bq_fair.proofs.SumLemmas.{total_weight-decided, weighted_sum-decided, total_weight-ticked, weighted_sum-busy}
 use Rattle.bq_fair.proofs.ListLemmas.{All-from_ids, of_some, weights_split}
 use Rattle.bq_fair.proofs.PlaceLemmas.{current_present}
 use Rattle.bq_fair.proofs.DecideLemmas.{keeps_present}
@@ -27,7 +27,7 @@ use Rattle.bq_fair.proofs.BalanceLemmas.{sound, moment_up}
 use Rattle.bq_fair.proofs.OwedLemmas.{none_is_owed_long}
 use Rattle.bq_bounds.specs.Lags.{mean_at, furthest, owed, allowed}
 use Rattle.bq_bounds.specs.Owing.{KeepsAll, EevdfOwesWithin}
-use Rattle.bq_bounds.proofs.NearnessLemmas.{weight_stays, sum_stays, eligible_at_most_mean, at_most_of_same}
+use Rattle.bq_bounds.proofs.NearnessLemmas.{eligible_at_most_mean, at_most_of_same}
 use Rattle.bq_bounds.proofs.PassLemmas.{vdelta_of-add}
 
 -- The clock has risen by s since the last decision: the task that runs is ahead by no more than E and what s takes at its weight,
@@ -39,10 +39,10 @@ record IsLevel (E r s : ℕ) (p : Running) : Type 0 where
 -- Time passes
 
 weight_charged : (p : Running) (now : ℕ) → weight_at (charge eevdf p now) ≡ weight_at p
-weight_charged p now = sym (weight_stays (charge eevdf p now)) ∙ total_weight-ticked eevdf p now
+weight_charged p now = sym (total_weight-decided eevdf (charge eevdf p now)) ∙ total_weight-ticked eevdf p now
 
 moment_charged : (p : Running) (now : ℕ) → moment_at (ticked eevdf p now) ≡ moment_at (charge eevdf p now)
-moment_charged p now = sum_stays (charge eevdf p now)
+moment_charged p now = weighted_sum-decided eevdf (charge eevdf p now)
 
 further : (W w o M N E x y g s most both : ℕ) → W ≡ w + o → y ≡ x + g → g ≤ most → s + most ≤ both → W * x ≤ M + (E + o * s) → N + w * x ≡ M + w * y → W * y ≤ N + (E + o * both)
 further W w o M N E x y g s most both split up le sum start moves =
@@ -112,11 +112,11 @@ decide E r s p w l =
       runs = λ t e.
           let first = of_some (IsEarliestOf (present_at p)) q.current t (runs_earliest p w.distinct) e in
           let eligible = eligible_at_most_mean (present_at p) t (earliest_is_eligible (present_at p) t w.distinct first) in
-          let kept = at_most_of_same (weight_at p) (weight_at q) (moment_at p) (moment_at q) t.v (weight_stays p) (sum_stays p) eligible in
+          let kept = at_most_of_same (weight_at p) (weight_at q) (moment_at p) (moment_at q) t.v (total_weight-decided eevdf p) (weighted_sum-decided eevdf p) eligible in
           omega arith;
       each = λ i u f.
           let h = l.each i u (sym ((keeps_present eevdf p (own_preempt eevdf p.queue p.current) w.distinct).same i) ∙ f) in
-          rw (weight_stays p, sum_stays p) h;
+          rw (total_weight-decided eevdf p, weighted_sum-decided eevdf p) h;
     }
 
 -- Any steps
@@ -137,7 +137,7 @@ left E r s p (Pass now ∷ ss) w k l d =
     via E r p m (after eevdf m ss) (weight_charged p now) (left E r (s + rise p now) m ss (well_formed_stepped eevdf p (Pass now) w tt) k.1 (pass E r s p now w l d.0) d.1)
 left E r s p (Decide ∷ ss) w k l d =
     let m = stepped eevdf p Decide in
-    via E r p m (after eevdf m ss) (weight_stays p) (left E r 0 m ss (well_formed_stepped eevdf p Decide w tt) k.1 (decide E r s p w l) d.1)
+    via E r p m (after eevdf m ss) (total_weight-decided eevdf p) (left E r 0 m ss (well_formed_stepped eevdf p Decide w tt) k.1 (decide E r s p w l) d.1)
 left E r s p (Mark ∷ ss) w k l d =
     let m = stepped eevdf p Mark in
     via E r p m (after eevdf m ss) refl (left E r s m ss (well_formed_stepped eevdf p Mark w tt) k.1 (record { runs = l.runs; each = l.each }) d.1)

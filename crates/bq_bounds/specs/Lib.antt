@@ -6,3 +6,4 @@ pub mod Lags
 pub mod Glances
 pub mod LagWatches
 pub mod Owing
+pub mod Measures

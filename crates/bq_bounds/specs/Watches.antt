@@ -68,9 +68,13 @@ settled (Block cpu now) (Went task run) busy w = decided who.Discipline w
 settled (Pull cpu from now) (Pulled task run by steps) busy w = pulled task busy w
 settled e r busy w = w
 
--- an event of the processor: its clock rises, what ran is charged, and someone may decide
+-- a reading of the clock: it has risen, and what ran is charged
+abbrev pub read_by : Rule → Option RunningTask → ℕ → ℕ → Watch → Watch
+read_by rule s rise mean w = charged_if rule s rise mean (risen rise w)
+
+-- an event of the processor: its clock is read, and someone may decide
 abbrev pub watch_after : Rule → Event → Reply → Option RunningTask → ℕ → ℕ → Watch → Watch
-watch_after rule e r s rise mean w = settled e r (is_some s) (charged_if rule s rise mean (risen rise w))
+watch_after rule e r s rise mean w = settled e r (is_some s) (read_by rule s rise mean w)
 
 abbrev pub watch_of : List Watch → ℕ → Watch
 watch_of ws cpu = slice_index_or ws cpu unwatched

@@ -1,4 +1,5 @@
 //! Laws of what is measured: each is the contract of a function that does nothing.
+ghost use Rattle.bq_bounds.specs.Measures.{LagsWithin, MeasuresWithin, WatchesWithin};
 ghost use Rattle.bq_bounds.specs.Nearness.{CfsStaysNear, EevdfStaysNear, KeepsTheGreatest};
 ghost use Rattle.bq_bounds.specs.Owing.{EevdfOwesWithin};
 
@@ -23,4 +24,22 @@ pub fn keeps_the_greatest()
 /// virtual time takes of the others.
 pub fn eevdf_owes_within()
     ensures { EevdfOwesWithin }
+{}
+
+/// So no measure passes its bound: from a decision of the discipline on, as long as nothing comes or goes, what the charge of
+/// the task that runs is measured by at a reading of the clock is at most the bound that is told with it.
+pub fn measures_within()
+    ensures { MeasuresWithin }
+{}
+
+/// And so it is of what a watch keeps: where the discipline decides it begins to count, and at each reading it counts how far
+/// the clock has risen since then, and the greatest that it keeps is at most its bound; what else an event does leaves that.
+pub fn watches_within()
+    ensures { WatchesWithin }
+{}
+
+/// EEVDF: and of what any task is owed: from the moment on at which a stretch begins, as long as nothing comes or goes, the
+/// greatest that is kept is at most its bound.
+pub fn lags_within()
+    ensures { LagsWithin }
 {}

@@ -1,8 +1,8 @@
-//! The same once more: events, replies and answers, none of which takes memory.
+//! The same once more: events and their policies, neither of which takes memory.
 ghost use Rattle.std.specs.Prelude.{◌≡◌, IfOk, OnErr, IsTrue, is_some};
 ghost use Rattle.bq_cells.specs.Events.{CarriesPolicy};
 
-use bq_parts::{Event, Policy, Refusal, Reply};
+use bq_parts::{Event, Policy};
 use std::alloc::AllocError;
 
 /// The same event once more. There is an error only where its policy would then stand in more places than can be
@@ -29,75 +29,5 @@ pub fn policy_again(policy: &Option<Policy>) -> Result<Option<Policy>, AllocErro
     match policy {
         None => Ok(None),
         Some(policy) => Ok(Some(policy.clone()?)),
-    }
-}
-
-/// The same reply once more.
-pub fn reply_again(reply: &Reply) -> Reply
-    ensures { result ≡ reply.now }
-{
-    match reply {
-        Reply::Admitted => Reply::Admitted,
-        Reply::Retired => Reply::Retired,
-        Reply::Drawn { generation } => Reply::Drawn {
-            generation: *generation,
-        },
-        Reply::Installed => Reply::Installed,
-        Reply::Begun { task, loads } => Reply::Begun {
-            task: *task,
-            loads: loads.copy(),
-        },
-        Reply::Placed {
-            task,
-            to,
-            by,
-            steps,
-        } => Reply::Placed {
-            task: *task,
-            to: *to,
-            by: *by,
-            steps: *steps,
-        },
-        Reply::Drained {
-            count,
-            run,
-            by,
-            steps,
-        } => Reply::Drained {
-            count: *count,
-            run: *run,
-            by: *by,
-            steps: *steps,
-        },
-        Reply::Ticked { run, by, steps } => Reply::Ticked {
-            run: *run,
-            by: *by,
-            steps: *steps,
-        },
-        Reply::Blocked { task, run } => Reply::Blocked {
-            task: *task,
-            run: *run,
-        },
-        Reply::Pulled {
-            task,
-            run,
-            by,
-            steps,
-        } => Reply::Pulled {
-            task: *task,
-            run: *run,
-            by: *by,
-            steps: *steps,
-        },
-    }
-}
-
-/// The same answer once more.
-pub fn answer_again(answer: &Result<Reply, Refusal>) -> Result<Reply, Refusal>
-    ensures { result ≡ answer.now }
-{
-    match answer {
-        Ok(reply) => Ok(reply_again(reply)),
-        Err(refusal) => Err(*refusal),
     }
 }

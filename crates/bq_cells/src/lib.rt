@@ -1,7 +1,7 @@
 //! The world of processors, inboxes and sleeping tasks as several locks hold it: what lies under each lock, what the
 //! history tells of an event, and the law that each event's share over the parts that it touches is a move of the history.
-//! Promises that an event, a reply or an answer once more is the same, that two are told to be the same just where they are, and
-//! that an answer kept in little room is the answer.
+//! Promises that an event once more is the same, that two answers are told to be the same just where they are, and that an answer
+//! kept in little room is the answer.
 //! Stands on bq_parts for the shares, on bq_core for the laws of worlds, and on bq_history for what a move is.
 #![tactic(auto)]
 
@@ -12,7 +12,7 @@ pub mod law;
 pub mod record;
 pub mod same;
 
-pub use again::{answer_again, event_again, policy_again, reply_again};
+pub use again::{event_again, policy_again};
 pub use answer::Answer;
 pub use bq_seats::{CallRooms, Calls, hold_calls};
 pub use cells::{NumberedCpu, NumberedInbox, OneLobby, UnderLock};

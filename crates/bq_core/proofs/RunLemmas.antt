@@ -1,5 +1,5 @@
 -- Runs of events, one step after another.
-use Rattle.std.proofs.Common.{◌≡◌, List, [], ◌∷◌, ◌++◌, length, refl, subst, arith}
+use Rattle.std.proofs.Common.{List, [], ◌∷◌, ◌++◌, refl, subst}
 use Rattle.std.specs.Prelude.{Result}
 use Rattle.bq_bpf.specs.declared.board.Call.{Call as Asked}
 use Rattle.bq_bpf.specs.Counters.{Through}
@@ -21,8 +21,3 @@ run_more s w mid w' es e calls c answers a run step = absurd run
 pub through_more : {B : Type 0} (leads : B → Asked → B → Type 0) (old mid new : B) (calls : List (List Asked)) (c : List Asked) → ThroughAll leads old calls mid → Through leads mid c new → ThroughAll leads old (calls ++ c ∷ []) new
 through_more leads old mid new [] c all next = (new, subst (λ b. Through leads b c new) all next, refl)
 through_more leads old mid new (k ∷ calls) c all next = (all.0, all.1, through_more leads all.0 mid new calls c all.2 next)
-
--- a list of length zero is the empty one
-pub empty_from_length : {X : Type 0} (xs : List X) → length xs ≡ 0 → xs ≡ []
-empty_from_length [] h = refl
-empty_from_length (x ∷ xs) h = absurd (omega arith)

@@ -58,6 +58,7 @@ impl<Q: RunQueue> Parts<Q> {
         requires inboxes { length inboxes.items ≡ length cpus.items }
         ensures { result ≡ record { processors = cpus.items; inboxes = inboxes.items; seats = lobby; drawn = drawn } }
     {
+        // To look at the lobby brings to the proof that it has an entry for each id.
         let _seats = &lobby;
         Parts {
             cpus,

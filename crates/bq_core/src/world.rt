@@ -1,5 +1,5 @@
 //! The world and its events: the call by which everything else drives it.
-ghost use Rattle.std.specs.Prelude.{◌≡◌, ◌+◌, ◌≤◌, ◌<◌, List, [], ◌∷◌, Err, OnErr, IfOk, IfErr, length, vec_len, vec_capacity};
+ghost use Rattle.std.specs.Prelude.{◌≡◌, ◌+◌, ◌≤◌, ◌<◌, List, [], Err, OnErr, IfOk, IfErr, length, vec_len, vec_capacity};
 ghost use Rattle.bq_parts.specs.World.{opening_world, processor, count_in};
 ghost use Rattle.bq_parts.specs.Choices.{policies};
 ghost use Rattle.bq_parts.specs.Steps.{WorldStep, WorldRun, ThroughAll};
@@ -115,6 +115,7 @@ impl<Q: RunQueue> DynamicCore<Q> {
         ensures orderly { IsOrderly self.new }
         ensures throughout { StaysOrderly (policies Q.R.discipline) self.old events.items }
     {
+        // To look at the parts brings to the proof what always holds of them.
         let _ = &self.parts;
         let Ok(mut answers) = Vec::with_capacity(alloc, events.len()) else {
             return Err(Refusal::OutOfMemory);
@@ -136,6 +137,7 @@ impl<Q: RunQueue> DynamicCore<Q> {
         ensures run { (calls : List (List Asked)) × WorldRun (policies Q.R.discipline) self.old events.items calls answers.new.items self.new × ThroughAll B.leads board.old calls board.new }
         ensures orderly { IsOrderly self.new }
     {
+        // To look at the parts brings to the proof what always holds of them.
         let _ = &self.parts;
         for event in events {
             let answer = self.step(alloc, event, board);
@@ -175,6 +177,7 @@ impl<Q: RunQueue> Parts<Q> {
         ensures step { WorldStep (policies Q.R.discipline) self.old event scratch.new result self.new }
         ensures board { Through B.leads board.old scratch.new board.new }
     {
+        // The same of the processors.
         let _ = &self.cpus;
         scratch.clear();
         if let Some(refusal) = argument_refusal(self.processors(), &event) {

@@ -1,6 +1,6 @@
 -- What is found of two parts of a queue, one after the other.
-use Rattle.std.proofs.Common.{◌≡◌, ℕ, zero, suc, ◌+◌, ◌<◌, ◌≤◌, Bool, true, false, cond, List, [], ◌∷◌, ◌++◌, length, take, filter, reverse, length-append, append_assoc, refl, ap, sym, ◌∙◌, arith}
-use Rattle.std.proofs.lemmas.List.{length-reverse, reverse-append, map-append, length-take, take-append-le}
+use Rattle.std.proofs.Common.{◌≡◌, ℕ, zero, suc, ◌+◌, ◌≤◌, Bool, true, false, cond, List, [], ◌∷◌, ◌++◌, length, take, filter, reverse, length-append, append_assoc, refl, ap, sym, ◌∙◌, arith}
+use Rattle.std.proofs.lemmas.List.{length-reverse, reverse-append, map-append, take-append-le}
 use Rattle.std.proofs.lemmas.List.Elements.{filter-append}
 use Rattle.bq_disc.specs.Tasks.{Task}
 use Rattle.bq_disc.specs.Queues.{can_use}
@@ -21,42 +21,9 @@ take_short zero (x ∷ xs) h = absurd (omega arith)
 take_short (suc n) [] h = refl
 take_short (suc n) (x ∷ xs) h = ap (λ l. x ∷ l) (take_short n xs (omega arith))
 
-short_take : (xs : List ℕ) → length (take 8 xs) ≤ 8
-short_take xs = omega (arith, length-take 8 xs)
-
 append_nothing : (xs : List ℕ) → xs ++ [] ≡ xs
 append_nothing [] = refl
 append_nothing (x ∷ xs) = ap (λ l. x ∷ l) (append_nothing xs)
-
--- to look at no task adds nothing to what was found, of which at most eight ids are kept
-pub Adds-none : (processor : ℕ) (a : Movable) → length a.first.items ≤ 8 → Adds processor [] a a
-Adds-none processor a h = record {
-  count = omega arith;
-  first = sym (ap (λ l. take 8 l) (append_nothing a.first.items) ∙ take_short 8 a.first.items h);
-  fits = h;
-}
-
--- a task that may not go to the processor adds nothing
-pub Adds-other : (processor : ℕ) (t : Task) (a : Movable) → can_use processor t ≡ false → length a.first.items ≤ 8 → Adds processor (t ∷ []) a a
-Adds-other processor t a e h =
-    let none : movable_to processor (t ∷ []) ≡ [] = rw e refl in
-    let s = Adds-none processor a h in
-    record {
-      count = omega (arith, ap length none);
-      first = rw none s.first;
-      fits = h;
-    }
-
--- a task that may go is counted, and its id comes behind those kept, where they are fewer than eight
-pub Adds-more : (processor : ℕ) (t : Task) (a b : Movable) → can_use processor t ≡ true → b.count ≡ a.count + 1 → b.first.items ≡ a.first.items ++ t.id ∷ [] → length a.first.items < 8 → Adds processor (t ∷ []) a b
-Adds-more processor t a b e count first h =
-    let one : movable_to processor (t ∷ []) ≡ t ∷ [] = rw e refl in
-    let many = length-append a.first.items (t.id ∷ []) in
-    record {
-      count = omega (arith, ap length one);
-      first = rw one (first ∙ sym (take_short 8 (a.first.items ++ t.id ∷ []) (omega arith)));
-      fits = rw first (omega arith);
-    }
 
 -- a task that may go is only counted, where eight ids are kept
 pub Adds-full : (processor : ℕ) (t : Task) (a b : Movable) → can_use processor t ≡ true → b.count ≡ a.count + 1 → b.first.items ≡ a.first.items → length a.first.items ≡ 8 → Adds processor (t ∷ []) a b

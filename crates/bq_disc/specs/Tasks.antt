@@ -1,8 +1,7 @@
 -- Tasks as the disciplines see them, and queues as lists of tasks by rising (v, id).
-use Rattle.std.specs.Prelude.{ℕ, ◌<◌, ◌≤◌, ◌^◌, ℤ, Bool, ◌||◌, ◌&&◌, ◌==◌, nat_lt, if◌then◌else◌, List, [], ◌∷◌, Option, Some, None, find, refl}
+use Rattle.std.specs.Prelude.{ℕ, ℤ, Bool, ◌||◌, ◌&&◌, ◌==◌, nat_lt, if◌then◌else◌, List, [], ◌∷◌, Option, Some, None, find, refl}
 use Rattle.std.specs.Option.{option_map}
 use Rattle.std.specs.Coded.{Coded, code_by, coded×, coded_ℕ, coded_ℤ, coded_option}
-use Rattle.bq_weights.specs.VirtualTime.{IsWeight}
 
 -- mask is the set of processors that it may use, by bits; slice the time that it asks for; v its virtual runtime;
 -- rel how far from the mark it was when it last left; prev the processor that it last left
@@ -33,15 +32,6 @@ coded_task =
       prev = p.1.1.1.1.1.1.1;
     })
     (λ _. refl)
-
--- what every task keeps
-pub record IsProper (t : Task) : Type 0 where
-  pub id_fits : t.id < 2 ^ 16
-  pub weight_in_range : IsWeight t.weight
-  pub slice_low : 100000 ≤ t.slice
-  pub slice_high : t.slice ≤ 100000000
-  pub v_high : t.v ≤ 2 ^ 62
-  pub deadline_high : t.deadline ≤ 2 ^ 62
 
 -- the lesser time comes first, and of equal times that of the lesser id
 abbrev pub comes_before : ℕ → ℕ → ℕ → ℕ → Bool

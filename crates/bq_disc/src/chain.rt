@@ -50,6 +50,7 @@ impl Timeline for Chain {
     }
 
     fn insert(&mut self, node: Box<Node>) {
+        // To ask for the id brings to the proof that it is below 2^16.
         let _small = node.entity.id();
         insert_behind(&mut self.head, node);
         self.len += 1;

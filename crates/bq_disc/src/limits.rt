@@ -1,4 +1,7 @@
-//! How many tasks there may be, and how long their slices.
+//! How many processors and tasks there may be, how long slices, and where virtual time begins.
+
+/// How many processors there may be: numbers are 0 to 63, the bits of a mask.
+pub const PROCESSORS: u8 = 64;
 
 /// How many tasks there may be: ids are 0 to 1023.
 pub const TASKS: u16 = 1024;
@@ -8,3 +11,9 @@ pub const LEAST_SLICE: u64 = 100_000;
 
 /// The longest slice that a task may ask for, in nanoseconds.
 pub const GREATEST_SLICE: u64 = 100_000_000;
+
+/// The slice of a task that asks for none of its own, in nanoseconds.
+pub const DEFAULT_SLICE: u64 = 3_000_000;
+
+/// Where virtual time begins: the mark of a queue that no task was in.
+pub const FIRST_MARK: u64 = 1 << 32;

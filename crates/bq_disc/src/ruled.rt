@@ -1,7 +1,8 @@
 //! A timeline under a rule is a run queue.
-ghost use Rattle.std.specs.Prelude.{◌≡◌, ◌^◌};
+ghost use Rattle.std.specs.Prelude.{◌^◌};
 ghost use Rattle.bq_disc.specs.Queues.{Queue};
 
+use crate::limits::FIRST_MARK;
 use crate::{Chain, Discipline, Movable, Node, RunQueue, Timeline};
 use std::marker::{Model, PhantomData};
 
@@ -39,7 +40,7 @@ impl<T: Timeline, R: Discipline> RunQueue for RuledQueue<T, R> {
     fn empty() -> RuledQueue<T, R> {
         RuledQueue {
             tasks: T::empty(),
-            mark: 1 << 32,
+            mark: FIRST_MARK,
             rule: PhantomData,
         }
     }

@@ -7,6 +7,7 @@ use Rattle.bq_disc.specs.OneProcessor.{Running, present_at, charge, run_id, exch
 use Rattle.bq_disc.proofs.QueueLemmas.{without-absent}
 use Rattle.bq_disc.proofs.SetLemmas.{with_id-id}
 use Rattle.bq_fair.specs.Histories.{ticked, history, rise}
+use Rattle.bq_fair.specs.Steps.{Decide, stepped}
 use Rattle.bq_fair.proofs.PlaceLemmas.{idle, busy}
 
 -- the sum of a number that each of some tasks has
@@ -104,6 +105,20 @@ weighted_sum-sum (x ∷ xs) = ap (λ n. x.weight * x.v + n) (weighted_sum-sum xs
 pub length-sum : (xs : List Task) → length xs ≡ sum_over (λ t. 1) xs
 length-sum [] = refl
 length-sum (x ∷ xs) = omega (arith, length-sum xs)
+
+-- a decision leaves the weights together
+pub total_weight-decided : (d : Discipline) (p : Running) → total_weight (present_at (stepped d p Decide)) ≡ total_weight (present_at p)
+total_weight-decided d p =
+    total_weight-sum (present_at (stepped d p Decide))
+    ∙ sum_decided (λ t. t.weight) d p.queue p.kept p.current p.last (own_preempt d p.queue p.current)
+    ∙ sym (total_weight-sum (present_at p))
+
+-- a decision leaves the weighted sum
+pub weighted_sum-decided : (d : Discipline) (p : Running) → weighted_sum (present_at (stepped d p Decide)) ≡ weighted_sum (present_at p)
+weighted_sum-decided d p =
+    weighted_sum-sum (present_at (stepped d p Decide))
+    ∙ sum_decided (λ t. t.weight * t.v) d p.queue p.kept p.current p.last (own_preempt d p.queue p.current)
+    ∙ sym (weighted_sum-sum (present_at p))
 
 -- a Tick leaves the weights together
 pub total_weight-ticked : (d : Discipline) (p : Running) (now : ℕ) → total_weight (present_at (ticked d p now)) ≡ total_weight (present_at p)

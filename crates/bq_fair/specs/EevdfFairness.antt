@@ -4,17 +4,23 @@
 use Rattle.std.specs.Prelude.{◌≡◌, ℕ, ◌+◌, ◌-◌, ◌*◌, ◌≤◌, true, List, [], ◌∷◌, length, Some, All, IfSome, IsSome}
 use Rattle.bq_weights.specs.VirtualTime.{vdelta_of}
 use Rattle.bq_disc.specs.Tasks.{Task, without}
+use Rattle.bq_disc.specs.Queues.{HasDistinctIds}
 use Rattle.bq_disc.specs.OneProcessor.{Running, present_at}
 use Rattle.bq_cfs.specs.Spread.{IsSound}
 use Rattle.bq_eevdf.specs.Eevdf.{eevdf, is_eligible}
 use Rattle.bq_fair.specs.Histories.{HasRoom, RisesByAtMost, ticked, history, rise, task_at, served}
 use Rattle.bq_fair.specs.Work.{weight_at, moment_at, booked, elapsed}
+use Rattle.bq_fair.specs.Steps.{Decide, stepped}
 
 -- the task that runs is eligible
 abbrev pub RunsEligible : Running → Type 0
 RunsEligible p = IfSome p.current (λ t. is_eligible (present_at p) t ≡ true)
 
--- the task that runs after a Tick is eligible
+-- the task that runs after a decision is eligible
+abbrev pub DecideRunsEligible : Type 0
+DecideRunsEligible = (p : Running) → HasDistinctIds (present_at p) → RunsEligible (stepped eevdf p Decide)
+
+-- so is the one that runs after a Tick, which ends in a decision
 abbrev pub TickRunsEligible : Type 0
 TickRunsEligible = (p : Running) (now : ℕ) → IsSound p → RunsEligible (ticked eevdf p now)
 

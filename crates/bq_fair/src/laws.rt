@@ -1,7 +1,7 @@
 //! Laws of fairness: each is the contract of a function that does nothing. docs/FAIRNESS.md explains them.
 ghost use Rattle.bq_fair.specs.CfsFairness.{CfsServesInProportion, CfsServesItsShare, CfsServesWithin, CfsWaiting};
 ghost use Rattle.bq_fair.specs.EevdfDeadlines.{EevdfOwedBySlices, EevdfServesBySlices, EevdfSharesBySlices, EevdfWaitsBySlices, NoneIsBeyondADeadline};
-ghost use Rattle.bq_fair.specs.EevdfFairness.{BeginsBalanced, EevdfServesInProportion, EevdfServesItsShare, EevdfWaiting, HistoryStaysBalanced, NoneIsOwedLong, NoneIsOwedMore, StaysBalanced, TickRunsEligible};
+ghost use Rattle.bq_fair.specs.EevdfFairness.{BeginsBalanced, DecideRunsEligible, EevdfServesInProportion, EevdfServesItsShare, EevdfWaiting, HistoryStaysBalanced, NoneIsOwedLong, NoneIsOwedMore, StaysBalanced, TickRunsEligible};
 ghost use Rattle.bq_fair.specs.Events.{EventsAreSteps};
 ghost use Rattle.bq_fair.specs.Steps.{CfsServesThroughout, EevdfServesThroughout};
 ghost use Rattle.bq_fair.specs.Work.{BooksTheTime, MovesTheSum};
@@ -42,7 +42,13 @@ pub fn cfs_waiting_is_bounded()
     ensures { CfsWaiting }
 {}
 
-/// EEVDF: the task that runs after a Tick is eligible.
+/// EEVDF: the task that runs after a decision is eligible. A Tick, a Block, a Drain and a pull to a processor where nothing
+/// runs end in a decision, as `events_are_steps` says.
+pub fn eevdf_decides_eligible()
+    ensures { DecideRunsEligible }
+{}
+
+/// So it is after a Tick.
 pub fn eevdf_runs_eligible()
     ensures { TickRunsEligible }
 {}

@@ -1,2 +1,5 @@
+pub mod ExtentLemmas
 pub mod LongestLemmas
+pub mod NameLemmas
+pub mod NamingLemmas
 pub mod RowLemmas

@@ -7,7 +7,7 @@ use Rattle.bq_schedule.specs.declared.figures.HookFigures.{HookFigures}
 use Rattle.bq_schedule.specs.declared.figures.ProcessorFigures.{ProcessorFigures}
 use Rattle.bq_schedule.specs.Counts.{counted, counted_wide, parts}
 use Rattle.bq_schedule.specs.Passing.{idle_of}
-use Rattle.bq_forms.specs.declared.percentiles.Percentiles.{Percentiles}
+use Rattle.bq_schedule.specs.declared.percentiles.Percentiles.{Percentiles}
 use Rattle.bq_forms.specs.Amounts.{three_decimals}
 
 -- a number at the right end of so many columns

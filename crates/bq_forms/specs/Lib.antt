@@ -2,6 +2,7 @@ pub mod Amounts
 pub mod Columns
 pub mod Extents
 pub mod Longest
+pub mod Names
 pub mod Objects
 pub mod Rows
 pub mod Steps

@@ -2,7 +2,7 @@
 use Rattle.std.specs.Prelude.{ℕ, Option, Some, None, codes}
 use Rattle.serde_json.specs.Data.{Data, number, unsigned, null, object, member, no_members}
 use Rattle.bq_schedule.specs.declared.figures.HookFigures.{HookFigures}
-use Rattle.bq_forms.specs.declared.percentiles.Percentiles.{Percentiles}
+use Rattle.bq_schedule.specs.declared.percentiles.Percentiles.{Percentiles}
 
 abbrev pub number_or_null : Option ℕ → Data
 number_or_null None = null

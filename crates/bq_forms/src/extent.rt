@@ -1,8 +1,10 @@
 //! The stretch of time that a picture is drawn over.
-ghost use Rattle.std.specs.Prelude.{◌≡◌, ◌-◌, IfSome};
-ghost use Rattle.bq_forms.specs.Extents.{IsInWindow};
+ghost use Rattle.std.specs.Prelude.{◌≡◌, ◌-◌, ◌≤◌, IfSome, IfNone};
+ghost use Rattle.bq_forms.specs.declared.extent.Extent.{Extent};
+ghost use Rattle.bq_forms.specs.Extents.{IsInWindow, Spans};
 
 use crate::window::Window;
+use bq_disc::limits::PROCESSORS;
 use bq_schedule::Schedule;
 
 /// The stretch of time that a picture is drawn over: from the first reading of a clock to the last, of the processors that are
@@ -14,13 +16,15 @@ pub struct Extent {
 }
 
 impl Extent {
-    /// That of a schedule in a window. `None` where no time passes.
+    /// That of a schedule in a window. `None` where no time passes, or no clock is shown that was read.
     pub fn of(schedule: &Schedule, window: &Window) -> Option<Extent>
-        ensures { IfSome result (IsInWindow window.now) }
+        ensures window { IfSome result (IsInWindow window.now) }
+        ensures extent { IfSome result (Spans window.now schedule.now) }
+        ensures none { IfNone result ((extent : Extent) → Spans window.now schedule.now extent → extent.to ≤ extent.from) }
     {
         let mut first = u64::MAX;
         let mut last = 0;
-        for number in 0..64u8 {
+        for number in 0..PROCESSORS {
             let figures = schedule.processor(number);
             if let Some(reading) = figures.first {
                 if window.shows_processor(number) {

@@ -10,7 +10,6 @@ pub mod longest;
 pub mod map;
 pub mod names;
 pub mod percent;
-pub mod percentiles;
 pub mod report;
 pub mod rows;
 pub mod steps;

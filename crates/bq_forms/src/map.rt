@@ -7,6 +7,7 @@ use crate::longest::longest_in;
 use crate::names::Names;
 use crate::steps::round_step;
 use crate::window::Window;
+use bq_disc::limits::PROCESSORS;
 use bq_schedule::{Change, Schedule, Slice};
 use std::alloc::{AllocError, Global};
 use std::collections::BTreeSet;
@@ -211,7 +212,7 @@ impl Form for Map {
         names: &Names,
         text: &mut String,
     ) -> Result<(), AllocError> {
-        for number in 0..64u8 {
+        for number in 0..PROCESSORS {
             self.hold(schedule.processor(number).run)?;
         }
         match Extent::of(schedule, &self.window) {

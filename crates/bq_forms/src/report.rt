@@ -2,14 +2,13 @@
 
 use crate::form::Form;
 use crate::names::Names;
-use crate::percentiles::WakeLatencies;
 use crate::tables::{
     HOOK_HEAD, LATENCY_HEAD, PROCESSOR_HEAD, TASK_HEAD, nanoseconds, write_hook_lines,
     write_latency_line, write_processor_line, write_task_line,
 };
 use crate::window::Window;
-use bq_disc::limits::TASKS;
-use bq_schedule::{Change, ProcessorFigures, Schedule};
+use bq_disc::limits::{PROCESSORS, TASKS};
+use bq_schedule::{Change, ProcessorFigures, Schedule, WakeLatencies};
 use std::alloc::{AllocError, Global};
 
 /// The figures of a whole trace, in tables. The window chooses which tasks and processors have lines; a stretch of time in it
@@ -67,7 +66,7 @@ impl Report {
 
     fn write_processors(&self, schedule: &Schedule, text: &mut String) -> Result<(), AllocError> {
         text.push_str(PROCESSOR_HEAD)?;
-        for number in 0..64u8 {
+        for number in 0..PROCESSORS {
             if usize::from(number) < schedule.processors() && self.window.shows_processor(number) {
                 write_processor_line(text, number, &schedule.processor(number))?;
             }
@@ -78,7 +77,7 @@ impl Report {
     /// The table of the policies that were asked; nothing where none was.
     fn write_policies(&self, schedule: &Schedule, text: &mut String) -> Result<(), AllocError> {
         let mut has_head = false;
-        for number in 0..64u8 {
+        for number in 0..PROCESSORS {
             let figures = schedule.processor(number);
             if self.window.shows_processor(number) && was_asked(&figures) {
                 if !has_head {

@@ -5,11 +5,12 @@ ghost use Rattle.bq_forms.specs.Objects.{hook_object, latency_object, number_or_
 
 use crate::form::Form;
 use crate::names::Names;
-use crate::percentiles::{Percentiles, WakeLatencies};
 use crate::tables::nanoseconds;
 use crate::window::Window;
-use bq_disc::limits::TASKS;
-use bq_schedule::{Change, HookFigures, ProcessorFigures, Schedule, TaskFigures};
+use bq_disc::limits::{PROCESSORS, TASKS};
+use bq_schedule::{
+    Change, HookFigures, Percentiles, ProcessorFigures, Schedule, TaskFigures, WakeLatencies,
+};
 use serde_json::{Map, Value, json, put};
 use std::alloc::{AllocError, Global};
 
@@ -53,7 +54,7 @@ impl Json {
 
     fn write_processors(&self, schedule: &Schedule, text: &mut String) -> Result<(), AllocError> {
         let mut is_first = true;
-        for number in 0..64u8 {
+        for number in 0..PROCESSORS {
             if usize::from(number) < schedule.processors() && self.window.shows_processor(number) {
                 let value = self.processor(number, &schedule.processor(number))?;
                 self.write_element(&value, is_first, text)?;

@@ -3,8 +3,7 @@ ghost use Rattle.std.specs.Prelude.{◌≡◌, ◌++◌, OnOk, string_bytes};
 ghost use Rattle.bq_forms.specs.Columns.{task_columns, millis_column, latency_column, latency_columns, task_line, latency_line, processor_line, hook_line_if, hook_lines, nearest};
 
 use crate::percent::Percent;
-use crate::percentiles::Percentiles;
-use bq_schedule::{HookFigures, PARTS, ProcessorFigures, TaskFigures};
+use bq_schedule::{HookFigures, PARTS, Percentiles, ProcessorFigures, TaskFigures};
 use std::alloc::AllocError;
 
 /// Above the lines of the tasks.

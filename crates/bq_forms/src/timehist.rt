@@ -6,6 +6,7 @@ use crate::form::Form;
 use crate::names::Names;
 use crate::tables::write_task;
 use crate::window::Window;
+use bq_disc::limits::PROCESSORS;
 use bq_schedule::{Change, Schedule, Start, Stop, Wake};
 use std::alloc::AllocError;
 
@@ -153,7 +154,7 @@ impl Form for Timehist {
         names: &Names,
         text: &mut String,
     ) -> Result<(), AllocError> {
-        for number in 0..64u8 {
+        for number in 0..PROCESSORS {
             let figures = schedule.processor(number);
             if let Some(start) = figures.running {
                 if self.window.shows(number, start.task, figures.last) {

@@ -3,6 +3,7 @@ ghost use Rattle.std.specs.Prelude.{◌≡◌, ◌-◌, ◌^◌, ◌↔◌, [], 
 ghost use Rattle.std.specs.Option.{SomeIff};
 ghost use Rattle.bq_forms.specs.Windows.{IsIn, ShowsProcessor, ShowsTask, Shows, ShowsPart, IsShownPart, part_of};
 
+use bq_disc::limits::PROCESSORS;
 use bq_schedule::Slice;
 use std::alloc::Global;
 
@@ -83,5 +84,5 @@ impl Window {
 pub fn is_in(processors: u64, processor: u8) -> bool
     ensures { IsTrue result ↔ IsIn processors processor }
 {
-    processor < 64 && (processors >> processor) % 2 == 1
+    processor < PROCESSORS && (processors >> processor) % 2 == 1
 }

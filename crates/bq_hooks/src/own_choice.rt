@@ -1,5 +1,5 @@
 //! The discipline's own choice of a place for a woken task.
-ghost use Rattle.std.specs.Prelude.{◌≡◌, ◌<◌, ◌≤◌, ◌+◌, ◌-◌, Some, filter};
+ghost use Rattle.std.specs.Prelude.{◌≡◌, ◌<◌, ◌≤◌, ◌-◌, Some, filter};
 ghost use Rattle.std.specs.List.{range_with_len};
 ghost use Rattle.bq_hooks.specs.OwnPlace.{own_place, first_place, place_before, allows, HasPlace};
 

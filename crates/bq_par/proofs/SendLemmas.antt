@@ -30,18 +30,3 @@ cfs_queue = Ruled.the_row cfs_tree Cfs.the_row (timeline.ghosts NoSums.the_row n
 -- a queue under CFS may
 pub cfs_queue_send : IsSend cfs_queue
 cfs_queue_send = sent.the_send cfs_tree Cfs.the_row (timeline.ghosts NoSums.the_row no_sums.ghosts timeline.no_dict) cfs.ghosts cfs_tree_send
-
-eevdf_tree_send : IsSend (Tree.the_row Sums.the_row sums.ghosts)
-eevdf_tree_send = search (crosses, knot.crosses, sendable) depth 60 fits 20000
-
--- the type of a tree with sums
-abbrev pub eevdf_tree : RattleType
-eevdf_tree = Tree.the_row Sums.the_row sums.ghosts
-
--- the type of a queue under EEVDF
-abbrev pub eevdf_queue : RattleType
-eevdf_queue = Ruled.the_row eevdf_tree Eevdf.the_row (timeline.ghosts Sums.the_row sums.ghosts timeline.no_dict) eevdf.ghosts
-
--- a queue under EEVDF may
-pub eevdf_queue_send : IsSend eevdf_queue
-eevdf_queue_send = sent.the_send eevdf_tree Eevdf.the_row (timeline.ghosts Sums.the_row sums.ghosts timeline.no_dict) eevdf.ghosts eevdf_tree_send

@@ -7,7 +7,7 @@ use std::sync::atomic::{AtomicU64, Ordering};
 /// What each reading at a processor is above the last one there, in nanoseconds.
 const BEAT: u64 = 1_000_000;
 
-/// A clock for each processor, of which each reading is 1,000,000 above the last; the first is 0.
+/// A clock for each processor, of which each reading is 1,000,000 above the last; the first is 0. No contract speaks of its readings.
 #[derive(Drop)]
 pub struct Metronome {
     readings: Vec<AtomicU64>,

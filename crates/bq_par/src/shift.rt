@@ -4,6 +4,7 @@ ghost use Rattle.std.specs.Option.{option_to_list};
 ghost use Rattle.bq_par.specs.Shifts.{IsShift, IsStart, TicksMore};
 
 use bq_disc::RunQueue;
+use bq_disc::limits::DEFAULT_SLICE;
 use bq_history::{Numbered, Receipt};
 use bq_machine::{Clock, Machine, Record, Seat, WakeReceipts};
 use bq_parts::Refusal;
@@ -11,9 +12,6 @@ use bq_seats::Counting;
 use bq_tie::Naming;
 use std::alloc::Global;
 use std::sync::Wait;
-
-/// The slice of each task, in nanoseconds.
-const SLICE: u64 = 3_000_000;
 
 /// A seat that has come back, and all receipts that it got.
 #[derive(Drop)]
@@ -93,7 +91,7 @@ fn start<Q: RunQueue + Drop, K: Clock + Drop, N: Naming + Counting, R: Wait, con
     ensures start { OnOk result (IsStart processor receipts.new.items) }
 {
     let task = u16::from(processor);
-    let admitted = machine.admit(rt, alloc, seat, task, 0, u64::MAX, SLICE)?;
+    let admitted = machine.admit(rt, alloc, seat, task, 0, u64::MAX, DEFAULT_SLICE)?;
     keep(receipts, admitted)?;
     let woken = machine.wake(rt, alloc, seat, processor, task)?;
     keep_wake(receipts, woken)?;

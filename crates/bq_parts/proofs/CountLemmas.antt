@@ -4,7 +4,7 @@ use Rattle.std.proofs.lemmas.Bool.Decides.{nat_tests}
 use Rattle.bq_disc.specs.Tasks.{Task, has_id, with_id, without, place, present}
 use Rattle.bq_disc.specs.Queues.{HasDistinctIds}
 use Rattle.bq_disc.specs.Discipline.{Discipline, next_of}
-use Rattle.bq_disc.specs.OneProcessor.{Running, present_at, charge, start, run_id, switched, exchanged, decided, entered, enter_all}
+use Rattle.bq_disc.specs.OneProcessor.{Running, present_at, charge, switched, enter_all}
 use Rattle.bq_parts.specs.Processors.{count_of, HasEachOnce}
 use Rattle.bq_parts.proofs.TallyLemmas
 
@@ -88,10 +88,6 @@ HasDistinctIds-from_counts [] h = tt
 HasDistinctIds-from_counts (x ∷ xs) h =
     (with_id-absent x.id xs (omega (arith, one_self x, h x.id)), HasDistinctIds-from_counts xs (λ id. omega (arith, h id)))
 
--- woken tasks that enter come to those that were there
-pub count_of-entered : (id : ℕ) (d : Discipline) (kept : ℕ) (queue tasks : List Task) → count_of id (entered d kept queue tasks) ≡ count_of id queue + count_of id tasks
-count_of-entered id d kept queue tasks = omega (arith, count_of-tally id (entered d kept queue tasks), count_of-tally id queue, count_of-tally id tasks, TallyLemmas.tally-entered (ones id) d kept queue tasks)
-
 -- what stays by every tally stays by every count
 same_count : (id : ℕ) (p q : Running) → TallyLemmas.tally (ones id) (present_at q) ≡ TallyLemmas.tally (ones id) (present_at p) → count_of id (present_at q) ≡ count_of id (present_at p)
 same_count id p q h = omega (arith, count_of-tally id (present_at p), count_of-tally id (present_at q), h)
@@ -99,26 +95,6 @@ same_count id p q h = omega (arith, count_of-tally id (present_at p), count_of-t
 -- to charge the current task keeps how often each id stands there
 pub keeps_charge : (id : ℕ) (d : Discipline) (p : Running) (now : ℕ) → count_of id (present_at (charge d p now)) ≡ count_of id (present_at p)
 keeps_charge id d p now = same_count id p (charge d p now) (TallyLemmas.tally-charge (ones id) d p now)
-
--- a task of the queue that comes to run, where nothing ran, keeps how often each id stands there
-pub keeps_run_id : (id : ℕ) (p : Running) (o : Option ℕ) → p.current ≡ None → count_of id (present_at (run_id p o)) ≡ count_of id (present_at p)
-keeps_run_id id p o e = same_count id p (run_id p o) (TallyLemmas.tally-run_id (ones id) p o e)
-
--- to start the queue's choice, where nothing ran, keeps how often each id stands there
-pub keeps_start : (id : ℕ) (d : Discipline) (p : Running) → p.current ≡ None → count_of id (present_at (start d p)) ≡ count_of id (present_at p)
-keeps_start id d p e = same_count id p (start d p) (TallyLemmas.tally-start (ones id) d p e)
-
--- to exchange the current task for the one of an id, if the queue has it, keeps how often each id stands there
-pub keeps_exchanged : (id j : ℕ) (p : Running) (old : Task) (o : Option Task) → p.current ≡ Some old → with_id j p.queue ≡ o → count_of id (present_at (exchanged p old o)) ≡ count_of id (present_at p)
-keeps_exchanged id j p old o e h = same_count id p (exchanged p old o) (TallyLemmas.tally-exchanged (ones id) j p old o e h)
-
--- to switch from the current task, if any, to the next one keeps how often each id stands there
-pub keeps_switched : (id : ℕ) (d : Discipline) (p : Running) (o : Option Task) → p.current ≡ o → count_of id (present_at (switched d p o)) ≡ count_of id (present_at p)
-keeps_switched id d p o e = same_count id p (switched d p o) (TallyLemmas.tally-switched (ones id) d p o e)
-
--- to decide who runs keeps how often each id stands there, whatever the answer
-pub keeps_decided : (id : ℕ) (d : Discipline) (p : Running) (o : Option Task) (gives_way : Bool) → p.current ≡ o → count_of id (present_at (decided d p o gives_way)) ≡ count_of id (present_at p)
-keeps_decided id d p o b e = same_count id p (decided d p o b) (TallyLemmas.tally-decided (ones id) d p o b e)
 
 -- those that enter come to those that were there
 pub count_of-enter_all : (id : ℕ) (d : Discipline) (p : Running) (tasks : List Task) → count_of id (present_at (enter_all d p tasks)) ≡ count_of id (present_at p) + count_of id tasks
@@ -128,18 +104,6 @@ count_of-enter_all id d p tasks =
 -- where each task stands once, each still does after a charge
 pub HasEachOnce-charge : (d : Discipline) (p : Running) (now : ℕ) → HasEachOnce (present_at p) → HasEachOnce (present_at (charge d p now))
 HasEachOnce-charge d p now h = λ id. omega (arith, h id, keeps_charge id d p now)
-
--- where each task stands once and nothing runs, each still does once the queue's choice has started
-pub HasEachOnce-start : (d : Discipline) (p : Running) → p.current ≡ None → HasEachOnce (present_at p) → HasEachOnce (present_at (start d p))
-HasEachOnce-start d p e h = λ id. omega (arith, h id, keeps_start id d p e)
-
--- where each task stands once, each still does after it is decided who runs
-pub HasEachOnce-decided : (d : Discipline) (p : Running) (gives_way : Bool) → HasEachOnce (present_at p) → HasEachOnce (present_at (decided d p p.current gives_way))
-HasEachOnce-decided d p b h = λ id. omega (arith, h id, keeps_decided id d p p.current b refl)
-
--- if those present and those that come have each task once together, each stands once when they have entered
-pub HasEachOnce-enter_all : (d : Discipline) (p : Running) (tasks : List Task) → HasEachOnce (present_at p ++ tasks) → HasEachOnce (present_at (enter_all d p tasks))
-HasEachOnce-enter_all d p tasks h = λ id. omega (arith, h id, count_of-append id (present_at p) tasks, count_of-enter_all id d p tasks)
 
 -- the left part of a list that has each task once has each once too
 pub HasEachOnce-left : (xs ys : List Task) → HasEachOnce (xs ++ ys) → HasEachOnce xs

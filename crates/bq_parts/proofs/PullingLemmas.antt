@@ -7,7 +7,7 @@ use Rattle.bq_disc.specs.Discipline.{Discipline, left_at}
 use Rattle.bq_disc.specs.Queues.{HasDistinctIds}
 use Rattle.bq_disc.specs.OneProcessor.{Running, present_at, charge, marked}
 use Rattle.bq_parts.specs.Processors.{HasEachOnce, HasSeatedIds}
-use Rattle.bq_parts.specs.Moves.{taken_from, with_pulled}
+use Rattle.bq_parts.specs.Moves.{taken_from}
 use Rattle.bq_parts.proofs.TallyLemmas.{with_id-id}
 use Rattle.bq_parts.proofs.CountLemmas.{one, one_self, count_of-append, count_of-without, queue_le_present, with_id-absent, each_once_queue, HasEachOnce-left, HasEachOnce-right, HasDistinctIds-from_counts}
 use Rattle.bq_parts.proofs.OnceLemmas.{few_below}
@@ -62,8 +62,3 @@ pub taken_fresh : (d : Discipline) (p q : Running) (now : ℕ) (task : Option �
     IfSome (taken_from (marked d q) task) (λ t. with_id t.id (charge d p now).queue ≡ None)
 taken_fresh d p q now None h = tt
 taken_fresh d p q now (Some id) h = fresh_by_case id (marked d q).kept q.queue p.queue (with_id id q.queue) refl (λ t e. pulled_free p q id t h e)
-
--- whoever runs goes on to run where a task enters
-pub same_current : (d : Discipline) (p : Running) (o : Option Task) → (with_pulled d p o).current ≡ p.current
-same_current d p None = refl
-same_current d p (Some t) = refl

@@ -1,5 +1,5 @@
 -- Under EEVDF whoever enters at a processor of the world is due within one slice from where it stands.
-use Rattle.std.proofs.Common.{◌≡◌, ℕ, ◌+◌, ◌≤◌, Bool, true, false, cond, List, [], ◌∷◌, ◌++◌, Option, Some, None, Result, Ok, Err, sym, subst, arith}
+use Rattle.std.proofs.Common.{ℕ, ◌+◌, ◌≤◌, Bool, true, false, cond, List, [], ◌∷◌, ◌++◌, Option, Some, None, Result, Ok, Err, sym, subst, arith}
 use Rattle.std.specs.Prelude.{ℤ, pos, negsuc, ◌==◌, ◌^◌, ◌-◌}
 use Rattle.bq_weights.specs.VirtualTime.{vdelta_of, advance_of, shift_of, held_within}
 use Rattle.bq_disc.specs.Tasks.{Task, id_of}

@@ -1,5 +1,5 @@
 -- Whoever enters at a processor of the world is new there, and so the laws of fairness may speak of it.
-use Rattle.std.proofs.Common.{◌≡◌, ◌≢◌, ℕ, ◌+◌, ◌<◌, ◌≤◌, Bool, true, false, cond, List, [], ◌∷◌, ◌++◌, Option, Some, None, Result, Ok, Err, refl, ap, sym, subst, ◌∙◌, arith}
+use Rattle.std.proofs.Common.{◌≡◌, ◌≢◌, ℕ, ◌+◌, ◌≤◌, Bool, true, false, cond, List, [], ◌∷◌, ◌++◌, Option, Some, None, Result, Ok, Err, refl, ap, sym, subst, arith}
 use Rattle.std.specs.Prelude.{◌==◌}
 use Rattle.std.specs.Option.{option_map}
 use Rattle.bq_disc.specs.Tasks.{Task, with_id, place, present, id_of}
@@ -16,7 +16,7 @@ use Rattle.bq_parts.specs.declared.reply.Reply.TheVariants.{Blocked as Went, Pul
 use Rattle.bq_parts.specs.declared.refusal.Refusal.{Refusal}
 use Rattle.bq_parts.specs.Processors.{count_of, HasEachOnce}
 use Rattle.bq_parts.specs.Moves.{taken_from}
-use Rattle.bq_parts.specs.World.{World, processor, inbox}
+use Rattle.bq_parts.specs.World.{World, inbox}
 use Rattle.bq_parts.specs.StandsOnce.{IsOrderly}
 use Rattle.bq_parts.specs.Choices.{policies, Decision}
 use Rattle.bq_parts.specs.Steps.{WorldStep}

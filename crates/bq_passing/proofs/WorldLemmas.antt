@@ -1,5 +1,5 @@
 -- Two tasks that stay at a processor of the world where the discipline alone decides are served in proportion.
-use Rattle.std.proofs.Common.{◌≡◌, ℕ, ◌+◌, ◌<◌, ◌≤◌, List, [], ◌∷◌, ◌++◌, Result, ap, subst, ◌∙◌, arith}
+use Rattle.std.proofs.Common.{◌≡◌, ℕ, ◌+◌, ◌<◌, ◌≤◌, List, [], ◌∷◌, Result, ap, subst, ◌∙◌, arith}
 use Rattle.std.specs.Prelude.{◌^◌, max, All, Ok, Err}
 use Rattle.std.proofs.lemmas.List.{length-replicate}
 use Rattle.bq_weights.specs.VirtualTime.{IsWeight, vdelta_of, held_within}

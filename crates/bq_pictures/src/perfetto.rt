@@ -2,6 +2,7 @@
 ghost use Rattle.std.specs.Prelude.{◌≡◌, IfOk, string_bytes};
 ghost use Rattle.bq_pictures.specs.Events.{run_event};
 
+use bq_disc::limits::PROCESSORS;
 use bq_forms::{Form, Label, Micros, Names, Window};
 use bq_schedule::{Change, Decision, Reading, Schedule, Slice, Start, Wake};
 use serde_json::{Value, json};
@@ -365,7 +366,7 @@ impl Form for Perfetto {
         names: &Names,
         text: &mut String,
     ) -> Result<(), AllocError> {
-        for number in 0..64u8 {
+        for number in 0..PROCESSORS {
             let figures = schedule.processor(number);
             if let Some(start) = figures.running {
                 self.write_run(&start, figures.last, schedule, names, text)?;

@@ -2,7 +2,7 @@
 
 use crate::drawing::Drawing;
 use crate::lanes::Wait;
-use bq_disc::limits::TASKS;
+use bq_disc::limits::{PROCESSORS, TASKS};
 use bq_forms::{Extent, Form, Names, Window};
 use bq_schedule::{Change, Moved, Schedule, Slice, Start, Wake};
 use std::alloc::{AllocError, Global};
@@ -148,7 +148,7 @@ impl Form for Svg {
         names: &Names,
         text: &mut String,
     ) -> Result<(), AllocError> {
-        for number in 0..64u8 {
+        for number in 0..PROCESSORS {
             let figures = schedule.processor(number);
             if let Some(start) = figures.running {
                 self.hold_run(&start, figures.last)?;

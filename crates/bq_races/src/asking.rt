@@ -1,4 +1,4 @@
-// What is asked of a machine, as values.
+//! What is asked of a machine, as values.
 
 use bq_disc::RunQueue;
 use bq_machine::{Clock, Counting, Machine, Naming, Receipt, Record, Seat};

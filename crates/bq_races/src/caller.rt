@@ -1,4 +1,4 @@
-// A seat at play.
+//! A seat at play.
 
 use crate::asking::{Request, ask};
 use crate::counting_clock::CountingClock;

@@ -1,4 +1,4 @@
-// Counters that four threads add to.
+//! Counters that four threads add to.
 
 use crate::images::{ADDS, READS};
 use crate::play::{Play, Script};

@@ -1,4 +1,4 @@
-// A clock whose readings at each processor are 1, 2, 3 and so on, and may be held at a gate.
+//! A clock whose readings at each processor are 1, 2, 3 and so on, and may be held at a gate.
 
 use crate::gate::Gate;
 use bq_machine::Clock;

@@ -1,4 +1,4 @@
-// Calls that are drawn.
+//! Calls that are drawn.
 
 use crate::asking::{Request, ask};
 use crate::images::{ADDS, COUNTING, IN_TURN, OWN_PULL};

@@ -1,4 +1,4 @@
-// Where one thread is held until another has the answers that it came for.
+//! Where one thread is held until another has the answers that it came for.
 
 use std::sync::atomic::{AtomicBool, Ordering};
 use std::thread::yield_now;

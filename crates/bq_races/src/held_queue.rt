@@ -1,4 +1,4 @@
-// A run queue under CFS whose mark may be held at a gate.
+//! A run queue under CFS whose mark may be held at a gate.
 ghost use Rattle.std.specs.Prelude.{◌≡◌, ◌^◌, []};
 
 use crate::gate::Gate;

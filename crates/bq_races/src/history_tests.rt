@@ -1,4 +1,4 @@
-// Four seats on four threads share one history. The numbers follow from how many calls there are.
+//! Four seats on four threads share one history. The numbers follow from how many calls there are.
 
 use crate::play::{Play, Script};
 use crate::script::{Outcome, run_script};

@@ -1,4 +1,4 @@
-// A call is held in its clock reading, or in its queue's mark, until another seat has its answers.
+//! A call is held in its clock reading, or in its queue's mark, until another seat has its answers.
 
 use crate::gate::Gate;
 use crate::play::{Held, Play, Script};

@@ -1,4 +1,4 @@
-// Images of small policies, worked by hand.
+//! Images of small policies, worked by hand.
 
 /// Preempt: answers 0.
 pub const ZERO: [u8; 28] = [

@@ -1,4 +1,4 @@
-// Two loads at once, of which the one that drew the greater number stays.
+//! Two loads at once, of which the one that drew the greater number stays.
 
 use crate::images::{ADDS, ZERO};
 use crate::play::{Play, Script};

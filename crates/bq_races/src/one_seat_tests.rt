@@ -1,4 +1,4 @@
-// The machine by one thread: what is answered, at which places, and what the end confirms. The values follow from the rules.
+//! The machine by one thread: what is answered, at which places, and what the end confirms. The values follow from the rules.
 ghost use Rattle.std.specs.Prelude.{◌≡◌};
 
 use crate::asking::{Request, ask};

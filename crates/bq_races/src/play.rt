@@ -1,4 +1,4 @@
-// What threads do with their seats.
+//! What threads do with their seats.
 
 use crate::gate::Gate;
 use std::alloc::Global;

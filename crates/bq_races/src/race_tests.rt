@@ -1,4 +1,4 @@
-// Long races of drawn calls by eight threads, whose histories a core then goes through once more.
+//! Long races of drawn calls by eight threads, whose histories a core then goes through once more.
 ghost use Rattle.std.specs.Prelude.{◌≡◌};
 
 use crate::drawn::{race, racers};

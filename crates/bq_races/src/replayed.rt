@@ -1,4 +1,4 @@
-// A history that a core goes through once more, event by event.
+//! A history that a core goes through once more, event by event.
 ghost use Rattle.std.specs.Prelude.{◌≤◌};
 
 use bq_bpf::Call;

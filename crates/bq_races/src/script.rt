@@ -1,4 +1,4 @@
-// Scripts, and what comes of them.
+//! Scripts, and what comes of them.
 ghost use Rattle.std.specs.Prelude.{◌≡◌, ◌^◌, [], All, IfOk, length, vec_len};
 
 use crate::caller::{Caller, Raced};

@@ -4,6 +4,7 @@ ghost use Rattle.std.specs.Option.{option_map};
 ghost use Rattle.bq_history.specs.History.{IsConfirmed};
 
 use bq_bpf::Call;
+use bq_bpf::board::COUNTERS;
 use bq_cells::Record;
 use bq_core::Core;
 use bq_disc::RunQueue;
@@ -15,7 +16,7 @@ use bq_parts::{Event, Refusal, Reply};
 pub struct Closed<Q: RunQueue + Drop, const P: usize> {
     pub history: History<Record>,
     pub core: Core<Q, P>,
-    pub counters: [u64; 64],
+    pub counters: [u64; COUNTERS],
 }
 
 impl<Q: RunQueue + Drop, const P: usize> Closed<Q, P> {

@@ -3,7 +3,7 @@ use Rattle.std.proofs.Common.{◌≡◌, ◌≢◌, ℕ, ◌+◌, ◌-◌, ◌*�
 use Rattle.std.specs.Prelude.{slice_set, ℤ, pos, negsuc}
 use Rattle.std.proofs.lemmas.Bool.Decides.{eqb_tells, leb_tells, nat_tests}
 use Rattle.std.proofs.lemmas.List.{get_or_past, length-set}
-use Rattle.std.proofs.lemmas.List.Sums.{sum_by-set, sum_by-le, get_or-le-sum_by}
+use Rattle.std.proofs.lemmas.List.Sums.{sum_by-set, sum_by-le}
 use Rattle.std.proofs.lemmas.List.Elements.{All-from_get_or}
 use Rattle.bq_weights.specs.VirtualTime.{weights, weight_of}
 use Rattle.bq_schedule.specs.declared.figures.TaskFigures.{TaskFigures}
@@ -62,10 +62,6 @@ set_reads f s id j t false inside (inl e) = absurd (cc)
 set_reads f s id j t true inside (inr e) = absurd (cc)
 set_reads f s id j t false inside (inr e) = ap f (get_or-set_other s.tasks id j t unknown (λ h. e.1 (sym h)))
 
-cond_same : (b : Bool) (m n : ℕ) → m ≡ n → cond b m n ≡ n
-cond_same true m n e = e
-cond_same false m n e = refl
-
 -- the weights at a processor, where a task is set
 pub weights-set : (s : Figures) (id cpu : ℕ) (t : TaskFigures) → id < length s.tasks → weights_at (with_task s id t) cpu + weight_there cpu (task_of s id) ≡ weights_at s cpu + weight_there cpu t
 weights-set s id cpu t inside = sum_by-set (weight_there cpu) s.tasks id t unknown inside
@@ -73,9 +69,6 @@ weights-set s id cpu t inside = sum_by-set (weight_there cpu) s.tasks id t unkno
 there-le : (b : Bool) (n : ℕ) → n ≤ 88761 → cond b n 0 ≤ 88761
 there-le true n h = h
 there-le false n h = omega arith
-
-weight-le : (s : Figures) (id cpu : ℕ) → id < length s.tasks → weight_there cpu (task_of s id) ≤ weights_at s cpu
-weight-le s id cpu inside = get_or-le-sum_by (weight_there cpu) s.tasks id unknown inside
 
 eqb_refl : (a : ℕ) → eqb a a ≡ true
 eqb_refl a = grind (arith, nat_tests)

@@ -11,3 +11,4 @@ pub mod LeavingLemmas
 pub mod ComingLemmas
 pub mod TotalLemmas
 pub mod RunLemmas
+pub mod PercentileLemmas

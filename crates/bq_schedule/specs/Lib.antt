@@ -8,5 +8,6 @@ pub mod Steps
 pub mod Percentiles
 pub mod Slices
 pub mod Wakes
+pub mod WakeLatencies
 pub mod FairTimes
 pub mod Laws

@@ -1,5 +1,5 @@
 //! Exact percentiles of latencies.
-ghost use Rattle.std.specs.Prelude.{◌≡◌, ◌<◌, ◌↔◌, List, ℕ, [], ◌∷◌, ◌++◌, length, slice_index, IfSome, IsNone, OnOk, OnErr, IsPermutation, IsSorted};
+ghost use Rattle.std.specs.Prelude.{◌≡◌, ◌<◌, ◌↔◌, List, ℕ, [], ◌∷◌, ◌++◌, length, slice_get, slice_index, IfSome, IsNone, OnOk, OnErr, IsPermutation, IsSorted};
 ghost use Rattle.std.specs.Ordering.{nat_cmp};
 ghost use Rattle.bq_schedule.specs.Percentiles.{rank};
 
@@ -48,7 +48,22 @@ impl Latencies {
         ensures sorted { IsSorted nat_cmp self.new }
         ensures kept { IsPermutation self.old self.new }
     {
+        self.sort();
+        self.at_rank(percent)
+    }
+
+    /// Puts them in ascending order.
+    pub(crate) fn sort(&mut self)
+        ensures sorted { IsSorted nat_cmp self.new }
+        ensures kept { IsPermutation self.old self.new }
+    {
         self.values.sort_unstable();
+    }
+
+    /// The one at the place of a percentile, as they stand; none where there is none.
+    pub(crate) fn at_rank(&self, percent: u8) -> Option<u64>
+        ensures { result ≡ slice_get self.now (rank percent (length self.now)) }
+    {
         let count = self.values.len();
         if count == 0 {
             return None;

@@ -8,15 +8,9 @@ use Rattle.bq_history.specs.History.{SharesOutAmong, EachOnce}
 use Rattle.bq_history.proofs.CallerLemmas.{callers_total}
 use Rattle.bq_history.proofs.SharingLemmas.{receipts_from}
 use Rattle.bq_seats.specs.declared.account.Account.{Account}
-use Rattle.bq_seats.specs.Sums.{AreSumsOf, both, calling, spent}
+use Rattle.bq_seats.specs.Sums.{AreSumsOf, both, calling}
 use Rattle.bq_seats.proofs.KeepingLemmas.{sum-append}
 use Rattle.bq_seats.specs.Calls.{account_of, account_by, ahead, calls_by, calls_in, calls_of}
-
--- an account that comes back to where nothing is left
-pub both_spent : (a b : Account) → a ≡ spent → both a b ≡ b
-both_spent a b e =
-    let none : 0 + b.seats ≡ b.seats = omega arith in
-    ap (λ (x : Account). both x b) e ∙ ap (λ (n : ℕ). record { seats = n; calls = b.calls }) none
 
 -- one more at the end of a list whose items were taken over
 pub mapped_more : {A B : Type 0} (f : A → B) (v p : List B) (ys : List A) (x y : A) → v ≡ p ++ map f ys → y ≡ x → v ++ f y ∷ [] ≡ p ++ map f (ys ++ x ∷ [])

@@ -7,6 +7,7 @@ use crate::account::{
     Account, Adding, Apart, Blank, Counting, Looking, Reading, Summed, Tally, Together, Whole,
 };
 use atomic_table::{Seat, Table};
+use bq_bpf::board::COUNTERS;
 use std::alloc::{AllocError, Global};
 use std::marker::{Model, PhantomData};
 
@@ -51,7 +52,7 @@ impl Unnamed {
     pub fn new(alloc: Global, seats: u64) -> Result<Unnamed, AllocError>
         ensures { IfOk result (λ u. u.1 ≡ seats) }
     {
-        let (table, seat) = Table::of_words(alloc, &[0; 64], &seats)?;
+        let (table, seat) = Table::of_words(alloc, &[0; COUNTERS], &seats)?;
         Ok(Unnamed { table, seat })
     }
 
@@ -150,15 +151,15 @@ impl<N: Counting> Counters<N> {
     }
 
     /// The counters at the end: with the account of all seats, each is the sum of the recorded adds.
-    pub fn close(self, all: Tally<N>) -> [u64; 64]
+    pub fn close(self, all: Tally<N>) -> [u64; COUNTERS]
         requires whole { all.seats ≡ self }
         ensures { AreSumsOf all.calls result }
     {
         let Counters { table, of: _ } = self;
         let Tally { seat, of: _ } = all;
         let closed = table.close_with(seat);
-        let mut words = [0; 64];
-        for i in 0..64 {
+        let mut words = [0; COUNTERS];
+        for i in 0..COUNTERS {
             words[i] = closed.word(i);
         }
         closed.free();

@@ -29,22 +29,6 @@ in_order-made e None (Some r) d s h = refl
 in_order-made e (Some l) None d s h = refl
 in_order-made e (Some l) (Some r) d s h = refl
 
--- the left side of a node is the one that it was made with
-pub left-made : (e : Task) (l r : Option (Box Node Global)) (d : Due) (s : Totals) (h : ℕ) → (out-Node (made e l r d s h)).left ≡ l
-unfolding out-Node roll-Node denote.Hole.Carrier.out denote.Hole.Carrier.roll
-left-made e None None d s h = refl
-left-made e None (Some r) d s h = refl
-left-made e (Some l) None d s h = refl
-left-made e (Some l) (Some r) d s h = refl
-
--- the right side of a node is the one that it was made with
-pub right-made : (e : Task) (l r : Option (Box Node Global)) (d : Due) (s : Totals) (h : ℕ) → (out-Node (made e l r d s h)).right ≡ r
-unfolding out-Node roll-Node denote.Hole.Carrier.out denote.Hole.Carrier.roll
-right-made e None None d s h = refl
-right-made e None (Some r) d s h = refl
-right-made e (Some l) None d s h = refl
-right-made e (Some l) (Some r) d s h = refl
-
 -- the height that a node has in its field is the one that it was made with
 pub height-made : (e : Task) (l r : Option (Box Node Global)) (d : Due) (s : Totals) (h : ℕ) → (out-Node (made e l r d s h)).height ≡ h
 unfolding out-Node roll-Node denote.Hole.Carrier.out denote.Hole.Carrier.roll

@@ -104,13 +104,6 @@ Takes-right v id xs x ys None rest h a n t =
 Takes-right v id xs x ys (Some y) rest h a n t =
     (xs ++ x ∷ t.0, t.1, t.2, t.3, ap (λ l. xs ++ x ∷ l) t.4 ∙ sym (append_assoc xs (x ∷ t.0) (y ∷ t.1)), ap (λ l. xs ++ x ∷ l) t.5 ∙ sym (append_assoc xs (x ∷ t.0) t.1))
 
--- the root itself is taken
-pub Takes-here : (v id : ℕ) (xs : List Task) (x : Task) (ys : List Task) → is_at v id x ≡ true → Takes v id (xs ++ x ∷ ys) (Some x) (xs ++ ys)
-Takes-here v id xs x ys e =
-    let same_v : x.v ≡ v = grind (arith, nat_tests) in
-    let same_id : x.id ≡ id = grind (arith, nat_tests) in
-    (xs, ys, same_v, same_id, refl, refl)
-
 -- what is found on the left side is found in the whole
 pub Finds-left : (v id : ℕ) (xs : List Task) (x : Task) (ys : List Task) (o : Option Task) → IsRising (xs ++ x ∷ ys) → comes_after v id x ≡ true → Finds v id xs o → Finds v id (xs ++ x ∷ ys) o
 Finds-left v id xs x ys None h a t =
@@ -124,10 +117,3 @@ Finds-right v id xs x ys None h a n t =
     absent_join v id xs (x ∷ ys) (absent_earlier v id x xs a n (IsRising-before xs x ys h)) (n, t)
 Finds-right v id xs x ys (Some y) h a n t =
     (xs ++ x ∷ t.0, t.1, t.2, t.3, ap (λ l. xs ++ x ∷ l) t.4 ∙ sym (append_assoc xs (x ∷ t.0) (y ∷ t.1)))
-
--- the root itself is found
-pub Finds-here : (v id : ℕ) (xs : List Task) (x : Task) (ys : List Task) → is_at v id x ≡ true → Finds v id (xs ++ x ∷ ys) (Some x)
-Finds-here v id xs x ys e =
-    let same_v : x.v ≡ v = grind (arith, nat_tests) in
-    let same_id : x.id ≡ id = grind (arith, nat_tests) in
-    (xs, ys, same_v, same_id, refl)

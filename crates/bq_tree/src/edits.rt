@@ -1,5 +1,5 @@
 //! How nodes come into a tree and leave it.
-ghost use Rattle.std.specs.Prelude.{◌≡◌, ◌<◌, ◌≤◌, ◌+◌, ◌^◌, max, length, ◌++◌, ◌∷◌, Some, None, IfSome, IfNone, nat_lt};
+ghost use Rattle.std.specs.Prelude.{◌≡◌, ◌<◌, ◌≤◌, ◌+◌, ◌^◌, max, length, ◌++◌, Some, None, IfSome, IfNone, nat_lt};
 ghost use Rattle.std.specs.Option.{option_map, option_to_list};
 ghost use Rattle.bq_disc.specs.Tasks.{place};
 ghost use Rattle.bq_disc.specs.Queues.{comes_after};

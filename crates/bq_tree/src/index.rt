@@ -23,7 +23,7 @@ pub struct Tree<S: Summary> {
     root: Link,
     len: usize,
     least: Option<(u64, u16)>,
-    times: [u64; 1024],
+    times: [u64; IDS],
     summary: PhantomData<S>,
 }
 
@@ -37,7 +37,6 @@ impl<S: Summary> Model for Tree<S> {
     ghost coded = { coded_list coded_task };
 
     ghost use Rattle.bq_tree.specs.Trees.{in_order_behind};
-    ghost use Rattle.bq_tree.specs.Taking.{Takes};
     ghost use Rattle.bq_tree.specs.Sound.{IsSound};
 
     ghost view = { λ t. in_order_behind t.root };
@@ -173,7 +172,7 @@ fn first_key(root: &Link) -> Option<(u64, u16)>
 }
 
 /// Writes down when a task stands.
-fn remember(times: &mut [u64; 1024], id: u16, v: u64)
+fn remember(times: &mut [u64; IDS], id: u16, v: u64)
     ensures others { (xs : List Task) → with_id id xs ≡ None → Knows times.old xs → Knows times.new xs }
     ensures here { id < 1024 → slice_index times.new id ≡ v }
 {
@@ -184,7 +183,7 @@ fn remember(times: &mut [u64; 1024], id: u16, v: u64)
 }
 
 /// The v of the task of that id, if there is one.
-fn time_of(times: &[u64; 1024], root: &Link, id: u16) -> u64
+fn time_of(times: &[u64; IDS], root: &Link, id: u16) -> u64
     requires knows { Knows times.now (in_order_behind root.now) }
     ensures { IfSome (with_id id (in_order_behind root.now)) (λ t. t.v ≡ result) }
 {

@@ -1,4 +1,4 @@
-use Rattle.std.proofs.Common.{◌≡◌, ◌∷◌, [], sym, ap, ◌∙◌}
+use Rattle.std.proofs.Common.{◌∷◌, [], sym, ap, ◌∙◌}
 use Rattle.bq_history.specs.Items.{part_item}
 use Rattle.bq_cells.specs.Parts.{cpu_part, inbox_part, lobby_part}
 use Rattle.bq_cells.specs.declared.cells.NumberedCpu.{NumberedCpu}

@@ -1,0 +1,174 @@
+-- EEVDF: the most that a task is owed in a stretch does not pass its bound.
+use Rattle.std.proofs.Common.{◌≡◌, ℕ, ◌+◌, ◌-◌, ◌^◌, ◌≤◌, min, List, [], ◌∷◌, ◌++◌, length, suc, Option, Some, None, refl, ap, sym, ◌∙◌, subst, arith}
+use Rattle.std.specs.Prelude.{Contains, IfSome}
+use Rattle.std.specs.Option.{option_map_or}
+use Rattle.bq_disc.specs.Tasks.{Task}
+use Rattle.bq_disc.specs.Totals.{total_weight}
+use Rattle.bq_disc.specs.OneProcessor.{Running, present_at, reading, charge}
+use Rattle.bq_disc.proofs.SetLemmas.{with_id-Contains}
+use Rattle.bq_cfs.specs.Spread.{IsSound}
+use Rattle.bq_eevdf.specs.Eevdf.{eevdf}
+use Rattle.bq_fair.specs.Histories.{rise}
+use Rattle.bq_fair.specs.Steps.{Step, Pass, Decide, Enter, Leave, Mark, stepped, after, DecidesWithin, EntersNew}
+use Rattle.bq_fair.proofs.SoundLemmas.{IsWellFormed, well_formed}
+use Rattle.bq_fair.proofs.StepLemmas.{well_formed_stepped}
+use Rattle.bq_bounds.specs.declared.charge.Charge.{Charge}
+use Rattle.bq_bounds.specs.declared.lags.Course.{Course}
+use Rattle.bq_bounds.specs.declared.lags.Course.TheVariants.{Passes, Decides}
+use Rattle.bq_bounds.specs.declared.lags.Lags.{Lags}
+use Rattle.bq_bounds.specs.declared.stretch.Stretch.{Stretch}
+use Rattle.bq_bounds.specs.Watches.{greater}
+use Rattle.bq_bounds.specs.Lags.{mean_at, owed, allowed, beginning, stretched, lag_by, most_owed_by, most_owed}
+use Rattle.bq_bounds.specs.LagWatches.{decided_in, owing, gone_on, lags_by, lags_after}
+use Rattle.bq_bounds.specs.Owing.{Keeps, KeepsAll}
+use Rattle.bq_bounds.specs.Measures.{KeepsItsBound, stretch_by, stretch_after, AreLagsOf, LagsWithin}
+use Rattle.bq_bounds.proofs.MeasureLemmas.{greater_within}
+use Rattle.bq_bounds.proofs.OwedLemmas.{eevdf_owes_within}
+
+-- What a stretch keeps
+
+ahead_by : (p : Running) (x : Step) (s : Stretch) → (stretch_by p x s).ahead ≡ s.ahead
+ahead_by p (Pass now) s = refl
+ahead_by p Decide s = refl
+ahead_by p (Enter t) s = refl
+ahead_by p (Leave id) s = refl
+ahead_by p Mark s = refl
+
+ahead_stays : (p : Running) (ss : List Step) (s : Stretch) → (stretch_after p ss s).ahead ≡ s.ahead
+ahead_stays p [] s = refl
+ahead_stays p (x ∷ ss) s = ahead_stays (stepped eevdf p x) ss (stretch_by p x s) ∙ ahead_by p x s
+
+most_by : (p : Running) (x : Step) (s : Stretch) → s.most ≤ (stretch_by p x s).most
+most_by p (Pass now) s = omega arith
+most_by p Decide s = omega arith
+most_by p (Enter t) s = omega arith
+most_by p (Leave id) s = omega arith
+most_by p Mark s = omega arith
+
+most_grows : (p : Running) (ss : List Step) (s : Stretch) → s.most ≤ (stretch_after p ss s).most
+most_grows p [] s = omega arith
+most_grows p (x ∷ ss) s = omega (arith, most_by p x s, most_grows (stepped eevdf p x) ss (stretch_by p x s))
+
+-- The most of it bounds how far the clock rises between two decisions
+
+room_left : (n last now : ℕ) → n + (2 ^ 48 - 1 - last) ≤ 2 ^ 48 - 1 → (n + (reading last now - last)) + (2 ^ 48 - 1 - reading last now) ≤ 2 ^ 48 - 1
+room_left n last now h = omega arith
+
+decides_within : (p : Running) (ss : List Step) (s : Stretch) (n r : ℕ) → s.since ≡ n → n ≤ s.most → n + (2 ^ 48 - 1 - p.last) ≤ 2 ^ 48 - 1 → KeepsAll ss → (stretch_after p ss s).most ≤ r → DecidesWithin r eevdf n p ss
+decides_within p [] s n r e le room k h = tt
+decides_within p (Pass now ∷ ss) s n r e le room k h =
+    let m = charge eevdf p now in
+    let next = stretched (rise p now) s in
+    let left = room_left n p.last now room in
+    let since : next.since ≡ n + rise p now = omega (arith, e, left) in
+    let most : n + rise p now ≤ next.most = omega (arith, since) in
+    (omega (arith, most, most_grows m ss next, h), decides_within m ss next (n + rise p now) r since most left k.1 h)
+decides_within p (Decide ∷ ss) s n r e le room k h =
+    (omega arith, decides_within (stepped eevdf p Decide) ss (decided_in Decides s) 0 r refl (omega arith) (omega arith) k.1 h)
+decides_within p (Mark ∷ ss) s n r e le room k h =
+    (omega (arith, le, most_grows (stepped eevdf p Mark) ss s, h), decides_within (stepped eevdf p Mark) ss s n r e le room k.1 h)
+decides_within p (Enter t ∷ ss) s n r e le room k h = absurd k.0
+decides_within p (Leave id ∷ ss) s n r e le room k h = absurd k.0
+
+-- A processor where none comes or goes
+
+enters : (p : Running) (x : Step) → Keeps x → EntersNew p x
+enters p (Pass now) k = tt
+enters p Decide k = tt
+enters p (Enter t) k = absurd k
+enters p (Leave id) k = tt
+enters p Mark k = tt
+
+formed_after : (p : Running) (ss : List Step) → IsWellFormed p → KeepsAll ss → IsWellFormed (after eevdf p ss)
+formed_after p [] w k = w
+formed_after p (x ∷ ss) w k = formed_after (stepped eevdf p x) ss (well_formed_stepped eevdf p x w (enters p x k.0)) k.1
+
+-- The most that is owed is what one is owed
+
+joined : (c : Charge) (o : Option Charge) → KeepsItsBound c → IfSome o KeepsItsBound → KeepsItsBound (option_map_or (greater (Some c)) o c)
+joined c None h k = h
+joined c (Some d) h k = greater_within (Some c) d h k
+
+later : (t u : Task) (xs : List Task) → Contains xs u → Contains (t ∷ xs) u
+later t u xs c = (suc c.0, let k = c.1 in omega arith, c.2)
+
+most_within : (f : Task → Charge) (xs : List Task) → ((t : Task) → Contains xs t → KeepsItsBound (f t)) → IfSome (most_owed_by f xs) KeepsItsBound
+most_within f [] h = tt
+most_within f (t ∷ xs) h = joined (f t) (most_owed_by f xs) (h t (0, omega arith, refl)) (most_within f xs (λ u c. h u (later t u xs c)))
+
+held : (x y z : ℕ) → x ≤ y → z ≡ y → min x (2 ^ 64 - 1) ≤ min z (2 ^ 64 - 1)
+held x y z h e = omega arith
+
+lag_bound : (s : Stretch) (a mean n W : ℕ) (t : Task) → s.ahead ≡ a → owed mean t ≤ allowed a s.most n W t.weight → KeepsItsBound (lag_by s mean n W t)
+lag_bound s a mean n W t e h =
+    held (owed mean t) (allowed a s.most n W t.weight) (allowed s.ahead s.most n W t.weight) h (ap (λ x. allowed x s.most n W t.weight) e)
+
+most_keeps : (p : Running) (ss : List Step) → IsSound p → KeepsAll ss → IfSome (most_owed (stretch_after p ss (beginning (present_at p))) (present_at (after eevdf p ss))) KeepsItsBound
+most_keeps p ss sound k =
+    let start = beginning (present_at p) in
+    let s = stretch_after p ss start in
+    let xs = present_at (after eevdf p ss) in
+    let formed = formed_after p ss (well_formed p sound) k in
+    let within = decides_within p ss start 0 s.most refl (omega arith) (omega arith) k (omega arith) in
+    most_within (lag_by s (mean_at xs) (length xs) (total_weight xs)) xs (λ t c.
+    let there = with_id-Contains xs t c.0 formed.distinct c.1 c.2 in
+    lag_bound s start.ahead (mean_at xs) (length xs) (total_weight xs) t (ahead_stays p ss start) (eevdf_owes_within s.most p ss t.id t sound k within there))
+
+-- More steps
+
+after_more : (p : Running) (ss more : List Step) → after eevdf p (ss ++ more) ≡ after eevdf (after eevdf p ss) more
+after_more p [] more = refl
+after_more p (x ∷ ss) more = after_more (stepped eevdf p x) ss more
+
+stretch_more : (p : Running) (ss more : List Step) (s : Stretch) → stretch_after p (ss ++ more) s ≡ stretch_after (after eevdf p ss) more (stretch_after p ss s)
+stretch_more p [] more s = refl
+stretch_more p (x ∷ ss) more s = stretch_more (stepped eevdf p x) ss more (stretch_by p x s)
+
+keeps_more : (ss more : List Step) → KeepsAll ss → KeepsAll more → KeepsAll (ss ++ more)
+keeps_more [] more k h = h
+keeps_more (x ∷ ss) more k h = (k.0, keeps_more ss more k.1 h)
+
+-- what is owed most after some more steps
+most_keeps_more : (p : Running) (ss more : List Step) → IsSound p → KeepsAll ss → KeepsAll more → (let q = after eevdf p ss in IfSome (most_owed (stretch_after q more (stretch_after p ss (beginning (present_at p)))) (present_at (after eevdf q more))) KeepsItsBound)
+most_keeps_more p ss more sound k h =
+    let start = beginning (present_at p) in
+    rw (← stretch_more p ss more start, ← after_more p ss more) (most_keeps p (ss ++ more) sound (keeps_more ss more k h))
+
+-- The lags
+
+owing_within : (o : Option Charge) (l : Lags) → IfSome l.greatest KeepsItsBound → IfSome o KeepsItsBound → IfSome (owing o l).greatest KeepsItsBound
+owing_within None l h k = h
+owing_within (Some c) l h k = greater_within l.greatest c h k
+
+gone_within : (c : Course) (rise : ℕ) (xs : List Task) (s : Stretch) (p : Running) (ss : List Step) (l : Lags) → stretch_after p ss (beginning (present_at p)) ≡ decided_in c (stretched rise s) → IfSome l.greatest KeepsItsBound → IfSome (most_owed (stretched rise s) xs) KeepsItsBound → AreLagsOf p ss (gone_on c rise xs s l)
+gone_within c rise xs s p ss l e h k = record { stretch = ap (λ (z : Stretch). Some z) (sym e); greatest = owing_within (most_owed (stretched rise s) xs) l h k }
+
+passes : (p : Running) (ss : List Step) (now : ℕ) (l : Lags) → IsSound p → KeepsAll ss → AreLagsOf p ss l →
+    (let q = after eevdf p ss in AreLagsOf p (ss ++ Pass now ∷ []) (lags_after Passes (rise q now) (present_at (stepped eevdf q (Pass now))) l))
+passes p ss now l sound k are =
+    let q = after eevdf p ss in
+    let more : List Step = Pass now ∷ [] in
+    let start = beginning (present_at p) in
+    let s = stretch_after p ss start in
+    let xs = present_at (after eevdf q more) in
+    let P : Option Stretch → Type 0 = λ o. AreLagsOf p (ss ++ more) (lags_by Passes o (rise q now) xs l) in
+    subst P (sym are.stretch) (gone_within Passes (rise q now) xs s p (ss ++ more) l (stretch_more p ss more start) are.greatest (most_keeps_more p ss more sound k (tt, tt)))
+
+decides : (p : Running) (ss : List Step) (now : ℕ) (l : Lags) → IsSound p → KeepsAll ss → AreLagsOf p ss l →
+    (let q = after eevdf p ss in AreLagsOf p (ss ++ Pass now ∷ Decide ∷ []) (lags_after Decides (rise q now) (present_at (after eevdf q (Pass now ∷ Decide ∷ []))) l))
+decides p ss now l sound k are =
+    let q = after eevdf p ss in
+    let more : List Step = Pass now ∷ Decide ∷ [] in
+    let start = beginning (present_at p) in
+    let s = stretch_after p ss start in
+    let xs = present_at (after eevdf q more) in
+    let P : Option Stretch → Type 0 = λ o. AreLagsOf p (ss ++ more) (lags_by Decides o (rise q now) xs l) in
+    subst P (sym are.stretch) (gone_within Decides (rise q now) xs s p (ss ++ more) l (stretch_more p ss more start) are.greatest (most_keeps_more p ss more sound k (tt, (tt, tt))))
+
+-- under EEVDF, from the beginning of a stretch on, as long as none comes or goes, what is owed most does not pass its bound
+pub lags_within : LagsWithin
+lags_within = record {
+  begins = λ p l h. record { stretch = refl; greatest = h };
+  passes = passes;
+  decides = decides;
+}

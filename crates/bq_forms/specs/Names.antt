@@ -1,0 +1,41 @@
+-- The names that a trace's comments give to its tasks.
+use Rattle.std.specs.Prelude.{◌≡◌, ℕ, ◌<◌, ◌^◌, List, ◌++◌, Option, Some, length, position, ◌==◌, codes}
+use Rattle.std.specs.BTreeMap.{is_at}
+use Rattle.std.specs.Map.{lookup}
+use Rattle.std.specs.Ordering.{nat_cmp}
+use Rattle.std.specs.Str.{IsTrimAscii, IsUtf8, trim}
+use Rattle.std.specs.Str.Parse.{IsNumeral, digits_value, without_leading_plus}
+
+-- tasks by their numbers, each with its name
+abbrev pub Naming : Type 0
+Naming = List (ℕ × List ℕ)
+
+-- the name of a task, if it has one
+abbrev pub name_of : Naming → ℕ → Option (List ℕ)
+name_of names task = lookup (is_at (nat_cmp task)) names
+
+-- a text is a number of 16 bits, in decimal digits, and a `+` may stand in front
+pub record IsNumber (text : List ℕ) (n : ℕ) : Type 0 where
+  pub digits : IsNumeral 10 (without_leading_plus text)
+  pub value : n ≡ digits_value 10 (without_leading_plus text)
+  pub fits : n < 2 ^ 16
+
+-- a comment names a task: it is `# task N NAME`, a space behind `task` and behind the number, and more white space may stand around
+-- each of the four; the name is all that stands behind the number
+pub record IsNaming (comment : List ℕ) (task : ℕ) (name : List ℕ) : Type 0 where
+  pub behind_mark : List ℕ
+  pub behind_word : List ℕ
+  pub number : List ℕ
+  pub text : List ℕ
+  pub mark : IsTrimAscii comment (codes "#" ++ behind_mark)
+  pub word : IsTrimAscii behind_mark (codes "task " ++ behind_word)
+  pub parts : IsTrimAscii behind_word (number ++ text)
+  pub first_space : position (λ byte. byte == 32) (number ++ text) ≡ Some (length number)
+  pub is_number : IsNumber number task
+  pub is_text : IsUtf8 text
+  pub is_name : name ≡ trim text
+
+-- the task that a comment names, if it names one, has that name, and every other task has the name that it had
+pub record Learns (comment : List ℕ) (old new : Naming) : Type 0 where
+  pub named : (task : ℕ) (name : List ℕ) → IsNaming comment task name → name_of new task ≡ Some name
+  pub others : (task : ℕ) → ((name : List ℕ) → ¬ (IsNaming comment task name)) → name_of new task ≡ name_of old task
