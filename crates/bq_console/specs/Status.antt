@@ -4,6 +4,8 @@ use Rattle.std.specs.Process.{exit_status}
 use Rattle.std.specs.declared.process.ExitCode.{ExitCode}
 use Rattle.std.specs.declared.io.ErrorKind.{ErrorKind}
 use Rattle.std.specs.declared.io.ErrorKind.TheVariants as kind
+use Rattle.bq_console.specs.declared.fault.WordsFault.{WordsFault}
+use Rattle.bq_console.specs.declared.fault.WordsFault.TheVariants as fault
 use Rattle.bq_streams.specs.declared.fault.StreamFault.{StreamFault}
 use Rattle.bq_streams.specs.declared.fault.StreamFault.TheVariants.{Read, Write, TooLong, OutOfMemory}
 
@@ -14,6 +16,11 @@ status_of (Err OutOfMemory) = 3
 status_of (Err Read) = 4
 status_of (Err Write) = 4
 status_of (Err TooLong) = 4
+
+-- the status of words that ask for nothing, or of which want of memory kept what is to be said
+abbrev pub refused_status : WordsFault → ℕ
+refused_status (fault.Words text) = 2
+refused_status fault.OutOfMemory = 3
 
 -- how a program ends where a call of the system failed: 3 where memory was wanted, and else 4
 pub record EndsFor (failed : ErrorKind) (code : ExitCode) : Type 0 where

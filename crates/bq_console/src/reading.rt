@@ -6,7 +6,7 @@ ghost use Rattle.bq_console.specs.Status.{EndsFailed};
 
 use crate::saying::say_unread;
 use std::fs;
-use std::io::{IsTerminal, Read};
+use std::io::{IsTerminal, Read, Stdin};
 use std::process::ExitCode;
 
 /// The file that is named, unless it is `-`, which stands for standard input.
@@ -50,14 +50,20 @@ pub fn whole_file(rt: &HostRuntime, path: &str) -> Result<Vec<u8>, ExitCode>
     }
 }
 
-/// All bytes of standard input. On a terminal it says that it waits.
-pub fn standard_input(rt: &HostRuntime) -> Result<Vec<u8>, ExitCode>
-    ensures { IfErr result EndsFailed }
-{
-    let mut input = rt.stdin();
+/// Standard input. On a terminal it says that it waits.
+pub fn waiting_input(rt: &HostRuntime) -> Stdin {
+    let input = rt.stdin();
     if input.is_terminal() {
         let _ = eprintln!(rt; "bqsim: waiting for standard input; Ctrl-D ends it");
     }
+    input
+}
+
+/// All bytes of standard input.
+pub fn standard_input(rt: &HostRuntime) -> Result<Vec<u8>, ExitCode>
+    ensures { IfErr result EndsFailed }
+{
+    let mut input = waiting_input(rt);
     let mut bytes = Vec::new(rt.alloc());
     match input.read_to_end(&mut bytes) {
         Ok(_) => Ok(bytes),

@@ -2,17 +2,13 @@
 ghost use Rattle.std.specs.Prelude.{◌≡◌};
 ghost use Rattle.std.specs.IoError.{error_kind};
 ghost use Rattle.std.specs.Process.{exit_status};
-ghost use Rattle.bq_console.specs.Status.{EndsFor};
+ghost use Rattle.bq_console.specs.Status.{EndsFor, refused_status};
 
+use crate::fault::WordsFault;
 use crate::reasons::reason;
+use crate::status::{IO_FAILED, OUT_OF_MEMORY, REFUSED};
 use std::io::{Error, ErrorKind};
 use std::process::ExitCode;
-
-/// The exit status where memory was wanted.
-pub const OUT_OF_MEMORY: u8 = 3;
-
-/// The exit status where a read or a write failed.
-pub const UNREADABLE: u8 = 4;
 
 /// Says that memory was wanted.
 pub fn say_out_of_memory(rt: &HostRuntime) -> ExitCode
@@ -20,6 +16,19 @@ pub fn say_out_of_memory(rt: &HostRuntime) -> ExitCode
 {
     let _ = eprintln!(rt; "bqsim: out of memory");
     ExitCode::from(OUT_OF_MEMORY)
+}
+
+/// Says why words are refused, or the help that they ask for.
+pub fn say_refused(rt: &HostRuntime, fault: &WordsFault) -> ExitCode
+    ensures { exit_status result ≡ refused_status fault.now }
+{
+    match fault {
+        WordsFault::Words(text) => {
+            let _ = eprint!(rt; "{text}");
+            ExitCode::from(REFUSED)
+        }
+        WordsFault::OutOfMemory => say_out_of_memory(rt),
+    }
 }
 
 /// Says why the file of that name, or standard input, can't be read: `bqsim: t.trace: is a directory`, or
@@ -55,5 +64,5 @@ fn say_failed(rt: &HostRuntime, what: &str, error: &Error) -> ExitCode
             let _ = eprintln!(rt; "bqsim: {what}: {error}");
         }
     }
-    ExitCode::from(UNREADABLE)
+    ExitCode::from(IO_FAILED)
 }

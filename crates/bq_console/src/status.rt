@@ -2,7 +2,6 @@
 ghost use Rattle.std.specs.Prelude.{◌≡◌};
 ghost use Rattle.bq_console.specs.Status.{status_of};
 
-use crate::saying::{OUT_OF_MEMORY, UNREADABLE};
 use bq_streams::StreamFault;
 
 /// The exit status where an input is bad, or what it says is refused.
@@ -10,6 +9,12 @@ pub const BAD_INPUT: u8 = 1;
 
 /// The exit status of words that ask for nothing.
 pub const REFUSED: u8 = 2;
+
+/// The exit status where memory was wanted.
+pub const OUT_OF_MEMORY: u8 = 3;
+
+/// The exit status where a read or a write failed.
+pub const IO_FAILED: u8 = 4;
 
 /// The exit status of an outcome: 0 where all is well, 1 where something was refused or bad, 3 where memory was wanted,
 /// 4 where a read or a write failed or the input was too long.
@@ -20,6 +25,6 @@ pub fn exit_status(outcome: &Result<bool, StreamFault>) -> u8
         Ok(true) => 0,
         Ok(false) => BAD_INPUT,
         Err(StreamFault::OutOfMemory) => OUT_OF_MEMORY,
-        Err(StreamFault::Read | StreamFault::Write | StreamFault::TooLong) => UNREADABLE,
+        Err(StreamFault::Read | StreamFault::Write | StreamFault::TooLong) => IO_FAILED,
     }
 }

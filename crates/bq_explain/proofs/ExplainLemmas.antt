@@ -2,7 +2,7 @@
 use Rattle.std.proofs.Common.{◌≡◌, ℕ, false, refl, Option, None, Some, IfSome, Result, Ok, Err, IfOk}
 use Rattle.std.specs.String.{string_bytes}
 use Rattle.bq_verify.specs.declared.cause.Cause.{Cause}
-use Rattle.bq_program.specs.declared.policy.Policy.{Policy}
+use Rattle.bq_program.specs.declared.policy_source.PolicySource.{PolicySource}
 use Rattle.bq_explain.specs.declared.explanation.Explained.{Explained}
 use Rattle.bq_explain.specs.declared.limits.Limits.{Limits}
 use Rattle.bq_explain.specs.declared.verdict.Verdict.TheVariants.{Refused}
@@ -16,7 +16,7 @@ both None p q f = _
 both (Some x) p q f = f x p q
 
 -- the verdict is the refusal, and the lines on the state are those of its slot
-pub explains_refusal : {E : Type 0} (p : Policy) (l : Limits) (slot : ℕ) (cause : Cause) (r : Result Explained E) → IsRefusedPolicy p slot cause → IfOk r (λ e. e.accepted ≡ false) → IfOk r (λ e. BeginsWith (string_bytes e.text) (verdict_line p.hook (Refused slot cause))) → IfOk r (HasKnown p slot) → IfOk r (HasNeed p slot cause) → IfOk r (Explains p l)
+pub explains_refusal : {E : Type 0} (p : PolicySource) (l : Limits) (slot : ℕ) (cause : Cause) (r : Result Explained E) → IsRefusedPolicy p slot cause → IfOk r (λ e. e.accepted ≡ false) → IfOk r (λ e. BeginsWith (string_bytes e.text) (verdict_line p.hook (Refused slot cause))) → IfOk r (HasKnown p slot) → IfOk r (HasNeed p slot cause) → IfOk r (Explains p l)
 explains_refusal p l slot cause (Err e) refused accepted begins known need = _
 explains_refusal p l slot cause (Ok e) refused accepted begins known need = record {
   verdict = Refused slot cause;

@@ -3,7 +3,7 @@ use Rattle.std.specs.Prelude.{◌≡◌, ℕ, List, [], ◌∷◌, ◌++◌, cod
 use Rattle.std.specs.Fmt.{decimal}
 use Rattle.bq_bpf.specs.declared.shape.MapShape.{MapShape}
 use Rattle.bq_bpf.specs.Hooks.{hook_word, version_number}
-use Rattle.bq_program.specs.declared.policy.Policy.{Policy}
+use Rattle.bq_program.specs.declared.policy_source.PolicySource.{PolicySource}
 use Rattle.bq_program.specs.MarkLines.{more_maps}
 use Rattle.bq_explain.specs.declared.verdict.Verdict.{Verdict}
 use Rattle.bq_explain.specs.declared.verdict.Verdict.TheVariants.{Accepted}
@@ -19,10 +19,10 @@ maps_text [] = codes "none"
 maps_text (first ∷ rest) = decimal first.value_size ++ (codes ":" ++ (decimal first.entries ++ more_maps rest))
 
 -- of a policy that is accepted: its hook, its budget, its version and its maps
-abbrev pub accepted_words : Policy → ℕ → List ℕ
+abbrev pub accepted_words : PolicySource → ℕ → List ℕ
 accepted_words p budget = codes "accepted " ++ (hook_word p.hook ++ (codes " budget " ++ (decimal budget ++ (codes " of 4096, version " ++ (decimal (version_number p.version) ++ (codes ", maps " ++ maps_text p.shapes.items))))))
 
 -- of a policy that is not, the whole line of the verdict
-abbrev pub first_words : Policy → Verdict → List ℕ
+abbrev pub first_words : PolicySource → Verdict → List ℕ
 first_words p (Accepted budget) = accepted_words p budget
 first_words p verdict = verdict_line p.hook verdict

@@ -11,7 +11,7 @@ use Rattle.bq_bpf.specs.declared.board.Call.{Call as Asked}
 use Rattle.bq_bpf.specs.Hooks.{context_length_of}
 use Rattle.bq_verify.specs.KnownAt.{CoversRuns}
 use Rattle.bq_states.specs.declared.abstract_state.AbstractState.{AbstractState}
-use Rattle.bq_program.specs.declared.policy.Policy.{Policy}
+use Rattle.bq_program.specs.declared.policy_source.PolicySource.{PolicySource}
 use Rattle.bq_explain.specs.declared.explanation.Explained.{Explained}
 use Rattle.bq_explain.specs.declared.limits.Limits.{Limits}
 use Rattle.bq_explain.specs.declared.verdict.Verdict.{Verdict}
@@ -24,25 +24,25 @@ use Rattle.bq_explain.specs.Verdicts.{IsVerdict, is_accepted}
 
 -- in every run of the policy's program that comes to the slot, whatever the context, the maps, the clock, the processor and the answers of the
 -- counters are, what the text tells of registers and stack is so
-abbrev pub HoldsAt : Policy → ℕ → List ℕ → Type 0
+abbrev pub HoldsAt : PolicySource → ℕ → List ℕ → Type 0
 HoldsAt p slot text =
     (f : Setting) (maps : List (List ℕ)) → IsSetting (spread p.insns.items) p.shapes.items (context_length_of p.hook p.version) f → HaveShapes p.shapes.items maps →
     (n : ℕ) (calls : List Asked) (t : State) → Steps f (start maps) n calls t → t.slot ≡ slot → TellsState f t text
 
 -- the lines on the state stand in the text, and hold
-pub record IsKnown (p : Policy) (slot : ℕ) (text known : List ℕ) : Type 0 where
+pub record IsKnown (p : PolicySource) (slot : ℕ) (text known : List ℕ) : Type 0 where
   pub before : List ℕ
   pub after : List ℕ
   pub text_is : text ≡ before ++ (known ++ after)
   pub holds : HoldsAt p slot known
 
 -- where lines on the state are told, they hold
-abbrev pub HasKnown : Policy → ℕ → Explained → Type 0
+abbrev pub HasKnown : PolicySource → ℕ → Explained → Type 0
 HasKnown p slot e = IfSome e.known (λ known. IsKnown p slot (string_bytes e.text) (string_bytes known))
 
 -- the lines on the state tell of a view that every run which comes to the slot is within; the line before them tells, by the cause, a need of the
 -- instruction there that this view does not give
-pub record IsNeedAt (p : Policy) (slot : ℕ) (cause : Cause) (text known : List ℕ) : Type 0 where
+pub record IsNeedAt (p : PolicySource) (slot : ℕ) (cause : Cause) (text known : List ℕ) : Type 0 where
   pub view : AbstractState
   pub covers : CoversRuns (spread p.insns.items) p.shapes.items (context_length_of p.hook p.version) slot view
   pub view_told : IsViewText view known
@@ -55,11 +55,11 @@ pub record IsNeedAt (p : Policy) (slot : ℕ) (cause : Cause) (text known : List
   pub text_is : text ≡ before ++ (codes "\n  " ++ (need ++ (codes "\n" ++ (known ++ after))))
 
 -- where lines on the state are told, the need stands before them
-abbrev pub HasNeed : Policy → ℕ → Cause → Explained → Type 0
+abbrev pub HasNeed : PolicySource → ℕ → Cause → Explained → Type 0
 HasNeed p slot cause e = IfSome e.known (λ known. IsNeedAt p slot cause (string_bytes e.text) (string_bytes known))
 
 -- the policy is refused at a slot, the lines on the state hold there, and a need that the state does not meet stands before them
-pub record IsKnownOf (p : Policy) (verdict : Verdict) (text known : List ℕ) : Type 0 where
+pub record IsKnownOf (p : PolicySource) (verdict : Verdict) (text known : List ℕ) : Type 0 where
   pub slot : ℕ
   pub cause : Cause
   pub refused : verdict ≡ Refused slot cause
@@ -68,7 +68,7 @@ pub record IsKnownOf (p : Policy) (verdict : Verdict) (text known : List ℕ) : 
 
 -- the verdict is that of the verifier and the limits, and the text begins with it; where lines on the state are told, they hold at the slot of the refusal, and the need before them is
 -- one that what they tell does not give
-pub record Explains (p : Policy) (l : Limits) (e : Explained) : Type 0 where
+pub record Explains (p : PolicySource) (l : Limits) (e : Explained) : Type 0 where
   pub verdict : Verdict
   pub is_verdict : IsVerdict p l verdict
   pub accepted : e.accepted ≡ is_accepted verdict

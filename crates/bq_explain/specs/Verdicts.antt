@@ -16,19 +16,19 @@ use Rattle.bq_bpf.specs.declared.hook.Hook.{Hook}
 use Rattle.bq_verify.specs.declared.cause.Cause.{Cause}
 use Rattle.bq_verify.specs.declared.refused.Refused.TheVariants as refused
 use Rattle.bq_program.specs.Check.{accepted_line}
-use Rattle.bq_program.specs.declared.policy.Policy.{Policy}
+use Rattle.bq_program.specs.declared.policy_source.PolicySource.{PolicySource}
 use Rattle.bq_explain.specs.declared.limits.Limits.{Limits}
 use Rattle.bq_explain.specs.declared.verdict.Verdict.{Verdict}
 use Rattle.bq_explain.specs.declared.verdict.Verdict.TheVariants.{Accepted, OverSteps, Forbidden, Refused}
 
 -- the program's control graph has no fault, and it is safe within its budget, which is the longest path
-pub record IsSafePolicy (p : Policy) (budget : ℕ) : Type 0 where
+pub record IsSafePolicy (p : PolicySource) (budget : ℕ) : Type 0 where
   pub faultless : IsFaultless (spread p.insns.items)
   pub safe : Safe (spread p.insns.items) p.shapes.items (context_length_of p.hook p.version) budget
   pub longest : IsGreatest (PathOut (spread p.insns.items) 0) budget
 
 -- the verifier refuses the policy's program at that slot for that cause, which it does to no straight program
-pub record IsRefusedPolicy (p : Policy) (slot : ℕ) (cause : Cause) : Type 0 where
+pub record IsRefusedPolicy (p : PolicySource) (slot : ℕ) (cause : Cause) : Type 0 where
   pub refusal : IsRefusal (spread p.insns.items) (refused.At slot cause)
   pub not_straight : ¬ (IsStraightProgram (spread p.insns.items) p.shapes.items (context_length_of p.hook p.version))
 
@@ -59,7 +59,7 @@ pub record IsCalledAgainst (helpers : Option (List ℤ)) (insns : List Insn) (he
   pub against : ¬ (CallsNoOther helpers (Call helper))
 
 -- the verifier's answer, or what is beyond the limits of a program that is safe
-abbrev pub IsVerdict : Policy → Limits → Verdict → Type 0
+abbrev pub IsVerdict : PolicySource → Limits → Verdict → Type 0
 IsVerdict p l (Accepted budget) = IsSafePolicy p budget × IsWithin budget l.steps × All (CallsNoOther (allowed l)) p.insns.items
 IsVerdict p l (OverSteps budget most) = IsSafePolicy p budget × (l.steps ≡ Some most) × (most < budget)
 IsVerdict p l (Forbidden helper) = (budget : ℕ) × IsSafePolicy p budget × IsWithin budget l.steps × IsCalledAgainst (allowed l) p.insns.items helper

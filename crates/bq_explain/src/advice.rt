@@ -1,8 +1,9 @@
 //! What helps against each cause, in one sentence.
+use crate::with_helpers;
 use bq_bpf::{Hook, Version, context_length};
 use bq_insn::{Insn, Size};
 use bq_needs::reads;
-use bq_program::Policy;
+use bq_program::PolicySource;
 use bq_states::abstract_state::{AbstractState, AbstractValue, Kind};
 use bq_states::registers::known;
 use bq_verify::{Cause, Doubt, GraphCause};
@@ -16,9 +17,7 @@ pub(crate) fn graph_advice(cause: Cause) -> &'static str {
         Cause::Graph(GraphCause::NoExit) => "end with exit, or jump to one",
         Cause::Graph(GraphCause::Unreached) =>
             "take the instruction out, or let a branch lead to it",
-        Cause::Graph(GraphCause::Helper) => {
-            "call by number: 1 looks an entry up, 2 writes one, 5 is the time, 8 the processor, 100 adds to a counter, 101 reads one"
-        }
+        Cause::Graph(GraphCause::Helper) => { with_helpers!("call by number: ") }
         Cause::Graph(GraphCause::Frame) => "copy it first: mov64 r2, r10, and change r2",
         Cause::Graph(GraphCause::Counters) =>
             "call counters on fewer ways, or add larger amounts at once",
@@ -28,7 +27,7 @@ pub(crate) fn graph_advice(cause: Cause) -> &'static str {
 
 /// What helps where something is not shown of the states.
 pub(crate) fn state_advice(
-    policy: &Policy,
+    policy: &PolicySource,
     view: &AbstractState,
     insn: Insn,
     cause: Cause,
@@ -70,7 +69,7 @@ fn unset_advice(view: &AbstractState, insn: Insn) -> &'static str {
 }
 
 /// What helps where an access is not shown to be within what its pointer points to.
-fn access_advice(policy: &Policy, view: &AbstractState, insn: Insn) -> &'static str {
+fn access_advice(policy: &PolicySource, view: &AbstractState, insn: Insn) -> &'static str {
     let register = match insn {
         Insn::Load { src, .. } => src,
         Insn::StoreImm { dst, .. } | Insn::StoreReg { dst, .. } => dst,
@@ -94,7 +93,7 @@ fn access_advice(policy: &Policy, view: &AbstractState, insn: Insn) -> &'static 
 }
 
 /// What helps with the context, which is only read; format 2 only where all that is loaded would be in its longer one.
-fn context_advice(policy: &Policy, pointer: AbstractValue, insn: Insn) -> &'static str {
+fn context_advice(policy: &PolicySource, pointer: AbstractValue, insn: Insn) -> &'static str {
     let Insn::Load { size, off, .. } = insn else {
         return "write to the stack, at r10 - 8 or below, or to an entry of a map, which stays for the next call";
     };

@@ -11,7 +11,7 @@ ghost use Rattle.bq_explain.specs.Explained.{Explains, HasKnown, HasNeed};
 use crate::advice::{graph_advice, state_advice};
 use crate::limits::Limits;
 use crate::pass_needs::graph_words;
-use crate::program_words::{index_at, instruction_text, place_of};
+use crate::program_words::{index_at, place_of};
 use crate::registers::read;
 use crate::summary::summary;
 use crate::trail::trail_text;
@@ -19,7 +19,7 @@ use crate::verdict::{Verdict, judge, program_of, verdict_line};
 use crate::view_words::view_text;
 use bq_insn::Insn;
 use bq_needs::need_text;
-use bq_program::Policy;
+use bq_program::{PolicySource, instruction_text};
 use bq_states::abstract_state::AbstractState;
 use bq_verify::{Cause, Program, view_at};
 use std::alloc::{AllocError, Global};
@@ -46,7 +46,11 @@ struct Fault {
 
 /// The verdict on a policy, and what explains it. What it tells of registers and stack at the slot of a refusal holds in every run
 /// that comes there.
-pub fn explain(alloc: Global, policy: &Policy, limits: &Limits) -> Result<Explained, AllocError>
+pub fn explain(
+    alloc: Global,
+    policy: &PolicySource,
+    limits: &Limits,
+) -> Result<Explained, AllocError>
     ensures { IfOk result (Explains policy.now limits.now) }
 {
     let verdict = judge(alloc, policy, limits)?;
@@ -72,7 +76,7 @@ pub fn explain(alloc: Global, policy: &Policy, limits: &Limits) -> Result<Explai
 fn refused(
     alloc: Global,
     line: String,
-    policy: &Policy,
+    policy: &PolicySource,
     slot: usize,
     cause: Cause,
 ) -> Result<Explained, AllocError>
@@ -117,7 +121,7 @@ fn alone(line: String) -> Explained
 fn reasons(
     alloc: Global,
     head: &str,
-    policy: &Policy,
+    policy: &PolicySource,
     fault: Fault,
 ) -> Result<Explained, AllocError>
     requires { instruction_at (spread policy.now.insns.items) fault.slot ≡ Some fault.insn }
@@ -142,7 +146,7 @@ fn reasons(
 fn state_reasons(
     alloc: Global,
     head: &str,
-    policy: &Policy,
+    policy: &PolicySource,
     program: &Program,
     view: &AbstractState,
     fault: Fault,
@@ -170,7 +174,7 @@ fn state_reasons(
 /// What made the registers that the instruction reads, and what helps.
 fn what_helps(
     alloc: Global,
-    policy: &Policy,
+    policy: &PolicySource,
     program: &Program,
     view: &AbstractState,
     fault: Fault,

@@ -1,4 +1,5 @@
 //! How the operands of each kind of instruction look.
+use crate::with_helpers;
 
 /// An instruction of the kind that the word begins.
 pub(crate) fn form_of(word: &str) -> &'static str {
@@ -38,7 +39,7 @@ fn control_form(word: &str) -> &'static str {
         return "jeq64 r1, 5, end, or jlt64 r1, r2, +3";
     }
     if word.starts_with("call") {
-        return "call 1; helpers go by their numbers: 1 looks an entry up, 2 writes one, 5 is the time, 8 the processor, 100 adds to a counter, 101 reads one";
+        return with_helpers!("call 1; helpers go by their numbers: ");
     }
     "exit, alone on its line"
 }

@@ -24,4 +24,5 @@ pub use bq_needs::range_text;
 pub use complaining::complaint;
 pub use explanation::{Explained, explain};
 pub use limits::Limits;
+pub use program_words::index_at;
 pub use verdict::{Verdict, judge, verdict_line};

@@ -4,18 +4,8 @@ ghost use Rattle.bq_insn.specs.Slots.{spread};
 ghost use Rattle.bq_insn.specs.declared.Insn.{Insn as Told};
 ghost use Rattle.bq_bpf.specs.Steps.{instruction_at};
 
-use bq_asm::listing;
 use bq_insn::Insn;
 use std::alloc::{AllocError, Global};
-
-/// The canonical text of one instruction, without a line's end.
-pub(crate) fn instruction_text(alloc: Global, insn: Insn) -> Result<String, AllocError> {
-    let text = listing(alloc, &[insn])?;
-    match text.as_str().strip_suffix("\n") {
-        Some(line) => String::from_str(alloc, line),
-        None => Ok(text),
-    }
-}
 
 /// The line of the text where the instruction of that index stands, if there is a text, and its slot.
 pub(crate) fn place_of(
@@ -31,7 +21,7 @@ pub(crate) fn place_of(
 }
 
 /// The index of the instruction that begins at the slot.
-pub(crate) fn index_at(insns: &[Insn], slot: usize) -> Option<usize>
+pub fn index_at(insns: &[Insn], slot: usize) -> Option<usize>
     ensures { IfSome result (λ index. (insn : Told) → slice_get insns.now index ≡ Some insn → instruction_at (spread insns.now) slot ≡ Some insn) }
 {
     let mut at: usize = 0;

@@ -6,14 +6,18 @@ use bq_bpf::MapShape;
 use bq_bpf::helper::{ADD_COUNTER, LOOKUP, NOW, PROCESSOR, READ_COUNTER, UPDATE};
 use bq_graph::single::is_counter_call;
 use bq_insn::Insn;
-use bq_program::{Policy, more_maps};
+use bq_program::{PolicySource, more_maps};
 use std::alloc::{AllocError, Global};
 
 /// The helpers that there are, by their numbers.
 const HELPERS: [i32; 6] = [LOOKUP, UPDATE, NOW, PROCESSOR, ADD_COUNTER, READ_COUNTER];
 
 /// The one line on an accepted program: its hook, budget, version, maps, helpers, calls of counters and slots.
-pub(crate) fn summary(alloc: Global, policy: &Policy, budget: u32) -> Result<String, AllocError>
+pub(crate) fn summary(
+    alloc: Global,
+    policy: &PolicySource,
+    budget: u32,
+) -> Result<String, AllocError>
     ensures { IfOk result (λ text. BeginsWith (string_bytes text) (accepted_words policy.now budget)) }
 {
     let words = accepted_words(alloc, policy, budget)?;
@@ -25,7 +29,7 @@ pub(crate) fn summary(alloc: Global, policy: &Policy, budget: u32) -> Result<Str
 }
 
 /// Its hook, its budget, its version and its maps.
-fn accepted_words(alloc: Global, policy: &Policy, budget: u32) -> Result<String, AllocError>
+fn accepted_words(alloc: Global, policy: &PolicySource, budget: u32) -> Result<String, AllocError>
     ensures { IfOk result (λ text. string_bytes text ≡ accepted_words policy.now budget) }
 {
     let hook = policy.hook.word();

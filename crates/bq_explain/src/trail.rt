@@ -2,10 +2,11 @@
 ghost use Rattle.std.specs.Prelude.{◌≡◌, ◌≤◌, length, true};
 ghost use Rattle.bq_insn.specs.Spelling.{is_well_formed};
 
-use crate::program_words::{instruction_text, place_of};
+use crate::program_words::place_of;
 use crate::registers::{Registers, bit, read, written};
 use bq_insn::Insn;
 use bq_needs::known_text;
+use bq_program::instruction_text;
 use bq_states::registers::known;
 use bq_verify::{Program, view_at};
 use std::alloc::{AllocError, Global};

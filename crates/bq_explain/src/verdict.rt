@@ -6,7 +6,7 @@ ghost use Rattle.bq_explain.specs.Verdicts.{IsSafePolicy, IsVerdict, is_accepted
 use crate::limits::Limits;
 use bq_bpf::Hook;
 use bq_load::LoadFault;
-use bq_program::{Policy, accepted_line, fault_text};
+use bq_program::{PolicySource, accepted_line, fault_text};
 use bq_verify::{Cause, Program, Refused, verify};
 use std::alloc::{AllocError, Global};
 
@@ -35,7 +35,7 @@ impl Verdict {
 }
 
 /// The verdict on a policy. The verifier is asked first, then the limit of steps, then the helpers.
-pub fn judge(alloc: Global, policy: &Policy, limits: &Limits) -> Result<Verdict, AllocError>
+pub fn judge(alloc: Global, policy: &PolicySource, limits: &Limits) -> Result<Verdict, AllocError>
     ensures { IfOk result (IsVerdict policy.now limits.now) }
 {
     let program = program_of(alloc, policy)?;
@@ -47,7 +47,7 @@ pub fn judge(alloc: Global, policy: &Policy, limits: &Limits) -> Result<Verdict,
 }
 
 /// The verdict on a policy that is safe within this budget.
-fn limited(policy: &Policy, limits: &Limits, budget: u32) -> Verdict
+fn limited(policy: &PolicySource, limits: &Limits, budget: u32) -> Verdict
     requires { IsSafePolicy policy.now budget }
     ensures { IsVerdict policy.now limits.now result }
 {
@@ -63,7 +63,7 @@ fn limited(policy: &Policy, limits: &Limits, budget: u32) -> Verdict
 }
 
 /// The program of a policy, to be handed to the verifier.
-pub(crate) fn program_of(alloc: Global, policy: &Policy) -> Result<Program, AllocError>
+pub(crate) fn program_of(alloc: Global, policy: &PolicySource) -> Result<Program, AllocError>
     ensures insns { IfOk result (λ program. program.insns.items ≡ policy.now.insns.items) }
     ensures shapes { IfOk result (λ program. program.shapes.items ≡ policy.now.shapes.items) }
     ensures hook { IfOk result (λ program. program.hook ≡ policy.now.hook) }

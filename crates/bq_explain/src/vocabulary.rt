@@ -3,6 +3,17 @@ use bq_asm::{mnemonics, named};
 use std::alloc::{AllocError, Global};
 use strsim::levenshtein;
 
+/// A text that ends with what the helpers do, by their numbers.
+#[macro_export]
+macro_rules! with_helpers {
+    ($before:literal) => {
+        concat!(
+            $before,
+            "1 looks an entry up, 2 writes one, 5 is the time, 8 the processor, 100 adds to a counter, 101 reads one"
+        )
+    };
+}
+
 /// From so many letters on a word is none that was meant.
 const FAR: usize = 3;
 

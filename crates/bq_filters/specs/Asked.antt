@@ -1,5 +1,5 @@
 -- What the words of `asm` ask for.
-use Rattle.std.specs.Prelude.{◌≡◌, ℕ, List, ◌++◌, Some, codes}
+use Rattle.std.specs.Prelude.{◌≡◌, List, Some, codes}
 use Rattle.clap.specs.Words.{Row, first_of}
 use Rattle.bq_bpf.specs.Hooks.{hook_of, version_of}
 use Rattle.bq_console.specs.Words.{SaysWord}
@@ -11,7 +11,3 @@ pub record AreOptions (rows : List Row) (o : Options) : Type 0 where
   pub hook : SaysWord (λ word hook. hook_of word ≡ Some hook) (first_of (codes "hook") rows) o.hook
   pub maps : maps_text o ≡ first_of (codes "maps") rows
   pub format : SaysWord (λ word version. version_of word ≡ Some version) (first_of (codes "format") rows) o.format
-
--- the text that refuses the value of an option beside those that it takes
-abbrev pub refusal : List ℕ → List ℕ → List ℕ → List ℕ
-refusal option value taken = codes "error: invalid value '" ++ (value ++ (codes "' for '--" ++ (option ++ (codes "'\n  [possible values: " ++ (taken ++ codes "]\n\nFor more information, try '--help'.\n")))))

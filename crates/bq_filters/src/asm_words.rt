@@ -6,14 +6,14 @@ ghost use Rattle.bq_bpf.specs.Hooks.{hook_of, version_of};
 ghost use Rattle.bq_program.specs.declared.options.Options.{Options as Given};
 ghost use Rattle.bq_bpf.specs.declared.hook.Hook.{Hook as Place};
 ghost use Rattle.bq_bpf.specs.declared.hook.Version.{Version as Number};
-ghost use Rattle.bq_console.specs.Words.{IsRefusedBy, SaysWord};
-ghost use Rattle.bq_filters.specs.Asked.{AreOptions, refusal};
+ghost use Rattle.bq_console.specs.Words.{SaysWord};
+ghost use Rattle.bq_filters.specs.Asked.{AreOptions};
 
-use bq_console::{WordsFault, words_fault};
-use bq_options::{value, word};
+use bq_console::WordsFault;
+use bq_options::{refused_value, value, word};
 use bq_program::{Hook, Options, Version};
 use clap::ArgMatches;
-use std::alloc::{AllocError, Global};
+use std::alloc::Global;
 
 /// The options of `asm` among what was found. A hook or a format of another name is refused; the text of the maps is not looked at.
 pub fn options(alloc: Global, matches: &ArgMatches<'_>) -> Result<Options, WordsFault>
@@ -41,7 +41,7 @@ fn hook_in(alloc: Global, word: Option<&str>) -> Result<Option<Hook>, WordsFault
     };
     match Hook::of_word(word.as_bytes()) {
         Some(hook) => Ok(Some(hook)),
-        None => Err(refused(alloc, "hook", word, HOOKS)),
+        None => Err(refused_value(alloc, "hook", word, HOOKS)),
     }
 }
 
@@ -55,15 +55,6 @@ fn format_in(alloc: Global, word: Option<&str>) -> Result<Option<Version>, Words
     };
     match Version::of_word(word.as_bytes()) {
         Some(version) => Ok(Some(version)),
-        None => Err(refused(alloc, "format", word, FORMATS)),
+        None => Err(refused_value(alloc, "format", word, FORMATS)),
     }
-}
-
-/// The fault of an option's value that is none of those that it takes, which are listed.
-pub fn refused(alloc: Global, option: &str, value: &str, taken: &str) -> WordsFault
-    ensures { IsRefusedBy (refusal option.now value.now taken.now) result }
-{
-    words_fault(format!(in alloc;
-        "error: invalid value '{value}' for '--{option}'\n  [possible values: {taken}]\n\nFor more information, try '--help'.\n"
-    ))
 }

@@ -4,7 +4,7 @@ ghost use Rattle.std.specs.String.{string_bytes};
 ghost use Rattle.std.specs.Io.KnownBytes.{Appends};
 ghost use Rattle.bq_streams.specs.Counts.{inner_of, calls_of, failures_of};
 ghost use Rattle.bq_streams.specs.Writing.{AppendsPart};
-ghost use Rattle.bq_streams.specs.Faults.{IsFault};
+ghost use Rattle.bq_streams.specs.Faults.{IsFault, IsWriteFault};
 ghost use Rattle.bq_filters.specs.Filtering.{AnswersAll, BreaksOff};
 
 use bq_program::{Answer, Form, assembled, checked, disassembled};
@@ -89,7 +89,7 @@ pub(crate) fn write_answer<W: Write>(
         × Appends (W.contents (inner_of output.old)) (W.contents (inner_of output.new)) (string_bytes answer.now.text)) }
     ensures kept { OnOk result (failures_of output.new ≡ failures_of output.old) }
     ensures part { OnErr result (AppendsPart (W.contents (inner_of output.old)) (W.contents (inner_of output.new)) (string_bytes answer.now.text)) }
-    ensures fault { IfErr result (λ e. (reads read calls after : ℕ) → IsFault e reads read (failures_of output.old) (failures_of output.new) calls after) }
+    ensures fault { IfErr result (λ e. IsWriteFault e (failures_of output.old) (failures_of output.new)) }
 {
     output.write_text(answer.text.as_bytes())?;
     Ok(answer.accepted)

@@ -11,6 +11,6 @@ mod filter;
 pub mod filtering;
 
 pub use asm_command::{ASM, asm_options};
-pub use asm_words::{options, refused};
+pub use asm_words::options;
 pub use file_words::{FileWords, file_apart};
 pub use filtering::{Filtering, run_filter};

@@ -7,10 +7,7 @@ use Rattle.bq_insn.specs.declared.Insn.TheVariants.{Imm64, MapRef}
 use Rattle.bq_insn.specs.Slots.{slots_of, spread}
 use Rattle.bq_insn.specs.Spelling.{slot_count, is_well_formed}
 use Rattle.bq_graph.proofs.SlotLemmas.{spread_long, few_slots}
-use Rattle.bq_import.specs.declared.fault.Disorder.{Disorder}
-use Rattle.bq_import.specs.declared.fault.Disorder.TheVariants.{Outside, Ends, Loop, Long, OutOfMemory}
-use Rattle.bq_import.specs.declared.section.ImportFault.TheVariants.{Order}
-use Rattle.bq_import.specs.Importing.{IsFirstAddress, IsImportFault, IsInDisorder, is_address}
+use Rattle.bq_import.specs.Importing.{IsFirstAddress, is_address}
 
 some : (i : Insn) → suc (slots_of i - 1) ≡ slots_of i
 some (Imm64 dst value) = refl
@@ -67,11 +64,3 @@ first_address insns k slot d inside counted none here = record {
   address = here;
   first = none;
 }
-
--- bytes of a program in disorder are refused for that
-pub in_disorder : (bytes : List ℕ) (d : Disorder) → IsInDisorder bytes d → IsImportFault bytes (Order d)
-in_disorder bytes (Outside slot) h = h
-in_disorder bytes (Ends slot) h = h
-in_disorder bytes (Loop from to) h = h
-in_disorder bytes Long h = h
-in_disorder bytes OutOfMemory h = tt

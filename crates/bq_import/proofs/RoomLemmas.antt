@@ -11,8 +11,8 @@ use Rattle.bq_graph.specs.Edges.{goes_on}
 use Rattle.bq_graph.proofs.EdgeLemmas.{start_inside}
 use Rattle.bq_import.specs.declared.fault.Disorder.{Disorder}
 use Rattle.bq_import.specs.declared.fault.Disorder.TheVariants.{Outside, Ends, Loop, Long, OutOfMemory}
-use Rattle.bq_import.specs.Faults.{IsDisorder, IsFull}
-use Rattle.bq_import.specs.Search.{IsLinked, unopened}
+use Rattle.bq_import.specs.Faults.{IsDisorder, IsFull, IsLinked}
+use Rattle.bq_import.specs.Search.{unopened}
 
 -- at most all slots are not begun
 pub few_unopened : (opens : List Bool) → sum_by unopened opens ≤ length opens
@@ -60,12 +60,12 @@ enough n most full le =
     ]
 
 -- a program whose copy is too long has 64 slots or more
-pub too_long : (slots : List (Option Insn)) (most : ℕ) (d : Disorder) → most ≤ length slots * length slots + length slots → IsFull most d → IsDisorder slots d
-too_long slots most (Outside slot) le full = absurd full
-too_long slots most (Ends slot) le full = absurd full
-too_long slots most (Loop from to) le full = absurd full
-too_long slots most Long le full = enough (length slots) most full le
-too_long slots most OutOfMemory le full = tt
+pub too_long : (slots : List (Option Insn)) (most : ℕ) (d : Disorder) → IsLinked slots → most ≤ length slots * length slots + length slots → IsFull most d → IsDisorder slots d
+too_long slots most (Outside slot) linked le full = absurd full
+too_long slots most (Ends slot) linked le full = absurd full
+too_long slots most (Loop from to) linked le full = absurd full
+too_long slots most Long linked le full = (linked, enough (length slots) most full le)
+too_long slots most OutOfMemory linked le full = tt
 
 one_slot : (insn : Insn) → goes_on insn ≡ false → slots_of insn ≡ 1
 one_slot (Imm64 d v) e = absurd (let no : ⊥ = cc in no)

@@ -1,7 +1,10 @@
 -- Where control goes, and what is put in front.
-use Rattle.std.proofs.Common.{◌≡◌, ℕ, ◌+◌, ◌-◌, ◌<◌, Bool, true, false, List, length, Option, Some, None, refl, arith, sym, ap, ◌∙◌, subst, inl, inr, ℤ, pos}
+use Rattle.std.proofs.Common.{◌≡◌, ℕ, ◌+◌, ◌-◌, ◌<◌, ◌≤◌, Bool, true, false, List, length, Option, Some, None, refl, arith, sym, ap, ◌∙◌, subst, inl, inr, ℤ, pos}
 use Rattle.std.specs.Prelude.{if◌then◌else◌, IfSome, IfNone, is_some}
-use Rattle.bq_import.specs.Faults.{LeadsNowhere}
+use Rattle.bq_import.specs.declared.fault.Disorder.{Disorder}
+use Rattle.bq_import.specs.declared.fault.Disorder.TheVariants.{Outside, Ends, Loop, Long, OutOfMemory}
+use Rattle.bq_import.specs.Faults.{IsDisorder, IsLinked, IsWrongAt, LeadsNowhere, WellBefore}
+use Rattle.bq_graph.specs.Faults.{RunsOut}
 use Rattle.bq_insn.specs.declared.Insn.{Insn}
 use Rattle.bq_insn.specs.Slots.{slots_of}
 use Rattle.bq_bpf.specs.Steps.{LeadsTo, instruction_at}
@@ -12,7 +15,7 @@ use Rattle.bq_graph.proofs.EdgeLemmas.{some_same, some_none, leads_same, leads_o
 use Rattle.bq_graph.proofs.SoundLemmas.{slots_positive}
 use Rattle.bq_import.specs.Copies.{Stands}
 use Rattle.bq_import.specs.Backward.{JumpsBack, IsFront, IsLengthened, MayStand}
-use Rattle.bq_import.specs.Search.{IsLinked, AreTargets, JumpsTo}
+use Rattle.bq_import.specs.Search.{AreTargets, JumpsTo}
 
 module _ (slots : List (Option Insn)) (slot : ℕ) (insn : Insn) (here : instruction_at slots slot ≡ Some insn) (linked : IsLinked slots) (targets : Targets) where
   next_there : (b : Bool) → b ≡ true → targets.next ≡ (if b then Some (slot + slots_of insn) else None) → targets.next ≡ Some (slot + slots_of insn)
@@ -97,6 +100,22 @@ jumps_to back origins places to place distance start is stands = record { landin
 pub nowhere : (slots : List (Option Insn)) (slot : ℕ) (insn : Insn) (distance : ℤ) → instruction_at slots slot ≡ Some insn → Some distance ≡ distance_of insn → (v : Option ℕ) → is_some v ≡ false → IfNone v ((to : ℕ) → LeadsTo slot distance to → IsStart slots to → ⊥) → LeadsNowhere slots slot
 nowhere slots slot insn distance here is None none never = record { insn = insn; here = here; distance = distance; jumps = sym is; nowhere = never }
 nowhere slots slot insn distance here is (Some to) none never = absurd (let false : ⊥ = cc in false)
+
+-- from an instruction that lies before the end, where control goes on from it, it does not go on past the end
+pub stays_inside : (slots : List (Option Insn)) (slot : ℕ) (insn : Insn) → instruction_at slots slot ≡ Some insn → (goes_on insn ≡ true → slot + slots_of insn < length slots) → RunsOut slots slot → ⊥
+stays_inside slots slot insn here within out =
+    let same : out.insn ≡ insn = some_same _ out.insn insn out.here here in
+    let inside = within (ap goes_on (sym same) ∙ out.on) in
+    let past : length slots ≤ slot + slots_of insn = subst (λ (i : Insn). length slots ≤ slot + slots_of i) same out.past in
+    omega (arith, inside, past)
+
+-- what is wrong at the first slot where something is, is what is wrong with the program
+pub first_wrong : (slots : List (Option Insn)) (slot : ℕ) (d : Disorder) → WellBefore slots slot → IsWrongAt slots slot d → IsDisorder slots d
+first_wrong slots slot (Ends at) before wrong = subst (λ (n : ℕ). RunsOut slots n × WellBefore slots n) (sym wrong.0) (wrong.1, before)
+first_wrong slots slot (Outside at) before wrong = subst (λ (n : ℕ). LeadsNowhere slots n × (RunsOut slots n → ⊥) × WellBefore slots n) (sym wrong.0) (wrong.1, wrong.2, before)
+first_wrong slots slot (Loop from to) before wrong = absurd wrong
+first_wrong slots slot Long before wrong = absurd wrong
+first_wrong slots slot OutOfMemory before wrong = absurd wrong
 
 -- a fact of the slot that the option has
 pub if_some : (P : ℕ → Type 0) (v : Option ℕ) (n : ℕ) → v ≡ Some n → P n → IfSome v P

@@ -10,7 +10,6 @@ use Rattle.bq_graph.proofs.EdgeLemmas.{some_same, some_none, start_inside, IsPat
 use Rattle.bq_import.specs.Copies.{Stands}
 use Rattle.bq_import.proofs.RoomLemmas.{few_unopened, size_first, size_left}
 use Rattle.bq_import.specs.Backward.{IsBuilt, IsLengthened}
-use Rattle.bq_import.specs.Faults.{IsLoop}
 use Rattle.bq_import.specs.Search.{place_at, IsDone, AreKnown, AreClosed, IsReady, is_open, unopened, IsOn, IsTop, IsSearching, KeepsOpen, left_of}
 
 equal_or_not : (a b : ℕ) → (a ≡ b) ⊎ (a ≢ b)
@@ -26,18 +25,6 @@ path_on slots a b c p edge = record {
   is_path = IsPath-push slots a p.rest c p.is_path (subst (λ (n : ℕ). IsEdge slots n c) (sym p.ends) edge);
   ends = end_of-push a p.rest c;
 }
-
--- a slot that was begun and is not done closes a loop
-pub loop_found : (maps : ℕ) (old back : List (Option Insn)) (origins : List ℕ) (places : List (Option ℕ)) (opens : List Bool) (stack : List ℕ) (from to : ℕ) →
-    IsSearching maps old back origins places opens stack → IsTop stack from → IsEdge old from to → place_at places to ≡ None → is_open opens to ≡ true → IsLoop old from to
-loop_found maps old back origins places opens stack from to at top edge new begun = elim (at.opened to begun) [
-  | inl done ↦ absurd (some_none _ done.0 done.1 new)
-  | inr on ↦
-      let long = top.long in
-      let inside = on.inside in
-      let way = at.ways on.index top.below (omega (arith, long, inside)) (omega (arith, long)) in
-      record { edge = edge; back = subst (λ (n : ℕ). Path old n from) on.slot_is (subst (λ (n : ℕ). Path old (slice_index stack on.index) n) top.slot_is way) }
-]
 
 module _ (maps : ℕ) (old back : List (Option Insn)) (origins : List ℕ) (places : List (Option ℕ)) (opens : List Bool) (stack : List ℕ) (at : IsSearching maps old back origins places opens stack) (slot : ℕ) where
   module _ (start : IsStart old slot) (new : is_open opens slot ≡ false) (edge : (top : ℕ) → IsTop stack top → IsEdge old top slot) where
@@ -241,8 +228,3 @@ nothing_begun maps old back origins places opens stack built nothing none room s
   where
     true_false : true ≡ false → ⊥
     true_false e = cc
-
--- at the end of the search all that was begun is done
-pub root_done : (places : List (Option ℕ)) (stack : List ℕ) (slot : ℕ) → IsDone places slot ⊎ IsOn stack slot → stack ≡ [] → IsDone places slot
-root_done places stack slot (inl done) empty = done
-root_done places stack slot (inr on) empty = let short : length stack ≡ 0 = ap length empty in let inside = on.inside in absurd (omega (arith, inside, short))

@@ -1,12 +1,34 @@
 -- What keeps a program from being brought into order.
-use Rattle.std.specs.Prelude.{◌≡◌, ℕ, ◌<◌, ◌≤◌, ℤ, List, Option, Some, length}
+use Rattle.std.specs.Prelude.{◌≡◌, ℕ, ◌+◌, ◌<◌, ◌≤◌, ℤ, true, List, Option, Some, length}
 use Rattle.bq_insn.specs.declared.Insn.{Insn}
+use Rattle.bq_insn.specs.Slots.{slots_of}
 use Rattle.bq_bpf.specs.Steps.{LeadsTo, instruction_at}
-use Rattle.bq_graph.specs.Edges.{distance_of, IsEdge, IsStart}
+use Rattle.bq_graph.specs.Edges.{distance_of, goes_on, IsEdge, IsStart}
 use Rattle.bq_graph.specs.Paths.{Path}
 use Rattle.bq_graph.specs.Faults.{RunsOut}
+use Rattle.bq_import.specs.Backward.{AreGood}
 use Rattle.bq_import.specs.declared.fault.Disorder.{Disorder}
 use Rattle.bq_import.specs.declared.fault.Disorder.TheVariants.{Outside, Ends, Loop, Long, OutOfMemory}
+
+-- from each instruction control goes to instructions alone
+abbrev pub LeadsWell : List (Option Insn) → ℕ → Insn → Type 0
+LeadsWell slots slot insn =
+    (goes_on insn ≡ true → IsStart slots (slot + slots_of insn))
+    × ((far : ℤ) → distance_of insn ≡ Some far → (to : ℕ) × LeadsTo slot far to × IsStart slots to)
+
+-- whatever instruction stands at the slot, control goes from it to instructions alone
+abbrev pub WellAt : List (Option Insn) → ℕ → Type 0
+WellAt slots slot = (insn : Insn) → instruction_at slots slot ≡ Some insn → LeadsWell slots slot insn
+
+-- so it goes from all that stands before the slot
+abbrev pub WellBefore : List (Option Insn) → ℕ → Type 0
+WellBefore slots slot = (j : ℕ) → j < slot → WellAt slots j
+
+-- a program whose control goes from instructions to instructions alone
+pub record IsLinked (slots : List (Option Insn)) : Type 0 where
+  pub good : AreGood slots
+  pub short : length slots ≤ 4096
+  pub leads : (slot : ℕ) → WellAt slots slot
 
 -- a jump to where no instruction begins
 pub record LeadsNowhere (slots : List (Option Insn)) (slot : ℕ) : Type 0 where
@@ -21,12 +43,19 @@ pub record IsLoop (slots : List (Option Insn)) (from to : ℕ) : Type 0 where
   pub edge : IsEdge slots from to
   pub back : Path slots to from
 
--- what is wrong with the program; of one that becomes too long it is said alone that it has 64 slots or more
+-- this is wrong at the slot: control goes on past the end, or, where it does not, a jump leads to where no instruction begins
+abbrev pub IsWrongAt : List (Option Insn) → ℕ → Disorder → Type 0
+IsWrongAt slots slot (Ends at) = (at ≡ slot) × RunsOut slots slot
+IsWrongAt slots slot (Outside at) = (at ≡ slot) × LeadsNowhere slots slot × (RunsOut slots slot → ⊥)
+IsWrongAt slots slot d = ⊥
+
+-- what is wrong with the program: what is wrong at the first slot where something is; where nothing is, there is a loop, or
+-- the copy becomes too long, of which it is said alone that the program has 64 slots or more
 abbrev pub IsDisorder : List (Option Insn) → Disorder → Type 0
-IsDisorder slots (Outside slot) = LeadsNowhere slots slot
-IsDisorder slots (Ends slot) = RunsOut slots slot
-IsDisorder slots (Loop from to) = IsLoop slots from to
-IsDisorder slots Long = 64 ≤ length slots
+IsDisorder slots (Ends slot) = RunsOut slots slot × WellBefore slots slot
+IsDisorder slots (Outside slot) = LeadsNowhere slots slot × (RunsOut slots slot → ⊥) × WellBefore slots slot
+IsDisorder slots (Loop from to) = IsLinked slots × IsLoop slots from to
+IsDisorder slots Long = IsLinked slots × (64 ≤ length slots)
 IsDisorder slots OutOfMemory = Unit {0}
 
 -- the copy did not fit: it would have had that many slots or fewer, and over 4096

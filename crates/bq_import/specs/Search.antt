@@ -1,30 +1,14 @@
 -- What the search keeps that puts each slot in front once all slots are in place to which control may go from it.
 use Rattle.std.specs.Prelude.{◌≡◌, ℕ, ◌+◌, ◌*◌, ◌<◌, ◌≤◌, ◌⊎◌, Bool, true, false, ℤ, pos, List, length, Option, Some, None, slice_index, slice_index_or, sum_by}
 use Rattle.bq_insn.specs.declared.Insn.{Insn}
-use Rattle.bq_bpf.specs.Steps.{LeadsTo, instruction_at}
+use Rattle.bq_bpf.specs.Steps.{LeadsTo}
 use Rattle.bq_insn.specs.Slots.{slots_of}
 use Rattle.bq_graph.specs.Edges.{distance_of, goes_on, IsEdge, IsStart}
 use Rattle.bq_graph.specs.Paths.{Path}
 use Rattle.bq_graph.specs.Passes.{LeadsOut, IsOf}
 use Rattle.bq_graph.specs.declared.edges.Targets.{Targets}
 use Rattle.bq_import.specs.Copies.{Stands}
-use Rattle.bq_import.specs.Backward.{AreGood, IsBuilt}
-
--- from each instruction control goes to instructions alone
-abbrev pub LeadsWell : List (Option Insn) → ℕ → Insn → Type 0
-LeadsWell slots slot insn =
-    (goes_on insn ≡ true → IsStart slots (slot + slots_of insn))
-    × ((far : ℤ) → distance_of insn ≡ Some far → (to : ℕ) × LeadsTo slot far to × IsStart slots to)
-
--- whatever instruction stands at the slot, control goes from it to instructions alone
-abbrev pub WellAt : List (Option Insn) → ℕ → Type 0
-WellAt slots slot = (insn : Insn) → instruction_at slots slot ≡ Some insn → LeadsWell slots slot insn
-
--- a program whose control goes from instructions to instructions alone
-pub record IsLinked (slots : List (Option Insn)) : Type 0 where
-  pub good : AreGood slots
-  pub short : length slots ≤ 4096
-  pub leads : (slot : ℕ) → WellAt slots slot
+use Rattle.bq_import.specs.Backward.{IsBuilt}
 
 -- where control may go from the instruction: on, and where it jumps to
 pub record AreTargets (slots : List (Option Insn)) (slot : ℕ) (insn : Insn) (targets : Targets) : Type 0 where
@@ -68,10 +52,6 @@ pub record IsOrdered (maps : ℕ) (old back : List (Option Insn)) (origins : Lis
   pub known : AreKnown back origins places
   pub closed : AreClosed old places
   pub room : length places ≡ length old
-
--- what was in place is so still
-abbrev pub KeepsDone : List (Option ℕ) → List (Option ℕ) → Type 0
-KeepsDone before after = (slot : ℕ) → IsDone before slot → IsDone after slot
 
 abbrev pub is_open : List Bool → ℕ → Bool
 is_open opens slot = slice_index_or opens slot false

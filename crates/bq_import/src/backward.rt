@@ -8,11 +8,8 @@ ghost use Rattle.bq_import.specs.Faults.{IsFull};
 
 use crate::fault::Disorder;
 use bq_bpf::addresses::REFERENCE;
-use bq_insn::Insn;
+use bq_insn::{Insn, SLOTS};
 use std::alloc::{AllocError, Global};
-
-/// The most slots of a program.
-const MOST: usize = 4096;
 
 /// A copy from its last slot to its first, and the slot of the original that each slot is a copy of.
 #[derive(Drop)]
@@ -51,7 +48,7 @@ impl Backward {
         ensures grown { OnOk result (length self.new.slots.items ≡ length self.old.slots.items + slots_of insn) }
         ensures full { IfErr result (IsFull (length self.old.slots.items + slots_of insn)) }
     {
-        if self.slots.len() + insn.slots() > MOST {
+        if self.slots.len() + insn.slots() > SLOTS {
             return Err(Disorder::Long);
         }
         self.push_rest(insn, from)?;

@@ -1,6 +1,6 @@
 //! Where jumps lead, of those that control may come to. It decides how good an order is, not whether it is right.
-ghost use Rattle.std.specs.Prelude.{◌≡◌, ◌<◌};
-ghost use Rattle.bq_import.specs.Search.{IsLinked};
+ghost use Rattle.std.specs.Prelude.{◌<◌};
+ghost use Rattle.bq_import.specs.Faults.{IsLinked};
 
 use crate::linked::targets;
 use bq_graph::edges::{Targets, instruction};

@@ -3,13 +3,13 @@ ghost use Rattle.std.specs.Prelude.{◌≡◌, ◌<◌, ◌≤◌, ◌+◌, ℕ,
 ghost use Rattle.bq_bpf.specs.Steps.{LeadsTo, instruction_at};
 ghost use Rattle.bq_graph.specs.Edges.{distance_of, IsStart, IsWhole};
 ghost use Rattle.bq_import.specs.Backward.{AreGood};
-ghost use Rattle.bq_import.specs.Faults.{IsDisorder};
-ghost use Rattle.bq_import.specs.Search.{AreTargets, IsLinked, LeadsWell, WellAt};
+ghost use Rattle.bq_import.specs.Faults.{IsDisorder, IsLinked, IsWrongAt, LeadsWell, WellAt};
+ghost use Rattle.bq_import.specs.Search.{AreTargets};
 
 use crate::fault::Disorder;
 use bq_graph::edges::{Targets, distance, instruction, may_go_on};
 use bq_graph::passes::next_slot;
-use bq_insn::Insn;
+use bq_insn::{Insn, SLOTS};
 
 /// The slot that the jump leads to, where an instruction begins there.
 fn landing(slots: &[Option<Insn>], slot: usize, distance: i64) -> Option<usize>
@@ -18,7 +18,7 @@ fn landing(slots: &[Option<Insn>], slot: usize, distance: i64) -> Option<usize>
     ensures some { IfSome result (λ to. LeadsTo slot distance to × IsStart slots.now to) }
     ensures none { IfNone result ((to : ℕ) → LeadsTo slot distance to → ¬ IsStart slots.now to) }
 {
-    if distance < -4096 || distance >= 4096 {
+    if distance < -(SLOTS as i64) || distance >= SLOTS as i64 {
         return None;
     }
     let to = slot as i64 + 1 + distance;
@@ -36,7 +36,7 @@ fn leads_well(slots: &[Option<Insn>], slot: usize, insn: Insn) -> Result<(), Dis
     requires short { length slots.now ≤ 4096 }
     requires whole { IsWhole slots.now }
     ensures ok { OnOk result (LeadsWell slots.now slot insn) }
-    ensures err { IfErr result (IsDisorder slots.now) }
+    ensures err { IfErr result (IsWrongAt slots.now slot) }
 {
     if may_go_on(insn) && slot + insn.slots() >= slots.len() {
         return Err(Disorder::Ends { slot });
@@ -55,7 +55,7 @@ fn slot_leads_well(slots: &[Option<Insn>], slot: usize) -> Result<(), Disorder>
     requires short { length slots.now ≤ 4096 }
     requires whole { IsWhole slots.now }
     ensures ok { OnOk result (WellAt slots.now slot) }
-    ensures err { IfErr result (IsDisorder slots.now) }
+    ensures err { IfErr result (IsWrongAt slots.now slot) }
 {
     let Some(insn) = instruction(slots, slot) else {
         return Ok(());

@@ -7,8 +7,8 @@ ghost use Rattle.bq_insn.specs.Laws.{AllFit};
 ghost use Rattle.bq_graph.specs.Edges.{IsStart};
 ghost use Rattle.bq_import.specs.Copies.{IsCopy};
 ghost use Rattle.bq_import.specs.Backward.{IsBuilt, IsFront, insns_of};
-ghost use Rattle.bq_import.specs.Faults.{IsDisorder};
-ghost use Rattle.bq_import.specs.Search.{IsDone, IsLinked};
+ghost use Rattle.bq_import.specs.Faults.{IsDisorder, IsLinked};
+ghost use Rattle.bq_import.specs.Search.{IsDone};
 ghost use Rattle.bq_import.specs.Searching.{IsDoneWith};
 
 use crate::backward::Backward;

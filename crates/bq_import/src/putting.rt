@@ -5,8 +5,8 @@ ghost use Rattle.bq_insn.specs.Slots.{slots_of};
 ghost use Rattle.bq_bpf.specs.Steps.{instruction_at};
 ghost use Rattle.bq_graph.specs.Edges.{IsStart};
 ghost use Rattle.bq_import.specs.Backward.{IsBuilt, IsFront, IsLengthened};
-ghost use Rattle.bq_import.specs.Faults.{IsFull};
-ghost use Rattle.bq_import.specs.Search.{AreClosed, AreTargets, AreKnown, IsDone, IsLinked, IsReady, JumpsTo, place_at};
+ghost use Rattle.bq_import.specs.Faults.{IsFull, IsLinked};
+ghost use Rattle.bq_import.specs.Search.{AreClosed, AreTargets, AreKnown, IsDone, IsReady, JumpsTo, place_at};
 
 use crate::backward::Backward;
 use crate::fault::Disorder;

@@ -1,10 +1,10 @@
 //! The search that puts each slot in place after all to which control may go from it, and finds a loop where that cannot be.
-ghost use Rattle.std.specs.Prelude.{◌≡◌, ◌<◌, ◌≤◌, ◌+◌, ℕ, true, false, Option, length, OnOk, IfOk, IfErr, IfSome, IfNone, Some, None, slice_index_or};
+ghost use Rattle.std.specs.Prelude.{◌≡◌, ◌<◌, ◌≤◌, ℕ, true, false, Option, length, OnOk, IfOk, IfErr, IfSome, IfNone, Some, None, slice_index_or};
 ghost use Rattle.bq_insn.specs.declared.Insn.{Insn};
 ghost use Rattle.bq_graph.specs.Edges.{IsEdge, IsStart};
 ghost use Rattle.bq_graph.specs.Passes.{IsOf};
-ghost use Rattle.bq_import.specs.Faults.{IsDisorder};
-ghost use Rattle.bq_import.specs.Search.{IsDone, IsLinked, IsReady, IsTop, place_at, is_open};
+ghost use Rattle.bq_import.specs.Faults.{IsDisorder, IsLinked};
+ghost use Rattle.bq_import.specs.Search.{IsDone, IsReady, IsTop, place_at, is_open};
 ghost use Rattle.bq_import.specs.Searching.{IsAt, WentOn, IsDoneWith};
 
 use crate::backward::Backward;

@@ -26,6 +26,11 @@ pub enum ImportFault {
 }
 
 impl From<Disorder> for ImportFault {
+    ghost use Rattle.std.specs.Prelude.{◌≡◌};
+    ghost use Rattle.bq_import.specs.declared.section.ImportFault.TheVariants.{Order};
+
+    ghost from_gives = { λ d e. e ≡ Order d };
+
     fn from(disorder: Disorder) -> ImportFault {
         ImportFault::Order(disorder)
     }
@@ -50,10 +55,8 @@ pub fn import(alloc: Global, bytes: &[u8], maps: usize) -> Result<Ordered, Impor
             reason: Reason::Address,
         });
     }
-    match order(alloc, insns.as_slice(), maps) {
-        Ok(ordered) => Ok(ordered),
-        Err(disorder) => Err(ImportFault::Order(disorder)),
-    }
+    let ordered = order(alloc, insns.as_slice(), maps)?;
+    Ok(ordered)
 }
 
 /// Why bytes are not imported that are no program.

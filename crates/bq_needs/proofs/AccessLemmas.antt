@@ -1,5 +1,6 @@
 -- When an access is shown to be good, and when it is not.
-use Rattle.std.proofs.Common.{◌≡◌, ℕ, ℤ, ◌+◌, ◌-◌, ◌%◌, ◌^◌, ◌<◌, ◌≤◌, true, false, List, Some, SFits, slice_get, sym, subst, refl, arith}
+use Rattle.std.proofs.Common.{◌≡◌, ℕ, ℤ, ◌+◌, ◌-◌, ◌%◌, ◌^◌, ◌<◌, ◌≤◌, ◌⊎◌, true, false, List, Option, Some, None, inr, SFits, slice_get, sym, subst, refl, arith}
+use Rattle.std.specs.Prelude.{IfNone, MatchOption}
 use Rattle.std.specs.Int.{w16}
 use Rattle.std.proofs.lemmas.Int.{ints}
 use Rattle.bq_bpf.specs.Meaning.{word_of}
@@ -10,8 +11,8 @@ use Rattle.bq_states.specs.AbstractStates.{size_of_shape}
 use Rattle.bq_states.specs.declared.abstract_state.Kind.TheVariants as kind
 use Rattle.bq_states.specs.declared.abstract_state.AbstractValue.{AbstractValue}
 use Rattle.bq_states.specs.declared.abstract_state.AbstractState.{AbstractState}
-use Rattle.bq_program.specs.declared.policy.Policy.{Policy}
-use Rattle.bq_needs.specs.Accesses.{AreSet, GoesBeyond, IsMoved, IsShown, ReachesLast, Stays, TellsBegin, begin_of, context_of, counted, by_register, register_text}
+use Rattle.bq_program.specs.declared.policy_source.PolicySource.{PolicySource}
+use Rattle.bq_needs.specs.Accesses.{AreSet, Follows, GoesBeyond, IsMoved, IsShown, ReachesLast, Stays, TellsBegin, Wraps, begin_of, context_of, counted, by_register, register_text}
 use Rattle.bq_needs.specs.Texts.{kind_text}
 use Rattle.bq_needs.specs.declared.operands.Access.{Access}
 
@@ -27,6 +28,14 @@ pub reaches_last : (off : ℤ) (offsets : Range) → SFits w16 off → address_o
 reaches_last off offsets fits wraps =
     let last = last_between offsets.lo offsets.hi (word_of off) offsets.ordered offsets.fits (small_distance off fits) wraps in
     (2 ^ 64 - 1 - word_of off, (last.0, last.1), last.2)
+
+-- where the ends of a range are turned round, no range is so far on from it
+pub wraps : (off : ℤ) (offsets : Range) → address_of offsets.hi off < address_of offsets.lo off → Wraps off offsets
+wraps off offsets turned new moved =
+    let lo : new.lo ≡ address_of offsets.lo off = moved.lo in
+    let hi : new.hi ≡ address_of offsets.hi off = moved.hi in
+    let ordered = new.ordered in
+    omega (arith, lo, hi, ordered, turned)
 
 -- with the greatest offset all bytes lie below the bound, and so with each
 pub all_below : (a : Access) (offsets at : Range) (bound : ℕ) → IsMoved a.off offsets at → at.hi + a.bytes ≤ bound → Stays a offsets bound
@@ -45,16 +54,21 @@ pub greatest_beyond : (a : Access) (offsets : Range) (bound : ℕ) → ReachesLa
 greatest_beyond a offsets bound (o, within, greatest) small =
     (o, within, subst (λ (n : ℕ). bound < n + a.bytes) (sym greatest) (omega arith))
 
+-- of a pointer that may be followed a range says where the access begins, unless none is so far on
+pub range_of_followed : (off : ℤ) (offsets : Range) (F : Type 0) → F → (v : Option Range) → MatchOption v (ReachesLast off offsets) (IsMoved off offsets) → IfNone v (Wraps off offsets) → MatchOption v ((F → ⊥) ⊎ Wraps off offsets) (λ at. F × IsMoved off offsets at)
+range_of_followed off offsets F follows None range wraps = inr wraps
+range_of_followed off offsets F follows (Some at) range wraps = (follows, range)
+
 -- where the access begins is told by the range
-pub tells_counted : (a : Access) (k : AbstractValue) (at : Range) (text : List ℕ) → IsMoved a.off k.offset at → text ≡ kind_text k.kind at → TellsBegin a k text
-tells_counted a k at text moved is = subst (λ (t : List ℕ). TellsBegin a k t) (sym is) (counted at moved.lo moved.hi)
+pub tells_counted : (a : Access) (k : AbstractValue) (at : Range) (text : List ℕ) → Follows k.kind × IsMoved a.off k.offset at → text ≡ kind_text k.kind at → TellsBegin a k text
+tells_counted a k at text (follows, moved) is = subst (λ (t : List ℕ). TellsBegin a k t) (sym is) (counted at follows moved)
 
 -- or by the register
-pub tells_register : (a : Access) (k : AbstractValue) (text : List ℕ) → text ≡ register_text a.register k → TellsBegin a k text
-tells_register a k text is = subst (λ (t : List ℕ). TellsBegin a k t) (sym is) by_register
+pub tells_register : (a : Access) (k : AbstractValue) (text : List ℕ) → (Follows k.kind → ⊥) ⊎ Wraps a.off k.offset → text ≡ register_text a.register k → TellsBegin a k text
+tells_register a k text not is = subst (λ (t : List ℕ). TellsBegin a k t) (sym is) (by_register not)
 
 -- a read of the context within its length
-pub shown_in_context : (p : Policy) (view : AbstractState) (a : Access) (k : AbstractValue) → k.kind ≡ kind.Context → a.writes ≡ false → Stays a k.offset (context_of p) → IsShown p view a k
+pub shown_in_context : (p : PolicySource) (view : AbstractState) (a : Access) (k : AbstractValue) → k.kind ≡ kind.Context → a.writes ≡ false → Stays a k.offset (context_of p) → IsShown p view a k
 shown_in_context p view a k of read stays =
     record {
       bound = context_of p;
@@ -65,7 +79,7 @@ shown_in_context p view a k of read stays =
     }
 
 -- a write of the stack within its bytes
-pub written_on_stack : (p : Policy) (view : AbstractState) (a : Access) (k : AbstractValue) → k.kind ≡ kind.Stack → a.writes ≡ true → Stays a k.offset 512 → IsShown p view a k
+pub written_on_stack : (p : PolicySource) (view : AbstractState) (a : Access) (k : AbstractValue) → k.kind ≡ kind.Stack → a.writes ≡ true → Stays a k.offset 512 → IsShown p view a k
 written_on_stack p view a k of written stays =
     record {
       bound = 512;
@@ -76,7 +90,7 @@ written_on_stack p view a k of written stays =
     }
 
 -- a read of bytes of it that are set
-pub read_from_stack : (p : Policy) (view : AbstractState) (a : Access) (k : AbstractValue) → k.kind ≡ kind.Stack → a.writes ≡ false → Stays a k.offset 512 → AreSet view.set (begin_of a k.offset.lo) (begin_of a k.offset.hi + a.bytes) → IsShown p view a k
+pub read_from_stack : (p : PolicySource) (view : AbstractState) (a : Access) (k : AbstractValue) → k.kind ≡ kind.Stack → a.writes ≡ false → Stays a k.offset 512 → AreSet view.set (begin_of a k.offset.lo) (begin_of a k.offset.hi + a.bytes) → IsShown p view a k
 read_from_stack p view a k of read stays set =
     record {
       bound = 512;
@@ -87,7 +101,7 @@ read_from_stack p view a k of read stays set =
     }
 
 -- an access within a value of the map
-pub shown_in_value : (p : Policy) (view : AbstractState) (a : Access) (k : AbstractValue) (map size : ℕ) → k.kind ≡ kind.Entry map → size_of_shape (slice_get p.shapes.items map) ≡ Some size → Stays a k.offset size → IsShown p view a k
+pub shown_in_value : (p : PolicySource) (view : AbstractState) (a : Access) (k : AbstractValue) (map size : ℕ) → k.kind ≡ kind.Entry map → size_of_shape (slice_get p.shapes.items map) ≡ Some size → Stays a k.offset size → IsShown p view a k
 shown_in_value p view a k map size of is stays =
     record {
       bound = size;

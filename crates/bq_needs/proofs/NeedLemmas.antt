@@ -1,6 +1,6 @@
 -- What is told of a need is lacking, and where nothing is told nothing is.
 use Rattle.std.proofs.lemmas.Bool.{cases_lt}
-use Rattle.std.proofs.Common.{◌≡◌, ◌≢◌, ◌∷◌, ℕ, ℤ, pos, zero, suc, ◌+◌, ◌<◌, ◌&&◌, true, false, is_none, if◌then◌else◌, List, [], ◌++◌, length, Option, Some, None, inl, inr, slice_get, slice_index_or, sym, ◌∙◌, ap, subst, refl, arith}
+use Rattle.std.proofs.Common.{◌≡◌, ◌≢◌, ◌∷◌, ℕ, pos, zero, suc, ◌+◌, ◌<◌, ◌&&◌, true, false, is_none, if◌then◌else◌, List, [], ◌++◌, length, Option, Some, None, inl, inr, slice_get, slice_index_or, sym, ◌∙◌, ap, subst, refl, arith}
 use Rattle.std.specs.Prelude.{codes}
 use Rattle.std.specs.Fmt.{decimal}
 use Rattle.bq_insn.specs.declared.Insn.{Insn}
@@ -8,13 +8,11 @@ use Rattle.bq_states.specs.Certainty.{Exact, Pointer, Stands, StandsAt}
 use Rattle.bq_states.specs.declared.abstract_state.Kind.TheVariants as kind
 use Rattle.bq_states.specs.declared.abstract_state.AbstractValue.{AbstractValue}
 use Rattle.bq_states.specs.declared.abstract_state.AbstractState.{AbstractState}
-use Rattle.bq_program.specs.declared.policy.Policy.{Policy}
+use Rattle.bq_program.specs.declared.policy_source.PolicySource.{PolicySource}
 use Rattle.bq_needs.specs.Accesses.{IsShown, Lacks, context_of}
-use Rattle.bq_needs.specs.Needs.{AreGiven, AreKnown, AreNumbers, GivesHelper, GivesValue, IsGoodAccess, IsPointerWorkedOn, NamesEntry, PointsTo, helper_of, unset_below, unset_text}
+use Rattle.bq_needs.specs.Needs.{AreKnown, AreNumbers, GivesValue, IsFirstPointer, IsGoodAccess, NamesEntry, PointsTo, unset_below, unset_text}
 use Rattle.bq_needs.specs.declared.arguments.Wanted.TheVariants as wanted
-use Rattle.bq_needs.specs.declared.arguments.Wanted.{Wanted}
 use Rattle.bq_bpf.specs.declared.shape.MapShape.{MapShape}
-use Rattle.std.proofs.lemmas.Int.{ints}
 use Rattle.bq_needs.specs.Operands.{access_of, known_in, reads, works_on}
 use Rattle.bq_needs.specs.declared.accesses.Lack.TheVariants as lack
 use Rattle.bq_needs.specs.declared.accesses.Lack.{Lack}
@@ -27,7 +25,7 @@ same_known : (a b : AbstractValue) → Some a ≡ Some b → a ≡ b
 same_known a b e = cc
 
 -- what is lacking of an access is not shown of it
-pub lacks_not_shown : (p : Policy) (view : AbstractState) (a : Access) (k : AbstractValue) (why : Lack) → Lacks p view a k why → IsShown p view a k → ⊥
+pub lacks_not_shown : (p : PolicySource) (view : AbstractState) (a : Access) (k : AbstractValue) (why : Lack) → Lacks p view a k why → IsShown p view a k → ⊥
 lacks_not_shown p view a k lack.Number of shown = let e = rw of at shown.bound_is in cc
 lacks_not_shown p view a k lack.Answer (map, of) shown = let e = rw of at shown.bound_is in cc
 lacks_not_shown p view a k lack.Reference (map, of) shown = let e = rw of at shown.bound_is in cc
@@ -47,28 +45,17 @@ lacks_not_shown p view a k (lack.BeyondValue map size) (of, is, (o, within, beyo
     omega arith
 lacks_not_shown p view a k lack.InNoMap (map, of, is) shown = let e = sym is ∙ rw of at shown.bound_is in cc
 
--- an access of which something is lacking is not good
-pub lacking_not_good : (p : Policy) (view : AbstractState) (insn : Insn) (a : Access) (k : AbstractValue) (why : Lack) → access_of insn ≡ Some a → known_in view a.register ≡ Some k → Lacks p view a k why → ¬ (IsGoodAccess p view insn)
-lacking_not_good p view insn a k why is known lacks good =
-    let shown = good a is in
-    let same : shown.0 ≡ k = same_known _ _ (sym shown.1 ∙ known) in
-    lacks_not_shown p view a k why lacks (subst (λ (x : AbstractValue). IsShown p view a x) same shown.2)
-
--- an access by a register of which nothing is known is not good
-pub unset_not_good : (p : Policy) (view : AbstractState) (insn : Insn) (a : Access) → access_of insn ≡ Some a → known_in view a.register ≡ None → ¬ (IsGoodAccess p view insn)
-unset_not_good p view insn a is unset good = let known = (good a is).1 in cc
-
 same_access : (a b : Access) → Some a ≡ Some b → a ≡ b
 same_access a b e = cc
 
 -- an access that is shown by what is known of its register is good
-pub shown_good : (p : Policy) (view : AbstractState) (insn : Insn) (a : Access) (k : AbstractValue) → access_of insn ≡ Some a → known_in view a.register ≡ Some k → IsShown p view a k → IsGoodAccess p view insn
+pub shown_good : (p : PolicySource) (view : AbstractState) (insn : Insn) (a : Access) (k : AbstractValue) → access_of insn ≡ Some a → known_in view a.register ≡ Some k → IsShown p view a k → IsGoodAccess p view insn
 shown_good p view insn a k is known shown b other =
     let same : a ≡ b = same_access a b (sym is ∙ other) in
     subst (λ (x : Access). (k : AbstractValue) × (known_in view x.register ≡ Some k) × IsShown p view x k) same (k, known, shown)
 
 -- a register that points to bytes of which something is lacking does not point to what may be read
-pub lacking_not_pointing : (p : Policy) (view : AbstractState) (r bytes : ℕ) (k : AbstractValue) (why : Lack) → known_in view r ≡ Some k → Lacks p view (record { writes = false; bytes = bytes; register = r; off = pos 0 }) k why → ¬ (PointsTo p view r bytes)
+pub lacking_not_pointing : (p : PolicySource) (view : AbstractState) (r bytes : ℕ) (k : AbstractValue) (why : Lack) → known_in view r ≡ Some k → Lacks p view (record { writes = false; bytes = bytes; register = r; off = pos 0 }) k why → ¬ (PointsTo p view r bytes)
 lacking_not_pointing p view r bytes k why known lacks (other, is, shown) =
     let a : Access = record { writes = false; bytes = bytes; register = r; off = pos 0 } in
     let same : other ≡ k = same_known _ _ (sym is ∙ known) in
@@ -123,8 +110,8 @@ pub empty_known : (view : AbstractState) (insn : Insn) (told : List ℕ) → tol
 empty_known view insn told is none = all_known view insn 11 (sym is ∙ none)
 
 -- a pointer that is worked on is no number
-pub pointer_no_number : (view : AbstractState) (insn : Insn) (r : ℕ) (k : AbstractValue) → IsPointerWorkedOn view insn r k → ¬ (AreNumbers view insn)
-pointer_no_number view insn r k pointer numbers = pointer.no_number (numbers r k pointer.below pointer.is_worked_on pointer.is_known)
+pub pointer_no_number : (view : AbstractState) (insn : Insn) (r : ℕ) (k : AbstractValue) → IsFirstPointer view insn r k → ¬ (AreNumbers view insn)
+pointer_no_number view insn r k first numbers = first.pointer.no_number (numbers r k first.pointer.below first.pointer.is_worked_on first.pointer.is_known)
 
 -- one register more
 pub one_more : (view : AbstractState) (insn : Insn) (n : ℕ) → ((r : ℕ) (k : AbstractValue) → r < n → works_on insn r ≡ true → known_in view r ≡ Some k → k.kind ≡ kind.Number) → ((k : AbstractValue) → works_on insn n ≡ true → known_in view n ≡ Some k → k.kind ≡ kind.Number) → (r : ℕ) (k : AbstractValue) → r < n + 1 → works_on insn r ≡ true → known_in view r ≡ Some k → k.kind ≡ kind.Number
@@ -145,31 +132,8 @@ same_standing view m n (Some k) first second = same_map m n (sym first.0 ∙ sec
 pub one_map : (view : AbstractState) (m n : ℕ) → StandsAt (Pointer (kind.Map m) 0) view 1 → StandsAt (Pointer (kind.Map n) 0) view 1 → m ≡ n
 one_map view m n first second = same_standing view m n (slice_index_or view.registers 1 None) first second
 
--- of one number one helper is
-one_wanted : (a b : Wanted) → helper_of a ≡ helper_of b → a ≡ b
-one_wanted wanted.LookUp wanted.LookUp e = refl
-one_wanted wanted.LookUp wanted.Update e = absurd (omega (arith, ints))
-one_wanted wanted.LookUp wanted.Add e = absurd (omega (arith, ints))
-one_wanted wanted.LookUp wanted.Read e = absurd (omega (arith, ints))
-one_wanted wanted.Update wanted.LookUp e = absurd (omega (arith, ints))
-one_wanted wanted.Update wanted.Update e = refl
-one_wanted wanted.Update wanted.Add e = absurd (omega (arith, ints))
-one_wanted wanted.Update wanted.Read e = absurd (omega (arith, ints))
-one_wanted wanted.Add wanted.LookUp e = absurd (omega (arith, ints))
-one_wanted wanted.Add wanted.Update e = absurd (omega (arith, ints))
-one_wanted wanted.Add wanted.Add e = refl
-one_wanted wanted.Add wanted.Read e = absurd (omega (arith, ints))
-one_wanted wanted.Read wanted.LookUp e = absurd (omega (arith, ints))
-one_wanted wanted.Read wanted.Update e = absurd (omega (arith, ints))
-one_wanted wanted.Read wanted.Add e = absurd (omega (arith, ints))
-one_wanted wanted.Read wanted.Read e = refl
-
--- a helper whose arguments are given is given what it wants, as no other helper has its number
-pub gives_helper : (p : Policy) (view : AbstractState) (helper : ℤ) (w : Wanted) → helper ≡ helper_of w → AreGiven p view w → GivesHelper p view helper
-gives_helper p view helper w is given other same = subst (λ (x : Wanted). AreGiven p view x) (one_wanted w other (sym is ∙ same)) given
-
 -- an entry and a value are given
-pub value_given : (p : Policy) (view : AbstractState) (map : ℕ) (shape : MapShape) (bytes : ℕ) → NamesEntry p view map → slice_get p.shapes.items map ≡ Some shape → bytes ≡ shape.value_size → PointsTo p view 3 bytes → StandsAt (Exact 0) view 4 → (m : ℕ) × GivesValue p view m
+pub value_given : (p : PolicySource) (view : AbstractState) (map : ℕ) (shape : MapShape) (bytes : ℕ) → NamesEntry p view map → slice_get p.shapes.items map ≡ Some shape → bytes ≡ shape.value_size → PointsTo p view 3 bytes → StandsAt (Exact 0) view 4 → (m : ℕ) × GivesValue p view m
 value_given p view map shape bytes names is size points null =
     (map, (names, shape, is, subst (λ (n : ℕ). PointsTo p view 3 n) size points, null))
 
@@ -177,7 +141,7 @@ same_shape : (a b : MapShape) → Some a ≡ Some b → a ≡ b
 same_shape a b e = cc
 
 -- register 3 points to no value
-pub value_not_given : (p : Policy) (view : AbstractState) (map : ℕ) (shape : MapShape) (bytes : ℕ) → NamesEntry p view map → slice_get p.shapes.items map ≡ Some shape → bytes ≡ shape.value_size → ¬ (PointsTo p view 3 bytes) → ¬ ((m : ℕ) × GivesValue p view m)
+pub value_not_given : (p : PolicySource) (view : AbstractState) (map : ℕ) (shape : MapShape) (bytes : ℕ) → NamesEntry p view map → slice_get p.shapes.items map ≡ Some shape → bytes ≡ shape.value_size → ¬ (PointsTo p view 3 bytes) → ¬ ((m : ℕ) × GivesValue p view m)
 value_not_given p view map shape bytes names is size not (m, (other, given, there, points, null)) =
     let same : m ≡ map = one_map view m map other.0 names.0 in
     let one : given ≡ shape = same_shape given shape (sym there ∙ ap (λ (n : ℕ). slice_get p.shapes.items n) same ∙ is) in

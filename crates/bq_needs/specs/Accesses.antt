@@ -1,15 +1,16 @@
 -- When the view shows an access to be good, and what a text tells of one that it does not.
-use Rattle.std.specs.Prelude.{◌≡◌, ◌≢◌, ℕ, ℤ, ◌+◌, ◌-◌, ◌^◌, ◌<◌, ◌≤◌, Bool, true, false, List, ◌++◌, Option, Some, None, codes, slice_get, slice_index_or}
+use Rattle.std.specs.Prelude.{◌≡◌, ◌≢◌, ℕ, ℤ, ◌+◌, ◌-◌, ◌^◌, ◌<◌, ◌≤◌, ◌⊎◌, Bool, true, false, List, ◌++◌, Option, Some, None, codes, slice_get, slice_index_or}
 use Rattle.std.specs.Fmt.{decimal}
 use Rattle.bq_bpf.specs.Steps.{address_of}
 use Rattle.bq_ranges.specs.Within.{Within}
 use Rattle.bq_ranges.specs.declared.range.Range.{Range}
 use Rattle.bq_bpf.specs.Hooks.{context_length_of, hook_word, version_number}
 use Rattle.bq_states.specs.AbstractStates.{bound_of, size_of_shape}
+use Rattle.bq_states.specs.declared.abstract_state.Kind.{Kind}
 use Rattle.bq_states.specs.declared.abstract_state.Kind.TheVariants as kind
 use Rattle.bq_states.specs.declared.abstract_state.AbstractValue.{AbstractValue}
 use Rattle.bq_states.specs.declared.abstract_state.AbstractState.{AbstractState}
-use Rattle.bq_program.specs.declared.policy.Policy.{Policy}
+use Rattle.bq_program.specs.declared.policy_source.PolicySource.{PolicySource}
 use Rattle.bq_needs.specs.declared.accesses.Lack.TheVariants as lack
 use Rattle.bq_needs.specs.declared.accesses.Lack.{Lack}
 use Rattle.bq_needs.specs.declared.operands.Access.{Access}
@@ -45,11 +46,22 @@ pub record IsMoved (off : ℤ) (old new : Range) : Type 0 where
 abbrev pub ReachesLast : ℤ → Range → Type 0
 ReachesLast off offsets = (o : ℕ) × Within offsets o × (address_of o off ≡ 2 ^ 64 - 1)
 
-abbrev pub context_of : Policy → ℕ
+-- no range is so far on from the range: on the way its words begin anew from 0
+abbrev pub Wraps : ℤ → Range → Type 0
+Wraps off old = (new : Range) → IsMoved off old new → ⊥
+
+-- a pointer of the kind may be followed: into the context, the stack or a value of a map
+abbrev pub Follows : Kind → Type 0
+Follows kind.Context = Unit {0}
+Follows kind.Stack = Unit {0}
+Follows (kind.Entry map) = Unit {0}
+Follows _ = ⊥
+
+abbrev pub context_of : PolicySource → ℕ
 context_of p = context_length_of p.hook p.version
 
 -- by what is known of its pointer the access is good: it stays in what the pointer points to, it does not write the context, and what it reads of the stack is set
-pub record IsShown (p : Policy) (view : AbstractState) (a : Access) (k : AbstractValue) : Type 0 where
+pub record IsShown (p : PolicySource) (view : AbstractState) (a : Access) (k : AbstractValue) : Type 0 where
   pub bound : ℕ
   pub bound_is : bound_of p.shapes.items (context_of p) k.kind ≡ Some bound
   pub stays : Stays a k.offset bound
@@ -57,7 +69,7 @@ pub record IsShown (p : Policy) (view : AbstractState) (a : Access) (k : Abstrac
   pub set : a.writes ≡ false → k.kind ≡ kind.Stack → AreSet view.set (begin_of a k.offset.lo) (begin_of a k.offset.hi + a.bytes)
 
 -- what is not so of the access
-abbrev pub Lacks : Policy → AbstractState → Access → AbstractValue → Lack → Type 0
+abbrev pub Lacks : PolicySource → AbstractState → Access → AbstractValue → Lack → Type 0
 Lacks p view a k lack.Number = k.kind ≡ kind.Number
 Lacks p view a k lack.Answer = (map : ℕ) × (k.kind ≡ kind.EntryOrNull map)
 Lacks p view a k lack.Reference = (map : ℕ) × (k.kind ≡ kind.Map map)
@@ -68,7 +80,7 @@ Lacks p view a k lack.ReadsUnset = (k.kind ≡ kind.Stack) × (a.writes ≡ fals
 Lacks p view a k (lack.BeyondValue map size) = (k.kind ≡ kind.Entry map) × (size_of_shape (slice_get p.shapes.items map) ≡ Some size) × GoesBeyond a k.offset size
 Lacks p view a k lack.InNoMap = (map : ℕ) × (k.kind ≡ kind.Entry map) × (size_of_shape (slice_get p.shapes.items map) ≡ None)
 
-abbrev pub lack_text : Policy → Lack → List ℕ
+abbrev pub lack_text : PolicySource → Lack → List ℕ
 lack_text p lack.Number = codes "a number is no address"
 lack_text p lack.Answer = codes "the answer of a look-up is 0 where there is no such entry"
 lack_text p lack.Reference = codes "the reference of a map is no address of its values"
@@ -83,17 +95,18 @@ lack_text p lack.InNoMap = codes "an access stays in one value"
 abbrev pub register_text : ℕ → AbstractValue → List ℕ
 register_text r k = codes "r" ++ (decimal r ++ (codes ", which is " ++ known_text k))
 
--- the text tells where it begins: how far from what its pointer counts from, or by which register and what is known of that
+-- the text tells where it begins: of a pointer that may be followed, how far from what that counts from; where it may not, or where
+-- no range has where it may begin, by which register and what is known of that
 pub data TellsBegin (a : Access) (k : AbstractValue) : List ℕ → Type 0 where
-  counted : (at : Range) → at.lo ≡ begin_of a k.offset.lo → at.hi ≡ begin_of a k.offset.hi → TellsBegin a k (kind_text k.kind at)
-  by_register : TellsBegin a k (register_text a.register k)
+  counted : (at : Range) → Follows k.kind → IsMoved a.off k.offset at → TellsBegin a k (kind_text k.kind at)
+  by_register : (Follows k.kind → ⊥) ⊎ Wraps a.off k.offset → TellsBegin a k (register_text a.register k)
 
 abbrev pub verb : Bool → List ℕ
 verb true = codes "writes"
 verb false = codes "reads"
 
 -- how many bytes are read or written, by an unset register, or from where and why they may not be
-abbrev pub TellsAccess : Policy → AbstractState → Access → Option AbstractValue → List ℕ → Type 0
+abbrev pub TellsAccess : PolicySource → AbstractState → Access → Option AbstractValue → List ℕ → Type 0
 TellsAccess p view a None text =
     text ≡ verb a.writes ++ (codes " " ++ (decimal a.bytes ++ (codes " bytes by r" ++ (decimal a.register ++ codes ", which is not set on each way that leads here"))))
 TellsAccess p view a (Some k) text =

@@ -11,7 +11,7 @@ use Rattle.bq_states.specs.Certainty.{Exact, Pointer, Scalar, StandsAt}
 use Rattle.bq_states.specs.declared.abstract_state.Kind.TheVariants.{Number, Map}
 use Rattle.bq_states.specs.declared.abstract_state.AbstractValue.{AbstractValue}
 use Rattle.bq_states.specs.declared.abstract_state.AbstractState.{AbstractState}
-use Rattle.bq_program.specs.declared.policy.Policy.{Policy}
+use Rattle.bq_program.specs.declared.policy_source.PolicySource.{PolicySource}
 use Rattle.bq_needs.specs.declared.arguments.Wanted.TheVariants as wanted
 use Rattle.bq_needs.specs.declared.arguments.Wanted.{Wanted}
 use Rattle.bq_needs.specs.declared.operands.Access.{Access as Accessed}
@@ -23,28 +23,32 @@ use Rattle.bq_needs.specs.Texts.{known_text}
 abbrev pub AreKnown : AbstractState → Insn → Type 0
 AreKnown view insn = (r : ℕ) → r < 11 → reads insn r ≡ true → known_in view r ≢ None
 
--- each register that the instruction works on, and of which something is known, is a number
+-- each register below this one that the instruction works on, and of which something is known, is a number
+abbrev pub AreNumbersBelow : ℕ → AbstractState → Insn → Type 0
+AreNumbersBelow n view insn = (r : ℕ) (k : AbstractValue) → r < n → works_on insn r ≡ true → known_in view r ≡ Some k → k.kind ≡ Number
+
+-- so is each of all eleven
 abbrev pub AreNumbers : AbstractState → Insn → Type 0
-AreNumbers view insn = (r : ℕ) (k : AbstractValue) → r < 11 → works_on insn r ≡ true → known_in view r ≡ Some k → k.kind ≡ Number
+AreNumbers view insn = AreNumbersBelow 11 view insn
 
 -- a load or a store is known to be good
-abbrev pub IsGoodAccess : Policy → AbstractState → Insn → Type 0
+abbrev pub IsGoodAccess : PolicySource → AbstractState → Insn → Type 0
 IsGoodAccess p view insn = (a : Accessed) → access_of insn ≡ Some a → (k : AbstractValue) × (known_in view a.register ≡ Some k) × IsShown p view a k
 
 -- there is a map of that number
-abbrev pub IsMap : Policy → ℤ → Type 0
+abbrev pub IsMap : PolicySource → ℤ → Type 0
 IsMap p index = (m : ℕ) × (index ≡ pos m) × (m < length p.shapes.items)
 
 -- the register points to so many bytes that may be read
-abbrev pub PointsTo : Policy → AbstractState → ℕ → ℕ → Type 0
+abbrev pub PointsTo : PolicySource → AbstractState → ℕ → ℕ → Type 0
 PointsTo p view r bytes = (k : AbstractValue) × (known_in view r ≡ Some k) × IsShown p view (record { writes = false; bytes = bytes; register = r; off = pos 0 }) k
 
 -- register 1 is the reference of that map, and register 2 points to the number of an entry
-abbrev pub NamesEntry : Policy → AbstractState → ℕ → Type 0
+abbrev pub NamesEntry : PolicySource → AbstractState → ℕ → Type 0
 NamesEntry p view m = StandsAt (Pointer (Map m) 0) view 1 × PointsTo p view 2 4
 
 -- and register 3 points to a value for it, and register 4 is 0
-abbrev pub GivesValue : Policy → AbstractState → ℕ → Type 0
+abbrev pub GivesValue : PolicySource → AbstractState → ℕ → Type 0
 GivesValue p view m = NamesEntry p view m × (shape : MapShape) × (slice_get p.shapes.items m ≡ Some shape) × PointsTo p view 3 shape.value_size × StandsAt (Exact 0) view 4
 
 -- a number of a counter
@@ -60,23 +64,23 @@ helper_of wanted.Add = pos 100
 helper_of wanted.Read = pos 101
 
 -- the arguments are what the helper wants
-abbrev pub AreGiven : Policy → AbstractState → Wanted → Type 0
+abbrev pub AreGiven : PolicySource → AbstractState → Wanted → Type 0
 AreGiven p view wanted.LookUp = (m : ℕ) × NamesEntry p view m
 AreGiven p view wanted.Update = (m : ℕ) × GivesValue p view m
 AreGiven p view wanted.Add = IsCounter (known_in view 1) × StandsAt Scalar view 2
 AreGiven p view wanted.Read = IsCounter (known_in view 1)
 
-abbrev pub GivesHelper : Policy → AbstractState → ℤ → Type 0
+abbrev pub GivesHelper : PolicySource → AbstractState → ℤ → Type 0
 GivesHelper p view helper = (w : Wanted) → helper ≡ helper_of w → AreGiven p view w
 
 -- there is a map of that number; of a call, the arguments are what its helper wants
-abbrev pub AreGoodArguments : Policy → AbstractState → Insn → Type 0
+abbrev pub AreGoodArguments : PolicySource → AbstractState → Insn → Type 0
 AreGoodArguments p view (MapRef dst index) = IsMap p index
 AreGoodArguments p view (Call helper) = GivesHelper p view helper
 AreGoodArguments p view insn = Unit {0}
 
 -- the view gives the instruction what the cause says that it lacks
-abbrev pub IsMet : Policy → AbstractState → Insn → Cause → Type 0
+abbrev pub IsMet : PolicySource → AbstractState → Insn → Cause → Type 0
 IsMet p view insn (State Unset) = AreKnown view insn
 IsMet p view insn (State Access) = IsGoodAccess p view insn
 IsMet p view insn (State PointerUse) = AreNumbers view insn
@@ -96,7 +100,7 @@ abbrev pub unset_need : AbstractState → Insn → List ℕ
 unset_need view insn = codes "reads" ++ (unset_below 11 view insn ++ codes ", which is not set here, or not on each way that leads here")
 
 -- the access, and why it is not shown to be good
-abbrev pub TellsAccessOf : Policy → AbstractState → Insn → List ℕ → Type 0
+abbrev pub TellsAccessOf : PolicySource → AbstractState → Insn → List ℕ → Type 0
 TellsAccessOf p view insn text = (a : Accessed) × (access_of insn ≡ Some a) × TellsAccess p view a (known_in view a.register) text
 
 -- what may be done with a pointer, where the instruction does another thing
@@ -112,10 +116,15 @@ pub record IsPointerWorkedOn (view : AbstractState) (insn : Insn) (r : ℕ) (k :
   pub is_known : known_in view r ≡ Some k
   pub no_number : k.kind ≢ Number
 
--- such a register, what is known of it, and what may be done with it
+-- it is the first such register
+pub record IsFirstPointer (view : AbstractState) (insn : Insn) (r : ℕ) (k : AbstractValue) : Type 0 where
+  pub pointer : IsPointerWorkedOn view insn r k
+  pub least : AreNumbersBelow r view insn
+
+-- the first such register, what is known of it, and what may be done with it
 abbrev pub TellsPointer : AbstractState → Insn → List ℕ → Type 0
 TellsPointer view insn text =
-    (r : ℕ) × (k : AbstractValue) × IsPointerWorkedOn view insn r k × (text ≡ codes "works on r" ++ (decimal r ++ (codes ", which is " ++ (known_text k ++ (codes "; " ++ pointer_rule insn)))))
+    (r : ℕ) × (k : AbstractValue) × IsFirstPointer view insn r k × (text ≡ codes "works on r" ++ (decimal r ++ (codes ", which is " ++ (known_text k ++ (codes "; " ++ pointer_rule insn)))))
 
 -- what a helper wants of its arguments
 abbrev pub wanted_text : Wanted → List ℕ
@@ -145,7 +154,7 @@ abbrev pub TellsCall : AbstractState → ℤ → List ℕ → Type 0
 TellsCall view helper text = (w : Wanted) × (helper ≡ helper_of w) × (text ≡ call_text view w)
 
 -- the number that is no map's, or the call
-abbrev pub TellsArgument : Policy → AbstractState → Insn → List ℕ → Type 0
+abbrev pub TellsArgument : PolicySource → AbstractState → Insn → List ℕ → Type 0
 TellsArgument p view (MapRef dst index) text = text ≡ map_text index (length p.shapes.items)
 TellsArgument p view (Call helper) text = TellsCall view helper text
 TellsArgument p view insn text = ⊥
@@ -156,7 +165,7 @@ answer_text None = codes "ends, and r0, the answer, is not set on each way that 
 answer_text (Some k) = codes "ends, and r0, the answer, is " ++ (known_text k ++ codes "; an answer is a number")
 
 -- the text tells a need by its cause
-abbrev pub TellsNeed : Policy → AbstractState → Insn → Cause → List ℕ → Type 0
+abbrev pub TellsNeed : PolicySource → AbstractState → Insn → Cause → List ℕ → Type 0
 TellsNeed p view insn (State Unset) text = text ≡ unset_need view insn
 TellsNeed p view insn (State Access) text = TellsAccessOf p view insn text
 TellsNeed p view insn (State PointerUse) text = TellsPointer view insn text
@@ -165,6 +174,6 @@ TellsNeed p view insn (State Answer) text = text ≡ answer_text (known_in view 
 TellsNeed p view insn other text = ⊥
 
 -- the text tells a need that the view does not give; where it gives what the cause says, no need is told
-abbrev pub IsNeed : Policy → AbstractState → Insn → Cause → List ℕ → Type 0
+abbrev pub IsNeed : PolicySource → AbstractState → Insn → Cause → List ℕ → Type 0
 IsNeed p view insn cause text =
     (TellsNeed p view insn cause text × ¬ (IsMet p view insn cause)) ⊎ ((text ≡ codes "is not shown to be safe") × IsMet p view insn cause)

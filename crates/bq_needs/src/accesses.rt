@@ -1,13 +1,13 @@
 //! Whether what is known of its pointer shows an access to be good, and if not why, in words.
-ghost use Rattle.std.specs.Prelude.{◌≡◌, ◌<◌, ◌≤◌, ◌+◌, IfOk, MatchBool, MatchOption, Some, false, true, string_bytes};
+ghost use Rattle.std.specs.Prelude.{◌≡◌, ◌⊎◌, ◌↔◌, ◌<◌, ◌≤◌, ◌+◌, IfOk, IfNone, IsTrue, MatchBool, MatchOption, Some, false, true, string_bytes};
 ghost use Rattle.bq_bpf.specs.Steps.{address_of};
-ghost use Rattle.bq_needs.specs.Accesses.{AreSet, GoesBeyond, IsMoved, IsShown, Lacks, ReachesLast, Stays, TellsBegin, TouchesUnset, begin_of, lack_text, register_text};
+ghost use Rattle.bq_needs.specs.Accesses.{AreSet, Follows, GoesBeyond, IsMoved, IsShown, Lacks, ReachesLast, Stays, TellsBegin, TouchesUnset, Wraps, begin_of, lack_text, register_text};
 
 use crate::known::{kind_text, known_text};
 use crate::operands::Access;
 use bq_bpf::addresses::STACK_SIZE;
 use bq_bpf::context_length;
-use bq_program::Policy;
+use bq_program::PolicySource;
 use bq_ranges::Range;
 use bq_states::abstract_state::{AbstractState, AbstractValue, Kind};
 use bq_states::places::shape_of;
@@ -38,7 +38,7 @@ pub(crate) enum Lack {
 
 /// Why what is known of its pointer does not show the access to be good, unless it does.
 pub(crate) fn lack_of(
-    policy: &Policy,
+    policy: &PolicySource,
     view: &AbstractState,
     access: Access,
     pointer: AbstractValue,
@@ -59,7 +59,7 @@ pub(crate) fn lack_of(
 /// The same of a pointer into the context, which is only read.
 #[tactic(auto, using(crate::proofs::AccessLemmas::shown_in_context))]
 fn context_lack(
-    policy: &Policy,
+    policy: &PolicySource,
     view: &AbstractState,
     access: Access,
     pointer: AbstractValue,
@@ -82,7 +82,7 @@ fn context_lack(
 /// The same of a pointer into the stack, of which only what is set is read.
 #[tactic(auto, using(crate::proofs::AccessLemmas::written_on_stack, crate::proofs::AccessLemmas::read_from_stack))]
 fn stack_lack(
-    policy: &Policy,
+    policy: &PolicySource,
     view: &AbstractState,
     access: Access,
     pointer: AbstractValue,
@@ -107,7 +107,7 @@ fn stack_lack(
 /// The same of a pointer into a value of that map.
 #[tactic(auto, using(crate::proofs::AccessLemmas::shown_in_value))]
 fn value_lack(
-    policy: &Policy,
+    policy: &PolicySource,
     view: &AbstractState,
     access: Access,
     pointer: AbstractValue,
@@ -161,7 +161,8 @@ fn touches_set(view: &AbstractState, access: Access, offsets: Range) -> bool
 
 /// The words that far on from those of the range, unless one of them is beyond the greatest.
 fn moved(offsets: Range, off: i16) -> Option<Range>
-    ensures { MatchOption result (ReachesLast off offsets) (IsMoved off offsets) }
+    ensures range { MatchOption result (ReachesLast off offsets) (IsMoved off offsets) }
+    ensures wraps { IfNone result (Wraps off offsets) }
 {
     let lo = word_at(offsets.lo, off);
     let hi = word_at(offsets.hi, off);
@@ -188,10 +189,21 @@ pub(crate) fn begin_text(
 ) -> Result<String, AllocError>
     ensures { IfOk result (λ text. TellsBegin access pointer (string_bytes text)) }
 {
-    if let (true, Some(at)) = (is_followed(pointer.kind), moved(pointer.offset, access.off)) {
-        return kind_text(alloc, pointer.kind, at);
+    match begin_range(access, pointer) {
+        Some(at) => kind_text(alloc, pointer.kind, at),
+        None => register_text(alloc, access.register, pointer),
     }
-    register_text(alloc, access.register, pointer)
+}
+
+/// How far from what its pointer counts from the access begins, if the pointer may be followed and a range says it.
+fn begin_range(access: Access, pointer: AbstractValue) -> Option<Range>
+    ensures { MatchOption result ((Follows pointer.kind → ⊥) ⊎ Wraps access.off pointer.offset) (λ at. Follows pointer.kind × IsMoved access.off pointer.offset at) }
+{
+    if is_followed(pointer.kind) {
+        moved(pointer.offset, access.off)
+    } else {
+        None
+    }
 }
 
 /// The register, and what is known of it.
@@ -203,12 +215,18 @@ fn register_text(alloc: Global, register: u8, known: AbstractValue) -> Result<St
 }
 
 /// Whether a pointer of the kind may be followed.
-fn is_followed(kind: Kind) -> bool {
+fn is_followed(kind: Kind) -> bool
+    ensures { IsTrue result ↔ Follows kind }
+{
     matches!(kind, Kind::Context | Kind::Stack | Kind::Entry(_))
 }
 
 /// Why an access is not good, in words.
-pub(crate) fn lack_text(alloc: Global, policy: &Policy, lack: Lack) -> Result<String, AllocError>
+pub(crate) fn lack_text(
+    alloc: Global,
+    policy: &PolicySource,
+    lack: Lack,
+) -> Result<String, AllocError>
     ensures { IfOk result (λ text. string_bytes text ≡ lack_text policy.now lack) }
 {
     match lack {
@@ -236,7 +254,7 @@ pub(crate) fn lack_text(alloc: Global, policy: &Policy, lack: Lack) -> Result<St
 }
 
 /// How long the policy's context is.
-fn context_text(alloc: Global, policy: &Policy) -> Result<String, AllocError>
+fn context_text(alloc: Global, policy: &PolicySource) -> Result<String, AllocError>
     ensures { IfOk result (λ text. string_bytes text ≡ lack_text policy.now Lack.BeyondContext) }
 {
     let hook = policy.hook.word();

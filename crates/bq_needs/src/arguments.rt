@@ -8,9 +8,10 @@ ghost use Rattle.bq_needs.specs.declared.arguments.Wanted.{Wanted as Asked};
 use crate::accesses::lack_of;
 use crate::known::known_text;
 use crate::operands::Access;
+use bq_bpf::board::COUNTERS;
 use bq_bpf::helper::{ADD_COUNTER, LOOKUP, READ_COUNTER, UPDATE};
 use bq_insn::Insn;
-use bq_program::Policy;
+use bq_program::PolicySource;
 use bq_states::abstract_state::{AbstractState, Kind};
 use bq_states::places::shape_of;
 use bq_states::registers::known;
@@ -32,7 +33,7 @@ enum Wanted {
 /// The map that there is not, or what the helper wants and what is known of its arguments, if they are not shown to be that.
 pub(crate) fn argument_need(
     alloc: Global,
-    policy: &Policy,
+    policy: &PolicySource,
     view: &AbstractState,
     insn: Insn,
 ) -> Result<Option<String>, AllocError>
@@ -46,7 +47,7 @@ pub(crate) fn argument_need(
 }
 
 /// The number, if it is no map's.
-fn map_need(alloc: Global, policy: &Policy, index: i32) -> Result<Option<String>, AllocError>
+fn map_need(alloc: Global, policy: &PolicySource, index: i32) -> Result<Option<String>, AllocError>
     ensures { IfOk result (λ told. MatchOption told (IsMap policy.now index) (λ text. (string_bytes text ≡ map_text index (length policy.now.shapes.items)) × ¬ (IsMap policy.now index))) }
 {
     if is_map(policy, index) {
@@ -64,7 +65,7 @@ fn map_text(alloc: Global, index: i32, count: usize) -> Result<String, AllocErro
 }
 
 /// Whether there is a map of that number.
-fn is_map(policy: &Policy, index: i32) -> bool
+fn is_map(policy: &PolicySource, index: i32) -> bool
     ensures { IsTrue result ↔ IsMap policy.now index }
 {
     index >= 0 && (index as usize) < policy.shapes.len()
@@ -73,7 +74,7 @@ fn is_map(policy: &Policy, index: i32) -> bool
 /// What the helper wants and what is known of its arguments, if they are not shown to be that.
 fn call_need(
     alloc: Global,
-    policy: &Policy,
+    policy: &PolicySource,
     view: &AbstractState,
     helper: i32,
 ) -> Result<Option<String>, AllocError>
@@ -118,7 +119,7 @@ fn wanted_by(helper: i32) -> Option<Wanted>
 }
 
 /// Whether the arguments are that.
-fn are_given(policy: &Policy, view: &AbstractState, wanted: Wanted) -> bool
+fn are_given(policy: &PolicySource, view: &AbstractState, wanted: Wanted) -> bool
     ensures { IsTrue result ↔ AreGiven policy.now view.now wanted }
 {
     match wanted {
@@ -146,7 +147,7 @@ fn wanted_text(wanted: Wanted) -> &'static str
 }
 
 /// Whether register 1 names a map, and register 2 points to the number of an entry.
-fn names_entry(policy: &Policy, view: &AbstractState) -> bool
+fn names_entry(policy: &PolicySource, view: &AbstractState) -> bool
     ensures { IsTrue result ↔ ((m : ℕ) × NamesEntry policy.now view.now m) }
 {
     match named_entry(policy, view) {
@@ -156,7 +157,7 @@ fn names_entry(policy: &Policy, view: &AbstractState) -> bool
 }
 
 /// The map that register 1 names, if it names one and register 2 points to an entry's number.
-fn named_entry(policy: &Policy, view: &AbstractState) -> Option<u8>
+fn named_entry(policy: &PolicySource, view: &AbstractState) -> Option<u8>
     ensures { MatchOption result (¬ ((m : ℕ) × NamesEntry policy.now view.now m)) (NamesEntry policy.now view.now) }
 {
     let Some(map) = named_map(view) else {
@@ -184,7 +185,7 @@ fn named_map(view: &AbstractState) -> Option<u8>
 
 /// Whether the register points to so many bytes that may be read.
 #[tactic(auto, using(crate::proofs::NeedLemmas::lacking_not_pointing))]
-fn points_to(policy: &Policy, view: &AbstractState, register: u8, bytes: usize) -> bool
+fn points_to(policy: &PolicySource, view: &AbstractState, register: u8, bytes: usize) -> bool
     requires { bytes ≤ 256 }
     ensures { IsTrue result ↔ PointsTo policy.now view.now register bytes }
 {
@@ -204,7 +205,7 @@ fn points_to(policy: &Policy, view: &AbstractState, register: u8, bytes: usize) 
 }
 
 /// Whether an entry and its new value are named.
-fn gives_value(policy: &Policy, view: &AbstractState) -> bool
+fn gives_value(policy: &PolicySource, view: &AbstractState) -> bool
     ensures { IsTrue result ↔ ((m : ℕ) × GivesValue policy.now view.now m) }
 {
     let Some(map) = named_entry(policy, view) else {
@@ -234,7 +235,7 @@ fn names_counter(view: &AbstractState) -> bool
     ensures { IsTrue result ↔ IsCounter (known_in view.now 1) }
 {
     match known(view, 1) {
-        Some(word) => matches!(word.kind, Kind::Number) && word.offset.hi < 64,
+        Some(word) => matches!(word.kind, Kind::Number) && word.offset.hi < COUNTERS as u64,
         None => false,
     }
 }

@@ -1,8 +1,8 @@
 //! What an instruction needs and the view before it does not give, in words, for causes of what is known of the states.
-ghost use Rattle.std.specs.Prelude.{◌≡◌, ◌↔◌, ◌<◌, Some, true, IfOk, IsTrue, MatchOption, string_bytes};
+ghost use Rattle.std.specs.Prelude.{◌≡◌, ◌↔◌, ◌<◌, Some, true, IfOk, IfSome, IsTrue, MatchOption, string_bytes};
 ghost use Rattle.bq_states.specs.Certainty.{Scalar, StandsAt};
 ghost use Rattle.bq_needs.specs.Accesses.{verb};
-ghost use Rattle.bq_needs.specs.Needs.{AreKnown, AreNumbers, IsGoodAccess, IsMet, IsNeed, IsPointerWorkedOn, TellsAccessOf, TellsNeed, TellsPointer, answer_text, pointer_rule, unset_below, unset_need, unset_text};
+ghost use Rattle.bq_needs.specs.Needs.{AreKnown, AreNumbers, IsFirstPointer, IsGoodAccess, IsMet, IsNeed, IsPointerWorkedOn, TellsAccessOf, TellsNeed, TellsPointer, answer_text, pointer_rule, unset_below, unset_need, unset_text};
 ghost use Rattle.bq_needs.specs.Operands.{known_in, reads, works_on};
 ghost use Rattle.bq_states.specs.declared.abstract_state.AbstractValue.{AbstractValue as Shown};
 
@@ -11,7 +11,7 @@ use crate::arguments::argument_need;
 use crate::known::known_text;
 use crate::operands::{access_of, reads, works_on};
 use bq_insn::Insn;
-use bq_program::Policy;
+use bq_program::PolicySource;
 use bq_states::abstract_state::{AbstractState, AbstractValue, Kind};
 use bq_states::registers::known;
 use bq_verify::{Cause, Doubt};
@@ -20,7 +20,7 @@ use std::alloc::{AllocError, Global};
 /// The need that the view does not give, by the cause.
 pub fn need_text(
     alloc: Global,
-    policy: &Policy,
+    policy: &PolicySource,
     view: &AbstractState,
     insn: Insn,
     cause: Cause,
@@ -36,7 +36,7 @@ pub fn need_text(
 /// The same, if the view does not give what the cause says.
 fn told(
     alloc: Global,
-    policy: &Policy,
+    policy: &PolicySource,
     view: &AbstractState,
     insn: Insn,
     cause: Cause,
@@ -98,7 +98,7 @@ fn unset_register(
 /// The access of a load or a store, and why it is not shown to be good, if it is not.
 fn access_need(
     alloc: Global,
-    policy: &Policy,
+    policy: &PolicySource,
     view: &AbstractState,
     insn: Insn,
 ) -> Result<Option<String>, AllocError>
@@ -159,7 +159,7 @@ struct Pointer {
 
 /// The first of the registers that the instruction works on which is known to be no number.
 fn pointer_worked_on(view: &AbstractState, insn: Insn) -> Option<Pointer>
-    ensures { MatchOption result (AreNumbers view.now insn) (λ pointer. IsPointerWorkedOn view.now insn pointer.register pointer.known) }
+    ensures { MatchOption result (AreNumbers view.now insn) (λ pointer. IsFirstPointer view.now insn pointer.register pointer.known) }
 {
     for register in 0..11u8 {
         if let Some(pointer) = as_pointer(view, insn, register) {
@@ -172,7 +172,8 @@ fn pointer_worked_on(view: &AbstractState, insn: Insn) -> Option<Pointer>
 /// The register, if the instruction works on it and it is known to be no number.
 fn as_pointer(view: &AbstractState, insn: Insn, register: u8) -> Option<Pointer>
     requires { register < 11 }
-    ensures { MatchOption result ((k : Shown) → works_on insn register ≡ true → known_in view.now register ≡ Some k → k.kind ≡ Kind.Number) (λ pointer. IsPointerWorkedOn view.now insn pointer.register pointer.known) }
+    ensures register { IfSome result (λ pointer. pointer.register ≡ register) }
+    ensures pointer { MatchOption result ((k : Shown) → works_on insn register ≡ true → known_in view.now register ≡ Some k → k.kind ≡ Kind.Number) (λ pointer. IsPointerWorkedOn view.now insn pointer.register pointer.known) }
 {
     if !works_on(insn, register) {
         return None;

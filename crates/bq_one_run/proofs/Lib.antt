@@ -1,3 +1,4 @@
+mod ChangeLemmas
 mod FieldLemmas
 mod FieldTableLemmas
 mod FieldsLawLemmas

@@ -6,6 +6,7 @@ ghost use Rattle.bq_one_run.specs.Naming.{NamesCounter, SetsCounter, TextsInTurn
 
 use crate::faults::refused;
 use crate::inputs::Inputs;
+use bq_bpf::board::COUNTERS;
 use bq_bpf::{Board, Plain};
 use bq_console::WordsFault;
 use bq_console::words::{cut, decimal, value};
@@ -13,7 +14,7 @@ use std::alloc::Global;
 
 impl Inputs {
     /// Sets the counters that texts name, one after another. Texts are refused only where one of them names none, and where there are
-    /// none nothing is.
+    /// none nothing is. What texts before a refused one set stands.
     pub fn set_all_counters(&mut self, alloc: Global, texts: &[String]) -> Result<(), WordsFault>
         ensures board { OnOk result (TextsInTurn SetsCounter texts.now self.old.board self.new.board) }
         ensures refused { IfErr result (SaysNone (TextsInTurn SetsCounter texts.now self.old.board)) }
@@ -40,7 +41,7 @@ impl Inputs {
         let Some((number, word)) = counter_named(text) else {
             return Err(refused(alloc, "counter", text, "a counter is set as 3=10"));
         };
-        if number >= 64 {
+        if number >= COUNTERS {
             return Err(refused(alloc, "counter", text, "there are the counters 0 to 63"));
         }
         set(&mut self.board, number as u8, word);

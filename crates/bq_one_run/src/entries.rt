@@ -13,7 +13,7 @@ use std::alloc::{AllocError, Global};
 
 impl Inputs {
     /// Sets the entries that texts name, one after another. Texts are refused only where one of them names none, or no value of its
-    /// map, and where there are none nothing is.
+    /// map, and where there are none nothing is. What texts before a refused one set stands.
     pub fn set_all_entries(&mut self, alloc: Global, texts: &[String]) -> Result<(), WordsFault>
         ensures maps { OnOk result (TextsInTurn SetsEntry texts.now self.old.maps self.new.maps) }
         ensures refused { IfErr result (SaysNone (TextsInTurn SetsEntry texts.now self.old.maps)) }

@@ -82,6 +82,7 @@ pub fn trace_once(
     ensures whole { IfOk result (λ o. IfSome o (λ _. length inputs.old.context.items ≡ context_length_of verified.now.hook verified.now.version)) }
     ensures none { IfOk result (λ o. IfNone o (¬ Fits verified.now inputs.old)) }
     ensures left { IfOk result (λ o. IfNone o (inputs.new ≡ inputs.old)) }
+    ensures shapes { IfOk result (λ _. inputs.new.maps.shapes ≡ inputs.old.maps.shapes) }
     ensures kept { IfOk result (λ o. IfNone o (moments.new ≡ moments.old)) }
     ensures context { inputs.new.context ≡ inputs.old.context }
     ensures env { inputs.new.env ≡ inputs.old.env }

@@ -14,7 +14,8 @@ use std::alloc::Global;
 
 impl Inputs {
     /// Sets the fields that texts name, one after another. Texts are refused only where one of them names no fields, or what does not
-    /// fit, and where there are none nothing is.
+    /// fit, and where there are none nothing is. What texts before a refused one set stands, and so do its own fields before the
+    /// refused one.
     pub fn set_all_fields(
         &mut self,
         alloc: Global,
@@ -35,7 +36,8 @@ impl Inputs {
         Ok(())
     }
 
-    /// Sets the fields that a text names, as `task=3,mask=0x6,load.1=2` does. A text is refused only where it names none.
+    /// Sets the fields that a text names, as `task=3,mask=0x6,load.1=2` does. A text is refused only where it names none. What its
+    /// fields before a refused one set stands.
     pub fn set_fields(
         &mut self,
         alloc: Global,

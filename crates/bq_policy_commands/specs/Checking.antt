@@ -7,7 +7,7 @@ use Rattle.bq_explain.specs.Verdicts.{IsVerdict, is_accepted, verdict_line}
 use Rattle.bq_program.specs.declared.fault.PolicyFault.{PolicyFault}
 use Rattle.bq_program.specs.declared.fault.PolicyFault.TheVariants as fault
 use Rattle.bq_program.specs.declared.head.Head.{Head}
-use Rattle.bq_program.specs.declared.policy.Policy.{Policy}
+use Rattle.bq_program.specs.declared.policy_source.PolicySource.{PolicySource}
 use Rattle.bq_program.specs.Files.{IsPolicy, IsPolicyFault}
 use Rattle.bq_policy_commands.specs.declared.answered.Answered.{Answered}
 use Rattle.bq_policy_commands.specs.declared.answered.Answered.TheVariants.{Done, Refused}
@@ -25,7 +25,7 @@ answered true text = Done text
 answered false text = Refused text
 
 -- it is done where the verdict accepts the policy, else refused, by the line that tells the verdict
-pub record TellsVerdict (w : CheckWords) (p : Policy) (l : Limits) (answer : Answered) : Type 0 where
+pub record TellsVerdict (w : CheckWords) (p : PolicySource) (l : Limits) (answer : Answered) : Type 0 where
   pub verdict : Verdict
   pub is_verdict : IsVerdict p l verdict
   pub text : String Global
@@ -43,7 +43,7 @@ pub record TellsFault (w : CheckWords) (bytes : List ℕ) (h : Head) (answer : A
 
 -- the file is this policy, and its verdict is told
 pub record TellsPolicy (w : CheckWords) (bytes : List ℕ) (h : Head) (l : Limits) (answer : Answered) : Type 0 where
-  pub policy : Policy
+  pub policy : PolicySource
   pub is_policy : IsPolicy bytes h policy
   pub tells : TellsVerdict w policy l answer
 

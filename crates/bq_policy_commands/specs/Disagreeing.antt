@@ -7,7 +7,7 @@ use Rattle.bq_program.specs.declared.head.Head.{Head}
 use Rattle.bq_program.specs.declared.kind.Kind.TheVariants.{Text}
 use Rattle.bq_program.specs.declared.mark.Key.{Key}
 use Rattle.bq_program.specs.declared.options.Options.{Options}
-use Rattle.bq_program.specs.declared.policy.Policy.{Policy}
+use Rattle.bq_program.specs.declared.policy_source.PolicySource.{PolicySource}
 use Rattle.bq_program.specs.Files.{IsPolicy, IsPolicyFault, kind_of}
 use Rattle.bq_program.specs.Forms.{maps_text}
 use Rattle.bq_program.specs.Heads.{Names}
@@ -21,7 +21,7 @@ differing other = None
 
 -- the text is a policy with these words, or another thing is wrong with it
 abbrev pub NoneDiffers : List ℕ → Head → Type 0
-NoneDiffers bytes h = ((p : Policy) × IsPolicy bytes h p) ⊎ ((named : PolicyFault) × IsPolicyFault bytes h named × (differing named ≡ None))
+NoneDiffers bytes h = ((p : PolicySource) × IsPolicy bytes h p) ⊎ ((named : PolicyFault) × IsPolicyFault bytes h named × (differing named ≡ None))
 
 -- of a text, the words differ from its marks in that; other bytes have no marks
 abbrev pub IsDifference : List ℕ → Head → Option Key → Type 0

@@ -2,7 +2,7 @@
 use Rattle.std.specs.Prelude.{◌≡◌, ℕ, List, ◌⊎◌, String, string_bytes}
 use Rattle.std.specs.declared.alloc.Global.{Global}
 use Rattle.bq_program.specs.declared.head.Head.{Head}
-use Rattle.bq_program.specs.declared.policy.Policy.{Policy}
+use Rattle.bq_program.specs.declared.policy_source.PolicySource.{PolicySource}
 use Rattle.bq_program.specs.Files.{IsPolicy}
 use Rattle.bq_program.specs.Listed.{IsListed}
 use Rattle.bq_program.specs.ReadBack.{IsFileOf}
@@ -14,7 +14,7 @@ use Rattle.bq_policy_commands.specs.Saying.{IsWordsFault, SaysHead}
 
 -- the file is this policy, and its listing is told, which is read as that policy again and as no other
 pub record IsListing (w : ListWords) (bytes : List ℕ) (h : Head) (answer : Answered) : Type 0 where
-  pub policy : Policy
+  pub policy : PolicySource
   pub is_policy : IsPolicy bytes h policy
   pub text : String Global
   pub is : answer ≡ Done text

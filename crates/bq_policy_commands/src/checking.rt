@@ -17,7 +17,7 @@ use crate::named::with_name;
 use crate::words::CheckWords;
 use bq_console::WordsFault;
 use bq_explain::{Limits, explain, judge, verdict_line};
-use bq_program::{Head, Policy, PolicyFault, read_policy};
+use bq_program::{Head, PolicyFault, PolicySource, read_policy};
 use std::alloc::{AllocError, Global};
 
 /// The verdict on the policy whose file has these bytes, or why the file is none. Words are refused only where they say no head or no
@@ -69,7 +69,7 @@ fn check_file(
 fn check_policy(
     alloc: Global,
     words: &CheckWords,
-    policy: &Policy,
+    policy: &PolicySource,
     limits: &Limits,
 ) -> Result<Answered, AllocError>
     ensures { IfOk result (TellsVerdict words.now policy.now limits.now) }
@@ -87,7 +87,7 @@ fn check_policy(
 fn judge_policy(
     alloc: Global,
     words: &CheckWords,
-    policy: &Policy,
+    policy: &PolicySource,
     limits: &Limits,
 ) -> Result<Answered, AllocError>
     ensures { IfOk result (TellsVerdict words.now policy.now limits.now) }

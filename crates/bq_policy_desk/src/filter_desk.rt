@@ -1,7 +1,7 @@
 //! `asm`, `check` and `dis` as filters: from what they read to the exit status.
 
 use bq_console::status::BAD_INPUT;
-use bq_console::{ended, say_out_of_memory, whole_input, written};
+use bq_console::{ended, say_out_of_memory, waiting_input, whole_input, written};
 use bq_explain::complaint;
 use bq_filters::{Filtering, run_filter};
 use bq_policy_commands::{AsmRefusal, asm_refusal, options_complaint};
@@ -13,7 +13,7 @@ use std::process::ExitCode;
 /// Filters the file that is named, or standard input; `check` and `dis` read standard input alone.
 pub fn do_filter(rt: &HostRuntime, filtering: &Filtering, file: &Option<String>) -> ExitCode {
     let Filtering::Asm(options) = filtering else {
-        return filter_from(rt, filtering, rt.stdin());
+        return filter_from(rt, filtering, waiting_input(rt));
     };
     match options_complaint(rt.alloc(), options) {
         Ok(None) => assemble_input(rt, filtering, options, file),

@@ -1,6 +1,6 @@
 //! What help pages tell of the commands on policies.
 
-use bq_options::{CommandText, Given, OptionText, with_hooks, with_versions};
+use bq_options::{CommandText, Given, OptionText, texts, with_hooks, with_versions};
 
 /// The options that name a policy and say what its file does not. Each command has them first.
 const POLICY_OPTIONS: [OptionText; 4] = [
@@ -33,7 +33,7 @@ const POLICY_OPTIONS: [OptionText; 4] = [
 pub(crate) static COMMANDS: [CommandText<'static>; 3] = [
     CommandText {
         name: "check",
-        about: "Says whether a policy is accepted, and why not; without a word more it reads the hex of an image from standard input and writes its hook and its budget",
+        about: texts::CHECK,
         options: &[
             &POLICY_OPTIONS,
             &[
@@ -62,7 +62,7 @@ pub(crate) static COMMANDS: [CommandText<'static>; 3] = [
     },
     CommandText {
         name: "run",
-        about: "Runs an accepted policy once, and says what it answered, whether that is permitted, how many instructions it took, and which maps and counters changed",
+        about: texts::RUN,
         options: &[
             &POLICY_OPTIONS,
             &[
@@ -111,7 +111,7 @@ pub(crate) static COMMANDS: [CommandText<'static>; 3] = [
     },
     CommandText {
         name: "dis",
-        about: "Lists a policy under the marks that say what it is; without a word more it reads the hex of a program from standard input and writes its listing",
+        about: texts::DIS,
         options: &[
             &POLICY_OPTIONS,
             &[OptionText {

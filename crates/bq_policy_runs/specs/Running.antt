@@ -14,6 +14,7 @@ use Rattle.bq_interp.specs.declared.env.Env.{Env}
 use Rattle.bq_interp.specs.declared.traced.Moment.{Moment}
 use Rattle.bq_interp.specs.Chains.{setting_of}
 use Rattle.bq_interp.specs.Moments.{AreMoments}
+use Rattle.bq_one_run.specs.Changes.{calls_text, changes_text, with_all}
 use Rattle.bq_one_run.specs.Naming.{BeginsWith, IsClean, SetsCounter, SetsEntry, SetsFields, TextsInTurn}
 use Rattle.bq_one_run.specs.Permitting.{word_of}
 use Rattle.bq_one_run.specs.Runs.{AreRuns, IsRun, Kept, kept_in}
@@ -22,7 +23,7 @@ use Rattle.bq_verify.specs.Accepted.{Accepted}
 use Rattle.bq_bpf.specs.Hooks.{context_length_of}
 use Rattle.bq_bpf.specs.declared.hook.Hook.{Hook}
 use Rattle.bq_program.specs.declared.head.Head.{Head}
-use Rattle.bq_program.specs.declared.policy.Policy.{Policy}
+use Rattle.bq_program.specs.declared.policy_source.PolicySource.{PolicySource}
 use Rattle.bq_program.specs.Files.{IsPolicy}
 use Rattle.bq_policy_commands.specs.declared.answered.Answered.{Answered}
 use Rattle.bq_policy_commands.specs.declared.answered.Answered.TheVariants.{Done, Refused}
@@ -73,12 +74,17 @@ answer_line answer judged steps budget =
     codes "r0 " ++ (decimal answer ++ (codes " (0x" ++ (digits 16 false answer ++ (codes ")  " ++ (judged
     ++ (codes "  steps " ++ (decimal steps ++ (codes " of " ++ (decimal budget ++ codes "\n")))))))))
 
--- the first line tells the answer of a run on that context, with the rule's word on it; then the steps are told, and what changed
-pub record TellsRun (program : Accepted) (context : List ℕ) (answer steps : ℕ) (executed text : List ℕ) : Type 0 where
+-- a line for each entry of these maps whose bytes are other now, and then one for each call of a counter
+abbrev pub changed_text : Arrays → List (List ℕ) → List Asked → List ℕ
+changed_text maps now calls = changes_text maps (with_all maps now) ++ calls_text calls
+
+-- the first line tells the answer of a run on that context, with the rule's word on it; then the steps are told, and what changed; how
+-- long runs take may stand last
+pub record TellsRun (program : Accepted) (context : List ℕ) (answer steps : ℕ) (executed changed text : List ℕ) : Type 0 where
   pub judged : List ℕ
   pub word : TellsWord (word_of program.hook context answer) judged
-  pub changes : List ℕ
-  pub text_is : text ≡ answer_line answer judged steps program.budget ++ (executed ++ changes)
+  pub timing : List ℕ
+  pub text_is : text ≡ answer_line answer judged steps program.budget ++ (executed ++ (changed ++ timing))
 
 -- of so many runs as the word says, all but the last
 abbrev pub IsBefore : Option (List ℕ) → ℕ → Type 0
@@ -86,7 +92,8 @@ IsBefore None n = n ≡ 0
 IsBefore (Some word) n = IsNumberBelow (2 ^ 32) word (n + 1)
 
 -- so many runs of the program on those inputs, one after another, lead to maps and counters from which there is a run more, whose steps, with its
--- own calls of counters, begin from these moments of the machine: its answer is told, and its steps where that is asked for
+-- own calls of counters, begin from these moments of the machine: its answer is told, its steps where that is asked for, each entry of
+-- the maps that all these runs changed, and its calls
 pub record HasRun (traced : Bool) (others : ℕ) (program : Accepted) (inputs : Inputs) (told_as : Answered) : Type 0 where
   pub steps : ℕ
   pub calls : List Asked
@@ -102,7 +109,7 @@ pub record HasRun (traced : Bool) (others : ℕ) (program : Accepted) (inputs : 
   pub is : told_as ≡ Done text
   pub executed : List ℕ
   pub steps_told : TellsSteps traced program moments executed
-  pub told : TellsRun program inputs.context.items answer steps executed (string_bytes text)
+  pub told : TellsRun program inputs.context.items answer steps executed (changed_text inputs.maps after.maps calls) (string_bytes text)
 
 -- on inputs that the words name; where they name none they are refused
 abbrev pub RunsInputs : RunWords → Accepted → ℕ → Answered → Type 0
@@ -115,7 +122,7 @@ RunsProgram w program told_as =
     IsWordsFault (IsBefore (option_bytes w.telling.repeat)) told_as ⊎ ((others : ℕ) × IsBefore (option_bytes w.telling.repeat) others × RunsInputs w program others told_as)
 
 -- the program is that of the policy
-pub record IsProgramOf (p : Policy) (program : Accepted) : Type 0 where
+pub record IsProgramOf (p : PolicySource) (program : Accepted) : Type 0 where
   pub slots : program.slots ≡ spread p.insns.items
   pub shapes : program.shapes ≡ p.shapes.items
   pub hook : program.hook ≡ p.hook
@@ -126,7 +133,7 @@ abbrev pub TellsVerdict : Hook → Verdict → List ℕ → Type 0
 TellsVerdict hook named text = (reason : List ℕ) × (text ≡ verdict_line hook named ++ reason)
 
 -- the verifier refuses the policy, which it does to no straight program, and the text begins with the line that says so
-pub record IsUnaccepted (p : Policy) (told_as : Answered) : Type 0 where
+pub record IsUnaccepted (p : PolicySource) (told_as : Answered) : Type 0 where
   pub slot : ℕ
   pub cause : Cause
   pub refusal : IsRefusedPolicy p slot cause
@@ -135,17 +142,17 @@ pub record IsUnaccepted (p : Policy) (told_as : Answered) : Type 0 where
   pub told : TellsVerdict p.hook (verdict.Refused slot cause) (string_bytes text)
 
 -- the policy's program is safe within its budget, which is the longest path, and runs
-pub record RunsAccepted (w : RunWords) (p : Policy) (told_as : Answered) : Type 0 where
+pub record RunsAccepted (w : RunWords) (p : PolicySource) (told_as : Answered) : Type 0 where
   pub program : Accepted
   pub of : IsProgramOf p program
   pub safe : IsSafePolicy p program.budget
   pub runs : RunsProgram w program told_as
 
-abbrev pub RunsPolicy : RunWords → Policy → Answered → Type 0
+abbrev pub RunsPolicy : RunWords → PolicySource → Answered → Type 0
 RunsPolicy w p told_as = IsUnaccepted p told_as ⊎ RunsAccepted w p told_as
 
 abbrev pub RunsFile : RunWords → List ℕ → Head → Answered → Type 0
-RunsFile w bytes h told_as = IsRefusedFile bytes h told_as ⊎ ((p : Policy) × IsPolicy bytes h p × RunsPolicy w p told_as)
+RunsFile w bytes h told_as = IsRefusedFile bytes h told_as ⊎ ((p : PolicySource) × IsPolicy bytes h p × RunsPolicy w p told_as)
 
 -- by the head that the words say; words that say none are refused
 abbrev pub RunsTo : RunWords → List ℕ → Answered → Type 0

@@ -1,6 +1,7 @@
 //! `run` of a policy's file.
-ghost use Rattle.std.specs.Prelude.{◌≡◌, IfOk, length, string_bytes};
+ghost use Rattle.std.specs.Prelude.{◌≡◌, ◌++◌, IfOk, length, map, string_bytes};
 ghost use Rattle.bq_bpf.specs.Hooks.{context_length_of};
+ghost use Rattle.bq_one_run.specs.Changes.{calls_text, changes_text, with_all};
 ghost use Rattle.bq_one_run.specs.Runs.{Fits};
 ghost use Rattle.bq_policy_runs.specs.Running.{HasRun, RunsFile, RunsPolicy, RunsProgram, RunsTo, TellsRun, TellsVerdict, answer_line};
 
@@ -13,7 +14,7 @@ use bq_console::WordsFault;
 use bq_explain::{Verdict, verdict_line};
 use bq_one_run::{Inputs, OneRun, copied, run_often, trace_once, write_calls, write_changes};
 use bq_policy_commands::{Answered, RunWords, refused_file, said_by};
-use bq_program::{Head, Policy, read_policy};
+use bq_program::{Head, PolicySource, read_policy};
 use bq_verify::{Program, Refused, Verified, verify};
 use std::alloc::{AllocError, Global};
 use std::time::Clock;
@@ -57,7 +58,7 @@ fn run_policy<C: Clock>(
     alloc: Global,
     clock: &C,
     words: &RunWords,
-    policy: &Policy,
+    policy: &PolicySource,
 ) -> Result<Answered, AllocError>
     ensures { IfOk result (RunsPolicy words.now policy.now) }
 {
@@ -78,7 +79,11 @@ fn run_policy<C: Clock>(
 }
 
 /// The line that tells the verdict on a policy that is not accepted, and what tells more.
-fn unaccepted_text(alloc: Global, policy: &Policy, verdict: Verdict) -> Result<String, AllocError>
+fn unaccepted_text(
+    alloc: Global,
+    policy: &PolicySource,
+    verdict: Verdict,
+) -> Result<String, AllocError>
     ensures { IfOk result (λ text. TellsVerdict policy.now.hook verdict (string_bytes text)) }
 {
     let line = verdict_line(alloc, policy.hook, verdict)?;
@@ -90,7 +95,7 @@ fn run_verified<C: Clock>(
     alloc: Global,
     clock: &C,
     words: &RunWords,
-    policy: &Policy,
+    policy: &PolicySource,
     verified: &Verified,
 ) -> Result<Answered, AllocError>
     ensures { IfOk result (RunsProgram words.now verified.now) }
@@ -124,7 +129,7 @@ struct Series {
 fn run_on(
     alloc: Global,
     words: &RunWords,
-    policy: &Policy,
+    policy: &PolicySource,
     verified: &Verified,
     series: &mut Series,
     line: &String,
@@ -145,27 +150,28 @@ fn run_on(
     let inputs = &series.inputs;
     let is_traced = words.telling.is_traced;
     let executed = executed_text(alloc, is_traced, policy, verified, moments.as_slice())?;
-    let changes = changed_text(alloc, first.as_slice(), inputs, &ran, line)?;
-    let text = told(alloc, verified, inputs, &ran, &executed, &changes)?;
+    let changes = changed_text(alloc, first.as_slice(), inputs, &ran)?;
+    let text = told(alloc, verified, inputs, &ran, &executed, &changes, line)?;
     Ok(Answered::Done(text))
 }
 
-/// What a run changed of what was there first, and the line that says how long runs take.
+/// What runs changed of the bytes of maps that were there first, and the calls of the last of them.
 fn changed_text(
     alloc: Global,
     first: &[Vec<u8>],
     inputs: &Inputs,
     ran: &OneRun,
-    line: &String,
-) -> Result<String, AllocError> {
+) -> Result<String, AllocError>
+    ensures { IfOk result (λ text. string_bytes text ≡ changes_text (with_all inputs.now.maps (map (λ v. v.items) first.now)) inputs.now.maps ++ calls_text ran.now.calls.items) }
+{
     let mut changes = String::new(alloc);
     write_changes(alloc, first, inputs, &mut changes)?;
     write_calls(ran.calls.as_slice(), &mut changes)?;
-    changes.push_str(line.as_str())?;
     Ok(changes)
 }
 
-/// What the run answered, what the rule says of that, how many instructions it took, and which; and what changed.
+/// What the run answered, what the rule says of that, how many instructions it took, and which; what changed; and the line that says
+/// how long runs take.
 fn told(
     alloc: Global,
     verified: &Verified,
@@ -173,14 +179,15 @@ fn told(
     ran: &OneRun,
     executed: &String,
     changes: &String,
+    line: &String,
 ) -> Result<String, AllocError>
     requires { length inputs.now.context.items ≡ context_length_of verified.now.hook verified.now.version }
-    ensures { IfOk result (λ text. TellsRun verified.now inputs.now.context.items ran.now.r0 ran.now.steps (string_bytes executed.now) (string_bytes text)) }
+    ensures { IfOk result (λ text. TellsRun verified.now inputs.now.context.items ran.now.r0 ran.now.steps (string_bytes executed.now) (string_bytes changes.now) (string_bytes text)) }
 {
     let r0 = ran.r0;
     let word = word_text(alloc, verified.hook(), inputs.context.as_slice(), r0)?;
     let first = answer_line(alloc, verified, r0, ran.steps, &word)?;
-    format!(in alloc; "{first}{executed}{changes}")
+    format!(in alloc; "{first}{executed}{changes}{line}")
 }
 
 /// What the run answered, that word on it, and how many instructions it took.

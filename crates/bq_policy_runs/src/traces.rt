@@ -1,11 +1,12 @@
 //! The instructions of a run, one after another, in words.
-ghost use Rattle.std.specs.Prelude.{◌≡◌, ◌++◌, IfOk, string_bytes};
+ghost use Rattle.std.specs.Prelude.{◌≡◌, IfOk, string_bytes};
 ghost use Rattle.bq_policy_runs.specs.Tracing.{AreSteps, TellsSteps, changes_below, changes_to, slot_text, step_text};
 
 use bq_asm::listing;
+use bq_explain::index_at;
 use bq_insn::Insn;
 use bq_one_run::Moment;
-use bq_program::Policy;
+use bq_program::PolicySource;
 use bq_verify::Verified;
 use std::alloc::{AllocError, Global};
 
@@ -13,7 +14,7 @@ use std::alloc::{AllocError, Global};
 pub(crate) fn executed_text(
     alloc: Global,
     is_traced: bool,
-    policy: &Policy,
+    policy: &PolicySource,
     verified: &Verified,
     moments: &[Moment],
 ) -> Result<String, AllocError>
@@ -29,7 +30,7 @@ pub(crate) fn executed_text(
 /// For each instruction where it stands, itself, and a line for each register that it changed.
 fn steps_text(
     alloc: Global,
-    policy: &Policy,
+    policy: &PolicySource,
     verified: &Verified,
     moments: &[Moment],
 ) -> Result<String, AllocError>
@@ -96,7 +97,7 @@ fn changes_text(alloc: Global, before: &Moment, now: &Moment) -> Result<String, 
 }
 
 /// The line of the instruction at a slot and a comma, where the policy is a text.
-fn place_of(alloc: Global, policy: &Policy, slot: usize) -> Result<String, AllocError> {
+fn place_of(alloc: Global, policy: &PolicySource, slot: usize) -> Result<String, AllocError> {
     let line = match index_at(policy.insns.as_slice(), slot) {
         Some(index) => policy.lines.get(index),
         None => None,
@@ -105,16 +106,4 @@ fn place_of(alloc: Global, policy: &Policy, slot: usize) -> Result<String, Alloc
         Some(line) => format!(in alloc; "line {line}, "),
         None => Ok(String::new(alloc)),
     }
-}
-
-/// The index of the instruction that begins at a slot.
-fn index_at(insns: &[Insn], slot: usize) -> Option<usize> {
-    let mut begins: usize = 0;
-    for (index, insn) in insns.iter().enumerate() {
-        if begins == slot {
-            return Some(index);
-        }
-        begins = begins.saturating_add(insn.slots());
-    }
-    None
 }

@@ -1,6 +1,6 @@
 -- One more line of a text, and what it does to the head of the lines before it.
-use Rattle.std.proofs.Common.{◌≡◌, ℕ, ◌+◌, ◌<◌, suc, List, [], ◌∷◌, ◌++◌, length, take, drop, get_or, map, refl, sym, ap, ◌∙◌, subst, true, arith, append-nil, take-append-drop, drop-cons, add-zero, Bool, false}
-use Rattle.std.specs.Prelude.{Option, Some, None, ◌&&◌, if◌then◌else◌}
+use Rattle.std.proofs.Common.{◌≡◌, ℕ, ◌+◌, ◌<◌, suc, List, [], ◌∷◌, ◌++◌, length, take, drop, get_or, map, refl, sym, ap, ◌∙◌, subst, true, arith, append-nil, take-append-drop, drop-cons, add-zero, false}
+use Rattle.std.specs.Prelude.{Option, Some, None, Result, Ok, Err, IfErr, ◌&&◌, if◌then◌else◌}
 use Rattle.std.specs.List.{list_all}
 use Rattle.std.specs.Borrow.{Bor}
 use Rattle.std.proofs.lemmas.List.Folds.{list_all-append}
@@ -14,12 +14,19 @@ use Rattle.std.specs.Str.Lines.{lines}
 use Rattle.std.proofs.lemmas.List.{length-map, map-append}
 use Rattle.bq_program.specs.declared.fault.HeadFault.{HeadFault}
 use Rattle.bq_program.specs.declared.fault.HeadFault.TheVariants.{At, OutOfMemory}
+use Rattle.bq_asm.specs.Faults.{IsFault}
+use Rattle.bq_asm.specs.declared.fault.AsmFault.{AsmFault}
+use Rattle.bq_asm.specs.declared.fault.AsmFault.TheVariants as assembly
 use Rattle.bq_asm.specs.Lines.{is_instruction, line_said}
-use Rattle.bq_program.specs.Files.{IsTextFault, instruction_lines}
+use Rattle.bq_program.specs.Files.{HasHead, IsFaultOfKind, IsHexFault, IsImageFault, IsPolicyFault, IsTextFault, IsWhole, instruction_lines, kind_of}
 use Rattle.bq_program.specs.Combining.{IsUncombinable}
 use Rattle.bq_program.specs.declared.fault.PolicyFault.{PolicyFault}
 use Rattle.bq_program.specs.declared.fault.PolicyFault.TheVariants as fault
+use Rattle.bq_program.specs.declared.kind.Kind.TheVariants as kind
+use Rattle.bq_program.specs.declared.policy_source.PolicySource.{PolicySource}
+use Rattle.bq_program.specs.HexText.{SpellsBytes}
 use Rattle.bq_program.specs.Heads.{IsHeadFault, IsSaid, Names, SaysHead}
+use Rattle.bq_program.specs.Naming.{of_assembly}
 use Rattle.bq_program.specs.Taking.{IsRefusedLine, TakesValue}
 
 -- what is said of a key, where nothing is known of it
@@ -160,14 +167,26 @@ lines_without yielded line numbers said says =
     let one : instruction_lines (1 + length before) (line.now ∷ []) ≡ [] = ap (λ b. if b then (1 + length before) ∷ [] else []) says in
     sym (ap (instruction_lines 1) (map-append (λ (l : Bor (List ℕ)). l.now) yielded (line ∷ [])) ∙ more_lines 1 before line.now ∙ (λ i. sym said i ++ one i) ∙ append-nil numbers)
 
+-- what is wrong with the program of a text whose marks are right
+pub bad_program : (text : List ℕ) (given said : Head) (named : AsmFault) → HasHead text said → IsFault text named → IsTextFault text given (of_assembly named)
+bad_program text given said (assembly.At line cause) head bad = (said, head, bad)
+bad_program text given said assembly.OutOfMemory head bad = tt
+
 -- what is wrong with a text whose parts are right
-pub uncombinable : (text : List ℕ) (given said : Head) (named : PolicyFault) → SaysHead (lines text) said → IsUncombinable given said named → IsTextFault text given named
-uncombinable text given said (fault.Disagrees key) head h = (said, head, h)
-uncombinable text given said fault.NoHook head h = (said, head, h.0, h.1)
-uncombinable text given said fault.OutOfMemory head h = tt
-uncombinable text given said fault.Text head h = absurd h
-uncombinable text given said fault.Hex head h = absurd h
-uncombinable text given said (fault.Head line cause) head h = absurd h
-uncombinable text given said (fault.Assembly line cause) head h = absurd h
-uncombinable text given said (fault.Image named) head h = absurd h
-uncombinable text given said (fault.Program slot cause) head h = absurd h
+pub uncombinable : (text : List ℕ) (given said : Head) (named : PolicyFault) → IsWhole text said → IsUncombinable given said named → IsTextFault text given named
+uncombinable text given said (fault.Disagrees key) whole h = (said, whole, h)
+uncombinable text given said fault.NoHook whole h = (said, whole, h)
+uncombinable text given said fault.OutOfMemory whole h = tt
+uncombinable text given said named whole h = absurd h
+
+-- what is wrong with the image that hex spells is wrong with the hex
+of_hex : (bytes image : List ℕ) (given : Head) (named : PolicyFault) → SpellsBytes bytes image → IsImageFault image given named → IsHexFault bytes given named
+of_hex bytes image given fault.Hex spells f = absurd f
+of_hex bytes image given fault.OutOfMemory spells f = tt
+of_hex bytes image given named spells f = (image, spells, f)
+
+-- so it is wrong with a file of hex
+pub hex_fault : (result : Result PolicySource PolicyFault) (bytes image : List ℕ) (given : Head) → kind_of bytes ≡ kind.Hex → SpellsBytes bytes image
+    → IfErr result (IsImageFault image given) → IfErr result (IsPolicyFault bytes given)
+hex_fault (Ok p) bytes image given hex spells f = tt
+hex_fault (Err named) bytes image given hex spells f = subst (λ k. IsFaultOfKind k bytes given named) (sym hex) (of_hex bytes image given named spells f)

@@ -15,3 +15,5 @@ pub mod NotedLemmas
 pub mod PaddingLemmas
 pub mod LawLemmas
 pub mod HeadLemmas
+pub mod OneMarkLemmas
+pub mod OneFileLemmas

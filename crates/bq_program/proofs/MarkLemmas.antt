@@ -22,7 +22,7 @@ use Rattle.bq_asm.specs.Lines.{Blank, line_said}
 use Rattle.bq_asm.proofs.DigitLemmas.{is_digit, list_all-append, list_all-weaker, decimal_digits}
 use Rattle.bq_program.specs.declared.head.Head.{Head}
 use Rattle.bq_program.specs.declared.mark.Key.TheVariants as key
-use Rattle.bq_program.specs.declared.policy.Policy.{Policy}
+use Rattle.bq_program.specs.declared.policy_source.PolicySource.{PolicySource}
 use Rattle.bq_program.specs.Heads.{SaysHead}
 use Rattle.bq_program.specs.Marks.{key_word, mark_words}
 use Rattle.bq_program.proofs.HeadLemmas.{says_nothing, says_mark, says_no_mark}
@@ -66,7 +66,7 @@ format_ended First = refl
 format_ended Second = refl
 
 -- the marks are these lines
-pub marks_ended : (p : Policy) (marks : List ℕ) → AreMarks p marks → marks ≡ ended (mark_lines p.hook p.shapes.items p.version)
+pub marks_ended : (p : PolicySource) (marks : List ℕ) → AreMarks p marks → marks ≡ ended (mark_lines p.hook p.shapes.items p.version)
 marks_ended p marks are =
     let others : maps_mark p.shapes.items ++ format_mark p.version ≡ ended (maps_lines p.shapes.items ++ format_lines p.version) =
     (λ i. maps_ended p.shapes.items i ++ format_ended p.version i) ∙ sym (flat_map-append (λ l. l ++ 10 ∷ []) (maps_lines p.shapes.items) (format_lines p.version)) in
@@ -180,7 +180,7 @@ AreFew-said shapes [] h = AreFew-none
 AreFew-said shapes (first ∷ rest) h = AreFew-some shapes h
 
 -- the head that the marks say
-abbrev pub said_of : Policy → Head
+abbrev pub said_of : PolicySource → Head
 said_of p = head_of (Some p.hook) (maps_said p.shapes p.shapes.items) (format_said p.version) (AreFew-said p.shapes p.shapes.items p.few)
 
 hook_of_word : (h : Hook) → hook_of (hook_word h) ≡ Some h
@@ -219,7 +219,7 @@ says_others head before (l ∷ others) h s =
     subst (λ ls. SaysHead ls head) (append_assoc before (l ∷ []) others) (says_others head (before ++ l ∷ []) others h.1 (says_no_mark head before l h.0 s))
 
 -- the marks of a policy, and lines that are none
-pub says_policy : (p : Policy) (others : List (List ℕ)) → AreNoMarks others → SaysHead (mark_lines p.hook p.shapes.items p.version ++ others) (said_of p)
+pub says_policy : (p : PolicySource) (others : List (List ℕ)) → AreNoMarks others → SaysHead (mark_lines p.hook p.shapes.items p.version ++ others) (said_of p)
 says_policy p others h =
     says_others (said_of p) (mark_lines p.hook p.shapes.items p.version) others h
     (says_format p.hook (maps_said p.shapes p.shapes.items) p.version (AreFew-said p.shapes p.shapes.items p.few) (hook_line p.hook ∷ maps_lines p.shapes.items)

@@ -1,9 +1,9 @@
 -- The shapes that a text names, one after another.
-use Rattle.std.proofs.Common.{◌≡◌, ℕ, ◌+◌, ◌<◌, ◌≤◌, suc, List, [], ◌∷◌, ◌++◌, length, map, refl, sym, ap, subst, ◌∙◌, Bool, true, false, Some, None, Option, is_some, arith, cond, eqb}
-use Rattle.std.specs.List.{onto_first, slice_split}
+use Rattle.std.proofs.Common.{◌≡◌, ℕ, ◌<◌, List, [], ◌∷◌, ◌++◌, length, map, refl, sym, ap, ◌∙◌, Bool, true, false, Some, None, Option, is_some, arith, cond, eqb}
+use Rattle.std.specs.List.{onto_first}
 use Rattle.std.specs.Borrow.{Bor}
 use Rattle.bq_bpf.specs.declared.shape.MapShape.{MapShape}
-use Rattle.bq_program.specs.ShapesText.{NamesShapes, NamesNoShapes, parts, parts_after, pair_of, numbers_in, numbers_of}
+use Rattle.bq_program.specs.ShapesText.{NamesNoShapes, parts, parts_after, pair_of, numbers_in, numbers_of}
 
 -- a text has a part at least
 some_part : (mark : ℕ) (text : List ℕ) → (first : List ℕ) × (others : List (List ℕ)) × (parts mark text ≡ first ∷ others)
@@ -44,16 +44,6 @@ no_shape_next text rest part done others so_far here none shapes named =
     ap (λ ps. map numbers_of done ++ map numbers_in ps) (sym here) ∙ sym so_far ∙ named.each in
     let next = next_shape done shapes (numbers_in part) (map numbers_in others) all in
     none next.0 next.1
-
--- one more shape
-pub names_more : (text rest part : List ℕ) (done : List MapShape) (s : MapShape) (others : List (List ℕ)) → Names text done rest → parts 44 rest ≡ part ∷ others
-    → numbers_in part ≡ numbers_of s → map numbers_in (parts 44 text) ≡ map numbers_of (done ++ s ∷ []) ++ map numbers_in others
-names_more text rest part done s others so_far here is =
-    so_far ∙ ap (λ ps. map numbers_of done ++ map numbers_in ps) here ∙ ap (λ x. map numbers_of done ++ x ∷ map numbers_in others) is ∙ shifted done
-  where
-    shifted : (d : List MapShape) → map numbers_of d ++ numbers_of s ∷ map numbers_in others ≡ map numbers_of (d ++ s ∷ []) ++ map numbers_in others
-    shifted [] = refl
-    shifted (x ∷ d) = ap (λ t. numbers_of x ∷ t) (shifted d)
 
 -- after eight shapes there is no more
 pub too_many : (text rest : List ℕ) (done : List MapShape) → Names text done rest → length done ≡ 8 → NamesNoShapes text

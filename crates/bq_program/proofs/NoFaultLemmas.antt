@@ -89,5 +89,5 @@ no_bad_line ls head number named s bad = bad_line head bad.head bad.before bad.r
 -- nothing that is asked for differs
 pub nothing_differs : (h : Head) (key : Key) (hook : Option Hook) (maps : Option (List MapShape)) (format : Option Version) → AsksNothing h → DiffersIn key h hook maps format → ⊥
 nothing_differs h key.Hook hook maps format a d = subst (λ x. Differ x hook) a.hook d
-nothing_differs h key.Maps hook maps format a d = subst (λ x. Differ (shapes_in x) maps) a.maps d
-nothing_differs h key.Format hook maps format a d = subst (λ x. Differ x format) a.format d
+nothing_differs h key.Maps hook maps format a d = subst (λ x. Differ (shapes_in x) maps) a.maps d.1
+nothing_differs h key.Format hook maps format a d = subst (λ x. Differ x format) a.format d.2

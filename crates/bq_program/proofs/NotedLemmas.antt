@@ -3,15 +3,14 @@ use Rattle.std.proofs.Common.{◌≡◌, ℕ, zero, suc, ◌+◌, ◌<◌, ◌�
 use Rattle.std.specs.Prelude.{◌&&◌, ◌==◌, not, codes}
 use Rattle.std.specs.List.{list_all}
 use Rattle.std.proofs.lemmas.Bool.{and_parts}
-use Rattle.hex.specs.Hex.{encode_lower}
 use Rattle.bq_insn.specs.declared.Insn.{Insn}
 use Rattle.bq_insn.specs.Slots.{slots_of}
-use Rattle.bq_insn.specs.Spelling.{insn_bytes, is_insn, slot_count}
+use Rattle.bq_insn.specs.Spelling.{is_insn, slot_count}
 use Rattle.bq_insn.specs.Laws.{AllFit, Fits}
 use Rattle.bq_asm.specs.Names.{name_of}
 use Rattle.bq_asm.specs.Text.{listing_text, mnemonic_of, operands_of, operands_text}
 use Rattle.bq_asm.proofs.AssembledLemmas.{slot_count-cons}
-use Rattle.bq_program.specs.Listed.{is_ascii, line_body, noted, noted_line, noted_text}
+use Rattle.bq_program.specs.Listed.{is_ascii, line_body, noted_line, noted_text}
 use Rattle.bq_asm.proofs.DigitLemmas.{list_all-weaker}
 use Rattle.bq_program.proofs.BodyLemmas.{body_inner, is_clean, is_inner}
 

@@ -19,7 +19,7 @@ use Rattle.bq_program.specs.declared.fault.PolicyFault.{PolicyFault}
 use Rattle.bq_program.specs.declared.fault.PolicyFault.TheVariants as fault
 use Rattle.bq_program.specs.declared.head.Head.{Head}
 use Rattle.bq_program.specs.declared.kind.Kind.TheVariants as kind
-use Rattle.bq_program.specs.declared.policy.Policy.{Policy}
+use Rattle.bq_program.specs.declared.policy_source.PolicySource.{PolicySource}
 use Rattle.bq_program.specs.Files.{Agrees, IsFaultOfKind, IsOfKind, IsOfText, IsTextFault, CombineTo, either, kind_of, maps_in}
 use Rattle.bq_program.specs.Heads.{SaysHead}
 use Rattle.bq_program.specs.ReadBack.{AsksNothing, IsFileOf, IsFrom, IsSame}
@@ -56,16 +56,16 @@ assembles_after text other n insns e a =
     }
 
 -- the text of a policy, by its lines
-abbrev pub text_of : Policy → List (List ℕ) → List ℕ
+abbrev pub text_of : PolicySource → List (List ℕ) → List ℕ
 text_of p ls = ended (mark_lines p.hook p.shapes.items p.version ++ ls)
 
-text_lines : (p : Policy) (ls : List (List ℕ)) → AreClean ls → lines (text_of p ls) ≡ mark_lines p.hook p.shapes.items p.version ++ ls
+text_lines : (p : PolicySource) (ls : List (List ℕ)) → AreClean ls → lines (text_of p ls) ≡ mark_lines p.hook p.shapes.items p.version ++ ls
 text_lines p ls h =
     let marks = mark_lines p.hook p.shapes.items p.version in
     lines_ended (marks ++ ls) (clean_append marks ls (marks_clean p.hook p.shapes.items p.version) h)
 
 -- it stands for the policy's program
-assembles_again : (p : Policy) (ls : List (List ℕ)) → AllFit p.insns.items → AreLines p.insns.items ls → Assembles (text_of p ls) p.insns.items
+assembles_again : (p : PolicySource) (ls : List (List ℕ)) → AllFit p.insns.items → AreLines p.insns.items ls → Assembles (text_of p ls) p.insns.items
 assembles_again p ls fit h =
     let marks = mark_lines p.hook p.shapes.items p.version in
     let blank = marks_blank p.hook p.shapes.items p.version in
@@ -74,11 +74,11 @@ assembles_again p ls fit h =
     assembles_after (text_of p ls) (listing_text p.insns.items) blank.0 p.insns.items same (listing_assembles p.insns.items p.whole fit)
 
 -- its marks say the policy's head
-says_again : (p : Policy) (ls : List (List ℕ)) → AreLines p.insns.items ls → SaysHead (lines (text_of p ls)) (said_of p)
+says_again : (p : PolicySource) (ls : List (List ℕ)) → AreLines p.insns.items ls → SaysHead (lines (text_of p ls)) (said_of p)
 says_again p ls h = subst (λ l. SaysHead l (said_of p)) (sym (text_lines p ls h.clean)) (says_policy p ls h.no_marks)
 
 -- what the head settles, where nothing is asked for
-shapes_said : (p : Policy) (items : List MapShape) → p.shapes.items ≡ items → p.shapes.items ≡ unwrap_or (option_map (λ s. s.items) (maps_said p.shapes items)) []
+shapes_said : (p : PolicySource) (items : List MapShape) → p.shapes.items ≡ items → p.shapes.items ≡ unwrap_or (option_map (λ s. s.items) (maps_said p.shapes items)) []
 shapes_said p [] e = e
 shapes_said p (first ∷ rest) e = refl
 
@@ -94,7 +94,7 @@ agrees_nothing h hook maps format a = record {
   formats = rw a.format tt;
 }
 
-combine_to_policy : (p : Policy) (h : Head) → AsksNothing h → CombineTo h (said_of p) p.hook p.shapes.items p.version
+combine_to_policy : (p : PolicySource) (h : Head) → AsksNothing h → CombineTo h (said_of p) p.hook p.shapes.items p.version
 combine_to_policy p h a = record {
   agrees = agrees_nothing h (Some p.hook) (maps_in (said_of p)) (format_said p.version) a;
   hook_is = rw a.hook refl;
@@ -103,11 +103,11 @@ combine_to_policy p h a = record {
 }
 
 -- a text that begins with a mark is no image and no hex
-text_kind : (p : Policy) (ls : List (List ℕ)) → kind_of (text_of p ls) ≡ kind.Text
+text_kind : (p : PolicySource) (ls : List (List ℕ)) → kind_of (text_of p ls) ≡ kind.Text
 text_kind p ls = refl
 
 -- what is read of the text is the policy
-same_read : (p q : Policy) (ls : List (List ℕ)) (h : Head) → AllFit p.insns.items → AreLines p.insns.items ls → AsksNothing h → IsOfText (text_of p ls) h q → IsSame p q
+same_read : (p q : PolicySource) (ls : List (List ℕ)) (h : Head) → AllFit p.insns.items → AreLines p.insns.items ls → AsksNothing h → IsOfText (text_of p ls) h q → IsSame p q
 same_read p q ls h fit are a o =
     let says = says_again p ls are in
     let all = lines (text_of p ls) in
@@ -123,7 +123,7 @@ same_read p q ls h fit are a o =
     }
 
 -- and each policy that is the same, with the text's lines, is read of it
-is_read : (p q : Policy) (ls : List (List ℕ)) (h : Head) → AllFit p.insns.items → AreLines p.insns.items ls → AsksNothing h → IsFrom (text_of p ls) p q → IsOfText (text_of p ls) h q
+is_read : (p q : PolicySource) (ls : List (List ℕ)) (h : Head) → AllFit p.insns.items → AreLines p.insns.items ls → AsksNothing h → IsFrom (text_of p ls) p q → IsOfText (text_of p ls) h q
 is_read p q ls h fit are a f =
     let marks = mark_lines p.hook p.shapes.items p.version in
     let first : CombineTo h (said_of p) q.hook p.shapes.items p.version = subst (λ x. CombineTo h (said_of p) x p.shapes.items p.version) (sym f.same.hook) (combine_to_policy p h a) in
@@ -138,23 +138,23 @@ is_read p q ls h fit are a f =
     }
 
 -- it has none of the faults of a text
-no_text_fault : (p : Policy) (ls : List (List ℕ)) (h : Head) (named : PolicyFault) → AllFit p.insns.items → AreLines p.insns.items ls → AsksNothing h → IsTextFault (text_of p ls) h named → named ≡ fault.OutOfMemory
+no_text_fault : (p : PolicySource) (ls : List (List ℕ)) (h : Head) (named : PolicyFault) → AllFit p.insns.items → AreLines p.insns.items ls → AsksNothing h → IsTextFault (text_of p ls) h named → named ≡ fault.OutOfMemory
 no_text_fault p ls h fault.OutOfMemory fit are a f = refl
 no_text_fault p ls h fault.Text fit are a f =
     absurd (f (text_ended (mark_lines p.hook p.shapes.items p.version ++ ls) (clean_append (mark_lines p.hook p.shapes.items p.version) ls (marks_clean p.hook p.shapes.items p.version) are.clean)))
-no_text_fault p ls h (fault.Head line cause) fit are a f = absurd (no_bad_line (lines (text_of p ls)) (said_of p) line cause (says_again p ls are) f)
-no_text_fault p ls h (fault.Assembly line cause) fit are a f = absurd (no_program_is_faulty (text_of p ls) p.insns.items line cause (assembles_again p ls fit are) f)
+no_text_fault p ls h (fault.Head line cause) fit are a f = absurd (no_bad_line (lines (text_of p ls)) (said_of p) line cause (says_again p ls are) f.1)
+no_text_fault p ls h (fault.Assembly line cause) fit are a f = absurd (no_program_is_faulty (text_of p ls) p.insns.items line cause (assembles_again p ls fit are) f.2)
 no_text_fault p ls h (fault.Disagrees key) fit are a f = absurd (nothing_differs h key f.0.hook (maps_in f.0) f.0.format a f.2)
 no_text_fault p ls h fault.NoHook fit are a f =
-    let same : f.0.hook ≡ Some p.hook = one_hook (lines (text_of p ls)) f.0 (said_of p) f.1 (says_again p ls are) in
-    let none : f.0.hook ≡ None = f.3 in
+    let same : f.0.hook ≡ Some p.hook = one_hook (lines (text_of p ls)) f.0 (said_of p) f.1.head.says (says_again p ls are) in
+    let none : f.0.hook ≡ None = f.2.2 in
     absurd cc
 no_text_fault p ls h fault.Hex fit are a f = absurd f
 no_text_fault p ls h (fault.Image named) fit are a f = absurd f
 no_text_fault p ls h (fault.Program slot cause) fit are a f = absurd f
 
 -- so it is the policy's file
-pub file_of : (p : Policy) (ls : List (List ℕ)) → AllFit p.insns.items → AreLines p.insns.items ls → IsFileOf p (text_of p ls)
+pub file_of : (p : PolicySource) (ls : List (List ℕ)) → AllFit p.insns.items → AreLines p.insns.items ls → IsFileOf p (text_of p ls)
 file_of p ls fit are =
     let text = text_of p ls in
     record {

@@ -1,13 +1,12 @@
 -- Why what was asked for and what a file says give no policy.
-use Rattle.std.specs.Prelude.{◌≡◌, None}
 use Rattle.bq_program.specs.declared.fault.PolicyFault.{PolicyFault}
 use Rattle.bq_program.specs.declared.fault.PolicyFault.TheVariants as fault
 use Rattle.bq_program.specs.declared.head.Head.{Head}
-use Rattle.bq_program.specs.Files.{DiffersIn, maps_in}
+use Rattle.bq_program.specs.Files.{DiffersIn, NamesNoHook, maps_in}
 
--- they differ, or neither names the hook; want of memory says nothing of them
+-- they differ, or else neither names the hook; want of memory says nothing of them
 abbrev pub IsUncombinable : Head → Head → PolicyFault → Type 0
 IsUncombinable given said (fault.Disagrees key) = DiffersIn key given said.hook (maps_in said) said.format
-IsUncombinable given said fault.NoHook = (given.hook ≡ None) × (said.hook ≡ None)
+IsUncombinable given said fault.NoHook = NamesNoHook given said
 IsUncombinable given said fault.OutOfMemory = Unit {0}
 IsUncombinable given said other = ⊥

@@ -1,10 +1,11 @@
 -- What a policy's file is, and why a file is none.
-use Rattle.std.specs.Prelude.{◌≡◌, ◌≢◌, ℕ, ◌+◌, ◌&&◌, nat_le, List, [], ◌∷◌, ◌++◌, Option, Some, None, option_map, unwrap_or, if◌then◌else◌, nat_eq}
+use Rattle.std.specs.Prelude.{◌≡◌, ◌≢◌, ℕ, ◌+◌, ◌&&◌, nat_le, List, [], ◌∷◌, Option, Some, None, option_map, unwrap_or, if◌then◌else◌, nat_eq}
 use Rattle.std.specs.List.{starts_with}
 use Rattle.std.proofs.Common.{Global}
 use Rattle.std.specs.declared.vec.Vec.{Vec}
 use Rattle.std.specs.Str.{IsUtf8}
 use Rattle.std.specs.Str.Lines.{lines}
+use Rattle.bq_insn.specs.declared.Insn.{Insn}
 use Rattle.bq_insn.specs.declared.fault.DecodeFault.TheVariants as decode
 use Rattle.bq_insn.specs.Faults.{IsFault as IsProgramFault}
 use Rattle.bq_insn.specs.Spelling.{spelling}
@@ -15,7 +16,8 @@ use Rattle.bq_bpf.specs.declared.hook.Version.TheVariants.{First}
 use Rattle.bq_asm.specs.Assembly.{Assembles}
 use Rattle.bq_asm.specs.Faults.{Faulty}
 use Rattle.bq_asm.specs.Lines.{is_instruction, line_said, lines_of}
-use Rattle.bq_load.specs.Answers.{IsUnread}
+use Rattle.bq_load.specs.Answers.{HasProgram}
+use Rattle.bq_load.specs.Faults.{IsFault as HasFault}
 use Rattle.bq_load.specs.Layout.{IsImage, magic}
 use Rattle.bq_program.specs.HexText.{IsNoHex, SpellsBytes, is_blank}
 use Rattle.bq_program.specs.declared.fault.PolicyFault.{PolicyFault}
@@ -25,7 +27,7 @@ use Rattle.bq_program.specs.declared.kind.Kind.{Kind}
 use Rattle.bq_program.specs.declared.kind.Kind.TheVariants as kind
 use Rattle.bq_program.specs.declared.mark.Key.{Key}
 use Rattle.bq_program.specs.declared.mark.Key.TheVariants as key
-use Rattle.bq_program.specs.declared.policy.Policy.{Policy}
+use Rattle.bq_program.specs.declared.policy_source.PolicySource.{PolicySource}
 use Rattle.bq_program.specs.Heads.{IsBadAt, SaysHead}
 
 -- the first byte that is no blank
@@ -69,11 +71,15 @@ pub record Agrees (given : Head) (hook : Option Hook) (maps : Option (List MapSh
   pub shapes : Agree (maps_in given) maps
   pub formats : Agree given.format format
 
--- it differs from what the file says, in this
+-- it differs from what the file says: of the hook, the maps and the format this is the first
 abbrev pub DiffersIn : Key → Head → Option Hook → Option (List MapShape) → Option Version → Type 0
 DiffersIn key.Hook given hook maps format = Differ given.hook hook
-DiffersIn key.Maps given hook maps format = Differ (maps_in given) maps
-DiffersIn key.Format given hook maps format = Differ given.format format
+DiffersIn key.Maps given hook maps format = Agree given.hook hook × Differ (maps_in given) maps
+DiffersIn key.Format given hook maps format = Agree given.hook hook × Agree (maps_in given) maps × Differ given.format format
+
+-- nothing differs, and neither names the hook
+abbrev pub NamesNoHook : Head → Head → Type 0
+NamesNoHook given said = Agrees given said.hook (maps_in said) said.format × (given.hook ≡ None) × (said.hook ≡ None)
 
 -- together they name this hook, these maps and this version; without a word of them there are no maps, and the version is 1
 pub record CombineTo (given said : Head) (hook : Hook) (shapes : List MapShape) (version : Version) : Type 0 where
@@ -89,13 +95,13 @@ instruction_lines number (line ∷ rest) =
     if is_instruction (line_said line) then number ∷ instruction_lines (number + 1) rest else instruction_lines (number + 1) rest
 
 -- an image, and what was asked for agrees with it
-pub record IsOfImage (bytes : List ℕ) (given : Head) (p : Policy) : Type 0 where
+pub record IsOfImage (bytes : List ℕ) (given : Head) (p : PolicySource) : Type 0 where
   pub image : IsImage bytes p.version p.hook p.shapes.items (spelling p.insns.items)
   pub agrees : Agrees given (Some p.hook) (Some p.shapes.items) (Some p.version)
   pub lines : p.lines.items ≡ []
 
 -- a text: the program that it stands for, and what its marks and what was asked for say together
-pub record IsOfText (bytes : List ℕ) (given : Head) (p : Policy) : Type 0 where
+pub record IsOfText (bytes : List ℕ) (given : Head) (p : PolicySource) : Type 0 where
   pub text : IsUtf8 bytes
   pub said : Head
   pub head : SaysHead (lines bytes) said
@@ -103,33 +109,43 @@ pub record IsOfText (bytes : List ℕ) (given : Head) (p : Policy) : Type 0 wher
   pub assembles : Assembles bytes p.insns.items
   pub lines : p.lines.items ≡ instruction_lines 1 (lines bytes)
 
-abbrev pub IsOfKind : Kind → List ℕ → Head → Policy → Type 0
+abbrev pub IsOfKind : Kind → List ℕ → Head → PolicySource → Type 0
 IsOfKind kind.Image bytes given p = IsOfImage bytes given p
 IsOfKind kind.Hex bytes given p = (image : List ℕ) × SpellsBytes bytes image × IsOfImage image given p
 IsOfKind kind.Text bytes given p = IsOfText bytes given p
 
 -- the file is this policy
-abbrev pub IsPolicy : List ℕ → Head → Policy → Type 0
+abbrev pub IsPolicy : List ℕ → Head → PolicySource → Type 0
 IsPolicy bytes given p = IsOfKind (kind_of bytes) bytes given p
 
--- what is wrong with an image; want of memory says nothing of it
+-- what is wrong with an image: the first fault of its bytes, or of its program, or what differs; want of memory says nothing of it
 abbrev pub IsImageFault : List ℕ → Head → PolicyFault → Type 0
-IsImageFault bytes given (fault.Image named) = IsUnread bytes named
+IsImageFault bytes given (fault.Image named) = HasFault bytes named
 IsImageFault bytes given (fault.Program slot cause) =
     (version : Version) × (hook : Hook) × (shapes : List MapShape) × (program : List ℕ) × IsImage bytes version hook shapes program × IsProgramFault program (decode.At slot cause)
 IsImageFault bytes given (fault.Disagrees key) =
-    (version : Version) × (hook : Hook) × (shapes : List MapShape) × (program : List ℕ) × IsImage bytes version hook shapes program
-    × DiffersIn key given (Some hook) (Some shapes) (Some version)
+    (insns : List Insn) × (said : HasProgram bytes insns) × DiffersIn key given (Some said.hook) (Some said.shapes) (Some said.version)
 IsImageFault bytes given fault.OutOfMemory = Unit {0}
 IsImageFault bytes given other = ⊥
 
--- what is wrong with a text
+-- the bytes are a text, whose marks say this head
+pub record HasHead (bytes : List ℕ) (said : Head) : Type 0 where
+  pub text : IsUtf8 bytes
+  pub says : SaysHead (lines bytes) said
+
+-- and which stands for a program
+pub record IsWhole (bytes : List ℕ) (said : Head) : Type 0 where
+  pub head : HasHead bytes said
+  pub insns : List Insn
+  pub assembles : Assembles bytes insns
+
+-- what is wrong with a text: it is none, else its first bad mark, else the fault of its program, else what differs or is not named
 abbrev pub IsTextFault : List ℕ → Head → PolicyFault → Type 0
 IsTextFault bytes given fault.Text = ¬ (IsUtf8 bytes)
-IsTextFault bytes given (fault.Head line cause) = IsBadAt (lines bytes) line cause
-IsTextFault bytes given (fault.Assembly line cause) = Faulty (lines_of bytes) line cause
-IsTextFault bytes given (fault.Disagrees key) = (said : Head) × SaysHead (lines bytes) said × DiffersIn key given said.hook (maps_in said) said.format
-IsTextFault bytes given fault.NoHook = (said : Head) × SaysHead (lines bytes) said × (given.hook ≡ None) × (said.hook ≡ None)
+IsTextFault bytes given (fault.Head line cause) = IsUtf8 bytes × IsBadAt (lines bytes) line cause
+IsTextFault bytes given (fault.Assembly line cause) = (said : Head) × HasHead bytes said × Faulty (lines_of bytes) line cause
+IsTextFault bytes given (fault.Disagrees key) = (said : Head) × IsWhole bytes said × DiffersIn key given said.hook (maps_in said) said.format
+IsTextFault bytes given fault.NoHook = (said : Head) × IsWhole bytes said × NamesNoHook given said
 IsTextFault bytes given fault.OutOfMemory = Unit {0}
 IsTextFault bytes given other = ⊥
 

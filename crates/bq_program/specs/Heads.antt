@@ -1,5 +1,5 @@
 -- What the lines of a text say of its program in marks, and what is wrong with them.
-use Rattle.std.specs.Prelude.{◌≡◌, ℕ, ◌+◌, Bool, true, false, List, [], ◌∷◌, ◌++◌, length, Option, Some, None, IsSome}
+use Rattle.std.specs.Prelude.{◌≡◌, ℕ, ◌+◌, true, false, List, [], ◌∷◌, ◌++◌, length, Option, Some, None, IsSome}
 use Rattle.std.specs.List.{list_all}
 use Rattle.std.proofs.Common.{Global}
 use Rattle.std.specs.declared.vec.Vec.{Vec}
@@ -51,10 +51,10 @@ HasKey h key.Hook = IsSome h.hook
 HasKey h key.Maps = IsSome h.maps
 HasKey h key.Format = IsSome h.format
 
--- what is wrong with a line after those of the head
+-- what is wrong with a line after those of the head; of a key that the head has, the value is not asked
 abbrev pub IsBadLine : Head → List ℕ → HeadCause → Type 0
 IsBadLine h line cause.Unknown = are_known (mark_words line) ≡ false
-IsBadLine h line (cause.Value key) = (word : List ℕ) × (mark_words line ≡ Some (key_word key ∷ word ∷ [])) × IsNoValue key word
+IsBadLine h line (cause.Value key) = (word : List ℕ) × (mark_words line ≡ Some (key_word key ∷ word ∷ [])) × IsNoValue key word × (HasKey h key → ⊥)
 IsBadLine h line (cause.Twice key) = (word : List ℕ) × (mark_words line ≡ Some (key_word key ∷ word ∷ [])) × HasKey h key
 
 -- the lines before that number say a head, and that line has this cause

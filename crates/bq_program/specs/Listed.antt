@@ -7,7 +7,7 @@ use Rattle.bq_insn.specs.Slots.{slots_of}
 use Rattle.bq_insn.specs.Spelling.{insn_bytes}
 use Rattle.bq_asm.specs.Names.{name_of}
 use Rattle.bq_asm.specs.Text.{listing_text, mnemonic_of, operands_of, operands_text}
-use Rattle.bq_program.specs.declared.policy.Policy.{Policy}
+use Rattle.bq_program.specs.declared.policy_source.PolicySource.{PolicySource}
 use Rattle.bq_program.specs.MarkLines.{AreMarks}
 
 -- the canonical text of an instruction, without its line's end
@@ -41,7 +41,7 @@ program_text false insns = listing_text insns
 program_text true insns = noted_text 0 insns
 
 -- the marks and then the listing
-pub record IsListed (p : Policy) (has_slots : Bool) (text : List ℕ) : Type 0 where
+pub record IsListed (p : PolicySource) (has_slots : Bool) (text : List ℕ) : Type 0 where
   pub marks : List ℕ
   pub are_marks : AreMarks p marks
   pub text_is : text ≡ marks ++ program_text has_slots p.insns.items

@@ -6,7 +6,7 @@ use Rattle.bq_bpf.specs.Hooks.{hook_word}
 use Rattle.bq_bpf.specs.declared.hook.Hook.{Hook}
 use Rattle.bq_bpf.specs.declared.hook.Version.{Version}
 use Rattle.bq_bpf.specs.declared.hook.Version.TheVariants.{First, Second}
-use Rattle.bq_program.specs.declared.policy.Policy.{Policy}
+use Rattle.bq_program.specs.declared.policy_source.PolicySource.{PolicySource}
 
 -- the size of a value and the number of entries
 abbrev pub shape_text : MapShape → List ℕ
@@ -31,5 +31,5 @@ abbrev pub marks_text : Hook → List ℕ → Version → List ℕ
 marks_text hook maps version = codes ";@ hook " ++ (hook_word hook ++ (codes "\n" ++ (maps ++ format_mark version)))
 
 -- the lines that say what a policy is: its hook, its maps if there are some, and its version if it is not the first
-abbrev pub AreMarks : Policy → List ℕ → Type 0
+abbrev pub AreMarks : PolicySource → List ℕ → Type 0
 AreMarks p text = text ≡ marks_text p.hook (maps_mark p.shapes.items) p.version

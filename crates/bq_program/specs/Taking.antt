@@ -1,5 +1,5 @@
 -- What one more line does to a head.
-use Rattle.std.specs.Prelude.{◌≡◌, ℕ, List, Option, Some, None}
+use Rattle.std.specs.Prelude.{◌≡◌, ℕ, List, Some, None}
 use Rattle.std.proofs.Common.{Global}
 use Rattle.std.specs.declared.vec.Vec.{Vec}
 use Rattle.bq_bpf.specs.declared.shape.MapShape.{MapShape}
@@ -24,7 +24,7 @@ TakesValue old new key.Format word = (value : Version) × (old.format ≡ None) 
 -- why the value of the key is not taken
 abbrev pub IsBadValue : Head → Key → List ℕ → HeadCause → Type 0
 IsBadValue h key word cause.Unknown = ⊥
-IsBadValue h key word (cause.Value named) = (named ≡ key) × IsNoValue key word
+IsBadValue h key word (cause.Value named) = (named ≡ key) × IsNoValue key word × (HasKey h key → ⊥)
 IsBadValue h key word (cause.Twice named) = (named ≡ key) × HasKey h key
 
 abbrev pub IsRefusedValue : Head → ℕ → Key → List ℕ → HeadFault → Type 0

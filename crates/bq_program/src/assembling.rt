@@ -1,5 +1,5 @@
 //! From an assembler text to the hex of its program, or of an image with it.
-ghost use Rattle.std.specs.Prelude.{◌≡◌, IfOk};
+ghost use Rattle.std.specs.Prelude.{IfOk};
 ghost use Rattle.std.specs.String.{string_bytes};
 ghost use Rattle.bq_program.specs.Asm.{AsmWrites};
 

@@ -25,14 +25,35 @@ impl ImageForm {
         requires { is_length program.items ≡ true }
         ensures { IfOk result (λ bytes. IsImage bytes.items self.now.version self.now.hook self.now.shapes.items program.items) }
     {
-        let image = Image {
-            version: self.version,
-            hook: self.hook,
-            shapes: Vec::from_slice(alloc, self.shapes.as_slice())?,
+        image_bytes(
+            alloc,
+            self.version,
+            self.hook,
+            self.shapes.as_slice(),
             program,
-        };
-        let mut bytes = Vec::new(alloc);
-        write_image(&image, &mut bytes)?;
-        Ok(bytes)
+        )
     }
+}
+
+/// The bytes of the image with that program of 1 to 4096 whole slots, and maps of those shapes.
+pub(crate) fn image_bytes(
+    alloc: Global,
+    version: Version,
+    hook: Hook,
+    shapes: &[MapShape],
+    program: Vec<u8>,
+) -> Result<Vec<u8>, AllocError>
+    requires whole { is_length program.items ≡ true }
+    requires few { length shapes.now ≤ 8 }
+    ensures { IfOk result (λ bytes. IsImage bytes.items version hook shapes.now program.items) }
+{
+    let image = Image {
+        version,
+        hook,
+        shapes: Vec::from_slice(alloc, shapes)?,
+        program,
+    };
+    let mut bytes = Vec::new(alloc);
+    write_image(&image, &mut bytes)?;
+    Ok(bytes)
 }

@@ -1,5 +1,5 @@
 //! From hex to the listing of a program.
-ghost use Rattle.std.specs.Prelude.{◌≡◌, IfOk};
+ghost use Rattle.std.specs.Prelude.{IfOk};
 ghost use Rattle.std.specs.String.{string_bytes};
 ghost use Rattle.bq_program.specs.Dis.{DisWrites};
 

@@ -6,7 +6,7 @@ ghost use Rattle.bq_insn.specs.Laws.{AllFit, Fits};
 ghost use Rattle.bq_program.specs.ReadBack.{IsFileOf};
 ghost use Rattle.bq_program.specs.Listed.{IsListed, line_body, noted_line, noted_text, program_text};
 
-use crate::Policy;
+use crate::PolicySource;
 use crate::policy_marks::marks;
 use bq_asm::listing;
 use bq_insn::Insn;
@@ -15,7 +15,11 @@ use std::alloc::{AllocError, Global};
 
 /// The marks of a policy and its instructions, each with its slot and its bytes beside it where that is asked for. What is
 /// read of that text is the policy again.
-pub fn policy_text(alloc: Global, policy: &Policy, has_slots: bool) -> Result<String, AllocError>
+pub fn policy_text(
+    alloc: Global,
+    policy: &PolicySource,
+    has_slots: bool,
+) -> Result<String, AllocError>
     requires { AllFit policy.now.insns.items }
     ensures listed { IfOk result (λ text. IsListed policy.now has_slots (string_bytes text)) }
     ensures file { IfOk result (λ text. IsFileOf policy.now (string_bytes text)) }
@@ -24,7 +28,7 @@ pub fn policy_text(alloc: Global, policy: &Policy, has_slots: bool) -> Result<St
 }
 
 /// The marks and the listing.
-fn marked(alloc: Global, policy: &Policy, has_slots: bool) -> Result<String, AllocError>
+fn marked(alloc: Global, policy: &PolicySource, has_slots: bool) -> Result<String, AllocError>
     requires { AllFit policy.now.insns.items }
     ensures { IfOk result (λ text. IsListed policy.now has_slots (string_bytes text)) }
 {
@@ -68,7 +72,7 @@ fn noted_line(alloc: Global, slot: usize, insn: Insn) -> Result<String, AllocErr
     requires numbers { Fits insn }
     ensures { IfOk result (λ text. string_bytes text ≡ noted_line slot insn) }
 {
-    let said = line_of(alloc, insn)?;
+    let said = instruction_text(alloc, insn)?;
     let spelled = bytes_text(alloc, insn)?;
     format!(in alloc; "{said:<32}; {slot:>4}  {spelled}\n")
 }
@@ -84,7 +88,7 @@ fn bytes_text(alloc: Global, insn: Insn) -> Result<String, AllocError>
 }
 
 /// The canonical text of one instruction, without a line's end.
-fn line_of(alloc: Global, insn: Insn) -> Result<String, AllocError>
+pub fn instruction_text(alloc: Global, insn: Insn) -> Result<String, AllocError>
     ensures { IfOk result (λ text. string_bytes text ≡ line_body insn) }
 {
     let text = listing(alloc, &[insn])?;

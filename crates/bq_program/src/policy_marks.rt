@@ -2,13 +2,13 @@
 ghost use Rattle.std.specs.Prelude.{◌≡◌, IfOk, string_bytes};
 ghost use Rattle.bq_program.specs.MarkLines.{AreMarks, format_mark, maps_mark, marks_text, more_maps};
 
-use crate::Policy;
+use crate::PolicySource;
 use bq_bpf::MapShape;
 use bq_load::{Hook, Version};
 use std::alloc::{AllocError, Global};
 
 /// The lines that say the hook of a policy, its maps if it has some, and its version if that is not the first.
-pub fn marks(alloc: Global, policy: &Policy) -> Result<String, AllocError>
+pub fn marks(alloc: Global, policy: &PolicySource) -> Result<String, AllocError>
     ensures { IfOk result (λ text. AreMarks policy.now (string_bytes text)) }
 {
     let maps = maps_mark(alloc, policy.shapes.as_slice())?;

@@ -10,7 +10,7 @@ use crate::combined::{combine, difference};
 use crate::fault::{HeadFault, PolicyFault};
 use crate::head::Head;
 use crate::kind::{Kind, kind_of};
-use crate::policy::Policy;
+use crate::policy_source::PolicySource;
 use bq_asm::{assemble, says_instruction};
 use bq_insn::decode::decode;
 use bq_load::{Image, read_image};
@@ -18,7 +18,7 @@ use std::alloc::{AllocError, Global};
 
 /// The policy that a file holds, as an image, as the hex of one, or as an assembler text whose marks say what it is. What is
 /// given beside it must agree with it, and says of a text what its marks leave out.
-pub fn read_policy(alloc: Global, bytes: &[u8], given: &Head) -> Result<Policy, PolicyFault>
+pub fn read_policy(alloc: Global, bytes: &[u8], given: &Head) -> Result<PolicySource, PolicyFault>
     ensures policy { IfOk result (IsPolicy bytes.now given.now) }
     ensures numbers { IfOk result (λ p. AllFit p.insns.items) }
     ensures fault { IfErr result (IsPolicyFault bytes.now given.now) }
@@ -34,7 +34,7 @@ pub fn read_policy(alloc: Global, bytes: &[u8], given: &Head) -> Result<Policy, 
 }
 
 /// The policy of an image.
-fn from_image(alloc: Global, bytes: &[u8], given: &Head) -> Result<Policy, PolicyFault>
+fn from_image(alloc: Global, bytes: &[u8], given: &Head) -> Result<PolicySource, PolicyFault>
     ensures policy { IfOk result (IsOfImage bytes.now given.now) }
     ensures numbers { IfOk result (λ p. AllFit p.insns.items) }
     ensures fault { IfErr result (IsImageFault bytes.now given.now) }
@@ -50,7 +50,7 @@ fn from_image(alloc: Global, bytes: &[u8], given: &Head) -> Result<Policy, Polic
     if let Some(key) = difference(given, Some(hook), &maps, Some(version)) {
         return Err(PolicyFault::Disagrees(key));
     }
-    Ok(Policy {
+    Ok(PolicySource {
         hook,
         version,
         shapes: maps.unwrap(),
@@ -60,7 +60,7 @@ fn from_image(alloc: Global, bytes: &[u8], given: &Head) -> Result<Policy, Polic
 }
 
 /// The policy of an assembler text.
-fn from_text(alloc: Global, bytes: &[u8], given: &Head) -> Result<Policy, PolicyFault>
+fn from_text(alloc: Global, bytes: &[u8], given: &Head) -> Result<PolicySource, PolicyFault>
     ensures policy { IfOk result (IsOfText bytes.now given.now) }
     ensures numbers { IfOk result (λ p. AllFit p.insns.items) }
     ensures fault { IfErr result (IsTextFault bytes.now given.now) }
@@ -72,7 +72,7 @@ fn from_text(alloc: Global, bytes: &[u8], given: &Head) -> Result<Policy, Policy
 }
 
 /// The same, of bytes that are text.
-fn from_str(alloc: Global, text: &str, given: &Head) -> Result<Policy, PolicyFault>
+fn from_str(alloc: Global, text: &str, given: &Head) -> Result<PolicySource, PolicyFault>
     ensures policy { IfOk result (IsOfText text.now given.now) }
     ensures numbers { IfOk result (λ p. AllFit p.insns.items) }
     ensures fault { IfErr result (IsTextFault text.now given.now) }
@@ -81,7 +81,7 @@ fn from_str(alloc: Global, text: &str, given: &Head) -> Result<Policy, PolicyFau
     let insns = assemble(alloc, text)?;
     let lines = lines_of(alloc, text)?;
     match combine(alloc, given, &said) {
-        Ok(combined) => Ok(Policy {
+        Ok(combined) => Ok(PolicySource {
             hook: combined.hook,
             version: combined.version,
             shapes: combined.shapes,

@@ -4,10 +4,8 @@ ghost use Rattle.bq_bpf.specs.declared.shape.MapShape.{MapShape as Shape};
 ghost use Rattle.bq_program.specs.ShapesText.{IsPartLen, NamesNoShapes, NamesShapes, number_of, numbers_in, numbers_of, parts, parts_after};
 
 use bq_bpf::MapShape;
+use bq_bpf::shape::MAPS;
 use std::alloc::{AllocError, Global};
-
-/// The most maps of a program.
-const MAPS: usize = 8;
 
 /// The shapes that the text names, as `8:2,16:4` does: the size of a value and the number of entries. None where it
 /// names more than 8, or one that is not within its limits, or is of another form.

@@ -13,7 +13,7 @@ use std::alloc::{AllocError, Global};
 /// The command, as its help page tells it.
 static IMPORT: CommandText<'static> = CommandText {
     name: "import",
-    about: "Reads the text section of a compiled program, as bytes or as hex, and writes it as an assembler text",
+    about: texts::IMPORT,
     options: &[&[
         OptionText {
             name: "file",

@@ -26,6 +26,11 @@ pub fn do_import(rt: &HostRuntime, words: &ImportWords) -> ExitCode {
         Err(refusal) => {
             let name = name_of(&words.file);
             let _ = eprintln!(rt; "{name}: {refusal}");
+            if bytes.starts_with(b"\x7fELF") {
+                let _ = eprintln!(rt;
+                    "bqsim: that is an object file, of which import reads the text section alone: llvm-objcopy -O binary --only-section=.text"
+                );
+            }
             ExitCode::from(BAD_INPUT)
         }
     }

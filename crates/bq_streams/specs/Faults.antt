@@ -1,19 +1,26 @@
 -- When each fault may be answered.
-use Rattle.std.specs.Prelude.{◌^◌, ℕ}
+use Rattle.std.specs.Prelude.{◌≡◌, ◌^◌, ℕ}
 use Rattle.bq_streams.specs.Counts.{HasRisen, HasCounted}
 use Rattle.bq_streams.specs.declared.fault.StreamFault.{StreamFault}
 use Rattle.bq_streams.specs.declared.fault.StreamFault.TheVariants.{Read, Write, TooLong, OutOfMemory}
 
--- A writer's fault comes only where its failures have risen from old to new. There is no reader.
+-- Of a writer alone: its own fault comes only where its failures have risen from old to new, and want of memory only where they have not.
 abbrev pub IsWriteFault : StreamFault → ℕ → ℕ → Type 0
 IsWriteFault Write old new = HasRisen old new
-IsWriteFault OutOfMemory old new = Unit {0}
+IsWriteFault OutOfMemory old new = new ≡ old
 IsWriteFault Read old new = ⊥
 IsWriteFault TooLong old new = ⊥
 
--- A read's fault comes only where the reader failed, a write's only where the writer did, and the length's only after 2^32 reads.
+-- Of a reader alone, and how often it was called: the length's comes only after 2^32 reads, of which none has failed.
+abbrev pub IsReadFault : StreamFault → ℕ → ℕ → ℕ → ℕ → Type 0
+IsReadFault Read old new calls after = HasRisen old new
+IsReadFault TooLong old new calls after = HasCounted (2 ^ 32) calls after × (new ≡ old)
+IsReadFault OutOfMemory old new calls after = new ≡ old
+IsReadFault Write old new calls after = ⊥
+
+-- Of a reader and a writer: each fault comes only for its cause, and no other failure came.
 abbrev pub IsFault : StreamFault → ℕ → ℕ → ℕ → ℕ → ℕ → ℕ → Type 0
-IsFault Read old_reads new_reads old_writes new_writes calls after = HasRisen old_reads new_reads
-IsFault Write old_reads new_reads old_writes new_writes calls after = HasRisen old_writes new_writes
-IsFault TooLong old_reads new_reads old_writes new_writes calls after = HasCounted (2 ^ 32) calls after
-IsFault OutOfMemory old_reads new_reads old_writes new_writes calls after = Unit {0}
+IsFault Read old_reads new_reads old_writes new_writes calls after = HasRisen old_reads new_reads × (new_writes ≡ old_writes)
+IsFault Write old_reads new_reads old_writes new_writes calls after = HasRisen old_writes new_writes × (new_reads ≡ old_reads)
+IsFault TooLong old_reads new_reads old_writes new_writes calls after = HasCounted (2 ^ 32) calls after × (new_reads ≡ old_reads) × (new_writes ≡ old_writes)
+IsFault OutOfMemory old_reads new_reads old_writes new_writes calls after = (new_reads ≡ old_reads) × (new_writes ≡ old_writes)

@@ -1,7 +1,7 @@
 //! Readers and writers whose calls and failures are counted.
 ghost use Rattle.std.specs.Prelude.{◌≡◌, ◌<◌, ◌≤◌, length, take, IfOk, IfErr, OnOk, OnErr, is_ok, if◌then◌else◌};
 ghost use Rattle.std.specs.Io.KnownBytes.{Appends, Keeps, ReadConsumes};
-ghost use Rattle.bq_streams.specs.Counts.{inner_of, calls_of, failures_of, one_more, HasRisen};
+ghost use Rattle.bq_streams.specs.Counts.{inner_of, calls_of, failures_of, one_more, HasCounted, HasRisen};
 ghost use Rattle.bq_streams.specs.Writing.{AppendsPart};
 
 use crate::fault::StreamFault;
@@ -89,6 +89,7 @@ impl<W: Write> Counted<W> {
         ensures kept { OnOk result (failures_of self.new ≡ failures_of self.old) }
         ensures part { OnErr result (AppendsPart (W.contents (inner_of self.old)) (W.contents (inner_of self.new)) text.now) }
         ensures risen { OnErr result (HasRisen (failures_of self.old) (failures_of self.new)) }
+        ensures calls { HasCounted 0 (calls_of self.old) (calls_of self.new) }
         ensures fault { IfErr result (λ e. e ≡ StreamFault.Write) }
     {
         let mut rest = text;

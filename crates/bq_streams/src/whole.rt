@@ -1,7 +1,7 @@
 //! The whole of an input that is read before it is answered.
-ghost use Rattle.std.specs.Prelude.{◌≡◌, ℕ, IfOk, IfErr, OnOk, OnErr};
+ghost use Rattle.std.specs.Prelude.{◌≡◌, IfOk, IfErr, OnOk, OnErr};
 ghost use Rattle.bq_streams.specs.Counts.{inner_of, calls_of, failures_of};
-ghost use Rattle.bq_streams.specs.Faults.{IsFault};
+ghost use Rattle.bq_streams.specs.Faults.{IsReadFault};
 ghost use Rattle.bq_streams.specs.Reading.{GivesAll, GivesSome};
 
 use crate::counted::Counted;
@@ -20,7 +20,7 @@ pub fn read_whole<R: Read>(alloc: Global, input: &mut Counted<R>) -> Result<Vec<
     ensures all { IfOk result (λ whole. GivesAll (R.remaining (inner_of input.old)) (R.remaining (inner_of input.new)) whole.items) }
     ensures kept { OnOk result (failures_of input.new ≡ failures_of input.old) }
     ensures part { OnErr result (GivesSome (R.remaining (inner_of input.old)) (R.remaining (inner_of input.new))) }
-    ensures fault { IfErr result (λ e. (writes written : ℕ) → IsFault e (failures_of input.old) (failures_of input.new) writes written (calls_of input.old) (calls_of input.new)) }
+    ensures fault { IfErr result (λ e. IsReadFault e (failures_of input.old) (failures_of input.new) (calls_of input.old) (calls_of input.new)) }
 {
     let mut whole = Vec::new(alloc);
     let mut piece = [0u8; PIECE];

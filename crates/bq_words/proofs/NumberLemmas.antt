@@ -18,10 +18,6 @@ number_from base n word =
 pub number_from-digit : (base n c : ℕ) (word : List ℕ) → digit_value c < base → number_from base n (c ∷ word) ≡ number_from base (n * base + digit_value c) word
 number_from-digit base n c word h = let e : ltb (digit_value c) base ≡ true = grind (arith, nat_tests) in rw e refl
 
--- a byte that is no digit leaves no number
-pub number_from-other : (base n c : ℕ) (word : List ℕ) → base ≤ digit_value c → number_from base n (c ∷ word) ≡ None
-number_from-other base n c word h = let e : ltb (digit_value c) base ≡ false = grind (arith, nat_tests) in rw e refl
-
 -- more digits make no less
 grows : (base n : ℕ) (word : List ℕ) → 1 ≤ base → n ≤ digits_value_after base n word
 grows base n [] h = omega arith
@@ -53,11 +49,6 @@ pub number_step : (base value i : ℕ) (word : List ℕ) → i < length word →
     → number_from base value (drop i word) ≡ number_from base (value * base + digit_value (get_or word i 0)) (drop (i + 1) word)
 number_step base value i word h digit =
     ap (number_from base value) (at_drop i word h) ∙ number_from-digit base value (get_or word i 0) (drop (i + 1) word) digit
-
--- a word with a byte that is no digit is no number
-pub number_stops : (base value i : ℕ) (word : List ℕ) → number_from base 0 word ≡ number_from base value (drop i word) → i < length word → base ≤ digit_value (get_or word i 0) → number_of base word ≡ None
-number_stops base value i word so_far h other =
-    number_from-all base word (omega arith) ∙ so_far ∙ ap (number_from base value) (at_drop i word h) ∙ number_from-other base value (get_or word i 0) (drop (i + 1) word) other
 
 -- a word of which the first digits are too large for 64 bits is no number
 pub number_too_large : (base value i : ℕ) (word : List ℕ) → number_from base 0 word ≡ number_from base value (drop i word) → i < length word → digit_value (get_or word i 0) < base

@@ -14,6 +14,17 @@ pub enum ProcessorCount {
     SixtyFour,
 }
 
+/// A text with the numbers of processors in it.
+#[macro_export]
+macro_rules! with_sizes {
+    ($before:literal) => {
+        with_sizes!($before, "")
+    };
+    ($before:literal, $behind:literal) => {
+        concat!($before, "1, 2, 4, 8, 16, 32 or 64", $behind)
+    };
+}
+
 impl ProcessorCount {
     /// The size of so many processors, if there is one.
     pub fn of_number(processors: u8) -> Option<ProcessorCount>

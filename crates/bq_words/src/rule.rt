@@ -11,6 +11,17 @@ pub enum Rule {
     Eevdf,
 }
 
+/// A text with the words of rules in it.
+#[macro_export]
+macro_rules! with_rules {
+    ($before:literal) => {
+        with_rules!($before, "")
+    };
+    ($before:literal, $behind:literal) => {
+        concat!($before, "cfs or eevdf", $behind)
+    };
+}
+
 impl Rule {
     /// The word that names it: `cfs` or `eevdf`.
     pub fn word(self) -> &'static str

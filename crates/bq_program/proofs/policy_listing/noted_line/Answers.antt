@@ -1,11 +1,9 @@
-use Rattle.std.proofs.Common.{◌≡◌, ◌++◌, ◌^◌, ◌<◌, sym, ap, subst, ◌∙◌, length, arith, true}
+use Rattle.std.proofs.Common.{◌≡◌, ◌++◌, ◌^◌, ◌<◌, ap, ◌∙◌, length, arith, true}
 use Rattle.std.specs.Prelude.{string_bytes, codes}
 use Rattle.std.specs.Fmt.{styled_text, styled_decimal}
 use Rattle.std.specs.List.{list_all}
 use Rattle.std.proofs.lemmas.Result.{IfOk-weaker}
-use Rattle.hex.specs.Hex.{encode_lower}
-use Rattle.bq_insn.specs.Spelling.{insn_bytes}
-use Rattle.bq_program.specs.Listed.{is_ascii, line_body, noted, noted_line}
+use Rattle.bq_program.specs.Listed.{is_ascii, noted, noted_line}
 use Rattle.bq_program.proofs.NotedLemmas.{body_ascii}
 use Rattle.bq_program.proofs.PaddingLemmas.{joined, number_padded, text_padded}
 use Rattle.bq_program.proofs.policy_listing.noted_line.Goals as goal

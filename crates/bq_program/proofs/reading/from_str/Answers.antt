@@ -1,4 +1,8 @@
-use Rattle.bq_program.proofs.HeadLemmas.{uncombinable}
+use Rattle.std.proofs.Common.{sym, subst}
+use Rattle.std.specs.Prelude.{IfErr}
+use Rattle.std.proofs.lemmas.Result.{err_from_is_err_and}
+use Rattle.bq_program.specs.Files.{HasHead, IsTextFault, IsWhole}
+use Rattle.bq_program.proofs.HeadLemmas.{bad_program, uncombinable}
 use Rattle.bq_program.proofs.reading.from_str.Goals as goal
 
 pub returns-in-Ok-clause-policy : goal.returns-in-Ok-clause-policy
@@ -11,5 +15,17 @@ returns-in-Ok-clause-policy c = record {
   lines = c.in_ok-lines.ensures;
 }
 
+pub returns-in_err-insns-clause-fault : goal.returns-in_err-insns-clause-fault
+returns-in_err-insns-clause-fault c =
+    let text = c.args.text.now in
+    let given = c.args.given.now in
+    let p = err_from_is_err_and c.from_residual-in_err-insns.result c.from_residual-in_err-insns.ensures.1 in
+    let head : HasHead text c.in_ok-said.said = record { text = c.utf8.text; says = c.in_ok-said.ensures.head } in
+    let is = bad_program text given c.in_ok-said.said c.in_err-insns.field-0.0 head c.in_err-insns.ensures.fault in
+    subst (λ r. IfErr r (IsTextFault text given)) (sym p.1) (subst (IsTextFault text given) (sym p.2) is)
+
 pub returns-clause-fault : goal.returns-clause-fault
-returns-clause-fault c = uncombinable c.args.text.now c.args.given.now c.in_ok-said.said c.in-Err.fault c.in_ok-said.ensures.head c.in-Err.ensures.err
+returns-clause-fault c =
+    let whole : IsWhole c.args.text.now c.in_ok-said.said =
+    record { head = record { text = c.utf8.text; says = c.in_ok-said.ensures.head }; insns = c.in_ok-insns.insns.items; assembles = c.in_ok-insns.ensures.assembles } in
+    uncombinable c.args.text.now c.args.given.now c.in_ok-said.said c.in-Err.fault whole c.in-Err.ensures.err

@@ -1,7 +1,7 @@
-use Rattle.std.proofs.Common.{◌≡◌, refl, suc, ◌+◌, ◌∙◌, sym, ap, subst, length-append, ◌++◌, ◌∷◌, [], map, length}
+use Rattle.std.proofs.Common.{refl, ◌+◌, ◌∙◌, sym, ap, subst, length-append, ◌++◌, ◌∷◌, [], map}
 use Rattle.std.specs.Prelude.{IfErr}
 use Rattle.std.specs.Str.Lines.{lines}
-use Rattle.std.proofs.lemmas.List.{map-append, length-map}
+use Rattle.std.proofs.lemmas.List.{map-append}
 use Rattle.std.proofs.lemmas.Result.{err_from_is_err_and}
 use Rattle.std.proofs.lemmas.Iterator.Splits.{YieldsList-from_lines}
 use Rattle.std.proofs.lemmas.Iterator.Consumers.{YieldsList-so_far, YieldsList-turn, YieldsList-end}

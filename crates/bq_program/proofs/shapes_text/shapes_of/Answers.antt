@@ -1,4 +1,4 @@
-use Rattle.std.proofs.Common.{◌≡◌, ◌∙◌, sym, length, arith}
+use Rattle.std.proofs.Common.{arith}
 use Rattle.bq_program.specs.ShapesText.{parts_after}
 use Rattle.bq_program.proofs.NamedShapesLemmas.{no_shape_next, too_many}
 use Rattle.bq_program.proofs.shapes_text.shapes_of.Goals as goal

@@ -7,7 +7,7 @@ use Rattle.bq_import.proofs.backward.Backward.push.Goals as goal
 
 pub returns-clause-ok : goal.returns-clause-ok
 returns-clause-ok c =
-    let room = c.if-len-slots-gt-MOST.false in
+    let room = c.if-len-slots-gt-SLOTS.false in
     let back = c.args.self.now.slots.items in
     let origins = c.args.self.now.origins.items in
     let slots = c.push_first.new.self.slots.items in

@@ -17,4 +17,4 @@ returns-in_err-place-clause-err c =
     let p = err_from_is_err_and c.from_residual.result c.from_residual.ensures.1 in
     let most : ℕ = length c.args.self.now.copy.slots.items + (length c.args.old.now - 0) in
     let size = c.requires.at.at.size in
-    rw (p.1, p.2) (too_long c.args.old.now most c.in_err-place.field-0.0 (omega (arith, size)) c.in_err-place.ensures.full)
+    rw (p.1, p.2) (too_long c.args.old.now most c.in_err-place.field-0.0 c.requires.linked (omega (arith, size)) c.in_err-place.ensures.full)

@@ -6,7 +6,7 @@ use Rattle.std.proofs.lemmas.Result.{IfOk-weaker}
 use lib.Utf8.{encode}
 use Rattle.bq_program.specs.Listed.{line_body}
 use Rattle.bq_program.proofs.NotedLemmas.{one_line}
-use Rattle.bq_program.proofs.policy_listing.line_of.Goals as goal
+use Rattle.bq_program.proofs.policy_listing.instruction_text.Goals as goal
 
 pub returns-in-Some : goal.returns-in-Some
 returns-in-Some c =
